@@ -1,0 +1,4 @@
+pub mod Filling
+pub mod LineLemmas
+pub mod Pieces
+pub mod ReadLemmas

@@ -1,0 +1,6 @@
+pub mod Lines
+pub mod Memory
+pub mod Outside
+pub mod Reading
+pub mod Steps
+pub mod Writing

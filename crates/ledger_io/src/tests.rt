@@ -1,0 +1,185 @@
+use crate::{
+    LINE_LIMIT, LineErr, Lines, MemSink, MemSource, Sink, Source, StdSink, StdSource, WriteErr,
+    write_all,
+};
+use ledger_bytes::Bytes;
+use std::alloc::{AllocError, Global};
+use std::io;
+use std::io::{Read, Write};
+use std::test::Fail;
+
+// The lines up to the end or an error, with a bar after each, and the error.
+fn told<S: Source>(
+    alloc: Global,
+    lines: &mut Lines,
+    source: &mut S,
+) -> Result<(Vec<u8>, Option<LineErr>), AllocError> {
+    let mut text = Vec::new(alloc);
+    for _ in 0..20 {
+        match lines.next(source) {
+            Ok(Some(line)) => {
+                text.extend_from_slice(line.as_slice())?;
+                text.push(b'|')?;
+            }
+            Ok(None) => return Ok((text, None)),
+            Err(error) => return Ok((text, Some(error))),
+        }
+    }
+    Ok((text, None))
+}
+
+#[test]
+fn gives_lines(rt: HostRuntime) -> Result<(), Fail> {
+    let rows: [(&[u8], &[u8]); 7] = [
+        (b"", b""),
+        (b"\n", b"|"),
+        (b"a", b"a|"),
+        (b"a\n", b"a|"),
+        (b"a\nbc", b"a|bc|"),
+        (b"\n\nab\n\n", b"||ab||"),
+        (b"a\r\nb\r", b"a\r|b\r|"),
+    ];
+    for (bytes, want) in rows {
+        let kept = Bytes::copy_of(rt.alloc(), bytes)?;
+        let mut source = MemSource::new(kept, Vec::new(rt.alloc()));
+        let mut lines = Lines::new(rt.alloc());
+        let (text, error) = told(rt.alloc(), &mut lines, &mut source)?;
+        assert_eq!(rt; text.as_slice(), want);
+        assert_eq!(rt; error, None);
+        assert!(rt; lines.next(&mut source)?.is_none());
+    }
+    Ok(())
+}
+
+#[test]
+fn bounds_lines(rt: HostRuntime) -> Result<(), Fail> {
+    let rows: [(usize, &[u8], Option<LineErr>); 4] = [
+        (LINE_LIMIT, b"", None),
+        (LINE_LIMIT, b"\n", None),
+        (LINE_LIMIT + 1, b"", Some(LineErr::LineTooLong)),
+        (LINE_LIMIT + 1, b"\n", Some(LineErr::LineTooLong)),
+    ];
+    for (len, end, want) in rows {
+        let mut bytes = b"a\n".to_vec(rt.alloc())?;
+        bytes.resize(len + 2, b'b')?;
+        bytes.extend_from_slice(end)?;
+        let mut source = MemSource::new(Bytes::of(bytes), Vec::new(rt.alloc()));
+        let mut lines = Lines::new(rt.alloc());
+        let (text, error) = told(rt.alloc(), &mut lines, &mut source)?;
+        assert_eq!(rt; text.len(), if want.is_none() { len + 3 } else { 2 });
+        assert_eq!(rt; error, want);
+        assert_eq!(rt; lines.next(&mut source).err(), want);
+    }
+    Ok(())
+}
+
+#[test]
+fn tells_faults(rt: HostRuntime) -> Result<(), Fail> {
+    let rows: [(u64, &[u8]); 2] = [(0, b""), (1, b"ab|")];
+    for (call, want) in rows {
+        let bytes = Bytes::copy_of(rt.alloc(), b"ab\ncd")?;
+        let mut source = MemSource::new(bytes, [call].to_vec(rt.alloc())?);
+        let mut lines = Lines::new(rt.alloc());
+        let (text, error) = told(rt.alloc(), &mut lines, &mut source)?;
+        assert_eq!(rt; text.as_slice(), want);
+        assert_eq!(rt; error, Some(LineErr::ReadFault));
+        assert_eq!(rt; lines.next(&mut source).err(), Some(LineErr::ReadFault));
+        assert_eq!(rt; source.faults(), 1);
+    }
+    Ok(())
+}
+
+#[test]
+fn writes_into_memory(rt: HostRuntime) -> Result<(), Fail> {
+    let rows: [(usize, u64, Result<(), u64>, &[u8], u64); 4] = [
+        (6, 9, Ok(()), b"abcdef", 0),
+        (3, 9, Err(3), b"abc", 0),
+        (6, 0, Err(0), b"", 1),
+        (3, 1, Err(3), b"abc", 1),
+    ];
+    for (room, call, want, written, faults) in rows {
+        let mut sink = MemSink::new(rt.alloc(), room, [call].to_vec(rt.alloc())?)?;
+        let result = write_all(&mut sink, b"abcdef");
+        assert_eq!(rt;
+            result,
+            want.map_err(|taken| WriteErr::WriteFault { taken })
+        );
+        assert_eq!(rt; sink.written(), written);
+        assert_eq!(rt; sink.faults(), faults);
+    }
+    Ok(())
+}
+
+// Takes at most so many bytes a call. Its flush may fail.
+#[derive(Drop)]
+struct Choppy {
+    got: Vec<u8>,
+    most: usize,
+    flush_fails: bool,
+}
+
+impl Write for Choppy {
+    fn write(&mut self, buf: &[u8]) -> io::Result<usize> {
+        let count = buf.len().min(self.most);
+        self.got.extend_from_slice(&buf[..count])?;
+        Ok(count)
+    }
+
+    fn flush(&mut self) -> io::Result<()> {
+        if self.flush_fails {
+            return Err(io::ErrorKind::Other.into());
+        }
+        Ok(())
+    }
+}
+
+#[test]
+fn writes_over_std(rt: HostRuntime) -> Result<(), Fail> {
+    let rows: [(usize, bool, Result<(), u64>, &[u8], u64); 3] = [
+        (2, false, Ok(()), b"abcde", 0),
+        (0, false, Err(0), b"", 0),
+        (2, true, Err(0), b"ab", 1),
+    ];
+    for (most, flush_fails, want, got, faults) in rows {
+        let mut writer = Choppy {
+            got: Vec::new(rt.alloc()),
+            most,
+            flush_fails,
+        };
+        let mut sink = StdSink::new(&mut writer);
+        let result = write_all(&mut sink, b"abcde");
+        assert_eq!(rt;
+            result,
+            want.map_err(|taken| WriteErr::WriteFault { taken })
+        );
+        assert_eq!(rt; sink.faults(), faults);
+        assert_eq!(rt; writer.got.as_slice(), got);
+    }
+    Ok(())
+}
+
+#[derive(Drop)]
+struct Broken;
+
+impl Read for Broken {
+    fn read(&mut self, _: &mut [u8]) -> io::Result<usize> {
+        Err(io::ErrorKind::Interrupted.into())
+    }
+}
+
+#[test]
+fn reads_over_std(rt: HostRuntime) -> Result<(), Fail> {
+    let bytes: &[u8] = b"ab\nc";
+    let mut source = StdSource::new(bytes);
+    let (text, error) = told(rt.alloc(), &mut Lines::new(rt.alloc()), &mut source)?;
+    assert_eq!(rt; text.as_slice(), b"ab|c|".as_slice());
+    assert_eq!(rt; error, None);
+    assert_eq!(rt; source.faults(), 0);
+
+    let mut broken = StdSource::new(Broken);
+    let (text, error) = told(rt.alloc(), &mut Lines::new(rt.alloc()), &mut broken)?;
+    assert_eq!(rt; text.as_slice(), b"".as_slice());
+    assert_eq!(rt; error, Some(LineErr::ReadFault));
+    assert_eq!(rt; broken.faults(), 1);
+    Ok(())
+}

@@ -1,0 +1,37 @@
+ghost use Rattle.std.specs.Prelude.{◌≡◌, ◌≤◌, ◌⊎◌, OnOk, OnErr, IfErr};
+ghost use Rattle.std.specs.Io.KnownBytes.{Appends};
+ghost use Rattle.ledger_bytes.specs.Causes.{Rose};
+ghost use Rattle.ledger_io.specs.Writing.{WritesFirst};
+
+use crate::Sink;
+use thiserror::Error;
+
+/// Why a piece was not written whole.
+#[derive(Clone, Copy, Debug, PartialEq, Eq, Error)]
+pub enum WriteErr {
+    /// A write failed, or it took nothing. `taken` is how many bytes of the piece were written before it.
+    #[error("writing failed after {taken} bytes")]
+    WriteFault { taken: u64 },
+}
+
+/// Writes the whole piece, in as many calls as it takes.
+pub fn write_all<K: Sink>(sink: &mut K, piece: &[u8]) -> Result<(), WriteErr>
+    ensures ok { OnOk result (Appends (K.state sink.old).held (K.state sink.new).held piece.now) }
+    ensures taken { IfErr result (WritesFirst (K.state sink.old).held (K.state sink.new).held piece.now) }
+    ensures cause { OnErr result (Rose (K.state sink.old).faults (K.state sink.new).faults ⊎ Rose (K.state sink.old).idles (K.state sink.new).idles) }
+    ensures later { (K.state sink.old).faults ≤ (K.state sink.new).faults }
+    ensures idle_later { (K.state sink.old).idles ≤ (K.state sink.new).idles }
+{
+    let mut taken = 0;
+    while taken < piece.len() {
+        match sink.write(piece.split_at(taken).1) {
+            Ok(0) | Err(_) => {
+                return Err(WriteErr::WriteFault {
+                    taken: taken as u64,
+                });
+            }
+            Ok(count) => taken += count,
+        }
+    }
+    Ok(())
+}
