@@ -1,0 +1,18 @@
+-- A journal, and the digests of its parts.
+use Rattle.std.specs.Prelude.{ℕ, List, ◌∷◌}
+use Rattle.sha2.specs.Sha256.{sha256}
+use Rattle.journal_record.specs.declared.header.Header.{Header}
+
+-- a journal: its header, its content, and the bytes that show who placed it
+pub record Entry : Type 0 where
+  pub header : Header
+  pub content : List ℕ
+  pub who : List ℕ
+
+-- the digest of a content
+abbrev pub content_digest_of : List ℕ → List ℕ
+content_digest_of content = sha256 (2 ∷ content)
+
+-- the digest of the bytes that show who placed a journal
+abbrev pub who_digest_of : List ℕ → List ℕ
+who_digest_of who = sha256 (10 ∷ who)
