@@ -1,0 +1,4 @@
+pub mod WindowLaws
+pub mod LaneLaws
+pub mod EndLaws
+pub mod QuietLaws

@@ -1,0 +1,10 @@
+pub mod History
+pub mod Ends
+pub mod Genesis
+pub mod Step
+pub mod Notary
+pub mod Rules
+pub mod Texts
+pub mod Windows
+pub mod Merge
+pub mod InOrder

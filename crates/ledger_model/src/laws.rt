@@ -1,0 +1,24 @@
+ghost use Rattle.std.specs.Prelude.{◌≡◌, ℕ, ◌+◌, List, ◌++◌, length};
+ghost use Rattle.std.specs.List.{flat_map};
+ghost use Rattle.journal_record.specs.Entry.{Entry};
+ghost use Rattle.ledger_model.specs.Ends.{ends_from, cut_at, Rises};
+ghost use Rattle.ledger_model.specs.Windows.{Said, windows, AllButLastWhole, NoneWholeBefore};
+
+/// The windows of a script are its lines in order, none lost. Each but the last has 4,096 lines or
+/// 16,777,216 bytes, and none has so many before its last line.
+pub fn windows_are_parts()
+    ensures joined { (lines : List Said) → flat_map (λ window. window) (windows lines) ≡ lines }
+    ensures whole { (lines : List Said) → AllButLastWhole (windows lines) }
+    ensures not_before { (lines : List Said) → NoneWholeBefore (windows lines) }
+{}
+
+/// Blocks are the same as all journals in a row with the sizes at which blocks end: from the blocks come the
+/// sizes, and from the sizes the blocks.
+pub fn blocks_are_journals_with_ends()
+    ensures blocks { (n : ℕ) (blocks : List (List Entry)) (open_block : List Entry)
+        → cut_at n (ends_from n blocks) (flat_map (λ block. block) blocks ++ open_block) ≡ blocks }
+    ensures journals { (n : ℕ) (ends : List ℕ) (journals : List Entry) → Rises n ends (n + length journals)
+        → flat_map (λ block. block) (cut_at n ends journals) ≡ journals }
+    ensures ends { (n : ℕ) (ends : List ℕ) (journals : List Entry) → Rises n ends (n + length journals)
+        → ends_from n (cut_at n ends journals) ≡ ends }
+{}

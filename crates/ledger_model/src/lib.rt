@@ -1,0 +1,11 @@
+//! The model of the ledger: what a history is, what each line of a script does to it, and what is written for
+//! a run. The crates above are proved against it.
+#![tactic(auto)]
+
+mod genesis;
+mod job;
+mod laws;
+
+pub use genesis::Genesis;
+pub use job::Job;
+pub use laws::{blocks_are_journals_with_ends, windows_are_parts};
