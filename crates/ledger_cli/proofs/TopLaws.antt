@@ -1,0 +1,84 @@
+-- Lemmas on the whole of a run.
+use Rattle.std.proofs.Common.{ℕ, ◌≤◌, ◌⊎◌, inl, inr, List, [], take, drop, Result, Ok, Err, refl, sym, arith, append-nil}
+use Rattle.std.specs.Prelude.{OnOk, IfErr, OnErr}
+use Rattle.std.specs.Io.KnownBytes.{Appends}
+use Rattle.std.proofs.KnownBytes.{Consumes-nil, Appends-nil, Appends-trans}
+use Rattle.std.proofs.lemmas.List.{take-append-drop}
+use Rattle.ledger_bytes.specs.Causes.{Rose}
+use Rattle.ledger_io.specs.Outside.{SourceState, SinkState}
+use Rattle.ledger_io.specs.Writing.{WritesFirst}
+use Rattle.ledger_io.specs.declared.writer.WriteErr.{WriteErr}
+use Rattle.ledger_io.specs.declared.writer.WriteErr.TheVariants as write_err
+use Rattle.ledger_model.specs.History.{History}
+use Rattle.ledger_model.specs.Notary.{IsAttended}
+use Rattle.ledger_cli.specs.declared.ending.Ending.{Ending}
+use Rattle.ledger_cli.specs.declared.ending.Ending.TheVariants.{Done, Usage, ReadFault, WriteFault, NoMemory, LineTooLong, ScriptTooLong}
+use Rattle.ledger_cli.specs.Endings.{last_line}
+use Rattle.ledger_cli.specs.Runs.{Outside, outside, Served, Ran, Causes, WritesLast}
+
+nothing_attended : IsAttended [] [] 0 []
+nothing_attended = record { linked = refl; few = omega arith }
+
+-- no memory to begin with: nothing is read or written
+pub served_unstarted : (h : History) (before : Outside) → Served h NoMemory before before
+served_unstarted h before = record {
+  read = [];
+  steps = [];
+  replies = [];
+  consumed = Consumes-nil before.source.left;
+  appended = Appends-nil before.sink.held;
+  attended = nothing_attended;
+  replied = (tt, refl);
+  cause = tt;
+  source_later = omega arith;
+  sink_later = omega arith;
+  idle_later = omega arith;
+}
+
+last_part : (line : List ℕ) (before after : SinkState) (error : WriteErr) → WritesFirst before.held after.held line error → Rose before.faults after.faults ⊎ Rose before.idles after.idles → before.faults ≤ after.faults → before.idles ≤ after.idles → WritesLast line before after
+last_part line before after (write_err.WriteFault taken) first cause f i = record {
+  last = take taken line;
+  appended = first.1;
+  front = record { rest = drop taken line; is = sym (take-append-drop taken line) };
+  whole = inr cause;
+  later = f;
+  idle_later = i;
+}
+
+-- writing a line comes to that
+pub last_written : (line : List ℕ) (before after : SinkState) (result : Result (Unit {0}) WriteErr) → OnOk result (Appends before.held after.held line) → IfErr result (WritesFirst before.held after.held line) → OnErr result (Rose before.faults after.faults ⊎ Rose before.idles after.idles) → before.faults ≤ after.faults → before.idles ≤ after.idles → WritesLast line before after
+last_written line before after (Ok done) appended first cause f i = record {
+  last = line;
+  appended = appended;
+  front = record { rest = []; is = sym (append-nil line) };
+  whole = inl refl;
+  later = f;
+  idle_later = i;
+}
+last_written line before after (Err error) appended first cause f i = last_part line before after error first cause f i
+
+-- a cause stays while counts rise
+causes_later : (end : Ending) (read : List ℕ) (before : Outside) (source : SourceState) (mid after : SinkState) → mid.faults ≤ after.faults → mid.idles ≤ after.idles → Causes end read before (outside source mid) → Causes end read before (outside source after)
+causes_later Done read before source mid after f i cause = cause
+causes_later Usage read before source mid after f i cause = cause
+causes_later ReadFault read before source mid after f i cause = cause
+causes_later WriteFault read before source mid after f i cause = elim cause [ inl rose ↦ inl (omega (arith, rose, f)) | inr rose ↦ inr (omega (arith, rose, i)) ]
+causes_later NoMemory read before source mid after f i cause = cause
+causes_later LineTooLong read before source mid after f i cause = cause
+causes_later ScriptTooLong read before source mid after f i cause = cause
+
+-- a session and its last line are a run
+pub ran_written : (h : History) (end : Ending) (before : Outside) (source : SourceState) (mid after : SinkState) → Served h end before (outside source mid) → WritesLast (last_line end) mid after → Ran h end before (outside source after)
+ran_written h end before source mid after s l = record {
+  read = s.read;
+  steps = s.steps;
+  replies = s.replies;
+  last = l.last;
+  consumed = s.consumed;
+  appended = Appends-trans before.sink.held mid.held after.held s.replies l.last s.appended l.appended;
+  attended = s.attended;
+  replied = s.replied;
+  cause = causes_later end s.read before source mid after l.later l.idle_later s.cause;
+  last_is = l.front;
+  last_whole = elim l.whole [ inl is ↦ inl is | inr rose ↦ inr (elim rose [ inl r ↦ inl (omega (arith, r, s.sink_later)) | inr r ↦ inr (omega (arith, r, s.idle_later)) ]) ];
+}

@@ -1,0 +1,133 @@
+-- What a run of the program did, from the bytes that came in to the bytes that went out.
+use Rattle.std.specs.Prelude.{◌≡◌, ℕ, ◌<◌, ◌≤◌, ◌^◌, ◌⊎◌, ◌↔◌, List, [], ◌++◌, length, All, Option, Some, None, ⊤}
+use Rattle.std.specs.List.{flat_map}
+use Rattle.std.specs.Io.KnownBytes.{Consumes, Appends, IsAtEnd}
+use Rattle.ledger_bytes.specs.Causes.{Rose}
+use Rattle.ledger_io.specs.Outside.{SourceState, SinkState}
+use Rattle.ledger_io.specs.Lines.{lines_of, broken, IsLine, BeginsTooLong}
+use Rattle.ledger_model.specs.Genesis.{founded}
+use Rattle.ledger_model.specs.History.{History, history}
+use Rattle.ledger_model.specs.Merge.{Begins, IsMerge, IsPartialMerge}
+use Rattle.ledger_model.specs.Notary.{IsAttended}
+use Rattle.ledger_model.specs.Step.{Step}
+use Rattle.ledger_model.specs.Texts.{text}
+use Rattle.ledger_model.specs.Windows.{said, windows}
+use Rattle.ledger_cli.specs.declared.ending.Ending.{Ending}
+use Rattle.ledger_cli.specs.declared.ending.Ending.TheVariants.{Done, Usage, ReadFault, WriteFault, NoMemory, LineTooLong, ScriptTooLong}
+use Rattle.ledger_cli.specs.declared.words.Command.{Command}
+use Rattle.ledger_cli.specs.declared.words.Command.TheVariants.{Dry}
+use Rattle.ledger_cli.specs.Endings.{status_of, last_line}
+
+-- the objects that a run is handed: what it reads from and what it writes to
+pub record Outside : Type 0 where
+  pub source : SourceState
+  pub sink : SinkState
+
+abbrev pub outside : SourceState → SinkState → Outside
+outside source sink = record { source = source; sink = sink }
+
+-- writing met a fault: the sink failed, or it took nothing of a piece that wasn't empty
+abbrev pub MetWriteFault : Outside → Outside → Type 0
+MetWriteFault before after = Rose before.sink.faults after.sink.faults ⊎ Rose before.sink.idles after.sink.idles
+
+-- the steps are a merge of these lines, and what is written is the text of that merge
+abbrev pub Answers : History → List (List ℕ) → List (List Step) → List ℕ → Type 0
+Answers h lines steps replies = IsMerge (windows (said lines)) steps × (replies ≡ text h steps)
+
+-- the bytes are these lines, each with its newline, and then a rest without one
+pub record Splits (bytes : List ℕ) (lines : List (List ℕ)) (rest : List ℕ) : Type 0 where
+  pub is : bytes ≡ broken lines ++ rest
+  pub each : All IsLine lines
+
+-- the lines that ended before a fault were answered
+pub record AnswersEnded (h : History) (read : List ℕ) (steps : List (List Step)) (replies : List ℕ) (IsRest : List ℕ → Type 0) : Type 0 where
+  pub lines : List (List ℕ)
+  pub rest : List ℕ
+  pub split : Splits read lines rest
+  pub fault : IsRest rest
+  pub answers : Answers h lines steps replies
+
+-- the steps are a part of a merge of the lines that were read
+abbrev pub Part : List ℕ → List (List Step) → Type 0
+Part read steps = IsPartialMerge (windows (said (lines_of read))) steps
+
+-- what is written begins the text, and not all of the text is written
+abbrev pub FallsShort : List ℕ → List ℕ → Type 0
+FallsShort replies due = Begins replies due × (length replies < length due)
+
+-- what was written before the last line, by the ending
+abbrev pub Replies : History → Ending → List ℕ → List (List Step) → List ℕ → Type 0
+Replies h Done read steps replies = All IsLine (lines_of read) × Answers h (lines_of read) steps replies
+Replies h Usage read steps replies = (steps ≡ []) × (replies ≡ [])
+Replies h ReadFault read steps replies = AnswersEnded h read steps replies IsLine
+Replies h WriteFault read steps replies = Part read steps × FallsShort replies (text h steps)
+Replies h NoMemory read steps replies = Part read steps × (replies ≡ text h steps)
+Replies h LineTooLong read steps replies = AnswersEnded h read steps replies BeginsTooLong
+Replies h ScriptTooLong read steps replies = AnswersEnded h read steps replies IsLine
+
+-- why the run ended so
+abbrev pub Causes : Ending → List ℕ → Outside → Outside → Type 0
+Causes Done read before after = IsAtEnd after.source.left × (length read < 2 ^ 40)
+Causes Usage read before after = read ≡ []
+Causes ReadFault read before after = Rose before.source.faults after.source.faults
+Causes WriteFault read before after = MetWriteFault before after
+Causes NoMemory read before after = ⊤
+Causes LineTooLong read before after = ⊤
+Causes ScriptTooLong read before after = length read ≡ 2 ^ 40
+
+-- a session on a history, from its first line to its ending: everything but the last line
+pub record Served (h : History) (ending : Ending) (before after : Outside) : Type 0 where
+  -- the bytes that were read
+  pub read : List ℕ
+  -- the steps that were taken, window by window
+  pub steps : List (List Step)
+  -- what was written for them
+  pub replies : List ℕ
+  pub consumed : Consumes before.source.left after.source.left read
+  pub appended : Appends before.sink.held after.sink.held replies
+  pub attended : IsAttended [] [] 0 (flat_map (λ window. window) steps)
+  pub replied : Replies h ending read steps replies
+  pub cause : Causes ending read before after
+  -- no count of faults fell
+  pub source_later : before.source.faults ≤ after.source.faults
+  pub sink_later : before.sink.faults ≤ after.sink.faults
+  pub idle_later : before.sink.idles ≤ after.sink.idles
+
+-- what came of writing the last line by one attempt: it was written whole, or as far as a fault let it
+pub record WritesLast (line : List ℕ) (before after : SinkState) : Type 0 where
+  pub last : List ℕ
+  pub appended : Appends before.held after.held last
+  pub front : Begins last line
+  pub whole : (last ≡ line) ⊎ (Rose before.faults after.faults ⊎ Rose before.idles after.idles)
+  -- no count of faults fell
+  pub later : before.faults ≤ after.faults
+  pub idle_later : before.idles ≤ after.idles
+
+-- a run on a history, from its first line to the last line that is written
+pub record Ran (h : History) (ending : Ending) (before after : Outside) : Type 0 where
+  -- the bytes that were read
+  pub read : List ℕ
+  -- the steps that were taken, window by window
+  pub steps : List (List Step)
+  -- what was written for them, and of the last line
+  pub replies : List ℕ
+  pub last : List ℕ
+  pub consumed : Consumes before.source.left after.source.left read
+  pub appended : Appends before.sink.held after.sink.held (replies ++ last)
+  pub attended : IsAttended [] [] 0 (flat_map (λ window. window) steps)
+  pub replied : Replies h ending read steps replies
+  pub cause : Causes ending read before after
+  pub last_is : Begins last (last_line ending)
+  pub last_whole : (last ≡ last_line ending) ⊎ MetWriteFault before after
+
+-- the history that a command begins with
+abbrev pub start_of : Option Command → History
+start_of None = history [] []
+start_of (Some (Dry genesis)) = founded genesis
+
+-- a run of the program with some words, to its exit status
+pub record RanProgram (command : Option Command) (status : ℕ) (before after : Outside) : Type 0 where
+  pub ending : Ending
+  pub status_is : status ≡ status_of ending
+  pub usage : (ending ≡ Usage) ↔ (command ≡ None)
+  pub ran : Ran (start_of command) ending before after

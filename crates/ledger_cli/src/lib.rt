@@ -1,0 +1,18 @@
+//! The top call of `ledgerctl`: from the words of the command line and the bytes of a script to the bytes that
+//! are written and the exit status.
+#![tactic(auto)]
+
+mod ending;
+mod founding;
+mod journal;
+mod ledger;
+mod session;
+mod top;
+mod words;
+
+pub use ending::Ending;
+pub use top::{finish, ledger_top};
+pub use words::Command;
+
+#[cfg(test)]
+mod tests;

@@ -1,0 +1,88 @@
+ghost use Rattle.std.specs.Prelude.{◌≡◌, ◌≢◌, ◌⊎◌, ◌↔◌, None, map, string_bytes};
+ghost use Rattle.ledger_bytes.specs.Causes.{Rose};
+ghost use Rattle.ledger_model.specs.Genesis.{founded};
+ghost use Rattle.ledger_cli.specs.Endings.{status_of, last_line};
+ghost use Rattle.ledger_cli.specs.Runs.{RanProgram, Served, WritesLast, outside, start_of};
+ghost use Rattle.ledger_cli.specs.Words.{command_of};
+
+use crate::ledger::Ledger;
+use crate::session::run_script;
+use crate::{Command, Ending};
+use ledger_bytes::NoMemory;
+use ledger_io::{Sink, Source, write_all};
+use ledger_model::Genesis;
+use std::alloc::Global;
+
+/// The program: runs the command that the words after the program's name make, on a script that `source` gives, and
+/// writes the replies to `sink`. It answers the exit status:
+///
+/// | Status | Comes | Last line |
+/// |---|---|---|
+/// | 0 | the input was read to its end, and every line has its reply | none |
+/// | 1 | exactly where the words are of no form | `fail 1 usage` |
+/// | 2 | only where the source failed | `fail 2 read` |
+/// | 3 | only where the sink failed, or took nothing of a piece that wasn't empty | none |
+/// | 6 | want of memory | `fail 6 memory` |
+/// | 7 | a line or the script is too long | `fail 7 line`, `fail 7 script` |
+///
+/// Of several, the first that happens is the status. Lines that ended before a fault of reading are answered first.
+/// The last line is written by one attempt; a fault there doesn't change the status.
+pub fn ledger_top<S: Source, K: Sink>(
+    alloc: Global,
+    words: &[String],
+    source: &mut S,
+    sink: &mut K,
+) -> u8
+    ensures ran { RanProgram (command_of (map string_bytes words.now)) result
+        (outside (S.state source.old) (K.state sink.old)) (outside (S.state source.new) (K.state sink.new)) }
+    ensures usage { (result ≡ 1) ↔ (command_of (map string_bytes words.now) ≡ None) }
+    ensures read_fault { result ≡ 2 → Rose (S.state source.old).faults (S.state source.new).faults }
+    ensures write_fault { result ≡ 3 → Rose (K.state sink.old).faults (K.state sink.new).faults
+        ⊎ Rose (K.state sink.old).idles (K.state sink.new).idles }
+{
+    let ending = run_words(alloc, words, source, sink);
+    finish(sink, ending)
+}
+
+/// Ends a run: writes its last line by one attempt, and answers its exit status.
+pub fn finish<K: Sink>(sink: &mut K, ending: Ending) -> u8
+    ensures status { result ≡ status_of ending }
+    ensures last { WritesLast (last_line ending) (K.state sink.old) (K.state sink.new) }
+{
+    let _ = write_all(sink, ending.last_line());
+    ending.status()
+}
+
+// All but the last line.
+fn run_words<S: Source, K: Sink>(
+    alloc: Global,
+    words: &[String],
+    source: &mut S,
+    sink: &mut K,
+) -> Ending
+    ensures served { Served (start_of (command_of (map string_bytes words.now))) result
+        (outside (S.state source.old) (K.state sink.old)) (outside (S.state source.new) (K.state sink.new)) }
+    ensures usage { (result ≡ Ending.Usage) ↔ (command_of (map string_bytes words.now) ≡ None) }
+{
+    match Command::read(alloc, words) {
+        Ok(Some(Command::Dry(genesis))) => run_dry(alloc, &genesis, source, sink),
+        Ok(None) => Ending::Usage,
+        Err(NoMemory) => Ending::NoMemory,
+    }
+}
+
+fn run_dry<S: Source, K: Sink>(
+    alloc: Global,
+    genesis: &Genesis,
+    source: &mut S,
+    sink: &mut K,
+) -> Ending
+    ensures served { Served (founded genesis.now) result
+        (outside (S.state source.old) (K.state sink.old)) (outside (S.state source.new) (K.state sink.new)) }
+    ensures started { result ≢ Ending.Usage }
+{
+    match Ledger::found(alloc, genesis) {
+        Ok(ledger) => run_script(alloc, &ledger, source, sink),
+        Err(NoMemory) => Ending::NoMemory,
+    }
+}
