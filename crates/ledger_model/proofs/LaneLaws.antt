@@ -14,8 +14,8 @@ pub merges_window : (window : List Said) → IsMergeOf window (map step_of windo
 merges_window [] lane = refl
 merges_window (x ∷ xs) lane =
     elim (x.lane == lane) as (λ test. map said_by (cond test (step_of x ∷ filter (λ (s : Step). s.lane == lane) (map step_of xs)) (filter (λ (s : Step). s.lane == lane) (map step_of xs))) ≡ cond test (x ∷ lines_of_lane lane xs) (lines_of_lane lane xs)) [
-      true ↦ ap (λ rest. x ∷ rest) (merges_window xs lane)
-    | false ↦ merges_window xs lane
+      | true ↦ ap (λ rest. x ∷ rest) (merges_window xs lane)
+      | false ↦ merges_window xs lane
     ]
 
 -- .. and of all windows
@@ -67,8 +67,8 @@ unfolding windows_after
 first_windows lines bytes [] ys = tt
 first_windows lines bytes (x ∷ xs) ys =
     elim (is_full (lines + 1) (bytes + length x.line)) as (λ full. AreFirst (cond full ((x ∷ []) ∷ windows_after 0 0 xs) (onto_first x (windows_after (lines + 1) (bytes + length x.line) xs))) (cond full ((x ∷ []) ∷ windows_after 0 0 (xs ++ ys)) (onto_first x (windows_after (lines + 1) (bytes + length x.line) (xs ++ ys))))) [
-      true ↦ first_cons (x ∷ []) (windows_after 0 0 xs) (windows_after 0 0 (xs ++ ys)) (first_windows 0 0 xs ys)
-    | false ↦ first_onto x (windows_after (lines + 1) (bytes + length x.line) xs) (windows_after (lines + 1) (bytes + length x.line) (xs ++ ys)) (first_windows (lines + 1) (bytes + length x.line) xs ys)
+      | true ↦ first_cons (x ∷ []) (windows_after 0 0 xs) (windows_after 0 0 (xs ++ ys)) (first_windows 0 0 xs ys)
+      | false ↦ first_onto x (windows_after (lines + 1) (bytes + length x.line) xs) (windows_after (lines + 1) (bytes + length x.line) (xs ++ ys)) (first_windows (lines + 1) (bytes + length x.line) xs ys)
     ]
 
 -- the lines of two parts, with their lanes and numbers

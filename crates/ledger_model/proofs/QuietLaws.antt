@@ -26,8 +26,8 @@ quiet_step : (h : History) → h.waiting ≡ [] → (step : Step) → after_step
 unfolding after_step
 quiet_step h none step =
     elim (pointwise nat_eq step.line (codes "0 head")) as (λ test. after_job h step (cond test Head (Refused BadVerb)) ≡ h) [
-      true ↦ close_quiet h none
-    | false ↦ refl
+      | true ↦ close_quiet h none
+      | false ↦ refl
     ]
 
 -- the lines of some steps, each judged against the same history
@@ -49,7 +49,7 @@ text_steps : (h : History) → h.waiting ≡ [] → (g : History) → g ≡ h �
 text_steps h none g same [] = refl
 text_steps h none g same (window ∷ windows) =
     let first : window_text g window ≡ flat_map (step_text h h) window =
-        ap (λ x. window_text x window) same ∙ ap (λ x. steps_text x h window) (window_quiet h none window) ∙ steps_quiet h none h h refl window in
+    ap (λ x. window_text x window) same ∙ ap (λ x. steps_text x h window) (window_quiet h none window) ∙ steps_quiet h none h h refl window in
     ap (λ front. front ++ text (after_window g window) windows) first
     ∙ ap (λ rest. flat_map (step_text h h) window ++ rest) (text_steps h none (after_window g window) (ap (λ x. after_window x window) same ∙ window_quiet h none window) windows)
     ∙ sym (flat_map-append (step_text h h) window (flat_map (λ w. w) windows))
@@ -74,7 +74,7 @@ text_lines h none lines =
 pub text_more : (h : History) → h.waiting ≡ [] → (lines : List (List ℕ)) (line : List ℕ) → text h (steps_of (windows (said (lines ++ line ∷ [])))) ≡ text h (steps_of (windows (said lines))) ++ step_text h h (step_of (numbered (length lines + 1) line))
 text_more h none lines line =
     let more : said (lines ++ line ∷ []) ≡ said lines ++ numbered (length lines + 1) line ∷ [] =
-        said_after-append [] lines (line ∷ []) ∙ ap (λ n. said lines ++ numbered (n + 1) line ∷ []) (count_all lines) in
+    said_after-append [] lines (line ∷ []) ∙ ap (λ n. said lines ++ numbered (n + 1) line ∷ []) (count_all lines) in
     text_lines h none (lines ++ line ∷ [])
     ∙ ap (λ xs. flat_map (step_text h h) (map step_of xs)) more
     ∙ ap (flat_map (step_text h h)) (map-append step_of (said lines) (numbered (length lines + 1) line ∷ []))

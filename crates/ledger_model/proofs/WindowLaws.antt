@@ -16,8 +16,8 @@ unfolding windows_after
 joined lines bytes [] = refl
 joined lines bytes (x ∷ xs) =
     elim (is_full (lines + 1) (bytes + length x.line)) as (λ full. flat_map (λ window. window) (cond full ((x ∷ []) ∷ windows_after 0 0 xs) (onto_first x (windows_after (lines + 1) (bytes + length x.line) xs))) ≡ x ∷ xs) [
-      true ↦ ap (λ rest. x ∷ rest) (joined 0 0 xs)
-    | false ↦ joined_onto x _ ∙ ap (λ rest. x ∷ rest) (joined (lines + 1) (bytes + length x.line) xs)
+      | true ↦ ap (λ rest. x ∷ rest) (joined 0 0 xs)
+      | false ↦ joined_onto x _ ∙ ap (λ rest. x ∷ rest) (joined (lines + 1) (bytes + length x.line) xs)
     ]
 
 -- the same test at equal counts
@@ -56,8 +56,8 @@ unfolding windows_after
 whole_after lines bytes [] = tt
 whole_after lines bytes (x ∷ xs) =
     elim (is_full (lines + 1) (bytes + length x.line)) as (λ full. is_full (lines + 1) (bytes + length x.line) ≡ full → WholeAfter lines bytes (cond full ((x ∷ []) ∷ windows_after 0 0 xs) (onto_first x (windows_after (lines + 1) (bytes + length x.line) xs)))) [
-      true ↦ λ e. whole_cons lines bytes (x ∷ []) (windows_after 0 0 xs) (full_at true (lines + 1) (bytes + length x.line) (lines + 1) (bytes + bytes_of (x ∷ [])) refl (omega (arith, bytes_on bytes x [])) e) (whole_alone _ (whole_after 0 0 xs))
-    | false ↦ λ e. whole_onto lines bytes x _ (whole_after (lines + 1) (bytes + length x.line) xs)
+      | true ↦ λ e. whole_cons lines bytes (x ∷ []) (windows_after 0 0 xs) (full_at true (lines + 1) (bytes + length x.line) (lines + 1) (bytes + bytes_of (x ∷ [])) refl (omega (arith, bytes_on bytes x [])) e) (whole_alone _ (whole_after 0 0 xs))
+      | false ↦ λ e. whole_onto lines bytes x _ (whole_after (lines + 1) (bytes + length x.line) xs)
     ] refl
 
 -- each window but the last is whole
@@ -96,8 +96,8 @@ unfolding windows_after
 none_before lines bytes [] room = tt
 none_before lines bytes (x ∷ xs) room =
     elim (is_full (lines + 1) (bytes + length x.line)) as (λ full. is_full (lines + 1) (bytes + length x.line) ≡ full → NoneBefore lines bytes (cond full ((x ∷ []) ∷ windows_after 0 0 xs) (onto_first x (windows_after (lines + 1) (bytes + length x.line) xs)))) [
-      true ↦ λ e. (not_before_cons lines bytes x [] room (not_before_nil _ _), none_alone _ (none_before 0 0 xs refl))
-    | false ↦ λ e. none_onto lines bytes x _ room (none_before (lines + 1) (bytes + length x.line) xs e)
+      | true ↦ λ e. (not_before_cons lines bytes x [] room (not_before_nil _ _), none_alone _ (none_before 0 0 xs refl))
+      | false ↦ λ e. none_onto lines bytes x _ room (none_before (lines + 1) (bytes + length x.line) xs e)
     ] refl
 
 -- no window is whole before its last line

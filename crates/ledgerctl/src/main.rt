@@ -1,0 +1,30 @@
+//! `ledgerctl`: an audit ledger on the command line. It reads a script from standard input and writes the replies
+//! to standard output, and nothing to standard error.
+#![tactic(auto)]
+
+use ledger_bytes::NoMemory;
+use ledger_cli::{Ending, finish, ledger_top};
+use ledger_io::{StdSink, StdSource};
+use std::env;
+use std::process::ExitCode;
+use std::rt::Env;
+
+fn main(rt: HostRuntime) -> ExitCode {
+    let mut source = StdSource::new(rt.stdin());
+    let mut sink = StdSink::new(rt.stdout());
+    ExitCode::from(match words(&rt) {
+        Ok(words) => ledger_top(rt.alloc(), words.as_slice(), &mut source, &mut sink),
+        Err(NoMemory) => finish(&mut sink, Ending::NoMemory),
+    })
+}
+
+// The words after the program's name. Where one is no text there are none, which is a faulty command line too.
+fn words(rt: &(impl Env + AllocGlobal)) -> Result<Vec<String>, NoMemory> {
+    let mut words = Vec::new(rt.alloc());
+    if let Ok(all) = env::args(rt) {
+        for word in all.skip(1) {
+            words.push(word)?;
+        }
+    }
+    Ok(words)
+}
