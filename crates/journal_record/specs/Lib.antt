@@ -1,2 +1,5 @@
+pub mod Approval
 pub mod Entry
 pub mod Header
+pub mod Request
+pub mod Tags

@@ -1,9 +1,18 @@
-//! A journal's header, its bytes, and the digests of a journal's parts.
+//! A journal's header, its bytes, the digests of a journal's parts, and the proofs and requests of members.
 #![tactic(auto)]
 
+mod approval;
 mod digests;
 mod filling;
 mod header;
+mod request;
+mod tags;
 
+pub use approval::{Approval, who_bytes};
 pub use digests::{content_digest, who_digest};
 pub use header::{HEADER_LEN, Header, Kind};
+pub use request::request_digest;
+pub use tags::tag_key;
+
+#[cfg(test)]
+mod tests;

@@ -1,0 +1,18 @@
+-- The tag scheme: a proof that whoever made it knew a key and a message.
+use Rattle.std.specs.Prelude.{ℕ, List, ◌∷◌, ◌++◌, ◌==◌, ◌&&◌, length, take, drop, if◌then◌else◌, Option, Some, None}
+use Rattle.std.specs.Str.{bytes_eq}
+use Rattle.sha2.specs.Sha256.{sha256}
+
+-- a key's tag of a message
+abbrev pub tag_of : List ℕ → List ℕ → List ℕ
+tag_of key message = sha256 (64 ∷ (key ++ message))
+
+-- a key's proof of a message: the key and the tag
+abbrev pub tag_proof_of : List ℕ → List ℕ → List ℕ
+tag_proof_of key message = key ++ tag_of key message
+
+-- the key of a message's proof, where it is one: 64 bytes, of which the last 32 are the tag of the first 32
+abbrev pub tag_key_of : List ℕ → List ℕ → Option (List ℕ)
+tag_key_of message proof =
+    if length proof == 64 && bytes_eq (drop 32 proof) (tag_of (take 32 proof) message) then Some (take 32 proof)
+    else None

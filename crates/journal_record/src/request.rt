@@ -1,0 +1,28 @@
+ghost use Rattle.std.specs.Prelude.{◌≡◌};
+ghost use Rattle.journal_record.specs.Request.{request_digest_of};
+
+use ledger_bytes::{Digest, Sha, TreeHash};
+
+/// The byte in front of a hashed request to append.
+const APPEND_TAG: u8 = 0x03;
+
+/// The message that a member proves to append a journal: SHA-256 of the byte 03, the ledger's identity (32 bytes), the
+/// member's number (4 bytes, big-endian), the clue's digest (32 bytes, zeros where there is no clue), the content's
+/// length (4 bytes, big-endian) and the content's digest (32 bytes, see [`content_digest`](crate::content_digest)).
+pub fn request_digest(
+    id: &Digest,
+    member: u32,
+    clue: &Digest,
+    content_len: u32,
+    content_digest: &Digest,
+) -> Digest
+    ensures { result.0 ≡ request_digest_of id.now.0 member clue.now.0 content_len content_digest.now.0 }
+{
+    let mut hasher = Sha::start(APPEND_TAG);
+    hasher.add(&id.0);
+    hasher.add(&member.to_be_bytes());
+    hasher.add(&clue.0);
+    hasher.add(&content_len.to_be_bytes());
+    hasher.add(&content_digest.0);
+    hasher.end()
+}
