@@ -1,1 +1,3 @@
+pub mod Cuts
 pub mod Filled
+pub mod Numbers

@@ -1,7 +1,7 @@
 -- The text of each reply.
 use Rattle.std.specs.Prelude.{ℕ, List, [], ◌∷◌, ◌++◌, codes, decimal}
 use Rattle.ledger_bytes.specs.declared.refusal.Refusal.{Refusal}
-use Rattle.ledger_bytes.specs.declared.refusal.Refusal.TheVariants.{BadVerb}
+use Rattle.ledger_bytes.specs.declared.refusal.Refusal.TheVariants.{BadVerb, UnknownMember, WrongKey}
 use Rattle.script_lines.specs.declared.reply.Reply.{Reply}
 use Rattle.script_lines.specs.declared.reply.Reply.TheVariants.{Placed, Head, Refused}
 use Rattle.script_lines.specs.Words.{hex_of, spaced}
@@ -9,6 +9,8 @@ use Rattle.script_lines.specs.Words.{hex_of, spaced}
 -- a refusal's code and the fields that are printed behind it
 abbrev pub refusal_words : Refusal → List (List ℕ)
 refusal_words BadVerb = decimal 10 ∷ []
+refusal_words (UnknownMember member) = decimal 14 ∷ decimal member ∷ []
+refusal_words (WrongKey member) = decimal 15 ∷ decimal member ∷ []
 
 -- the words of a reply
 abbrev pub reply_words : Reply → List (List ℕ)

@@ -1,4 +1,4 @@
-ghost use Rattle.std.specs.Prelude.{◌≡◌, ◌++◌, IfOk, OnOk, OnErr};
+ghost use Rattle.std.specs.Prelude.{◌≡◌, [], ◌∷◌, ◌++◌, codes, decimal, IfOk, OnOk, OnErr};
 ghost use Rattle.script_lines.specs.Begins.{BeginsWith};
 ghost use Rattle.script_lines.specs.Replies as spec;
 ghost use Rattle.script_lines.specs.Words.{spaced};
@@ -132,7 +132,23 @@ fn put_refusal(out: &mut Vec<u8>, refusal: &Refusal) -> Result<(), NoMemory>
 {
     match refusal {
         Refusal::BadVerb => put_words(out, &[Word::Text(b"no"), Word::Number(10)]),
+        Refusal::UnknownMember { member } => put_numbered(out, 14, *member),
+        Refusal::WrongKey { member } => put_numbered(out, 15, *member),
     }
+}
+
+fn put_numbered(out: &mut Vec<u8>, code: u64, number: u32) -> Result<(), NoMemory>
+    ensures ok { OnOk result (out.new.items ≡ out.old.items ++ spaced (codes "no" ∷ decimal code ∷ decimal number ∷ [])) }
+    ensures err { OnErr result (BeginsWith out.old.items out.new.items) }
+{
+    put_words(
+        out,
+        &[
+            Word::Text(b"no"),
+            Word::Number(code),
+            Word::Number(u64::from(number)),
+        ],
+    )
 }
 
 #[cfg(test)]
