@@ -1,5 +1,5 @@
 -- Lemmas on runs that take the lines in the order of the script, with no notary.
-use Rattle.std.proofs.Common.{◌≡◌, ℕ, ◌+◌, ◌==◌, Bool, true, false, cond, List, [], ◌∷◌, ◌++◌, length, map, filter, refl, ap, sym, ◌∙◌, arith, append_assoc, append-nil}
+use Rattle.std.proofs.Common.{◌≡◌, ℕ, ◌+◌, ◌==◌, Bool, true, false, cond, List, [], ◌∷◌, ◌++◌, length, map, filter, refl, ap, sym, subst, ◌∙◌, arith, append_assoc, append-nil}
 use Rattle.std.specs.Prelude.{⊤}
 use Rattle.std.specs.List.{flat_map}
 use Rattle.std.proofs.lemmas.List.Elements.{filter-append}
@@ -7,7 +7,8 @@ use Rattle.ledger_model.specs.Step.{Step}
 use Rattle.ledger_model.specs.InOrder.{step_of, steps_of}
 use Rattle.ledger_model.specs.Merge.{Begins, said_by, picked, lines_of_lane, IsMergeOf, BeginsMergeOf, IsMerge, IsPartialMerge}
 use Rattle.ledger_model.specs.Notary.{Linked, failures, IsAttended}
-use Rattle.ledger_model.specs.Windows.{Said, said_after, said, windows_after, windows, onto_first, is_full, lane_of, count_of, numbered}
+use Rattle.ledger_model.proofs.WindowLaws.{onto_all, IsCut}
+use Rattle.ledger_model.specs.Windows.{Said, bytes_of, said_after, said, windows_after, windows, onto_first, is_full, lane_of, count_of, numbered}
 
 -- the lines in the order of the script are a merge of a window
 pub merges_window : (window : List Said) → IsMergeOf window (map step_of window)
@@ -49,7 +50,7 @@ merges_first (part ∷ []) (window ∷ windows) h = begins_window part window h
 merges_first (part ∷ next ∷ parts) [] h = absurd h
 merges_first (part ∷ next ∷ parts) (window ∷ windows) h = (same_window window part h.0, merges_first (next ∷ parts) windows h.1)
 
-first_cons : (window : List Said) (parts windows : List (List Said)) → AreFirst parts windows → AreFirst (window ∷ parts) (window ∷ windows)
+pub first_cons : (window : List Said) (parts windows : List (List Said)) → AreFirst parts windows → AreFirst (window ∷ parts) (window ∷ windows)
 first_cons window [] windows h = record { rest = []; is = sym (append-nil window) }
 first_cons window (part ∷ parts) windows h = (refl, h)
 
@@ -104,3 +105,59 @@ no_failures (window ∷ windows) = no_failure window (flat_map (λ window. windo
 -- where there is no notary its list stays empty, and it meets no fault
 pub unattended : (windows : List (List Said)) → IsAttended [] [] 0 (flat_map (λ window. window) (steps_of windows))
 unattended windows = record { linked = linked windows; few = omega (arith, no_failures windows) }
+
+-- whole windows, and the first lines of the next
+first_append : (done : List (List Said)) (front window : List Said) (windows : List (List Said)) → Begins front window → AreFirst (done ++ front ∷ []) (done ++ window ∷ windows)
+first_append [] front window windows h = h
+first_append (d ∷ done) front window windows h = first_cons d (done ++ front ∷ []) (done ++ window ∷ windows) (first_append done front window windows h)
+
+first_done : (done windows : List (List Said)) → AreFirst done (done ++ windows)
+first_done [] windows = tt
+first_done (d ∷ done) windows = first_cons d done (done ++ windows) (first_done done windows)
+
+-- lines in front of windows begin the first of them
+record IsFront (front : List Said) (windows : List (List Said)) : Type 0 where
+  rest : List Said
+  more : List (List Said)
+  is : windows ≡ (front ++ rest) ∷ more
+
+front_first : (x : Said) (windows : List (List Said)) → IsFront (x ∷ []) (onto_first x windows)
+front_first x [] = record { rest = []; more = []; is = refl }
+front_first x (window ∷ windows) = record { rest = window; more = windows; is = refl }
+
+front_all : (x : Said) (xs : List Said) (windows : List (List Said)) → IsFront (x ∷ xs) (onto_all (x ∷ xs) windows)
+front_all x [] windows = front_first x windows
+front_all x (y ∷ ys) windows = let f = front_all y ys windows in record { rest = f.rest; more = f.more; is = ap (onto_first x) f.is }
+
+-- whole windows, and one more where there are lines for it
+abbrev pub with_last : List (List Said) → List Said → List (List Said)
+with_last done [] = done
+with_last done (x ∷ xs) = done ++ (x ∷ xs) ∷ []
+
+first_last : (done windows : List (List Said)) (front current : List Said) → Begins front current → AreFirst (with_last done front) (done ++ onto_all current windows)
+first_last done windows [] current b = first_done done (onto_all current windows)
+first_last done windows (x ∷ xs) [] b = absurd (let no : ⊥ = cc (b.is) in no)
+first_last done windows (x ∷ xs) (y ∷ ys) b =
+    let f = front_all y ys windows in
+    let begins : Begins (x ∷ xs) ((y ∷ ys) ++ f.rest) = record { rest = b.rest ++ f.rest; is = ap (λ c. c ++ f.rest) b.is ∙ append_assoc (x ∷ xs) b.rest f.rest } in
+    subst (λ w. AreFirst (done ++ (x ∷ xs) ∷ []) (done ++ w)) (sym f.is) (first_append done (x ∷ xs) ((y ∷ ys) ++ f.rest) f.more begins)
+
+-- the steps of the first lines of a script, as far as its window at hand, are a part of a merge of all
+pub merges_front : (lines more : List (List ℕ)) (done : List (List Said)) (current front : List Said) → IsCut (said lines) done current → Begins front current → IsPartialMerge (windows (said (lines ++ more))) (steps_of (with_last done front))
+merges_front lines more done current front c b =
+    let is : windows (said (lines ++ more)) ≡ done ++ onto_all current (windows_after (length current) (bytes_of current) (said_after lines more)) =
+    ap windows (said_after-append [] lines more) ∙ c.rest (said_after lines more) in
+    subst (λ w. IsPartialMerge w (steps_of (with_last done front))) (sym is) (merges_first (with_last done front) (done ++ onto_all current (windows_after (length current) (bytes_of current) (said_after lines more))) (first_last done (windows_after (length current) (bytes_of current) (said_after lines more)) front current b))
+
+onto_all_none : (x : Said) (xs : List Said) → onto_all (x ∷ xs) [] ≡ (x ∷ xs) ∷ []
+onto_all_none x [] = refl
+onto_all_none x (y ∷ ys) = ap (onto_first x) (onto_all_none y ys)
+
+last_onto : (done : List (List Said)) (current : List Said) → done ++ onto_all current [] ≡ with_last done current
+last_onto done [] = append-nil done
+last_onto done (x ∷ xs) = ap (λ w. done ++ w) (onto_all_none x xs)
+
+-- the windows of a script that ends with the window at hand
+pub windows_end : (lines : List Said) (done : List (List Said)) (current : List Said) → IsCut lines done current → windows lines ≡ with_last done current
+unfolding windows_after
+windows_end lines done current c = ap windows (sym (append-nil lines)) ∙ c.rest [] ∙ last_onto done current

@@ -1,4 +1,6 @@
 pub mod WindowLaws
 pub mod LaneLaws
 pub mod EndLaws
-pub mod QuietLaws
+pub mod GrowLaws
+pub mod DueLaws
+pub mod ProgressLaws

@@ -1,8 +1,8 @@
 -- Lemmas on windows.
-use Rattle.std.proofs.Common.{◌≡◌, ℕ, ◌+◌, Bool, true, false, cond, List, [], ◌∷◌, ◌++◌, length, refl, ap, sym, subst, ◌∙◌, arith, add-zero}
+use Rattle.std.proofs.Common.{◌≡◌, ℕ, ◌+◌, Bool, true, false, cond, List, [], ◌∷◌, ◌++◌, length, refl, ap, sym, subst, ◌∙◌, arith, append_assoc, length-append}
 use Rattle.std.specs.Prelude.{⊤}
 use Rattle.std.specs.List.{flat_map}
-use Rattle.std.proofs.lemmas.List.Sums.{sum_by-cons}
+use Rattle.std.proofs.lemmas.List.Sums.{sum_by-cons, sum_by-append}
 use Rattle.ledger_model.specs.Windows.{Said, windows_after, windows, onto_first, is_full, is_whole, bytes_of, AllButLastWhole, NoneWholeBefore}
 
 -- a line in front of the first window is a line in front of all
@@ -103,3 +103,49 @@ none_before lines bytes (x ∷ xs) room =
 -- no window is whole before its last line
 pub none_whole_before : (xs : List Said) → NoneWholeBefore (windows xs)
 none_whole_before xs = none_alone _ (none_before 0 0 xs refl)
+
+-- lines in front of the first of some windows
+abbrev pub onto_all : List Said → List (List Said) → List (List Said)
+onto_all [] windows = windows
+onto_all (x ∷ xs) windows = onto_first x (onto_all xs windows)
+
+-- how lines are cut: whole windows, and the lines of the window at hand
+pub record IsCut (lines : List Said) (done : List (List Said)) (current : List Said) : Type 0 where
+  pub rest : (tail : List Said) → windows (lines ++ tail) ≡ done ++ onto_all current (windows_after (length current) (bytes_of current) tail)
+
+pub cut_none : IsCut [] [] []
+cut_none = record { rest = λ tail. refl }
+
+onto_all-push : (xs : List Said) (x : Said) (windows : List (List Said)) → onto_all xs (onto_first x windows) ≡ onto_all (xs ++ x ∷ []) windows
+onto_all-push [] x windows = refl
+onto_all-push (y ∷ ys) x windows = ap (onto_first y) (onto_all-push ys x windows)
+
+onto_all-whole : (xs : List Said) (x : Said) (windows : List (List Said)) → onto_all xs ((x ∷ []) ∷ windows) ≡ (xs ++ x ∷ []) ∷ windows
+onto_all-whole [] x windows = refl
+onto_all-whole (y ∷ ys) x windows = ap (onto_first y) (onto_all-whole ys x windows)
+
+pub bytes_of-push : (xs : List Said) (x : Said) → bytes_of (xs ++ x ∷ []) ≡ bytes_of xs + length x.line
+bytes_of-push xs x = omega (arith, sum_by-append (λ (y : Said). length y.line) xs (x ∷ []))
+
+-- a line more in the window at hand
+pub cut_more : (lines : List Said) (done : List (List Said)) (current : List Said) (x : Said) → IsCut lines done current → is_full (length current + 1) (bytes_of current + length x.line) ≡ false → IsCut (lines ++ x ∷ []) done (current ++ x ∷ [])
+unfolding windows_after
+cut_more lines done current x c room = record {
+  rest = λ tail.
+      ap windows (append_assoc lines (x ∷ []) tail) ∙ c.rest (x ∷ tail)
+      ∙ ap (λ full. done ++ onto_all current (cond full ((x ∷ []) ∷ windows_after 0 0 tail) (onto_first x (windows_after (length current + 1) (bytes_of current + length x.line) tail)))) room
+      ∙ ap (λ ws. done ++ ws) (onto_all-push current x (windows_after (length current + 1) (bytes_of current + length x.line) tail))
+      ∙ ap (λ n. done ++ onto_all (current ++ x ∷ []) (windows_after n (bytes_of current + length x.line) tail)) (sym (length-append current (x ∷ [])))
+      ∙ ap (λ n. done ++ onto_all (current ++ x ∷ []) (windows_after (length (current ++ x ∷ [])) n tail)) (sym (bytes_of-push current x));
+}
+
+-- a line that makes the window at hand whole
+pub cut_whole : (lines : List Said) (done : List (List Said)) (current : List Said) (x : Said) → IsCut lines done current → is_full (length current + 1) (bytes_of current + length x.line) ≡ true → IsCut (lines ++ x ∷ []) (done ++ (current ++ x ∷ []) ∷ []) []
+unfolding windows_after
+cut_whole lines done current x c full = record {
+  rest = λ tail.
+      ap windows (append_assoc lines (x ∷ []) tail) ∙ c.rest (x ∷ tail)
+      ∙ ap (λ v. done ++ onto_all current (cond v ((x ∷ []) ∷ windows_after 0 0 tail) (onto_first x (windows_after (length current + 1) (bytes_of current + length x.line) tail)))) full
+      ∙ ap (λ ws. done ++ ws) (onto_all-whole current x (windows_after 0 0 tail))
+      ∙ sym (append_assoc done ((current ++ x ∷ []) ∷ []) (windows_after 0 0 tail));
+}

@@ -1,7 +1,6 @@
 -- A history: everything that was ever placed, in its blocks.
-use Rattle.std.specs.Prelude.{ℕ, ◌+◌, ◌<◌, nat_le, Bool, true, false, if◌then◌else◌, List, [], ◌∷◌, ◌++◌, length, map, take, filter}
+use Rattle.std.specs.Prelude.{ℕ, ◌+◌, nat_le, nat_lt, Bool, true, false, if◌then◌else◌, List, [], ◌∷◌, ◌++◌, length, map, take, max}
 use Rattle.std.specs.List.{flat_map, fold}
-use Rattle.std.specs.Prelude.{max}
 use Rattle.sha2.specs.Sha256.{sha256}
 use Rattle.tree_model.specs.Tree.{mth, leaf}
 use Rattle.journal_record.specs.Entry.{Entry}
@@ -42,7 +41,8 @@ root h m = mth sha256 (take m (leaves h))
 abbrev pub leaf_digest : Entry → List ℕ
 leaf_digest journal = leaf sha256 (spelling journal.header)
 
-abbrev first_leaf_digest : List Entry → List ℕ
+-- the leaf digest of the first journal
+abbrev pub first_leaf_digest : List Entry → List ℕ
 first_leaf_digest [] = []
 first_leaf_digest (journal ∷ rest) = leaf_digest journal
 
@@ -54,11 +54,12 @@ id h = first_leaf_digest (journals h)
 abbrev pub blocks : History → ℕ
 blocks h = length h.closed
 
-abbrev is_purge : Kind → Bool
+abbrev pub is_purge : Kind → Bool
 is_purge Purge = true
 is_purge kind = false
 
-abbrev purge_point : Entry → ℕ
+-- the point of a purge journal, and 0 of others
+abbrev pub purge_point : Entry → ℕ
 purge_point journal = if is_purge journal.header.kind then journal.header.a else 0
 
 -- the point: the greatest point of a purge journal, or 0
@@ -83,3 +84,21 @@ unfoldable pub place : Entry → History → History
 place journal h =
     let more = history h.closed (h.waiting ++ journal ∷ []) in
     if nat_le block_limit (length more.waiting) then close more else more
+
+-- the number of the block that holds a journal, counted from the first of these blocks, before which n journals stand
+abbrev pub block_from : ℕ → List (List Entry) → ℕ → ℕ
+block_from n [] jsn = 0
+block_from n (block ∷ blocks) jsn = if nat_lt jsn (n + length block) then 0 else block_from (n + length block) blocks jsn + 1
+
+-- the size at the end of that block
+abbrev pub end_from : ℕ → List (List Entry) → ℕ → ℕ
+end_from n [] jsn = n
+end_from n (block ∷ blocks) jsn = if nat_lt jsn (n + length block) then n + length block else end_from (n + length block) blocks jsn
+
+-- the number of the block that holds a journal
+unfoldable pub block_of : History → ℕ → ℕ
+block_of h jsn = block_from 0 h.closed jsn
+
+-- the size at that block's end
+unfoldable pub end_of : History → ℕ → ℕ
+end_of h jsn = end_from 0 h.closed jsn

@@ -2,9 +2,12 @@ pub mod History
 pub mod Ends
 pub mod Genesis
 pub mod Step
+pub mod Members
+pub mod Appends
 pub mod Notary
 pub mod Rules
 pub mod Texts
+pub mod Dues
 pub mod Windows
 pub mod Merge
 pub mod InOrder

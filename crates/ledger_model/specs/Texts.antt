@@ -4,34 +4,45 @@ use Rattle.sha2.specs.Sha256.{sha256}
 use Rattle.tree_model.specs.Tree.{mth}
 use Rattle.ledger_bytes.specs.declared.refusal.Refusal.{Refusal}
 use Rattle.script_lines.specs.Replies.{reply_text}
-use Rattle.script_lines.specs.declared.reply.Reply.{Reply}
+use Rattle.script_lines.specs.declared.reply.Reply.{Reply as AnyReply}
 use Rattle.script_lines.specs.declared.reply.Reply.TheVariants as reply
+use Rattle.ledger_model.specs.Appends.{append_journal}
 use Rattle.ledger_model.specs.Genesis.{digest}
-use Rattle.ledger_model.specs.History.{History, id, size, root, blocks, point}
+use Rattle.ledger_model.specs.History.{History, id, size, root, blocks, point, leaf_digest, block_of, end_of}
 use Rattle.ledger_model.specs.Rules.{job_of, judged_at, refusal_of, after_step, after_window}
 use Rattle.ledger_model.specs.Step.{Step}
+use Rattle.ledger_model.specs.declared.answer.Answer.{Answer}
+use Rattle.ledger_model.specs.declared.answer.Answer.TheVariants.{Reply, Receipt}
 use Rattle.ledger_model.specs.declared.job.Job.{Job}
-use Rattle.ledger_model.specs.declared.job.Job.TheVariants.{Refused, Head}
+use Rattle.ledger_model.specs.declared.job.Job.TheVariants.{Refused, Append, Head}
 
--- the reply to an accepted job that is judged against h; the window's history has the ends of all its blocks
-abbrev pub accepted : History → History → Step → Job → Reply
-accepted window h step (Refused refusal) = reply.Refused refusal
-accepted window h step Head =
-    reply.Head (digest (id h)) (size h) (digest (root h (size h))) (blocks h) (point h) (length step.after) (digest (mth sha256 step.after))
+-- the answer to an accepted job that is judged against h
+abbrev pub accepted : History → Step → Job → Answer
+accepted h step (Refused refusal) = Reply (reply.Refused refusal)
+accepted h step (Append member content content_digest request by) =
+    Receipt (size h) (digest (leaf_digest (append_journal (size h) member content content_digest request by)))
+accepted h step Head =
+    Reply (reply.Head (digest (id h)) (size h) (digest (root h (size h))) (blocks h) (point h) (length step.after) (digest (mth sha256 step.after)))
 
-abbrev answered : Option Refusal → Reply → Reply
-answered (Some refusal) accepted_reply = reply.Refused refusal
-answered None accepted_reply = accepted_reply
+-- the answer to a job after its judgement
+abbrev pub answered : Option Refusal → Answer → Answer
+answered (Some refusal) answer = Reply (reply.Refused refusal)
+answered None answer = answer
 
--- the reply to a job, judged against everything placed before it
-abbrev pub reply_to : History → History → Step → Job → Reply
-reply_to window h step job =
+-- the answer to a job, judged against everything placed before it
+unfoldable pub answer_to : History → Step → Job → Answer
+answer_to h step job =
     let g = judged_at h job in
-    answered (refusal_of g step job) (accepted window g step job)
+    answered (refusal_of g step job) (accepted g step job)
 
--- the line that is written for a step
+-- the reply of an answer, in a history where the journal's block has ended: a receipt carries that block's number, and the size and root at its end
+abbrev pub reply_in : History → Answer → AnyReply
+reply_in window (Reply reply) = reply
+reply_in window (Receipt jsn leaf) = reply.Placed jsn leaf (block_of window jsn) (end_of window jsn) (digest (root window (end_of window jsn)))
+
+-- the line that is written for a step; the window's history has the ends of all its blocks
 unfoldable pub step_text : History → History → Step → List ℕ
-step_text window h step = reply_text step.lane step.index (reply_to window h step (job_of step.line))
+step_text window h step = reply_text step.lane step.index (reply_in window (answer_to h step (job_of (id h) step.line)))
 
 -- the lines that are written for some steps
 abbrev pub steps_text : History → History → List Step → List ℕ

@@ -2,10 +2,14 @@
 //! a run. The crates above are proved against it.
 #![tactic(auto)]
 
+mod answer;
+mod due;
 mod genesis;
 mod job;
 mod laws;
 
+pub use answer::Answer;
+pub use due::Due;
 pub use genesis::Genesis;
 pub use job::Job;
 pub use laws::{blocks_are_journals_with_ends, windows_are_parts};

@@ -1,0 +1,164 @@
+-- Lemmas on what is due: when a block has ended, the lines that are due for it are the text of its steps.
+use Rattle.std.proofs.Common.{◌≡◌, ℕ, ◌+◌, ◌-◌, ◌<◌, ◌≤◌, ◌⊎◌, inl, inr, List, [], ◌∷◌, ◌++◌, length, Option, Some, None, refl, ap, sym, subst, ◌∙◌, arith, append_assoc, length-append}
+use Rattle.std.specs.Prelude.{⊤}
+use Rattle.std.specs.List.{flat_map}
+use Rattle.ledger_bytes.specs.declared.digest.Digest.{Digest}
+use Rattle.ledger_bytes.specs.declared.refusal.Refusal.{Refusal}
+use Rattle.journal_record.specs.Entry.{Entry}
+use Rattle.script_lines.specs.Replies.{reply_text}
+use Rattle.script_lines.specs.declared.reply.Reply.TheVariants as reply
+use Rattle.ledger_model.specs.Appends.{append_journal}
+use Rattle.ledger_model.specs.Dues.{due_for, dues, reply_at, due_text, dues_text, IsWithin}
+use Rattle.ledger_model.specs.Genesis.{digest}
+use Rattle.ledger_model.specs.History.{History, id, journals, journals_of, size, root, close, place, leaf_digest, block_of, end_of}
+use Rattle.ledger_model.specs.Rules.{job_of, after_job, after_step, after_steps, after_window, after, refusal_of, with_accepted}
+use Rattle.ledger_model.specs.Step.{Step}
+use Rattle.ledger_model.specs.Texts.{accepted, answered, answer_to, reply_in, step_text, steps_text, window_text, text}
+use Rattle.ledger_model.specs.declared.answer.Answer.{Answer}
+use Rattle.ledger_model.specs.declared.answer.Answer.TheVariants.{Reply, Receipt}
+use Rattle.ledger_model.specs.declared.due.Due.{Due}
+use Rattle.ledger_model.specs.declared.job.Job.{Job}
+use Rattle.ledger_model.specs.declared.job.Job.TheVariants.{Refused, Append, Head}
+use Rattle.ledger_model.proofs.GrowLaws.{IsEnded, Moves, Goes, IsPlaced, is_placed, moves_job, moves_close, goes_not, goes_moved, goes_then, goes_size, size_closed, root_kept, block_of-goes, end_of-goes, end_of-le, block_of-ended, end_of-ended}
+
+-- each receipt's journal has a number of this range
+abbrev pub AllWithin : ℕ → ℕ → List Due → Type 0
+AllWithin low high [] = ⊤
+AllWithin low high (due ∷ dues) = IsWithin low high due.answer × AllWithin low high dues
+
+size_placed : (k : History) (journal : Entry) → size k < size (place journal k)
+size_placed k journal = let p = is_placed k journal in omega (arith, ap length p.journals_are, length-append (journals k) (journal ∷ []))
+
+within_accepted : (k : History) (refusal : Option Refusal) (journal : Entry) (leaf : Digest) → IsWithin (size k) (size (with_accepted refusal (Some journal) k)) (answered refusal (Receipt (size k) leaf))
+within_accepted k (Some refusal) journal leaf = tt
+within_accepted k None journal leaf = (omega arith, size_placed k journal)
+
+-- a receipt's journal is the one that the job places
+within_job : (k : History) (step : Step) (job : Job) → IsWithin (size k) (size (after_job k step job)) (answer_to k step job)
+unfolding after_job answer_to
+within_job k step (Refused refusal) = tt
+within_job k step (Append member content content_digest request by) =
+    let journal = append_journal (size k) member content content_digest request by in
+    within_accepted k (refusal_of k step (Append member content content_digest request by)) journal (digest (leaf_digest journal))
+within_job k step Head = tt
+
+within_step : (k : History) (step : Step) → IsWithin (size k) (size (after_step k step)) (due_for k step).answer
+unfolding after_step
+within_step k step = within_job k step (job_of (id k) step.line)
+
+pub goes_step : (k : History) (step : Step) → Goes k (after_step k step)
+unfolding after_step
+goes_step k step = goes_moved k (after_job k step (job_of (id k) step.line)) (moves_job k step (job_of (id k) step.line))
+
+pub moves_step : (k : History) (step : Step) → Moves k (after_step k step)
+unfolding after_step
+moves_step k step = moves_job k step (job_of (id k) step.line)
+
+pub goes_steps : (k : History) (steps : List Step) → Goes k (after_steps k steps)
+goes_steps k [] = goes_not k
+goes_steps k (step ∷ steps) = goes_then k (after_step k step) (after_steps (after_step k step) steps) (goes_step k step) (goes_steps (after_step k step) steps)
+
+pub goes_window : (k : History) (steps : List Step) → Goes k (after_window k steps)
+goes_window k steps = goes_then k (after_steps k steps) (after_window k steps) (goes_steps k steps) (goes_moved (after_steps k steps) (close (after_steps k steps)) (moves_close (after_steps k steps)))
+
+within_wider : (low lower high higher : ℕ) (answer : Answer) → lower ≤ low → high ≤ higher → IsWithin low high answer → IsWithin lower higher answer
+within_wider low lower high higher (Reply reply) l h w = tt
+within_wider low lower high higher (Receipt jsn leaf) l h w = (omega (arith, w.0), omega (arith, w.1))
+
+all_wider : (low lower high : ℕ) (ds : List Due) → lower ≤ low → AllWithin low high ds → AllWithin lower high ds
+all_wider low lower high [] l w = tt
+all_wider low lower high (due ∷ ds) l w = (within_wider low lower high high due.answer l (omega arith) w.0, all_wider low lower high ds l w.1)
+
+-- the receipts of some steps are for journals that these place
+pub dues_within : (k : History) (steps : List Step) → AllWithin (size k) (size (after_steps k steps)) (dues k steps)
+dues_within k [] = tt
+dues_within k (step ∷ steps) =
+    let g = after_step k step in
+    let last = after_steps g steps in (
+      within_wider (size k) (size k) (size g) (size last) (due_for k step).answer (omega arith) (goes_size g last (goes_steps g steps)) (within_step k step),
+      all_wider (size g) (size k) (size last) (dues g steps) (goes_size k g (goes_step k step)) (dues_within g steps),
+    )
+
+-- the replies of answers in one history are those in another
+abbrev Agree : History → History → Answer → Type 0
+Agree window g answer = reply_in window answer ≡ reply_in g answer
+
+receipt_kept : (g window : History) (jsn : ℕ) (leaf : Digest) → g.waiting ≡ [] → Goes g window → jsn < size g → Agree window g (Receipt jsn leaf)
+receipt_kept g window jsn leaf none a below =
+    let at = end_of-goes g window jsn none a below in
+    ap (λ b. reply.Placed jsn leaf b (end_of window jsn) (digest (root window (end_of window jsn)))) (block_of-goes g window jsn none a below)
+    ∙ ap (λ n. reply.Placed jsn leaf (block_of g jsn) n (digest (root window n))) at
+    ∙ ap (λ r. reply.Placed jsn leaf (block_of g jsn) (end_of g jsn) (digest r)) (root_kept g window a.more (end_of g jsn) a.journals_are (end_of-le g jsn none below))
+
+answer_kept : (g window : History) (low : ℕ) (answer : Answer) → g.waiting ≡ [] → Goes g window → IsWithin low (size g) answer → Agree window g answer
+answer_kept g window low (Reply reply) none a w = refl
+answer_kept g window low (Receipt jsn leaf) none a w = receipt_kept g window jsn leaf none a w.1
+
+-- the text of some steps in a later history is that in the history where their blocks have ended
+steps_kept : (k g window : History) (low : ℕ) (steps : List Step) → g.waiting ≡ [] → Goes g window → AllWithin low (size g) (dues k steps) → steps_text window k steps ≡ steps_text g k steps
+unfolding step_text
+steps_kept k g window low [] none a w = refl
+steps_kept k g window low (step ∷ steps) none a w =
+    ap (λ r. reply_text step.lane step.index r ++ steps_text window (after_step k step) steps) (answer_kept g window low (due_for k step).answer none a w.0)
+    ∙ ap (λ rest. step_text g k step ++ rest) (steps_kept (after_step k step) g window low steps none a w.1)
+
+steps_text-append : (window k : History) (xs ys : List Step) → steps_text window k (xs ++ ys) ≡ steps_text window k xs ++ steps_text window (after_steps k xs) ys
+steps_text-append window k [] ys = refl
+steps_text-append window k (x ∷ xs) ys =
+    ap (λ rest. step_text window k x ++ rest) (steps_text-append window (after_step k x) xs ys)
+    ∙ sym (append_assoc (step_text window k x) (steps_text window (after_step k x) xs) (steps_text window (after_steps (after_step k x) xs) ys))
+
+pub after_steps-append : (k : History) (xs ys : List Step) → after_steps k (xs ++ ys) ≡ after_steps (after_steps k xs) ys
+after_steps-append k [] ys = refl
+after_steps-append k (x ∷ xs) ys = after_steps-append (after_step k x) xs ys
+
+-- where the blocks of the first steps have ended, their text can be written before the window's end
+pub window_split : (k : History) (xs ys : List Step) → (after_steps k xs).waiting ≡ [] → window_text k (xs ++ ys) ≡ steps_text (after_steps k xs) k xs ++ window_text (after_steps k xs) ys
+window_split k xs ys none =
+    let g = after_steps k xs in
+    let same : after_window k (xs ++ ys) ≡ after_window g ys = ap close (after_steps-append k xs ys) in
+    ap (λ w. steps_text w k (xs ++ ys)) same ∙ steps_text-append (after_window g ys) k xs ys
+    ∙ ap (λ front. front ++ window_text g ys) (steps_kept k g (after_window g ys) (size k) xs none (goes_window g ys) (dues_within k xs))
+
+-- what a block that has ended makes of the answers that were due for it
+receipt_ended : (k g : History) (jsn : ℕ) (leaf : Digest) → k.waiting ≡ [] → (e : IsEnded k g) → size k ≤ jsn → jsn < size g → reply_in g (Receipt jsn leaf) ≡ reply_at (length g.closed - 1) (size g) (root g (size g)) (Receipt jsn leaf)
+receipt_ended k g jsn leaf none e above below =
+    let at = end_of-ended k g jsn none e above below in
+    ap (λ b. reply.Placed jsn leaf b (end_of g jsn) (digest (root g (end_of g jsn)))) (block_of-ended k g jsn none e above below)
+    ∙ ap (λ n. reply.Placed jsn leaf (length g.closed - 1) n (digest (root g n))) at
+
+answer_ended : (k g : History) (answer : Answer) → k.waiting ≡ [] → (size g ≡ size k) ⊎ IsEnded k g → IsWithin (size k) (size g) answer → reply_in g answer ≡ reply_at (length g.closed - 1) (size g) (root g (size g)) answer
+answer_ended k g (Reply reply) none ended w = refl
+answer_ended k g (Receipt jsn leaf) none ended w =
+    elim ended [ inl same ↦ absurd (let no : ⊥ = omega (arith, same, w.0, w.1) in no) | inr e ↦ receipt_ended k g jsn leaf none e w.0 w.1 ]
+
+dues_ended : (k g j : History) (steps : List Step) → k.waiting ≡ [] → (size g ≡ size k) ⊎ IsEnded k g → AllWithin (size k) (size g) (dues j steps) → steps_text g j steps ≡ dues_text (length g.closed - 1) (size g) (root g (size g)) (dues j steps)
+unfolding step_text
+dues_ended k g j [] none ended w = refl
+dues_ended k g j (step ∷ steps) none ended w =
+    ap (λ r. reply_text step.lane step.index r ++ steps_text g (after_step j step) steps) (answer_ended k g (due_for j step).answer none ended w.0)
+    ∙ ap (λ rest. reply_text step.lane step.index (reply_at (length g.closed - 1) (size g) (root g (size g)) (due_for j step).answer) ++ rest) (dues_ended k g (after_step j step) steps none ended w.1)
+
+all_higher : (low high higher : ℕ) (ds : List Due) → high ≤ higher → AllWithin low high ds → AllWithin low higher ds
+all_higher low high higher [] h w = tt
+all_higher low high higher (due ∷ ds) h w = (within_wider low low high higher due.answer (omega arith) h w.0, all_higher low high higher ds h w.1)
+
+no_more : (k g : History) → k.waiting ≡ [] → g.waiting ≡ [] → (g.closed ≡ k.closed) ⊎ IsEnded k g → (size g ≡ size k) ⊎ IsEnded k g
+no_more k g none ended b =
+    elim b [ inl same ↦ inl (size_closed g ended ∙ ap (λ bs. length (journals_of bs)) same ∙ sym (size_closed k none)) | inr e ↦ inr e ]
+
+-- the text of the steps of the block that has ended last is what is due for them
+pub block_text : (k g : History) (steps : List Step) → k.waiting ≡ [] → g.waiting ≡ [] → (g.closed ≡ k.closed) ⊎ IsEnded k g → size (after_steps k steps) ≤ size g → steps_text g k steps ≡ dues_text (length g.closed - 1) (size g) (root g (size g)) (dues k steps)
+block_text k g steps none ended b le =
+    dues_ended k g k steps none (no_more k g none ended b) (all_higher (size k) (size (after_steps k steps)) (size g) (dues k steps) le (dues_within k steps))
+
+-- what is due for steps and more
+pub dues-append : (k : History) (xs ys : List Step) → dues k (xs ++ ys) ≡ dues k xs ++ dues (after_steps k xs) ys
+dues-append k [] ys = refl
+dues-append k (x ∷ xs) ys = ap (λ rest. due_for k x ∷ rest) (dues-append (after_step k x) xs ys)
+
+-- the text of some windows and more
+pub text-append : (k : History) (xs ys : List (List Step)) → text k (xs ++ ys) ≡ text k xs ++ text (after k xs) ys
+text-append k [] ys = refl
+text-append k (x ∷ xs) ys =
+    ap (λ rest. window_text k x ++ rest) (text-append (after_window k x) xs ys) ∙ sym (append_assoc (window_text k x) (text (after_window k x) xs) (text (after (after_window k x) xs) ys))

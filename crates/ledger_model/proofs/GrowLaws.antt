@@ -1,0 +1,246 @@
+-- Lemmas on how a history grows, and on what stays true of the part that was there.
+use Rattle.std.proofs.Common.{◌≡◌, ℕ, ◌+◌, ◌-◌, ◌<◌, ◌≤◌, ◌⊎◌, inl, inr, Bool, true, false, cond, nat_lt, nat_le, ltb, List, [], ◌∷◌, ◌++◌, length, map, take, Option, Some, None, refl, ap, sym, subst, ◌∙◌, arith, append_assoc, append-nil, length-append}
+use Rattle.std.specs.Prelude.{⊤}
+use Rattle.std.specs.List.{flat_map}
+use Rattle.std.proofs.lemmas.Bool.{lt-ltb, le-ltb, ltb-false, le-leb, lt-leb}
+use Rattle.std.proofs.lemmas.List.{map-append, length-map, take-append-le}
+use Rattle.std.proofs.lemmas.List.Concat.{flat_map-append}
+use Rattle.sha2.specs.Sha256.{sha256}
+use Rattle.tree_model.specs.Tree.{mth}
+use Rattle.ledger_bytes.specs.declared.refusal.Refusal.{Refusal}
+use Rattle.journal_record.specs.Entry.{Entry}
+use Rattle.journal_record.specs.Header.{spelling}
+use Rattle.ledger_model.specs.Appends.{append_journal}
+use Rattle.ledger_model.specs.History.{History, history, journals_of, journals, size, leaves, root, close_by, close, place, block_limit, block_from, end_from, block_of, end_of}
+use Rattle.ledger_model.specs.Rules.{with_accepted, with_placed, refusal_of, placed_by, judged_at, after_job}
+use Rattle.ledger_model.specs.Step.{Step}
+use Rattle.ledger_model.specs.declared.job.Job.{Job}
+use Rattle.ledger_model.specs.declared.job.Job.TheVariants.{Refused, Append, Head}
+
+-- a block more has ended, and nothing waits
+pub record IsEnded (k g : History) : Type 0 where
+  pub block : List Entry
+  pub closed_are : g.closed ≡ k.closed ++ block ∷ []
+  pub none : g.waiting ≡ []
+
+-- one history comes of another by one job: journals came behind, and at most one block has ended
+pub record Moves (k g : History) : Type 0 where
+  pub more : List Entry
+  pub journals_are : journals g ≡ journals k ++ more
+  pub blocks_are : (g.closed ≡ k.closed) ⊎ IsEnded k g
+
+moves_not : (k : History) → Moves k k
+moves_not k = record { more = []; journals_are = sym (append-nil (journals k)); blocks_are = inl refl }
+
+-- the journals of blocks and one more
+journals_of-push : (blocks : List (List Entry)) (block : List Entry) → journals_of (blocks ++ block ∷ []) ++ [] ≡ journals_of blocks ++ block
+journals_of-push blocks block =
+    append-nil (journals_of (blocks ++ block ∷ [])) ∙ flat_map-append (λ (b : List Entry). b) blocks (block ∷ []) ∙ ap (λ x. journals_of blocks ++ x) (append-nil block)
+
+moves_close_by : (blocks : List (List Entry)) (waiting : List Entry) → Moves (history blocks waiting) (close_by blocks waiting)
+moves_close_by blocks [] = record { more = []; journals_are = sym (append-nil (journals_of blocks ++ [])); blocks_are = inl refl }
+moves_close_by blocks (journal ∷ rest) = record {
+  more = [];
+  journals_are = journals_of-push blocks (journal ∷ rest) ∙ sym (append-nil (journals_of blocks ++ (journal ∷ rest)));
+  blocks_are = inr (record { block = journal ∷ rest; closed_are = refl; none = refl });
+}
+
+-- the end of the open block
+pub moves_close : (k : History) → Moves k (close k)
+unfolding close
+moves_close k = moves_close_by k.closed k.waiting
+
+-- what a journal more does: it waits, or it fills the block
+pub record IsPlaced (k g : History) (journal : Entry) : Type 0 where
+  pub journals_are : journals g ≡ journals k ++ journal ∷ []
+  pub blocks_are : (g.closed ≡ k.closed) ⊎ IsEnded k g
+
+placed_waiting : (k : History) (journal : Entry) → IsPlaced k (history k.closed (k.waiting ++ journal ∷ [])) journal
+placed_waiting k journal = record {
+  journals_are = sym (append_assoc (journals_of k.closed) k.waiting (journal ∷ []));
+  blocks_are = inl refl;
+}
+
+placed_filled : (k : History) (journal : Entry) (block : List Entry) → k.waiting ++ journal ∷ [] ≡ block → IsPlaced k (history (k.closed ++ block ∷ []) []) journal
+placed_filled k journal block is = record {
+  journals_are = journals_of-push k.closed block ∙ ap (λ b. journals_of k.closed ++ b) (sym is) ∙ sym (append_assoc (journals_of k.closed) k.waiting (journal ∷ []));
+  blocks_are = inr (record { block = block; closed_are = refl; none = refl });
+}
+
+-- the end of a block that has a journal
+ended_by : (blocks : List (List Entry)) (waiting : List Entry) (journal : Entry) → close_by blocks (waiting ++ journal ∷ []) ≡ history (blocks ++ (waiting ++ journal ∷ []) ∷ []) []
+ended_by blocks [] journal = refl
+ended_by blocks (x ∷ xs) journal = refl
+
+-- a journal more
+pub is_placed : (k : History) (journal : Entry) → IsPlaced k (place journal k) journal
+unfolding place close
+is_placed k journal =
+    elim (nat_le block_limit (length (k.waiting ++ journal ∷ []))) as (λ full. IsPlaced k (cond full (close_by k.closed (k.waiting ++ journal ∷ [])) (history k.closed (k.waiting ++ journal ∷ []))) journal) [
+      | true ↦ subst (λ g. IsPlaced k g journal) (sym (ended_by k.closed k.waiting journal)) (placed_filled k journal (k.waiting ++ journal ∷ []) refl)
+      | false ↦ placed_waiting k journal
+    ]
+
+moves_place : (k : History) (journal : Entry) → Moves k (place journal k)
+moves_place k journal = let p = is_placed k journal in record { more = journal ∷ []; journals_are = p.journals_are; blocks_are = p.blocks_are }
+
+moves_accepted : (k : History) (refusal : Option Refusal) (journal : Entry) → Moves k (with_accepted refusal (Some journal) k)
+moves_accepted k (Some refusal) journal = moves_not k
+moves_accepted k None journal = moves_place k journal
+
+-- a job
+pub moves_job : (k : History) (step : Step) (job : Job) → Moves k (after_job k step job)
+unfolding after_job
+moves_job k step (Refused refusal) = moves_not k
+moves_job k step (Append member content content_digest request by) = moves_accepted k (refusal_of k step (Append member content content_digest request by)) (append_journal (size k) member content content_digest request by)
+moves_job k step Head = moves_close k
+
+-- how many journals there are then
+pub moves_size : (k g : History) (m : Moves k g) → size g ≡ size k + length m.more
+moves_size k g m = ap length m.journals_are ∙ length-append (journals k) m.more
+
+-- later journals change no root over the first
+pub root_kept : (k g : History) (more : List Entry) (m : ℕ) → journals g ≡ journals k ++ more → m ≤ size k → root g m ≡ root k m
+unfolding root
+root_kept k g more m is le =
+    let f : Entry → List ℕ = λ journal. spelling journal.header in
+    let whole : leaves g ≡ leaves k ++ map f more = ap (map f) is ∙ map-append f (journals k) more in
+    ap (λ xs. mth sha256 (take m xs)) whole ∙ ap (mth sha256) (take-append-le m (leaves k) (map f more) (omega (arith, length-map (journals k) f)))
+
+length-journals_of : (block : List Entry) (blocks : List (List Entry)) → length (journals_of (block ∷ blocks)) ≡ length block + length (journals_of blocks)
+length-journals_of block blocks = length-append block (journals_of blocks)
+
+-- later blocks change no block of the journals before them
+block_from-append : (n : ℕ) (blocks more : List (List Entry)) (jsn : ℕ) → jsn < n + length (journals_of blocks) → n ≤ jsn → block_from n (blocks ++ more) jsn ≡ block_from n blocks jsn
+block_from-append n [] more jsn below above = absurd (omega arith)
+block_from-append n (block ∷ blocks) more jsn below above =
+    elim (nat_lt jsn (n + length block)) as (λ v. nat_lt jsn (n + length block) ≡ v → cond v 0 (block_from (n + length block) (blocks ++ more) jsn + 1) ≡ cond v 0 (block_from (n + length block) blocks jsn + 1)) [
+      | true ↦ λ e. refl
+      | false ↦ λ e. ap (λ x. x + 1) (block_from-append (n + length block) blocks more jsn (omega (arith, length-journals_of block blocks)) (omega (arith, ltb-false jsn (n + length block) e)))
+    ] refl
+
+end_from-append : (n : ℕ) (blocks more : List (List Entry)) (jsn : ℕ) → jsn < n + length (journals_of blocks) → n ≤ jsn → end_from n (blocks ++ more) jsn ≡ end_from n blocks jsn
+end_from-append n [] more jsn below above = absurd (omega arith)
+end_from-append n (block ∷ blocks) more jsn below above =
+    elim (nat_lt jsn (n + length block)) as (λ v. nat_lt jsn (n + length block) ≡ v → cond v (n + length block) (end_from (n + length block) (blocks ++ more) jsn) ≡ cond v (n + length block) (end_from (n + length block) blocks jsn)) [
+      | true ↦ λ e. refl
+      | false ↦ λ e. end_from-append (n + length block) blocks more jsn (omega (arith, length-journals_of block blocks)) (omega (arith, ltb-false jsn (n + length block) e))
+    ] refl
+
+-- the end of a journal's block is no later than the end of all blocks
+end_from-le : (n : ℕ) (blocks : List (List Entry)) (jsn : ℕ) → jsn < n + length (journals_of blocks) → n ≤ jsn → end_from n blocks jsn ≤ n + length (journals_of blocks)
+end_from-le n [] jsn below above = absurd (omega arith)
+end_from-le n (block ∷ blocks) jsn below above =
+    elim (nat_lt jsn (n + length block)) as (λ v. nat_lt jsn (n + length block) ≡ v → cond v (n + length block) (end_from (n + length block) blocks jsn) ≤ n + length (journals_of (block ∷ blocks))) [
+      | true ↦ λ e. omega (arith, length-journals_of block blocks)
+      | false ↦ λ e. omega (arith, length-journals_of block blocks, end_from-le (n + length block) blocks jsn (omega (arith, length-journals_of block blocks)) (omega (arith, ltb-false jsn (n + length block) e)))
+    ] refl
+
+-- the journals of the last of some blocks
+block_from-last : (n : ℕ) (blocks : List (List Entry)) (block : List Entry) (jsn : ℕ) → n + length (journals_of blocks) ≤ jsn → jsn < n + length (journals_of blocks) + length block → block_from n (blocks ++ block ∷ []) jsn ≡ length blocks
+block_from-last n [] block jsn above below = let e : nat_lt jsn (n + length block) ≡ true = lt-ltb jsn (n + length block) (omega arith) in rw e refl
+block_from-last n (first ∷ blocks) block jsn above below =
+    let e : nat_lt jsn (n + length first) ≡ false = le-ltb jsn (n + length first) (omega (arith, length-journals_of first blocks)) in
+    rw e (ap (λ x. x + 1) (block_from-last (n + length first) blocks block jsn (omega (arith, length-journals_of first blocks)) (omega (arith, length-journals_of first blocks))) ∙ omega arith)
+
+end_from-last : (n : ℕ) (blocks : List (List Entry)) (block : List Entry) (jsn : ℕ) → n + length (journals_of blocks) ≤ jsn → jsn < n + length (journals_of blocks) + length block → end_from n (blocks ++ block ∷ []) jsn ≡ n + length (journals_of blocks) + length block
+end_from-last n [] block jsn above below = let e : nat_lt jsn (n + length block) ≡ true = lt-ltb jsn (n + length block) (omega arith) in rw e (omega arith)
+end_from-last n (first ∷ blocks) block jsn above below =
+    let e : nat_lt jsn (n + length first) ≡ false = le-ltb jsn (n + length first) (omega (arith, length-journals_of first blocks)) in
+    rw e (end_from-last (n + length first) blocks block jsn (omega (arith, length-journals_of first blocks)) (omega (arith, length-journals_of first blocks)) ∙ omega (arith, length-journals_of first blocks))
+
+-- one history comes of another: journals came behind, and blocks ended
+pub record Goes (k g : History) : Type 0 where
+  pub more : List Entry
+  pub journals_are : journals g ≡ journals k ++ more
+  pub blocks : List (List Entry)
+  pub closed_are : g.closed ≡ k.closed ++ blocks
+
+pub goes_not : (k : History) → Goes k k
+goes_not k = record { more = []; journals_are = sym (append-nil (journals k)); blocks = []; closed_are = sym (append-nil k.closed) }
+
+pub goes_moved : (k g : History) → Moves k g → Goes k g
+goes_moved k g m = record {
+  more = m.more;
+  journals_are = m.journals_are;
+  blocks = elim m.blocks_are [ inl same ↦ [] | inr ended ↦ ended.block ∷ [] ];
+  closed_are = elim m.blocks_are as (λ b. g.closed ≡ k.closed ++ elim b [ inl same ↦ [] | inr ended ↦ ended.block ∷ [] ]) [ inl same ↦ same ∙ sym (append-nil k.closed) | inr ended ↦ ended.closed_are ];
+}
+
+pub goes_then : (k g h : History) → Goes k g → Goes g h → Goes k h
+goes_then k g h a b = record {
+  more = a.more ++ b.more;
+  journals_are = b.journals_are ∙ ap (λ x. x ++ b.more) a.journals_are ∙ append_assoc (journals k) a.more b.more;
+  blocks = a.blocks ++ b.blocks;
+  closed_are = b.closed_are ∙ ap (λ x. x ++ b.blocks) a.closed_are ∙ append_assoc k.closed a.blocks b.blocks;
+}
+
+pub goes_size : (k g : History) → Goes k g → size k ≤ size g
+goes_size k g a = omega (arith, ap length a.journals_are, length-append (journals k) a.more)
+
+-- where nothing waits, all journals stand in blocks that have ended
+pub size_closed : (k : History) → k.waiting ≡ [] → size k ≡ length (journals_of k.closed)
+size_closed k none = ap (λ w. length (journals_of k.closed ++ w)) none ∙ ap length (append-nil (journals_of k.closed))
+
+-- what a receipt says doesn't change when the history goes on
+pub block_of-goes : (k g : History) (jsn : ℕ) → k.waiting ≡ [] → Goes k g → jsn < size k → block_of g jsn ≡ block_of k jsn
+unfolding block_of
+block_of-goes k g jsn none a below = ap (λ bs. block_from 0 bs jsn) a.closed_are ∙ block_from-append 0 k.closed a.blocks jsn (omega (arith, size_closed k none)) (omega arith)
+
+pub end_of-goes : (k g : History) (jsn : ℕ) → k.waiting ≡ [] → Goes k g → jsn < size k → end_of g jsn ≡ end_of k jsn
+unfolding end_of
+end_of-goes k g jsn none a below = ap (λ bs. end_from 0 bs jsn) a.closed_are ∙ end_from-append 0 k.closed a.blocks jsn (omega (arith, size_closed k none)) (omega arith)
+
+pub end_of-le : (k : History) (jsn : ℕ) → k.waiting ≡ [] → jsn < size k → end_of k jsn ≤ size k
+unfolding end_of
+end_of-le k jsn none below = omega (arith, end_from-le 0 k.closed jsn (omega (arith, size_closed k none)) (omega arith), size_closed k none)
+
+-- how many journals there are once a block more has ended
+ended_size : (k g : History) (e : IsEnded k g) → size g ≡ length (journals_of k.closed) + length e.block
+ended_size k g e =
+    size_closed g e.none ∙ ap (λ bs. length (journals_of bs)) e.closed_are ∙ ap length (flat_map-append (λ (b : List Entry). b) k.closed (e.block ∷ []))
+    ∙ omega (arith, length-append (journals_of k.closed) (e.block ++ []), ap length (append-nil e.block))
+
+-- what a receipt says where its block is the last
+pub block_of-ended : (k g : History) (jsn : ℕ) → k.waiting ≡ [] → (e : IsEnded k g) → size k ≤ jsn → jsn < size g → block_of g jsn ≡ length g.closed - 1
+unfolding block_of
+block_of-ended k g jsn none e above below =
+    ap (λ bs. block_from 0 bs jsn) e.closed_are
+    ∙ block_from-last 0 k.closed e.block jsn (omega (arith, size_closed k none)) (omega (arith, size_closed k none, ended_size k g e))
+    ∙ omega (arith, ap length e.closed_are, length-append k.closed (e.block ∷ []))
+
+pub end_of-ended : (k g : History) (jsn : ℕ) → k.waiting ≡ [] → (e : IsEnded k g) → size k ≤ jsn → jsn < size g → end_of g jsn ≡ size g
+unfolding end_of
+end_of-ended k g jsn none e above below =
+    ap (λ bs. end_from 0 bs jsn) e.closed_are
+    ∙ end_from-last 0 k.closed e.block jsn (omega (arith, size_closed k none)) (omega (arith, size_closed k none, ended_size k g e))
+    ∙ omega (arith, ended_size k g e)
+
+-- where nothing waits, the open block has nothing to end
+pub close_settled : (k : History) → k.waiting ≡ [] → k ≡ close k
+unfolding close
+close_settled k none = sym (ap (close_by k.closed) none ∙ ap (history k.closed) (sym none))
+
+close_some : (blocks closed : List (List Entry)) (waiting : List Entry) → 0 < length waiting → closed ≡ blocks ++ waiting ∷ [] → history closed [] ≡ close_by blocks waiting
+close_some blocks closed [] some is = absurd (omega (arith, some))
+close_some blocks closed (journal ∷ rest) some is = ap (λ bs. history bs []) is
+
+-- the open block ended, where it has a journal
+pub close_ended : (k : History) (closed : List (List Entry)) (block waiting : List Entry) → 0 < length k.waiting → closed ≡ k.closed ++ block ∷ [] → block ≡ k.waiting → waiting ≡ [] → history closed waiting ≡ close k
+unfolding close
+close_ended k closed block waiting some is same none =
+    ap (history closed) none ∙ close_some k.closed closed k.waiting some (is ∙ ap (λ b. k.closed ++ b ∷ []) same)
+
+-- a journal that fills the open block
+pub place_full : (k more : History) (journal : Entry) → more ≡ history k.closed (k.waiting ++ journal ∷ []) → 64 ≤ length more.waiting → close more ≡ place journal k
+unfolding place
+place_full k more journal is full =
+    let test : nat_le block_limit (length (k.waiting ++ journal ∷ [])) ≡ true = ap (λ (g : History). nat_le 64 (length g.waiting)) (sym is) ∙ le-leb 64 (length more.waiting) full in
+    ap close is ∙ sym (ap (λ v. cond v (close (history k.closed (k.waiting ++ journal ∷ []))) (history k.closed (k.waiting ++ journal ∷ []))) test)
+
+-- .. and one that doesn't
+pub place_room : (k more : History) (journal : Entry) → more ≡ history k.closed (k.waiting ++ journal ∷ []) → length more.waiting < 64 → more ≡ place journal k
+unfolding place
+place_room k more journal is room =
+    let test : nat_le block_limit (length (k.waiting ++ journal ∷ [])) ≡ false = ap (λ (g : History). nat_le 64 (length g.waiting)) (sym is) ∙ lt-leb 64 (length more.waiting) room in
+    is ∙ sym (ap (λ v. cond v (close (history k.closed (k.waiting ++ journal ∷ []))) (history k.closed (k.waiting ++ journal ∷ []))) test)
