@@ -1,197 +1,303 @@
--- Lemmas on the ends of a session.
-use Rattle.std.proofs.Common.{◌≡◌, ℕ, ◌+◌, ◌^◌, ◌<◌, ◌≤◌, ◌⊎◌, inl, inr, false, List, [], ◌∷◌, ◌++◌, length, take, drop, Err, refl, ap, sym, subst, ◌∙◌, arith, append_assoc, append-nil, length-append}
-use Rattle.std.specs.Prelude.{All}
-use Rattle.std.specs.Io.KnownBytes.{Appends, IsAtEnd}
-use Rattle.std.proofs.KnownBytes.{Consumes-trans, Appends-trans}
+-- Lemmas on a session: where it begins, how it goes on, and how it ends.
+use Rattle.std.proofs.Common.{◌≡◌, ℕ, ◌+◌, ◌^◌, ◌<◌, ◌≤◌, ◌⊎◌, inl, inr, Bool, true, false, List, [], ◌∷◌, ◌++◌, length, take, drop, None, Ok, Err, refl, ap, sym, subst, ◌∙◌, arith, append_assoc, append-nil, length-append}
+use Rattle.std.specs.Prelude.{All, ◌↔◌}
+use Rattle.std.specs.Io.KnownBytes.{Consumes, Appends, IsAtEnd}
+use Rattle.std.proofs.KnownBytes.{Consumes-trans, Appends-nil, Appends-trans}
 use Rattle.std.proofs.lemmas.List.{take-append-drop, length-take-le}
 use Rattle.ledger_bytes.specs.Causes.{Rose}
 use Rattle.ledger_io.specs.Outside.{SourceState, SinkState}
 use Rattle.ledger_io.specs.Lines.{lines_of, broken, IsLine, BeginsTooLong}
 use Rattle.ledger_io.specs.Reading.{Reading, Reads, GivesLine, GivesNone, Fails, Gives}
-use Rattle.ledger_io.specs.Writing.{WritesFirst}
 use Rattle.ledger_io.specs.declared.failure.LineErr.{LineErr}
 use Rattle.ledger_io.specs.declared.failure.LineErr.TheVariants.{ReadFault, LineTooLong, ScriptTooLong, NoMemory}
-use Rattle.ledger_io.specs.declared.writer.WriteErr.{WriteErr}
-use Rattle.ledger_io.specs.declared.writer.WriteErr.TheVariants.{WriteFault}
 use Rattle.ledger_io.proofs.LineLemmas.{lines_of-broken}
-use Rattle.ledger_model.specs.History.{History}
-use Rattle.ledger_model.specs.InOrder.{step_of, steps_of}
-use Rattle.ledger_model.specs.Merge.{Begins, IsMerge}
+use Rattle.ledger_model.specs.History.{History, close}
+use Rattle.ledger_model.specs.InOrder.{steps_of}
+use Rattle.ledger_model.specs.Merge.{Begins, IsMerge, IsPartialMerge}
 use Rattle.ledger_model.specs.Step.{Step}
-use Rattle.ledger_model.specs.Texts.{step_text, text}
+use Rattle.ledger_model.specs.Texts.{text}
 use Rattle.ledger_model.specs.Windows.{said, windows, numbered}
-use Rattle.ledger_model.proofs.LaneLaws.{merges, unattended}
-use Rattle.ledger_model.proofs.QuietLaws.{text_more}
+use Rattle.ledger_model.specs.declared.due.Due.{Due}
+use Rattle.ledger_model.proofs.LaneLaws.{merges, merges_part, unattended, with_last}
 use Rattle.ledger_cli.specs.declared.ending.Ending.{Ending}
 use Rattle.ledger_cli.specs.declared.ending.Ending.TheVariants as ending
-use Rattle.ledger_cli.specs.Endings.{ending_of}
+use Rattle.ledger_cli.specs.declared.session.Halt.{Halt}
+use Rattle.ledger_cli.specs.declared.session.Halt.TheVariants as halt
+use Rattle.ledger_cli.specs.Endings.{ending_of, halt_of}
 use Rattle.ledger_cli.specs.Runs.{Outside, outside, Served, AnswersEnded, Replies, Causes}
-use Rattle.ledger_cli.proofs.SessionLaws.{HasRead, SoFar, read_more, first_lines, part_of, read_on, unbroken, written_more}
+use Rattle.ledger_cli.specs.Settling.{settled_text, WritesDues, EndsScript, Takes}
+use Rattle.ledger_cli.proofs.ReadingLaws.{HasRead, read_none, read_more, first_lines, read_on, unbroken, some_length}
+use Rattle.ledger_cli.proofs.SessionLaws.{Progress, progress_none, progress_waits, progress_written, owed_line, owed_end, front, answered_is, answered_part}
+
+-- how far a session came: this many lines were taken, and what was written of their replies
+pub record SoFar (h : History) (before now : Outside) (reading : Reading) (count lines bytes : ℕ) (ledger : History) (ds : List Due) : Type 0 where
+  pub script : List (List ℕ)
+  pub input : HasRead before.source now.source reading script
+  pub written : List ℕ
+  pub progress : Progress h script written lines bytes ledger ds
+  pub appended : Appends before.sink.held now.sink.held written
+  pub sink_later : before.sink.faults ≤ now.sink.faults
+  pub idle_later : before.sink.idles ≤ now.sink.idles
+  pub count_is : count ≡ length script
 
 -- the steps of lines in the order of a script
 abbrev steps_for : List (List ℕ) → List (List Step)
-steps_for lines = steps_of (windows (said lines))
+steps_for script = steps_of (windows (said script))
 
--- a session goes on: a line was given, and its answer written
-pub sofar_more : (h : History) → h.waiting ≡ [] → (before now : Outside) (source : SourceState) (sink : SinkState) (old new : Reading) (bytes line : List ℕ) (count : ℕ)
-    → SoFar h before now old count → Reads now.source source old new bytes → GivesLine source old new bytes line
-    → Appends now.sink.held sink.held (step_text h h (step_of (numbered (count + 1) line))) → now.sink.faults ≤ sink.faults → now.sink.idles ≤ sink.idles
-    → SoFar h before (outside source sink) new (count + 1)
-sofar_more h none before now source sink old new bytes line count s r g appended faults idles = record {
-  lines = s.lines ++ line ∷ [];
-  input = read_more before.source now.source source old new bytes line s.lines s.input r g;
-  output = written_more h none before.sink now.sink sink s.lines line s.output (subst (λ n. Appends now.sink.held sink.held (step_text h h (step_of (numbered (n + 1) line)))) s.count_is appended) faults idles;
-  count_is = omega (arith, s.count_is, length-append s.lines (line ∷ []));
+-- a session begins
+sofar_none : (h : History) → h.waiting ≡ [] → (before : Outside) (reading : Reading) → reading ≡ record { held = []; total = 0; ended = false; failed = None } → SoFar h before before reading 0 0 0 h []
+sofar_none h none before reading is = record {
+  script = [];
+  input = read_none before.source reading is;
+  written = [];
+  progress = progress_none h none;
+  appended = Appends-nil before.sink.held;
+  sink_later = omega arith;
+  idle_later = omega arith;
+  count_is = refl;
 }
 
--- where the source has ended, the lines that were given are all lines
-ended_lines : (before mid after : SourceState) (old new : Reading) (bytes : List ℕ) (lines : List (List ℕ)) (h : HasRead before mid old lines) → GivesNone mid after old new bytes → (lines_of (h.read ++ bytes) ≡ lines) × IsAtEnd after.left
-ended_lines before mid after old new bytes lines h g =
-    elim g.cause [
-      | inl now ↦ (ap lines_of (read_on before mid old lines bytes h now.0 ∙ ap (λ x. broken lines ++ x) g.given) ∙ lines_of-broken lines [] (unbroken lines h.each) ∙ append-nil lines, now.1)
-      | inr again ↦ (
-        ap lines_of (ap (λ x. h.read ++ x) again.1.none ∙ append-nil h.read) ∙ h.ended again.0,
-        subst (λ (s : SourceState). IsAtEnd s.left) (sym again.1.source) (h.at_end again.0),
-      )
-    ]
+pub sofar_begins : (h : History) → h.waiting ≡ [] → (before : Outside) (reading : Reading) (lines bytes : ℕ) (ds : List Due) → reading ≡ record { held = []; total = 0; ended = false; failed = None } → lines ≡ 0 → bytes ≡ 0 → ds ≡ [] → SoFar h before before reading 0 lines bytes h ds
+sofar_begins h none before reading lines bytes ds is lines_are bytes_are none_due =
+    subst (λ n. SoFar h before before reading 0 n bytes h ds) (sym lines_are)
+    (subst (λ n. SoFar h before before reading 0 0 n h ds) (sym bytes_are)
+    (subst (SoFar h before before reading 0 0 0 h) (sym none_due) (sofar_none h none before reading is)))
 
--- the session is done
-pub served_done : (h : History) (before now : Outside) (source : SourceState) (old new : Reading) (bytes : List ℕ) (count : ℕ)
-    → SoFar h before now old count → Reads now.source source old new bytes → GivesNone now.source source old new bytes
-    → Served h ending.Done before (outside source now.sink)
-served_done h before now source old new bytes count s r g =
-    let end = ended_lines before.source now.source source old new bytes s.lines s.input g in
-    let few : length (s.input.read ++ bytes) < 2 ^ 40 = omega (arith, g.short, r.total, s.input.total, length-append s.input.read bytes) in record {
-      read = s.input.read ++ bytes;
-      steps = steps_for s.lines;
-      replies = text h (steps_for s.lines);
-      consumed = Consumes-trans before.source.left now.source.left source.left s.input.read bytes s.input.consumed r.consumed;
-      appended = s.output.appended;
-      attended = unattended (windows (said s.lines));
-      replied = subst (λ lines. All IsLine lines × ((IsMerge (windows (said lines)) (steps_for s.lines)) × (text h (steps_for s.lines) ≡ text h (steps_for s.lines)))) (sym end.0) (s.input.each, (merges (windows (said s.lines)), refl));
-      cause = (end.1, few);
-      source_later = omega (arith, s.input.later, r.later);
-      sink_later = s.output.later;
-      idle_later = s.output.idle_later;
-    }
+-- replies wait where a journal does
+pub some_wait : (h : History) (settled : Bool) → (settled ≡ true) ↔ (h.waiting ≡ []) → settled ≡ false → 0 < length h.waiting
+some_wait h settled told not = some_length h.waiting (λ none. let no : ⊥ = cc (told.1 none, not) in no)
 
--- the lines that newlines ended before a fault were answered
-answers_ended : (h : History) (before now : Outside) (source : SourceState) (old new : Reading) (bytes : List ℕ) (count : ℕ) (error : LineErr) (IsRest : List ℕ → Type 0)
-    → (s : SoFar h before now old count) → Fails now.source source old new bytes error → IsRest new.held
-    → AnswersEnded h (s.input.read ++ bytes) (steps_for s.lines) (text h (steps_for s.lines)) IsRest
-answers_ended h before now source old new bytes count error IsRest s f rest = record {
-  lines = s.lines;
-  rest = new.held;
-  split = record { is = read_on before.source now.source old s.lines bytes s.input f.unended ∙ ap (λ x. broken s.lines ++ x) (sym f.held); each = s.input.each };
-  fault = rest;
-  answers = (merges (windows (said s.lines)), refl);
+-- a cause stays while counts rise
+pub causes_later : (end : Ending) (read : List ℕ) (before : Outside) (source : SourceState) (mid after : SinkState) → mid.faults ≤ after.faults → mid.idles ≤ after.idles → Causes end read before (outside source mid) → Causes end read before (outside source after)
+causes_later ending.Done read before source mid after f i cause = cause
+causes_later ending.Usage read before source mid after f i cause = cause
+causes_later ending.ReadFault read before source mid after f i cause = cause
+causes_later ending.WriteFault read before source mid after f i cause = elim cause [ inl rose ↦ inl (omega (arith, rose, f)) | inr rose ↦ inr (omega (arith, rose, i)) ]
+causes_later ending.NoMemory read before source mid after f i cause = cause
+causes_later ending.LineTooLong read before source mid after f i cause = cause
+causes_later ending.ScriptTooLong read before source mid after f i cause = cause
+
+-- want of memory: the lines whose replies were written are a part of those that were read
+served_none : (h : History) (before : Outside) (source : SourceState) (sink : SinkState) (script : List (List ℕ)) (read written : List ℕ) (lines bytes : ℕ) (ledger : History) (ds : List Due)
+    → Progress h script written lines bytes ledger ds → Begins script (lines_of read)
+    → Consumes before.source.left source.left read → Appends before.sink.held sink.held written
+    → before.source.faults ≤ source.faults → before.sink.faults ≤ sink.faults → before.sink.idles ≤ sink.idles
+    → Served h ending.NoMemory before (outside source sink)
+served_none h before source sink script read written lines bytes ledger ds p first consumed appended source_later sink_later idle_later = record {
+  read = read;
+  steps = steps_of (with_last p.done (front h script written lines bytes ledger ds p));
+  replies = written;
+  consumed = consumed;
+  appended = appended;
+  attended = unattended (with_last p.done (front h script written lines bytes ledger ds p));
+  replied = (answered_part h script written lines bytes ledger ds p (lines_of read) first, sym (answered_is h script written lines bytes ledger ds p));
+  cause = tt;
+  source_later = source_later;
+  sink_later = sink_later;
+  idle_later = idle_later;
 }
 
--- .. and are the first of all
-first_answered : (before mid after : SourceState) (old new : Reading) (bytes : List ℕ) (lines : List (List ℕ)) (h : HasRead before mid old lines) → old.ended ≡ false → Begins lines (lines_of (h.read ++ bytes))
-first_answered before mid after old new bytes lines h e = record {
-  rest = lines_of (old.held ++ bytes);
-  is = ap lines_of (read_on before mid old lines bytes h e) ∙ lines_of-broken lines (old.held ++ bytes) (unbroken lines h.each);
-}
-
--- what an error of reading leaves, but for what was replied and why
-failed : (h : History) (before now : Outside) (source : SourceState) (old new : Reading) (bytes : List ℕ) (count : ℕ) (end : Ending)
-    → (s : SoFar h before now old count) → Reads now.source source old new bytes
-    → Replies h end (s.input.read ++ bytes) (steps_for s.lines) (text h (steps_for s.lines)) → Causes end (s.input.read ++ bytes) before (outside source now.sink)
-    → Served h end before (outside source now.sink)
-failed h before now source old new bytes count end s r replied cause = record {
-  read = s.input.read ++ bytes;
-  steps = steps_for s.lines;
-  replies = text h (steps_for s.lines);
-  consumed = Consumes-trans before.source.left now.source.left source.left s.input.read bytes s.input.consumed r.consumed;
-  appended = s.output.appended;
-  attended = unattended (windows (said s.lines));
-  replied = replied;
-  cause = cause;
-  source_later = omega (arith, s.input.later, r.later);
-  sink_later = s.output.later;
-  idle_later = s.output.idle_later;
-}
-
-served_failed : (h : History) (before now : Outside) (source : SourceState) (old new : Reading) (bytes : List ℕ) (count : ℕ) (error : LineErr)
-    → SoFar h before now old count → Reads now.source source old new bytes → Fails now.source source old new bytes error
-    → Served h (ending_of error) before (outside source now.sink)
-served_failed h before now source old new bytes count ReadFault s r f =
-    failed h before now source old new bytes count ending.ReadFault s r (answers_ended h before now source old new bytes count ReadFault IsLine s f f.cause.1) (omega (arith, f.cause.0, s.input.later))
-served_failed h before now source old new bytes count LineTooLong s r f =
-    failed h before now source old new bytes count ending.LineTooLong s r (answers_ended h before now source old new bytes count LineTooLong BeginsTooLong s f f.cause) tt
-served_failed h before now source old new bytes count ScriptTooLong s r f =
-    failed h before now source old new bytes count ending.ScriptTooLong s r (answers_ended h before now source old new bytes count ScriptTooLong IsLine s f f.cause.1) (omega (arith, f.cause.0, r.total, s.input.total, length-append s.input.read bytes))
-served_failed h before now source old new bytes count NoMemory s r f =
-    failed h before now source old new bytes count ending.NoMemory s r (part_of s.lines (s.input.read ++ bytes) (first_answered before.source now.source source old new bytes s.lines s.input f.unended), refl) tt
-
--- the session ends with an error of reading
-pub served_error : (h : History) (before now : Outside) (source : SourceState) (old new : Reading) (bytes : List ℕ) (count : ℕ) (error : LineErr)
-    → SoFar h before now old count → Reads now.source source old new bytes → Gives now.source source old new bytes (Err error)
-    → Served h (ending_of error) before (outside source now.sink)
-served_error h before now source old new bytes count error s r g =
-    elim g [
-      | inl again ↦ absurd (let no : ⊥ = cc (again.0, s.input.sound) in no)
-      | inr f ↦ served_failed h before now source old new bytes count error s r f
-    ]
-
--- the session ends for want of memory, with a line in hand
-pub served_memory : (h : History) (before now : Outside) (source : SourceState) (old new : Reading) (bytes line : List ℕ) (count : ℕ)
-    → SoFar h before now old count → Reads now.source source old new bytes → GivesLine source old new bytes line
-    → Served h ending.NoMemory before (outside source now.sink)
-served_memory h before now source old new bytes line count s r g =
-    let more = read_more before.source now.source source old new bytes line s.lines s.input r g in
-    let all = first_lines before.source source new (s.lines ++ line ∷ []) more in
-    let first : Begins s.lines (lines_of more.read) = record { rest = line ∷ all.rest; is = all.is ∙ append_assoc s.lines (line ∷ []) all.rest } in record {
-      read = more.read;
-      steps = steps_for s.lines;
-      replies = text h (steps_for s.lines);
-      consumed = more.consumed;
-      appended = s.output.appended;
-      attended = unattended (windows (said s.lines));
-      replied = (part_of s.lines more.read first, refl);
-      cause = tt;
-      source_later = more.later;
-      sink_later = s.output.later;
-      idle_later = s.output.idle_later;
-    }
-
--- the session ends with a fault of writing
-pub served_fault : (h : History) → h.waiting ≡ [] → (before now : Outside) (source : SourceState) (sink : SinkState) (old new : Reading) (bytes line : List ℕ) (count taken : ℕ)
-    → SoFar h before now old count → Reads now.source source old new bytes → GivesLine source old new bytes line
-    → taken < length (step_text h h (step_of (numbered (count + 1) line)))
-    → Appends now.sink.held sink.held (take taken (step_text h h (step_of (numbered (count + 1) line)))) → Rose now.sink.faults sink.faults ⊎ Rose now.sink.idles sink.idles
-    → now.sink.faults ≤ sink.faults → now.sink.idles ≤ sink.idles
+-- a fault of writing: a part of what was due is written
+served_short : (h : History) (before : Outside) (source : SourceState) (mid sink : SinkState) (script : List (List ℕ)) (read written due : List ℕ) (taken : ℕ)
+    → text h (steps_for script) ≡ written ++ due → Begins script (lines_of read)
+    → Consumes before.source.left source.left read → Appends before.sink.held mid.held written
+    → taken < length due → Appends mid.held sink.held (take taken due) → Rose mid.faults sink.faults ⊎ Rose mid.idles sink.idles
+    → before.source.faults ≤ source.faults → before.sink.faults ≤ mid.faults → before.sink.idles ≤ mid.idles → mid.faults ≤ sink.faults → mid.idles ≤ sink.idles
     → Served h ending.WriteFault before (outside source sink)
-served_fault h none before now source sink old new bytes line count taken s r g fewer appended cause faults idles =
-    let more = read_more before.source now.source source old new bytes line s.lines s.input r g in
-    let reply = step_text h h (step_of (numbered (length s.lines + 1) line)) in
-    let part : Appends now.sink.held sink.held (take taken reply) = subst (λ n. Appends now.sink.held sink.held (take taken (step_text h h (step_of (numbered (n + 1) line))))) s.count_is appended in
-    let less : taken < length reply = subst (λ n. taken < length (step_text h h (step_of (numbered (n + 1) line)))) s.count_is fewer in
-    let whole : Begins (text h (steps_for s.lines) ++ take taken reply) (text h (steps_for (s.lines ++ line ∷ []))) = record {
-      rest = drop taken reply;
-      is = text_more h none s.lines line ∙ ap (λ x. text h (steps_for s.lines) ++ x) (sym (take-append-drop taken reply)) ∙ sym (append_assoc (text h (steps_for s.lines)) (take taken reply) (drop taken reply));
+served_short h before source mid sink script read written due taken owed first consumed appended fewer part cause source_later sink_later idle_later faults idles =
+    let whole : Begins (written ++ take taken due) (text h (steps_for script)) = record {
+      rest = drop taken due;
+      is = owed ∙ ap (λ x. written ++ x) (sym (take-append-drop taken due)) ∙ sym (append_assoc written (take taken due) (drop taken due));
     } in
-    let short : length (text h (steps_for s.lines) ++ take taken reply) < length (text h (steps_for (s.lines ++ line ∷ []))) =
-    rw (text_more h none s.lines line) (omega (arith, less, length-append (text h (steps_for s.lines)) (take taken reply), length-append (text h (steps_for s.lines)) reply, length-take-le taken reply (omega (arith, less)))) in record {
-      read = more.read;
-      steps = steps_for (s.lines ++ line ∷ []);
-      replies = text h (steps_for s.lines) ++ take taken reply;
-      consumed = more.consumed;
-      appended = Appends-trans before.sink.held now.sink.held sink.held (text h (steps_for s.lines)) (take taken reply) s.output.appended part;
-      attended = unattended (windows (said (s.lines ++ line ∷ [])));
-      replied = (part_of (s.lines ++ line ∷ []) more.read (first_lines before.source source new (s.lines ++ line ∷ []) more), (whole, short));
-      cause = elim cause [ inl rose ↦ inl (omega (arith, rose, s.output.later)) | inr rose ↦ inr (omega (arith, rose, s.output.idle_later)) ];
-      source_later = more.later;
-      sink_later = omega (arith, s.output.later);
-      idle_later = omega (arith, s.output.idle_later);
+    let short : length (written ++ take taken due) < length (text h (steps_for script)) =
+    rw owed (omega (arith, fewer, length-append written (take taken due), length-append written due, length-take-le taken due (omega (arith, fewer)))) in record {
+      read = read;
+      steps = steps_for script;
+      replies = written ++ take taken due;
+      consumed = consumed;
+      appended = Appends-trans before.sink.held mid.held sink.held written (take taken due) appended part;
+      attended = unattended (windows (said script));
+      replied = (subst (λ all. IsPartialMerge (windows (said all)) (steps_for script)) (sym first.is) (merges_part script first.rest), (whole, short));
+      cause = elim cause [ inl rose ↦ inl (omega (arith, rose, sink_later)) | inr rose ↦ inr (omega (arith, rose, idle_later)) ];
+      source_later = source_later;
+      sink_later = omega (arith, sink_later, faults);
+      idle_later = omega (arith, idle_later, idles);
     }
 
--- .. of which the sink took the first bytes
-pub served_write : (h : History) → h.waiting ≡ [] → (before now : Outside) (source : SourceState) (sink : SinkState) (old new : Reading) (bytes line piece : List ℕ) (count : ℕ) (error : WriteErr)
-    → SoFar h before now old count → Reads now.source source old new bytes → GivesLine source old new bytes line
-    → piece ≡ step_text h h (step_of (numbered (count + 1) line)) → WritesFirst now.sink.held sink.held piece error → Rose now.sink.faults sink.faults ⊎ Rose now.sink.idles sink.idles
-    → now.sink.faults ≤ sink.faults → now.sink.idles ≤ sink.idles
-    → Served h ending.WriteFault before (outside source sink)
-served_write h none before now source sink old new bytes line piece count (WriteFault taken) s r g is first cause faults idles =
-    served_fault h none before now source sink old new bytes line count taken s r g (subst (λ x. taken < length x) is first.0) (subst (λ x. Appends now.sink.held sink.held (take taken x)) is first.1) cause faults idles
+module _ (h : History) (before now : Outside) (source : SourceState) (old new : Reading) (bytes : List ℕ) (count lines window_bytes : ℕ) (ledger : History) (ds : List Due)
+    (s : SoFar h before now old count lines window_bytes ledger ds) (r : Reads now.source source old new bytes) where
+  abbrev read : List ℕ
+  read = s.input.read ++ bytes
+
+  consumed : Consumes before.source.left source.left read
+  consumed = Consumes-trans before.source.left now.source.left source.left s.input.read bytes s.input.consumed r.consumed
+
+  later : before.source.faults ≤ source.faults
+  later = omega (arith, s.input.later, r.later)
+
+  -- a session that was to end so, and what came of writing what was due
+  module _ (sink : SinkState) (asked got : Ending) (e : EndsScript (close ledger) ds now.sink sink asked got)
+      (first : Begins s.script (lines_of read)) (replied : Replies h asked read (steps_for s.script) (text h (steps_for s.script))) (cause : Causes asked read before (outside source now.sink)) where
+    abbrev due : List ℕ
+    due = settled_text (close ledger) ds
+
+    owed : text h (steps_for s.script) ≡ s.written ++ due
+    owed = owed_end h s.script s.written lines window_bytes ledger ds s.progress
+
+    served_asked : got ≡ asked → Appends now.sink.held sink.held due → Served h got before (outside source sink)
+    served_asked is appended =
+        let served : Served h asked before (outside source sink) = record {
+          read = read;
+          steps = steps_for s.script;
+          replies = text h (steps_for s.script);
+          consumed = consumed;
+          appended = subst (Appends before.sink.held sink.held) (sym owed) (Appends-trans before.sink.held now.sink.held sink.held s.written due s.appended appended);
+          attended = unattended (windows (said s.script));
+          replied = replied;
+          cause = causes_later asked read before source now.sink sink e.later e.idle_later cause;
+          source_later = later;
+          sink_later = omega (arith, s.sink_later, e.later);
+          idle_later = omega (arith, s.idle_later, e.idle_later);
+        } in
+        subst (λ end. Served h end before (outside source sink)) (sym is) served
+
+    served_no_memory : got ≡ ending.NoMemory → sink ≡ now.sink → Served h got before (outside source sink)
+    served_no_memory is same =
+        let appended : Appends before.sink.held sink.held s.written = subst (λ (k : SinkState). Appends before.sink.held k.held s.written) (sym same) s.appended in
+        subst (λ end. Served h end before (outside source sink)) (sym is)
+        (served_none h before source sink s.script read s.written lines window_bytes ledger ds s.progress first consumed appended later (omega (arith, s.sink_later, e.later)) (omega (arith, s.idle_later, e.idle_later)))
+
+    served_write_fault : got ≡ ending.WriteFault → (taken : ℕ) → taken < length due → Appends now.sink.held sink.held (take taken due) → Rose now.sink.faults sink.faults ⊎ Rose now.sink.idles sink.idles → Served h got before (outside source sink)
+    served_write_fault is taken fewer part rose =
+        subst (λ end. Served h end before (outside source sink)) (sym is)
+        (served_short h before source now.sink sink s.script read s.written due taken owed first consumed s.appended fewer part rose later s.sink_later s.idle_later e.later e.idle_later)
+
+    served_ended : Served h got before (outside source sink)
+    served_ended =
+        elim e.ended [
+          | inl whole ↦ served_asked whole.0 whole.1
+          | inr rest ↦ elim rest [
+            | inl none ↦ served_no_memory none.0 none.1
+            | inr fault ↦ served_write_fault fault.0 fault.1.0.0 fault.1.0.1 fault.1.0.2 fault.1.1
+          ]
+        ]
+
+  -- where the source has ended, the lines that were taken are all lines
+  ended_lines : GivesNone now.source source old new bytes → (lines_of read ≡ s.script) × IsAtEnd source.left
+  ended_lines g =
+      elim g.cause [
+        | inl end ↦ (ap lines_of (read_on before.source now.source old s.script bytes s.input end.0 ∙ ap (λ x. broken s.script ++ x) g.given) ∙ lines_of-broken s.script [] (unbroken s.script s.input.each) ∙ append-nil s.script, end.1)
+        | inr again ↦ (
+          ap lines_of (ap (λ x. s.input.read ++ x) again.1.none ∙ append-nil s.input.read) ∙ s.input.ended again.0,
+          subst (λ (k : SourceState). IsAtEnd k.left) (sym again.1.source) (s.input.at_end again.0),
+        )
+      ]
+
+  -- the session ends with its script
+  pub served_done : (sink : SinkState) (got : Ending) → GivesNone now.source source old new bytes → EndsScript (close ledger) ds now.sink sink ending.Done got → Served h got before (outside source sink)
+  served_done sink got g e =
+      let end = ended_lines g in
+      let few : length read < 2 ^ 40 = omega (arith, g.short, r.total, s.input.total, length-append s.input.read bytes) in
+      let replied : Replies h ending.Done read (steps_for s.script) (text h (steps_for s.script)) =
+      subst (λ all. All IsLine all × ((IsMerge (windows (said all)) (steps_for s.script)) × (text h (steps_for s.script) ≡ text h (steps_for s.script)))) (sym end.0) (s.input.each, (merges (windows (said s.script)), refl)) in
+      served_ended sink ending.Done got e (record { rest = []; is = end.0 ∙ sym (append-nil s.script) }) replied (end.1, few)
+
+  -- the lines that newlines ended before a fault are answered
+  answers_ended : (error : LineErr) (IsRest : List ℕ → Type 0) → Fails now.source source old new bytes error → IsRest new.held → AnswersEnded h read (steps_for s.script) (text h (steps_for s.script)) IsRest
+  answers_ended error IsRest f rest = record {
+    lines = s.script;
+    rest = new.held;
+    split = record { is = read_on before.source now.source old s.script bytes s.input f.unended ∙ ap (λ x. broken s.script ++ x) (sym f.held); each = s.input.each };
+    fault = rest;
+    answers = (merges (windows (said s.script)), refl);
+  }
+
+  -- .. and are the first of all
+  first_answered : old.ended ≡ false → Begins s.script (lines_of read)
+  first_answered e = record {
+    rest = lines_of (old.held ++ bytes);
+    is = ap lines_of (read_on before.source now.source old s.script bytes s.input e) ∙ lines_of-broken s.script (old.held ++ bytes) (unbroken s.script s.input.each);
+  }
+
+  served_failed : (sink : SinkState) (error : LineErr) (got : Ending) → Fails now.source source old new bytes error → EndsScript (close ledger) ds now.sink sink (ending_of error) got → Served h got before (outside source sink)
+  served_failed sink ReadFault got f e =
+      served_ended sink ending.ReadFault got e (first_answered f.unended) (answers_ended ReadFault IsLine f f.cause.1) (omega (arith, f.cause.0, s.input.later))
+  served_failed sink LineTooLong got f e =
+      served_ended sink ending.LineTooLong got e (first_answered f.unended) (answers_ended LineTooLong BeginsTooLong f f.cause) tt
+  served_failed sink ScriptTooLong got f e =
+      served_ended sink ending.ScriptTooLong got e (first_answered f.unended) (answers_ended ScriptTooLong IsLine f f.cause.1) (omega (arith, f.cause.0, r.total, s.input.total, length-append s.input.read bytes))
+  served_failed sink NoMemory got f e =
+      served_ended sink ending.NoMemory got e (first_answered f.unended) (first_part (first_answered f.unended), refl) tt
+    where
+      first_part : Begins s.script (lines_of read) → IsPartialMerge (windows (said (lines_of read))) (steps_for s.script)
+      first_part b = subst (λ all. IsPartialMerge (windows (said all)) (steps_for s.script)) (sym b.is) (merges_part s.script b.rest)
+
+  -- the session ends with an error of reading
+  pub served_error : (sink : SinkState) (error : LineErr) (got : Ending) → Gives now.source source old new bytes (Err error) → EndsScript (close ledger) ds now.sink sink (ending_of error) got → Served h got before (outside source sink)
+  served_error sink error got g e =
+      elim g [
+        | inl again ↦ absurd (let no : ⊥ = cc (again.0, s.input.sound) in no)
+        | inr f ↦ served_failed sink error got f e
+      ]
+
+  -- a line is given
+  module _ (line : List ℕ) (g : GivesLine source old new bytes line) where
+    more : HasRead before.source source new (s.script ++ line ∷ [])
+    more = read_more before.source now.source source old new bytes line s.script s.input r g
+
+    all : Begins (s.script ++ line ∷ []) (lines_of more.read)
+    all = first_lines before.source source new (s.script ++ line ∷ []) more
+
+    before_line : Begins s.script (lines_of more.read)
+    before_line = record { rest = line ∷ all.rest; is = all.is ∙ append_assoc s.script (line ∷ []) all.rest }
+
+    -- the line can't be taken for want of memory
+    pub served_memory : Served h ending.NoMemory before (outside source now.sink)
+    served_memory = served_none h before source now.sink s.script more.read s.written lines window_bytes ledger ds s.progress before_line more.consumed s.appended more.later s.sink_later s.idle_later
+
+    module _ (new_lines new_bytes : ℕ) (new_ledger : History) (new_dues : List Due) (t : Takes ledger new_ledger ds new_dues lines window_bytes new_lines new_bytes (numbered (count + 1) line)) where
+      taken : Takes ledger new_ledger ds new_dues lines window_bytes new_lines new_bytes (numbered (length s.script + 1) line)
+      taken = subst (λ n. Takes ledger new_ledger ds new_dues lines window_bytes new_lines new_bytes (numbered (n + 1) line)) s.count_is t
+
+      counted : count + 1 ≡ length (s.script ++ line ∷ [])
+      counted = omega (arith, s.count_is, length-append s.script (line ∷ []))
+
+      -- the session goes on, and the replies wait
+      pub sofar_waits : 0 < length new_ledger.waiting → SoFar h before (outside source now.sink) new (count + 1) new_lines new_bytes new_ledger new_dues
+      sofar_waits some = record {
+        script = s.script ++ line ∷ [];
+        input = more;
+        written = s.written;
+        progress = progress_waits h s.script line s.written lines window_bytes new_lines new_bytes ledger new_ledger ds new_dues s.progress taken some;
+        appended = s.appended;
+        sink_later = s.sink_later;
+        idle_later = s.idle_later;
+        count_is = counted;
+      }
+
+      module _ (none : new_ledger.waiting ≡ []) (left : List Due) (sink : SinkState) where
+        abbrev settled : List ℕ
+        settled = settled_text new_ledger new_dues
+
+        -- the session goes on, and what was due is written
+        pub sofar_written : WritesDues new_ledger new_dues left now.sink sink (Ok tt) → SoFar h before (outside source sink) new (count + 1) new_lines new_bytes new_ledger left
+        sofar_written w =
+            let p : Progress h (s.script ++ line ∷ []) (s.written ++ settled) new_lines new_bytes new_ledger [] = progress_written h s.script line s.written lines window_bytes new_lines new_bytes ledger new_ledger ds new_dues s.progress taken none in record {
+              script = s.script ++ line ∷ [];
+              input = more;
+              written = s.written ++ settled;
+              progress = subst (Progress h (s.script ++ line ∷ []) (s.written ++ settled) new_lines new_bytes new_ledger) (sym w.wrote.1) p;
+              appended = Appends-trans before.sink.held now.sink.held sink.held s.written settled s.appended w.wrote.0;
+              sink_later = omega (arith, s.sink_later, w.later);
+              idle_later = omega (arith, s.idle_later, w.idle_later);
+              count_is = counted;
+            }
+
+        owed_now : text h (steps_for (s.script ++ line ∷ [])) ≡ s.written ++ settled
+        owed_now = owed_line h s.script line s.written lines window_bytes new_lines new_bytes ledger new_ledger ds new_dues s.progress taken none
+
+        -- the session ends, since what is due can't be written
+        pub served_halt : (why : Halt) → WritesDues new_ledger new_dues left now.sink sink (Err why) → Served h (halt_of why) before (outside source sink)
+        served_halt halt.NoMemory w = subst (λ k. Served h ending.NoMemory before (outside source k)) (sym w.wrote) served_memory
+        served_halt halt.WriteFault w =
+            served_short h before source now.sink sink (s.script ++ line ∷ []) more.read s.written settled w.wrote.0.0 owed_now all more.consumed s.appended w.wrote.0.1 w.wrote.0.2 w.wrote.1 more.later s.sink_later s.idle_later w.later w.idle_later

@@ -1,6 +1,9 @@
 pub mod FoundingLaws
 pub mod KeptLaws
-pub mod AnswerLaws
+pub mod JobLaws
+pub mod ApplyLaws
+pub mod SettlingLaws
+pub mod ReadingLaws
 pub mod SessionLaws
 pub mod EndLaws
 pub mod TopLaws

@@ -1,166 +1,242 @@
--- Lemmas on a session: how far it came, and what stands at each of its ends.
-use Rattle.std.proofs.Common.{◌≡◌, ◌≢◌, ℕ, ◌+◌, ◌-◌, ◌*◌, ◌<◌, ◌≤◌, inl, inr, true, false, List, [], ◌∷◌, ◌++◌, length, None, refl, ap, sym, subst, ◌∙◌, arith, append_assoc, append-nil, length-append}
-use Rattle.std.specs.Prelude.{All}
-use Rattle.std.specs.Io.KnownBytes.{Consumes, Appends, IsAtEnd}
-use Rattle.std.proofs.KnownBytes.{Consumes-nil, Consumes-trans, Appends-nil, Appends-trans}
-use Rattle.std.proofs.lemmas.List.Elements.{All-weaker, All-push, All-nil}
-use Rattle.ledger_io.specs.Outside.{SourceState, SinkState}
-use Rattle.ledger_io.specs.Lines.{lines_of, broken, IsUnbroken, IsLine, script_limit}
-use Rattle.ledger_io.specs.Reading.{Reading, Reads, GivesLine, IsBrokenOff, IsLast}
-use Rattle.ledger_io.proofs.LineLemmas.{lines_of-broken, lines_of-rest, broken-push}
-use Rattle.ledger_model.specs.History.{History}
+-- Lemmas on how far a session came: what it has judged, and what it has written.
+use Rattle.std.proofs.Common.{◌≡◌, ℕ, ◌+◌, ◌<◌, ◌⊎◌, inl, inr, Bool, true, false, cond, List, [], ◌∷◌, ◌++◌, length, map, take, drop, refl, ap, sym, subst, ◌∙◌, arith, length-append}
+use Rattle.std.proofs.lemmas.List.{map-append, take-map, take_at, take-append-drop}
+use Rattle.ledger_model.specs.Dues.{due_for, dues}
+use Rattle.ledger_model.specs.History.{History, close}
 use Rattle.ledger_model.specs.InOrder.{step_of, steps_of}
 use Rattle.ledger_model.specs.Merge.{Begins, IsPartialMerge}
-use Rattle.ledger_model.specs.Texts.{step_text, text}
-use Rattle.ledger_model.specs.Windows.{said, windows, windows_after, numbered}
-use Rattle.ledger_model.proofs.LaneLaws.{merges_part}
-use Rattle.ledger_model.proofs.QuietLaws.{text_more}
-use Rattle.ledger_cli.specs.Runs.{Outside, Part}
+use Rattle.ledger_model.specs.Rules.{after_step, after_steps, after_window}
+use Rattle.ledger_model.specs.Step.{Step}
+use Rattle.ledger_model.specs.Texts.{steps_text, window_text, text}
+use Rattle.ledger_model.specs.Windows.{Said, said, windows, numbered, count_of, is_full, bytes_of}
+use Rattle.ledger_model.specs.declared.due.Due.{Due}
+use Rattle.ledger_model.proofs.DueLaws.{after_steps-append, dues-append}
+use Rattle.ledger_model.proofs.GrowLaws.{IsEnded, goes_moved, moves_close, close_settled}
+use Rattle.ledger_model.proofs.LaneLaws.{said_after-append, merges_front, windows_end, with_last}
+use Rattle.ledger_model.proofs.ProgressLaws.{Ahead, Underway, underway_none, ahead_step, underway_waits, underway_written, underway_window, text_end, close_none, step_ends, close_ends, text_empty, due_text_is}
+use Rattle.ledger_model.proofs.WindowLaws.{IsCut, cut_none, cut_more, cut_whole, bytes_of-push}
+use Rattle.ledger_cli.specs.Settling.{settled_text, Takes}
 
--- how far the reading came: these lines were given
-pub record HasRead (before now : SourceState) (reading : Reading) (lines : List (List ℕ)) : Type 0 where
-  pub read : List ℕ
-  pub consumed : Consumes before.left now.left read
-  pub each : All IsLine lines
-  pub unended : reading.ended ≡ false → read ≡ broken lines ++ reading.held
-  pub ended : reading.ended ≡ true → lines_of read ≡ lines
-  pub at_end : reading.ended ≡ true → IsAtEnd now.left
-  pub sound : reading.failed ≡ None
-  pub total : reading.total ≡ length read
-  pub bounded : reading.total ≤ script_limit
-  pub few : length lines + length reading.held ≤ length read
-  pub later : before.faults ≤ now.faults
+-- how far the lines of a script were judged and answered: what was written, the lines and bytes of the window at hand, the ledger, and what is due
+pub record Progress (h : History) (script : List (List ℕ)) (written : List ℕ) (lines bytes : ℕ) (ledger : History) (ds : List Due) : Type 0 where
+  pub done : List (List Said)
+  pub current : List Said
+  pub cut : IsCut (said script) done current
+  pub lines_are : lines ≡ length current
+  pub bytes_are : bytes ≡ bytes_of current
+  pub begun : History
+  pub pending : List Step
+  pub under : Underway h (steps_of done) (map step_of current) written begun pending
+  pub ledger_is : ledger ≡ after_steps begun pending
+  pub dues_are : ds ≡ dues begun pending
 
--- how far the writing came: these lines were answered
-pub record HasWritten (h : History) (before now : SinkState) (lines : List (List ℕ)) : Type 0 where
-  pub appended : Appends before.held now.held (text h (steps_of (windows (said lines))))
-  pub later : before.faults ≤ now.faults
-  pub idle_later : before.idles ≤ now.idles
-
--- how far a session came
-pub record SoFar (h : History) (before now : Outside) (reading : Reading) (count : ℕ) : Type 0 where
-  pub lines : List (List ℕ)
-  pub input : HasRead before.source now.source reading lines
-  pub output : HasWritten h before.sink now.sink lines
-  pub count_is : count ≡ length lines
-
-windows_none : windows (said []) ≡ []
-unfolding windows_after
-windows_none = refl
-
--- the beginning of a session
-pub sofar_none : (h : History) (before : Outside) (reading : Reading) → reading ≡ record { held = []; total = 0; ended = false; failed = None } → SoFar h before before reading 0
-sofar_none h before reading is =
-    let start : SoFar h before before (record { held = []; total = 0; ended = false; failed = None }) 0 = record {
-      lines = [];
-      input = record {
-        read = [];
-        consumed = Consumes-nil before.source.left;
-        each = All-nil IsLine;
-        unended = λ e. refl;
-        ended = λ e. absurd (let no : ⊥ = cc in no);
-        at_end = λ e. absurd (let no : ⊥ = cc in no);
-        sound = refl;
-        total = refl;
-        bounded = omega arith;
-        few = omega arith;
-        later = omega arith;
-      };
-      output = record {
-        appended = subst (λ w. Appends before.sink.held before.sink.held (text h (steps_of w))) (sym windows_none) (Appends-nil before.sink.held);
-        later = omega arith;
-        idle_later = omega arith;
-      };
-      count_is = refl;
-    } in
-    subst (λ r. SoFar h before before r 0) (sym is) start
-
--- a line more among the lines that newlines end
-broken_more : (lines : List (List ℕ)) (line held : List ℕ) → broken lines ++ (line ++ 10 ∷ held) ≡ broken (lines ++ line ∷ []) ++ held
-broken_more lines line held =
-    ap (λ x. broken lines ++ x) (sym (append_assoc line (10 ∷ []) held)) ∙ sym (append_assoc (broken lines) (line ++ 10 ∷ []) held)
-    ∙ ap (λ x. x ++ held) (sym (broken-push lines line))
-
-pub unbroken : (lines : List (List ℕ)) → All IsLine lines → All IsUnbroken lines
-unbroken lines each = All-weaker IsLine IsUnbroken (λ line fits. fits.0) lines each
-
--- what was read with some bytes more, where the source hasn't ended
-pub read_on : (before now : SourceState) (reading : Reading) (lines : List (List ℕ)) (bytes : List ℕ) (h : HasRead before now reading lines) → reading.ended ≡ false → h.read ++ bytes ≡ broken lines ++ (reading.held ++ bytes)
-read_on before now reading lines bytes h e = ap (λ x. x ++ bytes) (h.unended e) ∙ append_assoc (broken lines) reading.held bytes
-
--- a line more that a newline ended
-read_broken : (before mid after : SourceState) (old new : Reading) (bytes line : List ℕ) (lines : List (List ℕ)) → HasRead before mid old lines → Reads mid after old new bytes → GivesLine after old new bytes line → IsBrokenOff old new bytes line → HasRead before after new (lines ++ line ∷ [])
-read_broken before mid after old new bytes line lines h r g b = record {
-  read = h.read ++ bytes;
-  consumed = Consumes-trans before.left mid.left after.left h.read bytes h.consumed r.consumed;
-  each = All-push IsLine lines line h.each g.fits;
-  unended = λ e. read_on before mid old lines bytes h g.unended ∙ ap (λ x. broken lines ++ x) b.given ∙ broken_more lines line new.held;
-  ended = λ e. absurd (let no : ⊥ = cc (b.ended, e) in no);
-  at_end = λ e. absurd (let no : ⊥ = cc (b.ended, e) in no);
-  sound = g.unfailed;
-  total = omega (arith, r.total, h.total, length-append h.read bytes);
-  bounded = r.bounded;
-  few = omega (arith, h.few, length-append h.read bytes, length-append old.held bytes, length-append line (10 ∷ new.held), ap length b.given, length-append lines (line ∷ []));
-  later = omega (arith, h.later, r.later);
+pub progress_none : (h : History) → h.waiting ≡ [] → Progress h [] [] 0 0 h []
+progress_none h none = record {
+  done = [];
+  current = [];
+  cut = cut_none;
+  lines_are = refl;
+  bytes_are = refl;
+  begun = h;
+  pending = [];
+  under = underway_none h none;
+  ledger_is = refl;
+  dues_are = refl;
 }
 
-some_length : (xs : List ℕ) → xs ≢ [] → 0 < length xs
-some_length [] none = absurd (none refl)
-some_length (x ∷ xs) some = omega arith
+-- all lines belong to lane 0
+count_all : (lines : List (List ℕ)) → count_of 0 lines ≡ length lines
+count_all [] = refl
+count_all (line ∷ lines) = omega (arith, count_all lines)
 
--- a line more that the end of the source ended
-read_last : (before mid after : SourceState) (old new : Reading) (bytes line : List ℕ) (lines : List (List ℕ)) → HasRead before mid old lines → Reads mid after old new bytes → GivesLine after old new bytes line → IsLast after old new bytes line → HasRead before after new (lines ++ line ∷ [])
-read_last before mid after old new bytes line lines h r g b =
-    let some : 0 < length line = some_length line b.some in
-    let held : length new.held ≡ 0 = ap length b.none_held in record {
-      read = h.read ++ bytes;
-      consumed = Consumes-trans before.left mid.left after.left h.read bytes h.consumed r.consumed;
-      each = All-push IsLine lines line h.each g.fits;
-      unended = λ e. absurd (let no : ⊥ = cc (b.ended, e) in no);
-      ended = λ e. ap lines_of (read_on before mid old lines bytes h g.unended ∙ ap (λ x. broken lines ++ x) b.given) ∙ lines_of-broken lines line (unbroken lines h.each) ∙ ap (λ x. lines ++ x) (lines_of-rest line g.fits.0 b.some);
-      at_end = λ e. b.at_end;
-      sound = g.unfailed;
-      total = omega (arith, r.total, h.total, length-append h.read bytes);
-      bounded = r.bounded;
-      few = omega (arith, h.few, held, some, length-append h.read bytes, length-append old.held bytes, ap length b.given, length-append lines (line ∷ []));
-      later = omega (arith, h.later, r.later);
+-- a script with a line more
+pub said_more : (script : List (List ℕ)) (line : List ℕ) → said (script ++ line ∷ []) ≡ said script ++ numbered (length script + 1) line ∷ []
+said_more script line = said_after-append [] script (line ∷ []) ∙ ap (λ n. said script ++ numbered (n + 1) line ∷ []) (count_all script)
+
+cut_said : (script : List (List ℕ)) (line : List ℕ) (done : List (List Said)) (current : List Said) → IsCut (said script ++ numbered (length script + 1) line ∷ []) done current → IsCut (said (script ++ line ∷ [])) done current
+cut_said script line done current c = subst (λ xs. IsCut xs done current) (sym (said_more script line)) c
+
+-- what is due for steps since a history, once the open block has ended, is their text
+due_at : (begun : History) (steps : List Step) → begun.waiting ≡ [] → ((after_steps begun steps).closed ≡ begun.closed) ⊎ IsEnded begun (after_steps begun steps) → settled_text (after_window begun steps) (dues begun steps) ≡ window_text begun steps
+due_at begun steps none b =
+    let g = after_steps begun steps in
+    due_text_is begun (close g) steps none (close_none g) (close_ends begun g b) (goes_moved g (close g) (moves_close g))
+
+last_some : (done : List (List Said)) (xs : List Said) (x : Said) → with_last done (xs ++ x ∷ []) ≡ done ++ (xs ++ x ∷ []) ∷ []
+last_some done [] x = refl
+last_some done (y ∷ ys) x = refl
+
+-- a window without lines at the end adds no text
+text_last : (h : History) (done : List (List Said)) (front : List Said) → text h (steps_of (with_last done front)) ≡ text h (steps_of done ++ map step_of front ∷ [])
+text_last h done [] = sym (text_empty h (steps_of done))
+text_last h done (x ∷ xs) = ap (text h) (map-append (map step_of) done ((x ∷ xs) ∷ []))
+
+module _ (h : History) (script : List (List ℕ)) (line written : List ℕ) (lines bytes new_lines new_bytes : ℕ) (ledger new : History) (ds new_dues : List Due) where
+  -- the line, its step, and where that leads
+  abbrev x : Said
+  x = numbered (length script + 1) line
+
+  module _ (p : Progress h script written lines bytes ledger ds) (t : Takes ledger new ds new_dues lines bytes new_lines new_bytes x) where
+    abbrev steps : List Step
+    steps = p.pending ++ step_of x ∷ []
+
+    abbrev reached : History
+    reached = after_step (after_steps p.begun p.pending) (step_of x)
+
+    reached_is : after_step ledger (step_of x) ≡ reached
+    reached_is = ap (λ g. after_step g (step_of x)) p.ledger_is
+
+    steps_lead : after_steps p.begun steps ≡ reached
+    steps_lead = after_steps-append p.begun p.pending (step_of x ∷ [])
+
+    ahead : Ahead h (steps_of p.done) (map step_of (p.current ++ x ∷ [])) written p.begun steps
+    ahead = subst (λ c. Ahead h (steps_of p.done) c written p.begun steps) (sym (map-append step_of p.current (x ∷ []))) (ahead_step h (steps_of p.done) (map step_of p.current) written p.begun p.pending (step_of x) p.under.ahead)
+
+    dues_now : new_dues ≡ dues p.begun steps
+    dues_now = t.dues ∙ ap (λ d. d ++ due_for ledger (step_of x) ∷ []) p.dues_are ∙ ap (λ g. dues p.begun p.pending ++ due_for g (step_of x) ∷ []) p.ledger_is ∙ sym (dues-append p.begun p.pending (step_of x ∷ []))
+
+    ends_at : (reached.closed ≡ p.begun.closed) ⊎ IsEnded p.begun reached
+    ends_at = step_ends p.begun p.pending (step_of x) p.under.same
+
+    abbrev full : Bool
+    full = is_full (lines + 1) (bytes + length line)
+
+    full_is : (value : Bool) → full ≡ value → is_full (length p.current + 1) (bytes_of p.current + length line) ≡ value
+    full_is value e = ap (λ n. is_full (n + 1) (bytes_of p.current + length line)) (sym p.lines_are) ∙ ap (λ n. is_full (lines + 1) (n + length line)) (sym p.bytes_are) ∙ e
+
+    -- the line doesn't end its window
+    ledger_open : full ≡ false → new ≡ reached
+    ledger_open e = t.ledger ∙ ap (λ v. cond v (close (after_step ledger (step_of x))) (after_step ledger (step_of x))) e ∙ reached_is
+
+    ledger_ended : full ≡ true → new ≡ close reached
+    ledger_ended e = t.ledger ∙ ap (λ v. cond v (close (after_step ledger (step_of x))) (after_step ledger (step_of x))) e ∙ ap close reached_is
+
+    cut_open : full ≡ false → IsCut (said (script ++ line ∷ [])) p.done (p.current ++ x ∷ [])
+    cut_open e = cut_said script line p.done (p.current ++ x ∷ []) (cut_more (said script) p.done p.current x p.cut (full_is false e))
+
+    cut_ended : full ≡ true → IsCut (said (script ++ line ∷ [])) (p.done ++ (p.current ++ x ∷ []) ∷ []) []
+    cut_ended e = cut_said script line (p.done ++ (p.current ++ x ∷ []) ∷ []) [] (cut_whole (said script) p.done p.current x p.cut (full_is true e))
+
+    lines_open : full ≡ false → new_lines ≡ length (p.current ++ x ∷ [])
+    lines_open e = t.lines ∙ ap (λ v. cond v 0 (lines + 1)) e ∙ omega (arith, p.lines_are, length-append p.current (x ∷ []))
+
+    bytes_open : full ≡ false → new_bytes ≡ bytes_of (p.current ++ x ∷ [])
+    bytes_open e = t.bytes ∙ ap (λ v. cond v 0 (bytes + length line)) e ∙ ap (λ n. n + length line) p.bytes_are ∙ sym (bytes_of-push p.current x)
+
+    same_block : full ≡ false → 0 < length new.waiting → reached.closed ≡ p.begun.closed
+    same_block e some = elim ends_at [ inl kept ↦ kept | inr ended ↦ absurd (let no : ⊥ = omega (arith, some, ap (λ (g : History). length g.waiting) (ledger_open e), ap length ended.none) in no) ]
+
+    -- the replies wait, since the block of the line's journal hasn't ended
+    waits_open : full ≡ false → 0 < length new.waiting → Progress h (script ++ line ∷ []) written new_lines new_bytes new new_dues
+    waits_open e some = record {
+      done = p.done;
+      current = p.current ++ x ∷ [];
+      cut = cut_open e;
+      lines_are = lines_open e;
+      bytes_are = bytes_open e;
+      begun = p.begun;
+      pending = steps;
+      under = subst (λ c. Underway h (steps_of p.done) c written p.begun steps) (sym (map-append step_of p.current (x ∷ []))) (underway_waits h (steps_of p.done) (map step_of p.current) written p.begun p.pending (step_of x) p.under (same_block e some));
+      ledger_is = ledger_open e ∙ sym steps_lead;
+      dues_are = dues_now;
     }
 
--- a line more
-pub read_more : (before mid after : SourceState) (old new : Reading) (bytes line : List ℕ) (lines : List (List ℕ)) → HasRead before mid old lines → Reads mid after old new bytes → GivesLine after old new bytes line → HasRead before after new (lines ++ line ∷ [])
-read_more before mid after old new bytes line lines h r g =
-    elim g.rest [
-      | inl b ↦ read_broken before mid after old new bytes line lines h r g b
-      | inr b ↦ read_last before mid after old new bytes line lines h r g b
-    ]
+    pub progress_waits : 0 < length new.waiting → Progress h (script ++ line ∷ []) written new_lines new_bytes new new_dues
+    progress_waits some =
+        elim full as (λ v. full ≡ v → Progress h (script ++ line ∷ []) written new_lines new_bytes new new_dues) [
+          | true ↦ λ e. absurd (let no : ⊥ = omega (arith, some, ap (λ (g : History). length g.waiting) (ledger_ended e), ap length (close_none reached)) in no)
+          | false ↦ λ e. waits_open e some
+        ] refl
 
--- the lines that were given are the first of all that were read
-pub first_lines : (before now : SourceState) (reading : Reading) (lines : List (List ℕ)) (h : HasRead before now reading lines) → Begins lines (lines_of h.read)
-first_lines before now reading lines h =
-    elim reading.ended as (λ e. reading.ended ≡ e → Begins lines (lines_of h.read)) [
-      | true ↦ λ e. record { rest = []; is = h.ended e ∙ sym (append-nil lines) }
-      | false ↦ λ e. record { rest = lines_of reading.held; is = ap lines_of (h.unended e) ∙ lines_of-broken lines reading.held (unbroken lines h.each) }
-    ] refl
+    -- where nothing waits, the open block has ended
+    new_closed : new.waiting ≡ [] → new ≡ after_window p.begun steps
+    new_closed none =
+        elim full as (λ v. full ≡ v → new ≡ after_window p.begun steps) [
+          | true ↦ λ e. ledger_ended e ∙ ap close (sym steps_lead)
+          | false ↦ λ e. close_settled new none ∙ ap close (ledger_open e ∙ sym steps_lead)
+        ] refl
 
--- the steps of the lines that were given are a part of a merge of all that were read
-pub part_of : (lines : List (List ℕ)) (read : List ℕ) → Begins lines (lines_of read) → Part read (steps_of (windows (said lines)))
-part_of lines read b = subst (λ all. IsPartialMerge (windows (said all)) (steps_of (windows (said lines)))) (sym b.is) (merges_part lines b.rest)
+    settled_is : new.waiting ≡ [] → settled_text new new_dues ≡ window_text p.begun steps
+    settled_is none =
+        ap (λ g. settled_text g new_dues) (new_closed none) ∙ ap (λ d. settled_text (after_window p.begun steps) d) dues_now
+        ∙ due_at p.begun steps p.under.ahead.none (subst (λ (g : History). (g.closed ≡ p.begun.closed) ⊎ IsEnded p.begun g) (sym steps_lead) ends_at)
 
--- the answer to a line more
-pub written_more : (h : History) → h.waiting ≡ [] → (before mid after : SinkState) (lines : List (List ℕ)) (line : List ℕ) → HasWritten h before mid lines → Appends mid.held after.held (step_text h h (step_of (numbered (length lines + 1) line))) → mid.faults ≤ after.faults → mid.idles ≤ after.idles → HasWritten h before after (lines ++ line ∷ [])
-written_more h none before mid after lines line w appended faults idles = record {
-  appended = subst (Appends before.held after.held) (sym (text_more h none lines line)) (Appends-trans before.held mid.held after.held (text h (steps_of (windows (said lines)))) (step_text h h (step_of (numbered (length lines + 1) line))) w.appended appended);
-  later = omega (arith, w.later);
-  idle_later = omega (arith, w.idle_later);
-}
+    written_open : full ≡ false → new.waiting ≡ [] → Progress h (script ++ line ∷ []) (written ++ settled_text new new_dues) new_lines new_bytes new []
+    written_open e none =
+        let g = after_steps p.begun steps in
+        let settled : g.waiting ≡ [] = ap (λ (k : History). k.waiting) (steps_lead ∙ sym (ledger_open e)) ∙ none in
+        let text_is : steps_text g p.begun steps ≡ settled_text new new_dues = ap (λ k. steps_text k p.begun steps) (close_settled g settled) ∙ sym (settled_is none) in record {
+          done = p.done;
+          current = p.current ++ x ∷ [];
+          cut = cut_open e;
+          lines_are = lines_open e;
+          bytes_are = bytes_open e;
+          begun = g;
+          pending = [];
+          under = subst (λ w. Underway h (steps_of p.done) (map step_of (p.current ++ x ∷ [])) (written ++ w) g []) text_is (underway_written h (steps_of p.done) (map step_of (p.current ++ x ∷ [])) written p.begun steps ahead settled);
+          ledger_is = ledger_open e ∙ sym steps_lead;
+          dues_are = refl;
+        }
 
--- a line brings the end nearer: less may be read yet, or less is held
-pub line_smaller : (mid after : SourceState) (old new : Reading) (bytes line : List ℕ) → Reads mid after old new bytes → GivesLine after old new bytes line → 2 * (script_limit - new.total) + length new.held < 2 * (script_limit - old.total) + length old.held
-line_smaller mid after old new bytes line r g =
-    elim g.rest [
-      | inl b ↦ omega (arith, r.total, r.bounded, length-append old.held bytes, length-append line (10 ∷ new.held), ap length b.given)
-      | inr b ↦ last_smaller b (ap length b.none_held) (some_length line b.some)
-    ]
-  where
-    last_smaller : IsLast after old new bytes line → length new.held ≡ 0 → 0 < length line → 2 * (script_limit - new.total) + length new.held < 2 * (script_limit - old.total) + length old.held
-    last_smaller b none some = omega (arith, r.total, r.bounded, none, some, length-append old.held bytes, ap length b.given)
+    written_ended : full ≡ true → new.waiting ≡ [] → Progress h (script ++ line ∷ []) (written ++ settled_text new new_dues) new_lines new_bytes new []
+    written_ended e none =
+        let g = after_window p.begun steps in
+        let ended : Underway h (steps_of p.done ++ map step_of (p.current ++ x ∷ []) ∷ []) [] (written ++ window_text p.begun steps) g [] = underway_window h (steps_of p.done) (map step_of (p.current ++ x ∷ [])) written p.begun steps ahead (close_none (after_steps p.begun steps)) in
+        let under : Underway h (steps_of (p.done ++ (p.current ++ x ∷ []) ∷ [])) [] (written ++ window_text p.begun steps) g [] = subst (λ d. Underway h d [] (written ++ window_text p.begun steps) g []) (sym (map-append (map step_of) p.done ((p.current ++ x ∷ []) ∷ []))) ended in record {
+          done = p.done ++ (p.current ++ x ∷ []) ∷ [];
+          current = [];
+          cut = cut_ended e;
+          lines_are = t.lines ∙ ap (λ v. cond v 0 (lines + 1)) e;
+          bytes_are = t.bytes ∙ ap (λ v. cond v 0 (bytes + length line)) e;
+          begun = g;
+          pending = [];
+          under = subst (λ w. Underway h (steps_of (p.done ++ (p.current ++ x ∷ []) ∷ [])) [] (written ++ w) g []) (sym (settled_is none)) under;
+          ledger_is = new_closed none;
+          dues_are = refl;
+        }
+
+    -- what was due is written, since nothing waits
+    pub progress_written : new.waiting ≡ [] → Progress h (script ++ line ∷ []) (written ++ settled_text new new_dues) new_lines new_bytes new []
+    progress_written none =
+        elim full as (λ v. full ≡ v → Progress h (script ++ line ∷ []) (written ++ settled_text new new_dues) new_lines new_bytes new []) [
+          | true ↦ λ e. written_ended e none
+          | false ↦ λ e. written_open e none
+        ] refl
+
+    windows_now : windows (said (script ++ line ∷ [])) ≡ p.done ++ (p.current ++ x ∷ []) ∷ []
+    windows_now =
+        elim full as (λ v. full ≡ v → windows (said (script ++ line ∷ [])) ≡ p.done ++ (p.current ++ x ∷ []) ∷ []) [
+          | true ↦ λ e. windows_end (said (script ++ line ∷ [])) (p.done ++ (p.current ++ x ∷ []) ∷ []) [] (cut_ended e)
+          | false ↦ λ e. windows_end (said (script ++ line ∷ [])) p.done (p.current ++ x ∷ []) (cut_open e) ∙ last_some p.done p.current x
+        ] refl
+
+    -- what is due is the rest of the text of the lines so far
+    pub owed_line : new.waiting ≡ [] → text h (steps_of (windows (said (script ++ line ∷ [])))) ≡ written ++ settled_text new new_dues
+    owed_line none =
+        ap (λ w. text h (steps_of w)) windows_now ∙ ap (text h) (map-append (map step_of) p.done ((p.current ++ x ∷ []) ∷ []))
+        ∙ text_end h (steps_of p.done) (map step_of (p.current ++ x ∷ [])) written p.begun steps ahead ∙ ap (λ w. written ++ w) (sym (settled_is none))
+
+module _ (h : History) (script : List (List ℕ)) (written : List ℕ) (lines bytes : ℕ) (ledger : History) (ds : List Due) (p : Progress h script written lines bytes ledger ds) where
+  -- what is due where the script ends is the rest of its text
+  pub owed_end : text h (steps_of (windows (said script))) ≡ written ++ settled_text (close ledger) ds
+  owed_end =
+      ap (λ w. text h (steps_of w)) (windows_end (said script) p.done p.current p.cut) ∙ text_last h p.done p.current
+      ∙ text_end h (steps_of p.done) (map step_of p.current) written p.begun p.pending p.under.ahead
+      ∙ ap (λ w. written ++ w) (sym (ap (λ g. settled_text (close g) ds) p.ledger_is ∙ ap (λ d. settled_text (after_window p.begun p.pending) d) p.dues_are ∙ due_at p.begun p.pending p.under.ahead.none (inl p.under.same)))
+
+  -- the lines of the window at hand whose replies were written
+  abbrev pub front : List Said
+  front = take (length p.under.front) p.current
+
+  front_is : map step_of front ≡ p.under.front
+  front_is = sym (take-map step_of (length p.under.front) p.current) ∙ ap (take (length p.under.front)) p.under.split ∙ take_at p.under.front p.pending (length p.under.front) refl
+
+  -- what was written is the text of the lines whose replies were written
+  pub answered_is : text h (steps_of (with_last p.done front)) ≡ written
+  answered_is = text_last h p.done front ∙ ap (λ f. text h (steps_of p.done ++ f ∷ [])) front_is ∙ p.under.answered
+
+  -- these are the first lines of all that were read
+  pub answered_part : (all : List (List ℕ)) → Begins script all → IsPartialMerge (windows (said all)) (steps_of (with_last p.done front))
+  answered_part all b =
+      let begins : Begins front p.current = record { rest = drop (length p.under.front) p.current; is = sym (take-append-drop (length p.under.front) p.current) } in
+      subst (λ xs. IsPartialMerge (windows (said xs)) (steps_of (with_last p.done front))) (sym b.is) (merges_front script b.rest p.done p.current front p.cut begins)

@@ -12,9 +12,10 @@ use Rattle.ledger_io.specs.declared.writer.WriteErr.TheVariants as write_err
 use Rattle.ledger_model.specs.History.{History}
 use Rattle.ledger_model.specs.Notary.{IsAttended}
 use Rattle.ledger_cli.specs.declared.ending.Ending.{Ending}
-use Rattle.ledger_cli.specs.declared.ending.Ending.TheVariants.{Done, Usage, ReadFault, WriteFault, NoMemory, LineTooLong, ScriptTooLong}
+use Rattle.ledger_cli.specs.declared.ending.Ending.TheVariants.{NoMemory}
 use Rattle.ledger_cli.specs.Endings.{last_line}
-use Rattle.ledger_cli.specs.Runs.{Outside, outside, Served, Ran, Causes, WritesLast}
+use Rattle.ledger_cli.specs.Runs.{Outside, outside, Served, Ran, WritesLast}
+use Rattle.ledger_cli.proofs.EndLaws.{causes_later}
 
 nothing_attended : IsAttended [] [] 0 []
 nothing_attended = record { linked = refl; few = omega arith }
@@ -56,16 +57,6 @@ last_written line before after (Ok done) appended first cause f i = record {
   idle_later = i;
 }
 last_written line before after (Err error) appended first cause f i = last_part line before after error first cause f i
-
--- a cause stays while counts rise
-causes_later : (end : Ending) (read : List ℕ) (before : Outside) (source : SourceState) (mid after : SinkState) → mid.faults ≤ after.faults → mid.idles ≤ after.idles → Causes end read before (outside source mid) → Causes end read before (outside source after)
-causes_later Done read before source mid after f i cause = cause
-causes_later Usage read before source mid after f i cause = cause
-causes_later ReadFault read before source mid after f i cause = cause
-causes_later WriteFault read before source mid after f i cause = elim cause [ inl rose ↦ inl (omega (arith, rose, f)) | inr rose ↦ inr (omega (arith, rose, i)) ]
-causes_later NoMemory read before source mid after f i cause = cause
-causes_later LineTooLong read before source mid after f i cause = cause
-causes_later ScriptTooLong read before source mid after f i cause = cause
 
 -- a session and its last line are a run
 pub ran_written : (h : History) (end : Ending) (before : Outside) (source : SourceState) (mid after : SinkState) → Served h end before (outside source mid) → WritesLast (last_line end) mid after → Ran h end before (outside source after)

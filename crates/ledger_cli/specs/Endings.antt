@@ -3,6 +3,8 @@ use Rattle.std.specs.Prelude.{ℕ, List, [], ◌∷◌, ◌++◌, codes}
 use Rattle.ledger_io.specs.declared.failure.LineErr.{LineErr}
 use Rattle.ledger_io.specs.declared.failure.LineErr.TheVariants as line_err
 use Rattle.ledger_cli.specs.declared.ending.Ending.{Ending}
+use Rattle.ledger_cli.specs.declared.session.Halt.{Halt}
+use Rattle.ledger_cli.specs.declared.session.Halt.TheVariants as halt
 use Rattle.ledger_cli.specs.declared.ending.Ending.TheVariants.{Done, Usage, ReadFault, WriteFault, NoMemory, LineTooLong, ScriptTooLong}
 
 -- the exit status
@@ -31,3 +33,8 @@ ending_of line_err.ReadFault = ReadFault
 ending_of line_err.LineTooLong = LineTooLong
 ending_of line_err.ScriptTooLong = ScriptTooLong
 ending_of line_err.NoMemory = NoMemory
+
+-- the ending that a stop before the script's end brings
+abbrev pub halt_of : Halt → Ending
+halt_of halt.NoMemory = NoMemory
+halt_of halt.WriteFault = WriteFault

@@ -9,14 +9,26 @@ use std::alloc::Global;
 /// The byte in front of a hashed ledger name.
 const NAME_TAG: u8 = 0x0b;
 
+/// The clue of a journal that has none.
+pub(crate) const NO_CLUE: Digest = Digest([0; 32]);
+
 /// The content of journal 0: the operator's key and the regulator's.
 pub(crate) fn founders(alloc: Global, genesis: &Genesis) -> Result<Bytes, NoMemory>
-    ensures { IfOk result (λ content. content ≡ founders_content genesis.now) }
+    ensures content { IfOk result (λ content. content ≡ founders_content genesis.now) }
+    ensures width { length genesis.now.operator.0 ≡ 32 }
 {
     let mut keys = FieldWriter::new(alloc);
-    keys.put_slice(&genesis.operator.0)?;
-    keys.put_slice(&genesis.regulator.0)?;
+    keys.put_slice(key_bytes(&genesis.operator))?;
+    keys.put_slice(key_bytes(&genesis.regulator))?;
     Ok(keys.finish())
+}
+
+fn key_bytes(key: &Digest) -> &[u8]
+    ensures bytes { result.now ≡ key.now.0 }
+    ensures width { length key.now.0 ≡ 32 }
+{
+    let bytes = &key.0;
+    bytes.as_slice()
 }
 
 /// The header of journal 0, whose content is given.
@@ -29,7 +41,7 @@ pub(crate) fn first_header(genesis: &Genesis, content: &[u8]) -> Header
         kind: Kind::Genesis,
         jsn: 0,
         member: 0,
-        clue: Digest([0; 32]),
+        clue: NO_CLUE,
         clue_ord: 0,
         clue_prev: 0,
         a: 0,

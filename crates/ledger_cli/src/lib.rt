@@ -2,12 +2,16 @@
 //! are written and the exit status.
 #![tactic(auto)]
 
+mod apply;
+mod dues;
 mod ending;
 mod founding;
 mod journal;
 mod ledger;
+mod prepare;
 mod session;
 mod top;
+mod window;
 mod words;
 
 pub use ending::Ending;

@@ -1,49 +1,164 @@
-ghost use Rattle.std.specs.Prelude.{◌≡◌, ◌≢◌, ℕ, [], OnOk};
+ghost use Rattle.std.specs.Prelude.{◌≡◌, ◌≢◌, ◌+◌, ◌<◌, ◌≤◌, ◌++◌, ◌∷◌, [], length, if◌then◌else◌, Ok, OnOk};
+ghost use Rattle.ledger_io.specs.Lines.{line_limit};
+ghost use Rattle.ledger_model.specs.Dues.{due_for};
+ghost use Rattle.ledger_model.specs.History.{close};
 ghost use Rattle.ledger_model.specs.InOrder.{step_of};
-ghost use Rattle.ledger_model.specs.Rules.{job_of};
-ghost use Rattle.ledger_model.specs.Texts.{reply_to, step_text};
-ghost use Rattle.ledger_model.specs.Windows.{numbered};
-ghost use Rattle.ledger_cli.specs.Endings.{ending_of};
+ghost use Rattle.ledger_model.specs.Rules.{after_step};
+ghost use Rattle.ledger_model.specs.Windows.{numbered, is_full};
+ghost use Rattle.ledger_cli.specs.Endings.{ending_of, halt_of};
 ghost use Rattle.ledger_cli.specs.Runs.{Served, outside};
+ghost use Rattle.ledger_cli.specs.Settling.{WritesDues, EndsScript, Takes};
 
 use crate::Ending;
+use crate::apply::apply;
+use crate::dues::set_dues;
 use crate::ledger::Ledger;
-use ledger_bytes::{NoMemory, Refusal};
+use crate::prepare::prepare;
+use crate::window::Window;
+use ledger_bytes::NoMemory;
 use ledger_io::{LineErr, Lines, Sink, Source, write_all};
-use ledger_model::Job;
-use script_lines::{Reply, put_reply};
+use ledger_model::Due;
 use std::alloc::Global;
 
-/// Answers the lines of a script, one after the other, until it ends or a fault ends it.
+/// Why a session stops before its script ends.
+#[derive(Clone, Copy, Debug, PartialEq, Eq)]
+pub(crate) enum Halt {
+    NoMemory,
+    WriteFault,
+}
+
+/// Answers the lines of a script, one after the other, until it ends or a fault ends it. Receipts are written when
+/// their block has ended, and other replies with them, in the order of the lines.
 pub(crate) fn run_script<S: Source, K: Sink>(
     alloc: Global,
-    ledger: &Ledger,
+    ledger: &mut Ledger,
     source: &mut S,
     sink: &mut K,
 ) -> Ending
-    requires { ledger.now.waiting ≡ [] }
-    ensures served { Served ledger.now result
+    requires { ledger.old.waiting ≡ [] }
+    ensures served { Served ledger.old result
         (outside (S.state source.old) (K.state sink.old)) (outside (S.state source.new) (K.state sink.new)) }
     ensures started { result ≢ Ending.Usage }
 {
     let mut lines = Lines::new(alloc);
+    let mut window = Window::new();
+    let mut dues = Vec::new(alloc);
     let mut text = Vec::new(alloc);
     let mut index = 0;
     loop {
         let line = match lines.next(source) {
             Ok(Some(line)) => line,
-            Ok(None) => return Ending::Done,
-            Err(error) => return ending_of(error),
+            Ok(None) => return end_script(ledger, &mut dues, &mut text, sink, Ending::Done),
+            Err(error) => return end_script(ledger, &mut dues, &mut text, sink, ending_of(error)),
         };
         index += 1;
-        match set_answer(&mut text, ledger, index, line.as_slice()) {
+        match take_in_window(
+            alloc,
+            ledger,
+            &mut dues,
+            &mut window,
+            index,
+            line.as_slice(),
+        ) {
             Ok(()) => (),
             Err(NoMemory) => return Ending::NoMemory,
         }
-        match write_all(sink, text.as_slice()) {
-            Ok(()) => (),
-            Err(_) => return Ending::WriteFault,
+        if ledger.is_settled() {
+            match write_dues(ledger, &mut dues, &mut text, sink) {
+                Ok(()) => (),
+                Err(halt) => return ending_at(halt),
+            }
         }
+    }
+}
+
+// The end of the last window, and of the session.
+fn end_script<K: Sink>(
+    ledger: &mut Ledger,
+    dues: &mut Vec<Due>,
+    text: &mut Vec<u8>,
+    sink: &mut K,
+    ending: Ending,
+) -> Ending
+    ensures { EndsScript (close ledger.old) dues.old.items (K.state sink.old) (K.state sink.new) ending result }
+{
+    match ledger.close() {
+        Ok(()) => (),
+        Err(NoMemory) => return Ending::NoMemory,
+    }
+    match write_dues(ledger, dues, text, sink) {
+        Ok(()) => ending,
+        Err(halt) => ending_at(halt),
+    }
+}
+
+// Takes a line, and ends the open block where that ends the window.
+fn take_in_window(
+    alloc: Global,
+    ledger: &mut Ledger,
+    dues: &mut Vec<Due>,
+    window: &mut Window,
+    index: u64,
+    line: &[u8],
+) -> Result<(), NoMemory>
+    requires { length line.now ≤ line_limit }
+    ensures taken { OnOk result (Takes ledger.old ledger.new dues.old.items dues.new.items window.old.lines window.old.bytes window.new.lines window.new.bytes (numbered index line.now)) }
+{
+    take(alloc, ledger, dues, index, line)?;
+    if window.add(line.len()) {
+        ledger.close()?;
+    }
+    Ok(())
+}
+
+// Takes a line: judges it, places what it places, and keeps what is due for it.
+fn take(
+    alloc: Global,
+    ledger: &mut Ledger,
+    dues: &mut Vec<Due>,
+    index: u64,
+    line: &[u8],
+) -> Result<(), NoMemory>
+    ensures ledger { OnOk result (ledger.new ≡ after_step ledger.old (step_of (numbered index line.now))) }
+    ensures dues { OnOk result (dues.new.items ≡ dues.old.items ++ due_for ledger.old (step_of (numbered index line.now)) ∷ []) }
+{
+    let id = ledger.id();
+    let job = prepare(alloc, &id, line)?;
+    let answer = apply(alloc, ledger, job)?;
+    dues.push(Due {
+        lane: 0,
+        index,
+        answer,
+    })?;
+    Ok(())
+}
+
+// Writes all that is due, where the last block of the ledger has ended.
+fn write_dues<K: Sink>(
+    ledger: &Ledger,
+    dues: &mut Vec<Due>,
+    text: &mut Vec<u8>,
+    sink: &mut K,
+) -> Result<(), Halt>
+    ensures { WritesDues ledger.now dues.old.items dues.new.items (K.state sink.old) (K.state sink.new) result }
+{
+    match set_dues(text, ledger, dues.as_slice()) {
+        Ok(()) => (),
+        Err(NoMemory) => return Err(Halt::NoMemory),
+    }
+    dues.clear();
+    match write_all(sink, text.as_slice()) {
+        Ok(()) => Ok(()),
+        Err(_) => Err(Halt::WriteFault),
+    }
+}
+
+fn ending_at(halt: Halt) -> Ending
+    ensures { result ≡ halt_of halt }
+{
+    match halt {
+        Halt::NoMemory => Ending::NoMemory,
+        Halt::WriteFault => Ending::WriteFault,
     }
 }
 
@@ -55,35 +170,5 @@ fn ending_of(error: LineErr) -> Ending
         LineErr::LineTooLong => Ending::LineTooLong,
         LineErr::ScriptTooLong => Ending::ScriptTooLong,
         LineErr::NoMemory => Ending::NoMemory,
-    }
-}
-
-// The text of the answer to a line, in a buffer that is used again.
-fn set_answer(text: &mut Vec<u8>, ledger: &Ledger, index: u64, line: &[u8]) -> Result<(), NoMemory>
-    requires { ledger.now.waiting ≡ [] }
-    ensures { OnOk result (text.new.items ≡ step_text ledger.now ledger.now (step_of (numbered index line.now))) }
-{
-    text.clear();
-    put_reply(text, 0, index, &answer(ledger, line))?;
-    Ok(())
-}
-
-fn answer(ledger: &Ledger, line: &[u8]) -> Reply
-    requires { ledger.now.waiting ≡ [] }
-    ensures { (index : ℕ) → result ≡ reply_to ledger.now ledger.now (step_of (numbered index line.now)) (job_of line.now) }
-{
-    match job_of(line) {
-        Job::Head => ledger.head(),
-        Job::Refused(refusal) => Reply::Refused(refusal),
-    }
-}
-
-fn job_of(line: &[u8]) -> Job
-    ensures { result ≡ job_of line.now }
-{
-    if line == b"0 head".as_slice() {
-        Job::Head
-    } else {
-        Job::Refused(Refusal::BadVerb)
     }
 }

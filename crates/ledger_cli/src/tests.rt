@@ -1,6 +1,7 @@
 use crate::{Command, Ending, finish, ledger_top};
 use ledger_bytes::{Bytes, Digest, NoMemory};
 use ledger_io::{MemSink, MemSource};
+use sha2::{Digest as Hasher, Sha256};
 use std::alloc::Global;
 use std::test::Fail;
 
@@ -34,6 +35,48 @@ const LONG_HEAD: &str = "head \
 
 const USAGE: &str = "fail 1 usage\n";
 
+// A record of the operator without content, and one of the regulator with the content abc.
+const EMPTY: &str =
+    "0 append 0 - - 0101010101010101010101010101010101010101010101010101010101010101\
+    686f1846a77b4b9e4f4927cb822d4b771f3dc804ba2be7655992ebc5e0d31ec7\n";
+
+const ABC: &str =
+    "0 append 1 - 616263 0202020202020202020202020202020202020202020202020202020202020202\
+    e3cf3de1ad6fd5f8dae39446115ba4c2cb141bcc2bc68b0e1ab93fc301bce108\n";
+
+// The end of a record of the operator with 65,536 bytes 0.
+const PROOF_OF_ZEROS: &str = " 0101010101010101010101010101010101010101010101010101010101010101\
+    675eeebfcbc017bcd9f156f8db4bfd224f59b79ea2f76aaf5df2e5332fc2772b\n";
+
+// A record of no member, and one of the regulator with the operator's key.
+const OF_NO_MEMBER: &str =
+    "0 append 9 - - 0a0a0a0a0a0a0a0a0a0a0a0a0a0a0a0a0a0a0a0a0a0a0a0a0a0a0a0a0a0a0a0a\
+    71935300a1a3f777cb9be8ddecf42d5ed2fa81474117fce9a4bbbaf3483e1b04\n";
+
+const WITH_OPERATORS_KEY: &str =
+    "0 append 1 - - 0101010101010101010101010101010101010101010101010101010101010101\
+    6bef8878b17647cacb6623281198b4c3e52487546bda96128531c04640fb6fd4\n";
+
+// The operator's record with the last bit of its proof changed, and with the regulator's key.
+const LAST_BIT_CHANGED: &str =
+    "0 append 0 - - 0101010101010101010101010101010101010101010101010101010101010101\
+    686f1846a77b4b9e4f4927cb822d4b771f3dc804ba2be7655992ebc5e0d31ec6\n";
+
+const WITH_REGULATORS_KEY: &str =
+    "0 append 0 - - 0202020202020202020202020202020202020202020202020202020202020202\
+    1e4341e8c84e751b14b84bfdd257228cc9f4734b96fdfe1f9dca95a4303c6f96\n";
+
+// The receipt of the operator's record alone in a block, and the head behind it.
+const RECEIPT: &str = "ok 1 e17cd0a38398533f50004ec57f5dd3837680b6b072223c6ffc9e2bfa0d0e723c 1 2 \
+    89713d47487c9be9875bd8f6a471f021f10440bea34709c459dce3a170313951\n";
+
+const HEAD_OF_TWO: &str = "head \
+    64915354a6547b1f887e596e872fd13b2abdc860729da9fe31180a81726cf4a2 2 \
+    89713d47487c9be9875bd8f6a471f021f10440bea34709c459dce3a170313951 2 0 0 \
+    e3b0c44298fc1c149afbf4c8996fb92427ae41e4649b934ca495991b7852b855\n";
+
+const ROOT_OF_FIVE: &str = "38583702ccdc045d882059aef42fdd392dd14eff76ebc94f02e6901796c21867";
+
 // More room than any of these runs writes, and a call that none of them makes.
 const AMPLE: usize = 65_536;
 
@@ -55,6 +98,42 @@ fn joined(alloc: Global, pieces: &[&str]) -> Result<Vec<u8>, NoMemory> {
     Ok(bytes)
 }
 
+// These lines, each of them so many times. A line is given in pieces, with its newline.
+fn repeated(alloc: Global, lines: &[(usize, &[&str])]) -> Result<Vec<u8>, NoMemory> {
+    let mut script = Vec::new(alloc);
+    for (times, pieces) in lines {
+        let line = joined(alloc, pieces)?;
+        for _ in 0..*times {
+            script.extend_from_slice(line.as_slice())?;
+        }
+    }
+    Ok(script)
+}
+
+// These lines, each of them so many times: its front, a filling of so many bytes, and its end.
+fn filled(alloc: Global, lines: &[(usize, &str, (usize, u8), &str)]) -> Result<Vec<u8>, NoMemory> {
+    let mut script = Vec::new(alloc);
+    for (times, front, (count, byte), end) in lines {
+        let mut filling = Vec::new(alloc);
+        filling.resize(*count, *byte)?;
+        for _ in 0..*times {
+            script.extend_from_slice(front.as_bytes())?;
+            script.extend_from_slice(filling.as_slice())?;
+            script.extend_from_slice(end.as_bytes())?;
+        }
+    }
+    Ok(script)
+}
+
+// What a run is to write: how many lines, the first and the last of them, and the SHA-256 of them all.
+#[derive(Clone, Copy, Debug)]
+struct Written {
+    lines: usize,
+    first: &'static str,
+    last: &'static str,
+    digest: &'static str,
+}
+
 // The status of a run and what it wrote, where the read and the write with these numbers fail.
 fn run(
     alloc: Global,
@@ -69,6 +148,29 @@ fn run(
     let mut sink = MemSink::new(alloc, room, [failing_write].to_vec(alloc)?)?;
     let status = ledger_top(alloc, words.as_slice(), &mut source, &mut sink);
     Ok((status, sink.written().to_vec(alloc)?))
+}
+
+fn is_as_wanted(alloc: Global, written: &[u8], want: &Written) -> Result<bool, NoMemory> {
+    let lines = written.iter().filter(|byte| **byte == b'\n').count();
+    let digest = hex::encode(alloc, Sha256::digest(written))?;
+    Ok(
+        lines == want.lines
+            && written.starts_with(want.first.as_bytes())
+            && written.ends_with(want.last.as_bytes())
+            && digest.as_str() == want.digest,
+    )
+}
+
+// Whether a run of such lines ends and writes as it is to.
+fn answers_filled(
+    alloc: Global,
+    lines: &[(usize, &str, (usize, u8), &str)],
+    want_status: u8,
+    want: &Written,
+) -> Result<bool, NoMemory> {
+    let script = filled(alloc, lines)?;
+    let (status, written) = run(alloc, &DEMO, script, NEVER, AMPLE, NEVER)?;
+    Ok(status == want_status && is_as_wanted(alloc, written.as_slice(), want)?)
 }
 
 #[test]
@@ -102,6 +204,302 @@ fn answers_scripts(rt: HostRuntime) -> Result<(), Fail> {
         let (status, written) = run(rt.alloc(), words, bytes, NEVER, AMPLE, NEVER)?;
         assert_eq!(rt; written, joined(rt.alloc(), want)?, "at {script:?}");
         assert_eq!(rt; status, 0, "at {script:?}");
+    }
+    Ok(())
+}
+
+// Blocks of one line and of several, refused lines between records, and a block that is full.
+#[test]
+fn places_records(rt: HostRuntime) -> Result<(), Fail> {
+    let proof_too_long = "00".repeat(rt.alloc(), 4_097)?;
+    let content_too_long = "00".repeat(rt.alloc(), 65_537)?;
+    let rows: [(&[(usize, &[&str])], Written); 5] = [
+        (
+            &[(1, &[EMPTY])],
+            Written {
+                lines: 1,
+                first: "0.1 ok 1 e17cd0a38398533f50004ec57f5dd3837680b6b072223c6ffc9e2bfa0d0e723c 1 2 89713d47487c9be9875bd8f6a471f021f10440bea34709c459dce3a170313951\n",
+                last: "0.1 ok 1 e17cd0a38398533f50004ec57f5dd3837680b6b072223c6ffc9e2bfa0d0e723c 1 2 89713d47487c9be9875bd8f6a471f021f10440bea34709c459dce3a170313951\n",
+                digest: "e849a91856e65af9b279115919e0b4ac3d5aa3396ba148462a4cb2834c31a497",
+            },
+        ),
+        (
+            &[(65, &[EMPTY])],
+            Written {
+                lines: 65,
+                first: "0.1 ok 1 e17cd0a38398533f50004ec57f5dd3837680b6b072223c6ffc9e2bfa0d0e723c 1 65 43eb65d072dd4a0f2802b3cc0a898b3fe1898eafef8a6742f4e2c579f77ba8f2\n",
+                last: "0.65 ok 65 d6dbaa4ef6b92e2442084b4b04763cefc77a53b7b550058ece0c30aabf1bf37e 2 66 5b018e6c02c6e3980c32206bae1c7d115727f4aa2dd6d0f8f0f9055a257f6c48\n",
+                digest: "b4586317b4683210ebfa43a2832de90b54d01ef89b6c1ceba1b7abebc39c07ff",
+            },
+        ),
+        (
+            &[
+                (5, &["0 head\n"]),
+                (1, &["0 append 0 - - -\n0 hed\n\n0 head"]),
+            ],
+            Written {
+                lines: 9,
+                first: "0.1 head 64915354a6547b1f887e596e872fd13b2abdc860729da9fe31180a81726cf4a2 1 64915354a6547b1f887e596e872fd13b2abdc860729da9fe31180a81726cf4a2 1 0 0 e3b0c44298fc1c149afbf4c8996fb92427ae41e4649b934ca495991b7852b855\n",
+                last: "0.9 head 64915354a6547b1f887e596e872fd13b2abdc860729da9fe31180a81726cf4a2 1 64915354a6547b1f887e596e872fd13b2abdc860729da9fe31180a81726cf4a2 1 0 0 e3b0c44298fc1c149afbf4c8996fb92427ae41e4649b934ca495991b7852b855\n",
+                digest: "d1ee823352c3ee74b6a69b0ffbf7ed5ce2030708ebd78e3410a4e3aa70954263",
+            },
+        ),
+        (
+            &[(
+                15,
+                &[
+                    EMPTY, ABC, EMPTY, ABC, EMPTY, ABC, EMPTY, ABC, EMPTY, ABC, "0 head\n",
+                ],
+            )],
+            Written {
+                lines: 165,
+                first: "0.1 ok 1 e17cd0a38398533f50004ec57f5dd3837680b6b072223c6ffc9e2bfa0d0e723c 1 11 3bf696ce3121cf7bffe698a0806f169be91c09c28ea299eabf4678600fc7b7f7\n",
+                last: "0.165 head 64915354a6547b1f887e596e872fd13b2abdc860729da9fe31180a81726cf4a2 151 8ca733307d496b171aa1b96e2ec8fa187a0cbaa869f69aa8c3aa6061dbefc4e2 16 0 0 e3b0c44298fc1c149afbf4c8996fb92427ae41e4649b934ca495991b7852b855\n",
+                digest: "f5ccbedb6db0e97e1f196542512c64e450b5b3c65427a479bc556b03f671221d",
+            },
+        ),
+        (
+            &[(
+                1,
+                &[
+                    "0 hed\n",
+                    EMPTY,
+                    "0 head\n",
+                    "\n",
+                    ABC,
+                    "1 head\n",
+                    EMPTY,
+                    "8 head\n",
+                    ABC,
+                    "0 head\n",
+                    "0 head 1\n",
+                    EMPTY,
+                    "0  head\n",
+                    ABC,
+                    "0 head \n",
+                    EMPTY,
+                    "0 head\n",
+                    "0 append 0 inv - 0101010101010101010101010101010101010101010101010101010101010101d40c1519506ea6e27383842f2515fcc707458dfca42d12a0533262db09a3e339\n",
+                    ABC,
+                    OF_NO_MEMBER,
+                    EMPTY,
+                    WITH_OPERATORS_KEY,
+                    ABC,
+                    "0 head\n",
+                    "0 append 0 - 78 -\n",
+                    EMPTY,
+                    "0 append 0 - - ",
+                    proof_too_long.as_str(),
+                    "\n",
+                    ABC,
+                    "0 append 0 - ",
+                    content_too_long.as_str(),
+                    " -\n",
+                    EMPTY,
+                    "0 head\n",
+                    "0 append 00 - - -\n",
+                    ABC,
+                    "0 append 0 - -\n",
+                    EMPTY,
+                    "0 append 0 - - - -\n",
+                    ABC,
+                    "0 head\n",
+                    "0 append 4294967296 - - -\n",
+                    EMPTY,
+                    "0 append 0 - 0 -\n",
+                    ABC,
+                    "0 append 0 - GG -\n",
+                    EMPTY,
+                    "0 head\n",
+                ],
+            )],
+            Written {
+                lines: 45,
+                first: "0.1 no 10\n",
+                last: "0.45 head 64915354a6547b1f887e596e872fd13b2abdc860729da9fe31180a81726cf4a2 20 df2e907e056b324ac559c5abd63cab2136e2cce24883883652cdc454829d1a36 8 0 0 e3b0c44298fc1c149afbf4c8996fb92427ae41e4649b934ca495991b7852b855\n",
+                digest: "5eabb42e7d3b0c1262be716717ff70d64972a4b59aea96b301091a97e3333869",
+            },
+        ),
+    ];
+    for (script, want) in rows {
+        let script = repeated(rt.alloc(), script)?;
+        let (status, written) = run(rt.alloc(), &DEMO, script, NEVER, AMPLE, NEVER)?;
+        assert_eq!(rt; status, 0, "at {want:?}");
+        assert!(rt;
+            is_as_wanted(rt.alloc(), written.as_slice(), &want)?,
+            "at {want:?}"
+        );
+    }
+    Ok(())
+}
+
+// A content of 65,536 bytes, a window that ends by its bytes, and a line that is too long.
+#[test]
+fn bounds_bytes(rt: HostRuntime) -> Result<(), Fail> {
+    let rows: [(&[(usize, &str, (usize, u8), &str)], u8, Written); 3] = [
+        (
+            &[
+                (1, "0 append 0 - ", (131_072, b'0'), PROOF_OF_ZEROS),
+                (1, "0 head\n", (0, b' '), ""),
+            ],
+            0,
+            Written {
+                lines: 2,
+                first: "0.1 ok 1 fe24f0dba5ad1b56295d025fd18bf379ca24e7fe220bb1d0862438d493f95c1f 1 2 ef0127e3eff2a1445df2e5717e73b4d59a635617e4fa65efc52566bdab851a02\n",
+                last: "0.2 head 64915354a6547b1f887e596e872fd13b2abdc860729da9fe31180a81726cf4a2 2 ef0127e3eff2a1445df2e5717e73b4d59a635617e4fa65efc52566bdab851a02 2 0 0 e3b0c44298fc1c149afbf4c8996fb92427ae41e4649b934ca495991b7852b855\n",
+                digest: "075e8ecb3ef2492f1f58baca6c26824ffd666cb019564b471f3b00962410fe3f",
+            },
+        ),
+        (
+            &[
+                (3, "0 append 0 - ", (131_072, b'0'), PROOF_OF_ZEROS),
+                (4, "0 x", (4_194_301, b' '), "\n"),
+                (2, EMPTY, (0, b' '), ""),
+                (1, "0 head\n", (0, b' '), ""),
+            ],
+            0,
+            Written {
+                lines: 10,
+                first: "0.1 ok 1 fe24f0dba5ad1b56295d025fd18bf379ca24e7fe220bb1d0862438d493f95c1f 1 4 a1ae10ed46723b42cf81bd3580d317c0bd535892719b8d23b434b8674d187c11\n",
+                last: "0.10 head 64915354a6547b1f887e596e872fd13b2abdc860729da9fe31180a81726cf4a2 6 0a70211574ba172f520fe0523a2205d20f75c17d0b01356a76c6da494680052e 3 0 0 e3b0c44298fc1c149afbf4c8996fb92427ae41e4649b934ca495991b7852b855\n",
+                digest: "bec74279b4fd9f4be24c6ba49573f44974c564cb2fec5ed1d00d1fb8da5e9041",
+            },
+        ),
+        (
+            &[
+                (1, EMPTY, (0, b' '), "0 head\n"),
+                (1, "0 x", (4_194_302, b' '), "\n"),
+                (1, "0 head\n", (0, b' '), ""),
+            ],
+            7,
+            Written {
+                lines: 3,
+                first: "0.1 ok 1 e17cd0a38398533f50004ec57f5dd3837680b6b072223c6ffc9e2bfa0d0e723c 1 2 89713d47487c9be9875bd8f6a471f021f10440bea34709c459dce3a170313951\n",
+                last: "fail 7 line\n",
+                digest: "95f46da45dc1e203417e03a4cdb4c92a420292159f70c91b0a2721291b7d97ad",
+            },
+        ),
+    ];
+    for (lines, want_status, want) in rows {
+        assert!(rt;
+            answers_filled(rt.alloc(), lines, want_status, &want)?,
+            "at {want:?}"
+        );
+    }
+    Ok(())
+}
+
+// A window ends with its 4,096th line.
+#[test]
+fn bounds_windows(rt: HostRuntime) -> Result<(), Fail> {
+    let rows: [(&[(usize, &str, (usize, u8), &str)], u8, Written); 2] = [
+        (
+            &[
+                (1, EMPTY, (0, b' '), ""),
+                (4_095, "0 x\n", (0, b' '), ""),
+                (1, EMPTY, (0, b' '), "0 head\n"),
+            ],
+            0,
+            Written {
+                lines: 4098,
+                first: "0.1 ok 1 e17cd0a38398533f50004ec57f5dd3837680b6b072223c6ffc9e2bfa0d0e723c 1 2 89713d47487c9be9875bd8f6a471f021f10440bea34709c459dce3a170313951\n",
+                last: "0.4098 head 64915354a6547b1f887e596e872fd13b2abdc860729da9fe31180a81726cf4a2 3 14302faefd6f4edc916fd68e931bb3057b1556f5e9c479880d88983ddcbb4e35 3 0 0 e3b0c44298fc1c149afbf4c8996fb92427ae41e4649b934ca495991b7852b855\n",
+                digest: "abe085de543ef4fc177c5c65a13c4522c9cbcbf3d70b95d98e98dcdb62d4c81f",
+            },
+        ),
+        (
+            &[
+                (1, EMPTY, (0, b' '), ""),
+                (4_094, "0 x\n", (0, b' '), ""),
+                (1, EMPTY, (0, b' '), "0 head\n"),
+            ],
+            0,
+            Written {
+                lines: 4097,
+                first: "0.1 ok 1 e17cd0a38398533f50004ec57f5dd3837680b6b072223c6ffc9e2bfa0d0e723c 1 3 14302faefd6f4edc916fd68e931bb3057b1556f5e9c479880d88983ddcbb4e35\n",
+                last: "0.4097 head 64915354a6547b1f887e596e872fd13b2abdc860729da9fe31180a81726cf4a2 3 14302faefd6f4edc916fd68e931bb3057b1556f5e9c479880d88983ddcbb4e35 2 0 0 e3b0c44298fc1c149afbf4c8996fb92427ae41e4649b934ca495991b7852b855\n",
+                digest: "80cfd89f4dad932b452170c3d951d7cd5bbc88a5e26d80c92bff91be5ae4048d",
+            },
+        ),
+    ];
+    for (lines, want_status, want) in rows {
+        assert!(rt;
+            answers_filled(rt.alloc(), lines, want_status, &want)?,
+            "at {want:?}"
+        );
+    }
+    Ok(())
+}
+
+// A line that is refused places nothing and ends no block.
+#[test]
+fn refuses_records(rt: HostRuntime) -> Result<(), Fail> {
+    let script = joined(
+        rt.alloc(),
+        &[
+            EMPTY,
+            "0 head\n",
+            ABC,
+            LAST_BIT_CHANGED,
+            EMPTY,
+            OF_NO_MEMBER,
+            WITH_OPERATORS_KEY,
+            WITH_REGULATORS_KEY,
+            "0 hed\n",
+            ABC,
+            "0 head\n",
+        ],
+    )?;
+    let want = joined(
+        rt.alloc(),
+        &[
+            "0.1 ",
+            RECEIPT,
+            "0.2 ",
+            HEAD_OF_TWO,
+            "0.3 ok 2 5dce1e0facb27bca97c7d184057935f43b2543b91b68a535096e41bb10211ada 2 5 ",
+            ROOT_OF_FIVE,
+            "\n0.4 no 15 0\n\
+            0.5 ok 3 90b37afd3bc4985eb41d6104df7f9474699d236bed797a53f64e5d43a12b8355 2 5 ",
+            ROOT_OF_FIVE,
+            "\n0.6 no 14 9\n0.7 no 15 1\n0.8 no 15 0\n0.9 no 10\n\
+            0.10 ok 4 acd9ad7bfe01f2a9a309a9c7f2398396ebd2654c7a7a95be64ba41cfe9c0a8e0 2 5 ",
+            ROOT_OF_FIVE,
+            "\n0.11 head 64915354a6547b1f887e596e872fd13b2abdc860729da9fe31180a81726cf4a2 5 ",
+            ROOT_OF_FIVE,
+            " 3 0 0 e3b0c44298fc1c149afbf4c8996fb92427ae41e4649b934ca495991b7852b855\n",
+        ],
+    )?;
+    let (status, written) = run(rt.alloc(), &DEMO, script, NEVER, AMPLE, NEVER)?;
+    assert_eq!(rt; status, 0);
+    assert_eq!(rt; written, want);
+    Ok(())
+}
+
+// The end of a script ends its last block, and so does a fault of reading; a fault of writing leaves no receipt.
+#[test]
+fn ends_the_last_block(rt: HostRuntime) -> Result<(), Fail> {
+    let rows: [(u64, u64, u8, &[&str]); 3] = [
+        (NEVER, NEVER, 0, &["0.1 ", RECEIPT, "0.2 no 10\n"]),
+        (1, NEVER, 2, &["0.1 ", RECEIPT, "fail 2 read\n"]),
+        (NEVER, 0, 3, &[]),
+    ];
+    for (failing_read, failing_write, want_status, want) in rows {
+        let script = joined(rt.alloc(), &[EMPTY, "0 he"])?;
+        let (status, written) = run(
+            rt.alloc(),
+            &DEMO,
+            script,
+            failing_read,
+            AMPLE,
+            failing_write,
+        )?;
+        assert_eq!(rt;
+            written,
+            joined(rt.alloc(), want)?,
+            "at {failing_read} {failing_write}"
+        );
+        assert_eq!(rt; status, want_status, "at {failing_read} {failing_write}");
     }
     Ok(())
 }

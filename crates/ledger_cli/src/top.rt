@@ -82,7 +82,7 @@ fn run_dry<S: Source, K: Sink>(
     ensures started { result ≢ Ending.Usage }
 {
     match Ledger::found(alloc, genesis) {
-        Ok(ledger) => run_script(alloc, &ledger, source, sink),
+        Ok(mut ledger) => run_script(alloc, &mut ledger, source, sink),
         Err(NoMemory) => Ending::NoMemory,
     }
 }

@@ -1,37 +1,33 @@
-use Rattle.std.proofs.Common.{◌+◌, ap, ◌∙◌, subst}
-use Rattle.std.specs.Io.KnownBytes.{Appends}
-use Rattle.ledger_model.specs.InOrder.{step_of}
-use Rattle.ledger_model.specs.Texts.{step_text}
-use Rattle.ledger_model.specs.Windows.{numbered}
-use Rattle.ledger_cli.proofs.EndLaws.{sofar_more, served_done, served_error, served_memory, served_write}
-use Rattle.ledger_cli.proofs.SessionLaws.{sofar_none, line_smaller}
+use Rattle.ledger_cli.proofs.EndLaws.{sofar_begins, some_wait, sofar_waits, sofar_written, served_done, served_error, served_memory, served_halt}
+use Rattle.ledger_cli.proofs.ReadingLaws.{line_smaller}
 use Rattle.ledger_cli.proofs.session.run_script.Goals as goal
+use Rattle.ledger_cli.proofs.session.run_script.Goals.{then-is_settled+in-Ok-write_dues, else-is_settled}
 
 pub loop-line-init : goal.loop-line-init
-loop-line-init g c = sofar_none c.args.ledger.now _ c.new-lines.result c.new-lines.ensures
+loop-line-init g c = sofar_begins c.args.ledger.now c.requires _ c.new-lines.result _ _ _ c.new-lines.ensures c.new-window.ensures.lines c.new-window.ensures.bytes c.new-dues.ensures.items
 
 pub returns-in-Ok-None-clause-served : goal.returns-in-Ok-None-clause-served
 returns-in-Ok-None-clause-served g c =
     let e = rw c.in-Ok-None.field-0-is at c.in-Ok-None.ensures in
-    served_done c.args.ledger.now _ _ _ c.loop-line.lines _ e.0 c.loop-line.index c.loop-line.invariant e.1 e.2
+    served_done c.args.ledger.now _ _ _ c.loop-line.lines _ e.0 c.loop-line.index _ _ _ _ c.loop-line.invariant e.1 _ _ e.2 c.end_script.ensures
 
 pub returns-in-Err-clause-served : goal.returns-in-Err-clause-served
 returns-in-Err-clause-served g c =
     let e = c.in-Err.ensures in
-    rw c.ending_of.ensures (served_error c.args.ledger.now _ _ _ c.loop-line.lines _ e.0 c.loop-line.index c.in-Err.error c.loop-line.invariant e.1 e.2)
+    let end = rw c.ending_of.ensures at c.end_script-in-Err.ensures in
+    served_error c.args.ledger.now _ _ _ c.loop-line.lines _ e.0 c.loop-line.index _ _ _ _ c.loop-line.invariant e.1 _ c.in-Err.error _ e.2 end
 
-pub returns-in-Err-set_answer-clause-served : goal.returns-in-Err-set_answer-clause-served
-returns-in-Err-set_answer-clause-served g c =
+pub returns-in-Err-take_in_window-clause-served : goal.returns-in-Err-take_in_window-clause-served
+returns-in-Err-take_in_window-clause-served g c =
     let e = rw c.in-Ok-Some.field-0-is at c.in-Ok-Some.ensures in
-    served_memory c.args.ledger.now _ _ _ c.loop-line.lines _ e.0 c.in-Ok-Some.line c.loop-line.index c.loop-line.invariant e.1 e.2
+    served_memory c.args.ledger.now _ _ _ c.loop-line.lines _ e.0 c.loop-line.index _ _ _ _ c.loop-line.invariant e.1 c.in-Ok-Some.line e.2
 
-pub returns-in-Err-write_all-clause-served : goal.returns-in-Err-write_all-clause-served
-returns-in-Err-write_all-clause-served g c =
+pub returns-in-Err-write_dues-clause-served : goal.returns-in-Err-write_dues-clause-served
+returns-in-Err-write_dues-clause-served g c =
     let e = rw c.in-Ok-Some.field-0-is at c.in-Ok-Some.ensures in
-    let h = c.args.ledger.now in
-    let text = c.as_slice-in-loop-line.ensures.value ∙ c.in-Ok.ensures ∙ ap (λ line. step_text h h (step_of (numbered (c.loop-line.index + 1) line))) c.as_slice.ensures in
-    served_write h c.requires _ _ _ _ c.loop-line.lines _ e.0 c.in-Ok-Some.line _ c.loop-line.index c.in-Err-write_all.field-0 c.loop-line.invariant e.1 e.2 text
-    c.in-Err-write_all.ensures.taken c.in-Err-write_all.ensures.cause c.write_all.ensures.later c.write_all.ensures.idle_later
+    let taken = rw c.as_slice.ensures at c.in-Ok.ensures.taken in
+    rw c.ending_at.ensures (served_halt c.args.ledger.now _ _ _ c.loop-line.lines _ e.0 c.loop-line.index _ _ _ _ c.loop-line.invariant e.1 c.in-Ok-Some.line e.2
+    _ _ _ _ taken (c.is_settled.ensures.0 c.if-is_settled.true) _ _ c.in-Err-write_dues.halt c.in-Err-write_dues.ensures)
 
 pub loop-line-smaller : goal.loop-line-smaller
 loop-line-smaller g c =
@@ -41,7 +37,12 @@ loop-line-smaller g c =
 pub loop-line-preserved : goal.loop-line-preserved
 loop-line-preserved g c =
     let e = rw c.in-Ok-Some.field-0-is at c.in-Ok-Some.ensures in
-    let h = c.args.ledger.now in
-    let text = c.as_slice-in-loop-line.ensures.value ∙ c.in-Ok.ensures ∙ ap (λ line. step_text h h (step_of (numbered (c.loop-line.index + 1) line))) c.as_slice.ensures in
-    sofar_more h c.requires _ _ _ _ c.loop-line.lines _ e.0 c.in-Ok-Some.line c.loop-line.index c.loop-line.invariant e.1 e.2
-    (subst (Appends _ _) text c.in-Ok-write_all.ensures.ok) c.write_all.ensures.later c.write_all.ensures.idle_later
+    let taken = rw c.as_slice.ensures at c.in-Ok.ensures.taken in
+    elim c.if-is_settled.branch [
+      | then-is_settled+in-Ok-write_dues w ↦
+          rw (w.sink-is, w.dues-is) (sofar_written c.args.ledger.now _ _ _ c.loop-line.lines _ e.0 c.loop-line.index _ _ _ _ c.loop-line.invariant e.1 c.in-Ok-Some.line e.2
+          _ _ _ _ taken (c.is_settled.ensures.0 w.if-is_settled.true) _ _ w.in-Ok-write_dues.ensures)
+      | else-is_settled w ↦
+          rw (w.sink-is, w.dues-is) (sofar_waits c.args.ledger.now _ _ _ c.loop-line.lines _ e.0 c.loop-line.index _ _ _ _ c.loop-line.invariant e.1 c.in-Ok-Some.line e.2
+          _ _ _ _ taken (some_wait c.take_in_window.new.ledger _ c.is_settled.ensures w.if-is_settled.false))
+    ]

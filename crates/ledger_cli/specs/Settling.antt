@@ -1,0 +1,52 @@
+-- How a session takes lines and writes what is due.
+use Rattle.std.specs.Prelude.{◌≡◌, ℕ, ◌+◌, ◌-◌, ◌<◌, ◌≤◌, ◌⊎◌, if◌then◌else◌, List, [], ◌∷◌, ◌++◌, length, take, Result, Ok, Err}
+use Rattle.std.specs.Io.KnownBytes.{Appends}
+use Rattle.ledger_bytes.specs.Causes.{Rose}
+use Rattle.ledger_io.specs.Outside.{SinkState}
+use Rattle.ledger_model.specs.Dues.{due_for, dues_text}
+use Rattle.ledger_model.specs.History.{History, size, root, close}
+use Rattle.ledger_model.specs.InOrder.{step_of}
+use Rattle.ledger_model.specs.Rules.{after_step}
+use Rattle.ledger_model.specs.Windows.{Said, is_full}
+use Rattle.ledger_model.specs.declared.due.Due.{Due}
+use Rattle.ledger_cli.specs.declared.ending.Ending.{Ending}
+use Rattle.ledger_cli.specs.declared.ending.Ending.TheVariants as ending
+use Rattle.ledger_cli.specs.declared.session.Halt.{Halt}
+use Rattle.ledger_cli.specs.declared.session.Halt.TheVariants.{NoMemory, WriteFault}
+
+-- what is due where the last block of a history has ended
+abbrev pub settled_text : History → List Due → List ℕ
+settled_text h dues = dues_text (length h.closed - 1) (size h) (root h (size h)) dues
+
+-- how far the writing of what is due came
+abbrev pub Wrote : List ℕ → List Due → SinkState → SinkState → Result (Unit {0}) Halt → Type 0
+Wrote text dues before after (Ok done) = Appends before.held after.held text × (dues ≡ [])
+Wrote text dues before after (Err NoMemory) = after ≡ before
+Wrote text dues before after (Err WriteFault) =
+    ((taken : ℕ) × (taken < length text) × Appends before.held after.held (take taken text)) × (Rose before.faults after.faults ⊎ Rose before.idles after.idles)
+
+-- what is due is written
+pub record WritesDues (h : History) (old new : List Due) (before after : SinkState) (result : Result (Unit {0}) Halt) : Type 0 where
+  pub wrote : Wrote (settled_text h old) new before after result
+  pub later : before.faults ≤ after.faults
+  pub idle_later : before.idles ≤ after.idles
+
+-- how a session ends that was to end so: what is due in the history with its last block ended is written, or it isn't
+pub record EndsScript (h : History) (dues : List Due) (before after : SinkState) (asked got : Ending) : Type 0 where
+  pub ended : ((got ≡ asked) × Appends before.held after.held (settled_text h dues))
+      ⊎ (((got ≡ ending.NoMemory) × (after ≡ before))
+      ⊎ ((got ≡ ending.WriteFault) × (((taken : ℕ) × (taken < length (settled_text h dues)) × Appends before.held after.held (take taken (settled_text h dues))) × (Rose before.faults after.faults ⊎ Rose before.idles after.idles))))
+  pub later : before.faults ≤ after.faults
+  pub idle_later : before.idles ≤ after.idles
+
+-- the history after a line, whose window it may end
+abbrev pub after_line : History → ℕ → ℕ → Said → History
+after_line h lines bytes x =
+    if is_full (lines + 1) (bytes + length x.line) then close (after_step h (step_of x)) else after_step h (step_of x)
+
+-- a line is taken, where the window at hand has so many lines and bytes
+pub record Takes (old new : History) (old_dues new_dues : List Due) (old_lines old_bytes new_lines new_bytes : ℕ) (x : Said) : Type 0 where
+  pub ledger : new ≡ after_line old old_lines old_bytes x
+  pub dues : new_dues ≡ old_dues ++ due_for old (step_of x) ∷ []
+  pub lines : new_lines ≡ (if is_full (old_lines + 1) (old_bytes + length x.line) then 0 else old_lines + 1)
+  pub bytes : new_bytes ≡ (if is_full (old_lines + 1) (old_bytes + length x.line) then 0 else old_bytes + length x.line)

@@ -1,0 +1,47 @@
+ghost use Rattle.std.specs.Prelude.{◌≡◌, ◌-◌, ◌++◌, ◌∷◌, [], length, OnOk, OnErr};
+ghost use Rattle.ledger_model.specs.Dues.{due_text, dues_text};
+ghost use Rattle.ledger_model.specs.History.{size, root};
+
+use crate::ledger::Ledger;
+use ledger_bytes::{Digest, NoMemory};
+use ledger_model::{Answer, Due};
+use script_lines::{Reply, put_reply};
+
+/// The lines that are due, where the last block of the ledger has ended, in a buffer that is used again.
+pub(crate) fn set_dues(text: &mut Vec<u8>, ledger: &Ledger, dues: &[Due]) -> Result<(), NoMemory>
+    ensures { OnOk result (text.new.items ≡ dues_text (length ledger.now.closed - 1) (size ledger.now) (root ledger.now (size ledger.now)) dues.now) }
+{
+    text.clear();
+    let block = ledger.blocks().saturating_sub(1);
+    let size = ledger.size();
+    let root = ledger.root();
+    for due in dues {
+        put_due(text, due, block, size, &root)?;
+    }
+    Ok(())
+}
+
+// The line that is due, where its block has this number, and ends at this size with this root.
+fn put_due(
+    text: &mut Vec<u8>,
+    due: &Due,
+    block: u64,
+    size: u64,
+    root: &Digest,
+) -> Result<(), NoMemory>
+    ensures { OnOk result (text.new.items ≡ text.old.items ++ due_text block size root.now.0 due.now) }
+{
+    match &due.answer {
+        Answer::Reply(reply) => put_reply(text, due.lane, due.index, reply),
+        Answer::Receipt { jsn, leaf } => {
+            let reply = Reply::Placed {
+                jsn: *jsn,
+                leaf: *leaf,
+                block,
+                size,
+                root: *root,
+            };
+            put_reply(text, due.lane, due.index, &reply)
+        }
+    }
+}
