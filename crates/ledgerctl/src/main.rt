@@ -6,6 +6,7 @@ use ledger_bytes::NoMemory;
 use ledger_cli::{Ending, finish, ledger_top};
 use ledger_io::{StdSink, StdSource};
 use std::env;
+use std::io::ErrorKind;
 use std::process::ExitCode;
 use std::rt::Env;
 
@@ -21,10 +22,13 @@ fn main(rt: HostRuntime) -> ExitCode {
 // The words after the program's name. Where one is no text there are none, which is a faulty command line too.
 fn words(rt: &(impl Env + AllocGlobal)) -> Result<Vec<String>, NoMemory> {
     let mut words = Vec::new(rt.alloc());
-    if let Ok(all) = env::args(rt) {
-        for word in all.skip(1) {
-            words.push(word)?;
-        }
+    let all = match env::args(rt) {
+        Ok(all) => all,
+        Err(error) if error.kind() == ErrorKind::OutOfMemory => return Err(NoMemory),
+        Err(_) => return Ok(words),
+    };
+    for word in all.skip(1) {
+        words.push(word)?;
     }
     Ok(words)
 }
