@@ -1,7 +1,7 @@
 -- The text of each reply.
 use Rattle.std.specs.Prelude.{ℕ, List, [], ◌∷◌, ◌++◌, codes, decimal}
 use Rattle.ledger_bytes.specs.declared.refusal.Refusal.{Refusal}
-use Rattle.ledger_bytes.specs.declared.refusal.Refusal.TheVariants.{BadVerb, UnknownMember, WrongKey}
+use Rattle.ledger_bytes.specs.declared.refusal.Refusal.TheVariants.{BadVerb, BadField, BadLane, Damaged, UnknownMember, WrongKey, MissingApproval, ApprovalOrder, MemberNumber, MembersFull, NoJournal, Purged, NotData, NotTime, AlreadyOcculted, LeafDiffers, RootDiffers, NotaryFault, NotaryFull, Full, BadSize, CluesFull}
 use Rattle.script_lines.specs.declared.reply.Reply.{Reply}
 use Rattle.script_lines.specs.declared.reply.Reply.TheVariants.{Placed, Head, Refused}
 use Rattle.script_lines.specs.Words.{hex_of, spaced}
@@ -9,8 +9,27 @@ use Rattle.script_lines.specs.Words.{hex_of, spaced}
 -- a refusal's code and the fields that are printed behind it
 abbrev pub refusal_words : Refusal → List (List ℕ)
 refusal_words BadVerb = decimal 10 ∷ []
+refusal_words (BadField column) = decimal 11 ∷ decimal column ∷ []
+refusal_words BadLane = decimal 12 ∷ []
+refusal_words (Damaged kept found) = decimal 13 ∷ hex_of kept ∷ hex_of found ∷ []
 refusal_words (UnknownMember member) = decimal 14 ∷ decimal member ∷ []
 refusal_words (WrongKey member) = decimal 15 ∷ decimal member ∷ []
+refusal_words (MissingApproval member) = decimal 16 ∷ decimal member ∷ []
+refusal_words (ApprovalOrder at) = decimal 17 ∷ decimal at ∷ []
+refusal_words (MemberNumber next) = decimal 18 ∷ decimal next ∷ []
+refusal_words MembersFull = decimal 19 ∷ []
+refusal_words (NoJournal size) = decimal 20 ∷ decimal size ∷ []
+refusal_words (Purged point) = decimal 21 ∷ decimal point ∷ []
+refusal_words (NotData kind) = decimal 22 ∷ decimal kind ∷ []
+refusal_words (NotTime kind) = decimal 23 ∷ decimal kind ∷ []
+refusal_words (AlreadyOcculted by) = decimal 24 ∷ decimal by ∷ []
+refusal_words (LeafDiffers kept) = decimal 25 ∷ hex_of kept ∷ []
+refusal_words (RootDiffers kept) = decimal 26 ∷ hex_of kept ∷ []
+refusal_words NotaryFault = decimal 27 ∷ []
+refusal_words NotaryFull = decimal 28 ∷ []
+refusal_words (Full kept size) = decimal 29 ∷ decimal kept ∷ decimal size ∷ []
+refusal_words (BadSize size) = decimal 33 ∷ decimal size ∷ []
+refusal_words CluesFull = decimal 42 ∷ []
 
 -- the words of a reply
 abbrev pub reply_words : Reply → List (List ℕ)

@@ -1,7 +1,7 @@
 ghost use Rattle.std.specs.Prelude.{◌≡◌, [], ◌∷◌, ◌++◌, codes, decimal, IfOk, OnOk, OnErr};
 ghost use Rattle.script_lines.specs.Begins.{BeginsWith};
 ghost use Rattle.script_lines.specs.Replies as spec;
-ghost use Rattle.script_lines.specs.Words.{spaced};
+ghost use Rattle.script_lines.specs.Words.{hex_of, spaced};
 
 use crate::words::{Word, put_number, put_words};
 use ledger_bytes::{Bytes, Digest, NoMemory, Refusal};
@@ -131,13 +131,55 @@ fn put_refusal(out: &mut Vec<u8>, refusal: &Refusal) -> Result<(), NoMemory>
     ensures err { OnErr result (BeginsWith out.old.items out.new.items) }
 {
     match refusal {
-        Refusal::BadVerb => put_words(out, &[Word::Text(b"no"), Word::Number(10)]),
-        Refusal::UnknownMember { member } => put_numbered(out, 14, *member),
-        Refusal::WrongKey { member } => put_numbered(out, 15, *member),
+        Refusal::BadVerb => put_code(out, 10),
+        Refusal::BadField { column } => put_numbered(out, 11, u64::from(*column)),
+        Refusal::BadLane => put_code(out, 12),
+        Refusal::Damaged { kept, found } => put_words(
+            out,
+            &[
+                Word::Text(b"no"),
+                Word::Number(13),
+                Word::Hash(*kept),
+                Word::Hash(*found),
+            ],
+        ),
+        Refusal::UnknownMember { member } => put_numbered(out, 14, u64::from(*member)),
+        Refusal::WrongKey { member } => put_numbered(out, 15, u64::from(*member)),
+        Refusal::MissingApproval { member } => put_numbered(out, 16, u64::from(*member)),
+        Refusal::ApprovalOrder { at } => put_numbered(out, 17, u64::from(*at)),
+        Refusal::MemberNumber { next } => put_numbered(out, 18, u64::from(*next)),
+        Refusal::MembersFull => put_code(out, 19),
+        Refusal::NoJournal { size } => put_numbered(out, 20, *size),
+        Refusal::Purged { point } => put_numbered(out, 21, *point),
+        Refusal::NotData { kind } => put_numbered(out, 22, u64::from(*kind)),
+        Refusal::NotTime { kind } => put_numbered(out, 23, u64::from(*kind)),
+        Refusal::AlreadyOcculted { by } => put_numbered(out, 24, *by),
+        Refusal::LeafDiffers { kept } => put_hashed(out, 25, kept),
+        Refusal::RootDiffers { kept } => put_hashed(out, 26, kept),
+        Refusal::NotaryFault => put_code(out, 27),
+        Refusal::NotaryFull => put_code(out, 28),
+        Refusal::Full { kept, size } => put_words(
+            out,
+            &[
+                Word::Text(b"no"),
+                Word::Number(29),
+                Word::Number(*kept),
+                Word::Number(*size),
+            ],
+        ),
+        Refusal::BadSize { size } => put_numbered(out, 33, *size),
+        Refusal::CluesFull => put_code(out, 42),
     }
 }
 
-fn put_numbered(out: &mut Vec<u8>, code: u64, number: u32) -> Result<(), NoMemory>
+fn put_code(out: &mut Vec<u8>, code: u64) -> Result<(), NoMemory>
+    ensures ok { OnOk result (out.new.items ≡ out.old.items ++ spaced (codes "no" ∷ decimal code ∷ [])) }
+    ensures err { OnErr result (BeginsWith out.old.items out.new.items) }
+{
+    put_words(out, &[Word::Text(b"no"), Word::Number(code)])
+}
+
+fn put_numbered(out: &mut Vec<u8>, code: u64, number: u64) -> Result<(), NoMemory>
     ensures ok { OnOk result (out.new.items ≡ out.old.items ++ spaced (codes "no" ∷ decimal code ∷ decimal number ∷ [])) }
     ensures err { OnErr result (BeginsWith out.old.items out.new.items) }
 {
@@ -146,8 +188,18 @@ fn put_numbered(out: &mut Vec<u8>, code: u64, number: u32) -> Result<(), NoMemor
         &[
             Word::Text(b"no"),
             Word::Number(code),
-            Word::Number(u64::from(number)),
+            Word::Number(number),
         ],
+    )
+}
+
+fn put_hashed(out: &mut Vec<u8>, code: u64, digest: &Digest) -> Result<(), NoMemory>
+    ensures ok { OnOk result (out.new.items ≡ out.old.items ++ spaced (codes "no" ∷ decimal code ∷ hex_of digest.now ∷ [])) }
+    ensures err { OnErr result (BeginsWith out.old.items out.new.items) }
+{
+    put_words(
+        out,
+        &[Word::Text(b"no"), Word::Number(code), Word::Hash(*digest)],
     )
 }
 
