@@ -4,16 +4,17 @@ use Rattle.std.specs.Prelude.{All, ◌↔◌}
 use Rattle.std.specs.Io.KnownBytes.{Consumes, Appends, IsAtEnd}
 use Rattle.std.proofs.KnownBytes.{Consumes-trans, Appends-nil, Appends-trans}
 use Rattle.std.proofs.lemmas.List.{take-append-drop, length-take-le}
+use Rattle.ledger_bytes.specs.Begins.{Begins}
 use Rattle.ledger_bytes.specs.Causes.{Rose}
 use Rattle.ledger_io.specs.Outside.{SourceState, SinkState}
 use Rattle.ledger_io.specs.Lines.{lines_of, broken, IsLine, BeginsTooLong}
 use Rattle.ledger_io.specs.Reading.{Reading, Reads, GivesLine, GivesNone, Fails, Gives}
 use Rattle.ledger_io.specs.declared.failure.LineErr.{LineErr}
 use Rattle.ledger_io.specs.declared.failure.LineErr.TheVariants.{ReadFault, LineTooLong, ScriptTooLong, NoMemory}
-use Rattle.ledger_io.proofs.LineLemmas.{lines_of-broken}
+use Rattle.ledger_io.proofs.ReadingLaws.{HasGiven, read_none, read_more, first_lines, some_length, given_all, given_first, given_split, given_consumed, given_later}
 use Rattle.ledger_model.specs.History.{History, close}
 use Rattle.ledger_model.specs.InOrder.{steps_of}
-use Rattle.ledger_model.specs.Merge.{Begins, IsMerge, IsPartialMerge}
+use Rattle.ledger_model.specs.Merge.{IsMerge, IsPartialMerge}
 use Rattle.ledger_model.specs.Step.{Step}
 use Rattle.ledger_model.specs.Texts.{text}
 use Rattle.ledger_model.specs.Windows.{said, windows, numbered}
@@ -26,13 +27,12 @@ use Rattle.ledger_cli.specs.declared.session.Halt.TheVariants as halt
 use Rattle.ledger_cli.specs.Endings.{ending_of, halt_of}
 use Rattle.ledger_cli.specs.Runs.{Outside, outside, Served, AnswersEnded, Replies, Causes}
 use Rattle.ledger_cli.specs.Settling.{settled_text, WritesDues, EndsScript, Takes}
-use Rattle.ledger_cli.proofs.ReadingLaws.{HasRead, read_none, read_more, first_lines, read_on, unbroken, some_length}
 use Rattle.ledger_cli.proofs.SessionLaws.{Progress, progress_none, progress_waits, progress_written, owed_line, owed_end, front, answered_is, answered_part}
 
 -- how far a session came: this many lines were taken, and what was written of their replies
 pub record SoFar (h : History) (before now : Outside) (reading : Reading) (count lines bytes : ℕ) (ledger : History) (ds : List Due) : Type 0 where
   pub script : List (List ℕ)
-  pub input : HasRead before.source now.source reading script
+  pub input : HasGiven before.source now.source reading script
   pub written : List ℕ
   pub progress : Progress h script written lines bytes ledger ds
   pub appended : Appends before.sink.held now.sink.held written
@@ -130,10 +130,10 @@ module _ (h : History) (before now : Outside) (source : SourceState) (old new : 
   read = s.input.read ++ bytes
 
   consumed : Consumes before.source.left source.left read
-  consumed = Consumes-trans before.source.left now.source.left source.left s.input.read bytes s.input.consumed r.consumed
+  consumed = given_consumed before.source now.source source old new bytes s.script s.input r
 
   later : before.source.faults ≤ source.faults
-  later = omega (arith, s.input.later, r.later)
+  later = given_later before.source now.source source old new bytes s.script s.input r
 
   -- a session that was to end so, and what came of writing what was due
   module _ (sink : SinkState) (asked got : Ending) (e : EndsScript (close ledger) ds now.sink sink asked got)
@@ -182,21 +182,10 @@ module _ (h : History) (before now : Outside) (source : SourceState) (old new : 
           ]
         ]
 
-  -- where the source has ended, the lines that were taken are all lines
-  ended_lines : GivesNone now.source source old new bytes → (lines_of read ≡ s.script) × IsAtEnd source.left
-  ended_lines g =
-      elim g.cause [
-        | inl end ↦ (ap lines_of (read_on before.source now.source old s.script bytes s.input end.0 ∙ ap (λ x. broken s.script ++ x) g.given) ∙ lines_of-broken s.script [] (unbroken s.script s.input.each) ∙ append-nil s.script, end.1)
-        | inr again ↦ (
-          ap lines_of (ap (λ x. s.input.read ++ x) again.1.none ∙ append-nil s.input.read) ∙ s.input.ended again.0,
-          subst (λ (k : SourceState). IsAtEnd k.left) (sym again.1.source) (s.input.at_end again.0),
-        )
-      ]
-
   -- the session ends with its script
   pub served_done : (sink : SinkState) (got : Ending) → GivesNone now.source source old new bytes → EndsScript (close ledger) ds now.sink sink ending.Done got → Served h got before (outside source sink)
   served_done sink got g e =
-      let end = ended_lines g in
+      let end = given_all before.source now.source source old new bytes s.script s.input r g in
       let few : length read < 2 ^ 40 = omega (arith, g.short, r.total, s.input.total, length-append s.input.read bytes) in
       let replied : Replies h ending.Done read (steps_for s.script) (text h (steps_for s.script)) =
       subst (λ all. All IsLine all × ((IsMerge (windows (said all)) (steps_for s.script)) × (text h (steps_for s.script) ≡ text h (steps_for s.script)))) (sym end.0) (s.input.each, (merges (windows (said s.script)), refl)) in
@@ -207,17 +196,14 @@ module _ (h : History) (before now : Outside) (source : SourceState) (old new : 
   answers_ended error IsRest f rest = record {
     lines = s.script;
     rest = new.held;
-    split = record { is = read_on before.source now.source old s.script bytes s.input f.unended ∙ ap (λ x. broken s.script ++ x) (sym f.held); each = s.input.each };
+    split = given_split before.source now.source source old new bytes s.script s.input r error f;
     fault = rest;
     answers = (merges (windows (said s.script)), refl);
   }
 
   -- .. and are the first of all
   first_answered : old.ended ≡ false → Begins s.script (lines_of read)
-  first_answered e = record {
-    rest = lines_of (old.held ++ bytes);
-    is = ap lines_of (read_on before.source now.source old s.script bytes s.input e) ∙ lines_of-broken s.script (old.held ++ bytes) (unbroken s.script s.input.each);
-  }
+  first_answered = given_first before.source now.source source old new bytes s.script s.input r
 
   served_failed : (sink : SinkState) (error : LineErr) (got : Ending) → Fails now.source source old new bytes error → EndsScript (close ledger) ds now.sink sink (ending_of error) got → Served h got before (outside source sink)
   served_failed sink ReadFault got f e =
@@ -242,7 +228,7 @@ module _ (h : History) (before now : Outside) (source : SourceState) (old new : 
 
   -- a line is given
   module _ (line : List ℕ) (g : GivesLine source old new bytes line) where
-    more : HasRead before.source source new (s.script ++ line ∷ [])
+    more : HasGiven before.source source new (s.script ++ line ∷ [])
     more = read_more before.source now.source source old new bytes line s.script s.input r g
 
     all : Begins (s.script ++ line ∷ []) (lines_of more.read)

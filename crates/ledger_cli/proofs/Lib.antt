@@ -3,7 +3,6 @@ pub mod KeptLaws
 pub mod JobLaws
 pub mod ApplyLaws
 pub mod SettlingLaws
-pub mod ReadingLaws
 pub mod SessionLaws
 pub mod EndLaws
 pub mod TopLaws

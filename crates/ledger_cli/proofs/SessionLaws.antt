@@ -4,7 +4,8 @@ use Rattle.std.proofs.lemmas.List.{map-append, take-map, take_at, take-append-dr
 use Rattle.ledger_model.specs.Dues.{due_for, dues}
 use Rattle.ledger_model.specs.History.{History, close}
 use Rattle.ledger_model.specs.InOrder.{step_of, steps_of}
-use Rattle.ledger_model.specs.Merge.{Begins, IsPartialMerge}
+use Rattle.ledger_bytes.specs.Begins.{Begins}
+use Rattle.ledger_model.specs.Merge.{IsPartialMerge}
 use Rattle.ledger_model.specs.Rules.{after_step, after_steps, after_window}
 use Rattle.ledger_model.specs.Step.{Step}
 use Rattle.ledger_model.specs.Texts.{steps_text, window_text, text}

@@ -6,15 +6,13 @@ use Rattle.std.proofs.KnownBytes.{Consumes-nil, Appends-nil, Appends-trans}
 use Rattle.std.proofs.lemmas.List.{take-append-drop}
 use Rattle.ledger_bytes.specs.Causes.{Rose}
 use Rattle.ledger_io.specs.Outside.{SourceState, SinkState}
-use Rattle.ledger_io.specs.Writing.{WritesFirst}
-use Rattle.ledger_io.specs.declared.writer.WriteErr.{WriteErr}
-use Rattle.ledger_io.specs.declared.writer.WriteErr.TheVariants as write_err
+use Rattle.ledger_io.specs.Writing.{WritesLast}
 use Rattle.ledger_model.specs.History.{History}
 use Rattle.ledger_model.specs.Notary.{IsAttended}
 use Rattle.ledger_cli.specs.declared.ending.Ending.{Ending}
 use Rattle.ledger_cli.specs.declared.ending.Ending.TheVariants.{NoMemory}
 use Rattle.ledger_cli.specs.Endings.{last_line}
-use Rattle.ledger_cli.specs.Runs.{Outside, outside, Served, Ran, WritesLast}
+use Rattle.ledger_cli.specs.Runs.{Outside, outside, Served, Ran}
 use Rattle.ledger_cli.proofs.EndLaws.{causes_later}
 
 nothing_attended : IsAttended [] [] 0 []
@@ -35,28 +33,6 @@ served_unstarted h before = record {
   sink_later = omega arith;
   idle_later = omega arith;
 }
-
-last_part : (line : List ℕ) (before after : SinkState) (error : WriteErr) → WritesFirst before.held after.held line error → Rose before.faults after.faults ⊎ Rose before.idles after.idles → before.faults ≤ after.faults → before.idles ≤ after.idles → WritesLast line before after
-last_part line before after (write_err.WriteFault taken) first cause f i = record {
-  last = take taken line;
-  appended = first.1;
-  front = record { rest = drop taken line; is = sym (take-append-drop taken line) };
-  whole = inr cause;
-  later = f;
-  idle_later = i;
-}
-
--- writing a line comes to that
-pub last_written : (line : List ℕ) (before after : SinkState) (result : Result (Unit {0}) WriteErr) → OnOk result (Appends before.held after.held line) → IfErr result (WritesFirst before.held after.held line) → OnErr result (Rose before.faults after.faults ⊎ Rose before.idles after.idles) → before.faults ≤ after.faults → before.idles ≤ after.idles → WritesLast line before after
-last_written line before after (Ok done) appended first cause f i = record {
-  last = line;
-  appended = appended;
-  front = record { rest = []; is = sym (append-nil line) };
-  whole = inl refl;
-  later = f;
-  idle_later = i;
-}
-last_written line before after (Err error) appended first cause f i = last_part line before after error first cause f i
 
 -- a session and its last line are a run
 pub ran_written : (h : History) (end : Ending) (before : Outside) (source : SourceState) (mid after : SinkState) → Served h end before (outside source mid) → WritesLast (last_line end) mid after → Ran h end before (outside source after)

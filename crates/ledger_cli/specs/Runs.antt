@@ -2,12 +2,14 @@
 use Rattle.std.specs.Prelude.{◌≡◌, ℕ, ◌<◌, ◌≤◌, ◌^◌, ◌⊎◌, ◌↔◌, List, [], ◌++◌, length, All, Option, Some, None, ⊤}
 use Rattle.std.specs.List.{flat_map}
 use Rattle.std.specs.Io.KnownBytes.{Consumes, Appends, IsAtEnd}
+use Rattle.ledger_bytes.specs.Begins.{Begins}
 use Rattle.ledger_bytes.specs.Causes.{Rose}
 use Rattle.ledger_io.specs.Outside.{SourceState, SinkState}
-use Rattle.ledger_io.specs.Lines.{lines_of, broken, IsLine, BeginsTooLong}
+use Rattle.ledger_io.specs.Lines.{lines_of, IsLine, BeginsTooLong, Splits}
+use Rattle.ledger_io.specs.Writing.{WritesLast}
 use Rattle.ledger_model.specs.Genesis.{founded}
 use Rattle.ledger_model.specs.History.{History, history}
-use Rattle.ledger_model.specs.Merge.{Begins, IsMerge, IsPartialMerge}
+use Rattle.ledger_model.specs.Merge.{IsMerge, IsPartialMerge}
 use Rattle.ledger_model.specs.Notary.{IsAttended}
 use Rattle.ledger_model.specs.Step.{Step}
 use Rattle.ledger_model.specs.Texts.{text}
@@ -33,11 +35,6 @@ MetWriteFault before after = Rose before.sink.faults after.sink.faults ⊎ Rose 
 -- the steps are a merge of these lines, and what is written is the text of that merge
 abbrev pub Answers : History → List (List ℕ) → List (List Step) → List ℕ → Type 0
 Answers h lines steps replies = IsMerge (windows (said lines)) steps × (replies ≡ text h steps)
-
--- the bytes are these lines, each with its newline, and then a rest without one
-pub record Splits (bytes : List ℕ) (lines : List (List ℕ)) (rest : List ℕ) : Type 0 where
-  pub is : bytes ≡ broken lines ++ rest
-  pub each : All IsLine lines
 
 -- the lines that ended before a fault were answered
 pub record AnswersEnded (h : History) (read : List ℕ) (steps : List (List Step)) (replies : List ℕ) (IsRest : List ℕ → Type 0) : Type 0 where
@@ -92,16 +89,6 @@ pub record Served (h : History) (ending : Ending) (before after : Outside) : Typ
   pub source_later : before.source.faults ≤ after.source.faults
   pub sink_later : before.sink.faults ≤ after.sink.faults
   pub idle_later : before.sink.idles ≤ after.sink.idles
-
--- what came of writing the last line by one attempt: it was written whole, or as far as a fault let it
-pub record WritesLast (line : List ℕ) (before after : SinkState) : Type 0 where
-  pub last : List ℕ
-  pub appended : Appends before.held after.held last
-  pub front : Begins last line
-  pub whole : (last ≡ line) ⊎ (Rose before.faults after.faults ⊎ Rose before.idles after.idles)
-  -- no count of faults fell
-  pub later : before.faults ≤ after.faults
-  pub idle_later : before.idles ≤ after.idles
 
 -- a run on a history, from its first line to the last line that is written
 pub record Ran (h : History) (ending : Ending) (before after : Outside) : Type 0 where

@@ -1,15 +1,16 @@
 ghost use Rattle.std.specs.Prelude.{◌≡◌, ◌≢◌, ◌⊎◌, ◌↔◌, None, map, string_bytes};
 ghost use Rattle.ledger_bytes.specs.Causes.{Rose};
+ghost use Rattle.ledger_io.specs.Writing.{WritesLast};
 ghost use Rattle.ledger_model.specs.Genesis.{founded};
 ghost use Rattle.ledger_cli.specs.Endings.{status_of, last_line};
-ghost use Rattle.ledger_cli.specs.Runs.{RanProgram, Served, WritesLast, outside, start_of};
+ghost use Rattle.ledger_cli.specs.Runs.{RanProgram, Served, outside, start_of};
 ghost use Rattle.ledger_cli.specs.Words.{command_of};
 
 use crate::ledger::Ledger;
 use crate::session::run_script;
 use crate::{Command, Ending};
 use ledger_bytes::NoMemory;
-use ledger_io::{Sink, Source, write_all};
+use ledger_io::{Sink, Source, write_last};
 use ledger_model::Genesis;
 use std::alloc::Global;
 
@@ -49,7 +50,7 @@ pub fn finish<K: Sink>(sink: &mut K, ending: Ending) -> u8
     ensures status { result ≡ status_of ending }
     ensures last { WritesLast (last_line ending) (K.state sink.old) (K.state sink.new) }
 {
-    let _ = write_all(sink, ending.last_line());
+    write_last(sink, ending.last_line());
     ending.status()
 }
 

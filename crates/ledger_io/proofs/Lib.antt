@@ -2,3 +2,5 @@ pub mod Filling
 pub mod LineLemmas
 pub mod Pieces
 pub mod ReadLemmas
+pub mod ReadingLaws
+pub mod WritingLaws

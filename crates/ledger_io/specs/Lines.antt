@@ -47,3 +47,8 @@ pub record BreaksAt (bytes : List ℕ) (i : ℕ) : Type 0 where
   pub unbroken : IsUnbroken (take i bytes)
   pub within : i < length bytes
   pub newline : drop i bytes ≡ 10 ∷ drop (i + 1) bytes
+
+-- the bytes are these lines, each with its newline, and then a rest
+pub record Splits (bytes : List ℕ) (lines : List (List ℕ)) (rest : List ℕ) : Type 0 where
+  pub is : bytes ≡ broken lines ++ rest
+  pub each : All IsLine lines

@@ -16,7 +16,7 @@ pub use failure::LineErr;
 pub use memory::{MemSink, MemSource};
 pub use outside::{Sink, Source};
 pub use reader::{LINE_LIMIT, Lines, SCRIPT_LIMIT};
-pub use writer::{WriteErr, write_all};
+pub use writer::{WriteErr, write_all, write_last};
 
 #[cfg(test)]
 mod tests;

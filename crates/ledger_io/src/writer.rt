@@ -1,7 +1,7 @@
 ghost use Rattle.std.specs.Prelude.{◌≡◌, ◌≤◌, ◌⊎◌, OnOk, OnErr, IfErr};
 ghost use Rattle.std.specs.Io.KnownBytes.{Appends};
 ghost use Rattle.ledger_bytes.specs.Causes.{Rose};
-ghost use Rattle.ledger_io.specs.Writing.{WritesFirst};
+ghost use Rattle.ledger_io.specs.Writing.{WritesFirst, WritesLast};
 
 use crate::Sink;
 use thiserror::Error;
@@ -34,4 +34,11 @@ pub fn write_all<K: Sink>(sink: &mut K, piece: &[u8]) -> Result<(), WriteErr>
         }
     }
     Ok(())
+}
+
+/// Writes the line with which a program ends, by one attempt: nothing is left to do where it fails.
+pub fn write_last<K: Sink>(sink: &mut K, line: &[u8])
+    ensures { WritesLast line.now (K.state sink.old) (K.state sink.new) }
+{
+    let _ = write_all(sink, line);
 }

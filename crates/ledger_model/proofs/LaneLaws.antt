@@ -5,7 +5,8 @@ use Rattle.std.specs.List.{flat_map}
 use Rattle.std.proofs.lemmas.List.Elements.{filter-append}
 use Rattle.ledger_model.specs.Step.{Step}
 use Rattle.ledger_model.specs.InOrder.{step_of, steps_of}
-use Rattle.ledger_model.specs.Merge.{Begins, said_by, picked, lines_of_lane, IsMergeOf, BeginsMergeOf, IsMerge, IsPartialMerge}
+use Rattle.ledger_bytes.specs.Begins.{Begins}
+use Rattle.ledger_model.specs.Merge.{said_by, picked, lines_of_lane, IsMergeOf, BeginsMergeOf, IsMerge, IsPartialMerge}
 use Rattle.ledger_model.specs.Notary.{Linked, failures, IsAttended}
 use Rattle.ledger_model.proofs.WindowLaws.{onto_all, IsCut}
 use Rattle.ledger_model.specs.Windows.{Said, bytes_of, said_after, said, windows_after, windows, onto_first, is_full, lane_of, count_of, numbered}

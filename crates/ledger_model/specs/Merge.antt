@@ -1,12 +1,8 @@
 -- A merge: the steps of all lanes in one order.
 use Rattle.std.specs.Prelude.{◌≡◌, ℕ, ◌==◌, List, [], ◌∷◌, ◌++◌, map, filter, ⊤}
+use Rattle.ledger_bytes.specs.Begins.{Begins}
 use Rattle.ledger_model.specs.Step.{Step}
 use Rattle.ledger_model.specs.Windows.{Said}
-
--- the second list begins with the first
-pub record Begins {A : Type 0} (front whole : List A) : Type 0 where
-  pub rest : List A
-  pub is : whole ≡ front ++ rest
 
 -- the line of a step
 abbrev pub said_by : Step → Said

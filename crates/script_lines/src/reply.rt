@@ -185,11 +185,7 @@ fn put_numbered(out: &mut Vec<u8>, code: u64, number: u64) -> Result<(), NoMemor
 {
     put_words(
         out,
-        &[
-            Word::Text(b"no"),
-            Word::Number(code),
-            Word::Number(number),
-        ],
+        &[Word::Text(b"no"), Word::Number(code), Word::Number(number)],
     )
 }
 

@@ -1,5 +1,5 @@
 use Rattle.ledger_cli.proofs.EndLaws.{sofar_begins, some_wait, sofar_waits, sofar_written, served_done, served_error, served_memory, served_halt}
-use Rattle.ledger_cli.proofs.ReadingLaws.{line_smaller}
+use Rattle.ledger_io.proofs.ReadingLaws.{line_smaller}
 use Rattle.ledger_cli.proofs.session.run_script.Goals as goal
 use Rattle.ledger_cli.proofs.session.run_script.Goals.{then-is_settled+in-Ok-write_dues, else-is_settled}
 

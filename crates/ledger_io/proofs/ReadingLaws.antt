@@ -4,14 +4,15 @@ use Rattle.std.specs.Prelude.{All}
 use Rattle.std.specs.Io.KnownBytes.{Consumes, IsAtEnd}
 use Rattle.std.proofs.KnownBytes.{Consumes-nil, Consumes-trans}
 use Rattle.std.proofs.lemmas.List.Elements.{All-weaker, All-push, All-nil}
+use Rattle.ledger_bytes.specs.Begins.{Begins}
 use Rattle.ledger_io.specs.Outside.{SourceState}
-use Rattle.ledger_io.specs.Lines.{lines_of, broken, IsUnbroken, IsLine, script_limit}
-use Rattle.ledger_io.specs.Reading.{Reading, Reads, GivesLine, IsBrokenOff, IsLast}
+use Rattle.ledger_io.specs.Lines.{lines_of, broken, IsUnbroken, IsLine, Splits, script_limit}
+use Rattle.ledger_io.specs.Reading.{Reading, Reads, GivesLine, GivesNone, IsBrokenOff, IsLast, Fails}
+use Rattle.ledger_io.specs.declared.failure.LineErr.{LineErr}
 use Rattle.ledger_io.proofs.LineLemmas.{lines_of-broken, lines_of-rest, broken-push}
-use Rattle.ledger_model.specs.Merge.{Begins}
 
 -- how far the reading came: these lines were given
-pub record HasRead (before now : SourceState) (reading : Reading) (lines : List (List ℕ)) : Type 0 where
+pub record HasGiven (before now : SourceState) (reading : Reading) (lines : List (List ℕ)) : Type 0 where
   pub read : List ℕ
   pub consumed : Consumes before.left now.left read
   pub each : All IsLine lines
@@ -25,9 +26,9 @@ pub record HasRead (before now : SourceState) (reading : Reading) (lines : List 
   pub later : before.faults ≤ now.faults
 
 -- nothing was read yet
-pub read_none : (before : SourceState) (reading : Reading) → reading ≡ record { held = []; total = 0; ended = false; failed = None } → HasRead before before reading []
+pub read_none : (before : SourceState) (reading : Reading) → reading ≡ record { held = []; total = 0; ended = false; failed = None } → HasGiven before before reading []
 read_none before reading is =
-    let start : HasRead before before (record { held = []; total = 0; ended = false; failed = None }) [] = record {
+    let start : HasGiven before before (record { held = []; total = 0; ended = false; failed = None }) [] = record {
       read = [];
       consumed = Consumes-nil before.left;
       each = All-nil IsLine;
@@ -40,7 +41,7 @@ read_none before reading is =
       few = omega arith;
       later = omega arith;
     } in
-    subst (λ r. HasRead before before r []) (sym is) start
+    subst (λ r. HasGiven before before r []) (sym is) start
 
 -- a line more among the lines that newlines end
 broken_more : (lines : List (List ℕ)) (line held : List ℕ) → broken lines ++ (line ++ 10 ∷ held) ≡ broken (lines ++ line ∷ []) ++ held
@@ -52,11 +53,11 @@ pub unbroken : (lines : List (List ℕ)) → All IsLine lines → All IsUnbroken
 unbroken lines each = All-weaker IsLine IsUnbroken (λ line fits. fits.0) lines each
 
 -- what was read with some bytes more, where the source hasn't ended
-pub read_on : (before now : SourceState) (reading : Reading) (lines : List (List ℕ)) (bytes : List ℕ) (h : HasRead before now reading lines) → reading.ended ≡ false → h.read ++ bytes ≡ broken lines ++ (reading.held ++ bytes)
+pub read_on : (before now : SourceState) (reading : Reading) (lines : List (List ℕ)) (bytes : List ℕ) (h : HasGiven before now reading lines) → reading.ended ≡ false → h.read ++ bytes ≡ broken lines ++ (reading.held ++ bytes)
 read_on before now reading lines bytes h e = ap (λ x. x ++ bytes) (h.unended e) ∙ append_assoc (broken lines) reading.held bytes
 
 -- a line more that a newline ended
-read_broken : (before mid after : SourceState) (old new : Reading) (bytes line : List ℕ) (lines : List (List ℕ)) → HasRead before mid old lines → Reads mid after old new bytes → GivesLine after old new bytes line → IsBrokenOff old new bytes line → HasRead before after new (lines ++ line ∷ [])
+read_broken : (before mid after : SourceState) (old new : Reading) (bytes line : List ℕ) (lines : List (List ℕ)) → HasGiven before mid old lines → Reads mid after old new bytes → GivesLine after old new bytes line → IsBrokenOff old new bytes line → HasGiven before after new (lines ++ line ∷ [])
 read_broken before mid after old new bytes line lines h r g b = record {
   read = h.read ++ bytes;
   consumed = Consumes-trans before.left mid.left after.left h.read bytes h.consumed r.consumed;
@@ -76,7 +77,7 @@ some_length [] none = absurd (none refl)
 some_length (x ∷ xs) some = omega arith
 
 -- a line more that the end of the source ended
-read_last : (before mid after : SourceState) (old new : Reading) (bytes line : List ℕ) (lines : List (List ℕ)) → HasRead before mid old lines → Reads mid after old new bytes → GivesLine after old new bytes line → IsLast after old new bytes line → HasRead before after new (lines ++ line ∷ [])
+read_last : (before mid after : SourceState) (old new : Reading) (bytes line : List ℕ) (lines : List (List ℕ)) → HasGiven before mid old lines → Reads mid after old new bytes → GivesLine after old new bytes line → IsLast after old new bytes line → HasGiven before after new (lines ++ line ∷ [])
 read_last before mid after old new bytes line lines h r g b =
     let some : 0 < length line = some_length line b.some in
     let held : length new.held ≡ 0 = ap length b.none_held in record {
@@ -94,7 +95,7 @@ read_last before mid after old new bytes line lines h r g b =
     }
 
 -- a line more
-pub read_more : (before mid after : SourceState) (old new : Reading) (bytes line : List ℕ) (lines : List (List ℕ)) → HasRead before mid old lines → Reads mid after old new bytes → GivesLine after old new bytes line → HasRead before after new (lines ++ line ∷ [])
+pub read_more : (before mid after : SourceState) (old new : Reading) (bytes line : List ℕ) (lines : List (List ℕ)) → HasGiven before mid old lines → Reads mid after old new bytes → GivesLine after old new bytes line → HasGiven before after new (lines ++ line ∷ [])
 read_more before mid after old new bytes line lines h r g =
     elim g.rest [
       | inl b ↦ read_broken before mid after old new bytes line lines h r g b
@@ -102,7 +103,7 @@ read_more before mid after old new bytes line lines h r g =
     ]
 
 -- the lines that were given are the first of all that were read
-pub first_lines : (before now : SourceState) (reading : Reading) (lines : List (List ℕ)) (h : HasRead before now reading lines) → Begins lines (lines_of h.read)
+pub first_lines : (before now : SourceState) (reading : Reading) (lines : List (List ℕ)) (h : HasGiven before now reading lines) → Begins lines (lines_of h.read)
 first_lines before now reading lines h =
     elim reading.ended as (λ e. reading.ended ≡ e → Begins lines (lines_of h.read)) [
       | true ↦ λ e. record { rest = []; is = h.ended e ∙ sym (append-nil lines) }
@@ -119,3 +120,33 @@ line_smaller mid after old new bytes line r g =
   where
     last_smaller : IsLast after old new bytes line → length new.held ≡ 0 → 0 < length line → 2 * (script_limit - new.total) + length new.held < 2 * (script_limit - old.total) + length old.held
     last_smaller b none some = omega (arith, r.total, r.bounded, none, some, length-append old.held bytes, ap length b.given)
+
+-- a call of `next` behind the lines that were given
+module _ (before mid after : SourceState) (old new : Reading) (bytes : List ℕ) (lines : List (List ℕ)) (h : HasGiven before mid old lines) (r : Reads mid after old new bytes) where
+  pub given_consumed : Consumes before.left after.left (h.read ++ bytes)
+  given_consumed = Consumes-trans before.left mid.left after.left h.read bytes h.consumed r.consumed
+
+  pub given_later : before.faults ≤ after.faults
+  given_later = omega (arith, h.later, r.later)
+
+  -- where the source has ended, the lines that were given are all lines
+  pub given_all : GivesNone mid after old new bytes → (lines_of (h.read ++ bytes) ≡ lines) × IsAtEnd after.left
+  given_all g =
+      elim g.cause [
+        | inl end ↦ (ap lines_of (read_on before mid old lines bytes h end.0 ∙ ap (λ x. broken lines ++ x) g.given) ∙ lines_of-broken lines [] (unbroken lines h.each) ∙ append-nil lines, end.1)
+        | inr again ↦ (
+          ap lines_of (ap (λ x. h.read ++ x) again.1.none ∙ append-nil h.read) ∙ h.ended again.0,
+          subst (λ (k : SourceState). IsAtEnd k.left) (sym again.1.source) (h.at_end again.0),
+        )
+      ]
+
+  -- at an error, what was read is the lines that were given and what is held
+  pub given_split : (error : LineErr) → Fails mid after old new bytes error → Splits (h.read ++ bytes) lines new.held
+  given_split error f = record { is = read_on before mid old lines bytes h f.unended ∙ ap (λ x. broken lines ++ x) (sym f.held); each = h.each }
+
+  -- the lines that were given are the first of all
+  pub given_first : old.ended ≡ false → Begins lines (lines_of (h.read ++ bytes))
+  given_first e = record {
+    rest = lines_of (old.held ++ bytes);
+    is = ap lines_of (read_on before mid old lines bytes h e) ∙ lines_of-broken lines (old.held ++ bytes) (unbroken lines h.each);
+  }
