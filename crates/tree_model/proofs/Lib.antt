@@ -1,3 +1,5 @@
 pub mod Splits
 pub mod Levels
 pub mod Pieces
+pub mod Paths
+pub mod Folds

@@ -1,6 +1,6 @@
 -- Flat bytes as pieces of one width.
 use Rattle.std.proofs.Common.{◌≡◌, ℕ, zero, suc, ◌+◌, ◌-◌, ◌*◌, ◌/◌, ◌%◌, ◌<◌, ◌≤◌, List, [], ◌∷◌, ◌++◌, length, take, drop, All, refl, sym, ap, ◌∙◌, ap₂, subst, arith, length-append, length-drop, length-take-le, take-take, drop-drop, take_all, take-append-drop, take_at, drop_at, take-add, mul-div_cancel, div-mul-le_self, div-add-mod', mod-lt, suc-mul, one-mul, add-mul, mul-le-mul_right}
-use Rattle.std.proofs.Math.Nat.{mul-mod_left, mod_self, div_self}
+use Rattle.std.proofs.Math.Nat.{mul-mod_left, mod_self, div_self, add-mod_left}
 use Rattle.std.proofs.lemmas.Nat.{div-mul-add, mod-mul-add, le-div}
 use Rattle.std.proofs.lemmas.List.{drop-take}
 use Rattle.std.proofs.lemmas.List.Elements.{All-nil, All-cons, All-head, All-tail}
@@ -149,6 +149,14 @@ module _ (w : ℕ) (wide : 0 < w) where
       let is : length x ≡ w = All-head (λ y. length y ≡ w) x xs each in
       cut-append x (concat xs) (ap (λ n. n % w) is ∙ mod_self w)
       ∙ ap₂ (λ s t. s ++ t) (cut_one x is) (cut-concat xs (All-tail (λ y. length y ≡ w) x xs each))
+
+  -- pieces of one width, joined, leave nothing over
+  pub concat-whole : (xs : List (List ℕ)) → All (λ x. length x ≡ w) xs → length (concat xs) % w ≡ 0
+  concat-whole [] each = let none : 0 % w ≡ 0 = omega arith in none
+  concat-whole (x ∷ xs) each =
+      let is : length x ≡ w = All-head (λ y. length y ≡ w) x xs each in
+      let rest : length (concat xs) % w ≡ 0 = concat-whole xs (All-tail (λ y. length y ≡ w) x xs each) in
+      ap (λ n. n % w) (length-append x (concat xs)) ∙ ap (λ n. (n + length (concat xs)) % w) is ∙ add-mod_left w (length (concat xs)) ∙ rest
 
   -- the tree over no whole piece
   pub mth_cut_none : (hash : Hash) (b : List ℕ) → length b / w ≡ 0 → mth hash (cut w b) ≡ hash []
