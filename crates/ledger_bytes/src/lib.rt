@@ -17,7 +17,7 @@ pub use digest::Digest;
 pub use failure::{Bad, Failed, NoMemory};
 pub use hash::TreeHash;
 pub use items::Items;
-pub use reader::FieldReader;
+pub use reader::{FieldReader, is_inverse_of_writing};
 pub use refusal::Refusal;
 pub use sha::Sha;
 pub use toy::Toy;

@@ -1,6 +1,6 @@
-ghost use Rattle.std.specs.Prelude.{◌≡◌, length};
-ghost use Rattle.std.specs.Int.{w8, w16, w32, w64};
-ghost use Rattle.ledger_bytes.specs.Fields.{left, bytes_at, number_at, digest_at, end_at, Takes};
+ghost use Rattle.std.specs.Prelude.{◌≡◌, ℕ, ◌<◌, ◌^◌, [], ◌∷◌, length};
+ghost use Rattle.std.specs.Int.{w8, w16, w32, w64, to_be_bytes};
+ghost use Rattle.ledger_bytes.specs.Fields.{left, bytes_at, number_at, digest_at, end_at, Takes, ReadsBack};
 
 use crate::{Bad, Digest};
 use std::marker::Model;
@@ -91,10 +91,20 @@ impl<'a> FieldReader<'a> {
     fn take_array<const N: usize>(&mut self) -> Result<[u8; N], Bad>
         ensures { Takes (λ x. x) result self.old self.new (bytes_at N self.old) }
     {
-        let Some((field, rest)) = self.rest.split_first_chunk::<N>() else {
-            return Err(Bad::Short { at: self.whole });
-        };
+        let short = Bad::Short { at: self.whole };
+        let (field, rest) = self.rest.split_first_chunk::<N>().ok_or(short)?;
         self.rest = rest;
         Ok(*field)
     }
 }
+
+/// Reading is the inverse of writing: what a [`FieldWriter`](crate::FieldWriter) puts a reader takes, whatever
+/// follows, and what a reader takes are the bytes that a writer puts for that value.
+pub fn is_inverse_of_writing()
+    ensures one_byte { ReadsBack (number_at w8) (λ n. n ∷ []) (λ n. n < 2 ^ 8) }
+    ensures two_bytes { ReadsBack (number_at w16) (to_be_bytes w16) (λ n. n < 2 ^ 16) }
+    ensures four_bytes { ReadsBack (number_at w32) (to_be_bytes w32) (λ n. n < 2 ^ 32) }
+    ensures eight_bytes { ReadsBack (number_at w64) (to_be_bytes w64) (λ n. n < 2 ^ 64) }
+    ensures digest { ReadsBack digest_at (λ d. d.0) (λ d. length d.0 ≡ 32) }
+    ensures slice { (n : ℕ) → ReadsBack (bytes_at n) (λ bytes. bytes) (λ bytes. length bytes ≡ n) }
+{}
