@@ -1,0 +1,9 @@
+use Rattle.std.proofs.Common.{◌∙◌, arith}
+use Rattle.proof_codec.proofs.Laws.{proof_of_found, proof_of_only}
+use Rattle.proof_codec.proofs.proof.Proof.decode.Goals as goal
+
+pub returns-clause-found : goal.returns-clause-found
+returns-clause-found c = proof_of_found c.args.bytes.now c.read.result (λ i. omega (arith, c.type_inv.bytes i)) c.read.ensures
+
+pub returns-clause-only : goal.returns-clause-only
+returns-clause-only c = λ p is_proof e. c.read.ensures ∙ proof_of_only c.args.bytes.now p is_proof e
