@@ -1,0 +1,11 @@
+//! The auditor's judgement. It trusts nothing but the heads that it was given.
+#![tactic(auto)]
+
+mod heads;
+mod refusal;
+
+pub use heads::Heads;
+pub use refusal::{No, TrustErr};
+
+#[cfg(test)]
+mod tests;
