@@ -1,5 +1,5 @@
 -- The parts of a text, as they are cut off one at a time.
-use Rattle.std.proofs.Common.{◌≡◌, ℕ, ◌+◌, ◌-◌, ◌<◌, ◌==◌, List, [], ◌∷◌, length, take, drop, Bool, true, false, Option, Some, sym, None, subst, refl, cond, arith, position}
+use Rattle.std.proofs.Common.{◌≡◌, ℕ, ◌+◌, ◌-◌, ◌<◌, ◌==◌, List, [], ◌∷◌, length, take, drop, Bool, true, false, Option, Some, sym, None, Err, subst, refl, cond, arith, position}
 use Rattle.std.specs.List.{position_or_len}
 use Rattle.std.proofs.lemmas.Bool.{ltb-true, ltb-false, le-ltb, lt-ltb}
 use Rattle.std.proofs.lemmas.Grind.{common_steps}
@@ -8,17 +8,23 @@ use Rattle.std.proofs.lemmas.List.Splits.{length-slice_split, slice_split_first,
 use Rattle.std.proofs.lemmas.List.Sums.{fails_before_first, position_or_len_is}
 use Rattle.std.proofs.lemmas.Option.{cond_some}
 use Rattle.memchr.specs.Find.{IsFirstByte, is_byte}
-use Rattle.script_lines.specs.Fields.{parts, end_at}
+use Rattle.script_lines.specs.Parts.{parts}
+use Rattle.script_lines.specs.Fields.{end_from}
+use Rattle.ledger_bytes.specs.declared.refusal.Refusal.TheVariants.{BadField}
 
 -- a list of one or more fields isn't at its end
-end_at-some : (fields : List (List ℕ)) → 0 < length fields → end_at fields ≡ None
-end_at-some [] some = absurd (omega arith)
-end_at-some (field ∷ fields) some = refl
+end_from-some : (column : ℕ) (fields : List (List ℕ)) → 0 < length fields → end_from column fields ≡ Err (BadField column)
+end_from-some column [] some = absurd (omega arith)
+end_from-some column (field ∷ fields) some = refl
 
 -- a text has one or more parts
-pub end_at-parts : (separator : ℕ) (text : List ℕ) → end_at (parts separator text) ≡ None
-end_at-parts separator text =
-    end_at-some (parts separator text) (omega (arith, length-slice_split (λ (b : ℕ). b == separator) text))
+pub parts-some : (separator : ℕ) (text : List ℕ) → 0 < length (parts separator text)
+parts-some separator text = omega (arith, length-slice_split (λ (b : ℕ). b == separator) text)
+
+-- the parts of a text aren't at their end
+pub end_from-parts : (column separator : ℕ) (text : List ℕ) → end_from column (parts separator text) ≡ Err (BadField column)
+end_from-parts column separator text =
+    end_from-some column (parts separator text) (parts-some separator text)
 
 -- a test that isn't true is false
 fails_where : (b : Bool) → ¬ (b ≡ true) → b ≡ false

@@ -1,3 +1,4 @@
 pub mod Cuts
 pub mod Filled
+pub mod Given
 pub mod Numbers

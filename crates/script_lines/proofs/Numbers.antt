@@ -8,7 +8,7 @@ use Rattle.std.proofs.lemmas.Fmt.{decimal-digits_value, decimal_digit, decimal_n
 use Rattle.std.proofs.lemmas.Option.{cond_some}
 use Rattle.std.proofs.lemmas.Str.Parse.{IsDigitsTest, IsNumeralModel, numerals_by_fold}
 use Rattle.std.proofs.Math.Seq.{drop-cons}
-use Rattle.script_lines.specs.Fields.{is_decimal, number_of, value_behind}
+use Rattle.script_lines.specs.Spellings.{is_decimal, number_of, value_behind}
 
 -- more digits make no smaller number
 value_behind-least : (read : ℕ) (digits : List ℕ) → read ≤ value_behind read digits

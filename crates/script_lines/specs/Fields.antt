@@ -1,55 +1,56 @@
--- The fields of a line, and what stands in them.
-use Rattle.std.specs.Prelude.{ℕ, ◌+◌, ◌-◌, ◌*◌, ◌==◌, ◌&&◌, ◌||◌, nat_le, nat_lt, Bool, not, slice_index, if◌then◌else◌, List, [], ◌∷◌, length, fold, codes, Option, Some, None, option_map}
-use Rattle.std.specs.Char.{is_ascii_digit}
-use Rattle.std.specs.List.{list_all, slice_split}
-use Rattle.std.specs.Result.{result_ok}
-use Rattle.std.specs.Str.{bytes_eq}
-use Rattle.hex.specs.Hex.{decode_of}
+-- The fields of a line, as they are read one after the other.
+use Rattle.std.specs.Prelude.{ℕ, ◌+◌, ◌-◌, ◌^◌, min, List, [], ◌∷◌, Option, Some, None, Result, Ok, Err}
+use Rattle.ledger_bytes.specs.declared.refusal.Refusal.{Refusal}
+use Rattle.ledger_bytes.specs.declared.refusal.Refusal.TheVariants.{BadField}
+use Rattle.script_lines.specs.Parts.{parts}
 
--- the parts of a text around each separator
-abbrev pub parts : ℕ → List ℕ → List (List ℕ)
-parts separator text = slice_split (λ b. b == separator) text
+-- the fields of a line that are still to be read, and the column of the first of them
+pub record Left : Type 0 where
+  pub column : ℕ
+  pub fields : List (List ℕ)
 
--- the parts of what is left of a text
-abbrev pub parts_left : ℕ → Option (List ℕ) → List (List ℕ)
-parts_left separator None = []
-parts_left separator (Some text) = parts separator text
+-- all fields of a line, which stand around single spaces; their columns count from 1
+abbrev pub fields_of : List ℕ → Left
+fields_of line = record { column = 1; fields = parts 32 line }
 
--- what the first field reads as, and the fields behind it
-abbrev pub field_at : {A : Type 0} → (List ℕ → Option A) → List (List ℕ) → Option (A × List (List ℕ))
-field_at read [] = None
-field_at read (field ∷ fields) = option_map (λ x. (x, fields)) (read field)
+-- the column behind another; 4,294,967,295 is the last that is told, and those behind it count as that
+abbrev pub next_column : ℕ → ℕ
+next_column column = min (column + 1) (2 ^ 32 - 1)
 
--- no field is left
-abbrev pub end_at : List (List ℕ) → Option (Unit {0})
-end_at [] = Some tt
-end_at (field ∷ fields) = None
+-- what stands behind the first of some fields
+abbrev pub behind_first : ℕ → List (List ℕ) → Left
+behind_first column [] = record { column = column; fields = [] }
+behind_first column (field ∷ fields) = record { column = next_column column; fields = fields }
 
--- any text, as it is
-abbrev pub text_of : List ℕ → Option (List ℕ)
-text_of text = Some text
+-- the fields behind the first
+abbrev pub behind : Left → Left
+behind left = behind_first left.column left.fields
 
--- exactly this word
-abbrev pub word_of : List ℕ → List ℕ → Option (Unit {0})
-word_of word text = if bytes_eq text word then Some tt else None
+-- what was read, or a refusal that names the column
+abbrev pub read_or_bad : {A : Type 0} → ℕ → Option A → Left → Result (A × Left) Refusal
+read_or_bad column None left = Err (BadField column)
+read_or_bad column (Some x) left = Ok (x, left)
 
--- the number that decimal digits stand for, behind digits that stand for another
-abbrev pub value_behind : ℕ → List ℕ → ℕ
-value_behind read digits = fold (λ n digit. n * 10 + (digit - 48)) read digits
+-- what the first of some fields reads as, and the fields behind it
+abbrev pub field_from : {A : Type 0} → (List ℕ → Option A) → ℕ → List (List ℕ) → Result (A × Left) Refusal
+field_from read column [] = Err (BadField column)
+field_from read column (field ∷ fields) =
+    read_or_bad column (read field) (record { column = next_column column; fields = fields })
 
--- decimal digits: one or more, and no zero in front of others
-abbrev pub is_decimal : List ℕ → Bool
-is_decimal digits =
-    nat_lt 0 (length digits) && list_all is_ascii_digit digits && (length digits == 1 || not (slice_index digits 0 == 48))
+-- what the first field reads as, and the fields behind it; one that is missing or ill-formed is refused with its column
+abbrev pub field_at : {A : Type 0} → (List ℕ → Option A) → Left → Result (A × Left) Refusal
+field_at read left = field_from read left.column left.fields
 
--- a decimal number that is at most `most`
-abbrev pub number_of : ℕ → List ℕ → Option ℕ
-number_of most text =
-    if is_decimal text && nat_le (value_behind 0 text) most then Some (value_behind 0 text) else None
+-- no field is left; else the first is refused with its column
+abbrev pub end_from : ℕ → List (List ℕ) → Result (Unit {0}) Refusal
+end_from column [] = Ok tt
+end_from column (field ∷ fields) = Err (BadField column)
 
--- no bytes as `-`, or 1 to `most` bytes as hexadecimal digits of either case
-abbrev pub bytes_of : ℕ → List ℕ → Option (List ℕ)
-bytes_of most text =
-    if bytes_eq text (codes "-") then Some []
-    else if nat_le 2 (length text) && nat_le (length text) (2 * most) then result_ok (decode_of text)
-    else None
+-- no field is left; one that is extra is refused with its column
+abbrev pub end_at : Left → Result (Unit {0}) Refusal
+end_at left = end_from left.column left.fields
+
+-- what was read and what is left behind it, or the refusal
+abbrev pub taken : {A : Type 0} → Result A Refusal → Left → Result (A × Left) Refusal
+taken (Ok x) left = Ok (x, left)
+taken (Err refusal) left = Err refusal

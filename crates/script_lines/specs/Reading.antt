@@ -1,16 +1,18 @@
 -- How a reader's answers go with the grammar.
-use Rattle.std.specs.Prelude.{◌≡◌, ℕ, List, Option, Some, None, Result, Ok, Err, ⊤}
-use Rattle.script_lines.specs.declared.fields.Stop.{Stop}
-use Rattle.script_lines.specs.declared.fields.Stop.TheVariants.{IllFormed, NoMemory}
+use Rattle.std.specs.Prelude.{◌≡◌, Result, Ok, Err, ⊤}
+use Rattle.ledger_bytes.specs.declared.refusal.Refusal.{Refusal}
+use Rattle.script_lines.specs.Fields.{Left}
+use Rattle.script_lines.specs.declared.stop.Stop.{Stop}
+use Rattle.script_lines.specs.declared.stop.Stop.TheVariants.{Refused, NoMemory}
 
 -- the reader answers what the grammar reads, unless memory is out
-abbrev pub Reads : {A : Type 0} → Result A Stop → Option A → Type 0
-Reads (Ok x) read = read ≡ Some x
-Reads (Err IllFormed) read = read ≡ None
+abbrev pub Reads : {A : Type 0} → Result A Stop → Result A Refusal → Type 0
+Reads (Ok x) read = read ≡ Ok x
+Reads (Err (Refused refusal)) read = read ≡ Err refusal
 Reads (Err NoMemory) read = ⊤
 
 -- the same for a reader that goes on behind what it read, with these fields left
-abbrev pub Takes : {A : Type 0} → List (List ℕ) → Result A Stop → Option (A × List (List ℕ)) → Type 0
-Takes left (Ok x) read = read ≡ Some (x, left)
-Takes left (Err IllFormed) read = read ≡ None
+abbrev pub Takes : {A : Type 0} → Left → Result A Stop → Result (A × Left) Refusal → Type 0
+Takes left (Ok x) read = read ≡ Ok (x, left)
+Takes left (Err (Refused refusal)) read = read ≡ Err refusal
 Takes left (Err NoMemory) read = ⊤

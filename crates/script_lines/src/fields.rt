@@ -1,162 +1,196 @@
-ghost use Rattle.std.specs.Prelude.{◌≡◌, ◌+◌, ◌*◌, ◌==◌, ◌<◌, ◌≤◌, List, [], ◌∷◌, length, codes, position, Some, None, IfErr, IfOk, IfSome, MatchResult, option_map};
-ghost use Rattle.std.specs.Char.{is_ascii_digit};
-ghost use Rattle.std.specs.List.{list_all};
-ghost use Rattle.script_lines.specs.Fields.{parts, parts_left, field_at, end_at, text_of, word_of, is_decimal, number_of, bytes_of};
-ghost use Rattle.script_lines.specs.Reading.{Reads, Takes};
+ghost use Rattle.std.specs.Prelude.{◌≡◌, ◌≤◌, length, All, Ok, Err, IfOk, OnErr, MatchResult};
+ghost use Rattle.script_lines.specs.Fields.{fields_of, behind, field_at, end_at, taken};
+ghost use Rattle.script_lines.specs.Reading.{Takes};
+ghost use Rattle.script_lines.specs.Spellings.{text_of, word_of, number_of, bytes_of, digest_of, clue_of, name_of, which_of, approvals_of, mark_of};
 
-use hex::FromHexError;
-use ledger_bytes::Bytes;
-use memchr::memchr;
+use crate::said::{SaidApproval, Which};
+use crate::spellings::{
+    is_name, read_approvals, read_bytes, read_digest, read_mark, read_number, read_which,
+};
+use crate::splits::cut;
+use crate::stop::Stop;
+use ledger_bytes::{Bytes, Digest, Items, Refusal};
 use std::alloc::Global;
 use std::marker::Model;
 
-/// Why a line isn't read.
-#[derive(Clone, Copy, Debug, PartialEq, Eq)]
-pub(crate) enum Stop {
-    /// A field is missing, extra or ill-formed.
-    IllFormed,
-    NoMemory,
-}
-
-/// The fields of a line that are still to be read. A contract sees their list; they are cut one at a time.
+/// The fields of a line that are still to be read, which stand around single spaces. A contract sees them as a list,
+/// with the column of the first; columns count from 1. They are cut off one at a time.
+///
+/// Each reader reads the first field and goes on behind it. It answers `BadField` with that field's column exactly
+/// where the field is missing or isn't of the reader's form.
 #[derive(Drop)]
-pub(crate) struct Fields<'a> {
+pub struct Fields<'a> {
+    column: u32,
     left: Option<&'a [u8]>,
 }
 
 impl<'a> Model for Fields<'a> {
-    ghost use Rattle.std.specs.Prelude.{ℕ, List, option_map};
-    ghost use Rattle.script_lines.specs.Fields.{parts_left};
+    ghost use Rattle.std.specs.Prelude.{option_map};
+    ghost use Rattle.script_lines.specs.Fields.{Left};
+    ghost use Rattle.script_lines.specs.Parts.{parts_left};
 
-    ghost Value = { List (List ℕ) };
+    ghost Value = { Left };
 
-    ghost view = { λ f. parts_left 32 (option_map (λ t. t.now) f.left) };
+    ghost view = { λ f. record { column = f.column; fields = parts_left 32 (option_map (λ t. t.now) f.left) } };
 }
 
 impl<'a> Fields<'a> {
-    /// The fields of a line, which stand around single spaces.
-    pub(crate) fn of(line: &'a [u8]) -> Self
-        ensures { result ≡ parts 32 line.now }
+    /// All fields of a line.
+    pub fn of(line: &'a [u8]) -> Self
+        ensures { result ≡ fields_of line.now }
     {
-        Fields { left: Some(line) }
+        Fields {
+            column: 1,
+            left: Some(line),
+        }
     }
 
-    /// The next field, whatever stands in it.
-    pub(crate) fn text(&mut self) -> Result<&'a [u8], Stop>
-        ensures { MatchResult result (λ text. self.old ≡ text.now ∷ self.new) (λ stop. (self.old ≡ []) × (stop ≡ Stop.IllFormed)) }
+    /// The column of the field that is read next.
+    pub fn column(&self) -> u32
+        ensures { result ≡ self.now.column }
+    {
+        self.column
+    }
+
+    /// The field, whatever stands in it.
+    pub fn text(&mut self) -> Result<&'a [u8], Refusal>
+        ensures takes { MatchResult result (λ text. field_at text_of self.old ≡ Ok (text.now, self.new)) (λ refusal. field_at text_of self.old ≡ Err refusal) }
+        ensures goes_on { self.new ≡ behind self.old }
     {
         let Some(left) = self.left else {
-            return Err(Stop::IllFormed);
+            return Err(bad_field(self.column));
         };
         let (field, rest) = cut(left, b' ');
+        self.column = self.column.saturating_add(1);
         self.left = rest;
         Ok(field)
     }
 
-    /// Passes over this word.
-    pub(crate) fn word(&mut self, word: &[u8]) -> Result<(), Stop>
-        ensures takes { Takes self.new result (field_at (word_of word.now) self.old) }
-        ensures ill { IfErr result (λ stop. stop ≡ Stop.IllFormed) }
+    /// Passes over exactly this word.
+    pub fn word(&mut self, word: &[u8]) -> Result<(), Refusal>
+        ensures takes { field_at (word_of word.now) self.old ≡ taken result self.new }
+        ensures goes_on { self.new ≡ behind self.old }
     {
-        let text = self.text()?;
-        if text == word {
+        let column = self.column();
+        if self.text()? == word {
             Ok(())
         } else {
-            Err(Stop::IllFormed)
+            Err(bad_field(column))
         }
     }
 
     /// A decimal number without a leading zero, at most `most`.
-    pub(crate) fn number(&mut self, most: u64) -> Result<u64, Stop>
-        ensures takes { Takes self.new result (field_at (number_of most) self.old) }
+    pub fn number(&mut self, most: u64) -> Result<u64, Refusal>
+        ensures takes { field_at (number_of most) self.old ≡ taken result self.new }
+        ensures goes_on { self.new ≡ behind self.old }
         ensures high { IfOk result (λ number. number ≤ most) }
-        ensures ill { IfErr result (λ stop. stop ≡ Stop.IllFormed) }
     {
-        let text = self.text()?;
-        read_number(text, most).ok_or(Stop::IllFormed)
+        let column = self.column();
+        read_number(self.text()?, most).ok_or(bad_field(column))
     }
 
-    /// No bytes as `-`, or 1 to `most` bytes as hexadecimal digits.
-    pub(crate) fn bytes(&mut self, alloc: Global, most: usize) -> Result<Bytes, Stop>
+    /// 64 hexadecimal digits of either case.
+    pub fn digest(&mut self) -> Result<Digest, Refusal>
+        ensures takes { field_at digest_of self.old ≡ taken result self.new }
+        ensures goes_on { self.new ≡ behind self.old }
+    {
+        let column = self.column();
+        read_digest(self.text()?).ok_or(bad_field(column))
+    }
+
+    /// No bytes as `-`, or 1 to `most` bytes as two hexadecimal digits each, of either case.
+    pub fn bytes(&mut self, alloc: Global, most: usize) -> Result<Bytes, Stop>
         ensures takes { Takes self.new result (field_at (bytes_of most) self.old) }
+        ensures goes_on { self.new ≡ behind self.old }
         ensures long { IfOk result (λ bytes. length bytes ≤ most) }
     {
+        let column = self.column();
         let text = self.text()?;
-        read_bytes(alloc, text, most)
+        match read_bytes(alloc, text, most)? {
+            Some(bytes) => Ok(bytes),
+            None => Err(Stop::Refused(bad_field(column))),
+        }
     }
 
-    /// No field is left.
-    pub(crate) fn end(self) -> Result<(), Stop>
-        ensures reads { Reads result (end_at self.entry) }
-        ensures ill { IfErr result (λ stop. stop ≡ Stop.IllFormed) }
+    /// No clue as `-`, or a clue's name of 1 to 64 bytes. No clue is the empty name.
+    pub fn clue(&mut self, alloc: Global) -> Result<Bytes, Stop>
+        ensures takes { Takes self.new result (field_at clue_of self.old) }
+        ensures goes_on { self.new ≡ behind self.old }
+        ensures long { IfOk result (λ name. length name ≤ 64) }
+    {
+        let column = self.column();
+        let text = self.text()?;
+        if text == b"-".as_slice() {
+            Ok(Bytes::of(Vec::new(alloc)))
+        } else if is_name(text) {
+            Ok(Bytes::copy_of(alloc, text)?)
+        } else {
+            Err(Stop::Refused(bad_field(column)))
+        }
+    }
+
+    /// A name of 1 to 64 bytes.
+    pub fn name(&mut self, alloc: Global) -> Result<Bytes, Stop>
+        ensures takes { Takes self.new result (field_at name_of self.old) }
+        ensures goes_on { self.new ≡ behind self.old }
+        ensures long { IfOk result (λ name. length name ≤ 64) }
+    {
+        let column = self.column();
+        let text = self.text()?;
+        if is_name(text) {
+            Ok(Bytes::copy_of(alloc, text)?)
+        } else {
+            Err(Stop::Refused(bad_field(column)))
+        }
+    }
+
+    /// `ledger` or `notary`.
+    pub fn which(&mut self) -> Result<Which, Refusal>
+        ensures takes { field_at which_of self.old ≡ taken result self.new }
+        ensures goes_on { self.new ≡ behind self.old }
+    {
+        let column = self.column();
+        read_which(self.text()?).ok_or(bad_field(column))
+    }
+
+    /// No approvals as `-`, or 1 to 256 of them as `MEMBER:PROOF` with commas between. A proof is no bytes as `-`, or 1
+    /// to 4,096 bytes as hexadecimal digits.
+    pub fn approvals(&mut self, alloc: Global) -> Result<Items<SaidApproval>, Stop>
+        ensures takes { Takes self.new result (field_at approvals_of self.old) }
+        ensures goes_on { self.new ≡ behind self.old }
+        ensures few { IfOk result (λ given. length given ≤ 256) }
+        ensures long { IfOk result (All (λ approval. length approval.proof ≤ 4096)) }
+    {
+        let column = self.column();
+        let text = self.text()?;
+        match read_approvals(alloc, text)? {
+            Some(given) => Ok(given),
+            None => Err(Stop::Refused(bad_field(column))),
+        }
+    }
+
+    /// No time mark as `-`, or one as `JSN:INDEX:TIME`: a journal's number, a notary's index and its time.
+    pub fn mark(&mut self) -> Result<Option<(u64, u64, u64)>, Refusal>
+        ensures takes { field_at mark_of self.old ≡ taken result self.new }
+        ensures goes_on { self.new ≡ behind self.old }
+    {
+        let column = self.column();
+        read_mark(self.text()?).ok_or(bad_field(column))
+    }
+
+    /// No field is left. A further one is refused with its column.
+    pub fn end(self) -> Result<(), Refusal>
+        ensures { result ≡ end_at self.entry }
     {
         match self.left {
             None => Ok(()),
-            Some(_) => Err(Stop::IllFormed),
+            Some(_) => Err(bad_field(self.column)),
         }
     }
 }
 
-/// The text up to the first separator, and the text behind that.
-fn cut(text: &[u8], separator: u8) -> (&[u8], Option<&[u8]>)
-    ensures { parts separator text.now ≡ result.0.now ∷ parts_left separator (option_map (λ t. t.now) result.1) }
+fn bad_field(column: u32) -> Refusal
+    ensures { result ≡ Refusal.BadField column }
 {
-    match find(text, separator) {
-        Some(at) => (&text[..at], Some(&text[at + 1..])),
-        None => (text, None),
-    }
-}
-
-fn find(text: &[u8], byte: u8) -> Option<usize>
-    ensures { result ≡ position (λ b. b == byte) text.now }
-{
-    memchr(byte, text)
-}
-
-fn read_number(text: &[u8], most: u64) -> Option<u64>
-    ensures number { result ≡ number_of most text.now }
-    ensures high { IfSome result (λ number. number ≤ most) }
-{
-    if !is_decimal(text) {
-        return None;
-    }
-    let mut number: u64 = 0;
-    for digit in text {
-        number = number
-            .checked_mul(10)?
-            .checked_add(u64::from(*digit - b'0'))?;
-        if number > most {
-            return None;
-        }
-    }
-    Some(number)
-}
-
-fn is_decimal(text: &[u8]) -> bool
-    ensures { result ≡ is_decimal text.now }
-{
-    !text.is_empty() && has_digits_alone(text) && (text.len() == 1 || text[0] != b'0')
-}
-
-fn has_digits_alone(text: &[u8]) -> bool
-    ensures { result ≡ list_all is_ascii_digit text.now }
-{
-    text.iter().all(|b| b.is_ascii_digit())
-}
-
-fn read_bytes(alloc: Global, text: &[u8], most: usize) -> Result<Bytes, Stop>
-    ensures bytes { Reads result (bytes_of most text.now) }
-    ensures long { IfOk result (λ bytes. length bytes ≤ most) }
-{
-    if text == b"-".as_slice() {
-        return Ok(Bytes::of(Vec::new(alloc)));
-    }
-    if text.len() < 2 || text.len() / 2 > most {
-        return Err(Stop::IllFormed);
-    }
-    match hex::decode(alloc, text) {
-        Ok(bytes) => Ok(Bytes::of(bytes)),
-        Err(FromHexError::OutOfMemory) => Err(Stop::NoMemory),
-        Err(_) => Err(Stop::IllFormed),
-    }
+    Refusal::BadField { column }
 }

@@ -1,5 +1,5 @@
 ghost use Rattle.std.specs.Prelude.{◌≡◌, ℕ, ◌^◌, ◌<◌, ◌≤◌, List, Some, decimal};
-ghost use Rattle.script_lines.specs.Fields.{number_of};
+ghost use Rattle.script_lines.specs.Spellings.{number_of};
 
 /// A number in a line is that number's decimal digits, and the decimal digits of each number up to the limit are
 /// read as it.

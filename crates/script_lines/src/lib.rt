@@ -5,8 +5,16 @@ mod fields;
 mod laws;
 mod line;
 mod reply;
+mod said;
+mod spellings;
+mod splits;
+mod stop;
 mod words;
 
+pub use fields::Fields;
 pub use laws::numbers_are_decimal;
 pub use line::{Line, read_line};
-pub use reply::{Reply, put_reply, reply_text};
+pub use reply::{Reply, put_refusal, put_reply, reply_text};
+pub use said::{SaidApproval, Which};
+pub use stop::Stop;
+pub use words::{Word, put_number, put_words};

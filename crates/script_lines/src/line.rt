@@ -2,15 +2,14 @@ ghost use Rattle.std.specs.Prelude.{◌≡◌, IfOk, IfSome};
 ghost use Rattle.script_lines.specs.Grammar.{append_at, head_at, line_at, line_of, IsWithinLimits};
 ghost use Rattle.script_lines.specs.Reading.{Reads};
 
-use crate::fields::{Fields, Stop};
-use ledger_bytes::{Bytes, NoMemory};
+use crate::fields::Fields;
+use crate::spellings::PROOF_MAX;
+use crate::stop::Stop;
+use ledger_bytes::{Bytes, NoMemory, Refusal};
 use std::alloc::Global;
 
 /// The longest content in bytes.
 const CONTENT_MAX: usize = 65_536;
-
-/// The longest proof in bytes.
-const PROOF_MAX: usize = 4_096;
 
 /// What a line of a script asks for.
 #[derive(Debug, Drop)]
@@ -37,7 +36,7 @@ pub fn read_line(alloc: Global, line: &[u8]) -> Result<Option<Line>, NoMemory>
 {
     match read_fields(alloc, Fields::of(line)) {
         Ok(line) => Ok(Some(line)),
-        Err(Stop::IllFormed) => Ok(None),
+        Err(Stop::Refused(_)) => Ok(None),
         Err(Stop::NoMemory) => Err(NoMemory),
     }
 }
@@ -52,7 +51,7 @@ fn read_fields(alloc: Global, mut fields: Fields) -> Result<Line, Stop>
     match verb {
         b"append" => append(alloc, fields),
         b"head" => head(fields),
-        _ => Err(Stop::IllFormed),
+        _ => Err(Stop::Refused(Refusal::BadVerb)),
     }
 }
 

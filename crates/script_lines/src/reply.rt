@@ -126,7 +126,8 @@ fn put_reply_words(out: &mut Vec<u8>, reply: &Reply) -> Result<(), NoMemory>
     }
 }
 
-fn put_refusal(out: &mut Vec<u8>, refusal: &Refusal) -> Result<(), NoMemory>
+/// Appends a refusal's words, each behind a space: `no`, its code, and its fields.
+pub fn put_refusal(out: &mut Vec<u8>, refusal: &Refusal) -> Result<(), NoMemory>
     ensures ok { OnOk result (out.new.items ≡ out.old.items ++ spaced (spec.reply_words (Reply.Refused refusal.now))) }
     ensures err { OnErr result (BeginsWith out.old.items out.new.items) }
 {

@@ -8,14 +8,14 @@ use ledger_bytes::{Digest, NoMemory};
 
 /// A word of a reply.
 #[derive(Clone, Copy)]
-pub(crate) enum Word<'a> {
+pub enum Word<'a> {
     Text(&'a [u8]),
     Number(u64),
     Hash(Digest),
 }
 
 /// Appends the words, each behind a space.
-pub(crate) fn put_words(out: &mut Vec<u8>, words: &[Word]) -> Result<(), NoMemory>
+pub fn put_words(out: &mut Vec<u8>, words: &[Word]) -> Result<(), NoMemory>
     ensures ok { OnOk result (out.new.items ≡ out.old.items ++ spaced (map word_text words.now)) }
     ensures err { OnErr result (BeginsWith out.old.items out.new.items) }
 {
@@ -38,7 +38,7 @@ fn put_word(out: &mut Vec<u8>, word: &Word) -> Result<(), NoMemory>
 }
 
 /// Appends the number in decimal digits.
-pub(crate) fn put_number(out: &mut Vec<u8>, number: u64) -> Result<(), NoMemory>
+pub fn put_number(out: &mut Vec<u8>, number: u64) -> Result<(), NoMemory>
     ensures ok { OnOk result (out.new.items ≡ out.old.items ++ decimal number) }
     ensures err { OnErr result (out.new.items ≡ out.old.items) }
 {

@@ -1,6 +1,6 @@
 use Rattle.std.proofs.Common.{arith}
 use Rattle.hex.proofs.HexLemmas.{decode_of-ok}
-use Rattle.script_lines.proofs.fields.read_bytes.Goals as goal
+use Rattle.script_lines.proofs.spellings.read_bytes.Goals as goal
 
 pub returns-in-Ok-clause-long : goal.returns-in-Ok-clause-long
 returns-in-Ok-clause-long c =

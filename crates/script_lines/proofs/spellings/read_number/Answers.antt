@@ -1,6 +1,6 @@
 use Rattle.std.proofs.Common.{arith, sym, ◌∙◌}
 use Rattle.script_lines.proofs.Numbers.{number_of-passed}
-use Rattle.script_lines.proofs.fields.read_number.Goals as goal
+use Rattle.script_lines.proofs.spellings.read_number.Goals as goal
 
 pub returns-in_err-checked_mul-clause-number : goal.returns-in_err-checked_mul-clause-number
 returns-in_err-checked_mul-clause-number c =

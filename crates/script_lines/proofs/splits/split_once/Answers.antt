@@ -1,6 +1,6 @@
 use Rattle.std.proofs.Common.{sym, ◌∙◌}
 use Rattle.script_lines.proofs.Cuts.{parts_at, parts_none}
-use Rattle.script_lines.proofs.fields.cut.Goals as goal
+use Rattle.script_lines.proofs.splits.split_once.Goals as goal
 
 pub returns-in-Some : goal.returns-in-Some
 returns-in-Some c = parts_at c.args.separator c.args.text.now c.in-Some.at (sym c.find.ensures ∙ c.in-Some.is)

@@ -1,6 +1,6 @@
 use Rattle.std.proofs.Common.{◌≡◌, ◌≤◌, drop}
-use Rattle.script_lines.specs.Fields.{value_behind}
-use Rattle.script_lines.proofs.fields.read_number.Given as goal
+use Rattle.script_lines.specs.Spellings.{value_behind}
+use Rattle.script_lines.proofs.spellings.read_number.Given as goal
 
 abbrev pub invariant-loop-digit : goal.invariant-loop-digit
 invariant-loop-digit l =

@@ -1,0 +1,155 @@
+ghost use Rattle.std.specs.Prelude.{◌≡◌, ◌≤◌, if◌then◌else◌, length, Some, None, All, IfOk, IfSome};
+ghost use Rattle.std.specs.Char.{is_ascii_digit};
+ghost use Rattle.std.specs.List.{list_all};
+ghost use Rattle.script_lines.specs.Spellings.{is_decimal, number_of, bytes_of, digest_of, name_of, which_of, approval_of, approvals_of, mark_of};
+
+use crate::said::{SaidApproval, Which};
+use crate::splits::{cut, split_once};
+use hex::{FromHex, FromHexError};
+use ledger_bytes::{Bytes, Digest, Items, NoMemory};
+use std::alloc::Global;
+
+/// The longest proof in bytes.
+pub(crate) const PROOF_MAX: usize = 4_096;
+
+/// The most approvals that a line gives.
+const APPROVALS_MAX: usize = 256;
+
+pub(crate) fn read_number(text: &[u8], most: u64) -> Option<u64>
+    ensures number { result ≡ number_of most text.now }
+    ensures high { IfSome result (λ number. number ≤ most) }
+{
+    if !is_decimal(text) {
+        return None;
+    }
+    let mut number: u64 = 0;
+    for digit in text {
+        number = number
+            .checked_mul(10)?
+            .checked_add(u64::from(*digit - b'0'))?;
+        if number > most {
+            return None;
+        }
+    }
+    Some(number)
+}
+
+fn is_decimal(text: &[u8]) -> bool
+    ensures { result ≡ is_decimal text.now }
+{
+    !text.is_empty() && has_digits_alone(text) && (text.len() == 1 || text[0] != b'0')
+}
+
+fn has_digits_alone(text: &[u8]) -> bool
+    ensures { result ≡ list_all is_ascii_digit text.now }
+{
+    text.iter().all(|b| b.is_ascii_digit())
+}
+
+pub(crate) fn read_bytes(alloc: Global, text: &[u8], most: usize) -> Result<Option<Bytes>, NoMemory>
+    ensures bytes { IfOk result (λ read. read ≡ bytes_of most text.now) }
+    ensures long { IfOk result (λ read. IfSome read (λ bytes. length bytes ≤ most)) }
+{
+    if text == b"-".as_slice() {
+        return Ok(Some(Bytes::of(Vec::new(alloc))));
+    }
+    if text.len() < 2 || text.len() / 2 > most {
+        return Ok(None);
+    }
+    match hex::decode(alloc, text) {
+        Ok(bytes) => Ok(Some(Bytes::of(bytes))),
+        Err(FromHexError::OutOfMemory) => Err(NoMemory),
+        Err(_) => Ok(None),
+    }
+}
+
+pub(crate) fn read_digest(text: &[u8]) -> Option<Digest>
+    ensures { result ≡ digest_of text.now }
+{
+    Some(Digest(<[u8; 32] as FromHex>::from_hex(text).ok()?))
+}
+
+pub(crate) fn is_name(text: &[u8]) -> bool
+    ensures { (if result then Some text.now else None) ≡ name_of text.now }
+{
+    (1..=64).contains(&text.len())
+}
+
+pub(crate) fn read_which(text: &[u8]) -> Option<Which>
+    ensures { result ≡ which_of text.now }
+{
+    if text == b"ledger".as_slice() {
+        Some(Which::Ledger)
+    } else if text == b"notary".as_slice() {
+        Some(Which::Notary)
+    } else {
+        None
+    }
+}
+
+fn read_approval(alloc: Global, text: &[u8]) -> Result<Option<SaidApproval>, NoMemory>
+    ensures approval { IfOk result (λ read. read ≡ approval_of text.now) }
+    ensures long { IfOk result (λ read. IfSome read (λ approval. length approval.proof ≤ 4096)) }
+{
+    let Some((member, proof)) = split_once(text, b':') else {
+        return Ok(None);
+    };
+    if let Some(_) = split_once(proof, b':') {
+        return Ok(None);
+    }
+    let Some(member) = read_number(member, u64::from(u32::MAX)) else {
+        return Ok(None);
+    };
+    let Some(proof) = read_bytes(alloc, proof, PROOF_MAX)? else {
+        return Ok(None);
+    };
+    Ok(Some(SaidApproval {
+        member: member as u32,
+        proof,
+    }))
+}
+
+pub(crate) fn read_approvals(
+    alloc: Global,
+    text: &[u8],
+) -> Result<Option<Items<SaidApproval>>, NoMemory>
+    ensures approvals { IfOk result (λ read. read ≡ approvals_of text.now) }
+    ensures few { IfOk result (λ read. IfSome read (λ given. length given ≤ 256)) }
+    ensures long { IfOk result (λ read. IfSome read (All (λ approval. length approval.proof ≤ 4096))) }
+{
+    let mut given = Vec::new(alloc);
+    if text == b"-".as_slice() {
+        return Ok(Some(Items::of(given)));
+    }
+    let mut left = Some(text);
+    while let Some(text) = left {
+        if given.len() == APPROVALS_MAX {
+            return Ok(None);
+        }
+        let (item, rest) = cut(text, b',');
+        let Some(approval) = read_approval(alloc, item)? else {
+            return Ok(None);
+        };
+        given.push(approval)?;
+        left = rest;
+    }
+    Ok(Some(Items::of(given)))
+}
+
+pub(crate) fn read_mark(text: &[u8]) -> Option<Option<(u64, u64, u64)>>
+    ensures { result ≡ mark_of text.now }
+{
+    if text == b"-".as_slice() {
+        return Some(None);
+    }
+    let (jsn, rest) = split_once(text, b':')?;
+    let (index, time) = split_once(rest, b':')?;
+    if let Some(_) = split_once(time, b':') {
+        return None;
+    }
+    Some(Some((
+        read_number(jsn, u64::MAX)?,
+        read_number(index, u64::MAX)?,
+        read_number(time, u64::MAX)?,
+    )))
+}
