@@ -12,7 +12,7 @@ pub use approval::{Approval, who_bytes};
 pub use digests::{content_digest, who_digest};
 pub use header::{HEADER_LEN, Header, Kind};
 pub use request::request_digest;
-pub use tags::tag_key;
+pub use tags::{tag_key, tag_of};
 
 #[cfg(test)]
 mod tests;

@@ -24,7 +24,8 @@ pub fn tag_key(message: &Digest, proof: &[u8]) -> Option<Digest>
     }
 }
 
-fn tag_of(key: &Digest, message: &Digest) -> Digest
+/// A key's tag of a message: SHA-256 of the byte 40, the key and the message.
+pub fn tag_of(key: &Digest, message: &Digest) -> Digest
     ensures { result.0 ≡ tag_of key.now.0 message.now.0 }
 {
     let mut hasher = Sha::start(TAG_TAG);

@@ -1,0 +1,13 @@
+//! The members of a ledger: their keys, who may be admitted, and how their approvals are judged.
+#![tactic(auto)]
+
+mod approvals;
+mod book;
+mod verifier;
+
+pub use book::{AddErr, Member, MemberBook};
+pub use journal_record::{Approval, who_bytes};
+pub use verifier::{TagScheme, Verifier, tag_proof};
+
+#[cfg(test)]
+mod tests;
