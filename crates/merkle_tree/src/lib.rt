@@ -1,9 +1,11 @@
 //! The hash tree of RFC 6962, section 2.1, computed over flat leaves or over the digests of leaves, by any
-//! `TreeHash`. Nothing here allocates, and each digest is computed once.
+//! `TreeHash`, with the paths from its leaves to the root. Only `path` takes memory, and each digest is computed
+//! once.
 #![tactic(auto)]
 
 mod head;
 mod nodes;
+mod paths;
 mod roots;
 mod splits;
 #[cfg(test)]
@@ -11,4 +13,5 @@ mod tests;
 
 pub use head::Head;
 pub use nodes::leaf_of;
+pub use paths::{fold_path, path};
 pub use roots::{mth, root_of};

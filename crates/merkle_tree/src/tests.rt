@@ -3,6 +3,8 @@ use hex::{FromHex, FromHexError};
 use ledger_bytes::{Digest, Sha, Toy};
 use std::test::Fail;
 
+mod paths;
+
 // The root over no leaves, by SHA-256.
 const EMPTY: &str = "e3b0c44298fc1c149afbf4c8996fb92427ae41e4649b934ca495991b7852b855";
 
