@@ -1,0 +1,9 @@
+use Rattle.std.proofs.Common.{arith}
+use Rattle.audit_core.proofs.Accepting.{yes_found, yes_only}
+use Rattle.audit_core.proofs.acceptance.accept.Goals as goal
+
+pub returns-clause-yes : goal.returns-clause-yes
+returns-clause-yes g c = (
+  λ ok. yes_found g.H.TreeHash.of c.args.proof.now c.args.claim.now c.args.heads.now c.judge.result (λ i. omega (arith, c.type_inv.proof i)) c.judge.ensures ok,
+  λ it. yes_only g.H.TreeHash.of c.args.proof.now c.args.claim.now c.args.heads.now c.judge.result c.judge.ensures it,
+)
