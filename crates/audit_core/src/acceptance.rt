@@ -1,5 +1,6 @@
 ghost use Rattle.std.specs.Prelude.{◌≡◌, ◌↔◌, IsOk};
 ghost use Rattle.tree_model.specs.Path.{fold_bytes};
+ghost use Rattle.proof_codec.specs.Reading.{IsBreak};
 ghost use Rattle.audit_core.specs.Acceptance.{place_of, is_root, acceptance, IsAccepted};
 
 use crate::{Heads, No};
@@ -41,13 +42,13 @@ fn judge<H: TreeHash>(proof: &[u8], claim: &Claim, heads: &Heads) -> Result<(), 
 
 /// Where bytes break that spell no proof.
 fn place_of(bad: Bad) -> u64
+    requires { IsBreak bad }
     ensures { result ≡ place_of bad }
 {
     match bad {
         Bad::Short { at } | Bad::Trailing { at } | Bad::BadFixedField { at } => at,
         Bad::TooLong => PROOF_LIMIT as u64,
-        // Nothing in a proof breaks so.
-        Bad::BadKind { .. } | Bad::NewerFormat { .. } => 0,
+        Bad::BadKind { .. } | Bad::NewerFormat { .. } => unreachable!(),
     }
 }
 
