@@ -1,0 +1,4 @@
+pub mod IndexLaws
+pub mod StateLaws
+pub mod TableLaws
+pub mod TrailLaws

@@ -1,0 +1,73 @@
+-- All that an index of clues was given, as plain lists, and what is asked of it.
+use Rattle.std.specs.Prelude.{◌≡◌, ◌≢◌, ℕ, List, [], ◌∷◌, ◌++◌, map, filter, fold, replicate, nat_lt, bytes_eq, if◌then◌else◌}
+use Rattle.std.specs.Cmp.Lexicographic.{slice_cmp}
+use Rattle.std.specs.Ordering.{nat_cmp}
+use Rattle.std.specs.FinMap.{FinMap, from_entries, keys}
+use Rattle.clue_index.specs.Trail.{Trail, no_trail, count_of, last_of, below}
+use Rattle.clue_index.specs.declared.state.ClueState.{ClueState}
+
+-- a journal that has a clue
+pub record Mark : Type 0 where
+  pub clue : List ℕ
+  pub jsn : ℕ
+
+-- the clues' states with which an index began, the journals that were added since, and the first journal that is kept
+pub record Added : Type 0 where
+  pub states : List ClueState
+  pub marks : List Mark
+  pub floor : ℕ
+
+-- what a new index was given
+abbrev pub begun : List ClueState → Added
+begun states = record { states = states; marks = []; floor = 0 }
+
+-- with a journal more
+abbrev pub with_mark : List ℕ → ℕ → Added → Added
+with_mark clue jsn a = record { states = a.states; marks = a.marks ++ record { clue = clue; jsn = jsn } ∷ []; floor = a.floor }
+
+-- with journals kept from another on
+abbrev pub with_floor : ℕ → Added → Added
+with_floor floor a = record { states = a.states; marks = a.marks; floor = floor }
+
+-- the 32 zero bytes that stand for no clue
+abbrev pub no_clue : List ℕ
+no_clue = replicate 32 0
+
+-- the state of a clue: the last of these that is its own, or none
+abbrev pub state_of : List ℕ → List ClueState → Trail
+state_of clue states =
+    fold (λ t s. if bytes_eq clue s.clue.0 then record { count = s.count; last = s.last; jsns = [] } else t) no_trail states
+
+-- the numbers of a clue's journals
+abbrev pub jsns_of : List ℕ → List Mark → List ℕ
+jsns_of clue marks = map (λ m. m.jsn) (filter (λ m. bytes_eq clue m.clue) marks)
+
+-- the journals of a clue
+abbrev pub trail_of : Added → List ℕ → Trail
+trail_of a clue =
+    let state = state_of clue a.states in
+    record { count = state.count; last = state.last; jsns = jsns_of clue a.marks }
+
+-- the clues that were given, each as often as it was
+abbrev pub clues_of : Added → List (List ℕ)
+clues_of a = map (λ s. s.clue.0) a.states ++ map (λ m. m.clue) a.marks
+
+-- the journals of each different clue
+abbrev pub table_of : Added → FinMap (slice_cmp nat_cmp) Trail
+table_of a = from_entries (map (λ clue. (clue, trail_of a clue)) (clues_of a))
+
+-- the different clues, ascending by their bytes
+abbrev pub different : Added → List (List ℕ)
+different a = keys (table_of a)
+
+-- a clue's state when the journals below p had been placed, from its journals
+abbrev pub state_below : ℕ → List ℕ → Trail → ClueState
+state_below p clue t = record { clue = record { 0 = clue }; count = count_of (below p t); last = last_of (below p t) }
+
+-- those of some states that speak of a journal
+abbrev pub begun_states : List ClueState → List ClueState
+begun_states states = filter (λ s. nat_lt 0 s.count) states
+
+-- the states of all clues that had a journal when the journals below p had been placed, ascending by their bytes
+abbrev pub states_at : ℕ → Added → List ClueState
+states_at p a = begun_states (map (λ clue. state_below p clue (trail_of a clue)) (different a))

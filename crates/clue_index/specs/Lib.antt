@@ -1,0 +1,3 @@
+pub mod Added
+pub mod Index
+pub mod Trail

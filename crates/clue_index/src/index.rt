@@ -1,0 +1,128 @@
+ghost use Rattle.std.specs.Prelude.{◌≡◌, ◌≢◌, [], ◌+◌, ◌-◌, ◌^◌, ◌<◌, ◌≤◌, ℕ, List, length, max, All, IfOk, OnOk, OnErr};
+ghost use Rattle.clue_index.specs.Added.{Added, Mark, begun, with_mark, with_floor, no_clue, trail_of, different, states_at};
+ghost use Rattle.clue_index.specs.Index.{Stands};
+ghost use Rattle.clue_index.specs.Trail.{count_of, last_of, kept_from};
+
+use crate::ClueState;
+use crate::slot::Slot;
+use ledger_bytes::{Digest, NoMemory};
+use std::alloc::Global;
+use std::collections::BTreeMap;
+use std::marker::Model;
+
+/// The journals of each clue. A contract sees the record of what is kept; `Stands` says what was added for it to keep
+/// that.
+#[derive(Drop)]
+pub struct ClueIndex {
+    alloc: Global,
+    slots: BTreeMap<[u8; 32], Slot>,
+    /// The first journal that is kept. The numbers of those below stay in the slots, and are passed over.
+    floor: u64,
+}
+
+impl Model for ClueIndex {
+    ghost use Rattle.clue_index.specs.Index.{Kept};
+
+    ghost Value = { Kept };
+
+    ghost view = { λ x. record { trails = x.slots.entries; floor = x.floor } };
+}
+
+impl ClueIndex {
+    /// The index of a ledger without a clue.
+    pub fn new(alloc: Global) -> Self
+        ensures { Stands result (begun []) }
+    {
+        ClueIndex {
+            alloc,
+            slots: BTreeMap::new(alloc),
+            floor: 0,
+        }
+    }
+
+    /// The index of a ledger that begins with these states, of clues that aren't zero. No journal is kept.
+    pub fn from_states(alloc: Global, states: &[ClueState]) -> Result<Self, NoMemory>
+        ensures { IfOk result (λ index. All (λ s. s.clue.0 ≢ no_clue) states.now → Stands index (begun states.now)) }
+    {
+        let mut slots = BTreeMap::new(alloc);
+        for state in states {
+            slots.insert(state.clue.0, Slot::of_state(alloc, state))?;
+        }
+        Ok(ClueIndex {
+            alloc,
+            slots,
+            floor: 0,
+        })
+    }
+
+    /// The ordinal of the clue's next journal, and the number of the one before it or 0. The next ordinal is a `u32`.
+    pub fn next_of(&self, clue: &Digest) -> (u32, u64)
+        ensures ordinal { (a : Added) → Stands self.now a → count_of (trail_of a clue.now.0) < 2 ^ 32 - 1
+            → result.0 ≡ count_of (trail_of a clue.now.0) + 1 }
+        ensures previous { (a : Added) → Stands self.now a → result.1 ≡ last_of (trail_of a clue.now.0) }
+    {
+        match self.slots.get(&clue.0) {
+            Some(slot) => (slot.count().saturating_add(1), slot.last()),
+            None => (1, 0),
+        }
+    }
+
+    /// How many different clues there were over the whole history.
+    pub fn clues(&self) -> u64
+        ensures { (a : Added) → Stands self.now a → result ≡ length (different a) }
+    {
+        self.slots.len() as u64
+    }
+
+    /// Adds the next journal of a clue. After an `Err` the index is as before.
+    pub fn add(&mut self, clue: &Digest, jsn: u64) -> Result<(), NoMemory>
+        ensures ok { OnOk result ((a : Added) → Stands self.old a → clue.now.0 ≢ no_clue → a.floor ≤ jsn → All (λ m. m.jsn < jsn) a.marks
+            → Stands self.new (with_mark clue.now.0 jsn a)) }
+        ensures err { OnErr result (self.new ≡ self.old) }
+    {
+        match self.slots.get_mut(&clue.0) {
+            Some(slot) => slot.grow(jsn),
+            None => {
+                let slot = Slot::first(self.alloc, jsn)?;
+                self.slots.insert(clue.0, slot)?;
+                Ok(())
+            }
+        }
+    }
+
+    /// How many journals the clue has over the whole history, where that is a `u32`, and the numbers of those that are
+    /// kept, ascending.
+    pub fn of(&self, clue: &Digest) -> Result<(u32, Vec<u64>), NoMemory>
+        ensures count { IfOk result (λ r. (a : Added) → Stands self.now a → count_of (trail_of a clue.now.0) < 2 ^ 32
+            → r.0 ≡ count_of (trail_of a clue.now.0)) }
+        ensures kept { IfOk result (λ r. (a : Added) → Stands self.now a → r.1.items ≡ kept_from a.floor (trail_of a clue.now.0)) }
+    {
+        match self.slots.get(&clue.0) {
+            Some(slot) => Ok((slot.count(), slot.kept(self.alloc, self.floor)?)),
+            None => Ok((0, Vec::new(self.alloc))),
+        }
+    }
+
+    /// The states of all clues when the journals below `p` had been placed, ascending by clue; a clue without a journal
+    /// by then isn't among them. `p` isn't below the first journal that is kept, and each count is a `u32`.
+    pub fn state_at(&self, p: u64) -> Result<Vec<ClueState>, NoMemory>
+        ensures { IfOk result (λ states. (a : Added) → Stands self.now a → a.floor ≤ p
+            → ((clue : List ℕ) → count_of (trail_of a clue) < 2 ^ 32) → states.items ≡ states_at p a) }
+    {
+        let mut states = Vec::new(self.alloc);
+        for (clue, slot) in self.slots.iter() {
+            let state = slot.state_below(&Digest(*clue), p);
+            if state.count > 0 {
+                states.push(state)?;
+            }
+        }
+        Ok(states)
+    }
+
+    /// Keeps the numbers of journals from `p` on alone. A lower `p` than before changes nothing.
+    pub fn drop_below(&mut self, p: u64)
+        ensures { (a : Added) → Stands self.old a → Stands self.new (with_floor (max a.floor p) a) }
+    {
+        self.floor = self.floor.max(p);
+    }
+}

@@ -1,0 +1,12 @@
+//! An index of clues: how many journals each clue has, which is the last, and which of them are kept.
+#![tactic(auto)]
+
+mod index;
+mod slot;
+mod state;
+
+pub use index::ClueIndex;
+pub use state::ClueState;
+
+#[cfg(test)]
+mod tests;
