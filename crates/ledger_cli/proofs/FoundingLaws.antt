@@ -10,7 +10,7 @@ use Rattle.journal_record.proofs.Spelling.{length-spelling}
 use Rattle.ledger_model.specs.Genesis.{digest, no_clue, name_digest, founders_content, genesis_header, founded}
 use Rattle.ledger_model.specs.History.{history, id, point}
 use Rattle.ledger_model.specs.declared.genesis.Genesis.{Genesis}
-use Rattle.ledger_model.specs.Members.{keys}
+use Rattle.ledger_model.specs.Members.{members, keys}
 use Rattle.sha2.specs.Sha256.{sha256}
 use Rattle.tree_model.specs.Tree.{leaf}
 use Rattle.std.proofs.lemmas.List.{take_at, drop_at}
@@ -57,7 +57,7 @@ two_keys operator regulator wide =
     ap (λ x. x ∷ drop 32 (operator ++ regulator) ∷ []) (take_at operator regulator 32 wide) ∙ ap (λ x. operator ∷ x ∷ []) (drop_at operator regulator 32 wide)
 
 founded_keys : (genesis : Genesis) → length genesis.operator.0 ≡ 32 → keys (founded genesis) ≡ genesis.operator.0 ∷ genesis.regulator.0 ∷ []
-unfolding keys
+unfolding members genesis_header
 founded_keys genesis wide = two_keys genesis.operator.0 genesis.regulator.0 wide
 
 founded_id : (genesis : Genesis) (name encoded : List ℕ) → name ≡ leaf sha256 encoded → encoded ≡ spelling (genesis_header genesis) → id (founded genesis) ≡ name

@@ -8,7 +8,7 @@ use Rattle.journal_record.specs.Tags.{tag_key_of}
 use Rattle.script_lines.specs.Grammar.{line_of}
 use Rattle.script_lines.specs.declared.line.Line.{Line}
 use Rattle.ledger_model.specs.Rules.{job_for, job_of}
-use Rattle.ledger_model.specs.Appends.{append_job, request_of}
+use Rattle.ledger_model.specs.Appends.{append_with, append_job, request_of}
 use Rattle.ledger_model.specs.Genesis.{digest, no_clue}
 use Rattle.ledger_model.specs.declared.job.Job.{Job}
 use Rattle.ledger_model.specs.declared.job.Job.TheVariants.{Append}
@@ -22,10 +22,10 @@ some_digest None = refl
 pub append_is : (id : List ℕ) (member : ℕ) (content proof slice shown : List ℕ) (count : ℕ) (content_digest request : Digest) (key : Option Digest)
     → content_digest.0 ≡ content_digest_of slice → slice ≡ content → request.0 ≡ request_digest_of id member no_clue.0 count content_digest.0 → count ≡ length content
     → option_map (λ (d : Digest). d.0) key ≡ tag_key_of request.0 shown → shown ≡ proof
-    → Append member content content_digest request (record { member = member; key = key; proof = proof }) ≡ append_job id member content proof
-unfolding append_job
+    → Append member no_clue content content_digest request (record { member = member; key = key; proof = proof }) ≡ append_job id member content proof
+unfolding append_with
 append_is id member content proof slice shown count content_digest request key c s r n k p =
-    let job : Digest → Digest → Option Digest → Job = λ x y z. Append member content x y (record { member = member; key = z; proof = proof }) in
+    let job : Digest → Digest → Option Digest → Job = λ x y z. Append member no_clue content x y (record { member = member; key = z; proof = proof }) in
     let same : content_digest.0 ≡ content_digest_of content = c ∙ ap content_digest_of s in
     let asked : request.0 ≡ request_of id member content = r ∙ ap (λ x. request_digest_of id member no_clue.0 x content_digest.0) n ∙ ap (request_digest_of id member no_clue.0 (length content)) same in
     let shows : key ≡ option_map digest (tag_key_of (request_of id member content) proof) = some_digest key ∙ ap (option_map digest) (k ∙ ap (λ x. tag_key_of x shown) asked ∙ ap (tag_key_of (request_of id member content)) p) in

@@ -1,7 +1,7 @@
 ghost use Rattle.std.specs.Prelude.{◌≡◌, ◌≤◌, [], ◌∷◌, length, IfOk, OnOk};
 ghost use Rattle.journal_record.specs.Approval.{who_of};
 ghost use Rattle.ledger_model.specs.Appends.{append_journal};
-ghost use Rattle.ledger_model.specs.Genesis.{digest};
+ghost use Rattle.ledger_model.specs.Genesis.{digest, no_clue};
 ghost use Rattle.ledger_model.specs.History.{size, place, leaf_digest};
 ghost use Rattle.ledger_model.specs.InOrder.{step_of};
 ghost use Rattle.ledger_model.specs.Rules.{after_job};
@@ -29,6 +29,7 @@ pub(crate) fn apply(alloc: Global, ledger: &mut Ledger, job: Job) -> Result<Answ
         Job::Refused(refusal) => Ok(Answer::Reply(Reply::Refused(refusal))),
         Job::Append {
             member,
+            clue: _,
             content,
             content_digest,
             request,
@@ -37,6 +38,7 @@ pub(crate) fn apply(alloc: Global, ledger: &mut Ledger, job: Job) -> Result<Answ
             Some(refusal) => Ok(Answer::Reply(Reply::Refused(refusal))),
             None => append(alloc, ledger, member, content, content_digest, request, by),
         },
+        Job::NewMember { .. } | Job::Clue { .. } => unreachable!(),
         Job::Head => {
             ledger.close()?;
             Ok(Answer::Reply(ledger.head()))
@@ -57,8 +59,8 @@ fn append(
     requires content { length content ≤ 65536 }
     requires proof { length by.proof ≤ 4096 }
     ensures answer { IfOk result (λ answer. answer
-        ≡ Answer.Receipt (size ledger.old) (digest (leaf_digest (append_journal (size ledger.old) member content content_digest request by)))) }
-    ensures ledger { OnOk result (ledger.new ≡ place (append_journal (size ledger.old) member content content_digest request by) ledger.old) }
+        ≡ Answer.Receipt (size ledger.old) (digest (leaf_digest (append_journal ledger.old member no_clue content content_digest request by)))) }
+    ensures ledger { OnOk result (ledger.new ≡ place (append_journal ledger.old member no_clue content content_digest request by) ledger.old) }
 {
     let jsn = ledger.size();
     let who = who_of_one(alloc, by)?;

@@ -1,8 +1,9 @@
 ghost use Rattle.std.specs.Prelude.{◌≡◌, ◌↔◌, ◌++◌, [], ◌∷◌, IsTrue, IfOk, OnOk};
 ghost use Rattle.journal_record.specs.declared.header.Kind.TheVariants.{Content};
-ghost use Rattle.ledger_model.specs.Genesis.{founded};
+ghost use Rattle.ledger_model.specs.Genesis.{founded, no_clue};
 ghost use Rattle.ledger_model.specs.History.{history, id, size, root, blocks, close, place};
-ghost use Rattle.ledger_model.specs.Rules.{unknown_member, wrong_key, first_refusal};
+ghost use Rattle.ledger_model.specs.Judgements.{full, unknown_member, wrong_key, append_judgements, first_refusal};
+ghost use Rattle.ledger_model.specs.Limits.{real};
 ghost use Rattle.ledger_cli.specs.Heads.{head_of};
 
 use crate::founding::{first_header, founders};
@@ -15,6 +16,9 @@ use script_lines::Reply;
 use std::alloc::Global;
 use std::marker::Model;
 use std::mem;
+
+/// From how many journals on members' records are refused.
+const SOFT_LIMIT: u64 = 1_047_552;
 
 /// How many journals a block holds at most.
 const BLOCK_LIMIT: usize = 64;
@@ -123,6 +127,29 @@ impl Ledger {
 
     /// Why a member's record is refused, where it is; `shown` is the key that the member's proof shows.
     pub(crate) fn refusal(&self, member: u32, shown: &Option<Digest>) -> Option<Refusal>
+        ensures { result ≡ first_refusal (append_judgements real self.now member no_clue shown.now) }
+    {
+        match self.full() {
+            Some(refusal) => Some(refusal),
+            None => self.member_refusal(member, shown),
+        }
+    }
+
+    // Whether there is no room for a member's record.
+    fn full(&self) -> Option<Refusal>
+        ensures { result ≡ full real self.now }
+    {
+        let _id = &self.id;
+        let size = self.size();
+        if size >= SOFT_LIMIT {
+            Some(Refusal::Full { kept: size, size })
+        } else {
+            None
+        }
+    }
+
+    // Whether the member isn't known or the key isn't the member's.
+    fn member_refusal(&self, member: u32, shown: &Option<Digest>) -> Option<Refusal>
         ensures { result ≡ first_refusal (unknown_member self.now member ∷ wrong_key self.now member shown.now ∷ []) }
     {
         let key = match member {

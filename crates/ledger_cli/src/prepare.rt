@@ -45,6 +45,7 @@ fn prepare_append(id: &Digest, member: u32, content: Bytes, proof: Bytes) -> Job
     let key = tag_key(&request, proof.as_slice());
     Job::Append {
         member,
+        clue: NO_CLUE,
         content,
         content_digest: digest,
         request,

@@ -7,7 +7,7 @@ use Rattle.ledger_bytes.specs.declared.refusal.Refusal.{Refusal}
 use Rattle.journal_record.specs.Entry.{Entry}
 use Rattle.script_lines.specs.Replies.{reply_text}
 use Rattle.script_lines.specs.declared.reply.Reply.TheVariants as reply
-use Rattle.ledger_model.specs.Appends.{append_journal}
+use Rattle.ledger_model.specs.Appends.{append_journal, member_journal}
 use Rattle.ledger_model.specs.Dues.{due_for, dues, reply_at, due_text, dues_text, IsWithin}
 use Rattle.ledger_model.specs.Genesis.{digest}
 use Rattle.ledger_model.specs.History.{History, id, journals, journals_of, size, root, close, place, leaf_digest, block_of, end_of}
@@ -18,7 +18,7 @@ use Rattle.ledger_model.specs.declared.answer.Answer.{Answer}
 use Rattle.ledger_model.specs.declared.answer.Answer.TheVariants.{Reply, Receipt}
 use Rattle.ledger_model.specs.declared.due.Due.{Due}
 use Rattle.ledger_model.specs.declared.job.Job.{Job}
-use Rattle.ledger_model.specs.declared.job.Job.TheVariants.{Refused, Append, Head}
+use Rattle.ledger_model.specs.declared.job.Job.TheVariants.{Refused, Append, NewMember, Clue, Head}
 use Rattle.ledger_model.proofs.GrowLaws.{IsEnded, Moves, Goes, IsPlaced, is_placed, moves_job, moves_close, goes_not, goes_moved, goes_then, goes_size, size_closed, root_kept, block_of-goes, end_of-goes, end_of-le, block_of-ended, end_of-ended}
 
 -- each receipt's journal has a number of this range
@@ -37,9 +37,13 @@ within_accepted k None journal leaf = (omega arith, size_placed k journal)
 within_job : (k : History) (step : Step) (job : Job) → IsWithin (size k) (size (after_job k step job)) (answer_to k step job)
 unfolding after_job answer_to
 within_job k step (Refused refusal) = tt
-within_job k step (Append member content content_digest request by) =
-    let journal = append_journal (size k) member content content_digest request by in
-    within_accepted k (refusal_of k step (Append member content content_digest request by)) journal (digest (leaf_digest journal))
+within_job k step (Append member clue content content_digest request by) =
+    let journal = append_journal k member clue content content_digest request by in
+    within_accepted k (refusal_of k step (Append member clue content content_digest request by)) journal (digest (leaf_digest journal))
+within_job k step (NewMember number key by) =
+    let journal = member_journal (size k) number key by in
+    within_accepted k (refusal_of k step (NewMember number key by)) journal (digest (leaf_digest journal))
+within_job k step (Clue clue) = tt
 within_job k step Head = tt
 
 within_step : (k : History) (step : Step) → IsWithin (size k) (size (after_step k step)) (due_for k step).answer

@@ -10,12 +10,12 @@ use Rattle.tree_model.specs.Tree.{mth}
 use Rattle.ledger_bytes.specs.declared.refusal.Refusal.{Refusal}
 use Rattle.journal_record.specs.Entry.{Entry}
 use Rattle.journal_record.specs.Header.{spelling}
-use Rattle.ledger_model.specs.Appends.{append_journal}
+use Rattle.ledger_model.specs.Appends.{append_journal, member_journal}
 use Rattle.ledger_model.specs.History.{History, history, journals_of, journals, size, leaves, root, close_by, close, place, block_limit, block_from, end_from, block_of, end_of}
 use Rattle.ledger_model.specs.Rules.{with_accepted, with_placed, refusal_of, placed_by, judged_at, after_job}
 use Rattle.ledger_model.specs.Step.{Step}
 use Rattle.ledger_model.specs.declared.job.Job.{Job}
-use Rattle.ledger_model.specs.declared.job.Job.TheVariants.{Refused, Append, Head}
+use Rattle.ledger_model.specs.declared.job.Job.TheVariants.{Refused, Append, NewMember, Clue, Head}
 
 -- a block more has ended, and nothing waits
 pub record IsEnded (k g : History) : Type 0 where
@@ -92,7 +92,10 @@ moves_accepted k None journal = moves_place k journal
 pub moves_job : (k : History) (step : Step) (job : Job) → Moves k (after_job k step job)
 unfolding after_job
 moves_job k step (Refused refusal) = moves_not k
-moves_job k step (Append member content content_digest request by) = moves_accepted k (refusal_of k step (Append member content content_digest request by)) (append_journal (size k) member content content_digest request by)
+moves_job k step (Append member clue content content_digest request by) =
+    moves_accepted k (refusal_of k step (Append member clue content content_digest request by)) (append_journal k member clue content content_digest request by)
+moves_job k step (NewMember number key by) = moves_accepted k (refusal_of k step (NewMember number key by)) (member_journal (size k) number key by)
+moves_job k step (Clue clue) = moves_close k
 moves_job k step Head = moves_close k
 
 -- how many journals there are then

@@ -4,3 +4,4 @@ pub mod EndLaws
 pub mod GrowLaws
 pub mod DueLaws
 pub mod ProgressLaws
+pub mod PlaceLaws

@@ -1,5 +1,8 @@
--- The journal of a member's record.
-use Rattle.std.specs.Prelude.{ℕ, List, [], ◌∷◌, length}
+-- The journals of members' records and of new members.
+use Rattle.std.specs.Prelude.{ℕ, if◌then◌else◌, ◌==◌, List, [], ◌∷◌, ◌++◌, length}
+use Rattle.std.specs.Int.{w32, to_be_bytes}
+use Rattle.std.specs.Option.{option_map}
+use Rattle.sha2.specs.Sha256.{sha256}
 use Rattle.ledger_bytes.specs.declared.digest.Digest.{Digest}
 use Rattle.journal_record.specs.Approval.{who_of}
 use Rattle.journal_record.specs.Entry.{Entry, content_digest_of, who_digest_of}
@@ -8,35 +11,56 @@ use Rattle.journal_record.specs.Tags.{tag_key_of}
 use Rattle.journal_record.specs.declared.approval.Approval.{Approval}
 use Rattle.journal_record.specs.declared.header.Header.{Header}
 use Rattle.journal_record.specs.declared.header.Kind.TheVariants as kind
-use Rattle.std.specs.Option.{option_map}
+use Rattle.ledger_model.specs.Clues.{next_ordinal, last_journal}
 use Rattle.ledger_model.specs.Genesis.{digest, no_clue}
+use Rattle.ledger_model.specs.History.{History, size}
 use Rattle.ledger_model.specs.declared.job.Job.{Job}
-use Rattle.ledger_model.specs.declared.job.Job.TheVariants.{Append}
+use Rattle.ledger_model.specs.declared.job.Job.TheVariants.{Append, NewMember}
 
--- the digest that a member approves, for a record without a clue
+-- the digest that a member approves, for a record with this clue
+abbrev pub request_with : List ℕ → ℕ → Digest → List ℕ → List ℕ
+request_with id member clue content = request_digest_of id member clue.0 (length content) (content_digest_of content)
+
+-- .. and for a record without a clue
 abbrev pub request_of : List ℕ → ℕ → List ℕ → List ℕ
-request_of id member content = request_digest_of id member no_clue.0 (length content) (content_digest_of content)
+request_of id member content = request_with id member no_clue content
+
+-- the digest that member 0 approves, for a new member with this number and key
+abbrev pub member_request_of : List ℕ → ℕ → Digest → List ℕ
+member_request_of id number key = sha256 (8 ∷ (id ++ to_be_bytes w32 number ++ key.0))
+
+-- the clue of a name; no name is no clue
+abbrev pub clue_of : List ℕ → Digest
+clue_of name = if length name == 0 then no_clue else digest (sha256 (12 ∷ name))
 
 -- an approval, with the key that its proof shows
 abbrev pub approval_of : ℕ → List ℕ → List ℕ → Approval
 approval_of member message proof = record { member = member; key = option_map digest (tag_key_of message proof); proof = proof }
 
--- the job of a record on the ledger with this id
-unfoldable pub append_job : List ℕ → ℕ → List ℕ → List ℕ → Job
-append_job id member content proof =
-    let request = request_of id member content in
-    Append member content (digest (content_digest_of content)) (digest request) (approval_of member request proof)
+-- the job of a record with a clue on the ledger with this id
+unfoldable pub append_with : List ℕ → ℕ → Digest → List ℕ → List ℕ → Job
+append_with id member clue content proof =
+    let request = request_with id member clue content in
+    Append member clue content (digest (content_digest_of content)) (digest request) (approval_of member request proof)
 
--- the header of a record that is journal jsn
-unfoldable pub append_header : ℕ → ℕ → List ℕ → Digest → Digest → Approval → Header
-append_header jsn member content content_digest request by = record {
+-- .. and of a record without a clue
+abbrev pub append_job : List ℕ → ℕ → List ℕ → List ℕ → Job
+append_job id member content proof = append_with id member no_clue content proof
+
+-- the job of a new member on the ledger with this id
+unfoldable pub member_job : List ℕ → ℕ → Digest → List ℕ → Job
+member_job id number key proof = NewMember number key (approval_of 0 (member_request_of id number key) proof)
+
+-- the header of a record that is journal jsn, with its clue, its number among the clue's journals, and the clue's journal before it
+unfoldable pub append_header : ℕ → ℕ → Digest → ℕ → ℕ → List ℕ → Digest → Digest → Approval → Header
+append_header jsn member clue ordinal previous content content_digest request by = record {
   version = 1;
   kind = kind.Content;
   jsn = jsn;
   member = member;
-  clue = no_clue;
-  clue_ord = 0;
-  clue_prev = 0;
+  clue = clue;
+  clue_ord = ordinal;
+  clue_prev = previous;
   a = 0;
   b = 0;
   link = request;
@@ -45,10 +69,36 @@ append_header jsn member content content_digest request by = record {
   who_digest = digest (who_digest_of (who_of (by ∷ [])));
 }
 
--- a record that is journal jsn
-abbrev pub append_journal : ℕ → ℕ → List ℕ → Digest → Digest → Approval → Entry
-append_journal jsn member content content_digest request by = record {
-  header = append_header jsn member content content_digest request by;
+-- a record as the next journal of a history
+abbrev pub append_journal : History → ℕ → Digest → List ℕ → Digest → Digest → Approval → Entry
+append_journal h member clue content content_digest request by = record {
+  header = append_header (size h) member clue (next_ordinal h clue) (last_journal h clue) content content_digest request by;
   content = content;
+  who = who_of (by ∷ []);
+}
+
+-- the header of a new member that is journal jsn
+unfoldable pub member_header : ℕ → ℕ → Digest → Approval → Header
+member_header jsn number key by = record {
+  version = 1;
+  kind = kind.Member;
+  jsn = jsn;
+  member = 0;
+  clue = no_clue;
+  clue_ord = 0;
+  clue_prev = 0;
+  a = number;
+  b = 0;
+  link = key;
+  content_len = 0;
+  content_digest = digest (content_digest_of []);
+  who_digest = digest (who_digest_of (who_of (by ∷ [])));
+}
+
+-- a new member as journal jsn
+abbrev pub member_journal : ℕ → ℕ → Digest → Approval → Entry
+member_journal jsn number key by = record {
+  header = member_header jsn number key by;
+  content = [];
   who = who_of (by ∷ []);
 }

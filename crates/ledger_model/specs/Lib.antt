@@ -1,9 +1,14 @@
 pub mod History
 pub mod Ends
 pub mod Genesis
+pub mod Limits
 pub mod Step
 pub mod Members
+pub mod Clues
 pub mod Appends
+pub mod Judgements
+pub mod Outcomes
+pub mod Books
 pub mod Notary
 pub mod Rules
 pub mod Texts

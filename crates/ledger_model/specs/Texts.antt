@@ -1,12 +1,15 @@
 -- What is written for a run.
-use Rattle.std.specs.Prelude.{ℕ, List, [], ◌∷◌, ◌++◌, length, Option, Some, None}
+use Rattle.std.specs.Prelude.{ℕ, List, [], ◌∷◌, ◌++◌, length, filter, Option, Some, None, nat_le}
 use Rattle.sha2.specs.Sha256.{sha256}
 use Rattle.tree_model.specs.Tree.{mth}
+use Rattle.ledger_bytes.specs.declared.digest.Digest.{Digest}
 use Rattle.ledger_bytes.specs.declared.refusal.Refusal.{Refusal}
+use Rattle.journal_record.specs.Entry.{Entry}
 use Rattle.script_lines.specs.Replies.{reply_text}
 use Rattle.script_lines.specs.declared.reply.Reply.{Reply as AnyReply}
 use Rattle.script_lines.specs.declared.reply.Reply.TheVariants as reply
-use Rattle.ledger_model.specs.Appends.{append_journal}
+use Rattle.ledger_model.specs.Appends.{append_journal, member_journal}
+use Rattle.ledger_model.specs.Clues.{jsns_with}
 use Rattle.ledger_model.specs.Genesis.{digest}
 use Rattle.ledger_model.specs.History.{History, id, size, root, blocks, point, leaf_digest, block_of, end_of}
 use Rattle.ledger_model.specs.Rules.{job_of, judged_at, refusal_of, after_step, after_window}
@@ -14,13 +17,23 @@ use Rattle.ledger_model.specs.Step.{Step}
 use Rattle.ledger_model.specs.declared.answer.Answer.{Answer}
 use Rattle.ledger_model.specs.declared.answer.Answer.TheVariants.{Reply, Receipt}
 use Rattle.ledger_model.specs.declared.job.Job.{Job}
-use Rattle.ledger_model.specs.declared.job.Job.TheVariants.{Refused, Append, Head}
+use Rattle.ledger_model.specs.declared.job.Job.TheVariants.{Refused, Append, NewMember, Clue, Head}
+
+-- the receipt for a journal
+abbrev pub receipt_for : ℕ → Entry → Answer
+receipt_for jsn journal = Receipt jsn (digest (leaf_digest journal))
+
+-- the numbers of a clue's journals from the point on
+abbrev pub kept_with : History → Digest → List ℕ
+kept_with h clue = filter (λ jsn. nat_le (point h) jsn) (jsns_with h clue)
 
 -- the answer to an accepted job that is judged against h
 abbrev pub accepted : History → Step → Job → Answer
 accepted h step (Refused refusal) = Reply (reply.Refused refusal)
-accepted h step (Append member content content_digest request by) =
-    Receipt (size h) (digest (leaf_digest (append_journal (size h) member content content_digest request by)))
+accepted h step (Append member clue content content_digest request by) =
+    receipt_for (size h) (append_journal h member clue content content_digest request by)
+accepted h step (NewMember number key by) = receipt_for (size h) (member_journal (size h) number key by)
+accepted h step (Clue clue) = Reply (reply.Clue (length (jsns_with h clue)) (kept_with h clue))
 accepted h step Head =
     Reply (reply.Head (digest (id h)) (size h) (digest (root h (size h))) (blocks h) (point h) (length step.after) (digest (mth sha256 step.after)))
 

@@ -6,16 +6,32 @@ use ledger_bytes::{Bytes, Digest, Refusal};
 pub enum Job {
     /// The line has no right form.
     Refused(Refusal),
-    /// A journal without a clue.
+    /// A member's record.
     Append {
         /// Who places it.
         member: u32,
+        /// The digest of the clue's name, or 32 zero bytes where there is no clue.
+        clue: Digest,
         content: Bytes,
         content_digest: Digest,
         /// The digest that the member approves.
         request: Digest,
         /// The member's approval of the request.
         by: Approval,
+    },
+    /// A new member.
+    NewMember {
+        /// The new member's number.
+        number: u32,
+        /// The key that the new member's proofs will show.
+        key: Digest,
+        /// The approval of member 0.
+        by: Approval,
+    },
+    /// The journals of a clue.
+    Clue {
+        /// The digest of the clue's name, or 32 zero bytes for no clue.
+        clue: Digest,
     },
     /// Where the ledger stands.
     Head,

@@ -7,9 +7,15 @@ mod due;
 mod genesis;
 mod job;
 mod laws;
+mod limits;
+mod outcome;
+mod view;
 
 pub use answer::Answer;
 pub use due::Due;
 pub use genesis::Genesis;
 pub use job::Job;
 pub use laws::{blocks_are_journals_with_ends, windows_are_parts};
+pub use limits::Limits;
+pub use outcome::Outcome;
+pub use view::View;
