@@ -1,2 +1,4 @@
 pub mod Spelling
 pub mod TagLaws
+pub mod ReadingSteps
+pub mod ReadingLaws

@@ -1,5 +1,5 @@
 -- A header's bytes.
-use Rattle.std.specs.Prelude.{◌≡◌, ℕ, List, [], ◌∷◌, ◌++◌, length}
+use Rattle.std.specs.Prelude.{◌≡◌, ℕ, ◌^◌, ◌<◌, List, [], ◌∷◌, ◌++◌, length}
 use Rattle.std.specs.Int.{w32, w64, to_be_bytes}
 use Rattle.journal_record.specs.declared.header.Header.{Header}
 use Rattle.journal_record.specs.declared.header.Kind.{Kind}
@@ -31,8 +31,16 @@ spelling h =
     ++ h.content_digest.0
     ++ h.who_digest.0
 
--- each digest of a header has 32 bytes, as in a header of the program
+-- each number of a header fits its field, and each digest has 32 bytes, as in a header of the program
 pub record HasWidths (h : Header) : Type 0 where
+  pub version : h.version < 2 ^ 8
+  pub jsn : h.jsn < 2 ^ 64
+  pub member : h.member < 2 ^ 32
+  pub clue_ord : h.clue_ord < 2 ^ 32
+  pub clue_prev : h.clue_prev < 2 ^ 64
+  pub a : h.a < 2 ^ 64
+  pub b : h.b < 2 ^ 64
+  pub content_len : h.content_len < 2 ^ 32
   pub clue : length h.clue.0 ≡ 32
   pub link : length h.link.0 ≡ 32
   pub content_digest : length h.content_digest.0 ≡ 32

@@ -1,7 +1,8 @@
-ghost use Rattle.std.specs.Prelude.{◌≡◌};
+ghost use Rattle.std.specs.Prelude.{◌≡◌, IfOk, Ok};
 
 use crate::filling::Filling;
-use ledger_bytes::Digest;
+use crate::reading::read;
+use ledger_bytes::{Bad, Digest};
 
 /// The length of a header in bytes.
 pub const HEADER_LEN: usize = 174;
@@ -85,7 +86,25 @@ pub struct Header {
 }
 
 impl Header {
+    ghost use Rattle.journal_record.specs.declared.header.Header.{Header as HeaderRecord};
     ghost use Rattle.journal_record.specs.Header.{spelling, HasWidths};
+    ghost use Rattle.journal_record.specs.Reading.{header_of};
+    ghost use Rattle.journal_record.specs.Rules.{IsHeader};
+
+    /// Reads a header from its 174 bytes. The first break in the order of the bytes is told: `NewerFormat` for a
+    /// version other than 1, `BadKind` for a kind above 5, `BadFixedField` with its offset for a field that breaks
+    /// its rule, `Short` with the input's length where a field isn't whole, and at last `Trailing`. Links and
+    /// digests may be any.
+    pub fn decode(bytes: &[u8]) -> Result<Header, Bad>
+        // Which answer it is, and at a break which break and where.
+        ensures exact { result ≡ header_of bytes.now }
+        // What is read keeps every rule and is spelled so, each byte of it.
+        ensures found { IfOk result (λ h. IsHeader h × (bytes.now ≡ spelling h)) }
+        // What keeps every rule and is spelled so is read.
+        ensures only { (h : HeaderRecord) → IsHeader h → HasWidths h → bytes.now ≡ spelling h → result ≡ Ok h }
+    {
+        read(bytes)
+    }
 
     /// The header's bytes.
     #[tactic(auto, unfolding(crate::specs::Header::spelling))]

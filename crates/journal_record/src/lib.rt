@@ -5,12 +5,15 @@ mod approval;
 mod digests;
 mod filling;
 mod header;
+mod reading;
 mod request;
+mod rules;
 mod tags;
 
 pub use approval::{Approval, who_bytes};
 pub use digests::{content_digest, who_digest};
 pub use header::{HEADER_LEN, Header, Kind};
+pub use reading::{is_inverse_of_encoding, take_header};
 pub use request::request_digest;
 pub use tags::{tag_key, tag_of};
 

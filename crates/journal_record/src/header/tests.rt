@@ -22,6 +22,42 @@ struct Row {
     bytes: &'static str,
 }
 
+// What is refused: the row whose bytes are changed, the place of the change, the bytes that are put there, how many
+// bytes of the row and a zero byte behind it are read, and what breaks.
+const REFUSED: [(usize, usize, &[u8], usize, Bad); 31] = [
+    (2, 0, &[], 173, Bad::Short { at: 173 }),
+    (2, 0, &[], 1, Bad::Short { at: 1 }),
+    (0, 0, &[], 0, Bad::Short { at: 0 }),
+    (2, 0, &[], 175, Bad::Trailing { at: 174 }),
+    (2, 0, &[0], 174, Bad::NewerFormat { found: 0 }),
+    (2, 0, &[2], 174, Bad::NewerFormat { found: 2 }),
+    (2, 0, &[7], 175, Bad::NewerFormat { found: 7 }),
+    (2, 0, &[7], 1, Bad::NewerFormat { found: 7 }),
+    (2, 1, &[6], 174, Bad::BadKind { found: 6 }),
+    (2, 1, &[6], 2, Bad::BadKind { found: 6 }),
+    (2, 9, &[0], 174, Bad::BadFixedField { at: 2 }),
+    (2, 12, &[1, 0], 174, Bad::BadFixedField { at: 10 }),
+    (2, 49, &[0], 174, Bad::BadFixedField { at: 46 }),
+    (2, 14, &[0; 32], 174, Bad::BadFixedField { at: 46 }),
+    (2, 57, &[1], 174, Bad::BadFixedField { at: 50 }),
+    (2, 49, &[2], 174, Bad::BadFixedField { at: 50 }),
+    (5, 57, &[5], 174, Bad::BadFixedField { at: 50 }),
+    (2, 65, &[1], 174, Bad::BadFixedField { at: 58 }),
+    (2, 73, &[1], 174, Bad::BadFixedField { at: 66 }),
+    (2, 107, &[1, 0, 1], 174, Bad::BadFixedField { at: 106 }),
+    (3, 62, &[1], 174, Bad::BadFixedField { at: 58 }),
+    (3, 14, &[1], 174, Bad::BadFixedField { at: 14 }),
+    (3, 13, &[1], 174, Bad::BadFixedField { at: 10 }),
+    (1, 64, &[1, 0], 174, Bad::BadFixedField { at: 58 }),
+    (1, 65, &[1], 174, Bad::BadFixedField { at: 58 }),
+    (6, 65, &[6], 174, Bad::BadFixedField { at: 58 }),
+    (7, 65, &[0], 174, Bad::BadFixedField { at: 58 }),
+    (7, 65, &[7], 174, Bad::BadFixedField { at: 58 }),
+    (0, 109, &[63], 174, Bad::BadFixedField { at: 106 }),
+    (0, 9, &[1], 174, Bad::BadFixedField { at: 2 }),
+    (0, 109, &[63], 109, Bad::Short { at: 109 }),
+];
+
 const NO_CLUE: &str = "0000000000000000000000000000000000000000000000000000000000000000";
 
 const ROWS: [Row; 10] = [
@@ -192,7 +228,7 @@ fn digest(text: &str) -> Result<Digest, hex::FromHexError> {
 }
 
 #[test]
-fn encodes_each_kind(rt: HostRuntime) -> Result<(), Fail> {
+fn encodes_and_decodes_each_kind(rt: HostRuntime) -> Result<(), Fail> {
     for row in ROWS {
         let header = Header {
             version: row.version,
@@ -211,6 +247,35 @@ fn encodes_each_kind(rt: HostRuntime) -> Result<(), Fail> {
         };
         let text = hex::encode(rt.alloc(), header.encode())?;
         assert_eq!(rt; text.as_str(), row.bytes, "at journal {}", row.jsn);
+        let read = match row.version {
+            1 => Ok(header),
+            found => Err(Bad::NewerFormat { found }),
+        };
+        assert_eq!(rt;
+            Header::decode(&header.encode()),
+            read,
+            "at journal {}",
+            row.jsn
+        );
+    }
+    Ok(())
+}
+
+#[test]
+fn tells_the_first_break(rt: HostRuntime) -> Result<(), Fail> {
+    for (row, place, patch, len, bad) in REFUSED {
+        assert!(rt; row < ROWS.len());
+        let mut bytes = hex::decode(rt.alloc(), ROWS[row].bytes)?;
+        bytes.push(0)?;
+        for (byte, changed) in bytes.iter_mut().skip(place).zip(patch) {
+            *byte = *changed;
+        }
+        assert!(rt; len <= bytes.len());
+        assert_eq!(rt;
+            Header::decode(&bytes[..len]),
+            Err(bad),
+            "row {row} at {place}"
+        );
     }
     Ok(())
 }

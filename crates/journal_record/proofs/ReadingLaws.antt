@@ -1,0 +1,381 @@
+-- What is read as a header is spelled so and keeps the rules, and what does is read.
+use Rattle.std.proofs.Common.{◌≡◌, ℕ, ◌-◌, ◌^◌, ◌<◌, true, eqb, List, [], ◌∷◌, ◌++◌, length, Result, Ok, Err, refl, sym, ap, subst, ◌∙◌, append_assoc}
+use Rattle.std.specs.Int.{w8, w32, w64, to_be_bytes}
+use Rattle.std.specs.Prelude.{IfOk}
+use Rattle.std.proofs.lemmas.Bool.{eqb-true}
+use Rattle.std.proofs.lemmas.List.{append-nil, nil_from_length}
+use Rattle.ledger_bytes.specs.declared.digest.Digest.{Digest}
+use Rattle.ledger_bytes.specs.declared.failure.Bad.{Bad}
+use Rattle.ledger_bytes.specs.declared.failure.Bad.TheVariants.{BadFixedField, NewerFormat, Trailing}
+use Rattle.ledger_bytes.specs.Fields.{Left, left, ◌>>=◌, number_at, digest_at, end_at, IsBytes, Took, ReadsBack}
+use Rattle.ledger_bytes.proofs.Fields.{bind_ok, check_ok, Took-then, wide32, wide64, number_back, byte_back, digest_back}
+use Rattle.journal_record.specs.declared.header.Header.{Header}
+use Rattle.journal_record.specs.declared.header.Kind.{Kind}
+use Rattle.journal_record.specs.Header.{code_of, spelling, HasWidths}
+use Rattle.journal_record.specs.Rules.{version_ok, jsn_ok, member_ok, clue_ok, clue_ord_ok, clue_prev_ok, a_ok, b_ok, content_len_ok, IsHeader}
+use Rattle.journal_record.specs.Reading.{known_kind, front_at, clue_at, own_at, parts_at, header_at, header_of}
+use Rattle.journal_record.proofs.ReadingSteps.{ruled, plain_takes, plain_again, field_takes, field_again, kind_takes, kind_again, code_below, ended, answered}
+
+abbrev back32 : ReadsBack (number_at w32) (to_be_bytes w32) (λ n. n < 2 ^ 32)
+back32 = number_back w32 (2 ^ 32) wide32
+
+abbrev back64 : ReadsBack (number_at w64) (to_be_bytes w64) (λ n. n < 2 ^ 64)
+back64 = number_back w64 (2 ^ 64) wide64
+
+abbrev at_place : {A : Type 0} → ℕ → A → Bad
+at_place at v = BadFixedField at
+
+-- ---- version, kind, number and member
+
+abbrev Front : Type 0
+Front = ℕ × Kind × ℕ × ℕ
+
+abbrev front_text : Front → List ℕ
+front_text x = x.0 ∷ [] ++ code_of x.1 ∷ [] ++ to_be_bytes w64 x.2 ++ to_be_bytes w32 x.3
+
+record IsFront (x : Front) : Type 0 where
+  version_width : x.0 < 2 ^ 8
+  jsn_width : x.2 < 2 ^ 64
+  member_width : x.3 < 2 ^ 32
+  version : version_ok x.0 ≡ true
+  jsn : jsn_ok x.1 x.2 ≡ true
+  member : member_ok x.1 x.3 ≡ true
+
+abbrev from_member : ℕ → Kind → ℕ → ℕ × Left → Result (Front × Left) Bad
+from_member version kind jsn member = Ok ((version, kind, jsn, member.0), member.1)
+
+abbrev from_jsn : ℕ → Kind → ℕ × Left → Result (Front × Left) Bad
+from_jsn version kind jsn = number_at w32 jsn.1 >>= ruled (member_ok kind) (at_place 10) (from_member version kind jsn.0)
+
+abbrev from_kind : ℕ → Left → Kind → Result (Front × Left) Bad
+from_kind version l kind = number_at w64 l >>= ruled (jsn_ok kind) (at_place 2) (from_jsn version kind)
+
+abbrev from_code : ℕ → ℕ × Left → Result (Front × Left) Bad
+from_code version code = known_kind code.0 >>= from_kind version code.1
+
+abbrev from_version : ℕ × Left → Result (Front × Left) Bad
+from_version version = number_at w8 version.1 >>= from_code version.0
+
+front_takes : (l : Left) (x : Front) (after : Left) → IsBytes l.rest → front_at l ≡ Ok (x, after) → Took l (front_text x) after × IsFront x
+unfolding front_at
+front_takes l x after bytes e =
+    let v = field_takes (number_at w8) (λ n. n ∷ []) (λ n. n < 2 ^ 8) byte_back version_ok NewerFormat from_version l (x, after) bytes e in
+    let c = plain_takes (number_at w8) (λ n. n ∷ []) (λ n. n < 2 ^ 8) byte_back (from_code v.0.0) v.0.1 (x, after) v.1.bytes v.4 in
+    let k = bind_ok (known_kind c.0.0) (from_kind v.0.0 c.0.1) (x, after) c.3 in
+    let j = field_takes (number_at w64) (to_be_bytes w64) (λ n. n < 2 ^ 64) back64 (jsn_ok k.0) (at_place 2) (from_jsn v.0.0 k.0) c.0.1 (x, after) c.1.bytes k.2 in
+    let m = field_takes (number_at w32) (to_be_bytes w32) (λ n. n < 2 ^ 32) back32 (member_ok k.0) (at_place 10) (from_member v.0.0 k.0 j.0.0) j.0.1 (x, after) j.1.bytes j.4 in
+    let code : Took v.0.1 (code_of k.0 ∷ []) c.0.1 = subst (λ (n : ℕ). Took v.0.1 (n ∷ []) c.0.1) (sym (kind_takes c.0.0 k.0 k.1)) c.1 in
+    let t1 = Took-then l (v.0.0 ∷ []) v.0.1 (code_of k.0 ∷ []) c.0.1 v.1 code in
+    let t2 = Took-then l (v.0.0 ∷ [] ++ code_of k.0 ∷ []) c.0.1 (to_be_bytes w64 j.0.0) j.0.1 t1 j.1 in
+    let t3 = Took-then l (v.0.0 ∷ [] ++ code_of k.0 ∷ [] ++ to_be_bytes w64 j.0.0) j.0.1 (to_be_bytes w32 m.0.0) m.0.1 t2 m.1 in
+    let fits : IsFront (v.0.0, k.0, j.0.0, m.0.0) = record { version_width = v.2; jsn_width = j.2; member_width = m.2; version = v.3; jsn = j.3; member = m.3 } in
+    answered front_text (IsFront) l (v.0.0, k.0, j.0.0, m.0.0) x m.0.1 after m.4 t3 fits
+
+regroup4 : (a b c d rest : List ℕ) → (a ++ b ++ c ++ d) ++ rest ≡ a ++ (b ++ (c ++ (d ++ rest)))
+regroup4 a b c d rest = simp append_assoc
+
+front_again : (x : Front) (whole : ℕ) (rest : List ℕ) → IsFront x → front_at (left whole (front_text x ++ rest)) ≡ Ok (x, left whole rest)
+unfolding front_at
+front_again x whole rest fits =
+    let r3 : List ℕ = to_be_bytes w32 x.3 ++ rest in
+    let r2 : List ℕ = to_be_bytes w64 x.2 ++ r3 in
+    let r1 : List ℕ = code_of x.1 ∷ [] ++ r2 in
+    ap (λ (t : List ℕ). front_at (left whole t)) (regroup4 (x.0 ∷ []) (code_of x.1 ∷ []) (to_be_bytes w64 x.2) (to_be_bytes w32 x.3) rest)
+    ∙ field_again (number_at w8) (λ n. n ∷ []) (λ n. n < 2 ^ 8) byte_back version_ok NewerFormat from_version x.0 whole r1 fits.version_width fits.version
+    ∙ plain_again (number_at w8) (λ n. n ∷ []) (λ n. n < 2 ^ 8) byte_back (from_code x.0) (code_of x.1) whole r2 (code_below x.1)
+    ∙ ap (λ (k : Result Kind Bad). k >>= from_kind x.0 (left whole r2)) (kind_again x.1)
+    ∙ field_again (number_at w64) (to_be_bytes w64) (λ n. n < 2 ^ 64) back64 (jsn_ok x.1) (at_place 2) (from_jsn x.0 x.1) x.2 whole r3 fits.jsn_width fits.jsn
+    ∙ field_again (number_at w32) (to_be_bytes w32) (λ n. n < 2 ^ 32) back32 (member_ok x.1) (at_place 10) (from_member x.0 x.1 x.2) x.3 whole rest fits.member_width fits.member
+
+-- ---- the clue
+
+abbrev Clue : Type 0
+Clue = Digest × ℕ × ℕ
+
+abbrev clue_text : Clue → List ℕ
+clue_text x = x.0.0 ++ to_be_bytes w32 x.1 ++ to_be_bytes w64 x.2
+
+record IsClue (kind : Kind) (jsn : ℕ) (x : Clue) : Type 0 where
+  clue_width : length x.0.0 ≡ 32
+  ord_width : x.1 < 2 ^ 32
+  prev_width : x.2 < 2 ^ 64
+  clue : clue_ok kind x.0 ≡ true
+  ord : clue_ord_ok x.0 x.1 ≡ true
+  prev : clue_prev_ok jsn x.1 x.2 ≡ true
+
+abbrev from_prev : Digest → ℕ → ℕ × Left → Result (Clue × Left) Bad
+from_prev clue ord prev = Ok ((clue, ord, prev.0), prev.1)
+
+abbrev from_ord : ℕ → Digest → ℕ × Left → Result (Clue × Left) Bad
+from_ord jsn clue ord = number_at w64 ord.1 >>= ruled (clue_prev_ok jsn ord.0) (at_place 50) (from_prev clue ord.0)
+
+abbrev from_clue : ℕ → Digest × Left → Result (Clue × Left) Bad
+from_clue jsn clue = number_at w32 clue.1 >>= ruled (clue_ord_ok clue.0) (at_place 46) (from_ord jsn clue.0)
+
+clue_takes : (kind : Kind) (jsn : ℕ) (l : Left) (x : Clue) (after : Left) → IsBytes l.rest → clue_at kind jsn l ≡ Ok (x, after) → Took l (clue_text x) after × IsClue kind jsn x
+unfolding clue_at
+clue_takes kind jsn l x after bytes e =
+    let c = field_takes digest_at (λ d. d.0) (λ d. length d.0 ≡ 32) digest_back (clue_ok kind) (at_place 14) (from_clue jsn) l (x, after) bytes e in
+    let o = field_takes (number_at w32) (to_be_bytes w32) (λ n. n < 2 ^ 32) back32 (clue_ord_ok c.0.0) (at_place 46) (from_ord jsn c.0.0) c.0.1 (x, after) c.1.bytes c.4 in
+    let p = field_takes (number_at w64) (to_be_bytes w64) (λ n. n < 2 ^ 64) back64 (clue_prev_ok jsn o.0.0) (at_place 50) (from_prev c.0.0 o.0.0) o.0.1 (x, after) o.1.bytes o.4 in
+    let t1 = Took-then l c.0.0.0 c.0.1 (to_be_bytes w32 o.0.0) o.0.1 c.1 o.1 in
+    let t2 = Took-then l (c.0.0.0 ++ to_be_bytes w32 o.0.0) o.0.1 (to_be_bytes w64 p.0.0) p.0.1 t1 p.1 in
+    let fits : IsClue kind jsn (c.0.0, o.0.0, p.0.0) = record { clue_width = c.2; ord_width = o.2; prev_width = p.2; clue = c.3; ord = o.3; prev = p.3 } in
+    answered clue_text (IsClue kind jsn) l (c.0.0, o.0.0, p.0.0) x p.0.1 after p.4 t2 fits
+
+regroup3 : (a b c rest : List ℕ) → (a ++ b ++ c) ++ rest ≡ a ++ (b ++ (c ++ rest))
+regroup3 a b c rest = simp append_assoc
+
+clue_again : (kind : Kind) (jsn : ℕ) (x : Clue) (whole : ℕ) (rest : List ℕ) → IsClue kind jsn x → clue_at kind jsn (left whole (clue_text x ++ rest)) ≡ Ok (x, left whole rest)
+unfolding clue_at
+clue_again kind jsn x whole rest fits =
+    let r2 : List ℕ = to_be_bytes w64 x.2 ++ rest in
+    let r1 : List ℕ = to_be_bytes w32 x.1 ++ r2 in
+    ap (λ (t : List ℕ). clue_at kind jsn (left whole t)) (regroup3 x.0.0 (to_be_bytes w32 x.1) (to_be_bytes w64 x.2) rest)
+    ∙ field_again digest_at (λ d. d.0) (λ d. length d.0 ≡ 32) digest_back (clue_ok kind) (at_place 14) (from_clue jsn) x.0 whole r1 fits.clue_width fits.clue
+    ∙ field_again (number_at w32) (to_be_bytes w32) (λ n. n < 2 ^ 32) back32 (clue_ord_ok x.0) (at_place 46) (from_ord jsn x.0) x.1 whole r2 fits.ord_width fits.ord
+    ∙ field_again (number_at w64) (to_be_bytes w64) (λ n. n < 2 ^ 64) back64 (clue_prev_ok jsn x.1) (at_place 50) (from_prev x.0 x.1) x.2 whole rest fits.prev_width fits.prev
+
+-- ---- what goes by the kind
+
+abbrev Own : Type 0
+Own = ℕ × ℕ × Digest
+
+abbrev own_text : Own → List ℕ
+own_text x = to_be_bytes w64 x.0 ++ to_be_bytes w64 x.1 ++ x.2.0
+
+record IsOwn (kind : Kind) (jsn : ℕ) (x : Own) : Type 0 where
+  a_width : x.0 < 2 ^ 64
+  b_width : x.1 < 2 ^ 64
+  link_width : length x.2.0 ≡ 32
+  a : a_ok kind jsn x.0 ≡ true
+  b : b_ok kind x.1 ≡ true
+
+abbrev from_link : ℕ → ℕ → Digest × Left → Result (Own × Left) Bad
+from_link a b link = Ok ((a, b, link.0), link.1)
+
+abbrev from_b : ℕ → ℕ × Left → Result (Own × Left) Bad
+from_b a b = digest_at b.1 >>= from_link a b.0
+
+abbrev from_a : Kind → ℕ × Left → Result (Own × Left) Bad
+from_a kind a = number_at w64 a.1 >>= ruled (b_ok kind) (at_place 66) (from_b a.0)
+
+own_takes : (kind : Kind) (jsn : ℕ) (l : Left) (x : Own) (after : Left) → IsBytes l.rest → own_at kind jsn l ≡ Ok (x, after) → Took l (own_text x) after × IsOwn kind jsn x
+unfolding own_at
+own_takes kind jsn l x after bytes e =
+    let a = field_takes (number_at w64) (to_be_bytes w64) (λ n. n < 2 ^ 64) back64 (a_ok kind jsn) (at_place 58) (from_a kind) l (x, after) bytes e in
+    let b = field_takes (number_at w64) (to_be_bytes w64) (λ n. n < 2 ^ 64) back64 (b_ok kind) (at_place 66) (from_b a.0.0) a.0.1 (x, after) a.1.bytes a.4 in
+    let k = plain_takes digest_at (λ d. d.0) (λ d. length d.0 ≡ 32) digest_back (from_link a.0.0 b.0.0) b.0.1 (x, after) b.1.bytes b.4 in
+    let t1 = Took-then l (to_be_bytes w64 a.0.0) a.0.1 (to_be_bytes w64 b.0.0) b.0.1 a.1 b.1 in
+    let t2 = Took-then l (to_be_bytes w64 a.0.0 ++ to_be_bytes w64 b.0.0) b.0.1 k.0.0.0 k.0.1 t1 k.1 in
+    let fits : IsOwn kind jsn (a.0.0, b.0.0, k.0.0) = record { a_width = a.2; b_width = b.2; link_width = k.2; a = a.3; b = b.3 } in
+    answered own_text (IsOwn kind jsn) l (a.0.0, b.0.0, k.0.0) x k.0.1 after k.3 t2 fits
+
+own_again : (kind : Kind) (jsn : ℕ) (x : Own) (whole : ℕ) (rest : List ℕ) → IsOwn kind jsn x → own_at kind jsn (left whole (own_text x ++ rest)) ≡ Ok (x, left whole rest)
+unfolding own_at
+own_again kind jsn x whole rest fits =
+    let r2 : List ℕ = x.2.0 ++ rest in
+    let r1 : List ℕ = to_be_bytes w64 x.1 ++ r2 in
+    ap (λ (t : List ℕ). own_at kind jsn (left whole t)) (regroup3 (to_be_bytes w64 x.0) (to_be_bytes w64 x.1) x.2.0 rest)
+    ∙ field_again (number_at w64) (to_be_bytes w64) (λ n. n < 2 ^ 64) back64 (a_ok kind jsn) (at_place 58) (from_a kind) x.0 whole r1 fits.a_width fits.a
+    ∙ field_again (number_at w64) (to_be_bytes w64) (λ n. n < 2 ^ 64) back64 (b_ok kind) (at_place 66) (from_b x.0) x.1 whole r2 fits.b_width fits.b
+    ∙ plain_again digest_at (λ d. d.0) (λ d. length d.0 ≡ 32) digest_back (from_link x.0 x.1) x.2 whole rest fits.link_width
+
+-- ---- the content's length and the digests
+
+abbrev Parts : Type 0
+Parts = ℕ × Digest × Digest
+
+abbrev parts_text : Parts → List ℕ
+parts_text x = to_be_bytes w32 x.0 ++ x.1.0 ++ x.2.0
+
+record IsParts (kind : Kind) (x : Parts) : Type 0 where
+  len_width : x.0 < 2 ^ 32
+  content_width : length x.1.0 ≡ 32
+  who_width : length x.2.0 ≡ 32
+  len : content_len_ok kind x.0 ≡ true
+
+abbrev from_who : ℕ → Digest → Digest × Left → Result (Parts × Left) Bad
+from_who len content who = Ok ((len, content, who.0), who.1)
+
+abbrev from_content : ℕ → Digest × Left → Result (Parts × Left) Bad
+from_content len content = digest_at content.1 >>= from_who len content.0
+
+abbrev from_len : ℕ × Left → Result (Parts × Left) Bad
+from_len len = digest_at len.1 >>= from_content len.0
+
+parts_takes : (kind : Kind) (l : Left) (x : Parts) (after : Left) → IsBytes l.rest → parts_at kind l ≡ Ok (x, after) → Took l (parts_text x) after × IsParts kind x
+unfolding parts_at
+parts_takes kind l x after bytes e =
+    let n = field_takes (number_at w32) (to_be_bytes w32) (λ n. n < 2 ^ 32) back32 (content_len_ok kind) (at_place 106) from_len l (x, after) bytes e in
+    let c = plain_takes digest_at (λ d. d.0) (λ d. length d.0 ≡ 32) digest_back (from_content n.0.0) n.0.1 (x, after) n.1.bytes n.4 in
+    let w = plain_takes digest_at (λ d. d.0) (λ d. length d.0 ≡ 32) digest_back (from_who n.0.0 c.0.0) c.0.1 (x, after) c.1.bytes c.3 in
+    let t1 = Took-then l (to_be_bytes w32 n.0.0) n.0.1 c.0.0.0 c.0.1 n.1 c.1 in
+    let t2 = Took-then l (to_be_bytes w32 n.0.0 ++ c.0.0.0) c.0.1 w.0.0.0 w.0.1 t1 w.1 in
+    let fits : IsParts kind (n.0.0, c.0.0, w.0.0) = record { len_width = n.2; content_width = c.2; who_width = w.2; len = n.3 } in
+    answered parts_text (IsParts kind) l (n.0.0, c.0.0, w.0.0) x w.0.1 after w.3 t2 fits
+
+parts_again : (kind : Kind) (x : Parts) (whole : ℕ) (rest : List ℕ) → IsParts kind x → parts_at kind (left whole (parts_text x ++ rest)) ≡ Ok (x, left whole rest)
+unfolding parts_at
+parts_again kind x whole rest fits =
+    let r2 : List ℕ = x.2.0 ++ rest in
+    let r1 : List ℕ = x.1.0 ++ r2 in
+    ap (λ (t : List ℕ). parts_at kind (left whole t)) (regroup3 (to_be_bytes w32 x.0) x.1.0 x.2.0 rest)
+    ∙ field_again (number_at w32) (to_be_bytes w32) (λ n. n < 2 ^ 32) back32 (content_len_ok kind) (at_place 106) from_len x.0 whole r1 fits.len_width fits.len
+    ∙ plain_again digest_at (λ d. d.0) (λ d. length d.0 ≡ 32) digest_back (from_content x.0) x.1 whole r2 fits.content_width
+    ∙ plain_again digest_at (λ d. d.0) (λ d. length d.0 ≡ 32) digest_back (from_who x.0 x.1) x.2 whole rest fits.who_width
+
+-- ---- the whole
+
+-- the header of four groups
+abbrev header_from : Front → Clue → Own → Parts → Header
+header_from f c o p = record {
+  version = f.0;
+  kind = f.1;
+  jsn = f.2;
+  member = f.3;
+  clue = c.0;
+  clue_ord = c.1;
+  clue_prev = c.2;
+  a = o.0;
+  b = o.1;
+  link = o.2;
+  content_len = p.0;
+  content_digest = p.1;
+  who_digest = p.2;
+}
+
+abbrev from_parts : Front → Clue → Own → Parts × Left → Result (Header × Left) Bad
+from_parts front clue own parts = Ok (header_from front clue own parts.0, parts.1)
+
+abbrev from_own : Front → Clue → Own × Left → Result (Header × Left) Bad
+from_own front clue own = parts_at front.1 own.1 >>= from_parts front clue own.0
+
+abbrev from_clue_on : Front → Clue × Left → Result (Header × Left) Bad
+from_clue_on front clue = own_at front.1 front.2 clue.1 >>= from_own front clue.0
+
+abbrev from_front : Front × Left → Result (Header × Left) Bad
+from_front front = clue_at front.0.1 front.0.2 front.1 >>= from_clue_on front.0
+
+abbrev front_of : Header → Front
+front_of h = (h.version, h.kind, h.jsn, h.member)
+
+abbrev clue_of : Header → Clue
+clue_of h = (h.clue, h.clue_ord, h.clue_prev)
+
+abbrev own_of : Header → Own
+own_of h = (h.a, h.b, h.link)
+
+abbrev parts_of : Header → Parts
+parts_of h = (h.content_len, h.content_digest, h.who_digest)
+
+-- the groups one after the other are the whole spelling
+abbrev groups : Header → List ℕ
+groups h = front_text (front_of h) ++ clue_text (clue_of h) ++ own_text (own_of h) ++ parts_text (parts_of h)
+
+regroup : (a b c d e f g h i j k l m : List ℕ) → a ++ b ++ c ++ d ++ e ++ f ++ g ++ h ++ i ++ j ++ k ++ l ++ m ≡ (a ++ b ++ c ++ d) ++ (e ++ f ++ g) ++ (h ++ i ++ j) ++ (k ++ l ++ m)
+regroup a b c d e f g h i j k l m = simp append_assoc
+
+spelling_groups : (h : Header) → spelling h ≡ groups h
+unfolding spelling
+spelling_groups h =
+    regroup (h.version ∷ []) (code_of h.kind ∷ []) (to_be_bytes w64 h.jsn) (to_be_bytes w32 h.member) h.clue.0 (to_be_bytes w32 h.clue_ord) (to_be_bytes w64 h.clue_prev) (to_be_bytes w64 h.a) (to_be_bytes w64 h.b) h.link.0 (to_be_bytes w32 h.content_len) h.content_digest.0 h.who_digest.0
+
+-- a header that keeps every rule and whose fields have their widths
+pub record IsWhole (h : Header) : Type 0 where
+  pub rules : IsHeader h
+  pub widths : HasWidths h
+
+whole_from : (h : Header) → IsFront (front_of h) → IsClue h.kind h.jsn (clue_of h) → IsOwn h.kind h.jsn (own_of h) → IsParts h.kind (parts_of h) → IsWhole h
+whole_from h f c o p = record {
+  rules = record { version = f.version; jsn = f.jsn; member = f.member; clue = c.clue; clue_ord = c.ord; clue_prev = c.prev; a = o.a; b = o.b; content_len = p.len };
+  widths = record {
+    version = f.version_width;
+    jsn = f.jsn_width;
+    member = f.member_width;
+    clue_ord = c.ord_width;
+    clue_prev = c.prev_width;
+    a = o.a_width;
+    b = o.b_width;
+    content_len = p.len_width;
+    clue = c.clue_width;
+    link = o.link_width;
+    content_digest = p.content_width;
+    who_digest = p.who_width;
+  };
+}
+
+whole_answered : (l : Left) (f : Front) (c : Clue) (o : Own) (p : Parts) (b : Left) (h : Header) (after : Left) → ended (header_from f c o p) b ≡ ended h after → Took l (front_text f ++ clue_text c ++ own_text o ++ parts_text p) b → IsFront f → IsClue f.1 f.2 c → IsOwn f.1 f.2 o → IsParts f.1 p → Took l (spelling h) after × IsWhole h
+whole_answered l f c o p b h after e took front clue own parts =
+    answered spelling IsWhole l (header_from f c o p) h b after e
+    (subst (λ (t : List ℕ). Took l t b) (sym (spelling_groups (header_from f c o p))) took)
+    (whole_from (header_from f c o p) front clue own parts)
+
+header_takes : (l : Left) (h : Header) (after : Left) → IsBytes l.rest → header_at l ≡ Ok (h, after) → Took l (spelling h) after × IsWhole h
+unfolding header_at
+header_takes l h after bytes e =
+    let f = bind_ok (front_at l) from_front (h, after) e in
+    let front = front_takes l f.0.0 f.0.1 bytes f.1 in
+    let c = bind_ok (clue_at f.0.0.1 f.0.0.2 f.0.1) (from_clue_on f.0.0) (h, after) f.2 in
+    let clue = clue_takes f.0.0.1 f.0.0.2 f.0.1 c.0.0 c.0.1 front.0.bytes c.1 in
+    let o = bind_ok (own_at f.0.0.1 f.0.0.2 c.0.1) (from_own f.0.0 c.0.0) (h, after) c.2 in
+    let own = own_takes f.0.0.1 f.0.0.2 c.0.1 o.0.0 o.0.1 clue.0.bytes o.1 in
+    let p = bind_ok (parts_at f.0.0.1 o.0.1) (from_parts f.0.0 c.0.0 o.0.0) (h, after) o.2 in
+    let parts = parts_takes f.0.0.1 o.0.1 p.0.0 p.0.1 own.0.bytes p.1 in
+    let t1 = Took-then l (front_text f.0.0) f.0.1 (clue_text c.0.0) c.0.1 front.0 clue.0 in
+    let t2 = Took-then l (front_text f.0.0 ++ clue_text c.0.0) c.0.1 (own_text o.0.0) o.0.1 t1 own.0 in
+    let t3 = Took-then l (front_text f.0.0 ++ clue_text c.0.0 ++ own_text o.0.0) o.0.1 (parts_text p.0.0) p.0.1 t2 parts.0 in
+    whole_answered l f.0.0 c.0.0 o.0.0 p.0.0 p.0.1 h after p.2 t3 front.1 clue.1 own.1 parts.1
+
+regroup_groups : (a b c d rest : List ℕ) → (a ++ b ++ c ++ d) ++ rest ≡ a ++ (b ++ (c ++ (d ++ rest)))
+regroup_groups a b c d rest = simp append_assoc
+
+header_again : (h : Header) (whole : ℕ) (rest : List ℕ) → IsWhole h → header_at (left whole (spelling h ++ rest)) ≡ Ok (h, left whole rest)
+unfolding header_at
+header_again h whole rest fits =
+    let r = fits.rules in
+    let w = fits.widths in
+    let front : IsFront (front_of h) = record { version_width = w.version; jsn_width = w.jsn; member_width = w.member; version = r.version; jsn = r.jsn; member = r.member } in
+    let clue : IsClue h.kind h.jsn (clue_of h) = record { clue_width = w.clue; ord_width = w.clue_ord; prev_width = w.clue_prev; clue = r.clue; ord = r.clue_ord; prev = r.clue_prev } in
+    let own : IsOwn h.kind h.jsn (own_of h) = record { a_width = w.a; b_width = w.b; link_width = w.link; a = r.a; b = r.b } in
+    let parts : IsParts h.kind (parts_of h) = record { len_width = w.content_len; content_width = w.content_digest; who_width = w.who_digest; len = r.content_len } in
+    let r3 : List ℕ = parts_text (parts_of h) ++ rest in
+    let r2 : List ℕ = own_text (own_of h) ++ r3 in
+    let r1 : List ℕ = clue_text (clue_of h) ++ r2 in
+    ap (λ (t : List ℕ). header_at (left whole (t ++ rest))) (spelling_groups h)
+    ∙ ap (λ (t : List ℕ). header_at (left whole t)) (regroup_groups (front_text (front_of h)) (clue_text (clue_of h)) (own_text (own_of h)) (parts_text (parts_of h)) rest)
+    ∙ ap (λ (x : Result (Front × Left) Bad). x >>= from_front) (front_again (front_of h) whole r1 front)
+    ∙ ap (λ (x : Result (Clue × Left) Bad). x >>= from_clue_on (front_of h)) (clue_again h.kind h.jsn (clue_of h) whole r2 clue)
+    ∙ ap (λ (x : Result (Own × Left) Bad). x >>= from_own (front_of h) (clue_of h)) (own_again h.kind h.jsn (own_of h) whole r3 own)
+    ∙ ap (λ (x : Result (Parts × Left) Bad). x >>= from_parts (front_of h) (clue_of h) (own_of h)) (parts_again h.kind (parts_of h) whole rest parts)
+
+-- reading a header is the inverse of spelling it
+pub header_back : ReadsBack header_at spelling IsWhole
+header_back = record { again = header_again; takes = header_takes }
+
+-- ---- all of the bytes
+
+header_of_takes : (bytes : List ℕ) (h : Header) → IsBytes bytes → header_of bytes ≡ Ok h → IsHeader h × (bytes ≡ spelling h)
+unfolding header_of
+header_of_takes bytes h fits e =
+    let start : Left = left (length bytes) bytes in
+    let b = bind_ok (header_at start) (λ read. end_at read.0 read.1) h e in
+    let c = check_ok (eqb (length b.0.1.rest) 0) (Trailing (b.0.1.whole - length b.0.1.rest)) b.0.0 h b.2 in
+    let took = header_takes start b.0.0 b.0.1 fits b.1 in
+    let nothing : b.0.1.rest ≡ [] = nil_from_length b.0.1.rest (eqb-true _ _ c.0) in
+    let whole : bytes ≡ spelling b.0.0 = took.0.parts ∙ ap (λ (r : List ℕ). spelling b.0.0 ++ r) nothing ∙ append-nil (spelling b.0.0) in
+    subst (λ (q : Header). IsHeader q × (bytes ≡ spelling q)) c.1 (took.1.rules, whole)
+
+header_of_again : (h : Header) → IsWhole h → header_of (spelling h) ≡ Ok h
+unfolding header_of
+header_of_again h fits =
+    let read : header_at (left (length (spelling h)) (spelling h)) ≡ Ok (h, left (length (spelling h)) []) =
+    ap (λ (t : List ℕ). header_at (left (length (spelling h)) t)) (sym (append-nil (spelling h))) ∙ header_again h (length (spelling h)) [] fits in
+    rw read refl
+
+pub header_of_only : (bytes : List ℕ) (h : Header) → IsHeader h → HasWidths h → bytes ≡ spelling h → header_of bytes ≡ Ok h
+header_of_only bytes h rules widths e = ap header_of e ∙ header_of_again h (record { rules = rules; widths = widths })
+
+pub header_of_found : (bytes : List ℕ) (read : Result Header Bad) → IsBytes bytes → read ≡ header_of bytes → IfOk read (λ h. IsHeader h × (bytes ≡ spelling h))
+header_of_found bytes (Ok h) fits e = header_of_takes bytes h fits (sym e)
+header_of_found bytes (Err d) fits e = tt

@@ -1,0 +1,90 @@
+-- One step of a reading: a field, and the rule that it keeps.
+use Rattle.std.proofs.Common.{◌≡◌, ◌<◌, ◌^◌, arith, ℕ, zero, suc, Bool, true, cond, List, ◌++◌, Option, Some, None, Result, Ok, Err, refl, sym, ap, subst, ◌∙◌}
+use Rattle.std.specs.Prelude.{ok_or}
+use Rattle.ledger_bytes.specs.declared.failure.Bad.{Bad}
+use Rattle.ledger_bytes.specs.Fields.{Left, left, ◌>>=◌, IsBytes, Took, ReadsBack}
+use Rattle.ledger_bytes.proofs.Fields.{bind_ok, check_ok, ok_is}
+use Rattle.journal_record.specs.declared.header.Kind.{Kind}
+use Rattle.journal_record.specs.declared.header.Kind.TheVariants.{Genesis, Content, Member, Time, Occult, Purge}
+use Rattle.journal_record.specs.Header.{code_of}
+use Rattle.journal_record.specs.Rules.{kind_of}
+use Rattle.journal_record.specs.Reading.{known_kind}
+
+-- a reading's answer
+abbrev pub ended : {A : Type 0} → A → Left → Result (A × Left) Bad
+ended x after = Ok (x, after)
+
+-- a test that ends the reading where it fails
+abbrev pub test : Bool → Bad → Result (Unit {0}) Bad
+test ok bad = cond ok (Ok tt) (Err bad)
+
+-- what follows a field that has a rule
+abbrev pub ruled : {A B : Type 0} → (A → Bool) → (A → Bad) → (A × Left → Result B Bad) → A × Left → Result B Bad
+ruled ok bad f v = test (ok v.0) (bad v.0) >>= λ _. f v
+
+module _ {A B : Type 0} (read : Left → Result (A × Left) Bad) (spell : A → List ℕ) (fits : A → Type 0) (back : ReadsBack read spell fits) where
+  -- a field, whatever it is
+  pub plain_takes : (f : A × Left → Result B Bad) (l : Left) (y : B) → IsBytes l.rest → (read l >>= f) ≡ Ok y → (v : A × Left) × Took l (spell v.0) v.1 × fits v.0 × (f v ≡ Ok y)
+  plain_takes f l y bytes e =
+      let a = bind_ok (read l) f y e in
+      let t = back.takes l a.0.0 a.0.1 bytes a.1 in
+      (a.0, t.0, t.1, a.2)
+
+  pub plain_again : (f : A × Left → Result B Bad) (v : A) (whole : ℕ) (rest : List ℕ) → fits v → (read (left whole (spell v ++ rest)) >>= f) ≡ f (v, left whole rest)
+  plain_again f v whole rest fit = ap (λ r. r >>= f) (back.again v whole rest fit)
+
+  module _ (ok : A → Bool) (bad : A → Bad) where
+    -- a field that has a rule
+    pub field_takes : (f : A × Left → Result B Bad) (l : Left) (y : B) → IsBytes l.rest → (read l >>= ruled ok bad f) ≡ Ok y → (v : A × Left) × Took l (spell v.0) v.1 × fits v.0 × (ok v.0 ≡ true) × (f v ≡ Ok y)
+    field_takes f l y bytes e =
+        let a = plain_takes (ruled ok bad f) l y bytes e in
+        let b = bind_ok (test (ok a.0.0) (bad a.0.0)) (λ _. f a.0) y a.3 in
+        let rule = check_ok (ok a.0.0) (bad a.0.0) tt b.0 b.1 in
+        (a.0, a.1, a.2, rule.0, b.2)
+
+    pub field_again : (f : A × Left → Result B Bad) (v : A) (whole : ℕ) (rest : List ℕ) → fits v → ok v ≡ true → (read (left whole (spell v ++ rest)) >>= ruled ok bad f) ≡ f (v, left whole rest)
+    field_again f v whole rest fit rule =
+        plain_again (ruled ok bad f) v whole rest fit
+        ∙ ap (λ b. test b (bad v) >>= λ _. f (v, left whole rest)) rule
+
+-- what was taken is what is answered
+pub answered : {A : Type 0} (text : A → List ℕ) (fits : A → Type 0) (l : Left) (x y : A) (b c : Left) → ended x b ≡ ended y c → Took l (text x) b → fits x → Took l (text y) c × fits y
+answered text fits l x y b c e took fit =
+    subst (λ z. Took l (text z.0) z.1 × fits z.0) (ok_is (x, b) (y, c) e) (took, fit)
+
+-- a value that is there
+ok_or_ok : {A : Type 0} (o : Option A) (d : Bad) (x : A) → ok_or o d ≡ Ok x → o ≡ Some x
+ok_or_ok None d x e = absurd cc
+ok_or_ok (Some y) d x e = cc
+
+-- a number stands for one kind
+kind_code : (n : ℕ) (kind : Kind) → kind_of n ≡ Some kind → code_of kind ≡ n
+kind_code zero kind e = let is : Genesis ≡ kind = cc in ap code_of (sym is)
+kind_code (suc zero) kind e = let is : Content ≡ kind = cc in ap code_of (sym is)
+kind_code (suc (suc zero)) kind e = let is : Member ≡ kind = cc in ap code_of (sym is)
+kind_code (suc (suc (suc zero))) kind e = let is : Time ≡ kind = cc in ap code_of (sym is)
+kind_code (suc (suc (suc (suc zero)))) kind e = let is : Occult ≡ kind = cc in ap code_of (sym is)
+kind_code (suc (suc (suc (suc (suc zero))))) kind e = let is : Purge ≡ kind = cc in ap code_of (sym is)
+kind_code (suc (suc (suc (suc (suc (suc n)))))) kind e = absurd cc
+
+-- a kind that is known has that number
+pub kind_takes : (n : ℕ) (kind : Kind) → known_kind n ≡ Ok kind → code_of kind ≡ n
+kind_takes n kind e = kind_code n kind (ok_or_ok (kind_of n) _ kind e)
+
+-- the number of a kind stands for it
+pub kind_again : (kind : Kind) → known_kind (code_of kind) ≡ Ok kind
+kind_again Genesis = refl
+kind_again Content = refl
+kind_again Member = refl
+kind_again Time = refl
+kind_again Occult = refl
+kind_again Purge = refl
+
+-- that number is one byte
+pub code_below : (kind : Kind) → code_of kind < 2 ^ 8
+code_below Genesis = omega arith
+code_below Content = omega arith
+code_below Member = omega arith
+code_below Time = omega arith
+code_below Occult = omega arith
+code_below Purge = omega arith

@@ -1,0 +1,97 @@
+-- Reading a header from left to right, with the first break that is met.
+use Rattle.std.specs.Prelude.{ℕ, Bool, List, length, Result, Ok, Err, if◌then◌else◌, ok_or}
+use Rattle.std.specs.Int.{w8, w32, w64}
+use Rattle.ledger_bytes.specs.declared.digest.Digest.{Digest}
+use Rattle.ledger_bytes.specs.declared.failure.Bad.{Bad}
+use Rattle.ledger_bytes.specs.declared.failure.Bad.TheVariants.{BadKind, BadFixedField, NewerFormat}
+use Rattle.ledger_bytes.specs.Fields.{Left, left, ◌>>=◌, number_at, digest_at, end_at}
+use Rattle.journal_record.specs.declared.header.Header.{Header}
+use Rattle.journal_record.specs.declared.header.Kind.{Kind}
+use Rattle.journal_record.specs.Rules.{kind_of, version_ok, jsn_ok, member_ok, clue_ok, clue_ord_ok, clue_prev_ok, a_ok, b_ok, content_len_ok}
+
+-- a field that keeps its rule, and else a break at its place
+abbrev pub check : Bool → ℕ → Result (Unit {0}) Bad
+check ok at = if ok then Ok tt else Err (BadFixedField at)
+
+-- a version that is known
+abbrev pub known_version : ℕ → Result (Unit {0}) Bad
+known_version version = if version_ok version then Ok tt else Err (NewerFormat version)
+
+-- the kind that a number stands for, if there is one
+abbrev pub known_kind : ℕ → Result Kind Bad
+known_kind code = ok_or (kind_of code) (BadKind code)
+
+-- version, kind, number and member
+unfoldable pub front_at : Left → Result ((ℕ × Kind × ℕ × ℕ) × Left) Bad
+front_at l = do
+  version ← number_at w8 l
+  _ ← known_version version.0
+  code ← number_at w8 version.1
+  kind ← known_kind code.0
+  jsn ← number_at w64 code.1
+  _ ← check (jsn_ok kind jsn.0) 2
+  member ← number_at w32 jsn.1
+  _ ← check (member_ok kind member.0) 10
+  Ok ((version.0, kind, jsn.0, member.0), member.1)
+
+-- the clue, and the journal's place among its journals
+unfoldable pub clue_at : Kind → ℕ → Left → Result ((Digest × ℕ × ℕ) × Left) Bad
+clue_at kind jsn l = do
+  clue ← digest_at l
+  _ ← check (clue_ok kind clue.0) 14
+  ord ← number_at w32 clue.1
+  _ ← check (clue_ord_ok clue.0 ord.0) 46
+  prev ← number_at w64 ord.1
+  _ ← check (clue_prev_ok jsn ord.0 prev.0) 50
+  Ok ((clue.0, ord.0, prev.0), prev.1)
+
+-- what goes by the kind: two numbers and a link
+unfoldable pub own_at : Kind → ℕ → Left → Result ((ℕ × ℕ × Digest) × Left) Bad
+own_at kind jsn l = do
+  a ← number_at w64 l
+  _ ← check (a_ok kind jsn a.0) 58
+  b ← number_at w64 a.1
+  _ ← check (b_ok kind b.0) 66
+  link ← digest_at b.1
+  Ok ((a.0, b.0, link.0), link.1)
+
+-- the content's length, and the digests of content and who
+unfoldable pub parts_at : Kind → Left → Result ((ℕ × Digest × Digest) × Left) Bad
+parts_at kind l = do
+  len ← number_at w32 l
+  _ ← check (content_len_ok kind len.0) 106
+  content ← digest_at len.1
+  who ← digest_at content.1
+  Ok ((len.0, content.0, who.0), who.1)
+
+-- a header
+unfoldable pub header_at : Left → Result (Header × Left) Bad
+header_at l = do
+  front ← front_at l
+  clue ← clue_at front.0.1 front.0.2 front.1
+  own ← own_at front.0.1 front.0.2 clue.1
+  parts ← parts_at front.0.1 own.1
+  Ok (
+    record {
+      version = front.0.0;
+      kind = front.0.1;
+      jsn = front.0.2;
+      member = front.0.3;
+      clue = clue.0.0;
+      clue_ord = clue.0.1;
+      clue_prev = clue.0.2;
+      a = own.0.0;
+      b = own.0.1;
+      link = own.0.2;
+      content_len = parts.0.0;
+      content_digest = parts.0.1;
+      who_digest = parts.0.2;
+    },
+    parts.1,
+  )
+
+-- the header that the bytes spell, all of them
+unfoldable pub header_of : List ℕ → Result Header Bad
+header_of bytes = do
+  read ← header_at (left (length bytes) bytes)
+  end_at read.0 read.1

@@ -1,0 +1,146 @@
+//! Reading a header field by field.
+
+ghost use Rattle.std.specs.Prelude.{◌≡◌};
+ghost use Rattle.ledger_bytes.specs.Fields.{Fits, ReadsBack};
+ghost use Rattle.journal_record.specs.Header.{spelling, HasWidths};
+ghost use Rattle.journal_record.specs.Rules.{IsHeader};
+ghost use Rattle.journal_record.specs.Reading as reading;
+
+use crate::rules::{
+    a_ok, b_ok, clue_ok, clue_ord_ok, clue_prev_ok, content_len_ok, jsn_ok, member_ok, version_ok,
+};
+use crate::{Header, Kind};
+use ledger_bytes::{Bad, Digest, FieldReader};
+
+/// The header that all the bytes spell.
+#[tactic(auto, unfolding(crate::specs::Reading::header_of))]
+pub(crate) fn read(bytes: &[u8]) -> Result<Header, Bad>
+    ensures { result ≡ reading.header_of bytes.now }
+{
+    let mut reader = FieldReader::new(bytes);
+    let header = take_header(&mut reader)?;
+    reader.end()?;
+    Ok(header)
+}
+
+/// Takes the next header, as [`Header::decode`] reads it; places of fields count from the header's first byte.
+#[tactic(auto, unfolding(crate::specs::Reading::header_at))]
+pub fn take_header(reader: &mut FieldReader) -> Result<Header, Bad>
+    ensures { Fits result reader.new (reading.header_at reader.old) }
+{
+    let (version, kind, jsn, member) = take_front(reader)?;
+    let (clue, clue_ord, clue_prev) = take_clue(reader, kind, jsn)?;
+    let (a, b, link) = take_own(reader, kind, jsn)?;
+    let (content_len, content_digest, who_digest) = take_parts(reader, kind)?;
+    Ok(Header {
+        version,
+        kind,
+        jsn,
+        member,
+        clue,
+        clue_ord,
+        clue_prev,
+        a,
+        b,
+        link,
+        content_len,
+        content_digest,
+        who_digest,
+    })
+}
+
+/// Version, kind, number and member.
+#[tactic(auto, unfolding(crate::specs::Reading::front_at))]
+fn take_front(reader: &mut FieldReader) -> Result<(u8, Kind, u64, u32), Bad>
+    ensures { Fits result reader.new (reading.front_at reader.old) }
+{
+    let version = reader.take_u8()?;
+    known_version(version)?;
+    let code = reader.take_u8()?;
+    let kind = known_kind(code)?;
+    let jsn = reader.take_u64()?;
+    check(jsn_ok(kind, jsn), 2)?;
+    let member = reader.take_u32()?;
+    check(member_ok(kind, member), 10)?;
+    Ok((version, kind, jsn, member))
+}
+
+/// The clue, and the journal's place among its journals.
+#[tactic(auto, unfolding(crate::specs::Reading::clue_at))]
+fn take_clue(reader: &mut FieldReader, kind: Kind, jsn: u64) -> Result<(Digest, u32, u64), Bad>
+    ensures { Fits result reader.new (reading.clue_at kind jsn reader.old) }
+{
+    let clue = reader.take_digest()?;
+    check(clue_ok(kind, &clue), 14)?;
+    let clue_ord = reader.take_u32()?;
+    check(clue_ord_ok(&clue, clue_ord), 46)?;
+    let clue_prev = reader.take_u64()?;
+    check(clue_prev_ok(jsn, clue_ord, clue_prev), 50)?;
+    Ok((clue, clue_ord, clue_prev))
+}
+
+/// What goes by the kind: two numbers and a link.
+#[tactic(auto, unfolding(crate::specs::Reading::own_at))]
+fn take_own(reader: &mut FieldReader, kind: Kind, jsn: u64) -> Result<(u64, u64, Digest), Bad>
+    ensures { Fits result reader.new (reading.own_at kind jsn reader.old) }
+{
+    let a = reader.take_u64()?;
+    check(a_ok(kind, jsn, a), 58)?;
+    let b = reader.take_u64()?;
+    check(b_ok(kind, b), 66)?;
+    let link = reader.take_digest()?;
+    Ok((a, b, link))
+}
+
+/// The content's length, and the digests of content and who.
+#[tactic(auto, unfolding(crate::specs::Reading::parts_at))]
+fn take_parts(reader: &mut FieldReader, kind: Kind) -> Result<(u32, Digest, Digest), Bad>
+    ensures { Fits result reader.new (reading.parts_at kind reader.old) }
+{
+    let content_len = reader.take_u32()?;
+    check(content_len_ok(kind, content_len), 106)?;
+    let content_digest = reader.take_digest()?;
+    let who_digest = reader.take_digest()?;
+    Ok((content_len, content_digest, who_digest))
+}
+
+fn known_version(version: u8) -> Result<(), Bad>
+    ensures { result ≡ reading.known_version version }
+{
+    if version_ok(version) {
+        Ok(())
+    } else {
+        Err(Bad::NewerFormat { found: version })
+    }
+}
+
+fn known_kind(code: u8) -> Result<Kind, Bad>
+    ensures { result ≡ reading.known_kind code }
+{
+    match code {
+        0 => Ok(Kind::Genesis),
+        1 => Ok(Kind::Content),
+        2 => Ok(Kind::Member),
+        3 => Ok(Kind::Time),
+        4 => Ok(Kind::Occult),
+        5 => Ok(Kind::Purge),
+        found => Err(Bad::BadKind { found }),
+    }
+}
+
+/// A field keeps its rule.
+fn check(is_ok: bool, at: u64) -> Result<(), Bad>
+    ensures { result ≡ reading.check is_ok at }
+{
+    if is_ok {
+        Ok(())
+    } else {
+        Err(Bad::BadFixedField { at })
+    }
+}
+
+/// Reading a header is the inverse of spelling it: one that keeps every rule is read from its bytes, whatever
+/// follows, and what is read keeps every rule and has these bytes.
+pub fn is_inverse_of_encoding()
+    ensures { ReadsBack reading.header_at spelling (λ h. IsHeader h × HasWidths h) }
+{}

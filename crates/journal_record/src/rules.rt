@@ -1,0 +1,113 @@
+//! What each field of a header may be, by the fields in front of it.
+
+ghost use Rattle.std.specs.Prelude.{◌≡◌};
+ghost use Rattle.journal_record.specs.Rules as rule;
+
+use crate::Kind;
+use ledger_bytes::Digest;
+
+const VERSION: u8 = 1;
+
+const OPERATOR: u32 = 0;
+
+const MEMBERS: u32 = 256;
+
+/// The first number that a member journal may give.
+const FIRST_MEMBER: u64 = 2;
+
+const NOTARY_ENTRIES: u64 = 16_777_216;
+
+/// The length of two keys.
+const GENESIS_CONTENT: u32 = 64;
+
+const CONTENT_LIMIT: u32 = 65_536;
+
+pub(crate) fn is_no_clue(clue: &Digest) -> bool
+    ensures { result ≡ rule.is_no_clue clue.now }
+{
+    clue.0 == [0; 32]
+}
+
+pub(crate) fn version_ok(version: u8) -> bool
+    ensures { result ≡ rule.version_ok version }
+{
+    version == VERSION
+}
+
+pub(crate) fn jsn_ok(kind: Kind, jsn: u64) -> bool
+    ensures { result ≡ rule.jsn_ok kind jsn }
+{
+    match kind {
+        Kind::Genesis => jsn == 0,
+        _ => 0 < jsn,
+    }
+}
+
+pub(crate) fn member_ok(kind: Kind, member: u32) -> bool
+    ensures { result ≡ rule.member_ok kind member }
+{
+    match kind {
+        Kind::Content => member < MEMBERS,
+        _ => member == OPERATOR,
+    }
+}
+
+pub(crate) fn clue_ok(kind: Kind, clue: &Digest) -> bool
+    ensures { result ≡ rule.clue_ok kind clue.now }
+{
+    match kind {
+        Kind::Content => true,
+        _ => is_no_clue(clue),
+    }
+}
+
+pub(crate) fn clue_ord_ok(clue: &Digest, clue_ord: u32) -> bool
+    ensures { result ≡ rule.clue_ord_ok clue.now clue_ord }
+{
+    if is_no_clue(clue) {
+        clue_ord == 0
+    } else {
+        0 < clue_ord
+    }
+}
+
+pub(crate) fn clue_prev_ok(jsn: u64, clue_ord: u32, clue_prev: u64) -> bool
+    ensures { result ≡ rule.clue_prev_ok jsn clue_ord clue_prev }
+{
+    if clue_ord <= 1 {
+        clue_prev == 0
+    } else {
+        0 < clue_prev && clue_prev < jsn
+    }
+}
+
+pub(crate) fn a_ok(kind: Kind, jsn: u64, a: u64) -> bool
+    ensures { result ≡ rule.a_ok kind jsn a }
+{
+    match kind {
+        Kind::Genesis | Kind::Content => a == 0,
+        Kind::Member => FIRST_MEMBER <= a && a < MEMBERS as u64,
+        Kind::Time => a < NOTARY_ENTRIES,
+        Kind::Occult => a < jsn,
+        Kind::Purge => 0 < a && a < jsn,
+    }
+}
+
+pub(crate) fn b_ok(kind: Kind, b: u64) -> bool
+    ensures { result ≡ rule.b_ok kind b }
+{
+    match kind {
+        Kind::Time => true,
+        _ => b == 0,
+    }
+}
+
+pub(crate) fn content_len_ok(kind: Kind, content_len: u32) -> bool
+    ensures { result ≡ rule.content_len_ok kind content_len }
+{
+    match kind {
+        Kind::Genesis => content_len == GENESIS_CONTENT,
+        Kind::Content => content_len <= CONTENT_LIMIT,
+        _ => content_len == 0,
+    }
+}
