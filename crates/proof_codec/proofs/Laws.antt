@@ -18,7 +18,7 @@ use Rattle.proof_codec.specs.Reading.{check, digests_at, flag_at, proof_at, proo
 check_holds : (ok : Bool) (at : ℕ) (x : Unit {0}) → check ok at ≡ Ok x → ok ≡ true
 check_holds ok at x e = (check_ok ok (BadFixedField at) tt x e).0
 
-abbrev counted : List ℕ → List ℕ
+abbrev pub counted : List ℕ → List ℕ
 counted path = (length path / 32) ∷ [] ++ path
 
 pub record IsPath (path : List ℕ) : Type 0 where
@@ -35,7 +35,7 @@ digests_takes l path after fits e =
     let both : Took l (a.0.0 ∷ [] ++ path) after = Took-then l (a.0.0 ∷ []) a.0.1 path after count.0 digests.0 in
     (subst (λ (k : ℕ). Took l (k ∷ [] ++ path) after) number both, record { whole = omega (arith, digests.1); count = omega (arith, digests.1, count.1) })
 
-digests_again : (path : List ℕ) (whole : ℕ) (rest : List ℕ) → IsPath path → digests_at (left whole (counted path ++ rest)) ≡ Ok (path, left whole rest)
+pub digests_again : (path : List ℕ) (whole : ℕ) (rest : List ℕ) → IsPath path → digests_at (left whole (counted path ++ rest)) ≡ Ok (path, left whole rest)
 unfolding digests_at
 digests_again path whole rest fits =
     let size : length path ≡ 32 * (length path / 32) = omega (arith, fits.whole) in
@@ -50,37 +50,37 @@ flag_takes at l x after fits e =
     let none : a.0.0 ≡ 0 = eqb-true _ _ (check_holds (eqb a.0.0 0) at b.0 b.1) in
     subst (λ (p : ℕ × Left). Took l (p.0 ∷ []) p.1) (ap (λ (k : ℕ). (k, a.0.1)) none ∙ ap (λ (y : Unit {0} × Left). (0, y.1)) (ok_is (tt, a.0.1) (x, after) b.2)) flag.0
 
-flag_again : (at whole : ℕ) (rest : List ℕ) → flag_at at (left whole (0 ∷ rest)) ≡ Ok (tt, left whole rest)
+pub flag_again : (at whole : ℕ) (rest : List ℕ) → flag_at at (left whole (0 ∷ rest)) ≡ Ok (tt, left whole rest)
 unfolding flag_at
 flag_again at whole rest = rw (byte_again 0 whole rest) refl
 
 -- ---- the whole
 
-abbrev shown : ℕ → ℕ → Digest → List ℕ → Shown
+abbrev pub shown : ℕ → ℕ → Digest → List ℕ → Shown
 shown size n leaf path = record { size = size; n = n; leaf = leaf; path = path }
 
-abbrev from_upper : ℕ → ℕ → Digest → List ℕ → Unit {0} × Left → Result (Shown × Left) Bad
+abbrev pub from_upper : ℕ → ℕ → Digest → List ℕ → Unit {0} × Left → Result (Shown × Left) Bad
 from_upper size n leaf path upper = Ok (shown size n leaf path, upper.1)
 
-abbrev from_lower : ℕ → ℕ → Digest → List ℕ → Unit {0} × Left → Result (Shown × Left) Bad
+abbrev pub from_lower : ℕ → ℕ → Digest → List ℕ → Unit {0} × Left → Result (Shown × Left) Bad
 from_lower size n leaf path lower = flag_at (51 + length path) lower.1 >>= from_upper size n leaf path
 
-abbrev from_path : ℕ → ℕ → Digest → List ℕ × Left → Result (Shown × Left) Bad
+abbrev pub from_path : ℕ → ℕ → Digest → List ℕ × Left → Result (Shown × Left) Bad
 from_path size n leaf path = flag_at (50 + length path.0) path.1 >>= from_lower size n leaf path.0
 
-abbrev from_leaf : ℕ → ℕ → Digest × Left → Result (Shown × Left) Bad
+abbrev pub from_leaf : ℕ → ℕ → Digest × Left → Result (Shown × Left) Bad
 from_leaf size n leaf = digests_at leaf.1 >>= from_path size n leaf.0
 
-abbrev from_n : ℕ → ℕ × Left → Result (Shown × Left) Bad
+abbrev pub from_n : ℕ → ℕ × Left → Result (Shown × Left) Bad
 from_n size n = digest_at n.1 >>= from_leaf size n.0
 
-abbrev from_size : ℕ × Left → Result (Shown × Left) Bad
+abbrev pub from_size : ℕ × Left → Result (Shown × Left) Bad
 from_size size = number_at w64 size.1 >>= from_n size.0
 
-abbrev from_check : Left → Unit {0} → Result (Shown × Left) Bad
+abbrev pub from_check : Left → Unit {0} → Result (Shown × Left) Bad
 from_check l _ = number_at w64 l >>= from_size
 
-abbrev from_version : ℕ × Left → Result (Shown × Left) Bad
+abbrev pub from_version : ℕ × Left → Result (Shown × Left) Bad
 from_version version = check (eqb version.0 1) 0 >>= from_check version.1
 
 proof_takes : (l : Left) (p : Shown) (after : Left) → IsBytes l.rest → proof_at l ≡ Ok (p, after) → Took l (spelling p) after × HasFields p
@@ -118,7 +118,7 @@ proof_takes l p after fits e =
     let fields : HasFields (shown c.0.0 d.0.0 f.0.0 g.0.0) = record { size = size.1; n = n.1; leaf = leaf.1; whole = path.1.whole; count = path.1.count } in
     subst (λ (y : Shown × Left). Took l (spelling y.0) y.1 × HasFields y.0) (ok_is (shown c.0.0 d.0.0 f.0.0 g.0.0, i.0.1) (p, after) i.2) (t7, fields)
 
-regroup : (v s n d c p l u rest : List ℕ) → (v ++ s ++ n ++ d ++ c ++ p ++ l ++ u) ++ rest ≡ v ++ (s ++ (n ++ (d ++ ((c ++ p) ++ (l ++ (u ++ rest))))))
+pub regroup : (v s n d c p l u rest : List ℕ) → (v ++ s ++ n ++ d ++ c ++ p ++ l ++ u) ++ rest ≡ v ++ (s ++ (n ++ (d ++ ((c ++ p) ++ (l ++ (u ++ rest))))))
 regroup v s n d c p l u rest = simp append_assoc
 
 proof_again : (p : Shown) (whole : ℕ) (rest : List ℕ) → HasFields p → proof_at (left whole (spelling p ++ rest)) ≡ Ok (p, left whole rest)

@@ -2,7 +2,7 @@
 use Rattle.std.specs.Prelude.{◌≡◌, ℕ, ◌+◌, ◌*◌, Bool, List, length, Result, Ok, Err, nat_lt, ◌==◌, if◌then◌else◌}
 use Rattle.std.specs.Int.{w8, w64}
 use Rattle.ledger_bytes.specs.declared.failure.Bad.{Bad}
-use Rattle.ledger_bytes.specs.declared.failure.Bad.TheVariants.{BadFixedField, TooLong}
+use Rattle.ledger_bytes.specs.declared.failure.Bad.TheVariants.{Short, Trailing, BadKind, BadFixedField, NewerFormat, TooLong}
 use Rattle.ledger_bytes.specs.Fields.{Left, left, ◌>>=◌, number_at, digest_at, bytes_at, end_at}
 use Rattle.proof_codec.specs.Proofs.{Shown}
 
@@ -41,6 +41,15 @@ unfoldable pub proof_of : List ℕ → Result Shown Bad
 proof_of bytes = if nat_lt 8192 (length bytes) then Err TooLong else (do
   read ← proof_at (left (length bytes) bytes)
   end_at read.0 read.1)
+
+-- how the bytes of a proof can break
+abbrev pub IsBreak : Bad → Type 0
+IsBreak (Short at) = Unit {0}
+IsBreak (Trailing at) = Unit {0}
+IsBreak (BadFixedField at) = Unit {0}
+IsBreak TooLong = Unit {0}
+IsBreak (BadKind found) = ⊥
+IsBreak (NewerFormat found) = ⊥
 
 -- A call on a reader answers what the reading of several fields gives, seen by view. Where the reader stands
 -- after an error is left open.

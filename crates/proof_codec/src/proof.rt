@@ -1,7 +1,7 @@
-ghost use Rattle.std.specs.Prelude.{◌≡◌, ◌+◌, ◌%◌, ◌≤◌, length, IfOk};
+ghost use Rattle.std.specs.Prelude.{◌≡◌, ℕ, ◌+◌, ◌%◌, ◌<◌, ◌≤◌, length, take, IfOk, IfErr};
 ghost use Rattle.ledger_bytes.specs.Fields.{Fits};
 ghost use Rattle.proof_codec.specs.Proofs.{Shown, HasFields, IsProof, spelling};
-ghost use Rattle.proof_codec.specs.Reading.{check, digests_at, flag_at, proof_at, proof_of, Reads};
+ghost use Rattle.proof_codec.specs.Reading.{check, digests_at, flag_at, proof_at, proof_of, IsBreak, Reads};
 ghost use Rattle.proof_codec.specs.Claims.{claim_of};
 
 use crate::Claim;
@@ -57,6 +57,11 @@ impl<'a> Proof<'a> {
         ensures found { IfOk result (λ p. IsProof p × (bytes.now ≡ spelling p)) }
         // What is spelled so is read.
         ensures only { (p : Shown) → IsProof p → bytes.now ≡ spelling p → result ≡ Ok p }
+        // No other error comes.
+        ensures breaks { IfErr result IsBreak }
+        // What is left of a proof when its end is cut off is too short.
+        ensures cut { (p : Shown) (k : ℕ) → IsProof p → k < length (spelling p) → bytes.now ≡ take k (spelling p)
+            → result ≡ Err (Bad.Short k) }
     {
         read(bytes)
     }

@@ -1,5 +1,6 @@
 use Rattle.std.proofs.Common.{◌∙◌, arith}
 use Rattle.proof_codec.proofs.Laws.{proof_of_found, proof_of_only}
+use Rattle.proof_codec.proofs.Breaks.{breaks_of, proof_of_cut}
 use Rattle.proof_codec.proofs.proof.Proof.decode.Goals as goal
 
 pub returns-clause-found : goal.returns-clause-found
@@ -7,3 +8,9 @@ returns-clause-found c = proof_of_found c.args.bytes.now c.read.result (λ i. om
 
 pub returns-clause-only : goal.returns-clause-only
 returns-clause-only c = λ p is_proof e. c.read.ensures ∙ proof_of_only c.args.bytes.now p is_proof e
+
+pub returns-clause-breaks : goal.returns-clause-breaks
+returns-clause-breaks c = breaks_of c.args.bytes.now c.read.result c.read.ensures
+
+pub returns-clause-cut : goal.returns-clause-cut
+returns-clause-cut c = λ p k is_proof lt e. c.read.ensures ∙ proof_of_cut c.args.bytes.now p k is_proof lt e
