@@ -1,13 +1,12 @@
 -- The lines that are read.
-use Rattle.std.specs.Prelude.{ℕ, ◌-◌, ◌^◌, ◌≤◌, if◌then◌else◌, List, length, codes, Option, Result, Ok, Err, ⊤}
-use Rattle.std.specs.Result.{result_ok}
+use Rattle.std.specs.Prelude.{ℕ, ◌+◌, ◌-◌, ◌^◌, ◌&&◌, nat_le, nat_lt, if◌then◌else◌, List, [], ◌∷◌, codes, Option, Some, None, Result, Ok, Err}
 use Rattle.std.specs.Str.{bytes_eq}
 use Rattle.ledger_bytes.specs.declared.refusal.Refusal.{Refusal}
-use Rattle.ledger_bytes.specs.declared.refusal.Refusal.TheVariants.{BadVerb}
+use Rattle.ledger_bytes.specs.declared.refusal.Refusal.TheVariants.{BadVerb, BadLane}
 use Rattle.script_lines.specs.Fields.{Left, fields_of, field_at, end_at}
-use Rattle.script_lines.specs.Spellings.{text_of, word_of, number_of, bytes_of}
+use Rattle.script_lines.specs.Spellings.{text_of, number_of, bytes_of, digest_of, clue_of, name_of}
 use Rattle.script_lines.specs.declared.line.Line.{Line}
-use Rattle.script_lines.specs.declared.line.Line.TheVariants.{Append, Head}
+use Rattle.script_lines.specs.declared.line.Line.TheVariants.{Append, NewMember, Clue, Head}
 
 -- the second step, with what the first gave
 infixl 10 ◌>>=◌
@@ -15,17 +14,33 @@ abbrev pub ◌>>=◌ : {A B : Type 0} → Result A Refusal → (A → Result B R
 Ok x >>= second = second x
 Err refusal >>= second = Err refusal
 
--- an append by its fields: a member, no clue, a content and a proof
+-- `append MEMBER CLUE CONTENT PROOF`
 unfoldable pub append_at : Left → Result Line Refusal
 append_at fields = do
   member ← field_at (number_of (2 ^ 32 - 1)) fields
-  clue ← field_at (word_of (codes "-")) member.1
+  clue ← field_at clue_of member.1
   content ← field_at (bytes_of 65536) clue.1
   proof ← field_at (bytes_of 4096) content.1
   end ← end_at proof.1
-  Ok (Append member.0 content.0 proof.0)
+  Ok (Append member.0 clue.0 content.0 proof.0)
 
--- the line that asks for the ledger's head has no fields
+-- `member NUMBER KEY PROOF`
+unfoldable pub member_at : Left → Result Line Refusal
+member_at fields = do
+  number ← field_at (number_of (2 ^ 32 - 1)) fields
+  key ← field_at digest_of number.1
+  proof ← field_at (bytes_of 4096) key.1
+  end ← end_at proof.1
+  Ok (NewMember number.0 key.0 proof.0)
+
+-- `clue NAME`
+unfoldable pub clue_at : Left → Result Line Refusal
+clue_at fields = do
+  name ← field_at name_of fields
+  end ← end_at name.1
+  Ok (Clue name.0)
+
+-- `head`
 unfoldable pub head_at : Left → Result Line Refusal
 head_at fields = do
   end ← end_at fields
@@ -35,21 +50,37 @@ head_at fields = do
 abbrev pub verb_at : List ℕ → Left → Result Line Refusal
 verb_at verb fields =
     if bytes_eq verb (codes "append") then append_at fields
+    else if bytes_eq verb (codes "member") then member_at fields
+    else if bytes_eq verb (codes "clue") then clue_at fields
     else if bytes_eq verb (codes "head") then head_at fields
     else Err BadVerb
 
--- a line by all its fields: the lane, which is 0, and the verb with its fields
-unfoldable pub line_at : Left → Result Line Refusal
-line_at fields = do
-  lane ← field_at (word_of (codes "0")) fields
-  verb ← field_at text_of lane.1
-  verb_at verb.0 verb.1
+-- a line by the fields behind its lane; one without a verb has no verb that is read
+abbrev pub asked_by : Result (List ℕ × Left) Refusal → Result Line Refusal
+asked_by (Ok verb) = verb_at verb.0 verb.1
+asked_by (Err refusal) = Err BadVerb
 
--- what a line says, where it is of a form that is read; its fields stand around single spaces
-abbrev pub line_of : List ℕ → Option Line
-line_of line = result_ok (line_at (fields_of line))
+-- how many lanes are served, from 0 on
+abbrev pub lanes : ℕ
+lanes = 1
 
--- a line's content and proof are no longer than a line may give
-abbrev pub IsWithinLimits : Line → Type 0
-IsWithinLimits (Append member content proof) = (length content ≤ 65536) × (length proof ≤ 4096)
-IsWithinLimits Head = ⊤
+-- the lane that the first field names as one digit, where that lane is served
+abbrev pub lane_of : List ℕ → Option ℕ
+lane_of [] = None
+lane_of (digit ∷ []) = if nat_le 48 digit && nat_lt digit (48 + lanes) then Some (digit - 48) else None
+lane_of (digit ∷ more ∷ text) = None
+
+-- a line by its lane and the fields behind that; one whose lane isn't served belongs to lane 0
+abbrev pub spoken_by : Option ℕ → Left → ℕ × Result Line Refusal
+spoken_by None fields = (0, Err BadLane)
+spoken_by (Some lane) fields = (lane, asked_by (field_at text_of fields))
+
+-- a line by its first field and those behind it
+abbrev pub spoken_at : Result (List ℕ × Left) Refusal → ℕ × Result Line Refusal
+spoken_at (Ok first) = spoken_by (lane_of first.0) first.1
+spoken_at (Err refusal) = (0, Err BadLane)
+
+-- the lane that a line belongs to, and what it asks for or why it is refused. The lane is judged first, then the verb,
+-- then the verb's fields from left to right, and a field too many last.
+unfoldable pub spoken : List ℕ → ℕ × Result Line Refusal
+spoken line = spoken_at (field_at text_of (fields_of line))

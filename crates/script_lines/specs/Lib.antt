@@ -1,6 +1,7 @@
 pub mod Begins
 pub mod Fields
 pub mod Grammar
+pub mod Limits
 pub mod Parts
 pub mod Reading
 pub mod Replies

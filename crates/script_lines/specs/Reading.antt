@@ -1,7 +1,10 @@
 -- How a reader's answers go with the grammar.
-use Rattle.std.specs.Prelude.{◌≡◌, Result, Ok, Err, ⊤}
+use Rattle.std.specs.Prelude.{◌≡◌, ℕ, Bool, true, Result, Ok, Err, ⊤}
 use Rattle.ledger_bytes.specs.declared.refusal.Refusal.{Refusal}
+use Rattle.ledger_bytes.specs.declared.refusal.Refusal.TheVariants.{BadField}
 use Rattle.script_lines.specs.Fields.{Left}
+use Rattle.script_lines.specs.Limits.{fits_what}
+use Rattle.script_lines.specs.declared.line.Line.{Line}
 use Rattle.script_lines.specs.declared.stop.Stop.{Stop}
 use Rattle.script_lines.specs.declared.stop.Stop.TheVariants.{Refused, NoMemory}
 
@@ -16,3 +19,14 @@ abbrev pub Takes : {A : Type 0} → Left → Result A Stop → Result (A × Left
 Takes left (Ok x) read = read ≡ Ok (x, left)
 Takes left (Err (Refused refusal)) read = read ≡ Err refusal
 Takes left (Err NoMemory) read = ⊤
+
+-- a field's refusal names its column
+abbrev pub IsStopAt : ℕ → Stop → Type 0
+IsStopAt column (Refused refusal) = refusal ≡ BadField column
+IsStopAt column NoMemory = ⊤
+
+-- what was read keeps to what a line keeps to
+abbrev pub fits_read : Result Line Stop → Bool
+fits_read (Ok line) = fits_what (Ok line)
+fits_read (Err (Refused refusal)) = fits_what (Err refusal)
+fits_read (Err NoMemory) = true

@@ -1,10 +1,10 @@
 -- The text of each reply.
-use Rattle.std.specs.Prelude.{ℕ, List, [], ◌∷◌, ◌++◌, codes, decimal}
+use Rattle.std.specs.Prelude.{ℕ, List, [], ◌∷◌, ◌++◌, codes, decimal, Option, Some, None}
 use Rattle.ledger_bytes.specs.declared.refusal.Refusal.{Refusal}
 use Rattle.ledger_bytes.specs.declared.refusal.Refusal.TheVariants.{BadVerb, BadField, BadLane, Damaged, UnknownMember, WrongKey, MissingApproval, ApprovalOrder, MemberNumber, MembersFull, NoJournal, Purged, NotData, NotTime, AlreadyOcculted, LeafDiffers, RootDiffers, NotaryFault, NotaryFull, Full, BadSize, CluesFull}
 use Rattle.script_lines.specs.declared.reply.Reply.{Reply}
-use Rattle.script_lines.specs.declared.reply.Reply.TheVariants.{Placed, Head, Refused}
-use Rattle.script_lines.specs.Words.{hex_of, spaced}
+use Rattle.script_lines.specs.declared.reply.Reply.TheVariants.{Placed, Whole, Occulted, Proof, Extension, Clue, Head, Refused}
+use Rattle.script_lines.specs.Words.{hex_of, hex_or_dash, list_text, mark_text, spaced, which_text}
 
 -- a refusal's code and the fields that are printed behind it
 abbrev pub refusal_words : Refusal → List (List ℕ)
@@ -31,10 +31,22 @@ refusal_words (Full kept size) = decimal 29 ∷ decimal kept ∷ decimal size �
 refusal_words (BadSize size) = decimal 33 ∷ decimal size ∷ []
 refusal_words CluesFull = decimal 42 ∷ []
 
+-- the words of a notary's stamp, where there is one: its index and time
+abbrev pub stamp_words : Option (ℕ × ℕ) → List (List ℕ)
+stamp_words None = []
+stamp_words (Some stamp) = decimal stamp.0 ∷ decimal stamp.1 ∷ []
+
 -- the words of a reply
 abbrev pub reply_words : Reply → List (List ℕ)
-reply_words (Placed jsn leaf block size root) =
-    codes "ok" ∷ decimal jsn ∷ hex_of leaf ∷ decimal block ∷ decimal size ∷ hex_of root ∷ []
+reply_words (Placed jsn leaf block size root stamp) =
+    codes "ok" ∷ decimal jsn ∷ hex_of leaf ∷ decimal block ∷ decimal size ∷ hex_of root ∷ stamp_words stamp
+reply_words (Whole header content who) = codes "whole" ∷ hex_or_dash header ∷ hex_or_dash content ∷ hex_or_dash who ∷ []
+reply_words (Occulted header who) = codes "occulted" ∷ hex_or_dash header ∷ hex_or_dash who ∷ []
+reply_words (Proof n leaf lo hi proof) =
+    codes "proof" ∷ decimal n ∷ hex_of leaf ∷ mark_text lo ∷ mark_text hi ∷ hex_or_dash proof ∷ []
+reply_words (Extension which m size root proof) =
+    codes "extension" ∷ which_text which ∷ decimal m ∷ decimal size ∷ hex_of root ∷ hex_or_dash proof ∷ []
+reply_words (Clue count kept) = codes "clue" ∷ decimal count ∷ list_text kept ∷ []
 reply_words (Head id size root blocks point notary_size notary_root) =
     codes "head" ∷ hex_of id ∷ decimal size ∷ hex_of root ∷ decimal blocks ∷ decimal point ∷ decimal notary_size ∷ hex_of notary_root ∷ []
 reply_words (Refused refusal) = codes "no" ∷ refusal_words refusal

@@ -1,6 +1,6 @@
-ghost use Rattle.std.specs.Prelude.{◌≡◌, ◌≤◌, length, All, Ok, Err, IfOk, OnErr, MatchResult};
+ghost use Rattle.std.specs.Prelude.{◌≡◌, ◌≤◌, length, All, Ok, Err, IfErr, IfOk, MatchResult};
 ghost use Rattle.script_lines.specs.Fields.{fields_of, behind, field_at, end_at, taken};
-ghost use Rattle.script_lines.specs.Reading.{Takes};
+ghost use Rattle.script_lines.specs.Reading.{IsStopAt, Takes};
 ghost use Rattle.script_lines.specs.Spellings.{text_of, word_of, number_of, bytes_of, digest_of, clue_of, name_of, which_of, approvals_of, mark_of};
 
 use crate::said::{SaidApproval, Which};
@@ -56,6 +56,7 @@ impl<'a> Fields<'a> {
     pub fn text(&mut self) -> Result<&'a [u8], Refusal>
         ensures takes { MatchResult result (λ text. field_at text_of self.old ≡ Ok (text.now, self.new)) (λ refusal. field_at text_of self.old ≡ Err refusal) }
         ensures goes_on { self.new ≡ behind self.old }
+        ensures refused { IfErr result (λ refusal. refusal ≡ Refusal.BadField self.old.column) }
     {
         let Some(left) = self.left else {
             return Err(bad_field(self.column));
@@ -70,6 +71,7 @@ impl<'a> Fields<'a> {
     pub fn word(&mut self, word: &[u8]) -> Result<(), Refusal>
         ensures takes { field_at (word_of word.now) self.old ≡ taken result self.new }
         ensures goes_on { self.new ≡ behind self.old }
+        ensures refused { IfErr result (λ refusal. refusal ≡ Refusal.BadField self.old.column) }
     {
         let column = self.column();
         if self.text()? == word {
@@ -83,6 +85,7 @@ impl<'a> Fields<'a> {
     pub fn number(&mut self, most: u64) -> Result<u64, Refusal>
         ensures takes { field_at (number_of most) self.old ≡ taken result self.new }
         ensures goes_on { self.new ≡ behind self.old }
+        ensures refused { IfErr result (λ refusal. refusal ≡ Refusal.BadField self.old.column) }
         ensures high { IfOk result (λ number. number ≤ most) }
     {
         let column = self.column();
@@ -93,6 +96,7 @@ impl<'a> Fields<'a> {
     pub fn digest(&mut self) -> Result<Digest, Refusal>
         ensures takes { field_at digest_of self.old ≡ taken result self.new }
         ensures goes_on { self.new ≡ behind self.old }
+        ensures refused { IfErr result (λ refusal. refusal ≡ Refusal.BadField self.old.column) }
     {
         let column = self.column();
         read_digest(self.text()?).ok_or(bad_field(column))
@@ -102,6 +106,7 @@ impl<'a> Fields<'a> {
     pub fn bytes(&mut self, alloc: Global, most: usize) -> Result<Bytes, Stop>
         ensures takes { Takes self.new result (field_at (bytes_of most) self.old) }
         ensures goes_on { self.new ≡ behind self.old }
+        ensures refused { IfErr result (IsStopAt self.old.column) }
         ensures long { IfOk result (λ bytes. length bytes ≤ most) }
     {
         let column = self.column();
@@ -116,6 +121,7 @@ impl<'a> Fields<'a> {
     pub fn clue(&mut self, alloc: Global) -> Result<Bytes, Stop>
         ensures takes { Takes self.new result (field_at clue_of self.old) }
         ensures goes_on { self.new ≡ behind self.old }
+        ensures refused { IfErr result (IsStopAt self.old.column) }
         ensures long { IfOk result (λ name. length name ≤ 64) }
     {
         let column = self.column();
@@ -133,6 +139,7 @@ impl<'a> Fields<'a> {
     pub fn name(&mut self, alloc: Global) -> Result<Bytes, Stop>
         ensures takes { Takes self.new result (field_at name_of self.old) }
         ensures goes_on { self.new ≡ behind self.old }
+        ensures refused { IfErr result (IsStopAt self.old.column) }
         ensures long { IfOk result (λ name. length name ≤ 64) }
     {
         let column = self.column();
@@ -148,6 +155,7 @@ impl<'a> Fields<'a> {
     pub fn which(&mut self) -> Result<Which, Refusal>
         ensures takes { field_at which_of self.old ≡ taken result self.new }
         ensures goes_on { self.new ≡ behind self.old }
+        ensures refused { IfErr result (λ refusal. refusal ≡ Refusal.BadField self.old.column) }
     {
         let column = self.column();
         read_which(self.text()?).ok_or(bad_field(column))
@@ -158,6 +166,7 @@ impl<'a> Fields<'a> {
     pub fn approvals(&mut self, alloc: Global) -> Result<Items<SaidApproval>, Stop>
         ensures takes { Takes self.new result (field_at approvals_of self.old) }
         ensures goes_on { self.new ≡ behind self.old }
+        ensures refused { IfErr result (IsStopAt self.old.column) }
         ensures few { IfOk result (λ given. length given ≤ 256) }
         ensures long { IfOk result (All (λ approval. length approval.proof ≤ 4096)) }
     {
@@ -173,6 +182,7 @@ impl<'a> Fields<'a> {
     pub fn mark(&mut self) -> Result<Option<(u64, u64, u64)>, Refusal>
         ensures takes { field_at mark_of self.old ≡ taken result self.new }
         ensures goes_on { self.new ≡ behind self.old }
+        ensures refused { IfErr result (λ refusal. refusal ≡ Refusal.BadField self.old.column) }
     {
         let column = self.column();
         read_mark(self.text()?).ok_or(bad_field(column))
@@ -180,7 +190,8 @@ impl<'a> Fields<'a> {
 
     /// No field is left. A further one is refused with its column.
     pub fn end(self) -> Result<(), Refusal>
-        ensures { result ≡ end_at self.entry }
+        ensures ends { result ≡ end_at self.entry }
+        ensures refused { IfErr result (λ refusal. refusal ≡ Refusal.BadField self.entry.column) }
     {
         match self.left {
             None => Ok(()),
@@ -194,3 +205,6 @@ fn bad_field(column: u32) -> Refusal
 {
     Refusal::BadField { column }
 }
+
+#[cfg(test)]
+mod tests;

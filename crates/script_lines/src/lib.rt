@@ -8,13 +8,17 @@ mod reply;
 mod said;
 mod spellings;
 mod splits;
+mod spoken;
 mod stop;
+mod verbs;
 mod words;
 
 pub use fields::Fields;
 pub use laws::numbers_are_decimal;
-pub use line::{Line, read_line};
+pub use line::Line;
 pub use reply::{Reply, put_refusal, put_reply, reply_text};
 pub use said::{SaidApproval, Which};
+pub use spoken::Spoken;
 pub use stop::Stop;
+pub use verbs::read_line;
 pub use words::{Word, put_number, put_words};

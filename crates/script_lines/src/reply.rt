@@ -1,14 +1,16 @@
 ghost use Rattle.std.specs.Prelude.{◌≡◌, [], ◌∷◌, ◌++◌, codes, decimal, IfOk, OnOk, OnErr};
 ghost use Rattle.script_lines.specs.Begins.{BeginsWith};
 ghost use Rattle.script_lines.specs.Replies as spec;
-ghost use Rattle.script_lines.specs.Words.{hex_of, spaced};
+ghost use Rattle.script_lines.specs.Words.{hex_of, spaced, which_text};
 
+use crate::said::Which;
 use crate::words::{Word, put_number, put_words};
-use ledger_bytes::{Bytes, Digest, NoMemory, Refusal};
+use ledger_bytes::{Bytes, Digest, Items, NoMemory, Refusal};
 use std::alloc::Global;
 
-/// The answer to a line of a script. Its text is a few words with a space between, numbers in decimal and digests as
-/// 64 lower-case hexadecimal digits.
+/// The answer to a line of a script. Its text is a few words with a space between: numbers in decimal, digests as 64
+/// lower-case hexadecimal digits, bytes as two such digits each or `-` for none, a time as `JSN:INDEX:TIME` or `-`,
+/// and a list of numbers with commas between or `-`.
 #[derive(Debug, Drop)]
 pub enum Reply {
     /// A journal was placed: `ok JSN LEAF BLOCK SIZE ROOT`.
@@ -23,6 +25,55 @@ pub enum Reply {
         size: u64,
         /// The root of the tree over those journals.
         root: Digest,
+        /// The index and the time of a time journal's entry in the notary's list. They are two further words.
+        stamp: Option<(u64, u64)>,
+    },
+    /// A journal: `whole HEADER CONTENT WHO`.
+    Whole {
+        /// The bytes of its header.
+        header: [u8; 174],
+        content: Bytes,
+        /// The bytes of its approvals.
+        who: Bytes,
+    },
+    /// A journal whose content was hidden: `occulted HEADER WHO`.
+    Occulted {
+        /// The bytes of its header.
+        header: [u8; 174],
+        /// The bytes of its approvals.
+        who: Bytes,
+    },
+    /// The proof of a journal: `proof N LEAF LO HI HEX`.
+    Proof {
+        /// The journal's number.
+        n: u64,
+        /// The digest of the journal's leaf.
+        leaf: Digest,
+        /// The last time journal before it, where one is kept: its number, index and time.
+        lo: Option<(u64, u64, u64)>,
+        /// The first time journal behind it, where one is kept: its number, index and time.
+        hi: Option<(u64, u64, u64)>,
+        /// The bytes of the proof.
+        proof: Bytes,
+    },
+    /// The proof that a tree extends one of its earlier ones: `extension WHICH M SIZE ROOT HEX`.
+    Extension {
+        which: Which,
+        /// The earlier size.
+        m: u64,
+        /// The size.
+        size: u64,
+        /// The root.
+        root: Digest,
+        /// The digests of the proof, one after the other.
+        proof: Bytes,
+    },
+    /// A clue's journals: `clue COUNT LIST`.
+    Clue {
+        /// How many journals have had the clue.
+        count: u32,
+        /// The numbers of those that are kept, from the least on.
+        kept: Items<u64>,
     },
     /// The ledger's head: `head ID SIZE ROOT BLOCKS POINT NSIZE NROOT`.
     Head {
@@ -90,15 +141,82 @@ fn put_reply_words(out: &mut Vec<u8>, reply: &Reply) -> Result<(), NoMemory>
             block,
             size,
             root,
+            stamp,
+        } => {
+            put_words(
+                out,
+                &[
+                    Word::Text(b"ok"),
+                    Word::Number(*jsn),
+                    Word::Hash(*leaf),
+                    Word::Number(*block),
+                    Word::Number(*size),
+                    Word::Hash(*root),
+                ],
+            )?;
+            put_stamp(out, *stamp)
+        }
+        Reply::Whole {
+            header,
+            content,
+            who,
         } => put_words(
             out,
             &[
-                Word::Text(b"ok"),
-                Word::Number(*jsn),
+                Word::Text(b"whole"),
+                Word::Hex(header.as_slice()),
+                Word::Hex(content.as_slice()),
+                Word::Hex(who.as_slice()),
+            ],
+        ),
+        Reply::Occulted { header, who } => put_words(
+            out,
+            &[
+                Word::Text(b"occulted"),
+                Word::Hex(header.as_slice()),
+                Word::Hex(who.as_slice()),
+            ],
+        ),
+        Reply::Proof {
+            n,
+            leaf,
+            lo,
+            hi,
+            proof,
+        } => put_words(
+            out,
+            &[
+                Word::Text(b"proof"),
+                Word::Number(*n),
                 Word::Hash(*leaf),
-                Word::Number(*block),
+                Word::Mark(*lo),
+                Word::Mark(*hi),
+                Word::Hex(proof.as_slice()),
+            ],
+        ),
+        Reply::Extension {
+            which,
+            m,
+            size,
+            root,
+            proof,
+        } => put_words(
+            out,
+            &[
+                Word::Text(b"extension"),
+                Word::Text(name_of(*which)),
+                Word::Number(*m),
                 Word::Number(*size),
                 Word::Hash(*root),
+                Word::Hex(proof.as_slice()),
+            ],
+        ),
+        Reply::Clue { count, kept } => put_words(
+            out,
+            &[
+                Word::Text(b"clue"),
+                Word::Number(u64::from(*count)),
+                Word::Numbers(kept.as_slice()),
             ],
         ),
         Reply::Head {
@@ -123,6 +241,25 @@ fn put_reply_words(out: &mut Vec<u8>, reply: &Reply) -> Result<(), NoMemory>
             ],
         ),
         Reply::Refused(refusal) => put_refusal(out, refusal),
+    }
+}
+
+fn put_stamp(out: &mut Vec<u8>, stamp: Option<(u64, u64)>) -> Result<(), NoMemory>
+    ensures ok { OnOk result (out.new.items ≡ out.old.items ++ spaced (spec.stamp_words stamp)) }
+    ensures err { OnErr result (BeginsWith out.old.items out.new.items) }
+{
+    match stamp {
+        Some((index, time)) => put_words(out, &[Word::Number(index), Word::Number(time)]),
+        None => Ok(()),
+    }
+}
+
+fn name_of(which: Which) -> &'static [u8]
+    ensures { result.now ≡ which_text which }
+{
+    match which {
+        Which::Ledger => b"ledger",
+        Which::Notary => b"notary",
     }
 }
 

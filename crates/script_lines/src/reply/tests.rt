@@ -1,5 +1,6 @@
 use super::*;
 use hex::FromHex;
+use std::process::Abort;
 use std::test::Fail;
 
 const ID: &str = "64915354a6547b1f887e596e872fd13b2abdc860729da9fe31180a81726cf4a2";
@@ -10,12 +11,49 @@ const LEAF: &str = "e17cd0a38398533f50004ec57f5dd3837680b6b072223c6ffc9e2bfa0d0e
 
 const ROOT: &str = "89713d47487c9be9875bd8f6a471f021f10440bea34709c459dce3a170313951";
 
+const PROOF: &str =
+    "010000000000000003000000000000000064915354a6547b1f887e596e872fd13b2abdc860729da9fe31180a81726cf4a202e17cd0a38398533f50004ec57f5dd3837680b6b072223c6ffc9e2bfa0d0e723cc346a4840bce4f8de12d73b3fda6bb93c7f113f7a07ee5b4951f1393dcc51ed500010000000000000002000000000000000000000000000003e88b3b30a051bca9ec8bacbfaf3a351389842d99f1769a4959994077e9ec8d875789713d47487c9be9875bd8f6a471f021f10440bea34709c459dce3a17031395101c346a4840bce4f8de12d73b3fda6bb93c7f113f7a07ee5b4951f1393dcc51ed5000000000000000100";
+
+const EXTENSION: &str =
+    "817aa9248d10780808af00a473b7890eae59c8604ea4d237ff2dfac7b43e8e751ceb3d0b84048f750baf678356fb8989ae04df1236712eb09480365eb2b8edcc5d0c93a2c3f5b439800c35082b570525c1c42d311dfab11205d0376c51f95cf9f908e25e5dd26af47c1139634183bd63ce1462998b3974bdc137830b569a8541";
+
+const WHOLE: &str =
+    "01010000000000000006000000021deeaa67eb730cd3d5ed76c94d0a5635e7fd7bf9480e33eeaf0b55deef791e6c000000040000000000000004000000000000000000000000000000008a4058501344009e3c6f6d0354929f25db0d75a4a32e9179a7451c182b19404100000003906a58972dca57143e6b720177473bf813d038c3147e945441e87fbbdf542994a6f6319fd1645ffa9a1c5d2abcde6115b298448ae3b2c35925463c7f72e89300";
+
+const WHO: &str =
+    "00000002004003030303030303030303030303030303030303030303030303030303030303031c73656160873b10becb5d4a75a046056d790b17f79672513778ab540c22c6df";
+
+const OCCULTED: &str =
+    "01010000000000000002000000023536d837609504a8406dcb211cb403cb9290736cc3a94b2fa0601b2cd543e6da00000001000000000000000000000000000000000000000000000000c91e8e640e57e2e878b7b2840e07636c07539496336fbcc57c40f1cc60c359fc00000003909ac45e439911193205994d09399c29fede977ab212605f29ead5250a812e73c31de51580a8656b63f753ec142454bafa09b766de1b25b0ac75c128005d40cb";
+
 fn digest(text: &str) -> Result<Digest, hex::FromHexError> {
     Ok(Digest(<[u8; 32]>::from_hex(text)?))
 }
 
+/// The bytes that these digits spell.
+fn bytes_of(rt: &HostRuntime, text: &str) -> Result<Bytes, Fail> {
+    Ok(Bytes::of(hex::decode(rt.alloc(), text)?))
+}
+
+/// The reply has this text.
+fn check(
+    rt: &impl Abort,
+    alloc: Global,
+    index: u64,
+    reply: &Reply,
+    line: &str,
+) -> Result<(), Fail> {
+    let text = reply_text(alloc, 0, index, reply)?;
+    assert_eq!(rt; text.as_slice(), line.as_bytes());
+    let mut lines = b"0.1 no 10\n".to_vec(alloc)?;
+    put_reply(&mut lines, 0, index, reply)?;
+    assert_eq!(rt; lines.len(), 10 + line.len());
+    assert!(rt; lines.as_slice().ends_with(line.as_bytes()));
+    Ok(())
+}
+
 #[test]
-fn writes_each_reply(rt: HostRuntime) -> Result<(), Fail> {
+fn writes_receipts_and_heads(rt: HostRuntime) -> Result<(), Fail> {
     let head = Reply::Head {
         id: digest(ID)?,
         size: 1,
@@ -31,38 +69,142 @@ fn writes_each_reply(rt: HostRuntime) -> Result<(), Fail> {
         block: 1,
         size: 2,
         root: digest(ROOT)?,
+        stamp: None,
     };
-    let refused = Reply::Refused(Refusal::BadVerb);
-    let unknown = Reply::Refused(Refusal::UnknownMember { member: u32::MAX });
-    let wrong_key = Reply::Refused(Refusal::WrongKey { member: 2 });
-    let head_line =
-        "0.1 head 64915354a6547b1f887e596e872fd13b2abdc860729da9fe31180a81726cf4a2 1 64915354a6547b1f887e596e872fd13b2abdc860729da9fe31180a81726cf4a2 1 0 0 e3b0c44298fc1c149afbf4c8996fb92427ae41e4649b934ca495991b7852b855\n";
-    let placed_line =
-        "0.1 ok 1 e17cd0a38398533f50004ec57f5dd3837680b6b072223c6ffc9e2bfa0d0e723c 1 2 89713d47487c9be9875bd8f6a471f021f10440bea34709c459dce3a170313951\n";
-    let refused_line = "7.18446744073709551615 no 10\n";
-    let unknown_line = "0.4 no 14 4294967295\n";
-    let wrong_key_line = "0.2 no 15 2\n";
+    let stamped = Reply::Placed {
+        jsn: 2,
+        leaf: digest("5e709f58ad3426700677d797d0267ed38e8c242bbe75ce422c050fc1a0185f6a")?,
+        block: 2,
+        size: 3,
+        root: digest("c7faadd5cd3f0039410d655fff2dce12e16ec35f850c863542f14ff18c33c7fb")?,
+        stamp: Some((1, 2000)),
+    };
+    check(
+        &rt,
+        rt.alloc(),
+        1,
+        &head,
+        "0.1 head 64915354a6547b1f887e596e872fd13b2abdc860729da9fe31180a81726cf4a2 1 64915354a6547b1f887e596e872fd13b2abdc860729da9fe31180a81726cf4a2 1 0 0 e3b0c44298fc1c149afbf4c8996fb92427ae41e4649b934ca495991b7852b855\n",
+    )?;
+    check(
+        &rt,
+        rt.alloc(),
+        1,
+        &placed,
+        "0.1 ok 1 e17cd0a38398533f50004ec57f5dd3837680b6b072223c6ffc9e2bfa0d0e723c 1 2 89713d47487c9be9875bd8f6a471f021f10440bea34709c459dce3a170313951\n",
+    )?;
+    check(
+        &rt,
+        rt.alloc(),
+        2,
+        &stamped,
+        "0.2 ok 2 5e709f58ad3426700677d797d0267ed38e8c242bbe75ce422c050fc1a0185f6a 2 3 c7faadd5cd3f0039410d655fff2dce12e16ec35f850c863542f14ff18c33c7fb 1 2000\n",
+    )
+}
 
-    let mut lines = Vec::new(rt.alloc());
-    for (lane, index, reply, line) in [
-        (0, 1, &head, head_line),
-        (0, 1, &placed, placed_line),
-        (7, u64::MAX, &refused, refused_line),
-        (0, 4, &unknown, unknown_line),
-        (0, 2, &wrong_key, wrong_key_line),
+#[test]
+fn writes_journals_and_proofs(rt: HostRuntime) -> Result<(), Fail> {
+    let whole = Reply::Whole {
+        header: <[u8; 174]>::from_hex(WHOLE)?,
+        content: bytes_of(&rt, "78797a")?,
+        who: bytes_of(
+            &rt,
+            "0000000200400303030303030303030303030303030303030303030303030303030303030303670bc87de87a4d2dc823d029fec29573459c8a94361e427a8df50ceffa0c5f65",
+        )?,
+    };
+    let occulted = Reply::Occulted {
+        header: <[u8; 174]>::from_hex(OCCULTED)?,
+        who: bytes_of(&rt, WHO)?,
+    };
+    let proof = Reply::Proof {
+        n: 0,
+        leaf: digest(ID)?,
+        lo: None,
+        hi: Some((2, 0, 1000)),
+        proof: bytes_of(&rt, PROOF)?,
+    };
+    let extension = Reply::Extension {
+        which: Which::Ledger,
+        m: 3,
+        size: 6,
+        root: digest("af7eba02c88f58f4f622d4ff7d85dca0bc0485cd3f1f429831c6e29fd5a2c55e")?,
+        proof: bytes_of(&rt, EXTENSION)?,
+    };
+    for (index, reply, before, last) in [
+        (
+            10,
+            &whole,
+            format!(in rt.alloc(); "whole {WHOLE} 78797a")?,
+            "0000000200400303030303030303030303030303030303030303030303030303030303030303670bc87de87a4d2dc823d029fec29573459c8a94361e427a8df50ceffa0c5f65",
+        ),
+        (
+            4,
+            &occulted,
+            format!(in rt.alloc(); "occulted {OCCULTED}")?,
+            WHO,
+        ),
+        (
+            3,
+            &proof,
+            format!(in rt.alloc(); "proof 0 {ID} - 2:0:1000")?,
+            PROOF,
+        ),
+        (
+            11,
+            &extension,
+            format!(in rt.alloc();
+                "extension ledger 3 6 af7eba02c88f58f4f622d4ff7d85dca0bc0485cd3f1f429831c6e29fd5a2c55e"
+            )?,
+            EXTENSION,
+        ),
     ] {
-        let text = reply_text(rt.alloc(), lane, index, reply)?;
-        assert_eq!(rt; text.as_slice(), line.as_bytes());
-        put_reply(&mut lines, lane, index, reply)?;
-        assert!(rt; lines.as_slice().ends_with(line.as_bytes()));
+        let line = format!(in rt.alloc(); "0.{index} {before} {last}\n")?;
+        check(&rt, rt.alloc(), index, reply, line.as_str())?;
     }
+    Ok(())
+}
+
+#[test]
+fn writes_lists_and_refusals(rt: HostRuntime) -> Result<(), Fail> {
+    let kept = Items::of([133, 174].to_vec(rt.alloc())?);
+    check(
+        &rt,
+        rt.alloc(),
+        211,
+        &Reply::Clue { count: 5, kept },
+        "0.211 clue 5 133,174\n",
+    )?;
+    let kept = Items::of([2].to_vec(rt.alloc())?);
+    check(
+        &rt,
+        rt.alloc(),
+        5,
+        &Reply::Clue { count: 1, kept },
+        "0.5 clue 1 2\n",
+    )?;
+    let kept = Items::of(Vec::new(rt.alloc()));
+    check(
+        &rt,
+        rt.alloc(),
+        6,
+        &Reply::Clue { count: 0, kept },
+        "0.6 clue 0 -\n",
+    )?;
+    for (refusal, line) in [
+        (Refusal::BadVerb, "0.4 no 10\n"),
+        (Refusal::BadField { column: 3 }, "0.4 no 11 3\n"),
+        (
+            Refusal::UnknownMember { member: u32::MAX },
+            "0.4 no 14 4294967295\n",
+        ),
+        (Refusal::WrongKey { member: 2 }, "0.4 no 15 2\n"),
+    ] {
+        check(&rt, rt.alloc(), 4, &Reply::Refused(refusal), line)?;
+    }
+    let last = reply_text(rt.alloc(), 7, u64::MAX, &Reply::Refused(Refusal::BadLane))?;
     assert_eq!(rt;
-        lines.len(),
-        head_line.len()
-            + placed_line.len()
-            + refused_line.len()
-            + unknown_line.len()
-            + wrong_key_line.len()
+        last.as_slice(),
+        b"7.18446744073709551615 no 12\n".as_slice()
     );
     Ok(())
 }

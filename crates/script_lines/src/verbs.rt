@@ -1,0 +1,132 @@
+ghost use Rattle.std.specs.Prelude.{◌≡◌, ◌≤◌, true, IfOk, IfSome};
+ghost use Rattle.script_lines.specs.Grammar.{append_at, member_at, clue_at, head_at, asked_by, lane_of, spoken};
+ghost use Rattle.script_lines.specs.Fields.{field_at};
+ghost use Rattle.script_lines.specs.Reading.{Reads, fits_read};
+ghost use Rattle.script_lines.specs.Spellings.{text_of};
+
+use crate::fields::Fields;
+use crate::line::Line;
+use crate::spellings::PROOF_MAX;
+use crate::spoken::Spoken;
+use crate::stop::Stop;
+use ledger_bytes::{NoMemory, Refusal};
+use std::alloc::Global;
+
+/// The longest content in bytes.
+const CONTENT_MAX: usize = 65_536;
+
+/// How many lanes are served, from 0 on.
+const LANES: u8 = 1;
+
+/// Reads a line, without its newline. Fields stand around single spaces. The first is the lane, then comes the verb, and
+/// then the verb's fields. A number is decimal digits without a leading zero; bytes are `-` for none or two hexadecimal
+/// digits each, of either case. A line whose lane isn't served belongs to lane 0.
+#[tactic(auto, unfolding(crate::specs::Grammar::spoken))]
+pub fn read_line(alloc: Global, line: &[u8]) -> Result<Spoken, NoMemory>
+    ensures { IfOk result (λ s. (s.lane, s.what) ≡ spoken line.now) }
+{
+    let mut fields = Fields::of(line);
+    let lane = match fields.text() {
+        Ok(text) => read_lane(text),
+        Err(_) => None,
+    };
+    let Some(lane) = lane else {
+        return Ok(Spoken {
+            lane: 0,
+            what: Err(Refusal::BadLane),
+        });
+    };
+    match read_asked(alloc, fields) {
+        Ok(line) => Ok(Spoken {
+            lane,
+            what: Ok(line),
+        }),
+        Err(Stop::Refused(refusal)) => Ok(Spoken {
+            lane,
+            what: Err(refusal),
+        }),
+        Err(Stop::NoMemory) => Err(NoMemory),
+    }
+}
+
+fn read_lane(text: &[u8]) -> Option<u8>
+    ensures lane { result ≡ lane_of text.now }
+    ensures in_range { IfSome result (λ lane. lane ≤ 7) }
+{
+    match text {
+        [digit] if *digit >= b'0' && *digit < b'0' + LANES => Some(*digit - b'0'),
+        _ => None,
+    }
+}
+
+fn read_asked(alloc: Global, mut fields: Fields) -> Result<Line, Stop>
+    ensures reads { Reads result (asked_by (field_at text_of fields.entry)) }
+    ensures fits { fits_read result ≡ true }
+{
+    let Ok(verb) = fields.text() else {
+        return Err(Stop::Refused(Refusal::BadVerb));
+    };
+    match verb {
+        b"append" => read_append(alloc, fields),
+        b"member" => read_member(alloc, fields),
+        b"clue" => read_clue(alloc, fields),
+        b"head" => read_head(fields),
+        _ => Err(Stop::Refused(Refusal::BadVerb)),
+    }
+}
+
+#[tactic(auto, unfolding(crate::specs::Grammar::append_at))]
+fn read_append(alloc: Global, mut fields: Fields) -> Result<Line, Stop>
+    ensures reads { Reads result (append_at fields.entry) }
+    ensures fits { fits_read result ≡ true }
+{
+    let member = fields.number(u64::from(u32::MAX))?;
+    let clue = fields.clue(alloc)?;
+    let content = fields.bytes(alloc, CONTENT_MAX)?;
+    let proof = fields.bytes(alloc, PROOF_MAX)?;
+    fields.end()?;
+    Ok(Line::Append {
+        member: member as u32,
+        clue,
+        content,
+        proof,
+    })
+}
+
+#[tactic(auto, unfolding(crate::specs::Grammar::member_at))]
+fn read_member(alloc: Global, mut fields: Fields) -> Result<Line, Stop>
+    ensures reads { Reads result (member_at fields.entry) }
+    ensures fits { fits_read result ≡ true }
+{
+    let number = fields.number(u64::from(u32::MAX))?;
+    let key = fields.digest()?;
+    let proof = fields.bytes(alloc, PROOF_MAX)?;
+    fields.end()?;
+    Ok(Line::NewMember {
+        number: number as u32,
+        key,
+        proof,
+    })
+}
+
+#[tactic(auto, unfolding(crate::specs::Grammar::clue_at))]
+fn read_clue(alloc: Global, mut fields: Fields) -> Result<Line, Stop>
+    ensures reads { Reads result (clue_at fields.entry) }
+    ensures fits { fits_read result ≡ true }
+{
+    let name = fields.name(alloc)?;
+    fields.end()?;
+    Ok(Line::Clue { name })
+}
+
+#[tactic(auto, unfolding(crate::specs::Grammar::head_at))]
+fn read_head(fields: Fields) -> Result<Line, Stop>
+    ensures reads { Reads result (head_at fields.entry) }
+    ensures fits { fits_read result ≡ true }
+{
+    fields.end()?;
+    Ok(Line::Head)
+}
+
+#[cfg(test)]
+mod tests;
