@@ -12,7 +12,7 @@ use Rattle.clue_index.specs.Index.{Kept, Stands, trail_in}
 use Rattle.clue_index.specs.Trail.{Trail, no_trail, grown, seen_from, kept_from, count_of, last_of, Ascends}
 use Rattle.clue_index.specs.declared.state.ClueState.{ClueState}
 use Rattle.clue_index.proofs.TableLaws.{tie, tie_apart, get-table_of, trail_from_get, get-with_mark, trail_from, get-begun}
-use Rattle.clue_index.proofs.TrailLaws.{count_seen, last_seen, seen_later, seen_grown, all_below, all_filter, Ascends-push}
+use Rattle.clue_index.proofs.TrailLaws.{count_seen, last_seen, seen_later, seen_grown, all_below, all_filter, Ascends-filter, Ascends-push}
 
 -- what some value and an option, where it has one, have in common
 of_some : (f : Trail → Trail) (b : Bool) (x y : Trail) → Some y ≡ option_map f (cond b (Some x) None) → y ≡ f x
@@ -45,6 +45,14 @@ module _ (k : Kept) (a : Added) (st : Stands k a) (q : List ℕ) where
   -- the journals of a clue ascend
   pub rising : Ascends (trail_of a q).jsns
   rising = Ascends-jsns_of q a.marks st.rises
+
+  -- so do those that are kept
+  pub kept_rising : Ascends (kept_from a.floor (trail_of a q))
+  kept_rising = Ascends-filter (λ n. nat_le a.floor n) (trail_of a q).jsns rising
+
+  -- zeros have no journal
+  pub unnamed : q ≡ no_clue → trail_of a q ≡ no_trail
+  unnamed is = ap (trail_of a) is ∙ trail_from_get a no_clue st.clear
 
   -- a clue that is found has the journals that were added, as they are seen from the floor
   pub found : (t : Trail) → trail_in q k.trails ≡ Some t → seen_from a.floor t ≡ seen_from a.floor (trail_of a q)

@@ -1,7 +1,7 @@
 ghost use Rattle.std.specs.Prelude.{◌≡◌, ◌≢◌, [], ◌+◌, ◌-◌, ◌^◌, ◌<◌, ◌≤◌, ℕ, List, length, max, All, IfOk, OnOk, OnErr};
 ghost use Rattle.clue_index.specs.Added.{Added, Mark, begun, with_mark, with_floor, no_clue, trail_of, different, states_at};
 ghost use Rattle.clue_index.specs.Index.{Stands};
-ghost use Rattle.clue_index.specs.Trail.{count_of, last_of, kept_from};
+ghost use Rattle.clue_index.specs.Trail.{count_of, last_of, kept_from, Ascends};
 
 use crate::ClueState;
 use crate::slot::Slot;
@@ -96,6 +96,9 @@ impl ClueIndex {
         ensures count { IfOk result (λ r. (a : Added) → Stands self.now a → count_of (trail_of a clue.now.0) < 2 ^ 32
             → r.0 ≡ count_of (trail_of a clue.now.0)) }
         ensures kept { IfOk result (λ r. (a : Added) → Stands self.now a → r.1.items ≡ kept_from a.floor (trail_of a clue.now.0)) }
+        ensures ascending { IfOk result (λ r. (a : Added) → Stands self.now a → Ascends r.1.items) }
+        // Zeros are no clue, and have no journal.
+        ensures none { clue.now.0 ≡ no_clue → IfOk result (λ r. (a : Added) → Stands self.now a → (r.0 ≡ 0) × (r.1.items ≡ [])) }
     {
         match self.slots.get(&clue.0) {
             Some(slot) => Ok((slot.count(), slot.kept(self.alloc, self.floor)?)),
