@@ -1,5 +1,5 @@
 -- What a line that was read keeps to.
-use Rattle.std.specs.Prelude.{◌≡◌, ◌&&◌, nat_le, Bool, true, false, length, Result, Ok, Err, ⊤}
+use Rattle.std.specs.Prelude.{◌&&◌, nat_le, Bool, true, false, length, Result, Ok, Err}
 use Rattle.ledger_bytes.specs.declared.refusal.Refusal.{Refusal}
 use Rattle.ledger_bytes.specs.declared.refusal.Refusal.TheVariants.{BadVerb, BadField, BadLane}
 use Rattle.script_lines.specs.declared.line.Line.{Line}

@@ -142,83 +142,28 @@ fn put_reply_words(out: &mut Vec<u8>, reply: &Reply) -> Result<(), NoMemory>
             size,
             root,
             stamp,
-        } => {
-            put_words(
-                out,
-                &[
-                    Word::Text(b"ok"),
-                    Word::Number(*jsn),
-                    Word::Hash(*leaf),
-                    Word::Number(*block),
-                    Word::Number(*size),
-                    Word::Hash(*root),
-                ],
-            )?;
-            put_stamp(out, *stamp)
-        }
+        } => put_placed(out, *jsn, leaf, *block, *size, root, *stamp),
         Reply::Whole {
             header,
             content,
             who,
-        } => put_words(
-            out,
-            &[
-                Word::Text(b"whole"),
-                Word::Hex(header.as_slice()),
-                Word::Hex(content.as_slice()),
-                Word::Hex(who.as_slice()),
-            ],
-        ),
-        Reply::Occulted { header, who } => put_words(
-            out,
-            &[
-                Word::Text(b"occulted"),
-                Word::Hex(header.as_slice()),
-                Word::Hex(who.as_slice()),
-            ],
-        ),
+        } => put_whole(out, header, content, who),
+        Reply::Occulted { header, who } => put_occulted(out, header, who),
         Reply::Proof {
             n,
             leaf,
             lo,
             hi,
             proof,
-        } => put_words(
-            out,
-            &[
-                Word::Text(b"proof"),
-                Word::Number(*n),
-                Word::Hash(*leaf),
-                Word::Mark(*lo),
-                Word::Mark(*hi),
-                Word::Hex(proof.as_slice()),
-            ],
-        ),
+        } => put_proof(out, *n, leaf, *lo, *hi, proof),
         Reply::Extension {
             which,
             m,
             size,
             root,
             proof,
-        } => put_words(
-            out,
-            &[
-                Word::Text(b"extension"),
-                Word::Text(name_of(*which)),
-                Word::Number(*m),
-                Word::Number(*size),
-                Word::Hash(*root),
-                Word::Hex(proof.as_slice()),
-            ],
-        ),
-        Reply::Clue { count, kept } => put_words(
-            out,
-            &[
-                Word::Text(b"clue"),
-                Word::Number(u64::from(*count)),
-                Word::Numbers(kept.as_slice()),
-            ],
-        ),
+        } => put_extension(out, *which, *m, *size, root, proof),
+        Reply::Clue { count, kept } => put_clue(out, *count, kept),
         Reply::Head {
             id,
             size,
@@ -244,6 +189,32 @@ fn put_reply_words(out: &mut Vec<u8>, reply: &Reply) -> Result<(), NoMemory>
     }
 }
 
+fn put_placed(
+    out: &mut Vec<u8>,
+    jsn: u64,
+    leaf: &Digest,
+    block: u64,
+    size: u64,
+    root: &Digest,
+    stamp: Option<(u64, u64)>,
+) -> Result<(), NoMemory>
+    ensures ok { OnOk result (out.new.items ≡ out.old.items ++ spaced (spec.reply_words (Reply.Placed jsn leaf.now block size root.now stamp))) }
+    ensures err { OnErr result (BeginsWith out.old.items out.new.items) }
+{
+    put_words(
+        out,
+        &[
+            Word::Text(b"ok"),
+            Word::Number(jsn),
+            Word::Hash(*leaf),
+            Word::Number(block),
+            Word::Number(size),
+            Word::Hash(*root),
+        ],
+    )?;
+    put_stamp(out, stamp)
+}
+
 fn put_stamp(out: &mut Vec<u8>, stamp: Option<(u64, u64)>) -> Result<(), NoMemory>
     ensures ok { OnOk result (out.new.items ≡ out.old.items ++ spaced (spec.stamp_words stamp)) }
     ensures err { OnErr result (BeginsWith out.old.items out.new.items) }
@@ -252,6 +223,106 @@ fn put_stamp(out: &mut Vec<u8>, stamp: Option<(u64, u64)>) -> Result<(), NoMemor
         Some((index, time)) => put_words(out, &[Word::Number(index), Word::Number(time)]),
         None => Ok(()),
     }
+}
+
+fn put_whole<'a>(
+    out: &mut Vec<u8>,
+    header: &'a [u8; 174],
+    content: &'a Bytes,
+    who: &'a Bytes,
+) -> Result<(), NoMemory>
+    ensures ok { OnOk result (out.new.items ≡ out.old.items ++ spaced (spec.reply_words (Reply.Whole header.now content.now who.now))) }
+    ensures err { OnErr result (BeginsWith out.old.items out.new.items) }
+{
+    put_words(
+        out,
+        &[
+            Word::Text(b"whole"),
+            Word::Hex(header.as_slice()),
+            Word::Hex(content.as_slice()),
+            Word::Hex(who.as_slice()),
+        ],
+    )
+}
+
+fn put_occulted<'a>(
+    out: &mut Vec<u8>,
+    header: &'a [u8; 174],
+    who: &'a Bytes,
+) -> Result<(), NoMemory>
+    ensures ok { OnOk result (out.new.items ≡ out.old.items ++ spaced (spec.reply_words (Reply.Occulted header.now who.now))) }
+    ensures err { OnErr result (BeginsWith out.old.items out.new.items) }
+{
+    put_words(
+        out,
+        &[
+            Word::Text(b"occulted"),
+            Word::Hex(header.as_slice()),
+            Word::Hex(who.as_slice()),
+        ],
+    )
+}
+
+fn put_proof(
+    out: &mut Vec<u8>,
+    n: u64,
+    leaf: &Digest,
+    lo: Option<(u64, u64, u64)>,
+    hi: Option<(u64, u64, u64)>,
+    proof: &Bytes,
+) -> Result<(), NoMemory>
+    ensures ok { OnOk result (out.new.items ≡ out.old.items ++ spaced (spec.reply_words (Reply.Proof n leaf.now lo hi proof.now))) }
+    ensures err { OnErr result (BeginsWith out.old.items out.new.items) }
+{
+    put_words(
+        out,
+        &[
+            Word::Text(b"proof"),
+            Word::Number(n),
+            Word::Hash(*leaf),
+            Word::Mark(lo),
+            Word::Mark(hi),
+            Word::Hex(proof.as_slice()),
+        ],
+    )
+}
+
+fn put_extension(
+    out: &mut Vec<u8>,
+    which: Which,
+    m: u64,
+    size: u64,
+    root: &Digest,
+    proof: &Bytes,
+) -> Result<(), NoMemory>
+    ensures ok { OnOk result (out.new.items ≡ out.old.items ++ spaced (spec.reply_words (Reply.Extension which m size root.now proof.now))) }
+    ensures err { OnErr result (BeginsWith out.old.items out.new.items) }
+{
+    put_words(
+        out,
+        &[
+            Word::Text(b"extension"),
+            Word::Text(name_of(which)),
+            Word::Number(m),
+            Word::Number(size),
+            Word::Hash(*root),
+            Word::Hex(proof.as_slice()),
+        ],
+    )
+}
+
+fn put_clue(out: &mut Vec<u8>, count: u32, kept: &Items<u64>) -> Result<(), NoMemory>
+    ensures ok { OnOk result (out.new.items ≡ out.old.items ++ spaced (spec.reply_words (Reply.Clue count kept.now))) }
+    ensures err { OnErr result (BeginsWith out.old.items out.new.items) }
+{
+    put_words(
+        out,
+        &[
+            Word::Text(b"clue"),
+            Word::Number(u64::from(count)),
+            Word::Numbers(kept.as_slice()),
+        ],
+    )
 }
 
 fn name_of(which: Which) -> &'static [u8]
