@@ -3,11 +3,11 @@ use Rattle.std.proofs.Common.{◌≡◌, ◌≢◌, ℕ, ◌≤◌, ◌<◌, max
 use Rattle.std.specs.List.{All, AllByRecursion}
 use Rattle.std.specs.FinMap.{get}
 use Rattle.std.specs.Str.{bytes_eq}
-use Rattle.std.proofs.lemmas.Bool.{cond-true, cond-false}
+use Rattle.std.proofs.lemmas.Bool.{cond-false}
 use Rattle.std.proofs.lemmas.List.{map-append}
 use Rattle.std.proofs.lemmas.List.Elements.{recursion_from_All, All-map}
 use Rattle.std.proofs.lemmas.Option.{cond_some}
-use Rattle.clue_index.specs.Added.{Added, Mark, begun, with_mark, with_floor, no_clue, jsns_of, trail_of, clues_of, table_of}
+use Rattle.clue_index.specs.Added.{Added, Mark, begun, with_mark, with_floor, no_clue, jsns_of, trail_of, table_of}
 use Rattle.clue_index.specs.Index.{Kept, Stands, trail_in}
 use Rattle.clue_index.specs.Trail.{Trail, no_trail, grown, seen_from, kept_from, count_of, last_of, Ascends}
 use Rattle.clue_index.specs.declared.state.ClueState.{ClueState}

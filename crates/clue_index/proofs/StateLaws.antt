@@ -1,14 +1,13 @@
 -- Laws of the clues in their order, and of their states.
-use Rattle.std.proofs.Common.{◌≡◌, ◌≢◌, ℕ, ◌+◌, ◌≤◌, ◌<◌, ◌^◌, ◌&&◌, Bool, true, false, cond, List, [], ◌∷◌, ◌++◌, map, filter, length, nat_lt, refl, sym, ap, subst, ◌∙◌, arith, Some, None, Option, option_map}
+use Rattle.std.proofs.Common.{◌≡◌, ℕ, ◌≤◌, ◌<◌, ◌^◌, ◌&&◌, true, false, cond, List, [], ◌∷◌, ◌++◌, map, nat_lt, refl, sym, ap, subst, ◌∙◌, arith, Some, option_map}
 use Rattle.std.specs.Prelude.{T}
 use Rattle.std.specs.List.{All, AllByRecursion}
 use Rattle.std.specs.List.Sorted.{IsStrictlySortedBy}
-use Rattle.std.specs.Map.{lookup, keys_of}
-use Rattle.std.specs.BTreeMap.{is_at}
-use Rattle.std.specs.Ordering.{is_eq, is_lt, eq_by_cmp, nat_cmp}
+use Rattle.std.specs.Map.{keys_of}
+use Rattle.std.specs.Ordering.{is_lt, eq_by_cmp, nat_cmp}
 use Rattle.std.specs.Cmp.Lexicographic.{slice_cmp}
 use Rattle.std.specs.declared.cmp.Ordering.TheVariants.{Less}
-use Rattle.std.specs.FinMap.{get, entries, keys, find, is_sorted, get-entries, entries_sorted, slice_cmp-IsAntisymmetric, nat_cmp-IsAntisymmetric}
+use Rattle.std.specs.FinMap.{entries, find, is_sorted, get-entries, entries_sorted, slice_cmp-IsAntisymmetric, nat_cmp-IsAntisymmetric}
 use Rattle.std.specs.FinMap.Entries.{below_all, same_entries}
 use Rattle.std.proofs.lemmas.Bool.{and_from, cond-true, cond-false, lt-ltb, le-ltb}
 use Rattle.std.proofs.lemmas.Cmp.{nat_list_cmp_total}
@@ -16,7 +15,7 @@ use Rattle.std.proofs.lemmas.List.{append-nil, map-append}
 use Rattle.std.proofs.lemmas.List.Elements.{recursion_from_All, filter-append}
 use Rattle.clue_index.specs.Added.{Added, trail_of, table_of, different, state_below, begun_states, states_at}
 use Rattle.clue_index.specs.Index.{Kept, Stands, trail_in}
-use Rattle.clue_index.specs.Trail.{Trail, seen_from, below, count_of, last_of, Ascends}
+use Rattle.clue_index.specs.Trail.{Trail, seen_from, below, count_of, last_of}
 use Rattle.clue_index.specs.declared.state.ClueState.{ClueState}
 use Rattle.clue_index.proofs.IndexLaws.{found, rising, count_found}
 use Rattle.clue_index.proofs.TrailLaws.{seen_later, count_below}

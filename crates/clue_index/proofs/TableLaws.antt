@@ -1,11 +1,11 @@
 -- Laws of the table of all clues that were given.
-use Rattle.std.proofs.Common.{◌≡◌, ◌≢◌, ℕ, ◌+◌, Bool, true, false, cond, ◌||◌, List, [], ◌∷◌, ◌++◌, map, filter, length, is_some, refl, sym, ap, subst, ◌∙◌, arith, Some, None, Option}
+use Rattle.std.proofs.Common.{◌≡◌, ◌≢◌, ℕ, Bool, true, false, cond, ◌||◌, List, [], ◌∷◌, ◌++◌, map, filter, refl, sym, ap, ◌∙◌, Some, None}
 use Rattle.std.specs.List.{list_any, fold}
-use Rattle.std.specs.Ordering.{is_eq, eq_by_cmp, nat_cmp}
+use Rattle.std.specs.Ordering.{eq_by_cmp, nat_cmp}
 use Rattle.std.specs.Cmp.Lexicographic.{slice_cmp}
 use Rattle.std.specs.Str.{bytes_eq}
-use Rattle.std.specs.FinMap.{FinMap, get, from_entries, find, slice_cmp-IsAntisymmetric, nat_cmp-IsAntisymmetric, get-from_entries}
-use Rattle.std.proofs.lemmas.Bool.{cond-true, cond-false, cases_Bool, false_from_ne_true, or_parts, or_left, or_right}
+use Rattle.std.specs.FinMap.{get, find, get-from_entries}
+use Rattle.std.proofs.lemmas.Bool.{cond-true, cond-false, false_from_ne_true, or_parts}
 use Rattle.std.proofs.lemmas.Cmp.{nat_list_cmp_total}
 use Rattle.std.proofs.lemmas.List.{append-nil, append_assoc, map-append}
 use Rattle.std.proofs.lemmas.List.Elements.{filter-append}
@@ -13,7 +13,7 @@ use Rattle.std.proofs.lemmas.List.Folds.{list_any-append}
 use Rattle.std.proofs.lemmas.List.Sums.{fold-append}
 use Rattle.std.proofs.lemmas.Map.Text.{is_eq-slice_cmp}
 use Rattle.std.proofs.lemmas.Slice.Eq.{bytes_eq-Decides}
-use Rattle.clue_index.specs.Added.{Added, Mark, begun, with_mark, with_floor, no_clue, state_of, jsns_of, trail_of, clues_of, table_of}
+use Rattle.clue_index.specs.Added.{Added, Mark, begun, with_mark, state_of, jsns_of, trail_of, clues_of, table_of}
 use Rattle.clue_index.specs.Trail.{Trail, no_trail, grown}
 use Rattle.clue_index.specs.declared.state.ClueState.{ClueState}
 

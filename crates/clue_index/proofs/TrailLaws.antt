@@ -1,12 +1,11 @@
 -- Laws of a clue's journals.
-use Rattle.std.proofs.Common.{◌≡◌, ℕ, zero, suc, ◌+◌, ◌-◌, ◌<◌, ◌≤◌, Bool, true, false, List, [], ◌∷◌, ◌++◌, length, get_or, take, drop, filter, refl, sym, ap, subst, ◌∙◌, arith, min, ◌^◌, ⊎_elim, cond, length-append, Some, None, slice_get, nat_lt, nat_le}
-use native.Mathlib.Numerals.{unary_clauses}
-use Rattle.std.specs.List.{AllByRecursion, AllWithin, All}
+use Rattle.std.proofs.Common.{◌≡◌, ℕ, zero, suc, ◌+◌, ◌-◌, ◌<◌, ◌≤◌, Bool, true, false, List, [], ◌∷◌, ◌++◌, length, get_or, take, drop, filter, refl, sym, ap, subst, ◌∙◌, arith, min, ◌^◌, ⊎_elim, cond, length-append, Some, slice_get, nat_lt, nat_le}
+use Rattle.std.specs.List.{AllByRecursion, AllWithin}
 use Rattle.std.specs.List.Sorted.{IsPartitionedBy, IsPartitionPoint}
-use Rattle.std.proofs.lemmas.Bool.{cond-true, cond-false, lt-ltb, ltb-true, ltb-false, le-leb, lt-leb, le-ltb, leb-true, leb-false, cases_lt}
+use Rattle.std.proofs.lemmas.Bool.{cond-true, cond-false, lt-ltb, ltb-true, ltb-false, le-leb, lt-leb, le-ltb, leb-true, cases_lt}
 use Rattle.std.proofs.lemmas.List.Elements.{All-from_recursion, filter_more, filter-append}
 use Rattle.std.proofs.lemmas.List.{append-nil}
-use Rattle.clue_index.specs.Trail.{Trail, no_trail, last_from, count_of, last_of, kept_from, below, seen_from, grown, Ascends}
+use Rattle.clue_index.specs.Trail.{Trail, last_from, count_of, last_of, below, seen_from, grown, Ascends}
 
 -- what is behind some numbers is their last
 pub last_from-push : (last : ℕ) (ns : List ℕ) (n : ℕ) → last_from last (ns ++ n ∷ []) ≡ n

@@ -1,4 +1,4 @@
-use Rattle.std.proofs.Common.{◌≡◌, ℕ, Bool, List, cond, refl, sym, ap, subst, ◌∙◌, Some, None, rules, Result, Ok, Err, OnOk, OnErr, IsSome}
+use Rattle.std.proofs.Common.{◌≡◌, ℕ, Bool, List, cond, refl, sym, ap, subst, ◌∙◌, Some, None, Result, Ok, Err, OnOk, OnErr, IsSome}
 use Rattle.std.specs.BTreeMap.{is_at}
 use Rattle.std.specs.Cmp.Lexicographic.{slice_cmp}
 use Rattle.std.specs.Map.{set_value}

@@ -1,4 +1,4 @@
-use Rattle.std.proofs.Common.{◌≡◌, List, [], ℕ, cond, length, take, get_or, refl, sym, ap, subst, ◌∙◌, Some}
+use Rattle.std.proofs.Common.{◌≡◌, List, [], ℕ, cond, take, get_or, refl, sym, ap, subst, ◌∙◌, Some}
 use Rattle.std.proofs.lemmas.List.{take_more}
 use Rattle.clue_index.specs.Added.{begun}
 use Rattle.clue_index.specs.declared.state.ClueState.{ClueState}

@@ -1,4 +1,4 @@
-use Rattle.std.proofs.Common.{◌≡◌, ◌+◌, ◌<◌, ◌^◌, sym, ap, subst, ◌∙◌, arith}
+use Rattle.std.proofs.Common.{◌≡◌, ◌+◌, sym, ap, subst, ◌∙◌, arith}
 use Rattle.clue_index.specs.Added.{trail_of}
 use Rattle.clue_index.specs.Index.{Stands}
 use Rattle.clue_index.specs.Trail.{count_of, last_of}

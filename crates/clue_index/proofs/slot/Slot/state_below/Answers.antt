@@ -1,5 +1,5 @@
-use Rattle.std.proofs.Common.{◌≡◌, ◌<◌, ◌∙◌, ap, length, arith, rules}
-use Rattle.clue_index.proofs.TrailLaws.{Counted, counted_more, counted_none_more}
+use Rattle.std.proofs.Common.{◌∙◌, ap}
+use Rattle.clue_index.proofs.TrailLaws.{counted_more, counted_none_more}
 use Rattle.clue_index.proofs.slot.Slot.state_below.Goals as goal
 use Rattle.clue_index.proofs.slot.Slot.state_below.Goals.{then-jsn-p, else-jsn-p}
 
