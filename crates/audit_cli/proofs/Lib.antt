@@ -1,0 +1,4 @@
+pub mod TextLaws
+pub mod SessionLaws
+pub mod EndLaws
+pub mod TopLaws

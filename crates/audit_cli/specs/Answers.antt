@@ -1,0 +1,47 @@
+-- The answer to a line, and what is trusted after it.
+use Rattle.std.specs.Prelude.{ℕ, List, Option, Some, None, Result, Ok, Err}
+use Rattle.ledger_bytes.specs.declared.refusal.Refusal.{Refusal}
+use Rattle.tree_model.specs.Tree.{Hash}
+use Rattle.audit_core.specs.declared.refusal.No.{No}
+use Rattle.audit_core.specs.Acceptance.{acceptance}
+use Rattle.audit_core.specs.Trust.{Trust, trust_refusal, with_head}
+use Rattle.audit_cli.specs.declared.line.Line.{Line}
+use Rattle.audit_cli.specs.declared.line.Line.TheVariants.{TrustLedger, Check}
+use Rattle.audit_cli.specs.declared.reply.Reply.{Reply}
+use Rattle.audit_cli.specs.declared.reply.Reply.TheVariants as reply
+use Rattle.audit_cli.specs.Grammar.{line_of}
+
+-- the reply where this stands against a head, or nothing does
+abbrev pub trusting : Option No → Reply
+trusting None = reply.Yes
+trusting (Some why) = reply.No why
+
+-- the reply where a proof is accepted, or isn't
+abbrev pub verdict : Result (Unit {0}) No → Reply
+verdict (Ok done) = reply.Yes
+verdict (Err why) = reply.No why
+
+-- the reply to a line that was read, where this is trusted
+abbrev pub reply_to : Hash → Trust → Result Line Refusal → Reply
+reply_to hash trust (Ok (TrustLedger id head)) = trusting (trust_refusal trust id head)
+reply_to hash trust (Ok (Check claim proof)) = verdict (acceptance hash proof claim trust)
+reply_to hash trust (Err refusal) = reply.Refused refusal
+
+-- the second where nothing stands against it, else the first
+abbrev pub unless_refused : Option No → Trust → Trust → Trust
+unless_refused None old new = new
+unless_refused (Some why) old new = old
+
+-- what is trusted after a line that was read: only a head that is trusted by it is added
+abbrev pub trust_behind : Trust → Result Line Refusal → Trust
+trust_behind trust (Ok (TrustLedger id head)) = unless_refused (trust_refusal trust id head) trust (with_head trust id head)
+trust_behind trust (Ok (Check claim proof)) = trust
+trust_behind trust (Err refusal) = trust
+
+-- the reply to a line
+abbrev pub answer_to : Hash → Trust → List ℕ → Reply
+answer_to hash trust line = reply_to hash trust (line_of line)
+
+-- what is trusted after a line
+abbrev pub trust_after : Trust → List ℕ → Trust
+trust_after trust line = trust_behind trust (line_of line)

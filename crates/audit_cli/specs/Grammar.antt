@@ -1,0 +1,55 @@
+-- The lines of an audit script.
+use Rattle.std.specs.Prelude.{ℕ, ◌-◌, ◌^◌, if◌then◌else◌, List, codes, option_map, Result, Ok, Err}
+use Rattle.std.specs.Str.{bytes_eq}
+use Rattle.ledger_bytes.specs.declared.refusal.Refusal.{Refusal}
+use Rattle.ledger_bytes.specs.declared.refusal.Refusal.TheVariants.{BadVerb}
+use Rattle.ledger_io.specs.Lines.{line_limit}
+use Rattle.script_lines.specs.Fields.{Left, fields_of, field_at, end_at}
+use Rattle.script_lines.specs.Grammar.{◌>>=◌}
+use Rattle.script_lines.specs.Spellings.{text_of, word_of, number_of, bytes_of, digest_of, mark_of}
+use Rattle.time_peg.specs.declared.TimeMark.{TimeMark}
+use Rattle.audit_cli.specs.declared.line.Line.{Line}
+use Rattle.audit_cli.specs.declared.line.Line.TheVariants.{TrustLedger, Check}
+
+-- a time mark by its three numbers
+abbrev pub mark_from : ℕ × ℕ × ℕ → TimeMark
+mark_from mark = record { jsn = mark.0; index = mark.1; time = mark.2 }
+
+-- a head of a ledger that is to be trusted: the word `ledger`, its id, its size and its root
+unfoldable pub trust_at : Left → Result Line Refusal
+trust_at fields = do
+  ledger ← field_at (word_of (codes "ledger")) fields
+  id ← field_at digest_of ledger.1
+  size ← field_at (number_of (2 ^ 64 - 1)) id.1
+  root ← field_at digest_of size.1
+  end ← end_at root.1
+  Ok (TrustLedger id.0 (record { size = size.0; root = root.0 }))
+
+-- a proof that is to be checked: a journal's number, its leaf digest, the marks in front of it and behind it, and the
+-- proof's bytes, which are as many as a line has room for
+unfoldable pub check_at : Left → Result Line Refusal
+check_at fields = do
+  n ← field_at (number_of (2 ^ 64 - 1)) fields
+  leaf ← field_at digest_of n.1
+  lo ← field_at mark_of leaf.1
+  hi ← field_at mark_of lo.1
+  proof ← field_at (bytes_of line_limit) hi.1
+  end ← end_at proof.1
+  Ok (Check (record { n = n.0; leaf = leaf.0; lo = option_map mark_from lo.0; hi = option_map mark_from hi.0 }) proof.0)
+
+-- a line by its verb and the fields behind that
+abbrev pub verb_at : List ℕ → Left → Result Line Refusal
+verb_at verb fields =
+    if bytes_eq verb (codes "trust") then trust_at fields
+    else if bytes_eq verb (codes "check") then check_at fields
+    else Err BadVerb
+
+-- a line by all its fields, of which the first is the verb
+unfoldable pub line_at : Left → Result Line Refusal
+line_at fields = do
+  verb ← field_at text_of fields
+  verb_at verb.0 verb.1
+
+-- what a line asks for, or why it is refused: its verb is unknown, or a field is missing, extra or ill-formed
+abbrev pub line_of : List ℕ → Result Line Refusal
+line_of line = line_at (fields_of line)

@@ -1,0 +1,7 @@
+pub mod Grammar
+pub mod Answers
+pub mod Replies
+pub mod Texts
+pub mod Words
+pub mod Endings
+pub mod Runs

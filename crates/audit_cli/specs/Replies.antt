@@ -1,0 +1,27 @@
+-- The text of each reply.
+use Rattle.std.specs.Prelude.{ℕ, List, [], ◌∷◌, ◌++◌, codes, decimal}
+use Rattle.script_lines.specs.Replies.{refusal_words}
+use Rattle.script_lines.specs.Words.{hex_of, spaced}
+use Rattle.audit_core.specs.declared.refusal.No.{No}
+use Rattle.audit_core.specs.declared.refusal.No.TheVariants.{HeadUnknown, LeafPath, ClaimDiffers, Malformed, HeadDiffers, HeadsFull}
+use Rattle.audit_cli.specs.declared.reply.Reply.{Reply}
+use Rattle.audit_cli.specs.declared.reply.Reply.TheVariants as reply
+
+-- the code of what the auditor says no for, and the fields that are printed behind it
+abbrev pub no_words : No → List (List ℕ)
+no_words (HeadUnknown size) = decimal 34 ∷ decimal size ∷ []
+no_words LeafPath = decimal 35 ∷ []
+no_words ClaimDiffers = decimal 40 ∷ []
+no_words (Malformed at) = decimal 41 ∷ decimal at ∷ []
+no_words (HeadDiffers kept) = decimal 44 ∷ hex_of kept ∷ []
+no_words HeadsFull = decimal 45 ∷ []
+
+-- the words of a reply
+abbrev pub reply_words : Reply → List (List ℕ)
+reply_words reply.Yes = codes "yes" ∷ []
+reply_words (reply.No why) = codes "no" ∷ no_words why
+reply_words (reply.Refused refusal) = codes "no" ∷ refusal_words refusal
+
+-- the text that answers the line with this number
+abbrev pub reply_text : ℕ → Reply → List ℕ
+reply_text number reply = decimal number ++ spaced (reply_words reply) ++ codes "\n"

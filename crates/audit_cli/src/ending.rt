@@ -1,0 +1,51 @@
+ghost use Rattle.std.specs.Prelude.{◌≡◌};
+
+/// How a run ended. Each ending has an exit status and a last line.
+#[derive(Clone, Copy, Debug, PartialEq, Eq)]
+pub enum Ending {
+    /// The input was read to its end, and every line has its reply.
+    Done,
+    /// The words of the command line are of no form.
+    Usage,
+    /// Reading failed.
+    ReadFault,
+    /// Writing failed, or the sink took nothing.
+    WriteFault,
+    NoMemory,
+    /// A line has more bytes than a line may have.
+    LineTooLong,
+    /// The script has more bytes than a script may have.
+    ScriptTooLong,
+}
+
+impl Ending {
+    ghost use Rattle.audit_cli.specs.Endings.{status_of, last_line};
+
+    /// The exit status.
+    pub fn status(self) -> u8
+        ensures { result ≡ status_of self }
+    {
+        match self {
+            Ending::Done => 0,
+            Ending::Usage => 1,
+            Ending::ReadFault => 2,
+            Ending::WriteFault => 3,
+            Ending::NoMemory => 6,
+            Ending::LineTooLong | Ending::ScriptTooLong => 7,
+        }
+    }
+
+    /// The line that is written last, with its newline; nothing where there is none.
+    pub fn last_line(self) -> &'static [u8]
+        ensures { result.now ≡ last_line self }
+    {
+        match self {
+            Ending::Done | Ending::WriteFault => b"",
+            Ending::Usage => b"fail 1 usage\n",
+            Ending::ReadFault => b"fail 2 read\n",
+            Ending::NoMemory => b"fail 6 memory\n",
+            Ending::LineTooLong => b"fail 7 line\n",
+            Ending::ScriptTooLong => b"fail 7 script\n",
+        }
+    }
+}

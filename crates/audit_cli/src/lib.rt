@@ -1,0 +1,20 @@
+//! The top calls of `auditctl`: from the words of the command line and the bytes of an audit script to the bytes that
+//! are written and the exit status.
+#![tactic(auto)]
+
+mod answer;
+mod ending;
+mod line;
+mod reply;
+mod session;
+mod top;
+mod words;
+
+pub use ending::Ending;
+pub use line::{Line, read_line};
+pub use reply::{Reply, put_reply};
+pub use top::{audit_run, audit_top, finish};
+pub use words::Command;
+
+#[cfg(test)]
+mod tests;

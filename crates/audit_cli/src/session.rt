@@ -1,0 +1,71 @@
+ghost use Rattle.std.specs.Prelude.{◌≡◌, ◌≢◌, OnOk};
+ghost use Rattle.audit_cli.specs.Answers.{answer_to, trust_after};
+ghost use Rattle.audit_cli.specs.Endings.{ending_of};
+ghost use Rattle.audit_cli.specs.Replies.{reply_text};
+ghost use Rattle.audit_cli.specs.Runs.{Served, outside};
+
+use crate::answer::answer;
+use crate::{Ending, put_reply};
+use audit_core::Heads;
+use ledger_bytes::{NoMemory, TreeHash};
+use ledger_io::{LineErr, Lines, Sink, Source, write_all};
+use std::alloc::Global;
+
+/// Answers the lines of an audit script, one after the other, until it ends or a fault ends it.
+pub(crate) fn run_script<H: TreeHash, S: Source, K: Sink>(
+    alloc: Global,
+    source: &mut S,
+    sink: &mut K,
+) -> Ending
+    ensures served { Served H.of result
+        (outside (S.state source.old) (K.state sink.old)) (outside (S.state source.new) (K.state sink.new)) }
+    ensures started { result ≢ Ending.Usage }
+{
+    let mut lines = Lines::new(alloc);
+    let mut heads = Heads::new(alloc);
+    let mut text = Vec::new(alloc);
+    let mut number = 0;
+    loop {
+        let line = match lines.next(source) {
+            Ok(Some(line)) => line,
+            Ok(None) => return Ending::Done,
+            Err(error) => return ending_of(error),
+        };
+        number += 1;
+        match set_answer::<H>(alloc, &mut heads, &mut text, number, line.as_slice()) {
+            Ok(()) => (),
+            Err(NoMemory) => return Ending::NoMemory,
+        }
+        match write_all(sink, text.as_slice()) {
+            Ok(()) => (),
+            Err(_) => return Ending::WriteFault,
+        }
+    }
+}
+
+// The text that answers a line, in a buffer that is used again.
+fn set_answer<H: TreeHash>(
+    alloc: Global,
+    heads: &mut Heads,
+    text: &mut Vec<u8>,
+    number: u64,
+    line: &[u8],
+) -> Result<(), NoMemory>
+    ensures text { OnOk result (text.new.items ≡ reply_text number (answer_to H.of heads.old line.now)) }
+    ensures heads { OnOk result (heads.new ≡ trust_after heads.old line.now) }
+{
+    let reply = answer::<H>(alloc, heads, line)?;
+    text.clear();
+    put_reply(text, number, &reply)
+}
+
+fn ending_of(error: LineErr) -> Ending
+    ensures { result ≡ ending_of error }
+{
+    match error {
+        LineErr::ReadFault => Ending::ReadFault,
+        LineErr::LineTooLong => Ending::LineTooLong,
+        LineErr::ScriptTooLong => Ending::ScriptTooLong,
+        LineErr::NoMemory => Ending::NoMemory,
+    }
+}

@@ -1,0 +1,404 @@
+use crate::{Ending, audit_run, audit_top, finish};
+use ledger_bytes::{Bytes, NoMemory, Toy};
+use ledger_io::{LINE_LIMIT, MemSink, MemSource};
+use std::alloc::Global;
+use std::test::Fail;
+
+// A ledger of one journal, whose leaf digest is its id and its root, and the proof of that journal but for its last
+// byte, which is 00.
+const ID: &str = "64915354a6547b1f887e596e872fd13b2abdc860729da9fe31180a81726cf4a2";
+
+const CUT_PROOF: &str =
+    "010000000000000001000000000000000064915354a6547b1f887e596e872fd13b2abdc860729da9fe31180a8172\
+    6cf4a20000";
+
+// The same ledger with three journals: its root, and the leaf digest of journal 2 with its proof.
+const ROOT_OF_THREE: &str = "49524e1c4c02e2c41ee9b8c9af686d8fabf088c888a6f8878bc3c1cc79f26020";
+
+const LAST_LEAF: &str = "c346a4840bce4f8de12d73b3fda6bb93c7f113f7a07ee5b4951f1393dcc51ed5";
+
+const LAST_PROOF: &str =
+    "0100000000000000030000000000000002c346a4840bce4f8de12d73b3fda6bb93c7f113f7a07ee5b4951f1393dc\
+    c51ed50189713d47487c9be9875bd8f6a471f021f10440bea34709c459dce3a1703139510000";
+
+// The last bit of its path changed.
+const LAST_PROOF_CHANGED: &str =
+    "0100000000000000030000000000000002c346a4840bce4f8de12d73b3fda6bb93c7f113f7a07ee5b4951f1393dc\
+    c51ed50189713d47487c9be9875bd8f6a471f021f10440bea34709c459dce3a1703139500000";
+
+// The leaf digest of journal 1, and its proof with a time journal behind it, whose flag stands at 115.
+const MIDDLE_LEAF: &str = "e17cd0a38398533f50004ec57f5dd3837680b6b072223c6ffc9e2bfa0d0e723c";
+
+const BOUNDED_PROOF: &str =
+    "0100000000000000030000000000000001e17cd0a38398533f50004ec57f5dd3837680b6b072223c6ffc9e2bfa0d\
+    0e723c0264915354a6547b1f887e596e872fd13b2abdc860729da9fe31180a81726cf4a2c346a4840bce4f8de12d\
+    73b3fda6bb93c7f113f7a07ee5b4951f1393dcc51ed5000100000000000000020000000000000000000000000000\
+    03e88b3b30a051bca9ec8bacbfaf3a351389842d99f1769a4959994077e9ec8d875789713d47487c9be9875bd8f6\
+    a471f021f10440bea34709c459dce3a17031395101c346a4840bce4f8de12d73b3fda6bb93c7f113f7a07ee5b495\
+    1f1393dcc51ed5000000000000000100";
+
+const DIGEST_OF_NOTHING: &str = "e3b0c44298fc1c149afbf4c8996fb92427ae41e4649b934ca495991b7852b855";
+
+// More room than any of these runs writes, and a call that none of them makes.
+const AMPLE: usize = 65_536;
+
+const NEVER: u64 = u64::MAX;
+
+// A line in pieces, and the words of its reply.
+type Said = (&'static [&'static str], &'static [&'static str]);
+
+// A script, and the text that answers it.
+#[derive(Drop)]
+struct Script {
+    lines: Vec<u8>,
+    text: Vec<u8>,
+    count: u64,
+}
+
+impl Script {
+    fn new(alloc: Global) -> Self {
+        Script {
+            lines: Vec::new(alloc),
+            text: Vec::new(alloc),
+            count: 0,
+        }
+    }
+
+    // A line more, and its reply.
+    fn add(&mut self, alloc: Global, line: &[&str], reply: &[&str]) -> Result<(), NoMemory> {
+        self.count = self.count.saturating_add(1);
+        for piece in line {
+            self.lines.extend_from_slice(piece.as_bytes())?;
+        }
+        self.lines.push(b'\n')?;
+        self.text
+            .extend_from_slice(self.count.to_string(alloc)?.as_bytes())?;
+        for word in reply {
+            self.text.push(b' ')?;
+            self.text.extend_from_slice(word.as_bytes())?;
+        }
+        self.text.push(b'\n')?;
+        Ok(())
+    }
+
+    fn of(alloc: Global, said: &[Said]) -> Result<Self, NoMemory> {
+        let mut script = Script::new(alloc);
+        for (line, reply) in said {
+            script.add(alloc, line, reply)?;
+        }
+        Ok(script)
+    }
+}
+
+// The status of a run and what it wrote, where the read and the write with these numbers fail.
+fn run(
+    alloc: Global,
+    words: &[&str],
+    script: &[u8],
+    failing_read: u64,
+    room: usize,
+    failing_write: u64,
+) -> Result<(u8, Vec<u8>), NoMemory> {
+    let mut strings = Vec::new(alloc);
+    for word in words {
+        strings.push(String::from_str(alloc, word)?)?;
+    }
+    let mut source = MemSource::new(
+        Bytes::copy_of(alloc, script)?,
+        [failing_read].to_vec(alloc)?,
+    );
+    let mut sink = MemSink::new(alloc, room, [failing_write].to_vec(alloc)?)?;
+    let status = audit_top(alloc, strings.as_slice(), &mut source, &mut sink);
+    Ok((status, sink.written().to_vec(alloc)?))
+}
+
+#[test]
+fn answers_each_line(rt: HostRuntime) -> Result<(), Fail> {
+    // What is trusted grows along the script; a line of no form changes nothing.
+    let said: [Said; 40] = [
+        (&["check 0 ", ID, " - - ", CUT_PROOF, "00"], &["no 34 1"]),
+        (&["trust ledger ", ID, " 1 ", ID], &["yes"]),
+        (&["check 0 ", ID, " - - ", CUT_PROOF, "00"], &["yes"]),
+        (&["check 1 ", ID, " - - ", CUT_PROOF, "00"], &["no 40"]),
+        (&["check 0 ", ID, " 5:0:1 - ", CUT_PROOF, "00"], &["no 40"]),
+        (&["check 0 ", ID, " - 5:0:1 ", CUT_PROOF, "00"], &["no 40"]),
+        (&["check 2 ", LAST_LEAF, " - - ", LAST_PROOF], &["no 34 3"]),
+        (
+            &["trust ledger ", ID, " 1 ", DIGEST_OF_NOTHING],
+            &["no 44", ID],
+        ),
+        (
+            &["trust ledger ", DIGEST_OF_NOTHING, " 3 ", ROOT_OF_THREE],
+            &["no 44", ID],
+        ),
+        (&["trust ledger ", ID, " 3 ", ROOT_OF_THREE], &["yes"]),
+        (&["trust ledger ", ID, " 3 ", ROOT_OF_THREE], &["yes"]),
+        (&["check 2 ", LAST_LEAF, " - - ", LAST_PROOF], &["yes"]),
+        (
+            &["check 2 ", LAST_LEAF, " - - ", LAST_PROOF_CHANGED],
+            &["no 35"],
+        ),
+        (&["check 0 ", ID, " - - ", CUT_PROOF, "00"], &["yes"]),
+        (&[""], &["no 10"]),
+        (&["trust"], &["no 11 2"]),
+        (&["trust notary 1 ", ID], &["no 11 2"]),
+        (&["trust ledger"], &["no 11 3"]),
+        (&["trust ledger 0", ID, " 1 ", ID], &["no 11 3"]),
+        (&["trust ledger ", ID, " 01 ", ID], &["no 11 4"]),
+        (
+            &["trust ledger ", ID, " 18446744073709551616 ", ID],
+            &["no 11 4"],
+        ),
+        (&["trust ledger ", ID, "  1 ", ID], &["no 11 4"]),
+        (&["trust ledger ", ID, " 1"], &["no 11 5"]),
+        (&["trust ledger ", ID, " 1 ", ID, "\r"], &["no 11 5"]),
+        (&["trust ledger ", ID, " 1 ", ID, " "], &["no 11 6"]),
+        (&["Trust ledger ", ID, " 1 ", ID], &["no 10"]),
+        (&[" trust ledger ", ID, " 1 ", ID], &["no 10"]),
+        (&["extend ledger 1 3 ", ROOT_OF_THREE, " -"], &["no 10"]),
+        (&["check -1 ", ID, " - - -"], &["no 11 2"]),
+        (&["check 0 - - - -"], &["no 11 3"]),
+        (&["check 0 ", ID, " 5:0 - -"], &["no 11 4"]),
+        (&["check 0 ", ID, " - 5:0:1:2 -"], &["no 11 5"]),
+        (&["check 0 ", ID, " - -"], &["no 11 6"]),
+        (&["check 0 ", ID, " - - "], &["no 11 6"]),
+        (&["check 0 ", ID, " - - 010"], &["no 11 6"]),
+        (&["check 0 ", ID, " - - 0g"], &["no 11 6"]),
+        (&["check 0 ", ID, " - - - -"], &["no 11 7"]),
+        (
+            &[
+                "check 18446744073709551615 ",
+                ID,
+                " 0:0:18446744073709551615 - -",
+            ],
+            &["no 41 0"],
+        ),
+        (
+            &["check 0 ABABABABABABABABABABABABABABABABABABABABABABABABABABABABABABABAB - - aB"],
+            &["no 41 0"],
+        ),
+        (&["trust ledger ", ID, " 0 ", DIGEST_OF_NOTHING], &["yes"]),
+    ];
+    let script = Script::of(rt.alloc(), &said)?;
+    let (status, written) = run(
+        rt.alloc(),
+        &["script"],
+        script.lines.as_slice(),
+        NEVER,
+        AMPLE,
+        NEVER,
+    )?;
+    assert_eq!(rt; written.as_slice(), script.text.as_slice());
+    assert_eq!(rt; status, 0);
+    Ok(())
+}
+
+// A proof in hexadecimal digits, cut to each length and whole.
+fn add_cuts(
+    alloc: Global,
+    script: &mut Script,
+    front: &[&str],
+    proof: &str,
+    last: usize,
+) -> Result<(), NoMemory> {
+    for count in 0..=proof.len() / 2 {
+        let (digits, _) = proof.as_bytes().split_at(2 * count);
+        for piece in front {
+            script.lines.extend_from_slice(piece.as_bytes())?;
+        }
+        script
+            .lines
+            .extend_from_slice(if count == 0 { b"-" } else { digits })?;
+        let place = count.min(last).to_string(alloc)?;
+        script.add(alloc, &[], &["no 41", place.as_str()])?;
+    }
+    Ok(())
+}
+
+#[test]
+fn tells_where_proofs_break(rt: HostRuntime) -> Result<(), Fail> {
+    let mut script = Script::new(rt.alloc());
+    script.add(
+        rt.alloc(),
+        &["trust ledger ", ID, " 3 ", ROOT_OF_THREE],
+        &["yes"],
+    )?;
+    add_cuts(
+        rt.alloc(),
+        &mut script,
+        &["check 0 ", ID, " - - "],
+        CUT_PROOF,
+        51,
+    )?;
+    add_cuts(
+        rt.alloc(),
+        &mut script,
+        &["check 1 ", MIDDLE_LEAF, " - 2:0:1000 "],
+        BOUNDED_PROOF,
+        115,
+    )?;
+    assert_eq!(rt; script.count, 300);
+    let (status, written) = run(
+        rt.alloc(),
+        &["script"],
+        script.lines.as_slice(),
+        NEVER,
+        AMPLE,
+        NEVER,
+    )?;
+    assert_eq!(rt; written.as_slice(), script.text.as_slice());
+    assert_eq!(rt; status, 0);
+    Ok(())
+}
+
+#[test]
+fn ends_as_its_cause_says(rt: HostRuntime) -> Result<(), Fail> {
+    let said: [Said; 4] = [
+        (&["trust ledger ", ID, " 1 ", ID], &["yes"]),
+        (&["check 0 ", ID, " - - ", CUT_PROOF, "00"], &["yes"]),
+        (&["check 0 ", ID, " - - ", CUT_PROOF], &["no 41 51"]),
+        (&["check 1 ", ID, " - - ", CUT_PROOF, "00"], &["no 40"]),
+    ];
+    let script = Script::of(rt.alloc(), &said)?;
+    // The read and the write that fail, and the room of the sink. The first read gives all lines, and each reply is
+    // one write.
+    for (read, room, write, status, text) in [
+        (
+            NEVER,
+            AMPLE,
+            NEVER,
+            0,
+            "1 yes\n2 yes\n3 no 41 51\n4 no 40\n",
+        ),
+        (0, AMPLE, NEVER, 2, "fail 2 read\n"),
+        (
+            1,
+            AMPLE,
+            NEVER,
+            2,
+            "1 yes\n2 yes\n3 no 41 51\n4 no 40\nfail 2 read\n",
+        ),
+        (1, AMPLE, 4, 2, "1 yes\n2 yes\n3 no 41 51\n4 no 40\n"),
+        (NEVER, AMPLE, 1, 3, "1 yes\n"),
+        (NEVER, 17, NEVER, 3, "1 yes\n2 yes\n3 no "),
+        (NEVER, 12, NEVER, 3, "1 yes\n2 yes\n"),
+    ] {
+        let (got, written) = run(
+            rt.alloc(),
+            &["script"],
+            script.lines.as_slice(),
+            read,
+            room,
+            write,
+        )?;
+        assert_eq!(rt; written.as_slice(), text.as_bytes());
+        assert_eq!(rt; got, status);
+    }
+    Ok(())
+}
+
+#[test]
+fn tells_words_of_no_form(rt: HostRuntime) -> Result<(), Fail> {
+    for words in [
+        [].as_slice(),
+        &[""],
+        &["Script"],
+        &["script "],
+        &["--", "script"],
+        &["script", "script"],
+    ] {
+        for (write, text) in [(NEVER, "fail 1 usage\n"), (0, "")] {
+            let (status, written) = run(rt.alloc(), words, b"x", NEVER, AMPLE, write)?;
+            assert_eq!(rt; written.as_slice(), text.as_bytes());
+            assert_eq!(rt; status, 1);
+        }
+    }
+    Ok(())
+}
+
+#[test]
+fn ends_at_a_line_that_is_too_long(rt: HostRuntime) -> Result<(), Fail> {
+    let mut long = Vec::new(rt.alloc());
+    long.extend_from_slice(b"\n")?;
+    long.resize(1 + LINE_LIMIT, b'x')?;
+    for (more, status, text) in [
+        (b"\n".as_slice(), 0, "1 no 10\n2 no 10\n"),
+        (b"x", 7, "1 no 10\nfail 7 line\n"),
+    ] {
+        let mut script = long.clone()?;
+        script.extend_from_slice(more)?;
+        let (got, written) = run(
+            rt.alloc(),
+            &["script"],
+            script.as_slice(),
+            NEVER,
+            AMPLE,
+            NEVER,
+        )?;
+        assert_eq!(rt; written.as_slice(), text.as_bytes());
+        assert_eq!(rt; got, status);
+    }
+    Ok(())
+}
+
+#[test]
+fn tells_want_of_memory(rt: HostRuntime) -> Result<(), Fail> {
+    let mut sink = MemSink::new(rt.alloc(), AMPLE, Vec::new(rt.alloc()))?;
+    assert_eq!(rt; finish(&mut sink, Ending::NoMemory), 6);
+    assert_eq!(rt; sink.written(), b"fail 6 memory\n".as_slice());
+    assert_eq!(rt; Ending::ScriptTooLong.status(), 7);
+    assert_eq!(rt;
+        Ending::ScriptTooLong.last_line(),
+        b"fail 7 script\n".as_slice()
+    );
+    Ok(())
+}
+
+#[test]
+fn checks_under_the_hash_that_is_given(rt: HostRuntime) -> Result<(), Fail> {
+    // Three leaves with the digests 1, 2 and 3 under the toy hash: their root is 8, and the path of the first is 2, 3.
+    let zeros = "00000000000000000000000000000000000000000000000000000000000000";
+    let said: [(&[&str], &[&str]); 3] = [
+        (&["trust ledger ", zeros, "00 3 ", zeros, "08"], &["yes"]),
+        (
+            &[
+                "check 0 ",
+                zeros,
+                "01 - - 0100000000000000030000000000000000",
+                zeros,
+                "0102",
+                zeros,
+                "02",
+                zeros,
+                "030000",
+            ],
+            &["yes"],
+        ),
+        (
+            &[
+                "check 0 ",
+                zeros,
+                "01 - - 0100000000000000030000000000000000",
+                zeros,
+                "0102",
+                zeros,
+                "03",
+                zeros,
+                "030000",
+            ],
+            &["no 35"],
+        ),
+    ];
+    let mut script = Script::new(rt.alloc());
+    for (line, reply) in said {
+        script.add(rt.alloc(), line, reply)?;
+    }
+    let mut source = MemSource::new(Bytes::of(script.lines), Vec::new(rt.alloc()));
+    let mut sink = MemSink::new(rt.alloc(), AMPLE, Vec::new(rt.alloc()))?;
+    assert_eq!(rt;
+        audit_run::<Toy, MemSource, MemSink>(rt.alloc(), &mut source, &mut sink),
+        0
+    );
+    assert_eq!(rt; sink.written(), script.text.as_slice());
+    Ok(())
+}

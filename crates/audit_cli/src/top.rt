@@ -1,0 +1,68 @@
+ghost use Rattle.std.specs.Prelude.{◌≡◌, ◌≢◌, ◌⊎◌, ◌↔◌, Some, None, map, string_bytes};
+ghost use Rattle.sha2.specs.Sha256.{sha256};
+ghost use Rattle.ledger_bytes.specs.Causes.{Rose};
+ghost use Rattle.ledger_io.specs.Writing.{WritesLast};
+ghost use Rattle.audit_cli.specs.Endings.{status_of, last_line};
+ghost use Rattle.audit_cli.specs.Runs.{RanProgram, outside};
+ghost use Rattle.audit_cli.specs.Words.{command_of};
+
+use crate::session::run_script;
+use crate::{Command, Ending};
+use ledger_bytes::{Sha, TreeHash};
+use ledger_io::{Sink, Source, write_last};
+use std::alloc::Global;
+
+/// The program: runs the command that the words after the program's name make. The one form is `script`, which
+/// answers the audit script that `source` gives, and writes the replies to `sink`. It answers the exit status:
+///
+/// | Status | Comes | Last line |
+/// |---|---|---|
+/// | 0 | the input was read to its end, and every line has its reply | none |
+/// | 1 | exactly where the words are of no form | `fail 1 usage` |
+/// | 2 | only where the source failed | `fail 2 read` |
+/// | 3 | only where the sink failed, or took nothing of a piece that wasn't empty | none |
+/// | 6 | want of memory | `fail 6 memory` |
+/// | 7 | a line or the script is too long | `fail 7 line`, `fail 7 script` |
+///
+/// Of several, the first that happens is the status. Lines that ended before a fault of reading are answered first.
+/// The last line is written by one attempt; a fault there doesn't change the status.
+pub fn audit_top<S: Source, K: Sink>(
+    alloc: Global,
+    words: &[String],
+    source: &mut S,
+    sink: &mut K,
+) -> u8
+    ensures ran { RanProgram sha256 (command_of (map string_bytes words.now)) result
+        (outside (S.state source.old) (K.state sink.old)) (outside (S.state source.new) (K.state sink.new)) }
+    ensures usage { (result ≡ 1) ↔ (command_of (map string_bytes words.now) ≡ None) }
+    ensures read_fault { result ≡ 2 → Rose (S.state source.old).faults (S.state source.new).faults }
+    ensures write_fault { result ≡ 3 → Rose (K.state sink.old).faults (K.state sink.new).faults
+        ⊎ Rose (K.state sink.old).idles (K.state sink.new).idles }
+{
+    match Command::read(words) {
+        Some(Command::Script) => audit_run::<Sha, S, K>(alloc, source, sink),
+        None => finish(sink, Ending::Usage),
+    }
+}
+
+/// Answers the audit script that `source` gives, under this hash. The status is one of those above but 1.
+pub fn audit_run<H: TreeHash, S: Source, K: Sink>(alloc: Global, source: &mut S, sink: &mut K) -> u8
+    ensures ran { RanProgram H.of (Some Command.Script) result
+        (outside (S.state source.old) (K.state sink.old)) (outside (S.state source.new) (K.state sink.new)) }
+    ensures started { result ≢ 1 }
+    ensures read_fault { result ≡ 2 → Rose (S.state source.old).faults (S.state source.new).faults }
+    ensures write_fault { result ≡ 3 → Rose (K.state sink.old).faults (K.state sink.new).faults
+        ⊎ Rose (K.state sink.old).idles (K.state sink.new).idles }
+{
+    let ending = run_script::<H, S, K>(alloc, source, sink);
+    finish(sink, ending)
+}
+
+/// Ends a run: writes its last line by one attempt, and answers its exit status.
+pub fn finish<K: Sink>(sink: &mut K, ending: Ending) -> u8
+    ensures status { result ≡ status_of ending }
+    ensures last { WritesLast (last_line ending) (K.state sink.old) (K.state sink.new) }
+{
+    write_last(sink, ending.last_line());
+    ending.status()
+}
