@@ -23,18 +23,26 @@ is_full most limits h = nat_le most (kept h) || nat_le limits.size (size h)
 unfoldable pub full : Limits → History → Option Refusal
 full limits h = if is_full limits.soft limits h then Some (Full (kept h) (size h)) else None
 
--- there is no member with this number
-abbrev pub unknown_member : History → ℕ → Option Refusal
-unknown_member h member = if nat_lt member (length (keys h)) then None else Some (UnknownMember member)
+-- among members with these keys there is none with this number
+abbrev pub unknown_in : List (List ℕ) → ℕ → Option Refusal
+unknown_in known member = if nat_lt member (length known) then None else Some (UnknownMember member)
 
 -- whether a proof shows this key
 abbrev pub shows : Option Digest → List ℕ → Bool
 shows None key = false
 shows (Some shown) key = pointwise nat_eq shown.0 key
 
+-- what the proof shows isn't the key of this one
+abbrev pub wrong_key_in : List (List ℕ) → ℕ → Option Digest → Option Refusal
+wrong_key_in known member shown = if shows shown (slice_index_or known member []) then None else Some (WrongKey member)
+
+-- there is no member with this number
+abbrev pub unknown_member : History → ℕ → Option Refusal
+unknown_member h member = unknown_in (keys h) member
+
 -- what the proof shows isn't the member's key
 abbrev pub wrong_key : History → ℕ → Option Digest → Option Refusal
-wrong_key h member shown = if shows shown (slice_index_or (keys h) member []) then None else Some (WrongKey member)
+wrong_key h member shown = wrong_key_in (keys h) member shown
 
 -- there are as many members as there may be
 abbrev pub members_full : History → Option Refusal

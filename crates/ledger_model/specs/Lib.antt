@@ -7,6 +7,7 @@ pub mod Members
 pub mod Clues
 pub mod Appends
 pub mod Judgements
+pub mod Fitting
 pub mod Outcomes
 pub mod Books
 pub mod Notary

@@ -1,0 +1,5 @@
+pub mod HeaderLaws
+pub mod ClueLaws
+pub mod MemberLaws
+pub mod StandsLaws
+pub mod GenesisLaws

@@ -1,0 +1,203 @@
+ghost use Rattle.std.specs.Prelude.{◌≡◌, ◌↔◌, ◌-◌, ◌^◌, ◌<◌, ◌≤◌, ℕ, IsTrue, IfOk, IfNone, length, filter, nat_le, slice_get, option_copied, Option, None, true, if◌then◌else◌};
+ghost use Rattle.ledger_model.specs.Books.{Stands, Serves, headers, leaf_digests};
+ghost use Rattle.ledger_model.specs.Clues.{jsns_with};
+ghost use Rattle.ledger_model.specs.Genesis.{founded};
+ghost use Rattle.ledger_model.specs.History as model;
+ghost use Rattle.ledger_model.specs.History.{History, close};
+ghost use Rattle.ledger_model.specs.Judgements.{is_full};
+ghost use Rattle.ledger_model.specs.Outcomes as outcomes;
+ghost use Rattle.ledger_book.specs.Seals.{head_of, seal_of};
+ghost use Rattle.ledger_book.specs.Steps.{IsSame};
+
+use crate::Sealed;
+use crate::headers::first_header;
+use clue_index::ClueIndex;
+use journal_record::Header;
+use ledger_bytes::{Digest, NoMemory, Sha};
+use ledger_model::{Genesis, Limits, View};
+use member_book::MemberBook;
+use merkle_tree::{Head, leaf_of, root_of};
+use std::alloc::Global;
+use std::marker::Model;
+
+/// The state of a ledger's history. A contract sees the record of what is kept; `Stands` says of which histories it
+/// keeps that, and each clause speaks of all of these.
+#[derive(Drop)]
+pub struct Book {
+    limits: Limits,
+    /// The first journal whose header is kept.
+    floor: u64,
+    size: u64,
+    point: u64,
+    /// How many blocks have ended.
+    blocks: u64,
+    /// The head at the last block's end.
+    head: Head,
+    id: Digest,
+    members: MemberBook,
+    clues: ClueIndex,
+    headers: Vec<Header>,
+    /// The digests of all journals as leaves.
+    leaves: Vec<Digest>,
+}
+
+impl Model for Book {
+    ghost use Rattle.std.specs.Prelude.{◌^◌, ◌<◌, ◌≤◌};
+    ghost use Rattle.ledger_model.specs.Books.{Kept};
+
+    ghost Value = { Kept };
+
+    ghost view = { λ b. record {
+      limits = b.limits;
+      floor = b.floor;
+      size = b.size;
+      point = b.point;
+      blocks = b.blocks;
+      sealed = b.head.size;
+      root = b.head.root;
+      id = b.id;
+      members = b.members;
+      clues = b.clues;
+      headers = b.headers.items;
+      leaves = b.leaves.items;
+    } };
+
+    ghost invariant = { λ b. (1 ≤ b.size) × (b.size < 2 ^ 32) × (b.limits.size < 2 ^ 32) × (b.blocks ≤ b.head.size) × (b.head.size ≤ b.size) };
+}
+
+impl Book {
+    /// The book of a new ledger, which has journal 0 alone, in a block that has ended.
+    pub fn new(alloc: Global, genesis: &Genesis, limits: Limits) -> Result<Self, NoMemory>
+        requires { limits.size < 2 ^ 32 }
+        ensures serves { IfOk result (λ book. Serves book (founded genesis.now)) }
+        ensures limits { IfOk result (λ book. book.limits ≡ limits) }
+        ensures floor { IfOk result (λ book. (book.floor ≡ 0) × (book.point ≡ 0)) }
+    {
+        let header = first_header(genesis);
+        let leaf = leaf_of::<Sha>(&header.encode());
+        let members = MemberBook::new(alloc, &genesis.operator, &genesis.regulator)?;
+        let headers = vec![in alloc; header]?;
+        let leaves = vec![in alloc; leaf]?;
+        Ok(Book {
+            limits,
+            floor: 0,
+            size: 1,
+            point: 0,
+            blocks: 1,
+            head: Head {
+                size: 1,
+                root: leaf,
+            },
+            id: leaf,
+            members,
+            clues: ClueIndex::new(alloc),
+            headers,
+            leaves,
+        })
+    }
+
+    /// Ends the open block, where a journal waits in it. The root is computed anew over the leaves' digests.
+    pub fn seal(&mut self) -> Option<Sealed>
+        ensures stands { (h : History) → Stands self.old h → Stands self.new (close h) }
+        ensures sealed { (h : History) → Stands self.old h → result ≡ seal_of h }
+        ensures none { IfNone result (self.new ≡ self.old) }
+        ensures same { IsSame self.old self.new }
+    {
+        if self.head.size == self.size {
+            return None;
+        }
+        let root = root_of::<Sha>(self.leaves.as_slice());
+        let sealed = Sealed {
+            block: self.blocks,
+            first: self.head.size,
+            head: Head {
+                size: self.size,
+                root,
+            },
+        };
+        self.blocks += 1;
+        self.head = sealed.head;
+        Some(sealed)
+    }
+
+    /// What of journal `n` can be shown.
+    pub fn view(&self, n: u64) -> View
+        ensures { (h : History) → Serves self.now h → result ≡ outcomes.view h n }
+    {
+        if n >= self.size {
+            View::Absent
+        } else if n < self.point {
+            View::Purged { point: self.point }
+        } else {
+            View::Whole
+        }
+    }
+
+    /// The header of journal `n`, where it is kept.
+    pub fn header(&self, n: u64) -> Option<&Header>
+        ensures { (h : History) → Serves self.now h
+            → option_copied result ≡ (if nat_le self.now.floor n then slice_get (headers h) n else None) }
+    {
+        let at = n.checked_sub(self.floor)?;
+        self.headers.get(at as usize)
+    }
+
+    /// The leaf digest of journal 0.
+    pub fn id(&self) -> Digest
+        ensures { (h : History) → Stands self.now h → result.0 ≡ model.id h }
+    {
+        self.id
+    }
+
+    /// The size and the root at the end of the last block that has ended.
+    pub fn head(&self) -> Head
+        ensures { (h : History) → Stands self.now h → result ≡ head_of h }
+    {
+        self.head
+    }
+
+    /// How many blocks have ended.
+    pub fn blocks(&self) -> u64
+        ensures { (h : History) → Stands self.now h → result ≡ model.blocks h }
+    {
+        self.blocks
+    }
+
+    /// The first journal that a purge has left, or 0.
+    pub fn point(&self) -> u64
+        ensures { (h : History) → Stands self.now h → result ≡ model.point h }
+    {
+        self.point
+    }
+
+    /// How many journals wait in the open block.
+    pub fn unsealed(&self) -> u64
+        ensures { (h : History) → Stands self.now h → result ≡ length h.waiting }
+    {
+        self.size - self.head.size
+    }
+
+    /// Whether there is no room for a journal of the operator.
+    pub fn full(&self) -> bool
+        ensures { (h : History) → Serves self.now h → result ≡ is_full self.now.limits.hard self.now.limits h }
+    {
+        self.size.saturating_sub(self.point) >= self.limits.hard || self.size >= self.limits.size
+    }
+
+    /// How many journals a clue has over the whole history, and the numbers of those that are kept, ascending. No clue
+    /// has none.
+    pub fn clue(&self, clue: &Digest) -> Result<(u32, Vec<u64>), NoMemory>
+        ensures count { IfOk result (λ r. (h : History) → Serves self.now h → r.0 ≡ length (jsns_with h clue.now)) }
+        ensures kept { IfOk result (λ r. (h : History) → Serves self.now h
+            → r.1.items ≡ filter (λ jsn. nat_le self.now.floor jsn) (jsns_with h clue.now)) }
+    {
+        self.clues.of(clue)
+    }
+
+    /// The digests of all journals as leaves.
+    pub fn leaves(&self) -> &[Digest]
+        ensures { (h : History) → Stands self.now h → result.now ≡ leaf_digests h }
+    {
+        self.leaves.as_slice()
+    }
+}

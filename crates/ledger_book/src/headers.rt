@@ -1,0 +1,138 @@
+ghost use Rattle.std.specs.Prelude.{◌≡◌, ◌≤◌, ◌<◌, ◌^◌, [], ◌∷◌, ◌++◌, length, ℕ, List};
+ghost use Rattle.journal_record.specs.Approval.{who_of};
+ghost use Rattle.journal_record.specs.Entry.{content_digest_of, who_digest_of};
+ghost use Rattle.ledger_model.specs.Appends.{append_header, member_header};
+ghost use Rattle.ledger_model.specs.Genesis.{genesis_header, founders_content, name_digest, no_clue};
+
+use journal_record::{Approval, Header, Kind, content_digest, who_digest};
+use ledger_bytes::{Digest, Sha, TreeHash};
+use ledger_model::Genesis;
+
+/// The byte in front of a hashed ledger name.
+const NAME_TAG: u8 = 0x0b;
+
+/// The byte in front of a hashed content.
+const CONTENT_TAG: u8 = 0x02;
+
+/// The byte in front of the hashed bytes of who placed a journal.
+const WHO_TAG: u8 = 0x0a;
+
+/// The clue of a journal that has none.
+pub(crate) const NO_CLUE: Digest = Digest([0; 32]);
+
+/// The header of journal 0.
+pub(crate) fn first_header(genesis: &Genesis) -> Header
+    ensures header { result ≡ genesis_header genesis.now }
+    ensures width { length genesis.now.operator.0 ≡ 32 }
+{
+    Header {
+        version: 1,
+        kind: Kind::Genesis,
+        jsn: 0,
+        member: 0,
+        clue: NO_CLUE,
+        clue_ord: 0,
+        clue_prev: 0,
+        a: 0,
+        b: 0,
+        link: named(genesis.name.as_slice()),
+        content_len: 64,
+        content_digest: keys_digest(&genesis.operator, &genesis.regulator),
+        who_digest: who_digest(b""),
+    }
+}
+
+// The digest of a ledger's name.
+fn named(name: &[u8]) -> Digest
+    ensures { result.0 ≡ name_digest name.now }
+{
+    let mut hasher = Sha::start(NAME_TAG);
+    hasher.add(name);
+    hasher.end()
+}
+
+// The content digest of two keys, one after the other.
+fn keys_digest(operator: &Digest, regulator: &Digest) -> Digest
+    ensures digest { result.0 ≡ content_digest_of (operator.now.0 ++ regulator.now.0) }
+    ensures width { length operator.now.0 ≡ 32 }
+{
+    let _operator = operator.0;
+    let mut hasher = Sha::start(CONTENT_TAG);
+    hasher.add(&operator.0);
+    hasher.add(&regulator.0);
+    hasher.end()
+}
+
+/// The place of a journal in the ledger and among those of its clue.
+#[derive(Clone, Copy)]
+pub(crate) struct Place {
+    pub(crate) jsn: u64,
+    pub(crate) ordinal: u32,
+    pub(crate) previous: u64,
+}
+
+/// The header of a member's record with this clue at this place.
+pub(crate) fn record_header(
+    place: Place,
+    member: u32,
+    clue: &Digest,
+    content_len: u32,
+    content_digest: &Digest,
+    request: &Digest,
+    by: &Approval,
+) -> Header
+    requires { length by.now.proof < 2 ^ 16 }
+    ensures { (content : List ℕ) → length content ≡ content_len
+        → result ≡ append_header place.jsn member clue.now place.ordinal place.previous content content_digest.now request.now by.now }
+{
+    Header {
+        version: 1,
+        kind: Kind::Content,
+        jsn: place.jsn,
+        member,
+        clue: *clue,
+        clue_ord: place.ordinal,
+        clue_prev: place.previous,
+        a: 0,
+        b: 0,
+        link: *request,
+        content_len,
+        content_digest: *content_digest,
+        who_digest: approval_digest(by),
+    }
+}
+
+/// The header of a new member that is journal `jsn`.
+pub(crate) fn new_member_header(jsn: u64, number: u32, key: &Digest, by: &Approval) -> Header
+    requires { length by.now.proof < 2 ^ 16 }
+    ensures { result ≡ member_header jsn number key.now by.now }
+{
+    Header {
+        version: 1,
+        kind: Kind::Member,
+        jsn,
+        member: 0,
+        clue: NO_CLUE,
+        clue_ord: 0,
+        clue_prev: 0,
+        a: u64::from(number),
+        b: 0,
+        link: *key,
+        content_len: 0,
+        content_digest: content_digest(b""),
+        who_digest: approval_digest(by),
+    }
+}
+
+// The digest of one approval's bytes: the member's number in 4 bytes, the proof's length in 2, and the proof.
+fn approval_digest(by: &Approval) -> Digest
+    requires { length by.now.proof < 2 ^ 16 }
+    ensures { result.0 ≡ who_digest_of (who_of (by.now ∷ [])) }
+{
+    let proof = by.proof.as_slice();
+    let mut hasher = Sha::start(WHO_TAG);
+    hasher.add(&by.member.to_be_bytes());
+    hasher.add(&(proof.len() as u16).to_be_bytes());
+    hasher.add(proof);
+    hasher.end()
+}

@@ -1,0 +1,28 @@
+-- Jobs that a line may make.
+use Rattle.std.specs.Prelude.{ℕ, ◌==◌, ◌&&◌, Bool, true, false, length, nat_le, bytes_eq}
+use Rattle.ledger_bytes.specs.declared.refusal.Refusal.{Refusal}
+use Rattle.ledger_bytes.specs.declared.refusal.Refusal.TheVariants.{BadVerb, BadField, BadLane}
+use Rattle.journal_record.specs.Entry.{content_digest_of}
+use Rattle.journal_record.specs.declared.approval.Approval.{Approval}
+use Rattle.ledger_model.specs.declared.job.Job.{Job}
+use Rattle.ledger_model.specs.declared.job.Job.TheVariants.{Refused, Append, NewMember, Clue, Head}
+
+-- whether a line is refused so for its form alone
+abbrev pub is_of_form : Refusal → Bool
+is_of_form BadVerb = true
+is_of_form (BadField column) = true
+is_of_form BadLane = true
+is_of_form other = false
+
+-- whether an approval is this member's, with a proof no longer than a line may give
+abbrev pub fits_approval : ℕ → Approval → Bool
+fits_approval member by = by.member == member && nat_le (length by.proof) 4_096
+
+-- whether a line may make the job: its parts are no longer than a line may give, and belong together
+abbrev pub fits_job : Job → Bool
+fits_job (Refused refusal) = is_of_form refusal
+fits_job (Append member clue content content_digest request by) =
+    nat_le (length content) 65_536 && bytes_eq content_digest.0 (content_digest_of content) && fits_approval member by
+fits_job (NewMember number key by) = fits_approval 0 by
+fits_job (Clue clue) = true
+fits_job Head = true
