@@ -33,7 +33,7 @@ all_marks P q (m ∷ marks) all =
     ]
 
 -- where the numbers of journals ascend, those of a clue do
-Ascends-jsns_of : (q : List ℕ) (marks : List Mark) → Ascends (map (λ m. m.jsn) marks) → Ascends (jsns_of q marks)
+pub Ascends-jsns_of : (q : List ℕ) (marks : List Mark) → Ascends (map (λ m. m.jsn) marks) → Ascends (jsns_of q marks)
 Ascends-jsns_of q [] rise = tt
 Ascends-jsns_of q (m ∷ marks) rise =
     elim (bytes_eq q m.clue) as (λ b. Ascends (map (λ m. m.jsn) (cond b (m ∷ filter (λ m. bytes_eq q m.clue) marks) (filter (λ m. bytes_eq q m.clue) marks)))) [
@@ -74,7 +74,7 @@ module _ (k : Kept) (a : Added) (st : Stands k a) (q : List ℕ) where
   kept_found t is = ap (λ f. kept_from f t) st.floor ∙ ap (λ t. t.jsns) (found t is)
 
 -- two options that look alike, with the same put in their place where a test says so
-cond_alike : (f : Trail → Trail) (b : Bool) (s t : Trail) (x y : Option Trail) → f s ≡ f t → option_map f x ≡ option_map f y
+pub cond_alike : (f : Trail → Trail) (b : Bool) (s t : Trail) (x y : Option Trail) → f s ≡ f t → option_map f x ≡ option_map f y
     → option_map f (cond b (Some s) x) ≡ option_map f (cond b (Some t) y)
 cond_alike f true s t x y same rest = ap Some same
 cond_alike f false s t x y same rest = rest

@@ -1,3 +1,4 @@
+pub mod CarryLaws
 pub mod IndexLaws
 pub mod StateLaws
 pub mod TableLaws

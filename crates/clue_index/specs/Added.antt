@@ -1,5 +1,5 @@
 -- All that an index of clues was given, as plain lists, and what is asked of it.
-use Rattle.std.specs.Prelude.{ℕ, List, [], ◌∷◌, ◌++◌, map, filter, fold, replicate, nat_lt, bytes_eq, if◌then◌else◌}
+use Rattle.std.specs.Prelude.{ℕ, List, [], ◌∷◌, ◌++◌, map, filter, fold, replicate, nat_lt, nat_le, bytes_eq, if◌then◌else◌}
 use Rattle.std.specs.Cmp.Lexicographic.{slice_cmp}
 use Rattle.std.specs.Ordering.{nat_cmp}
 use Rattle.std.specs.FinMap.{FinMap, from_entries, keys}
@@ -71,3 +71,7 @@ begun_states states = filter (λ s. nat_lt 0 s.count) states
 -- the states of all clues that had a journal when the journals below p had been placed, ascending by their bytes
 abbrev pub states_at : ℕ → Added → List ClueState
 states_at p a = begun_states (map (λ clue. state_below p clue (trail_of a clue)) (different a))
+
+-- what an index is given that begins at p: the states there, and the journals from p on
+abbrev pub from_point : ℕ → Added → Added
+from_point p a = record { states = states_at p a; marks = filter (λ m. nat_le p m.jsn) a.marks; floor = p }

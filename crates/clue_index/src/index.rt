@@ -67,6 +67,16 @@ impl ClueIndex {
         }
     }
 
+    /// How many journals the clue has over the whole history, where that is a `u32`.
+    pub fn count_of(&self, clue: &Digest) -> u32
+        ensures { (a : Added) → Stands self.now a → count_of (trail_of a clue.now.0) < 2 ^ 32 → result ≡ count_of (trail_of a clue.now.0) }
+    {
+        match self.slots.get(&clue.0) {
+            Some(slot) => slot.count(),
+            None => 0,
+        }
+    }
+
     /// How many different clues there were over the whole history.
     pub fn clues(&self) -> u64
         ensures { (a : Added) → Stands self.now a → result ≡ length (different a) }

@@ -2,10 +2,12 @@
 #![tactic(auto)]
 
 mod index;
+mod laws;
 mod slot;
 mod state;
 
 pub use index::ClueIndex;
+pub use laws::states_carry_on;
 pub use state::ClueState;
 
 #[cfg(test)]
