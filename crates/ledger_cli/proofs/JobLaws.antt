@@ -1,11 +1,12 @@
 -- Lemmas on jobs as a line makes them.
-use Rattle.std.proofs.Common.{◌≡◌, ℕ, List, length, Option, Some, None, refl, ap, sym, ◌∙◌}
+use Rattle.std.proofs.Common.{◌≡◌, ℕ, List, length, Option, Some, None, Result, refl, ap, sym, ◌∙◌}
 use Rattle.std.specs.Option.{option_map}
 use Rattle.ledger_bytes.specs.declared.digest.Digest.{Digest}
+use Rattle.ledger_bytes.specs.declared.refusal.Refusal.{Refusal}
 use Rattle.journal_record.specs.Entry.{content_digest_of}
 use Rattle.journal_record.specs.Request.{request_digest_of}
 use Rattle.journal_record.specs.Tags.{tag_key_of}
-use Rattle.script_lines.specs.Grammar.{line_of}
+use Rattle.script_lines.specs.Grammar.{spoken}
 use Rattle.script_lines.specs.declared.line.Line.{Line}
 use Rattle.ledger_model.specs.Rules.{job_for, job_of}
 use Rattle.ledger_model.specs.Appends.{append_with, append_job, request_of}
@@ -32,6 +33,7 @@ append_is id member content proof slice shown count content_digest request key c
     ap (λ x. job (digest x) request key) same ∙ ap (λ x. job (digest (content_digest_of content)) (digest x) key) asked ∙ ap (job (digest (content_digest_of content)) (digest (request_of id member content))) shows
 
 -- the job of a line as it was read
-pub job_asked : (id line : List ℕ) (read got : Option Line) → read ≡ line_of line → read ≡ got → job_for id got ≡ job_of id line
+pub job_asked : (id line : List ℕ) (lane : ℕ) (what got : Result Line Refusal) → (let said : ℕ × Result Line Refusal = (lane, what) in said ≡ spoken line) → what ≡ got
+    → job_for id got ≡ job_of id line
 unfolding job_of
-job_asked id line read got is same = ap (job_for id) (sym same ∙ is)
+job_asked id line lane what got read is = ap (job_for id) (sym is ∙ ap (λ (said : ℕ × Result Line Refusal). said.1) read)

@@ -40,6 +40,7 @@ fn put_due(
                 block,
                 size,
                 root: *root,
+                stamp: None,
             };
             put_reply(text, due.lane, due.index, &reply)
         }

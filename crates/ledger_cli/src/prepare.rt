@@ -1,13 +1,14 @@
-ghost use Rattle.std.specs.Prelude.{◌≡◌, ◌≤◌, length, IfOk};
+ghost use Rattle.std.specs.Prelude.{◌≡◌, ◌≤◌, length, true, Ok, IfOk};
+ghost use Rattle.script_lines.specs.Limits.{fits_line};
 ghost use Rattle.ledger_model.specs.Appends.{append_job};
-ghost use Rattle.ledger_model.specs.Rules.{job_of};
+ghost use Rattle.ledger_model.specs.Rules.{job_for, job_of};
 ghost use Rattle.ledger_cli.specs.Jobs.{IsFitting};
 
 use crate::founding::NO_CLUE;
 use journal_record::{Approval, content_digest, request_digest, tag_key};
 use ledger_bytes::{Bytes, Digest, NoMemory, Refusal};
 use ledger_model::Job;
-use script_lines::{Line, read_line};
+use script_lines::{Line, Spoken, read_line};
 use std::alloc::Global;
 
 /// What a line asks for on the ledger with this id, with all digests and the key that the line alone defines.
@@ -15,16 +16,33 @@ pub(crate) fn prepare(alloc: Global, id: &Digest, line: &[u8]) -> Result<Job, No
     ensures job { IfOk result (λ job. job ≡ job_of id.now.0 line.now) }
     ensures fits { IfOk result IsFitting }
 {
-    match read_line(alloc, line)? {
-        None => Ok(Job::Refused(Refusal::BadVerb)),
-        Some(
-            Line::Append {
-                member,
-                content,
-                proof,
-            },
-        ) => Ok(prepare_append(id, member, content, proof)),
-        Some(Line::Head) => Ok(Job::Head),
+    let Spoken { lane: _, what } = read_line(alloc, line)?;
+    match what {
+        Ok(line) => Ok(prepare_line(id, line)),
+        Err(refusal) => Ok(Job::Refused(refusal)),
+    }
+}
+
+fn prepare_line(id: &Digest, line: Line) -> Job
+    requires { fits_line line ≡ true }
+    ensures job { result ≡ job_for id.now.0 (Ok line) }
+    ensures fits { IsFitting result }
+{
+    match line {
+        Line::Append {
+            member,
+            clue,
+            content,
+            proof,
+        } => {
+            if clue.as_slice().is_empty() {
+                prepare_append(id, member, content, proof)
+            } else {
+                Job::Refused(Refusal::BadVerb)
+            }
+        }
+        Line::NewMember { .. } | Line::Clue { .. } => Job::Refused(Refusal::BadVerb),
+        Line::Head => Job::Head,
     }
 }
 

@@ -175,8 +175,16 @@ fn answers_filled(
 
 #[test]
 fn answers_scripts(rt: HostRuntime) -> Result<(), Fail> {
-    let rows: [(&[&str], &str, &[&str]); 5] = [
+    let rows: [(&[&str], &str, &[&str]); 6] = [
         (&DEMO, "", &[]),
+        (
+            &DEMO,
+            "\n8 head\n0 hed\n0 get\n0 get 01\n0 clue inv\n0 clue\n0 member 2\n0 append 0 inv - -\n1 head",
+            &[
+                "0.1 no 12\n0.2 no 12\n0.3 no 10\n0.4 no 10\n0.5 no 10\n0.6 no 10\n\
+                0.7 no 11 3\n0.8 no 11 4\n0.9 no 10\n0.10 no 12\n",
+            ],
+        ),
         (&DEMO, "0 head", &["0.1 ", HEAD]),
         (&DEMO, "0 head\n", &["0.1 ", HEAD]),
         (&LONG, "0 head\n", &["0.1 ", LONG_HEAD]),
@@ -194,7 +202,7 @@ fn answers_scripts(rt: HostRuntime) -> Result<(), Fail> {
                 HEAD,
                 "0.5 ",
                 HEAD,
-                "0.6 no 10\n0.7 no 10\n0.8 ",
+                "0.6 no 10\n0.7 no 12\n0.8 ",
                 HEAD,
             ],
         ),
@@ -241,7 +249,7 @@ fn places_records(rt: HostRuntime) -> Result<(), Fail> {
                 lines: 9,
                 first: "0.1 head 64915354a6547b1f887e596e872fd13b2abdc860729da9fe31180a81726cf4a2 1 64915354a6547b1f887e596e872fd13b2abdc860729da9fe31180a81726cf4a2 1 0 0 e3b0c44298fc1c149afbf4c8996fb92427ae41e4649b934ca495991b7852b855\n",
                 last: "0.9 head 64915354a6547b1f887e596e872fd13b2abdc860729da9fe31180a81726cf4a2 1 64915354a6547b1f887e596e872fd13b2abdc860729da9fe31180a81726cf4a2 1 0 0 e3b0c44298fc1c149afbf4c8996fb92427ae41e4649b934ca495991b7852b855\n",
-                digest: "d1ee823352c3ee74b6a69b0ffbf7ed5ce2030708ebd78e3410a4e3aa70954263",
+                digest: "a136a36192c021a0f0b127cfb8d04a2e6e1392487ba17b0b35d370c019d683a7",
             },
         ),
         (
@@ -317,7 +325,7 @@ fn places_records(rt: HostRuntime) -> Result<(), Fail> {
                 lines: 45,
                 first: "0.1 no 10\n",
                 last: "0.45 head 64915354a6547b1f887e596e872fd13b2abdc860729da9fe31180a81726cf4a2 20 df2e907e056b324ac559c5abd63cab2136e2cce24883883652cdc454829d1a36 8 0 0 e3b0c44298fc1c149afbf4c8996fb92427ae41e4649b934ca495991b7852b855\n",
-                digest: "5eabb42e7d3b0c1262be716717ff70d64972a4b59aea96b301091a97e3333869",
+                digest: "e83cc6069291366f4805a0594ce76db2b1f316beee8c12278e4e1a5bcf82daea",
             },
         ),
     ];

@@ -90,9 +90,9 @@ Agree window g answer = reply_in window answer ≡ reply_in g answer
 receipt_kept : (g window : History) (jsn : ℕ) (leaf : Digest) → g.waiting ≡ [] → Goes g window → jsn < size g → Agree window g (Receipt jsn leaf)
 receipt_kept g window jsn leaf none a below =
     let at = end_of-goes g window jsn none a below in
-    ap (λ b. reply.Placed jsn leaf b (end_of window jsn) (digest (root window (end_of window jsn)))) (block_of-goes g window jsn none a below)
-    ∙ ap (λ n. reply.Placed jsn leaf (block_of g jsn) n (digest (root window n))) at
-    ∙ ap (λ r. reply.Placed jsn leaf (block_of g jsn) (end_of g jsn) (digest r)) (root_kept g window a.more (end_of g jsn) a.journals_are (end_of-le g jsn none below))
+    ap (λ b. reply.Placed jsn leaf b (end_of window jsn) (digest (root window (end_of window jsn))) None) (block_of-goes g window jsn none a below)
+    ∙ ap (λ n. reply.Placed jsn leaf (block_of g jsn) n (digest (root window n)) None) at
+    ∙ ap (λ r. reply.Placed jsn leaf (block_of g jsn) (end_of g jsn) (digest r) None) (root_kept g window a.more (end_of g jsn) a.journals_are (end_of-le g jsn none below))
 
 answer_kept : (g window : History) (low : ℕ) (answer : Answer) → g.waiting ≡ [] → Goes g window → IsWithin low (size g) answer → Agree window g answer
 answer_kept g window low (Reply reply) none a w = refl
@@ -128,8 +128,8 @@ window_split k xs ys none =
 receipt_ended : (k g : History) (jsn : ℕ) (leaf : Digest) → k.waiting ≡ [] → (e : IsEnded k g) → size k ≤ jsn → jsn < size g → reply_in g (Receipt jsn leaf) ≡ reply_at (length g.closed - 1) (size g) (root g (size g)) (Receipt jsn leaf)
 receipt_ended k g jsn leaf none e above below =
     let at = end_of-ended k g jsn none e above below in
-    ap (λ b. reply.Placed jsn leaf b (end_of g jsn) (digest (root g (end_of g jsn)))) (block_of-ended k g jsn none e above below)
-    ∙ ap (λ n. reply.Placed jsn leaf (length g.closed - 1) n (digest (root g n))) at
+    ap (λ b. reply.Placed jsn leaf b (end_of g jsn) (digest (root g (end_of g jsn))) None) (block_of-ended k g jsn none e above below)
+    ∙ ap (λ n. reply.Placed jsn leaf (length g.closed - 1) n (digest (root g n)) None) at
 
 answer_ended : (k g : History) (answer : Answer) → k.waiting ≡ [] → (size g ≡ size k) ⊎ IsEnded k g → IsWithin (size k) (size g) answer → reply_in g answer ≡ reply_at (length g.closed - 1) (size g) (root g (size g)) answer
 answer_ended k g (Reply reply) none ended w = refl

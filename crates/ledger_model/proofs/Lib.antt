@@ -1,5 +1,6 @@
 pub mod WindowLaws
 pub mod LaneLaws
+pub mod LineLaws
 pub mod EndLaws
 pub mod GrowLaws
 pub mod DueLaws

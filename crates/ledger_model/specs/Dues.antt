@@ -1,5 +1,5 @@
 -- What is due for lines that were judged, before the ends of their blocks are known.
-use Rattle.std.specs.Prelude.{ℕ, ◌<◌, ◌≤◌, List, [], ◌∷◌, ⊤}
+use Rattle.std.specs.Prelude.{ℕ, ◌<◌, ◌≤◌, List, [], ◌∷◌, None, ⊤}
 use Rattle.std.specs.List.{flat_map}
 use Rattle.script_lines.specs.Replies.{reply_text}
 use Rattle.script_lines.specs.declared.reply.Reply.{Reply as AnyReply}
@@ -25,7 +25,7 @@ dues h (step ∷ steps) = due_for h step ∷ dues (after_step h step) steps
 -- the reply of an answer, where a receipt's block has this number and ends at this size with this root
 abbrev pub reply_at : ℕ → ℕ → List ℕ → Answer → AnyReply
 reply_at block size root (Reply reply) = reply
-reply_at block size root (Receipt jsn leaf) = reply.Placed jsn leaf block size (digest root)
+reply_at block size root (Receipt jsn leaf) = reply.Placed jsn leaf block size (digest root) None
 
 -- the line that is due, and some such lines
 abbrev pub due_text : ℕ → ℕ → List ℕ → Due → List ℕ

@@ -1,9 +1,9 @@
 -- What a step does to a history: what judges it, what it places, and which blocks it ends.
-use Rattle.std.specs.Prelude.{ℕ, Bool, true, false, if◌then◌else◌, List, [], ◌∷◌, Option, Some, None}
+use Rattle.std.specs.Prelude.{ℕ, Bool, true, false, if◌then◌else◌, List, [], ◌∷◌, Option, Some, None, Result, Ok, Err}
 use Rattle.ledger_bytes.specs.declared.refusal.Refusal.{Refusal}
 use Rattle.ledger_bytes.specs.declared.refusal.Refusal.TheVariants.{BadVerb}
 use Rattle.journal_record.specs.Entry.{Entry}
-use Rattle.script_lines.specs.Grammar.{line_of}
+use Rattle.script_lines.specs.Grammar.{spoken}
 use Rattle.script_lines.specs.declared.line.Line.{Line}
 use Rattle.script_lines.specs.declared.line.Line.TheVariants as line
 use Rattle.ledger_model.specs.Appends.{append_job}
@@ -15,15 +15,22 @@ use Rattle.ledger_model.specs.Step.{Step}
 use Rattle.ledger_model.specs.declared.job.Job.{Job}
 use Rattle.ledger_model.specs.declared.job.Job.TheVariants.{Refused, Append, NewMember, Clue, Head}
 
--- what a line that was read asks for, on the ledger with this id
-abbrev pub job_for : List ℕ → Option Line → Job
-job_for id None = Refused BadVerb
-job_for id (Some (line.Append member content proof)) = append_job id member content proof
-job_for id (Some line.Head) = Head
+-- what a record asks for, on the ledger with this id; one with a clue isn't served
+abbrev pub job_with : List ℕ → ℕ → List ℕ → List ℕ → List ℕ → Job
+job_with id member [] content proof = append_job id member content proof
+job_with id member (byte ∷ clue) content proof = Refused BadVerb
+
+-- what a line that was read asks for, on the ledger with this id; new members and clues aren't served
+abbrev pub job_for : List ℕ → Result Line Refusal → Job
+job_for id (Err refusal) = Refused refusal
+job_for id (Ok (line.Append member clue content proof)) = job_with id member clue content proof
+job_for id (Ok (line.NewMember number key proof)) = Refused BadVerb
+job_for id (Ok (line.Clue name)) = Refused BadVerb
+job_for id (Ok line.Head) = Head
 
 -- what a line asks for, on the ledger with this id
 unfoldable pub job_of : List ℕ → List ℕ → Job
-job_of id line = job_for id (line_of line)
+job_of id line = job_for id (spoken line).1
 
 -- whether a job ends the open block before it is judged
 abbrev pub closes_before : Job → Bool

@@ -51,7 +51,7 @@ answer_to h step job =
 -- the reply of an answer, in a history where the journal's block has ended: a receipt carries that block's number, and the size and root at its end
 abbrev pub reply_in : History → Answer → AnyReply
 reply_in window (Reply reply) = reply
-reply_in window (Receipt jsn leaf) = reply.Placed jsn leaf (block_of window jsn) (end_of window jsn) (digest (root window (end_of window jsn)))
+reply_in window (Receipt jsn leaf) = reply.Placed jsn leaf (block_of window jsn) (end_of window jsn) (digest (root window (end_of window jsn))) None
 
 -- the line that is written for a step; the window's history has the ends of all its blocks
 unfoldable pub step_text : History → History → Step → List ℕ

@@ -2,7 +2,8 @@ ghost use Rattle.std.specs.Prelude.{◌≡◌, ℕ, ◌+◌, List, ◌++◌, len
 ghost use Rattle.std.specs.List.{flat_map};
 ghost use Rattle.journal_record.specs.Entry.{Entry};
 ghost use Rattle.ledger_model.specs.Ends.{ends_from, cut_at, Rises};
-ghost use Rattle.ledger_model.specs.Windows.{Said, windows, AllButLastWhole, NoneWholeBefore};
+ghost use Rattle.script_lines.specs.Grammar.{spoken};
+ghost use Rattle.ledger_model.specs.Windows.{Said, lane_of, windows, AllButLastWhole, NoneWholeBefore};
 
 /// The windows of a script are its lines in order, none lost. Each but the last has 4,096 lines or
 /// 16,777,216 bytes, and none has so many before its last line.
@@ -10,6 +11,11 @@ pub fn windows_are_parts()
     ensures joined { (lines : List Said) → flat_map (λ window. window) (windows lines) ≡ lines }
     ensures whole { (lines : List Said) → AllButLastWhole (windows lines) }
     ensures not_before { (lines : List Said) → NoneWholeBefore (windows lines) }
+{}
+
+/// Each line belongs to the lane that reading it gives.
+pub fn lanes_are_read()
+    ensures { (line : List ℕ) → lane_of line ≡ (spoken line).0 }
 {}
 
 /// Blocks are the same as all journals in a row with the sizes at which blocks end: from the blocks come the

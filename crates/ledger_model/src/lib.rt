@@ -15,7 +15,7 @@ pub use answer::Answer;
 pub use due::Due;
 pub use genesis::Genesis;
 pub use job::Job;
-pub use laws::{blocks_are_journals_with_ends, windows_are_parts};
+pub use laws::{blocks_are_journals_with_ends, lanes_are_read, windows_are_parts};
 pub use limits::Limits;
 pub use outcome::Outcome;
 pub use view::View;
