@@ -17,7 +17,7 @@ OnErr-holds (Err e) fact = fact
 pub BeginsWith-more : (old mid more new : List ℕ) → BeginsWith old mid → BeginsWith (mid ++ more) new → BeginsWith old new
 BeginsWith-more old mid more new first second = record {
   more = first.more ++ (more ++ second.more);
-  is = rw (second.is, first.is, append_assoc, append_assoc) refl;
+  is = rw (second.is, first.is) (simp append_assoc);
 }
 
 -- the digits of joined lists are the lists' digits joined

@@ -2,3 +2,4 @@ pub mod Cuts
 pub mod Filled
 pub mod Given
 pub mod Numbers
+pub mod Sayings

@@ -41,7 +41,7 @@ tells_digits = record {
 }
 
 -- the digits' value is the one that decimal digits have
-numerals : IsNumeralModel (λ digits. list_all is_ascii_digit digits ≡ true) (value_behind 0)
+pub numerals : IsNumeralModel (λ digits. list_all is_ascii_digit digits ≡ true) (value_behind 0)
 numerals = numerals_by_fold (λ digits. list_all is_ascii_digit digits ≡ true) tells_digits value_behind (record { empty = λ n. refl; more = λ n c cs k. refl })
 
 -- where the first digit is a zero it stands alone

@@ -5,5 +5,6 @@ pub mod Limits
 pub mod Parts
 pub mod Reading
 pub mod Replies
+pub mod Sayings
 pub mod Spellings
 pub mod Words

@@ -1,9 +1,18 @@
-ghost use Rattle.std.specs.Prelude.{◌≡◌, ℕ, ◌^◌, ◌<◌, ◌≤◌, List, Some, decimal};
+ghost use Rattle.std.specs.Prelude.{◌≡◌, ℕ, ◌^◌, ◌<◌, ◌≤◌, List, Some, Ok, decimal};
+ghost use Rattle.script_lines.specs.Grammar.{spoken};
+ghost use Rattle.script_lines.specs.Sayings.{line_text, IsSayable};
 ghost use Rattle.script_lines.specs.Spellings.{number_of};
+ghost use Rattle.script_lines.specs.declared.line.Line.{Line as AnyLine};
 
 /// A number in a line is that number's decimal digits, and the decimal digits of each number up to the limit are
 /// read as it.
 pub fn numbers_are_decimal()
     ensures spelled { (most n : ℕ) (text : List ℕ) → most < 2 ^ 64 → number_of most text ≡ Some n → text ≡ decimal n }
     ensures read { (most n : ℕ) → most < 2 ^ 64 → n ≤ most → number_of most (decimal n) ≡ Some n }
+{}
+
+/// What a line can say is read from its text: with its numbers in decimal digits, its bytes and keys as lower-case
+/// hexadecimal digits, `-` for no bytes and for no clue, and one space between.
+pub fn lines_are_read_back()
+    ensures { (line : AnyLine) → IsSayable line → spoken (line_text line) ≡ (0, Ok line) }
 {}

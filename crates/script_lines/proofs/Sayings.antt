@@ -1,0 +1,165 @@
+-- A line's text is read as the line.
+use Rattle.std.proofs.Common.{◌≡◌, ℕ, ◌-◌, ◌*◌, ◌^◌, ◌<◌, ◌≤◌, ◌==◌, ◌&&◌, nat_le, nat_lt, nat_eq, not, inl, inr, lit<, Bool, true, false, List, [], ◌∷◌, ◌++◌, length, codes, decimal, Some, Result, Ok, refl, sym, ap, ◌∙◌, append-nil, arith}
+use Rattle.std.specs.Char.{is_ascii_digit}
+use Rattle.std.specs.List.{list_all}
+use Rattle.std.specs.Result.{result_ok}
+use Rattle.std.specs.Option.{option_map}
+use Rattle.std.proofs.lemmas.Bool.{and_from, cases_eq, cond-true, cond-false, le-leb, lt-ltb}
+use Rattle.std.proofs.lemmas.Bool.Decides.{nat_tests}
+use Rattle.std.proofs.lemmas.Fmt.{digits_decimal}
+use Rattle.std.proofs.lemmas.List.Elements.{All-cons, All-nil, All-weaker}
+use Rattle.std.proofs.lemmas.List.Splits.{slice_split_at, slice_split_none}
+use Rattle.std.proofs.lemmas.List.Sums.{AllPass-from_list_all}
+use Rattle.std.proofs.lemmas.Slice.Eq.{bytes_eq-Decides}
+use Rattle.hex.specs.Hex.{IsBytes, encode_lower, lower_digits, is_hex_digit}
+use Rattle.hex.proofs.HexLemmas.{decode_of-encode_lower, decode_of-ok, decode_sized-encode_lower, length-encode_with}
+use Rattle.ledger_bytes.specs.declared.digest.Digest.{Digest}
+use Rattle.ledger_bytes.specs.declared.refusal.Refusal.{Refusal}
+use Rattle.script_lines.specs.Fields.{field_at}
+use Rattle.script_lines.specs.Grammar.{append_at, member_at, clue_at, head_at, spoken, spoken_at}
+use Rattle.script_lines.specs.Parts.{parts}
+use Rattle.script_lines.specs.Sayings.{clue_text, line_words, line_text, IsOneField, IsName, IsClue, IsShort, IsSayable}
+use Rattle.script_lines.specs.Spellings.{text_of, number_of, bytes_of, digest_from, digest_of, clue_of, name_of, is_dash}
+use Rattle.script_lines.specs.Words.{hex_of, hex_or_dash, spaced}
+use Rattle.script_lines.specs.declared.line.Line.{Line}
+use Rattle.script_lines.specs.declared.line.Line.TheVariants.{Append, NewMember, Clue, Head}
+use Rattle.script_lines.proofs.Numbers.{number_of-decimal, numerals}
+
+-- no space stands in any of some words
+abbrev AreFields : List (List ℕ) → Type 0
+AreFields [] = Unit {0}
+AreFields (word ∷ words) = IsOneField word × AreFields words
+
+-- the fields of words with a space between are the words
+parts-spaced : (text : List ℕ) (words : List (List ℕ)) → IsOneField text → AreFields words → parts 32 (text ++ spaced words) ≡ text ∷ words
+parts-spaced text [] whole rest = ap (parts 32) (append-nil text) ∙ slice_split_none (λ b. b == 32) text whole
+parts-spaced text (word ∷ words) whole rest =
+    slice_split_at (λ b. b == 32) text 32 (word ++ spaced words) whole refl
+    ∙ ap (λ others. text ∷ others) (parts-spaced word words rest.0 rest.1)
+
+-- a byte that passes a test which a space doesn't pass is no space
+other : (p : ℕ → Bool) → p 32 ≡ false → (byte : ℕ) → p byte ≡ true → (byte == 32) ≡ false
+other p never byte passes =
+    elim (cases_eq byte 32) [
+      | inl is ↦ cc (sym (ap p is), never, passes)
+      | inr differs ↦ grind (arith, nat_tests)
+    ]
+
+decimal-whole : (n : ℕ) → n < 2 ^ 64 → IsOneField (decimal n)
+decimal-whole n small =
+    All-weaker (λ c. is_ascii_digit c ≡ true) (λ byte. (byte == 32) ≡ false) (other is_ascii_digit refl) (decimal n)
+    (AllPass-from_list_all is_ascii_digit (decimal n) (digits_decimal numerals n small))
+
+digits-whole : (bytes : List ℕ) → IsBytes bytes → IsOneField (encode_lower bytes)
+digits-whole bytes are =
+    let decoded = decode_of-ok (encode_lower bytes) bytes (decode_of-encode_lower bytes are) in
+    All-weaker (λ c. is_hex_digit c ≡ true) (λ byte. (byte == 32) ≡ false) (other is_hex_digit refl) (encode_lower bytes) decoded.1
+
+dash-whole : IsOneField (codes "-")
+dash-whole = All-cons (λ byte. (byte == 32) ≡ false) 45 [] refl (All-nil (λ byte. (byte == 32) ≡ false))
+
+hex-whole : (bytes : List ℕ) → IsBytes bytes → IsOneField (hex_or_dash bytes)
+hex-whole [] are = dash-whole
+hex-whole (byte ∷ bytes) are = digits-whole (byte ∷ bytes) are
+
+clue-whole : (clue : List ℕ) → IsClue clue → IsOneField (clue_text clue)
+clue-whole [] is = dash-whole
+clue-whole (byte ∷ name) is = is.0.whole
+
+-- two bytes and more are no dash
+and_false : (b : Bool) → (b && false) ≡ false
+and_false true = refl
+and_false false = refl
+
+dash-short : (text : List ℕ) → 2 ≤ length text → is_dash text ≡ false
+dash-short [] long = absurd (omega arith)
+dash-short (x ∷ []) long = absurd (omega arith)
+dash-short (x ∷ y ∷ rest) long = and_false (nat_eq x 45)
+
+bytes_of-hex : (most : ℕ) (bytes : List ℕ) → IsShort most bytes → bytes_of most (hex_or_dash bytes) ≡ Some bytes
+bytes_of-hex most [] short = refl
+bytes_of-hex most (byte ∷ bytes) short =
+    let text = encode_lower (byte ∷ bytes) in
+    let size = length-encode_with lower_digits (byte ∷ bytes) in
+    let long : 2 ≤ length text = omega (arith, size) in
+    let within : length text ≤ 2 * most = omega (arith, size, short.0) in
+    cond-false (is_dash text) _ _ (dash-short text long)
+    ∙ cond-true (nat_le 2 (length text) && nat_le (length text) (2 * most)) _ _ (and_from _ _ (le-leb 2 (length text) long) (le-leb (length text) (2 * most) within))
+    ∙ ap result_ok (decode_of-encode_lower (byte ∷ bytes) short.1)
+
+digest_of-hex : (key : Digest) → length key.0 ≡ 32 → IsBytes key.0 → digest_of (hex_of key) ≡ Some key
+digest_of-hex key whole are = ap (λ read. option_map digest_from (result_ok read)) (decode_sized-encode_lower key.0 32 whole are)
+
+name_of-name : (name : List ℕ) → IsName name → name_of name ≡ Some name
+name_of-name name is =
+    cond-true (nat_lt 0 (length name) && nat_le (length name) 64) _ _ (and_from _ _ (lt-ltb 0 (length name) is.some) (le-leb (length name) 64 is.short))
+
+differs : (b : Bool) → ¬ (b ≡ true) → b ≡ false
+differs true never = absurd (never refl)
+differs false never = refl
+
+clue_of-text : (clue : List ℕ) → IsClue clue → clue_of (clue_text clue) ≡ Some clue
+clue_of-text [] is = refl
+clue_of-text (byte ∷ name) is =
+    let never : is_dash (byte ∷ name) ≡ false = differs (is_dash (byte ∷ name)) (λ passes. is.1 ((bytes_eq-Decides (byte ∷ name) (codes "-")).0 passes)) in
+    cond-false (is_dash (byte ∷ name)) _ _ never ∙ name_of-name (byte ∷ name) is.0
+
+number_of-word : (n : ℕ) → n < 2 ^ 32 → number_of (2 ^ 32 - 1) (decimal n) ≡ Some n
+number_of-word n small = number_of-decimal (2 ^ 32 - 1) n (lit< tt) (omega arith)
+
+append_at-words : (member : ℕ) (clue content proof : List ℕ) → IsSayable (Append member clue content proof)
+    → append_at (record { column = 3; fields = decimal member ∷ clue_text clue ∷ hex_or_dash content ∷ hex_or_dash proof ∷ [] }) ≡ Ok (Append member clue content proof)
+unfolding append_at
+append_at-words member clue content proof is =
+    let m = number_of-word member is.0 in
+    let c = clue_of-text clue is.1 in
+    let b = bytes_of-hex 65536 content is.2 in
+    let p = bytes_of-hex 4096 proof is.3 in
+    rw (m, c, b, p) refl
+
+member_at-words : (number : ℕ) (key : Digest) (proof : List ℕ) → IsSayable (NewMember number key proof)
+    → member_at (record { column = 3; fields = decimal number ∷ hex_of key ∷ hex_or_dash proof ∷ [] }) ≡ Ok (NewMember number key proof)
+unfolding member_at
+member_at-words number key proof is =
+    let n = number_of-word number is.0 in
+    let k = digest_of-hex key is.1 is.2 in
+    let p = bytes_of-hex 4096 proof is.3 in
+    rw (n, k, p) refl
+
+clue_at-words : (name : List ℕ) → IsName name → clue_at (record { column = 3; fields = name ∷ [] }) ≡ Ok (Clue name)
+unfolding clue_at
+clue_at-words name is = rw (name_of-name name is) refl
+
+head_at-words : head_at (record { column = 3; fields = [] }) ≡ Ok Head
+unfolding head_at
+head_at-words = refl
+
+negated : (b : Bool) → not b ≡ true → b ≡ false
+negated true never = cc
+negated false passes = refl
+
+-- the words of a line are fields
+literal-whole : (word : List ℕ) → list_all (λ byte. not (byte == 32)) word ≡ true → IsOneField word
+literal-whole word each = All-weaker (λ c. not (c == 32) ≡ true) (λ byte. (byte == 32) ≡ false) (λ c passes. negated (c == 32) passes) word (AllPass-from_list_all (λ byte. not (byte == 32)) word each)
+
+words-whole : (line : Line) → IsSayable line → AreFields (line_words line)
+words-whole (Append member clue content proof) is =
+    (literal-whole (codes "append") refl, (decimal-whole member (omega arith), (clue-whole clue is.1, (hex-whole content is.2.1, (hex-whole proof is.3.1, tt)))))
+words-whole (NewMember number key proof) is =
+    (literal-whole (codes "member") refl, (decimal-whole number (omega arith), (digits-whole key.0 is.2, (hex-whole proof is.3.1, tt))))
+words-whole (Clue name) is = (literal-whole (codes "clue") refl, (is.whole, tt))
+words-whole Head is = (literal-whole (codes "head") refl, tt)
+
+-- a line by all its fields
+abbrev said_by : List (List ℕ) → ℕ × Result Line Refusal
+said_by fields = spoken_at (field_at text_of (record { column = 1; fields = fields }))
+
+said_by-words : (line : Line) → IsSayable line → (let said : ℕ × Result Line Refusal = (0, Ok line) in said_by (codes "0" ∷ line_words line) ≡ said)
+said_by-words (Append member clue content proof) is = ap (λ (read : Result Line Refusal). (0, read)) (append_at-words member clue content proof is)
+said_by-words (NewMember number key proof) is = ap (λ (read : Result Line Refusal). (0, read)) (member_at-words number key proof is)
+said_by-words (Clue name) is = ap (λ (read : Result Line Refusal). (0, read)) (clue_at-words name is)
+said_by-words Head is = ap (λ (read : Result Line Refusal). (0, read)) head_at-words
+
+pub spoken-line_text : (line : Line) → IsSayable line → (let said : ℕ × Result Line Refusal = (0, Ok line) in spoken (line_text line) ≡ said)
+unfolding spoken
+spoken-line_text line is = ap said_by (parts-spaced (codes "0") (line_words line) (literal-whole (codes "0") refl) (words-whole line is)) ∙ said_by-words line is
