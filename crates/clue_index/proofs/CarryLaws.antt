@@ -89,6 +89,15 @@ given_counted a q counted =
     (λ is. is ∙ sym (ap (λ t. nat_lt 0 (count_of t)) (trail_absent a q is)))
     (cases_Bool (list_any (tie q) (clues_of a)))
 
+-- states that speak of a journal have a count
+pub counted_states : (states : List ClueState) → AllByRecursion (λ s. 0 < s.count) (begun_states states)
+counted_states [] = tt
+counted_states (s ∷ states) =
+    elim (nat_lt 0 s.count) as (λ b. nat_lt 0 s.count ≡ b → AllByRecursion (λ s. 0 < s.count) (cond b (s ∷ begun_states states) (begun_states states))) [
+      | true ↦ λ is. (ltb-true 0 s.count is, counted_states states)
+      | false ↦ λ _. counted_states states
+    ] refl
+
 module _ (p : ℕ) (a : Added) where
   -- the state of a clue at p
   abbrev at : List ℕ → ClueState
@@ -128,7 +137,7 @@ module _ (p : ℕ) (a : Added) where
         unseen false y never u v = refl
 
   -- the clues in their order are those that were given
-  given : (q : List ℕ) → list_any (tie q) (different a) ≡ list_any (tie q) (clues_of a)
+  pub given : (q : List ℕ) → list_any (tie q) (different a) ≡ list_any (tie q) (clues_of a)
   given q = sym (contains_key-keys (table_of a) q) ∙ (ap is_some (get-table_of a q) ∙ some_cond (list_any (tie q) (clues_of a)) (trail_of a q)) where
     some_cond : (b : Bool) (t : Trail) → is_some (cond b (Some t) None) ≡ b
     some_cond true t = refl
@@ -178,14 +187,7 @@ module _ (p : ℕ) (a : Added) where
         ap (option_map (seen_from p)) (get-table_of b q)
         ∙ (ap (λ x. option_map (seen_from p) (cond x (Some (trail_of b q)) None)) same
         ∙ (cond_alike (seen_from p) (list_any (tie q) (clues_of a)) (trail_of b q) (trail_of a q) None None seen refl
-        ∙ sym (ap (option_map (seen_from p)) (get-table_of a q)))) where
-          counted_states : (states : List ClueState) → AllByRecursion (λ s. 0 < s.count) (begun_states states)
-          counted_states [] = tt
-          counted_states (s ∷ states) =
-              elim (nat_lt 0 s.count) as (λ b. nat_lt 0 s.count ≡ b → AllByRecursion (λ s. 0 < s.count) (cond b (s ∷ begun_states states) (begun_states states))) [
-                | true ↦ λ is. (ltb-true 0 s.count is, counted_states states)
-                | false ↦ λ _. counted_states states
-              ] refl
+        ∙ sym (ap (option_map (seen_from p)) (get-table_of a q))))
 
 -- an index that begins with the states at p, and was given the journals from p on, stands for all journals from p on
 pub stands_carried : (k : Kept) (a : Added) (p : ℕ) → Ascends (map (λ m. m.jsn) a.marks) → get (table_of a) no_clue ≡ None → All (λ s. 0 < s.count) a.states

@@ -76,10 +76,14 @@ trail_absent a q absent =
     let nothing = jsns_other q a.marks parts.1 in
     λ i. record { count = (none i).count; last = (none i).last; jsns = nothing i }
 
--- what the table gives at a clue, or no journals, is what the clue has
-pub trail_from_get : (a : Added) (q : List ℕ) → (get (table_of a) q ≡ None) → trail_of a q ≡ no_trail
-trail_from_get a q none =
-    trail_absent a q (false_from_ne_true _ (λ is. let bad : Some (trail_of a q) ≡ None = sym (cond-true _ _ _ is) ∙ (sym (get-table_of a q) ∙ none) in cc))
+-- a clue of which the table has nothing wasn't given
+pub absent_from_get : (a : Added) (q : List ℕ) → get (table_of a) q ≡ None → list_any (tie q) (clues_of a) ≡ false
+absent_from_get a q none =
+    false_from_ne_true _ (λ is. let bad : Some (trail_of a q) ≡ None = sym (cond-true _ _ _ is) ∙ (sym (get-table_of a q) ∙ none) in cc)
+
+-- and has no journals
+pub trail_from_get : (a : Added) (q : List ℕ) → get (table_of a) q ≡ None → trail_of a q ≡ no_trail
+trail_from_get a q none = trail_absent a q (absent_from_get a q none)
 
 -- the clues with a journal more
 clues_of-with_mark : (clue : List ℕ) (jsn : ℕ) (a : Added) → clues_of (with_mark clue jsn a) ≡ clues_of a ++ clue ∷ []

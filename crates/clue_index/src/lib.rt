@@ -7,7 +7,7 @@ mod slot;
 mod state;
 
 pub use index::ClueIndex;
-pub use laws::states_carry_on;
+pub use laws::{states_are_in_order, states_carry_on};
 pub use state::ClueState;
 
 #[cfg(test)]
