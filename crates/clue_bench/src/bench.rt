@@ -6,7 +6,7 @@ use std::alloc::Global;
 
 /// How much is done.
 #[derive(Drop)]
-pub struct Plan {
+pub(crate) struct Plan {
     /// How many journals are added.
     pub journals: u64,
     /// How often each journal's clue is asked what is next.
@@ -17,7 +17,7 @@ pub struct Plan {
 
 /// What was answered.
 #[derive(Drop)]
-pub struct Seen {
+pub(crate) struct Seen {
     /// How many different clues there are.
     pub clues: u64,
     /// The sum of the next ordinals.
@@ -27,7 +27,7 @@ pub struct Seen {
 }
 
 /// Does what is planned with an index of its own.
-pub fn run(alloc: Global, plan: &Plan) -> Result<Seen, NoMemory> {
+pub(crate) fn run(alloc: Global, plan: &Plan) -> Result<Seen, NoMemory> {
     let clues = (plan.journals / 10).max(1);
     let index = filled(alloc, plan.journals, clues)?;
     let mut seen = Seen {
