@@ -1,5 +1,5 @@
--- The messages that members prove.
-use Rattle.std.specs.Prelude.{ℕ, List, ◌∷◌, ◌++◌}
+-- The messages that members prove, and the digests of clues in them.
+use Rattle.std.specs.Prelude.{ℕ, ◌==◌, if◌then◌else◌, List, ◌∷◌, ◌++◌, length, replicate}
 use Rattle.std.specs.Int.{w32, to_be_bytes}
 use Rattle.sha2.specs.Sha256.{sha256}
 
@@ -8,3 +8,11 @@ use Rattle.sha2.specs.Sha256.{sha256}
 abbrev pub request_digest_of : List ℕ → ℕ → List ℕ → ℕ → List ℕ → List ℕ
 request_digest_of id member clue content_len content_digest =
     sha256 (3 ∷ (id ++ to_be_bytes w32 member ++ clue ++ to_be_bytes w32 content_len ++ content_digest))
+
+-- the digest of a request to admit a member: the ledger's identity, the new member's number, and its key
+abbrev pub member_request_digest_of : List ℕ → ℕ → List ℕ → List ℕ
+member_request_digest_of id number key = sha256 (8 ∷ (id ++ to_be_bytes w32 number ++ key))
+
+-- the digest of a clue's name; that of the empty name, which names no clue, is 32 zero bytes
+abbrev pub clue_digest_of : List ℕ → List ℕ
+clue_digest_of name = if length name == 0 then replicate 32 0 else sha256 (12 ∷ name)

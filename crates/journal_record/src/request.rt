@@ -1,10 +1,16 @@
 ghost use Rattle.std.specs.Prelude.{◌≡◌};
-ghost use Rattle.journal_record.specs.Request.{request_digest_of};
+ghost use Rattle.journal_record.specs.Request.{request_digest_of, member_request_digest_of, clue_digest_of};
 
 use ledger_bytes::{Digest, Sha, TreeHash};
 
 /// The byte in front of a hashed request to append.
 const APPEND_TAG: u8 = 0x03;
+
+/// The byte in front of a hashed request to admit a member.
+const MEMBER_TAG: u8 = 0x08;
+
+/// The byte in front of a hashed clue name.
+const CLUE_TAG: u8 = 0x0c;
 
 /// The message that a member proves to append a journal: SHA-256 of the byte 03, the ledger's identity (32 bytes), the
 /// member's number (4 bytes, big-endian), the clue's digest (32 bytes, zeros where there is no clue), the content's
@@ -24,5 +30,30 @@ pub fn request_digest(
     hasher.add(&clue.0);
     hasher.add(&content_len.to_be_bytes());
     hasher.add(&content_digest.0);
+    hasher.end()
+}
+
+/// The message that member 0 proves to admit a member: SHA-256 of the byte 08, the ledger's identity (32 bytes), the
+/// new member's number (4 bytes, big-endian) and the new member's key (32 bytes).
+pub fn member_request_digest(id: &Digest, number: u32, key: &Digest) -> Digest
+    ensures { result.0 ≡ member_request_digest_of id.now.0 number key.now.0 }
+{
+    let mut hasher = Sha::start(MEMBER_TAG);
+    hasher.add(&id.0);
+    hasher.add(&number.to_be_bytes());
+    hasher.add(&key.0);
+    hasher.end()
+}
+
+/// The digest of a clue's name: SHA-256 of the byte 0C and the name, or 32 zero bytes for the empty name, which names
+/// no clue.
+pub fn clue_digest(name: &[u8]) -> Digest
+    ensures { result.0 ≡ clue_digest_of name.now }
+{
+    if name.is_empty() {
+        return Digest([0; 32]);
+    }
+    let mut hasher = Sha::start(CLUE_TAG);
+    hasher.add(name);
     hasher.end()
 }

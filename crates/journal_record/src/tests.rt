@@ -50,6 +50,21 @@ fn digests_of_requests(rt: HostRuntime) -> Result<(), Fail> {
 }
 
 #[test]
+fn digests_of_clues(rt: HostRuntime) -> Result<(), Fail> {
+    assert_eq!(rt; clue_digest(b"inv"), digest(INVOICES)?);
+    assert_eq!(rt; clue_digest(b""), digest(ZEROS)?);
+    Ok(())
+}
+
+#[test]
+fn digests_of_member_requests(rt: HostRuntime) -> Result<(), Fail> {
+    let made = member_request_digest(&digest(ID)?, 2, &Digest([3; 32]));
+    let message = "ed456d8a3eaa93d8fb0f8286e46c71c380e728bcdf1c6ab691f74d46b4d90026";
+    assert_eq!(rt; made, digest(message)?);
+    Ok(())
+}
+
+#[test]
 fn keys_of_tag_proofs(rt: HostRuntime) -> Result<(), Fail> {
     for (message, proof) in [
         (
