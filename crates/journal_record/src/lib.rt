@@ -14,7 +14,9 @@ pub use approval::{Approval, who_bytes};
 pub use digests::{content_digest, who_digest};
 pub use header::{HEADER_LEN, Header, Kind};
 pub use reading::{is_inverse_of_encoding, take_header};
-pub use request::{clue_digest, member_request_digest, request_digest};
+pub use request::{
+    clue_digest, member_request_digest, occult_request_digest, purge_request_digest, request_digest,
+};
 pub use tags::{tag_key, tag_of};
 
 #[cfg(test)]

@@ -1,10 +1,18 @@
-ghost use Rattle.std.specs.Prelude.{◌≡◌};
-ghost use Rattle.journal_record.specs.Request.{request_digest_of, member_request_digest_of, clue_digest_of};
+ghost use Rattle.std.specs.Prelude.{◌≡◌, ◌∷◌, ◌++◌};
+ghost use Rattle.std.specs.Int.{w64, to_be_bytes};
+ghost use Rattle.sha2.specs.Sha256.{sha256};
+ghost use Rattle.journal_record.specs.Request.{request_digest_of, member_request_digest_of, occult_request_digest_of, purge_request_digest_of, clue_digest_of};
 
 use ledger_bytes::{Digest, Sha, TreeHash};
 
 /// The byte in front of a hashed request to append.
 const APPEND_TAG: u8 = 0x03;
+
+/// The byte in front of a hashed request to occult a journal.
+const OCCULT_TAG: u8 = 0x04;
+
+/// The byte in front of a hashed request to purge journals.
+const PURGE_TAG: u8 = 0x05;
 
 /// The byte in front of a hashed request to admit a member.
 const MEMBER_TAG: u8 = 0x08;
@@ -42,6 +50,32 @@ pub fn member_request_digest(id: &Digest, number: u32, key: &Digest) -> Digest
     hasher.add(&id.0);
     hasher.add(&number.to_be_bytes());
     hasher.add(&key.0);
+    hasher.end()
+}
+
+/// The message that members 0 and 1 prove to occult a journal: SHA-256 of the byte 04, the ledger's identity (32 bytes),
+/// the journal's number (8 bytes, big-endian) and the digest of its leaf (32 bytes).
+pub fn occult_request_digest(id: &Digest, target: u64, leaf: &Digest) -> Digest
+    ensures { result.0 ≡ occult_request_digest_of id.now.0 target leaf.now.0 }
+{
+    placed_digest(OCCULT_TAG, id, target, leaf)
+}
+
+/// The message that members prove to purge the journals below a point: SHA-256 of the byte 05, the ledger's identity (32
+/// bytes), the point (8 bytes, big-endian) and the root of the journals below it (32 bytes).
+pub fn purge_request_digest(id: &Digest, point: u64, root: &Digest) -> Digest
+    ensures { result.0 ≡ purge_request_digest_of id.now.0 point root.now.0 }
+{
+    placed_digest(PURGE_TAG, id, point, root)
+}
+
+fn placed_digest(tag: u8, id: &Digest, place: u64, digest: &Digest) -> Digest
+    ensures { result.0 ≡ sha256 (tag ∷ (id.now.0 ++ to_be_bytes w64 place ++ digest.now.0)) }
+{
+    let mut hasher = Sha::start(tag);
+    hasher.add(&id.0);
+    hasher.add(&place.to_be_bytes());
+    hasher.add(&digest.0);
     hasher.end()
 }
 

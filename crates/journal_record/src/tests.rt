@@ -65,6 +65,17 @@ fn digests_of_member_requests(rt: HostRuntime) -> Result<(), Fail> {
 }
 
 #[test]
+fn digests_of_requests_to_occult_and_purge(rt: HostRuntime) -> Result<(), Fail> {
+    let id = digest(ID)?;
+    let zeros = digest(ZEROS)?;
+    let occult = "e4e0a09de9de102855075f18165b4beff6ebb135691d506356f83007d12d23f2";
+    let purge = "ed5374bfb07d3211212d7b9466aa4144dd28cbe4093f90b9a6ecbcf180bd6b7d";
+    assert_eq!(rt; occult_request_digest(&id, 2, &zeros), digest(occult)?);
+    assert_eq!(rt; purge_request_digest(&id, 3, &zeros), digest(purge)?);
+    Ok(())
+}
+
+#[test]
 fn keys_of_tag_proofs(rt: HostRuntime) -> Result<(), Fail> {
     for (message, proof) in [
         (
