@@ -3,3 +3,5 @@ pub mod ClueLaws
 pub mod MemberLaws
 pub mod StandsLaws
 pub mod GenesisLaws
+pub mod JudgeLaws
+pub mod ApplyLaws

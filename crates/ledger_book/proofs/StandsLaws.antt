@@ -1,12 +1,12 @@
 -- Lemmas on what a book keeps of a history.
-use Rattle.std.proofs.Common.{◌≡◌, ℕ, ◌+◌, ◌<◌, ◌≤◌, Bool, true, false, cond, List, [], ◌∷◌, ◌++◌, length, map, drop, Option, Some, None, refl, ap, sym, subst, ◌∙◌, arith, append_assoc, append-nil, length-append, take}
+use Rattle.std.proofs.Common.{◌≡◌, ℕ, ◌+◌, ◌<◌, ◌≤◌, Bool, true, false, cond, not, ◌&&◌, ◌==◌, List, [], ◌∷◌, ◌++◌, length, map, drop, Option, Some, None, refl, ap, sym, subst, ◌∙◌, arith, append_assoc, append-nil, length-append, take}
 use Rattle.std.specs.Prelude.{All, max, nat_le, nat_lt}
 use Rattle.std.specs.List.{fold, list_any, flat_map}
-use Rattle.std.proofs.lemmas.Bool.{le-leb, lt-leb, lt-ltb, le-ltb}
+use Rattle.std.proofs.lemmas.Bool.{le-leb, lt-leb, lt-ltb, le-ltb, or_from}
 use Rattle.std.proofs.lemmas.List.{map-append, length-map, nil_from_length, drop-append-le, take_all, take_at, drop_at}
 use Rattle.std.proofs.lemmas.List.Concat.{flat_map-append}
-use Rattle.std.proofs.lemmas.List.Elements.{All-weaker, All-nil}
-use Rattle.std.proofs.lemmas.List.Folds.{list_any-append}
+use Rattle.std.proofs.lemmas.List.Elements.{All-weaker, All-nil, All-cons, All-push}
+use Rattle.std.proofs.lemmas.List.Folds.{list_any-append, list_any_none}
 use Rattle.sha2.specs.Sha256.{sha256}
 use Rattle.tree_model.specs.Tree as tree
 use Rattle.ledger_bytes.specs.declared.digest.Digest.{Digest}
@@ -14,18 +14,22 @@ use Rattle.journal_record.specs.Entry.{Entry}
 use Rattle.journal_record.specs.Header.{spelling}
 use Rattle.journal_record.specs.declared.header.Header.{Header}
 use Rattle.merkle_tree.specs.declared.head.Head.{Head}
-use Rattle.clue_index.specs.Added.{Mark}
+use Rattle.journal_record.specs.declared.header.Kind.TheVariants as kind
+use Rattle.clue_index.specs.Added.{Mark, Added, with_mark}
 use Rattle.clue_index.specs.Index as index
-use Rattle.ledger_model.specs.Books.{Kept, Stands, Serves, headers, leaf_digests, sealed, aged_all}
-use Rattle.ledger_model.specs.Clues.{marks, marks_of, clues_added}
-use Rattle.ledger_model.specs.Genesis.{digest}
+use Rattle.ledger_model.specs.Books.{Kept, Stands, Serves, headers, leaf_digests, sealed, aged, aged_all}
+use Rattle.member_book.specs.declared.book.Member.{Member}
+use Rattle.ledger_model.specs.Clues.{is_no_clue, mark_of, marks, marks_of, clues_added}
+use Rattle.ledger_model.specs.Genesis.{digest, no_clue}
 use Rattle.ledger_model.specs.History as model
-use Rattle.ledger_model.specs.History.{History, history, journals, journals_of, close, leaf_digest, first_leaf_digest, purge_point}
-use Rattle.ledger_model.specs.Members.{members, founders, admitted}
+use Rattle.ledger_model.specs.History.{History, history, journals, journals_of, close, leaf_digest, first_leaf_digest, is_purge, purge_point}
+use Rattle.ledger_model.specs.Members.{members, founders, is_member, admits, member_of, admitted}
 use Rattle.ledger_model.specs.Outcomes as outcomes
-use Rattle.ledger_model.specs.Outcomes.{hidden, hides}
+use Rattle.ledger_model.specs.Outcomes.{is_occult, hidden, hides}
 use Rattle.ledger_model.specs.declared.view.View.TheVariants as view
 use Rattle.ledger_model.proofs.GrowLaws.{close_settled, close_ended, size_closed, root_kept}
+use Rattle.ledger_model.proofs.PlaceLaws.{founders_kept, admitted_more, admitted_same, marks_more, marks_same, point_same}
+use Rattle.ledger_book.specs.Steps.{with_clue_of}
 use Rattle.ledger_book.specs.Seals.{head_at, ended, seal_of}
 use Rattle.ledger_book.specs.declared.sealed.Sealed.{Sealed}
 
@@ -126,3 +130,130 @@ view_whole k h n s below kept =
     sym (ap (λ v. cond v view.Occulted view.Whole) (s.stands.shown n))
     ∙ sym (ap (λ v. cond v (view.Purged (model.point h)) (cond (hidden h n) view.Occulted view.Whole)) (le-ltb n (model.point h) (omega (arith, s.stands.point))))
     ∙ view_there h n (omega (arith, s.stands.size))
+
+-- the history with a journal more in its open block
+abbrev wider : History → Entry → History
+wider h j = history h.closed (h.waiting ++ j ∷ [])
+
+wider_journals : (h : History) (j : Entry) → journals (wider h j) ≡ journals h ++ j ∷ []
+wider_journals h j = sym (append_assoc (journals_of h.closed) h.waiting (j ∷ []))
+
+wider_size : (h : History) (j : Entry) → model.size (wider h j) ≡ model.size h + 1
+wider_size h j = ap length (wider_journals h j) ∙ length-append (journals h) (j ∷ [])
+
+any_one : (p : Entry → Bool) (j : Entry) → p j ≡ false → list_any p (j ∷ []) ≡ false
+any_one p j is = list_any_none p (j ∷ []) (All-cons (λ (x : Entry). p x ≡ false) j [] is (All-nil (λ (x : Entry). p x ≡ false)))
+
+first_kept : (js more : List Entry) → 0 < length js → first_leaf_digest (js ++ more) ≡ first_leaf_digest js
+first_kept [] more some = absurd (omega (arith, some))
+first_kept (j ∷ js) more some = refl
+
+-- a journal more in the open block
+stands_wider : (k : Kept) (h : History) (j : Entry) (ms : List Member) (t : index.Kept) → Stands k h → 1 ≤ k.size → purge_point j ≡ 0 → is_occult j.header.kind ≡ false
+    → aged_all k.floor ms ≡ aged_all k.floor (members (wider h j)) → index.Stands t (clues_added k.floor (wider h j)) → All (λ m. m.jsn < model.size (wider h j)) (marks (wider h j))
+    → Stands (record k { size = k.size + 1; members = ms; clues = t; headers = k.headers ++ j.header ∷ []; leaves = k.leaves ++ digest (leaf_digest j) ∷ [] }) (wider h j)
+unfolding model.point model.id
+stands_wider k h j ms t s some purge occult same clues numbers =
+    let e = wider_journals h j in
+    let below : length (journals_of h.closed) ≤ model.size h = omega (arith, length-append (journals_of h.closed) h.waiting) in record {
+      size = omega (arith, s.size, wider_size h j);
+      floor = omega (arith, s.floor, wider_size h j);
+      point = s.point ∙ sym (ap (λ js. fold max 0 (map purge_point js)) e ∙ point_same (journals h) j purge);
+      blocks = s.blocks;
+      sealed = s.sealed;
+      root = s.root ∙ sym (root_kept h (wider h j) (j ∷ []) (length (journals_of h.closed)) e below);
+      id = s.id ∙ sym (ap first_leaf_digest e ∙ first_kept (journals h) (j ∷ []) (omega (arith, s.size, some)));
+      members = same;
+      clues = clues;
+      headers =
+          ap (λ hs. hs ++ j.header ∷ []) s.headers ∙ sym (drop-append-le k.floor (headers h) (j.header ∷ []) (omega (arith, s.floor, length-map (journals h) (λ (x : Entry). x.header))))
+          ∙ ap (drop k.floor) (sym (ap (map (λ (x : Entry). x.header)) e ∙ map-append (λ (x : Entry). x.header) (journals h) (j ∷ [])));
+      leaves =
+          ap (λ ls. ls ++ digest (leaf_digest j) ∷ []) s.leaves
+          ∙ sym (ap (map (λ (x : Entry). digest (leaf_digest x))) e ∙ map-append (λ (x : Entry). digest (leaf_digest x)) (journals h) (j ∷ []));
+      numbers = numbers;
+      shown = λ n.
+          ap (list_any (hides n)) e ∙ list_any-append (hides n) (journals h) (j ∷ [])
+          ∙ or_from _ _ (s.shown n) (any_one (hides n) j (ap (λ b. b && j.header.a == n) occult));
+    }
+
+-- the clues with a journal more
+wider_clues : (floor : ℕ) (h : History) (j : Entry) → with_clue_of j.header (clues_added floor h) ≡ clues_added floor (wider h j)
+unfolding marks
+wider_clues floor h j =
+    let at : List Mark → Added = λ ms. record { states = []; marks = ms; floor = floor } in
+    elim (is_no_clue j.header.clue) as (λ b. is_no_clue j.header.clue ≡ b → cond b (clues_added floor h) (with_mark j.header.clue.0 j.header.jsn (clues_added floor h)) ≡ clues_added floor (wider h j)) [
+      | true ↦ λ is. ap at (sym (ap marks_of (wider_journals h j) ∙ marks_same (journals h) j (ap not is)))
+      | false ↦ λ is. ap at (sym (ap marks_of (wider_journals h j) ∙ marks_more (journals h) j (ap not is)))
+    ] refl
+
+wider_numbers : (h : History) (j : Entry) → All (λ m. m.jsn < model.size h) (marks h) → j.header.jsn ≡ model.size h → All (λ m. m.jsn < model.size (wider h j)) (marks (wider h j))
+unfolding marks
+wider_numbers h j below at =
+    let more = All-weaker (λ (m : Mark). m.jsn < model.size h) (λ (m : Mark). m.jsn < model.size (wider h j)) (λ m less. omega (arith, less, wider_size h j)) (marks h) below in
+    elim (is_no_clue j.header.clue) as (λ b. is_no_clue j.header.clue ≡ b → All (λ (m : Mark). m.jsn < model.size (wider h j)) (marks (wider h j))) [
+      | true ↦ λ is. subst (All (λ (m : Mark). m.jsn < model.size (wider h j))) (sym (ap marks_of (wider_journals h j) ∙ marks_same (journals h) j (ap not is))) more
+      | false ↦ λ is. subst (All (λ (m : Mark). m.jsn < model.size (wider h j))) (sym (ap marks_of (wider_journals h j) ∙ marks_more (journals h) j (ap not is)))
+          (All-push (λ (m : Mark). m.jsn < model.size (wider h j)) (marks h) (mark_of j) more (omega (arith, at, wider_size h j)))
+    ] refl
+
+wider_members_same : (h : History) (j : Entry) → 1 ≤ model.size h → admits j ≡ false → members (wider h j) ≡ members h
+unfolding members
+wider_members_same h j some none =
+    ap (λ js. founders js ++ admitted js) (wider_journals h j) ∙ ap (λ x. x ++ admitted (journals h ++ j ∷ [])) (founders_kept (journals h) (j ∷ []) some)
+    ∙ ap (λ x. founders (journals h) ++ x) (admitted_same (journals h) j none)
+
+wider_members_more : (h : History) (j : Entry) → 1 ≤ model.size h → admits j ≡ true → members (wider h j) ≡ members h ++ member_of j ∷ []
+unfolding members
+wider_members_more h j some one =
+    ap (λ js. founders js ++ admitted js) (wider_journals h j) ∙ ap (λ x. x ++ admitted (journals h ++ j ∷ [])) (founders_kept (journals h) (j ∷ []) some)
+    ∙ ap (λ x. founders (journals h) ++ x) (admitted_more (journals h) j one) ∙ sym (append_assoc (founders (journals h)) (admitted (journals h)) (member_of j ∷ []))
+
+-- what an index of clues that was given a journal's clue tells
+abbrev pub AddsClue : index.Kept → index.Kept → Header → Type 0
+AddsClue old new header = (a : Added) → index.Stands old a → a.floor ≤ header.jsn → All (λ m. m.jsn < header.jsn) a.marks → index.Stands new (with_clue_of header a)
+
+-- with lists that are equal to those
+grown : (k : Kept) (h g : History) (j : Entry) (ms : List Member) (t : index.Kept) (hs : List Header) (ls : List Digest) (header : Header) (leaf_is : Digest) (encoded : List ℕ)
+    → j.header ≡ header → hs ≡ k.headers ++ header ∷ [] → ls ≡ k.leaves ++ leaf_is ∷ [] → leaf_is.0 ≡ tree.leaf sha256 encoded → encoded ≡ spelling header
+    → Stands (record k { size = k.size + 1; members = ms; clues = t; headers = k.headers ++ j.header ∷ []; leaves = k.leaves ++ digest (leaf_digest j) ∷ [] }) g
+    → Stands (record k { size = k.size + 1; members = ms; clues = t; headers = hs; leaves = ls }) g
+grown k h g j ms t hs ls header leaf_is encoded is p q l e s =
+    let heads : k.headers ++ j.header ∷ [] ≡ hs = ap (λ x. k.headers ++ x ∷ []) is ∙ sym p in
+    let leaf_same : leaf_digest j ≡ leaf_is.0 = ap (λ (x : Header). tree.leaf sha256 (spelling x)) is ∙ sym (l ∙ ap (tree.leaf sha256) e) in
+    let tips : k.leaves ++ digest (leaf_digest j) ∷ [] ≡ ls = ap (λ x. k.leaves ++ digest x ∷ []) leaf_same ∙ sym q in
+    subst (λ (x : List Digest). Stands (record k { size = k.size + 1; members = ms; clues = t; headers = hs; leaves = x }) g) tips
+    (subst (λ (x : List Header). Stands (record k { size = k.size + 1; members = ms; clues = t; headers = x; leaves = k.leaves ++ digest (leaf_digest j) ∷ [] }) g) heads s)
+
+-- a member's record
+pub stands_record : (k : Kept) (h : History) (j : Entry) (t : index.Kept) (hs : List Header) (ls : List Digest) (header : Header) (leaf_is : Digest) (encoded : List ℕ)
+    → Stands k h → 1 ≤ k.size → j.header ≡ header → header.kind ≡ kind.Content → header.jsn ≡ model.size h → AddsClue k.clues t header
+    → hs ≡ k.headers ++ header ∷ [] → ls ≡ k.leaves ++ leaf_is ∷ [] → leaf_is.0 ≡ tree.leaf sha256 encoded → encoded ≡ spelling header
+    → Stands (record k { size = k.size + 1; members = k.members; clues = t; headers = hs; leaves = ls }) (wider h j)
+stands_record k h j t hs ls header leaf_is encoded s some is content at adds p q l e =
+    let kind_is : j.header.kind ≡ kind.Content = ap (λ (x : Header). x.kind) is ∙ content in
+    let at_j : j.header.jsn ≡ model.size h = ap (λ (x : Header). x.jsn) is ∙ at in
+    let adds_j : AddsClue k.clues t j.header = subst (AddsClue k.clues t) (sym is) adds in
+    let below : All (λ (m : Mark). m.jsn < j.header.jsn) (marks h) = subst (λ (n : ℕ). All (λ (m : Mark). m.jsn < n) (marks h)) (sym at_j) s.numbers in
+    let clues = subst (index.Stands t) (wider_clues k.floor h j) (adds_j (clues_added k.floor h) s.clues (omega (arith, s.floor, at_j)) below) in
+    grown k h (wider h j) j k.members t hs ls header leaf_is encoded is p q l e
+    (stands_wider k h j k.members t s some (ap (λ x. cond (is_purge x) j.header.a 0) kind_is) (ap is_occult kind_is)
+    (s.members ∙ ap (aged_all k.floor) (sym (wider_members_same h j (omega (arith, s.size, some)) (ap is_member kind_is)))) clues (wider_numbers h j s.numbers at_j))
+
+-- a new member
+pub stands_member : (k : Kept) (h : History) (j : Entry) (ms : List Member) (hs : List Header) (ls : List Digest) (header : Header) (leaf_is : Digest) (encoded : List ℕ)
+    → Stands k h → 1 ≤ k.size → j.header ≡ header → header.kind ≡ kind.Member → header.clue ≡ no_clue → header.jsn ≡ model.size h
+    → ms ≡ k.members ++ record { key = header.link; jsn = header.jsn } ∷ []
+    → hs ≡ k.headers ++ header ∷ [] → ls ≡ k.leaves ++ leaf_is ∷ [] → leaf_is.0 ≡ tree.leaf sha256 encoded → encoded ≡ spelling header
+    → Stands (record k { size = k.size + 1; members = ms; clues = k.clues; headers = hs; leaves = ls }) (wider h j)
+stands_member k h j ms hs ls header leaf_is encoded s some is member none at added p q l e =
+    let kind_is : j.header.kind ≡ kind.Member = ap (λ (x : Header). x.kind) is ∙ member in
+    let at_j : j.header.jsn ≡ model.size h = ap (λ (x : Header). x.jsn) is ∙ at in
+    let none_j : is_no_clue j.header.clue ≡ true = ap is_no_clue (ap (λ (x : Header). x.clue) is ∙ none) in
+    let same : clues_added k.floor h ≡ clues_added k.floor (wider h j) = sym (ap (λ b. cond b (clues_added k.floor h) (with_mark j.header.clue.0 j.header.jsn (clues_added k.floor h))) none_j) ∙ wider_clues k.floor h j in
+    let joined : aged_all k.floor ms ≡ aged_all k.floor (members (wider h j)) =
+    ap (aged_all k.floor) (added ∙ ap (λ (x : Header). k.members ++ record { key = x.link; jsn = x.jsn } ∷ []) (sym is)) ∙ map-append (aged k.floor) k.members (member_of j ∷ [])
+    ∙ ap (λ x. x ++ aged_all k.floor (member_of j ∷ [])) s.members ∙ sym (map-append (aged k.floor) (members h) (member_of j ∷ []))
+    ∙ ap (aged_all k.floor) (sym (wider_members_more h j (omega (arith, s.size, some)) (ap is_member kind_is))) in
+    grown k h (wider h j) j ms k.clues hs ls header leaf_is encoded is p q l e
+    (stands_wider k h j ms k.clues s some (ap (λ x. cond (is_purge x) j.header.a 0) kind_is) (ap is_occult kind_is) joined (subst (index.Stands k.clues) same s.clues) (wider_numbers h j s.numbers at_j))

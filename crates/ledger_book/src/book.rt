@@ -9,6 +9,10 @@ ghost use Rattle.ledger_model.specs.Outcomes as outcomes;
 ghost use Rattle.ledger_book.specs.Seals.{head_of, seal_of};
 ghost use Rattle.ledger_book.specs.Steps.{IsSame};
 
+mod applying;
+mod judging;
+mod placing;
+
 use crate::Sealed;
 use crate::headers::first_header;
 use clue_index::ClueIndex;

@@ -1,0 +1,116 @@
+ghost use Rattle.std.specs.Prelude.{◌≡◌, ◌<◌, ◌≤◌, [], ◌∷◌, length, IfNone, None};
+ghost use Rattle.member_book.specs.Members.{keys, add_refusal};
+ghost use Rattle.ledger_model.specs.Books.{Stands};
+ghost use Rattle.ledger_model.specs.History.{History};
+ghost use Rattle.ledger_model.specs.Judgements.{full, unknown_in, wrong_key_in, members_full, other_number, clues_full, append_judgements, member_judgements, first_refusal};
+
+use super::Book;
+use crate::headers::NO_CLUE;
+use journal_record::Approval;
+use ledger_bytes::{Digest, Refusal};
+
+/// The most members that a ledger has.
+const MOST_MEMBERS: u32 = 256;
+
+impl Book {
+    /// Why a member's record with this clue is refused, where it is.
+    pub(super) fn record_refusal(
+        &self,
+        member: u32,
+        clue: &Digest,
+        by: &Approval,
+    ) -> Option<Refusal>
+        ensures refusal { (h : History) → Stands self.now h
+            → result ≡ first_refusal (append_judgements self.now.limits h member clue.now by.now.key) }
+        ensures room { IfNone result (self.now.size < self.now.limits.size) }
+    {
+        if let Some(refusal) = self.full_refusal() {
+            return Some(refusal);
+        }
+        if let Some(refusal) = self.key_refusal(member, &by.key) {
+            return Some(refusal);
+        }
+        self.clue_refusal(clue)
+    }
+
+    /// Why a new member with this number is refused, where it is.
+    pub(super) fn member_refusal(&self, number: u32, by: &Approval) -> Option<Refusal>
+        ensures refusal { (h : History) → Stands self.now h
+            → result ≡ first_refusal (member_judgements self.now.limits h number by.now.key) }
+        ensures room { IfNone result (self.now.size < self.now.limits.size) }
+        ensures next { IfNone result (add_refusal self.now.members number ≡ None) }
+    {
+        if let Some(refusal) = self.full_refusal() {
+            return Some(refusal);
+        }
+        if let Some(refusal) = self.number_refusal(number) {
+            return Some(refusal);
+        }
+        self.key_refusal(0, &by.key)
+    }
+
+    // Whether there is no room for a member's journal.
+    fn full_refusal(&self) -> Option<Refusal>
+        ensures refusal { (h : History) → Stands self.now h → result ≡ full self.now.limits h }
+        ensures room { IfNone result (self.now.size < self.now.limits.size) }
+    {
+        let kept = self.size.saturating_sub(self.point);
+        if kept >= self.limits.soft || self.size >= self.limits.size {
+            return Some(Refusal::Full {
+                kept,
+                size: self.size,
+            });
+        }
+        None
+    }
+
+    // Whether the member isn't known, or the key that a proof shows isn't the member's.
+    fn key_refusal(&self, member: u32, shown: &Option<Digest>) -> Option<Refusal>
+        ensures { result ≡ first_refusal (unknown_in (keys self.now.members) member ∷ wrong_key_in (keys self.now.members) member shown.now ∷ []) }
+    {
+        match self.members.key(member) {
+            None => Some(Refusal::UnknownMember { member }),
+            Some(key) => {
+                if *shown == Some(key) {
+                    None
+                } else {
+                    Some(Refusal::WrongKey { member })
+                }
+            }
+        }
+    }
+
+    // Whether there are as many members as there may be, or another number is next.
+    fn number_refusal(&self, number: u32) -> Option<Refusal>
+        ensures refusal { (h : History) → Stands self.now h → result ≡ first_refusal (members_full h ∷ other_number h number ∷ []) }
+        ensures next { IfNone result (add_refusal self.now.members number ≡ None) }
+        ensures some { 2 ≤ length self.now.members }
+    {
+        let next = self.members.count();
+        if next >= MOST_MEMBERS {
+            return Some(Refusal::MembersFull);
+        }
+        if number != next {
+            return Some(Refusal::MemberNumber { next });
+        }
+        None
+    }
+
+    // Whether the clue is a new one, and there are as many as there may be.
+    fn clue_refusal(&self, clue: &Digest) -> Option<Refusal>
+        requires { self.now.size < self.now.limits.size }
+        ensures { (h : History) → Stands self.now h → result ≡ clues_full self.now.limits h clue.now }
+    {
+        if *clue == NO_CLUE {
+            return None;
+        }
+        let (ordinal, _) = self.clues.next_of(clue);
+        if ordinal > 1 {
+            return None;
+        }
+        if self.clues.clues() < self.limits.clues {
+            return None;
+        }
+        Some(Refusal::CluesFull)
+    }
+}
