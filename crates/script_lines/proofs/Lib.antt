@@ -1,5 +1,6 @@
 pub mod Cuts
 pub mod Filled
 pub mod Given
+pub mod Hexes
 pub mod Numbers
 pub mod Sayings

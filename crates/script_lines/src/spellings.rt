@@ -1,7 +1,7 @@
-ghost use Rattle.std.specs.Prelude.{◌≡◌, ◌≤◌, if◌then◌else◌, length, Some, None, All, IfOk, IfSome};
-ghost use Rattle.std.specs.Char.{is_ascii_digit};
+ghost use Rattle.std.specs.Prelude.{◌≡◌, ◌≤◌, ◌↔◌, if◌then◌else◌, length, Some, None, option_map, All, IsTrue, IfOk, IfSome, IsSome};
+ghost use Rattle.std.specs.Char.{is_ascii_digit, is_ascii_hexdigit};
 ghost use Rattle.std.specs.List.{list_all};
-ghost use Rattle.script_lines.specs.Spellings.{is_decimal, number_of, bytes_of, digest_of, name_of, which_of, approval_of, approvals_of, mark_of};
+ghost use Rattle.script_lines.specs.Spellings.{is_decimal, number_of, bytes_of, digest_of, clue_of, name_of, which_of, approval_of, approvals_of, mark_of};
 
 use crate::said::{SaidApproval, Which};
 use crate::splits::{cut, split_once};
@@ -15,7 +15,8 @@ pub(crate) const PROOF_MAX: usize = 4_096;
 /// The most approvals that a line gives.
 const APPROVALS_MAX: usize = 256;
 
-pub(crate) fn read_number(text: &[u8], most: u64) -> Option<u64>
+/// A decimal number without a leading zero, at most `most`; None where the text is no such number.
+pub fn read_number(text: &[u8], most: u64) -> Option<u64>
     ensures number { result ≡ number_of most text.now }
     ensures high { IfSome result (λ number. number ≤ most) }
 {
@@ -46,7 +47,9 @@ fn has_digits_alone(text: &[u8]) -> bool
     text.iter().all(|b| b.is_ascii_digit())
 }
 
-pub(crate) fn read_bytes(alloc: Global, text: &[u8], most: usize) -> Result<Option<Bytes>, NoMemory>
+/// No bytes as `-`, or 1 to `most` bytes as two hexadecimal digits each, of either case; None where the text is of no such
+/// form.
+pub fn read_bytes(alloc: Global, text: &[u8], most: usize) -> Result<Option<Bytes>, NoMemory>
     ensures bytes { IfOk result (λ read. read ≡ bytes_of most text.now) }
     ensures long { IfOk result (λ read. IfSome read (λ bytes. length bytes ≤ most)) }
 {
@@ -63,10 +66,42 @@ pub(crate) fn read_bytes(alloc: Global, text: &[u8], most: usize) -> Result<Opti
     }
 }
 
-pub(crate) fn read_digest(text: &[u8]) -> Option<Digest>
+/// Whether the text is bytes as [`read_bytes`] reads them.
+pub fn is_bytes(text: &[u8], most: usize) -> bool
+    ensures { IsTrue result ↔ IsSome (bytes_of most text.now) }
+{
+    text == b"-".as_slice()
+        || (text.len() >= 2
+            && text.len() % 2 == 0
+            && text.len() / 2 <= most
+            && has_hex_digits_alone(text))
+}
+
+fn has_hex_digits_alone(text: &[u8]) -> bool
+    ensures { result ≡ list_all is_ascii_hexdigit text.now }
+{
+    text.iter().all(|b| b.is_ascii_hexdigit())
+}
+
+/// A digest as 64 hexadecimal digits of either case; None where the text is no such digest.
+pub fn read_digest(text: &[u8]) -> Option<Digest>
     ensures { result ≡ digest_of text.now }
 {
     Some(Digest(<[u8; 32] as FromHex>::from_hex(text).ok()?))
+}
+
+/// A clue's name of 1 to 64 bytes, or no clue as `-`, which is the empty name; None where the text is neither.
+pub fn read_clue(text: &[u8]) -> Option<&[u8]>
+    ensures clue { option_map (λ name. name.now) result ≡ clue_of text.now }
+    ensures long { IfSome result (λ name. length name.now ≤ 64) }
+{
+    if text == b"-".as_slice() {
+        Some(b"")
+    } else if is_name(text) {
+        Some(text)
+    } else {
+        None
+    }
 }
 
 pub(crate) fn is_name(text: &[u8]) -> bool
@@ -153,3 +188,6 @@ pub(crate) fn read_mark(text: &[u8]) -> Option<Option<(u64, u64, u64)>>
         read_number(time, u64::MAX)?,
     )))
 }
+
+#[cfg(test)]
+mod tests;
