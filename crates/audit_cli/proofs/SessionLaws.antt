@@ -37,6 +37,10 @@ sofar_none hash before reading trust is none = record {
   count_is = refl;
 }
 
+-- a piece that is written is the text that answers the line that was given
+pub answers_line : (hash : Hash) (trust : Trust) (number : ℕ) (piece text given line : List ℕ) → piece ≡ text → text ≡ reply_text number (answer_to hash trust given) → given ≡ line → piece ≡ reply_text number (answer_to hash trust line)
+answers_line hash trust number piece text given line p t g = p ∙ t ∙ ap (λ x. reply_text number (answer_to hash trust x)) g
+
 -- the text that answers the next line
 pub next_is : (hash : Hash) (before now : Outside) (reading : Reading) (trust : Trust) (count : ℕ) (line : List ℕ) (s : SoFar hash before now reading trust count)
     → reply_text (count + 1) (answer_to hash trust line) ≡ next_text hash s.lines line

@@ -3,7 +3,8 @@ ghost use Rattle.audit_core.specs.Acceptance.{acceptance};
 ghost use Rattle.audit_core.specs.Trust.{trust_refusal, with_head};
 ghost use Rattle.audit_cli.specs.Answers.{trusting, verdict, unless_refused, answer_to, trust_after};
 
-use crate::{Line, Reply, read_line};
+use crate::line::{Line, read_line};
+use crate::reply::Reply;
 use audit_core::{Heads, TrustErr, accept};
 use ledger_bytes::{Digest, NoMemory, TreeHash};
 use merkle_tree::Head;

@@ -11,10 +11,7 @@ mod top;
 mod words;
 
 pub use ending::Ending;
-pub use line::{Line, read_line};
-pub use reply::{Reply, put_reply};
 pub use top::{audit_run, audit_top, finish};
-pub use words::Command;
 
 #[cfg(test)]
 mod tests;

@@ -13,7 +13,7 @@ use time_peg::TimeMark;
 
 /// What a line of an audit script asks for.
 #[derive(Debug, Drop)]
-pub enum Line {
+pub(crate) enum Line {
     /// A head of a ledger is to be trusted: `trust ledger ID SIZE ROOT`.
     TrustLedger {
         /// The ledger's id.
@@ -31,7 +31,7 @@ pub enum Line {
 /// What a line asks for, without its newline. Its fields stand around single spaces, and the first is the verb, column
 /// 1. A number is decimal digits without a leading zero, below 2^64; a digest 64 hexadecimal digits of either case. LO
 /// and HI are `-` or `JSN:INDEX:TIME`, and HEX is `-` for no bytes or two hexadecimal digits for each.
-pub fn read_line(alloc: Global, line: &[u8]) -> Result<Line, Stop>
+pub(crate) fn read_line(alloc: Global, line: &[u8]) -> Result<Line, Stop>
     ensures { Reads result (line_of line.now) }
 {
     read_fields(alloc, Fields::of(line))

@@ -8,7 +8,7 @@ use script_lines::{Word, put_number, put_refusal, put_words};
 
 /// The answer to a line of an audit script.
 #[derive(Clone, Copy, Debug, PartialEq, Eq)]
-pub enum Reply {
+pub(crate) enum Reply {
     /// The head is trusted, or the proof is accepted.
     Yes,
     /// The head isn't trusted, or the proof isn't accepted.
@@ -18,7 +18,7 @@ pub enum Reply {
 }
 
 /// Appends the line that answers the line with this number: the number, a space, the reply's words and a newline.
-pub fn put_reply(out: &mut Vec<u8>, number: u64, reply: &Reply) -> Result<(), NoMemory>
+pub(crate) fn put_reply(out: &mut Vec<u8>, number: u64, reply: &Reply) -> Result<(), NoMemory>
     ensures { OnOk result (out.new.items ≡ out.old.items ++ reply_text number reply.now) }
 {
     put_number(out, number)?;

@@ -4,8 +4,9 @@ ghost use Rattle.audit_cli.specs.Endings.{ending_of};
 ghost use Rattle.audit_cli.specs.Replies.{reply_text};
 ghost use Rattle.audit_cli.specs.Runs.{Served, outside};
 
+use crate::Ending;
 use crate::answer::answer;
-use crate::{Ending, put_reply};
+use crate::reply::put_reply;
 use audit_core::Heads;
 use ledger_bytes::{NoMemory, TreeHash};
 use ledger_io::{LineErr, Lines, Sink, Source, write_all};

@@ -112,74 +112,75 @@ fn run(
     Ok((status, sink.written().to_vec(alloc)?))
 }
 
+// A script with the replies to its lines. What is trusted grows along it, and a line of no form changes nothing.
+const SAID: [Said; 40] = [
+    (&["check 0 ", ID, " - - ", CUT_PROOF, "00"], &["no 34 1"]),
+    (&["trust ledger ", ID, " 1 ", ID], &["yes"]),
+    (&["check 0 ", ID, " - - ", CUT_PROOF, "00"], &["yes"]),
+    (&["check 1 ", ID, " - - ", CUT_PROOF, "00"], &["no 40"]),
+    (&["check 0 ", ID, " 5:0:1 - ", CUT_PROOF, "00"], &["no 40"]),
+    (&["check 0 ", ID, " - 5:0:1 ", CUT_PROOF, "00"], &["no 40"]),
+    (&["check 2 ", LAST_LEAF, " - - ", LAST_PROOF], &["no 34 3"]),
+    (
+        &["trust ledger ", ID, " 1 ", DIGEST_OF_NOTHING],
+        &["no 44", ID],
+    ),
+    (
+        &["trust ledger ", DIGEST_OF_NOTHING, " 3 ", ROOT_OF_THREE],
+        &["no 44", ID],
+    ),
+    (&["trust ledger ", ID, " 3 ", ROOT_OF_THREE], &["yes"]),
+    (&["trust ledger ", ID, " 3 ", ROOT_OF_THREE], &["yes"]),
+    (&["check 2 ", LAST_LEAF, " - - ", LAST_PROOF], &["yes"]),
+    (
+        &["check 2 ", LAST_LEAF, " - - ", LAST_PROOF_CHANGED],
+        &["no 35"],
+    ),
+    (&["check 0 ", ID, " - - ", CUT_PROOF, "00"], &["yes"]),
+    (&[""], &["no 10"]),
+    (&["trust"], &["no 11 2"]),
+    (&["trust notary 1 ", ID], &["no 11 2"]),
+    (&["trust ledger"], &["no 11 3"]),
+    (&["trust ledger 0", ID, " 1 ", ID], &["no 11 3"]),
+    (&["trust ledger ", ID, " 01 ", ID], &["no 11 4"]),
+    (
+        &["trust ledger ", ID, " 18446744073709551616 ", ID],
+        &["no 11 4"],
+    ),
+    (&["trust ledger ", ID, "  1 ", ID], &["no 11 4"]),
+    (&["trust ledger ", ID, " 1"], &["no 11 5"]),
+    (&["trust ledger ", ID, " 1 ", ID, "\r"], &["no 11 5"]),
+    (&["trust ledger ", ID, " 1 ", ID, " "], &["no 11 6"]),
+    (&["Trust ledger ", ID, " 1 ", ID], &["no 10"]),
+    (&[" trust ledger ", ID, " 1 ", ID], &["no 10"]),
+    (&["extend ledger 1 3 ", ROOT_OF_THREE, " -"], &["no 10"]),
+    (&["check -1 ", ID, " - - -"], &["no 11 2"]),
+    (&["check 0 - - - -"], &["no 11 3"]),
+    (&["check 0 ", ID, " 5:0 - -"], &["no 11 4"]),
+    (&["check 0 ", ID, " - 5:0:1:2 -"], &["no 11 5"]),
+    (&["check 0 ", ID, " - -"], &["no 11 6"]),
+    (&["check 0 ", ID, " - - "], &["no 11 6"]),
+    (&["check 0 ", ID, " - - 010"], &["no 11 6"]),
+    (&["check 0 ", ID, " - - 0g"], &["no 11 6"]),
+    (&["check 0 ", ID, " - - - -"], &["no 11 7"]),
+    (
+        &[
+            "check 18446744073709551615 ",
+            ID,
+            " 0:0:18446744073709551615 - -",
+        ],
+        &["no 41 0"],
+    ),
+    (
+        &["check 0 ABABABABABABABABABABABABABABABABABABABABABABABABABABABABABABABAB - - aB"],
+        &["no 41 0"],
+    ),
+    (&["trust ledger ", ID, " 0 ", DIGEST_OF_NOTHING], &["yes"]),
+];
+
 #[test]
 fn answers_each_line(rt: HostRuntime) -> Result<(), Fail> {
-    // What is trusted grows along the script; a line of no form changes nothing.
-    let said: [Said; 40] = [
-        (&["check 0 ", ID, " - - ", CUT_PROOF, "00"], &["no 34 1"]),
-        (&["trust ledger ", ID, " 1 ", ID], &["yes"]),
-        (&["check 0 ", ID, " - - ", CUT_PROOF, "00"], &["yes"]),
-        (&["check 1 ", ID, " - - ", CUT_PROOF, "00"], &["no 40"]),
-        (&["check 0 ", ID, " 5:0:1 - ", CUT_PROOF, "00"], &["no 40"]),
-        (&["check 0 ", ID, " - 5:0:1 ", CUT_PROOF, "00"], &["no 40"]),
-        (&["check 2 ", LAST_LEAF, " - - ", LAST_PROOF], &["no 34 3"]),
-        (
-            &["trust ledger ", ID, " 1 ", DIGEST_OF_NOTHING],
-            &["no 44", ID],
-        ),
-        (
-            &["trust ledger ", DIGEST_OF_NOTHING, " 3 ", ROOT_OF_THREE],
-            &["no 44", ID],
-        ),
-        (&["trust ledger ", ID, " 3 ", ROOT_OF_THREE], &["yes"]),
-        (&["trust ledger ", ID, " 3 ", ROOT_OF_THREE], &["yes"]),
-        (&["check 2 ", LAST_LEAF, " - - ", LAST_PROOF], &["yes"]),
-        (
-            &["check 2 ", LAST_LEAF, " - - ", LAST_PROOF_CHANGED],
-            &["no 35"],
-        ),
-        (&["check 0 ", ID, " - - ", CUT_PROOF, "00"], &["yes"]),
-        (&[""], &["no 10"]),
-        (&["trust"], &["no 11 2"]),
-        (&["trust notary 1 ", ID], &["no 11 2"]),
-        (&["trust ledger"], &["no 11 3"]),
-        (&["trust ledger 0", ID, " 1 ", ID], &["no 11 3"]),
-        (&["trust ledger ", ID, " 01 ", ID], &["no 11 4"]),
-        (
-            &["trust ledger ", ID, " 18446744073709551616 ", ID],
-            &["no 11 4"],
-        ),
-        (&["trust ledger ", ID, "  1 ", ID], &["no 11 4"]),
-        (&["trust ledger ", ID, " 1"], &["no 11 5"]),
-        (&["trust ledger ", ID, " 1 ", ID, "\r"], &["no 11 5"]),
-        (&["trust ledger ", ID, " 1 ", ID, " "], &["no 11 6"]),
-        (&["Trust ledger ", ID, " 1 ", ID], &["no 10"]),
-        (&[" trust ledger ", ID, " 1 ", ID], &["no 10"]),
-        (&["extend ledger 1 3 ", ROOT_OF_THREE, " -"], &["no 10"]),
-        (&["check -1 ", ID, " - - -"], &["no 11 2"]),
-        (&["check 0 - - - -"], &["no 11 3"]),
-        (&["check 0 ", ID, " 5:0 - -"], &["no 11 4"]),
-        (&["check 0 ", ID, " - 5:0:1:2 -"], &["no 11 5"]),
-        (&["check 0 ", ID, " - -"], &["no 11 6"]),
-        (&["check 0 ", ID, " - - "], &["no 11 6"]),
-        (&["check 0 ", ID, " - - 010"], &["no 11 6"]),
-        (&["check 0 ", ID, " - - 0g"], &["no 11 6"]),
-        (&["check 0 ", ID, " - - - -"], &["no 11 7"]),
-        (
-            &[
-                "check 18446744073709551615 ",
-                ID,
-                " 0:0:18446744073709551615 - -",
-            ],
-            &["no 41 0"],
-        ),
-        (
-            &["check 0 ABABABABABABABABABABABABABABABABABABABABABABABABABABABABABABABAB - - aB"],
-            &["no 41 0"],
-        ),
-        (&["trust ledger ", ID, " 0 ", DIGEST_OF_NOTHING], &["yes"]),
-    ];
-    let script = Script::of(rt.alloc(), &said)?;
+    let script = Script::of(rt.alloc(), &SAID)?;
     let (status, written) = run(
         rt.alloc(),
         &["script"],

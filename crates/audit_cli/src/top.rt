@@ -6,8 +6,9 @@ ghost use Rattle.audit_cli.specs.Endings.{status_of, last_line};
 ghost use Rattle.audit_cli.specs.Runs.{RanProgram, outside};
 ghost use Rattle.audit_cli.specs.Words.{command_of};
 
+use crate::Ending;
 use crate::session::run_script;
-use crate::{Command, Ending};
+use crate::words::Command;
 use ledger_bytes::{Sha, TreeHash};
 use ledger_io::{Sink, Source, write_last};
 use std::alloc::Global;

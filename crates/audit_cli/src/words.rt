@@ -2,7 +2,7 @@ ghost use Rattle.std.specs.Prelude.{◌≡◌, map, string_bytes};
 
 /// What the words of the command line ask for.
 #[derive(Clone, Copy, Debug, PartialEq, Eq)]
-pub enum Command {
+pub(crate) enum Command {
     /// `script`: the lines of an audit script are answered.
     Script,
 }
@@ -11,7 +11,7 @@ impl Command {
     ghost use Rattle.audit_cli.specs.Words.{command_of};
 
     /// The command that the words after the program's name make, or None where they are of no form.
-    pub fn read(words: &[String]) -> Option<Self>
+    pub(crate) fn read(words: &[String]) -> Option<Self>
         ensures { result ≡ command_of (map string_bytes words.now) }
     {
         let [word] = words else {
