@@ -1,18 +1,25 @@
 -- Lemmas on the whole of a run.
-use Rattle.std.proofs.Common.{ℕ, ◌≤◌, ◌⊎◌, inl, inr, List, [], take, drop, Result, Ok, Err, refl, sym, arith, append-nil}
+use Rattle.std.proofs.Common.{◌≡◌, ℕ, ◌<◌, ◌≤◌, ◌⊎◌, inl, inr, List, [], ◌++◌, length, take, drop, Option, Some, None, Result, Ok, Err, refl, sym, subst, arith, append-nil}
 use Rattle.std.specs.Prelude.{OnOk, IfErr, OnErr}
 use Rattle.std.specs.Io.KnownBytes.{Appends}
 use Rattle.std.proofs.KnownBytes.{Consumes-nil, Appends-nil, Appends-trans}
-use Rattle.std.proofs.lemmas.List.{take-append-drop}
+use Rattle.std.proofs.lemmas.List.{take-append-drop, length-take-le}
 use Rattle.ledger_bytes.specs.Causes.{Rose}
 use Rattle.ledger_io.specs.Outside.{SourceState, SinkState}
-use Rattle.ledger_io.specs.Writing.{WritesLast}
-use Rattle.ledger_model.specs.History.{History}
+use Rattle.ledger_io.specs.Writing.{WritesLast, WritesFirst}
+use Rattle.ledger_io.specs.declared.writer.WriteErr.{WriteErr}
+use Rattle.ledger_io.specs.declared.writer.WriteErr.TheVariants.{WriteFault}
+use Rattle.ledger_model.specs.Genesis.{founded}
+use Rattle.ledger_model.specs.History.{History, history}
 use Rattle.ledger_model.specs.Notary.{IsAttended}
 use Rattle.ledger_cli.specs.declared.ending.Ending.{Ending}
+use Rattle.ledger_cli.specs.declared.ending.Ending.TheVariants as ending
 use Rattle.ledger_cli.specs.declared.ending.Ending.TheVariants.{NoMemory}
+use Rattle.ledger_cli.specs.declared.words.Command.{Command}
+use Rattle.ledger_cli.specs.declared.words.Command.TheVariants.{Dry, Sign}
 use Rattle.ledger_cli.specs.Endings.{last_line}
-use Rattle.ledger_cli.specs.Runs.{Outside, outside, Served, Ran}
+use Rattle.ledger_cli.specs.Runs.{Outside, outside, Served, Ran, FallsShort, Output, Wrote, RanOnce, ServedBy, RanBy}
+use Rattle.ledger_cli.specs.Signing.{signed_text}
 use Rattle.ledger_cli.proofs.EndLaws.{causes_later}
 
 nothing_attended : IsAttended [] [] 0 []
@@ -49,3 +56,64 @@ ran_written h end before source mid after s l = record {
   last_is = l.front;
   last_whole = elim l.whole [ inl is ↦ inl is | inr rose ↦ inr (elim rose [ inl r ↦ inl (omega (arith, r, s.sink_later)) | inr r ↦ inr (omega (arith, r, s.idle_later)) ]) ];
 }
+
+-- no memory to begin with, by the command
+pub unstarted_by : (command : Option Command) (before : Outside) → ServedBy command NoMemory before before
+unstarted_by None before = served_unstarted (history [] []) before
+unstarted_by (Some (Dry genesis)) before = served_unstarted (founded genesis) before
+unstarted_by (Some (Sign signing)) before = record {
+  written = [];
+  unread = refl;
+  appended = Appends-nil before.sink.held;
+  output = refl;
+  sink_later = omega arith;
+  idle_later = omega arith;
+}
+
+-- a fault leaves a part of the text
+pub wrote_part : (due piece : List ℕ) (source : SourceState) (before after : SinkState) (error : WriteErr) → piece ≡ due → WritesFirst before.held after.held piece error
+    → Rose before.faults after.faults ⊎ Rose before.idles after.idles → before.faults ≤ after.faults → before.idles ≤ after.idles
+    → Wrote due ending.WriteFault (outside source before) (outside source after)
+wrote_part due piece source before after (WriteFault taken) is first cause faults idles =
+    let fewer : taken < length piece = first.0 in
+    let short : FallsShort (take taken piece) piece = (
+      record { rest = drop taken piece; is = sym (take-append-drop taken piece) },
+      omega (arith, length-take-le taken piece (omega (arith, fewer))),
+    ) in record {
+      written = take taken piece;
+      unread = refl;
+      appended = first.1;
+      output = (subst (λ text. FallsShort (take taken piece) text) is short, cause);
+      sink_later = faults;
+      idle_later = idles;
+    }
+
+-- what came of writing a text stays while counts rise
+output_later : (due : List ℕ) (end : Ending) (written : List ℕ) (before : Outside) (source : SourceState) (mid after : SinkState) → mid.faults ≤ after.faults → mid.idles ≤ after.idles
+    → Output due end written before (outside source mid) → Output due end written before (outside source after)
+output_later due ending.Done written before source mid after f i output = output
+output_later due ending.Usage written before source mid after f i output = output
+output_later due ending.ReadFault written before source mid after f i output = output
+output_later due ending.WriteFault written before source mid after f i output = (output.0, causes_later ending.WriteFault [] before source mid after f i output.1)
+output_later due ending.NoMemory written before source mid after f i output = output
+output_later due ending.LineTooLong written before source mid after f i output = output
+output_later due ending.ScriptTooLong written before source mid after f i output = output
+
+-- one text and the last line are a run
+ran_once : (due : List ℕ) (end : Ending) (before : Outside) (source : SourceState) (mid after : SinkState) → Wrote due end before (outside source mid) → WritesLast (last_line end) mid after → RanOnce due end before (outside source after)
+ran_once due end before source mid after s l = record {
+  written = s.written;
+  last = l.last;
+  unread = s.unread;
+  appended = Appends-trans before.sink.held mid.held after.held s.written l.last s.appended l.appended;
+  output = output_later due end s.written before source mid after l.later l.idle_later s.output;
+  last_is = l.front;
+  last_whole = elim l.whole [ inl is ↦ inl is | inr rose ↦ inr (elim rose [ inl r ↦ inl (omega (arith, r, s.sink_later)) | inr r ↦ inr (omega (arith, r, s.idle_later)) ]) ];
+}
+
+-- what a command did, and the last line, are a run of that command
+pub ran_by : (command : Option Command) (end : Ending) (before : Outside) (source : SourceState) (mid after : SinkState) → ServedBy command end before (outside source mid) → WritesLast (last_line end) mid after
+    → RanBy command end before (outside source after)
+ran_by None end before source mid after s l = ran_written (history [] []) end before source mid after s l
+ran_by (Some (Dry genesis)) end before source mid after s l = ran_written (founded genesis) end before source mid after s l
+ran_by (Some (Sign signing)) end before source mid after s l = ran_once (signed_text signing) end before source mid after s l

@@ -1,4 +1,5 @@
 pub mod Keys
+pub mod Signing
 pub mod Words
 pub mod Endings
 pub mod Kept

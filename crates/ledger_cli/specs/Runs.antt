@@ -17,8 +17,9 @@ use Rattle.ledger_model.specs.Windows.{said, windows}
 use Rattle.ledger_cli.specs.declared.ending.Ending.{Ending}
 use Rattle.ledger_cli.specs.declared.ending.Ending.TheVariants.{Done, Usage, ReadFault, WriteFault, NoMemory, LineTooLong, ScriptTooLong}
 use Rattle.ledger_cli.specs.declared.words.Command.{Command}
-use Rattle.ledger_cli.specs.declared.words.Command.TheVariants.{Dry}
+use Rattle.ledger_cli.specs.declared.words.Command.TheVariants.{Dry, Sign}
 use Rattle.ledger_cli.specs.Endings.{status_of, last_line}
+use Rattle.ledger_cli.specs.Signing.{signed_text}
 
 -- the objects that a run is handed: what it reads from and what it writes to
 pub record Outside : Type 0 where
@@ -107,14 +108,52 @@ pub record Ran (h : History) (ending : Ending) (before after : Outside) : Type 0
   pub last_is : Begins last (last_line ending)
   pub last_whole : (last ≡ last_line ending) ⊎ MetWriteFault before after
 
--- the history that a command begins with
-abbrev pub start_of : Option Command → History
-start_of None = history [] []
-start_of (Some (Dry genesis)) = founded genesis
+-- what came of writing one text, by the ending
+abbrev pub Output : List ℕ → Ending → List ℕ → Outside → Outside → Type 0
+Output due Done written before after = written ≡ due
+Output due Usage written before after = ⊥
+Output due ReadFault written before after = ⊥
+Output due WriteFault written before after = FallsShort written due × MetWriteFault before after
+Output due NoMemory written before after = written ≡ []
+Output due LineTooLong written before after = ⊥
+Output due ScriptTooLong written before after = ⊥
+
+-- one text is written, and nothing is read: everything but the last line
+pub record Wrote (due : List ℕ) (ending : Ending) (before after : Outside) : Type 0 where
+  pub written : List ℕ
+  pub unread : after.source ≡ before.source
+  pub appended : Appends before.sink.held after.sink.held written
+  pub output : Output due ending written before after
+  -- no count of faults fell
+  pub sink_later : before.sink.faults ≤ after.sink.faults
+  pub idle_later : before.sink.idles ≤ after.sink.idles
+
+-- a run that writes one text and reads nothing, to the last line that is written
+pub record RanOnce (due : List ℕ) (ending : Ending) (before after : Outside) : Type 0 where
+  -- what was written of the text, and of the last line
+  pub written : List ℕ
+  pub last : List ℕ
+  pub unread : after.source ≡ before.source
+  pub appended : Appends before.sink.held after.sink.held (written ++ last)
+  pub output : Output due ending written before after
+  pub last_is : Begins last (last_line ending)
+  pub last_whole : (last ≡ last_line ending) ⊎ MetWriteFault before after
+
+-- a run to its ending, by the command: everything but the last line
+abbrev pub ServedBy : Option Command → Ending → Outside → Outside → Type 0
+ServedBy None ending before after = Served (history [] []) ending before after
+ServedBy (Some (Dry genesis)) ending before after = Served (founded genesis) ending before after
+ServedBy (Some (Sign signing)) ending before after = Wrote (signed_text signing) ending before after
+
+-- a run to the last line that is written, by the command
+abbrev pub RanBy : Option Command → Ending → Outside → Outside → Type 0
+RanBy None ending before after = Ran (history [] []) ending before after
+RanBy (Some (Dry genesis)) ending before after = Ran (founded genesis) ending before after
+RanBy (Some (Sign signing)) ending before after = RanOnce (signed_text signing) ending before after
 
 -- a run of the program with some words, to its exit status
 pub record RanProgram (command : Option Command) (status : ℕ) (before after : Outside) : Type 0 where
   pub ending : Ending
   pub status_is : status ≡ status_of ending
   pub usage : (ending ≡ Usage) ↔ (command ≡ None)
-  pub ran : Ran (start_of command) ending before after
+  pub ran : RanBy command ending before after

@@ -3,7 +3,7 @@ ghost use Rattle.std.specs.Prelude.{◌≡◌};
 /// How a run ended. Each ending has an exit status and a last line.
 #[derive(Clone, Copy, Debug, PartialEq, Eq)]
 pub enum Ending {
-    /// The input was read to its end, and every line has its reply.
+    /// The input was read to its end and every line has its reply, or the single text was written.
     Done,
     /// The words of the command line are of no form.
     Usage,

@@ -10,11 +10,13 @@ mod journal;
 mod ledger;
 mod prepare;
 mod session;
+mod signing;
 mod top;
 mod window;
 mod words;
 
 pub use ending::Ending;
+pub use signing::{Request, Signing};
 pub use top::{finish, ledger_top};
 pub use words::Command;
 

@@ -1,25 +1,28 @@
 ghost use Rattle.std.specs.Prelude.{◌≡◌, ◌≢◌, ◌⊎◌, ◌↔◌, None, map, string_bytes};
 ghost use Rattle.ledger_bytes.specs.Causes.{Rose};
+ghost use Rattle.ledger_io.specs.Outside.{SourceState};
 ghost use Rattle.ledger_io.specs.Writing.{WritesLast};
 ghost use Rattle.ledger_model.specs.Genesis.{founded};
 ghost use Rattle.ledger_cli.specs.Endings.{status_of, last_line};
-ghost use Rattle.ledger_cli.specs.Runs.{RanProgram, Served, outside, start_of};
+ghost use Rattle.ledger_cli.specs.Runs.{RanProgram, Served, ServedBy, Wrote, outside};
+ghost use Rattle.ledger_cli.specs.Signing.{signed_text};
 ghost use Rattle.ledger_cli.specs.Words.{command_of};
 
 use crate::ledger::Ledger;
 use crate::session::run_script;
+use crate::signing::Signing;
 use crate::{Command, Ending};
 use ledger_bytes::NoMemory;
-use ledger_io::{Sink, Source, write_last};
+use ledger_io::{Sink, Source, write_all, write_last};
 use ledger_model::Genesis;
 use std::alloc::Global;
 
-/// The program: runs the command that the words after the program's name make, on a script that `source` gives, and
-/// writes the replies to `sink`. It answers the exit status:
+/// The program: runs the command that the words after the program's name make. `dry` runs the script that `source` gives
+/// and writes its replies to `sink`; `sign` reads nothing and writes one text. It answers the exit status:
 ///
 /// | Status | Comes | Last line |
 /// |---|---|---|
-/// | 0 | the input was read to its end, and every line has its reply | none |
+/// | 0 | the input was read to its end and every line has its reply, or the text was written | none |
 /// | 1 | exactly where the words are of no form | `fail 1 usage` |
 /// | 2 | only where the source failed | `fail 2 read` |
 /// | 3 | only where the sink failed, or took nothing of a piece that wasn't empty | none |
@@ -61,12 +64,13 @@ fn run_words<S: Source, K: Sink>(
     source: &mut S,
     sink: &mut K,
 ) -> Ending
-    ensures served { Served (start_of (command_of (map string_bytes words.now))) result
+    ensures served { ServedBy (command_of (map string_bytes words.now)) result
         (outside (S.state source.old) (K.state sink.old)) (outside (S.state source.new) (K.state sink.new)) }
     ensures usage { (result ≡ Ending.Usage) ↔ (command_of (map string_bytes words.now) ≡ None) }
 {
     match Command::read(alloc, words) {
         Ok(Some(Command::Dry(genesis))) => run_dry(alloc, &genesis, source, sink),
+        Ok(Some(Command::Sign(signing))) => run_sign(&signing, sink),
         Ok(None) => Ending::Usage,
         Err(NoMemory) => Ending::NoMemory,
     }
@@ -85,5 +89,16 @@ fn run_dry<S: Source, K: Sink>(
     match Ledger::found(alloc, genesis) {
         Ok(mut ledger) => run_script(alloc, &mut ledger, source, sink),
         Err(NoMemory) => Ending::NoMemory,
+    }
+}
+
+fn run_sign<K: Sink>(signing: &Signing, sink: &mut K) -> Ending
+    ensures served { (source : SourceState) → Wrote (signed_text signing.now) result
+        (outside source (K.state sink.old)) (outside source (K.state sink.new)) }
+    ensures started { result ≢ Ending.Usage }
+{
+    match write_all(sink, &signing.text()) {
+        Ok(()) => Ending::Done,
+        Err(_) => Ending::WriteFault,
     }
 }
