@@ -23,6 +23,11 @@ const WHOLE: &str =
 const WHO: &str =
     "00000002004003030303030303030303030303030303030303030303030303030303030303031c73656160873b10becb5d4a75a046056d790b17f79672513778ab540c22c6df";
 
+const WHO_OF_WHOLE: &str =
+    "0000000200400303030303030303030303030303030303030303030303030303030303030303670bc87de87a4d2dc823d029fec29573459c8a94361e427a8df50ceffa0c5f65";
+
+const ROOT_OF_SIX: &str = "af7eba02c88f58f4f622d4ff7d85dca0bc0485cd3f1f429831c6e29fd5a2c55e";
+
 const OCCULTED: &str =
     "01010000000000000002000000023536d837609504a8406dcb211cb403cb9290736cc3a94b2fa0601b2cd543e6da00000001000000000000000000000000000000000000000000000000c91e8e640e57e2e878b7b2840e07636c07539496336fbcc57c40f1cc60c359fc00000003909ac45e439911193205994d09399c29fede977ab212605f29ead5250a812e73c31de51580a8656b63f753ec142454bafa09b766de1b25b0ac75c128005d40cb";
 
@@ -31,24 +36,28 @@ fn digest(text: &str) -> Result<Digest, hex::FromHexError> {
 }
 
 /// The bytes that these digits spell.
-fn bytes_of(rt: &HostRuntime, text: &str) -> Result<Bytes, Fail> {
-    Ok(Bytes::of(hex::decode(rt.alloc(), text)?))
+fn bytes_of(alloc: Global, text: &str) -> Result<Bytes, Fail> {
+    Ok(Bytes::of(hex::decode(alloc, text)?))
 }
 
-/// The reply has this text.
+/// The reply has this text, given in pieces.
 fn check(
     rt: &impl Abort,
     alloc: Global,
     index: u64,
     reply: &Reply,
-    line: &str,
+    pieces: &[&str],
 ) -> Result<(), Fail> {
+    let mut line = Vec::new(alloc);
+    for piece in pieces {
+        line.extend_from_slice(piece.as_bytes())?;
+    }
     let text = reply_text(alloc, 0, index, reply)?;
-    assert_eq!(rt; text.as_slice(), line.as_bytes());
+    assert_eq!(rt; text.as_slice(), line.as_slice());
     let mut lines = b"0.1 no 10\n".to_vec(alloc)?;
     put_reply(&mut lines, 0, index, reply)?;
     assert_eq!(rt; lines.len(), 10 + line.len());
-    assert!(rt; lines.as_slice().ends_with(line.as_bytes()));
+    assert!(rt; lines.as_slice().ends_with(line.as_slice()));
     Ok(())
 }
 
@@ -84,84 +93,115 @@ fn writes_receipts_and_heads(rt: HostRuntime) -> Result<(), Fail> {
         rt.alloc(),
         1,
         &head,
-        "0.1 head 64915354a6547b1f887e596e872fd13b2abdc860729da9fe31180a81726cf4a2 1 64915354a6547b1f887e596e872fd13b2abdc860729da9fe31180a81726cf4a2 1 0 0 e3b0c44298fc1c149afbf4c8996fb92427ae41e4649b934ca495991b7852b855\n",
+        &[
+            "0.1 head 64915354a6547b1f887e596e872fd13b2abdc860729da9fe31180a81726cf4a2 1 64915354a6547b1f887e596e872fd13b2abdc860729da9fe31180a81726cf4a2 1 0 0 e3b0c44298fc1c149afbf4c8996fb92427ae41e4649b934ca495991b7852b855\n",
+        ],
     )?;
     check(
         &rt,
         rt.alloc(),
         1,
         &placed,
-        "0.1 ok 1 e17cd0a38398533f50004ec57f5dd3837680b6b072223c6ffc9e2bfa0d0e723c 1 2 89713d47487c9be9875bd8f6a471f021f10440bea34709c459dce3a170313951\n",
+        &[
+            "0.1 ok 1 e17cd0a38398533f50004ec57f5dd3837680b6b072223c6ffc9e2bfa0d0e723c 1 2 89713d47487c9be9875bd8f6a471f021f10440bea34709c459dce3a170313951\n",
+        ],
     )?;
     check(
         &rt,
         rt.alloc(),
         2,
         &stamped,
-        "0.2 ok 2 5e709f58ad3426700677d797d0267ed38e8c242bbe75ce422c050fc1a0185f6a 2 3 c7faadd5cd3f0039410d655fff2dce12e16ec35f850c863542f14ff18c33c7fb 1 2000\n",
+        &[
+            "0.2 ok 2 5e709f58ad3426700677d797d0267ed38e8c242bbe75ce422c050fc1a0185f6a 2 3 c7faadd5cd3f0039410d655fff2dce12e16ec35f850c863542f14ff18c33c7fb 1 2000\n",
+        ],
     )
 }
 
 #[test]
-fn writes_journals_and_proofs(rt: HostRuntime) -> Result<(), Fail> {
-    let whole = Reply::Whole {
+fn writes_whole_journals(rt: HostRuntime) -> Result<(), Fail> {
+    let reply = Reply::Whole {
         header: <[u8; 174]>::from_hex(WHOLE)?,
-        content: bytes_of(&rt, "78797a")?,
-        who: bytes_of(
-            &rt,
-            "0000000200400303030303030303030303030303030303030303030303030303030303030303670bc87de87a4d2dc823d029fec29573459c8a94361e427a8df50ceffa0c5f65",
-        )?,
+        content: bytes_of(rt.alloc(), "78797a")?,
+        who: bytes_of(rt.alloc(), WHO_OF_WHOLE)?,
     };
-    let occulted = Reply::Occulted {
+    check(
+        &rt,
+        rt.alloc(),
+        10,
+        &reply,
+        &["0.10 whole ", WHOLE, " 78797a ", WHO_OF_WHOLE, "\n"],
+    )
+}
+
+#[test]
+fn writes_occulted_journals(rt: HostRuntime) -> Result<(), Fail> {
+    let reply = Reply::Occulted {
         header: <[u8; 174]>::from_hex(OCCULTED)?,
-        who: bytes_of(&rt, WHO)?,
+        who: bytes_of(rt.alloc(), WHO)?,
     };
-    let proof = Reply::Proof {
+    check(
+        &rt,
+        rt.alloc(),
+        4,
+        &reply,
+        &["0.4 occulted ", OCCULTED, " ", WHO, "\n"],
+    )
+}
+
+#[test]
+fn writes_proofs(rt: HostRuntime) -> Result<(), Fail> {
+    let reply = Reply::Proof {
         n: 0,
         leaf: digest(ID)?,
         lo: None,
         hi: Some((2, 0, 1000)),
-        proof: bytes_of(&rt, PROOF)?,
+        proof: bytes_of(rt.alloc(), PROOF)?,
     };
-    let extension = Reply::Extension {
+    check(
+        &rt,
+        rt.alloc(),
+        3,
+        &reply,
+        &["0.3 proof 0 ", ID, " - 2:0:1000 ", PROOF, "\n"],
+    )
+}
+
+#[test]
+fn writes_extensions(rt: HostRuntime) -> Result<(), Fail> {
+    let reply = Reply::Extension {
         which: Which::Ledger,
         m: 3,
         size: 6,
-        root: digest("af7eba02c88f58f4f622d4ff7d85dca0bc0485cd3f1f429831c6e29fd5a2c55e")?,
-        proof: bytes_of(&rt, EXTENSION)?,
+        root: digest(ROOT_OF_SIX)?,
+        proof: bytes_of(rt.alloc(), EXTENSION)?,
     };
-    for (index, reply, before, last) in [
-        (
-            10,
-            &whole,
-            format!(in rt.alloc(); "whole {WHOLE} 78797a")?,
-            "0000000200400303030303030303030303030303030303030303030303030303030303030303670bc87de87a4d2dc823d029fec29573459c8a94361e427a8df50ceffa0c5f65",
-        ),
-        (
-            4,
-            &occulted,
-            format!(in rt.alloc(); "occulted {OCCULTED}")?,
-            WHO,
-        ),
-        (
-            3,
-            &proof,
-            format!(in rt.alloc(); "proof 0 {ID} - 2:0:1000")?,
-            PROOF,
-        ),
-        (
-            11,
-            &extension,
-            format!(in rt.alloc();
-                "extension ledger 3 6 af7eba02c88f58f4f622d4ff7d85dca0bc0485cd3f1f429831c6e29fd5a2c55e"
-            )?,
+    check(
+        &rt,
+        rt.alloc(),
+        11,
+        &reply,
+        &[
+            "0.11 extension ledger 3 6 ",
+            ROOT_OF_SIX,
+            " ",
             EXTENSION,
-        ),
-    ] {
-        let line = format!(in rt.alloc(); "0.{index} {before} {last}\n")?;
-        check(&rt, rt.alloc(), index, reply, line.as_str())?;
-    }
-    Ok(())
+            "\n",
+        ],
+    )?;
+    let none = Reply::Extension {
+        which: Which::Ledger,
+        m: 6,
+        size: 6,
+        root: digest(ROOT_OF_SIX)?,
+        proof: Bytes::of(Vec::new(rt.alloc())),
+    };
+    check(
+        &rt,
+        rt.alloc(),
+        12,
+        &none,
+        &["0.12 extension ledger 6 6 ", ROOT_OF_SIX, " -\n"],
+    )
 }
 
 #[test]
@@ -172,7 +212,7 @@ fn writes_lists_and_refusals(rt: HostRuntime) -> Result<(), Fail> {
         rt.alloc(),
         211,
         &Reply::Clue { count: 5, kept },
-        "0.211 clue 5 133,174\n",
+        &["0.211 clue 5 133,174\n"],
     )?;
     let kept = Items::of([2].to_vec(rt.alloc())?);
     check(
@@ -180,7 +220,7 @@ fn writes_lists_and_refusals(rt: HostRuntime) -> Result<(), Fail> {
         rt.alloc(),
         5,
         &Reply::Clue { count: 1, kept },
-        "0.5 clue 1 2\n",
+        &["0.5 clue 1 2\n"],
     )?;
     let kept = Items::of(Vec::new(rt.alloc()));
     check(
@@ -188,7 +228,7 @@ fn writes_lists_and_refusals(rt: HostRuntime) -> Result<(), Fail> {
         rt.alloc(),
         6,
         &Reply::Clue { count: 0, kept },
-        "0.6 clue 0 -\n",
+        &["0.6 clue 0 -\n"],
     )?;
     for (refusal, line) in [
         (Refusal::BadVerb, "0.4 no 10\n"),
@@ -199,7 +239,7 @@ fn writes_lists_and_refusals(rt: HostRuntime) -> Result<(), Fail> {
         ),
         (Refusal::WrongKey { member: 2 }, "0.4 no 15 2\n"),
     ] {
-        check(&rt, rt.alloc(), 4, &Reply::Refused(refusal), line)?;
+        check(&rt, rt.alloc(), 4, &Reply::Refused(refusal), &[line])?;
     }
     let last = reply_text(rt.alloc(), 7, u64::MAX, &Reply::Refused(Refusal::BadLane))?;
     assert_eq!(rt;

@@ -1,4 +1,5 @@
 use super::*;
+use ledger_bytes::Bytes;
 use std::test::Fail;
 
 const KEY: &str = "0a0B0c0D0e0F0303030303030303030303030303030303030303030303030303";
@@ -197,21 +198,28 @@ fn keeps_to_limits(rt: HostRuntime) -> Result<(), Fail> {
     Ok(())
 }
 
+/// A member with the bytes of an append: clue, content and proof.
+fn append_of(what: Result<Line, Refusal>) -> Option<(u32, Bytes, Bytes, Bytes)> {
+    match what {
+        Ok(line) => match line {
+            Line::Append {
+                member,
+                clue,
+                content,
+                proof,
+            } => Some((member, clue, content, proof)),
+            _ => None,
+        },
+        Err(_) => None,
+    }
+}
+
 #[test]
 fn keeps_what_a_line_says(rt: HostRuntime) -> Result<(), Fail> {
-    let line = read_line(rt.alloc(), b"0 append 2 inv 616263 031C")?;
-    let Ok(
-        Line::Append {
-            member: 2,
-            clue,
-            content,
-            proof,
-        },
-    ) = line.what
-    else {
-        return Err("not that append".into());
-    };
-    assert_eq!(rt; line.lane, 0);
+    let Spoken { lane, what } = read_line(rt.alloc(), b"0 append 2 inv 616263 031C")?;
+    assert_eq!(rt; lane, 0);
+    let (member, clue, content, proof) = append_of(what).ok_or("not an append")?;
+    assert_eq!(rt; member, 2);
     assert_eq!(rt; clue.as_slice(), b"inv".as_slice());
     assert_eq!(rt; content.as_slice(), b"abc".as_slice());
     assert_eq!(rt; proof.as_slice(), [0x03, 0x1c].as_slice());
