@@ -1,17 +1,18 @@
 -- Lemmas on a session: where it begins, how it goes on, and how it ends.
 use Rattle.std.proofs.Common.{◌≡◌, ℕ, ◌+◌, ◌^◌, ◌<◌, ◌≤◌, ◌⊎◌, inl, inr, Bool, true, false, List, [], ◌∷◌, ◌++◌, length, take, drop, None, Ok, Err, refl, ap, sym, subst, ◌∙◌, arith, append_assoc, append-nil, length-append}
 use Rattle.std.specs.Prelude.{All, ◌↔◌}
-use Rattle.std.specs.Io.KnownBytes.{Consumes, Appends, IsAtEnd}
-use Rattle.std.proofs.KnownBytes.{Consumes-trans, Appends-nil, Appends-trans}
+use Rattle.std.specs.Io.KnownBytes.{Consumes, Appends}
+use Rattle.std.proofs.KnownBytes.{Appends-nil, Appends-trans}
 use Rattle.std.proofs.lemmas.List.{take-append-drop, length-take-le}
 use Rattle.ledger_bytes.specs.Begins.{Begins}
 use Rattle.ledger_bytes.specs.Causes.{Rose}
 use Rattle.ledger_io.specs.Outside.{SourceState, SinkState}
-use Rattle.ledger_io.specs.Lines.{lines_of, broken, IsLine, BeginsTooLong}
+use Rattle.ledger_io.specs.Lines.{lines_of, IsLine, BeginsTooLong}
 use Rattle.ledger_io.specs.Reading.{Reading, Reads, GivesLine, GivesNone, Fails, Gives}
 use Rattle.ledger_io.specs.declared.failure.LineErr.{LineErr}
 use Rattle.ledger_io.specs.declared.failure.LineErr.TheVariants.{ReadFault, LineTooLong, ScriptTooLong, NoMemory}
 use Rattle.ledger_io.proofs.ReadingLaws.{HasGiven, read_none, read_more, first_lines, some_length, given_all, given_first, given_split, given_consumed, given_later}
+use Rattle.ledger_model.specs.Books.{Kept}
 use Rattle.ledger_model.specs.History.{History, close}
 use Rattle.ledger_model.specs.InOrder.{steps_of}
 use Rattle.ledger_model.specs.Merge.{IsMerge, IsPartialMerge}
@@ -24,9 +25,10 @@ use Rattle.ledger_cli.specs.declared.ending.Ending.{Ending}
 use Rattle.ledger_cli.specs.declared.ending.Ending.TheVariants as ending
 use Rattle.ledger_cli.specs.declared.session.Halt.{Halt}
 use Rattle.ledger_cli.specs.declared.session.Halt.TheVariants as halt
+use Rattle.ledger_cli.specs.Carries.{Carries}
 use Rattle.ledger_cli.specs.Endings.{ending_of, halt_of}
 use Rattle.ledger_cli.specs.Runs.{Outside, outside, Served, AnswersEnded, Replies, Causes}
-use Rattle.ledger_cli.specs.Settling.{settled_text, WritesDues, EndsScript, Takes}
+use Rattle.ledger_cli.specs.Settling.{settled_text, WritesDues, EndsScript, after_line, Takes, Taken}
 use Rattle.ledger_cli.proofs.SessionLaws.{Progress, progress_none, progress_waits, progress_written, owed_line, owed_end, front, answered_is, answered_part}
 
 -- how far a session came: this many lines were taken, and what was written of their replies
@@ -39,6 +41,12 @@ pub record SoFar (h : History) (before now : Outside) (reading : Reading) (count
   pub sink_later : before.sink.faults ≤ now.sink.faults
   pub idle_later : before.sink.idles ≤ now.sink.idles
   pub count_is : count ≡ length script
+
+-- .. and the book carries the history that it came to
+pub record Reached (h : History) (before now : Outside) (reading : Reading) (count lines bytes : ℕ) (book : Kept) (ds : List Due) : Type 0 where
+  pub ledger : History
+  pub carries : Carries book ledger
+  pub sofar : SoFar h before now reading count lines bytes ledger ds
 
 -- the steps of lines in the order of a script
 abbrev steps_for : List (List ℕ) → List (List Step)
@@ -64,7 +72,7 @@ sofar_begins h none before reading lines bytes ds is lines_are bytes_are none_du
     (subst (SoFar h before before reading 0 0 0 h) (sym none_due) (sofar_none h none before reading is)))
 
 -- replies wait where a journal does
-pub some_wait : (h : History) (settled : Bool) → (settled ≡ true) ↔ (h.waiting ≡ []) → settled ≡ false → 0 < length h.waiting
+some_wait : (h : History) (settled : Bool) → (settled ≡ true) ↔ (h.waiting ≡ []) → settled ≡ false → 0 < length h.waiting
 some_wait h settled told not = some_length h.waiting (λ none. let no : ⊥ = cc (told.1 none, not) in no)
 
 -- a cause stays while counts rise
@@ -287,3 +295,30 @@ module _ (h : History) (before now : Outside) (source : SourceState) (old new : 
         served_halt halt.NoMemory w = subst (λ k. Served h ending.NoMemory before (outside source k)) (sym w.wrote) served_memory
         served_halt halt.WriteFault w =
             served_short h before source now.sink sink (s.script ++ line ∷ []) more.read s.written settled w.wrote.0.0 owed_now all more.consumed s.appended w.wrote.0.1 w.wrote.0.2 w.wrote.1 more.later s.sink_later s.idle_later w.later w.idle_later
+
+    -- .. by the book
+    module _ (book : Kept) (new_lines new_bytes : ℕ) (new_dues : List Due) (t : Taken ledger book ds new_dues lines window_bytes new_lines new_bytes (numbered (count + 1) line)) (settled : Bool)
+        (told : (k : History) → Carries book k → (settled ≡ true) ↔ (k.waiting ≡ [])) where
+      abbrev next : History
+      next = after_line ledger lines window_bytes (numbered (count + 1) line)
+
+      pub reached_waits : settled ≡ false → Reached h before (outside source now.sink) new (count + 1) new_lines new_bytes book new_dues
+      reached_waits not = record {
+        ledger = next;
+        carries = t.carries;
+        sofar = sofar_waits new_lines new_bytes next new_dues t.takes (some_wait next settled (told next t.carries) not);
+      }
+
+      module _ (is : settled ≡ true) (left : List Due) (sink : SinkState) where
+        none : next.waiting ≡ []
+        none = (told next t.carries).0 is
+
+        pub reached_written : ((k : History) → Carries book k → k.waiting ≡ [] → WritesDues k new_dues left now.sink sink (Ok tt)) → Reached h before (outside source sink) new (count + 1) new_lines new_bytes book left
+        reached_written wrote = record {
+          ledger = next;
+          carries = t.carries;
+          sofar = sofar_written new_lines new_bytes next new_dues t.takes none left sink (wrote next t.carries none);
+        }
+
+        pub reached_halt : (why : Halt) → ((k : History) → Carries book k → k.waiting ≡ [] → WritesDues k new_dues left now.sink sink (Err why)) → Served h (halt_of why) before (outside source sink)
+        reached_halt why wrote = served_halt new_lines new_bytes next new_dues t.takes none left sink why (wrote next t.carries none)

@@ -1,5 +1,4 @@
-pub mod FoundingLaws
-pub mod KeptLaws
+pub mod CarryLaws
 pub mod JobLaws
 pub mod ApplyLaws
 pub mod SettlingLaws

@@ -1,16 +1,19 @@
 -- Lemmas on the taking of lines, and on the writing of what is due.
-use Rattle.std.proofs.Common.{◌≡◌, ℕ, ◌≤◌, ◌⊎◌, inl, inr, List, ◌∷◌, [], ◌++◌, Err, refl, ap, subst, ◌∙◌}
+use Rattle.std.proofs.Common.{◌≡◌, ℕ, ◌-◌, ◌≤◌, length, sym, ◌⊎◌, inl, inr, List, ◌∷◌, [], ◌++◌, Ok, Err, refl, ap, subst, ◌∙◌}
 use Rattle.ledger_bytes.specs.Causes.{Rose}
 use Rattle.ledger_io.specs.Outside.{SinkState}
 use Rattle.ledger_io.specs.Writing.{WritesFirst}
 use Rattle.ledger_io.specs.declared.writer.WriteErr.{WriteErr}
 use Rattle.ledger_io.specs.declared.writer.WriteErr.TheVariants.{WriteFault}
-use Rattle.ledger_model.specs.Dues.{due_for}
-use Rattle.ledger_model.specs.History.{History, id}
+use Rattle.merkle_tree.specs.declared.head.Head.{Head}
+use Rattle.ledger_book.specs.Seals.{head_of}
+use Rattle.ledger_model.specs.Books.{Kept, sealed}
+use Rattle.ledger_model.specs.Dues.{dues_text}
+use Rattle.ledger_model.specs.History.{History, id, size, root, blocks}
 use Rattle.ledger_model.specs.InOrder.{step_of}
 use Rattle.ledger_model.specs.Rules.{job_of, after_job, after_step}
 use Rattle.ledger_model.specs.Texts.{answer_to}
-use Rattle.ledger_model.specs.Windows.{Said, numbered}
+use Rattle.ledger_model.specs.Windows.{numbered}
 use Rattle.ledger_model.specs.declared.answer.Answer.{Answer}
 use Rattle.ledger_model.specs.declared.due.Due.{Due}
 use Rattle.ledger_model.specs.declared.job.Job.{Job}
@@ -18,21 +21,29 @@ use Rattle.ledger_cli.specs.declared.ending.Ending.{Ending}
 use Rattle.ledger_cli.specs.declared.session.Halt.{Halt}
 use Rattle.ledger_cli.specs.declared.session.Halt.TheVariants as halt
 use Rattle.ledger_cli.specs.Endings.{halt_of}
-use Rattle.ledger_cli.specs.Settling.{settled_text, WritesDues, EndsScript}
+use Rattle.ledger_model.proofs.GrowLaws.{size_closed}
+use Rattle.ledger_cli.specs.Carries.{Carries, Does}
+use Rattle.ledger_cli.specs.Settling.{settled_text, WritesDues, EndsScript, TakesLine}
 
--- a line's job does what its step does
-pub step_done : (h new : History) (key : List ℕ) (index : ℕ) (line : List ℕ) (job : Job) → key ≡ id h → job ≡ job_of key line
-    → ((x : Said) → new ≡ after_job h (step_of x) job) → new ≡ after_step h (step_of (numbered index line))
+-- a line's job does what its step does, and what is due for it is the job's answer
+pub line_taken : (h : History) (book : Kept) (old new : List Due) (key : List ℕ) (index : ℕ) (line : List ℕ) (job : Job) (answer : Answer) → key ≡ id h → job ≡ job_of key line
+    → Does h (step_of (numbered index line)) job answer book → new ≡ old ++ record { lane = 0; index = index; answer = answer } ∷ []
+    → TakesLine h book old new (numbered index line)
 unfolding after_step
-step_done h new key index line job key_is job_is placed = placed (numbered index line) ∙ ap (after_job h (step_of (numbered index line))) (job_is ∙ ap (λ k. job_of k line) key_is)
+line_taken h book old new key index line job answer key_is job_is d pushed =
+    let step = step_of (numbered index line) in
+    let is : job ≡ job_of (id h) line = job_is ∙ ap (λ k. job_of k line) key_is in record {
+      dues = pushed ∙ ap (λ (a : Answer). let due : Due = record { lane = 0; index = index; answer = a } in old ++ due ∷ []) (d.answer_is ∙ ap (answer_to h step) is);
+      carries = subst (λ j. Carries book (after_job h step j)) is d.carries;
+    }
 
--- .. and what is due for it is the job's answer
-pub step_due : (h : History) (old new : List Due) (key : List ℕ) (index : ℕ) (line : List ℕ) (job : Job) (answer : Answer) → key ≡ id h → job ≡ job_of key line
-    → ((x : Said) → answer ≡ answer_to h (step_of x) job) → new ≡ old ++ record { lane = 0; index = index; answer = answer } ∷ []
-    → new ≡ old ++ due_for h (step_of (numbered index line)) ∷ []
-step_due h old new key index line job answer key_is job_is answered pushed =
-    let is : answer ≡ answer_to h (step_of (numbered index line)) (job_of (id h) line) = answered (numbered index line) ∙ ap (answer_to h (step_of (numbered index line))) (job_is ∙ ap (λ k. job_of k line) key_is) in
-    pushed ∙ ap (λ (a : Answer). let due : Due = record { lane = 0; index = index; answer = a } in old ++ due ∷ []) is
+-- the piece that is written where the last block has ended
+pub settled_piece : (h : History) (piece set : List ℕ) (block count : ℕ) (head : Head) (given ds : List Due) → h.waiting ≡ [] → piece ≡ set → set ≡ dues_text block head.size head.root.0 given → given ≡ ds
+    → block ≡ count - 1 → count ≡ blocks h → head ≡ head_of h → piece ≡ settled_text h ds
+settled_piece h piece set block count head given ds none p s g b n is =
+    let all : sealed h ≡ size h = sym (size_closed h none) in
+    p ∙ s ∙ ap (dues_text block head.size head.root.0) g ∙ ap (λ n. dues_text n head.size head.root.0 ds) (b ∙ ap (λ n. n - 1) n)
+    ∙ ap (λ (k : Head). dues_text (length h.closed - 1) k.size k.root.0 ds) is ∙ ap (λ n. dues_text (length h.closed - 1) n (root h n) ds) all
 
 -- a fault of writing what is due
 pub write_halts : (h : History) (old new : List Due) (before after : SinkState) (piece : List ℕ) (error : WriteErr) → piece ≡ settled_text h old
@@ -42,7 +53,11 @@ write_halts h old new before after piece (WriteFault taken) is first cause fault
     let part = subst (λ text. WritesFirst before.held after.held text (WriteFault taken)) is first in
     record { wrote = ((taken, part.0, part.1), cause); later = faults; idle_later = idles }
 
--- a halt while the last of what is due is written
+-- the last of what is due is written
+pub ends_whole : (h : History) (old new : List Due) (before after : SinkState) (asked : Ending) → WritesDues h old new before after (Ok tt) → EndsScript h old before after asked asked
+ends_whole h old new before after asked w = record { ended = inl (refl, w.wrote.0); later = w.later; idle_later = w.idle_later }
+
+-- .. or a halt comes in between
 pub ends_halted : (h : History) (old new : List Due) (before after : SinkState) (asked : Ending) (why : Halt) → WritesDues h old new before after (Err why) → EndsScript h old before after asked (halt_of why)
 ends_halted h old new before after asked halt.NoMemory w = record { ended = inr (inl (refl, w.wrote)); later = w.later; idle_later = w.idle_later }
 ends_halted h old new before after asked halt.WriteFault w = record { ended = inr (inr (refl, w.wrote)); later = w.later; idle_later = w.idle_later }

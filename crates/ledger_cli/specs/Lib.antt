@@ -2,8 +2,8 @@ pub mod Keys
 pub mod Signing
 pub mod Words
 pub mod Endings
-pub mod Kept
+pub mod Carries
+pub mod Placing
 pub mod Heads
-pub mod Jobs
 pub mod Runs
 pub mod Settling

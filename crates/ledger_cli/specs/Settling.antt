@@ -3,12 +3,14 @@ use Rattle.std.specs.Prelude.{◌≡◌, ℕ, ◌+◌, ◌-◌, ◌<◌, ◌≤�
 use Rattle.std.specs.Io.KnownBytes.{Appends}
 use Rattle.ledger_bytes.specs.Causes.{Rose}
 use Rattle.ledger_io.specs.Outside.{SinkState}
+use Rattle.ledger_model.specs.Books.{Kept}
 use Rattle.ledger_model.specs.Dues.{due_for, dues_text}
 use Rattle.ledger_model.specs.History.{History, size, root, close}
 use Rattle.ledger_model.specs.InOrder.{step_of}
 use Rattle.ledger_model.specs.Rules.{after_step}
 use Rattle.ledger_model.specs.Windows.{Said, is_full}
 use Rattle.ledger_model.specs.declared.due.Due.{Due}
+use Rattle.ledger_cli.specs.Carries.{Carries}
 use Rattle.ledger_cli.specs.declared.ending.Ending.{Ending}
 use Rattle.ledger_cli.specs.declared.ending.Ending.TheVariants as ending
 use Rattle.ledger_cli.specs.declared.session.Halt.{Halt}
@@ -44,9 +46,19 @@ abbrev pub after_line : History → ℕ → ℕ → Said → History
 after_line h lines bytes x =
     if is_full (lines + 1) (bytes + length x.line) then close (after_step h (step_of x)) else after_step h (step_of x)
 
+-- a line is taken: what is due for it comes behind, and the book carries the history after it
+pub record TakesLine (h : History) (book : Kept) (old_dues new_dues : List Due) (x : Said) : Type 0 where
+  pub dues : new_dues ≡ old_dues ++ due_for h (step_of x) ∷ []
+  pub carries : Carries book (after_step h (step_of x))
+
 -- a line is taken, where the window at hand has so many lines and bytes
 pub record Takes (old new : History) (old_dues new_dues : List Due) (old_lines old_bytes new_lines new_bytes : ℕ) (x : Said) : Type 0 where
   pub ledger : new ≡ after_line old old_lines old_bytes x
   pub dues : new_dues ≡ old_dues ++ due_for old (step_of x) ∷ []
   pub lines : new_lines ≡ (if is_full (old_lines + 1) (old_bytes + length x.line) then 0 else old_lines + 1)
   pub bytes : new_bytes ≡ (if is_full (old_lines + 1) (old_bytes + length x.line) then 0 else old_bytes + length x.line)
+
+-- .. and the book carries the history after it
+pub record Taken (h : History) (book : Kept) (old_dues new_dues : List Due) (old_lines old_bytes new_lines new_bytes : ℕ) (x : Said) : Type 0 where
+  pub takes : Takes h (after_line h old_lines old_bytes x) old_dues new_dues old_lines old_bytes new_lines new_bytes x
+  pub carries : Carries book (after_line h old_lines old_bytes x)

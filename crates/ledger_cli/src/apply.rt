@@ -1,96 +1,114 @@
-ghost use Rattle.std.specs.Prelude.{◌≡◌, ◌≤◌, [], ◌∷◌, length, IfOk, OnOk};
-ghost use Rattle.journal_record.specs.Approval.{who_of};
-ghost use Rattle.ledger_model.specs.Appends.{append_journal};
-ghost use Rattle.ledger_model.specs.Genesis.{digest, no_clue};
-ghost use Rattle.ledger_model.specs.History.{size, place, leaf_digest};
+ghost use Rattle.std.specs.Prelude.{◌≡◌, [], length, true, Some, IfOk};
+ghost use Rattle.journal_record.specs.Entry.{Entry};
+ghost use Rattle.ledger_model.specs.Clues.{jsns_with};
+ghost use Rattle.ledger_model.specs.Fitting.{fits_job};
+ghost use Rattle.ledger_model.specs.Genesis.{digest};
+ghost use Rattle.ledger_model.specs.History.{History, close, place, leaf_digest};
 ghost use Rattle.ledger_model.specs.InOrder.{step_of};
-ghost use Rattle.ledger_model.specs.Rules.{after_job};
-ghost use Rattle.ledger_model.specs.Texts.{answer_to};
+ghost use Rattle.ledger_model.specs.Outcomes.{with_waiting};
+ghost use Rattle.ledger_model.specs.Texts.{kept_with};
 ghost use Rattle.ledger_model.specs.Windows.{Said};
-ghost use Rattle.ledger_cli.specs.Jobs.{IsFitting};
+ghost use Rattle.ledger_cli.specs.Carries.{Carries, CarriesSome, HasPlaced, Does};
+ghost use Rattle.ledger_cli.specs.Heads.{head_of};
+ghost use Rattle.ledger_cli.specs.Placing.{may_place};
 
-use crate::founding::NO_CLUE;
-use crate::journal::Journal;
-use crate::ledger::Ledger;
-use journal_record::{Approval, Header, Kind, who_bytes, who_digest};
-use ledger_bytes::{Bytes, Digest, NoMemory, Sha};
+use ledger_book::{Book, Outcome};
+use ledger_bytes::{Digest, Items, NoMemory, Sha, TreeHash};
 use ledger_model::{Answer, Job};
-use merkle_tree::leaf_of;
 use script_lines::Reply;
-use std::alloc::Global;
 
-/// Judges a job against the ledger, places what it places, and answers what is due for it.
-pub(crate) fn apply(alloc: Global, ledger: &mut Ledger, job: Job) -> Result<Answer, NoMemory>
-    requires { IsFitting job }
-    ensures answer { IfOk result (λ answer. (x : Said) → answer ≡ answer_to ledger.old (step_of x) job) }
-    ensures ledger { OnOk result ((x : Said) → ledger.new ≡ after_job ledger.old (step_of x) job) }
+/// How many journals a block holds at most.
+const BLOCK_LIMIT: u64 = 64;
+
+/// Judges a job against the book, places what it places, and answers what is due for it.
+pub(crate) fn apply(book: &mut Book, job: &Job) -> Result<Answer, NoMemory>
+    requires fits { fits_job job.now ≡ true }
+    requires some { CarriesSome book.old }
+    ensures { IfOk result (λ answer. (h : History) (x : Said) → Carries book.old h → Does h (step_of x) job.now answer book.new) }
 {
     match job {
-        Job::Refused(refusal) => Ok(Answer::Reply(Reply::Refused(refusal))),
-        Job::Append {
-            member,
-            clue: _,
-            content,
-            content_digest,
-            request,
-            by,
-        } => match ledger.refusal(member, &by.key) {
-            Some(refusal) => Ok(Answer::Reply(Reply::Refused(refusal))),
-            None => append(alloc, ledger, member, content, content_digest, request, by),
-        },
-        Job::NewMember { .. } | Job::Clue { .. } => unreachable!(),
+        Job::Refused(refusal) => Ok(Answer::Reply(Reply::Refused(*refusal))),
+        Job::Append { .. } | Job::NewMember { .. } => judge_and_place(book, job),
+        Job::Clue { clue } => {
+            end_block(book);
+            clue_answer(book, clue)
+        }
         Job::Head => {
-            ledger.close()?;
-            Ok(Answer::Reply(ledger.head()))
+            end_block(book);
+            Ok(head_answer(book))
         }
     }
 }
 
-// Places a record that nothing refuses.
-fn append(
-    alloc: Global,
-    ledger: &mut Ledger,
-    member: u32,
-    content: Bytes,
-    content_digest: Digest,
-    request: Digest,
-    by: Approval,
-) -> Result<Answer, NoMemory>
-    requires content { length content ≤ 65536 }
-    requires proof { length by.proof ≤ 4096 }
-    ensures answer { IfOk result (λ answer. answer
-        ≡ Answer.Receipt (size ledger.old) (digest (leaf_digest (append_journal ledger.old member no_clue content content_digest request by)))) }
-    ensures ledger { OnOk result (ledger.new ≡ place (append_journal ledger.old member no_clue content content_digest request by) ledger.old) }
+/// Ends the open block, where a journal waits in it.
+pub(crate) fn end_block(book: &mut Book)
+    ensures { (h : History) → Carries book.old h → Carries book.new (close h) }
 {
-    let jsn = ledger.size();
-    let who = who_of_one(alloc, by)?;
-    let header = Header {
-        version: 1,
-        kind: Kind::Content,
-        jsn,
-        member,
-        clue: NO_CLUE,
-        clue_ord: 0,
-        clue_prev: 0,
-        a: 0,
-        b: 0,
-        link: request,
-        content_len: content.as_slice().len() as u32,
-        content_digest,
-        who_digest: who_digest(who.as_slice()),
-    };
-    let leaf = leaf_of::<Sha>(&header.encode());
-    ledger.place(Journal {
-        header,
-        content,
-        who,
-    })?;
-    Ok(Answer::Receipt { jsn, leaf })
+    book.seal();
 }
 
-fn who_of_one(alloc: Global, by: Approval) -> Result<Bytes, NoMemory>
-    requires { length by.proof ≤ 4096 }
-    ensures { IfOk result (λ who. who ≡ who_of (by ∷ [])) }
+// Judges a job that places a journal where it is accepted.
+fn judge_and_place(book: &mut Book, job: &Job) -> Result<Answer, NoMemory>
+    requires fits { fits_job job.now ≡ true }
+    requires places { may_place job.now ≡ true }
+    requires some { CarriesSome book.old }
+    ensures { IfOk result (λ answer. (h : History) (x : Said) → Carries book.old h → Does h (step_of x) job.now answer book.new) }
 {
-    who_bytes(alloc, &[by])
+    match book.apply(job)? {
+        Outcome::Refused(refusal) => Ok(Answer::Reply(Reply::Refused(refusal))),
+        Outcome::Placed { jsn } => {
+            let leaf = last_leaf(book);
+            end_full_block(book);
+            Ok(Answer::Receipt { jsn, leaf })
+        }
+        Outcome::Reading => unreachable!(),
+    }
+}
+
+// The digest of the leaf that was placed last.
+fn last_leaf(book: &Book) -> Digest
+    requires { HasPlaced book.now }
+    ensures { (h : History) (journal : Entry) → Carries book.now (with_waiting (Some journal) h) → result ≡ digest (leaf_digest journal) }
+{
+    match book.leaves().last() {
+        Some(leaf) => *leaf,
+        None => unreachable!(),
+    }
+}
+
+// Ends the open block, where the journal that was placed last fills it.
+fn end_full_block(book: &mut Book)
+    ensures { (h : History) (journal : Entry) → Carries book.old (with_waiting (Some journal) h) → Carries book.new (place journal h) }
+{
+    if book.unsealed() >= BLOCK_LIMIT {
+        end_block(book);
+    }
+}
+
+// A clue's journals.
+fn clue_answer(book: &Book, clue: &Digest) -> Result<Answer, NoMemory>
+    ensures { IfOk result (λ answer. (h : History) → Carries book.now h
+        → answer ≡ Answer.Reply (Reply.Clue (length (jsns_with h clue.now)) (kept_with h clue.now))) }
+{
+    let (count, kept) = book.clue(clue)?;
+    Ok(Answer::Reply(Reply::Clue {
+        count,
+        kept: Items::of(kept),
+    }))
+}
+
+// Where the ledger stands, once its last block has ended.
+fn head_answer(book: &Book) -> Answer
+    ensures { (h : History) → Carries book.now h → h.waiting ≡ [] → result ≡ Answer.Reply (head_of h) }
+{
+    let head = book.head();
+    Answer::Reply(Reply::Head {
+        id: book.id(),
+        size: head.size,
+        root: head.root,
+        blocks: book.blocks(),
+        point: book.point(),
+        notary_size: 0,
+        notary_root: Sha::empty(),
+    })
 }

@@ -1,22 +1,23 @@
-ghost use Rattle.std.specs.Prelude.{◌≡◌, ◌-◌, ◌++◌, ◌∷◌, [], length, OnOk, OnErr};
+ghost use Rattle.std.specs.Prelude.{◌≡◌, ◌++◌, OnOk};
 ghost use Rattle.ledger_model.specs.Dues.{due_text, dues_text};
-ghost use Rattle.ledger_model.specs.History.{size, root};
 
-use crate::ledger::Ledger;
 use ledger_bytes::{Digest, NoMemory};
 use ledger_model::{Answer, Due};
+use merkle_tree::Head;
 use script_lines::{Reply, put_reply};
 
-/// The lines that are due, where the last block of the ledger has ended, in a buffer that is used again.
-pub(crate) fn set_dues(text: &mut Vec<u8>, ledger: &Ledger, dues: &[Due]) -> Result<(), NoMemory>
-    ensures { OnOk result (text.new.items ≡ dues_text (length ledger.now.closed - 1) (size ledger.now) (root ledger.now (size ledger.now)) dues.now) }
+/// The lines that are due, where the last block has this number and ends at this head, in a buffer that is used again.
+pub(crate) fn set_dues(
+    text: &mut Vec<u8>,
+    block: u64,
+    head: &Head,
+    dues: &[Due],
+) -> Result<(), NoMemory>
+    ensures { OnOk result (text.new.items ≡ dues_text block head.now.size head.now.root.0 dues.now) }
 {
     text.clear();
-    let block = ledger.blocks().saturating_sub(1);
-    let size = ledger.size();
-    let root = ledger.root();
     for due in dues {
-        put_due(text, due, block, size, &root)?;
+        put_due(text, due, block, head.size, &head.root)?;
     }
     Ok(())
 }

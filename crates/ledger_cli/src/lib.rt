@@ -5,9 +5,6 @@
 mod apply;
 mod dues;
 mod ending;
-mod founding;
-mod journal;
-mod ledger;
 mod prepare;
 mod session;
 mod signing;

@@ -1,20 +1,21 @@
-ghost use Rattle.std.specs.Prelude.{◌≡◌, ◌≢◌, ◌+◌, ◌<◌, ◌≤◌, ◌++◌, ◌∷◌, [], length, if◌then◌else◌, Ok, OnOk};
+ghost use Rattle.std.specs.Prelude.{◌≡◌, ◌≢◌, ◌↔◌, ◌++◌, ◌≤◌, ◌∷◌, [], length, IsTrue, OnOk};
 ghost use Rattle.ledger_io.specs.Lines.{line_limit};
 ghost use Rattle.ledger_model.specs.Dues.{due_for};
-ghost use Rattle.ledger_model.specs.History.{close};
+ghost use Rattle.ledger_model.specs.History.{History, close};
 ghost use Rattle.ledger_model.specs.InOrder.{step_of};
 ghost use Rattle.ledger_model.specs.Rules.{after_step};
-ghost use Rattle.ledger_model.specs.Windows.{numbered, is_full};
+ghost use Rattle.ledger_model.specs.Windows.{numbered};
+ghost use Rattle.ledger_cli.specs.Carries.{Carries, CarriesSome, CarriesSettled};
 ghost use Rattle.ledger_cli.specs.Endings.{ending_of, halt_of};
 ghost use Rattle.ledger_cli.specs.Runs.{Served, outside};
-ghost use Rattle.ledger_cli.specs.Settling.{WritesDues, EndsScript, Takes};
+ghost use Rattle.ledger_cli.specs.Settling.{WritesDues, EndsScript, TakesLine, Taken};
 
 use crate::Ending;
-use crate::apply::apply;
+use crate::apply::{apply, end_block};
 use crate::dues::set_dues;
-use crate::ledger::Ledger;
 use crate::prepare::prepare;
 use crate::window::Window;
+use ledger_book::Book;
 use ledger_bytes::NoMemory;
 use ledger_io::{LineErr, Lines, Sink, Source, write_all};
 use ledger_model::Due;
@@ -31,12 +32,12 @@ pub(crate) enum Halt {
 /// their block has ended, and other replies with them, in the order of the lines.
 pub(crate) fn run_script<S: Source, K: Sink>(
     alloc: Global,
-    ledger: &mut Ledger,
+    book: &mut Book,
     source: &mut S,
     sink: &mut K,
 ) -> Ending
-    requires { ledger.old.waiting ≡ [] }
-    ensures served { Served ledger.old result
+    requires { CarriesSettled book.old }
+    ensures served { (h : History) → Carries book.old h → h.waiting ≡ [] → Served h result
         (outside (S.state source.old) (K.state sink.old)) (outside (S.state source.new) (K.state sink.new)) }
     ensures started { result ≢ Ending.Usage }
 {
@@ -48,23 +49,16 @@ pub(crate) fn run_script<S: Source, K: Sink>(
     loop {
         let line = match lines.next(source) {
             Ok(Some(line)) => line,
-            Ok(None) => return end_script(ledger, &mut dues, &mut text, sink, Ending::Done),
-            Err(error) => return end_script(ledger, &mut dues, &mut text, sink, ending_of(error)),
+            Ok(None) => return end_script(book, &mut dues, &mut text, sink, Ending::Done),
+            Err(error) => return end_script(book, &mut dues, &mut text, sink, ending_of(error)),
         };
         index += 1;
-        match take_in_window(
-            alloc,
-            ledger,
-            &mut dues,
-            &mut window,
-            index,
-            line.as_slice(),
-        ) {
+        match take_in_window(alloc, book, &mut dues, &mut window, index, line.as_slice()) {
             Ok(()) => (),
             Err(NoMemory) => return Ending::NoMemory,
         }
-        if ledger.is_settled() {
-            match write_dues(ledger, &mut dues, &mut text, sink) {
+        if is_settled(book) {
+            match write_dues(book, &mut dues, &mut text, sink) {
                 Ok(()) => (),
                 Err(halt) => return ending_at(halt),
             }
@@ -74,39 +68,45 @@ pub(crate) fn run_script<S: Source, K: Sink>(
 
 // The end of the last window, and of the session.
 fn end_script<K: Sink>(
-    ledger: &mut Ledger,
+    book: &mut Book,
     dues: &mut Vec<Due>,
     text: &mut Vec<u8>,
     sink: &mut K,
     ending: Ending,
 ) -> Ending
-    ensures { EndsScript (close ledger.old) dues.old.items (K.state sink.old) (K.state sink.new) ending result }
+    ensures { (h : History) → Carries book.old h → EndsScript (close h) dues.old.items (K.state sink.old) (K.state sink.new) ending result }
 {
-    match ledger.close() {
-        Ok(()) => (),
-        Err(NoMemory) => return Ending::NoMemory,
-    }
-    match write_dues(ledger, dues, text, sink) {
+    end_block(book);
+    match write_dues(book, dues, text, sink) {
         Ok(()) => ending,
         Err(halt) => ending_at(halt),
     }
 }
 
+// Whether no journal waits for its block's end.
+fn is_settled(book: &Book) -> bool
+    ensures { (h : History) → Carries book.now h → IsTrue result ↔ (h.waiting ≡ []) }
+{
+    book.unsealed() == 0
+}
+
 // Takes a line, and ends the open block where that ends the window.
 fn take_in_window(
     alloc: Global,
-    ledger: &mut Ledger,
+    book: &mut Book,
     dues: &mut Vec<Due>,
     window: &mut Window,
     index: u64,
     line: &[u8],
 ) -> Result<(), NoMemory>
-    requires { length line.now ≤ line_limit }
-    ensures taken { OnOk result (Takes ledger.old ledger.new dues.old.items dues.new.items window.old.lines window.old.bytes window.new.lines window.new.bytes (numbered index line.now)) }
+    requires limit { length line.now ≤ line_limit }
+    requires some { CarriesSome book.old }
+    ensures taken { OnOk result ((h : History) → Carries book.old h
+        → Taken h book.new dues.old.items dues.new.items window.old.lines window.old.bytes window.new.lines window.new.bytes (numbered index line.now)) }
 {
-    take(alloc, ledger, dues, index, line)?;
+    take(alloc, book, dues, index, line)?;
     if window.add(line.len()) {
-        ledger.close()?;
+        end_block(book);
     }
     Ok(())
 }
@@ -114,17 +114,16 @@ fn take_in_window(
 // Takes a line: judges it, places what it places, and keeps what is due for it.
 fn take(
     alloc: Global,
-    ledger: &mut Ledger,
+    book: &mut Book,
     dues: &mut Vec<Due>,
     index: u64,
     line: &[u8],
 ) -> Result<(), NoMemory>
-    ensures ledger { OnOk result (ledger.new ≡ after_step ledger.old (step_of (numbered index line.now))) }
-    ensures dues { OnOk result (dues.new.items ≡ dues.old.items ++ due_for ledger.old (step_of (numbered index line.now)) ∷ []) }
+    requires { CarriesSome book.old }
+    ensures { OnOk result ((h : History) → Carries book.old h → TakesLine h book.new dues.old.items dues.new.items (numbered index line.now)) }
 {
-    let id = ledger.id();
-    let job = prepare(alloc, &id, line)?;
-    let answer = apply(alloc, ledger, job)?;
+    let job = prepare(alloc, &book.id(), line)?;
+    let answer = apply(book, &job)?;
     dues.push(Due {
         lane: 0,
         index,
@@ -135,14 +134,16 @@ fn take(
 
 // Writes all that is due, where the last block of the ledger has ended.
 fn write_dues<K: Sink>(
-    ledger: &Ledger,
+    book: &Book,
     dues: &mut Vec<Due>,
     text: &mut Vec<u8>,
     sink: &mut K,
 ) -> Result<(), Halt>
-    ensures { WritesDues ledger.now dues.old.items dues.new.items (K.state sink.old) (K.state sink.new) result }
+    ensures { (h : History) → Carries book.now h → h.waiting ≡ []
+        → WritesDues h dues.old.items dues.new.items (K.state sink.old) (K.state sink.new) result }
 {
-    match set_dues(text, ledger, dues.as_slice()) {
+    let block = book.blocks().saturating_sub(1);
+    match set_dues(text, block, &book.head(), dues.as_slice()) {
         Ok(()) => (),
         Err(NoMemory) => return Err(Halt::NoMemory),
     }

@@ -77,6 +77,22 @@ const HEAD_OF_TWO: &str = "head \
 
 const ROOT_OF_FIVE: &str = "38583702ccdc045d882059aef42fdd392dd14eff76ebc94f02e6901796c21867";
 
+// Member 2 with the key of 32 bytes 3, and that member's record abc with the clue inv: with the member's key, and with
+// another.
+const ADMIT_THE_THIRD: &str =
+    "0 member 2 0303030303030303030303030303030303030303030303030303030303030303 \
+    01010101010101010101010101010101010101010101010101010101010101016e2700604cd288e681c238fa71ae802ef173e93907477f0111a56a7be4890e8c\n";
+
+const INVOICE: &str =
+    "0 append 2 inv 616263 0303030303030303030303030303030303030303030303030303030303030303\
+    1c73656160873b10becb5d4a75a046056d790b17f79672513778ab540c22c6df\n";
+
+const INVOICE_WITH_ANOTHER_KEY: &str =
+    "0 append 2 inv 616263 0404040404040404040404040404040404040404040404040404040404040404\
+    0b54d1934970ae537345a5cdb18c4b10d60e9652c168cd377f0b0ffc7d5fa875\n";
+
+const ROOT_OF_THREE: &str = "45244e5bba01692ff6f59b826791827e96e891465f758d139d92d81a53b478c5\n";
+
 // More room than any of these runs writes, and a call that none of them makes.
 const AMPLE: usize = 65_536;
 
@@ -181,8 +197,8 @@ fn answers_scripts(rt: HostRuntime) -> Result<(), Fail> {
             &DEMO,
             "\n8 head\n0 hed\n0 get\n0 get 01\n0 clue inv\n0 clue\n0 member 2\n0 append 0 inv - -\n1 head",
             &[
-                "0.1 no 12\n0.2 no 12\n0.3 no 10\n0.4 no 10\n0.5 no 10\n0.6 no 10\n\
-                0.7 no 11 3\n0.8 no 11 4\n0.9 no 10\n0.10 no 12\n",
+                "0.1 no 12\n0.2 no 12\n0.3 no 10\n0.4 no 10\n0.5 no 10\n0.6 clue 0 -\n\
+                0.7 no 11 3\n0.8 no 11 4\n0.9 no 15 0\n0.10 no 12\n",
             ],
         ),
         (&DEMO, "0 head", &["0.1 ", HEAD]),
@@ -324,8 +340,8 @@ fn places_records(rt: HostRuntime) -> Result<(), Fail> {
             Written {
                 lines: 45,
                 first: "0.1 no 10\n",
-                last: "0.45 head 64915354a6547b1f887e596e872fd13b2abdc860729da9fe31180a81726cf4a2 20 df2e907e056b324ac559c5abd63cab2136e2cce24883883652cdc454829d1a36 8 0 0 e3b0c44298fc1c149afbf4c8996fb92427ae41e4649b934ca495991b7852b855\n",
-                digest: "e83cc6069291366f4805a0594ce76db2b1f316beee8c12278e4e1a5bcf82daea",
+                last: "0.45 head 64915354a6547b1f887e596e872fd13b2abdc860729da9fe31180a81726cf4a2 21 2f78a84c56c3f3389712624627b92e446fcff6ee6e2e2b48b2e4026ee174d44c 8 0 0 e3b0c44298fc1c149afbf4c8996fb92427ae41e4649b934ca495991b7852b855\n",
+                digest: "ceecb97ee0d5112aea764ce4b5925060ac2efd0c68d046b0f44e85851efe2185",
             },
         ),
     ];
@@ -481,6 +497,44 @@ fn refuses_records(rt: HostRuntime) -> Result<(), Fail> {
     let (status, written) = run(rt.alloc(), &DEMO, script, NEVER, AMPLE, NEVER)?;
     assert_eq!(rt; status, 0);
     assert_eq!(rt; written, want);
+    Ok(())
+}
+
+// A member is admitted and places a record with a clue. A wrong key, an unknown member and a number that is taken are
+// refused, and end no block; a line that asks for a clue does.
+#[test]
+fn admits_members_and_finds_clues(rt: HostRuntime) -> Result<(), Fail> {
+    let rows: [(&str, &str); 2] = [
+        (ADMIT_THE_THIRD, "0.5 no 18 3\n"),
+        ("0 clue inv\n0 clue -\n", "0.5 clue 1 2\n0.6 clue 0 -\n"),
+    ];
+    for (line, reply) in rows {
+        let script = joined(
+            rt.alloc(),
+            &[
+                ADMIT_THE_THIRD,
+                INVOICE_WITH_ANOTHER_KEY,
+                INVOICE,
+                OF_NO_MEMBER,
+                line,
+            ],
+        )?;
+        let want = joined(
+            rt.alloc(),
+            &[
+                "0.1 ok 1 3b9b8378383890d298097d6f65884029554696de63fb03929518fcd45a4706cb 1 3 ",
+                ROOT_OF_THREE,
+                "0.2 no 15 2\n\
+                0.3 ok 2 d5bafe4ff5eb75d98a360fd0a779d19ac6abbd6e75a890c22a7d59c35f349099 1 3 ",
+                ROOT_OF_THREE,
+                "0.4 no 14 9\n",
+                reply,
+            ],
+        )?;
+        let (status, written) = run(rt.alloc(), &DEMO, script, NEVER, AMPLE, NEVER)?;
+        assert_eq!(rt; written, want, "at {line:?}");
+        assert_eq!(rt; status, 0, "at {line:?}");
+    }
     Ok(())
 }
 

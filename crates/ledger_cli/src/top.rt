@@ -8,13 +8,13 @@ ghost use Rattle.ledger_cli.specs.Runs.{RanProgram, Served, ServedBy, Wrote, out
 ghost use Rattle.ledger_cli.specs.Signing.{signed_text};
 ghost use Rattle.ledger_cli.specs.Words.{command_of};
 
-use crate::ledger::Ledger;
 use crate::session::run_script;
 use crate::signing::Signing;
 use crate::{Command, Ending};
+use ledger_book::Book;
 use ledger_bytes::NoMemory;
 use ledger_io::{Sink, Source, write_all, write_last};
-use ledger_model::Genesis;
+use ledger_model::{Genesis, Limits};
 use std::alloc::Global;
 
 /// The program: runs the command that the words after the program's name make. `dry` runs the script that `source` gives
@@ -86,8 +86,8 @@ fn run_dry<S: Source, K: Sink>(
         (outside (S.state source.old) (K.state sink.old)) (outside (S.state source.new) (K.state sink.new)) }
     ensures started { result ≢ Ending.Usage }
 {
-    match Ledger::found(alloc, genesis) {
-        Ok(mut ledger) => run_script(alloc, &mut ledger, source, sink),
+    match Book::new(alloc, genesis, Limits::real()) {
+        Ok(mut book) => run_script(alloc, &mut book, source, sink),
         Err(NoMemory) => Ending::NoMemory,
     }
 }

@@ -1,12 +1,10 @@
 -- The journals of members' records and of new members.
-use Rattle.std.specs.Prelude.{ℕ, if◌then◌else◌, ◌==◌, List, [], ◌∷◌, ◌++◌, length}
-use Rattle.std.specs.Int.{w32, to_be_bytes}
+use Rattle.std.specs.Prelude.{ℕ, List, [], ◌∷◌, length}
 use Rattle.std.specs.Option.{option_map}
-use Rattle.sha2.specs.Sha256.{sha256}
 use Rattle.ledger_bytes.specs.declared.digest.Digest.{Digest}
 use Rattle.journal_record.specs.Approval.{who_of}
 use Rattle.journal_record.specs.Entry.{Entry, content_digest_of, who_digest_of}
-use Rattle.journal_record.specs.Request.{request_digest_of}
+use Rattle.journal_record.specs.Request.{request_digest_of, member_request_digest_of, clue_digest_of}
 use Rattle.journal_record.specs.Tags.{tag_key_of}
 use Rattle.journal_record.specs.declared.approval.Approval.{Approval}
 use Rattle.journal_record.specs.declared.header.Header.{Header}
@@ -21,17 +19,13 @@ use Rattle.ledger_model.specs.declared.job.Job.TheVariants.{Append, NewMember}
 abbrev pub request_with : List ℕ → ℕ → Digest → List ℕ → List ℕ
 request_with id member clue content = request_digest_of id member clue.0 (length content) (content_digest_of content)
 
--- .. and for a record without a clue
-abbrev pub request_of : List ℕ → ℕ → List ℕ → List ℕ
-request_of id member content = request_with id member no_clue content
-
 -- the digest that member 0 approves, for a new member with this number and key
 abbrev pub member_request_of : List ℕ → ℕ → Digest → List ℕ
-member_request_of id number key = sha256 (8 ∷ (id ++ to_be_bytes w32 number ++ key.0))
+member_request_of id number key = member_request_digest_of id number key.0
 
 -- the clue of a name; no name is no clue
 abbrev pub clue_of : List ℕ → Digest
-clue_of name = if length name == 0 then no_clue else digest (sha256 (12 ∷ name))
+clue_of name = digest (clue_digest_of name)
 
 -- an approval, with the key that its proof shows
 abbrev pub approval_of : ℕ → List ℕ → List ℕ → Approval
@@ -42,10 +36,6 @@ unfoldable pub append_with : List ℕ → ℕ → Digest → List ℕ → List �
 append_with id member clue content proof =
     let request = request_with id member clue content in
     Append member clue content (digest (content_digest_of content)) (digest request) (approval_of member request proof)
-
--- .. and of a record without a clue
-abbrev pub append_job : List ℕ → ℕ → List ℕ → List ℕ → Job
-append_job id member content proof = append_with id member no_clue content proof
 
 -- the job of a new member on the ledger with this id
 unfoldable pub member_job : List ℕ → ℕ → Digest → List ℕ → Job

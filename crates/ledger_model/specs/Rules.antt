@@ -1,12 +1,11 @@
 -- What a step does to a history: what judges it, what it places, and which blocks it ends.
 use Rattle.std.specs.Prelude.{ℕ, Bool, true, false, if◌then◌else◌, List, [], ◌∷◌, Option, Some, None, Result, Ok, Err}
 use Rattle.ledger_bytes.specs.declared.refusal.Refusal.{Refusal}
-use Rattle.ledger_bytes.specs.declared.refusal.Refusal.TheVariants.{BadVerb}
 use Rattle.journal_record.specs.Entry.{Entry}
 use Rattle.script_lines.specs.Grammar.{spoken}
 use Rattle.script_lines.specs.declared.line.Line.{Line}
 use Rattle.script_lines.specs.declared.line.Line.TheVariants as line
-use Rattle.ledger_model.specs.Appends.{append_job}
+use Rattle.ledger_model.specs.Appends.{append_with, member_job, clue_of}
 use Rattle.ledger_model.specs.History.{History, id, close, place}
 use Rattle.ledger_model.specs.Judgements.{own_judgements, first_refusal}
 use Rattle.ledger_model.specs.Limits.{real}
@@ -15,17 +14,12 @@ use Rattle.ledger_model.specs.Step.{Step}
 use Rattle.ledger_model.specs.declared.job.Job.{Job}
 use Rattle.ledger_model.specs.declared.job.Job.TheVariants.{Refused, Append, NewMember, Clue, Head}
 
--- what a record asks for, on the ledger with this id; one with a clue isn't served
-abbrev pub job_with : List ℕ → ℕ → List ℕ → List ℕ → List ℕ → Job
-job_with id member [] content proof = append_job id member content proof
-job_with id member (byte ∷ clue) content proof = Refused BadVerb
-
--- what a line that was read asks for, on the ledger with this id; new members and clues aren't served
+-- what a line that was read asks for, on the ledger with this id
 abbrev pub job_for : List ℕ → Result Line Refusal → Job
 job_for id (Err refusal) = Refused refusal
-job_for id (Ok (line.Append member clue content proof)) = job_with id member clue content proof
-job_for id (Ok (line.NewMember number key proof)) = Refused BadVerb
-job_for id (Ok (line.Clue name)) = Refused BadVerb
+job_for id (Ok (line.Append member clue content proof)) = append_with id member (clue_of clue) content proof
+job_for id (Ok (line.NewMember number key proof)) = member_job id number key proof
+job_for id (Ok (line.Clue name)) = Clue (clue_of name)
 job_for id (Ok line.Head) = Head
 
 -- what a line asks for, on the ledger with this id

@@ -1,9 +1,9 @@
-use Rattle.std.proofs.Common.{ap, ◌∙◌}
-use Rattle.ledger_cli.specs.Settling.{settled_text}
-use Rattle.ledger_cli.proofs.SettlingLaws.{write_halts}
+use Rattle.ledger_cli.proofs.SettlingLaws.{settled_piece, write_halts}
 use Rattle.ledger_cli.proofs.session.write_dues.Goals as goal
 
 pub returns-in-Err-write_all : goal.returns-in-Err-write_all
-returns-in-Err-write_all g c =
-    write_halts c.args.ledger.now c.args.dues.now.items _ _ _ _ c.in-Err-write_all.field-0 (c.as_slice-2.ensures.value ∙ c.in-Ok.ensures ∙ ap (λ d. settled_text c.args.ledger.now d) c.as_slice.ensures.value)
+returns-in-Err-write_all g c = λ h carries none.
+    write_halts h c.args.dues.now.items _ _ _ _ c.in-Err-write_all.field-0
+    (settled_piece h _ _ c.saturating_sub-block.result c.blocks-2.result c.head.result _ c.args.dues.now.items none c.as_slice-2.ensures.value c.in-Ok.ensures c.as_slice.ensures.value
+    c.saturating_sub-block.ensures (c.blocks-2.ensures h carries.serves.stands) (c.head.ensures h carries.serves.stands))
     c.in-Err-write_all.ensures.taken c.in-Err-write_all.ensures.cause c.write_all.ensures.later c.write_all.ensures.idle_later
