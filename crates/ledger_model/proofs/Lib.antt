@@ -6,3 +6,4 @@ pub mod GrowLaws
 pub mod DueLaws
 pub mod ProgressLaws
 pub mod PlaceLaws
+pub mod ApplyLaws

@@ -13,6 +13,7 @@ pub mod Books
 pub mod Notary
 pub mod Rules
 pub mod Texts
+pub mod Answering
 pub mod Dues
 pub mod Windows
 pub mod Merge
