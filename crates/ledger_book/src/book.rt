@@ -106,6 +106,7 @@ impl Book {
         ensures sealed { (h : History) → Stands self.old h → result ≡ seal_of h }
         ensures none { IfNone result (self.new ≡ self.old) }
         ensures same { IsSame self.old self.new }
+        ensures point { self.new.point ≡ self.old.point }
     {
         if self.head.size == self.size {
             return None;

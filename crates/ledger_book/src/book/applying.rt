@@ -3,7 +3,7 @@ ghost use Rattle.ledger_model.specs.Books.{Serves};
 ghost use Rattle.ledger_model.specs.Fitting.{fits_job};
 ghost use Rattle.ledger_model.specs.History.{History};
 ghost use Rattle.ledger_model.specs.declared.job.Job.TheVariants as asked;
-ghost use Rattle.ledger_book.specs.Steps.{IsSame, Applies};
+ghost use Rattle.ledger_book.specs.Steps.{IsSame, IsRefused, Applies};
 
 use super::Book;
 use crate::headers::{new_member_header, record_header};
@@ -20,6 +20,8 @@ impl Book {
         ensures ok { IfOk result (λ outcome. (h : History) → Serves self.old h → Applies self.old.limits h job.now outcome self.new) }
         ensures err { OnErr result (self.new ≡ self.old) }
         ensures same { IsSame self.old self.new }
+        ensures point { self.new.point ≡ self.old.point }
+        ensures unchanged { IfOk result (λ outcome. IsRefused outcome → self.new ≡ self.old) }
     {
         match job {
             Job::Refused(refusal) => Ok(Outcome::Refused(*refusal)),
@@ -51,6 +53,8 @@ impl Book {
             → Applies self.old.limits h (asked.Append member clue.now content.now content_digest.now request.now by.now) outcome self.new) }
         ensures err { OnErr result (self.new ≡ self.old) }
         ensures same { IsSame self.old self.new }
+        ensures point { self.new.point ≡ self.old.point }
+        ensures unchanged { IfOk result (λ outcome. IsRefused outcome → self.new ≡ self.old) }
     {
         if let Some(refusal) = self.record_refusal(member, clue, by) {
             return Ok(Outcome::Refused(refusal));
@@ -81,6 +85,8 @@ impl Book {
             → Applies self.old.limits h (asked.NewMember number key.now by.now) outcome self.new) }
         ensures err { OnErr result (self.new ≡ self.old) }
         ensures same { IsSame self.old self.new }
+        ensures point { self.new.point ≡ self.old.point }
+        ensures unchanged { IfOk result (λ outcome. IsRefused outcome → self.new ≡ self.old) }
     {
         if let Some(refusal) = self.member_refusal(number, by) {
             return Ok(Outcome::Refused(refusal));
