@@ -13,3 +13,6 @@ pub use ledger_model::{Genesis, Job, Limits, Outcome, View};
 pub use prepared::Prepared;
 pub use requests::{clue_of, member_job, member_request, record_job};
 pub use sealed::Sealed;
+
+#[cfg(test)]
+mod tests;
