@@ -6,10 +6,10 @@ use Rattle.std.proofs.lemmas.Bool.{le-leb, and_from}
 use Rattle.std.proofs.lemmas.Slice.Eq.{bytes_eq-Decides}
 use Rattle.ledger_bytes.specs.declared.digest.Digest.{Digest}
 use Rattle.journal_record.specs.Entry.{content_digest_of}
-use Rattle.journal_record.specs.Request.{request_digest_of}
+use Rattle.journal_record.specs.Request.{request_digest_of, member_request_digest_of}
 use Rattle.journal_record.specs.Tags.{tag_key_of}
 use Rattle.journal_record.specs.declared.approval.Approval.{Approval}
-use Rattle.ledger_model.specs.Appends.{append_with, request_with, member_job, member_request_of, clue_of}
+use Rattle.ledger_model.specs.Appends.{append_with, request_with, member_job}
 use Rattle.ledger_model.specs.Fitting.{fits_job}
 use Rattle.ledger_model.specs.Genesis.{digest}
 use Rattle.ledger_model.specs.declared.job.Job.{Job}
@@ -40,9 +40,9 @@ record_fits member clue content slice content_digest request by c p d s m =
     (and_from (by.member == member) _ (eq-eqb by.member member m) (le-leb (length by.proof) 4_096 p))
 
 pub member_is : (id : List ℕ) (number : ℕ) (key : Digest) (proof shown : List ℕ) (request : Digest) (found : Option Digest)
-    → request.0 ≡ member_request_of id number key → option_map (λ (d : Digest). d.0) found ≡ tag_key_of request.0 shown → shown ≡ proof
+    → request.0 ≡ member_request_digest_of id number key.0 → option_map (λ (d : Digest). d.0) found ≡ tag_key_of request.0 shown → shown ≡ proof
     → NewMember number key (record { member = 0; key = found; proof = proof }) ≡ member_job id number key proof
 unfolding member_job
 member_is id number key proof shown request found r k p =
     let job : Option Digest → Job = λ z. NewMember number key (record { member = 0; key = z; proof = proof }) in
-    ap job (some_digest found ∙ ap (option_map digest) (k ∙ ap (λ x. tag_key_of x shown) r ∙ ap (tag_key_of (member_request_of id number key)) p))
+    ap job (some_digest found ∙ ap (option_map digest) (k ∙ ap (λ x. tag_key_of x shown) r ∙ ap (tag_key_of (member_request_digest_of id number key.0)) p))

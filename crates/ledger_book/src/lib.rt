@@ -11,7 +11,7 @@ mod sealed;
 pub use book::Book;
 pub use ledger_model::{Genesis, Job, Limits, Outcome, View};
 pub use prepared::Prepared;
-pub use requests::{clue_of, member_job, member_request, record_job};
+pub use requests::{member_job, record_job};
 pub use sealed::Sealed;
 
 #[cfg(test)]

@@ -2,16 +2,9 @@ ghost use Rattle.std.specs.Prelude.{◌≡◌, ◌≤◌, length, true};
 ghost use Rattle.ledger_model.specs.Appends as appends;
 ghost use Rattle.ledger_model.specs.Fitting.{fits_job};
 
-use crate::headers::NO_CLUE;
-use journal_record::{Approval, content_digest, request_digest, tag_key};
-use ledger_bytes::{Bytes, Digest, Sha, TreeHash};
+use journal_record::{Approval, content_digest, member_request_digest, request_digest, tag_key};
+use ledger_bytes::{Bytes, Digest};
 use ledger_model::Job;
-
-/// The byte in front of a hashed request for a new member.
-const MEMBER_TAG: u8 = 0x08;
-
-/// The byte in front of a hashed clue's name.
-const CLUE_TAG: u8 = 0x0c;
 
 /// The job of a member's record with this clue, or with 32 zero bytes for none, on the ledger with this id: with the
 /// digests that the member approves, and the key that the proof shows.
@@ -41,7 +34,8 @@ pub fn member_job(id: &Digest, number: u32, key: Digest, proof: Bytes) -> Job
     ensures job { result ≡ appends.member_job id.now.0 number key proof }
     ensures fits { fits_job result ≡ true }
 {
-    let shown = tag_key(&member_request(id, number, &key), proof.as_slice());
+    let request = member_request_digest(id, number, &key);
+    let shown = tag_key(&request, proof.as_slice());
     Job::NewMember {
         number,
         key,
@@ -51,28 +45,4 @@ pub fn member_job(id: &Digest, number: u32, key: Digest, proof: Bytes) -> Job
             proof,
         },
     }
-}
-
-/// The message that member 0 proves to admit a member: SHA-256 of the byte 08, the ledger's identity (32 bytes), the new
-/// member's number (4 bytes, big-endian) and its key (32 bytes).
-pub fn member_request(id: &Digest, number: u32, key: &Digest) -> Digest
-    ensures { result.0 ≡ appends.member_request_of id.now.0 number key.now }
-{
-    let mut hasher = Sha::start(MEMBER_TAG);
-    hasher.add(&id.0);
-    hasher.add(&number.to_be_bytes());
-    hasher.add(&key.0);
-    hasher.end()
-}
-
-/// The clue of a name: SHA-256 of the byte 0C and the name, or 32 zero bytes where the name is empty.
-pub fn clue_of(name: &[u8]) -> Digest
-    ensures { result ≡ appends.clue_of name.now }
-{
-    if name.is_empty() {
-        return NO_CLUE;
-    }
-    let mut hasher = Sha::start(CLUE_TAG);
-    hasher.add(name);
-    hasher.end()
 }

@@ -2,7 +2,7 @@ ghost use Rattle.std.specs.Prelude.{◌≤◌, length, IfOk};
 
 use super::*;
 use hex::FromHex;
-use journal_record::{content_digest, request_digest};
+use journal_record::{clue_digest, content_digest, member_request_digest, request_digest};
 use ledger_bytes::{Bytes, Digest, NoMemory, Refusal};
 use member_book::tag_proof;
 use merkle_tree::Head;
@@ -49,7 +49,7 @@ fn append(
     name: &[u8],
 ) -> Result<Outcome, NoMemory> {
     let id = book.id();
-    let clue = clue_of(name);
+    let clue = clue_digest(name);
     let message = request_digest(&id, member, &clue, 3, &content_digest(b"abc"));
     let proof = proof_by(alloc, byte, &message)?;
     let content = Bytes::copy_of(alloc, b"abc")?;
@@ -60,7 +60,7 @@ fn append(
 fn admit(alloc: Global, book: &mut Book, number: u32) -> Result<Outcome, NoMemory> {
     let id = book.id();
     let key = Digest([(number % 255) as u8 + 1; 32]);
-    let proof = proof_by(alloc, 1, &member_request(&id, number, &key))?;
+    let proof = proof_by(alloc, 1, &member_request_digest(&id, number, &key))?;
     book.apply(&member_job(&id, number, key, proof))
 }
 
@@ -142,7 +142,7 @@ fn journals_of_a_clue(rt: HostRuntime) -> Result<(), Fail> {
         (Asked::Record(0, 1, b"inv"), Outcome::Placed { jsn: 4 }),
     ];
     run(&rt, rt.alloc(), &mut book, &more)?;
-    let (count, jsns) = book.clue(&clue_of(b"inv"))?;
+    let (count, jsns) = book.clue(&clue_digest(b"inv"))?;
     assert!(rt; count == 2 && jsns.as_slice() == [2, 4].as_slice());
     let header = book.header(4).ok_or("no header")?;
     assert!(rt; header.clue_ord == 2 && header.clue_prev == 2);

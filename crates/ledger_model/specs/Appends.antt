@@ -19,10 +19,6 @@ use Rattle.ledger_model.specs.declared.job.Job.TheVariants.{Append, NewMember}
 abbrev pub request_with : List ℕ → ℕ → Digest → List ℕ → List ℕ
 request_with id member clue content = request_digest_of id member clue.0 (length content) (content_digest_of content)
 
--- the digest that member 0 approves, for a new member with this number and key
-abbrev pub member_request_of : List ℕ → ℕ → Digest → List ℕ
-member_request_of id number key = member_request_digest_of id number key.0
-
 -- the clue of a name; no name is no clue
 abbrev pub clue_of : List ℕ → Digest
 clue_of name = digest (clue_digest_of name)
@@ -39,7 +35,7 @@ append_with id member clue content proof =
 
 -- the job of a new member on the ledger with this id
 unfoldable pub member_job : List ℕ → ℕ → Digest → List ℕ → Job
-member_job id number key proof = NewMember number key (approval_of 0 (member_request_of id number key) proof)
+member_job id number key proof = NewMember number key (approval_of 0 (member_request_digest_of id number key.0) proof)
 
 -- the header of a record that is journal jsn, with its clue, its number among the clue's journals, and the clue's journal before it
 unfoldable pub append_header : ℕ → ℕ → Digest → ℕ → ℕ → List ℕ → Digest → Digest → Approval → Header
