@@ -1,9 +1,12 @@
 use crate::{Command, Ending, finish, ledger_top};
 use ledger_bytes::{Bytes, Digest, NoMemory};
 use ledger_io::{MemSink, MemSource};
+use plain::Plain;
 use sha2::{Digest as Hasher, Sha256};
 use std::alloc::Global;
 use std::test::Fail;
+
+mod plain;
 
 // The keys of the operator and the regulator of a ledger for trial: 32 bytes 1, and 32 bytes 2.
 const OPERATOR: &str = "0101010101010101010101010101010101010101010101010101010101010101";
@@ -535,6 +538,33 @@ fn admits_members_and_finds_clues(rt: HostRuntime) -> Result<(), Fail> {
         assert_eq!(rt; written, want, "at {line:?}");
         assert_eq!(rt; status, 0, "at {line:?}");
     }
+    Ok(())
+}
+
+// Two hundred records of three members over forty clues, with a refused line within a block, are answered as a plain
+// list of journals says.
+#[test]
+fn answers_like_a_plain_list(rt: HostRuntime) -> Result<(), Fail> {
+    let mut plain = Plain::new(rt.alloc())?;
+    for number in 2..5 {
+        plain.admit(number)?;
+    }
+    for n in 0..200_u8 {
+        let clue = format!(in rt.alloc(); "clue{}", n % 40)?;
+        plain.append(2 + u32::from(n % 3), clue.as_str(), n)?;
+        match n {
+            100 => plain.admit_again(2, 5)?,
+            120 => plain.clue("clue7")?,
+            150 => plain.head()?,
+            _ => (),
+        }
+    }
+    plain.clue("clue39")?;
+    plain.head()?;
+    let (script, want) = plain.end()?;
+    let (status, written) = run(rt.alloc(), &DEMO, script, NEVER, AMPLE, NEVER)?;
+    assert_eq!(rt; written, want);
+    assert_eq!(rt; status, 0);
     Ok(())
 }
 

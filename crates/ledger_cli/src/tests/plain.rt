@@ -1,0 +1,305 @@
+use journal_record::{
+    Header, Kind, clue_digest, content_digest, member_request_digest, request_digest, tag_of,
+    who_digest,
+};
+use ledger_bytes::{Digest, Items, NoMemory, Refusal, Sha, TreeHash};
+use ledger_model::{Answer, Due};
+use script_lines::{Reply, put_reply};
+use std::alloc::Global;
+
+/// A ledger as the plain list of its headers, with a script and the replies to it. It has no index of clues, and makes
+/// each root anew over all leaves.
+#[derive(Drop)]
+pub(super) struct Plain {
+    alloc: Global,
+    id: Digest,
+    headers: Vec<Header>,
+    ended: usize,
+    blocks: u64,
+    index: u64,
+    dues: Vec<Due>,
+    script: Vec<u8>,
+    replies: Vec<u8>,
+}
+
+impl Plain {
+    /// A new ledger with the name demo, whose operator has the key of 32 bytes 1 and whose regulator that of 32 bytes 2.
+    pub(super) fn new(alloc: Global) -> Result<Self, NoMemory> {
+        let mut keys = [1; 64];
+        keys[32..].fill(2);
+        let header = Header {
+            version: 1,
+            kind: Kind::Genesis,
+            jsn: 0,
+            member: 0,
+            clue: clue_digest(b""),
+            clue_ord: 0,
+            clue_prev: 0,
+            a: 0,
+            b: 0,
+            link: tagged(11, &[b"demo"]),
+            content_len: 64,
+            content_digest: content_digest(&keys),
+            who_digest: who_digest(b""),
+        };
+        Ok(Plain {
+            alloc,
+            id: leaf(&header),
+            headers: vec![in alloc; header]?,
+            ended: 1,
+            blocks: 1,
+            index: 0,
+            dues: Vec::new(alloc),
+            script: Vec::new(alloc),
+            replies: Vec::new(alloc),
+        })
+    }
+
+    /// Admits a member.
+    pub(super) fn admit(&mut self, number: u32) -> Result<(), NoMemory> {
+        let key = key_of(number);
+        let proof = self.say_member(number, &key)?;
+        let header = Header {
+            kind: Kind::Member,
+            a: u64::from(number),
+            link: key,
+            content_len: 0,
+            content_digest: content_digest(b""),
+            ..self.record(0, &clue_digest(b""), &proof)
+        };
+        self.place(header)
+    }
+
+    /// Asks for a member whose number isn't the next one.
+    pub(super) fn admit_again(&mut self, number: u32, next: u32) -> Result<(), NoMemory> {
+        self.say_member(number, &key_of(number))?;
+        self.answer(Answer::Reply(Reply::Refused(Refusal::MemberNumber { next })))
+    }
+
+    /// Places a record of one byte with a clue.
+    pub(super) fn append(&mut self, member: u32, clue: &str, byte: u8) -> Result<(), NoMemory> {
+        let named = clue_digest(clue.as_bytes());
+        let content = [byte];
+        let digest = content_digest(&content);
+        let request = request_digest(&self.id, member, &named, 1, &digest);
+        let proof = proof_of(member, &request);
+        let member_text = member.to_string(self.alloc)?;
+        let content_text = hex::encode(self.alloc, content)?;
+        self.say(
+            &["append", member_text.as_str(), clue, content_text.as_str()],
+            &proof,
+        )?;
+        let header = Header {
+            link: request,
+            content_len: 1,
+            content_digest: digest,
+            ..self.record(member, &named, &proof)
+        };
+        self.place(header)
+    }
+
+    /// Asks for a clue's journals.
+    pub(super) fn clue(&mut self, clue: &str) -> Result<(), NoMemory> {
+        self.say(&["clue", clue], b"")?;
+        self.end_block()?;
+        let named = clue_digest(clue.as_bytes());
+        let mut count = 0;
+        let mut kept = Vec::new(self.alloc);
+        for header in &self.headers {
+            if header.clue == named {
+                count = header.clue_ord;
+                kept.push(header.jsn)?;
+            }
+        }
+        self.answer(Answer::Reply(Reply::Clue {
+            count,
+            kept: Items::of(kept),
+        }))
+    }
+
+    /// Asks where the ledger stands.
+    pub(super) fn head(&mut self) -> Result<(), NoMemory> {
+        self.say(&["head"], b"")?;
+        self.end_block()?;
+        let head = Reply::Head {
+            id: self.id,
+            size: self.headers.len() as u64,
+            root: self.root()?,
+            blocks: self.blocks,
+            point: 0,
+            notary_size: 0,
+            notary_root: Sha::empty(),
+        };
+        self.answer(Answer::Reply(head))
+    }
+
+    /// The script, and the replies to it once it has ended.
+    pub(super) fn end(mut self) -> Result<(Vec<u8>, Vec<u8>), NoMemory> {
+        self.end_block()?;
+        Ok((self.script, self.replies))
+    }
+
+    fn say_member(&mut self, number: u32, key: &Digest) -> Result<[u8; 64], NoMemory> {
+        let proof = proof_of(0, &member_request_digest(&self.id, number, key));
+        let number_text = number.to_string(self.alloc)?;
+        let key_text = hex::encode(self.alloc, key.0)?;
+        self.say(&["member", number_text.as_str(), key_text.as_str()], &proof)?;
+        Ok(proof)
+    }
+
+    // A line of the script with these fields, and the proof as the last where there is one.
+    fn say(&mut self, fields: &[&str], proof: &[u8]) -> Result<(), NoMemory> {
+        self.index = self.index.saturating_add(1);
+        self.script.extend_from_slice(b"0")?;
+        for field in fields {
+            self.script.extend_from_slice(b" ")?;
+            self.script.extend_from_slice(field.as_bytes())?;
+        }
+        if !proof.is_empty() {
+            let text = hex::encode(self.alloc, proof)?;
+            self.script.extend_from_slice(b" ")?;
+            self.script.extend_from_slice(text.as_bytes())?;
+        }
+        self.script.extend_from_slice(b"\n")?;
+        Ok(())
+    }
+
+    // The next journal's header, but for its content and its link.
+    fn record(&self, member: u32, clue: &Digest, proof: &[u8; 64]) -> Header {
+        let (mut clue_ord, mut clue_prev) = (1, 0);
+        for header in &self.headers {
+            if header.clue == *clue {
+                clue_ord = header.clue_ord.saturating_add(1);
+                clue_prev = header.jsn;
+            }
+        }
+        if *clue == clue_digest(b"") {
+            clue_ord = 0;
+            clue_prev = 0;
+        }
+        Header {
+            version: 1,
+            kind: Kind::Content,
+            jsn: self.headers.len() as u64,
+            member,
+            clue: *clue,
+            clue_ord,
+            clue_prev,
+            a: 0,
+            b: 0,
+            link: Digest([0; 32]),
+            content_len: 0,
+            content_digest: Digest([0; 32]),
+            who_digest: tagged(10, &[&member.to_be_bytes(), &[0, 64], proof]),
+        }
+    }
+
+    fn place(&mut self, header: Header) -> Result<(), NoMemory> {
+        let jsn = header.jsn;
+        let leaf = leaf(&header);
+        self.headers.push(header)?;
+        self.answer(Answer::Receipt { jsn, leaf })?;
+        if self.headers.len().saturating_sub(self.ended) >= 64 {
+            self.end_block()?;
+        }
+        Ok(())
+    }
+
+    fn answer(&mut self, answer: Answer) -> Result<(), NoMemory> {
+        self.dues.push(Due {
+            lane: 0,
+            index: self.index,
+            answer,
+        })?;
+        Ok(())
+    }
+
+    fn end_block(&mut self) -> Result<(), NoMemory> {
+        let size = self.headers.len();
+        if self.ended < size {
+            self.ended = size;
+            self.blocks = self.blocks.saturating_add(1);
+        }
+        let root = self.root()?;
+        let block = self.blocks.saturating_sub(1);
+        for due in &self.dues {
+            put_due(&mut self.replies, due, block, size as u64, root)?;
+        }
+        self.dues.clear();
+        Ok(())
+    }
+
+    // The root over all leaves, level by level; there are fewer than 1,024.
+    fn root(&self) -> Result<Digest, NoMemory> {
+        let mut level = Vec::new(self.alloc);
+        for header in &self.headers {
+            level.push(leaf(header))?;
+        }
+        for _ in 0..10 {
+            level = halved(self.alloc, level.as_slice())?;
+        }
+        Ok(level.first().copied().unwrap_or(Sha::empty()))
+    }
+}
+
+fn put_due(
+    replies: &mut Vec<u8>,
+    due: &Due,
+    block: u64,
+    size: u64,
+    root: Digest,
+) -> Result<(), NoMemory> {
+    match &due.answer {
+        Answer::Reply(reply) => put_reply(replies, due.lane, due.index, reply),
+        Answer::Receipt { jsn, leaf } => {
+            let reply = Reply::Placed {
+                jsn: *jsn,
+                leaf: *leaf,
+                block,
+                size,
+                root,
+                stamp: None,
+            };
+            put_reply(replies, due.lane, due.index, &reply)
+        }
+    }
+}
+
+// The nodes over each two of a level's digests. One without a second goes up as it is.
+fn halved(alloc: Global, level: &[Digest]) -> Result<Vec<Digest>, NoMemory> {
+    let mut above = Vec::new(alloc);
+    for pair in level.chunks(2) {
+        match pair {
+            [left, right] => above.push(tagged(1, &[&left.0, &right.0]))?,
+            [left] => above.push(*left)?,
+            _ => (),
+        }
+    }
+    Ok(above)
+}
+
+fn leaf(header: &Header) -> Digest {
+    tagged(0, &[&header.encode()])
+}
+
+fn tagged(tag: u8, pieces: &[&[u8]]) -> Digest {
+    let mut hasher = Sha::start(tag);
+    for piece in pieces {
+        hasher.add(piece);
+    }
+    hasher.end()
+}
+
+// The key of a member: 32 bytes that are one more than the member's number.
+fn key_of(member: u32) -> Digest {
+    Digest([(member % 16) as u8 + 1; 32])
+}
+
+// A member's tag proof of a message.
+fn proof_of(member: u32, message: &Digest) -> [u8; 64] {
+    let key = key_of(member);
+    let mut proof = [0; 64];
+    proof[..32].copy_from_slice(&key.0);
+    proof[32..].copy_from_slice(&tag_of(&key, message).0);
+    proof
+}
