@@ -7,6 +7,7 @@ use std::alloc::Global;
 use std::test::Fail;
 
 mod plain;
+mod sign;
 
 // The keys of the operator and the regulator of a ledger for trial: 32 bytes 1, and 32 bytes 2.
 const OPERATOR: &str = "0101010101010101010101010101010101010101010101010101010101010101";

@@ -1,0 +1,168 @@
+use super::*;
+use crate::{Request, Signing};
+
+// The identity of the ledger for trial, and the leaf of one of its journals.
+const ID: &str = "64915354a6547b1f887e596e872fd13b2abdc860729da9fe31180a81726cf4a2";
+
+const LEAF: &str = "e49d63b2a8a78f048bafc4b4590029603a5a4165ee8bf98af15d62f24cd83479";
+
+// The keys of further members: 32 bytes 3, and 32 bytes 4.
+const THIRD: &str = "0303030303030303030303030303030303030303030303030303030303030303";
+
+const FOURTH: &str = "0404040404040404040404040404040404040404040404040404040404040404";
+
+const APPEND: [&str; 7] = ["sign", ID, THIRD, "append", "2", "inv", "616263"];
+
+const APPEND_TEXT: &str = "c91e8e640e57e2e878b7b2840e07636c07539496336fbcc57c40f1cc60c359fc\n\
+    0303030303030303030303030303030303030303030303030303030303030303\
+    1c73656160873b10becb5d4a75a046056d790b17f79672513778ab540c22c6df\n";
+
+// The text for each request. The script is left unread.
+#[test]
+fn signs_requests(rt: HostRuntime) -> Result<(), Fail> {
+    let rows: [(&[&str], &str); 5] = [
+        (&APPEND, APPEND_TEXT),
+        (
+            &["sign", ID, OPERATOR, "append", "0", "-", "-"],
+            "45ab4df7151b96fe3fdaa2ffe2851781324f1e7e8cd93e909a6f084b485ebf77\n\
+            0101010101010101010101010101010101010101010101010101010101010101\
+            686f1846a77b4b9e4f4927cb822d4b771f3dc804ba2be7655992ebc5e0d31ec7\n",
+        ),
+        (
+            &["sign", ID, OPERATOR, "member", "2", THIRD],
+            "ed456d8a3eaa93d8fb0f8286e46c71c380e728bcdf1c6ab691f74d46b4d90026\n\
+            0101010101010101010101010101010101010101010101010101010101010101\
+            6e2700604cd288e681c238fa71ae802ef173e93907477f0111a56a7be4890e8c\n",
+        ),
+        (
+            &["sign", ID, REGULATOR, "occult", "2", LEAF],
+            "ad85ca6acc397ec64e62ffc3d0298590a5122385a8529be7a8b74b01810d6489\n\
+            0202020202020202020202020202020202020202020202020202020202020202\
+            16b0074e34e787097c0dc50e7154f35e156c5bce5c4b57a3320a4def13107a5a\n",
+        ),
+        (
+            &["sign", ID, FOURTH, "purge", "3", LEAF],
+            "cfb9e9fbf7eae0673e34a6585f436ab1b67fb0e9b1959537f004f802aeb25d55\n\
+            0404040404040404040404040404040404040404040404040404040404040404\
+            ac3e68fa40cccda54a0d6cc993d6de75c2d610d6b0d46c3d650a21ad259a8938\n",
+        ),
+    ];
+    for (words, want) in rows {
+        let script = joined(rt.alloc(), &["0 head\n"])?;
+        let (status, written) = run(rt.alloc(), words, script, NEVER, AMPLE, NEVER)?;
+        assert_eq!(rt; written.as_slice(), want.as_bytes(), "at {words:?}");
+        assert_eq!(rt; status, 0, "at {words:?}");
+    }
+    Ok(())
+}
+
+// Nothing is read: a source that would fail makes no difference. A fault of writing leaves a part.
+#[test]
+fn tells_faults_of_signing(rt: HostRuntime) -> Result<(), Fail> {
+    let rows: [(u64, usize, u64, u8, usize); 5] = [
+        (0, AMPLE, NEVER, 0, 194),
+        (NEVER, 194, NEVER, 0, 194),
+        (NEVER, 193, NEVER, 3, 193),
+        (NEVER, 70, 1, 3, 70),
+        (NEVER, AMPLE, 0, 3, 0),
+    ];
+    for (failing_read, room, failing_write, want_status, len) in rows {
+        let script = joined(rt.alloc(), &["0 head\n"])?;
+        let (status, written) = run(
+            rt.alloc(),
+            &APPEND,
+            script,
+            failing_read,
+            room,
+            failing_write,
+        )?;
+        let mut want = joined(rt.alloc(), &[APPEND_TEXT])?;
+        want.truncate(len);
+        assert_eq!(rt; written, want, "at {failing_read} {room} {failing_write}");
+        assert_eq!(rt;
+            status,
+            want_status,
+            "at {failing_read} {room} {failing_write}"
+        );
+    }
+    Ok(())
+}
+
+#[test]
+fn refuses_words_to_sign(rt: HostRuntime) -> Result<(), Fail> {
+    let rows: [&[&str]; 20] = [
+        &["sign"],
+        &["sign", ID, THIRD],
+        &["sign", ID, THIRD, "append"],
+        &["sign", ID, THIRD, "append", "2"],
+        &["sign", ID, THIRD, "append", "2", "inv"],
+        &["sign", ID, THIRD, "append", "2", "inv", "616263", "-"],
+        &["sign", ID, THIRD, "member", "2", FOURTH, "-"],
+        &["Sign", ID, THIRD, "member", "2", FOURTH],
+        &["sign", "0", THIRD, "member", "2", FOURTH],
+        &["sign", ID, "0", "member", "2", FOURTH],
+        &["sign", ID, THIRD, "extend", "2", FOURTH],
+        &["sign", ID, THIRD, "member", "4294967296", FOURTH],
+        &["sign", ID, THIRD, "member", "02", FOURTH],
+        &["sign", ID, THIRD, "occult", "18446744073709551616", LEAF],
+        &["sign", ID, THIRD, "purge", "3", "0"],
+        &["sign", ID, THIRD, "append", "4294967296", "inv", "616263"],
+        &["sign", ID, THIRD, "append", "2", "", "616263"],
+        &["sign", ID, THIRD, "append", "2", "in v", "616263"],
+        &["sign", ID, THIRD, "append", "2", "inv", ""],
+        &["sign", ID, THIRD, "append", "2", "inv", "6g"],
+    ];
+    for words in rows {
+        let (status, written) = run(rt.alloc(), words, Vec::new(rt.alloc()), NEVER, AMPLE, NEVER)?;
+        assert_eq!(rt; written.as_slice(), USAGE.as_bytes(), "at {words:?}");
+        assert_eq!(rt; status, 1, "at {words:?}");
+    }
+    Ok(())
+}
+
+// The status and the length of the text, for a record with this clue and this content.
+fn sign_append(alloc: Global, clue: &str, content: &str) -> Result<(u8, usize), NoMemory> {
+    let mut words = strings(alloc, &["sign", ID, THIRD, "append", "4294967295"])?;
+    words.push(String::from_str(alloc, clue)?)?;
+    words.push(String::from_str(alloc, content)?)?;
+    let mut source = MemSource::new(Bytes::of(Vec::new(alloc)), Vec::new(alloc));
+    let mut sink = MemSink::new(alloc, AMPLE, Vec::new(alloc))?;
+    let status = ledger_top(alloc, words.as_slice(), &mut source, &mut sink);
+    Ok((status, sink.written().len()))
+}
+
+// A clue's name has at most 64 bytes, a newline among them, and a content at most 65,536.
+#[test]
+fn bounds_words_to_sign(rt: HostRuntime) -> Result<(), Fail> {
+    let alloc = rt.alloc();
+    assert_eq!(rt; sign_append(alloc, "in\nv", "-")?, (0, 194));
+    assert_eq!(rt; sign_append(alloc, LONG_NAME, "-")?, (0, 194));
+    let name = "n".repeat(alloc, 65)?;
+    assert_eq!(rt; sign_append(alloc, name.as_str(), "-")?, (1, 13));
+    let content = "00".repeat(alloc, 65_536)?;
+    assert_eq!(rt; sign_append(alloc, "-", content.as_str())?, (0, 194));
+    let content = "00".repeat(alloc, 65_537)?;
+    assert_eq!(rt; sign_append(alloc, "-", content.as_str())?, (1, 13));
+    Ok(())
+}
+
+#[test]
+fn reads_words_to_sign(rt: HostRuntime) -> Result<(), Fail> {
+    let words = strings(rt.alloc(), &["sign", ID, THIRD, "occult", "7", LONG[2]])?;
+    let Some(Command::Sign(signing)) = Command::read(rt.alloc(), words.as_slice())? else {
+        return Err("these words make a request".into());
+    };
+    let leaf = Digest([0xab; 32]);
+    assert_eq!(rt; signing.key, Digest([3; 32]));
+    assert_eq!(rt; signing.request, Request::Occult { target: 7, leaf });
+    let purge = Signing {
+        request: Request::Purge {
+            point: 7,
+            root: leaf,
+        },
+        ..signing
+    };
+    assert_ne!(rt; signing.message(), purge.message());
+    assert!(rt; signing.text() != purge.text());
+    Ok(())
+}
