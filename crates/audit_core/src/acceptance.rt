@@ -17,11 +17,11 @@ pub fn accept<H: TreeHash>(proof: &[u8], claim: &Claim, heads: &Heads) -> Result
     // Yes comes exactly where the bytes spell a proof of this claim, and its leaf folds to the trusted root.
     ensures yes { IsOk result ↔ IsAccepted H.of proof.now claim.now heads.now }
 {
-    judge::<H>(proof, claim, heads)
+    answer_of::<H>(proof, claim, heads)
 }
 
 #[tactic(auto, unfolding(crate::specs::Acceptance::acceptance))]
-fn judge<H: TreeHash>(proof: &[u8], claim: &Claim, heads: &Heads) -> Result<(), No>
+fn answer_of<H: TreeHash>(proof: &[u8], claim: &Claim, heads: &Heads) -> Result<(), No>
     ensures { result ≡ acceptance H.of proof.now claim.now heads.now }
 {
     let proof = match Proof::decode(proof) {

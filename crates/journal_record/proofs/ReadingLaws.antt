@@ -1,20 +1,20 @@
 -- What is read as a header is spelled so and keeps the rules, and what does is read.
-use Rattle.std.proofs.Common.{◌≡◌, ℕ, ◌-◌, ◌^◌, ◌<◌, true, eqb, List, [], ◌∷◌, ◌++◌, length, Result, Ok, Err, refl, sym, ap, subst, ◌∙◌, append_assoc}
+use Rattle.std.proofs.Common.{◌≡◌, ◌≢◌, ℕ, ◌-◌, ◌^◌, ◌<◌, true, eqb, List, [], ◌∷◌, ◌++◌, length, length-append, take, arith, Result, Ok, Err, refl, sym, ap, subst, ◌∙◌, append_assoc}
 use Rattle.std.specs.Int.{w8, w32, w64, to_be_bytes}
 use Rattle.std.specs.Prelude.{IfOk}
 use Rattle.std.proofs.lemmas.Bool.{eqb-true}
 use Rattle.std.proofs.lemmas.List.{append-nil, nil_from_length}
 use Rattle.ledger_bytes.specs.declared.digest.Digest.{Digest}
 use Rattle.ledger_bytes.specs.declared.failure.Bad.{Bad}
-use Rattle.ledger_bytes.specs.declared.failure.Bad.TheVariants.{BadFixedField, NewerFormat, Trailing}
+use Rattle.ledger_bytes.specs.declared.failure.Bad.TheVariants.{BadFixedField, NewerFormat, Short, Trailing}
 use Rattle.ledger_bytes.specs.Fields.{Left, left, ◌>>=◌, number_at, digest_at, end_at, IsBytes, Took, ReadsBack}
-use Rattle.ledger_bytes.proofs.Fields.{bind_ok, check_ok, Took-then, wide32, wide64, number_back, byte_back, digest_back}
+use Rattle.ledger_bytes.proofs.Fields.{bind_ok, check_ok, Took-then, wide32, wide64, number_back, byte_back, digest_back, IsTextOf, text_none, text_then, digest_text, number_text, byte_text, cut_told, trailing_told}
 use Rattle.journal_record.specs.declared.header.Header.{Header}
 use Rattle.journal_record.specs.declared.header.Kind.{Kind}
 use Rattle.journal_record.specs.Header.{code_of, spelling, HasWidths}
 use Rattle.journal_record.specs.Rules.{version_ok, jsn_ok, member_ok, clue_ok, clue_ord_ok, clue_prev_ok, a_ok, b_ok, content_len_ok, IsHeader}
 use Rattle.journal_record.specs.Reading.{known_kind, front_at, clue_at, own_at, parts_at, header_at, header_of}
-use Rattle.journal_record.proofs.ReadingSteps.{ruled, plain_takes, plain_again, field_takes, field_again, kind_takes, kind_again, code_below, ended, answered}
+use Rattle.journal_record.proofs.ReadingSteps.{ruled, plain_takes, field_takes, field_text, kind_takes, kind_again, ended, answered}
 
 abbrev back32 : ReadsBack (number_at w32) (to_be_bytes w32) (λ n. n < 2 ^ 32)
 back32 = number_back w32 (2 ^ 32) wide32
@@ -71,21 +71,22 @@ front_takes l x after bytes e =
     let fits : IsFront (v.0.0, k.0, j.0.0, m.0.0) = record { version_width = v.2; jsn_width = j.2; member_width = m.2; version = v.3; jsn = j.3; member = m.3 } in
     answered front_text (IsFront) l (v.0.0, k.0, j.0.0, m.0.0) x m.0.1 after m.4 t3 fits
 
-regroup4 : (a b c d rest : List ℕ) → (a ++ b ++ c ++ d) ++ rest ≡ a ++ (b ++ (c ++ (d ++ rest)))
-regroup4 a b c d rest = simp append_assoc
+regroup4 : (a b c d : List ℕ) → a ++ b ++ c ++ d ≡ a ++ (b ++ (c ++ (d ++ [])))
+regroup4 a b c d = sym (append-nil (a ++ b ++ c ++ d)) ∙ simp append_assoc
 
-front_again : (x : Front) (whole : ℕ) (rest : List ℕ) → IsFront x → front_at (left whole (front_text x ++ rest)) ≡ Ok (x, left whole rest)
+front_is : (x : Front) (whole : ℕ) → IsFront x → IsTextOf front_at whole (front_text x) x
 unfolding front_at
-front_again x whole rest fits =
-    let r3 : List ℕ = to_be_bytes w32 x.3 ++ rest in
+front_is x whole fits =
+    let r3 : List ℕ = to_be_bytes w32 x.3 ++ [] in
     let r2 : List ℕ = to_be_bytes w64 x.2 ++ r3 in
     let r1 : List ℕ = code_of x.1 ∷ [] ++ r2 in
-    ap (λ (t : List ℕ). front_at (left whole t)) (regroup4 (x.0 ∷ []) (code_of x.1 ∷ []) (to_be_bytes w64 x.2) (to_be_bytes w32 x.3) rest)
-    ∙ field_again (number_at w8) (λ n. n ∷ []) (λ n. n < 2 ^ 8) byte_back version_ok NewerFormat from_version x.0 whole r1 fits.version_width fits.version
-    ∙ plain_again (number_at w8) (λ n. n ∷ []) (λ n. n < 2 ^ 8) byte_back (from_code x.0) (code_of x.1) whole r2 (code_below x.1)
-    ∙ ap (λ (k : Result Kind Bad). k >>= from_kind x.0 (left whole r2)) (kind_again x.1)
-    ∙ field_again (number_at w64) (to_be_bytes w64) (λ n. n < 2 ^ 64) back64 (jsn_ok x.1) (at_place 2) (from_jsn x.0 x.1) x.2 whole r3 fits.jsn_width fits.jsn
-    ∙ field_again (number_at w32) (to_be_bytes w32) (λ n. n < 2 ^ 32) back32 (member_ok x.1) (at_place 10) (from_member x.0 x.1 x.2) x.3 whole rest fits.member_width fits.member
+    let member = field_text (number_at w32) (member_ok x.1) (at_place 10) (from_member x.0 x.1 x.2) whole (to_be_bytes w32 x.3) [] x.3 x (number_text w32 (2 ^ 32) wide32 x.3 whole fits.member_width) fits.member (text_none whole x) in
+    let jsn = field_text (number_at w64) (jsn_ok x.1) (at_place 2) (from_jsn x.0 x.1) whole (to_be_bytes w64 x.2) r3 x.2 x (number_text w64 (2 ^ 64) wide64 x.2 whole fits.jsn_width) fits.jsn member in
+    let kind : IsTextOf (λ l. known_kind (code_of x.1) >>= from_kind x.0 l) whole r2 x =
+    subst (λ (k : Result Kind Bad). IsTextOf (λ l. k >>= from_kind x.0 l) whole r2 x) (sym (kind_again x.1)) jsn in
+    let code = text_then (number_at w8) (from_code x.0) whole (code_of x.1 ∷ []) r2 (code_of x.1) x (byte_text (code_of x.1) whole) kind in
+    let version = field_text (number_at w8) version_ok NewerFormat from_version whole (x.0 ∷ []) r1 x.0 x (byte_text x.0 whole) fits.version code in
+    subst (λ (t : List ℕ). IsTextOf front_at whole t x) (sym (regroup4 (x.0 ∷ []) (code_of x.1 ∷ []) (to_be_bytes w64 x.2) (to_be_bytes w32 x.3))) version
 
 -- ---- the clue
 
@@ -123,18 +124,18 @@ clue_takes kind jsn l x after bytes e =
     let fits : IsClue kind jsn (c.0.0, o.0.0, p.0.0) = record { clue_width = c.2; ord_width = o.2; prev_width = p.2; clue = c.3; ord = o.3; prev = p.3 } in
     answered clue_text (IsClue kind jsn) l (c.0.0, o.0.0, p.0.0) x p.0.1 after p.4 t2 fits
 
-regroup3 : (a b c rest : List ℕ) → (a ++ b ++ c) ++ rest ≡ a ++ (b ++ (c ++ rest))
-regroup3 a b c rest = simp append_assoc
+regroup3 : (a b c : List ℕ) → a ++ b ++ c ≡ a ++ (b ++ (c ++ []))
+regroup3 a b c = sym (append-nil (a ++ b ++ c)) ∙ simp append_assoc
 
-clue_again : (kind : Kind) (jsn : ℕ) (x : Clue) (whole : ℕ) (rest : List ℕ) → IsClue kind jsn x → clue_at kind jsn (left whole (clue_text x ++ rest)) ≡ Ok (x, left whole rest)
+clue_is : (kind : Kind) (jsn : ℕ) (x : Clue) (whole : ℕ) → IsClue kind jsn x → IsTextOf (clue_at kind jsn) whole (clue_text x) x
 unfolding clue_at
-clue_again kind jsn x whole rest fits =
-    let r2 : List ℕ = to_be_bytes w64 x.2 ++ rest in
+clue_is kind jsn x whole fits =
+    let r2 : List ℕ = to_be_bytes w64 x.2 ++ [] in
     let r1 : List ℕ = to_be_bytes w32 x.1 ++ r2 in
-    ap (λ (t : List ℕ). clue_at kind jsn (left whole t)) (regroup3 x.0.0 (to_be_bytes w32 x.1) (to_be_bytes w64 x.2) rest)
-    ∙ field_again digest_at (λ d. d.0) (λ d. length d.0 ≡ 32) digest_back (clue_ok kind) (at_place 14) (from_clue jsn) x.0 whole r1 fits.clue_width fits.clue
-    ∙ field_again (number_at w32) (to_be_bytes w32) (λ n. n < 2 ^ 32) back32 (clue_ord_ok x.0) (at_place 46) (from_ord jsn x.0) x.1 whole r2 fits.ord_width fits.ord
-    ∙ field_again (number_at w64) (to_be_bytes w64) (λ n. n < 2 ^ 64) back64 (clue_prev_ok jsn x.1) (at_place 50) (from_prev x.0 x.1) x.2 whole rest fits.prev_width fits.prev
+    let prev = field_text (number_at w64) (clue_prev_ok jsn x.1) (at_place 50) (from_prev x.0 x.1) whole (to_be_bytes w64 x.2) [] x.2 x (number_text w64 (2 ^ 64) wide64 x.2 whole fits.prev_width) fits.prev (text_none whole x) in
+    let ord = field_text (number_at w32) (clue_ord_ok x.0) (at_place 46) (from_ord jsn x.0) whole (to_be_bytes w32 x.1) r2 x.1 x (number_text w32 (2 ^ 32) wide32 x.1 whole fits.ord_width) fits.ord prev in
+    let clue = field_text digest_at (clue_ok kind) (at_place 14) (from_clue jsn) whole x.0.0 r1 x.0 x (digest_text x.0 whole fits.clue_width) fits.clue ord in
+    subst (λ (t : List ℕ). IsTextOf (clue_at kind jsn) whole t x) (sym (regroup3 x.0.0 (to_be_bytes w32 x.1) (to_be_bytes w64 x.2))) clue
 
 -- ---- what goes by the kind
 
@@ -171,15 +172,15 @@ own_takes kind jsn l x after bytes e =
     let fits : IsOwn kind jsn (a.0.0, b.0.0, k.0.0) = record { a_width = a.2; b_width = b.2; link_width = k.2; a = a.3; b = b.3 } in
     answered own_text (IsOwn kind jsn) l (a.0.0, b.0.0, k.0.0) x k.0.1 after k.3 t2 fits
 
-own_again : (kind : Kind) (jsn : ℕ) (x : Own) (whole : ℕ) (rest : List ℕ) → IsOwn kind jsn x → own_at kind jsn (left whole (own_text x ++ rest)) ≡ Ok (x, left whole rest)
+own_is : (kind : Kind) (jsn : ℕ) (x : Own) (whole : ℕ) → IsOwn kind jsn x → IsTextOf (own_at kind jsn) whole (own_text x) x
 unfolding own_at
-own_again kind jsn x whole rest fits =
-    let r2 : List ℕ = x.2.0 ++ rest in
+own_is kind jsn x whole fits =
+    let r2 : List ℕ = x.2.0 ++ [] in
     let r1 : List ℕ = to_be_bytes w64 x.1 ++ r2 in
-    ap (λ (t : List ℕ). own_at kind jsn (left whole t)) (regroup3 (to_be_bytes w64 x.0) (to_be_bytes w64 x.1) x.2.0 rest)
-    ∙ field_again (number_at w64) (to_be_bytes w64) (λ n. n < 2 ^ 64) back64 (a_ok kind jsn) (at_place 58) (from_a kind) x.0 whole r1 fits.a_width fits.a
-    ∙ field_again (number_at w64) (to_be_bytes w64) (λ n. n < 2 ^ 64) back64 (b_ok kind) (at_place 66) (from_b x.0) x.1 whole r2 fits.b_width fits.b
-    ∙ plain_again digest_at (λ d. d.0) (λ d. length d.0 ≡ 32) digest_back (from_link x.0 x.1) x.2 whole rest fits.link_width
+    let link = text_then digest_at (from_link x.0 x.1) whole x.2.0 [] x.2 x (digest_text x.2 whole fits.link_width) (text_none whole x) in
+    let b = field_text (number_at w64) (b_ok kind) (at_place 66) (from_b x.0) whole (to_be_bytes w64 x.1) r2 x.1 x (number_text w64 (2 ^ 64) wide64 x.1 whole fits.b_width) fits.b link in
+    let a = field_text (number_at w64) (a_ok kind jsn) (at_place 58) (from_a kind) whole (to_be_bytes w64 x.0) r1 x.0 x (number_text w64 (2 ^ 64) wide64 x.0 whole fits.a_width) fits.a b in
+    subst (λ (t : List ℕ). IsTextOf (own_at kind jsn) whole t x) (sym (regroup3 (to_be_bytes w64 x.0) (to_be_bytes w64 x.1) x.2.0)) a
 
 -- ---- the content's length and the digests
 
@@ -215,15 +216,15 @@ parts_takes kind l x after bytes e =
     let fits : IsParts kind (n.0.0, c.0.0, w.0.0) = record { len_width = n.2; content_width = c.2; who_width = w.2; len = n.3 } in
     answered parts_text (IsParts kind) l (n.0.0, c.0.0, w.0.0) x w.0.1 after w.3 t2 fits
 
-parts_again : (kind : Kind) (x : Parts) (whole : ℕ) (rest : List ℕ) → IsParts kind x → parts_at kind (left whole (parts_text x ++ rest)) ≡ Ok (x, left whole rest)
+parts_is : (kind : Kind) (x : Parts) (whole : ℕ) → IsParts kind x → IsTextOf (parts_at kind) whole (parts_text x) x
 unfolding parts_at
-parts_again kind x whole rest fits =
-    let r2 : List ℕ = x.2.0 ++ rest in
+parts_is kind x whole fits =
+    let r2 : List ℕ = x.2.0 ++ [] in
     let r1 : List ℕ = x.1.0 ++ r2 in
-    ap (λ (t : List ℕ). parts_at kind (left whole t)) (regroup3 (to_be_bytes w32 x.0) x.1.0 x.2.0 rest)
-    ∙ field_again (number_at w32) (to_be_bytes w32) (λ n. n < 2 ^ 32) back32 (content_len_ok kind) (at_place 106) from_len x.0 whole r1 fits.len_width fits.len
-    ∙ plain_again digest_at (λ d. d.0) (λ d. length d.0 ≡ 32) digest_back (from_content x.0) x.1 whole r2 fits.content_width
-    ∙ plain_again digest_at (λ d. d.0) (λ d. length d.0 ≡ 32) digest_back (from_who x.0 x.1) x.2 whole rest fits.who_width
+    let who = text_then digest_at (from_who x.0 x.1) whole x.2.0 [] x.2 x (digest_text x.2 whole fits.who_width) (text_none whole x) in
+    let content = text_then digest_at (from_content x.0) whole x.1.0 r2 x.1 x (digest_text x.1 whole fits.content_width) who in
+    let len = field_text (number_at w32) (content_len_ok kind) (at_place 106) from_len whole (to_be_bytes w32 x.0) r1 x.0 x (number_text w32 (2 ^ 32) wide32 x.0 whole fits.len_width) fits.len content in
+    subst (λ (t : List ℕ). IsTextOf (parts_at kind) whole t x) (sym (regroup3 (to_be_bytes w32 x.0) x.1.0 x.2.0)) len
 
 -- ---- the whole
 
@@ -327,31 +328,29 @@ header_takes l h after bytes e =
     let t3 = Took-then l (front_text f.0.0 ++ clue_text c.0.0 ++ own_text o.0.0) o.0.1 (parts_text p.0.0) p.0.1 t2 parts.0 in
     whole_answered l f.0.0 c.0.0 o.0.0 p.0.0 p.0.1 h after p.2 t3 front.1 clue.1 own.1 parts.1
 
-regroup_groups : (a b c d rest : List ℕ) → (a ++ b ++ c ++ d) ++ rest ≡ a ++ (b ++ (c ++ (d ++ rest)))
-regroup_groups a b c d rest = simp append_assoc
-
-header_again : (h : Header) (whole : ℕ) (rest : List ℕ) → IsWhole h → header_at (left whole (spelling h ++ rest)) ≡ Ok (h, left whole rest)
+header_is : (h : Header) (whole : ℕ) → IsWhole h → IsTextOf header_at whole (spelling h) h
 unfolding header_at
-header_again h whole rest fits =
+header_is h whole fits =
     let r = fits.rules in
     let w = fits.widths in
     let front : IsFront (front_of h) = record { version_width = w.version; jsn_width = w.jsn; member_width = w.member; version = r.version; jsn = r.jsn; member = r.member } in
     let clue : IsClue h.kind h.jsn (clue_of h) = record { clue_width = w.clue; ord_width = w.clue_ord; prev_width = w.clue_prev; clue = r.clue; ord = r.clue_ord; prev = r.clue_prev } in
     let own : IsOwn h.kind h.jsn (own_of h) = record { a_width = w.a; b_width = w.b; link_width = w.link; a = r.a; b = r.b } in
     let parts : IsParts h.kind (parts_of h) = record { len_width = w.content_len; content_width = w.content_digest; who_width = w.who_digest; len = r.content_len } in
-    let r3 : List ℕ = parts_text (parts_of h) ++ rest in
+    let r3 : List ℕ = parts_text (parts_of h) ++ [] in
     let r2 : List ℕ = own_text (own_of h) ++ r3 in
     let r1 : List ℕ = clue_text (clue_of h) ++ r2 in
-    ap (λ (t : List ℕ). header_at (left whole (t ++ rest))) (spelling_groups h)
-    ∙ ap (λ (t : List ℕ). header_at (left whole t)) (regroup_groups (front_text (front_of h)) (clue_text (clue_of h)) (own_text (own_of h)) (parts_text (parts_of h)) rest)
-    ∙ ap (λ (x : Result (Front × Left) Bad). x >>= from_front) (front_again (front_of h) whole r1 front)
-    ∙ ap (λ (x : Result (Clue × Left) Bad). x >>= from_clue_on (front_of h)) (clue_again h.kind h.jsn (clue_of h) whole r2 clue)
-    ∙ ap (λ (x : Result (Own × Left) Bad). x >>= from_own (front_of h) (clue_of h)) (own_again h.kind h.jsn (own_of h) whole r3 own)
-    ∙ ap (λ (x : Result (Parts × Left) Bad). x >>= from_parts (front_of h) (clue_of h) (own_of h)) (parts_again h.kind (parts_of h) whole rest parts)
+    let parts_text_is = text_then (parts_at h.kind) (from_parts (front_of h) (clue_of h) (own_of h)) whole (parts_text (parts_of h)) [] (parts_of h) h (parts_is h.kind (parts_of h) whole parts) (text_none whole h) in
+    let own_text_is = text_then (own_at h.kind h.jsn) (from_own (front_of h) (clue_of h)) whole (own_text (own_of h)) r3 (own_of h) h (own_is h.kind h.jsn (own_of h) whole own) parts_text_is in
+    let clue_text_is = text_then (clue_at h.kind h.jsn) (from_clue_on (front_of h)) whole (clue_text (clue_of h)) r2 (clue_of h) h (clue_is h.kind h.jsn (clue_of h) whole clue) own_text_is in
+    let all = text_then front_at from_front whole (front_text (front_of h)) r1 (front_of h) h (front_is (front_of h) whole front) clue_text_is in
+    let text : spelling h ≡ front_text (front_of h) ++ r1 =
+    spelling_groups h ∙ regroup4 (front_text (front_of h)) (clue_text (clue_of h)) (own_text (own_of h)) (parts_text (parts_of h)) in
+    subst (λ (t : List ℕ). IsTextOf header_at whole t h) (sym text) all
 
 -- reading a header is the inverse of spelling it
 pub header_back : ReadsBack header_at spelling IsWhole
-header_back = record { again = header_again; takes = header_takes }
+header_back = record { again = λ h whole rest fits. (header_is h whole fits).again rest; takes = header_takes }
 
 -- ---- all of the bytes
 
@@ -370,7 +369,7 @@ header_of_again : (h : Header) → IsWhole h → header_of (spelling h) ≡ Ok h
 unfolding header_of
 header_of_again h fits =
     let read : header_at (left (length (spelling h)) (spelling h)) ≡ Ok (h, left (length (spelling h)) []) =
-    ap (λ (t : List ℕ). header_at (left (length (spelling h)) t)) (sym (append-nil (spelling h))) ∙ header_again h (length (spelling h)) [] fits in
+    ap (λ (t : List ℕ). header_at (left (length (spelling h)) t)) (sym (append-nil (spelling h))) ∙ (header_is h (length (spelling h)) fits).again [] in
     rw read refl
 
 pub header_of_only : (bytes : List ℕ) (h : Header) → IsHeader h → HasWidths h → bytes ≡ spelling h → header_of bytes ≡ Ok h
@@ -379,3 +378,20 @@ header_of_only bytes h rules widths e = ap header_of e ∙ header_of_again h (re
 pub header_of_found : (bytes : List ℕ) (read : Result Header Bad) → IsBytes bytes → read ≡ header_of bytes → IfOk read (λ h. IsHeader h × (bytes ≡ spelling h))
 header_of_found bytes (Ok h) fits e = header_of_takes bytes h fits (sym e)
 header_of_found bytes (Err d) fits e = tt
+
+-- ---- where the end of a header is cut off, or bytes are left behind it
+
+length-spelling : (h : Header) → HasWidths h → length (spelling h) ≡ 174
+unfolding spelling
+length-spelling h w = simp length-append (omega (arith, w.clue, w.link, w.content_digest, w.who_digest))
+
+pub header_of_cut : (bytes : List ℕ) (h : Header) (k : ℕ) → IsHeader h → HasWidths h → k < 174 → bytes ≡ take k (spelling h) → header_of bytes ≡ Err (Short k)
+unfolding header_of
+header_of_cut bytes h k rules widths lt e =
+    cut_told header_at bytes (spelling h) h k (header_is h (length bytes) (record { rules = rules; widths = widths })) (omega (arith, length-spelling h widths)) e
+
+pub header_of_trailing : (bytes : List ℕ) (h : Header) (rest : List ℕ) → IsHeader h → HasWidths h → rest ≢ [] → bytes ≡ spelling h ++ rest → header_of bytes ≡ Err (Trailing 174)
+unfolding header_of
+header_of_trailing bytes h rest rules widths some e =
+    trailing_told header_at bytes (spelling h) rest h (header_is h (length bytes) (record { rules = rules; widths = widths })) some e
+    ∙ ap (λ (n : ℕ). Err (Trailing n)) (length-spelling h widths)

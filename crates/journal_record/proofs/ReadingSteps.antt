@@ -1,9 +1,9 @@
 -- One step of a reading: a field, and the rule that it keeps.
-use Rattle.std.proofs.Common.{◌≡◌, ◌<◌, ◌^◌, arith, ℕ, zero, suc, Bool, true, cond, List, ◌++◌, Option, Some, None, Result, Ok, Err, refl, sym, ap, subst, ◌∙◌}
+use Rattle.std.proofs.Common.{◌≡◌, ◌<◌, ◌^◌, arith, ℕ, zero, suc, Bool, true, cond, List, ◌++◌, Option, Some, None, Result, Ok, Err, refl, sym, ap, subst}
 use Rattle.std.specs.Prelude.{ok_or}
 use Rattle.ledger_bytes.specs.declared.failure.Bad.{Bad}
-use Rattle.ledger_bytes.specs.Fields.{Left, left, ◌>>=◌, IsBytes, Took, ReadsBack}
-use Rattle.ledger_bytes.proofs.Fields.{bind_ok, check_ok, ok_is}
+use Rattle.ledger_bytes.specs.Fields.{Left, ◌>>=◌, IsBytes, Took, ReadsBack}
+use Rattle.ledger_bytes.proofs.Fields.{bind_ok, check_ok, ok_is, IsTextOf, text_then}
 use Rattle.journal_record.specs.declared.header.Kind.{Kind}
 use Rattle.journal_record.specs.declared.header.Kind.TheVariants.{Genesis, Content, Member, Time, Occult, Purge}
 use Rattle.journal_record.specs.Header.{code_of}
@@ -30,9 +30,6 @@ module _ {A B : Type 0} (read : Left → Result (A × Left) Bad) (spell : A → 
       let t = back.takes l a.0.0 a.0.1 bytes a.1 in
       (a.0, t.0, t.1, a.2)
 
-  pub plain_again : (f : A × Left → Result B Bad) (v : A) (whole : ℕ) (rest : List ℕ) → fits v → (read (left whole (spell v ++ rest)) >>= f) ≡ f (v, left whole rest)
-  plain_again f v whole rest fit = ap (λ r. r >>= f) (back.again v whole rest fit)
-
   module _ (ok : A → Bool) (bad : A → Bad) where
     -- a field that has a rule
     pub field_takes : (f : A × Left → Result B Bad) (l : Left) (y : B) → IsBytes l.rest → (read l >>= ruled ok bad f) ≡ Ok y → (v : A × Left) × Took l (spell v.0) v.1 × fits v.0 × (ok v.0 ≡ true) × (f v ≡ Ok y)
@@ -42,10 +39,11 @@ module _ {A B : Type 0} (read : Left → Result (A × Left) Bad) (spell : A → 
         let rule = check_ok (ok a.0.0) (bad a.0.0) tt b.0 b.1 in
         (a.0, a.1, a.2, rule.0, b.2)
 
-    pub field_again : (f : A × Left → Result B Bad) (v : A) (whole : ℕ) (rest : List ℕ) → fits v → ok v ≡ true → (read (left whole (spell v ++ rest)) >>= ruled ok bad f) ≡ f (v, left whole rest)
-    field_again f v whole rest fit rule =
-        plain_again (ruled ok bad f) v whole rest fit
-        ∙ ap (λ b. test b (bad v) >>= λ _. f (v, left whole rest)) rule
+-- a field that keeps its rule, and what follows it
+pub field_text : {A B : Type 0} (read : Left → Result (A × Left) Bad) (ok : A → Bool) (bad : A → Bad) (f : A × Left → Result (B × Left) Bad) (whole : ℕ) (t u : List ℕ) (x : A) (y : B)
+    → IsTextOf read whole t x → ok x ≡ true → IsTextOf (λ l. f (x, l)) whole u y → IsTextOf (λ l. read l >>= ruled ok bad f) whole (t ++ u) y
+field_text read ok bad f whole t u x y first rule second =
+    text_then read (ruled ok bad f) whole t u x y first (subst (λ b. IsTextOf (λ l. test b (bad x) >>= λ _. f (x, l)) whole u y) (sym rule) second)
 
 -- what was taken is what is answered
 pub answered : {A : Type 0} (text : A → List ℕ) (fits : A → Type 0) (l : Left) (x y : A) (b c : Left) → ended x b ≡ ended y c → Took l (text x) b → fits x → Took l (text y) c × fits y

@@ -1,17 +1,13 @@
 -- Reading a header from left to right, with the first break that is met.
-use Rattle.std.specs.Prelude.{ℕ, Bool, List, length, Result, Ok, Err, if◌then◌else◌, ok_or}
+use Rattle.std.specs.Prelude.{ℕ, List, length, Result, Ok, Err, if◌then◌else◌, ok_or}
 use Rattle.std.specs.Int.{w8, w32, w64}
 use Rattle.ledger_bytes.specs.declared.digest.Digest.{Digest}
 use Rattle.ledger_bytes.specs.declared.failure.Bad.{Bad}
-use Rattle.ledger_bytes.specs.declared.failure.Bad.TheVariants.{BadKind, BadFixedField, NewerFormat}
-use Rattle.ledger_bytes.specs.Fields.{Left, left, ◌>>=◌, number_at, digest_at, end_at}
+use Rattle.ledger_bytes.specs.declared.failure.Bad.TheVariants.{BadKind, NewerFormat}
+use Rattle.ledger_bytes.specs.Fields.{Left, left, ◌>>=◌, number_at, digest_at, check, end_at}
 use Rattle.journal_record.specs.declared.header.Header.{Header}
 use Rattle.journal_record.specs.declared.header.Kind.{Kind}
 use Rattle.journal_record.specs.Rules.{kind_of, version_ok, jsn_ok, member_ok, clue_ok, clue_ord_ok, clue_prev_ok, a_ok, b_ok, content_len_ok}
-
--- a field that keeps its rule, and else a break at its place
-abbrev pub check : Bool → ℕ → Result (Unit {0}) Bad
-check ok at = if ok then Ok tt else Err (BadFixedField at)
 
 -- a version that is known
 abbrev pub known_version : ℕ → Result (Unit {0}) Bad

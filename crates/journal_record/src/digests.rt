@@ -1,7 +1,9 @@
-ghost use Rattle.std.specs.Prelude.{◌≡◌, ◌∷◌};
+ghost use Rattle.std.specs.Prelude.{◌≡◌, ◌<◌, ◌^◌, [], ◌∷◌, length};
 ghost use Rattle.sha2.specs.Sha256.{sha256};
+ghost use Rattle.journal_record.specs.Approval.{who_of};
 ghost use Rattle.journal_record.specs.Entry.{content_digest_of, who_digest_of};
 
+use crate::Approval;
 use ledger_bytes::{Digest, Sha, TreeHash};
 
 /// The byte in front of a hashed content.
@@ -22,6 +24,20 @@ pub fn who_digest(who: &[u8]) -> Digest
     ensures { result.0 ≡ who_digest_of who.now }
 {
     tagged_digest(WHO_TAG, who)
+}
+
+/// The digest of the bytes that show that one member alone placed a journal: of [`who_bytes`](crate::who_bytes) of its
+/// approval. It takes no memory.
+pub fn approval_digest(by: &Approval) -> Digest
+    requires { length by.now.proof < 2 ^ 16 }
+    ensures { result.0 ≡ who_digest_of (who_of (by.now ∷ [])) }
+{
+    let proof = by.proof.as_slice();
+    let mut hasher = Sha::start(WHO_TAG);
+    hasher.add(&by.member.to_be_bytes());
+    hasher.add(&(proof.len() as u16).to_be_bytes());
+    hasher.add(proof);
+    hasher.end()
 }
 
 fn tagged_digest(tag: u8, bytes: &[u8]) -> Digest

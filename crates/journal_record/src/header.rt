@@ -1,4 +1,4 @@
-ghost use Rattle.std.specs.Prelude.{◌≡◌, IfOk, Ok};
+ghost use Rattle.std.specs.Prelude.{◌≡◌, ◌≢◌, ◌<◌, ℕ, List, [], ◌++◌, take, IfOk, Ok, Err};
 
 use crate::filling::Filling;
 use crate::reading::read;
@@ -102,6 +102,12 @@ impl Header {
         ensures found { IfOk result (λ h. IsHeader h × (bytes.now ≡ spelling h)) }
         // What keeps every rule and is spelled so is read.
         ensures only { (h : HeaderRecord) → IsHeader h → HasWidths h → bytes.now ≡ spelling h → result ≡ Ok h }
+        // What is left of a header when its end is cut off is too short.
+        ensures cut { (h : HeaderRecord) (k : ℕ) → IsHeader h → HasWidths h → k < 174
+            → bytes.now ≡ take k (spelling h) → result ≡ Err (Bad.Short k) }
+        // Bytes behind a header are told by the place of the first.
+        ensures trailing { (h : HeaderRecord) (rest : List ℕ) → IsHeader h → HasWidths h → rest ≢ []
+            → bytes.now ≡ spelling h ++ rest → result ≡ Err (Bad.Trailing 174) }
     {
         read(bytes)
     }

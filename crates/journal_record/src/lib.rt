@@ -11,7 +11,7 @@ mod rules;
 mod tags;
 
 pub use approval::{Approval, who_bytes};
-pub use digests::{content_digest, who_digest};
+pub use digests::{approval_digest, content_digest, who_digest};
 pub use header::{HEADER_LEN, Header, Kind};
 pub use reading::{is_inverse_of_encoding, take_header};
 pub use request::{

@@ -10,7 +10,7 @@ use crate::rules::{
     a_ok, b_ok, clue_ok, clue_ord_ok, clue_prev_ok, content_len_ok, jsn_ok, member_ok, version_ok,
 };
 use crate::{Header, Kind};
-use ledger_bytes::{Bad, Digest, FieldReader};
+use ledger_bytes::{Bad, Digest, FieldReader, check_field};
 
 /// The header that all the bytes spell.
 #[tactic(auto, unfolding(crate::specs::Reading::header_of))]
@@ -59,9 +59,9 @@ fn take_front(reader: &mut FieldReader) -> Result<(u8, Kind, u64, u32), Bad>
     let code = reader.take_u8()?;
     let kind = known_kind(code)?;
     let jsn = reader.take_u64()?;
-    check(jsn_ok(kind, jsn), 2)?;
+    check_field(jsn_ok(kind, jsn), 2)?;
     let member = reader.take_u32()?;
-    check(member_ok(kind, member), 10)?;
+    check_field(member_ok(kind, member), 10)?;
     Ok((version, kind, jsn, member))
 }
 
@@ -71,11 +71,11 @@ fn take_clue(reader: &mut FieldReader, kind: Kind, jsn: u64) -> Result<(Digest, 
     ensures { Fits result reader.new (reading.clue_at kind jsn reader.old) }
 {
     let clue = reader.take_digest()?;
-    check(clue_ok(kind, &clue), 14)?;
+    check_field(clue_ok(kind, &clue), 14)?;
     let clue_ord = reader.take_u32()?;
-    check(clue_ord_ok(&clue, clue_ord), 46)?;
+    check_field(clue_ord_ok(&clue, clue_ord), 46)?;
     let clue_prev = reader.take_u64()?;
-    check(clue_prev_ok(jsn, clue_ord, clue_prev), 50)?;
+    check_field(clue_prev_ok(jsn, clue_ord, clue_prev), 50)?;
     Ok((clue, clue_ord, clue_prev))
 }
 
@@ -85,9 +85,9 @@ fn take_own(reader: &mut FieldReader, kind: Kind, jsn: u64) -> Result<(u64, u64,
     ensures { Fits result reader.new (reading.own_at kind jsn reader.old) }
 {
     let a = reader.take_u64()?;
-    check(a_ok(kind, jsn, a), 58)?;
+    check_field(a_ok(kind, jsn, a), 58)?;
     let b = reader.take_u64()?;
-    check(b_ok(kind, b), 66)?;
+    check_field(b_ok(kind, b), 66)?;
     let link = reader.take_digest()?;
     Ok((a, b, link))
 }
@@ -98,7 +98,7 @@ fn take_parts(reader: &mut FieldReader, kind: Kind) -> Result<(u32, Digest, Dige
     ensures { Fits result reader.new (reading.parts_at kind reader.old) }
 {
     let content_len = reader.take_u32()?;
-    check(content_len_ok(kind, content_len), 106)?;
+    check_field(content_len_ok(kind, content_len), 106)?;
     let content_digest = reader.take_digest()?;
     let who_digest = reader.take_digest()?;
     Ok((content_len, content_digest, who_digest))
@@ -125,17 +125,6 @@ fn known_kind(code: u8) -> Result<Kind, Bad>
         4 => Ok(Kind::Occult),
         5 => Ok(Kind::Purge),
         found => Err(Bad::BadKind { found }),
-    }
-}
-
-/// A field keeps its rule.
-fn check(is_ok: bool, at: u64) -> Result<(), Bad>
-    ensures { result ≡ reading.check is_ok at }
-{
-    if is_ok {
-        Ok(())
-    } else {
-        Err(Bad::BadFixedField { at })
     }
 }
 

@@ -137,5 +137,9 @@ fn bytes_of_approvals(rt: HostRuntime) -> Result<(), Fail> {
     let who = who_bytes(alloc, &given)?;
     let text = hex::encode(alloc, who.as_slice())?;
     assert_eq!(rt; text.as_str(), wanted);
+    let operator = "117bd58e4e8c3084e0bab9ae42d8c4fd2fd51f289967eb6498fb8132b3396704";
+    let regulator = "0cac3356a97afba7f810d6b36589fb2bac7aca8ec6cae37e6273664dc0ae7202";
+    assert_eq!(rt; approval_digest(&given[0]), digest(operator)?);
+    assert_eq!(rt; approval_digest(&given[1]), digest(regulator)?);
     Ok(())
 }

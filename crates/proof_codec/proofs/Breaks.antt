@@ -1,17 +1,17 @@
--- How the bytes of a proof break: which breaks there are, and which one it is where the end was cut off.
-use Rattle.std.proofs.Common.{◌≡◌, ℕ, ◌+◌, ◌-◌, ◌*◌, ◌/◌, ◌<◌, Bool, true, false, cond, eqb, ltb, List, [], ◌∷◌, ◌++◌, length, take, Result, Ok, Err, refl, sym, ap, subst, ◌∙◌, arith, inl, inr, length-append, ◌^◌}
+-- How the bytes of a proof break: which breaks there are, and which one it is where the end was
+-- cut off, bytes are left, or a byte breaks its rule.
+use Rattle.std.proofs.Common.{◌≡◌, ◌≢◌, ℕ, ◌+◌, ◌-◌, ◌*◌, ◌/◌, ◌^◌, ◌<◌, ◌≤◌, Bool, true, false, cond, eqb, ltb, List, [], ◌∷◌, ◌++◌, length, length-append, take, Result, Ok, Err, inl, inr, refl, sym, ap, ◌∙◌, append_assoc, arith}
 use Rattle.std.specs.Prelude.{IfErr}
-use Rattle.std.specs.Int.{Width, w8, w64, to_be_bytes, byte_len}
-use Rattle.std.proofs.lemmas.Bool.{cases_lt, lt-ltb, le-ltb}
-use Rattle.std.proofs.lemmas.List.{take-append-le, length-take, append-nil}
-use Rattle.std.proofs.Math.Seq.{take-append-add}
+use Rattle.std.specs.Int.{Width, w8, w64, byte_len, to_be_bytes}
+use Rattle.std.proofs.lemmas.Bool.{le-ltb, ne_eqb, cases_lt}
+use Rattle.std.proofs.lemmas.List.{length-take, take_at}
 use Rattle.ledger_bytes.specs.declared.failure.Bad.{Bad}
-use Rattle.ledger_bytes.specs.declared.failure.Bad.TheVariants.{Short, Trailing, TooLong}
-use Rattle.ledger_bytes.specs.Fields.{Left, left, ◌>>=◌, bytes_at, number_at, digest_at, end_at}
-use Rattle.ledger_bytes.proofs.Fields.{wide64, number_again, digest_again, byte_again}
+use Rattle.ledger_bytes.specs.declared.failure.Bad.TheVariants.{Short, Trailing, BadFixedField, TooLong}
+use Rattle.ledger_bytes.specs.Fields.{Left, left, ◌>>=◌, bytes_at, number_at, digest_at, check, end_at}
+use Rattle.ledger_bytes.proofs.Fields.{wide64, number_again, digest_again, byte_again, cut_told, trailing_told}
 use Rattle.proof_codec.specs.Proofs.{Shown, spelling, HasFields, IsProof}
-use Rattle.proof_codec.specs.Reading.{check, digests_at, flag_at, proof_at, proof_of, IsBreak}
-use Rattle.proof_codec.proofs.Laws.{counted, IsPath, digests_again, flag_again, from_upper, from_lower, from_path, from_leaf, from_n, from_size, from_check, from_version, regroup}
+use Rattle.proof_codec.specs.Reading.{digests_at, flag_at, proof_at, proof_of, IsBreak}
+use Rattle.proof_codec.proofs.Laws.{counted, IsPath, digests_text, flag_text, from_upper, from_lower, from_path, from_leaf, from_n, from_size, from_check, from_version, proof_text, up_to_path, regroup_path, spelling_parts, length-up_to_path, length-spelling}
 
 -- ---- which breaks there are
 
@@ -73,88 +73,87 @@ proof_of_breaks bytes =
 
 -- ---- where the end was cut off
 
-cut_then : {A B : Type 0} (read : Left → Result (A × Left) Bad) (f : A × Left → Result B Bad) (t u : List ℕ) (x : A) (whole k : ℕ)
-    → ((rest : List ℕ) → read (left whole (t ++ rest)) ≡ Ok (x, left whole rest))
-    → ((j : ℕ) → j < length t → read (left whole (take j t)) ≡ Err (Short whole))
-    → ((j : ℕ) → j < length u → f (x, left whole (take j u)) ≡ Err (Short whole))
-    → k < length (t ++ u) → (read (left whole (take k (t ++ u))) >>= f) ≡ Err (Short whole)
-cut_then read f t u x whole k again first second lt =
-    elim (cases_lt k (length t)) [
-      | inl within ↦
-          let e : take k (t ++ u) ≡ take k t = take-append-le k t u (omega arith) in
-          rw (e, first k within) refl
-      | inr past ↦
-          let n : k ≡ length t + (k - length t) = omega arith in
-          let e : take k (t ++ u) ≡ t ++ take (k - length t) u = ap (λ (i : ℕ). take i (t ++ u)) n ∙ take-append-add t u (k - length t) in
-          rw (e, again (take (k - length t) u)) (second (k - length t) (omega (arith, length-append t u)))
-    ]
+pub proof_of_cut : (bytes : List ℕ) (p : Shown) (k : ℕ) → IsProof p → k < length (spelling p) → bytes ≡ take k (spelling p) → proof_of bytes ≡ Err (Short k)
+unfolding proof_of
+proof_of_cut bytes p k is_proof lt e =
+    let short : ltb 8192 (length bytes) ≡ false = le-ltb _ _ (omega (arith, is_proof.room, ap length e, length-take k (spelling p))) in
+    rw short (cut_told proof_at bytes (spelling p) p k (proof_text p (length bytes) is_proof.fields) lt e)
 
-number_cut : (w : Width) (t : List ℕ) (whole : ℕ) → length t ≡ byte_len w → (j : ℕ) → j < length t → number_at w (left whole (take j t)) ≡ Err (Short whole)
-number_cut w t whole len j lt =
-    let short : ltb (length (take j t)) (byte_len w) ≡ true = lt-ltb _ _ (omega (arith, length-take j t)) in
-    rw short refl
+-- ---- where bytes are left behind the end
 
-bytes_cut : (n : ℕ) (t : List ℕ) (whole : ℕ) → length t ≡ n → (j : ℕ) → j < length t → bytes_at n (left whole (take j t)) ≡ Err (Short whole)
-bytes_cut n t whole len j lt =
-    let short : ltb (length (take j t)) n ≡ true = lt-ltb _ _ (omega (arith, length-take j t)) in
-    rw short refl
+pub proof_of_trailing : (bytes : List ℕ) (p : Shown) (rest : List ℕ) → IsProof p → rest ≢ [] → length bytes ≤ 8192 → bytes ≡ spelling p ++ rest → proof_of bytes ≡ Err (Trailing (length (spelling p)))
+unfolding proof_of
+proof_of_trailing bytes p rest is_proof some room e =
+    let short : ltb 8192 (length bytes) ≡ false = le-ltb _ _ room in
+    rw short (trailing_told proof_at bytes (spelling p) rest p (proof_text p (length bytes) is_proof.fields) some e)
 
-digest_cut : (t : List ℕ) (whole : ℕ) → length t ≡ 32 → (j : ℕ) → j < length t → digest_at (left whole (take j t)) ≡ Err (Short whole)
-digest_cut t whole len j lt =
-    let short : ltb (length (take j t)) 32 ≡ true = lt-ltb _ _ (omega (arith, length-take j t)) in
-    rw short refl
+-- ---- where a byte breaks its rule
 
-digests_cut : (path : List ℕ) (whole : ℕ) → IsPath path → (j : ℕ) → j < length (counted path) → digests_at (left whole (take j (counted path))) ≡ Err (Short whole)
-unfolding digests_at
-digests_cut path whole fits j lt =
-    let count : ℕ = length path / 32 in
-    let size : length path ≡ 32 * count = omega (arith, fits.whole) in
-    cut_then (number_at w8) (λ count. bytes_at (32 * count.0) count.1) (count ∷ []) path count whole j
-    (byte_again count whole) (number_cut w8 (count ∷ []) whole refl) (bytes_cut (32 * count) path whole size) lt
+pub proof_of_version : (bytes : List ℕ) (version : ℕ) (rest : List ℕ) → version ≢ 1 → length bytes ≤ 8192 → bytes ≡ version ∷ rest → proof_of bytes ≡ Err (BadFixedField 0)
+unfolding proof_of proof_at
+proof_of_version bytes version rest other room e =
+    let short : ltb 8192 (length bytes) ≡ false = le-ltb _ _ room in
+    let wrong : eqb version 1 ≡ false = ne_eqb version 1 other in
+    rw (short, e, byte_again version (length (version ∷ rest)) rest, wrong) refl
 
-flag_cut : (at whole : ℕ) (j : ℕ) → j < 1 → flag_at at (left whole (take j (0 ∷ []))) ≡ Err (Short whole)
+flag_wrong : (at flag whole : ℕ) (rest : List ℕ) → flag ≢ 0 → flag_at at (left whole (flag ∷ rest)) ≡ Err (BadFixedField at)
 unfolding flag_at
-flag_cut at whole j lt =
-    cut_then (number_at w8) (λ flag. check (eqb flag.0 0) at >>= λ _. Ok (tt, flag.1)) (0 ∷ []) [] 0 whole j
-    (byte_again 0 whole) (number_cut w8 (0 ∷ []) whole refl) (λ i below. absurd (omega arith)) lt
+flag_wrong at flag whole rest other =
+    let wrong : eqb flag 0 ≡ false = ne_eqb flag 0 other in
+    rw (byte_again flag whole rest, wrong) refl
 
-proof_cut : (p : Shown) (whole k : ℕ) → HasFields p → k < length (spelling p) → proof_at (left whole (take k (spelling p))) ≡ Err (Short whole)
-unfolding proof_at spelling
-proof_cut p whole k fits lt =
+-- the fields of a proof are read up to its path
+proof_up_to_path : (p : Shown) (whole : ℕ) (rest : List ℕ) → HasFields p → proof_at (left whole (up_to_path p ++ rest)) ≡ from_path p.size p.n p.leaf (p.path, left whole rest)
+unfolding proof_at
+proof_up_to_path p whole rest fits =
     let S : List ℕ = to_be_bytes w64 p.size in
     let N : List ℕ = to_be_bytes w64 p.n in
     let D : List ℕ = p.leaf.0 in
     let C : List ℕ = (length p.path / 32) ∷ [] in
     let path : IsPath p.path = record { whole = fits.whole; count = fits.count } in
-    let r5 : List ℕ = 0 ∷ (0 ∷ []) in
-    let r4 : List ℕ = counted p.path ++ r5 in
+    let r4 : List ℕ = counted p.path ++ rest in
     let r3 : List ℕ = D ++ r4 in
     let r2 : List ℕ = N ++ r3 in
     let r1 : List ℕ = S ++ r2 in
-    let regrouped : spelling p ≡ 1 ∷ [] ++ r1 = sym (append-nil (spelling p)) ∙ regroup (1 ∷ []) S N D C p.path (0 ∷ []) (0 ∷ []) [] in
-    let from_lower_cut : (j : ℕ) → j < 1 → from_lower p.size p.n p.leaf p.path (tt, left whole (take j (0 ∷ []))) ≡ Err (Short whole) =
-    λ j below. rw (flag_cut (51 + length p.path) whole j below) refl in
-    let from_path_cut : (j : ℕ) → j < length r5 → from_path p.size p.n p.leaf (p.path, left whole (take j r5)) ≡ Err (Short whole) =
-    λ j below. cut_then (flag_at (50 + length p.path)) (from_lower p.size p.n p.leaf p.path) (0 ∷ []) (0 ∷ []) tt whole j (flag_again (50 + length p.path) whole) (flag_cut (50 + length p.path) whole) from_lower_cut below in
-    let from_leaf_cut : (j : ℕ) → j < length r4 → from_leaf p.size p.n (p.leaf, left whole (take j r4)) ≡ Err (Short whole) =
-    λ j below. cut_then digests_at (from_path p.size p.n p.leaf) (counted p.path) r5 p.path whole j (λ rest. digests_again p.path whole rest path) (digests_cut p.path whole path) from_path_cut below in
-    let from_n_cut : (j : ℕ) → j < length r3 → from_n p.size (p.n, left whole (take j r3)) ≡ Err (Short whole) =
-    λ j below. cut_then digest_at (from_leaf p.size p.n) D r4 p.leaf whole j (λ rest. digest_again p.leaf whole rest fits.leaf) (digest_cut D whole fits.leaf) from_leaf_cut below in
-    let from_size_cut : (j : ℕ) → j < length r2 → from_size (p.size, left whole (take j r2)) ≡ Err (Short whole) =
-    λ j below. cut_then (number_at w64) (from_n p.size) N r3 p.n whole j (λ rest. number_again w64 (2 ^ 64) wide64 p.n whole rest fits.n) (number_cut w64 N whole refl) from_n_cut below in
-    let from_version_cut : (j : ℕ) → j < length r1 → from_version (1, left whole (take j r1)) ≡ Err (Short whole) =
-    λ j below. cut_then (number_at w64) from_size S r2 p.size whole j (λ rest. number_again w64 (2 ^ 64) wide64 p.size whole rest fits.size) (number_cut w64 S whole refl) from_size_cut below in
-    let below : k < length (1 ∷ [] ++ r1) = subst (λ (t : List ℕ). k < length t) regrouped lt in
-    ap (λ (t : List ℕ). proof_at (left whole (take k t))) regrouped
-    ∙ cut_then (number_at w8) from_version (1 ∷ []) r1 1 whole k (byte_again 1 whole) (number_cut w8 (1 ∷ []) whole refl) from_version_cut below
+    ap (λ (t : List ℕ). proof_at (left whole t)) (regroup_path (1 ∷ []) S N D C p.path rest)
+    ∙ rw (byte_again 1 whole r1, number_again w64 (2 ^ 64) wide64 p.size whole r2 fits.size, number_again w64 (2 ^ 64) wide64 p.n whole r3 fits.n, digest_again p.leaf whole r4 fits.leaf, (digests_text p.path whole path).again rest) refl
 
-pub proof_of_cut : (bytes : List ℕ) (p : Shown) (k : ℕ) → IsProof p → k < length (spelling p) → bytes ≡ take k (spelling p) → proof_of bytes ≡ Err (Short k)
+proof_flag : (p : Shown) (at flag whole : ℕ) (rest : List ℕ) → HasFields p → 50 + length p.path ≤ at → at < length (spelling p) → flag ≢ 0
+    → proof_at (left whole (take at (spelling p) ++ flag ∷ rest)) ≡ Err (BadFixedField at)
+proof_flag p at flag whole rest fits low high other =
+    let front : List ℕ = up_to_path p in
+    let len : length front ≡ 50 + length p.path = length-up_to_path p fits.leaf in
+    let all : length (spelling p) ≡ 52 + length p.path = length-spelling p fits.leaf in
+    elim (cases_lt at (51 + length p.path)) [
+      | inl first ↦
+          let is : at ≡ 50 + length p.path = omega arith in
+          let text : take at (spelling p) ≡ front =
+          ap (take at) (spelling_parts p) ∙ take_at front (0 ∷ (0 ∷ [])) at (omega arith) in
+          ap (λ (t : List ℕ). proof_at (left whole (t ++ flag ∷ rest))) text
+          ∙ (proof_up_to_path p whole (flag ∷ rest) fits
+          ∙ (ap (λ r. r >>= from_lower p.size p.n p.leaf p.path) (flag_wrong (50 + length p.path) flag whole rest other)
+          ∙ ap (λ (n : ℕ). Err (BadFixedField n)) (sym is)))
+      | inr second ↦
+          let is : at ≡ 51 + length p.path = omega arith in
+          let text : take at (spelling p) ≡ front ++ 0 ∷ [] =
+          ap (take at) (spelling_parts p ∙ sym (append_assoc front (0 ∷ []) (0 ∷ [])))
+          ∙ take_at (front ++ 0 ∷ []) (0 ∷ []) at (omega (arith, length-append front (0 ∷ []))) in
+          ap (λ (t : List ℕ). proof_at (left whole (t ++ flag ∷ rest))) text
+          ∙ (ap (λ (t : List ℕ). proof_at (left whole t)) (append_assoc front (0 ∷ []) (flag ∷ rest))
+          ∙ (proof_up_to_path p whole (0 ∷ (flag ∷ rest)) fits
+          ∙ (ap (λ r. r >>= from_lower p.size p.n p.leaf p.path) ((flag_text (50 + length p.path) whole).again (flag ∷ rest))
+          ∙ (ap (λ r. r >>= from_upper p.size p.n p.leaf p.path) (flag_wrong (51 + length p.path) flag whole rest other)
+          ∙ ap (λ (n : ℕ). Err (BadFixedField n)) (sym is)))))
+    ]
+
+pub proof_of_flag : (bytes : List ℕ) (p : Shown) (at flag : ℕ) (rest : List ℕ) → IsProof p → 50 + length p.path ≤ at → at < length (spelling p) → flag ≢ 0 → length bytes ≤ 8192
+    → bytes ≡ take at (spelling p) ++ flag ∷ rest → proof_of bytes ≡ Err (BadFixedField at)
 unfolding proof_of
-proof_of_cut bytes p k is_proof lt e =
-    let text : List ℕ = take k (spelling p) in
-    let len : length text ≡ k = omega (arith, length-take k (spelling p)) in
-    let short : ltb 8192 (length text) ≡ false = le-ltb _ _ (omega (arith, is_proof.room)) in
-    ap proof_of e ∙ rw (short, proof_cut p (length text) k is_proof.fields lt) (ap (λ (n : ℕ). Err (Short n)) len)
+proof_of_flag bytes p at flag rest is_proof low high other room e =
+    let short : ltb 8192 (length bytes) ≡ false = le-ltb _ _ room in
+    let read : proof_at (left (length bytes) bytes) ≡ Err (BadFixedField at) =
+    ap (λ (t : List ℕ). proof_at (left (length bytes) t)) e ∙ proof_flag p at flag (length bytes) rest is_proof.fields low high other in
+    rw (short, read) refl
 
 pub breaks_of : (bytes : List ℕ) (read : Result Shown Bad) → read ≡ proof_of bytes → IfErr read IsBreak
 breaks_of bytes read e = rw e (proof_of_breaks bytes)

@@ -8,10 +8,10 @@ use Rattle.ledger_bytes.specs.declared.digest.Digest.{Digest}
 use Rattle.ledger_bytes.specs.declared.failure.Bad.{Bad}
 use Rattle.ledger_bytes.specs.declared.failure.NoMemory.{NoMemory}
 use Rattle.ledger_bytes.specs.declared.failure.Bad.TheVariants.{BadFixedField, TooLong, Trailing}
-use Rattle.ledger_bytes.specs.Fields.{Left, left, ◌>>=◌, bytes_at, number_at, digest_at, end_at, IsBytes, Took}
-use Rattle.ledger_bytes.proofs.Fields.{bind_ok, check_ok, ok_is, Took-then, bytes_takes, bytes_again, digest_takes, digest_again, byte_takes, byte_again, wide64, number_takes, number_again}
+use Rattle.ledger_bytes.specs.Fields.{Left, left, ◌>>=◌, bytes_at, number_at, digest_at, check, end_at, IsBytes, Took}
+use Rattle.ledger_bytes.proofs.Fields.{bind_ok, check_ok, ok_is, Took-then, bytes_takes, digest_takes, byte_takes, wide64, number_takes, IsTextOf, text_none, text_then, bytes_text, digest_text, number_text, byte_text}
 use Rattle.proof_codec.specs.Proofs.{Shown, spelling, HasFields, IsProof}
-use Rattle.proof_codec.specs.Reading.{check, digests_at, flag_at, proof_at, proof_of}
+use Rattle.proof_codec.specs.Reading.{digests_at, flag_at, proof_at, proof_of}
 
 -- ---- the parts
 
@@ -35,11 +35,12 @@ digests_takes l path after fits e =
     let both : Took l (a.0.0 ∷ [] ++ path) after = Took-then l (a.0.0 ∷ []) a.0.1 path after count.0 digests.0 in
     (subst (λ (k : ℕ). Took l (k ∷ [] ++ path) after) number both, record { whole = omega (arith, digests.1); count = omega (arith, digests.1, count.1) })
 
-pub digests_again : (path : List ℕ) (whole : ℕ) (rest : List ℕ) → IsPath path → digests_at (left whole (counted path ++ rest)) ≡ Ok (path, left whole rest)
+pub digests_text : (path : List ℕ) (whole : ℕ) → IsPath path → IsTextOf digests_at whole (counted path) path
 unfolding digests_at
-digests_again path whole rest fits =
-    let size : length path ≡ 32 * (length path / 32) = omega (arith, fits.whole) in
-    rw (byte_again (length path / 32) whole (path ++ rest)) (bytes_again (32 * (length path / 32)) path whole rest size)
+digests_text path whole fits =
+    let count : ℕ = length path / 32 in
+    let size : length path ≡ 32 * count = omega (arith, fits.whole) in
+    text_then (number_at w8) (λ count. bytes_at (32 * count.0) count.1) whole (count ∷ []) path count path (byte_text count whole) (bytes_text (32 * count) whole path size)
 
 flag_takes : (at : ℕ) (l : Left) (x : Unit {0}) (after : Left) → IsBytes l.rest → flag_at at l ≡ Ok (x, after) → Took l (0 ∷ []) after
 unfolding flag_at
@@ -50,9 +51,10 @@ flag_takes at l x after fits e =
     let none : a.0.0 ≡ 0 = eqb-true _ _ (check_holds (eqb a.0.0 0) at b.0 b.1) in
     subst (λ (p : ℕ × Left). Took l (p.0 ∷ []) p.1) (ap (λ (k : ℕ). (k, a.0.1)) none ∙ ap (λ (y : Unit {0} × Left). (0, y.1)) (ok_is (tt, a.0.1) (x, after) b.2)) flag.0
 
-pub flag_again : (at whole : ℕ) (rest : List ℕ) → flag_at at (left whole (0 ∷ rest)) ≡ Ok (tt, left whole rest)
+pub flag_text : (at whole : ℕ) → IsTextOf (flag_at at) whole (0 ∷ []) tt
 unfolding flag_at
-flag_again at whole rest = rw (byte_again 0 whole rest) refl
+flag_text at whole =
+    text_then (number_at w8) (λ flag. check (eqb flag.0 0) at >>= λ _. Ok (tt, flag.1)) whole (0 ∷ []) [] 0 tt (byte_text 0 whole) (text_none whole tt)
 
 -- ---- the whole
 
@@ -118,24 +120,31 @@ proof_takes l p after fits e =
     let fields : HasFields (shown c.0.0 d.0.0 f.0.0 g.0.0) = record { size = size.1; n = n.1; leaf = leaf.1; whole = path.1.whole; count = path.1.count } in
     subst (λ (y : Shown × Left). Took l (spelling y.0) y.1 × HasFields y.0) (ok_is (shown c.0.0 d.0.0 f.0.0 g.0.0, i.0.1) (p, after) i.2) (t7, fields)
 
-pub regroup : (v s n d c p l u rest : List ℕ) → (v ++ s ++ n ++ d ++ c ++ p ++ l ++ u) ++ rest ≡ v ++ (s ++ (n ++ (d ++ ((c ++ p) ++ (l ++ (u ++ rest))))))
-regroup v s n d c p l u rest = simp append_assoc
+regroup : (v s n d c p l u : List ℕ) → v ++ s ++ n ++ d ++ c ++ p ++ l ++ u ≡ v ++ (s ++ (n ++ (d ++ ((c ++ p) ++ (l ++ (u ++ []))))))
+regroup v s n d c p l u = sym (append-nil (v ++ s ++ n ++ d ++ c ++ p ++ l ++ u)) ∙ simp append_assoc
 
-proof_again : (p : Shown) (whole : ℕ) (rest : List ℕ) → HasFields p → proof_at (left whole (spelling p ++ rest)) ≡ Ok (p, left whole rest)
+pub proof_text : (p : Shown) (whole : ℕ) → HasFields p → IsTextOf proof_at whole (spelling p) p
 unfolding proof_at spelling
-proof_again p whole rest fits =
+proof_text p whole fits =
     let S : List ℕ = to_be_bytes w64 p.size in
     let N : List ℕ = to_be_bytes w64 p.n in
     let D : List ℕ = p.leaf.0 in
     let C : List ℕ = (length p.path / 32) ∷ [] in
     let path : IsPath p.path = record { whole = fits.whole; count = fits.count } in
-    let r5 : List ℕ = 0 ∷ (0 ∷ rest) in
+    let none : List ℕ = 0 ∷ [] in
+    let r5 : List ℕ = none ++ (none ++ []) in
     let r4 : List ℕ = counted p.path ++ r5 in
     let r3 : List ℕ = D ++ r4 in
     let r2 : List ℕ = N ++ r3 in
     let r1 : List ℕ = S ++ r2 in
-    ap (λ (t : List ℕ). proof_at (left whole t)) (regroup (1 ∷ []) S N D C p.path (0 ∷ []) (0 ∷ []) rest)
-    ∙ rw (byte_again 1 whole r1, number_again w64 (2 ^ 64) wide64 p.size whole r2 fits.size, number_again w64 (2 ^ 64) wide64 p.n whole r3 fits.n, digest_again p.leaf whole r4 fits.leaf, digests_again p.path whole r5 path, flag_again (50 + length p.path) whole (0 ∷ rest), flag_again (51 + length p.path) whole rest) refl
+    let upper = text_then (flag_at (51 + length p.path)) (from_upper p.size p.n p.leaf p.path) whole none [] tt p (flag_text (51 + length p.path) whole) (text_none whole p) in
+    let lower = text_then (flag_at (50 + length p.path)) (from_lower p.size p.n p.leaf p.path) whole none (none ++ []) tt p (flag_text (50 + length p.path) whole) upper in
+    let digests = text_then digests_at (from_path p.size p.n p.leaf) whole (counted p.path) r5 p.path p (digests_text p.path whole path) lower in
+    let leaf = text_then digest_at (from_leaf p.size p.n) whole D r4 p.leaf p (digest_text p.leaf whole fits.leaf) digests in
+    let n = text_then (number_at w64) (from_n p.size) whole N r3 p.n p (number_text w64 (2 ^ 64) wide64 p.n whole fits.n) leaf in
+    let size = text_then (number_at w64) from_size whole S r2 p.size p (number_text w64 (2 ^ 64) wide64 p.size whole fits.size) n in
+    let version = text_then (number_at w8) from_version whole (1 ∷ []) r1 1 p (byte_text 1 whole) size in
+    subst (λ (t : List ℕ). IsTextOf proof_at whole t p) (sym (regroup (1 ∷ []) S N D C p.path none none)) version
 
 -- ---- all of the bytes
 
@@ -162,7 +171,7 @@ unfolding proof_of
 proof_of_again p is_proof =
     let short : ltb 8192 (length (spelling p)) ≡ false = le-ltb _ _ is_proof.room in
     let read : proof_at (left (length (spelling p)) (spelling p)) ≡ Ok (p, left (length (spelling p)) []) =
-    ap (λ (t : List ℕ). proof_at (left (length (spelling p)) t)) (sym (append-nil (spelling p))) ∙ proof_again p (length (spelling p)) [] is_proof.fields in
+    ap (λ (t : List ℕ). proof_at (left (length (spelling p)) t)) (sym (append-nil (spelling p))) ∙ (proof_text p (length (spelling p)) is_proof.fields).again [] in
     rw (short, read) refl
 
 pub proof_of_only : (bytes : List ℕ) (p : Shown) → IsProof p → bytes ≡ spelling p → proof_of bytes ≡ Ok p
@@ -172,8 +181,22 @@ pub proof_of_found : (bytes : List ℕ) (read : Result Shown Bad) → IsBytes by
 proof_of_found bytes (Ok p) fits e = proof_of_takes bytes p fits (sym e)
 proof_of_found bytes (Err d) fits e = tt
 
+-- a proof's bytes in front of its two flags
+abbrev pub up_to_path : Shown → List ℕ
+up_to_path p = 1 ∷ [] ++ to_be_bytes w64 p.size ++ to_be_bytes w64 p.n ++ p.leaf.0 ++ (length p.path / 32) ∷ [] ++ p.path
+
+pub regroup_path : (v s n d c p rest : List ℕ) → (v ++ s ++ n ++ d ++ c ++ p) ++ rest ≡ v ++ (s ++ (n ++ (d ++ ((c ++ p) ++ rest))))
+regroup_path v s n d c p rest = simp append_assoc
+
+pub spelling_parts : (p : Shown) → spelling p ≡ up_to_path p ++ (0 ∷ (0 ∷ []))
+unfolding spelling
+spelling_parts p = append_assoc (up_to_path p) (0 ∷ []) (0 ∷ [])
+
+pub length-up_to_path : (p : Shown) → length p.leaf.0 ≡ 32 → length (up_to_path p) ≡ 50 + length p.path
+length-up_to_path p leaf = simp length-append (omega arith)
+
 -- the length of a proof's bytes
-length-spelling : (p : Shown) → length p.leaf.0 ≡ 32 → length (spelling p) ≡ 52 + length p.path
+pub length-spelling : (p : Shown) → length p.leaf.0 ≡ 32 → length (spelling p) ≡ 52 + length p.path
 unfolding spelling
 length-spelling p leaf = simp length-append (omega arith)
 

@@ -1,14 +1,10 @@
 -- Reading a journal proof from left to right, with the first break that is met.
-use Rattle.std.specs.Prelude.{◌≡◌, ℕ, ◌+◌, ◌*◌, Bool, List, length, Result, Ok, Err, nat_lt, ◌==◌, if◌then◌else◌}
+use Rattle.std.specs.Prelude.{◌≡◌, ℕ, ◌+◌, ◌*◌, List, length, Result, Ok, Err, nat_lt, ◌==◌, if◌then◌else◌}
 use Rattle.std.specs.Int.{w8, w64}
 use Rattle.ledger_bytes.specs.declared.failure.Bad.{Bad}
 use Rattle.ledger_bytes.specs.declared.failure.Bad.TheVariants.{Short, Trailing, BadKind, BadFixedField, NewerFormat, TooLong}
-use Rattle.ledger_bytes.specs.Fields.{Left, left, ◌>>=◌, number_at, digest_at, bytes_at, end_at}
+use Rattle.ledger_bytes.specs.Fields.{Left, left, ◌>>=◌, number_at, digest_at, bytes_at, check, end_at}
 use Rattle.proof_codec.specs.Proofs.{Shown}
-
--- a field that keeps its rule, and else a break at its place
-abbrev pub check : Bool → ℕ → Result (Unit {0}) Bad
-check ok at = if ok then Ok tt else Err (BadFixedField at)
 
 -- digests behind their count
 unfoldable pub digests_at : Left → Result (List ℕ × Left) Bad

@@ -1,11 +1,11 @@
-ghost use Rattle.std.specs.Prelude.{◌≡◌, ℕ, ◌+◌, ◌%◌, ◌<◌, ◌≤◌, length, take, IfOk, IfErr};
+ghost use Rattle.std.specs.Prelude.{◌≡◌, ◌≢◌, ℕ, ◌+◌, ◌%◌, ◌<◌, ◌≤◌, List, [], ◌∷◌, ◌++◌, length, take, IfOk, IfErr};
 ghost use Rattle.ledger_bytes.specs.Fields.{Fits};
 ghost use Rattle.proof_codec.specs.Proofs.{Shown, HasFields, IsProof, spelling};
-ghost use Rattle.proof_codec.specs.Reading.{check, digests_at, flag_at, proof_at, proof_of, IsBreak, Reads};
+ghost use Rattle.proof_codec.specs.Reading.{digests_at, flag_at, proof_at, proof_of, IsBreak, Reads};
 ghost use Rattle.proof_codec.specs.Claims.{claim_of};
 
 use crate::Claim;
-use ledger_bytes::{Bad, Bytes, Digest, FieldReader, FieldWriter, NoMemory};
+use ledger_bytes::{Bad, Bytes, Digest, FieldReader, FieldWriter, NoMemory, check_field};
 use std::alloc::Global;
 use std::marker::Model;
 
@@ -62,6 +62,16 @@ impl<'a> Proof<'a> {
         // What is left of a proof when its end is cut off is too short.
         ensures cut { (p : Shown) (k : ℕ) → IsProof p → k < length (spelling p) → bytes.now ≡ take k (spelling p)
             → result ≡ Err (Bad.Short k) }
+        // Bytes behind a proof are told by the place of the first.
+        ensures trailing { (p : Shown) (rest : List ℕ) → IsProof p → rest ≢ [] → length bytes.now ≤ 8192
+            → bytes.now ≡ spelling p ++ rest → result ≡ Err (Bad.Trailing (length (spelling p))) }
+        // Another version, whatever follows, is told at its place.
+        ensures version { (version : ℕ) (rest : List ℕ) → version ≢ 1 → length bytes.now ≤ 8192
+            → bytes.now ≡ version ∷ rest → result ≡ Err (Bad.BadFixedField 0) }
+        // So is another flag behind the path of a proof.
+        ensures flag { (p : Shown) (at flag : ℕ) (rest : List ℕ) → IsProof p → 50 + length p.path ≤ at
+            → at < length (spelling p) → flag ≢ 0 → length bytes.now ≤ 8192
+            → bytes.now ≡ take at (spelling p) ++ flag ∷ rest → result ≡ Err (Bad.BadFixedField at) }
     {
         read(bytes)
     }
@@ -108,7 +118,7 @@ fn take_proof<'a>(reader: &mut FieldReader<'a>) -> Result<Proof<'a>, Bad>
     ensures { Fits result reader.new (proof_at reader.old) }
 {
     let version = reader.take_u8()?;
-    known(version == VERSION, 0)?;
+    check_field(version == VERSION, 0)?;
     let size = reader.take_u64()?;
     let n = reader.take_u64()?;
     let leaf = reader.take_digest()?;
@@ -138,18 +148,7 @@ fn take_flag(reader: &mut FieldReader, at: u64) -> Result<(), Bad>
     ensures { Fits result reader.new (flag_at at reader.old) }
 {
     let flag = reader.take_u8()?;
-    known(flag == ABSENT, at)
-}
-
-/// A field has a value that is known.
-fn known(is_known: bool, at: u64) -> Result<(), Bad>
-    ensures { result ≡ check is_known at }
-{
-    if is_known {
-        Ok(())
-    } else {
-        Err(Bad::BadFixedField { at })
-    }
+    check_field(flag == ABSENT, at)
 }
 
 #[tactic(auto, unfolding(crate::specs::Proofs::spelling))]

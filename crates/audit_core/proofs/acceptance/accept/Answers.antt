@@ -4,6 +4,6 @@ use Rattle.audit_core.proofs.acceptance.accept.Goals as goal
 
 pub returns-clause-yes : goal.returns-clause-yes
 returns-clause-yes g c = (
-  λ ok. yes_found g.H.TreeHash.of c.args.proof.now c.args.claim.now c.args.heads.now c.judge.result (λ i. omega (arith, c.type_inv.proof i)) c.judge.ensures ok,
-  λ it. yes_only g.H.TreeHash.of c.args.proof.now c.args.claim.now c.args.heads.now c.judge.result c.judge.ensures it,
+  λ ok. yes_found g.H.TreeHash.of c.args.proof.now c.args.claim.now c.args.heads.now c.answer_of.result (λ i. omega (arith, c.type_inv.proof i)) c.answer_of.ensures ok,
+  λ it. yes_only g.H.TreeHash.of c.args.proof.now c.args.claim.now c.args.heads.now c.answer_of.result c.answer_of.ensures it,
 )

@@ -1,6 +1,6 @@
 use Rattle.std.proofs.Common.{◌∙◌, arith}
 use Rattle.proof_codec.proofs.Laws.{proof_of_found, proof_of_only}
-use Rattle.proof_codec.proofs.Breaks.{breaks_of, proof_of_cut}
+use Rattle.proof_codec.proofs.Breaks.{breaks_of, proof_of_cut, proof_of_trailing, proof_of_version, proof_of_flag}
 use Rattle.proof_codec.proofs.proof.Proof.decode.Goals as goal
 
 pub returns-clause-found : goal.returns-clause-found
@@ -14,3 +14,12 @@ returns-clause-breaks c = breaks_of c.args.bytes.now c.read.result c.read.ensure
 
 pub returns-clause-cut : goal.returns-clause-cut
 returns-clause-cut c = λ p k is_proof lt e. c.read.ensures ∙ proof_of_cut c.args.bytes.now p k is_proof lt e
+
+pub returns-clause-trailing : goal.returns-clause-trailing
+returns-clause-trailing c = λ p rest is_proof some room e. c.read.ensures ∙ proof_of_trailing c.args.bytes.now p rest is_proof some room e
+
+pub returns-clause-version : goal.returns-clause-version
+returns-clause-version c = λ version rest other room e. c.read.ensures ∙ proof_of_version c.args.bytes.now version rest other room e
+
+pub returns-clause-flag : goal.returns-clause-flag
+returns-clause-flag c = λ p at flag rest is_proof low high other room e. c.read.ensures ∙ proof_of_flag c.args.bytes.now p at flag rest is_proof low high other room e
