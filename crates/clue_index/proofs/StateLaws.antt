@@ -15,7 +15,7 @@ use Rattle.std.proofs.lemmas.List.{append-nil, map-append}
 use Rattle.std.proofs.lemmas.List.Elements.{recursion_from_All, filter-append}
 use Rattle.clue_index.specs.Added.{Added, trail_of, table_of, different, state_below, begun_states, states_at}
 use Rattle.clue_index.specs.Index.{Kept, Stands, trail_in}
-use Rattle.clue_index.specs.Trail.{Trail, seen_from, below, count_of, last_of}
+use Rattle.clue_index.specs.Trail.{Trail, seen_from, below, count_of, last_of, Ascends}
 use Rattle.clue_index.specs.declared.state.ClueState.{ClueState}
 use Rattle.clue_index.proofs.IndexLaws.{found, rising, count_found}
 use Rattle.clue_index.proofs.TrailLaws.{seen_later, count_below}
@@ -86,9 +86,12 @@ states_found k a p st le (e ∷ es) all =
     let rest = states_found k a p st le es all.1 in
     λ i. record { clue = record { 0 = e.0 }; count = (seen i).count; last = (seen i).last } ∷ rest i
 
--- counts that are u32s
+-- numbers that ascend, and whose count below p is a u32
+abbrev IsFit : ℕ → Trail → Type 0
+IsFit p t = Ascends t.jsns × (count_of (below p t) < 2 ^ 32)
+
 abbrev pub Fit : ℕ → List (List ℕ × Trail) → Type 0
-Fit p es = AllByRecursion (λ e. count_of (below p e.1) < 2 ^ 32) es
+Fit p es = AllByRecursion (λ e. IsFit p e.1) es
 
 fit_found : (k : Kept) (a : Added) (p : ℕ) → Stands k a → ((clue : List ℕ) → count_of (trail_of a clue) < 2 ^ 32) → (es : List (List ℕ × Trail))
     → AllByRecursion (λ e. trail_in e.0 k.trails ≡ Some e.1) es → Fit p es
@@ -96,7 +99,7 @@ fit_found k a p st fits [] all = tt
 fit_found k a p st fits (e ∷ es) all =
     let counted = count_found k a st e.0 e.1 all.0 in
     let few = fits e.0 in
-    (omega (arith, count_below p e.1), fit_found k a p st fits es all.1)
+    ((st.ascend e.0 e.1 all.0, omega (arith, count_below p e.1)), fit_found k a p st fits es all.1)
 
 -- what the states of all that is kept are
 pub states_told : (k : Kept) (a : Added) (p : ℕ) (states : List ClueState) → Stands k a → a.floor ≤ p → ((clue : List ℕ) → count_of (trail_of a clue) < 2 ^ 32)
@@ -108,7 +111,7 @@ states_told k a p states st le fits rise all told =
     ∙ (ap begun_states (states_found k a p st le k.trails each) ∙ ap (λ clues. begun_states (map (λ clue. state_below p clue (trail_of a clue)) clues)) (keys-trails k a st rise))
 
 -- one more
-fit_push : (p : ℕ) (es : List (List ℕ × Trail)) (e : List ℕ × Trail) → Fit p (es ++ e ∷ []) → Fit p es × (count_of (below p e.1) < 2 ^ 32)
+fit_push : (p : ℕ) (es : List (List ℕ × Trail)) (e : List ℕ × Trail) → Fit p (es ++ e ∷ []) → Fit p es × IsFit p e.1
 fit_push p [] e fit = (tt, fit.0)
 fit_push p (d ∷ es) e fit = let rest = fit_push p es e fit.1 in ((fit.0, rest.0), rest.1)
 
@@ -116,17 +119,18 @@ states_push : (p : ℕ) (es : List (List ℕ × Trail)) (e : List ℕ × Trail) 
 states_push p es e =
     ap begun_states (map-append (λ e. state_below p e.0 e.1) es (e ∷ [])) ∙ filter-append (λ s. nat_lt 0 s.count) (states_of p es) (state_below p e.0 e.1 ∷ [])
 
--- a state that is what it should be, where its count is a u32
-state_is : (p : ℕ) (clue : List ℕ) (t : Trail) (s : ClueState) → s.clue ≡ record { 0 = clue } → (count_of (below p t) < 2 ^ 32 → s.count ≡ count_of (below p t))
-    → s.last ≡ last_of (below p t) → count_of (below p t) < 2 ^ 32 → s ≡ state_below p clue t
+-- a state that is what it should be
+state_is : (p : ℕ) (clue : List ℕ) (t : Trail) (s : ClueState) → s.clue ≡ record { 0 = clue } → (Ascends t.jsns → count_of (below p t) < 2 ^ 32 → s.count ≡ count_of (below p t))
+    → (Ascends t.jsns → s.last ≡ last_of (below p t)) → IsFit p t → s ≡ state_below p clue t
 state_is p clue t s clue-is count-is last-is fits =
-    let counts = count-is fits in
-    λ i. record { clue = clue-is i; count = counts i; last = last-is i }
+    let counts = count-is fits.0 fits.1 in
+    let lasts = last-is fits.0 in
+    λ i. record { clue = clue-is i; count = counts i; last = lasts i }
 
 -- the states so far, with one that speaks of a journal behind them
 pub state_pushed : (p : ℕ) (es : List (List ℕ × Trail)) (clue : List ℕ) (t : Trail) (s : ClueState) (out out' : List ClueState)
-    → (Fit p es → out ≡ begun_states (states_of p es)) → s.clue ≡ record { 0 = clue } → (count_of (below p t) < 2 ^ 32 → s.count ≡ count_of (below p t))
-    → s.last ≡ last_of (below p t) → 0 < s.count → out' ≡ out ++ s ∷ [] → Fit p (es ++ (clue, t) ∷ []) → out' ≡ begun_states (states_of p (es ++ (clue, t) ∷ []))
+    → (Fit p es → out ≡ begun_states (states_of p es)) → s.clue ≡ record { 0 = clue } → (Ascends t.jsns → count_of (below p t) < 2 ^ 32 → s.count ≡ count_of (below p t))
+    → (Ascends t.jsns → s.last ≡ last_of (below p t)) → 0 < s.count → out' ≡ out ++ s ∷ [] → Fit p (es ++ (clue, t) ∷ []) → out' ≡ begun_states (states_of p (es ++ (clue, t) ∷ []))
 state_pushed p es clue t s out out' so_far clue-is count-is last-is some out'-is fit =
     let parts = fit_push p es (clue, t) fit in
     let is = state_is p clue t s clue-is count-is last-is parts.1 in
@@ -136,8 +140,8 @@ state_pushed p es clue t s out out' so_far clue-is count-is last-is some out'-is
 
 -- and with one that doesn't
 pub state_passed : (p : ℕ) (es : List (List ℕ × Trail)) (clue : List ℕ) (t : Trail) (s : ClueState) (out : List ClueState)
-    → (Fit p es → out ≡ begun_states (states_of p es)) → s.clue ≡ record { 0 = clue } → (count_of (below p t) < 2 ^ 32 → s.count ≡ count_of (below p t))
-    → s.last ≡ last_of (below p t) → s.count ≤ 0 → Fit p (es ++ (clue, t) ∷ []) → out ≡ begun_states (states_of p (es ++ (clue, t) ∷ []))
+    → (Fit p es → out ≡ begun_states (states_of p es)) → s.clue ≡ record { 0 = clue } → (Ascends t.jsns → count_of (below p t) < 2 ^ 32 → s.count ≡ count_of (below p t))
+    → (Ascends t.jsns → s.last ≡ last_of (below p t)) → s.count ≤ 0 → Fit p (es ++ (clue, t) ∷ []) → out ≡ begun_states (states_of p (es ++ (clue, t) ∷ []))
 state_passed p es clue t s out so_far clue-is count-is last-is none fit =
     let parts = fit_push p es (clue, t) fit in
     let is = state_is p clue t s clue-is count-is last-is parts.1 in

@@ -1,9 +1,9 @@
 -- Laws of a clue's journals.
-use Rattle.std.proofs.Common.{◌≡◌, ℕ, zero, suc, ◌+◌, ◌-◌, ◌<◌, ◌≤◌, Bool, true, false, List, [], ◌∷◌, ◌++◌, length, get_or, take, drop, filter, refl, sym, ap, subst, ◌∙◌, arith, min, ◌^◌, ⊎_elim, cond, length-append, Some, slice_get, nat_lt, nat_le}
+use Rattle.std.proofs.Common.{◌≡◌, ℕ, zero, suc, ◌+◌, ◌-◌, ◌<◌, ◌≤◌, Bool, true, false, List, [], ◌∷◌, ◌++◌, length, get_or, take, drop, filter, refl, sym, ap, subst, ◌∙◌, arith, ⊎_elim, cond, Some, slice_get, nat_lt, nat_le}
 use Rattle.std.specs.List.{AllByRecursion, AllWithin}
 use Rattle.std.specs.List.Sorted.{IsPartitionedBy, IsPartitionPoint}
 use Rattle.std.proofs.lemmas.Bool.{cond-true, cond-false, lt-ltb, ltb-true, ltb-false, le-leb, lt-leb, le-ltb, leb-true, cases_lt}
-use Rattle.std.proofs.lemmas.List.Elements.{All-from_recursion, filter_more, filter-append}
+use Rattle.std.proofs.lemmas.List.Elements.{All-from_recursion, filter-append}
 use Rattle.std.proofs.lemmas.List.{append-nil}
 use Rattle.clue_index.specs.Trail.{Trail, last_from, count_of, last_of, below, seen_from, grown, Ascends}
 
@@ -56,46 +56,21 @@ kept_behind p (n ∷ ns) (suc i) within point =
     kept_behind p ns i (omega arith) (λ k d low high. point.0 (suc k) d (omega arith) (omega arith), λ k d low high. point.1 (suc k) d (omega arith) (omega arith))
     ∙ sym (cond-false _ _ _ first)
 
--- the numbers below p among one more: that number is one of them
-more_below : (p : ℕ) (ns : List ℕ) (i d : ℕ) → i < length ns → get_or ns i d < p
-    → filter (λ n. nat_lt n p) (take (i + 1) ns) ≡ filter (λ n. nat_lt n p) (take i ns) ++ get_or ns i d ∷ []
-more_below p ns i d within low =
-    filter_more (λ n. nat_lt n p) ns i d within ∙ ap (λ more. filter (λ n. nat_lt n p) (take i ns) ++ more) (cond-true _ _ _ (lt-ltb (get_or ns i d) p low))
+-- numbers of which none is below p
+none_early : (p : ℕ) (ns : List ℕ) → AllWithin (λ n. nat_lt n p ≡ false) ns 0 (length ns) → filter (λ n. nat_lt n p) ns ≡ []
+none_early p [] all = refl
+none_early p (n ∷ ns) all =
+    cond-false _ _ _ (all 0 0 (omega arith) (omega arith)) ∙ none_early p ns (λ k d low high. all (suc k) d (omega arith) (omega arith))
 
--- it is none of them
-none_more_below : (p : ℕ) (ns : List ℕ) (i d : ℕ) → i < length ns → p ≤ get_or ns i d
-    → filter (λ n. nat_lt n p) (take (i + 1) ns) ≡ filter (λ n. nat_lt n p) (take i ns)
-none_more_below p ns i d within high =
-    filter_more (λ n. nat_lt n p) ns i d within ∙ (ap (λ more. filter (λ n. nat_lt n p) (take i ns) ++ more) (cond-false _ _ _ (le-ltb (get_or ns i d) p high)) ∙ append-nil _)
-
--- what a count and a last number say of the numbers below p among the first i
-abbrev pub Counted : ℕ → Trail → ℕ → ℕ → ℕ → Type 0
-Counted p t i count last =
-    let ns = filter (λ n. nat_lt n p) (take i t.jsns) in
-    (last ≡ last_from t.last ns) × (t.count + length ns < 2 ^ 32 → count ≡ t.count + length ns)
-
--- it is counted, and it is the last of them
-pub counted_more : (p : ℕ) (t : Trail) (ns : List ℕ) (i d count last count' last' : ℕ) → ns ≡ t.jsns → i < length ns → get_or ns i d < p
-    → count' ≡ min (count + 1) (2 ^ 32 - 1) → last' ≡ get_or ns i d → Counted p t i count last → Counted p t (i + 1) count' last'
-counted_more p t ns i d count last count' last' same within low count'-is last'-is so_far =
-    let below_i : List ℕ = filter (λ n. nat_lt n p) (take i t.jsns) in
-    let more : filter (λ n. nat_lt n p) (take (i + 1) t.jsns) ≡ below_i ++ get_or ns i d ∷ [] =
-    subst (λ xs. filter (λ n. nat_lt n p) (take (i + 1) xs) ≡ filter (λ n. nat_lt n p) (take i xs) ++ get_or ns i d ∷ []) same (more_below p ns i d within low) in
-    let longer : length (filter (λ n. nat_lt n p) (take (i + 1) t.jsns)) ≡ length below_i + 1 = ap length more ∙ grind (arith, length-append) in (
-      last'-is ∙ sym (ap (last_from t.last) more ∙ last_from-push t.last below_i (get_or ns i d)),
-      λ fits. let counted : count ≡ t.count + length below_i = so_far.1 (omega arith) in omega arith,
-    )
-
--- it isn't counted
-pub counted_none_more : (p : ℕ) (t : Trail) (ns : List ℕ) (i d count last count' last' : ℕ) → ns ≡ t.jsns → i < length ns → p ≤ get_or ns i d
-    → count' ≡ count → last' ≡ last → Counted p t i count last → Counted p t (i + 1) count' last'
-counted_none_more p t ns i d count last count' last' same within high count'-is last'-is so_far =
-    let none : filter (λ n. nat_lt n p) (take (i + 1) t.jsns) ≡ filter (λ n. nat_lt n p) (take i t.jsns) =
-    subst (λ xs. filter (λ n. nat_lt n p) (take (i + 1) xs) ≡ filter (λ n. nat_lt n p) (take i xs)) same (none_more_below p ns i d within high) in (
-      last'-is ∙ (so_far.0 ∙ ap (last_from t.last) (sym none)),
-      λ fits. let fits' : t.count + length (filter (λ n. nat_lt n p) (take i t.jsns)) < 2 ^ 32 = rw (← none) fits in
-          count'-is ∙ (so_far.1 fits' ∙ ap (λ ns. t.count + length ns) (sym none)),
-    )
+-- in front of the place below which numbers are below p stand all that are
+pub early_in_front : (p : ℕ) (ns : List ℕ) (i : ℕ) → i ≤ length ns
+    → IsPartitionPoint (λ n. nat_lt n p ≡ true) (λ n. nat_lt n p ≡ false) ns i → take i ns ≡ filter (λ n. nat_lt n p) ns
+early_in_front p [] zero within point = refl
+early_in_front p [] (suc i) within point = absurd (omega arith)
+early_in_front p (n ∷ ns) zero within point = sym (none_early p (n ∷ ns) point.1)
+early_in_front p (n ∷ ns) (suc i) within point =
+    ap (λ rest. n ∷ rest) (early_in_front p ns i (omega arith) (λ k d low high. point.0 (suc k) d (omega arith) (omega arith), λ k d low high. point.1 (suc k) d (omega arith) (omega arith)))
+    ∙ sym (cond-true _ _ _ (point.0 0 0 (omega arith) (omega arith)))
 
 -- each number is below p, or kept from p on
 lengths_split : (p : ℕ) (ns : List ℕ) → length (filter (λ n. nat_lt n p) ns) + length (filter (λ n. nat_le p n) ns) ≡ length ns

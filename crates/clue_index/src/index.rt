@@ -67,16 +67,6 @@ impl ClueIndex {
         }
     }
 
-    /// How many journals the clue has over the whole history, where that is a `u32`.
-    pub fn count_of(&self, clue: &Digest) -> u32
-        ensures { (a : Added) → Stands self.now a → count_of (trail_of a clue.now.0) < 2 ^ 32 → result ≡ count_of (trail_of a clue.now.0) }
-    {
-        match self.slots.get(&clue.0) {
-            Some(slot) => slot.count(),
-            None => 0,
-        }
-    }
-
     /// How many different clues there were over the whole history.
     pub fn clues(&self) -> u64
         ensures { (a : Added) → Stands self.now a → result ≡ length (different a) }
@@ -84,7 +74,8 @@ impl ClueIndex {
         self.slots.len() as u64
     }
 
-    /// Adds the next journal of a clue. After an `Err` the index is as before.
+    /// Adds the next journal of a clue. The clue isn't zero, and the number is above those of all journals that were
+    /// added, and not below the first journal that is kept. After an `Err` the index is as before.
     pub fn add(&mut self, clue: &Digest, jsn: u64) -> Result<(), NoMemory>
         ensures ok { OnOk result ((a : Added) → Stands self.old a → clue.now.0 ≢ no_clue → a.floor ≤ jsn → All (λ m. m.jsn < jsn) a.marks
             → Stands self.new (with_mark clue.now.0 jsn a)) }

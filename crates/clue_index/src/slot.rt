@@ -1,5 +1,5 @@
 ghost use Rattle.std.specs.Prelude.{◌≡◌, [], ◌-◌, ◌^◌, ◌<◌, min, IfOk, OnOk, OnErr};
-ghost use Rattle.clue_index.specs.Trail.{no_trail, count_of, last_of, kept_from, below, grown, Ascends};
+ghost use Rattle.clue_index.specs.Trail.{no_trail, count_of, last_of, last_from, kept_from, below, grown, Ascends};
 
 use crate::ClueState;
 use ledger_bytes::{Digest, NoMemory};
@@ -68,10 +68,7 @@ impl Slot {
     pub(crate) fn last(&self) -> u64
         ensures { result ≡ last_of self.now }
     {
-        match self.jsns.last() {
-            Some(jsn) => *jsn,
-            None => self.last,
-        }
+        last_in(self.last, self.jsns.as_slice())
     }
 
     /// The numbers of the journals from `floor` on.
@@ -85,22 +82,34 @@ impl Slot {
     /// The clue's state when the journals below `p` had been placed.
     pub(crate) fn state_below(&self, clue: &Digest, p: u64) -> ClueState
         ensures clue { result.clue ≡ clue.now }
-        ensures count { count_of (below p self.now) < 2 ^ 32 → result.count ≡ count_of (below p self.now) }
-        ensures last { result.last ≡ last_of (below p self.now) }
+        ensures count { Ascends self.now.jsns → count_of (below p self.now) < 2 ^ 32
+            → result.count ≡ count_of (below p self.now) }
+        ensures last { Ascends self.now.jsns → result.last ≡ last_of (below p self.now) }
     {
-        let mut count = self.count;
-        let mut last = self.last;
-        for jsn in &self.jsns {
-            if *jsn < p {
-                count = count.saturating_add(1);
-                last = *jsn;
-            }
-        }
+        let early = self.early(p);
         ClueState {
             clue: *clue,
-            count,
-            last,
+            count: self.count.saturating_add(saturated(early.len())),
+            last: last_in(self.last, early),
         }
+    }
+
+    /// The numbers of the journals below `p` that are in the slot.
+    fn early(&self, p: u64) -> &[u64]
+        ensures { Ascends self.now.jsns → result.now ≡ (below p self.now).jsns }
+    {
+        let end = self.jsns.partition_point(|jsn| *jsn < p);
+        &self.jsns.as_slice()[..end]
+    }
+}
+
+/// The last of some numbers, or else the one before them.
+fn last_in(before: u64, jsns: &[u64]) -> u64
+    ensures { result ≡ last_from before jsns.now }
+{
+    match jsns.last() {
+        Some(jsn) => *jsn,
+        None => before,
     }
 }
 
