@@ -1,11 +1,11 @@
 -- How far a buffer is filled.
 use Rattle.std.proofs.Common.{◌≡◌, ℕ, List, [], ◌∷◌, ◌++◌, length, arith, refl, sym, ◌∙◌, append_assoc, append-nil, OnErr, Result, Ok, Err}
 use Rattle.hex.specs.Hex.{encode_lower, encode_with, lower_digits}
-use Rattle.script_lines.specs.Begins.{BeginsWith}
+use Rattle.ledger_bytes.specs.Begins.{Begins}
 
 -- the buffer begins as it did, and with the text that is left it will hold the whole text behind that
 pub record IsFilledTo (old now left whole : List ℕ) : Type 0 where
-  pub begins : BeginsWith old now
+  pub begins : Begins old now
   pub ends : now ++ left ≡ old ++ whole
 
 -- a fact that holds anyway holds at an error
@@ -14,9 +14,9 @@ OnErr-holds (Ok x) fact = tt
 OnErr-holds (Err e) fact = fact
 
 -- what begins with a longer list begins with the list
-pub BeginsWith-more : (old mid more new : List ℕ) → BeginsWith old mid → BeginsWith (mid ++ more) new → BeginsWith old new
-BeginsWith-more old mid more new first second = record {
-  more = first.more ++ (more ++ second.more);
+pub Begins-more : (old mid more new : List ℕ) → Begins old mid → Begins (mid ++ more) new → Begins old new
+Begins-more old mid more new first second = record {
+  rest = first.rest ++ (more ++ second.rest);
   is = rw (second.is, first.is) (simp append_assoc);
 }
 
@@ -36,7 +36,7 @@ filled-end old now (byte ∷ left) whole so_far none = absurd (omega arith)
 pub filled-chunk : (old now left chunk rest whole new : List ℕ) → IsFilledTo old now (encode_lower left) whole → left ≡ chunk ++ rest
     → new ≡ now ++ encode_lower chunk → IsFilledTo old new (encode_lower rest) whole
 filled-chunk old now left chunk rest whole new so_far parts is = record {
-  begins = record { more = so_far.begins.more ++ encode_lower chunk; is = rw (is, so_far.begins.is, append_assoc) refl };
+  begins = record { rest = so_far.begins.rest ++ encode_lower chunk; is = rw (is, so_far.begins.is, append_assoc) refl };
   ends =
       rw (is, append_assoc, ← encode_with-append lower_digits chunk rest, ← parts) so_far.ends;
 }

@@ -1,5 +1,5 @@
 -- Bytes as hexadecimal digits.
-use Rattle.std.proofs.Common.{◌≡◌, ℕ, ◌*◌, ◌/◌, ◌%◌, ◌≤◌, ◌&&◌, ◌↔◌, List, [], ◌∷◌, length, nat_le, if◌then◌else◌, Bool, true, false, Option, Some, None, Result, Ok, Err, IsTrue, IsSome, refl, sym, ap, ◌∙◌, arith}
+use Rattle.std.proofs.Common.{◌≡◌, ℕ, ◌*◌, ◌/◌, ◌%◌, ◌≤◌, ◌&&◌, ◌↔◌, List, [], ◌∷◌, length, nat_le, false, Result, Ok, Err, IsTrue, IsSome, refl, sym, ap, ◌∙◌, arith}
 use Rattle.std.specs.Char.{is_ascii_hexdigit}
 use Rattle.std.specs.List.{list_all}
 use Rattle.std.specs.Result.{result_ok}

@@ -1,4 +1,3 @@
-pub mod Begins
 pub mod Fields
 pub mod Grammar
 pub mod Limits

@@ -5,7 +5,8 @@ ghost use Rattle.script_lines.specs.Spellings.{text_of, word_of, number_of, byte
 
 use crate::said::{SaidApproval, Which};
 use crate::spellings::{
-    is_name, read_approvals, read_bytes, read_clue, read_digest, read_mark, read_number, read_which,
+    read_approvals, read_bytes, read_clue, read_digest, read_mark, read_name, read_number,
+    read_which,
 };
 use crate::splits::cut;
 use crate::stop::Stop;
@@ -139,11 +140,9 @@ impl<'a> Fields<'a> {
         ensures long { IfOk result (λ name. length name ≤ 64) }
     {
         let column = self.column();
-        let text = self.text()?;
-        if is_name(text) {
-            Ok(Bytes::copy_of(alloc, text)?)
-        } else {
-            Err(Stop::Refused(bad_field(column)))
+        match read_name(self.text()?) {
+            Some(name) => Ok(Bytes::copy_of(alloc, name)?),
+            None => Err(Stop::Refused(bad_field(column))),
         }
     }
 

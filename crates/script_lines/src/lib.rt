@@ -18,7 +18,7 @@ pub use laws::{lines_are_read_back, numbers_are_decimal};
 pub use line::Line;
 pub use reply::{Reply, put_refusal, put_reply, reply_text};
 pub use said::{SaidApproval, Which};
-pub use spellings::{is_bytes, read_bytes, read_clue, read_digest, read_number};
+pub use spellings::{is_bytes, read_bytes, read_clue, read_digest, read_name, read_number};
 pub use spoken::Spoken;
 pub use stop::Stop;
 pub use verbs::read_line;

@@ -1,5 +1,5 @@
 ghost use Rattle.std.specs.Prelude.{◌≡◌, [], ◌∷◌, ◌++◌, codes, decimal, IfOk, OnOk, OnErr};
-ghost use Rattle.script_lines.specs.Begins.{BeginsWith};
+ghost use Rattle.ledger_bytes.specs.Begins.{Begins};
 ghost use Rattle.script_lines.specs.Replies as spec;
 ghost use Rattle.script_lines.specs.Words.{hex_of, spaced, which_text};
 
@@ -121,7 +121,7 @@ pub fn put_reply(out: &mut Vec<u8>, lane: u8, index: u64, reply: &Reply) -> Resu
 
 fn put_line(out: &mut Vec<u8>, lane: u8, index: u64, reply: &Reply) -> Result<(), NoMemory>
     ensures ok { OnOk result (out.new.items ≡ out.old.items ++ spec.reply_text lane index reply.now) }
-    ensures err { OnErr result (BeginsWith out.old.items out.new.items) }
+    ensures err { OnErr result (Begins out.old.items out.new.items) }
 {
     put_number(out, u64::from(lane))?;
     out.push(b'.')?;
@@ -132,7 +132,7 @@ fn put_line(out: &mut Vec<u8>, lane: u8, index: u64, reply: &Reply) -> Result<()
 
 fn put_reply_words(out: &mut Vec<u8>, reply: &Reply) -> Result<(), NoMemory>
     ensures ok { OnOk result (out.new.items ≡ out.old.items ++ spaced (spec.reply_words reply.now)) }
-    ensures err { OnErr result (BeginsWith out.old.items out.new.items) }
+    ensures err { OnErr result (Begins out.old.items out.new.items) }
 {
     match reply {
         Reply::Placed {
@@ -199,7 +199,7 @@ fn put_placed(
     stamp: Option<(u64, u64)>,
 ) -> Result<(), NoMemory>
     ensures ok { OnOk result (out.new.items ≡ out.old.items ++ spaced (spec.reply_words (Reply.Placed jsn leaf.now block size root.now stamp))) }
-    ensures err { OnErr result (BeginsWith out.old.items out.new.items) }
+    ensures err { OnErr result (Begins out.old.items out.new.items) }
 {
     put_words(
         out,
@@ -217,7 +217,7 @@ fn put_placed(
 
 fn put_stamp(out: &mut Vec<u8>, stamp: Option<(u64, u64)>) -> Result<(), NoMemory>
     ensures ok { OnOk result (out.new.items ≡ out.old.items ++ spaced (spec.stamp_words stamp)) }
-    ensures err { OnErr result (BeginsWith out.old.items out.new.items) }
+    ensures err { OnErr result (Begins out.old.items out.new.items) }
 {
     match stamp {
         Some((index, time)) => put_words(out, &[Word::Number(index), Word::Number(time)]),
@@ -232,7 +232,7 @@ fn put_whole<'a>(
     who: &'a Bytes,
 ) -> Result<(), NoMemory>
     ensures ok { OnOk result (out.new.items ≡ out.old.items ++ spaced (spec.reply_words (Reply.Whole header.now content.now who.now))) }
-    ensures err { OnErr result (BeginsWith out.old.items out.new.items) }
+    ensures err { OnErr result (Begins out.old.items out.new.items) }
 {
     put_words(
         out,
@@ -251,7 +251,7 @@ fn put_occulted<'a>(
     who: &'a Bytes,
 ) -> Result<(), NoMemory>
     ensures ok { OnOk result (out.new.items ≡ out.old.items ++ spaced (spec.reply_words (Reply.Occulted header.now who.now))) }
-    ensures err { OnErr result (BeginsWith out.old.items out.new.items) }
+    ensures err { OnErr result (Begins out.old.items out.new.items) }
 {
     put_words(
         out,
@@ -272,7 +272,7 @@ fn put_proof(
     proof: &Bytes,
 ) -> Result<(), NoMemory>
     ensures ok { OnOk result (out.new.items ≡ out.old.items ++ spaced (spec.reply_words (Reply.Proof n leaf.now lo hi proof.now))) }
-    ensures err { OnErr result (BeginsWith out.old.items out.new.items) }
+    ensures err { OnErr result (Begins out.old.items out.new.items) }
 {
     put_words(
         out,
@@ -296,7 +296,7 @@ fn put_extension(
     proof: &Bytes,
 ) -> Result<(), NoMemory>
     ensures ok { OnOk result (out.new.items ≡ out.old.items ++ spaced (spec.reply_words (Reply.Extension which m size root.now proof.now))) }
-    ensures err { OnErr result (BeginsWith out.old.items out.new.items) }
+    ensures err { OnErr result (Begins out.old.items out.new.items) }
 {
     put_words(
         out,
@@ -313,7 +313,7 @@ fn put_extension(
 
 fn put_clue(out: &mut Vec<u8>, count: u32, kept: &Items<u64>) -> Result<(), NoMemory>
     ensures ok { OnOk result (out.new.items ≡ out.old.items ++ spaced (spec.reply_words (Reply.Clue count kept.now))) }
-    ensures err { OnErr result (BeginsWith out.old.items out.new.items) }
+    ensures err { OnErr result (Begins out.old.items out.new.items) }
 {
     put_words(
         out,
@@ -337,7 +337,7 @@ fn name_of(which: Which) -> &'static [u8]
 /// Appends a refusal's words, each behind a space: `no`, its code, and its fields.
 pub fn put_refusal(out: &mut Vec<u8>, refusal: &Refusal) -> Result<(), NoMemory>
     ensures ok { OnOk result (out.new.items ≡ out.old.items ++ spaced (spec.reply_words (Reply.Refused refusal.now))) }
-    ensures err { OnErr result (BeginsWith out.old.items out.new.items) }
+    ensures err { OnErr result (Begins out.old.items out.new.items) }
 {
     match refusal {
         Refusal::BadVerb => put_code(out, 10),
@@ -383,14 +383,14 @@ pub fn put_refusal(out: &mut Vec<u8>, refusal: &Refusal) -> Result<(), NoMemory>
 
 fn put_code(out: &mut Vec<u8>, code: u64) -> Result<(), NoMemory>
     ensures ok { OnOk result (out.new.items ≡ out.old.items ++ spaced (codes "no" ∷ decimal code ∷ [])) }
-    ensures err { OnErr result (BeginsWith out.old.items out.new.items) }
+    ensures err { OnErr result (Begins out.old.items out.new.items) }
 {
     put_words(out, &[Word::Text(b"no"), Word::Number(code)])
 }
 
 fn put_numbered(out: &mut Vec<u8>, code: u64, number: u64) -> Result<(), NoMemory>
     ensures ok { OnOk result (out.new.items ≡ out.old.items ++ spaced (codes "no" ∷ decimal code ∷ decimal number ∷ [])) }
-    ensures err { OnErr result (BeginsWith out.old.items out.new.items) }
+    ensures err { OnErr result (Begins out.old.items out.new.items) }
 {
     put_words(
         out,
@@ -400,7 +400,7 @@ fn put_numbered(out: &mut Vec<u8>, code: u64, number: u64) -> Result<(), NoMemor
 
 fn put_hashed(out: &mut Vec<u8>, code: u64, digest: &Digest) -> Result<(), NoMemory>
     ensures ok { OnOk result (out.new.items ≡ out.old.items ++ spaced (codes "no" ∷ decimal code ∷ hex_of digest.now ∷ [])) }
-    ensures err { OnErr result (BeginsWith out.old.items out.new.items) }
+    ensures err { OnErr result (Begins out.old.items out.new.items) }
 {
     put_words(
         out,

@@ -1,4 +1,4 @@
-ghost use Rattle.std.specs.Prelude.{◌≡◌, ◌≤◌, ◌↔◌, if◌then◌else◌, length, Some, None, option_map, All, IsTrue, IfOk, IfSome, IsSome};
+ghost use Rattle.std.specs.Prelude.{◌≡◌, ◌≤◌, ◌↔◌, length, option_map, All, IsTrue, IfOk, IfSome, IsSome};
 ghost use Rattle.std.specs.Char.{is_ascii_digit, is_ascii_hexdigit};
 ghost use Rattle.std.specs.List.{list_all};
 ghost use Rattle.script_lines.specs.Spellings.{is_decimal, number_of, bytes_of, digest_of, clue_of, name_of, which_of, approval_of, approvals_of, mark_of};
@@ -97,17 +97,21 @@ pub fn read_clue(text: &[u8]) -> Option<&[u8]>
 {
     if text == b"-".as_slice() {
         Some(b"")
-    } else if is_name(text) {
+    } else {
+        read_name(text)
+    }
+}
+
+/// A name of 1 to 64 bytes; None where the text has another length.
+pub fn read_name(text: &[u8]) -> Option<&[u8]>
+    ensures name { option_map (λ name. name.now) result ≡ name_of text.now }
+    ensures long { IfSome result (λ name. length name.now ≤ 64) }
+{
+    if (1..=64).contains(&text.len()) {
         Some(text)
     } else {
         None
     }
-}
-
-pub(crate) fn is_name(text: &[u8]) -> bool
-    ensures { (if result then Some text.now else None) ≡ name_of text.now }
-{
-    (1..=64).contains(&text.len())
 }
 
 pub(crate) fn read_which(text: &[u8]) -> Option<Which>

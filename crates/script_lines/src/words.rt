@@ -1,6 +1,6 @@
 ghost use Rattle.std.specs.Prelude.{◌≡◌, ◌++◌, codes, decimal, map, OnOk, OnErr};
 ghost use Rattle.hex.specs.Hex.{encode_lower};
-ghost use Rattle.script_lines.specs.Begins.{BeginsWith};
+ghost use Rattle.ledger_bytes.specs.Begins.{Begins};
 ghost use Rattle.script_lines.specs.Words.{behind_commas, hex_or_dash, list_text, mark_text, spaced, word_text};
 
 use itoa::Buffer;
@@ -29,7 +29,7 @@ pub enum Word<'a> {
 /// Appends the words, each behind a space. Where memory is missing the buffer begins as it was.
 pub fn put_words(out: &mut Vec<u8>, words: &[Word]) -> Result<(), NoMemory>
     ensures ok { OnOk result (out.new.items ≡ out.old.items ++ spaced (map word_text words.now)) }
-    ensures err { OnErr result (BeginsWith out.old.items out.new.items) }
+    ensures err { OnErr result (Begins out.old.items out.new.items) }
 {
     for word in words {
         out.push(b' ')?;
@@ -40,7 +40,7 @@ pub fn put_words(out: &mut Vec<u8>, words: &[Word]) -> Result<(), NoMemory>
 
 fn put_word(out: &mut Vec<u8>, word: &Word) -> Result<(), NoMemory>
     ensures ok { OnOk result (out.new.items ≡ out.old.items ++ word_text word.now) }
-    ensures err { OnErr result (BeginsWith out.old.items out.new.items) }
+    ensures err { OnErr result (Begins out.old.items out.new.items) }
 {
     match word {
         Word::Text(text) => Ok(out.extend_from_slice(text)?),
@@ -71,14 +71,14 @@ fn hex_of(digest: &Digest) -> [u8; 64]
 
 fn put_dash(out: &mut Vec<u8>) -> Result<(), NoMemory>
     ensures ok { OnOk result (out.new.items ≡ out.old.items ++ codes "-") }
-    ensures err { OnErr result (BeginsWith out.old.items out.new.items) }
+    ensures err { OnErr result (Begins out.old.items out.new.items) }
 {
     Ok(out.push(b'-')?)
 }
 
 fn put_hex_or_dash(out: &mut Vec<u8>, bytes: &[u8]) -> Result<(), NoMemory>
     ensures ok { OnOk result (out.new.items ≡ out.old.items ++ hex_or_dash bytes.now) }
-    ensures err { OnErr result (BeginsWith out.old.items out.new.items) }
+    ensures err { OnErr result (Begins out.old.items out.new.items) }
 {
     if bytes.is_empty() {
         put_dash(out)
@@ -89,7 +89,7 @@ fn put_hex_or_dash(out: &mut Vec<u8>, bytes: &[u8]) -> Result<(), NoMemory>
 
 fn put_hex(out: &mut Vec<u8>, bytes: &[u8]) -> Result<(), NoMemory>
     ensures ok { OnOk result (out.new.items ≡ out.old.items ++ encode_lower bytes.now) }
-    ensures err { OnErr result (BeginsWith out.old.items out.new.items) }
+    ensures err { OnErr result (Begins out.old.items out.new.items) }
 {
     let mut digits = [0; 2 * CHUNK];
     let mut left = bytes;
@@ -105,7 +105,7 @@ fn put_hex(out: &mut Vec<u8>, bytes: &[u8]) -> Result<(), NoMemory>
 
 fn put_mark(out: &mut Vec<u8>, mark: Option<(u64, u64, u64)>) -> Result<(), NoMemory>
     ensures ok { OnOk result (out.new.items ≡ out.old.items ++ mark_text mark) }
-    ensures err { OnErr result (BeginsWith out.old.items out.new.items) }
+    ensures err { OnErr result (Begins out.old.items out.new.items) }
 {
     let Some((jsn, index, time)) = mark else {
         return put_dash(out);
@@ -119,7 +119,7 @@ fn put_mark(out: &mut Vec<u8>, mark: Option<(u64, u64, u64)>) -> Result<(), NoMe
 
 fn put_list(out: &mut Vec<u8>, numbers: &[u64]) -> Result<(), NoMemory>
     ensures ok { OnOk result (out.new.items ≡ out.old.items ++ list_text numbers.now) }
-    ensures err { OnErr result (BeginsWith out.old.items out.new.items) }
+    ensures err { OnErr result (Begins out.old.items out.new.items) }
 {
     let [first, others @ ..] = numbers else {
         return put_dash(out);
@@ -130,7 +130,7 @@ fn put_list(out: &mut Vec<u8>, numbers: &[u64]) -> Result<(), NoMemory>
 
 fn put_behind_commas(out: &mut Vec<u8>, numbers: &[u64]) -> Result<(), NoMemory>
     ensures ok { OnOk result (out.new.items ≡ out.old.items ++ behind_commas numbers.now) }
-    ensures err { OnErr result (BeginsWith out.old.items out.new.items) }
+    ensures err { OnErr result (Begins out.old.items out.new.items) }
 {
     for number in numbers {
         out.push(b',')?;
