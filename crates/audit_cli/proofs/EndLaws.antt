@@ -1,12 +1,12 @@
 -- Lemmas on the ends of a session.
-use Rattle.std.proofs.Common.{◌≡◌, ℕ, ◌+◌, ◌^◌, ◌<◌, ◌≤◌, ◌⊎◌, inl, inr, List, [], ◌∷◌, ◌++◌, length, take, drop, Err, refl, ap, sym, subst, ◌∙◌, arith, append_assoc, length-append}
+use Rattle.std.proofs.Common.{◌≡◌, ℕ, ◌+◌, ◌^◌, ◌<◌, ◌≤◌, inl, inr, List, [], ◌∷◌, ◌++◌, length, take, drop, Err, refl, ap, sym, subst, ◌∙◌, arith, append_assoc, length-append}
 use Rattle.std.specs.Prelude.{All}
 use Rattle.std.specs.Io.KnownBytes.{Appends}
 use Rattle.std.proofs.KnownBytes.{Appends-trans}
 use Rattle.std.proofs.lemmas.List.{take-append-drop, length-take-le}
 use Rattle.ledger_bytes.specs.Begins.{Begins}
 use Rattle.ledger_bytes.specs.Causes.{Rose}
-use Rattle.ledger_io.specs.Outside.{SourceState, SinkState}
+use Rattle.ledger_io.specs.Outside.{SourceState, SinkState, MeetsFault, Outside, outside}
 use Rattle.ledger_io.specs.Lines.{IsLine, BeginsTooLong}
 use Rattle.ledger_io.specs.Reading.{Reading, Reads, GivesLine, GivesNone, Fails, Gives}
 use Rattle.ledger_io.specs.Writing.{WritesFirst}
@@ -18,12 +18,12 @@ use Rattle.ledger_io.proofs.ReadingLaws.{read_more, first_lines, given_consumed,
 use Rattle.tree_model.specs.Tree.{Hash}
 use Rattle.audit_core.specs.Trust.{Trust}
 use Rattle.audit_cli.specs.Answers.{answer_to}
-use Rattle.audit_cli.specs.Endings.{ending_of}
+use Rattle.ledger_io.specs.Endings.{ending_of, Causes}
 use Rattle.audit_cli.specs.Replies.{reply_text}
-use Rattle.audit_cli.specs.Runs.{Outside, outside, Served, AnswersEnded, Replies, Causes}
+use Rattle.audit_cli.specs.Runs.{Served, AnswersEnded, Replies}
 use Rattle.audit_cli.specs.Texts.{audit_text}
-use Rattle.audit_cli.specs.declared.ending.Ending.{Ending}
-use Rattle.audit_cli.specs.declared.ending.Ending.TheVariants as ending
+use Rattle.ledger_io.specs.declared.ending.Ending.{Ending}
+use Rattle.ledger_io.specs.declared.ending.Ending.TheVariants as ending
 use Rattle.audit_cli.proofs.TextLaws.{next_text, text_more}
 use Rattle.audit_cli.proofs.SessionLaws.{SoFar, next_is}
 
@@ -64,7 +64,10 @@ module _ (hash : Hash) (before now : Outside) (source : SourceState) (old new : 
   }
 
   served_failed : (error : LineErr) → Fails now.source source old new bytes error → Served hash (ending_of error) before (outside source now.sink)
-  served_failed ReadFault f = ended ending.ReadFault (answers_ended ReadFault IsLine f f.cause.1) (omega (arith, f.cause.0, s.input.later))
+  served_failed ReadFault f =
+      let rose : Rose before.source.faults source.faults = omega (arith, f.cause.0, s.input.later) in
+      let few : length read_all < 2 ^ 40 = omega (arith, f.cause.2, r.total, s.input.total, length-append s.input.read bytes) in
+      ended ending.ReadFault (answers_ended ReadFault IsLine f f.cause.1) (rose, few)
   served_failed LineTooLong f = ended ending.LineTooLong (answers_ended LineTooLong BeginsTooLong f f.cause) tt
   served_failed ScriptTooLong f =
       ended ending.ScriptTooLong (answers_ended ScriptTooLong IsLine f f.cause.1) (omega (arith, f.cause.0, r.total, s.input.total, length-append s.input.read bytes))
@@ -98,7 +101,7 @@ module _ (hash : Hash) (before now : Outside) (source : SourceState) (old new : 
   -- the session ends with a fault of writing, after so many bytes of an answer
   served_fault : (sink : SinkState) (line : List ℕ) (taken : ℕ) → GivesLine source old new bytes line
       → taken < length (next_text hash s.lines line) → Appends now.sink.held sink.held (take taken (next_text hash s.lines line))
-      → Rose now.sink.faults sink.faults ⊎ Rose now.sink.idles sink.idles → now.sink.faults ≤ sink.faults → now.sink.idles ≤ sink.idles
+      → MeetsFault now.sink sink → now.sink.faults ≤ sink.faults → now.sink.idles ≤ sink.idles
       → Served hash ending.WriteFault before (outside source sink)
   served_fault sink line taken g fewer part cause faults idles =
       let more = read_more before.source now.source source old new bytes line s.lines s.input r g in
@@ -124,7 +127,7 @@ module _ (hash : Hash) (before now : Outside) (source : SourceState) (old new : 
   -- .. of which the sink took the first bytes
   pub served_write : (sink : SinkState) (line piece : List ℕ) (error : WriteErr) → GivesLine source old new bytes line
       → piece ≡ reply_text (count + 1) (answer_to hash trust line) → WritesFirst now.sink.held sink.held piece error
-      → Rose now.sink.faults sink.faults ⊎ Rose now.sink.idles sink.idles → now.sink.faults ≤ sink.faults → now.sink.idles ≤ sink.idles
+      → MeetsFault now.sink sink → now.sink.faults ≤ sink.faults → now.sink.idles ≤ sink.idles
       → Served hash ending.WriteFault before (outside source sink)
   served_write sink line piece (WriteFault taken) g is first cause faults idles =
       let text = is ∙ next_is hash before now old trust count line s in

@@ -2,14 +2,13 @@
 use Rattle.std.proofs.Common.{◌≡◌, ℕ, ◌+◌, ◌≤◌, false, List, [], ◌∷◌, ◌++◌, length, None, refl, ap, sym, subst, ◌∙◌, arith, length-append}
 use Rattle.std.specs.Io.KnownBytes.{Appends}
 use Rattle.std.proofs.KnownBytes.{Appends-nil, Appends-trans}
-use Rattle.ledger_io.specs.Outside.{SourceState, SinkState}
+use Rattle.ledger_io.specs.Outside.{SourceState, SinkState, Outside, outside}
 use Rattle.ledger_io.specs.Reading.{Reading, Reads, GivesLine}
 use Rattle.ledger_io.proofs.ReadingLaws.{HasGiven, read_none, read_more}
 use Rattle.tree_model.specs.Tree.{Hash}
 use Rattle.audit_core.specs.Trust.{Trust, nothing_trusted}
 use Rattle.audit_cli.specs.Answers.{answer_to, trust_after}
 use Rattle.audit_cli.specs.Replies.{reply_text}
-use Rattle.audit_cli.specs.Runs.{Outside, outside}
 use Rattle.audit_cli.specs.Texts.{audit_text}
 use Rattle.audit_cli.proofs.TextLaws.{trust_through, trust_through-push, next_text, text_more}
 

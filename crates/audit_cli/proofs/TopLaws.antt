@@ -1,15 +1,16 @@
 -- Lemmas on the whole of a run.
-use Rattle.std.proofs.Common.{◌≡◌, ◌≢◌, ◌↔◌, ℕ, ◌≤◌, inl, inr, List, [], Option, Some, None, refl, arith}
+use Rattle.std.proofs.Common.{◌≡◌, ◌≢◌, ◌↔◌, ℕ, inl, inr, [], Option, Some, None, refl, arith}
 use Rattle.std.proofs.KnownBytes.{Consumes-nil, Appends-nil, Appends-trans}
-use Rattle.ledger_io.specs.Outside.{SourceState, SinkState}
+use Rattle.ledger_io.specs.Outside.{SourceState, SinkState, Outside, outside}
 use Rattle.ledger_io.specs.Writing.{WritesLast}
 use Rattle.tree_model.specs.Tree.{Hash}
-use Rattle.audit_cli.specs.Endings.{last_line}
-use Rattle.audit_cli.specs.Runs.{Outside, outside, MetWriteFault, Causes, Served, Ran, RanProgram}
+use Rattle.ledger_io.specs.Endings.{last_line}
+use Rattle.ledger_io.proofs.EndingLaws.{causes_later}
+use Rattle.audit_cli.specs.Runs.{Served, Ran, RanProgram}
 use Rattle.audit_cli.specs.declared.words.Command.{Command}
 use Rattle.audit_cli.specs.declared.words.Command.TheVariants.{Script}
-use Rattle.audit_cli.specs.declared.ending.Ending.{Ending}
-use Rattle.audit_cli.specs.declared.ending.Ending.TheVariants.{Done, Usage, ReadFault, WriteFault, NoMemory, LineTooLong, ScriptTooLong}
+use Rattle.ledger_io.specs.declared.ending.Ending.{Ending}
+use Rattle.ledger_io.specs.declared.ending.Ending.TheVariants.{Usage}
 
 -- words of no form: nothing is read or written
 served_usage : (hash : Hash) (before : Outside) → Served hash Usage before before
@@ -25,17 +26,6 @@ served_usage hash before = record {
   idle_later = omega arith;
 }
 
--- a cause stays one after further writing
-causes_later : (end : Ending) (read : List ℕ) (before : Outside) (source : SourceState) (mid after : SinkState) → mid.faults ≤ after.faults → mid.idles ≤ after.idles → Causes end read before (outside source mid) → Causes end read before (outside source after)
-causes_later Done read before source mid after f i cause = cause
-causes_later Usage read before source mid after f i cause = cause
-causes_later ReadFault read before source mid after f i cause = cause
-causes_later WriteFault read before source mid after f i cause =
-    elim cause as (λ w. MetWriteFault before (outside source after)) [ inl rose ↦ inl (omega (arith, rose, f)) | inr rose ↦ inr (omega (arith, rose, i)) ]
-causes_later NoMemory read before source mid after f i cause = cause
-causes_later LineTooLong read before source mid after f i cause = cause
-causes_later ScriptTooLong read before source mid after f i cause = cause
-
 -- a session and its last line are a run
 pub ran_written : (hash : Hash) (end : Ending) (before : Outside) (source : SourceState) (mid after : SinkState) → Served hash end before (outside source mid) → WritesLast (last_line end) mid after → Ran hash end before (outside source after)
 ran_written hash end before source mid after s l = record {
@@ -47,7 +37,7 @@ ran_written hash end before source mid after s l = record {
   replied = s.replied;
   cause = causes_later end s.read before source mid after l.later l.idle_later s.cause;
   last_is = l.front;
-  last_whole = elim l.whole [ inl is ↦ inl is | inr rose ↦ inr (elim rose [ inl r ↦ inl (omega (arith, r, s.sink_later)) | inr r ↦ inr (omega (arith, r, s.idle_later)) ]) ];
+  last_whole = elim l.once [ inl whole ↦ inl whole.0 | inr part ↦ inr (elim part.1 [ inl r ↦ inl (omega (arith, r.0, s.sink_later)) | inr r ↦ inr (omega (arith, r.1, s.idle_later)) ]) ];
 }
 
 -- the words `script` are not a faulty command line, and the run doesn't end as if they were

@@ -3,5 +3,4 @@ pub mod Answers
 pub mod Replies
 pub mod Texts
 pub mod Words
-pub mod Endings
 pub mod Runs

@@ -1,28 +1,15 @@
 -- What a run of the program did, from the bytes that came in to the bytes that went out.
-use Rattle.std.specs.Prelude.{◌≡◌, ℕ, ◌<◌, ◌≤◌, ◌^◌, ◌⊎◌, ◌↔◌, List, [], ◌++◌, length, All, Option, None, ⊤}
-use Rattle.std.specs.Io.KnownBytes.{Consumes, Appends, IsAtEnd}
+use Rattle.std.specs.Prelude.{◌≡◌, ℕ, ◌<◌, ◌≤◌, ◌⊎◌, ◌↔◌, List, [], ◌++◌, length, All, Option, None}
+use Rattle.std.specs.Io.KnownBytes.{Consumes, Appends}
 use Rattle.ledger_bytes.specs.Begins.{Begins}
-use Rattle.ledger_bytes.specs.Causes.{Rose}
-use Rattle.ledger_io.specs.Outside.{SourceState, SinkState}
+use Rattle.ledger_io.specs.Outside.{MeetsFault, Outside}
 use Rattle.ledger_io.specs.Lines.{lines_of, IsLine, BeginsTooLong, Splits}
 use Rattle.tree_model.specs.Tree.{Hash}
-use Rattle.audit_cli.specs.declared.ending.Ending.{Ending}
-use Rattle.audit_cli.specs.declared.ending.Ending.TheVariants.{Done, Usage, ReadFault, WriteFault, NoMemory, LineTooLong, ScriptTooLong}
+use Rattle.ledger_io.specs.declared.ending.Ending.{Ending}
+use Rattle.ledger_io.specs.declared.ending.Ending.TheVariants.{Done, Usage, ReadFault, WriteFault, NoMemory, LineTooLong, ScriptTooLong}
 use Rattle.audit_cli.specs.declared.words.Command.{Command}
-use Rattle.audit_cli.specs.Endings.{status_of, last_line}
+use Rattle.ledger_io.specs.Endings.{status_of, last_line, Causes}
 use Rattle.audit_cli.specs.Texts.{audit_text}
-
--- the objects that a run is handed: what it reads from and what it writes to
-pub record Outside : Type 0 where
-  pub source : SourceState
-  pub sink : SinkState
-
-abbrev pub outside : SourceState → SinkState → Outside
-outside source sink = record { source = source; sink = sink }
-
--- writing met a fault: the sink failed, or it took nothing of a piece that wasn't empty
-abbrev pub MetWriteFault : Outside → Outside → Type 0
-MetWriteFault before after = Rose before.sink.faults after.sink.faults ⊎ Rose before.sink.idles after.sink.idles
 
 -- the lines that ended before a fault were answered
 pub record AnswersEnded (hash : Hash) (read replies : List ℕ) (IsRest : List ℕ → Type 0) : Type 0 where
@@ -55,16 +42,6 @@ Replies hash NoMemory read replies = AnswersFirst hash read replies
 Replies hash LineTooLong read replies = AnswersEnded hash read replies BeginsTooLong
 Replies hash ScriptTooLong read replies = AnswersEnded hash read replies IsLine
 
--- why the run ended so
-abbrev pub Causes : Ending → List ℕ → Outside → Outside → Type 0
-Causes Done read before after = IsAtEnd after.source.left × (length read < 2 ^ 40)
-Causes Usage read before after = read ≡ []
-Causes ReadFault read before after = Rose before.source.faults after.source.faults
-Causes WriteFault read before after = MetWriteFault before after
-Causes NoMemory read before after = ⊤
-Causes LineTooLong read before after = ⊤
-Causes ScriptTooLong read before after = length read ≡ 2 ^ 40
-
 -- a script from its first line to its ending: everything but the last line
 pub record Served (hash : Hash) (ending : Ending) (before after : Outside) : Type 0 where
   -- the bytes that were read
@@ -92,7 +69,7 @@ pub record Ran (hash : Hash) (ending : Ending) (before after : Outside) : Type 0
   pub replied : Replies hash ending read replies
   pub cause : Causes ending read before after
   pub last_is : Begins last (last_line ending)
-  pub last_whole : (last ≡ last_line ending) ⊎ MetWriteFault before after
+  pub last_whole : (last ≡ last_line ending) ⊎ MeetsFault before.sink after.sink
 
 -- a run of what was asked for, to its exit status
 pub record RanProgram (hash : Hash) (asked : Option Command) (status : ℕ) (before after : Outside) : Type 0 where

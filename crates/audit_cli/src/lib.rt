@@ -3,15 +3,13 @@
 #![tactic(auto)]
 
 mod answer;
-mod ending;
 mod line;
 mod reply;
 mod session;
 mod top;
 mod words;
 
-pub use ending::Ending;
-pub use top::{audit_run, audit_top, finish};
+pub use top::{audit_run, audit_top};
 
 #[cfg(test)]
 mod tests;

@@ -1,15 +1,14 @@
 ghost use Rattle.std.specs.Prelude.{◌≡◌, ◌≢◌, OnOk};
+ghost use Rattle.ledger_io.specs.Outside.{outside};
 ghost use Rattle.audit_cli.specs.Answers.{answer_to, trust_after};
-ghost use Rattle.audit_cli.specs.Endings.{ending_of};
 ghost use Rattle.audit_cli.specs.Replies.{reply_text};
-ghost use Rattle.audit_cli.specs.Runs.{Served, outside};
+ghost use Rattle.audit_cli.specs.Runs.{Served};
 
-use crate::Ending;
 use crate::answer::answer;
 use crate::reply::put_reply;
 use audit_core::Heads;
 use ledger_bytes::{NoMemory, TreeHash};
-use ledger_io::{LineErr, Lines, Sink, Source, write_all};
+use ledger_io::{Ending, Lines, Sink, Source, write_all};
 use std::alloc::Global;
 
 /// Answers the lines of an audit script, one after the other, until it ends or a fault ends it.
@@ -30,7 +29,7 @@ pub(crate) fn run_script<H: TreeHash, S: Source, K: Sink>(
         let line = match lines.next(source) {
             Ok(Some(line)) => line,
             Ok(None) => return Ending::Done,
-            Err(error) => return ending_of(error),
+            Err(error) => return Ending::from(error),
         };
         number += 1;
         match set_answer::<H>(alloc, &mut heads, &mut text, number, line.as_slice()) {
@@ -58,15 +57,4 @@ fn set_answer<H: TreeHash>(
     let reply = answer::<H>(alloc, heads, line)?;
     text.clear();
     put_reply(text, number, &reply)
-}
-
-fn ending_of(error: LineErr) -> Ending
-    ensures { result ≡ ending_of error }
-{
-    match error {
-        LineErr::ReadFault => Ending::ReadFault,
-        LineErr::LineTooLong => Ending::LineTooLong,
-        LineErr::ScriptTooLong => Ending::ScriptTooLong,
-        LineErr::NoMemory => Ending::NoMemory,
-    }
 }

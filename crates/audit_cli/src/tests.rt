@@ -1,4 +1,4 @@
-use crate::{Ending, audit_run, audit_top, finish};
+use crate::{audit_run, audit_top};
 use ledger_bytes::{Bytes, NoMemory, Toy};
 use ledger_io::{LINE_LIMIT, MemSink, MemSource};
 use std::alloc::Global;
@@ -339,19 +339,6 @@ fn ends_at_a_line_that_is_too_long(rt: HostRuntime) -> Result<(), Fail> {
         assert_eq!(rt; written.as_slice(), text.as_bytes());
         assert_eq!(rt; got, status);
     }
-    Ok(())
-}
-
-#[test]
-fn tells_want_of_memory(rt: HostRuntime) -> Result<(), Fail> {
-    let mut sink = MemSink::new(rt.alloc(), AMPLE, Vec::new(rt.alloc()))?;
-    assert_eq!(rt; finish(&mut sink, Ending::NoMemory), 6);
-    assert_eq!(rt; sink.written(), b"fail 6 memory\n".as_slice());
-    assert_eq!(rt; Ending::ScriptTooLong.status(), 7);
-    assert_eq!(rt;
-        Ending::ScriptTooLong.last_line(),
-        b"fail 7 script\n".as_slice()
-    );
     Ok(())
 }
 

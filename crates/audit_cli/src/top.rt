@@ -1,16 +1,14 @@
 ghost use Rattle.std.specs.Prelude.{◌≡◌, ◌≢◌, ◌⊎◌, ◌↔◌, Some, None, map, string_bytes};
 ghost use Rattle.sha2.specs.Sha256.{sha256};
 ghost use Rattle.ledger_bytes.specs.Causes.{Rose};
-ghost use Rattle.ledger_io.specs.Writing.{WritesLast};
-ghost use Rattle.audit_cli.specs.Endings.{status_of, last_line};
-ghost use Rattle.audit_cli.specs.Runs.{RanProgram, outside};
+ghost use Rattle.ledger_io.specs.Outside.{outside};
+ghost use Rattle.audit_cli.specs.Runs.{RanProgram};
 ghost use Rattle.audit_cli.specs.Words.{command_of};
 
-use crate::Ending;
 use crate::session::run_script;
 use crate::words::Command;
 use ledger_bytes::{Sha, TreeHash};
-use ledger_io::{Sink, Source, write_last};
+use ledger_io::{Ending, Sink, Source, finish};
 use std::alloc::Global;
 
 /// The program: runs the command that the words after the program's name make. The one form is `script`, which
@@ -57,13 +55,4 @@ pub fn audit_run<H: TreeHash, S: Source, K: Sink>(alloc: Global, source: &mut S,
 {
     let ending = run_script::<H, S, K>(alloc, source, sink);
     finish(sink, ending)
-}
-
-/// Ends a run: writes its last line by one attempt, and answers its exit status.
-pub fn finish<K: Sink>(sink: &mut K, ending: Ending) -> u8
-    ensures status { result ≡ status_of ending }
-    ensures last { WritesLast (last_line ending) (K.state sink.old) (K.state sink.new) }
-{
-    write_last(sink, ending.last_line());
-    ending.status()
 }

@@ -2,9 +2,9 @@
 //! replies to standard output, and nothing to standard error.
 #![tactic(auto)]
 
-use audit_cli::{Ending, audit_top, finish};
+use audit_cli::audit_top;
 use ledger_bytes::NoMemory;
-use ledger_io::{StdSink, StdSource};
+use ledger_io::{Ending, StdSink, StdSource, finish};
 use std::env;
 use std::io::ErrorKind;
 use std::process::ExitCode;

@@ -1,3 +1,4 @@
+pub mod EndingLaws
 pub mod Filling
 pub mod LineLemmas
 pub mod Pieces

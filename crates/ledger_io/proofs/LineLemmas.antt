@@ -1,10 +1,25 @@
 -- Lemmas on newlines, and on the lines of bytes.
-use Rattle.std.proofs.Common.{◌≡◌, ◌≢◌, ℕ, ◌+◌, ◌<◌, false, eqb, cond, List, [], ◌∷◌, ◌++◌, length, take, drop, sym, refl, ap, ◌∙◌, subst, arith, All, inl, inr}
-use Rattle.std.proofs.lemmas.List.{append_assoc, drop-drop, length-drop, take_all, take-append-drop}
-use Rattle.std.proofs.lemmas.List.Elements.{All-same, All-append, All-head, All-tail}
+use Rattle.std.proofs.Common.{◌≡◌, ◌≢◌, ℕ, ◌+◌, ◌<◌, false, eqb, cond, Option, Some, None, List, [], ◌∷◌, ◌++◌, length, take, drop, sym, refl, ap, ◌∙◌, subst, arith, All, inl, inr}
+use Rattle.std.specs.Prelude.{MatchOption}
+use Rattle.std.proofs.lemmas.Bool.{eqb-true, eq-eqb}
+use Rattle.std.proofs.lemmas.List.{append_assoc, drop-drop, drop_more, get_or-take, length-drop, length-take-le, take_all, take-append-drop}
+use Rattle.std.proofs.lemmas.List.Elements.{All-same, All-append, All-from_get_or, All-head, All-tail}
 use Rattle.std.proofs.lemmas.Bool.Decides.{eqb_tells}
 use Rattle.std.proofs.Math.Seq.{take-add}
+use Rattle.memchr.specs.Find.{IsFirstByte, is_byte}
 use Rattle.ledger_io.specs.Lines.{line_limit, onto_first, lines_of, broken, IsUnbroken, BeginsTooLong, BreaksAt}
+
+-- a search for the first newline
+pub newline_first : (bytes : List ℕ) (found : Option ℕ) → IsFirstByte (is_byte 10) bytes found → MatchOption found (IsUnbroken bytes) (BreaksAt bytes)
+newline_first bytes None nowhere = All-from_get_or (λ b. b ≢ 10) bytes 0 (λ k below is. nowhere k (omega arith) below (eq-eqb _ 10 is))
+newline_first bytes (Some at) first =
+    let within : at < length bytes = first.0.high in record {
+      unbroken = All-from_get_or (λ b. b ≢ 10) (take at bytes) 0 (λ k below is.
+          let before : k < at = omega (arith, below, length-take-le at bytes (omega (arith, within))) in
+          first.0.before k (omega arith) before (eq-eqb _ 10 (sym (get_or-take at bytes k 0 before) ∙ is)));
+      within = within;
+      newline = drop_more bytes at 0 within ∙ ap (λ b. b ∷ drop (at + 1) bytes) (eqb-true _ 10 first.1);
+    }
 
 -- bytes are unbroken where both their parts are
 pub IsUnbroken-parts : (bytes : List ℕ) (n : ℕ) → IsUnbroken (take n bytes) → IsUnbroken (drop n bytes) → IsUnbroken bytes

@@ -1,10 +1,6 @@
 -- What clauses see of a source and a sink in memory.
-use Rattle.std.specs.Prelude.{◌≡◌, ℕ, ◌+◌, ◌-◌, ◌^◌, Bool, true, false, ◌==◌, ◌&&◌, nat_lt, if◌then◌else◌, List, ◌++◌, length, take, drop, min, Result, Ok, Err, Some}
-use Rattle.ledger_io.specs.Outside.{SourceState, SinkState}
-
--- one more, in a count that stays at the end of its type
-abbrev pub counted : ℕ → ℕ
-counted n = min (n + 1) (2 ^ 64 - 1)
+use Rattle.std.specs.Prelude.{◌≡◌, ℕ, ◌-◌, Bool, true, false, if◌then◌else◌, List, ◌++◌, length, take, drop, min, Result, Ok, Err, Some}
+use Rattle.ledger_io.specs.Outside.{SourceState, SinkState, counted, is_idle}
 
 -- the calls of an object: the number of the next, the numbers of those that fail, and how many failed
 pub record Plan : Type 0 where
@@ -44,10 +40,6 @@ pub record Store : Type 0 where
 -- what every sink tells
 abbrev pub sink_state : Store → SinkState
 sink_state store = record { held = Some store.held; faults = store.plan.faults; idles = store.idles }
-
--- a write that took n bytes took nothing of a piece that isn't empty
-abbrev pub is_idle : ℕ → List ℕ → Bool
-is_idle n piece = (n == 0) && nat_lt 0 (length piece)
 
 -- what a write does: it takes as many bytes as its room leaves, or it fails and only counts
 abbrev pub Stores : {E : Type 0} → Store → Store → List ℕ → Result ℕ E → Type 0

@@ -1,5 +1,5 @@
 -- What clauses know of the objects outside: what a source has left to read, what a sink holds, and how often calls failed.
-use Rattle.std.specs.Prelude.{◌≡◌, ℕ, ◌<◌, ◌≤◌, List, length, Option, Result, IfOk}
+use Rattle.std.specs.Prelude.{◌≡◌, ℕ, ◌+◌, ◌-◌, ◌^◌, ◌≤◌, ◌⊎◌, Bool, ◌==◌, ◌&&◌, nat_lt, if◌then◌else◌, List, length, min, Option, Result, Ok, Err}
 use Rattle.ledger_bytes.specs.Causes.{Rose}
 
 -- a source: the bytes that are left to read, where it tells them, and how many of its calls failed
@@ -13,7 +13,45 @@ pub record SinkState : Type 0 where
   pub faults : ℕ
   pub idles : ℕ
 
--- the count of idle writes doesn't fall, and it rose where nothing was taken of a piece that isn't empty
+-- one more, in a count that stays at the end of its type
+abbrev pub counted : ℕ → ℕ
+counted n = min (n + 1) (2 ^ 64 - 1)
+
+-- the count of failed calls after a call: one more exactly where it failed
+abbrev pub faults_after : {T E : Type 0} → ℕ → Result T E → ℕ
+faults_after before (Ok value) = before
+faults_after before (Err error) = counted before
+
+-- a write that took n bytes took nothing of a piece that isn't empty
+abbrev pub is_idle : ℕ → List ℕ → Bool
+is_idle n piece = (n == 0) && nat_lt 0 (length piece)
+
+-- the count of idle writes after a write: one more exactly where the write was idle
+abbrev pub idles_after : {E : Type 0} → ℕ → Result ℕ E → List ℕ → ℕ
+idles_after before (Ok n) piece = if is_idle n piece then counted before else before
+idles_after before (Err error) piece = before
+
+-- the count of idle writes doesn't fall, and it is the one after this write
 pub record CountsIdle {E : Type 0} (before now : ℕ) (result : Result ℕ E) (piece : List ℕ) : Type 0 where
   pub later : before ≤ now
-  pub idle : IfOk result (λ n. n ≡ 0 → 0 < length piece → Rose before now)
+  pub count : now ≡ idles_after before result piece
+
+-- writing met a fault: the sink failed, or it took nothing of a piece that wasn't empty
+abbrev pub MeetsFault : SinkState → SinkState → Type 0
+MeetsFault before after = Rose before.faults after.faults ⊎ Rose before.idles after.idles
+
+-- writing met no fault
+abbrev pub MeetsNone : SinkState → SinkState → Type 0
+MeetsNone before after = (after.faults ≡ before.faults) × (after.idles ≡ before.idles)
+
+-- writing met one fault and no more
+abbrev pub MeetsOne : SinkState → SinkState → Type 0
+MeetsOne before after = ((after.faults ≡ counted before.faults) × (after.idles ≡ before.idles)) ⊎ ((after.faults ≡ before.faults) × (after.idles ≡ counted before.idles))
+
+-- the objects that a run is handed: what it reads from and what it writes to
+pub record Outside : Type 0 where
+  pub source : SourceState
+  pub sink : SinkState
+
+abbrev pub outside : SourceState → SinkState → Outside
+outside source sink = record { source = source; sink = sink }

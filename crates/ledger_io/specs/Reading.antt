@@ -61,7 +61,7 @@ pub record GivesNone (before after : SourceState) (old new : Reading) (bytes : L
 
 -- what brings each error about, where the bytes held and the number of bytes read are as they stand
 abbrev pub BringsAbout : SourceState → SourceState → List ℕ → ℕ → LineErr → Type 0
-BringsAbout before after held total ReadFault = Rose before.faults after.faults × IsLine held
+BringsAbout before after held total ReadFault = Rose before.faults after.faults × IsLine held × (total < script_limit)
 BringsAbout before after held total LineTooLong = BeginsTooLong held
 BringsAbout before after held total ScriptTooLong = (total ≡ script_limit) × IsLine held
 BringsAbout before after held total NoMemory = ⊤

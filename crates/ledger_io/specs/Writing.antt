@@ -1,9 +1,8 @@
 -- How far the writing of a whole piece came.
-use Rattle.std.specs.Prelude.{◌≡◌, ℕ, ◌<◌, ◌≤◌, ◌⊎◌, List, length, take, Option}
+use Rattle.std.specs.Prelude.{◌≡◌, ℕ, ◌<◌, ◌≤◌, ◌⊎◌, List, length, take, Option, Result, Ok, Err}
 use Rattle.std.specs.Io.KnownBytes.{Appends}
 use Rattle.ledger_bytes.specs.Begins.{Begins}
-use Rattle.ledger_bytes.specs.Causes.{Rose}
-use Rattle.ledger_io.specs.Outside.{SinkState}
+use Rattle.ledger_io.specs.Outside.{SinkState, MeetsNone, MeetsOne}
 use Rattle.ledger_io.specs.declared.writer.WriteErr.{WriteErr}
 use Rattle.ledger_io.specs.declared.writer.WriteErr.TheVariants.{WriteFault}
 
@@ -11,12 +10,17 @@ use Rattle.ledger_io.specs.declared.writer.WriteErr.TheVariants.{WriteFault}
 abbrev pub WritesFirst : Option (List ℕ) → Option (List ℕ) → List ℕ → WriteErr → Type 0
 WritesFirst old new piece (WriteFault taken) = (taken < length piece) × Appends old new (take taken piece)
 
--- what came of writing the last line by one attempt: it was written whole, or as far as a fault let it
+-- the faults that the writing of a whole piece met: none, or the one that ended it
+abbrev pub MeetsAtMostOne : {T E : Type 0} → Result T E → SinkState → SinkState → Type 0
+MeetsAtMostOne (Ok done) before after = MeetsNone before after
+MeetsAtMostOne (Err error) before after = MeetsOne before after
+
+-- what came of writing the last line by one attempt: it was written whole and met no fault, or as far as the one fault let it
 pub record WritesLast (line : List ℕ) (before after : SinkState) : Type 0 where
   pub last : List ℕ
   pub appended : Appends before.held after.held last
   pub front : Begins last line
-  pub whole : (last ≡ line) ⊎ (Rose before.faults after.faults ⊎ Rose before.idles after.idles)
+  pub once : ((last ≡ line) × MeetsNone before after) ⊎ ((length last < length line) × MeetsOne before after)
   -- no count of faults fell
   pub later : before.faults ≤ after.faults
   pub idle_later : before.idles ≤ after.idles

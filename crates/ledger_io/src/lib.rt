@@ -1,10 +1,11 @@
 //! What is read and written: the traits of a source and a sink, their forms in memory and over std's readers and
-//! writers, the lines of a source, and the writing of a whole piece.
+//! writers, the lines of a source, the writing of a whole piece, and how a run over such lines ends.
 #![tactic(auto)]
 
 mod adapters;
 mod buffer;
 mod calls;
+mod ending;
 mod failure;
 mod memory;
 mod outside;
@@ -12,11 +13,12 @@ mod reader;
 mod writer;
 
 pub use adapters::{StdSink, StdSource};
+pub use ending::Ending;
 pub use failure::LineErr;
 pub use memory::{MemSink, MemSource};
 pub use outside::{Sink, Source};
 pub use reader::{LINE_LIMIT, Lines, SCRIPT_LIMIT};
-pub use writer::{WriteErr, write_all, write_last};
+pub use writer::{WriteErr, finish, write_all, write_last};
 
 #[cfg(test)]
 mod tests;

@@ -3,7 +3,7 @@ ghost use Rattle.std.specs.Io.{ReadsAtMost, WritesAtMost};
 ghost use Rattle.std.specs.Io.KnownBytes.{ReadConsumes, WriteAppends};
 ghost use Rattle.ledger_bytes.specs.Causes.{HasCause};
 ghost use Rattle.ledger_io.specs.Memory.{Feed, Feeds, Store, Stores, source_state, sink_state, unused_plan};
-ghost use Rattle.ledger_io.specs.Outside.{CountsIdle};
+ghost use Rattle.ledger_io.specs.Outside.{CountsIdle, faults_after};
 
 use crate::calls::Calls;
 use crate::{Sink, Source};
@@ -47,6 +47,7 @@ impl Source for MemSource {
         ensures bound { ReadsAtMost result into.new }
         ensures bytes { ReadConsumes (source_state self.old).left (source_state self.new).left result into.new }
         ensures cause { HasCause self.old.plan.faults self.new.plan.faults result }
+        ensures counts { self.new.plan.faults ≡ faults_after self.old.plan.faults result }
         ensures fails { IsErr result ↔ Contains self.old.plan.fail_at self.old.plan.next }
         ensures feeds { Feeds self.old self.new (length into.old) result }
     {
@@ -124,6 +125,7 @@ impl Sink for MemSink {
         ensures bound { WritesAtMost result piece.now }
         ensures bytes { WriteAppends (sink_state self.old).held (sink_state self.new).held result piece.now }
         ensures cause { HasCause self.old.plan.faults self.new.plan.faults result }
+        ensures counts { self.new.plan.faults ≡ faults_after self.old.plan.faults result }
         ensures idle { CountsIdle self.old.idles self.new.idles result piece.now }
         ensures fails { IsErr result ↔ Contains self.old.plan.fail_at self.old.plan.next }
         ensures stores { Stores self.old self.new piece.now result }

@@ -2,7 +2,7 @@ ghost use Rattle.std.specs.Prelude.{◌≡◌};
 ghost use Rattle.std.specs.Io.{ReadsAtMost, WritesAtMost};
 ghost use Rattle.std.specs.Io.KnownBytes.{ReadConsumes, WriteAppends};
 ghost use Rattle.ledger_bytes.specs.Causes.{HasCause};
-ghost use Rattle.ledger_io.specs.Outside.{SourceState, SinkState, CountsIdle};
+ghost use Rattle.ledger_io.specs.Outside.{SourceState, SinkState, CountsIdle, faults_after};
 
 use ledger_bytes::Failed;
 
@@ -16,7 +16,8 @@ pub trait Source {
     fn read(&mut self, into: &mut [u8]) -> Result<usize, Failed>
         ensures bound { ReadsAtMost result into.new }
         ensures bytes { ReadConsumes (state self.old).left (state self.new).left result into.new }
-        ensures cause { HasCause (state self.old).faults (state self.new).faults result };
+        ensures cause { HasCause (state self.old).faults (state self.new).faults result }
+        ensures counts { (state self.new).faults ≡ faults_after (state self.old).faults result };
 
     /// How many calls failed. The count stays at 2^64 - 1 once it is there.
     fn faults(&self) -> u64
@@ -34,6 +35,7 @@ pub trait Sink {
         ensures bound { WritesAtMost result piece.now }
         ensures bytes { WriteAppends (state self.old).held (state self.new).held result piece.now }
         ensures cause { HasCause (state self.old).faults (state self.new).faults result }
+        ensures counts { (state self.new).faults ≡ faults_after (state self.old).faults result }
         ensures idle { CountsIdle (state self.old).idles (state self.new).idles result piece.now };
 
     /// How many calls failed. The count stays at 2^64 - 1 once it is there.

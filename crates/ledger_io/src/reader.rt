@@ -6,6 +6,7 @@ ghost use Rattle.ledger_io.specs.Steps.{noted, HasRead, Fetched, TakesLine, Take
 use crate::buffer::Buffer;
 use crate::{LineErr, Source};
 use ledger_bytes::Bytes;
+use memchr::memchr;
 use std::alloc::Global;
 use std::marker::Model;
 
@@ -174,5 +175,5 @@ impl Lines {
 fn newline_in(bytes: &[u8]) -> Option<usize>
     ensures { MatchOption result (IsUnbroken bytes.now) (BreaksAt bytes.now) }
 {
-    bytes.iter().position(|byte| *byte == b'\n')
+    memchr(b'\n', bytes)
 }

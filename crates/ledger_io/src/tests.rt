@@ -1,6 +1,6 @@
 use crate::{
-    LINE_LIMIT, LineErr, Lines, MemSink, MemSource, Sink, Source, StdSink, StdSource, WriteErr,
-    write_all,
+    Ending, LINE_LIMIT, LineErr, Lines, MemSink, MemSource, Sink, Source, StdSink, StdSource,
+    WriteErr, finish, write_all,
 };
 use ledger_bytes::Bytes;
 use std::alloc::{AllocError, Global};
@@ -181,5 +181,26 @@ fn reads_over_std(rt: HostRuntime) -> Result<(), Fail> {
     assert_eq!(rt; text.as_slice(), b"".as_slice());
     assert_eq!(rt; error, Some(LineErr::ReadFault));
     assert_eq!(rt; broken.faults(), 1);
+    Ok(())
+}
+
+#[test]
+fn ends_runs(rt: HostRuntime) -> Result<(), Fail> {
+    let rows: [(Ending, u8, &[u8]); 7] = [
+        (Ending::Done, 0, b""),
+        (Ending::Usage, 1, b"fail 1 usage\n"),
+        (Ending::ReadFault, 2, b"fail 2 read\n"),
+        (Ending::WriteFault, 3, b""),
+        (Ending::NoMemory, 6, b"fail 6 memory\n"),
+        (Ending::LineTooLong, 7, b"fail 7 line\n"),
+        (Ending::ScriptTooLong, 7, b"fail 7 script\n"),
+    ];
+    for (ending, status, line) in rows {
+        let mut sink = MemSink::new(rt.alloc(), 64, Vec::new(rt.alloc()))?;
+        assert_eq!(rt; finish(&mut sink, ending), status, "at {ending:?}");
+        assert_eq!(rt; sink.written(), line, "at {ending:?}");
+        assert_eq!(rt; ending.status(), status, "at {ending:?}");
+        assert_eq!(rt; ending.last_line(), line, "at {ending:?}");
+    }
     Ok(())
 }

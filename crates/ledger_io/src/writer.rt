@@ -1,9 +1,10 @@
-ghost use Rattle.std.specs.Prelude.{◌≡◌, ◌≤◌, ◌⊎◌, OnOk, OnErr, IfErr};
+ghost use Rattle.std.specs.Prelude.{◌≡◌, ◌≤◌, OnOk, OnErr, IfErr};
 ghost use Rattle.std.specs.Io.KnownBytes.{Appends};
-ghost use Rattle.ledger_bytes.specs.Causes.{Rose};
-ghost use Rattle.ledger_io.specs.Writing.{WritesFirst, WritesLast};
+ghost use Rattle.ledger_io.specs.Endings.{status_of, last_line};
+ghost use Rattle.ledger_io.specs.Outside.{MeetsFault};
+ghost use Rattle.ledger_io.specs.Writing.{WritesFirst, MeetsAtMostOne, WritesLast};
 
-use crate::Sink;
+use crate::{Ending, Sink};
 use thiserror::Error;
 
 /// Why a piece was not written whole.
@@ -18,7 +19,8 @@ pub enum WriteErr {
 pub fn write_all<K: Sink>(sink: &mut K, piece: &[u8]) -> Result<(), WriteErr>
     ensures ok { OnOk result (Appends (K.state sink.old).held (K.state sink.new).held piece.now) }
     ensures taken { IfErr result (WritesFirst (K.state sink.old).held (K.state sink.new).held piece.now) }
-    ensures cause { OnErr result (Rose (K.state sink.old).faults (K.state sink.new).faults ⊎ Rose (K.state sink.old).idles (K.state sink.new).idles) }
+    ensures cause { OnErr result (MeetsFault (K.state sink.old) (K.state sink.new)) }
+    ensures once { MeetsAtMostOne result (K.state sink.old) (K.state sink.new) }
     ensures later { (K.state sink.old).faults ≤ (K.state sink.new).faults }
     ensures idle_later { (K.state sink.old).idles ≤ (K.state sink.new).idles }
 {
@@ -41,4 +43,13 @@ pub fn write_last<K: Sink>(sink: &mut K, line: &[u8])
     ensures { WritesLast line.now (K.state sink.old) (K.state sink.new) }
 {
     let _ = write_all(sink, line);
+}
+
+/// Ends a run: writes its last line by one attempt, and answers its exit status.
+pub fn finish<K: Sink>(sink: &mut K, ending: Ending) -> u8
+    ensures status { result ≡ status_of ending }
+    ensures last { WritesLast (last_line ending) (K.state sink.old) (K.state sink.new) }
+{
+    write_last(sink, ending.last_line());
+    ending.status()
 }

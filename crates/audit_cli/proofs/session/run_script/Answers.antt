@@ -17,7 +17,7 @@ returns-in-Ok-None-clause-served g c =
 pub returns-in-Err-clause-served : goal.returns-in-Err-clause-served
 returns-in-Err-clause-served g c =
     let e = c.in-Err.ensures in
-    rw c.ending_of.ensures (served_error _ _ _ _ c.loop-line.lines _ e.0 c.loop-line.heads c.loop-line.number c.loop-line.invariant e.1 c.in-Err.error e.2)
+    rw c.from.ensures (served_error _ _ _ _ c.loop-line.lines _ e.0 c.loop-line.heads c.loop-line.number c.loop-line.invariant e.1 c.in-Err.error e.2)
 
 pub returns-in-Err-set_answer-clause-served : goal.returns-in-Err-set_answer-clause-served
 returns-in-Err-set_answer-clause-served g c =

@@ -1,6 +1,6 @@
 use Rattle.std.proofs.Common.{◌+◌, ◌-◌, ◌*◌, length}
 use Rattle.ledger_io.specs.Lines.{script_limit}
-use Rattle.audit_cli.specs.Runs.{outside}
+use Rattle.ledger_io.specs.Outside.{outside}
 use Rattle.audit_cli.proofs.SessionLaws.{SoFar}
 use Rattle.audit_cli.proofs.session.run_script.Given as goal
 

@@ -1,11 +1,13 @@
 use Rattle.std.proofs.Common.{length, ◌-◌, ◌≤◌, take}
 use Rattle.std.specs.Io.KnownBytes.{Appends}
+use Rattle.ledger_io.specs.Outside.{MeetsNone}
 use Rattle.ledger_io.proofs.writer.write_all.Given as goal
 
 abbrev pub invariant-loop-taken : goal.invariant-loop-taken
 invariant-loop-taken g l = record {
   within : l.taken ≤ length l.piece;
   appended : Appends (g.K.Sink.state l.fn.sink).held (g.K.Sink.state l.sink).held (take l.taken l.piece);
+  none : MeetsNone (g.K.Sink.state l.fn.sink) (g.K.Sink.state l.sink);
   later : (g.K.Sink.state l.fn.sink).faults ≤ (g.K.Sink.state l.sink).faults;
   idle_later : (g.K.Sink.state l.fn.sink).idles ≤ (g.K.Sink.state l.sink).idles;
 }

@@ -1,9 +1,11 @@
 ghost use Rattle.std.specs.Prelude.{◌≡◌};
 
-/// How a run ended. Each ending has an exit status and a last line.
+use crate::LineErr;
+
+/// How a run over the lines of a source ended. Each ending has an exit status and a last line.
 #[derive(Clone, Copy, Debug, PartialEq, Eq)]
 pub enum Ending {
-    /// The input was read to its end, and every line has its reply.
+    /// The input was read to its end and every line has its reply, or the single text was written.
     Done,
     /// The words of the command line are of no form.
     Usage,
@@ -19,7 +21,7 @@ pub enum Ending {
 }
 
 impl Ending {
-    ghost use Rattle.audit_cli.specs.Endings.{status_of, last_line};
+    ghost use Rattle.ledger_io.specs.Endings.{status_of, last_line};
 
     /// The exit status.
     pub fn status(self) -> u8
@@ -46,6 +48,21 @@ impl Ending {
             Ending::NoMemory => b"fail 6 memory\n",
             Ending::LineTooLong => b"fail 7 line\n",
             Ending::ScriptTooLong => b"fail 7 script\n",
+        }
+    }
+}
+
+impl From<LineErr> for Ending {
+    ghost use Rattle.ledger_io.specs.Endings.{ending_of};
+
+    ghost from_gives = { λ error ending. ending ≡ ending_of error };
+
+    fn from(error: LineErr) -> Self {
+        match error {
+            LineErr::ReadFault => Ending::ReadFault,
+            LineErr::LineTooLong => Ending::LineTooLong,
+            LineErr::ScriptTooLong => Ending::ScriptTooLong,
+            LineErr::NoMemory => Ending::NoMemory,
         }
     }
 }
