@@ -1,21 +1,21 @@
 -- Lemmas on what comes of a job.
-use Rattle.std.proofs.Common.{◌≡◌, ℕ, ◌≤◌, ◌⊎◌, inl, inr, List, [], ◌∷◌, ◌++◌, length, Option, Some, None, refl, ap, sym, subst, ◌∙◌}
+use Rattle.std.proofs.Common.{◌≡◌, ℕ, ◌≤◌, ◌⊎◌, inl, inr, List, Some, None, refl, ap, sym, subst, ◌∙◌}
 use Rattle.ledger_bytes.specs.declared.digest.Digest.{Digest}
 use Rattle.ledger_bytes.specs.declared.refusal.Refusal.{Refusal}
 use Rattle.journal_record.specs.Entry.{Entry}
 use Rattle.journal_record.specs.declared.approval.Approval.{Approval}
 use Rattle.journal_record.specs.declared.header.Header.{Header}
 use Rattle.journal_record.specs.declared.header.Kind.TheVariants as kind
-use Rattle.ledger_model.specs.Appends.{append_header, append_journal, member_header, member_journal}
+use Rattle.ledger_model.specs.Appends.{append_header, append_journal, member_header}
 use Rattle.ledger_model.specs.Books.{Kept, Stands, Serves}
 use Rattle.ledger_model.specs.Clues.{next_ordinal, last_journal}
 use Rattle.ledger_model.specs.Genesis.{no_clue}
-use Rattle.ledger_model.specs.History.{History, history, size}
+use Rattle.ledger_model.specs.History.{History, size}
 use Rattle.ledger_model.specs.Judgements.{own_refusal}
 use Rattle.ledger_model.specs.Outcomes as outcomes
 use Rattle.ledger_model.specs.Outcomes.{placed, with_waiting, after_judgement, told}
 use Rattle.ledger_model.specs.declared.job.Job.{Job}
-use Rattle.ledger_model.specs.declared.job.Job.TheVariants.{Append, NewMember, Clue, Head}
+use Rattle.ledger_model.specs.declared.job.Job.TheVariants.{Clue, Head}
 use Rattle.ledger_model.specs.declared.limits.Limits.{Limits}
 use Rattle.ledger_model.specs.declared.outcome.Outcome.TheVariants.{Refused, Placed, Reading}
 use Rattle.ledger_book.specs.Steps.{Applies, IsSame}

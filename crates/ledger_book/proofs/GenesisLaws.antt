@@ -1,10 +1,10 @@
 -- Lemmas on the book of a new ledger.
-use Rattle.std.proofs.Common.{◌≡◌, ℕ, ◌≤◌, List, [], ◌∷◌, ◌++◌, length, take, drop, refl, ap, sym, subst, ◌∙◌, arith}
+use Rattle.std.proofs.Common.{◌≡◌, ℕ, List, [], ◌∷◌, ◌++◌, length, take, refl, ap, sym, subst, ◌∙◌, arith}
 use Rattle.std.proofs.lemmas.List.{take_at, drop_at}
 use Rattle.std.proofs.lemmas.List.Elements.{All-nil}
 use Rattle.std.specs.Prelude.{All, false, ◌<◌}
 use Rattle.sha2.specs.Sha256.{sha256}
-use Rattle.tree_model.specs.Tree.{mth, leaf}
+use Rattle.tree_model.specs.Tree.{leaf}
 use Rattle.tree_model.proofs.Levels.{root_one}
 use Rattle.ledger_bytes.specs.declared.digest.Digest.{Digest}
 use Rattle.journal_record.specs.Header.{spelling}
@@ -13,7 +13,7 @@ use Rattle.clue_index.specs.Added.{Mark, begun}
 use Rattle.clue_index.specs.Index as index
 use Rattle.member_book.specs.Members as book
 use Rattle.member_book.specs.declared.book.Member.{Member}
-use Rattle.ledger_model.specs.Books.{Kept, Stands, Serves, aged_all, leaf_digests}
+use Rattle.ledger_model.specs.Books.{Kept, Serves, aged_all}
 use Rattle.ledger_model.specs.Clues.{marks}
 use Rattle.ledger_model.specs.Genesis.{digest, genesis_header, founded}
 use Rattle.ledger_model.specs.History as model

@@ -1,6 +1,6 @@
 -- Lemmas on judging: what a book looks at is what the history says.
 use Rattle.std.proofs.Common.{◌≡◌, ℕ, ◌+◌, ◌-◌, ◌<◌, ◌≤◌, ◌&&◌, ◌||◌, ◌==◌, Bool, true, false, cond, not, List, [], ◌∷◌, length, Option, Some, None, refl, ap, sym, ◌∙◌, arith, eq-eqb}
-use Rattle.std.specs.Prelude.{nat_le, slice_index_or}
+use Rattle.std.specs.Prelude.{nat_le}
 use Rattle.std.proofs.lemmas.Bool.{le-leb, lt-leb, lt-ltb, ne_eqb, and_left, and_right, and_from}
 use Rattle.ledger_bytes.specs.declared.digest.Digest.{Digest}
 use Rattle.ledger_bytes.specs.declared.refusal.Refusal.{Refusal}
@@ -8,7 +8,8 @@ use Rattle.ledger_bytes.specs.declared.refusal.Refusal.TheVariants.{Full, Unknow
 use Rattle.clue_index.specs.Added.{Added, different}
 use Rattle.clue_index.specs.Index as index
 use Rattle.ledger_model.specs.Books.{Kept, Stands}
-use Rattle.ledger_model.specs.Clues.{is_no_clue, jsns_with, clues_added, different_clues, next_ordinal, last_journal}
+use Rattle.journal_record.specs.Rules.{is_no_clue}
+use Rattle.ledger_model.specs.Clues.{jsns_with, clues_added, different_clues, next_ordinal, last_journal}
 use Rattle.ledger_model.specs.History.{History, size}
 use Rattle.ledger_model.specs.Judgements.{kept, is_full, full, clues_full, first_refusal, unknown_in}
 use Rattle.ledger_model.specs.declared.limits.Limits.{Limits}

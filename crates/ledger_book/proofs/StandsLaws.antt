@@ -1,9 +1,9 @@
 -- Lemmas on what a book keeps of a history.
 use Rattle.std.proofs.Common.{◌≡◌, ℕ, ◌+◌, ◌<◌, ◌≤◌, Bool, true, false, cond, not, ◌&&◌, ◌==◌, List, [], ◌∷◌, ◌++◌, length, map, drop, Option, Some, None, refl, ap, sym, subst, ◌∙◌, arith, append_assoc, append-nil, length-append, take}
-use Rattle.std.specs.Prelude.{All, max, nat_le, nat_lt}
-use Rattle.std.specs.List.{fold, list_any, flat_map}
+use Rattle.std.specs.Prelude.{All, max, nat_lt}
+use Rattle.std.specs.List.{fold, list_any}
 use Rattle.std.proofs.lemmas.Bool.{le-leb, lt-leb, lt-ltb, le-ltb, or_from}
-use Rattle.std.proofs.lemmas.List.{map-append, length-map, nil_from_length, drop-append-le, take_all, take_at, drop_at}
+use Rattle.std.proofs.lemmas.List.{map-append, length-map, nil_from_length, drop-append-le, take_all}
 use Rattle.std.proofs.lemmas.List.Concat.{flat_map-append}
 use Rattle.std.proofs.lemmas.List.Elements.{All-weaker, All-nil, All-cons, All-push}
 use Rattle.std.proofs.lemmas.List.Folds.{list_any-append, list_any_none}
@@ -13,13 +13,13 @@ use Rattle.ledger_bytes.specs.declared.digest.Digest.{Digest}
 use Rattle.journal_record.specs.Entry.{Entry}
 use Rattle.journal_record.specs.Header.{spelling}
 use Rattle.journal_record.specs.declared.header.Header.{Header}
-use Rattle.merkle_tree.specs.declared.head.Head.{Head}
 use Rattle.journal_record.specs.declared.header.Kind.TheVariants as kind
 use Rattle.clue_index.specs.Added.{Mark, Added, with_mark}
 use Rattle.clue_index.specs.Index as index
-use Rattle.ledger_model.specs.Books.{Kept, Stands, Serves, headers, leaf_digests, sealed, aged, aged_all}
+use Rattle.ledger_model.specs.Books.{Kept, Stands, Serves, headers, sealed, aged, aged_all}
 use Rattle.member_book.specs.declared.book.Member.{Member}
-use Rattle.ledger_model.specs.Clues.{is_no_clue, mark_of, marks, marks_of, clues_added}
+use Rattle.journal_record.specs.Rules.{is_no_clue}
+use Rattle.ledger_model.specs.Clues.{mark_of, marks, marks_of, clues_added}
 use Rattle.ledger_model.specs.Genesis.{digest, no_clue}
 use Rattle.ledger_model.specs.History as model
 use Rattle.ledger_model.specs.History.{History, history, journals, journals_of, close, leaf_digest, first_leaf_digest, is_purge, purge_point}

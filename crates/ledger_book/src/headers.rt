@@ -1,21 +1,14 @@
-ghost use Rattle.std.specs.Prelude.{◌≡◌, ◌≤◌, ◌<◌, ◌^◌, [], ◌∷◌, ◌++◌, length, ℕ, List};
-ghost use Rattle.journal_record.specs.Approval.{who_of};
-ghost use Rattle.journal_record.specs.Entry.{content_digest_of, who_digest_of};
+ghost use Rattle.std.specs.Prelude.{◌≡◌, ◌≤◌, ◌<◌, ◌^◌, ◌++◌, length, ℕ, List};
+ghost use Rattle.journal_record.specs.Entry.{content_digest_of};
 ghost use Rattle.ledger_model.specs.Appends.{append_header, member_header};
 ghost use Rattle.ledger_model.specs.Genesis.{genesis_header, founders_content, name_digest, no_clue};
 
-use journal_record::{Approval, Header, Kind, content_digest, who_digest};
+use journal_record::{Approval, Header, Kind, approval_digest, content_digest, who_digest};
 use ledger_bytes::{Digest, Sha, TreeHash};
 use ledger_model::Genesis;
 
 /// The byte in front of a hashed ledger name.
 const NAME_TAG: u8 = 0x0b;
-
-/// The byte in front of a hashed content.
-const CONTENT_TAG: u8 = 0x02;
-
-/// The byte in front of the hashed bytes of who placed a journal.
-const WHO_TAG: u8 = 0x0a;
 
 /// The clue of a journal that has none.
 pub(crate) const NO_CLUE: Digest = Digest([0; 32]);
@@ -56,11 +49,11 @@ fn keys_digest(operator: &Digest, regulator: &Digest) -> Digest
     ensures digest { result.0 ≡ content_digest_of (operator.now.0 ++ regulator.now.0) }
     ensures width { length operator.now.0 ≡ 32 }
 {
-    let _operator = operator.0;
-    let mut hasher = Sha::start(CONTENT_TAG);
-    hasher.add(&operator.0);
-    hasher.add(&regulator.0);
-    hasher.end()
+    let mut content = [0; 64];
+    let (first, second) = content.split_at_mut(32);
+    first.copy_from_slice(&operator.0);
+    second.copy_from_slice(&regulator.0);
+    content_digest(&content)
 }
 
 /// The place of a journal in the ledger and among those of its clue.
@@ -122,17 +115,4 @@ pub(crate) fn new_member_header(jsn: u64, number: u32, key: &Digest, by: &Approv
         content_digest: content_digest(b""),
         who_digest: approval_digest(by),
     }
-}
-
-// The digest of one approval's bytes: the member's number in 4 bytes, the proof's length in 2, and the proof.
-fn approval_digest(by: &Approval) -> Digest
-    requires { length by.now.proof < 2 ^ 16 }
-    ensures { result.0 ≡ who_digest_of (who_of (by.now ∷ [])) }
-{
-    let proof = by.proof.as_slice();
-    let mut hasher = Sha::start(WHO_TAG);
-    hasher.add(&by.member.to_be_bytes());
-    hasher.add(&(proof.len() as u16).to_be_bytes());
-    hasher.add(proof);
-    hasher.end()
 }

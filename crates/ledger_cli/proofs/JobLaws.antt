@@ -4,9 +4,10 @@ use Rattle.ledger_bytes.specs.declared.refusal.Refusal.{Refusal}
 use Rattle.script_lines.specs.Grammar.{spoken}
 use Rattle.script_lines.specs.declared.line.Line.{Line}
 use Rattle.ledger_model.specs.Rules.{job_for, job_of}
+use Rattle.ledger_model.specs.Scheme.{Scheme}
 
 -- the job of a line as it was read
-pub job_asked : (id line : List ℕ) (lane : ℕ) (what got : Result Line Refusal) → (let said : ℕ × Result Line Refusal = (lane, what) in said ≡ spoken line) → what ≡ got
-    → job_for id got ≡ job_of id line
+pub job_asked : (scheme : Scheme) (id line : List ℕ) (lane : ℕ) (what got : Result Line Refusal) → (let said : ℕ × Result Line Refusal = (lane, what) in said ≡ spoken line) → what ≡ got
+    → job_for scheme id got ≡ job_of scheme id line
 unfolding job_of
-job_asked id line lane what got read is = ap (job_for id) (sym is ∙ ap (λ (said : ℕ × Result Line Refusal). said.1) read)
+job_asked scheme id line lane what got read is = ap (job_for scheme id) (sym is ∙ ap (λ (said : ℕ × Result Line Refusal). said.1) read)

@@ -1,7 +1,6 @@
 -- Lemmas on the taking of lines, and on the writing of what is due.
-use Rattle.std.proofs.Common.{◌≡◌, ℕ, ◌-◌, ◌≤◌, length, sym, ◌⊎◌, inl, inr, List, ◌∷◌, [], ◌++◌, Ok, Err, refl, ap, subst, ◌∙◌}
-use Rattle.ledger_bytes.specs.Causes.{Rose}
-use Rattle.ledger_io.specs.Outside.{SinkState}
+use Rattle.std.proofs.Common.{◌≡◌, ℕ, ◌-◌, ◌≤◌, length, sym, inl, inr, List, ◌∷◌, [], ◌++◌, Ok, Err, refl, ap, subst, ◌∙◌}
+use Rattle.ledger_io.specs.Outside.{SinkState, MeetsFault}
 use Rattle.ledger_io.specs.Writing.{WritesFirst}
 use Rattle.ledger_io.specs.declared.writer.WriteErr.{WriteErr}
 use Rattle.ledger_io.specs.declared.writer.WriteErr.TheVariants.{WriteFault}
@@ -12,27 +11,27 @@ use Rattle.ledger_model.specs.Dues.{dues_text}
 use Rattle.ledger_model.specs.History.{History, id, size, root, blocks}
 use Rattle.ledger_model.specs.InOrder.{step_of}
 use Rattle.ledger_model.specs.Rules.{job_of, after_job, after_step}
+use Rattle.ledger_model.specs.Scheme.{Scheme}
 use Rattle.ledger_model.specs.Texts.{answer_to}
 use Rattle.ledger_model.specs.Windows.{numbered}
 use Rattle.ledger_model.specs.declared.answer.Answer.{Answer}
 use Rattle.ledger_model.specs.declared.due.Due.{Due}
 use Rattle.ledger_model.specs.declared.job.Job.{Job}
-use Rattle.ledger_cli.specs.declared.ending.Ending.{Ending}
+use Rattle.ledger_io.specs.declared.ending.Ending.{Ending}
 use Rattle.ledger_cli.specs.declared.session.Halt.{Halt}
 use Rattle.ledger_cli.specs.declared.session.Halt.TheVariants as halt
-use Rattle.ledger_cli.specs.Endings.{halt_of}
 use Rattle.ledger_model.proofs.GrowLaws.{size_closed}
 use Rattle.ledger_cli.specs.Carries.{Carries, Does}
-use Rattle.ledger_cli.specs.Settling.{settled_text, WritesDues, EndsScript, TakesLine}
+use Rattle.ledger_cli.specs.Settling.{settled_text, WritesDues, EndsScript, TakesLine, halt_of}
 
 -- a line's job does what its step does, and what is due for it is the job's answer
-pub line_taken : (h : History) (book : Kept) (old new : List Due) (key : List ℕ) (index : ℕ) (line : List ℕ) (job : Job) (answer : Answer) → key ≡ id h → job ≡ job_of key line
+pub line_taken : (scheme : Scheme) (h : History) (book : Kept) (old new : List Due) (key : List ℕ) (index : ℕ) (line : List ℕ) (job : Job) (answer : Answer) → key ≡ id h → job ≡ job_of scheme key line
     → Does h (step_of (numbered index line)) job answer book → new ≡ old ++ record { lane = 0; index = index; answer = answer } ∷ []
-    → TakesLine h book old new (numbered index line)
+    → TakesLine scheme h book old new (numbered index line)
 unfolding after_step
-line_taken h book old new key index line job answer key_is job_is d pushed =
+line_taken scheme h book old new key index line job answer key_is job_is d pushed =
     let step = step_of (numbered index line) in
-    let is : job ≡ job_of (id h) line = job_is ∙ ap (λ k. job_of k line) key_is in record {
+    let is : job ≡ job_of scheme (id h) line = job_is ∙ ap (λ k. job_of scheme k line) key_is in record {
       dues = pushed ∙ ap (λ (a : Answer). let due : Due = record { lane = 0; index = index; answer = a } in old ++ due ∷ []) (d.answer_is ∙ ap (answer_to h step) is);
       carries = subst (λ j. Carries book (after_job h step j)) is d.carries;
     }
@@ -47,7 +46,7 @@ settled_piece h piece set block count head given ds none p s g b n is =
 
 -- a fault of writing what is due
 pub write_halts : (h : History) (old new : List Due) (before after : SinkState) (piece : List ℕ) (error : WriteErr) → piece ≡ settled_text h old
-    → WritesFirst before.held after.held piece error → Rose before.faults after.faults ⊎ Rose before.idles after.idles → before.faults ≤ after.faults → before.idles ≤ after.idles
+    → WritesFirst before.held after.held piece error → MeetsFault before after → before.faults ≤ after.faults → before.idles ≤ after.idles
     → WritesDues h old new before after (Err halt.WriteFault)
 write_halts h old new before after piece (WriteFault taken) is first cause faults idles =
     let part = subst (λ text. WritesFirst before.held after.held text (WriteFault taken)) is first in

@@ -1,33 +1,31 @@
 -- Lemmas on the whole of a run.
-use Rattle.std.proofs.Common.{◌≡◌, ℕ, ◌<◌, ◌≤◌, ◌⊎◌, inl, inr, List, [], ◌++◌, length, take, drop, Option, Some, None, Result, Ok, Err, refl, sym, subst, arith, append-nil}
-use Rattle.std.specs.Prelude.{OnOk, IfErr, OnErr}
-use Rattle.std.specs.Io.KnownBytes.{Appends}
+use Rattle.std.proofs.Common.{◌≡◌, ℕ, ◌<◌, ◌≤◌, inl, inr, List, [], length, take, drop, Option, Some, None, refl, sym, subst, arith}
 use Rattle.std.proofs.KnownBytes.{Consumes-nil, Appends-nil, Appends-trans}
 use Rattle.std.proofs.lemmas.List.{take-append-drop, length-take-le}
-use Rattle.ledger_bytes.specs.Causes.{Rose}
-use Rattle.ledger_io.specs.Outside.{SourceState, SinkState}
+use Rattle.ledger_io.specs.Outside.{SourceState, SinkState, MeetsFault, Outside, outside}
 use Rattle.ledger_io.specs.Writing.{WritesLast, WritesFirst}
 use Rattle.ledger_io.specs.declared.writer.WriteErr.{WriteErr}
 use Rattle.ledger_io.specs.declared.writer.WriteErr.TheVariants.{WriteFault}
 use Rattle.ledger_model.specs.Genesis.{founded}
 use Rattle.ledger_model.specs.History.{History, history}
 use Rattle.ledger_model.specs.Notary.{IsAttended}
-use Rattle.ledger_cli.specs.declared.ending.Ending.{Ending}
-use Rattle.ledger_cli.specs.declared.ending.Ending.TheVariants as ending
-use Rattle.ledger_cli.specs.declared.ending.Ending.TheVariants.{NoMemory}
+use Rattle.ledger_model.specs.Scheme.{Scheme}
+use Rattle.ledger_io.specs.declared.ending.Ending.{Ending}
+use Rattle.ledger_io.specs.declared.ending.Ending.TheVariants as ending
+use Rattle.ledger_io.specs.declared.ending.Ending.TheVariants.{NoMemory}
 use Rattle.ledger_cli.specs.declared.words.Command.{Command}
 use Rattle.ledger_cli.specs.declared.words.Command.TheVariants.{Dry, Sign}
-use Rattle.ledger_cli.specs.Endings.{last_line}
-use Rattle.ledger_cli.specs.Runs.{Outside, outside, Served, Ran, FallsShort, Output, Wrote, RanOnce, ServedBy, RanBy}
+use Rattle.ledger_io.specs.Endings.{last_line}
+use Rattle.ledger_cli.specs.Runs.{Served, Ran, FallsShort, Output, Wrote, RanOnce, ServedBy, RanBy}
 use Rattle.ledger_cli.specs.Signing.{signed_text}
-use Rattle.ledger_cli.proofs.EndLaws.{causes_later}
+use Rattle.ledger_io.proofs.EndingLaws.{causes_later}
 
 nothing_attended : IsAttended [] [] 0 []
 nothing_attended = record { linked = refl; few = omega arith }
 
 -- no memory to begin with: nothing is read or written
-pub served_unstarted : (h : History) (before : Outside) → Served h NoMemory before before
-served_unstarted h before = record {
+pub served_unstarted : (scheme : Scheme) (h : History) (before : Outside) → Served scheme h NoMemory before before
+served_unstarted scheme h before = record {
   read = [];
   steps = [];
   replies = [];
@@ -42,8 +40,8 @@ served_unstarted h before = record {
 }
 
 -- a session and its last line are a run
-pub ran_written : (h : History) (end : Ending) (before : Outside) (source : SourceState) (mid after : SinkState) → Served h end before (outside source mid) → WritesLast (last_line end) mid after → Ran h end before (outside source after)
-ran_written h end before source mid after s l = record {
+pub ran_written : (scheme : Scheme) (h : History) (end : Ending) (before : Outside) (source : SourceState) (mid after : SinkState) → Served scheme h end before (outside source mid) → WritesLast (last_line end) mid after → Ran scheme h end before (outside source after)
+ran_written scheme h end before source mid after s l = record {
   read = s.read;
   steps = s.steps;
   replies = s.replies;
@@ -54,14 +52,14 @@ ran_written h end before source mid after s l = record {
   replied = s.replied;
   cause = causes_later end s.read before source mid after l.later l.idle_later s.cause;
   last_is = l.front;
-  last_whole = elim l.whole [ inl is ↦ inl is | inr rose ↦ inr (elim rose [ inl r ↦ inl (omega (arith, r, s.sink_later)) | inr r ↦ inr (omega (arith, r, s.idle_later)) ]) ];
+  last_whole = elim l.once [ inl whole ↦ inl whole.0 | inr part ↦ inr (elim part.1 [ inl r ↦ inl (omega (arith, r.0, s.sink_later)) | inr r ↦ inr (omega (arith, r.1, s.idle_later)) ]) ];
 }
 
 -- no memory to begin with, by the command
-pub unstarted_by : (command : Option Command) (before : Outside) → ServedBy command NoMemory before before
-unstarted_by None before = served_unstarted (history [] []) before
-unstarted_by (Some (Dry genesis)) before = served_unstarted (founded genesis) before
-unstarted_by (Some (Sign signing)) before = record {
+pub unstarted_by : (scheme : Scheme) (command : Option Command) (before : Outside) → ServedBy scheme command NoMemory before before
+unstarted_by scheme None before = served_unstarted scheme (history [] []) before
+unstarted_by scheme (Some (Dry genesis)) before = served_unstarted scheme (founded genesis) before
+unstarted_by scheme (Some (Sign signing)) before = record {
   written = [];
   unread = refl;
   appended = Appends-nil before.sink.held;
@@ -72,7 +70,7 @@ unstarted_by (Some (Sign signing)) before = record {
 
 -- a fault leaves a part of the text
 pub wrote_part : (due piece : List ℕ) (source : SourceState) (before after : SinkState) (error : WriteErr) → piece ≡ due → WritesFirst before.held after.held piece error
-    → Rose before.faults after.faults ⊎ Rose before.idles after.idles → before.faults ≤ after.faults → before.idles ≤ after.idles
+    → MeetsFault before after → before.faults ≤ after.faults → before.idles ≤ after.idles
     → Wrote due ending.WriteFault (outside source before) (outside source after)
 wrote_part due piece source before after (WriteFault taken) is first cause faults idles =
     let fewer : taken < length piece = first.0 in
@@ -108,12 +106,12 @@ ran_once due end before source mid after s l = record {
   appended = Appends-trans before.sink.held mid.held after.held s.written l.last s.appended l.appended;
   output = output_later due end s.written before source mid after l.later l.idle_later s.output;
   last_is = l.front;
-  last_whole = elim l.whole [ inl is ↦ inl is | inr rose ↦ inr (elim rose [ inl r ↦ inl (omega (arith, r, s.sink_later)) | inr r ↦ inr (omega (arith, r, s.idle_later)) ]) ];
+  last_whole = elim l.once [ inl whole ↦ inl whole.0 | inr part ↦ inr (elim part.1 [ inl r ↦ inl (omega (arith, r.0, s.sink_later)) | inr r ↦ inr (omega (arith, r.1, s.idle_later)) ]) ];
 }
 
 -- what a command did, and the last line, are a run of that command
-pub ran_by : (command : Option Command) (end : Ending) (before : Outside) (source : SourceState) (mid after : SinkState) → ServedBy command end before (outside source mid) → WritesLast (last_line end) mid after
-    → RanBy command end before (outside source after)
-ran_by None end before source mid after s l = ran_written (history [] []) end before source mid after s l
-ran_by (Some (Dry genesis)) end before source mid after s l = ran_written (founded genesis) end before source mid after s l
-ran_by (Some (Sign signing)) end before source mid after s l = ran_once (signed_text signing) end before source mid after s l
+pub ran_by : (scheme : Scheme) (command : Option Command) (end : Ending) (before : Outside) (source : SourceState) (mid after : SinkState) → ServedBy scheme command end before (outside source mid) → WritesLast (last_line end) mid after
+    → RanBy scheme command end before (outside source after)
+ran_by scheme None end before source mid after s l = ran_written scheme (history [] []) end before source mid after s l
+ran_by scheme (Some (Dry genesis)) end before source mid after s l = ran_written scheme (founded genesis) end before source mid after s l
+ran_by scheme (Some (Sign signing)) end before source mid after s l = ran_once (signed_text signing) end before source mid after s l

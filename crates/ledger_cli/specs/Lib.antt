@@ -1,7 +1,5 @@
-pub mod Keys
 pub mod Signing
 pub mod Words
-pub mod Endings
 pub mod Carries
 pub mod Placing
 pub mod Heads

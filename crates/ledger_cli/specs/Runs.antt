@@ -1,49 +1,36 @@
 -- What a run of the program did, from the bytes that came in to the bytes that went out.
-use Rattle.std.specs.Prelude.{◌≡◌, ℕ, ◌<◌, ◌≤◌, ◌^◌, ◌⊎◌, ◌↔◌, List, [], ◌++◌, length, All, Option, Some, None, ⊤}
+use Rattle.std.specs.Prelude.{◌≡◌, ℕ, ◌<◌, ◌≤◌, ◌⊎◌, ◌↔◌, List, [], ◌++◌, length, All, Option, Some, None}
 use Rattle.std.specs.List.{flat_map}
-use Rattle.std.specs.Io.KnownBytes.{Consumes, Appends, IsAtEnd}
+use Rattle.std.specs.Io.KnownBytes.{Consumes, Appends}
 use Rattle.ledger_bytes.specs.Begins.{Begins}
-use Rattle.ledger_bytes.specs.Causes.{Rose}
-use Rattle.ledger_io.specs.Outside.{SourceState, SinkState}
+use Rattle.ledger_io.specs.Outside.{MeetsFault, Outside}
 use Rattle.ledger_io.specs.Lines.{lines_of, IsLine, BeginsTooLong, Splits}
-use Rattle.ledger_io.specs.Writing.{WritesLast}
 use Rattle.ledger_model.specs.Genesis.{founded}
 use Rattle.ledger_model.specs.History.{History, history}
 use Rattle.ledger_model.specs.Merge.{IsMerge, IsPartialMerge}
 use Rattle.ledger_model.specs.Notary.{IsAttended}
+use Rattle.ledger_model.specs.Scheme.{Scheme}
 use Rattle.ledger_model.specs.Step.{Step}
 use Rattle.ledger_model.specs.Texts.{text}
 use Rattle.ledger_model.specs.Windows.{said, windows}
-use Rattle.ledger_cli.specs.declared.ending.Ending.{Ending}
-use Rattle.ledger_cli.specs.declared.ending.Ending.TheVariants.{Done, Usage, ReadFault, WriteFault, NoMemory, LineTooLong, ScriptTooLong}
+use Rattle.ledger_io.specs.declared.ending.Ending.{Ending}
+use Rattle.ledger_io.specs.declared.ending.Ending.TheVariants.{Done, Usage, ReadFault, WriteFault, NoMemory, LineTooLong, ScriptTooLong}
 use Rattle.ledger_cli.specs.declared.words.Command.{Command}
 use Rattle.ledger_cli.specs.declared.words.Command.TheVariants.{Dry, Sign}
-use Rattle.ledger_cli.specs.Endings.{status_of, last_line}
+use Rattle.ledger_io.specs.Endings.{status_of, last_line, Causes}
 use Rattle.ledger_cli.specs.Signing.{signed_text}
 
--- the objects that a run is handed: what it reads from and what it writes to
-pub record Outside : Type 0 where
-  pub source : SourceState
-  pub sink : SinkState
-
-abbrev pub outside : SourceState → SinkState → Outside
-outside source sink = record { source = source; sink = sink }
-
--- writing met a fault: the sink failed, or it took nothing of a piece that wasn't empty
-abbrev pub MetWriteFault : Outside → Outside → Type 0
-MetWriteFault before after = Rose before.sink.faults after.sink.faults ⊎ Rose before.sink.idles after.sink.idles
-
 -- the steps are a merge of these lines, and what is written is the text of that merge
-abbrev pub Answers : History → List (List ℕ) → List (List Step) → List ℕ → Type 0
-Answers h lines steps replies = IsMerge (windows (said lines)) steps × (replies ≡ text h steps)
+abbrev pub Answers : Scheme → History → List (List ℕ) → List (List Step) → List ℕ → Type 0
+Answers scheme h lines steps replies = IsMerge (windows (said lines)) steps × (replies ≡ text scheme h steps)
 
 -- the lines that ended before a fault were answered
-pub record AnswersEnded (h : History) (read : List ℕ) (steps : List (List Step)) (replies : List ℕ) (IsRest : List ℕ → Type 0) : Type 0 where
+pub record AnswersEnded (scheme : Scheme) (h : History) (read : List ℕ) (steps : List (List Step)) (replies : List ℕ) (IsRest : List ℕ → Type 0) : Type 0 where
   pub lines : List (List ℕ)
   pub rest : List ℕ
   pub split : Splits read lines rest
   pub fault : IsRest rest
-  pub answers : Answers h lines steps replies
+  pub answers : Answers scheme h lines steps replies
 
 -- the steps are a part of a merge of the lines that were read
 abbrev pub Part : List ℕ → List (List Step) → Type 0
@@ -54,27 +41,17 @@ abbrev pub FallsShort : List ℕ → List ℕ → Type 0
 FallsShort replies due = Begins replies due × (length replies < length due)
 
 -- what was written before the last line, by the ending
-abbrev pub Replies : History → Ending → List ℕ → List (List Step) → List ℕ → Type 0
-Replies h Done read steps replies = All IsLine (lines_of read) × Answers h (lines_of read) steps replies
-Replies h Usage read steps replies = (steps ≡ []) × (replies ≡ [])
-Replies h ReadFault read steps replies = AnswersEnded h read steps replies IsLine
-Replies h WriteFault read steps replies = Part read steps × FallsShort replies (text h steps)
-Replies h NoMemory read steps replies = Part read steps × (replies ≡ text h steps)
-Replies h LineTooLong read steps replies = AnswersEnded h read steps replies BeginsTooLong
-Replies h ScriptTooLong read steps replies = AnswersEnded h read steps replies IsLine
-
--- why the run ended so
-abbrev pub Causes : Ending → List ℕ → Outside → Outside → Type 0
-Causes Done read before after = IsAtEnd after.source.left × (length read < 2 ^ 40)
-Causes Usage read before after = read ≡ []
-Causes ReadFault read before after = Rose before.source.faults after.source.faults
-Causes WriteFault read before after = MetWriteFault before after
-Causes NoMemory read before after = ⊤
-Causes LineTooLong read before after = ⊤
-Causes ScriptTooLong read before after = length read ≡ 2 ^ 40
+abbrev pub Replies : Scheme → History → Ending → List ℕ → List (List Step) → List ℕ → Type 0
+Replies scheme h Done read steps replies = All IsLine (lines_of read) × Answers scheme h (lines_of read) steps replies
+Replies scheme h Usage read steps replies = (steps ≡ []) × (replies ≡ [])
+Replies scheme h ReadFault read steps replies = AnswersEnded scheme h read steps replies IsLine
+Replies scheme h WriteFault read steps replies = Part read steps × FallsShort replies (text scheme h steps)
+Replies scheme h NoMemory read steps replies = Part read steps × (replies ≡ text scheme h steps)
+Replies scheme h LineTooLong read steps replies = AnswersEnded scheme h read steps replies BeginsTooLong
+Replies scheme h ScriptTooLong read steps replies = AnswersEnded scheme h read steps replies IsLine
 
 -- a session on a history, from its first line to its ending: everything but the last line
-pub record Served (h : History) (ending : Ending) (before after : Outside) : Type 0 where
+pub record Served (scheme : Scheme) (h : History) (ending : Ending) (before after : Outside) : Type 0 where
   -- the bytes that were read
   pub read : List ℕ
   -- the steps that were taken, window by window
@@ -84,7 +61,7 @@ pub record Served (h : History) (ending : Ending) (before after : Outside) : Typ
   pub consumed : Consumes before.source.left after.source.left read
   pub appended : Appends before.sink.held after.sink.held replies
   pub attended : IsAttended [] [] 0 (flat_map (λ window. window) steps)
-  pub replied : Replies h ending read steps replies
+  pub replied : Replies scheme h ending read steps replies
   pub cause : Causes ending read before after
   -- no count of faults fell
   pub source_later : before.source.faults ≤ after.source.faults
@@ -92,7 +69,7 @@ pub record Served (h : History) (ending : Ending) (before after : Outside) : Typ
   pub idle_later : before.sink.idles ≤ after.sink.idles
 
 -- a run on a history, from its first line to the last line that is written
-pub record Ran (h : History) (ending : Ending) (before after : Outside) : Type 0 where
+pub record Ran (scheme : Scheme) (h : History) (ending : Ending) (before after : Outside) : Type 0 where
   -- the bytes that were read
   pub read : List ℕ
   -- the steps that were taken, window by window
@@ -103,17 +80,17 @@ pub record Ran (h : History) (ending : Ending) (before after : Outside) : Type 0
   pub consumed : Consumes before.source.left after.source.left read
   pub appended : Appends before.sink.held after.sink.held (replies ++ last)
   pub attended : IsAttended [] [] 0 (flat_map (λ window. window) steps)
-  pub replied : Replies h ending read steps replies
+  pub replied : Replies scheme h ending read steps replies
   pub cause : Causes ending read before after
   pub last_is : Begins last (last_line ending)
-  pub last_whole : (last ≡ last_line ending) ⊎ MetWriteFault before after
+  pub last_whole : (last ≡ last_line ending) ⊎ MeetsFault before.sink after.sink
 
 -- what came of writing one text, by the ending
 abbrev pub Output : List ℕ → Ending → List ℕ → Outside → Outside → Type 0
 Output due Done written before after = written ≡ due
 Output due Usage written before after = ⊥
 Output due ReadFault written before after = ⊥
-Output due WriteFault written before after = FallsShort written due × MetWriteFault before after
+Output due WriteFault written before after = FallsShort written due × MeetsFault before.sink after.sink
 Output due NoMemory written before after = written ≡ []
 Output due LineTooLong written before after = ⊥
 Output due ScriptTooLong written before after = ⊥
@@ -137,23 +114,23 @@ pub record RanOnce (due : List ℕ) (ending : Ending) (before after : Outside) :
   pub appended : Appends before.sink.held after.sink.held (written ++ last)
   pub output : Output due ending written before after
   pub last_is : Begins last (last_line ending)
-  pub last_whole : (last ≡ last_line ending) ⊎ MetWriteFault before after
+  pub last_whole : (last ≡ last_line ending) ⊎ MeetsFault before.sink after.sink
 
 -- a run to its ending, by the command: everything but the last line
-abbrev pub ServedBy : Option Command → Ending → Outside → Outside → Type 0
-ServedBy None ending before after = Served (history [] []) ending before after
-ServedBy (Some (Dry genesis)) ending before after = Served (founded genesis) ending before after
-ServedBy (Some (Sign signing)) ending before after = Wrote (signed_text signing) ending before after
+abbrev pub ServedBy : Scheme → Option Command → Ending → Outside → Outside → Type 0
+ServedBy scheme None ending before after = Served scheme (history [] []) ending before after
+ServedBy scheme (Some (Dry genesis)) ending before after = Served scheme (founded genesis) ending before after
+ServedBy scheme (Some (Sign signing)) ending before after = Wrote (signed_text signing) ending before after
 
 -- a run to the last line that is written, by the command
-abbrev pub RanBy : Option Command → Ending → Outside → Outside → Type 0
-RanBy None ending before after = Ran (history [] []) ending before after
-RanBy (Some (Dry genesis)) ending before after = Ran (founded genesis) ending before after
-RanBy (Some (Sign signing)) ending before after = RanOnce (signed_text signing) ending before after
+abbrev pub RanBy : Scheme → Option Command → Ending → Outside → Outside → Type 0
+RanBy scheme None ending before after = Ran scheme (history [] []) ending before after
+RanBy scheme (Some (Dry genesis)) ending before after = Ran scheme (founded genesis) ending before after
+RanBy scheme (Some (Sign signing)) ending before after = RanOnce (signed_text signing) ending before after
 
 -- a run of the program with some words, to its exit status
-pub record RanProgram (command : Option Command) (status : ℕ) (before after : Outside) : Type 0 where
+pub record RanProgram (scheme : Scheme) (command : Option Command) (status : ℕ) (before after : Outside) : Type 0 where
   pub ending : Ending
   pub status_is : status ≡ status_of ending
   pub usage : (ending ≡ Usage) ↔ (command ≡ None)
-  pub ran : RanBy command ending before after
+  pub ran : RanBy scheme command ending before after

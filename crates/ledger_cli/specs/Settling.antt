@@ -1,18 +1,18 @@
 -- How a session takes lines and writes what is due.
 use Rattle.std.specs.Prelude.{◌≡◌, ℕ, ◌+◌, ◌-◌, ◌<◌, ◌≤◌, ◌⊎◌, if◌then◌else◌, List, [], ◌∷◌, ◌++◌, length, take, Result, Ok, Err}
 use Rattle.std.specs.Io.KnownBytes.{Appends}
-use Rattle.ledger_bytes.specs.Causes.{Rose}
-use Rattle.ledger_io.specs.Outside.{SinkState}
+use Rattle.ledger_io.specs.Outside.{SinkState, MeetsFault}
 use Rattle.ledger_model.specs.Books.{Kept}
 use Rattle.ledger_model.specs.Dues.{due_for, dues_text}
 use Rattle.ledger_model.specs.History.{History, size, root, close}
 use Rattle.ledger_model.specs.InOrder.{step_of}
 use Rattle.ledger_model.specs.Rules.{after_step}
+use Rattle.ledger_model.specs.Scheme.{Scheme}
 use Rattle.ledger_model.specs.Windows.{Said, is_full}
 use Rattle.ledger_model.specs.declared.due.Due.{Due}
 use Rattle.ledger_cli.specs.Carries.{Carries}
-use Rattle.ledger_cli.specs.declared.ending.Ending.{Ending}
-use Rattle.ledger_cli.specs.declared.ending.Ending.TheVariants as ending
+use Rattle.ledger_io.specs.declared.ending.Ending.{Ending}
+use Rattle.ledger_io.specs.declared.ending.Ending.TheVariants as ending
 use Rattle.ledger_cli.specs.declared.session.Halt.{Halt}
 use Rattle.ledger_cli.specs.declared.session.Halt.TheVariants.{NoMemory, WriteFault}
 
@@ -25,7 +25,7 @@ abbrev pub Wrote : List ℕ → List Due → SinkState → SinkState → Result 
 Wrote text dues before after (Ok done) = Appends before.held after.held text × (dues ≡ [])
 Wrote text dues before after (Err NoMemory) = after ≡ before
 Wrote text dues before after (Err WriteFault) =
-    ((taken : ℕ) × (taken < length text) × Appends before.held after.held (take taken text)) × (Rose before.faults after.faults ⊎ Rose before.idles after.idles)
+    ((taken : ℕ) × (taken < length text) × Appends before.held after.held (take taken text)) × MeetsFault before after
 
 -- what is due is written
 pub record WritesDues (h : History) (old new : List Due) (before after : SinkState) (result : Result (Unit {0}) Halt) : Type 0 where
@@ -33,32 +33,37 @@ pub record WritesDues (h : History) (old new : List Due) (before after : SinkSta
   pub later : before.faults ≤ after.faults
   pub idle_later : before.idles ≤ after.idles
 
+-- the ending that a stop before the script's end brings
+abbrev pub halt_of : Halt → Ending
+halt_of NoMemory = ending.NoMemory
+halt_of WriteFault = ending.WriteFault
+
 -- how a session ends that was to end so: what is due in the history with its last block ended is written, or it isn't
 pub record EndsScript (h : History) (dues : List Due) (before after : SinkState) (asked got : Ending) : Type 0 where
   pub ended : ((got ≡ asked) × Appends before.held after.held (settled_text h dues))
       ⊎ (((got ≡ ending.NoMemory) × (after ≡ before))
-      ⊎ ((got ≡ ending.WriteFault) × (((taken : ℕ) × (taken < length (settled_text h dues)) × Appends before.held after.held (take taken (settled_text h dues))) × (Rose before.faults after.faults ⊎ Rose before.idles after.idles))))
+      ⊎ ((got ≡ ending.WriteFault) × (((taken : ℕ) × (taken < length (settled_text h dues)) × Appends before.held after.held (take taken (settled_text h dues))) × MeetsFault before after)))
   pub later : before.faults ≤ after.faults
   pub idle_later : before.idles ≤ after.idles
 
 -- the history after a line, whose window it may end
-abbrev pub after_line : History → ℕ → ℕ → Said → History
-after_line h lines bytes x =
-    if is_full (lines + 1) (bytes + length x.line) then close (after_step h (step_of x)) else after_step h (step_of x)
+abbrev pub after_line : Scheme → History → ℕ → ℕ → Said → History
+after_line scheme h lines bytes x =
+    if is_full (lines + 1) (bytes + length x.line) then close (after_step scheme h (step_of x)) else after_step scheme h (step_of x)
 
 -- a line is taken: what is due for it comes behind, and the book carries the history after it
-pub record TakesLine (h : History) (book : Kept) (old_dues new_dues : List Due) (x : Said) : Type 0 where
-  pub dues : new_dues ≡ old_dues ++ due_for h (step_of x) ∷ []
-  pub carries : Carries book (after_step h (step_of x))
+pub record TakesLine (scheme : Scheme) (h : History) (book : Kept) (old_dues new_dues : List Due) (x : Said) : Type 0 where
+  pub dues : new_dues ≡ old_dues ++ due_for scheme h (step_of x) ∷ []
+  pub carries : Carries book (after_step scheme h (step_of x))
 
 -- a line is taken, where the window at hand has so many lines and bytes
-pub record Takes (old new : History) (old_dues new_dues : List Due) (old_lines old_bytes new_lines new_bytes : ℕ) (x : Said) : Type 0 where
-  pub ledger : new ≡ after_line old old_lines old_bytes x
-  pub dues : new_dues ≡ old_dues ++ due_for old (step_of x) ∷ []
+pub record Takes (scheme : Scheme) (old new : History) (old_dues new_dues : List Due) (old_lines old_bytes new_lines new_bytes : ℕ) (x : Said) : Type 0 where
+  pub ledger : new ≡ after_line scheme old old_lines old_bytes x
+  pub dues : new_dues ≡ old_dues ++ due_for scheme old (step_of x) ∷ []
   pub lines : new_lines ≡ (if is_full (old_lines + 1) (old_bytes + length x.line) then 0 else old_lines + 1)
   pub bytes : new_bytes ≡ (if is_full (old_lines + 1) (old_bytes + length x.line) then 0 else old_bytes + length x.line)
 
 -- .. and the book carries the history after it
-pub record Taken (h : History) (book : Kept) (old_dues new_dues : List Due) (old_lines old_bytes new_lines new_bytes : ℕ) (x : Said) : Type 0 where
-  pub takes : Takes h (after_line h old_lines old_bytes x) old_dues new_dues old_lines old_bytes new_lines new_bytes x
-  pub carries : Carries book (after_line h old_lines old_bytes x)
+pub record Taken (scheme : Scheme) (h : History) (book : Kept) (old_dues new_dues : List Due) (old_lines old_bytes new_lines new_bytes : ℕ) (x : Said) : Type 0 where
+  pub takes : Takes scheme h (after_line scheme h old_lines old_bytes x) old_dues new_dues old_lines old_bytes new_lines new_bytes x
+  pub carries : Carries book (after_line scheme h old_lines old_bytes x)

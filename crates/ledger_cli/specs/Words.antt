@@ -1,19 +1,18 @@
 -- The words of the command line.
 use Rattle.std.specs.Prelude.{ℕ, nat_eq, if◌then◌else◌, List, [], ◌∷◌, codes, Option, Some, None}
 use Rattle.std.specs.Cmp.Lexicographic.{pointwise}
-use Rattle.script_lines.specs.Spellings.{◌>>=◌, digest_of}
-use Rattle.ledger_model.specs.Genesis.{digest}
-use Rattle.ledger_cli.specs.Keys.{is_name, key_of}
+use Rattle.script_lines.specs.Spellings.{◌>>=◌, digest_of, name_of}
 use Rattle.ledger_cli.specs.Signing.{request_of}
 use Rattle.ledger_cli.specs.declared.words.Command.{Command}
 use Rattle.ledger_cli.specs.declared.words.Command.TheVariants.{Dry, Sign}
 
 -- the ledger that a name and two keys make, where they are of their forms
-abbrev pub dry_of : List ℕ → Option (List ℕ) → Option (List ℕ) → Option Command
-dry_of name (Some operator) (Some regulator) =
-    if is_name name then Some (Dry (record { name = name; operator = digest operator; regulator = digest regulator })) else None
-dry_of name (Some operator) None = None
-dry_of name None regulator = None
+abbrev pub dry_of : List ℕ → List ℕ → List ℕ → Option Command
+dry_of name_word operator_word regulator_word = do
+  name ← name_of name_word
+  operator ← digest_of operator_word
+  regulator ← digest_of regulator_word
+  Some (Dry (record { name = name; operator = operator; regulator = regulator }))
 
 -- the request of a verb and its words that a key is to prove, on the ledger with this id
 abbrev pub sign_of : List ℕ → List ℕ → List ℕ → List (List ℕ) → Option Command
@@ -30,6 +29,6 @@ command_of (verb ∷ []) = None
 command_of (verb ∷ name ∷ []) = None
 command_of (verb ∷ name ∷ operator ∷ []) = None
 command_of (verb ∷ name ∷ operator ∷ regulator ∷ []) =
-    if pointwise nat_eq verb (codes "dry") then dry_of name (key_of operator) (key_of regulator) else None
+    if pointwise nat_eq verb (codes "dry") then dry_of name operator regulator else None
 command_of (verb ∷ id ∷ key ∷ asked ∷ word ∷ words) =
     if pointwise nat_eq verb (codes "sign") then sign_of id key asked (word ∷ words) else None

@@ -4,7 +4,6 @@
 
 mod apply;
 mod dues;
-mod ending;
 mod prepare;
 mod session;
 mod signing;
@@ -12,9 +11,8 @@ mod top;
 mod window;
 mod words;
 
-pub use ending::Ending;
 pub use signing::{Request, Signing};
-pub use top::{finish, ledger_top};
+pub use top::ledger_top;
 pub use words::Command;
 
 #[cfg(test)]

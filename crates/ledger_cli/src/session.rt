@@ -1,24 +1,24 @@
 ghost use Rattle.std.specs.Prelude.{◌≡◌, ◌≢◌, ◌↔◌, ◌++◌, ◌≤◌, ◌∷◌, [], length, IsTrue, OnOk};
 ghost use Rattle.ledger_io.specs.Lines.{line_limit};
+ghost use Rattle.ledger_io.specs.Outside.{outside};
 ghost use Rattle.ledger_model.specs.Dues.{due_for};
 ghost use Rattle.ledger_model.specs.History.{History, close};
 ghost use Rattle.ledger_model.specs.InOrder.{step_of};
 ghost use Rattle.ledger_model.specs.Rules.{after_step};
 ghost use Rattle.ledger_model.specs.Windows.{numbered};
 ghost use Rattle.ledger_cli.specs.Carries.{Carries, CarriesSome, CarriesSettled};
-ghost use Rattle.ledger_cli.specs.Endings.{ending_of, halt_of};
-ghost use Rattle.ledger_cli.specs.Runs.{Served, outside};
-ghost use Rattle.ledger_cli.specs.Settling.{WritesDues, EndsScript, TakesLine, Taken};
+ghost use Rattle.ledger_cli.specs.Runs.{Served};
+ghost use Rattle.ledger_cli.specs.Settling.{WritesDues, EndsScript, TakesLine, Taken, halt_of};
 
-use crate::Ending;
 use crate::apply::{apply, end_block};
 use crate::dues::set_dues;
 use crate::prepare::prepare;
 use crate::window::Window;
 use ledger_book::Book;
 use ledger_bytes::NoMemory;
-use ledger_io::{LineErr, Lines, Sink, Source, write_all};
+use ledger_io::{Ending, Lines, Sink, Source, write_all};
 use ledger_model::Due;
+use member_book::Verifier;
 use std::alloc::Global;
 
 /// Why a session stops before its script ends.
@@ -30,14 +30,15 @@ pub(crate) enum Halt {
 
 /// Answers the lines of a script, one after the other, until it ends or a fault ends it. Receipts are written when
 /// their block has ended, and other replies with them, in the order of the lines.
-pub(crate) fn run_script<S: Source, K: Sink>(
+pub(crate) fn run_script<S: Source, K: Sink, V: Verifier>(
     alloc: Global,
+    verifier: &V,
     book: &mut Book,
     source: &mut S,
     sink: &mut K,
 ) -> Ending
     requires { CarriesSettled book.old }
-    ensures served { (h : History) → Carries book.old h → h.waiting ≡ [] → Served h result
+    ensures served { (h : History) → Carries book.old h → h.waiting ≡ [] → Served (V.shows verifier.now) h result
         (outside (S.state source.old) (K.state sink.old)) (outside (S.state source.new) (K.state sink.new)) }
     ensures started { result ≢ Ending.Usage }
 {
@@ -50,10 +51,11 @@ pub(crate) fn run_script<S: Source, K: Sink>(
         let line = match lines.next(source) {
             Ok(Some(line)) => line,
             Ok(None) => return end_script(book, &mut dues, &mut text, sink, Ending::Done),
-            Err(error) => return end_script(book, &mut dues, &mut text, sink, ending_of(error)),
+            Err(error) => return end_script(book, &mut dues, &mut text, sink, Ending::from(error)),
         };
         index += 1;
-        match take_in_window(alloc, book, &mut dues, &mut window, index, line.as_slice()) {
+        let line = line.as_slice();
+        match take_in_window(alloc, verifier, book, &mut dues, &mut window, index, line) {
             Ok(()) => (),
             Err(NoMemory) => return Ending::NoMemory,
         }
@@ -91,8 +93,9 @@ fn is_settled(book: &Book) -> bool
 }
 
 // Takes a line, and ends the open block where that ends the window.
-fn take_in_window(
+fn take_in_window<V: Verifier>(
     alloc: Global,
+    verifier: &V,
     book: &mut Book,
     dues: &mut Vec<Due>,
     window: &mut Window,
@@ -102,9 +105,9 @@ fn take_in_window(
     requires limit { length line.now ≤ line_limit }
     requires some { CarriesSome book.old }
     ensures taken { OnOk result ((h : History) → Carries book.old h
-        → Taken h book.new dues.old.items dues.new.items window.old.lines window.old.bytes window.new.lines window.new.bytes (numbered index line.now)) }
+        → Taken (V.shows verifier.now) h book.new dues.old.items dues.new.items window.old.lines window.old.bytes window.new.lines window.new.bytes (numbered index line.now)) }
 {
-    take(alloc, book, dues, index, line)?;
+    take(alloc, verifier, book, dues, index, line)?;
     if window.add(line.len()) {
         end_block(book);
     }
@@ -112,17 +115,18 @@ fn take_in_window(
 }
 
 // Takes a line: judges it, places what it places, and keeps what is due for it.
-fn take(
+fn take<V: Verifier>(
     alloc: Global,
+    verifier: &V,
     book: &mut Book,
     dues: &mut Vec<Due>,
     index: u64,
     line: &[u8],
 ) -> Result<(), NoMemory>
     requires { CarriesSome book.old }
-    ensures { OnOk result ((h : History) → Carries book.old h → TakesLine h book.new dues.old.items dues.new.items (numbered index line.now)) }
+    ensures { OnOk result ((h : History) → Carries book.old h → TakesLine (V.shows verifier.now) h book.new dues.old.items dues.new.items (numbered index line.now)) }
 {
-    let job = prepare(alloc, &book.id(), line)?;
+    let job = prepare(alloc, verifier, &book.id(), line)?;
     let answer = apply(book, &job)?;
     dues.push(Due {
         lane: 0,
@@ -160,16 +164,5 @@ fn ending_at(halt: Halt) -> Ending
     match halt {
         Halt::NoMemory => Ending::NoMemory,
         Halt::WriteFault => Ending::WriteFault,
-    }
-}
-
-fn ending_of(error: LineErr) -> Ending
-    ensures { result ≡ ending_of error }
-{
-    match error {
-        LineErr::ReadFault => Ending::ReadFault,
-        LineErr::LineTooLong => Ending::LineTooLong,
-        LineErr::ScriptTooLong => Ending::ScriptTooLong,
-        LineErr::NoMemory => Ending::NoMemory,
     }
 }

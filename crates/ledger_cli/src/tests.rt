@@ -1,6 +1,7 @@
-use crate::{Command, Ending, finish, ledger_top};
+use crate::{Command, ledger_top};
 use ledger_bytes::{Bytes, Digest, NoMemory};
 use ledger_io::{MemSink, MemSource};
+use member_book::TagScheme;
 use plain::Plain;
 use sha2::{Digest as Hasher, Sha256};
 use std::alloc::Global;
@@ -166,7 +167,7 @@ fn run(
     let words = strings(alloc, words)?;
     let mut source = MemSource::new(Bytes::of(script), [failing_read].to_vec(alloc)?);
     let mut sink = MemSink::new(alloc, room, [failing_write].to_vec(alloc)?)?;
-    let status = ledger_top(alloc, words.as_slice(), &mut source, &mut sink);
+    let status = ledger_top(alloc, words.as_slice(), &mut source, &mut sink, &TagScheme);
     Ok((status, sink.written().to_vec(alloc)?))
 }
 
@@ -652,17 +653,18 @@ fn bounds_lines(rt: HostRuntime) -> Result<(), Fail> {
     Ok(())
 }
 
-// What was written before a fault stays, so many bytes of the replies and then a part of the last line. A fault at
-// the last line changes no status.
+// What was written before a fault stays, so many bytes of the replies and then a part of the last line. Each reply is
+// written by itself where no journal waits. A fault at the last line changes no status.
 #[test]
 fn tells_faults(rt: HostRuntime) -> Result<(), Fail> {
-    let rows: [(u64, usize, u64, u8, usize, &str); 10] = [
+    let rows: [(u64, usize, u64, u8, usize, &str); 11] = [
         (NEVER, AMPLE, NEVER, 0, 232, ""),
         (0, AMPLE, NEVER, 2, 0, "fail 2 read\n"),
         (0, 6, NEVER, 2, 0, "fail 2"),
         (0, AMPLE, 0, 2, 0, ""),
         (1, AMPLE, NEVER, 2, 222, "fail 2 read\n"),
         (NEVER, AMPLE, 0, 3, 0, ""),
+        (NEVER, AMPLE, 1, 3, 212, ""),
         (NEVER, 20, 1, 3, 20, ""),
         (NEVER, 0, NEVER, 3, 0, ""),
         (NEVER, 20, NEVER, 3, 20, ""),
@@ -680,27 +682,6 @@ fn tells_faults(rt: HostRuntime) -> Result<(), Fail> {
             want_status,
             "at {failing_read} {room} {failing_write}"
         );
-    }
-    Ok(())
-}
-
-#[test]
-fn ends_runs(rt: HostRuntime) -> Result<(), Fail> {
-    let rows: [(Ending, u8, &[u8]); 7] = [
-        (Ending::Done, 0, b""),
-        (Ending::Usage, 1, b"fail 1 usage\n"),
-        (Ending::ReadFault, 2, b"fail 2 read\n"),
-        (Ending::WriteFault, 3, b""),
-        (Ending::NoMemory, 6, b"fail 6 memory\n"),
-        (Ending::LineTooLong, 7, b"fail 7 line\n"),
-        (Ending::ScriptTooLong, 7, b"fail 7 script\n"),
-    ];
-    for (ending, status, line) in rows {
-        let mut sink = MemSink::new(rt.alloc(), AMPLE, Vec::new(rt.alloc()))?;
-        assert_eq!(rt; finish(&mut sink, ending), status, "at {ending:?}");
-        assert_eq!(rt; sink.written(), line, "at {ending:?}");
-        assert_eq!(rt; ending.status(), status, "at {ending:?}");
-        assert_eq!(rt; ending.last_line(), line, "at {ending:?}");
     }
     Ok(())
 }

@@ -1,24 +1,24 @@
 ghost use Rattle.std.specs.Prelude.{◌≡◌, ◌≢◌, ◌⊎◌, ◌↔◌, None, map, string_bytes};
 ghost use Rattle.ledger_bytes.specs.Causes.{Rose};
-ghost use Rattle.ledger_io.specs.Outside.{SourceState};
-ghost use Rattle.ledger_io.specs.Writing.{WritesLast};
+ghost use Rattle.ledger_io.specs.Outside.{SourceState, outside};
 ghost use Rattle.ledger_model.specs.Genesis.{founded};
-ghost use Rattle.ledger_cli.specs.Endings.{status_of, last_line};
-ghost use Rattle.ledger_cli.specs.Runs.{RanProgram, Served, ServedBy, Wrote, outside};
+ghost use Rattle.ledger_cli.specs.Runs.{RanProgram, Served, ServedBy, Wrote};
 ghost use Rattle.ledger_cli.specs.Signing.{signed_text};
 ghost use Rattle.ledger_cli.specs.Words.{command_of};
 
+use crate::Command;
 use crate::session::run_script;
 use crate::signing::Signing;
-use crate::{Command, Ending};
 use ledger_book::Book;
 use ledger_bytes::NoMemory;
-use ledger_io::{Sink, Source, write_all, write_last};
+use ledger_io::{Ending, Sink, Source, finish, write_all};
 use ledger_model::{Genesis, Limits};
+use member_book::Verifier;
 use std::alloc::Global;
 
 /// The program: runs the command that the words after the program's name make. `dry` runs the script that `source` gives
-/// and writes its replies to `sink`; `sign` reads nothing and writes one text. It answers the exit status:
+/// and writes its replies to `sink`; whose key a proof shows is what the verifier says. `sign` reads nothing and writes one
+/// text. It answers the exit status:
 ///
 /// | Status | Comes | Last line |
 /// |---|---|---|
@@ -31,63 +31,57 @@ use std::alloc::Global;
 ///
 /// Of several, the first that happens is the status. Lines that ended before a fault of reading are answered first.
 /// The last line is written by one attempt; a fault there doesn't change the status.
-pub fn ledger_top<S: Source, K: Sink>(
+pub fn ledger_top<S: Source, K: Sink, V: Verifier>(
     alloc: Global,
     words: &[String],
     source: &mut S,
     sink: &mut K,
+    verifier: &V,
 ) -> u8
-    ensures ran { RanProgram (command_of (map string_bytes words.now)) result
+    ensures ran { RanProgram (V.shows verifier.now) (command_of (map string_bytes words.now)) result
         (outside (S.state source.old) (K.state sink.old)) (outside (S.state source.new) (K.state sink.new)) }
     ensures usage { (result ≡ 1) ↔ (command_of (map string_bytes words.now) ≡ None) }
     ensures read_fault { result ≡ 2 → Rose (S.state source.old).faults (S.state source.new).faults }
     ensures write_fault { result ≡ 3 → Rose (K.state sink.old).faults (K.state sink.new).faults
         ⊎ Rose (K.state sink.old).idles (K.state sink.new).idles }
 {
-    let ending = run_words(alloc, words, source, sink);
+    let ending = run_words(alloc, words, source, sink, verifier);
     finish(sink, ending)
 }
 
-/// Ends a run: writes its last line by one attempt, and answers its exit status.
-pub fn finish<K: Sink>(sink: &mut K, ending: Ending) -> u8
-    ensures status { result ≡ status_of ending }
-    ensures last { WritesLast (last_line ending) (K.state sink.old) (K.state sink.new) }
-{
-    write_last(sink, ending.last_line());
-    ending.status()
-}
-
 // All but the last line.
-fn run_words<S: Source, K: Sink>(
+fn run_words<S: Source, K: Sink, V: Verifier>(
     alloc: Global,
     words: &[String],
     source: &mut S,
     sink: &mut K,
+    verifier: &V,
 ) -> Ending
-    ensures served { ServedBy (command_of (map string_bytes words.now)) result
+    ensures served { ServedBy (V.shows verifier.now) (command_of (map string_bytes words.now)) result
         (outside (S.state source.old) (K.state sink.old)) (outside (S.state source.new) (K.state sink.new)) }
     ensures usage { (result ≡ Ending.Usage) ↔ (command_of (map string_bytes words.now) ≡ None) }
 {
     match Command::read(alloc, words) {
-        Ok(Some(Command::Dry(genesis))) => run_dry(alloc, &genesis, source, sink),
+        Ok(Some(Command::Dry(genesis))) => run_dry(alloc, &genesis, source, sink, verifier),
         Ok(Some(Command::Sign(signing))) => run_sign(&signing, sink),
         Ok(None) => Ending::Usage,
         Err(NoMemory) => Ending::NoMemory,
     }
 }
 
-fn run_dry<S: Source, K: Sink>(
+fn run_dry<S: Source, K: Sink, V: Verifier>(
     alloc: Global,
     genesis: &Genesis,
     source: &mut S,
     sink: &mut K,
+    verifier: &V,
 ) -> Ending
-    ensures served { Served (founded genesis.now) result
+    ensures served { Served (V.shows verifier.now) (founded genesis.now) result
         (outside (S.state source.old) (K.state sink.old)) (outside (S.state source.new) (K.state sink.new)) }
     ensures started { result ≢ Ending.Usage }
 {
     match Book::new(alloc, genesis, Limits::real()) {
-        Ok(mut book) => run_script(alloc, &mut book, source, sink),
+        Ok(mut book) => run_script(alloc, verifier, &mut book, source, sink),
         Err(NoMemory) => Ending::NoMemory,
     }
 }

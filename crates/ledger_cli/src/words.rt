@@ -1,13 +1,10 @@
 ghost use Rattle.std.specs.Prelude.{◌≡◌, map, string_bytes, IfOk, OnErr, IsSome};
-ghost use Rattle.std.specs.Option.{option_map};
-ghost use Rattle.ledger_cli.specs.Keys.{is_name, key_of};
 ghost use Rattle.ledger_cli.specs.Words.{dry_of, sign_of};
 
 use crate::signing::{Signing, read_request};
-use hex::FromHex;
-use ledger_bytes::{Bytes, Digest, NoMemory};
+use ledger_bytes::{Bytes, NoMemory};
 use ledger_model::Genesis;
-use script_lines::read_digest;
+use script_lines::{read_digest, read_name};
 use std::alloc::Global;
 
 /// What the words of the command line ask for.
@@ -46,17 +43,20 @@ fn read_dry(
     operator: &str,
     regulator: &str,
 ) -> Result<Option<Command>, NoMemory>
-    ensures ok { IfOk result (λ command. command ≡ dry_of name.now (key_of operator.now) (key_of regulator.now)) }
-    ensures err { OnErr result (IsSome (dry_of name.now (key_of operator.now) (key_of regulator.now))) }
+    ensures ok { IfOk result (λ command. command ≡ dry_of name.now operator.now regulator.now) }
+    ensures err { OnErr result (IsSome (dry_of name.now operator.now regulator.now)) }
 {
-    if !is_name(name.as_bytes()) {
+    let Some(name) = read_name(name.as_bytes()) else {
         return Ok(None);
-    }
-    let (Some(operator), Some(regulator)) = (key(operator), key(regulator)) else {
+    };
+    let (Some(operator), Some(regulator)) = (
+        read_digest(operator.as_bytes()),
+        read_digest(regulator.as_bytes()),
+    ) else {
         return Ok(None);
     };
     Ok(Some(Command::Dry(Genesis {
-        name: Bytes::copy_of(alloc, name.as_bytes())?,
+        name: Bytes::copy_of(alloc, name)?,
         operator,
         regulator,
     })))
@@ -79,16 +79,4 @@ fn read_sign(
         Some(request) => Ok(Some(Command::Sign(Signing { id, key, request }))),
         None => Ok(None),
     }
-}
-
-fn is_name(word: &[u8]) -> bool
-    ensures { result ≡ is_name word.now }
-{
-    (1..=64).contains(&word.len())
-}
-
-fn key(word: &str) -> Option<Digest>
-    ensures { option_map (λ key. key.0) result ≡ key_of word.now }
-{
-    Some(Digest(<[u8; 32] as FromHex>::from_hex(word).ok()?))
 }

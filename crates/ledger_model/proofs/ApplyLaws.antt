@@ -1,5 +1,5 @@
 -- Lemmas on a job that is applied: the history after it, and what is due for it.
-use Rattle.std.proofs.Common.{◌≡◌, ℕ, ◌<◌, cond, List, [], ◌∷◌, ◌++◌, length, map, get_or, Option, Some, None, nat_le, refl, ap, sym, ◌∙◌, append_assoc}
+use Rattle.std.proofs.Common.{◌≡◌, ◌<◌, cond, [], ◌∷◌, length, map, get_or, Option, Some, None, refl, ap, sym, ◌∙◌, append_assoc}
 use Rattle.std.proofs.lemmas.Bool.{lt-leb}
 use Rattle.std.proofs.lemmas.List.{map-append, length-map, get_or_push}
 use Rattle.ledger_bytes.specs.declared.digest.Digest.{Digest}
@@ -9,7 +9,7 @@ use Rattle.ledger_model.specs.Answering.{filled, answer_for}
 use Rattle.ledger_model.specs.Appends.{append_journal, member_journal}
 use Rattle.ledger_model.specs.Books.{leaf_digests}
 use Rattle.ledger_model.specs.Genesis.{digest}
-use Rattle.ledger_model.specs.History.{History, history, journals, journals_of, size, close, place, leaf_digest, block_limit}
+use Rattle.ledger_model.specs.History.{History, journals, journals_of, size, close, place, leaf_digest, block_limit}
 use Rattle.ledger_model.specs.Judgements.{own_refusal}
 use Rattle.ledger_model.specs.Limits.{real}
 use Rattle.ledger_model.specs.Outcomes.{placed, with_waiting, after_judgement, applied, told, outcome}
@@ -19,7 +19,6 @@ use Rattle.ledger_model.specs.Texts.{receipt_for, accepted, answered, answer_to}
 use Rattle.ledger_model.specs.declared.answer.Answer.TheVariants.{Receipt}
 use Rattle.ledger_model.specs.declared.job.Job.{Job}
 use Rattle.ledger_model.specs.declared.job.Job.TheVariants.{Refused, Append, NewMember, Clue, Head}
-use Rattle.ledger_model.specs.declared.outcome.Outcome.TheVariants.{Placed}
 
 not_filled : (g : History) → length g.waiting < 64 → g ≡ filled g
 not_filled g room = sym (ap (λ v. cond v (close g) g) (lt-leb block_limit (length g.waiting) room))

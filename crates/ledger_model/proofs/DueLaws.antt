@@ -1,25 +1,25 @@
 -- Lemmas on what is due: when a block has ended, the lines that are due for it are the text of its steps.
-use Rattle.std.proofs.Common.{◌≡◌, ℕ, ◌+◌, ◌-◌, ◌<◌, ◌≤◌, ◌⊎◌, inl, inr, List, [], ◌∷◌, ◌++◌, length, Option, Some, None, refl, ap, sym, subst, ◌∙◌, arith, append_assoc, length-append}
+use Rattle.std.proofs.Common.{◌≡◌, ℕ, ◌-◌, ◌<◌, ◌≤◌, ◌⊎◌, inl, inr, List, [], ◌∷◌, ◌++◌, length, Option, Some, None, refl, ap, sym, ◌∙◌, arith, append_assoc, length-append}
 use Rattle.std.specs.Prelude.{⊤}
-use Rattle.std.specs.List.{flat_map}
 use Rattle.ledger_bytes.specs.declared.digest.Digest.{Digest}
 use Rattle.ledger_bytes.specs.declared.refusal.Refusal.{Refusal}
 use Rattle.journal_record.specs.Entry.{Entry}
 use Rattle.script_lines.specs.Replies.{reply_text}
 use Rattle.script_lines.specs.declared.reply.Reply.TheVariants as reply
 use Rattle.ledger_model.specs.Appends.{append_journal, member_journal}
-use Rattle.ledger_model.specs.Dues.{due_for, dues, reply_at, due_text, dues_text, IsWithin}
+use Rattle.ledger_model.specs.Dues.{due_for, dues, reply_at, dues_text, IsWithin}
 use Rattle.ledger_model.specs.Genesis.{digest}
 use Rattle.ledger_model.specs.History.{History, id, journals, journals_of, size, root, close, place, leaf_digest, block_of, end_of}
 use Rattle.ledger_model.specs.Rules.{job_of, after_job, after_step, after_steps, after_window, after, refusal_of, with_accepted}
+use Rattle.ledger_model.specs.Scheme.{Scheme}
 use Rattle.ledger_model.specs.Step.{Step}
-use Rattle.ledger_model.specs.Texts.{accepted, answered, answer_to, reply_in, step_text, steps_text, window_text, text}
+use Rattle.ledger_model.specs.Texts.{answered, answer_to, reply_in, step_text, steps_text, window_text, text}
 use Rattle.ledger_model.specs.declared.answer.Answer.{Answer}
 use Rattle.ledger_model.specs.declared.answer.Answer.TheVariants.{Reply, Receipt}
 use Rattle.ledger_model.specs.declared.due.Due.{Due}
 use Rattle.ledger_model.specs.declared.job.Job.{Job}
 use Rattle.ledger_model.specs.declared.job.Job.TheVariants.{Refused, Append, NewMember, Clue, Head}
-use Rattle.ledger_model.proofs.GrowLaws.{IsEnded, Moves, Goes, IsPlaced, is_placed, moves_job, moves_close, goes_not, goes_moved, goes_then, goes_size, size_closed, root_kept, block_of-goes, end_of-goes, end_of-le, block_of-ended, end_of-ended}
+use Rattle.ledger_model.proofs.GrowLaws.{IsEnded, Moves, Goes, is_placed, moves_job, moves_close, goes_not, goes_moved, goes_then, goes_size, size_closed, root_kept, block_of-goes, end_of-goes, end_of-le, block_of-ended, end_of-ended}
 
 -- each receipt's journal has a number of this range
 abbrev pub AllWithin : ℕ → ℕ → List Due → Type 0
@@ -46,24 +46,24 @@ within_job k step (NewMember number key by) =
 within_job k step (Clue clue) = tt
 within_job k step Head = tt
 
-within_step : (k : History) (step : Step) → IsWithin (size k) (size (after_step k step)) (due_for k step).answer
+within_step : (scheme : Scheme) (k : History) (step : Step) → IsWithin (size k) (size (after_step scheme k step)) (due_for scheme k step).answer
 unfolding after_step
-within_step k step = within_job k step (job_of (id k) step.line)
+within_step scheme k step = within_job k step (job_of scheme (id k) step.line)
 
-pub goes_step : (k : History) (step : Step) → Goes k (after_step k step)
+pub goes_step : (scheme : Scheme) (k : History) (step : Step) → Goes k (after_step scheme k step)
 unfolding after_step
-goes_step k step = goes_moved k (after_job k step (job_of (id k) step.line)) (moves_job k step (job_of (id k) step.line))
+goes_step scheme k step = goes_moved k (after_job k step (job_of scheme (id k) step.line)) (moves_job k step (job_of scheme (id k) step.line))
 
-pub moves_step : (k : History) (step : Step) → Moves k (after_step k step)
+pub moves_step : (scheme : Scheme) (k : History) (step : Step) → Moves k (after_step scheme k step)
 unfolding after_step
-moves_step k step = moves_job k step (job_of (id k) step.line)
+moves_step scheme k step = moves_job k step (job_of scheme (id k) step.line)
 
-pub goes_steps : (k : History) (steps : List Step) → Goes k (after_steps k steps)
-goes_steps k [] = goes_not k
-goes_steps k (step ∷ steps) = goes_then k (after_step k step) (after_steps (after_step k step) steps) (goes_step k step) (goes_steps (after_step k step) steps)
+pub goes_steps : (scheme : Scheme) (k : History) (steps : List Step) → Goes k (after_steps scheme k steps)
+goes_steps scheme k [] = goes_not k
+goes_steps scheme k (step ∷ steps) = goes_then k (after_step scheme k step) (after_steps scheme (after_step scheme k step) steps) (goes_step scheme k step) (goes_steps scheme (after_step scheme k step) steps)
 
-pub goes_window : (k : History) (steps : List Step) → Goes k (after_window k steps)
-goes_window k steps = goes_then k (after_steps k steps) (after_window k steps) (goes_steps k steps) (goes_moved (after_steps k steps) (close (after_steps k steps)) (moves_close (after_steps k steps)))
+pub goes_window : (scheme : Scheme) (k : History) (steps : List Step) → Goes k (after_window scheme k steps)
+goes_window scheme k steps = goes_then k (after_steps scheme k steps) (after_window scheme k steps) (goes_steps scheme k steps) (goes_moved (after_steps scheme k steps) (close (after_steps scheme k steps)) (moves_close (after_steps scheme k steps)))
 
 within_wider : (low lower high higher : ℕ) (answer : Answer) → lower ≤ low → high ≤ higher → IsWithin low high answer → IsWithin lower higher answer
 within_wider low lower high higher (Reply reply) l h w = tt
@@ -74,13 +74,13 @@ all_wider low lower high [] l w = tt
 all_wider low lower high (due ∷ ds) l w = (within_wider low lower high high due.answer l (omega arith) w.0, all_wider low lower high ds l w.1)
 
 -- the receipts of some steps are for journals that these place
-pub dues_within : (k : History) (steps : List Step) → AllWithin (size k) (size (after_steps k steps)) (dues k steps)
-dues_within k [] = tt
-dues_within k (step ∷ steps) =
-    let g = after_step k step in
-    let last = after_steps g steps in (
-      within_wider (size k) (size k) (size g) (size last) (due_for k step).answer (omega arith) (goes_size g last (goes_steps g steps)) (within_step k step),
-      all_wider (size g) (size k) (size last) (dues g steps) (goes_size k g (goes_step k step)) (dues_within g steps),
+pub dues_within : (scheme : Scheme) (k : History) (steps : List Step) → AllWithin (size k) (size (after_steps scheme k steps)) (dues scheme k steps)
+dues_within scheme k [] = tt
+dues_within scheme k (step ∷ steps) =
+    let g = after_step scheme k step in
+    let last = after_steps scheme g steps in (
+      within_wider (size k) (size k) (size g) (size last) (due_for scheme k step).answer (omega arith) (goes_size g last (goes_steps scheme g steps)) (within_step scheme k step),
+      all_wider (size g) (size k) (size last) (dues scheme g steps) (goes_size k g (goes_step scheme k step)) (dues_within scheme g steps),
     )
 
 -- the replies of answers in one history are those in another
@@ -99,30 +99,30 @@ answer_kept g window low (Reply reply) none a w = refl
 answer_kept g window low (Receipt jsn leaf) none a w = receipt_kept g window jsn leaf none a w.1
 
 -- the text of some steps in a later history is that in the history where their blocks have ended
-steps_kept : (k g window : History) (low : ℕ) (steps : List Step) → g.waiting ≡ [] → Goes g window → AllWithin low (size g) (dues k steps) → steps_text window k steps ≡ steps_text g k steps
+steps_kept : (scheme : Scheme) (k g window : History) (low : ℕ) (steps : List Step) → g.waiting ≡ [] → Goes g window → AllWithin low (size g) (dues scheme k steps) → steps_text scheme window k steps ≡ steps_text scheme g k steps
 unfolding step_text
-steps_kept k g window low [] none a w = refl
-steps_kept k g window low (step ∷ steps) none a w =
-    ap (λ r. reply_text step.lane step.index r ++ steps_text window (after_step k step) steps) (answer_kept g window low (due_for k step).answer none a w.0)
-    ∙ ap (λ rest. step_text g k step ++ rest) (steps_kept (after_step k step) g window low steps none a w.1)
+steps_kept scheme k g window low [] none a w = refl
+steps_kept scheme k g window low (step ∷ steps) none a w =
+    ap (λ r. reply_text step.lane step.index r ++ steps_text scheme window (after_step scheme k step) steps) (answer_kept g window low (due_for scheme k step).answer none a w.0)
+    ∙ ap (λ rest. step_text scheme g k step ++ rest) (steps_kept scheme (after_step scheme k step) g window low steps none a w.1)
 
-steps_text-append : (window k : History) (xs ys : List Step) → steps_text window k (xs ++ ys) ≡ steps_text window k xs ++ steps_text window (after_steps k xs) ys
-steps_text-append window k [] ys = refl
-steps_text-append window k (x ∷ xs) ys =
-    ap (λ rest. step_text window k x ++ rest) (steps_text-append window (after_step k x) xs ys)
-    ∙ sym (append_assoc (step_text window k x) (steps_text window (after_step k x) xs) (steps_text window (after_steps (after_step k x) xs) ys))
+steps_text-append : (scheme : Scheme) (window k : History) (xs ys : List Step) → steps_text scheme window k (xs ++ ys) ≡ steps_text scheme window k xs ++ steps_text scheme window (after_steps scheme k xs) ys
+steps_text-append scheme window k [] ys = refl
+steps_text-append scheme window k (x ∷ xs) ys =
+    ap (λ rest. step_text scheme window k x ++ rest) (steps_text-append scheme window (after_step scheme k x) xs ys)
+    ∙ sym (append_assoc (step_text scheme window k x) (steps_text scheme window (after_step scheme k x) xs) (steps_text scheme window (after_steps scheme (after_step scheme k x) xs) ys))
 
-pub after_steps-append : (k : History) (xs ys : List Step) → after_steps k (xs ++ ys) ≡ after_steps (after_steps k xs) ys
-after_steps-append k [] ys = refl
-after_steps-append k (x ∷ xs) ys = after_steps-append (after_step k x) xs ys
+pub after_steps-append : (scheme : Scheme) (k : History) (xs ys : List Step) → after_steps scheme k (xs ++ ys) ≡ after_steps scheme (after_steps scheme k xs) ys
+after_steps-append scheme k [] ys = refl
+after_steps-append scheme k (x ∷ xs) ys = after_steps-append scheme (after_step scheme k x) xs ys
 
 -- where the blocks of the first steps have ended, their text can be written before the window's end
-pub window_split : (k : History) (xs ys : List Step) → (after_steps k xs).waiting ≡ [] → window_text k (xs ++ ys) ≡ steps_text (after_steps k xs) k xs ++ window_text (after_steps k xs) ys
-window_split k xs ys none =
-    let g = after_steps k xs in
-    let same : after_window k (xs ++ ys) ≡ after_window g ys = ap close (after_steps-append k xs ys) in
-    ap (λ w. steps_text w k (xs ++ ys)) same ∙ steps_text-append (after_window g ys) k xs ys
-    ∙ ap (λ front. front ++ window_text g ys) (steps_kept k g (after_window g ys) (size k) xs none (goes_window g ys) (dues_within k xs))
+pub window_split : (scheme : Scheme) (k : History) (xs ys : List Step) → (after_steps scheme k xs).waiting ≡ [] → window_text scheme k (xs ++ ys) ≡ steps_text scheme (after_steps scheme k xs) k xs ++ window_text scheme (after_steps scheme k xs) ys
+window_split scheme k xs ys none =
+    let g = after_steps scheme k xs in
+    let same : after_window scheme k (xs ++ ys) ≡ after_window scheme g ys = ap close (after_steps-append scheme k xs ys) in
+    ap (λ w. steps_text scheme w k (xs ++ ys)) same ∙ steps_text-append scheme (after_window scheme g ys) k xs ys
+    ∙ ap (λ front. front ++ window_text scheme g ys) (steps_kept scheme k g (after_window scheme g ys) (size k) xs none (goes_window scheme g ys) (dues_within scheme k xs))
 
 -- what a block that has ended makes of the answers that were due for it
 receipt_ended : (k g : History) (jsn : ℕ) (leaf : Digest) → k.waiting ≡ [] → (e : IsEnded k g) → size k ≤ jsn → jsn < size g → reply_in g (Receipt jsn leaf) ≡ reply_at (length g.closed - 1) (size g) (root g (size g)) (Receipt jsn leaf)
@@ -136,12 +136,12 @@ answer_ended k g (Reply reply) none ended w = refl
 answer_ended k g (Receipt jsn leaf) none ended w =
     elim ended [ inl same ↦ absurd (let no : ⊥ = omega (arith, same, w.0, w.1) in no) | inr e ↦ receipt_ended k g jsn leaf none e w.0 w.1 ]
 
-dues_ended : (k g j : History) (steps : List Step) → k.waiting ≡ [] → (size g ≡ size k) ⊎ IsEnded k g → AllWithin (size k) (size g) (dues j steps) → steps_text g j steps ≡ dues_text (length g.closed - 1) (size g) (root g (size g)) (dues j steps)
+dues_ended : (scheme : Scheme) (k g j : History) (steps : List Step) → k.waiting ≡ [] → (size g ≡ size k) ⊎ IsEnded k g → AllWithin (size k) (size g) (dues scheme j steps) → steps_text scheme g j steps ≡ dues_text (length g.closed - 1) (size g) (root g (size g)) (dues scheme j steps)
 unfolding step_text
-dues_ended k g j [] none ended w = refl
-dues_ended k g j (step ∷ steps) none ended w =
-    ap (λ r. reply_text step.lane step.index r ++ steps_text g (after_step j step) steps) (answer_ended k g (due_for j step).answer none ended w.0)
-    ∙ ap (λ rest. reply_text step.lane step.index (reply_at (length g.closed - 1) (size g) (root g (size g)) (due_for j step).answer) ++ rest) (dues_ended k g (after_step j step) steps none ended w.1)
+dues_ended scheme k g j [] none ended w = refl
+dues_ended scheme k g j (step ∷ steps) none ended w =
+    ap (λ r. reply_text step.lane step.index r ++ steps_text scheme g (after_step scheme j step) steps) (answer_ended k g (due_for scheme j step).answer none ended w.0)
+    ∙ ap (λ rest. reply_text step.lane step.index (reply_at (length g.closed - 1) (size g) (root g (size g)) (due_for scheme j step).answer) ++ rest) (dues_ended scheme k g (after_step scheme j step) steps none ended w.1)
 
 all_higher : (low high higher : ℕ) (ds : List Due) → high ≤ higher → AllWithin low high ds → AllWithin low higher ds
 all_higher low high higher [] h w = tt
@@ -152,17 +152,17 @@ no_more k g none ended b =
     elim b [ inl same ↦ inl (size_closed g ended ∙ ap (λ bs. length (journals_of bs)) same ∙ sym (size_closed k none)) | inr e ↦ inr e ]
 
 -- the text of the steps of the block that has ended last is what is due for them
-pub block_text : (k g : History) (steps : List Step) → k.waiting ≡ [] → g.waiting ≡ [] → (g.closed ≡ k.closed) ⊎ IsEnded k g → size (after_steps k steps) ≤ size g → steps_text g k steps ≡ dues_text (length g.closed - 1) (size g) (root g (size g)) (dues k steps)
-block_text k g steps none ended b le =
-    dues_ended k g k steps none (no_more k g none ended b) (all_higher (size k) (size (after_steps k steps)) (size g) (dues k steps) le (dues_within k steps))
+pub block_text : (scheme : Scheme) (k g : History) (steps : List Step) → k.waiting ≡ [] → g.waiting ≡ [] → (g.closed ≡ k.closed) ⊎ IsEnded k g → size (after_steps scheme k steps) ≤ size g → steps_text scheme g k steps ≡ dues_text (length g.closed - 1) (size g) (root g (size g)) (dues scheme k steps)
+block_text scheme k g steps none ended b le =
+    dues_ended scheme k g k steps none (no_more k g none ended b) (all_higher (size k) (size (after_steps scheme k steps)) (size g) (dues scheme k steps) le (dues_within scheme k steps))
 
 -- what is due for steps and more
-pub dues-append : (k : History) (xs ys : List Step) → dues k (xs ++ ys) ≡ dues k xs ++ dues (after_steps k xs) ys
-dues-append k [] ys = refl
-dues-append k (x ∷ xs) ys = ap (λ rest. due_for k x ∷ rest) (dues-append (after_step k x) xs ys)
+pub dues-append : (scheme : Scheme) (k : History) (xs ys : List Step) → dues scheme k (xs ++ ys) ≡ dues scheme k xs ++ dues scheme (after_steps scheme k xs) ys
+dues-append scheme k [] ys = refl
+dues-append scheme k (x ∷ xs) ys = ap (λ rest. due_for scheme k x ∷ rest) (dues-append scheme (after_step scheme k x) xs ys)
 
 -- the text of some windows and more
-pub text-append : (k : History) (xs ys : List (List Step)) → text k (xs ++ ys) ≡ text k xs ++ text (after k xs) ys
-text-append k [] ys = refl
-text-append k (x ∷ xs) ys =
-    ap (λ rest. window_text k x ++ rest) (text-append (after_window k x) xs ys) ∙ sym (append_assoc (window_text k x) (text (after_window k x) xs) (text (after (after_window k x) xs) ys))
+pub text-append : (scheme : Scheme) (k : History) (xs ys : List (List Step)) → text scheme k (xs ++ ys) ≡ text scheme k xs ++ text scheme (after scheme k xs) ys
+text-append scheme k [] ys = refl
+text-append scheme k (x ∷ xs) ys =
+    ap (λ rest. window_text scheme k x ++ rest) (text-append scheme (after_window scheme k x) xs ys) ∙ sym (append_assoc (window_text scheme k x) (text scheme (after_window scheme k x) xs) (text scheme (after scheme (after_window scheme k x) xs) ys))

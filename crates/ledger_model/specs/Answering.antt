@@ -1,5 +1,5 @@
 -- How a session takes a job: it is applied to the history that it is judged against, and a block that is full ends.
-use Rattle.std.specs.Prelude.{ℕ, List, [], length, slice_index_or, if◌then◌else◌, nat_le}
+use Rattle.std.specs.Prelude.{[], length, slice_index_or, if◌then◌else◌, nat_le}
 use Rattle.script_lines.specs.declared.reply.Reply.TheVariants as reply
 use Rattle.ledger_model.specs.Books.{leaf_digests}
 use Rattle.ledger_model.specs.Genesis.{digest}

@@ -5,13 +5,13 @@ use Rattle.ledger_bytes.specs.declared.digest.Digest.{Digest}
 use Rattle.journal_record.specs.Approval.{who_of}
 use Rattle.journal_record.specs.Entry.{Entry, content_digest_of, who_digest_of}
 use Rattle.journal_record.specs.Request.{request_digest_of, member_request_digest_of, clue_digest_of}
-use Rattle.journal_record.specs.Tags.{tag_key_of}
 use Rattle.journal_record.specs.declared.approval.Approval.{Approval}
 use Rattle.journal_record.specs.declared.header.Header.{Header}
 use Rattle.journal_record.specs.declared.header.Kind.TheVariants as kind
 use Rattle.ledger_model.specs.Clues.{next_ordinal, last_journal}
 use Rattle.ledger_model.specs.Genesis.{digest, no_clue}
 use Rattle.ledger_model.specs.History.{History, size}
+use Rattle.ledger_model.specs.Scheme.{Scheme}
 use Rattle.ledger_model.specs.declared.job.Job.{Job}
 use Rattle.ledger_model.specs.declared.job.Job.TheVariants.{Append, NewMember}
 
@@ -24,18 +24,18 @@ abbrev pub clue_of : List ℕ → Digest
 clue_of name = digest (clue_digest_of name)
 
 -- an approval, with the key that its proof shows
-abbrev pub approval_of : ℕ → List ℕ → List ℕ → Approval
-approval_of member message proof = record { member = member; key = option_map digest (tag_key_of message proof); proof = proof }
+abbrev pub approval_of : Scheme → ℕ → List ℕ → List ℕ → Approval
+approval_of scheme member message proof = record { member = member; key = option_map digest (scheme message proof); proof = proof }
 
 -- the job of a record with a clue on the ledger with this id
-unfoldable pub append_with : List ℕ → ℕ → Digest → List ℕ → List ℕ → Job
-append_with id member clue content proof =
+unfoldable pub append_with : Scheme → List ℕ → ℕ → Digest → List ℕ → List ℕ → Job
+append_with scheme id member clue content proof =
     let request = request_with id member clue content in
-    Append member clue content (digest (content_digest_of content)) (digest request) (approval_of member request proof)
+    Append member clue content (digest (content_digest_of content)) (digest request) (approval_of scheme member request proof)
 
 -- the job of a new member on the ledger with this id
-unfoldable pub member_job : List ℕ → ℕ → Digest → List ℕ → Job
-member_job id number key proof = NewMember number key (approval_of 0 (member_request_digest_of id number key.0) proof)
+unfoldable pub member_job : Scheme → List ℕ → ℕ → Digest → List ℕ → Job
+member_job scheme id number key proof = NewMember number key (approval_of scheme 0 (member_request_digest_of id number key.0) proof)
 
 -- the header of a record that is journal jsn, with its clue, its number among the clue's journals, and the clue's journal before it
 unfoldable pub append_header : ℕ → ℕ → Digest → ℕ → ℕ → List ℕ → Digest → Digest → Approval → Header

@@ -1,7 +1,6 @@
 -- What a book keeps of a history, and what it is to stand for one.
-use Rattle.std.specs.Prelude.{◌≡◌, ℕ, ◌<◌, ◌≤◌, false, if◌then◌else◌, List, [], map, drop, length, All, nat_lt}
+use Rattle.std.specs.Prelude.{◌≡◌, ℕ, ◌<◌, ◌≤◌, false, if◌then◌else◌, List, map, drop, length, All, nat_lt}
 use Rattle.ledger_bytes.specs.declared.digest.Digest.{Digest}
-use Rattle.journal_record.specs.Entry.{Entry}
 use Rattle.journal_record.specs.declared.header.Header.{Header}
 use Rattle.clue_index.specs.Index as index
 use Rattle.member_book.specs.declared.book.Member.{Member}

@@ -1,18 +1,10 @@
 -- Jobs that a line may make.
-use Rattle.std.specs.Prelude.{ℕ, ◌==◌, ◌&&◌, Bool, true, false, length, nat_le, bytes_eq}
-use Rattle.ledger_bytes.specs.declared.refusal.Refusal.{Refusal}
-use Rattle.ledger_bytes.specs.declared.refusal.Refusal.TheVariants.{BadVerb, BadField, BadLane}
+use Rattle.std.specs.Prelude.{ℕ, ◌==◌, ◌&&◌, Bool, true, length, nat_le, bytes_eq}
 use Rattle.journal_record.specs.Entry.{content_digest_of}
 use Rattle.journal_record.specs.declared.approval.Approval.{Approval}
+use Rattle.script_lines.specs.Limits.{is_of_form}
 use Rattle.ledger_model.specs.declared.job.Job.{Job}
 use Rattle.ledger_model.specs.declared.job.Job.TheVariants.{Refused, Append, NewMember, Clue, Head}
-
--- whether a line is refused so for its form alone
-abbrev pub is_of_form : Refusal → Bool
-is_of_form BadVerb = true
-is_of_form (BadField column) = true
-is_of_form BadLane = true
-is_of_form other = false
 
 -- whether an approval is this member's, with a proof no longer than a line may give
 abbrev pub fits_approval : ℕ → Approval → Bool

@@ -4,7 +4,8 @@ use Rattle.std.specs.Cmp.Lexicographic.{pointwise}
 use Rattle.ledger_bytes.specs.declared.digest.Digest.{Digest}
 use Rattle.ledger_bytes.specs.declared.refusal.Refusal.{Refusal}
 use Rattle.ledger_bytes.specs.declared.refusal.Refusal.TheVariants.{Full, UnknownMember, WrongKey, MembersFull, MemberNumber, CluesFull}
-use Rattle.ledger_model.specs.Clues.{is_no_clue, jsns_with, different_clues}
+use Rattle.journal_record.specs.Rules.{is_no_clue}
+use Rattle.ledger_model.specs.Clues.{jsns_with, different_clues}
 use Rattle.ledger_model.specs.History.{History, size, point}
 use Rattle.ledger_model.specs.Members.{members, keys}
 use Rattle.ledger_model.specs.declared.job.Job.{Job}

@@ -5,6 +5,7 @@ pub mod Limits
 pub mod Step
 pub mod Members
 pub mod Clues
+pub mod Scheme
 pub mod Appends
 pub mod Judgements
 pub mod Fitting

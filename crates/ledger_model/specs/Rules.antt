@@ -10,21 +10,22 @@ use Rattle.ledger_model.specs.History.{History, id, close, place}
 use Rattle.ledger_model.specs.Judgements.{own_judgements, first_refusal}
 use Rattle.ledger_model.specs.Limits.{real}
 use Rattle.ledger_model.specs.Outcomes.{placed}
+use Rattle.ledger_model.specs.Scheme.{Scheme}
 use Rattle.ledger_model.specs.Step.{Step}
 use Rattle.ledger_model.specs.declared.job.Job.{Job}
 use Rattle.ledger_model.specs.declared.job.Job.TheVariants.{Refused, Append, NewMember, Clue, Head}
 
 -- what a line that was read asks for, on the ledger with this id
-abbrev pub job_for : List ℕ → Result Line Refusal → Job
-job_for id (Err refusal) = Refused refusal
-job_for id (Ok (line.Append member clue content proof)) = append_with id member (clue_of clue) content proof
-job_for id (Ok (line.NewMember number key proof)) = member_job id number key proof
-job_for id (Ok (line.Clue name)) = Clue (clue_of name)
-job_for id (Ok line.Head) = Head
+abbrev pub job_for : Scheme → List ℕ → Result Line Refusal → Job
+job_for scheme id (Err refusal) = Refused refusal
+job_for scheme id (Ok (line.Append member clue content proof)) = append_with scheme id member (clue_of clue) content proof
+job_for scheme id (Ok (line.NewMember number key proof)) = member_job scheme id number key proof
+job_for scheme id (Ok (line.Clue name)) = Clue (clue_of name)
+job_for scheme id (Ok line.Head) = Head
 
 -- what a line asks for, on the ledger with this id
-unfoldable pub job_of : List ℕ → List ℕ → Job
-job_of id line = job_for id (spoken line).1
+unfoldable pub job_of : Scheme → List ℕ → List ℕ → Job
+job_of scheme id line = job_for scheme id (spoken line).1
 
 -- whether a job ends the open block before it is judged
 abbrev pub closes_before : Job → Bool
@@ -67,19 +68,19 @@ after_job h step job =
     with_accepted (refusal_of g step job) (placed_by g step job) g
 
 -- the history after a step
-unfoldable pub after_step : History → Step → History
-after_step h step = after_job h step (job_of (id h) step.line)
+unfoldable pub after_step : Scheme → History → Step → History
+after_step scheme h step = after_job h step (job_of scheme (id h) step.line)
 
 -- the history after some steps
-abbrev pub after_steps : History → List Step → History
-after_steps h [] = h
-after_steps h (step ∷ steps) = after_steps (after_step h step) steps
+abbrev pub after_steps : Scheme → History → List Step → History
+after_steps scheme h [] = h
+after_steps scheme h (step ∷ steps) = after_steps scheme (after_step scheme h step) steps
 
 -- the history after a window, whose end ends the open block
-abbrev pub after_window : History → List Step → History
-after_window h steps = close (after_steps h steps)
+abbrev pub after_window : Scheme → History → List Step → History
+after_window scheme h steps = close (after_steps scheme h steps)
 
 -- the history after some windows
-abbrev pub after : History → List (List Step) → History
-after h [] = h
-after h (window ∷ windows) = after (after_window h window) windows
+abbrev pub after : Scheme → History → List (List Step) → History
+after scheme h [] = h
+after scheme h (window ∷ windows) = after scheme (after_window scheme h window) windows

@@ -13,6 +13,7 @@ use Rattle.ledger_model.specs.Clues.{jsns_with}
 use Rattle.ledger_model.specs.Genesis.{digest}
 use Rattle.ledger_model.specs.History.{History, id, size, root, blocks, point, leaf_digest, block_of, end_of}
 use Rattle.ledger_model.specs.Rules.{job_of, judged_at, refusal_of, after_step, after_window}
+use Rattle.ledger_model.specs.Scheme.{Scheme}
 use Rattle.ledger_model.specs.Step.{Step}
 use Rattle.ledger_model.specs.declared.answer.Answer.{Answer}
 use Rattle.ledger_model.specs.declared.answer.Answer.TheVariants.{Reply, Receipt}
@@ -54,19 +55,19 @@ reply_in window (Reply reply) = reply
 reply_in window (Receipt jsn leaf) = reply.Placed jsn leaf (block_of window jsn) (end_of window jsn) (digest (root window (end_of window jsn))) None
 
 -- the line that is written for a step; the window's history has the ends of all its blocks
-unfoldable pub step_text : History → History → Step → List ℕ
-step_text window h step = reply_text step.lane step.index (reply_in window (answer_to h step (job_of (id h) step.line)))
+unfoldable pub step_text : Scheme → History → History → Step → List ℕ
+step_text scheme window h step = reply_text step.lane step.index (reply_in window (answer_to h step (job_of scheme (id h) step.line)))
 
 -- the lines that are written for some steps
-abbrev pub steps_text : History → History → List Step → List ℕ
-steps_text window h [] = []
-steps_text window h (step ∷ steps) = step_text window h step ++ steps_text window (after_step h step) steps
+abbrev pub steps_text : Scheme → History → History → List Step → List ℕ
+steps_text scheme window h [] = []
+steps_text scheme window h (step ∷ steps) = step_text scheme window h step ++ steps_text scheme window (after_step scheme h step) steps
 
 -- the lines that are written for a window
-abbrev pub window_text : History → List Step → List ℕ
-window_text h steps = steps_text (after_window h steps) h steps
+abbrev pub window_text : Scheme → History → List Step → List ℕ
+window_text scheme h steps = steps_text scheme (after_window scheme h steps) h steps
 
 -- the lines that are written for some windows
-abbrev pub text : History → List (List Step) → List ℕ
-text h [] = []
-text h (window ∷ windows) = window_text h window ++ text (after_window h window) windows
+abbrev pub text : Scheme → History → List (List Step) → List ℕ
+text scheme h [] = []
+text scheme h (window ∷ windows) = window_text scheme h window ++ text scheme (after_window scheme h window) windows

@@ -127,7 +127,7 @@ fn sign_append(alloc: Global, clue: &str, content: &str) -> Result<(u8, usize), 
     words.push(String::from_str(alloc, content)?)?;
     let mut source = MemSource::new(Bytes::of(Vec::new(alloc)), Vec::new(alloc));
     let mut sink = MemSink::new(alloc, AMPLE, Vec::new(alloc))?;
-    let status = ledger_top(alloc, words.as_slice(), &mut source, &mut sink);
+    let status = ledger_top(alloc, words.as_slice(), &mut source, &mut sink, &TagScheme);
     Ok((status, sink.written().len()))
 }
 

@@ -7,39 +7,34 @@ pub loop-line-init : goal.loop-line-init
 loop-line-init g c = λ h carries none. record {
   ledger = h;
   carries = carries;
-  sofar = sofar_begins h none _ c.new-lines.result _ _ _ c.new-lines.ensures c.new-window.ensures.lines c.new-window.ensures.bytes c.new-dues.ensures.items;
+  sofar = sofar_begins _ h none _ c.new-lines.result _ _ _ c.new-lines.ensures c.new-window.ensures.lines c.new-window.ensures.bytes c.new-dues.ensures.items;
 }
-
-pub take_in_window-requires-clause-some : goal.take_in_window-requires-clause-some
-take_in_window-requires-clause-some g c =
-    let s = c.loop-line.invariant c.requires.history c.requires.carries c.requires.none in
-    (s.ledger, s.carries)
 
 pub returns-in-Ok-None-clause-served : goal.returns-in-Ok-None-clause-served
 returns-in-Ok-None-clause-served g c = λ h carries none.
     let e = rw c.in-Ok-None.field-0-is at c.in-Ok-None.ensures in
     let s = c.loop-line.invariant h carries none in
-    served_done h _ _ _ c.loop-line.lines _ e.0 c.loop-line.index _ _ _ _ s.sofar e.1 _ _ e.2 (c.end_script.ensures s.ledger s.carries)
+    served_done _ h _ _ _ c.loop-line.lines _ e.0 c.loop-line.index _ _ _ _ s.sofar e.1 _ _ e.2 (c.end_script.ensures s.ledger s.carries)
 
 pub returns-in-Err-clause-served : goal.returns-in-Err-clause-served
 returns-in-Err-clause-served g c = λ h carries none.
     let e = c.in-Err.ensures in
     let s = c.loop-line.invariant h carries none in
-    let end = rw c.ending_of.ensures at (c.end_script-in-Err.ensures s.ledger s.carries) in
-    served_error h _ _ _ c.loop-line.lines _ e.0 c.loop-line.index _ _ _ _ s.sofar e.1 _ c.in-Err.error _ e.2 end
+    let end = rw c.from.ensures at (c.end_script-in-Err.ensures s.ledger s.carries) in
+    served_error _ h _ _ _ c.loop-line.lines _ e.0 c.loop-line.index _ _ _ _ s.sofar e.1 _ c.in-Err.error _ e.2 end
 
 pub returns-in-Err-take_in_window-clause-served : goal.returns-in-Err-take_in_window-clause-served
 returns-in-Err-take_in_window-clause-served g c = λ h carries none.
     let e = rw c.in-Ok-Some.field-0-is at c.in-Ok-Some.ensures in
     let s = c.loop-line.invariant h carries none in
-    served_memory h _ _ _ c.loop-line.lines _ e.0 c.loop-line.index _ _ _ _ s.sofar e.1 c.in-Ok-Some.line e.2
+    served_memory _ h _ _ _ c.loop-line.lines _ e.0 c.loop-line.index _ _ _ _ s.sofar e.1 c.in-Ok-Some.line e.2
 
 pub returns-in-Err-write_dues-clause-served : goal.returns-in-Err-write_dues-clause-served
 returns-in-Err-write_dues-clause-served g c = λ h carries none.
     let e = rw c.in-Ok-Some.field-0-is at c.in-Ok-Some.ensures in
     let s = c.loop-line.invariant h carries none in
-    let taken = rw c.as_slice.ensures at (c.in-Ok.ensures.taken s.ledger s.carries) in
-    rw c.ending_at.ensures (reached_halt h _ _ _ c.loop-line.lines _ e.0 c.loop-line.index _ _ _ _ s.sofar e.1 c.in-Ok-Some.line e.2
+    let taken = rw c.as_slice-line.ensures at (c.in-Ok.ensures.taken s.ledger s.carries) in
+    rw c.ending_at.ensures (reached_halt _ h _ _ _ c.loop-line.lines _ e.0 c.loop-line.index _ _ _ _ s.sofar e.1 c.in-Ok-Some.line e.2
     c.take_in_window.new.book _ _ _ taken _ c.is_settled.ensures c.if-is_settled.true _ _ c.in-Err-write_dues.halt c.in-Err-write_dues.ensures)
 
 pub loop-line-smaller : goal.loop-line-smaller
@@ -51,12 +46,12 @@ pub loop-line-preserved : goal.loop-line-preserved
 loop-line-preserved g c = λ h carries none.
     let e = rw c.in-Ok-Some.field-0-is at c.in-Ok-Some.ensures in
     let s = c.loop-line.invariant h carries none in
-    let taken = rw c.as_slice.ensures at (c.in-Ok.ensures.taken s.ledger s.carries) in
+    let taken = rw c.as_slice-line.ensures at (c.in-Ok.ensures.taken s.ledger s.carries) in
     elim c.if-is_settled.branch [
       | then-is_settled+in-Ok-write_dues w ↦
-          rw (w.sink-is, w.dues-is) (reached_written h _ _ _ c.loop-line.lines _ e.0 c.loop-line.index _ _ _ _ s.sofar e.1 c.in-Ok-Some.line e.2
+          rw (w.sink-is, w.dues-is) (reached_written _ h _ _ _ c.loop-line.lines _ e.0 c.loop-line.index _ _ _ _ s.sofar e.1 c.in-Ok-Some.line e.2
           c.take_in_window.new.book _ _ _ taken _ c.is_settled.ensures w.if-is_settled.true _ _ w.in-Ok-write_dues.ensures)
       | else-is_settled w ↦
-          rw (w.sink-is, w.dues-is) (reached_waits h _ _ _ c.loop-line.lines _ e.0 c.loop-line.index _ _ _ _ s.sofar e.1 c.in-Ok-Some.line e.2
+          rw (w.sink-is, w.dues-is) (reached_waits _ h _ _ _ c.loop-line.lines _ e.0 c.loop-line.index _ _ _ _ s.sofar e.1 c.in-Ok-Some.line e.2
           c.take_in_window.new.book _ _ _ taken _ c.is_settled.ensures w.if-is_settled.false)
     ]

@@ -6,5 +6,5 @@ returns-clause-ran g c = record {
   ending = c.run_words-ending.result;
   status_is = c.finish.ensures.status;
   usage = c.run_words-ending.ensures.usage;
-  ran = ran_by _ c.run_words-ending.result _ _ _ _ c.run_words-ending.ensures.served c.finish.ensures.last;
+  ran = ran_by _ _ c.run_words-ending.result _ _ _ _ c.run_words-ending.ensures.served c.finish.ensures.last;
 }

@@ -1,4 +1,4 @@
-use Rattle.std.proofs.Common.{ap, sym, ◌∙◌, arith}
+use Rattle.std.proofs.Common.{ap, ◌∙◌, arith}
 use Rattle.ledger_model.specs.Books.{Kept}
 use Rattle.ledger_model.specs.declared.view.View.TheVariants.{Purged}
 use Rattle.ledger_book.proofs.StandsLaws.{view_absent, view_purged, view_whole}
