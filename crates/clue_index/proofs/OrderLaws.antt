@@ -1,10 +1,11 @@
 -- Laws of the states at a point in their order.
-use Rattle.std.proofs.Common.{◌≡◌, ◌≢◌, ℕ, ◌<◌, Bool, true, false, cond, List, [], ◌∷◌, map, filter, nat_lt, refl, sym, ap, subst, ◌∙◌, None}
-use Rattle.std.specs.Prelude.{T}
+use Rattle.std.proofs.Common.{◌≡◌, ◌≢◌, ℕ, ◌<◌, Bool, true, false, cond, List, [], ◌∷◌, map, filter, nat_lt, refl, sym, ap, subst, ◌∙◌, ◌++◌, None}
+use Rattle.std.specs.Prelude.{T, bytes_eq, length}
 use Rattle.std.specs.List.{All, AllByRecursion, list_any}
 use Rattle.std.specs.List.Sorted.{IsStrictlySortedBy}
 use Rattle.std.specs.Map.{keys_of}
 use Rattle.std.specs.Ordering.{is_lt, nat_cmp}
+use Rattle.std.specs.Set.{distinct_count}
 use Rattle.std.specs.Cmp.Lexicographic.{slice_cmp}
 use Rattle.std.specs.declared.cmp.Ordering.{Ordering}
 use Rattle.std.specs.declared.cmp.Ordering.TheVariants.{Less, Equal, Greater}
@@ -12,8 +13,12 @@ use Rattle.std.specs.FinMap.{get, entries, is_sorted, entries_sorted}
 use Rattle.std.specs.FinMap.Entries.{below_all}
 use Rattle.std.proofs.lemmas.Bool.{and_parts, or_parts}
 use Rattle.std.proofs.lemmas.List.Elements.{All-from_recursion}
+use Rattle.std.proofs.lemmas.Cmp.{eq_by_cmp_equiv, nat_list_cmp_total}
 use Rattle.std.proofs.lemmas.List.Kept.{IsStrictlySortedBy-filter}
-use Rattle.clue_index.specs.Added.{Added, no_clue, trail_of, table_of, different, state_below, begun_states, states_at}
+use Rattle.std.proofs.lemmas.Map.Keys.{IsDistinct-from_sorted}
+use Rattle.std.proofs.lemmas.Map.Made.{length-from_keys}
+use Rattle.std.proofs.lemmas.Map.Text.{is_eq-slice_cmp}
+use Rattle.clue_index.specs.Added.{Added, no_clue, trail_of, clues_of, table_of, different, state_below, begun_states, states_at}
 use Rattle.clue_index.specs.Trail.{Trail}
 use Rattle.clue_index.proofs.CarryLaws.{counted_states, given}
 use Rattle.clue_index.proofs.TableLaws.{tie, tie_same, absent_from_get}
@@ -76,3 +81,14 @@ named_clues p a (c ∷ clues) is =
 pub states_named : (p : ℕ) (a : Added) → get (table_of a) no_clue ≡ None → All (λ s. s.clue.0 ≢ no_clue) (states_at p a)
 states_named p a none =
     All-from_recursion (λ s. s.clue.0 ≢ no_clue) (states_at p a) (named_clues p a (different a) (given p a no_clue ∙ absent_from_get a no_clue none))
+
+-- clues tie where their bytes are the same
+tie_is : tie ≡ bytes_eq
+tie_is = λ i. λ x y. (is_eq-slice_cmp x y) i
+
+-- there are as many different clues as were given, where the same are counted once
+pub different_count : (a : Added) → length (different a) ≡ distinct_count bytes_eq (clues_of a)
+different_count a =
+    let rise = keys_rise (entries (table_of a)) (true_of _ (entries_sorted (table_of a))) in
+    length-from_keys (eq_by_cmp_equiv nat_list_cmp_total) (different a) (clues_of a) (IsDistinct-from_sorted (slice_cmp nat_cmp) (different a) rise) (given 0 a)
+    ∙ ap (λ same. distinct_count same (clues_of a)) tie_is

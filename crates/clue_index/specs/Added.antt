@@ -1,8 +1,9 @@
 -- All that an index of clues was given, as plain lists, and what is asked of it.
-use Rattle.std.specs.Prelude.{ℕ, List, [], ◌∷◌, ◌++◌, map, filter, fold, replicate, nat_lt, nat_le, bytes_eq, if◌then◌else◌}
+use Rattle.std.specs.Prelude.{ℕ, List, [], ◌∷◌, ◌++◌, map, filter, fold, nat_lt, nat_le, bytes_eq, if◌then◌else◌}
 use Rattle.std.specs.Cmp.Lexicographic.{slice_cmp}
 use Rattle.std.specs.Ordering.{nat_cmp}
 use Rattle.std.specs.FinMap.{FinMap, from_entries, keys}
+use Rattle.ledger_bytes.specs.Digests.{digest, zero_digest}
 use Rattle.clue_index.specs.Trail.{Trail, no_trail, count_of, last_of, below}
 use Rattle.clue_index.specs.declared.state.ClueState.{ClueState}
 
@@ -29,9 +30,9 @@ with_mark clue jsn a = record { states = a.states; marks = a.marks ++ record { c
 abbrev pub with_floor : ℕ → Added → Added
 with_floor floor a = record { states = a.states; marks = a.marks; floor = floor }
 
--- the 32 zero bytes that stand for no clue
+-- the bytes that stand for no clue
 abbrev pub no_clue : List ℕ
-no_clue = replicate 32 0
+no_clue = zero_digest.0
 
 -- the state of a clue: the last of these that is its own, or none
 abbrev pub state_of : List ℕ → List ClueState → Trail
@@ -62,7 +63,11 @@ different a = keys (table_of a)
 
 -- a clue's state when the journals below p had been placed, from its journals
 abbrev pub state_below : ℕ → List ℕ → Trail → ClueState
-state_below p clue t = record { clue = record { 0 = clue }; count = count_of (below p t); last = last_of (below p t) }
+state_below p clue t = record { clue = digest clue; count = count_of (below p t); last = last_of (below p t) }
+
+-- a clue's state when the journals below p had been placed
+abbrev pub state_at : ℕ → Added → List ℕ → ClueState
+state_at p a clue = state_below p clue (trail_of a clue)
 
 -- those of some states that speak of a journal
 abbrev pub begun_states : List ClueState → List ClueState
@@ -70,7 +75,7 @@ begun_states states = filter (λ s. nat_lt 0 s.count) states
 
 -- the states of all clues that had a journal when the journals below p had been placed, ascending by their bytes
 abbrev pub states_at : ℕ → Added → List ClueState
-states_at p a = begun_states (map (λ clue. state_below p clue (trail_of a clue)) (different a))
+states_at p a = begun_states (map (state_at p a) (different a))
 
 -- what an index is given that begins at p: the states there, and the journals from p on
 abbrev pub from_point : ℕ → Added → Added

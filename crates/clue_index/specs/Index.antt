@@ -17,11 +17,19 @@ pub record Kept : Type 0 where
 abbrev pub trail_in : List ℕ → List (List ℕ × Trail) → Option Trail
 trail_in clue trails = lookup (is_at (slice_cmp nat_cmp clue)) trails
 
--- the index keeps what was added: each clue that was ever given, and of its journals those from the floor on. How many
--- there were below the floor and which was the last of them is kept; which they were isn't looked at
+-- what is kept of a clue's journals, where it has any: those from the floor on, how many there were before them, and the
+-- last of these
+abbrev pub kept_trail : Kept → List ℕ → Option Trail
+kept_trail k clue = option_map (seen_from k.floor) (trail_in clue k.trails)
+
+-- the same of the journals that were added
+abbrev pub added_trail : Added → List ℕ → Option Trail
+added_trail a clue = option_map (seen_from a.floor) (get (table_of a) clue)
+
+-- the index keeps what was added, of each clue
 pub record Stands (k : Kept) (a : Added) : Type 0 where
   pub floor : k.floor ≡ a.floor
-  pub at : (clue : List ℕ) → option_map (seen_from k.floor) (trail_in clue k.trails) ≡ option_map (seen_from a.floor) (get (table_of a) clue)
+  pub at : (clue : List ℕ) → kept_trail k clue ≡ added_trail a clue
   pub ascend : (clue : List ℕ) (t : Trail) → trail_in clue k.trails ≡ Some t → Ascends t.jsns
   pub rises : Ascends (map (λ m. m.jsn) a.marks)
   pub clear : get (table_of a) no_clue ≡ None

@@ -77,7 +77,8 @@ impl ClueIndex {
     /// Adds the next journal of a clue. The clue isn't zero, and the number is above those of all journals that were
     /// added, and not below the first journal that is kept. After an `Err` the index is as before.
     pub fn add(&mut self, clue: &Digest, jsn: u64) -> Result<(), NoMemory>
-        ensures ok { OnOk result ((a : Added) → Stands self.old a → clue.now.0 ≢ no_clue → a.floor ≤ jsn → All (λ m. m.jsn < jsn) a.marks
+        ensures ok { OnOk result ((a : Added) → Stands self.old a → clue.now.0 ≢ no_clue → a.floor ≤ jsn
+            → All (λ m. m.jsn < jsn) a.marks
             → Stands self.new (with_mark clue.now.0 jsn a)) }
         ensures err { OnErr result (self.new ≡ self.old) }
     {
@@ -96,10 +97,12 @@ impl ClueIndex {
     pub fn of(&self, clue: &Digest) -> Result<(u32, Vec<u64>), NoMemory>
         ensures count { IfOk result (λ r. (a : Added) → Stands self.now a → count_of (trail_of a clue.now.0) < 2 ^ 32
             → r.0 ≡ count_of (trail_of a clue.now.0)) }
-        ensures kept { IfOk result (λ r. (a : Added) → Stands self.now a → r.1.items ≡ kept_from a.floor (trail_of a clue.now.0)) }
+        ensures kept { IfOk result (λ r. (a : Added) → Stands self.now a
+            → r.1.items ≡ kept_from a.floor (trail_of a clue.now.0)) }
         ensures ascending { IfOk result (λ r. (a : Added) → Stands self.now a → Ascends r.1.items) }
         // Zeros are no clue, and have no journal.
-        ensures none { clue.now.0 ≡ no_clue → IfOk result (λ r. (a : Added) → Stands self.now a → (r.0 ≡ 0) × (r.1.items ≡ [])) }
+        ensures none { clue.now.0 ≡ no_clue
+            → IfOk result (λ r. (a : Added) → Stands self.now a → (r.0 ≡ 0) × (r.1.items ≡ [])) }
     {
         match self.slots.get(&clue.0) {
             Some(slot) => Ok((slot.count(), slot.kept(self.alloc, self.floor)?)),

@@ -1,5 +1,5 @@
 -- One step of a reading: a field, and the rule that it keeps.
-use Rattle.std.proofs.Common.{◌≡◌, ◌<◌, ◌^◌, arith, ℕ, zero, suc, Bool, true, cond, List, ◌++◌, Option, Some, None, Result, Ok, Err, refl, sym, ap, subst}
+use Rattle.std.proofs.Common.{◌≡◌, ℕ, zero, suc, Bool, true, cond, List, ◌++◌, Option, Some, None, Result, Ok, Err, refl, sym, ap, subst}
 use Rattle.std.specs.Prelude.{ok_or}
 use Rattle.ledger_bytes.specs.declared.failure.Bad.{Bad}
 use Rattle.ledger_bytes.specs.Fields.{Left, ◌>>=◌, IsBytes, Took, ReadsBack}
@@ -77,12 +77,3 @@ kind_again Member = refl
 kind_again Time = refl
 kind_again Occult = refl
 kind_again Purge = refl
-
--- that number is one byte
-pub code_below : (kind : Kind) → code_of kind < 2 ^ 8
-code_below Genesis = omega arith
-code_below Content = omega arith
-code_below Member = omega arith
-code_below Time = omega arith
-code_below Occult = omega arith
-code_below Purge = omega arith

@@ -1,7 +1,10 @@
 pub mod Approval
+pub mod Blocks
 pub mod Entry
 pub mod Header
+pub mod Members
 pub mod Reading
+pub mod Records
 pub mod Request
 pub mod Rules
 pub mod Tags

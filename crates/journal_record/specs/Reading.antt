@@ -1,12 +1,15 @@
 -- Reading a header from left to right, with the first break that is met.
 use Rattle.std.specs.Prelude.{ℕ, List, length, Result, Ok, Err, if◌then◌else◌, ok_or}
 use Rattle.std.specs.Int.{w8, w32, w64}
-use Rattle.ledger_bytes.specs.declared.digest.Digest.{Digest}
 use Rattle.ledger_bytes.specs.declared.failure.Bad.{Bad}
 use Rattle.ledger_bytes.specs.declared.failure.Bad.TheVariants.{BadKind, NewerFormat}
 use Rattle.ledger_bytes.specs.Fields.{Left, left, ◌>>=◌, number_at, digest_at, check, end_at}
 use Rattle.journal_record.specs.declared.header.Header.{Header}
 use Rattle.journal_record.specs.declared.header.Kind.{Kind}
+use Rattle.journal_record.specs.declared.reading.Front.{Front}
+use Rattle.journal_record.specs.declared.reading.ClueFields.{ClueFields}
+use Rattle.journal_record.specs.declared.reading.OwnFields.{OwnFields}
+use Rattle.journal_record.specs.declared.reading.Parts.{Parts}
 use Rattle.journal_record.specs.Rules.{kind_of, version_ok, jsn_ok, member_ok, clue_ok, clue_ord_ok, clue_prev_ok, a_ok, b_ok, content_len_ok}
 
 -- a version that is known
@@ -18,7 +21,7 @@ abbrev pub known_kind : ℕ → Result Kind Bad
 known_kind code = ok_or (kind_of code) (BadKind code)
 
 -- version, kind, number and member
-unfoldable pub front_at : Left → Result ((ℕ × Kind × ℕ × ℕ) × Left) Bad
+unfoldable pub front_at : Left → Result (Front × Left) Bad
 front_at l = do
   version ← number_at w8 l
   _ ← known_version version.0
@@ -28,10 +31,10 @@ front_at l = do
   _ ← check (jsn_ok kind jsn.0) 2
   member ← number_at w32 jsn.1
   _ ← check (member_ok kind member.0) 10
-  Ok ((version.0, kind, jsn.0, member.0), member.1)
+  Ok (record { version = version.0; kind = kind; jsn = jsn.0; member = member.0 }, member.1)
 
 -- the clue, and the journal's place among its journals
-unfoldable pub clue_at : Kind → ℕ → Left → Result ((Digest × ℕ × ℕ) × Left) Bad
+unfoldable pub clue_at : Kind → ℕ → Left → Result (ClueFields × Left) Bad
 clue_at kind jsn l = do
   clue ← digest_at l
   _ ← check (clue_ok kind clue.0) 14
@@ -39,49 +42,49 @@ clue_at kind jsn l = do
   _ ← check (clue_ord_ok clue.0 ord.0) 46
   prev ← number_at w64 ord.1
   _ ← check (clue_prev_ok jsn ord.0 prev.0) 50
-  Ok ((clue.0, ord.0, prev.0), prev.1)
+  Ok (record { clue = clue.0; ordinal = ord.0; previous = prev.0 }, prev.1)
 
 -- what goes by the kind: two numbers and a link
-unfoldable pub own_at : Kind → ℕ → Left → Result ((ℕ × ℕ × Digest) × Left) Bad
+unfoldable pub own_at : Kind → ℕ → Left → Result (OwnFields × Left) Bad
 own_at kind jsn l = do
   a ← number_at w64 l
   _ ← check (a_ok kind jsn a.0) 58
   b ← number_at w64 a.1
   _ ← check (b_ok kind b.0) 66
   link ← digest_at b.1
-  Ok ((a.0, b.0, link.0), link.1)
+  Ok (record { a = a.0; b = b.0; link = link.0 }, link.1)
 
 -- the content's length, and the digests of content and who
-unfoldable pub parts_at : Kind → Left → Result ((ℕ × Digest × Digest) × Left) Bad
+unfoldable pub parts_at : Kind → Left → Result (Parts × Left) Bad
 parts_at kind l = do
   len ← number_at w32 l
   _ ← check (content_len_ok kind len.0) 106
   content ← digest_at len.1
   who ← digest_at content.1
-  Ok ((len.0, content.0, who.0), who.1)
+  Ok (record { content_len = len.0; content_digest = content.0; who_digest = who.0 }, who.1)
 
 -- a header
 unfoldable pub header_at : Left → Result (Header × Left) Bad
 header_at l = do
   front ← front_at l
-  clue ← clue_at front.0.1 front.0.2 front.1
-  own ← own_at front.0.1 front.0.2 clue.1
-  parts ← parts_at front.0.1 own.1
+  clue ← clue_at front.0.kind front.0.jsn front.1
+  own ← own_at front.0.kind front.0.jsn clue.1
+  parts ← parts_at front.0.kind own.1
   Ok (
     record {
-      version = front.0.0;
-      kind = front.0.1;
-      jsn = front.0.2;
-      member = front.0.3;
-      clue = clue.0.0;
-      clue_ord = clue.0.1;
-      clue_prev = clue.0.2;
-      a = own.0.0;
-      b = own.0.1;
-      link = own.0.2;
-      content_len = parts.0.0;
-      content_digest = parts.0.1;
-      who_digest = parts.0.2;
+      version = front.0.version;
+      kind = front.0.kind;
+      jsn = front.0.jsn;
+      member = front.0.member;
+      clue = clue.0.clue;
+      clue_ord = clue.0.ordinal;
+      clue_prev = clue.0.previous;
+      a = own.0.a;
+      b = own.0.b;
+      link = own.0.link;
+      content_len = parts.0.content_len;
+      content_digest = parts.0.content_digest;
+      who_digest = parts.0.who_digest;
     },
     parts.1,
   )

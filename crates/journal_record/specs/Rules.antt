@@ -1,7 +1,10 @@
 -- What each field of a header may be, by the fields in front of it.
-use Rattle.std.specs.Prelude.{ℕ, zero, suc, Bool, true, ◌&&◌, ◌==◌, nat_lt, nat_le, if◌then◌else◌, IsTrue, replicate, Option, Some, None}
+use Rattle.std.specs.Prelude.{ℕ, zero, suc, Bool, true, ◌&&◌, ◌==◌, nat_lt, nat_le, if◌then◌else◌, IsTrue, Option, Some, None}
 use Rattle.std.specs.Str.{bytes_eq}
+use Rattle.ledger_bytes.specs.Digests.{zero_digest}
 use Rattle.ledger_bytes.specs.declared.digest.Digest.{Digest}
+use Rattle.ledger_bytes.specs.declared.limits.TheConstants.{MEMBER_LIMIT, CONTENT_LIMIT}
+use Rattle.journal_record.specs.declared.rules.TheConstants.{NOTARY_LIMIT}
 use Rattle.journal_record.specs.declared.header.Header.{Header}
 use Rattle.journal_record.specs.declared.header.Kind.{Kind}
 use Rattle.journal_record.specs.declared.header.Kind.TheVariants.{Genesis, Content, Member, Time, Occult, Purge}
@@ -18,7 +21,7 @@ kind_of (suc (suc (suc (suc (suc (suc n)))))) = None
 
 -- a digest of 32 zero bytes stands for no clue
 abbrev pub is_no_clue : Digest → Bool
-is_no_clue clue = bytes_eq clue.0 (replicate 32 0)
+is_no_clue clue = bytes_eq clue.0 zero_digest.0
 
 -- this layout is version 1
 abbrev pub version_ok : ℕ → Bool
@@ -29,9 +32,9 @@ abbrev pub jsn_ok : Kind → ℕ → Bool
 jsn_ok Genesis jsn = jsn == 0
 jsn_ok kind jsn = nat_lt 0 jsn
 
--- a record is one of 256 members', and everything else is the operator's, member 0
+-- a record is a member's, and everything else is the operator's, member 0
 abbrev pub member_ok : Kind → ℕ → Bool
-member_ok Content member = nat_lt member 256
+member_ok Content member = nat_lt member MEMBER_LIMIT
 member_ok kind member = member == 0
 
 -- only a record may have a clue
@@ -52,8 +55,8 @@ clue_prev_ok jsn clue_ord clue_prev =
 abbrev pub a_ok : Kind → ℕ → ℕ → Bool
 a_ok Genesis jsn a = a == 0
 a_ok Content jsn a = a == 0
-a_ok Member jsn a = nat_le 2 a && nat_lt a 256
-a_ok Time jsn a = nat_lt a 16777216
+a_ok Member jsn a = nat_le 2 a && nat_lt a MEMBER_LIMIT
+a_ok Time jsn a = nat_lt a NOTARY_LIMIT
 a_ok Occult jsn a = nat_lt a jsn
 a_ok Purge jsn a = nat_lt 0 a && nat_lt a jsn
 
@@ -62,10 +65,10 @@ abbrev pub b_ok : Kind → ℕ → Bool
 b_ok Time b = true
 b_ok kind b = b == 0
 
--- a genesis journal has two keys as its content, and else only a record has any, up to 65,536 bytes
+-- a genesis journal has two keys as its content, and else only a record has any, up to the limit
 abbrev pub content_len_ok : Kind → ℕ → Bool
 content_len_ok Genesis content_len = content_len == 64
-content_len_ok Content content_len = nat_le content_len 65536
+content_len_ok Content content_len = nat_le content_len CONTENT_LIMIT
 content_len_ok kind content_len = content_len == 0
 
 -- every field of a header keeps its rule; links and digests have none

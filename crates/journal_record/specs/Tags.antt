@@ -2,10 +2,12 @@
 use Rattle.std.specs.Prelude.{ℕ, List, ◌∷◌, ◌++◌, ◌==◌, ◌&&◌, length, take, drop, if◌then◌else◌, Option, Some, None}
 use Rattle.std.specs.Str.{bytes_eq}
 use Rattle.sha2.specs.Sha256.{sha256}
+use Rattle.ledger_bytes.specs.Tags.{byte_of}
+use Rattle.ledger_bytes.specs.declared.tag.Tag.TheVariants as tag
 
 -- a key's tag of a message
 abbrev pub tag_of : List ℕ → List ℕ → List ℕ
-tag_of key message = sha256 (64 ∷ (key ++ message))
+tag_of key message = sha256 (byte_of tag.Proof ∷ (key ++ message))
 
 -- a key's proof of a message: the key and the tag
 abbrev pub tag_proof_of : List ℕ → List ℕ → List ℕ

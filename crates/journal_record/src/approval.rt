@@ -4,6 +4,9 @@ ghost use Rattle.journal_record.specs.Approval.{who_of};
 use ledger_bytes::{Bytes, Digest, FieldWriter, NoMemory};
 use std::alloc::Global;
 
+/// The most bytes that show who placed a journal: those of 256 approvals, each with a proof of 4,096 bytes.
+pub const WHO_LIMIT: u32 = 1_050_112;
+
 /// A member's word for a journal: its number, and the proof that the member gave for what is asked.
 #[derive(Debug, Drop)]
 pub struct Approval {

@@ -1,29 +1,24 @@
 ghost use Rattle.std.specs.Prelude.{◌≡◌, ◌<◌, ◌^◌, [], ◌∷◌, length};
 ghost use Rattle.sha2.specs.Sha256.{sha256};
+ghost use Rattle.ledger_bytes.specs.Tags.{byte_of};
 ghost use Rattle.journal_record.specs.Approval.{who_of};
 ghost use Rattle.journal_record.specs.Entry.{content_digest_of, who_digest_of};
 
 use crate::Approval;
-use ledger_bytes::{Digest, Sha, TreeHash};
-
-/// The byte in front of a hashed content.
-const CONTENT_TAG: u8 = 0x02;
-
-/// The byte in front of the hashed bytes of who placed a journal.
-const WHO_TAG: u8 = 0x0a;
+use ledger_bytes::{Digest, Sha, Tag, TreeHash};
 
 /// The digest of a journal's content: SHA-256 of the byte 02 and the content.
 pub fn content_digest(content: &[u8]) -> Digest
     ensures { result.0 ≡ content_digest_of content.now }
 {
-    tagged_digest(CONTENT_TAG, content)
+    tagged_digest(Tag::Content, content)
 }
 
 /// The digest of the bytes that show who placed a journal: SHA-256 of the byte 0A and those bytes.
 pub fn who_digest(who: &[u8]) -> Digest
     ensures { result.0 ≡ who_digest_of who.now }
 {
-    tagged_digest(WHO_TAG, who)
+    tagged_digest(Tag::Who, who)
 }
 
 /// The digest of the bytes that show that one member alone placed a journal: of [`who_bytes`](crate::who_bytes) of its
@@ -33,17 +28,18 @@ pub fn approval_digest(by: &Approval) -> Digest
     ensures { result.0 ≡ who_digest_of (who_of (by.now ∷ [])) }
 {
     let proof = by.proof.as_slice();
-    let mut hasher = Sha::start(WHO_TAG);
+    let mut hasher = Sha::start(Tag::Who.byte());
     hasher.add(&by.member.to_be_bytes());
     hasher.add(&(proof.len() as u16).to_be_bytes());
     hasher.add(proof);
     hasher.end()
 }
 
-fn tagged_digest(tag: u8, bytes: &[u8]) -> Digest
-    ensures { result.0 ≡ sha256 (tag ∷ bytes.now) }
+// The digest of a tag's byte and some bytes.
+pub(crate) fn tagged_digest(tag: Tag, bytes: &[u8]) -> Digest
+    ensures { result.0 ≡ sha256 (byte_of tag ∷ bytes.now) }
 {
-    let mut hasher = Sha::start(tag);
+    let mut hasher = Sha::start(tag.byte());
     hasher.add(bytes);
     hasher.end()
 }

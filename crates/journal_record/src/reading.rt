@@ -12,6 +12,39 @@ use crate::rules::{
 use crate::{Header, Kind};
 use ledger_bytes::{Bad, Digest, FieldReader, check_field};
 
+/// What a header begins with.
+#[derive(Drop)]
+struct Front {
+    version: u8,
+    kind: Kind,
+    jsn: u64,
+    member: u32,
+}
+
+/// A clue, and the journal's place among its journals.
+#[derive(Drop)]
+struct ClueFields {
+    clue: Digest,
+    ordinal: u32,
+    previous: u64,
+}
+
+/// What goes by the kind.
+#[derive(Drop)]
+struct OwnFields {
+    a: u64,
+    b: u64,
+    link: Digest,
+}
+
+/// The content's length, and the digests of content and who.
+#[derive(Drop)]
+struct Parts {
+    content_len: u32,
+    content_digest: Digest,
+    who_digest: Digest,
+}
+
 /// The header that all the bytes spell.
 #[tactic(auto, unfolding(crate::specs::Reading::header_of))]
 pub(crate) fn read(bytes: &[u8]) -> Result<Header, Bad>
@@ -28,30 +61,30 @@ pub(crate) fn read(bytes: &[u8]) -> Result<Header, Bad>
 pub fn take_header(reader: &mut FieldReader) -> Result<Header, Bad>
     ensures { Fits result reader.new (reading.header_at reader.old) }
 {
-    let (version, kind, jsn, member) = take_front(reader)?;
-    let (clue, clue_ord, clue_prev) = take_clue(reader, kind, jsn)?;
-    let (a, b, link) = take_own(reader, kind, jsn)?;
-    let (content_len, content_digest, who_digest) = take_parts(reader, kind)?;
+    let front = take_front(reader)?;
+    let clue = take_clue(reader, front.kind, front.jsn)?;
+    let own = take_own(reader, front.kind, front.jsn)?;
+    let parts = take_parts(reader, front.kind)?;
     Ok(Header {
-        version,
-        kind,
-        jsn,
-        member,
-        clue,
-        clue_ord,
-        clue_prev,
-        a,
-        b,
-        link,
-        content_len,
-        content_digest,
-        who_digest,
+        version: front.version,
+        kind: front.kind,
+        jsn: front.jsn,
+        member: front.member,
+        clue: clue.clue,
+        clue_ord: clue.ordinal,
+        clue_prev: clue.previous,
+        a: own.a,
+        b: own.b,
+        link: own.link,
+        content_len: parts.content_len,
+        content_digest: parts.content_digest,
+        who_digest: parts.who_digest,
     })
 }
 
 /// Version, kind, number and member.
 #[tactic(auto, unfolding(crate::specs::Reading::front_at))]
-fn take_front(reader: &mut FieldReader) -> Result<(u8, Kind, u64, u32), Bad>
+fn take_front(reader: &mut FieldReader) -> Result<Front, Bad>
     ensures { Fits result reader.new (reading.front_at reader.old) }
 {
     let version = reader.take_u8()?;
@@ -62,26 +95,35 @@ fn take_front(reader: &mut FieldReader) -> Result<(u8, Kind, u64, u32), Bad>
     check_field(jsn_ok(kind, jsn), 2)?;
     let member = reader.take_u32()?;
     check_field(member_ok(kind, member), 10)?;
-    Ok((version, kind, jsn, member))
+    Ok(Front {
+        version,
+        kind,
+        jsn,
+        member,
+    })
 }
 
 /// The clue, and the journal's place among its journals.
 #[tactic(auto, unfolding(crate::specs::Reading::clue_at))]
-fn take_clue(reader: &mut FieldReader, kind: Kind, jsn: u64) -> Result<(Digest, u32, u64), Bad>
+fn take_clue(reader: &mut FieldReader, kind: Kind, jsn: u64) -> Result<ClueFields, Bad>
     ensures { Fits result reader.new (reading.clue_at kind jsn reader.old) }
 {
     let clue = reader.take_digest()?;
     check_field(clue_ok(kind, &clue), 14)?;
-    let clue_ord = reader.take_u32()?;
-    check_field(clue_ord_ok(&clue, clue_ord), 46)?;
-    let clue_prev = reader.take_u64()?;
-    check_field(clue_prev_ok(jsn, clue_ord, clue_prev), 50)?;
-    Ok((clue, clue_ord, clue_prev))
+    let ordinal = reader.take_u32()?;
+    check_field(clue_ord_ok(&clue, ordinal), 46)?;
+    let previous = reader.take_u64()?;
+    check_field(clue_prev_ok(jsn, ordinal, previous), 50)?;
+    Ok(ClueFields {
+        clue,
+        ordinal,
+        previous,
+    })
 }
 
 /// What goes by the kind: two numbers and a link.
 #[tactic(auto, unfolding(crate::specs::Reading::own_at))]
-fn take_own(reader: &mut FieldReader, kind: Kind, jsn: u64) -> Result<(u64, u64, Digest), Bad>
+fn take_own(reader: &mut FieldReader, kind: Kind, jsn: u64) -> Result<OwnFields, Bad>
     ensures { Fits result reader.new (reading.own_at kind jsn reader.old) }
 {
     let a = reader.take_u64()?;
@@ -89,19 +131,23 @@ fn take_own(reader: &mut FieldReader, kind: Kind, jsn: u64) -> Result<(u64, u64,
     let b = reader.take_u64()?;
     check_field(b_ok(kind, b), 66)?;
     let link = reader.take_digest()?;
-    Ok((a, b, link))
+    Ok(OwnFields { a, b, link })
 }
 
 /// The content's length, and the digests of content and who.
 #[tactic(auto, unfolding(crate::specs::Reading::parts_at))]
-fn take_parts(reader: &mut FieldReader, kind: Kind) -> Result<(u32, Digest, Digest), Bad>
+fn take_parts(reader: &mut FieldReader, kind: Kind) -> Result<Parts, Bad>
     ensures { Fits result reader.new (reading.parts_at kind reader.old) }
 {
     let content_len = reader.take_u32()?;
     check_field(content_len_ok(kind, content_len), 106)?;
     let content_digest = reader.take_digest()?;
     let who_digest = reader.take_digest()?;
-    Ok((content_len, content_digest, who_digest))
+    Ok(Parts {
+        content_len,
+        content_digest,
+        who_digest,
+    })
 }
 
 fn known_version(version: u8) -> Result<(), Bad>

@@ -1,24 +1,11 @@
 ghost use Rattle.std.specs.Prelude.{◌≡◌, ◌∷◌, ◌++◌};
 ghost use Rattle.std.specs.Int.{w64, to_be_bytes};
 ghost use Rattle.sha2.specs.Sha256.{sha256};
-ghost use Rattle.journal_record.specs.Request.{request_digest_of, member_request_digest_of, occult_request_digest_of, purge_request_digest_of, clue_digest_of};
+ghost use Rattle.ledger_bytes.specs.Tags.{byte_of};
+ghost use Rattle.journal_record.specs.Request.{request_digest_of, member_request_digest_of, occult_request_digest_of, purge_request_digest_of, clue_digest_of, name_digest_of};
 
-use ledger_bytes::{Digest, Sha, TreeHash};
-
-/// The byte in front of a hashed request to append.
-const APPEND_TAG: u8 = 0x03;
-
-/// The byte in front of a hashed request to occult a journal.
-const OCCULT_TAG: u8 = 0x04;
-
-/// The byte in front of a hashed request to purge journals.
-const PURGE_TAG: u8 = 0x05;
-
-/// The byte in front of a hashed request to admit a member.
-const MEMBER_TAG: u8 = 0x08;
-
-/// The byte in front of a hashed clue name.
-const CLUE_TAG: u8 = 0x0c;
+use crate::digests::tagged_digest;
+use ledger_bytes::{Digest, Sha, Tag, TreeHash};
 
 /// The message that a member proves to append a journal: SHA-256 of the byte 03, the ledger's identity (32 bytes), the
 /// member's number (4 bytes, big-endian), the clue's digest (32 bytes, zeros where there is no clue), the content's
@@ -32,7 +19,7 @@ pub fn request_digest(
 ) -> Digest
     ensures { result.0 ≡ request_digest_of id.now.0 member clue.now.0 content_len content_digest.now.0 }
 {
-    let mut hasher = Sha::start(APPEND_TAG);
+    let mut hasher = Sha::start(Tag::AppendRequest.byte());
     hasher.add(&id.0);
     hasher.add(&member.to_be_bytes());
     hasher.add(&clue.0);
@@ -46,7 +33,7 @@ pub fn request_digest(
 pub fn member_request_digest(id: &Digest, number: u32, key: &Digest) -> Digest
     ensures { result.0 ≡ member_request_digest_of id.now.0 number key.now.0 }
 {
-    let mut hasher = Sha::start(MEMBER_TAG);
+    let mut hasher = Sha::start(Tag::MemberRequest.byte());
     hasher.add(&id.0);
     hasher.add(&number.to_be_bytes());
     hasher.add(&key.0);
@@ -58,7 +45,7 @@ pub fn member_request_digest(id: &Digest, number: u32, key: &Digest) -> Digest
 pub fn occult_request_digest(id: &Digest, target: u64, leaf: &Digest) -> Digest
     ensures { result.0 ≡ occult_request_digest_of id.now.0 target leaf.now.0 }
 {
-    placed_digest(OCCULT_TAG, id, target, leaf)
+    placed_digest(Tag::OccultRequest, id, target, leaf)
 }
 
 /// The message that members prove to purge the journals below a point: SHA-256 of the byte 05, the ledger's identity (32
@@ -66,13 +53,14 @@ pub fn occult_request_digest(id: &Digest, target: u64, leaf: &Digest) -> Digest
 pub fn purge_request_digest(id: &Digest, point: u64, root: &Digest) -> Digest
     ensures { result.0 ≡ purge_request_digest_of id.now.0 point root.now.0 }
 {
-    placed_digest(PURGE_TAG, id, point, root)
+    placed_digest(Tag::PurgeRequest, id, point, root)
 }
 
-fn placed_digest(tag: u8, id: &Digest, place: u64, digest: &Digest) -> Digest
-    ensures { result.0 ≡ sha256 (tag ∷ (id.now.0 ++ to_be_bytes w64 place ++ digest.now.0)) }
+// The digest of a tag's byte, an identity, a place in that ledger and a digest.
+fn placed_digest(tag: Tag, id: &Digest, place: u64, digest: &Digest) -> Digest
+    ensures { result.0 ≡ sha256 (byte_of tag ∷ (id.now.0 ++ to_be_bytes w64 place ++ digest.now.0)) }
 {
-    let mut hasher = Sha::start(tag);
+    let mut hasher = Sha::start(tag.byte());
     hasher.add(&id.0);
     hasher.add(&place.to_be_bytes());
     hasher.add(&digest.0);
@@ -85,9 +73,14 @@ pub fn clue_digest(name: &[u8]) -> Digest
     ensures { result.0 ≡ clue_digest_of name.now }
 {
     if name.is_empty() {
-        return Digest([0; 32]);
+        return Digest::ZERO;
     }
-    let mut hasher = Sha::start(CLUE_TAG);
-    hasher.add(name);
-    hasher.end()
+    tagged_digest(Tag::ClueName, name)
+}
+
+/// The digest of a ledger's name: SHA-256 of the byte 0B and the name.
+pub fn name_digest(name: &[u8]) -> Digest
+    ensures { result.0 ≡ name_digest_of name.now }
+{
+    tagged_digest(Tag::LedgerName, name)
 }

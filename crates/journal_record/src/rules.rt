@@ -4,28 +4,25 @@ ghost use Rattle.std.specs.Prelude.{◌≡◌};
 ghost use Rattle.journal_record.specs.Rules as rule;
 
 use crate::Kind;
-use ledger_bytes::Digest;
+use ledger_bytes::{CONTENT_LIMIT, Digest, MEMBER_LIMIT};
 
 const VERSION: u8 = 1;
 
 const OPERATOR: u32 = 0;
 
-const MEMBERS: u32 = 256;
-
 /// The first number that a member journal may give.
 const FIRST_MEMBER: u64 = 2;
 
-const NOTARY_ENTRIES: u64 = 16_777_216;
+/// The most entries of a notary's list. A time journal's place in it is below that.
+pub const NOTARY_LIMIT: u64 = 16_777_216;
 
 /// The length of two keys.
 const GENESIS_CONTENT: u32 = 64;
 
-const CONTENT_LIMIT: u32 = 65_536;
-
 pub(crate) fn is_no_clue(clue: &Digest) -> bool
     ensures { result ≡ rule.is_no_clue clue.now }
 {
-    clue.0 == [0; 32]
+    *clue == Digest::ZERO
 }
 
 pub(crate) fn version_ok(version: u8) -> bool
@@ -47,7 +44,7 @@ pub(crate) fn member_ok(kind: Kind, member: u32) -> bool
     ensures { result ≡ rule.member_ok kind member }
 {
     match kind {
-        Kind::Content => member < MEMBERS,
+        Kind::Content => member < MEMBER_LIMIT,
         _ => member == OPERATOR,
     }
 }
@@ -86,8 +83,8 @@ pub(crate) fn a_ok(kind: Kind, jsn: u64, a: u64) -> bool
 {
     match kind {
         Kind::Genesis | Kind::Content => a == 0,
-        Kind::Member => FIRST_MEMBER <= a && a < MEMBERS as u64,
-        Kind::Time => a < NOTARY_ENTRIES,
+        Kind::Member => FIRST_MEMBER <= a && a < MEMBER_LIMIT as u64,
+        Kind::Time => a < NOTARY_LIMIT,
         Kind::Occult => a < jsn,
         Kind::Purge => 0 < a && a < jsn,
     }

@@ -121,6 +121,17 @@ line_smaller mid after old new bytes line r g =
     last_smaller : IsLast after old new bytes line → length new.held ≡ 0 → 0 < length line → 2 * (script_limit - new.total) + length new.held < 2 * (script_limit - old.total) + length old.held
     last_smaller b none some = omega (arith, r.total, r.bounded, none, some, length-append old.held bytes, ap length b.given)
 
+-- a line takes at least one byte of what was held and read
+pub line_counted : (mid after : SourceState) (old new : Reading) (bytes line : List ℕ) → Reads mid after old new bytes → GivesLine after old new bytes line → length new.held + 1 ≤ length old.held + length bytes
+line_counted mid after old new bytes line r g =
+    elim g.rest [
+      | inl b ↦ omega (arith, length-append old.held bytes, length-append line (10 ∷ new.held), ap length b.given)
+      | inr b ↦ last_counted b (ap length b.none_held) (some_length line b.some)
+    ]
+  where
+    last_counted : IsLast after old new bytes line → length new.held ≡ 0 → 0 < length line → length new.held + 1 ≤ length old.held + length bytes
+    last_counted b none some = omega (arith, none, some, length-append old.held bytes, ap length b.given)
+
 -- a call of `next` behind the lines that were given
 module _ (before mid after : SourceState) (old new : Reading) (bytes : List ℕ) (lines : List (List ℕ)) (h : HasGiven before mid old lines) (r : Reads mid after old new bytes) where
   pub given_consumed : Consumes before.left after.left (h.read ++ bytes)

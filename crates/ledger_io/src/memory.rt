@@ -100,7 +100,8 @@ impl MemSink {
     /// `room` is how many bytes it takes in all, and `fail_at` has the numbers of the calls of `write` that fail. The
     /// first call has the number 0.
     pub fn new(alloc: Global, room: usize, fail_at: Vec<u64>) -> Result<Self, NoMemory>
-        ensures { IfOk result (λ sink. sink ≡ record { held = []; room = room; plan = unused_plan fail_at.items; idles = 0 }) }
+        ensures { IfOk result (λ sink.
+            sink ≡ record { held = []; room = room; plan = unused_plan fail_at.items; idles = 0 }) }
     {
         Ok(MemSink {
             bytes: Vec::with_capacity(alloc, room)?,

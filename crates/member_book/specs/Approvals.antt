@@ -1,9 +1,10 @@
 -- What a list of approvals is refused for, given the keys of all members in the order of their numbers.
-use Rattle.std.specs.Prelude.{ℕ, ◌+◌, ◌==◌, Bool, false, not, min, List, length, drop, zip, filter, find, position, nat_lt, nat_le, slice_get, bytes_eq, Option, Some, None, option_map, Result, Ok, Err}
+use Rattle.std.specs.Prelude.{ℕ, ◌+◌, ◌==◌, Bool, not, min, List, drop, zip, filter, find, position, nat_le, slice_get, Option, Some, None, option_map, Result, Ok, Err}
 use Rattle.std.specs.List.{list_any, reduce}
-use Rattle.ledger_bytes.specs.declared.digest.Digest.{Digest}
+use Rattle.std.specs.Option.{option_or}
 use Rattle.ledger_bytes.specs.declared.refusal.Refusal.{Refusal}
 use Rattle.ledger_bytes.specs.declared.refusal.Refusal.TheVariants.{ApprovalOrder, UnknownMember, WrongKey, MissingApproval}
+use Rattle.journal_record.specs.Members.{is_known, is_key_of}
 use Rattle.journal_record.specs.declared.approval.Approval.{Approval}
 
 -- each approval but the last, with the one behind it
@@ -18,20 +19,10 @@ first_unordered given = position (λ pair. nat_le pair.1.member pair.0.member) (
 abbrev pub order_refusal : List Approval → Option Refusal
 order_refusal given = option_map (λ before. ApprovalOrder (before + 1)) (first_unordered given)
 
--- whether there is a member with this number
-abbrev pub is_known : List (List ℕ) → ℕ → Bool
-is_known known member = nat_lt member (length known)
-
 -- the first approval of a member that isn't known
 abbrev pub unknown_refusal : List (List ℕ) → List Approval → Option Refusal
 unknown_refusal known given =
     option_map (λ g. UnknownMember g.member) (find (λ g. not (is_known known g.member)) given)
-
--- whether the proof shows a key, and it is the member's
-abbrev pub is_key_of : Option Digest → Option (List ℕ) → Bool
-is_key_of None kept = false
-is_key_of (Some shown) None = false
-is_key_of (Some shown) (Some kept) = bytes_eq shown.0 kept
 
 -- whether an approval's proof shows the key of its member
 abbrev pub shows_key : List (List ℕ) → Approval → Bool
@@ -55,18 +46,13 @@ abbrev pub missing_refusal : List Approval → List ℕ → Option Refusal
 missing_refusal given needed =
     option_map (λ member. MissingApproval member) (least_missing given needed)
 
--- the first refusal, else the second
-abbrev pub first_of_two : Option Refusal → Option Refusal → Option Refusal
-first_of_two None second = second
-first_of_two (Some refusal) second = Some refusal
-
 -- why a list of approvals is refused, where it is: their order, members, keys, and who is missing, each judged over
 -- the whole list before the next
 abbrev pub approvals_refusal : List (List ℕ) → List Approval → List ℕ → Option Refusal
 approvals_refusal known given needed =
-    first_of_two (order_refusal given)
-    (first_of_two (unknown_refusal known given)
-    (first_of_two (key_refusal known given) (missing_refusal given needed)))
+    option_or (order_refusal given)
+    (option_or (unknown_refusal known given)
+    (option_or (key_refusal known given) (missing_refusal given needed)))
 
 -- the answer of a judge: a refusal is an error
 abbrev pub judgement : Option Refusal → Result Unit Refusal

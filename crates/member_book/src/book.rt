@@ -1,23 +1,13 @@
-ghost use Rattle.std.specs.Prelude.{◌≡◌, ◌≤◌, ◌++◌, [], ◌∷◌, length, option_map, slice_get, Some, IfOk, OnOk, OnErr, IfErr, ◌⊎◌};
-ghost use Rattle.member_book.specs.Members.{keys, founders, count_below, add_refusal};
+ghost use Rattle.std.specs.Prelude.{◌≡◌, ◌<◌, ◌≤◌, ◌++◌, [], ◌∷◌, length, option_map, slice_get, Some, IfOk, OnOk, OnErr, IfErr, IfNone, ◌⊎◌};
+ghost use Rattle.journal_record.specs.Members.{keys, founders, number_refusal};
+ghost use Rattle.member_book.specs.Members.{count_below, refusal_of};
 ghost use Rattle.member_book.specs.declared.book.AddErr.{AddErr};
 
-use ledger_bytes::{Digest, NoMemory};
+use journal_record::Member;
+use ledger_bytes::{Digest, MEMBER_LIMIT, NoMemory, Refusal};
 use std::alloc::Global;
 use std::marker::Model;
 use thiserror::Error;
-
-/// The most members that a ledger has, operator and regulator included.
-const MOST_MEMBERS: usize = 256;
-
-/// A member of a ledger.
-#[derive(Clone, Copy, Debug, PartialEq, Eq)]
-pub struct Member {
-    /// The key that its proofs show.
-    pub key: Digest,
-    /// The number of the journal that admitted it; 0 for the operator and the regulator.
-    pub jsn: u64,
-}
 
 /// Why a member isn't admitted.
 #[derive(Clone, Copy, Debug, PartialEq, Eq, Error)]
@@ -50,13 +40,14 @@ pub struct MemberBook {
 
 impl Model for MemberBook {
     ghost use Rattle.std.specs.Prelude.{◌≤◌, List, vec_len};
-    ghost use Rattle.member_book.specs.declared.book.Member.{Member};
+    ghost use Rattle.ledger_bytes.specs.declared.limits.TheConstants.{MEMBER_LIMIT};
+    ghost use Rattle.journal_record.specs.declared.member.Member.{Member};
 
     ghost Value = { List Member };
 
     ghost view = { λ b. b.members.items };
 
-    ghost invariant = { λ b. (2 ≤ vec_len b.members) × (vec_len b.members ≤ 256) };
+    ghost invariant = { λ b. (2 ≤ vec_len b.members) × (vec_len b.members ≤ MEMBER_LIMIT) };
 }
 
 impl MemberBook {
@@ -89,7 +80,7 @@ impl MemberBook {
     pub fn count(&self) -> u32
         ensures count { result ≡ length self.now }
         ensures least { 2 ≤ result }
-        ensures most { result ≤ 256 }
+        ensures most { result ≤ MEMBER_LIMIT }
     {
         self.members.len() as u32
     }
@@ -103,23 +94,44 @@ impl MemberBook {
         2 + admitted.filter(|member| member.jsn < p).count() as u32
     }
 
-    /// Admits a member. Where there are 256 members the answer is `MembersFull`, else where another number is next
-    /// `MemberNumber`; after an `Err` the members are as before.
-    pub fn add(&mut self, number: u32, key: &Digest, jsn: u64) -> Result<(), AddErr>
-        ensures ok { OnOk result ((add_refusal self.old number ≡ None) × (self.new ≡ self.old ++ record { key = key.now; jsn = jsn } ∷ [])) }
-        ensures err { OnErr result (self.new ≡ self.old) }
-        ensures cause { IfErr result (λ e. (e ≡ AddErr.NoMemory) ⊎ (add_refusal self.old number ≡ Some e)) }
+    /// Why a member with this number isn't admitted, where it isn't: there are as many members as there may be, or
+    /// another number is next.
+    pub fn number_refusal(&self, number: u32) -> Option<Refusal>
+        ensures refusal { result ≡ number_refusal self.now number }
+        ensures room { IfNone result (length self.now < MEMBER_LIMIT) }
+        ensures some { 2 ≤ length self.now }
     {
-        if self.members.len() >= MOST_MEMBERS {
-            return Err(AddErr::MembersFull);
+        let next = self.count();
+        if next >= MEMBER_LIMIT {
+            Some(Refusal::MembersFull)
+        } else if number != next {
+            Some(Refusal::MemberNumber { next })
+        } else {
+            None
         }
-        let next = self.members.len() as u32;
-        if number != next {
-            return Err(AddErr::MemberNumber { next });
-        }
-        self.members
-            .push(Member { key: *key, jsn })
-            .map_err(NoMemory::from)?;
+    }
+
+    /// Admits the next member. After an `Err` the members are as before.
+    pub fn admit(&mut self, key: &Digest, jsn: u64) -> Result<(), NoMemory>
+        requires { length self.old < MEMBER_LIMIT }
+        ensures ok { OnOk result (self.new ≡ self.old ++ record { key = key.now; jsn = jsn } ∷ []) }
+        ensures err { OnErr result (self.new ≡ self.old) }
+    {
+        self.members.push(Member { key: *key, jsn })?;
         Ok(())
+    }
+
+    /// Admits a member with this number, where it is the next one. After an `Err` the members are as before.
+    pub fn add(&mut self, number: u32, key: &Digest, jsn: u64) -> Result<(), AddErr>
+        ensures ok { OnOk result ((number_refusal self.old number ≡ None)
+            × (self.new ≡ self.old ++ record { key = key.now; jsn = jsn } ∷ [])) }
+        ensures err { OnErr result (self.new ≡ self.old) }
+        ensures cause { IfErr result (λ e. (e ≡ AddErr.NoMemory) ⊎ (number_refusal self.old number ≡ refusal_of e)) }
+    {
+        match self.number_refusal(number) {
+            Some(Refusal::MemberNumber { next }) => Err(AddErr::MemberNumber { next }),
+            Some(_) => Err(AddErr::MembersFull),
+            None => Ok(self.admit(key, jsn)?),
+        }
     }
 }

@@ -5,8 +5,8 @@ mod approvals;
 mod book;
 mod verifier;
 
-pub use book::{AddErr, Member, MemberBook};
-pub use journal_record::{Approval, who_bytes};
+pub use book::{AddErr, MemberBook};
+pub use journal_record::{Approval, Member, who_bytes};
 pub use verifier::{TagScheme, Verifier, tag_proof};
 
 #[cfg(test)]

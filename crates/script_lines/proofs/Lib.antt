@@ -4,3 +4,4 @@ pub mod Given
 pub mod Hexes
 pub mod Numbers
 pub mod Sayings
+pub mod Fitting

@@ -13,13 +13,14 @@ use Rattle.std.proofs.lemmas.List.Sums.{AllPass-from_list_all}
 use Rattle.std.proofs.lemmas.Slice.Eq.{bytes_eq-Decides}
 use Rattle.hex.specs.Hex.{IsBytes, encode_lower, lower_digits, is_hex_digit}
 use Rattle.hex.proofs.HexLemmas.{decode_of-encode_lower, decode_of-ok, decode_sized-encode_lower, length-encode_with}
+use Rattle.ledger_bytes.specs.Digests.{digest}
 use Rattle.ledger_bytes.specs.declared.digest.Digest.{Digest}
 use Rattle.ledger_bytes.specs.declared.refusal.Refusal.{Refusal}
 use Rattle.script_lines.specs.Fields.{field_at}
 use Rattle.script_lines.specs.Grammar.{append_at, member_at, clue_at, head_at, spoken, spoken_at}
 use Rattle.script_lines.specs.Parts.{parts}
 use Rattle.script_lines.specs.Sayings.{clue_text, line_words, line_text, IsOneField, IsName, IsClue, IsShort, IsSayable}
-use Rattle.script_lines.specs.Spellings.{text_of, number_of, bytes_of, digest_from, digest_of, clue_of, name_of, is_dash}
+use Rattle.script_lines.specs.Spellings.{text_of, number_of, bytes_of, digest_of, clue_of, name_of, is_dash}
 use Rattle.script_lines.specs.Words.{hex_of, hex_or_dash, spaced}
 use Rattle.script_lines.specs.declared.line.Line.{Line}
 use Rattle.script_lines.specs.declared.line.Line.TheVariants.{Append, NewMember, Clue, Head}
@@ -88,7 +89,7 @@ bytes_of-hex most (byte ∷ bytes) short =
     ∙ ap result_ok (decode_of-encode_lower (byte ∷ bytes) short.1)
 
 digest_of-hex : (key : Digest) → length key.0 ≡ 32 → IsBytes key.0 → digest_of (hex_of key) ≡ Some key
-digest_of-hex key whole are = ap (λ read. option_map digest_from (result_ok read)) (decode_sized-encode_lower key.0 32 whole are)
+digest_of-hex key whole are = ap (λ read. option_map digest (result_ok read)) (decode_sized-encode_lower key.0 32 whole are)
 
 name_of-name : (name : List ℕ) → IsName name → name_of name ≡ Some name
 name_of-name name is =
@@ -126,9 +127,9 @@ member_at-words number key proof is =
     let p = bytes_of-hex 4096 proof is.3 in
     rw (n, k, p) refl
 
-clue_at-words : (name : List ℕ) → IsName name → clue_at (record { column = 3; fields = name ∷ [] }) ≡ Ok (Clue name)
+clue_at-words : (name : List ℕ) → IsClue name → clue_at (record { column = 3; fields = clue_text name ∷ [] }) ≡ Ok (Clue name)
 unfolding clue_at
-clue_at-words name is = rw (name_of-name name is) refl
+clue_at-words name is = rw (clue_of-text name is) refl
 
 head_at-words : head_at (record { column = 3; fields = [] }) ≡ Ok Head
 unfolding head_at
@@ -147,7 +148,7 @@ words-whole (Append member clue content proof) is =
     (literal-whole (codes "append") refl, (decimal-whole member (omega arith), (clue-whole clue is.1, (hex-whole content is.2.1, (hex-whole proof is.3.1, tt)))))
 words-whole (NewMember number key proof) is =
     (literal-whole (codes "member") refl, (decimal-whole number (omega arith), (digits-whole key.0 is.2, (hex-whole proof is.3.1, tt))))
-words-whole (Clue name) is = (literal-whole (codes "clue") refl, (is.whole, tt))
+words-whole (Clue name) is = (literal-whole (codes "clue") refl, (clue-whole name is, tt))
 words-whole Head is = (literal-whole (codes "head") refl, tt)
 
 -- a line by all its fields

@@ -1,10 +1,11 @@
 -- The lines that are read.
 use Rattle.std.specs.Prelude.{ℕ, ◌+◌, ◌-◌, ◌^◌, ◌&&◌, nat_le, nat_lt, if◌then◌else◌, List, [], ◌∷◌, codes, Option, Some, None, Result, Ok, Err}
 use Rattle.std.specs.Str.{bytes_eq}
+use Rattle.ledger_bytes.specs.declared.limits.TheConstants.{CONTENT_LIMIT, PROOF_LIMIT}
 use Rattle.ledger_bytes.specs.declared.refusal.Refusal.{Refusal}
 use Rattle.ledger_bytes.specs.declared.refusal.Refusal.TheVariants.{BadVerb, BadLane}
 use Rattle.script_lines.specs.Fields.{Left, fields_of, field_at, end_at}
-use Rattle.script_lines.specs.Spellings.{text_of, number_of, bytes_of, digest_of, clue_of, name_of}
+use Rattle.script_lines.specs.Spellings.{text_of, number_of, bytes_of, digest_of, clue_of}
 use Rattle.script_lines.specs.declared.line.Line.{Line}
 use Rattle.script_lines.specs.declared.line.Line.TheVariants.{Append, NewMember, Clue, Head}
 
@@ -19,8 +20,8 @@ unfoldable pub append_at : Left → Result Line Refusal
 append_at fields = do
   member ← field_at (number_of (2 ^ 32 - 1)) fields
   clue ← field_at clue_of member.1
-  content ← field_at (bytes_of 65536) clue.1
-  proof ← field_at (bytes_of 4096) content.1
+  content ← field_at (bytes_of CONTENT_LIMIT) clue.1
+  proof ← field_at (bytes_of PROOF_LIMIT) content.1
   end ← end_at proof.1
   Ok (Append member.0 clue.0 content.0 proof.0)
 
@@ -29,14 +30,14 @@ unfoldable pub member_at : Left → Result Line Refusal
 member_at fields = do
   number ← field_at (number_of (2 ^ 32 - 1)) fields
   key ← field_at digest_of number.1
-  proof ← field_at (bytes_of 4096) key.1
+  proof ← field_at (bytes_of PROOF_LIMIT) key.1
   end ← end_at proof.1
   Ok (NewMember number.0 key.0 proof.0)
 
--- `clue NAME`
+-- `clue NAME`, where NAME is a clue's name, or `-` for no clue
 unfoldable pub clue_at : Left → Result Line Refusal
 clue_at fields = do
-  name ← field_at name_of fields
+  name ← field_at clue_of fields
   end ← end_at name.1
   Ok (Clue name.0)
 

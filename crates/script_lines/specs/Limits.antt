@@ -1,5 +1,6 @@
 -- What a line that was read keeps to.
 use Rattle.std.specs.Prelude.{◌&&◌, nat_le, Bool, true, false, length, Result, Ok, Err}
+use Rattle.ledger_bytes.specs.declared.limits.TheConstants.{CONTENT_LIMIT, NAME_LIMIT, PROOF_LIMIT}
 use Rattle.ledger_bytes.specs.declared.refusal.Refusal.{Refusal}
 use Rattle.ledger_bytes.specs.declared.refusal.Refusal.TheVariants.{BadVerb, BadField, BadLane}
 use Rattle.script_lines.specs.declared.line.Line.{Line}
@@ -7,9 +8,10 @@ use Rattle.script_lines.specs.declared.line.Line.TheVariants.{Append, NewMember,
 
 -- nothing in the line is longer than a line may give
 abbrev pub fits_line : Line → Bool
-fits_line (Append member clue content proof) = nat_le (length clue) 64 && nat_le (length content) 65536 && nat_le (length proof) 4096
-fits_line (NewMember number key proof) = nat_le (length proof) 4096
-fits_line (Clue name) = nat_le (length name) 64
+fits_line (Append member clue content proof) =
+    nat_le (length clue) NAME_LIMIT && nat_le (length content) CONTENT_LIMIT && nat_le (length proof) PROOF_LIMIT
+fits_line (NewMember number key proof) = nat_le (length proof) PROOF_LIMIT
+fits_line (Clue name) = nat_le (length name) NAME_LIMIT
 fits_line Head = true
 
 -- the refusal is one of a line's form

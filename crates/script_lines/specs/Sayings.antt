@@ -1,6 +1,7 @@
 -- Lines as they are written.
 use Rattle.std.specs.Prelude.{◌≡◌, ◌≢◌, ℕ, ◌<◌, ◌≤◌, ◌^◌, ◌==◌, false, List, [], ◌∷◌, ◌++◌, length, All, codes, decimal, ⊤}
 use Rattle.hex.specs.Hex.{IsBytes}
+use Rattle.ledger_bytes.specs.declared.limits.TheConstants.{CONTENT_LIMIT, NAME_LIMIT, PROOF_LIMIT}
 use Rattle.script_lines.specs.Words.{hex_of, hex_or_dash, spaced}
 use Rattle.script_lines.specs.declared.line.Line.{Line}
 use Rattle.script_lines.specs.declared.line.Line.TheVariants.{Append, NewMember, Clue, Head}
@@ -15,7 +16,7 @@ abbrev pub line_words : Line → List (List ℕ)
 line_words (Append member clue content proof) =
     codes "append" ∷ decimal member ∷ clue_text clue ∷ hex_or_dash content ∷ hex_or_dash proof ∷ []
 line_words (NewMember number key proof) = codes "member" ∷ decimal number ∷ hex_of key ∷ hex_or_dash proof ∷ []
-line_words (Clue name) = codes "clue" ∷ name ∷ []
+line_words (Clue name) = codes "clue" ∷ clue_text name ∷ []
 line_words Head = codes "head" ∷ []
 
 -- a line's text on lane 0
@@ -26,10 +27,10 @@ line_text line = codes "0" ++ spaced (line_words line)
 abbrev pub IsOneField : List ℕ → Type 0
 IsOneField text = All (λ byte. (byte == 32) ≡ false) text
 
--- a name of 1 to 64 bytes other than space
+-- a name of at least one byte, none of them a space
 pub record IsName (name : List ℕ) : Type 0 where
   pub some : 0 < length name
-  pub short : length name ≤ 64
+  pub short : length name ≤ NAME_LIMIT
   pub whole : IsOneField name
 
 -- a clue has a name other than `-`, or none
@@ -43,7 +44,8 @@ IsShort most bytes = (length bytes ≤ most) × IsBytes bytes
 
 -- what a line can say
 abbrev pub IsSayable : Line → Type 0
-IsSayable (Append member clue content proof) = (member < 2 ^ 32) × IsClue clue × IsShort 65536 content × IsShort 4096 proof
-IsSayable (NewMember number key proof) = (number < 2 ^ 32) × (length key.0 ≡ 32) × IsBytes key.0 × IsShort 4096 proof
-IsSayable (Clue name) = IsName name
+IsSayable (Append member clue content proof) =
+    (member < 2 ^ 32) × IsClue clue × IsShort CONTENT_LIMIT content × IsShort PROOF_LIMIT proof
+IsSayable (NewMember number key proof) = (number < 2 ^ 32) × (length key.0 ≡ 32) × IsBytes key.0 × IsShort PROOF_LIMIT proof
+IsSayable (Clue name) = IsClue name
 IsSayable Head = ⊤

@@ -6,7 +6,9 @@ use Rattle.std.specs.Option.{option_and_then}
 use Rattle.std.specs.Result.{result_ok}
 use Rattle.std.specs.Str.{bytes_eq}
 use Rattle.hex.specs.Hex.{decode_of, decode_sized}
+use Rattle.ledger_bytes.specs.Digests.{digest}
 use Rattle.ledger_bytes.specs.declared.digest.Digest.{Digest}
+use Rattle.ledger_bytes.specs.declared.limits.TheConstants.{APPROVAL_LIMIT, NAME_LIMIT, PROOF_LIMIT}
 use Rattle.script_lines.specs.Parts.{parts, all_of}
 use Rattle.script_lines.specs.declared.said.SaidApproval.{SaidApproval}
 use Rattle.script_lines.specs.declared.said.Which.{Which}
@@ -50,17 +52,13 @@ bytes_of most text =
     else if nat_le 2 (length text) && nat_le (length text) (2 * most) then result_ok (decode_of text)
     else None
 
--- a digest of these bytes
-abbrev pub digest_from : List ℕ → Digest
-digest_from bytes = record { 0 = bytes }
-
 -- a digest as 64 hexadecimal digits of either case
 abbrev pub digest_of : List ℕ → Option Digest
-digest_of text = option_map digest_from (result_ok (decode_sized text 32))
+digest_of text = option_map digest (result_ok (decode_sized text 32))
 
--- a name of 1 to 64 bytes
+-- a name: at least one byte, and no more than a name may have
 abbrev pub name_of : List ℕ → Option (List ℕ)
-name_of text = if nat_lt 0 (length text) && nat_le (length text) 64 then Some text else None
+name_of text = if nat_lt 0 (length text) && nat_le (length text) NAME_LIMIT then Some text else None
 
 -- no clue as `-`, or the clue's name; no clue is the empty name
 abbrev pub clue_of : List ℕ → Option (List ℕ)
@@ -79,7 +77,7 @@ approval_from [] = None
 approval_from (member ∷ []) = None
 approval_from (member_text ∷ proof_text ∷ []) = do
   member ← number_of (2 ^ 32 - 1) member_text
-  proof ← bytes_of 4096 proof_text
+  proof ← bytes_of PROOF_LIMIT proof_text
   Some (record { member = member; proof = proof })
 approval_from (member ∷ proof ∷ more ∷ texts) = None
 
@@ -87,11 +85,11 @@ approval_from (member ∷ proof ∷ more ∷ texts) = None
 abbrev pub approval_of : List ℕ → Option SaidApproval
 approval_of text = approval_from (parts 58 text)
 
--- at most 256 approvals by their texts
+-- approvals by their texts, no more than a line may give
 abbrev pub approvals_from : List (List ℕ) → Option (List SaidApproval)
-approvals_from texts = if nat_le (length texts) 256 then all_of approval_of texts else None
+approvals_from texts = if nat_le (length texts) APPROVAL_LIMIT then all_of approval_of texts else None
 
--- no approvals as `-`, or 1 to 256 of them with commas between
+-- no approvals as `-`, or some with commas between
 abbrev pub approvals_of : List ℕ → Option (List SaidApproval)
 approvals_of text = if is_dash text then Some [] else approvals_from (parts 44 text)
 

@@ -1,12 +1,12 @@
 ghost use Rattle.std.specs.Prelude.{◌≡◌, ◌≤◌, length, All, Ok, Err, IfErr, IfOk, MatchResult};
+ghost use Rattle.ledger_bytes.specs.declared.limits.TheConstants.{APPROVAL_LIMIT, NAME_LIMIT, PROOF_LIMIT};
 ghost use Rattle.script_lines.specs.Fields.{fields_of, behind, field_at, end_at, taken};
 ghost use Rattle.script_lines.specs.Reading.{IsStopAt, Takes};
-ghost use Rattle.script_lines.specs.Spellings.{text_of, word_of, number_of, bytes_of, digest_of, clue_of, name_of, which_of, approvals_of, mark_of};
+ghost use Rattle.script_lines.specs.Spellings.{text_of, word_of, number_of, bytes_of, digest_of, clue_of, which_of, approvals_of, mark_of};
 
 use crate::said::{SaidApproval, Which};
 use crate::spellings::{
-    read_approvals, read_bytes, read_clue, read_digest, read_mark, read_name, read_number,
-    read_which,
+    read_approvals, read_bytes, read_clue, read_digest, read_mark, read_number, read_which,
 };
 use crate::splits::cut;
 use crate::stop::Stop;
@@ -55,7 +55,8 @@ impl<'a> Fields<'a> {
 
     /// The field, whatever stands in it.
     pub fn text(&mut self) -> Result<&'a [u8], Refusal>
-        ensures takes { MatchResult result (λ text. field_at text_of self.old ≡ Ok (text.now, self.new)) (λ refusal. field_at text_of self.old ≡ Err refusal) }
+        ensures takes { MatchResult result (λ text. field_at text_of self.old ≡ Ok (text.now, self.new))
+            (λ refusal. field_at text_of self.old ≡ Err refusal) }
         ensures goes_on { self.new ≡ behind self.old }
         ensures refused { IfErr result (λ refusal. refusal ≡ Refusal.BadField self.old.column) }
     {
@@ -123,24 +124,10 @@ impl<'a> Fields<'a> {
         ensures takes { Takes self.new result (field_at clue_of self.old) }
         ensures goes_on { self.new ≡ behind self.old }
         ensures refused { IfErr result (IsStopAt self.old.column) }
-        ensures long { IfOk result (λ name. length name ≤ 64) }
+        ensures long { IfOk result (λ name. length name ≤ NAME_LIMIT) }
     {
         let column = self.column();
         match read_clue(self.text()?) {
-            Some(name) => Ok(Bytes::copy_of(alloc, name)?),
-            None => Err(Stop::Refused(bad_field(column))),
-        }
-    }
-
-    /// A name of 1 to 64 bytes.
-    pub fn name(&mut self, alloc: Global) -> Result<Bytes, Stop>
-        ensures takes { Takes self.new result (field_at name_of self.old) }
-        ensures goes_on { self.new ≡ behind self.old }
-        ensures refused { IfErr result (IsStopAt self.old.column) }
-        ensures long { IfOk result (λ name. length name ≤ 64) }
-    {
-        let column = self.column();
-        match read_name(self.text()?) {
             Some(name) => Ok(Bytes::copy_of(alloc, name)?),
             None => Err(Stop::Refused(bad_field(column))),
         }
@@ -162,8 +149,8 @@ impl<'a> Fields<'a> {
         ensures takes { Takes self.new result (field_at approvals_of self.old) }
         ensures goes_on { self.new ≡ behind self.old }
         ensures refused { IfErr result (IsStopAt self.old.column) }
-        ensures few { IfOk result (λ given. length given ≤ 256) }
-        ensures long { IfOk result (All (λ approval. length approval.proof ≤ 4096)) }
+        ensures few { IfOk result (λ given. length given ≤ APPROVAL_LIMIT) }
+        ensures long { IfOk result (All (λ approval. length approval.proof ≤ PROOF_LIMIT)) }
     {
         let column = self.column();
         let text = self.text()?;

@@ -25,7 +25,7 @@ pub enum Line {
     },
     /// A clue's journals are asked for: `clue NAME`.
     Clue {
-        /// The clue's name, 1 to 64 bytes. `-` names no clue.
+        /// The clue's name, up to 64 bytes. No clue is the empty name.
         name: Bytes,
     },
     /// The ledger's head is asked for: `head`.

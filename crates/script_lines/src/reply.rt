@@ -198,7 +198,8 @@ fn put_placed(
     root: &Digest,
     stamp: Option<(u64, u64)>,
 ) -> Result<(), NoMemory>
-    ensures ok { OnOk result (out.new.items ≡ out.old.items ++ spaced (spec.reply_words (Reply.Placed jsn leaf.now block size root.now stamp))) }
+    ensures ok { OnOk result (out.new.items
+        ≡ out.old.items ++ spaced (spec.reply_words (Reply.Placed jsn leaf.now block size root.now stamp))) }
     ensures err { OnErr result (Begins out.old.items out.new.items) }
 {
     put_words(
@@ -231,7 +232,8 @@ fn put_whole<'a>(
     content: &'a Bytes,
     who: &'a Bytes,
 ) -> Result<(), NoMemory>
-    ensures ok { OnOk result (out.new.items ≡ out.old.items ++ spaced (spec.reply_words (Reply.Whole header.now content.now who.now))) }
+    ensures ok { OnOk result (out.new.items
+        ≡ out.old.items ++ spaced (spec.reply_words (Reply.Whole header.now content.now who.now))) }
     ensures err { OnErr result (Begins out.old.items out.new.items) }
 {
     put_words(
@@ -250,7 +252,8 @@ fn put_occulted<'a>(
     header: &'a [u8; 174],
     who: &'a Bytes,
 ) -> Result<(), NoMemory>
-    ensures ok { OnOk result (out.new.items ≡ out.old.items ++ spaced (spec.reply_words (Reply.Occulted header.now who.now))) }
+    ensures ok { OnOk result (out.new.items
+        ≡ out.old.items ++ spaced (spec.reply_words (Reply.Occulted header.now who.now))) }
     ensures err { OnErr result (Begins out.old.items out.new.items) }
 {
     put_words(
@@ -271,7 +274,8 @@ fn put_proof(
     hi: Option<(u64, u64, u64)>,
     proof: &Bytes,
 ) -> Result<(), NoMemory>
-    ensures ok { OnOk result (out.new.items ≡ out.old.items ++ spaced (spec.reply_words (Reply.Proof n leaf.now lo hi proof.now))) }
+    ensures ok { OnOk result (out.new.items
+        ≡ out.old.items ++ spaced (spec.reply_words (Reply.Proof n leaf.now lo hi proof.now))) }
     ensures err { OnErr result (Begins out.old.items out.new.items) }
 {
     put_words(
@@ -295,7 +299,8 @@ fn put_extension(
     root: &Digest,
     proof: &Bytes,
 ) -> Result<(), NoMemory>
-    ensures ok { OnOk result (out.new.items ≡ out.old.items ++ spaced (spec.reply_words (Reply.Extension which m size root.now proof.now))) }
+    ensures ok { OnOk result (out.new.items
+        ≡ out.old.items ++ spaced (spec.reply_words (Reply.Extension which m size root.now proof.now))) }
     ensures err { OnErr result (Begins out.old.items out.new.items) }
 {
     put_words(
@@ -389,7 +394,8 @@ fn put_code(out: &mut Vec<u8>, code: u64) -> Result<(), NoMemory>
 }
 
 fn put_numbered(out: &mut Vec<u8>, code: u64, number: u64) -> Result<(), NoMemory>
-    ensures ok { OnOk result (out.new.items ≡ out.old.items ++ spaced (codes "no" ∷ decimal code ∷ decimal number ∷ [])) }
+    ensures ok { OnOk result (out.new.items
+        ≡ out.old.items ++ spaced (codes "no" ∷ decimal code ∷ decimal number ∷ [])) }
     ensures err { OnErr result (Begins out.old.items out.new.items) }
 {
     put_words(
@@ -399,7 +405,8 @@ fn put_numbered(out: &mut Vec<u8>, code: u64, number: u64) -> Result<(), NoMemor
 }
 
 fn put_hashed(out: &mut Vec<u8>, code: u64, digest: &Digest) -> Result<(), NoMemory>
-    ensures ok { OnOk result (out.new.items ≡ out.old.items ++ spaced (codes "no" ∷ decimal code ∷ hex_of digest.now ∷ [])) }
+    ensures ok { OnOk result (out.new.items
+        ≡ out.old.items ++ spaced (codes "no" ∷ decimal code ∷ hex_of digest.now ∷ [])) }
     ensures err { OnErr result (Begins out.old.items out.new.items) }
 {
     put_words(

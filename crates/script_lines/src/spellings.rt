@@ -6,14 +6,8 @@ ghost use Rattle.script_lines.specs.Spellings.{is_decimal, number_of, bytes_of, 
 use crate::said::{SaidApproval, Which};
 use crate::splits::{cut, split_once};
 use hex::{FromHex, FromHexError};
-use ledger_bytes::{Bytes, Digest, Items, NoMemory};
+use ledger_bytes::{APPROVAL_LIMIT, Bytes, Digest, Items, NAME_LIMIT, NoMemory, PROOF_LIMIT};
 use std::alloc::Global;
-
-/// The longest proof in bytes.
-pub(crate) const PROOF_MAX: usize = 4_096;
-
-/// The most approvals that a line gives.
-const APPROVALS_MAX: usize = 256;
 
 /// A decimal number without a leading zero, at most `most`; None where the text is no such number.
 pub fn read_number(text: &[u8], most: u64) -> Option<u64>
@@ -93,7 +87,7 @@ pub fn read_digest(text: &[u8]) -> Option<Digest>
 /// A clue's name of 1 to 64 bytes, or no clue as `-`, which is the empty name; None where the text is neither.
 pub fn read_clue(text: &[u8]) -> Option<&[u8]>
     ensures clue { option_map (λ name. name.now) result ≡ clue_of text.now }
-    ensures long { IfSome result (λ name. length name.now ≤ 64) }
+    ensures long { IfSome result (λ name. length name.now ≤ NAME_LIMIT) }
 {
     if text == b"-".as_slice() {
         Some(b"")
@@ -105,9 +99,9 @@ pub fn read_clue(text: &[u8]) -> Option<&[u8]>
 /// A name of 1 to 64 bytes; None where the text has another length.
 pub fn read_name(text: &[u8]) -> Option<&[u8]>
     ensures name { option_map (λ name. name.now) result ≡ name_of text.now }
-    ensures long { IfSome result (λ name. length name.now ≤ 64) }
+    ensures long { IfSome result (λ name. length name.now ≤ NAME_LIMIT) }
 {
-    if (1..=64).contains(&text.len()) {
+    if (1..=NAME_LIMIT).contains(&text.len()) {
         Some(text)
     } else {
         None
@@ -128,7 +122,7 @@ pub(crate) fn read_which(text: &[u8]) -> Option<Which>
 
 fn read_approval(alloc: Global, text: &[u8]) -> Result<Option<SaidApproval>, NoMemory>
     ensures approval { IfOk result (λ read. read ≡ approval_of text.now) }
-    ensures long { IfOk result (λ read. IfSome read (λ approval. length approval.proof ≤ 4096)) }
+    ensures long { IfOk result (λ read. IfSome read (λ approval. length approval.proof ≤ PROOF_LIMIT)) }
 {
     let Some((member, proof)) = split_once(text, b':') else {
         return Ok(None);
@@ -139,7 +133,7 @@ fn read_approval(alloc: Global, text: &[u8]) -> Result<Option<SaidApproval>, NoM
     let Some(member) = read_number(member, u64::from(u32::MAX)) else {
         return Ok(None);
     };
-    let Some(proof) = read_bytes(alloc, proof, PROOF_MAX)? else {
+    let Some(proof) = read_bytes(alloc, proof, PROOF_LIMIT)? else {
         return Ok(None);
     };
     Ok(Some(SaidApproval {
@@ -153,8 +147,8 @@ pub(crate) fn read_approvals(
     text: &[u8],
 ) -> Result<Option<Items<SaidApproval>>, NoMemory>
     ensures approvals { IfOk result (λ read. read ≡ approvals_of text.now) }
-    ensures few { IfOk result (λ read. IfSome read (λ given. length given ≤ 256)) }
-    ensures long { IfOk result (λ read. IfSome read (All (λ approval. length approval.proof ≤ 4096))) }
+    ensures few { IfOk result (λ read. IfSome read (λ given. length given ≤ APPROVAL_LIMIT)) }
+    ensures long { IfOk result (λ read. IfSome read (All (λ approval. length approval.proof ≤ PROOF_LIMIT))) }
 {
     let mut given = Vec::new(alloc);
     if text == b"-".as_slice() {
@@ -162,7 +156,7 @@ pub(crate) fn read_approvals(
     }
     let mut left = Some(text);
     while let Some(text) = left {
-        if given.len() == APPROVALS_MAX {
+        if given.len() == APPROVAL_LIMIT {
             return Ok(None);
         }
         let (item, rest) = cut(text, b',');

@@ -15,7 +15,8 @@ pub(crate) fn cut(text: &[u8], separator: u8) -> (&[u8], Option<&[u8]>)
 
 /// The text up to the first separator and the text behind that, or None where there is no separator.
 pub(crate) fn split_once(text: &[u8], separator: u8) -> Option<(&[u8], &[u8])>
-    ensures { MatchOption result (parts separator text.now ≡ text.now ∷ []) (λ two. parts separator text.now ≡ two.0.now ∷ parts separator two.1.now) }
+    ensures { MatchOption result (parts separator text.now ≡ text.now ∷ [])
+        (λ two. parts separator text.now ≡ two.0.now ∷ parts separator two.1.now) }
 {
     match find(text, separator) {
         Some(at) => Some((&text[..at], &text[at + 1..])),

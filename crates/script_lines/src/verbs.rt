@@ -6,14 +6,10 @@ ghost use Rattle.script_lines.specs.Spellings.{text_of};
 
 use crate::fields::Fields;
 use crate::line::Line;
-use crate::spellings::PROOF_MAX;
 use crate::spoken::Spoken;
 use crate::stop::Stop;
-use ledger_bytes::{NoMemory, Refusal};
+use ledger_bytes::{CONTENT_LIMIT, NoMemory, PROOF_LIMIT, Refusal};
 use std::alloc::Global;
-
-/// The longest content in bytes.
-const CONTENT_MAX: usize = 65_536;
 
 /// How many lanes are served, from 0 on.
 const LANES: u8 = 1;
@@ -82,8 +78,8 @@ fn read_append(alloc: Global, mut fields: Fields) -> Result<Line, Stop>
 {
     let member = fields.number(u64::from(u32::MAX))?;
     let clue = fields.clue(alloc)?;
-    let content = fields.bytes(alloc, CONTENT_MAX)?;
-    let proof = fields.bytes(alloc, PROOF_MAX)?;
+    let content = fields.bytes(alloc, CONTENT_LIMIT as usize)?;
+    let proof = fields.bytes(alloc, PROOF_LIMIT)?;
     fields.end()?;
     Ok(Line::Append {
         member: member as u32,
@@ -100,7 +96,7 @@ fn read_member(alloc: Global, mut fields: Fields) -> Result<Line, Stop>
 {
     let number = fields.number(u64::from(u32::MAX))?;
     let key = fields.digest()?;
-    let proof = fields.bytes(alloc, PROOF_MAX)?;
+    let proof = fields.bytes(alloc, PROOF_LIMIT)?;
     fields.end()?;
     Ok(Line::NewMember {
         number: number as u32,
@@ -114,7 +110,7 @@ fn read_clue(alloc: Global, mut fields: Fields) -> Result<Line, Stop>
     ensures reads { Reads result (clue_at fields.entry) }
     ensures fits { fits_read result ≡ true }
 {
-    let name = fields.name(alloc)?;
+    let name = fields.clue(alloc)?;
     fields.end()?;
     Ok(Line::Clue { name })
 }

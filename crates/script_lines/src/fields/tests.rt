@@ -60,7 +60,7 @@ fn reads_a_line_of_fields(rt: HostRuntime) -> Result<(), Fail> {
         return Err("no clue".into());
     };
     assert!(rt; clue.as_slice().is_empty());
-    let Ok(name) = fields.name(rt.alloc()) else {
+    let Ok(name) = fields.clue(rt.alloc()) else {
         return Err("no name".into());
     };
     assert_eq!(rt; name.as_slice(), b"c-".as_slice());

@@ -130,7 +130,7 @@ fn tells_columns(rt: HostRuntime) -> Result<(), Fail> {
         ("0 member 2 ab -", at(4)),
         ("0 clue", at(3)),
         ("0 clue ", at(3)),
-        ("0 clue -", Form::Clue(1)),
+        ("0 clue -", Form::Clue(0)),
         ("0 clue inv\r", Form::Clue(4)),
         ("0 clue inv ", at(4)),
         ("0 clue a b", at(4)),

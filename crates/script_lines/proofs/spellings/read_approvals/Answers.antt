@@ -5,8 +5,8 @@ use Rattle.script_lines.proofs.Cuts.{parts-some}
 use Rattle.script_lines.proofs.Given.{AreRead-more, approvals_from-many}
 use Rattle.script_lines.proofs.spellings.read_approvals.Goals as goal
 
-pub returns-then-len-eq-APPROVALS_MAX-clause-approvals : goal.returns-then-len-eq-APPROVALS_MAX-clause-approvals
-returns-then-len-eq-APPROVALS_MAX-clause-approvals c =
+pub returns-then-len-eq-APPROVAL_LIMIT-clause-approvals : goal.returns-then-len-eq-APPROVAL_LIMIT-clause-approvals
+returns-then-len-eq-APPROVAL_LIMIT-clause-approvals c =
     let so_far = rw c.in-Some.is at c.loop-left.invariant in
     let none : approvals_from (parts 44 c.args.text.now) ≡ None =
     approvals_from-many c.args.text.now c.loop-left.given.items (parts 44 c.in-Some.text.now) so_far (omega arith) (parts-some 44 c.in-Some.text.now) in

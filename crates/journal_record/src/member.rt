@@ -1,0 +1,10 @@
+use ledger_bytes::Digest;
+
+/// A member of a ledger.
+#[derive(Clone, Copy, Debug, PartialEq, Eq)]
+pub struct Member {
+    /// The key that its proofs show.
+    pub key: Digest,
+    /// The number of the journal that admitted it; 0 for the operator and the regulator.
+    pub jsn: u64,
+}

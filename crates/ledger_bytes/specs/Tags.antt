@@ -1,0 +1,21 @@
+-- The byte in front of what is hashed, by its kind.
+use Rattle.std.specs.Prelude.{ℕ}
+use Rattle.ledger_bytes.specs.declared.tag.Tag.{Tag}
+use Rattle.ledger_bytes.specs.declared.tag.Tag.TheVariants.{Leaf, Node, Content, AppendRequest, OccultRequest, PurgeRequest, Peg, Base, MemberRequest, Salt, Who, LedgerName, ClueName, Proof}
+
+-- a leaf and an inner node of a tree have the bytes of RFC 6962
+abbrev pub byte_of : Tag → ℕ
+byte_of Leaf = 0
+byte_of Node = 1
+byte_of Content = 2
+byte_of AppendRequest = 3
+byte_of OccultRequest = 4
+byte_of PurgeRequest = 5
+byte_of Peg = 6
+byte_of Base = 7
+byte_of MemberRequest = 8
+byte_of Salt = 9
+byte_of Who = 10
+byte_of LedgerName = 11
+byte_of ClueName = 12
+byte_of Proof = 64

@@ -1,0 +1,139 @@
+-- What is read of a line keeps to a line's limits.
+use Rattle.std.proofs.Common.{◌≡◌, ℕ, ◌*◌, ◌-◌, ◌^◌, ◌≤◌, ◌&&◌, nat_le, nat_lt, if◌then◌else◌, Bool, true, false, cond, List, [], ◌∷◌, length, codes, Option, Some, None, Result, Ok, Err, refl, sym, ap, ◌∙◌, arith}
+use Rattle.std.specs.Result.{result_ok}
+use Rattle.std.specs.Str.{bytes_eq}
+use Rattle.std.proofs.lemmas.Bool.{and_from, and_parts, le-leb, leb-true}
+use Rattle.hex.specs.Hex.{decode_of}
+use Rattle.hex.specs.declared.error.FromHexError.{FromHexError}
+use Rattle.hex.proofs.HexLemmas.{decode_of-ok}
+use Rattle.ledger_bytes.specs.declared.limits.TheConstants.{CONTENT_LIMIT, NAME_LIMIT, PROOF_LIMIT}
+use Rattle.ledger_bytes.specs.declared.refusal.Refusal.{Refusal}
+use Rattle.ledger_bytes.specs.declared.refusal.Refusal.TheVariants.{BadVerb, BadLane}
+use Rattle.script_lines.specs.Fields.{Left, fields_of, read_or_bad, field_from, field_at, end_from, end_at}
+use Rattle.script_lines.specs.Grammar.{◌>>=◌, append_at, member_at, clue_at, head_at, verb_at, asked_by, lane_of, spoken_by, spoken_at, spoken}
+use Rattle.script_lines.specs.Limits.{fits_line, is_of_form, fits_what}
+use Rattle.script_lines.specs.Spellings.{text_of, number_of, bytes_of, digest_of, clue_of, name_of, is_dash}
+use Rattle.script_lines.specs.declared.line.Line.{Line}
+use Rattle.script_lines.specs.declared.line.Line.TheVariants.{Append, NewMember, Clue, Head}
+
+-- what a field reads as keeps to a rule, or the refusal is one of a line's form
+abbrev Gives : {A : Type 0} → (A → Type 0) → Result (A × Left) Refusal → Type 0
+Gives P (Ok read) = P read.0
+Gives P (Err refusal) = is_of_form refusal ≡ true
+
+gives_or : {A : Type 0} (P : A → Type 0) (column : ℕ) (read : Option A) (rest : Left) → ((x : A) → read ≡ Some x → P x) → Gives P (read_or_bad column read rest)
+gives_or P column None rest keeps = refl
+gives_or P column (Some x) rest keeps = keeps x refl
+
+field_gives : {A : Type 0} (P : A → Type 0) (read : List ℕ → Option A) (left : Left) → ((text : List ℕ) (x : A) → read text ≡ Some x → P x) → Gives P (field_at read left)
+field_gives P read left keeps = by left.fields where
+  by : (fields : List (List ℕ)) → Gives P (field_from read left.column fields)
+  by [] = refl
+  by (field ∷ fields) = gives_or P left.column (read field) _ (keeps field)
+
+-- the rest of a line behind a field
+then_fits : {A : Type 0} (P : A → Type 0) (first : Result (A × Left) Refusal) (second : A × Left → Result Line Refusal)
+    → Gives P first → ((x : A × Left) → P x.0 → fits_what (second x) ≡ true) → fits_what (first >>= second) ≡ true
+then_fits P (Ok x) second first_fits fits = fits x first_fits
+then_fits P (Err refusal) second first_fits fits = first_fits
+
+-- .. and its end
+end_fits : (left : Left) (line : Line) → fits_line line ≡ true → fits_what (end_at left >>= (λ end. Ok line)) ≡ true
+end_fits left line fits = by left.fields where
+  by : (fields : List (List ℕ)) → fits_what (end_from left.column fields >>= (λ end. Ok line)) ≡ true
+  by [] = fits
+  by (field ∷ fields) = refl
+
+abbrev Any : {A : Type 0} → A → Type 0
+Any x = Unit {0}
+
+-- what is there is what was found
+found : (read : Result (List ℕ) FromHexError) (bytes : List ℕ) → result_ok read ≡ Some bytes → read ≡ Ok bytes
+found (Ok x) bytes is = let same : x ≡ bytes = cc in ap Ok same
+found (Err e) bytes is = absurd cc
+
+bytes_short : (most : ℕ) (text bytes : List ℕ) → bytes_of most text ≡ Some bytes → length bytes ≤ most
+bytes_short most text bytes is =
+    elim (is_dash text) as (λ dash. cond dash (Some []) (cond (nat_le 2 (length text) && nat_le (length text) (2 * most)) (result_ok (decode_of text)) None) ≡ Some bytes → length bytes ≤ most) [
+      | true ↦ λ none. let same : [] ≡ bytes = cc in omega (arith, ap length same)
+      | false ↦ λ some.
+          elim (nat_le 2 (length text) && nat_le (length text) (2 * most)) as (λ fits. (nat_le 2 (length text) && nat_le (length text) (2 * most)) ≡ fits → cond fits (result_ok (decode_of text)) None ≡ Some bytes → length bytes ≤ most) [
+            | true ↦ λ fits read.
+                let decoded = decode_of-ok text bytes (found (decode_of text) bytes read) in
+                omega (arith, decoded.2, leb-true (length text) (2 * most) (and_parts (nat_le 2 (length text)) (nat_le (length text) (2 * most)) fits).1)
+            | false ↦ λ fits read. absurd cc
+          ] refl some
+    ] is
+
+name_short : (text name : List ℕ) → name_of text ≡ Some name → length name ≤ NAME_LIMIT
+name_short text name is =
+    elim (nat_lt 0 (length text) && nat_le (length text) NAME_LIMIT) as (λ fits. (nat_lt 0 (length text) && nat_le (length text) NAME_LIMIT) ≡ fits → cond fits (Some text) None ≡ Some name → length name ≤ NAME_LIMIT) [
+      | true ↦ λ fits read.
+          let same : text ≡ name = cc in
+          omega (arith, ap length same, leb-true (length text) NAME_LIMIT (and_parts (nat_lt 0 (length text)) (nat_le (length text) NAME_LIMIT) fits).1)
+      | false ↦ λ fits read. absurd cc
+    ] refl is
+
+clue_short : (text clue : List ℕ) → clue_of text ≡ Some clue → length clue ≤ NAME_LIMIT
+clue_short text clue is =
+    elim (is_dash text) as (λ dash. cond dash (Some []) (name_of text) ≡ Some clue → length clue ≤ NAME_LIMIT) [
+      | true ↦ λ none. let same : [] ≡ clue = cc in omega (arith, ap length same)
+      | false ↦ λ some. name_short text clue some
+    ] is
+
+append_fits : (fields : Left) → fits_what (append_at fields) ≡ true
+unfolding append_at
+append_fits fields =
+    then_fits Any _ _ (field_gives Any (number_of (2 ^ 32 - 1)) fields (λ text x is. tt)) (λ member m.
+    then_fits (λ clue. length clue ≤ NAME_LIMIT) _ _ (field_gives (λ clue. length clue ≤ NAME_LIMIT) clue_of member.1 clue_short) (λ clue c.
+    then_fits (λ content. length content ≤ CONTENT_LIMIT) _ _ (field_gives (λ content. length content ≤ CONTENT_LIMIT) (bytes_of CONTENT_LIMIT) clue.1 (bytes_short CONTENT_LIMIT)) (λ content d.
+    then_fits (λ proof. length proof ≤ PROOF_LIMIT) _ _ (field_gives (λ proof. length proof ≤ PROOF_LIMIT) (bytes_of PROOF_LIMIT) content.1 (bytes_short PROOF_LIMIT)) (λ proof p.
+    end_fits proof.1 (Append member.0 clue.0 content.0 proof.0)
+    (and_from _ _ (and_from _ _ (le-leb (length clue.0) NAME_LIMIT c) (le-leb (length content.0) CONTENT_LIMIT d)) (le-leb (length proof.0) PROOF_LIMIT p))))))
+
+member_fits : (fields : Left) → fits_what (member_at fields) ≡ true
+unfolding member_at
+member_fits fields =
+    then_fits Any _ _ (field_gives Any (number_of (2 ^ 32 - 1)) fields (λ text x is. tt)) (λ number n.
+    then_fits Any _ _ (field_gives Any digest_of number.1 (λ text x is. tt)) (λ key k.
+    then_fits (λ proof. length proof ≤ PROOF_LIMIT) _ _ (field_gives (λ proof. length proof ≤ PROOF_LIMIT) (bytes_of PROOF_LIMIT) key.1 (bytes_short PROOF_LIMIT)) (λ proof p.
+    end_fits proof.1 (NewMember number.0 key.0 proof.0) (le-leb (length proof.0) PROOF_LIMIT p))))
+
+clue_fits : (fields : Left) → fits_what (clue_at fields) ≡ true
+unfolding clue_at
+clue_fits fields =
+    then_fits (λ clue. length clue ≤ NAME_LIMIT) _ _ (field_gives (λ clue. length clue ≤ NAME_LIMIT) clue_of fields clue_short) (λ name c.
+    end_fits name.1 (Clue name.0) (le-leb (length name.0) NAME_LIMIT c))
+
+head_fits : (fields : Left) → fits_what (head_at fields) ≡ true
+unfolding head_at
+head_fits fields = end_fits fields Head refl
+
+-- one of two that fit
+either_fits : (b : Bool) (x y : Result Line Refusal) → fits_what x ≡ true → fits_what y ≡ true → fits_what (if b then x else y) ≡ true
+either_fits true x y first second = first
+either_fits false x y first second = second
+
+verb_fits : (verb : List ℕ) (fields : Left) → fits_what (verb_at verb fields) ≡ true
+verb_fits verb fields =
+    either_fits (bytes_eq verb (codes "append")) _ _ (append_fits fields)
+    (either_fits (bytes_eq verb (codes "member")) _ _ (member_fits fields)
+    (either_fits (bytes_eq verb (codes "clue")) _ _ (clue_fits fields)
+    (either_fits (bytes_eq verb (codes "head")) _ _ (head_fits fields) refl)))
+
+asked_fits : (verb : Result (List ℕ × Left) Refusal) → fits_what (asked_by verb) ≡ true
+asked_fits (Ok verb) = verb_fits verb.0 verb.1
+asked_fits (Err refusal) = refl
+
+by_lane : (lane : Option ℕ) (fields : Left) → fits_what (spoken_by lane fields).1 ≡ true
+by_lane None fields = refl
+by_lane (Some lane) fields = asked_fits (field_at text_of fields)
+
+by_first : (first : Result (List ℕ × Left) Refusal) → fits_what (spoken_at first).1 ≡ true
+by_first (Ok first) = by_lane (lane_of first.0) first.1
+by_first (Err refusal) = refl
+
+-- what a line asks for keeps to the limits, or its refusal is one of a line's form
+pub spoken_fits : (line : List ℕ) → fits_what (spoken line).1 ≡ true
+unfolding spoken
+spoken_fits line = by_first (field_at text_of (fields_of line))
