@@ -1,36 +1,24 @@
 -- Folding along the digests of a flat path, of which the last stands apart.
-use Rattle.std.proofs.Common.{◌≡◌, ◌≢◌, ◌⊎◌, ◌↔◌, inl, inr, ℕ, ◌+◌, ◌-◌, ◌*◌, ◌%◌, ◌<◌, ◌≤◌, true, false, eqb, List, [], ◌∷◌, ◌++◌, length, take, drop, Option, Some, None, refl, sym, ap, ap₂, ◌∙◌, arith, length-take-le, length-drop, take-append-drop}
+use Rattle.std.proofs.Common.{◌≡◌, ◌≢◌, ◌⊎◌, ◌↔◌, inl, inr, ℕ, ◌+◌, ◌-◌, ◌*◌, ◌%◌, ◌<◌, ◌≤◌, true, false, eqb, List, [], ◌∷◌, ◌++◌, length, take, drop, Option, Some, None, refl, sym, ap, ap₂, ◌∙◌, arith, length-take-le}
 use Rattle.std.proofs.lemmas.Bool.{eqb-true, eqb-false, cases_eq, cases_lt, false≢true, false_from_ne_true}
-use Rattle.std.proofs.lemmas.List.{nil_from_length}
 use Rattle.std.specs.Prelude.{option_map, is_some, IsNone}
 use Rattle.tree_model.specs.Tree.{Hash, node, IsSplit, cut}
 use Rattle.tree_model.specs.Path.{fold, fold_bytes, path_length}
-use Rattle.tree_model.proofs.Pieces.{cut-nil, cut_more}
-use Rattle.tree_model.proofs.Folds.{fold_outside, fold_one, fold_long, fold_short, fold_left, fold_right, fold_bytes_whole, fold_bytes_rest, fold_bytes_there, fold_bytes_parts}
+use Rattle.tree_model.proofs.Folds.{is_some-map, fold_outside, fold_one, fold_long, fold_short, fold_left, fold_right, fold_bytes_whole, fold_bytes_rest, fold_bytes_there, fold_bytes_parts}
+use Rattle.merkle_tree.proofs.Lasts.{cut_last, cut_none}
 
 -- a leaf of a tree of one is the first
 only_leaf : {A : Type 0} (f : ℕ → ℕ → A) (n size : ℕ) → n < size → size ≡ 1 → f n size ≡ f 0 1
 only_leaf f n size within one = let first : n ≡ 0 = omega arith in ap₂ f first one
 
 module _ (hash : Hash) (d : List ℕ) (n size : ℕ) (b rest last : List ℕ) (whole : length b % 32 ≡ 0) (front : rest ≡ take (length b - 32) b) (back : last ≡ drop (length b - 32) b) (some : length rest + 32 ≡ length b) where
-  -- what stands in front of the last digest is whole digests
-  rest_whole : length rest % 32 ≡ 0
-  rest_whole = omega arith
-
-  -- the digests are those, and the last
-  cut_last : cut 32 b ≡ cut 32 rest ++ last ∷ []
-  cut_last =
-      let len : length last ≡ 32 = ap length back ∙ length-drop (length b - 32) b ∙ (omega arith) in
-      let parts : rest ++ last ≡ b = ap₂ (λ x y. x ++ y) front back ∙ take-append-drop (length b - 32) b in
-      sym (ap (cut 32) parts) ∙ cut_more 32 (omega arith) rest last rest_whole len
-
   -- in front of the split
   fold_last_left : (k : ℕ) → IsSplit k size → n < k → fold hash d n size (cut 32 b) ≡ option_map (λ l. node hash l last) (fold hash d n k (cut 32 rest))
-  fold_last_left k split before = ap (fold hash d n size) cut_last ∙ fold_left hash d k n size last (cut 32 rest) split before
+  fold_last_left k split before = ap (fold hash d n size) (cut_last b rest last whole front back some) ∙ fold_left hash d k n size last (cut 32 rest) split before
 
   -- behind it
   fold_last_right : (k : ℕ) → IsSplit k size → k ≤ n → fold hash d n size (cut 32 b) ≡ option_map (λ r. node hash last r) (fold hash d (n - k) (size - k) (cut 32 rest))
-  fold_last_right k split behind = ap (fold hash d n size) cut_last ∙ fold_right hash d k n size last (cut 32 rest) split behind
+  fold_last_right k split behind = ap (fold hash d n size) (cut_last b rest last whole front back some) ∙ fold_right hash d k n size last (cut 32 rest) split behind
 
   module _ (k : ℕ) (split : IsSplit k size) where
     -- where there is none in front of the split, there is none
@@ -49,10 +37,6 @@ module _ (hash : Hash) (d : List ℕ) (n size : ℕ) (b rest last : List ℕ) (w
     pub right_some : (r x : List ℕ) → k ≤ n → Some r ≡ fold hash d (n - k) (size - k) (cut 32 rest) → x ≡ node hash last r → Some x ≡ fold hash d n size (cut 32 b)
     right_some r x behind below is = ap Some is ∙ ap (option_map (λ t. node hash last t)) below ∙ sym (fold_last_right k split behind)
 
--- no bytes are no digests
-cut_none : (b : List ℕ) → length b < 32 → length b % 32 ≡ 0 → cut 32 b ≡ []
-cut_none b few whole = ap (cut 32) (nil_from_length b (omega arith)) ∙ cut-nil 32 (omega arith)
-
 module _ (hash : Hash) (d : List ℕ) (n size : ℕ) (within : n < size) (b : List ℕ) (whole : length b % 32 ≡ 0) where
   -- the only leaf folds to itself along no digest
   pub fold_alone : size ≡ 1 → eqb (length b) 0 ≡ true → fold hash d n size (cut 32 b) ≡ Some d
@@ -65,18 +49,13 @@ module _ (hash : Hash) (d : List ℕ) (n size : ℕ) (within : n < size) (b : Li
   fold_over one some =
       let many : length b ≡ 0 → ⊥ = eqb-false (length b) 0 some in
       let front : length (take (length b - 32) b) ≡ length b - 32 = length-take-le (length b - 32) b (omega arith) in
-      ap (fold hash d n size) (cut_last hash d n size b (take (length b - 32) b) (drop (length b - 32) b) whole refl refl (omega arith))
+      ap (fold hash d n size) (cut_last b (take (length b - 32) b) (drop (length b - 32) b) whole refl refl (omega arith))
       ∙ only_leaf (λ m s. fold hash d m s (cut 32 (take (length b - 32) b) ++ drop (length b - 32) b ∷ [])) n size within one
       ∙ fold_long hash d (drop (length b - 32) b) (cut 32 (take (length b - 32) b))
 
   -- a leaf among more has no fold along none
   pub fold_without : (size ≡ 1 → ⊥) → length b < 32 → fold hash d n size (cut 32 b) ≡ None
   fold_without more few = ap (fold hash d n size) (cut_none b few whole) ∙ fold_short hash d n size (omega arith)
-
--- a value that is rewritten is there as before
-is_some-map : {A B : Type 0} (f : A → B) (o : Option A) → is_some (option_map f o) ≡ is_some o
-is_some-map f None = refl
-is_some-map f (Some x) = refl
 
 module _ (hash : Hash) (d : List ℕ) (n size : ℕ) (b : List ℕ) where
   -- a leaf outside the tree has no fold, nor has one where bytes are left over

@@ -14,7 +14,7 @@ use Rattle.tree_model.proofs.Pieces.{length-cut, cut-concat, concat-whole}
 use Rattle.tree_model.proofs.Paths.{path_length_at_same, path_length_at_left, path_length_at_right, path_at_same, path_at_left, path_at_right}
 
 -- a value that is rewritten is there as before
-is_some-map : {A B : Type 0} (f : A → B) (o : Option A) → is_some (option_map f o) ≡ is_some o
+pub is_some-map : {A B : Type 0} (f : A → B) (o : Option A) → is_some (option_map f o) ≡ is_some o
 is_some-map f None = refl
 is_some-map f (Some x) = refl
 

@@ -1,12 +1,12 @@
 -- Flat bytes as pieces of one width.
-use Rattle.std.proofs.Common.{◌≡◌, ℕ, zero, suc, ◌+◌, ◌-◌, ◌*◌, ◌/◌, ◌%◌, ◌<◌, ◌≤◌, List, [], ◌∷◌, ◌++◌, length, take, drop, All, refl, sym, ap, ◌∙◌, ap₂, subst, arith, length-append, length-drop, length-take-le, take-take, drop-drop, take_all, take-append-drop, take_at, drop_at, take-add, mul-div_cancel, div-mul-le_self, div-add-mod', mod-lt, suc-mul, one-mul, add-mul, mul-le-mul_right}
+use Rattle.std.proofs.Common.{◌≡◌, ℕ, zero, suc, ◌+◌, ◌-◌, ◌*◌, ◌/◌, ◌%◌, ◌<◌, ◌≤◌, List, [], ◌∷◌, ◌++◌, length, take, drop, All, refl, sym, ap, ◌∙◌, ap₂, arith, length-append, length-drop, length-take-le, take-take, drop-drop, take_all, take-append-drop, take_at, drop_at, take-add, mul-div_cancel, div-mul-le_self, div-add-mod', mod-lt, suc-mul, one-mul, add-mul, mul-le-mul_right}
 use Rattle.std.proofs.Math.Nat.{mul-mod_left, mod_self, div_self, add-mod_left}
 use Rattle.std.proofs.lemmas.Nat.{div-mul-add, mod-mul-add, le-div}
 use Rattle.std.proofs.lemmas.List.{drop-take}
 use Rattle.std.proofs.lemmas.List.Elements.{All-nil, All-cons, All-head, All-tail}
 use Rattle.std.specs.List.{concat}
-use Rattle.tree_model.specs.Tree.{Hash, leaf, node, mth, IsSplit, pieces, cut}
-use Rattle.tree_model.proofs.Levels.{root_none, root_one, mth_split}
+use Rattle.tree_model.specs.Tree.{Hash, leaf, mth, pieces, cut}
+use Rattle.tree_model.proofs.Levels.{root_none, root_one}
 
 -- a number without some of its whole widths
 sub-widths : (n q k w r : ℕ) → k ≤ q → q * w + r ≡ n → n - k * w ≡ (q - k) * w + r
@@ -168,14 +168,6 @@ module _ (w : ℕ) (wide : 0 < w) where
   mth_cut_one hash b whole count =
       let is : length b ≡ w = sym (whole_is (length b) w whole) ∙ ap (λ n. n * w) count ∙ one-mul w in
       ap (mth hash) (cut_one b is) ∙ root_one hash (leaf hash b)
-
-  -- the tree over pieces splits as their bytes do
-  pub mth_cut_split : (hash : Hash) (k : ℕ) (b : List ℕ) → IsSplit k (length b / w) → mth hash (cut w b) ≡ node hash (mth hash (cut w (take (k * w) b))) (mth hash (cut w (drop (k * w) b)))
-  mth_cut_split hash k b s =
-      let le : k ≤ length b / w = omega (arith, s.below) in
-      mth_split hash k (cut w b) (subst (IsSplit k) (sym (length-cut w b)) s)
-      ∙ ap (λ t. node hash (mth hash t) (mth hash (drop k (cut w b)))) (take-cut k b le)
-      ∙ ap (λ t. node hash (mth hash (cut w (take (k * w) b))) (mth hash t)) (drop-cut k b le)
 
 -- pieces in a row are the bytes that they were read from
 concat-pieces : (n w : ℕ) (b : List ℕ) → concat (pieces n w b) ≡ take (n * w) b

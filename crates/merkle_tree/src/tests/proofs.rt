@@ -1,0 +1,120 @@
+use super::paths::{SIDES, TOY_SIDES, spelled};
+use super::*;
+use ledger_bytes::{NoMemory, TreeHash};
+use std::alloc::Global;
+
+// The proofs of the trees of 2 leaves and more, a tree a line: for each number of first leaves a word, for each digest
+// the letter that it has among the sides of paths.
+const PROOFS: &str = "A -
+AC C -
+AE E CFD -
+AEG EG CFDG G -
+AEI EI CFDI I GJH -
+AEK EK CFDK K GJLH ILH -
+AEM EM CFDM M GJNH INH LOIH -
+AEMP EMP CFDMP MP GJNHP INHP LOIHP P -
+AEMR EMR CFDMR MR GJNHR INHR LOIHR R PSQ -
+AEMT EMT CFDMT MT GJNHT INHT LOIHT T PSUQ RUQ -
+AEMV EMV CFDMV MV GJNHV INHV LOIHV V PSWQ RWQ UXRQ -
+AEMY EMY CFDMY MY GJNHY INHY LOIHY Y PSWZQ RWZQ UXRZQ VZQ -
+AEMa EMa CFDMa Ma GJNHa INHa LOIHa a PSWbQ RWbQ UXRbQ VbQ ZcVQ -
+AEMd EMd CFDMd Md GJNHd INHd LOIHd d PSWeQ RWeQ UXReQ VeQ ZcfVQ bfVQ -
+AEMg EMg CFDMg Mg GJNHg INHg LOIHg g PSWhQ RWhQ UXRhQ VhQ ZciVQ biVQ fjbVQ -
+AEMgk EMgk CFDMgk Mgk GJNHgk INHgk LOIHgk gk PSWhQk RWhQk UXRhQk VhQk ZciVQk biVQk fjbVQk k -
+AEMgm EMgm CFDMgm Mgm GJNHgm INHgm LOIHgm gm PSWhQm RWhQm UXRhQm VhQm ZciVQm biVQm fjbVQm m knl -
+AEMgo EMgo CFDMgo Mgo GJNHgo INHgo LOIHgo go PSWhQo RWhQo UXRhQo VhQo ZciVQo biVQo fjbVQo o knpl mpl -
+AEMgq EMgq CFDMgq Mgq GJNHgq INHgq LOIHgq gq PSWhQq RWhQq UXRhQq VhQq ZciVQq biVQq fjbVQq q knrl mrl psml -";
+
+// The same by the toy hash.
+const TOY_PROOFS: &str = "A -
+AC C -
+AE E CDD -
+AEF EF CDDF F -
+AEH EH CDDH H FIG -
+AEJ EJ CDDJ J FIKG HKG -
+AEL EL CDDL L FIMG HMG KEHG -";
+
+// Are these the digests of the proof that is made from the first `m` leaves to all?
+fn are_made<H: TreeHash>(
+    alloc: Global,
+    leaves: &[Digest],
+    m: usize,
+    digests: &[Digest],
+) -> Result<bool, NoMemory> {
+    if m == 0 || leaves.len() < m {
+        return Ok(false);
+    }
+    Ok(proof::<H>(alloc, leaves, m)?.as_slice() == digests)
+}
+
+// Is this root led to from an old root along no more than the digests of a proof? Not from another one, nor with the
+// sizes exchanged, a digest fewer or one more.
+fn leads_alone<H: TreeHash>(
+    (m, old): (u64, &Digest),
+    (size, root): (u64, &Digest),
+    flat: &[u8],
+    more: &[u8],
+) -> bool {
+    let fewer = match flat.split_last_chunk::<32>() {
+        Some((fewer, _)) => fold_proof::<H>(m, old, size, fewer),
+        None => None,
+    };
+    fold_proof::<H>(m, old, size, flat) == Some(*root)
+        && fold_proof::<H>(m, &Digest([0; 32]), size, flat) != Some(*root)
+        && (m == size || fold_proof::<H>(size, old, m, flat) != Some(*root))
+        && fold_proof::<H>(m, old, size, more) != Some(*root)
+        && fewer != Some(*root)
+}
+
+#[test]
+fn proofs_by_sha(rt: HostRuntime) -> Result<(), Fail> {
+    let mut sides = Vec::new(rt.alloc());
+    for line in SIDES.lines() {
+        sides.push(digest(line)?)?;
+    }
+    let mut leaves = Vec::new(rt.alloc());
+    leaves.push(digest(TREES[0].0)?)?;
+    for (line, (leaf, root)) in PROOFS.lines().zip(&TREES[1..]) {
+        leaves.push(digest(leaf)?)?;
+        let root = digest(root)?;
+        for (word, (m, (_, old))) in line.split(' ').zip((1..=20).zip(&TREES)) {
+            let old = digest(old)?;
+            let (digests, mut flat) = spelled(rt.alloc(), &sides, word)?;
+            assert!(rt;
+                are_made::<Sha>(rt.alloc(), &leaves, m, &digests)?,
+                "from {m} at {word}"
+            );
+            let end = flat.len();
+            flat.extend_from_slice(&old.0)?;
+            let flat = flat.as_slice();
+            let size = leaves.len() as u64;
+            assert!(rt;
+                leads_alone::<Sha>((m as u64, &old), (size, &root), &flat[..end], flat),
+                "from {m} at {word}"
+            );
+        }
+    }
+    assert_eq!(rt; leaves.len(), 20);
+    Ok(())
+}
+
+#[test]
+fn proofs_by_the_toy_hash(rt: HostRuntime) -> Result<(), Fail> {
+    let sides = TOY_SIDES.map(toy_digest);
+    let mut leaves = Vec::new(rt.alloc());
+    leaves.push(toy_digest(1))?;
+    for (line, (leaf, root)) in TOY_PROOFS.lines().zip((2..=8).zip(&TOY_ROOTS[1..])) {
+        leaves.push(toy_digest(leaf))?;
+        for (word, (m, old)) in line.split(' ').zip((1..=8).zip(&TOY_ROOTS)) {
+            let (digests, flat) = spelled(rt.alloc(), &sides, word)?;
+            assert!(rt;
+                are_made::<Toy>(rt.alloc(), &leaves, m, &digests)?,
+                "from {m} at {word}"
+            );
+            let folded = fold_proof::<Toy>(m as u64, &toy_digest(*old), leaves.len() as u64, &flat);
+            assert_eq!(rt; folded, Some(toy_digest(*root)), "from {m} at {word}");
+        }
+    }
+    assert_eq!(rt; leaves.len(), 8);
+    Ok(())
+}
