@@ -1,14 +1,16 @@
 -- Lemmas on headers: with the right digests they are those of the journals.
 use Rattle.std.proofs.Common.{◌≡◌, ℕ, List, [], ◌∷◌, length, ap, sym, ◌∙◌}
+use Rattle.ledger_bytes.specs.Digests.{digest, zero_digest}
 use Rattle.ledger_bytes.specs.declared.digest.Digest.{Digest}
 use Rattle.journal_record.specs.Approval.{who_of}
 use Rattle.journal_record.specs.Entry.{content_digest_of, who_digest_of}
+use Rattle.journal_record.specs.Request.{name_digest_of}
 use Rattle.journal_record.specs.declared.approval.Approval.{Approval}
 use Rattle.journal_record.specs.declared.header.Header.{Header}
 use Rattle.journal_record.specs.declared.header.Kind.{Kind}
 use Rattle.journal_record.specs.declared.header.Kind.TheVariants as kind
 use Rattle.ledger_model.specs.Appends.{append_header, member_header}
-use Rattle.ledger_model.specs.Genesis.{digest, no_clue, name_digest, founders_content, genesis_header}
+use Rattle.ledger_model.specs.Genesis.{founders_content, genesis_header}
 use Rattle.ledger_model.specs.declared.genesis.Genesis.{Genesis}
 
 -- a header with these parts
@@ -29,13 +31,13 @@ header_with kind jsn member clue ordinal previous a link count content who = rec
   who_digest = who;
 }
 
-pub genesis_is : (genesis : Genesis) (link content who : Digest) → link.0 ≡ name_digest genesis.name → content.0 ≡ content_digest_of (founders_content genesis) → who.0 ≡ who_digest_of []
-    → header_with kind.Genesis 0 0 no_clue 0 0 0 link 64 content who ≡ genesis_header genesis
+pub genesis_is : (genesis : Genesis) (link content who : Digest) → link.0 ≡ name_digest_of genesis.name → content.0 ≡ content_digest_of (founders_content genesis) → who.0 ≡ who_digest_of []
+    → header_with kind.Genesis 0 0 zero_digest 0 0 0 link 64 content who ≡ genesis_header genesis
 unfolding genesis_header
 genesis_is genesis link content who l c w =
-    ap (λ x. header_with kind.Genesis 0 0 no_clue 0 0 0 (digest x) 64 content who) l
-    ∙ ap (λ x. header_with kind.Genesis 0 0 no_clue 0 0 0 (digest (name_digest genesis.name)) 64 (digest x) who) c
-    ∙ ap (λ x. header_with kind.Genesis 0 0 no_clue 0 0 0 (digest (name_digest genesis.name)) 64 (digest (content_digest_of (founders_content genesis))) (digest x)) w
+    ap (λ x. header_with kind.Genesis 0 0 zero_digest 0 0 0 (digest x) 64 content who) l
+    ∙ ap (λ x. header_with kind.Genesis 0 0 zero_digest 0 0 0 (digest (name_digest_of genesis.name)) 64 (digest x) who) c
+    ∙ ap (λ x. header_with kind.Genesis 0 0 zero_digest 0 0 0 (digest (name_digest_of genesis.name)) 64 (digest (content_digest_of (founders_content genesis))) (digest x)) w
 
 pub record_is : (jsn member : ℕ) (clue : Digest) (ordinal previous count : ℕ) (content : List ℕ) (content_digest request who : Digest) (by : Approval) → length content ≡ count → who.0 ≡ who_digest_of (who_of (by ∷ []))
     → header_with kind.Content jsn member clue ordinal previous 0 request count content_digest who ≡ append_header jsn member clue ordinal previous content content_digest request by
@@ -45,9 +47,9 @@ record_is jsn member clue ordinal previous count content content_digest request 
     ∙ ap (λ x. header_with kind.Content jsn member clue ordinal previous 0 request x content_digest (digest (who_digest_of (who_of (by ∷ []))))) (sym n)
 
 pub member_is : (jsn number a : ℕ) (key content who : Digest) (by : Approval) → a ≡ number → content.0 ≡ content_digest_of [] → who.0 ≡ who_digest_of (who_of (by ∷ []))
-    → header_with kind.Member jsn 0 no_clue 0 0 a key 0 content who ≡ member_header jsn number key by
+    → header_with kind.Member jsn 0 zero_digest 0 0 a key 0 content who ≡ member_header jsn number key by
 unfolding member_header
 member_is jsn number a key content who by n c w =
-    ap (λ x. header_with kind.Member jsn 0 no_clue 0 0 x key 0 content who) n
-    ∙ ap (λ x. header_with kind.Member jsn 0 no_clue 0 0 number key 0 (digest x) who) c
-    ∙ ap (λ x. header_with kind.Member jsn 0 no_clue 0 0 number key 0 (digest (content_digest_of [])) (digest x)) w
+    ap (λ x. header_with kind.Member jsn 0 zero_digest 0 0 x key 0 content who) n
+    ∙ ap (λ x. header_with kind.Member jsn 0 zero_digest 0 0 number key 0 (digest x) who) c
+    ∙ ap (λ x. header_with kind.Member jsn 0 zero_digest 0 0 number key 0 (digest (content_digest_of [])) (digest x)) w

@@ -1,50 +1,60 @@
 -- Lemmas on judging: what a book looks at is what the history says.
 use Rattle.std.proofs.Common.{◌≡◌, ℕ, ◌+◌, ◌-◌, ◌<◌, ◌≤◌, ◌&&◌, ◌||◌, ◌==◌, Bool, true, false, cond, not, List, [], ◌∷◌, length, Option, Some, None, refl, ap, sym, ◌∙◌, arith, eq-eqb}
-use Rattle.std.specs.Prelude.{nat_le}
-use Rattle.std.proofs.lemmas.Bool.{le-leb, lt-leb, lt-ltb, ne_eqb, and_left, and_right, and_from}
+use Rattle.std.specs.Prelude.{nat_le, filter}
+use Rattle.std.proofs.lemmas.Bool.{le-leb, leb-true, lt-leb, lt-ltb, ne_eqb, and_left, and_right, and_from}
 use Rattle.ledger_bytes.specs.declared.digest.Digest.{Digest}
 use Rattle.ledger_bytes.specs.declared.refusal.Refusal.{Refusal}
 use Rattle.ledger_bytes.specs.declared.refusal.Refusal.TheVariants.{Full, UnknownMember, CluesFull}
-use Rattle.clue_index.specs.Added.{Added, different}
+use Rattle.clue_index.specs.Added.{Added, different, trail_of}
 use Rattle.clue_index.specs.Index as index
-use Rattle.ledger_model.specs.Books.{Kept, Stands}
+use Rattle.clue_index.specs.Trail.{kept_from}
 use Rattle.journal_record.specs.Rules.{is_no_clue}
-use Rattle.ledger_model.specs.Clues.{jsns_with, clues_added, different_clues, next_ordinal, last_journal}
+use Rattle.ledger_model.specs.Clues.{jsns_with, clue_count, last_of, next_ordinal, last_journal}
 use Rattle.ledger_model.specs.History.{History, size}
 use Rattle.ledger_model.specs.Judgements.{kept, is_full, full, clues_full, first_refusal, unknown_in}
+use Rattle.ledger_model.specs.Texts.{kept_with}
 use Rattle.ledger_model.specs.declared.limits.Limits.{Limits}
-use Rattle.clue_index.specs.Trail.{last_from}
+use Rattle.ledger_book.specs.Books.{Kept, Stands, Serves}
+use Rattle.ledger_book.proofs.ClueLaws.{told_clues, told_kept}
+use Rattle.ledger_book.proofs.StandsLaws.{point_is}
 
 -- whether there is room
 full_as : (l : Limits) (h : History) (b : Bool) → is_full l.soft l h ≡ b → cond b (Some (Full (kept h) (size h))) None ≡ full l h
 unfolding full
 full_as l h b is = sym (ap (λ v. cond v (Some (Full (kept h) (size h))) None) is)
 
-full_told : (k : Kept) (h : History) (n : ℕ) → Stands k h → n ≡ k.size - k.point → Some (Full n k.size) ≡ Some (Full (kept h) (size h))
-full_told k h n s is = let all : n ≡ kept h = omega (arith, s.size, s.point) in ap (λ x. Some (Full x k.size)) all ∙ ap (λ x. Some (Full (kept h) x)) s.size
+kept_is : (k : Kept) (h : History) (n : ℕ) → Serves k h → n ≡ k.size - k.point → n ≡ kept h
+kept_is k h n s is = omega (arith, is, s.stands.counts.size, point_is k h s)
 
-pub full_by_kept : (k : Kept) (h : History) (n : ℕ) → Stands k h → n ≡ k.size - k.point → k.limits.soft ≤ n → Some (Full n k.size) ≡ full k.limits h
+full_told : (k : Kept) (h : History) (n : ℕ) → Serves k h → n ≡ k.size - k.point → Some (Full n k.size) ≡ Some (Full (kept h) (size h))
+full_told k h n s is = ap (λ x. Some (Full x k.size)) (kept_is k h n s is) ∙ ap (λ x. Some (Full (kept h) x)) s.stands.counts.size
+
+pub full_by_kept : (k : Kept) (h : History) (n : ℕ) → Serves k h → n ≡ k.size - k.point → k.limits.soft ≤ n → Some (Full n k.size) ≡ full k.limits h
 full_by_kept k h n s is most =
-    let test : nat_le k.limits.soft (kept h) ≡ true = le-leb k.limits.soft (kept h) (omega (arith, s.size, s.point)) in
+    let test : nat_le k.limits.soft (kept h) ≡ true = le-leb k.limits.soft (kept h) (omega (arith, most, kept_is k h n s is)) in
     full_told k h n s is ∙ full_as k.limits h true (ap (λ b. b || nat_le k.limits.size (size h)) test)
 
-pub full_by_size : (k : Kept) (h : History) (n : ℕ) → Stands k h → n ≡ k.size - k.point → n < k.limits.soft → k.limits.size ≤ k.size → Some (Full n k.size) ≡ full k.limits h
+pub full_by_size : (k : Kept) (h : History) (n : ℕ) → Serves k h → n ≡ k.size - k.point → n < k.limits.soft → k.limits.size ≤ k.size → Some (Full n k.size) ≡ full k.limits h
 full_by_size k h n s is less most =
-    let first : nat_le k.limits.soft (kept h) ≡ false = lt-leb k.limits.soft (kept h) (omega (arith, s.size, s.point)) in
-    let test : nat_le k.limits.size (size h) ≡ true = le-leb k.limits.size (size h) (omega (arith, s.size)) in
+    let first : nat_le k.limits.soft (kept h) ≡ false = lt-leb k.limits.soft (kept h) (omega (arith, less, kept_is k h n s is)) in
+    let test : nat_le k.limits.size (size h) ≡ true = le-leb k.limits.size (size h) (omega (arith, most, s.stands.counts.size)) in
     full_told k h n s is ∙ full_as k.limits h true (ap (λ b. b || nat_le k.limits.size (size h)) first ∙ test)
 
-pub full_not : (k : Kept) (h : History) (n : ℕ) → Stands k h → n ≡ k.size - k.point → n < k.limits.soft → k.size < k.limits.size → (let none : Option Refusal = None in none ≡ full k.limits h)
+pub full_not : (k : Kept) (h : History) (n : ℕ) → Serves k h → n ≡ k.size - k.point → n < k.limits.soft → k.size < k.limits.size → (let none : Option Refusal = None in none ≡ full k.limits h)
 full_not k h n s is less room =
-    let first : nat_le k.limits.soft (kept h) ≡ false = lt-leb k.limits.soft (kept h) (omega (arith, s.size, s.point)) in
-    let test : nat_le k.limits.size (size h) ≡ false = lt-leb k.limits.size (size h) (omega (arith, s.size)) in
+    let first : nat_le k.limits.soft (kept h) ≡ false = lt-leb k.limits.soft (kept h) (omega (arith, less, kept_is k h n s is)) in
+    let test : nat_le k.limits.size (size h) ≡ false = lt-leb k.limits.size (size h) (omega (arith, room, s.stands.counts.size)) in
     full_as k.limits h false (ap (λ b. b || nat_le k.limits.size (size h)) first ∙ test)
+
+-- whether there is room for a journal of the operator
+pub hard_full : (k : Kept) (h : History) (n : ℕ) → Serves k h → n ≡ k.size - k.point → (nat_le k.limits.hard n || nat_le k.limits.size k.size) ≡ is_full k.limits.hard k.limits h
+hard_full k h n s is = ap (λ x. nat_le k.limits.hard x || nat_le k.limits.size k.size) (kept_is k h n s is) ∙ ap (λ x. nat_le k.limits.hard (kept h) || nat_le k.limits.size x) s.stands.counts.size
 
 -- whether there is room for a new clue
 abbrev NoRefusal : Option Refusal → Type 0
 NoRefusal o = let none : Option Refusal = None in none ≡ o
 
-clues_as : (l : Limits) (h : History) (clue : Digest) (b : Bool) → (not (is_no_clue clue) && length (jsns_with h clue) == 0 && nat_le l.clues (length (different_clues h))) ≡ b → cond b (Some CluesFull) None ≡ clues_full l h clue
+clues_as : (l : Limits) (h : History) (clue : Digest) (b : Bool) → (not (is_no_clue clue) && length (jsns_with h clue) == 0 && nat_le l.clues (clue_count h)) ≡ b → cond b (Some CluesFull) None ≡ clues_full l h clue
 unfolding clues_full
 clues_as l h clue b is = sym (ap (λ v. cond v (Some CluesFull) None) is)
 
@@ -59,14 +69,14 @@ clue_known l h clue n is more =
 
 pub clue_room : (k : Kept) (h : History) (clue : Digest) (n : ℕ) → Stands k h → ((a : Added) → index.Stands k.clues a → n ≡ length (different a)) → n < k.limits.clues → NoRefusal (clues_full k.limits h clue)
 clue_room k h clue n s told room =
-    let is : n ≡ length (different_clues h) = told (clues_added k.floor h) s.clues in
-    clues_as k.limits h clue false (and_right (not (is_no_clue clue) && length (jsns_with h clue) == 0) _ (lt-leb k.limits.clues (length (different_clues h)) (omega (arith, is, room))))
+    let is = told_clues k h n s told in
+    clues_as k.limits h clue false (and_right (not (is_no_clue clue) && length (jsns_with h clue) == 0) _ (lt-leb k.limits.clues (clue_count h) (omega (arith, is, room))))
 
 pub clue_full : (k : Kept) (h : History) (clue : Digest) (ordinal n : ℕ) → Stands k h → is_no_clue clue ≡ false → ordinal ≡ length (jsns_with h clue) + 1 → ordinal ≤ 1 → ((a : Added) → index.Stands k.clues a → n ≡ length (different a)) → k.limits.clues ≤ n → Some CluesFull ≡ clues_full k.limits h clue
 clue_full k h clue ordinal n s some next first told full =
-    let is : n ≡ length (different_clues h) = told (clues_added k.floor h) s.clues in
+    let is = told_clues k h n s told in
     let none : (length (jsns_with h clue) == 0) ≡ true = eq-eqb (length (jsns_with h clue)) 0 (omega (arith, next, first)) in
-    let test : nat_le k.limits.clues (length (different_clues h)) ≡ true = le-leb k.limits.clues (length (different_clues h)) (omega (arith, is, full)) in
+    let test : nat_le k.limits.clues (clue_count h) ≡ true = le-leb k.limits.clues (clue_count h) (omega (arith, is, full)) in
     clues_as k.limits h clue true (and_from _ _ (and_from _ _ (ap not some) none) test)
 
 -- where the next journal stands among those of its clue
@@ -76,15 +86,15 @@ ordinal_none h clue is = sym (ap (λ b. cond b 0 (length (jsns_with h clue) + 1)
 
 pub previous_none : (h : History) (clue : Digest) → is_no_clue clue ≡ true → 0 ≡ last_journal h clue
 unfolding last_journal
-previous_none h clue is = sym (ap (λ b. cond b 0 (last_from 0 (jsns_with h clue))) is)
+previous_none h clue is = sym (ap (λ b. cond b 0 (last_of (jsns_with h clue))) is)
 
 pub ordinal_some : (h : History) (clue : Digest) (n : ℕ) → is_no_clue clue ≡ false → n ≡ length (jsns_with h clue) + 1 → n ≡ next_ordinal h clue
 unfolding next_ordinal
 ordinal_some h clue n is told = told ∙ sym (ap (λ b. cond b 0 (length (jsns_with h clue) + 1)) is)
 
-pub previous_some : (h : History) (clue : Digest) (n : ℕ) → is_no_clue clue ≡ false → n ≡ last_from 0 (jsns_with h clue) → n ≡ last_journal h clue
+pub previous_some : (h : History) (clue : Digest) (n : ℕ) → is_no_clue clue ≡ false → n ≡ last_of (jsns_with h clue) → n ≡ last_journal h clue
 unfolding last_journal
-previous_some h clue n is told = told ∙ sym (ap (λ b. cond b 0 (last_from 0 (jsns_with h clue))) is)
+previous_some h clue n is told = told ∙ sym (ap (λ b. cond b 0 (last_of (jsns_with h clue))) is)
 
 -- the first of some judgements, one after the other
 pub first_then : (rest : List (Option Refusal)) (a got result : Option Refusal) → got ≡ a → got ≡ None → result ≡ first_refusal rest → result ≡ first_refusal (a ∷ rest)
@@ -114,3 +124,27 @@ first_one None = refl
 pub operator_known : (known : List (List ℕ)) (w : Option Refusal) → 2 ≤ length known → first_refusal (unknown_in known 0 ∷ w ∷ []) ≡ first_refusal (w ∷ [])
 operator_known [] w some = absurd (omega (arith, some))
 operator_known (key ∷ known) w some = ap (λ b. first_refusal (cond b None (Some (UnknownMember 0)) ∷ w ∷ [])) (lt-ltb 0 (length (key ∷ known)) (omega arith))
+
+-- numbers from the point on, among those from the floor on
+above : (floor point : ℕ) (ns : List ℕ) → floor ≤ point → filter (λ n. nat_le point n) (filter (λ n. nat_le floor n) ns) ≡ filter (λ n. nat_le point n) ns
+above floor point [] low = refl
+above floor point (n ∷ ns) low =
+    let rest = above floor point ns low in
+    elim (nat_le point n) as (λ high. nat_le point n ≡ high → filter (λ m. nat_le point m) (cond (nat_le floor n) (n ∷ filter (λ m. nat_le floor m) ns) (filter (λ m. nat_le floor m) ns)) ≡ cond high (n ∷ filter (λ m. nat_le point m) ns) (filter (λ m. nat_le point m) ns)) [
+      | true ↦ λ e.
+          let kept : nat_le floor n ≡ true = le-leb floor n (omega (arith, low, leb-true point n e)) in
+          ap (λ b. filter (λ m. nat_le point m) (cond b (n ∷ filter (λ m. nat_le floor m) ns) (filter (λ m. nat_le floor m) ns))) kept
+          ∙ ap (λ b. cond b (n ∷ filter (λ m. nat_le point m) (filter (λ m. nat_le floor m) ns)) (filter (λ m. nat_le point m) (filter (λ m. nat_le floor m) ns))) e ∙ ap (λ ms. n ∷ ms) rest
+      | false ↦ λ e.
+          elim (nat_le floor n) as (λ b. filter (λ m. nat_le point m) (cond b (n ∷ filter (λ m. nat_le floor m) ns) (filter (λ m. nat_le floor m) ns)) ≡ filter (λ m. nat_le point m) ns) [
+            | true ↦ ap (λ b. cond b (n ∷ filter (λ m. nat_le point m) (filter (λ m. nat_le floor m) ns)) (filter (λ m. nat_le point m) (filter (λ m. nat_le floor m) ns))) e ∙ rest
+            | false ↦ rest
+          ]
+    ] refl
+
+-- which journals of a clue are kept
+pub told_from_point : (k : Kept) (h : History) (clue : Digest) (ns : List ℕ) → Serves k h
+    → ((a : Added) → index.Stands k.clues a → ns ≡ kept_from a.floor (trail_of a clue.0)) → filter (λ n. nat_le k.point n) ns ≡ kept_with h clue
+told_from_point k h clue ns s told =
+    ap (filter (λ n. nat_le k.point n)) (told_kept k h clue ns s.stands told) ∙ above k.floor k.point (jsns_with h clue) s.seen
+    ∙ ap (λ p. filter (λ n. nat_le p n) (jsns_with h clue)) (point_is k h s)

@@ -5,4 +5,3 @@ pub mod StandsLaws
 pub mod GenesisLaws
 pub mod JudgeLaws
 pub mod ApplyLaws
-pub mod RequestLaws

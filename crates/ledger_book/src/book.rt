@@ -1,11 +1,13 @@
-ghost use Rattle.std.specs.Prelude.{◌≡◌, ◌↔◌, ◌-◌, ◌^◌, ◌<◌, ◌≤◌, ℕ, IsTrue, IfOk, IfNone, length, filter, nat_le, slice_get, option_copied, Option, None, true, if◌then◌else◌};
-ghost use Rattle.ledger_model.specs.Books.{Stands, Serves, headers, leaf_digests};
+ghost use Rattle.std.specs.Prelude.{◌≡◌, ◌↔◌, ◌≤◌, IsTrue, IfOk, IfNone, length, nat_le, slice_get, option_copied, Option, None, true, if◌then◌else◌};
 ghost use Rattle.ledger_model.specs.Clues.{jsns_with};
 ghost use Rattle.ledger_model.specs.Genesis.{founded};
 ghost use Rattle.ledger_model.specs.History as model;
 ghost use Rattle.ledger_model.specs.History.{History, close};
 ghost use Rattle.ledger_model.specs.Judgements.{is_full};
+ghost use Rattle.ledger_model.specs.Limits.{AreWithin};
 ghost use Rattle.ledger_model.specs.Outcomes as outcomes;
+ghost use Rattle.ledger_model.specs.Texts.{kept_with};
+ghost use Rattle.ledger_book.specs.Books.{Stands, Serves, headers, leaf_digests};
 ghost use Rattle.ledger_book.specs.Seals.{head_of, seal_of};
 ghost use Rattle.ledger_book.specs.Steps.{IsSame};
 
@@ -17,7 +19,7 @@ use crate::Sealed;
 use crate::headers::first_header;
 use clue_index::ClueIndex;
 use journal_record::Header;
-use ledger_bytes::{Digest, NoMemory, Sha};
+use ledger_bytes::{BLOCK_LIMIT, Digest, NoMemory, Sha};
 use ledger_model::{Genesis, Limits, View};
 use member_book::MemberBook;
 use merkle_tree::{Head, leaf_of, root_of};
@@ -37,6 +39,8 @@ pub struct Book {
     blocks: u64,
     /// The head at the last block's end.
     head: Head,
+    /// The sizes above the floor at which blocks ended, with room for one more where a journal waits.
+    ends: Vec<u64>,
     id: Digest,
     members: MemberBook,
     clues: ClueIndex,
@@ -46,8 +50,9 @@ pub struct Book {
 }
 
 impl Model for Book {
-    ghost use Rattle.std.specs.Prelude.{◌^◌, ◌<◌, ◌≤◌};
-    ghost use Rattle.ledger_model.specs.Books.{Kept};
+    ghost use Rattle.std.specs.Prelude.{◌^◌, ◌<◌, ◌≤◌, vec_len, vec_capacity};
+    ghost use Rattle.ledger_model.specs.Limits.{AreWithin};
+    ghost use Rattle.ledger_book.specs.Books.{Kept};
 
     ghost Value = { Kept };
 
@@ -58,6 +63,7 @@ impl Model for Book {
       point = b.point;
       blocks = b.blocks;
       sealed = b.head.size;
+      ends = b.ends.items;
       root = b.head.root;
       id = b.id;
       members = b.members;
@@ -66,13 +72,14 @@ impl Model for Book {
       leaves = b.leaves.items;
     } };
 
-    ghost invariant = { λ b. (1 ≤ b.size) × (b.size < 2 ^ 32) × (b.limits.size < 2 ^ 32) × (b.blocks ≤ b.head.size) × (b.head.size ≤ b.size) };
+    ghost invariant = { λ b. (1 ≤ b.size) × (b.size < 2 ^ 32) × AreWithin b.limits × (b.blocks ≤ b.head.size) × (b.head.size ≤ b.size)
+        × (b.head.size < b.size → vec_len b.ends < vec_capacity b.ends) };
 }
 
 impl Book {
     /// The book of a new ledger, which has journal 0 alone, in a block that has ended.
     pub fn new(alloc: Global, genesis: &Genesis, limits: Limits) -> Result<Self, NoMemory>
-        requires { limits.size < 2 ^ 32 }
+        requires { AreWithin limits }
         ensures serves { IfOk result (λ book. Serves book (founded genesis.now)) }
         ensures limits { IfOk result (λ book. book.limits ≡ limits) }
         ensures floor { IfOk result (λ book. (book.floor ≡ 0) × (book.point ≡ 0)) }
@@ -82,6 +89,7 @@ impl Book {
         let members = MemberBook::new(alloc, &genesis.operator, &genesis.regulator)?;
         let headers = vec![in alloc; header]?;
         let leaves = vec![in alloc; leaf]?;
+        let ends = vec![in alloc; 1]?;
         Ok(Book {
             limits,
             floor: 0,
@@ -92,6 +100,7 @@ impl Book {
                 size: 1,
                 root: leaf,
             },
+            ends,
             id: leaf,
             members,
             clues: ClueIndex::new(alloc),
@@ -100,13 +109,13 @@ impl Book {
         })
     }
 
-    /// Ends the open block, where a journal waits in it. The root is computed anew over the leaves' digests.
+    /// Ends the open block, where a journal waits in it. It takes no memory. The root is computed anew over the leaves'
+    /// digests.
     pub fn seal(&mut self) -> Option<Sealed>
         ensures stands { (h : History) → Stands self.old h → Stands self.new (close h) }
         ensures sealed { (h : History) → Stands self.old h → result ≡ seal_of h }
         ensures none { IfNone result (self.new ≡ self.old) }
         ensures same { IsSame self.old self.new }
-        ensures point { self.new.point ≡ self.old.point }
     {
         if self.head.size == self.size {
             return None;
@@ -121,6 +130,7 @@ impl Book {
             },
         };
         self.blocks += 1;
+        self.ends.push_reserved(self.size);
         self.head = sealed.head;
         Some(sealed)
     }
@@ -168,9 +178,10 @@ impl Book {
         self.blocks
     }
 
-    /// The first journal that a purge has left, or 0.
+    /// The first journal that a purge has left, or 0, as far as purges behind the first kept header tell it.
     pub fn point(&self) -> u64
-        ensures { (h : History) → Stands self.now h → result ≡ model.point h }
+        ensures seen { (h : History) → Stands self.now h → result ≡ model.seen_point self.now.floor h }
+        ensures point { (h : History) → Serves self.now h → result ≡ model.point h }
     {
         self.point
     }
@@ -182,6 +193,13 @@ impl Book {
         self.size - self.head.size
     }
 
+    /// Whether the open block has as many journals as a block may have. It is to be ended then.
+    pub fn is_block_full(&self) -> bool
+        ensures { (h : History) → Stands self.now h → IsTrue result ↔ (BLOCK_LIMIT ≤ length h.waiting) }
+    {
+        self.unsealed() >= BLOCK_LIMIT
+    }
+
     /// Whether there is no room for a journal of the operator.
     pub fn full(&self) -> bool
         ensures { (h : History) → Serves self.now h → result ≡ is_full self.now.limits.hard self.now.limits h }
@@ -189,14 +207,16 @@ impl Book {
         self.size.saturating_sub(self.point) >= self.limits.hard || self.size >= self.limits.size
     }
 
-    /// How many journals a clue has over the whole history, and the numbers of those that are kept, ascending. No clue
-    /// has none.
+    /// How many journals a clue has over the whole history, and the numbers of those from the point on, ascending. No
+    /// clue has none.
     pub fn clue(&self, clue: &Digest) -> Result<(u32, Vec<u64>), NoMemory>
         ensures count { IfOk result (λ r. (h : History) → Serves self.now h → r.0 ≡ length (jsns_with h clue.now)) }
-        ensures kept { IfOk result (λ r. (h : History) → Serves self.now h
-            → r.1.items ≡ filter (λ jsn. nat_le self.now.floor jsn) (jsns_with h clue.now)) }
+        ensures kept { IfOk result (λ r. (h : History) → Serves self.now h → r.1.items ≡ kept_with h clue.now) }
     {
-        self.clues.of(clue)
+        let point = self.point;
+        let (count, mut kept) = self.clues.of(clue)?;
+        kept.retain(|jsn| *jsn >= point);
+        Ok((count, kept))
     }
 
     /// The digests of all journals as leaves.

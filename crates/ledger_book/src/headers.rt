@@ -1,17 +1,13 @@
 ghost use Rattle.std.specs.Prelude.{◌≡◌, ◌≤◌, ◌<◌, ◌^◌, ◌++◌, length, ℕ, List};
 ghost use Rattle.journal_record.specs.Entry.{content_digest_of};
 ghost use Rattle.ledger_model.specs.Appends.{append_header, member_header};
-ghost use Rattle.ledger_model.specs.Genesis.{genesis_header, founders_content, name_digest, no_clue};
+ghost use Rattle.ledger_model.specs.Genesis.{genesis_header};
 
-use journal_record::{Approval, Header, Kind, approval_digest, content_digest, who_digest};
-use ledger_bytes::{Digest, Sha, TreeHash};
+use journal_record::{
+    Approval, Header, Kind, approval_digest, content_digest, name_digest, who_digest,
+};
+use ledger_bytes::Digest;
 use ledger_model::Genesis;
-
-/// The byte in front of a hashed ledger name.
-const NAME_TAG: u8 = 0x0b;
-
-/// The clue of a journal that has none.
-pub(crate) const NO_CLUE: Digest = Digest([0; 32]);
 
 /// The header of journal 0.
 pub(crate) fn first_header(genesis: &Genesis) -> Header
@@ -23,25 +19,16 @@ pub(crate) fn first_header(genesis: &Genesis) -> Header
         kind: Kind::Genesis,
         jsn: 0,
         member: 0,
-        clue: NO_CLUE,
+        clue: Digest::ZERO,
         clue_ord: 0,
         clue_prev: 0,
         a: 0,
         b: 0,
-        link: named(genesis.name.as_slice()),
+        link: name_digest(genesis.name.as_slice()),
         content_len: 64,
         content_digest: keys_digest(&genesis.operator, &genesis.regulator),
         who_digest: who_digest(b""),
     }
-}
-
-// The digest of a ledger's name.
-fn named(name: &[u8]) -> Digest
-    ensures { result.0 ≡ name_digest name.now }
-{
-    let mut hasher = Sha::start(NAME_TAG);
-    hasher.add(name);
-    hasher.end()
 }
 
 // The content digest of two keys, one after the other.
@@ -76,7 +63,8 @@ pub(crate) fn record_header(
 ) -> Header
     requires { length by.now.proof < 2 ^ 16 }
     ensures { (content : List ℕ) → length content ≡ content_len
-        → result ≡ append_header place.jsn member clue.now place.ordinal place.previous content content_digest.now request.now by.now }
+        → result ≡ append_header place.jsn member clue.now place.ordinal place.previous content content_digest.now
+        request.now by.now }
 {
     Header {
         version: 1,
@@ -105,7 +93,7 @@ pub(crate) fn new_member_header(jsn: u64, number: u32, key: &Digest, by: &Approv
         kind: Kind::Member,
         jsn,
         member: 0,
-        clue: NO_CLUE,
+        clue: Digest::ZERO,
         clue_ord: 0,
         clue_prev: 0,
         a: u64::from(number),

@@ -5,14 +5,9 @@
 mod book;
 mod headers;
 mod prepared;
-mod requests;
 mod sealed;
 
 pub use book::Book;
-pub use ledger_model::{Genesis, Job, Limits, Outcome, View};
+pub use ledger_model::{Genesis, Job, Limits, Outcome, Query, View};
 pub use prepared::Prepared;
-pub use requests::{member_job, record_job};
 pub use sealed::Sealed;
-
-#[cfg(test)]
-mod tests;

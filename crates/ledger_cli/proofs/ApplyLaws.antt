@@ -1,207 +1,149 @@
--- Lemmas on what a job does.
-use Rattle.std.proofs.Common.{◌≡◌, ℕ, ◌<◌, ◌≤◌, true, List, length, Option, Some, None, Result, Ok, Err, refl, ap, sym, subst, ◌∙◌}
-use Rattle.std.specs.Prelude.{IfOk}
+-- Lemmas on what a job does to a ledger.
+use Rattle.std.proofs.Common.{◌≡◌, ℕ, ◌+◌, ◌-◌, ◌≤◌, ◌<◌, true, cond, List, [], ◌∷◌, ◌++◌, length, Option, Some, None, refl, ap, sym, subst, ◌∙◌, arith, append-nil, length-append}
+use Rattle.std.proofs.lemmas.Bool.{le-leb}
 use Rattle.sha2.specs.Sha256.{sha256}
 use Rattle.tree_model.proofs.Levels.{root_none}
+use Rattle.ledger_bytes.specs.Digests.{digest}
 use Rattle.ledger_bytes.specs.declared.digest.Digest.{Digest}
+use Rattle.ledger_bytes.specs.declared.limits.TheConstants.{BLOCK_LIMIT}
 use Rattle.ledger_bytes.specs.declared.refusal.Refusal.{Refusal}
-use Rattle.journal_record.specs.Entry.{Entry}
+use Rattle.merkle_tree.specs.declared.head.Head.{Head}
+use Rattle.script_lines.specs.declared.reply.Reply.{Reply as AnyReply}
 use Rattle.script_lines.specs.declared.reply.Reply.TheVariants as reply
-use Rattle.ledger_book.specs.Steps.{IsSame, Applies}
-use Rattle.ledger_model.specs.Appends.{append_journal, member_journal}
-use Rattle.ledger_model.specs.Books.{Kept, Serves}
-use Rattle.ledger_model.specs.Clues.{jsns_with}
-use Rattle.ledger_model.specs.Genesis.{digest}
-use Rattle.ledger_model.specs.History.{History, id, size, root, blocks, point, close, place, leaf_digest}
+use Rattle.journal_record.specs.Entry.{Entry}
+use Rattle.ledger_model.specs.History.{History, journals, journals_of, id, size, root, blocks, point, close_by, close}
 use Rattle.ledger_model.specs.InOrder.{step_of}
-use Rattle.ledger_model.specs.Judgements.{own_refusal}
 use Rattle.ledger_model.specs.Limits.{real}
-use Rattle.ledger_model.specs.Outcomes.{placed, with_waiting, after_judgement, applied, told, outcome}
-use Rattle.ledger_model.specs.Rules.{judged_at, with_accepted, after_job}
+use Rattle.ledger_model.specs.Outcomes.{after_judgement, placed, applied, asked, AsksFor}
+use Rattle.ledger_model.specs.Judgements.{own_refusal}
+use Rattle.ledger_model.specs.Rules.{closes_before, settled, judged_at, after_job}
 use Rattle.ledger_model.specs.Step.{Step}
-use Rattle.ledger_model.specs.Texts.{accepted, answered, answer_to, kept_with}
+use Rattle.ledger_model.specs.Texts.{told, answer_for, answer_to}
 use Rattle.ledger_model.specs.Windows.{Said}
 use Rattle.ledger_model.specs.declared.answer.Answer.{Answer}
-use Rattle.ledger_model.specs.declared.answer.Answer.TheVariants.{Reply, Receipt}
 use Rattle.ledger_model.specs.declared.job.Job.{Job}
-use Rattle.ledger_model.specs.declared.job.Job.TheVariants.{Refused, Append, NewMember, Clue, Head}
+use Rattle.ledger_model.specs.declared.job.Job.TheVariants as asks
 use Rattle.ledger_model.specs.declared.outcome.Outcome.{Outcome}
 use Rattle.ledger_model.specs.declared.outcome.Outcome.TheVariants as came
-use Rattle.ledger_model.proofs.GrowLaws.{place_full, place_room}
-use Rattle.ledger_cli.specs.Carries.{Carries, HasPlaced, Does}
-use Rattle.ledger_cli.specs.Heads.{head_of}
-use Rattle.ledger_cli.specs.Placing.{may_place}
-use Rattle.ledger_cli.proofs.CarryLaws.{carries_applied}
+use Rattle.ledger_model.specs.declared.outcome.Query.{Query}
+use Rattle.ledger_model.specs.declared.outcome.Query.TheVariants as query
+use Rattle.ledger_model.specs.declared.limits.Limits.{Limits}
+use Rattle.ledger_model.proofs.GrowLaws.{close_none, size_closed, root_kept}
+use Rattle.ledger_model.proofs.KeepLaws.{journals_close, journals_wider}
+use Rattle.ledger_book.specs.Books.{Kept, Stands, sealed}
+use Rattle.ledger_book.specs.Seals.{head_at, head_of, ended, seal_of}
+use Rattle.ledger_book.specs.Steps.{IsSame, Applies}
+use Rattle.ledger_book.specs.declared.sealed.Sealed.{Sealed}
+use Rattle.ledger_cli.specs.Carries.{Carried, Carries, Judges, Does}
 
--- a job placed a journal
-pub record WasPlaced (h : History) (job : Job) (jsn : ℕ) : Type 0 where
-  pub journal : Entry
-  pub jsn_is : jsn ≡ size h
-  pub accepted : own_refusal real h job ≡ None
-  pub placed_is : placed h job ≡ Some journal
+-- the head of so many journals
+abbrev head_with : ℕ → List ℕ → Head
+head_with n root_is = record { size = n; root = digest root_is }
 
-told_placed : (h : History) (job : Job) (jsn : ℕ) (refusal : Option Refusal) (journal : Option Entry) → own_refusal real h job ≡ refusal → placed h job ≡ journal → came.Placed jsn ≡ told (size h) refusal journal → WasPlaced h job jsn
-told_placed h job jsn (Some refusal) journal r p is = absurd (let no : ⊥ = cc is in no)
-told_placed h job jsn None (Some journal) r p is = record { journal = journal; jsn_is = cc is; accepted = r; placed_is = p }
-told_placed h job jsn None None r p is = absurd (let no : ⊥ = cc is in no)
+-- a job that asks for something ends the open block first
+asks_closes : (job : Job) (q : Query) → asked job ≡ Some q → closes_before job ≡ true
+asks_closes (asks.Refused refusal) q is = absurd (let no : ⊥ = cc is in no)
+asks_closes (asks.Append member clue content content_digest request by) q is = absurd (let no : ⊥ = cc is in no)
+asks_closes (asks.NewMember number key by) q is = absurd (let no : ⊥ = cc is in no)
+asks_closes (asks.Clue clue) q is = refl
+asks_closes asks.Head q is = refl
 
-pub was_placed : (h : History) (job : Job) (jsn : ℕ) → came.Placed jsn ≡ outcome real h job → WasPlaced h job jsn
-unfolding outcome
-was_placed h job jsn is = told_placed h job jsn (own_refusal real h job) (placed h job) refl refl is
+-- .. so nothing waits when it is told
+pub asked_settled : (g : History) (job : Job) (came_is : Outcome) (q : Query) → AsksFor job came_is → came_is ≡ came.Reading q → (closes_before job ≡ true → g.waiting ≡ []) → g.waiting ≡ []
+asked_settled g job came_is q told_it is none = none (asks_closes job q (subst (AsksFor job) is told_it))
 
--- .. was refused
-told_refused : (n : ℕ) (why : Refusal) (refusal : Option Refusal) (journal : Option Entry) → came.Refused why ≡ told n refusal journal → refusal ≡ Some why
-told_refused n why (Some refusal) journal is = cc is
-told_refused n why None (Some journal) is = absurd (let no : ⊥ = cc is in no)
-told_refused n why None None is = absurd (let no : ⊥ = cc is in no)
+-- a job leaves the blocks that have ended, and adds journals behind
+record Adds (g h : History) : Type 0 where
+  closed_are : h.closed ≡ g.closed
+  more : List Entry
+  journals_are : journals h ≡ journals g ++ more
 
-was_refused : (h : History) (job : Job) (why : Refusal) → came.Refused why ≡ outcome real h job → own_refusal real h job ≡ Some why
-unfolding outcome
-was_refused h job why is = told_refused (size h) why (own_refusal real h job) (placed h job) is
+adds_judged : (g : History) (refusal : Option Refusal) (journal : Option Entry) → Adds g (after_judgement refusal journal g)
+adds_judged g (Some refusal) journal = record { closed_are = refl; more = []; journals_are = sym (append-nil (journals g)) }
+adds_judged g None None = record { closed_are = refl; more = []; journals_are = sym (append-nil (journals g)) }
+adds_judged g None (Some journal) = record { closed_are = refl; more = journal ∷ []; journals_are = journals_wider g journal }
 
--- .. or only asked
-told_reading : (n : ℕ) (refusal : Option Refusal) (journal : Entry) → came.Reading ≡ told n refusal (Some journal) → ⊥
-told_reading n (Some refusal) journal is = let no : ⊥ = cc is in no
-told_reading n None journal is = let no : ⊥ = cc is in no
-
--- a job that may place a journal isn't one that only asks
-pub never_reading : (h : History) (job : Job) → may_place job ≡ true → came.Reading ≡ outcome real h job → ⊥
-unfolding outcome
-never_reading h (Refused refusal) may is = let no : ⊥ = cc may in no
-never_reading h (Append member clue content content_digest request by) may is =
-    told_reading (size h) (own_refusal real h (Append member clue content content_digest request by)) (append_journal h member clue content content_digest request by) is
-never_reading h (NewMember number key by) may is = told_reading (size h) (own_refusal real h (NewMember number key by)) (member_journal (size h) number key by) is
-never_reading h (Clue clue) may is = let no : ⊥ = cc may in no
-never_reading h Head may is = let no : ⊥ = cc may in no
-
--- the history that such a job is judged against
-judged_open : (h : History) (job : Job) → may_place job ≡ true → judged_at h job ≡ h
-judged_open h (Refused refusal) may = refl
-judged_open h (Append member clue content content_digest request by) may = refl
-judged_open h (NewMember number key by) may = refl
-judged_open h (Clue clue) may = absurd (let no : ⊥ = cc may in no)
-judged_open h Head may = absurd (let no : ⊥ = cc may in no)
-
--- the book's journal waits, and the history's is placed
-pub applied_waits : (h : History) (job : Job) (jsn : ℕ) → (w : WasPlaced h job jsn) → applied real h job ≡ with_waiting (Some w.journal) h
+adds_applied : (g : History) (job : Job) → Adds g (applied real None g job)
 unfolding applied
-applied_waits h job jsn w = ap (λ r. after_judgement r (placed h job) h) w.accepted ∙ ap (λ j. after_judgement None j h) w.placed_is
+adds_applied g job = adds_judged g (own_refusal real g job) (placed g None job)
 
-after_placed : (h : History) (step : Step) (job : Job) (jsn : ℕ) → may_place job ≡ true → (w : WasPlaced h job jsn) → after_job h step job ≡ place w.journal h
-unfolding after_job
-after_placed h step job jsn may w =
-    ap (λ g. with_accepted (own_refusal real g job) (placed g job) g) (judged_open h job may)
-    ∙ ap (λ r. with_accepted r (placed h job) h) w.accepted ∙ ap (λ j. with_accepted None j h) w.placed_is
+head_kept : (g h : History) → Adds g h → head_of g ≡ head_of h
+head_kept g h a =
+    let count : sealed g ≡ sealed h = ap (λ (bs : List (List Entry)). length (journals_of bs)) (sym a.closed_are) in
+    let kept : root h (sealed g) ≡ root g (sealed g) = root_kept g h a.more (sealed g) a.journals_are (omega (arith, length-append (journals_of g.closed) g.waiting)) in
+    ap (λ r. head_with (sealed g) r) (sym kept) ∙ ap (head_at h) count
 
--- its receipt
-receipt_of : (h : History) (step : Step) (job : Job) (journal : Entry) → placed h job ≡ Some journal → accepted h step job ≡ Receipt (size h) (digest (leaf_digest journal))
-receipt_of h step (Refused refusal) journal is = absurd (let no : ⊥ = cc is in no)
-receipt_of h step (Append member clue content content_digest request by) journal is =
-    let e : append_journal h member clue content content_digest request by ≡ journal = cc is in ap (λ (j : Entry). Receipt (size h) (digest (leaf_digest j))) e
-receipt_of h step (NewMember number key by) journal is =
-    let e : member_journal (size h) number key by ≡ journal = cc is in ap (λ (j : Entry). Receipt (size h) (digest (leaf_digest j))) e
-receipt_of h step (Clue clue) journal is = absurd (let no : ⊥ = cc is in no)
-receipt_of h step Head journal is = absurd (let no : ⊥ = cc is in no)
-
-answer_placed : (h : History) (step : Step) (job : Job) (jsn : ℕ) → may_place job ≡ true → (w : WasPlaced h job jsn) → answer_to h step job ≡ Receipt (size h) (digest (leaf_digest w.journal))
-unfolding answer_to
-answer_placed h step job jsn may w =
-    ap (λ g. answered (own_refusal real g job) (accepted g step job)) (judged_open h job may)
-    ∙ ap (λ r. answered r (accepted h step job)) w.accepted ∙ receipt_of h step job w.journal w.placed_is
-
-pub does_placed : (new : Kept) (h : History) (step : Step) (job : Job) (jsn : ℕ) (leaf : Digest) → may_place job ≡ true → (w : WasPlaced h job jsn) → leaf ≡ digest (leaf_digest w.journal) → Carries new (place w.journal h) → Does h step job (Receipt jsn leaf) new
-does_placed new h step job jsn leaf may w is c = record {
-  answer_is = ap (λ n. Receipt n leaf) w.jsn_is ∙ ap (Receipt (size h)) is ∙ sym (answer_placed h step job jsn may w);
-  carries = subst (Carries new) (sym (after_placed h step job jsn may w)) c;
-}
-
--- a refusal that comes of the judgement
-applied_refused : (h : History) (job : Job) (why : Refusal) → own_refusal real h job ≡ Some why → applied real h job ≡ h
-unfolding applied
-applied_refused h job why r = ap (λ x. after_judgement x (placed h job) h) r
-
-after_refused : (h : History) (step : Step) (job : Job) (why : Refusal) → may_place job ≡ true → own_refusal real h job ≡ Some why → after_job h step job ≡ h
-unfolding after_job
-after_refused h step job why may r =
-    ap (λ g. with_accepted (own_refusal real g job) (placed g job) g) (judged_open h job may) ∙ ap (λ x. with_accepted x (placed h job) h) r
-
-answer_refused : (h : History) (step : Step) (job : Job) (why : Refusal) → may_place job ≡ true → own_refusal real h job ≡ Some why → answer_to h step job ≡ Reply (reply.Refused why)
-unfolding answer_to
-answer_refused h step job why may r =
-    ap (λ g. answered (own_refusal real g job) (accepted g step job)) (judged_open h job may) ∙ ap (λ x. answered x (accepted h step job)) r
-
-pub does_refused : (old new : Kept) (h : History) (step : Step) (job : Job) (why : Refusal) → may_place job ≡ true → came.Refused why ≡ outcome real h job → Carries old h → Serves new (applied real h job) → IsSame old new → Does h step job (Reply (reply.Refused why)) new
-does_refused old new h step job why may is c s same =
-    let r = was_refused h job why is in record {
-      answer_is = sym (answer_refused h step job why may r);
-      carries = subst (Carries new) (applied_refused h job why r ∙ sym (after_refused h step job why may r)) (carries_applied old new h job c s same);
+-- the ledger after a job that was judged
+pub judges : (old new : Kept) (l : Carried) (g : History) (step : Step) (job : Job) (came_is : Outcome) (answer : Answer) → l.book ≡ old → Carries l g → Applies old.limits None g job came_is new → IsSame old new
+    → answer ≡ answer_for g step came_is → Judges g step job answer (record { book = new; block = l.block; head = l.head })
+judges old new l g step job came_is answer book_is c applies same is =
+    let limits : old.limits ≡ real = ap (λ (k : Kept). k.limits) (sym book_is) ∙ c.limits in
+    let real_applies = subst (λ (x : Limits). Applies x None g job came_is new) limits applies in
+    let a = adds_applied g job in record {
+      answer_is = is ∙ ap (answer_for g step) real_applies.outcome_is;
+      carries = record {
+        serves = real_applies.serves;
+        limits = same.limits ∙ limits;
+        block_is = c.block_is ∙ ap (λ (bs : List (List Entry)). length bs - 1) (sym a.closed_are);
+        head_is = c.head_is ∙ head_kept g (applied real None g job) a;
+      };
     }
 
--- what the book's judgement came to, under the limits of each ledger
-applied_real : (old new : Kept) (h : History) (job : Job) (outcome : Outcome) → Carries old h → Applies old.limits h job outcome new → Applies real h job outcome new
-applied_real old new h job outcome c a = subst (λ limits. Applies limits h job outcome new) c.limits a
+-- what is told of a block's end
+has_ended : (h : History) (js : List Entry) (s : Sealed) → Some s ≡ ended h js → (0 < length js) × (s ≡ record { block = blocks h; first = sealed h; head = head_at h (size h) })
+has_ended h [] s is = absurd (let no : ⊥ = cc is in no)
+has_ended h (j ∷ js) s is = (omega arith, cc is)
 
--- where it placed a journal, that waits in the book's open block
-pub has_placed : (old new : Kept) (h : History) (job : Job) (outcome : Outcome) (jsn : ℕ) → Carries old h → Applies old.limits h job outcome new → outcome ≡ came.Placed jsn → IsSame old new → HasPlaced new
-has_placed old new h job outcome jsn c applies is same =
-    let a = applied_real old new h job outcome c applies in
-    let w = was_placed h job jsn (sym is ∙ a.outcome_is) in record {
-      before = h;
-      journal = w.journal;
-      carries = subst (Carries new) (applied_waits h job jsn w) (carries_applied old new h job c a.serves same);
+closed_more : (blocks : List (List Entry)) (waiting : List Entry) → 0 < length waiting → length (close_by blocks waiting).closed ≡ length blocks + 1
+closed_more blocks [] some = absurd (omega (arith, some))
+closed_more blocks (j ∷ js) some = length-append blocks ((j ∷ js) ∷ [])
+
+close_more : (h : History) → 0 < length h.waiting → length (close h).closed ≡ length h.closed + 1
+unfolding close
+close_more h some = closed_more h.closed h.waiting some
+
+-- the head at a block's end
+head_closed : (h : History) → head_at h (size h) ≡ head_of (close h)
+head_closed h =
+    let same : journals (close h) ≡ journals h ++ [] = journals_close h ∙ sym (append-nil (journals h)) in
+    let count : size h ≡ sealed (close h) = ap length (sym (journals_close h)) ∙ size_closed (close h) (close_none h) in
+    ap (λ r. head_with (size h) r) (sym (root_kept h (close h) [] (size h) same (omega arith))) ∙ ap (head_at (close h)) count
+
+-- the ledger after a block's end
+pub carries_ended : (l : Carried) (new : Kept) (h : History) (s : Sealed) → Carries l h → Stands new (close h) → IsSame l.book new → Some s ≡ seal_of h → Carries (record { book = new; block = s.block; head = s.head }) (close h)
+carries_ended l new h s c stands same is =
+    let e = has_ended h h.waiting s is in record {
+      serves = record { stands = stands; seen = subst (λ n. new.floor ≤ n) (sym same.point) (subst (λ n. n ≤ l.book.point) (sym same.floor) c.serves.seen) };
+      limits = same.limits ∙ c.limits;
+      block_is = ap (λ (x : Sealed). x.block) e.1 ∙ omega (arith, close_more h e.0);
+      head_is = ap (λ (x : Sealed). x.head) e.1 ∙ head_closed h;
     }
 
-pub judged_placed : (old mid new : Kept) (h : History) (step : Step) (job : Job) (outcome : Outcome) (jsn : ℕ) (leaf : Digest) → may_place job ≡ true → Carries old h → Applies old.limits h job outcome mid → outcome ≡ came.Placed jsn → IsSame old mid
-    → ((g : History) (journal : Entry) → Carries mid (with_waiting (Some journal) g) → leaf ≡ digest (leaf_digest journal))
-    → ((g : History) (journal : Entry) → Carries mid (with_waiting (Some journal) g) → Carries new (place journal g)) → Does h step job (Receipt jsn leaf) new
-judged_placed old mid new h step job outcome jsn leaf may c applies is same leaf_is placed =
-    let a = applied_real old mid h job outcome c applies in
-    let w = was_placed h job jsn (sym is ∙ a.outcome_is) in
-    let waits : Carries mid (with_waiting (Some w.journal) h) = subst (Carries mid) (applied_waits h job jsn w) (carries_applied old mid h job c a.serves same) in
-    does_placed new h step job jsn leaf may w (leaf_is h w.journal waits) (placed h w.journal waits)
+-- the open block ends before a job that asks for that
+pub carries_before : (l : Carried) (h : History) (job : Job) → closes_before job ≡ true → Carries l (close h) → Carries l (judged_at h job)
+carries_before l h job closes c = subst (Carries l) (sym (ap (λ b. cond b (close h) h) closes)) c
 
-pub judged_refused : (old new : Kept) (h : History) (step : Step) (job : Job) (outcome : Outcome) (why : Refusal) → may_place job ≡ true → Carries old h → Applies old.limits h job outcome new → outcome ≡ came.Refused why → IsSame old new → Does h step job (Reply (reply.Refused why)) new
-judged_refused old new h step job outcome why may c applies is same =
-    let a = applied_real old new h job outcome c applies in
-    does_refused old new h step job why may (sym is ∙ a.outcome_is) c a.serves same
+pub judged_none : (h : History) (job : Job) → closes_before job ≡ true → (judged_at h job).waiting ≡ []
+judged_none h job closes = ap (λ b. (cond b (close h) h).waiting) closes ∙ close_none h
 
-pub judged_never : (old new : Kept) (h : History) (job : Job) (outcome : Outcome) → may_place job ≡ true → Carries old h → Applies old.limits h job outcome new → outcome ≡ came.Reading → ⊥
-judged_never old new h job outcome may c applies is =
-    let a = applied_real old new h job outcome c applies in
-    never_reading h job may (sym is ∙ a.outcome_is)
+-- .. and where it is full
+pub carries_full : (l : Carried) (h : History) (job : Job) → BLOCK_LIMIT ≤ length h.waiting → Carries l (close h) → Carries l (settled job h)
+carries_full l h job full c = subst (Carries l) (sym (ap (λ b. cond b (close h) h) (le-leb BLOCK_LIMIT (length h.waiting) full))) c
 
--- the journal that waits fills the open block, or it doesn't
-pub waits_full : (new : Kept) (h : History) (journal : Entry) (count : ℕ) → count ≡ length (with_waiting (Some journal) h).waiting → 64 ≤ count → Carries new (close (with_waiting (Some journal) h)) → Carries new (place journal h)
-waits_full new h journal count is full c =
-    subst (Carries new) (place_full h (with_waiting (Some journal) h) journal refl (subst (λ n. 64 ≤ n) is full)) c
+-- a job, in its three steps
+pub does : (h : History) (x : Said) (job : Job) (answer : Answer) (mid new : Carried) → Judges (judged_at h job) (step_of x) job answer mid → ((g : History) (any : Job) → Carries mid g → Carries new (settled any g)) → Does h (step_of x) job answer new
+unfolding after_job answer_to
+does h x job answer mid new j full = record { answer_is = j.answer_is; carries = full (applied real None (judged_at h job) job) job j.carries }
 
-pub waits_room : (new : Kept) (h : History) (journal : Entry) (count : ℕ) → count ≡ length (with_waiting (Some journal) h).waiting → count < 64 → Carries new (with_waiting (Some journal) h) → Carries new (place journal h)
-waits_room new h journal count is room c =
-    subst (Carries new) (place_room h (with_waiting (Some journal) h) journal refl (subst (λ n. n < 64) is room)) c
+-- the head where nothing waits
+abbrev pub head_with_parts : Digest → Head → ℕ → ℕ → List ℕ → AnyReply
+head_with_parts id_is head blocks_is point_is notary = reply.Head id_is head.size head.root blocks_is point_is 0 (digest notary)
 
--- what a job does, where the job is known
-pub does_as : (book : Kept) (h : History) (step : Step) (job got : Job) (answer : Answer) → job ≡ got → Does h step got answer book → Does h step job answer book
-does_as book h step job got answer is d = subst (λ j. Does h step j answer book) (sym is) d
-
--- what holds of every value that has a fact holds where the result has it
-pub if_ok_then : {E : Type 0} (P Q : Answer → Type 0) → ((a : Answer) → P a → Q a) → (r : Result Answer E) → IfOk r P → IfOk r Q
-if_ok_then P Q f (Ok a) h = f a h
-if_ok_then P Q f (Err e) h = h
-
--- a line that has no right form
-pub does_nothing : (book : Kept) (h : History) (step : Step) (why : Refusal) → Carries book h → Does h step (Refused why) (Reply (reply.Refused why)) book
-unfolding answer_to after_job
-does_nothing book h step why c = record { answer_is = refl; carries = c }
-
--- a clue's journals
-pub does_clue : (book : Kept) (h : History) (step : Step) (clue : Digest) (answer : Answer) → Carries book (close h) → answer ≡ Reply (reply.Clue (length (jsns_with (close h) clue)) (kept_with (close h) clue)) → Does h step (Clue clue) answer book
-unfolding answer_to after_job
-does_clue book h step clue answer c is = record { answer_is = is; carries = c }
-
--- the head of a history, whatever the root of the notary's empty list is called
-abbrev head_with : History → List ℕ → Answer
-head_with h notary = Reply (reply.Head (digest (id h)) (size h) (digest (root h (size h))) (blocks h) (point h) 0 (digest notary))
-
-pub does_head : (book : Kept) (h : History) (x : Said) (answer : Answer) → Carries book (close h) → answer ≡ Reply (head_of (close h)) → Does h (step_of x) Head answer book
-unfolding answer_to after_job
-does_head book h x answer c is = record { answer_is = is ∙ ap (head_with (close h)) (sym (root_none sha256)); carries = c }
+pub told_head : (l : Carried) (h : History) (x : Said) (id_is : Digest) (blocks_is point_is : ℕ) → Carries l h → h.waiting ≡ [] → id_is.0 ≡ id h → blocks_is ≡ blocks h → point_is ≡ point h
+    → head_with_parts id_is l.head blocks_is point_is (sha256 []) ≡ told h (step_of x) query.Head
+told_head l h x id_is blocks_is point_is c none i b p =
+    ap (λ d. head_with_parts (digest d) l.head blocks_is point_is (sha256 [])) i
+    ∙ ap (λ n. head_with_parts (digest (id h)) l.head n point_is (sha256 [])) b
+    ∙ ap (λ n. head_with_parts (digest (id h)) l.head (blocks h) n (sha256 [])) p
+    ∙ ap (λ k. head_with_parts (digest (id h)) k (blocks h) (point h) (sha256 [])) (c.head_is ∙ ap (head_at h) (sym (size_closed h none)))
+    ∙ ap (head_with_parts (digest (id h)) (head_at h (size h)) (blocks h) (point h)) (sym (root_none sha256))

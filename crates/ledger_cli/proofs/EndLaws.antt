@@ -12,7 +12,7 @@ use Rattle.ledger_io.specs.Reading.{Reading, Reads, GivesLine, GivesNone, Fails,
 use Rattle.ledger_io.specs.declared.failure.LineErr.{LineErr}
 use Rattle.ledger_io.specs.declared.failure.LineErr.TheVariants.{ReadFault, LineTooLong, ScriptTooLong, NoMemory}
 use Rattle.ledger_io.proofs.ReadingLaws.{HasGiven, read_none, read_more, first_lines, some_length, given_all, given_first, given_split, given_consumed, given_later}
-use Rattle.ledger_model.specs.Books.{Kept}
+use Rattle.ledger_cli.specs.Carries.{Carried}
 use Rattle.ledger_model.specs.History.{History, close}
 use Rattle.ledger_model.specs.InOrder.{steps_of}
 use Rattle.ledger_model.specs.Merge.{IsMerge, IsPartialMerge}
@@ -45,7 +45,7 @@ pub record SoFar (scheme : Scheme) (h : History) (before now : Outside) (reading
   pub count_is : count ≡ length script
 
 -- .. and the book carries the history that it came to
-pub record Reached (scheme : Scheme) (h : History) (before now : Outside) (reading : Reading) (count lines bytes : ℕ) (book : Kept) (ds : List Due) : Type 0 where
+pub record Reached (scheme : Scheme) (h : History) (before now : Outside) (reading : Reading) (count lines bytes : ℕ) (book : Carried) (ds : List Due) : Type 0 where
   pub ledger : History
   pub carries : Carries book ledger
   pub sofar : SoFar scheme h before now reading count lines bytes ledger ds
@@ -291,7 +291,7 @@ module _ (scheme : Scheme) (h : History) (before now : Outside) (source : Source
             served_short scheme h before source now.sink sink (s.script ++ line ∷ []) more.read s.written settled w.wrote.0.0 owed_now all more.consumed s.appended w.wrote.0.1 w.wrote.0.2 w.wrote.1 more.later s.sink_later s.idle_later w.later w.idle_later
 
     -- .. by the book
-    module _ (book : Kept) (new_lines new_bytes : ℕ) (new_dues : List Due) (t : Taken scheme ledger book ds new_dues lines window_bytes new_lines new_bytes (numbered (count + 1) line)) (settled : Bool)
+    module _ (book : Carried) (new_lines new_bytes : ℕ) (new_dues : List Due) (t : Taken scheme ledger book ds new_dues lines window_bytes new_lines new_bytes (numbered (count + 1) line)) (settled : Bool)
         (told : (k : History) → Carries book k → (settled ≡ true) ↔ (k.waiting ≡ [])) where
       abbrev next : History
       next = after_line scheme ledger lines window_bytes (numbered (count + 1) line)

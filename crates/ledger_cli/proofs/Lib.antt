@@ -1,7 +1,7 @@
-pub mod CarryLaws
 pub mod JobLaws
 pub mod ApplyLaws
 pub mod SettlingLaws
 pub mod SessionLaws
 pub mod EndLaws
 pub mod TopLaws
+pub mod RequestLaws

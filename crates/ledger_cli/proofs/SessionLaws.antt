@@ -1,5 +1,5 @@
 -- Lemmas on how far a session came: what it has judged, and what it has written.
-use Rattle.std.proofs.Common.{◌≡◌, ℕ, ◌+◌, ◌<◌, ◌⊎◌, inl, inr, Bool, true, false, cond, List, [], ◌∷◌, ◌++◌, length, map, take, drop, refl, ap, sym, subst, ◌∙◌, arith, length-append}
+use Rattle.std.proofs.Common.{◌≡◌, ℕ, ◌+◌, ◌<◌, ◌⊎◌, inl, inr, Bool, true, false, cond, List, [], ◌∷◌, ◌++◌, length, map, filter, ◌==◌, take, drop, refl, ap, sym, subst, ◌∙◌, arith, length-append}
 use Rattle.std.proofs.lemmas.List.{map-append, take-map, take_at, take-append-drop}
 use Rattle.ledger_model.specs.Dues.{due_for, dues}
 use Rattle.ledger_model.specs.History.{History, close}
@@ -10,12 +10,14 @@ use Rattle.ledger_model.specs.Rules.{after_step, after_steps, after_window}
 use Rattle.ledger_model.specs.Scheme.{Scheme}
 use Rattle.ledger_model.specs.Step.{Step}
 use Rattle.ledger_model.specs.Texts.{steps_text, window_text, text}
-use Rattle.ledger_model.specs.Windows.{Said, said, windows, numbered, count_of, is_full, bytes_of}
+use Rattle.ledger_model.specs.Windows.{Said, said, windows, numbered, count_of, fills_window, bytes_of}
 use Rattle.ledger_model.specs.declared.due.Due.{Due}
 use Rattle.ledger_model.proofs.DueLaws.{after_steps-append, dues-append}
-use Rattle.ledger_model.proofs.GrowLaws.{IsEnded, goes_moved, moves_close, close_settled}
+use Rattle.ledger_model.proofs.GrowLaws.{IsEnded, goes_moved, moves_close, close_none, close_settled}
+use Rattle.script_lines.specs.Grammar.{spoken}
+use Rattle.ledger_model.proofs.LineLaws.{spoken-lane}
 use Rattle.ledger_model.proofs.LaneLaws.{said_after-append, merges_front, windows_end, with_last}
-use Rattle.ledger_model.proofs.ProgressLaws.{Ahead, Underway, underway_none, ahead_step, underway_waits, underway_written, underway_window, text_end, close_none, step_ends, close_ends, text_empty, due_text_is}
+use Rattle.ledger_model.proofs.ProgressLaws.{Ahead, Underway, underway_none, ahead_step, underway_waits, underway_written, underway_window, text_end, step_ends, close_ends, text_empty, due_text_is}
 use Rattle.ledger_model.proofs.WindowLaws.{IsCut, cut_none, cut_more, cut_whole, bytes_of-push}
 use Rattle.ledger_cli.specs.Settling.{settled_text, Takes}
 
@@ -49,11 +51,14 @@ progress_none scheme h none = record {
 -- all lines belong to lane 0
 count_all : (lines : List (List ℕ)) → count_of 0 lines ≡ length lines
 count_all [] = refl
-count_all (line ∷ lines) = omega (arith, count_all lines)
+count_all (line ∷ lines) =
+    ap (λ n. length (cond (n == 0) (line ∷ filter (λ (l : List ℕ). (spoken l).0 == 0) lines) (filter (λ (l : List ℕ). (spoken l).0 == 0) lines))) (sym (spoken-lane line)) ∙ omega (arith, count_all lines)
 
 -- a script with a line more
 pub said_more : (script : List (List ℕ)) (line : List ℕ) → said (script ++ line ∷ []) ≡ said script ++ numbered (length script + 1) line ∷ []
-said_more script line = said_after-append [] script (line ∷ []) ∙ ap (λ n. said script ++ numbered (n + 1) line ∷ []) (count_all script)
+said_more script line =
+    said_after-append [] script (line ∷ []) ∙ ap (λ lane. said script ++ numbered (count_of lane script + 1) line ∷ []) (sym (spoken-lane line))
+    ∙ ap (λ n. said script ++ numbered (n + 1) line ∷ []) (count_all script)
 
 cut_said : (script : List (List ℕ)) (line : List ℕ) (done : List (List Said)) (current : List Said) → IsCut (said script ++ numbered (length script + 1) line ∷ []) done current → IsCut (said (script ++ line ∷ [])) done current
 cut_said script line done current c = subst (λ xs. IsCut xs done current) (sym (said_more script line)) c
@@ -101,17 +106,17 @@ module _ (scheme : Scheme) (h : History) (script : List (List ℕ)) (line writte
     ends_at = step_ends scheme p.begun p.pending (step_of x) p.under.same
 
     abbrev full : Bool
-    full = is_full (lines + 1) (bytes + length line)
+    full = fills_window (lines + 1) (bytes + length line)
 
-    full_is : (value : Bool) → full ≡ value → is_full (length p.current + 1) (bytes_of p.current + length line) ≡ value
-    full_is value e = ap (λ n. is_full (n + 1) (bytes_of p.current + length line)) (sym p.lines_are) ∙ ap (λ n. is_full (lines + 1) (n + length line)) (sym p.bytes_are) ∙ e
+    full_is : (value : Bool) → full ≡ value → fills_window (length p.current + 1) (bytes_of p.current + length line) ≡ value
+    full_is value e = ap (λ n. fills_window (n + 1) (bytes_of p.current + length line)) (sym p.lines_are) ∙ ap (λ n. fills_window (lines + 1) (n + length line)) (sym p.bytes_are) ∙ e
 
     -- the line doesn't end its window
     ledger_open : full ≡ false → new ≡ reached
-    ledger_open e = t.ledger ∙ ap (λ v. cond v (close (after_step scheme ledger (step_of x))) (after_step scheme ledger (step_of x))) e ∙ reached_is
+    ledger_open e = t.history ∙ ap (λ v. cond v (close (after_step scheme ledger (step_of x))) (after_step scheme ledger (step_of x))) e ∙ reached_is
 
     ledger_ended : full ≡ true → new ≡ close reached
-    ledger_ended e = t.ledger ∙ ap (λ v. cond v (close (after_step scheme ledger (step_of x))) (after_step scheme ledger (step_of x))) e ∙ ap close reached_is
+    ledger_ended e = t.history ∙ ap (λ v. cond v (close (after_step scheme ledger (step_of x))) (after_step scheme ledger (step_of x))) e ∙ ap close reached_is
 
     cut_open : full ≡ false → IsCut (said (script ++ line ∷ [])) p.done (p.current ++ x ∷ [])
     cut_open e = cut_said script line p.done (p.current ++ x ∷ []) (cut_more (said script) p.done p.current x p.cut (full_is false e))

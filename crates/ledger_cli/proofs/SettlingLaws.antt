@@ -6,9 +6,9 @@ use Rattle.ledger_io.specs.declared.writer.WriteErr.{WriteErr}
 use Rattle.ledger_io.specs.declared.writer.WriteErr.TheVariants.{WriteFault}
 use Rattle.merkle_tree.specs.declared.head.Head.{Head}
 use Rattle.ledger_book.specs.Seals.{head_of}
-use Rattle.ledger_model.specs.Books.{Kept, sealed}
+use Rattle.script_lines.specs.Grammar.{spoken}
 use Rattle.ledger_model.specs.Dues.{dues_text}
-use Rattle.ledger_model.specs.History.{History, id, size, root, blocks}
+use Rattle.ledger_model.specs.History.{History, id, size, root}
 use Rattle.ledger_model.specs.InOrder.{step_of}
 use Rattle.ledger_model.specs.Rules.{job_of, after_job, after_step}
 use Rattle.ledger_model.specs.Scheme.{Scheme}
@@ -17,31 +17,41 @@ use Rattle.ledger_model.specs.Windows.{numbered}
 use Rattle.ledger_model.specs.declared.answer.Answer.{Answer}
 use Rattle.ledger_model.specs.declared.due.Due.{Due}
 use Rattle.ledger_model.specs.declared.job.Job.{Job}
+use Rattle.ledger_io.specs.Endings.{ending_of}
 use Rattle.ledger_io.specs.declared.ending.Ending.{Ending}
+use Rattle.ledger_io.specs.declared.ending.Ending.TheVariants as ending
+use Rattle.ledger_io.specs.declared.failure.LineErr.{LineErr}
+use Rattle.ledger_io.specs.declared.failure.LineErr.TheVariants as line
 use Rattle.ledger_cli.specs.declared.session.Halt.{Halt}
 use Rattle.ledger_cli.specs.declared.session.Halt.TheVariants as halt
 use Rattle.ledger_model.proofs.GrowLaws.{size_closed}
-use Rattle.ledger_cli.specs.Carries.{Carries, Does}
-use Rattle.ledger_cli.specs.Settling.{settled_text, WritesDues, EndsScript, TakesLine, halt_of}
+use Rattle.ledger_book.specs.Books.{sealed}
+use Rattle.ledger_cli.specs.Carries.{Carried, Does, Carries}
+use Rattle.ledger_cli.specs.Settling.{settled_text, WritesDues, EndsScript, IsEndingOf, TakesLine, halt_of}
+
+abbrev due_at : ℕ → ℕ → Answer → Due
+due_at lane index answer = record { lane = lane; index = index; answer = answer }
 
 -- a line's job does what its step does, and what is due for it is the job's answer
-pub line_taken : (scheme : Scheme) (h : History) (book : Kept) (old new : List Due) (key : List ℕ) (index : ℕ) (line : List ℕ) (job : Job) (answer : Answer) → key ≡ id h → job ≡ job_of scheme key line
-    → Does h (step_of (numbered index line)) job answer book → new ≡ old ++ record { lane = 0; index = index; answer = answer } ∷ []
-    → TakesLine scheme h book old new (numbered index line)
+pub line_taken : (scheme : Scheme) (h : History) (ledger : Carried) (old new : List Due) (key : List ℕ) (lane index at : ℕ) (line : List ℕ) (job : Job) (answer : Answer) → key ≡ id h → lane ≡ (spoken line).0 → at ≡ index → job ≡ job_of scheme key line
+    → Does h (step_of (numbered index line)) job answer ledger → new ≡ old ++ record { lane = lane; index = at; answer = answer } ∷ []
+    → TakesLine scheme h ledger old new (numbered index line)
 unfolding after_step
-line_taken scheme h book old new key index line job answer key_is job_is d pushed =
+line_taken scheme h ledger old new key lane index at line job answer key_is lane_is at_is job_is d pushed =
     let step = step_of (numbered index line) in
     let is : job ≡ job_of scheme (id h) line = job_is ∙ ap (λ k. job_of scheme k line) key_is in record {
-      dues = pushed ∙ ap (λ (a : Answer). let due : Due = record { lane = 0; index = index; answer = a } in old ++ due ∷ []) (d.answer_is ∙ ap (answer_to h step) is);
-      carries = subst (λ j. Carries book (after_job h step j)) is d.carries;
+      dues =
+          pushed ∙ ap (λ n. old ++ due_at n at answer ∷ []) lane_is ∙ ap (λ n. old ++ due_at (spoken line).0 n answer ∷ []) at_is
+          ∙ ap (λ a. old ++ due_at (spoken line).0 index a ∷ []) (d.answer_is ∙ ap (answer_to h step) is);
+      carries = subst (λ j. Carries ledger (after_job h step j)) is d.carries;
     }
 
 -- the piece that is written where the last block has ended
-pub settled_piece : (h : History) (piece set : List ℕ) (block count : ℕ) (head : Head) (given ds : List Due) → h.waiting ≡ [] → piece ≡ set → set ≡ dues_text block head.size head.root.0 given → given ≡ ds
-    → block ≡ count - 1 → count ≡ blocks h → head ≡ head_of h → piece ≡ settled_text h ds
-settled_piece h piece set block count head given ds none p s g b n is =
+pub settled_piece : (h : History) (piece set : List ℕ) (block : ℕ) (head : Head) (given ds : List Due) → h.waiting ≡ [] → piece ≡ set → set ≡ dues_text block head.size head.root.0 given → given ≡ ds
+    → block ≡ length h.closed - 1 → head ≡ head_of h → piece ≡ settled_text h ds
+settled_piece h piece set block head given ds none p s g b is =
     let all : sealed h ≡ size h = sym (size_closed h none) in
-    p ∙ s ∙ ap (dues_text block head.size head.root.0) g ∙ ap (λ n. dues_text n head.size head.root.0 ds) (b ∙ ap (λ n. n - 1) n)
+    p ∙ s ∙ ap (dues_text block head.size head.root.0) g ∙ ap (λ n. dues_text n head.size head.root.0 ds) b
     ∙ ap (λ (k : Head). dues_text (length h.closed - 1) k.size k.root.0 ds) is ∙ ap (λ n. dues_text (length h.closed - 1) n (root h n) ds) all
 
 -- a fault of writing what is due
@@ -60,3 +70,17 @@ ends_whole h old new before after asked w = record { ended = inl (refl, w.wrote.
 pub ends_halted : (h : History) (old new : List Due) (before after : SinkState) (asked : Ending) (why : Halt) → WritesDues h old new before after (Err why) → EndsScript h old before after asked (halt_of why)
 ends_halted h old new before after asked halt.NoMemory w = record { ended = inr (inl (refl, w.wrote)); later = w.later; idle_later = w.idle_later }
 ends_halted h old new before after asked halt.WriteFault w = record { ended = inr (inr (refl, w.wrote)); later = w.later; idle_later = w.idle_later }
+
+-- a session that isn't to end for its words doesn't
+pub started : (asked got : Ending) → (asked ≡ ending.Usage → ⊥) → IsEndingOf asked got → got ≡ ending.Usage → ⊥
+started asked got never ends is =
+    elim ends [
+      | inl same ↦ never (sym same ∙ is)
+      | inr halted ↦ elim halted [ inl memory ↦ (let no : ⊥ = cc (memory, is) in no) | inr fault ↦ (let no : ⊥ = cc (fault, is) in no) ]
+    ]
+
+pub error_started : (error : LineErr) → ending_of error ≡ ending.Usage → ⊥
+error_started line.ReadFault is = let no : ⊥ = cc is in no
+error_started line.LineTooLong is = let no : ⊥ = cc is in no
+error_started line.ScriptTooLong is = let no : ⊥ = cc is in no
+error_started line.NoMemory is = let no : ⊥ = cc is in no

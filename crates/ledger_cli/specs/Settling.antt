@@ -2,15 +2,14 @@
 use Rattle.std.specs.Prelude.{◌≡◌, ℕ, ◌+◌, ◌-◌, ◌<◌, ◌≤◌, ◌⊎◌, if◌then◌else◌, List, [], ◌∷◌, ◌++◌, length, take, Result, Ok, Err}
 use Rattle.std.specs.Io.KnownBytes.{Appends}
 use Rattle.ledger_io.specs.Outside.{SinkState, MeetsFault}
-use Rattle.ledger_model.specs.Books.{Kept}
 use Rattle.ledger_model.specs.Dues.{due_for, dues_text}
 use Rattle.ledger_model.specs.History.{History, size, root, close}
 use Rattle.ledger_model.specs.InOrder.{step_of}
 use Rattle.ledger_model.specs.Rules.{after_step}
 use Rattle.ledger_model.specs.Scheme.{Scheme}
-use Rattle.ledger_model.specs.Windows.{Said, is_full}
+use Rattle.ledger_model.specs.Windows.{Said, fills_window}
 use Rattle.ledger_model.specs.declared.due.Due.{Due}
-use Rattle.ledger_cli.specs.Carries.{Carries}
+use Rattle.ledger_cli.specs.Carries.{Carried, Carries}
 use Rattle.ledger_io.specs.declared.ending.Ending.{Ending}
 use Rattle.ledger_io.specs.declared.ending.Ending.TheVariants as ending
 use Rattle.ledger_cli.specs.declared.session.Halt.{Halt}
@@ -21,15 +20,15 @@ abbrev pub settled_text : History → List Due → List ℕ
 settled_text h dues = dues_text (length h.closed - 1) (size h) (root h (size h)) dues
 
 -- how far the writing of what is due came
-abbrev pub Wrote : List ℕ → List Due → SinkState → SinkState → Result (Unit {0}) Halt → Type 0
-Wrote text dues before after (Ok done) = Appends before.held after.held text × (dues ≡ [])
-Wrote text dues before after (Err NoMemory) = after ≡ before
-Wrote text dues before after (Err WriteFault) =
+abbrev pub Flushed : List ℕ → List Due → SinkState → SinkState → Result (Unit {0}) Halt → Type 0
+Flushed text dues before after (Ok done) = Appends before.held after.held text × (dues ≡ [])
+Flushed text dues before after (Err NoMemory) = after ≡ before
+Flushed text dues before after (Err WriteFault) =
     ((taken : ℕ) × (taken < length text) × Appends before.held after.held (take taken text)) × MeetsFault before after
 
 -- what is due is written
 pub record WritesDues (h : History) (old new : List Due) (before after : SinkState) (result : Result (Unit {0}) Halt) : Type 0 where
-  pub wrote : Wrote (settled_text h old) new before after result
+  pub wrote : Flushed (settled_text h old) new before after result
   pub later : before.faults ≤ after.faults
   pub idle_later : before.idles ≤ after.idles
 
@@ -37,6 +36,10 @@ pub record WritesDues (h : History) (old new : List Due) (before after : SinkSta
 abbrev pub halt_of : Halt → Ending
 halt_of NoMemory = ending.NoMemory
 halt_of WriteFault = ending.WriteFault
+
+-- a session that was to end so does, or a halt comes in between
+abbrev pub IsEndingOf : Ending → Ending → Type 0
+IsEndingOf asked got = (got ≡ asked) ⊎ ((got ≡ ending.NoMemory) ⊎ (got ≡ ending.WriteFault))
 
 -- how a session ends that was to end so: what is due in the history with its last block ended is written, or it isn't
 pub record EndsScript (h : History) (dues : List Due) (before after : SinkState) (asked got : Ending) : Type 0 where
@@ -49,21 +52,21 @@ pub record EndsScript (h : History) (dues : List Due) (before after : SinkState)
 -- the history after a line, whose window it may end
 abbrev pub after_line : Scheme → History → ℕ → ℕ → Said → History
 after_line scheme h lines bytes x =
-    if is_full (lines + 1) (bytes + length x.line) then close (after_step scheme h (step_of x)) else after_step scheme h (step_of x)
+    if fills_window (lines + 1) (bytes + length x.line) then close (after_step scheme h (step_of x)) else after_step scheme h (step_of x)
 
--- a line is taken: what is due for it comes behind, and the book carries the history after it
-pub record TakesLine (scheme : Scheme) (h : History) (book : Kept) (old_dues new_dues : List Due) (x : Said) : Type 0 where
+-- a line is taken: what is due for it comes behind, and the ledger carries the history after it
+pub record TakesLine (scheme : Scheme) (h : History) (ledger : Carried) (old_dues new_dues : List Due) (x : Said) : Type 0 where
   pub dues : new_dues ≡ old_dues ++ due_for scheme h (step_of x) ∷ []
-  pub carries : Carries book (after_step scheme h (step_of x))
+  pub carries : Carries ledger (after_step scheme h (step_of x))
 
 -- a line is taken, where the window at hand has so many lines and bytes
 pub record Takes (scheme : Scheme) (old new : History) (old_dues new_dues : List Due) (old_lines old_bytes new_lines new_bytes : ℕ) (x : Said) : Type 0 where
-  pub ledger : new ≡ after_line scheme old old_lines old_bytes x
+  pub history : new ≡ after_line scheme old old_lines old_bytes x
   pub dues : new_dues ≡ old_dues ++ due_for scheme old (step_of x) ∷ []
-  pub lines : new_lines ≡ (if is_full (old_lines + 1) (old_bytes + length x.line) then 0 else old_lines + 1)
-  pub bytes : new_bytes ≡ (if is_full (old_lines + 1) (old_bytes + length x.line) then 0 else old_bytes + length x.line)
+  pub lines : new_lines ≡ (if fills_window (old_lines + 1) (old_bytes + length x.line) then 0 else old_lines + 1)
+  pub bytes : new_bytes ≡ (if fills_window (old_lines + 1) (old_bytes + length x.line) then 0 else old_bytes + length x.line)
 
--- .. and the book carries the history after it
-pub record Taken (scheme : Scheme) (h : History) (book : Kept) (old_dues new_dues : List Due) (old_lines old_bytes new_lines new_bytes : ℕ) (x : Said) : Type 0 where
+-- .. and the ledger carries the history after it
+pub record Taken (scheme : Scheme) (h : History) (ledger : Carried) (old_dues new_dues : List Due) (old_lines old_bytes new_lines new_bytes : ℕ) (x : Said) : Type 0 where
   pub takes : Takes scheme h (after_line scheme h old_lines old_bytes x) old_dues new_dues old_lines old_bytes new_lines new_bytes x
-  pub carries : Carries book (after_line scheme h old_lines old_bytes x)
+  pub carries : Carries ledger (after_line scheme h old_lines old_bytes x)

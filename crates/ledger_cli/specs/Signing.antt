@@ -7,7 +7,9 @@ use Rattle.ledger_bytes.specs.declared.digest.Digest.{Digest}
 use Rattle.journal_record.specs.Entry.{content_digest_of}
 use Rattle.journal_record.specs.Request.{clue_digest_of, member_request_digest_of, occult_request_digest_of, purge_request_digest_of, request_digest_of}
 use Rattle.journal_record.specs.Tags.{tag_proof_of}
-use Rattle.script_lines.specs.Spellings.{◌>>=◌, bytes_of, clue_of, digest_from, digest_of, number_of}
+use Rattle.ledger_bytes.specs.Digests.{digest}
+use Rattle.ledger_bytes.specs.declared.limits.TheConstants.{CONTENT_LIMIT}
+use Rattle.script_lines.specs.Spellings.{◌>>=◌, bytes_of, clue_of, digest_of, number_of}
 use Rattle.ledger_cli.specs.declared.signing.Request.{Request}
 use Rattle.ledger_cli.specs.declared.signing.Request.TheVariants.{Append, NewMember, Occult, Purge}
 use Rattle.ledger_cli.specs.declared.signing.Signing.{Signing}
@@ -39,7 +41,7 @@ clue_of_word word = if list_any (λ b. b == 32) word then None else clue_of word
 -- the request to append a content under a clue's name
 abbrev pub append_of : ℕ → List ℕ → List ℕ → Request
 append_of member clue content =
-    Append member (digest_from (clue_digest_of clue)) (length content) (digest_from (content_digest_of content))
+    Append member (digest (clue_digest_of clue)) (length content) (digest (content_digest_of content))
 
 -- `MEMBER CLUE CONTENT`
 unfoldable pub append_from : List (List ℕ) → Option Request
@@ -49,7 +51,7 @@ append_from (member ∷ clue ∷ []) = None
 append_from (member_word ∷ clue_word ∷ content_word ∷ []) = do
   member ← number_of (2 ^ 32 - 1) member_word
   clue ← clue_of_word clue_word
-  content ← bytes_of 65536 content_word
+  content ← bytes_of CONTENT_LIMIT content_word
   Some (append_of member clue content)
 append_from (member ∷ clue ∷ content ∷ more ∷ words) = None
 

@@ -34,14 +34,14 @@ fn put_due(
 {
     match &due.answer {
         Answer::Reply(reply) => put_reply(text, due.lane, due.index, reply),
-        Answer::Receipt { jsn, leaf } => {
+        Answer::Receipt { jsn, leaf, stamp } => {
             let reply = Reply::Placed {
                 jsn: *jsn,
                 leaf: *leaf,
                 block,
                 size,
                 root: *root,
-                stamp: None,
+                stamp: stamp.map(|stamp| (stamp.index, stamp.time)),
             };
             put_reply(text, due.lane, due.index, &reply)
         }

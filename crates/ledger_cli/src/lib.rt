@@ -2,9 +2,10 @@
 //! are written and the exit status.
 #![tactic(auto)]
 
-mod apply;
 mod dues;
+mod ledger;
 mod prepare;
+mod requests;
 mod session;
 mod signing;
 mod top;

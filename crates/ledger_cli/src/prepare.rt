@@ -1,10 +1,12 @@
 ghost use Rattle.std.specs.Prelude.{◌≡◌, true, Ok, IfOk};
+ghost use Rattle.script_lines.specs.Grammar.{spoken};
 ghost use Rattle.script_lines.specs.Limits.{fits_line};
 ghost use Rattle.ledger_model.specs.Fitting.{fits_job};
 ghost use Rattle.ledger_model.specs.Rules.{job_for, job_of};
 
+use crate::requests::{member_job, record_job};
 use journal_record::clue_digest;
-use ledger_book::{Job, member_job, record_job};
+use ledger_book::{Job, Prepared};
 use ledger_bytes::{Digest, NoMemory};
 use member_book::Verifier;
 use script_lines::{Line, Spoken, read_line};
@@ -16,17 +18,22 @@ pub(crate) fn prepare<V: Verifier>(
     alloc: Global,
     verifier: &V,
     id: &Digest,
+    index: u64,
     line: &[u8],
-) -> Result<Job, NoMemory>
-    ensures job { IfOk result (λ job. job ≡ job_of (V.shows verifier.now) id.now.0 line.now) }
-    ensures fits { IfOk result (λ job. fits_job job ≡ true) }
+) -> Result<Prepared, NoMemory>
+    ensures lane { IfOk result (λ item. item.lane ≡ (spoken line.now).0) }
+    ensures index { IfOk result (λ item. item.index ≡ index) }
+    ensures job { IfOk result (λ item. item.job ≡ job_of (V.shows verifier.now) id.now.0 line.now) }
 {
-    let Spoken { lane: _, what } = read_line(alloc, line)?;
-    match what {
-        Ok(line) => Ok(prepare_line(verifier, id, line)),
-        Err(refusal) => Ok(Job::Refused(refusal)),
-    }
+    let Spoken { lane, what } = read_line(alloc, line)?;
+    let job = match what {
+        Ok(line) => prepare_line(verifier, id, line),
+        Err(refusal) => Job::Refused(refusal),
+    };
+    Ok(Prepared { lane, index, job })
 }
+
+// The job of a line that has a right form.
 
 fn prepare_line<V: Verifier>(verifier: &V, id: &Digest, line: Line) -> Job
     requires { fits_line line ≡ true }

@@ -1,4 +1,4 @@
-ghost use Rattle.std.specs.Prelude.{◌≡◌, ◌≢◌, ◌↔◌, ◌++◌, ◌≤◌, ◌∷◌, [], length, IsTrue, OnOk};
+ghost use Rattle.std.specs.Prelude.{◌≡◌, ◌≢◌, ◌≤◌, [], length, OnOk};
 ghost use Rattle.ledger_io.specs.Lines.{line_limit};
 ghost use Rattle.ledger_io.specs.Outside.{outside};
 ghost use Rattle.ledger_model.specs.Dues.{due_for};
@@ -6,15 +6,14 @@ ghost use Rattle.ledger_model.specs.History.{History, close};
 ghost use Rattle.ledger_model.specs.InOrder.{step_of};
 ghost use Rattle.ledger_model.specs.Rules.{after_step};
 ghost use Rattle.ledger_model.specs.Windows.{numbered};
-ghost use Rattle.ledger_cli.specs.Carries.{Carries, CarriesSome, CarriesSettled};
+ghost use Rattle.ledger_cli.specs.Carries.{Carries};
 ghost use Rattle.ledger_cli.specs.Runs.{Served};
-ghost use Rattle.ledger_cli.specs.Settling.{WritesDues, EndsScript, TakesLine, Taken, halt_of};
+ghost use Rattle.ledger_cli.specs.Settling.{WritesDues, EndsScript, IsEndingOf, TakesLine, Taken, halt_of};
 
-use crate::apply::{apply, end_block};
 use crate::dues::set_dues;
+use crate::ledger::Ledger;
 use crate::prepare::prepare;
 use crate::window::Window;
-use ledger_book::Book;
 use ledger_bytes::NoMemory;
 use ledger_io::{Ending, Lines, Sink, Source, write_all};
 use ledger_model::Due;
@@ -33,12 +32,11 @@ pub(crate) enum Halt {
 pub(crate) fn run_script<S: Source, K: Sink, V: Verifier>(
     alloc: Global,
     verifier: &V,
-    book: &mut Book,
+    ledger: &mut Ledger,
     source: &mut S,
     sink: &mut K,
 ) -> Ending
-    requires { CarriesSettled book.old }
-    ensures served { (h : History) → Carries book.old h → h.waiting ≡ [] → Served (V.shows verifier.now) h result
+    ensures served { (h : History) → Carries ledger.old h → h.waiting ≡ [] → Served (V.shows verifier.now) h result
         (outside (S.state source.old) (K.state sink.old)) (outside (S.state source.new) (K.state sink.new)) }
     ensures started { result ≢ Ending.Usage }
 {
@@ -50,17 +48,23 @@ pub(crate) fn run_script<S: Source, K: Sink, V: Verifier>(
     loop {
         let line = match lines.next(source) {
             Ok(Some(line)) => line,
-            Ok(None) => return end_script(book, &mut dues, &mut text, sink, Ending::Done),
-            Err(error) => return end_script(book, &mut dues, &mut text, sink, Ending::from(error)),
+            Ok(None) => return end_script(ledger, &mut dues, &mut text, sink, Ending::Done),
+            Err(error) => return end_script(
+                ledger,
+                &mut dues,
+                &mut text,
+                sink,
+                Ending::from(error),
+            ),
         };
         index += 1;
         let line = line.as_slice();
-        match take_in_window(alloc, verifier, book, &mut dues, &mut window, index, line) {
+        match take_in_window(alloc, verifier, ledger, &mut dues, &mut window, index, line) {
             Ok(()) => (),
             Err(NoMemory) => return Ending::NoMemory,
         }
-        if is_settled(book) {
-            match write_dues(book, &mut dues, &mut text, sink) {
+        if ledger.is_settled() {
+            match write_dues(ledger, &mut dues, &mut text, sink) {
                 Ok(()) => (),
                 Err(halt) => return ending_at(halt),
             }
@@ -70,46 +74,41 @@ pub(crate) fn run_script<S: Source, K: Sink, V: Verifier>(
 
 // The end of the last window, and of the session.
 fn end_script<K: Sink>(
-    book: &mut Book,
+    ledger: &mut Ledger,
     dues: &mut Vec<Due>,
     text: &mut Vec<u8>,
     sink: &mut K,
     ending: Ending,
 ) -> Ending
-    ensures { (h : History) → Carries book.old h → EndsScript (close h) dues.old.items (K.state sink.old) (K.state sink.new) ending result }
+    ensures ending { IsEndingOf ending result }
+    ensures ended { (h : History) → Carries ledger.old h
+        → EndsScript (close h) dues.old.items (K.state sink.old) (K.state sink.new) ending result }
 {
-    end_block(book);
-    match write_dues(book, dues, text, sink) {
+    ledger.end_block();
+    match write_dues(ledger, dues, text, sink) {
         Ok(()) => ending,
         Err(halt) => ending_at(halt),
     }
-}
-
-// Whether no journal waits for its block's end.
-fn is_settled(book: &Book) -> bool
-    ensures { (h : History) → Carries book.now h → IsTrue result ↔ (h.waiting ≡ []) }
-{
-    book.unsealed() == 0
 }
 
 // Takes a line, and ends the open block where that ends the window.
 fn take_in_window<V: Verifier>(
     alloc: Global,
     verifier: &V,
-    book: &mut Book,
+    ledger: &mut Ledger,
     dues: &mut Vec<Due>,
     window: &mut Window,
     index: u64,
     line: &[u8],
 ) -> Result<(), NoMemory>
-    requires limit { length line.now ≤ line_limit }
-    requires some { CarriesSome book.old }
-    ensures taken { OnOk result ((h : History) → Carries book.old h
-        → Taken (V.shows verifier.now) h book.new dues.old.items dues.new.items window.old.lines window.old.bytes window.new.lines window.new.bytes (numbered index line.now)) }
+    requires { length line.now ≤ line_limit }
+    ensures taken { OnOk result ((h : History) → Carries ledger.old h
+        → Taken (V.shows verifier.now) h ledger.new dues.old.items dues.new.items window.old.lines window.old.bytes
+        window.new.lines window.new.bytes (numbered index line.now)) }
 {
-    take(alloc, verifier, book, dues, index, line)?;
+    take(alloc, verifier, ledger, dues, index, line)?;
     if window.add(line.len()) {
-        end_block(book);
+        ledger.end_block();
     }
     Ok(())
 }
@@ -118,19 +117,19 @@ fn take_in_window<V: Verifier>(
 fn take<V: Verifier>(
     alloc: Global,
     verifier: &V,
-    book: &mut Book,
+    ledger: &mut Ledger,
     dues: &mut Vec<Due>,
     index: u64,
     line: &[u8],
 ) -> Result<(), NoMemory>
-    requires { CarriesSome book.old }
-    ensures { OnOk result ((h : History) → Carries book.old h → TakesLine (V.shows verifier.now) h book.new dues.old.items dues.new.items (numbered index line.now)) }
+    ensures { OnOk result ((h : History) → Carries ledger.old h
+        → TakesLine (V.shows verifier.now) h ledger.new dues.old.items dues.new.items (numbered index line.now)) }
 {
-    let job = prepare(alloc, verifier, &book.id(), line)?;
-    let answer = apply(book, &job)?;
+    let item = prepare(alloc, verifier, &ledger.id(), index, line)?;
+    let answer = ledger.take(&item.job)?;
     dues.push(Due {
-        lane: 0,
-        index,
+        lane: item.lane,
+        index: item.index,
         answer,
     })?;
     Ok(())
@@ -138,16 +137,15 @@ fn take<V: Verifier>(
 
 // Writes all that is due, where the last block of the ledger has ended.
 fn write_dues<K: Sink>(
-    book: &Book,
+    ledger: &Ledger,
     dues: &mut Vec<Due>,
     text: &mut Vec<u8>,
     sink: &mut K,
 ) -> Result<(), Halt>
-    ensures { (h : History) → Carries book.now h → h.waiting ≡ []
+    ensures { (h : History) → Carries ledger.now h → h.waiting ≡ []
         → WritesDues h dues.old.items dues.new.items (K.state sink.old) (K.state sink.new) result }
 {
-    let block = book.blocks().saturating_sub(1);
-    match set_dues(text, block, &book.head(), dues.as_slice()) {
+    match set_dues(text, ledger.block(), &ledger.head(), dues.as_slice()) {
         Ok(()) => (),
         Err(NoMemory) => return Err(Halt::NoMemory),
     }

@@ -5,13 +5,10 @@ use journal_record::{
     clue_digest, content_digest, member_request_digest, occult_request_digest,
     purge_request_digest, request_digest,
 };
-use ledger_bytes::{Digest, NoMemory};
+use ledger_bytes::{CONTENT_LIMIT, Digest, NoMemory};
 use member_book::tag_proof;
 use script_lines::{is_bytes, read_bytes, read_clue, read_digest, read_number};
 use std::alloc::Global;
-
-/// The longest content in bytes.
-const CONTENT_MAX: usize = 65_536;
 
 /// A request that is to be proved: on which ledger, and by which key.
 #[derive(Clone, Copy, Debug, PartialEq, Eq)]
@@ -143,10 +140,10 @@ fn read_append(alloc: Global, fields: &[String]) -> Result<Option<Request>, NoMe
     };
     let content = content.as_bytes();
     // Words of no form are told without memory.
-    if !is_bytes(content, CONTENT_MAX) {
+    if !is_bytes(content, CONTENT_LIMIT as usize) {
         return Ok(None);
     }
-    let Some(content) = read_bytes(alloc, content, CONTENT_MAX)? else {
+    let Some(content) = read_bytes(alloc, content, CONTENT_LIMIT as usize)? else {
         return Ok(None);
     };
     Ok(Some(Request::Append {

@@ -7,6 +7,7 @@ use sha2::{Digest as Hasher, Sha256};
 use std::alloc::Global;
 use std::test::Fail;
 
+mod book;
 mod plain;
 mod sign;
 

@@ -7,12 +7,12 @@ ghost use Rattle.ledger_cli.specs.Signing.{signed_text};
 ghost use Rattle.ledger_cli.specs.Words.{command_of};
 
 use crate::Command;
+use crate::ledger::Ledger;
 use crate::session::run_script;
 use crate::signing::Signing;
-use ledger_book::Book;
 use ledger_bytes::NoMemory;
 use ledger_io::{Ending, Sink, Source, finish, write_all};
-use ledger_model::{Genesis, Limits};
+use ledger_model::Genesis;
 use member_book::Verifier;
 use std::alloc::Global;
 
@@ -80,8 +80,8 @@ fn run_dry<S: Source, K: Sink, V: Verifier>(
         (outside (S.state source.old) (K.state sink.old)) (outside (S.state source.new) (K.state sink.new)) }
     ensures started { result ≢ Ending.Usage }
 {
-    match Book::new(alloc, genesis, Limits::real()) {
-        Ok(mut book) => run_script(alloc, verifier, &mut book, source, sink),
+    match Ledger::new(alloc, genesis) {
+        Ok(mut ledger) => run_script(alloc, verifier, &mut ledger, source, sink),
         Err(NoMemory) => Ending::NoMemory,
     }
 }

@@ -1,19 +1,23 @@
 -- Lemmas on what is due: when a block has ended, the lines that are due for it are the text of its steps.
 use Rattle.std.proofs.Common.{◌≡◌, ℕ, ◌-◌, ◌<◌, ◌≤◌, ◌⊎◌, inl, inr, List, [], ◌∷◌, ◌++◌, length, Option, Some, None, refl, ap, sym, ◌∙◌, arith, append_assoc, length-append}
 use Rattle.std.specs.Prelude.{⊤}
+use Rattle.ledger_bytes.specs.Digests.{digest}
 use Rattle.ledger_bytes.specs.declared.digest.Digest.{Digest}
 use Rattle.ledger_bytes.specs.declared.refusal.Refusal.{Refusal}
 use Rattle.journal_record.specs.Entry.{Entry}
+use Rattle.journal_record.specs.declared.stamp.Stamp.{Stamp}
 use Rattle.script_lines.specs.Replies.{reply_text}
 use Rattle.script_lines.specs.declared.reply.Reply.TheVariants as reply
 use Rattle.ledger_model.specs.Appends.{append_journal, member_journal}
 use Rattle.ledger_model.specs.Dues.{due_for, dues, reply_at, dues_text, IsWithin}
-use Rattle.ledger_model.specs.Genesis.{digest}
-use Rattle.ledger_model.specs.History.{History, id, journals, journals_of, size, root, close, place, leaf_digest, block_of, end_of}
-use Rattle.ledger_model.specs.Rules.{job_of, after_job, after_step, after_steps, after_window, after, refusal_of, with_accepted}
+use Rattle.ledger_model.specs.History.{History, id, journals, journals_of, size, root, close, block_of, end_of}
+use Rattle.ledger_model.specs.Judgements.{own_refusal}
+use Rattle.ledger_model.specs.Limits.{real}
+use Rattle.ledger_model.specs.Outcomes.{after_judgement, applied, placed_as, judged, outcome}
+use Rattle.ledger_model.specs.Rules.{settled, job_of, after_job, after_step, after_steps, after_window, after}
 use Rattle.ledger_model.specs.Scheme.{Scheme}
 use Rattle.ledger_model.specs.Step.{Step}
-use Rattle.ledger_model.specs.Texts.{answered, answer_to, reply_in, step_text, steps_text, window_text, text}
+use Rattle.ledger_model.specs.Texts.{answer_for, answer_to, told_stamp, reply_in, step_text, steps_text, window_text, text}
 use Rattle.ledger_model.specs.declared.answer.Answer.{Answer}
 use Rattle.ledger_model.specs.declared.answer.Answer.TheVariants.{Reply, Receipt}
 use Rattle.ledger_model.specs.declared.due.Due.{Due}
@@ -26,23 +30,22 @@ abbrev pub AllWithin : ℕ → ℕ → List Due → Type 0
 AllWithin low high [] = ⊤
 AllWithin low high (due ∷ dues) = IsWithin low high due.answer × AllWithin low high dues
 
-size_placed : (k : History) (journal : Entry) → size k < size (place journal k)
-size_placed k journal = let p = is_placed k journal in omega (arith, ap length p.journals_are, length-append (journals k) (journal ∷ []))
-
-within_accepted : (k : History) (refusal : Option Refusal) (journal : Entry) (leaf : Digest) → IsWithin (size k) (size (with_accepted refusal (Some journal) k)) (answered refusal (Receipt (size k) leaf))
-within_accepted k (Some refusal) journal leaf = tt
-within_accepted k None journal leaf = (omega arith, size_placed k journal)
+-- a journal that is placed has the next number
+within_judged : (k : History) (step : Step) (job : Job) (refusal : Option Refusal) (journal : Entry)
+    → IsWithin (size k) (size (settled job (after_judgement refusal (Some journal) k))) (answer_for k step (judged refusal (placed_as (size k) journal)))
+within_judged k step job (Some refusal) journal = tt
+within_judged k step job None journal =
+    let p = is_placed k job journal in (omega arith, omega (arith, ap length p.journals_are, length-append (journals k) (journal ∷ [])))
 
 -- a receipt's journal is the one that the job places
 within_job : (k : History) (step : Step) (job : Job) → IsWithin (size k) (size (after_job k step job)) (answer_to k step job)
-unfolding after_job answer_to
+unfolding after_job answer_to applied outcome
 within_job k step (Refused refusal) = tt
 within_job k step (Append member clue content content_digest request by) =
-    let journal = append_journal k member clue content content_digest request by in
-    within_accepted k (refusal_of k step (Append member clue content content_digest request by)) journal (digest (leaf_digest journal))
+    let job = Append member clue content content_digest request by in
+    within_judged k step job (own_refusal real k job) (append_journal k member clue content content_digest request by)
 within_job k step (NewMember number key by) =
-    let journal = member_journal (size k) number key by in
-    within_accepted k (refusal_of k step (NewMember number key by)) journal (digest (leaf_digest journal))
+    let job = NewMember number key by in within_judged k step job (own_refusal real k job) (member_journal (size k) number key by)
 within_job k step (Clue clue) = tt
 within_job k step Head = tt
 
@@ -67,7 +70,7 @@ goes_window scheme k steps = goes_then k (after_steps scheme k steps) (after_win
 
 within_wider : (low lower high higher : ℕ) (answer : Answer) → lower ≤ low → high ≤ higher → IsWithin low high answer → IsWithin lower higher answer
 within_wider low lower high higher (Reply reply) l h w = tt
-within_wider low lower high higher (Receipt jsn leaf) l h w = (omega (arith, w.0), omega (arith, w.1))
+within_wider low lower high higher (Receipt jsn leaf stamp) l h w = (omega (arith, w.0), omega (arith, w.1))
 
 all_wider : (low lower high : ℕ) (ds : List Due) → lower ≤ low → AllWithin low high ds → AllWithin lower high ds
 all_wider low lower high [] l w = tt
@@ -87,16 +90,16 @@ dues_within scheme k (step ∷ steps) =
 abbrev Agree : History → History → Answer → Type 0
 Agree window g answer = reply_in window answer ≡ reply_in g answer
 
-receipt_kept : (g window : History) (jsn : ℕ) (leaf : Digest) → g.waiting ≡ [] → Goes g window → jsn < size g → Agree window g (Receipt jsn leaf)
-receipt_kept g window jsn leaf none a below =
+receipt_kept : (g window : History) (jsn : ℕ) (leaf : Digest) (stamp : Option Stamp) → g.waiting ≡ [] → Goes g window → jsn < size g → Agree window g (Receipt jsn leaf stamp)
+receipt_kept g window jsn leaf stamp none a below =
     let at = end_of-goes g window jsn none a below in
-    ap (λ b. reply.Placed jsn leaf b (end_of window jsn) (digest (root window (end_of window jsn))) None) (block_of-goes g window jsn none a below)
-    ∙ ap (λ n. reply.Placed jsn leaf (block_of g jsn) n (digest (root window n)) None) at
-    ∙ ap (λ r. reply.Placed jsn leaf (block_of g jsn) (end_of g jsn) (digest r) None) (root_kept g window a.more (end_of g jsn) a.journals_are (end_of-le g jsn none below))
+    ap (λ b. reply.Placed jsn leaf b (end_of window jsn) (digest (root window (end_of window jsn))) (told_stamp stamp)) (block_of-goes g window jsn none a below)
+    ∙ ap (λ n. reply.Placed jsn leaf (block_of g jsn) n (digest (root window n)) (told_stamp stamp)) at
+    ∙ ap (λ r. reply.Placed jsn leaf (block_of g jsn) (end_of g jsn) (digest r) (told_stamp stamp)) (root_kept g window a.more (end_of g jsn) a.journals_are (end_of-le g jsn none below))
 
 answer_kept : (g window : History) (low : ℕ) (answer : Answer) → g.waiting ≡ [] → Goes g window → IsWithin low (size g) answer → Agree window g answer
 answer_kept g window low (Reply reply) none a w = refl
-answer_kept g window low (Receipt jsn leaf) none a w = receipt_kept g window jsn leaf none a w.1
+answer_kept g window low (Receipt jsn leaf stamp) none a w = receipt_kept g window jsn leaf stamp none a w.1
 
 -- the text of some steps in a later history is that in the history where their blocks have ended
 steps_kept : (scheme : Scheme) (k g window : History) (low : ℕ) (steps : List Step) → g.waiting ≡ [] → Goes g window → AllWithin low (size g) (dues scheme k steps) → steps_text scheme window k steps ≡ steps_text scheme g k steps
@@ -125,16 +128,16 @@ window_split scheme k xs ys none =
     ∙ ap (λ front. front ++ window_text scheme g ys) (steps_kept scheme k g (after_window scheme g ys) (size k) xs none (goes_window scheme g ys) (dues_within scheme k xs))
 
 -- what a block that has ended makes of the answers that were due for it
-receipt_ended : (k g : History) (jsn : ℕ) (leaf : Digest) → k.waiting ≡ [] → (e : IsEnded k g) → size k ≤ jsn → jsn < size g → reply_in g (Receipt jsn leaf) ≡ reply_at (length g.closed - 1) (size g) (root g (size g)) (Receipt jsn leaf)
-receipt_ended k g jsn leaf none e above below =
+receipt_ended : (k g : History) (jsn : ℕ) (leaf : Digest) (stamp : Option Stamp) → k.waiting ≡ [] → (e : IsEnded k g) → size k ≤ jsn → jsn < size g → reply_in g (Receipt jsn leaf stamp) ≡ reply_at (length g.closed - 1) (size g) (root g (size g)) (Receipt jsn leaf stamp)
+receipt_ended k g jsn leaf stamp none e above below =
     let at = end_of-ended k g jsn none e above below in
-    ap (λ b. reply.Placed jsn leaf b (end_of g jsn) (digest (root g (end_of g jsn))) None) (block_of-ended k g jsn none e above below)
-    ∙ ap (λ n. reply.Placed jsn leaf (length g.closed - 1) n (digest (root g n)) None) at
+    ap (λ b. reply.Placed jsn leaf b (end_of g jsn) (digest (root g (end_of g jsn))) (told_stamp stamp)) (block_of-ended k g jsn none e above below)
+    ∙ ap (λ n. reply.Placed jsn leaf (length g.closed - 1) n (digest (root g n)) (told_stamp stamp)) at
 
 answer_ended : (k g : History) (answer : Answer) → k.waiting ≡ [] → (size g ≡ size k) ⊎ IsEnded k g → IsWithin (size k) (size g) answer → reply_in g answer ≡ reply_at (length g.closed - 1) (size g) (root g (size g)) answer
 answer_ended k g (Reply reply) none ended w = refl
-answer_ended k g (Receipt jsn leaf) none ended w =
-    elim ended [ inl same ↦ absurd (let no : ⊥ = omega (arith, same, w.0, w.1) in no) | inr e ↦ receipt_ended k g jsn leaf none e w.0 w.1 ]
+answer_ended k g (Receipt jsn leaf stamp) none ended w =
+    elim ended [ inl same ↦ absurd (let no : ⊥ = omega (arith, same, w.0, w.1) in no) | inr e ↦ receipt_ended k g jsn leaf stamp none e w.0 w.1 ]
 
 dues_ended : (scheme : Scheme) (k g j : History) (steps : List Step) → k.waiting ≡ [] → (size g ≡ size k) ⊎ IsEnded k g → AllWithin (size k) (size g) (dues scheme j steps) → steps_text scheme g j steps ≡ dues_text (length g.closed - 1) (size g) (root g (size g)) (dues scheme j steps)
 unfolding step_text

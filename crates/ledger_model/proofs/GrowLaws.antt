@@ -1,16 +1,19 @@
 -- Lemmas on how a history grows, and on what stays true of the part that was there.
 use Rattle.std.proofs.Common.{◌≡◌, ℕ, ◌+◌, ◌-◌, ◌<◌, ◌≤◌, ◌⊎◌, inl, inr, true, false, cond, nat_lt, nat_le, List, [], ◌∷◌, ◌++◌, length, map, take, Option, Some, None, refl, ap, sym, subst, ◌∙◌, arith, append_assoc, append-nil, length-append}
-use Rattle.std.proofs.lemmas.Bool.{lt-ltb, le-ltb, ltb-false, le-leb, lt-leb}
+use Rattle.std.proofs.lemmas.Bool.{lt-ltb, le-ltb, ltb-false}
 use Rattle.std.proofs.lemmas.List.{map-append, length-map, take-append-le}
 use Rattle.std.proofs.lemmas.List.Concat.{flat_map-append}
 use Rattle.sha2.specs.Sha256.{sha256}
 use Rattle.tree_model.specs.Tree.{mth}
+use Rattle.ledger_bytes.specs.declared.limits.TheConstants.{BLOCK_LIMIT}
 use Rattle.ledger_bytes.specs.declared.refusal.Refusal.{Refusal}
 use Rattle.journal_record.specs.Entry.{Entry}
 use Rattle.journal_record.specs.Header.{spelling}
-use Rattle.ledger_model.specs.Appends.{append_journal, member_journal}
-use Rattle.ledger_model.specs.History.{History, history, journals_of, journals, size, leaves, root, close_by, close, place, block_limit, block_from, end_from, block_of, end_of}
-use Rattle.ledger_model.specs.Rules.{with_accepted, refusal_of, after_job}
+use Rattle.ledger_model.specs.History.{History, history, journals_of, journals, size, leaves, root, close_by, close, block_from, end_from, block_of, end_of}
+use Rattle.ledger_model.specs.Judgements.{own_refusal}
+use Rattle.ledger_model.specs.Limits.{real}
+use Rattle.ledger_model.specs.Outcomes.{placed, with_waiting, after_judgement, applied}
+use Rattle.ledger_model.specs.Rules.{settled, stamp_of, after_job}
 use Rattle.ledger_model.specs.Step.{Step}
 use Rattle.ledger_model.specs.declared.job.Job.{Job}
 use Rattle.ledger_model.specs.declared.job.Job.TheVariants.{Refused, Append, NewMember, Clue, Head}
@@ -31,7 +34,7 @@ moves_not : (k : History) → Moves k k
 moves_not k = record { more = []; journals_are = sym (append-nil (journals k)); blocks_are = inl refl }
 
 -- the journals of blocks and one more
-journals_of-push : (blocks : List (List Entry)) (block : List Entry) → journals_of (blocks ++ block ∷ []) ++ [] ≡ journals_of blocks ++ block
+pub journals_of-push : (blocks : List (List Entry)) (block : List Entry) → journals_of (blocks ++ block ∷ []) ++ [] ≡ journals_of blocks ++ block
 journals_of-push blocks block =
     append-nil (journals_of (blocks ++ block ∷ [])) ∙ flat_map-append (λ (b : List Entry). b) blocks (block ∷ []) ∙ ap (λ x. journals_of blocks ++ x) (append-nil block)
 
@@ -70,35 +73,51 @@ ended_by : (blocks : List (List Entry)) (waiting : List Entry) (journal : Entry)
 ended_by blocks [] journal = refl
 ended_by blocks (x ∷ xs) journal = refl
 
--- a journal more
-pub is_placed : (k : History) (journal : Entry) → IsPlaced k (place journal k) journal
-unfolding place close
-is_placed k journal =
-    elim (nat_le block_limit (length (k.waiting ++ journal ∷ []))) as (λ full. IsPlaced k (cond full (close_by k.closed (k.waiting ++ journal ∷ [])) (history k.closed (k.waiting ++ journal ∷ []))) journal) [
+-- a journal more in the open block, which ends where that fills it
+pub is_placed : (k : History) (job : Job) (journal : Entry) → IsPlaced k (settled job (with_waiting (Some journal) k)) journal
+unfolding close
+is_placed k job journal =
+    elim (nat_le BLOCK_LIMIT (length (k.waiting ++ journal ∷ []))) as (λ full. IsPlaced k (cond full (close_by k.closed (k.waiting ++ journal ∷ [])) (history k.closed (k.waiting ++ journal ∷ []))) journal) [
       | true ↦ subst (λ g. IsPlaced k g journal) (sym (ended_by k.closed k.waiting journal)) (placed_filled k journal (k.waiting ++ journal ∷ []) refl)
       | false ↦ placed_waiting k journal
     ]
 
-moves_place : (k : History) (journal : Entry) → Moves k (place journal k)
-moves_place k journal = let p = is_placed k journal in record { more = journal ∷ []; journals_are = p.journals_are; blocks_are = p.blocks_are }
+-- no journal more
+moves_settled : (k : History) (job : Job) → Moves k (settled job k)
+moves_settled k job = elim (nat_le BLOCK_LIMIT (length k.waiting)) as (λ full. Moves k (cond full (close k) k)) [ true ↦ moves_close k | false ↦ moves_not k ]
 
-moves_accepted : (k : History) (refusal : Option Refusal) (journal : Entry) → Moves k (with_accepted refusal (Some journal) k)
-moves_accepted k (Some refusal) journal = moves_not k
-moves_accepted k None journal = moves_place k journal
+-- a job that is judged at once
+moves_judged : (k : History) (job : Job) (refusal : Option Refusal) (journal : Option Entry) → Moves k (settled job (after_judgement refusal journal k))
+moves_judged k job (Some refusal) journal = moves_settled k job
+moves_judged k job None None = moves_settled k job
+moves_judged k job None (Some journal) = let p = is_placed k job journal in record { more = journal ∷ []; journals_are = p.journals_are; blocks_are = p.blocks_are }
+
+close_by_none : (blocks : List (List Entry)) (waiting : List Entry) → (close_by blocks waiting).waiting ≡ []
+close_by_none blocks [] = refl
+close_by_none blocks (journal ∷ rest) = refl
+
+-- nothing waits once the open block has ended
+pub close_none : (k : History) → (close k).waiting ≡ []
+unfolding close
+close_none k = close_by_none k.closed k.waiting
+
+-- where nothing waits, nothing ends behind a job
+pub settled_none : (k : History) (job : Job) → k.waiting ≡ [] → k ≡ settled job k
+settled_none k job none = sym (ap (λ (w : List Entry). cond (nat_le BLOCK_LIMIT (length w)) (close k) k) none)
+
+-- a job that is judged once the open block has ended, and places nothing
+pub moves_asking : (k : History) (job : Job) → Moves k (settled job (close k))
+moves_asking k job = subst (Moves k) (settled_none (close k) job (close_none k)) (moves_close k)
 
 -- a job
 pub moves_job : (k : History) (step : Step) (job : Job) → Moves k (after_job k step job)
-unfolding after_job
-moves_job k step (Refused refusal) = moves_not k
+unfolding after_job applied
+moves_job k step (Refused refusal) = moves_settled k (Refused refusal)
 moves_job k step (Append member clue content content_digest request by) =
-    moves_accepted k (refusal_of k step (Append member clue content content_digest request by)) (append_journal k member clue content content_digest request by)
-moves_job k step (NewMember number key by) = moves_accepted k (refusal_of k step (NewMember number key by)) (member_journal (size k) number key by)
-moves_job k step (Clue clue) = moves_close k
-moves_job k step Head = moves_close k
-
--- how many journals there are then
-pub moves_size : (k g : History) (m : Moves k g) → size g ≡ size k + length m.more
-moves_size k g m = ap length m.journals_are ∙ length-append (journals k) m.more
+    let job = Append member clue content content_digest request by in moves_judged k job (own_refusal real k job) (placed k (stamp_of step) job)
+moves_job k step (NewMember number key by) = let job = NewMember number key by in moves_judged k job (own_refusal real k job) (placed k (stamp_of step) job)
+moves_job k step (Clue clue) = moves_asking k (Clue clue)
+moves_job k step Head = moves_asking k Head
 
 -- later journals change no root over the first
 pub root_kept : (k g : History) (more : List Entry) (m : ℕ) → journals g ≡ journals k ++ more → m ≤ size k → root g m ≡ root k m
@@ -231,17 +250,3 @@ pub close_ended : (k : History) (closed : List (List Entry)) (block waiting : Li
 unfolding close
 close_ended k closed block waiting some is same none =
     ap (history closed) none ∙ close_some k.closed closed k.waiting some (is ∙ ap (λ b. k.closed ++ b ∷ []) same)
-
--- a journal that fills the open block
-pub place_full : (k more : History) (journal : Entry) → more ≡ history k.closed (k.waiting ++ journal ∷ []) → 64 ≤ length more.waiting → close more ≡ place journal k
-unfolding place
-place_full k more journal is full =
-    let test : nat_le block_limit (length (k.waiting ++ journal ∷ [])) ≡ true = ap (λ (g : History). nat_le 64 (length g.waiting)) (sym is) ∙ le-leb 64 (length more.waiting) full in
-    ap close is ∙ sym (ap (λ v. cond v (close (history k.closed (k.waiting ++ journal ∷ []))) (history k.closed (k.waiting ++ journal ∷ []))) test)
-
--- .. and one that doesn't
-pub place_room : (k more : History) (journal : Entry) → more ≡ history k.closed (k.waiting ++ journal ∷ []) → length more.waiting < 64 → more ≡ place journal k
-unfolding place
-place_room k more journal is room =
-    let test : nat_le block_limit (length (k.waiting ++ journal ∷ [])) ≡ false = ap (λ (g : History). nat_le 64 (length g.waiting)) (sym is) ∙ lt-leb 64 (length more.waiting) room in
-    is ∙ sym (ap (λ v. cond v (close (history k.closed (k.waiting ++ journal ∷ []))) (history k.closed (k.waiting ++ journal ∷ []))) test)

@@ -6,4 +6,6 @@ pub mod GrowLaws
 pub mod DueLaws
 pub mod ProgressLaws
 pub mod PlaceLaws
-pub mod ApplyLaws
+pub mod LawfulLaws
+pub mod AcceptedLaws
+pub mod KeepLaws

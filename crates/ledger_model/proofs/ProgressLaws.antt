@@ -1,8 +1,7 @@
 -- Lemmas on how a run of windows comes forward, step by step, where replies wait for the ends of their blocks.
 use Rattle.std.proofs.Common.{◌≡◌, ℕ, ◌-◌, ◌⊎◌, inl, inr, List, [], ◌∷◌, ◌++◌, length, refl, ap, sym, subst, ◌∙◌, append_assoc, append-nil}
 use Rattle.ledger_model.specs.Dues.{dues, dues_text}
-use Rattle.journal_record.specs.Entry.{Entry}
-use Rattle.ledger_model.specs.History.{History, size, root, close, close_by}
+use Rattle.ledger_model.specs.History.{History, size, root, close}
 use Rattle.ledger_model.specs.Rules.{after_step, after_steps, after_window}
 use Rattle.ledger_model.specs.Scheme.{Scheme}
 use Rattle.ledger_model.specs.Step.{Step}
@@ -104,15 +103,6 @@ pub text_end : (scheme : Scheme) (h : History) (done : List (List Step)) (curren
 text_end scheme h done current written begun pending u =
     ap (λ c. text scheme h (done ++ c ∷ [])) (sym (append-nil current)) ∙ u.text_is [] [] ∙ ap (λ p. written ++ (window_text scheme begun p ++ [])) (append-nil pending)
     ∙ ap (λ x. written ++ x) (append-nil (window_text scheme begun pending))
-
-close_by_none : (blocks : List (List Entry)) (waiting : List Entry) → (close_by blocks waiting).waiting ≡ []
-close_by_none blocks [] = refl
-close_by_none blocks (journal ∷ rest) = refl
-
--- nothing waits once the open block has ended
-pub close_none : (k : History) → (close k).waiting ≡ []
-unfolding close
-close_none k = close_by_none k.closed k.waiting
 
 -- where a step leads from the history whose block is open
 pub step_ends : (scheme : Scheme) (begun : History) (pending : List Step) (step : Step) → (after_steps scheme begun pending).closed ≡ begun.closed

@@ -1,6 +1,7 @@
 -- The journals of members' records and of new members.
 use Rattle.std.specs.Prelude.{ℕ, List, [], ◌∷◌, length}
 use Rattle.std.specs.Option.{option_map}
+use Rattle.ledger_bytes.specs.Digests.{digest, zero_digest}
 use Rattle.ledger_bytes.specs.declared.digest.Digest.{Digest}
 use Rattle.journal_record.specs.Approval.{who_of}
 use Rattle.journal_record.specs.Entry.{Entry, content_digest_of, who_digest_of}
@@ -9,7 +10,6 @@ use Rattle.journal_record.specs.declared.approval.Approval.{Approval}
 use Rattle.journal_record.specs.declared.header.Header.{Header}
 use Rattle.journal_record.specs.declared.header.Kind.TheVariants as kind
 use Rattle.ledger_model.specs.Clues.{next_ordinal, last_journal}
-use Rattle.ledger_model.specs.Genesis.{digest, no_clue}
 use Rattle.ledger_model.specs.History.{History, size}
 use Rattle.ledger_model.specs.Scheme.{Scheme}
 use Rattle.ledger_model.specs.declared.job.Job.{Job}
@@ -70,7 +70,7 @@ member_header jsn number key by = record {
   kind = kind.Member;
   jsn = jsn;
   member = 0;
-  clue = no_clue;
+  clue = zero_digest;
   clue_ord = 0;
   clue_prev = 0;
   a = number;

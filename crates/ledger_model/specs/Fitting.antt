@@ -1,5 +1,6 @@
 -- Jobs that a line may make.
 use Rattle.std.specs.Prelude.{ℕ, ◌==◌, ◌&&◌, Bool, true, length, nat_le, bytes_eq}
+use Rattle.ledger_bytes.specs.declared.limits.TheConstants.{CONTENT_LIMIT, PROOF_LIMIT}
 use Rattle.journal_record.specs.Entry.{content_digest_of}
 use Rattle.journal_record.specs.declared.approval.Approval.{Approval}
 use Rattle.script_lines.specs.Limits.{is_of_form}
@@ -8,13 +9,13 @@ use Rattle.ledger_model.specs.declared.job.Job.TheVariants.{Refused, Append, New
 
 -- whether an approval is this member's, with a proof no longer than a line may give
 abbrev pub fits_approval : ℕ → Approval → Bool
-fits_approval member by = by.member == member && nat_le (length by.proof) 4_096
+fits_approval member by = by.member == member && nat_le (length by.proof) PROOF_LIMIT
 
 -- whether a line may make the job: its parts are no longer than a line may give, and belong together
 abbrev pub fits_job : Job → Bool
 fits_job (Refused refusal) = is_of_form refusal
 fits_job (Append member clue content content_digest request by) =
-    nat_le (length content) 65_536 && bytes_eq content_digest.0 (content_digest_of content) && fits_approval member by
+    nat_le (length content) CONTENT_LIMIT && bytes_eq content_digest.0 (content_digest_of content) && fits_approval member by
 fits_job (NewMember number key by) = fits_approval 0 by
 fits_job (Clue clue) = true
 fits_job Head = true

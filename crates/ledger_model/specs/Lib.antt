@@ -1,5 +1,5 @@
-pub mod History
 pub mod Ends
+pub mod History
 pub mod Genesis
 pub mod Limits
 pub mod Step
@@ -10,11 +10,10 @@ pub mod Appends
 pub mod Judgements
 pub mod Fitting
 pub mod Outcomes
-pub mod Books
+pub mod Lawful
 pub mod Notary
 pub mod Rules
 pub mod Texts
-pub mod Answering
 pub mod Dues
 pub mod Windows
 pub mod Merge

@@ -1,28 +1,32 @@
 -- What a job does to a history by itself: what comes of it, and what it places in the open block.
-use Rattle.std.specs.Prelude.{ℕ, ◌==◌, ◌&&◌, Bool, true, false, if◌then◌else◌, [], ◌∷◌, ◌++◌, Option, Some, None, nat_le, nat_lt}
+use Rattle.std.specs.Prelude.{◌≡◌, ℕ, ◌==◌, ◌&&◌, Bool, true, false, if◌then◌else◌, [], ◌∷◌, ◌++◌, Option, Some, None, nat_le, nat_lt, ⊤}
 use Rattle.std.specs.List.{list_any}
+use Rattle.ledger_bytes.specs.Digests.{digest}
 use Rattle.ledger_bytes.specs.declared.refusal.Refusal.{Refusal}
 use Rattle.journal_record.specs.Entry.{Entry}
 use Rattle.journal_record.specs.declared.header.Kind.{Kind}
 use Rattle.journal_record.specs.declared.header.Kind.TheVariants as kind
+use Rattle.journal_record.specs.declared.stamp.Stamp.{Stamp}
 use Rattle.ledger_model.specs.Appends.{append_journal, member_journal}
-use Rattle.ledger_model.specs.History.{History, history, journals, size, point}
+use Rattle.ledger_model.specs.History.{History, history, journals, size, point, leaf_digest}
 use Rattle.ledger_model.specs.Judgements.{own_refusal}
 use Rattle.ledger_model.specs.declared.job.Job.{Job}
 use Rattle.ledger_model.specs.declared.job.Job.TheVariants as job
 use Rattle.ledger_model.specs.declared.limits.Limits.{Limits}
 use Rattle.ledger_model.specs.declared.outcome.Outcome.{Outcome}
 use Rattle.ledger_model.specs.declared.outcome.Outcome.TheVariants.{Refused, Placed, Reading}
+use Rattle.ledger_model.specs.declared.outcome.Query.{Query}
+use Rattle.ledger_model.specs.declared.outcome.Query.TheVariants as query
 use Rattle.ledger_model.specs.declared.view.View.{View}
 use Rattle.ledger_model.specs.declared.view.View.TheVariants.{Absent, Purged, Occulted, Whole}
 
--- the journal that an accepted job places, where it places one
-abbrev pub placed : History → Job → Option Entry
-placed h (job.Refused refusal) = None
-placed h (job.Append member clue content content_digest request by) = Some (append_journal h member clue content content_digest request by)
-placed h (job.NewMember number key by) = Some (member_journal (size h) number key by)
-placed h (job.Clue clue) = None
-placed h job.Head = None
+-- the journal that an accepted job places, where it places one; no job so far has a stamp in it
+abbrev pub placed : History → Option Stamp → Job → Option Entry
+placed h stamp (job.Refused refusal) = None
+placed h stamp (job.Append member clue content content_digest request by) = Some (append_journal h member clue content content_digest request by)
+placed h stamp (job.NewMember number key by) = Some (member_journal (size h) number key by)
+placed h stamp (job.Clue clue) = None
+placed h stamp job.Head = None
 
 -- the history with a journal more, which waits in the open block
 abbrev pub with_waiting : Option Entry → History → History
@@ -35,18 +39,42 @@ after_judgement (Some refusal) journal h = h
 after_judgement None journal h = with_waiting journal h
 
 -- the history after a job, whose journal waits
-unfoldable pub applied : Limits → History → Job → History
-applied limits h job = after_judgement (own_refusal limits h job) (placed h job) h
+unfoldable pub applied : Limits → Option Stamp → History → Job → History
+applied limits stamp h job = after_judgement (own_refusal limits h job) (placed h stamp job) h
 
--- what came of a job after its judgement, where its journal has this number
-abbrev pub told : ℕ → Option Refusal → Option Entry → Outcome
-told jsn (Some refusal) journal = Refused refusal
-told jsn None (Some journal) = Placed jsn
-told jsn None None = Reading
+-- what a job asks for, where it asks
+abbrev pub asked : Job → Option Query
+asked (job.Clue clue) = Some (query.Clue clue)
+asked job.Head = Some query.Head
+asked other = None
+
+-- a journal was placed that has this number
+abbrev pub placed_as : ℕ → Entry → Outcome
+placed_as jsn journal = Placed jsn (digest (leaf_digest journal))
+
+-- what comes of an accepted job
+abbrev pub accepted : History → Option Stamp → Job → Outcome
+accepted h stamp (job.Refused refusal) = Refused refusal
+accepted h stamp (job.Append member clue content content_digest request by) =
+    placed_as (size h) (append_journal h member clue content content_digest request by)
+accepted h stamp (job.NewMember number key by) = placed_as (size h) (member_journal (size h) number key by)
+accepted h stamp (job.Clue clue) = Reading (query.Clue clue)
+accepted h stamp job.Head = Reading query.Head
+
+-- what comes of a job after its judgement
+abbrev pub judged : Option Refusal → Outcome → Outcome
+judged (Some refusal) outcome = Refused refusal
+judged None outcome = outcome
 
 -- what comes of a job
-unfoldable pub outcome : Limits → History → Job → Outcome
-outcome limits h job = told (size h) (own_refusal limits h job) (placed h job)
+unfoldable pub outcome : Limits → Option Stamp → History → Job → Outcome
+outcome limits stamp h job = judged (own_refusal limits h job) (accepted h stamp job)
+
+-- only a job that asks is told to read, and it is told what it asks for
+abbrev pub AsksFor : Job → Outcome → Type 0
+AsksFor job (Refused refusal) = ⊤
+AsksFor job (Placed jsn leaf) = ⊤
+AsksFor job (Reading query) = asked job ≡ Some query
 
 abbrev pub is_occult : Kind → Bool
 is_occult kind.Occult = true

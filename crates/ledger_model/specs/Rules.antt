@@ -1,15 +1,15 @@
 -- What a step does to a history: what judges it, what it places, and which blocks it ends.
-use Rattle.std.specs.Prelude.{ℕ, Bool, true, false, if◌then◌else◌, List, [], ◌∷◌, Option, Some, None, Result, Ok, Err}
+use Rattle.std.specs.Prelude.{ℕ, ◌||◌, Bool, true, false, if◌then◌else◌, List, [], ◌∷◌, length, nat_le, Option, None, Result, Ok, Err}
+use Rattle.ledger_bytes.specs.declared.limits.TheConstants.{BLOCK_LIMIT}
 use Rattle.ledger_bytes.specs.declared.refusal.Refusal.{Refusal}
-use Rattle.journal_record.specs.Entry.{Entry}
+use Rattle.journal_record.specs.declared.stamp.Stamp.{Stamp}
 use Rattle.script_lines.specs.Grammar.{spoken}
 use Rattle.script_lines.specs.declared.line.Line.{Line}
 use Rattle.script_lines.specs.declared.line.Line.TheVariants as line
 use Rattle.ledger_model.specs.Appends.{append_with, member_job, clue_of}
-use Rattle.ledger_model.specs.History.{History, id, close, place}
-use Rattle.ledger_model.specs.Judgements.{own_judgements, first_refusal}
+use Rattle.ledger_model.specs.History.{History, id, close}
 use Rattle.ledger_model.specs.Limits.{real}
-use Rattle.ledger_model.specs.Outcomes.{placed}
+use Rattle.ledger_model.specs.Outcomes.{applied}
 use Rattle.ledger_model.specs.Scheme.{Scheme}
 use Rattle.ledger_model.specs.Step.{Step}
 use Rattle.ledger_model.specs.declared.job.Job.{Job}
@@ -32,40 +32,27 @@ abbrev pub closes_before : Job → Bool
 closes_before (Refused refusal) = false
 closes_before (Append member clue content content_digest request by) = false
 closes_before (NewMember number key by) = false
-closes_before (Clue clue) = true
-closes_before Head = true
+closes_before other = true
+
+-- whether a job's journal is a block of its own; no job so far has such a one
+abbrev pub closes_after : Job → Bool
+closes_after job = false
 
 -- the history that a job is judged against
 abbrev pub judged_at : History → Job → History
 judged_at h job = if closes_before job then close h else h
 
--- what may refuse a job, in the order in which it is looked at
-abbrev pub judgements : History → Step → Job → List (Option Refusal)
-judgements h step job = own_judgements real h job
+-- the history where a job is done: the open block ends where it is full, or where the job wants it
+abbrev pub settled : Job → History → History
+settled job h = if closes_after job || nat_le BLOCK_LIMIT (length h.waiting) then close h else h
 
--- why a job is refused, where it is
-abbrev pub refusal_of : History → Step → Job → Option Refusal
-refusal_of h step job = first_refusal (judgements h step job)
+-- the stamp that the notary gave in a step; no line so far asks for one
+abbrev pub stamp_of : Step → Option Stamp
+stamp_of step = None
 
--- the journal that an accepted job places, where it places one
-abbrev pub placed_by : History → Step → Job → Option Entry
-placed_by h step job = placed h job
-
--- the history with a journal more, where there is one
-abbrev pub with_placed : Option Entry → History → History
-with_placed None h = h
-with_placed (Some journal) h = place journal h
-
--- the history after a judgement: a refusal adds nothing
-abbrev pub with_accepted : Option Refusal → Option Entry → History → History
-with_accepted (Some refusal) journal h = h
-with_accepted None journal h = with_placed journal h
-
--- the history after a job
+-- the history after a job: it is judged, it places what it places, and a block ends
 unfoldable pub after_job : History → Step → Job → History
-after_job h step job =
-    let g = judged_at h job in
-    with_accepted (refusal_of g step job) (placed_by g step job) g
+after_job h step job = settled job (applied real (stamp_of step) (judged_at h job) job)
 
 -- the history after a step
 unfoldable pub after_step : Scheme → History → Step → History

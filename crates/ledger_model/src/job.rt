@@ -1,3 +1,6 @@
+ghost use Rattle.std.specs.Prelude.{◌≡◌};
+ghost use Rattle.ledger_model.specs.Rules.{closes_before};
+
 use journal_record::Approval;
 use ledger_bytes::{Bytes, Digest, Refusal};
 
@@ -35,4 +38,16 @@ pub enum Job {
     },
     /// Where the ledger stands.
     Head,
+}
+
+impl Job {
+    /// Whether the open block ends before the job is judged.
+    pub fn closes_before(&self) -> bool
+        ensures { result ≡ closes_before self.now }
+    {
+        match self {
+            Job::Refused(_) | Job::Append { .. } | Job::NewMember { .. } => false,
+            Job::Clue { .. } | Job::Head => true,
+        }
+    }
 }

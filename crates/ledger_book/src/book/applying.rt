@@ -1,28 +1,33 @@
-ghost use Rattle.std.specs.Prelude.{◌≡◌, ◌<◌, ◌≤◌, ℕ, length, true, IfOk, OnErr};
-ghost use Rattle.ledger_model.specs.Books.{Serves};
+ghost use Rattle.std.specs.Prelude.{◌≡◌, ◌≤◌, length, true, IfOk, OnErr, Option, option_copied};
+ghost use Rattle.ledger_bytes.specs.declared.limits.TheConstants.{CONTENT_LIMIT, PROOF_LIMIT};
+ghost use Rattle.journal_record.specs.declared.stamp.Stamp.{Stamp as StampRecord};
 ghost use Rattle.ledger_model.specs.Fitting.{fits_job};
 ghost use Rattle.ledger_model.specs.History.{History};
+ghost use Rattle.ledger_model.specs.Outcomes.{AsksFor};
 ghost use Rattle.ledger_model.specs.declared.job.Job.TheVariants as asked;
-ghost use Rattle.ledger_book.specs.Steps.{IsSame, IsRefused, Applies};
+ghost use Rattle.ledger_book.specs.Books.{Serves};
+ghost use Rattle.ledger_book.specs.Steps.{IsSame, PlacesNothing, NeverReads, Applies};
 
 use super::Book;
 use crate::headers::{new_member_header, record_header};
-use journal_record::Approval;
+use journal_record::{Approval, Stamp};
 use ledger_bytes::{Bytes, Digest, NoMemory};
-use ledger_model::{Job, Outcome};
+use ledger_model::{Job, Outcome, Query};
 
 impl Book {
     /// Judges a job, and places its journal in the open block where it is accepted. A refusal changes nothing, and so
-    /// does an `Err`. The open block isn't ended by this: the caller ends it where it has 64 journals, and before a job
-    /// that asks for a clue or for the head.
-    pub fn apply(&mut self, job: &Job) -> Result<Outcome, NoMemory>
+    /// does an `Err`. The open block isn't ended by this: the caller ends it where it is full, and before a job that
+    /// asks for that. The stamp is the notary's; no job so far needs one.
+    pub fn apply(&mut self, job: &Job, stamp: Option<&Stamp>) -> Result<Outcome, NoMemory>
         requires { fits_job job.now ≡ true }
-        ensures ok { IfOk result (λ outcome. (h : History) → Serves self.old h → Applies self.old.limits h job.now outcome self.new) }
+        ensures ok { IfOk result (λ outcome. (h : History) → Serves self.old h
+            → Applies self.old.limits (option_copied stamp.entry) h job.now outcome self.new) }
         ensures err { OnErr result (self.new ≡ self.old) }
         ensures same { IsSame self.old self.new }
-        ensures point { self.new.point ≡ self.old.point }
-        ensures unchanged { IfOk result (λ outcome. IsRefused outcome → self.new ≡ self.old) }
+        ensures unchanged { IfOk result (λ outcome. PlacesNothing outcome → self.new ≡ self.old) }
+        ensures asked { IfOk result (AsksFor job.now) }
     {
+        let _stamp = stamp;
         match job {
             Job::Refused(refusal) => Ok(Outcome::Refused(*refusal)),
             Job::Append {
@@ -34,10 +39,12 @@ impl Book {
                 by,
             } => self.apply_record(*member, clue, content, content_digest, request, by),
             Job::NewMember { number, key, by } => self.apply_member(*number, key, by),
-            Job::Clue { .. } | Job::Head => Ok(Outcome::Reading),
+            Job::Clue { clue } => Ok(Outcome::Reading(Query::Clue { clue: *clue })),
+            Job::Head => Ok(Outcome::Reading(Query::Head)),
         }
     }
 
+    // Judges a member's record, and places it where it is accepted.
     fn apply_record(
         &mut self,
         member: u32,
@@ -47,14 +54,15 @@ impl Book {
         request: &Digest,
         by: &Approval,
     ) -> Result<Outcome, NoMemory>
-        requires content { length content.now ≤ 65536 }
-        requires proof { length by.now.proof ≤ 4096 }
-        ensures ok { IfOk result (λ outcome. (h : History) → Serves self.old h
-            → Applies self.old.limits h (asked.Append member clue.now content.now content_digest.now request.now by.now) outcome self.new) }
+        requires content { length content.now ≤ CONTENT_LIMIT }
+        requires proof { length by.now.proof ≤ PROOF_LIMIT }
+        ensures ok { IfOk result (λ outcome. (stamp : Option StampRecord) (h : History) → Serves self.old h
+            → Applies self.old.limits stamp h
+            (asked.Append member clue.now content.now content_digest.now request.now by.now) outcome self.new) }
         ensures err { OnErr result (self.new ≡ self.old) }
         ensures same { IsSame self.old self.new }
-        ensures point { self.new.point ≡ self.old.point }
-        ensures unchanged { IfOk result (λ outcome. IsRefused outcome → self.new ≡ self.old) }
+        ensures unchanged { IfOk result (λ outcome. PlacesNothing outcome → self.new ≡ self.old) }
+        ensures places { IfOk result NeverReads }
     {
         if let Some(refusal) = self.record_refusal(member, clue, by) {
             return Ok(Outcome::Refused(refusal));
@@ -70,30 +78,34 @@ impl Book {
             request,
             by,
         );
-        self.place_record(header)?;
-        Ok(Outcome::Placed { jsn: place.jsn })
+        let leaf = self.place_record(header)?;
+        Ok(Outcome::Placed {
+            jsn: place.jsn,
+            leaf,
+        })
     }
 
+    // Judges a new member, and admits it where it is accepted.
     fn apply_member(
         &mut self,
         number: u32,
         key: &Digest,
         by: &Approval,
     ) -> Result<Outcome, NoMemory>
-        requires { length by.now.proof ≤ 4096 }
-        ensures ok { IfOk result (λ outcome. (h : History) → Serves self.old h
-            → Applies self.old.limits h (asked.NewMember number key.now by.now) outcome self.new) }
+        requires { length by.now.proof ≤ PROOF_LIMIT }
+        ensures ok { IfOk result (λ outcome. (stamp : Option StampRecord) (h : History) → Serves self.old h
+            → Applies self.old.limits stamp h (asked.NewMember number key.now by.now) outcome self.new) }
         ensures err { OnErr result (self.new ≡ self.old) }
         ensures same { IsSame self.old self.new }
-        ensures point { self.new.point ≡ self.old.point }
-        ensures unchanged { IfOk result (λ outcome. IsRefused outcome → self.new ≡ self.old) }
+        ensures unchanged { IfOk result (λ outcome. PlacesNothing outcome → self.new ≡ self.old) }
+        ensures places { IfOk result NeverReads }
     {
         if let Some(refusal) = self.member_refusal(number, by) {
             return Ok(Outcome::Refused(refusal));
         }
         let jsn = self.size;
         let header = new_member_header(jsn, number, key, by);
-        self.place_member(number, header)?;
-        Ok(Outcome::Placed { jsn })
+        let leaf = self.place_member(header)?;
+        Ok(Outcome::Placed { jsn, leaf })
     }
 }

@@ -1,16 +1,14 @@
-ghost use Rattle.std.specs.Prelude.{◌≡◌, ◌<◌, ◌≤◌, [], ◌∷◌, length, IfNone, None};
-ghost use Rattle.member_book.specs.Members.{keys, add_refusal};
-ghost use Rattle.ledger_model.specs.Books.{Stands};
+ghost use Rattle.std.specs.Prelude.{◌≡◌, ◌<◌, [], ◌∷◌, length, IfNone, None};
+ghost use Rattle.ledger_bytes.specs.declared.limits.TheConstants.{MEMBER_LIMIT};
+ghost use Rattle.journal_record.specs.Members.{keys};
 ghost use Rattle.ledger_model.specs.History.{History};
-ghost use Rattle.ledger_model.specs.Judgements.{full, unknown_in, wrong_key_in, members_full, other_number, clues_full, append_judgements, member_judgements, first_refusal};
+ghost use Rattle.ledger_model.specs.Judgements.{full, unknown_in, wrong_key_in, clues_full, append_judgements, member_judgements, first_refusal};
+ghost use Rattle.ledger_model.specs.Limits.{AreWithin};
+ghost use Rattle.ledger_book.specs.Books.{Stands, Serves};
 
 use super::Book;
-use crate::headers::NO_CLUE;
 use journal_record::Approval;
 use ledger_bytes::{Digest, Refusal};
-
-/// The most members that a ledger has.
-const MOST_MEMBERS: u32 = 256;
 
 impl Book {
     /// Why a member's record with this clue is refused, where it is.
@@ -20,9 +18,10 @@ impl Book {
         clue: &Digest,
         by: &Approval,
     ) -> Option<Refusal>
-        ensures refusal { (h : History) → Stands self.now h
+        ensures refusal { (h : History) → Serves self.now h
             → result ≡ first_refusal (append_judgements self.now.limits h member clue.now by.now.key) }
         ensures room { IfNone result (self.now.size < self.now.limits.size) }
+        ensures within { AreWithin self.now.limits }
     {
         if let Some(refusal) = self.full_refusal() {
             return Some(refusal);
@@ -35,15 +34,16 @@ impl Book {
 
     /// Why a new member with this number is refused, where it is.
     pub(super) fn member_refusal(&self, number: u32, by: &Approval) -> Option<Refusal>
-        ensures refusal { (h : History) → Stands self.now h
+        ensures refusal { (h : History) → Serves self.now h
             → result ≡ first_refusal (member_judgements self.now.limits h number by.now.key) }
         ensures room { IfNone result (self.now.size < self.now.limits.size) }
-        ensures next { IfNone result (add_refusal self.now.members number ≡ None) }
+        ensures next { IfNone result (length self.now.members < MEMBER_LIMIT) }
+        ensures within { AreWithin self.now.limits }
     {
         if let Some(refusal) = self.full_refusal() {
             return Some(refusal);
         }
-        if let Some(refusal) = self.number_refusal(number) {
+        if let Some(refusal) = self.members.number_refusal(number) {
             return Some(refusal);
         }
         self.key_refusal(0, &by.key)
@@ -51,8 +51,9 @@ impl Book {
 
     // Whether there is no room for a member's journal.
     fn full_refusal(&self) -> Option<Refusal>
-        ensures refusal { (h : History) → Stands self.now h → result ≡ full self.now.limits h }
+        ensures refusal { (h : History) → Serves self.now h → result ≡ full self.now.limits h }
         ensures room { IfNone result (self.now.size < self.now.limits.size) }
+        ensures within { AreWithin self.now.limits }
     {
         let kept = self.size.saturating_sub(self.point);
         if kept >= self.limits.soft || self.size >= self.limits.size {
@@ -66,7 +67,8 @@ impl Book {
 
     // Whether the member isn't known, or the key that a proof shows isn't the member's.
     fn key_refusal(&self, member: u32, shown: &Option<Digest>) -> Option<Refusal>
-        ensures { result ≡ first_refusal (unknown_in (keys self.now.members) member ∷ wrong_key_in (keys self.now.members) member shown.now ∷ []) }
+        ensures { result ≡ first_refusal
+            (unknown_in (keys self.now.members) member ∷ wrong_key_in (keys self.now.members) member shown.now ∷ []) }
     {
         match self.members.key(member) {
             None => Some(Refusal::UnknownMember { member }),
@@ -80,28 +82,12 @@ impl Book {
         }
     }
 
-    // Whether there are as many members as there may be, or another number is next.
-    fn number_refusal(&self, number: u32) -> Option<Refusal>
-        ensures refusal { (h : History) → Stands self.now h → result ≡ first_refusal (members_full h ∷ other_number h number ∷ []) }
-        ensures next { IfNone result (add_refusal self.now.members number ≡ None) }
-        ensures some { 2 ≤ length self.now.members }
-    {
-        let next = self.members.count();
-        if next >= MOST_MEMBERS {
-            return Some(Refusal::MembersFull);
-        }
-        if number != next {
-            return Some(Refusal::MemberNumber { next });
-        }
-        None
-    }
-
     // Whether the clue is a new one, and there are as many as there may be.
     fn clue_refusal(&self, clue: &Digest) -> Option<Refusal>
         requires { self.now.size < self.now.limits.size }
         ensures { (h : History) → Stands self.now h → result ≡ clues_full self.now.limits h clue.now }
     {
-        if *clue == NO_CLUE {
+        if *clue == Digest::ZERO {
             return None;
         }
         let (ordinal, _) = self.clues.next_of(clue);

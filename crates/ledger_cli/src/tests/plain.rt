@@ -198,7 +198,11 @@ impl Plain {
         let jsn = header.jsn;
         let leaf = leaf(&header);
         self.headers.push(header)?;
-        self.answer(Answer::Receipt { jsn, leaf })?;
+        self.answer(Answer::Receipt {
+            jsn,
+            leaf,
+            stamp: None,
+        })?;
         if self.headers.len().saturating_sub(self.ended) >= 64 {
             self.end_block()?;
         }
@@ -251,7 +255,7 @@ fn put_due(
 ) -> Result<(), NoMemory> {
     match &due.answer {
         Answer::Reply(reply) => put_reply(replies, due.lane, due.index, reply),
-        Answer::Receipt { jsn, leaf } => {
+        Answer::Receipt { jsn, leaf, .. } => {
             let reply = Reply::Placed {
                 jsn: *jsn,
                 leaf: *leaf,

@@ -1,13 +1,17 @@
-use Rattle.std.proofs.Common.{Ok, Err, ◌∙◌}
+use Rattle.std.proofs.Common.{ℕ, Result, Ok, Err, ap, ◌∙◌}
+use Rattle.ledger_bytes.specs.declared.refusal.Refusal.{Refusal}
+use Rattle.script_lines.specs.declared.line.Line.{Line}
 use Rattle.ledger_cli.proofs.JobLaws.{job_asked}
 use Rattle.ledger_cli.proofs.prepare.prepare.Goals as goal
+use Rattle.ledger_cli.proofs.prepare.prepare.Goals.{in-Ok, in-Err}
 
-pub returns-in-Ok-clause-job : goal.returns-in-Ok-clause-job
-returns-in-Ok-clause-job g c =
-    let said = c.in_ok-what.field-0 in
-    c.prepare_line.ensures.job ∙ job_asked _ c.args.id.now.0 c.args.line.now said.lane said.what (Ok c.in-Ok.line) c.in_ok-what.ensures c.in-Ok.is
+pub returns-clause-job : goal.returns-clause-job
+returns-clause-job g c =
+    let said = c.in_ok-lane.field-0 in
+    elim c.match-what.branch [
+      | in-Ok w ↦ w.job-is ∙ (w.prepare_line-job.ensures.job ∙ job_asked _ c.args.id.now.0 c.args.line.now said.lane said.what (Ok w.in-Ok.line) c.in_ok-lane.ensures w.in-Ok.is)
+      | in-Err w ↦ w.job-is ∙ job_asked _ c.args.id.now.0 c.args.line.now said.lane said.what (Err w.in-Err.refusal) c.in_ok-lane.ensures w.in-Err.is
+    ]
 
-pub returns-in-Err-clause-job : goal.returns-in-Err-clause-job
-returns-in-Err-clause-job g c =
-    let said = c.in_ok-what.field-0 in
-    job_asked _ c.args.id.now.0 c.args.line.now said.lane said.what (Err c.in-Err.refusal) c.in_ok-what.ensures c.in-Err.is
+pub returns-clause-lane : goal.returns-clause-lane
+returns-clause-lane g c = ap (λ (said : ℕ × Result Line Refusal). said.0) c.in_ok-lane.ensures

@@ -1,4 +1,4 @@
-use Rattle.std.proofs.Common.{◌≡◌, ◌+◌, ◌-◌, ◌*◌, [], length}
+use Rattle.std.proofs.Common.{◌≡◌, ◌+◌, ◌-◌, ◌*◌, ◌≤◌, [], length}
 use Rattle.ledger_io.specs.Lines.{script_limit}
 use Rattle.ledger_model.specs.History.{History}
 use Rattle.ledger_cli.specs.Carries.{Carries}
@@ -8,8 +8,9 @@ use Rattle.ledger_cli.proofs.session.run_script.Given as goal
 
 abbrev pub invariant-loop-line : goal.invariant-loop-line
 invariant-loop-line g l =
-    (h : History) → Carries l.fn.book h → h.waiting ≡ []
-    → Reached (g.V.Verifier.shows l.fn.verifier) h (outside (g.S.Source.state l.fn.source) (g.K.Sink.state l.fn.sink)) (outside (g.S.Source.state l.source) (g.K.Sink.state l.sink)) l.lines l.index l.window.lines l.window.bytes l.book l.dues.items
+    (l.index + length l.lines.held ≤ l.lines.total)
+    × ((h : History) → Carries l.fn.ledger h → h.waiting ≡ []
+    → Reached (g.V.Verifier.shows l.fn.verifier) h (outside (g.S.Source.state l.fn.source) (g.K.Sink.state l.fn.sink)) (outside (g.S.Source.state l.source) (g.K.Sink.state l.sink)) l.lines l.index l.window.lines l.window.bytes l.ledger l.dues.items)
 
 -- how much may be read yet, and how much of what was read is left
 abbrev pub decreases-loop-line : goal.decreases-loop-line

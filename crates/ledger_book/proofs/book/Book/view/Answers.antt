@@ -1,5 +1,5 @@
 use Rattle.std.proofs.Common.{ap, ◌∙◌, arith}
-use Rattle.ledger_model.specs.Books.{Kept}
+use Rattle.ledger_book.specs.Books.{Kept}
 use Rattle.ledger_model.specs.declared.view.View.TheVariants.{Purged}
 use Rattle.ledger_book.proofs.StandsLaws.{view_absent, view_purged, view_whole}
 use Rattle.ledger_book.proofs.book.Book.view.Goals as goal

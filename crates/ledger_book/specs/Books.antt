@@ -1,0 +1,94 @@
+-- What a book keeps of a history, and what it is to stand for one.
+use Rattle.std.specs.Prelude.{◌≡◌, ℕ, ◌≤◌, if◌then◌else◌, List, [], map, filter, drop, length, nat_lt}
+use Rattle.ledger_bytes.specs.Digests.{digest}
+use Rattle.ledger_bytes.specs.declared.digest.Digest.{Digest}
+use Rattle.journal_record.specs.Entry.{Entry}
+use Rattle.journal_record.specs.declared.header.Header.{Header}
+use Rattle.journal_record.specs.declared.member.Member.{Member}
+use Rattle.clue_index.specs.Added.{Mark, Added}
+use Rattle.clue_index.specs.Index as index
+use Rattle.ledger_model.specs.Clues.{has_clue}
+use Rattle.ledger_model.specs.History as model
+use Rattle.ledger_model.specs.History.{History, journals, journals_of, leaf_digest}
+use Rattle.ledger_model.specs.Lawful.{AreLawful}
+use Rattle.ledger_model.specs.Members as member
+use Rattle.ledger_model.specs.declared.limits.Limits.{Limits}
+
+-- the headers of all journals
+abbrev pub headers : History → List Header
+headers h = map (λ journal. journal.header) (journals h)
+
+-- the digests of all journals as leaves
+abbrev pub leaf_digests : History → List Digest
+leaf_digests h = map (λ journal. digest (leaf_digest journal)) (journals h)
+
+-- how many journals stand in blocks that have ended
+abbrev pub sealed : History → ℕ
+sealed h = length (journals_of h.closed)
+
+-- the sizes above a floor at which blocks have ended
+abbrev pub ends_above : ℕ → History → List ℕ
+ends_above floor h = filter (λ end. nat_lt floor end) (model.ends h)
+
+-- a member whose journal isn't kept has no number of it
+abbrev pub aged : ℕ → Member → Member
+aged floor m = record { key = m.key; jsn = if nat_lt m.jsn floor then 0 else m.jsn }
+
+abbrev pub aged_all : ℕ → List Member → List Member
+aged_all floor members = map (aged floor) members
+
+-- a journal's clue and its number
+abbrev pub mark_of : Entry → Mark
+mark_of journal = record { clue = journal.header.clue.0; jsn = journal.header.jsn }
+
+-- what an index of clues was given of some journals, of which those from the floor on are kept
+abbrev pub clues_added : ℕ → List Entry → Added
+clues_added floor journals = record { states = []; marks = map mark_of (filter has_clue journals); floor = floor }
+
+-- what a book keeps
+pub record Kept : Type 0 where
+  pub limits : Limits
+  -- the first journal whose header is kept
+  pub floor : ℕ
+  pub size : ℕ
+  pub point : ℕ
+  -- how many blocks have ended, how many journals they hold, and the sizes at which those above the floor ended
+  pub blocks : ℕ
+  pub sealed : ℕ
+  pub ends : List ℕ
+  -- the root at the last block's end
+  pub root : Digest
+  pub id : Digest
+  pub members : List Member
+  pub clues : index.Kept
+  pub headers : List Header
+  pub leaves : List Digest
+
+-- the numbers are those of this history
+pub record HasCounts (k : Kept) (h : History) : Type 0 where
+  pub size : k.size ≡ model.size h
+  pub floor : k.floor ≤ sealed h
+  pub point : k.point ≡ model.seen_point k.floor h
+  pub blocks : k.blocks ≡ model.blocks h
+  pub sealed_is : k.sealed ≡ sealed h
+  pub ends : k.ends ≡ ends_above k.floor h
+
+-- the digests and headers are those of this history
+pub record HasTree (k : Kept) (h : History) : Type 0 where
+  pub root : k.root.0 ≡ model.root h (sealed h)
+  pub id : k.id.0 ≡ model.id h
+  pub headers_are : k.headers ≡ drop k.floor (headers h)
+  pub leaves : k.leaves ≡ leaf_digests h
+
+-- the book keeps what this lawful history says, as far as it keeps it
+pub record Stands (k : Kept) (h : History) : Type 0 where
+  pub lawful : AreLawful (journals h)
+  pub counts : HasCounts k h
+  pub tree : HasTree k h
+  pub members : aged_all k.floor k.members ≡ aged_all k.floor (member.members h)
+  pub clues : index.Stands k.clues (clues_added k.floor (journals h))
+
+-- .. and a purge up to its first header has been seen
+pub record Serves (k : Kept) (h : History) : Type 0 where
+  pub stands : Stands k h
+  pub seen : k.floor ≤ k.point

@@ -1,0 +1,36 @@
+-- Lemmas on jobs as a line makes them.
+use Rattle.std.proofs.Common.{◌≡◌, ℕ, List, length, Option, Some, None, refl, ap, ◌∙◌}
+use Rattle.std.specs.Option.{option_map}
+use Rattle.ledger_bytes.specs.Digests.{digest}
+use Rattle.ledger_bytes.specs.declared.digest.Digest.{Digest}
+use Rattle.journal_record.specs.Entry.{content_digest_of}
+use Rattle.journal_record.specs.Request.{request_digest_of, member_request_digest_of}
+use Rattle.ledger_model.specs.Appends.{append_with, request_with, member_job}
+use Rattle.ledger_model.specs.Scheme.{Scheme}
+use Rattle.ledger_model.specs.declared.job.Job.{Job}
+use Rattle.ledger_model.specs.declared.job.Job.TheVariants.{Append, NewMember}
+
+-- a digest is that of its bytes
+some_digest : (o : Option Digest) → o ≡ option_map digest (option_map (λ (d : Digest). d.0) o)
+some_digest (Some d) = refl
+some_digest None = refl
+
+pub record_is : (scheme : Scheme) (id : List ℕ) (member : ℕ) (clue : Digest) (content proof slice shown : List ℕ) (count : ℕ) (content_digest request : Digest) (key : Option Digest)
+    → content_digest.0 ≡ content_digest_of slice → slice ≡ content → request.0 ≡ request_digest_of id member clue.0 count content_digest.0 → count ≡ length content
+    → option_map (λ (d : Digest). d.0) key ≡ scheme request.0 shown → shown ≡ proof
+    → Append member clue content content_digest request (record { member = member; key = key; proof = proof }) ≡ append_with scheme id member clue content proof
+unfolding append_with
+record_is scheme id member clue content proof slice shown count content_digest request key c s r n k p =
+    let job : Digest → Digest → Option Digest → Job = λ x y z. Append member clue content x y (record { member = member; key = z; proof = proof }) in
+    let same : content_digest.0 ≡ content_digest_of content = c ∙ ap content_digest_of s in
+    let asked : request.0 ≡ request_with id member clue content = r ∙ ap (λ x. request_digest_of id member clue.0 x content_digest.0) n ∙ ap (request_digest_of id member clue.0 (length content)) same in
+    let shows : key ≡ option_map digest (scheme (request_with id member clue content) proof) = some_digest key ∙ ap (option_map digest) (k ∙ ap (λ x. scheme x shown) asked ∙ ap (scheme (request_with id member clue content)) p) in
+    ap (λ x. job (digest x) request key) same ∙ ap (λ x. job (digest (content_digest_of content)) (digest x) key) asked ∙ ap (job (digest (content_digest_of content)) (digest (request_with id member clue content))) shows
+
+pub member_is : (scheme : Scheme) (id : List ℕ) (number : ℕ) (key : Digest) (proof shown : List ℕ) (request : Digest) (found : Option Digest)
+    → request.0 ≡ member_request_digest_of id number key.0 → option_map (λ (d : Digest). d.0) found ≡ scheme request.0 shown → shown ≡ proof
+    → NewMember number key (record { member = 0; key = found; proof = proof }) ≡ member_job scheme id number key proof
+unfolding member_job
+member_is scheme id number key proof shown request found r k p =
+    let job : Option Digest → Job = λ z. NewMember number key (record { member = 0; key = z; proof = proof }) in
+    ap job (some_digest found ∙ ap (option_map digest) (k ∙ ap (λ x. scheme x shown) r ∙ ap (scheme (member_request_digest_of id number key.0)) p))

@@ -1,0 +1,172 @@
+-- An accepted job places the next journal, and its parts have their digests.
+use Rattle.std.specs.Prelude.{IsTrue, nat_lt, nat_le, bytes_eq, ◌==◌}
+use Rattle.std.proofs.Common.{◌≡◌, ℕ, ◌+◌, ◌<◌, ◌≤◌, ◌&&◌, ◌||◌, Bool, true, false, cond, not, List, [], ◌∷◌, length, Option, Some, None, refl, ◌∙◌, ap, arith}
+use Rattle.std.proofs.lemmas.Bool.{eqb-true, le-leb, lt-leb, lt-ltb, leb-false, ltb-true, and_from}
+use Rattle.std.proofs.lemmas.List.{length-map}
+use Rattle.std.proofs.lemmas.Slice.Eq.{bytes_eq-Decides}
+use Rattle.ledger_bytes.specs.declared.digest.Digest.{Digest}
+use Rattle.ledger_bytes.specs.declared.limits.TheConstants.{MEMBER_LIMIT, CONTENT_LIMIT}
+use Rattle.ledger_bytes.specs.declared.refusal.Refusal.{Refusal}
+use Rattle.ledger_bytes.specs.declared.refusal.Refusal.TheVariants.{CluesFull, MemberNumber, MembersFull}
+use Rattle.journal_record.specs.Entry.{Entry, content_digest_of}
+use Rattle.journal_record.specs.Members.{is_known, number_refusal}
+use Rattle.journal_record.specs.Rules.{IsHeader, is_no_clue, clue_ord_ok, clue_prev_ok}
+use Rattle.journal_record.specs.declared.approval.Approval.{Approval}
+use Rattle.journal_record.specs.declared.member.Member.{Member}
+use Rattle.ledger_model.specs.Appends.{append_header, append_journal, member_header, member_journal}
+use Rattle.ledger_model.specs.Clues.{jsns_with, clue_count, last_of, next_ordinal, last_journal}
+use Rattle.ledger_model.specs.History.{History, history, journals, size}
+use Rattle.ledger_model.specs.Judgements.{kept, is_full, full, unknown_in, wrong_key_in, clues_full, append_judgements, member_judgements, first_refusal}
+use Rattle.ledger_model.specs.Lawful.{IsNext, AreLawful, IsWhole}
+use Rattle.ledger_model.specs.Limits.{real, AreWithin}
+use Rattle.ledger_model.specs.Members.{members, keys}
+use Rattle.ledger_model.specs.declared.limits.Limits.{Limits}
+use Rattle.ledger_model.proofs.LawfulLaws.{lawful_from, some_journal, lawful_members, AreBetween, numbers_between, last_between}
+
+-- no refusal
+abbrev pub IsNone : Option Refusal → Type 0
+IsNone o = let none : Option Refusal = None in o ≡ none
+
+none_first : (r : Option Refusal) (row : List (Option Refusal)) → IsNone (first_refusal (r ∷ row)) → IsNone r × IsNone (first_refusal row)
+none_first None row is = (refl, is)
+none_first (Some x) row is = absurd cc
+
+if_none : (b : Bool) (x : Refusal) → IsNone (cond b (Some x) None) → b ≡ false
+if_none true x is = absurd cc
+if_none false x is = refl
+
+if_not : (b : Bool) (x : Refusal) → IsNone (cond b None (Some x)) → b ≡ true
+if_not true x is = refl
+if_not false x is = absurd cc
+
+room_is : (limits : Limits) (h : History) → IsNone (full limits h) → size h < limits.size
+unfolding full
+room_is limits h is = leb-false limits.size (size h) (right_of (nat_le limits.soft (kept h)) (nat_le limits.size (size h)) (if_none (is_full limits.soft limits h) _ is)) where
+  right_of : (v w : Bool) → (v || w) ≡ false → w ≡ false
+  right_of true w e = absurd cc
+  right_of false w e = e
+
+-- where there is room for a clue under lower limits, there is under those of each ledger
+clues_room : (limits : Limits) (h : History) (clue : Digest) → limits.clues ≤ real.clues → IsNone (clues_full limits h clue) → IsNone (clues_full real h clue)
+unfolding clues_full
+clues_room limits h clue within is =
+    by_first (not (is_no_clue clue) && length (jsns_with h clue) == 0) (if_none (not (is_no_clue clue) && length (jsns_with h clue) == 0 && nat_le limits.clues (clue_count h)) CluesFull is)
+  where
+    by_first : (new : Bool) → (new && nat_le limits.clues (clue_count h)) ≡ false → IsNone (cond (new && nat_le real.clues (clue_count h)) (Some CluesFull) None)
+    by_first false e = refl
+    by_first true e = let less = leb-false limits.clues (clue_count h) e in ap (λ v. cond v (Some CluesFull) None) (lt-leb real.clues (clue_count h) (omega (arith, less, within)))
+
+-- the clue's numbers obey the layout
+between : (h : History) (clue : Digest) → AreLawful (journals h) → AreBetween (size h) (jsns_with h clue)
+unfolding jsns_with
+between h clue lawful = numbers_between (size h) 0 clue (journals h) (lawful_from (journals h) lawful) (omega arith)
+
+ord_ok : (h : History) (clue : Digest) → IsTrue (clue_ord_ok clue (next_ordinal h clue))
+unfolding next_ordinal
+ord_ok h clue = elim (is_no_clue clue) as (λ v. cond v ((cond v 0 (length (jsns_with h clue) + 1)) == 0) (nat_lt 0 (cond v 0 (length (jsns_with h clue) + 1))) ≡ true) [
+  | true ↦ refl
+  | false ↦ lt-ltb 0 (length (jsns_with h clue) + 1) (omega arith)
+]
+
+prev_by : (n : ℕ) (js : List ℕ) → AreBetween n js → cond (nat_le (length js + 1) 1) (last_of js == 0) (nat_lt 0 (last_of js) && nat_lt (last_of js) n) ≡ true
+prev_by n [] b = refl
+prev_by n (j ∷ js) b =
+    let last = last_between n (j ∷ js) b (omega arith) in
+    ap (λ v. cond v (last_of (j ∷ js) == 0) (nat_lt 0 (last_of (j ∷ js)) && nat_lt (last_of (j ∷ js)) n)) (lt-leb (length (j ∷ js) + 1) 1 (omega arith))
+    ∙ and_from _ _ (lt-ltb 0 (last_of (j ∷ js)) last.0) (lt-ltb (last_of (j ∷ js)) n last.1)
+
+prev_ok : (h : History) (clue : Digest) → AreBetween (size h) (jsns_with h clue) → IsTrue (clue_prev_ok (size h) (next_ordinal h clue) (last_journal h clue))
+unfolding next_ordinal last_journal
+prev_ok h clue numbers = elim (is_no_clue clue) as (λ v. cond (nat_le (cond v 0 (length (jsns_with h clue) + 1)) 1) ((cond v 0 (last_of (jsns_with h clue))) == 0) (nat_lt 0 (cond v 0 (last_of (jsns_with h clue))) && nat_lt (cond v 0 (last_of (jsns_with h clue))) (size h)) ≡ true) [
+  | true ↦ refl
+  | false ↦ prev_by (size h) (jsns_with h clue) numbers
+]
+
+-- a member's record that is accepted
+module _ (limits : Limits) (within : AreWithin limits) (h : History) (member : ℕ) (clue : Digest) (content : List ℕ) (content_digest request : Digest) (by : Approval) (judged : IsNone (first_refusal (append_judgements limits h member clue by.key))) where
+  abbrev placed_record : Entry
+  placed_record = append_journal h member clue content content_digest request by
+
+  room : size h < real.size
+  room = let less = room_is limits h (none_first (full limits h) _ judged).0 in omega (arith, less, within.size)
+
+  known : member < length (members h)
+  known =
+      let a = none_first (full limits h) _ judged in
+      let b = none_first (unknown_in (keys h) member) _ a.1 in
+      omega (arith, ltb-true member (length (keys h)) (if_not (is_known (keys h) member) _ b.0), length-map (members h) (λ (m : Member). m.key.0))
+
+  clue_room : IsNone (clues_full real h clue)
+  clue_room =
+      let a = none_first (full limits h) _ judged in
+      let b = none_first (unknown_in (keys h) member) _ a.1 in
+      let c = none_first (wrong_key_in (keys h) member by.key) _ b.1 in
+      clues_room limits h clue within.clues (none_first (clues_full limits h clue) _ c.1).0
+
+  record_layout : AreLawful (journals h) → length content ≤ CONTENT_LIMIT → IsHeader placed_record.header
+  unfolding append_header members
+  record_layout lawful long = record {
+    version = refl;
+    jsn = lt-ltb 0 (size h) (omega (arith, some_journal (journals h) lawful));
+    member = lt-ltb member MEMBER_LIMIT (omega (arith, known, (lawful_members (journals h) lawful).1));
+    clue = refl;
+    clue_ord = ord_ok h clue;
+    clue_prev = prev_ok h clue (between h clue lawful);
+    a = refl;
+    b = refl;
+    content_len = le-leb (length content) CONTENT_LIMIT long;
+  }
+
+  -- its journal is the next one
+  pub record_next : AreLawful (journals h) → length content ≤ CONTENT_LIMIT → IsNext (history [] (journals h)) placed_record.header
+  unfolding append_header members next_ordinal last_journal jsns_with clues_full clue_count
+  record_next lawful long = record {
+    layout = record_layout lawful long;
+    jsn = refl;
+    below = room;
+    own = record { member = known; clue_ord = refl; clue_prev = refl; room = clue_room };
+  }
+
+-- .. and its parts have their digests
+pub record_whole : (h : History) (member : ℕ) (clue : Digest) (content : List ℕ) (content_digest request : Digest) (by : Approval)
+    → bytes_eq content_digest.0 (content_digest_of content) ≡ true → IsWhole (append_journal h member clue content content_digest request by)
+unfolding append_header
+record_whole h member clue content content_digest request by is = record {
+  length_is = refl;
+  content_is = (bytes_eq-Decides content_digest.0 (content_digest_of content)).0 is;
+  who_is = refl;
+}
+
+-- a new member that is accepted
+module _ (limits : Limits) (within : AreWithin limits) (h : History) (number : ℕ) (key : Digest) (by : Approval) (judged : IsNone (first_refusal (member_judgements limits h number by.key))) where
+  member_room : size h < real.size
+  member_room = let less = room_is limits h (none_first (full limits h) _ judged).0 in omega (arith, less, within.size)
+
+  numbered : (length (members h) < MEMBER_LIMIT) × (number ≡ length (members h))
+  numbered = by_test (nat_le MEMBER_LIMIT (length (members h))) refl (none_first (number_refusal (members h) number) _ (none_first (full limits h) _ judged).1).0 where
+    by_test : (full : Bool) → nat_le MEMBER_LIMIT (length (members h)) ≡ full
+        → IsNone (cond full (Some MembersFull) (cond (number == length (members h)) None (Some (MemberNumber (length (members h)))))) → (length (members h) < MEMBER_LIMIT) × (number ≡ length (members h))
+    by_test true e none = absurd cc
+    by_test false e none = (leb-false MEMBER_LIMIT (length (members h)) e, eqb-true number (length (members h)) (if_not (number == length (members h)) _ none))
+
+  member_layout : AreLawful (journals h) → IsHeader (member_journal (size h) number key by).header
+  unfolding member_header members
+  member_layout lawful = record {
+    version = refl;
+    jsn = lt-ltb 0 (size h) (omega (arith, some_journal (journals h) lawful));
+    member = refl;
+    clue = refl;
+    clue_ord = refl;
+    clue_prev = refl;
+    a = and_from _ _ (le-leb 2 number (omega (arith, numbered.1, (lawful_members (journals h) lawful).0))) (lt-ltb number MEMBER_LIMIT (omega (arith, numbered.0, numbered.1)));
+    b = refl;
+    content_len = refl;
+  }
+
+  pub member_next : AreLawful (journals h) → IsNext (history [] (journals h)) (member_journal (size h) number key by).header
+  unfolding member_header members
+  member_next lawful = record { layout = member_layout lawful; jsn = refl; below = member_room; own = numbered.1 }
+
+pub member_whole : (jsn number : ℕ) (key : Digest) (by : Approval) → IsWhole (member_journal jsn number key by)
+unfolding member_header
+member_whole jsn number key by = record { length_is = refl; content_is = refl; who_is = refl }

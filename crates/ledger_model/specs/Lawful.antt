@@ -1,0 +1,86 @@
+-- Which histories there may be: each journal is the next one, blocks are of their sizes, and parts have their digests.
+use Rattle.std.specs.Prelude.{◌≡◌, ◌≢◌, ◌<◌, ◌≤◌, Bool, true, false, List, [], ◌∷◌, ◌++◌, length, None, All, ⊤}
+use Rattle.std.specs.List.{list_all}
+use Rattle.ledger_bytes.specs.declared.limits.TheConstants.{BLOCK_LIMIT}
+use Rattle.journal_record.specs.Entry.{Entry, content_digest_of, who_digest_of}
+use Rattle.journal_record.specs.Rules.{IsHeader}
+use Rattle.journal_record.specs.declared.header.Header.{Header}
+use Rattle.journal_record.specs.declared.header.Kind.{Kind}
+use Rattle.journal_record.specs.declared.header.Kind.TheVariants as kind
+use Rattle.ledger_model.specs.Clues.{next_ordinal, last_journal}
+use Rattle.ledger_model.specs.History.{History, history, journals, size}
+use Rattle.ledger_model.specs.Judgements.{clues_full}
+use Rattle.ledger_model.specs.Limits.{real}
+use Rattle.ledger_model.specs.Members.{members}
+
+-- a member's record: the member is known, the clue's numbers are the next ones, and there is room for the clue
+pub record IsNextRecord (h : History) (x : Header) : Type 0 where
+  pub member : x.member < length (members h)
+  pub clue_ord : x.clue_ord ≡ next_ordinal h x.clue
+  pub clue_prev : x.clue_prev ≡ last_journal h x.clue
+  pub room : clues_full real h x.clue ≡ None
+
+-- what the next journal must be by its kind; the other kinds are placed by no job so far
+abbrev pub IsNextOf : History → Header → Kind → Type 0
+IsNextOf h x kind.Genesis = ⊤
+IsNextOf h x kind.Content = IsNextRecord h x
+IsNextOf h x kind.Member = x.a ≡ length (members h)
+IsNextOf h x other = ⊥
+
+-- a header that may be the next one: it obeys its layout, by which it is a genesis exactly where it is the first
+pub record IsNext (h : History) (x : Header) : Type 0 where
+  pub layout : IsHeader x
+  pub jsn : x.jsn ≡ size h
+  pub below : x.jsn < real.size
+  pub own : IsNextOf h x x.kind
+
+-- journals behind these, each the next one
+abbrev pub AreNext : List Entry → List Entry → Type 0
+AreNext before [] = ⊤
+AreNext before (e ∷ es) = IsNext (history [] before) e.header × AreNext (before ++ e ∷ []) es
+
+-- there is a first journal, and its content, which holds keys, has the digest that its header names
+abbrev pub IsFounded : List Entry → Type 0
+IsFounded [] = ⊥
+IsFounded (e ∷ es) = e.header.content_digest.0 ≡ content_digest_of e.content
+
+-- journals that a ledger may have, in their order
+pub record AreLawful (es : List Entry) : Type 0 where
+  pub next : AreNext [] es
+  pub founded : IsFounded es
+
+-- records and new members gather in a block; each other journal is a block of its own
+abbrev pub gathers : Kind → Bool
+gathers kind.Content = true
+gathers kind.Member = true
+gathers other = false
+
+abbrev pub AllGather : List Entry → Type 0
+AllGather es = list_all (λ e. gathers e.header.kind) es ≡ true
+
+-- a block that has ended
+pub record IsBlock (es : List Entry) : Type 0 where
+  pub some : 1 ≤ length es
+  pub most : length es ≤ BLOCK_LIMIT
+  pub gathered : length es ≢ 1 → AllGather es
+
+-- a block that is open
+pub record IsOpenBlock (es : List Entry) : Type 0 where
+  pub room : length es < BLOCK_LIMIT
+  pub gathered : AllGather es
+
+-- a history that a ledger may have
+pub record IsLawful (h : History) : Type 0 where
+  pub journals_are : AreLawful (journals h)
+  pub blocks_are : All IsBlock h.closed
+  pub waiting_is : IsOpenBlock h.waiting
+
+-- a journal's content and who have the length and the digests that its header names
+pub record IsWhole (e : Entry) : Type 0 where
+  pub length_is : length e.content ≡ e.header.content_len
+  pub content_is : e.header.content_digest.0 ≡ content_digest_of e.content
+  pub who_is : e.header.who_digest.0 ≡ who_digest_of e.who
+
+-- a history of which nothing was lost
+abbrev pub IsSound : History → Type 0
+IsSound h = All IsWhole (journals h)
