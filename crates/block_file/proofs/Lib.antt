@@ -1,0 +1,9 @@
+pub mod ChangeLaws
+pub mod CopyLaws
+pub mod HeadLaws
+pub mod ParseLaws
+pub mod RecordLaws
+pub mod UniqueLaws
+pub mod VeilLaws
+pub mod WriteLaws
+pub mod ZeroLaws

@@ -1,0 +1,131 @@
+-- The head of a file, and when a file is open.
+use Rattle.std.specs.Prelude.{◌≡◌, ◌≢◌, ◌⊎◌, ℕ, ◌-◌, ◌<◌, ◌≤◌, List, [], ◌∷◌, ◌++◌, length, get_or, take, drop, replicate, Option, Some, None, Result, Ok, Err, MatchResult}
+use Rattle.std.specs.Int.{from_be_bytes, to_be_bytes, w64}
+use Rattle.sha2.specs.Sha256.{sha256}
+use Rattle.ledger_bytes.specs.Tags.{byte_of}
+use Rattle.ledger_bytes.specs.declared.tag.Tag.TheVariants as tag
+use Rattle.ledger_bytes.specs.Causes.{Rose}
+use Rattle.block_file.specs.declared.head.FileHead.{FileHead}
+use Rattle.block_file.specs.declared.failure.Damage.TheVariants.{Magic, BaseForm, Base, Length, Entry, Root, Content}
+use Rattle.block_file.specs.declared.failure.FileErr.{FileErr}
+use Rattle.block_file.specs.declared.failure.FileErr.TheVariants.{DiskFault, Damaged, NewerFormat, NoMemory}
+
+-- The count rises exactly where a fault is answered.
+abbrev pub CountsAt : FileErr → ℕ → ℕ → Type 0
+CountsAt DiskFault old new = Rose old new × (old ≤ new)
+CountsAt (Damaged damage) old new = new ≡ old
+CountsAt (NewerFormat found) old new = new ≡ old
+CountsAt NoMemory old new = new ≡ old
+
+abbrev pub Counts : {T : Type 0} → Result T FileErr → ℕ → ℕ → Type 0
+Counts result old new = MatchResult result (λ _. new ≡ old) (λ e. CountsAt e old new)
+
+-- A call on two disks: a fault was counted by one of them.
+abbrev pub CountsOneFault : {T E : Type 0} → Result T E → ℕ → ℕ → ℕ → ℕ → Type 0
+CountsOneFault result x1 x2 y1 y2 = MatchResult result (λ _. (x2 ≡ x1) × (y2 ≡ y1)) (λ _. (Rose x1 x2 ⊎ Rose y1 y2) × (x1 ≤ x2) × (y1 ≤ y2))
+
+abbrev pub CountsTwoAt : FileErr → ℕ → ℕ → ℕ → ℕ → Type 0
+CountsTwoAt DiskFault x1 x2 y1 y2 = (Rose x1 x2 ⊎ Rose y1 y2) × (x1 ≤ x2) × (y1 ≤ y2)
+CountsTwoAt (Damaged damage) x1 x2 y1 y2 = (x2 ≡ x1) × (y2 ≡ y1)
+CountsTwoAt (NewerFormat found) x1 x2 y1 y2 = (x2 ≡ x1) × (y2 ≡ y1)
+CountsTwoAt NoMemory x1 x2 y1 y2 = (x2 ≡ x1) × (y2 ≡ y1)
+
+-- The count of one of two disks rises exactly where a fault is answered.
+abbrev pub CountsTwo : {T : Type 0} → Result T FileErr → ℕ → ℕ → ℕ → ℕ → Type 0
+CountsTwo result x1 x2 y1 y2 = MatchResult result (λ _. (x2 ≡ x1) × (y2 ≡ y1)) (λ e. CountsTwoAt e x1 x2 y1 y2)
+
+-- Nothing but a fault is answered, and then the count rose.
+abbrev pub CountsAlone : {T : Type 0} → Result T FileErr → ℕ → ℕ → Type 0
+CountsAlone result old new = MatchResult result (λ _. new ≡ old) (λ e. (e ≡ DiskFault) × Rose old new × (old ≤ new))
+
+abbrev pub CountsTwoAlone : {T : Type 0} → Result T FileErr → ℕ → ℕ → ℕ → ℕ → Type 0
+CountsTwoAlone result x1 x2 y1 y2 = MatchResult result (λ _. (x2 ≡ x1) × (y2 ≡ y1)) (λ e. (e ≡ DiskFault) × (Rose x1 x2 ⊎ Rose y1 y2) × (x1 ≤ x2) × (y1 ≤ y2))
+
+-- "LEDGERDB"
+abbrev pub magic : List ℕ
+magic = 76 ∷ 69 ∷ 68 ∷ 71 ∷ 69 ∷ 82 ∷ 68 ∷ 66 ∷ []
+
+-- the number of eight bytes at this place
+abbrev pub number_at : ℕ → List ℕ → ℕ
+number_at at file = from_be_bytes w64 (take 8 (drop at file))
+
+-- the digest of a base
+abbrev pub digest_of : List ℕ → List ℕ
+digest_of base = sha256 (byte_of tag.Base ∷ base)
+
+-- the gate of a file and its head
+abbrev pub head_of : ℕ → ℕ → List ℕ → List ℕ
+head_of gate generation base = (gate ∷ magic) ++ (1 ∷ []) ++ to_be_bytes w64 generation ++ to_be_bytes w64 (length base) ++ digest_of base ++ replicate 6 0
+
+-- all that stands before the blocks
+abbrev pub front_of : ℕ → ℕ → List ℕ → List ℕ
+front_of gate generation base = head_of gate generation base ++ base
+
+-- too short for a head and a gate, or its gate isn't 01
+abbrev pub IsShut : List ℕ → Type 0
+IsShut file = (length file < 65) ⊎ (get_or file 0 0 ≢ 1)
+
+pub record IsOpen (file : List ℕ) : Type 0 where
+  pub long : 65 ≤ length file
+  pub gate : get_or file 0 0 ≡ 1
+
+abbrev pub generation_of : List ℕ → ℕ
+generation_of file = number_at 10 file
+
+-- open, with a head that is known
+pub record HasHead (file : List ℕ) : Type 0 where
+  pub is_open : IsOpen file
+  pub magic_is : take 8 (drop 1 file) ≡ magic
+  pub version : get_or file 9 0 ≡ 1
+
+-- the head of a file
+pub record Names (file : List ℕ) (head : FileHead) : Type 0 where
+  pub has : HasHead file
+  pub generation : head.generation ≡ generation_of file
+  pub base_len : head.base_len ≡ number_at 18 file
+  pub base_digest : head.base_digest.0 ≡ take 32 (drop 26 file)
+
+-- what is wrong with the head of an open file
+abbrev pub IsHeadErr : List ℕ → FileErr → Type 0
+IsHeadErr file DiskFault = Unit {0}
+IsHeadErr file NoMemory = ⊥
+IsHeadErr file (NewerFormat found) = IsOpen file × (take 8 (drop 1 file) ≡ magic) × (found ≡ get_or file 9 0) × (found ≢ 1)
+IsHeadErr file (Damaged Magic) = IsOpen file × (take 8 (drop 1 file) ≢ magic)
+IsHeadErr file (Damaged (BaseForm at)) = ⊥
+IsHeadErr file (Damaged (Base kept found)) = ⊥
+IsHeadErr file (Damaged (Length at kept found)) = ⊥
+IsHeadErr file (Damaged (Entry jsn)) = ⊥
+IsHeadErr file (Damaged (Root block kept found)) = ⊥
+IsHeadErr file (Damaged (Content jsn kept found)) = ⊥
+
+-- what is told of a file's head
+abbrev pub IsHead : List ℕ → Result (Option FileHead) FileErr → Type 0
+IsHead file (Ok None) = IsShut file
+IsHead file (Ok (Some head)) = Names file head
+IsHead file (Err e) = IsHeadErr file e
+
+-- the head's base reaches past the end less one byte
+abbrev pub IsResumeErr : List ℕ → ℕ → FileErr → Type 0
+IsResumeErr file base_len DiskFault = Unit {0}
+IsResumeErr file base_len NoMemory = ⊥
+IsResumeErr file base_len (NewerFormat found) = ⊥
+IsResumeErr file base_len (Damaged Magic) = ⊥
+IsResumeErr file base_len (Damaged (BaseForm at)) = ⊥
+IsResumeErr file base_len (Damaged (Base kept found)) = ⊥
+IsResumeErr file base_len (Damaged (Length at kept found)) = (at ≡ 18) × (kept ≡ base_len) × (found ≡ length file - 65) × (found < kept)
+IsResumeErr file base_len (Damaged (Entry jsn)) = ⊥
+IsResumeErr file base_len (Damaged (Root block kept found)) = ⊥
+IsResumeErr file base_len (Damaged (Content jsn kept found)) = ⊥
+
+-- the base hasn't the digest that the head names
+abbrev pub IsBaseErr : List ℕ → List ℕ → FileErr → Type 0
+IsBaseErr base digest DiskFault = Unit {0}
+IsBaseErr base digest NoMemory = Unit {0}
+IsBaseErr base digest (NewerFormat found) = ⊥
+IsBaseErr base digest (Damaged Magic) = ⊥
+IsBaseErr base digest (Damaged (BaseForm at)) = ⊥
+IsBaseErr base digest (Damaged (Base kept found)) = (1 ≤ length base) × (kept.0 ≡ digest) × (found.0 ≡ digest_of base) × (found.0 ≢ kept.0)
+IsBaseErr base digest (Damaged (Length at kept found)) = ⊥
+IsBaseErr base digest (Damaged (Entry jsn)) = ⊥
+IsBaseErr base digest (Damaged (Root block kept found)) = ⊥
+IsBaseErr base digest (Damaged (Content jsn kept found)) = ⊥

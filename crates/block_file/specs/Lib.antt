@@ -1,0 +1,4 @@
+pub mod File
+pub mod Head
+pub mod Place
+pub mod Blocks

@@ -1,0 +1,20 @@
+-- What a `BlockFile` shows.
+use Rattle.std.specs.Prelude.{◌≡◌, ℕ, List}
+use Rattle.block_file.specs.declared.file.BlockFile.{BlockFile}
+
+-- where the gate of the next block stands
+abbrev pub place_of : BlockFile → ℕ
+place_of file = file.at
+
+-- the length of its base
+abbrev pub base_len_of : BlockFile → ℕ
+base_len_of file = file.base_len
+
+-- the digest of its base
+abbrev pub base_digest_of : BlockFile → List ℕ
+base_digest_of file = file.base_digest.0
+
+-- it has the same base as before
+pub record KeepsBase (old new : BlockFile) : Type 0 where
+  pub len : base_len_of new ≡ base_len_of old
+  pub digest : base_digest_of new ≡ base_digest_of old

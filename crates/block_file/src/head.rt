@@ -1,0 +1,71 @@
+ghost use Rattle.std.specs.Prelude.{◌≡◌, ◌≢◌, ◌≤◌, length, get_or, take, drop, IsTrue, IsSomeAnd, IfOk, IfErr, OnOk};
+ghost use Rattle.ledger_disk.specs.Disk.{CountsFault, KeepsLength};
+ghost use Rattle.block_file.specs.Head.{Counts, number_at, digest_of, IsOpen, IsHeadErr, magic};
+
+use crate::reading::{fill, read_byte, read_digest, read_number};
+use crate::{Damage, FileErr};
+use ledger_bytes::{Digest, Failed, Sha, Tag, TreeHash};
+use ledger_disk::Disk;
+
+pub(crate) const MAGIC: [u8; 8] = [76, 69, 68, 71, 69, 82, 68, 66];
+
+/// What the head of an open file tells. The file of the greater generation is the newer one.
+#[derive(Clone, Copy, Debug, PartialEq, Eq)]
+pub struct FileHead {
+    pub generation: u64,
+    pub base_len: u64,
+    pub base_digest: Digest,
+}
+
+/// The digest of a base.
+pub(crate) fn base_digest(base: &[u8]) -> Digest
+    ensures { result.0 ≡ digest_of base.now }
+{
+    let mut hash = Sha::start(Tag::Base.byte());
+    hash.add(base);
+    hash.end()
+}
+
+/// Looks at the magic and the version of an open file.
+pub(crate) fn check_form<D: Disk>(disk: &mut D) -> Result<(), FileErr>
+    requires { IsSomeAnd (D.told_length disk.old) (λ n. 65 ≤ n) }
+    ensures ok { OnOk result (IsTrue D.tells → (take 8 (drop 1 (D.state disk.old).seen) ≡ magic)
+        × (get_or (D.state disk.old).seen 9 0 ≡ 1)) }
+    ensures err { IfErr result (λ e. IsTrue D.tells → IsOpen (D.state disk.old).seen
+        → IsHeadErr (D.state disk.old).seen e) }
+    ensures only { IfErr result (λ e. e ≢ FileErr.NoMemory) }
+    ensures state { IsTrue D.tells → D.state disk.new ≡ D.state disk.old }
+    ensures length { KeepsLength (D.told_length disk.old) (D.told_length disk.new) }
+    ensures faults { Counts result (D.faults disk.old) (D.faults disk.new) }
+{
+    let mut magic = [0; 8];
+    fill(disk, 1, &mut magic)?;
+    if magic != MAGIC {
+        return Err(FileErr::Damaged(Damage::Magic));
+    }
+    let found = read_byte(disk, 9)?;
+    if found != 1 {
+        return Err(FileErr::NewerFormat { found });
+    }
+    Ok(())
+}
+
+/// Reads the fields of a head.
+pub(crate) fn read_fields<D: Disk>(disk: &mut D) -> Result<FileHead, Failed>
+    requires { IsSomeAnd (D.told_length disk.old) (λ n. 65 ≤ n) }
+    ensures generation { IfOk result (λ head. IsTrue D.tells
+        → head.generation ≡ number_at 10 (D.state disk.old).seen) }
+    ensures base_len { IfOk result (λ head. IsTrue D.tells
+        → head.base_len ≡ number_at 18 (D.state disk.old).seen) }
+    ensures base_digest { IfOk result (λ head. IsTrue D.tells
+        → head.base_digest.0 ≡ take 32 (drop 26 (D.state disk.old).seen)) }
+    ensures state { IsTrue D.tells → D.state disk.new ≡ D.state disk.old }
+    ensures length { KeepsLength (D.told_length disk.old) (D.told_length disk.new) }
+    ensures faults { CountsFault result (D.faults disk.old) (D.faults disk.new) }
+{
+    Ok(FileHead {
+        generation: read_number(disk, 10)?,
+        base_len: read_number(disk, 18)?,
+        base_digest: read_digest(disk, 26)?,
+    })
+}

@@ -1,0 +1,90 @@
+ghost use Rattle.std.specs.Prelude.{◌≡◌, ◌≢◌, ◌⊎◌, ◌+◌, ◌^◌, ◌≤◌, ◌++◌, [], ◌∷◌, ℕ, List, length, get_or, take, drop, IsTrue, IsSomeAnd, IfOk, OnOk, OnErr};
+ghost use Rattle.ledger_disk.specs.Disk.{MayLeave, settled, CountsFault};
+ghost use Rattle.block_file.specs.Head.{head_of};
+ghost use Rattle.block_file.specs.File.{IsVeiled};
+
+use crate::head::{MAGIC, base_digest};
+use ledger_bytes::Failed;
+use ledger_disk::Disk;
+
+/// Writes a piece behind the end of a file, and behind its gate.
+pub(crate) fn add<D: Disk>(disk: &mut D, at: u64, piece: &[u8]) -> Result<(), Failed>
+    requires length { IsSomeAnd (D.told_length disk.old) (λ n. at ≤ n) }
+    requires behind { 1 ≤ at }
+    ensures seen { OnOk result (IsTrue D.tells → length (D.state disk.old).seen ≡ at
+        → (D.state disk.new).seen ≡ (D.state disk.old).seen ++ piece.now) }
+    ensures veiled { IsTrue D.tells → IsVeiled (D.state disk.old) → IsVeiled (D.state disk.new) }
+    ensures told { OnOk result (IsSomeAnd (D.told_length disk.new)
+        (λ n. at + length piece.now ≤ n)) }
+    ensures fits { OnOk result (at + length piece.now ≤ 2 ^ 62) }
+    ensures faults { CountsFault result (D.faults disk.old) (D.faults disk.new) }
+{
+    disk.write(at, piece)
+}
+
+/// Writes the head behind a gate.
+pub(crate) fn add_head<D: Disk>(disk: &mut D, generation: u64, base: &[u8]) -> Result<(), Failed>
+    requires length { IsSomeAnd (D.told_length disk.old) (λ n. 1 ≤ n) }
+    ensures seen { OnOk result (IsTrue D.tells → (D.state disk.old).seen ≡ 0 ∷ []
+        → (D.state disk.new).seen ≡ head_of 0 generation base.now) }
+    ensures veiled { IsTrue D.tells → IsVeiled (D.state disk.old) → IsVeiled (D.state disk.new) }
+    ensures told { OnOk result (IsSomeAnd (D.told_length disk.new) (λ n. 64 ≤ n)) }
+    ensures faults { CountsFault result (D.faults disk.old) (D.faults disk.new) }
+{
+    add(disk, 1, &MAGIC)?;
+    add(disk, 9, &[1])?;
+    add(disk, 10, &generation.to_be_bytes())?;
+    add(disk, 18, &(base.len() as u64).to_be_bytes())?;
+    add(disk, 26, &base_digest(base).0)?;
+    add(disk, 58, &[0; 6])
+}
+
+/// Writes a block with an open gate over the tail gate of a file, and a new tail gate. Answers its place.
+pub(crate) fn put<D: Disk>(disk: &mut D, at: u64, block: &[u8]) -> Result<u64, Failed>
+    requires length { IsSomeAnd (D.told_length disk.old) (λ n. at + 1 ≤ n) }
+    requires behind { 1 ≤ at }
+    ensures seen { OnOk result (IsTrue D.tells → length (D.state disk.old).seen ≡ at + 1
+        → (D.state disk.new).seen ≡ take at (D.state disk.old).seen ++ (1 ∷ block.now) ++ 0 ∷ []) }
+    ensures veiled { IsTrue D.tells → IsVeiled (D.state disk.old) → IsVeiled (D.state disk.new) }
+    ensures place { IfOk result (λ next. (next ≡ at + 1 + length block.now) × (next + 1 ≤ 2 ^ 62)) }
+    ensures told { OnOk result (IsSomeAnd (D.told_length disk.new)
+        (λ n. at + 2 + length block.now ≤ n)) }
+    ensures faults { CountsFault result (D.faults disk.old) (D.faults disk.new) }
+{
+    open_tail(disk, at)?;
+    add(disk, at + 1, block)?;
+    let next = at + 1 + block.len() as u64;
+    add(disk, next, &[0])?;
+    Ok(next)
+}
+
+/// Writes an open gate over the last byte of a file.
+pub(crate) fn open_tail<D: Disk>(disk: &mut D, at: u64) -> Result<(), Failed>
+    requires length { IsSomeAnd (D.told_length disk.old) (λ n. at + 1 ≤ n) }
+    requires behind { 1 ≤ at }
+    ensures seen { OnOk result (IsTrue D.tells → length (D.state disk.old).seen ≡ at + 1
+        → (D.state disk.new).seen ≡ take at (D.state disk.old).seen ++ 1 ∷ []) }
+    ensures veiled { IsTrue D.tells → IsVeiled (D.state disk.old) → IsVeiled (D.state disk.new) }
+    ensures told { OnOk result (IsSomeAnd (D.told_length disk.new) (λ n. at + 1 ≤ n)) }
+    ensures fits { OnOk result (at + 1 ≤ 2 ^ 62) }
+    ensures faults { CountsFault result (D.faults disk.old) (D.faults disk.new) }
+{
+    disk.write(at, &[1])
+}
+
+/// Makes what was written behind the shut gate stand for good, and opens it.
+pub(crate) fn open_for_good<D: Disk>(disk: &mut D) -> Result<(), Failed>
+    requires { IsSomeAnd (D.told_length disk.old) (λ m. 1 ≤ m) }
+    ensures ok { OnOk result (IsTrue D.tells
+        → D.state disk.new ≡ settled (1 ∷ drop 1 (D.state disk.old).seen)) }
+    ensures err { OnErr result (IsTrue D.tells → IsVeiled (D.state disk.old) → (image : List ℕ)
+        → MayLeave (D.state disk.new) image
+        → (get_or image 0 0 ≢ 1) ⊎ (image ≡ 1 ∷ drop 1 (D.state disk.old).seen)) }
+    ensures told { (k : ℕ) → IsSomeAnd (D.told_length disk.old) (λ m. k ≤ m)
+        → IsSomeAnd (D.told_length disk.new) (λ m. k ≤ m) }
+    ensures faults { CountsFault result (D.faults disk.old) (D.faults disk.new) }
+{
+    disk.sync()?;
+    disk.write(0, &[1])?;
+    disk.sync()
+}

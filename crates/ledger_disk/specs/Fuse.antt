@@ -1,0 +1,24 @@
+-- What a `FuseDisk` shows.
+use Rattle.std.specs.Prelude.{◌≡◌, ℕ, ◌+◌, ◌-◌, ◌^◌, ◌≤◌, min, Result, IsErr}
+use Rattle.ledger_disk.specs.declared.fuse.FuseDisk.{FuseDisk}
+
+-- the disk that it passes calls on to
+abbrev pub inner_of : {D : Type 0} → FuseDisk D → D
+inner_of f = f.inner
+
+-- how many calls of `write`, `cut` and `sync` it will still pass on
+abbrev pub left_of : {D : Type 0} → FuseDisk D → ℕ
+left_of f = f.left
+
+-- how many calls it refused
+abbrev pub refused_of : {D : Type 0} → FuseDisk D → ℕ
+refused_of f = f.refused
+
+-- how many calls failed: those that its disk counted, and those that it refused
+abbrev pub fuse_faults : {D : Type 0} → (D → ℕ) → FuseDisk D → ℕ
+fuse_faults faults f = min (faults (inner_of f) + refused_of f) (2 ^ 64 - 1)
+
+-- A call is refused where none was left, and then doesn't reach the disk. Else it isn't refused.
+pub record IsPassedOn {D T E : Type 0} (result : Result T E) (old new : FuseDisk D) : Type 0 where
+  pub stopped : left_of old ≡ 0 → IsErr result × (inner_of new ≡ inner_of old)
+  pub passed : 1 ≤ left_of old → refused_of new ≡ refused_of old

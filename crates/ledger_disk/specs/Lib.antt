@@ -1,0 +1,9 @@
+pub mod Adapter
+pub mod Bounds
+pub mod Disk
+pub mod Fuse
+pub mod Generator
+pub mod Guards
+pub mod Memory
+pub mod Parts
+pub mod Picks

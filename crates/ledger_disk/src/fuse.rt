@@ -1,0 +1,177 @@
+ghost use Rattle.std.specs.Prelude.{◌≡◌, ◌+◌, ◌-◌, ◌^◌, ◌≤◌, ◌++◌, IsTrue, length, take, drop, min, max, Some, IfOk, OnOk, OnErr, IsErr, IfSome, IsSome, IsSomeAnd};
+ghost use Rattle.ledger_disk.specs.Disk.{settled, overlaid, wrote, cut_to, MayHaveWritten, MayHaveCut, CountsFault, KeepsLength};
+
+use crate::Disk;
+use ledger_bytes::Failed;
+
+/// A disk that stops. It passes on so many calls of `write`, `cut` and `sync`, counted together, and all reads
+/// between them. Each call after the last of these fails, and nothing reaches the disk any more.
+#[derive(Drop)]
+pub struct FuseDisk<D: Disk> {
+    inner: D,
+    left: u64,
+    refused: u64,
+}
+
+impl<D: Disk> FuseDisk<D> {
+    ghost use Rattle.ledger_disk.specs.Fuse.{inner_of, left_of, refused_of};
+
+    pub fn new(inner: D, left: u64) -> FuseDisk<D>
+        ensures inner { inner_of result ≡ inner }
+        ensures left { left_of result ≡ left }
+        ensures refused { refused_of result ≡ 0 }
+    {
+        FuseDisk {
+            inner,
+            left,
+            refused: 0,
+        }
+    }
+
+    pub fn into_inner(self) -> D
+        ensures { result ≡ inner_of self }
+    {
+        self.inner
+    }
+}
+
+// Uses up one of the calls that are left. Where none is, the call is refused.
+fn spend(left: &mut u64, refused: &mut u64) -> Result<(), Failed>
+    ensures faults { CountsFault result refused.old refused.new }
+    ensures left { left.new ≡ left.old - 1 }
+    ensures passed { OnOk result (1 ≤ left.old) }
+    ensures stopped { OnErr result (left.old ≡ 0) }
+{
+    check(*left, refused)?;
+    *left -= 1;
+    Ok(())
+}
+
+// Where no call is left, this one is refused.
+fn check(left: u64, refused: &mut u64) -> Result<(), Failed>
+    ensures faults { CountsFault result refused.old refused.new }
+    ensures passed { OnOk result (1 ≤ left) }
+    ensures stopped { OnErr result (left ≡ 0) }
+{
+    if left == 0 {
+        *refused = refused.saturating_add(1);
+        return Err(Failed);
+    }
+    Ok(())
+}
+
+impl<D: Disk> Disk for FuseDisk<D> {
+    ghost use Rattle.ledger_disk.specs.Fuse.{inner_of, left_of, refused_of, fuse_faults, IsPassedOn};
+
+    ghost tells = { D.Disk.tells };
+
+    ghost state = { λ f. D.Disk.state f.inner };
+
+    ghost told_length = { λ f. D.Disk.told_length f.inner };
+
+    ghost faults = { λ f. fuse_faults D.Disk.faults f };
+
+    ghost bounded = { λ f. D.Disk.bounded f.inner };
+
+    ghost length_is = { λ f. D.Disk.length_is f.inner };
+
+    ghost seen_may_be_left = { λ f. D.Disk.seen_may_be_left f.inner };
+
+    fn len(&mut self) -> Result<u64, Failed>
+        ensures value { IfOk result (λ n. D.told_length (inner_of self.new) ≡ Some n) }
+        ensures state { IsTrue D.tells → D.state (inner_of self.new) ≡ D.state (inner_of self.old) }
+        ensures length { KeepsLength
+            (D.told_length (inner_of self.old)) (D.told_length (inner_of self.new)) }
+        ensures faults { CountsFault result
+            (fuse_faults D.faults self.old) (fuse_faults D.faults self.new) }
+        ensures left { left_of self.new ≡ left_of self.old }
+        ensures passed { IsPassedOn result self.old self.new }
+    {
+        check(self.left, &mut self.refused)?;
+        self.inner.len()
+    }
+
+    fn read(&mut self, at: u64, into: &mut [u8]) -> Result<usize, Failed>
+        ensures told { OnOk result (IsSome (D.told_length (inner_of self.new))) }
+        ensures count { IfOk result (λ n. IfSome (D.told_length (inner_of self.new))
+            (λ len. n ≡ min (length into.old) (len - at))) }
+        ensures bytes { IfOk result (λ n. IsTrue D.tells
+            → into.new ≡ take n (drop at (D.state (inner_of self.old)).seen) ++ drop n into.old) }
+        ensures state { IsTrue D.tells → D.state (inner_of self.new) ≡ D.state (inner_of self.old) }
+        ensures length { KeepsLength
+            (D.told_length (inner_of self.old)) (D.told_length (inner_of self.new)) }
+        ensures faults { CountsFault result
+            (fuse_faults D.faults self.old) (fuse_faults D.faults self.new) }
+        ensures left { left_of self.new ≡ left_of self.old }
+        ensures passed { IsPassedOn result self.old self.new }
+    {
+        check(self.left, &mut self.refused)?;
+        self.inner.read(at, into)
+    }
+
+    fn write(&mut self, at: u64, piece: &[u8]) -> Result<(), Failed>
+        requires { IfSome (D.told_length (inner_of self.old)) (λ n. at ≤ n) }
+        ensures ok { OnOk result (IsTrue D.tells → D.state (inner_of self.new)
+            ≡ wrote at (length piece.now) (overlaid at piece.now (D.state (inner_of self.old)).seen)
+            (D.state (inner_of self.old))) }
+        ensures err { OnErr result (IsTrue D.tells → MayHaveWritten at (length piece.now)
+            (D.state (inner_of self.old)) (D.state (inner_of self.new))) }
+        ensures told { OnOk result (IsSomeAnd (D.told_length (inner_of self.new))
+            (λ n. at + length piece.now ≤ n)) }
+        ensures fits { OnOk result (at + length piece.now ≤ 2 ^ 62) }
+        ensures length { OnOk result (IfSome (D.told_length (inner_of self.old))
+            (λ n. D.told_length (inner_of self.new) ≡ Some (max n (at + length piece.now)))) }
+        ensures length_err { OnErr result (IfSome (D.told_length (inner_of self.old))
+            (λ n. IsSomeAnd (D.told_length (inner_of self.new))
+            (λ m. (n ≤ m) × (m ≤ max n (at + length piece.now))))) }
+        ensures faults { CountsFault result
+            (fuse_faults D.faults self.old) (fuse_faults D.faults self.new) }
+        ensures left { left_of self.new ≡ left_of self.old - 1 }
+        ensures passed { IsPassedOn result self.old self.new }
+    {
+        spend(&mut self.left, &mut self.refused)?;
+        self.inner.write(at, piece)
+    }
+
+    fn cut(&mut self, to: u64) -> Result<(), Failed>
+        requires { IfSome (D.told_length (inner_of self.old)) (λ n. to ≤ n) }
+        ensures ok { OnOk result (IsTrue D.tells
+            → D.state (inner_of self.new) ≡ cut_to to (D.state (inner_of self.old))) }
+        ensures err { OnErr result (IsTrue D.tells
+            → MayHaveCut to (D.state (inner_of self.old)) (D.state (inner_of self.new))) }
+        ensures told { OnOk result (IsSome (D.told_length (inner_of self.new))) }
+        ensures length { OnOk result (D.told_length (inner_of self.new) ≡ Some to) }
+        ensures length_err { OnErr result (IfSome (D.told_length (inner_of self.old))
+            (λ n. IsSomeAnd (D.told_length (inner_of self.new)) (λ m. (to ≤ m) × (m ≤ n)))) }
+        ensures faults { CountsFault result
+            (fuse_faults D.faults self.old) (fuse_faults D.faults self.new) }
+        ensures left { left_of self.new ≡ left_of self.old - 1 }
+        ensures passed { IsPassedOn result self.old self.new }
+    {
+        spend(&mut self.left, &mut self.refused)?;
+        self.inner.cut(to)
+    }
+
+    fn sync(&mut self) -> Result<(), Failed>
+        ensures ok { OnOk result (IsTrue D.tells
+            → D.state (inner_of self.new) ≡ settled (D.state (inner_of self.old)).seen) }
+        ensures err { OnErr result (IsTrue D.tells
+            → D.state (inner_of self.new) ≡ D.state (inner_of self.old)) }
+        ensures told { OnOk result (IsSome (D.told_length (inner_of self.new))) }
+        ensures length { KeepsLength
+            (D.told_length (inner_of self.old)) (D.told_length (inner_of self.new)) }
+        ensures faults { CountsFault result
+            (fuse_faults D.faults self.old) (fuse_faults D.faults self.new) }
+        ensures left { left_of self.new ≡ left_of self.old - 1 }
+        ensures passed { IsPassedOn result self.old self.new }
+    {
+        spend(&mut self.left, &mut self.refused)?;
+        self.inner.sync()
+    }
+
+    fn faults(&self) -> u64
+        ensures { result ≡ fuse_faults D.faults self.now }
+    {
+        self.inner.faults().saturating_add(self.refused)
+    }
+}

@@ -1,0 +1,35 @@
+use Rattle.std.proofs.Common.{inl, inr, [], ◌∷◌, List, ℕ, ◌∙◌, ap, sym, subst, drop}
+use Rattle.ledger_disk.specs.Disk.{State, MayLeave, settled}
+use Rattle.ledger_disk.proofs.Guarding.{settled_image}
+use Rattle.block_file.specs.File.{whole}
+use Rattle.block_file.specs.Head.{front_of}
+use Rattle.block_file.proofs.VeilLaws.{veiled_gate}
+use Rattle.twin_file.proofs.OpenLaws.{shut_kept}
+use Rattle.twin_file.proofs.HeadLaws.{tail_size}
+use Rattle.twin_file.proofs.parts.make_first.Goals as goal
+
+pub returns-in_err-file-clause-images : goal.returns-in_err-file-clause-images
+returns-in_err-file-clause-images g c told quiet shut image left = inl (shut_kept (g.D.Disk.state c.args.disk.now) (g.D.Disk.state c.begin.new.disk) image (c.begin.ensures.images told) quiet shut left)
+
+pub returns-in_err-put_block-clause-images : goal.returns-in_err-put_block-clause-images
+returns-in_err-put_block-clause-images g c told quiet shut image left = inl (inr (veiled_gate (g.D.Disk.state c.put_block.new.disk) image (c.put_block.ensures.veiled told (c.in_ok-file.ensures.veiled told)) left))
+
+pub returns-in_err-unveil-clause-images : goal.returns-in_err-unveil-clause-images
+returns-in_err-unveil-clause-images g c told quiet shut image left =
+    let seen = c.in_ok-put_block.ensures.seen told (front_of 0 1 []) [] (c.in_ok-file.ensures.seen told) (tail_size 0 1 [] ∙ sym c.in_ok-file.ensures.place) in
+    let veiled = c.put_block.ensures.veiled told (c.in_ok-file.ensures.veiled told) in
+    elim (c.in_err-unveil.ensures.err told veiled image left) [
+      | inl shut ↦ inl (inr shut)
+      | inr is ↦ inr (is ∙ ap (λ (l : List ℕ). 1 ∷ drop 1 l) seen)
+    ]
+
+pub returns-clause-ok : goal.returns-clause-ok
+returns-clause-ok g c told =
+    let seen = c.in_ok-put_block.ensures.seen told (front_of 0 1 []) [] (c.in_ok-file.ensures.seen told) (tail_size 0 1 [] ∙ sym c.in_ok-file.ensures.place) in
+    c.in_ok-unveil.ensures.ok told ∙ ap (λ (l : List ℕ). settled (1 ∷ drop 1 l)) seen
+
+pub returns-clause-images : goal.returns-clause-images
+returns-clause-images g c told quiet shut image left =
+    let seen = c.in_ok-put_block.ensures.seen told (front_of 0 1 []) [] (c.in_ok-file.ensures.seen told) (tail_size 0 1 [] ∙ sym c.in_ok-file.ensures.place) in
+    let now = c.in_ok-unveil.ensures.ok told ∙ ap (λ (l : List ℕ). settled (1 ∷ drop 1 l)) seen in
+    inr (settled_image (whole (front_of 1 1 []) (c.args.block.now ∷ [])) image (subst (λ (s : State). MayLeave s image) now left))

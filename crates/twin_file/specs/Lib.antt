@@ -1,0 +1,6 @@
+pub mod Images
+pub mod Lending
+pub mod Picking
+pub mod Places
+pub mod Twin
+pub mod Which

@@ -1,0 +1,31 @@
+-- Which file is taken.
+use Rattle.std.specs.Prelude.{◌≡◌, ℕ, ◌+◌, ◌<◌, ◌≤◌, ◌⊎◌, Bool, true, false, List, Option, Some, None}
+use Rattle.block_file.specs.Head.{IsShut, generation_of, number_at}
+use Rattle.block_file.specs.declared.head.FileHead.{FileHead}
+use Rattle.twin_file.specs.Twin.{open_of, IsTaken}
+use Rattle.twin_file.specs.declared.picking.Picked.{Picked}
+
+-- which file was taken, its generation, and the place of its first block
+pub record View : Type 0 where
+  pub in_a : Bool
+  pub generation : ℕ
+  pub place : ℕ
+
+abbrev pub view : Bool → ℕ → ℕ → View
+view in_a generation place = record { in_a = in_a; generation = generation; place = place }
+
+-- the open file of the greater generation, and the first where they are equal
+abbrev pub IsPicked : Option FileHead → Option FileHead → Option Picked → Type 0
+IsPicked None None picked = picked ≡ None
+IsPicked (Some x) None picked = picked ≡ Some (record { in_a = true; head = x })
+IsPicked None (Some y) picked = picked ≡ Some (record { in_a = false; head = y })
+IsPicked (Some x) (Some y) picked =
+    ((y.generation ≤ x.generation) × (picked ≡ Some (record { in_a = true; head = x })))
+    ⊎ ((x.generation < y.generation) × (picked ≡ Some (record { in_a = false; head = y })))
+
+-- none where both are shut; else the file that is taken, at its first block
+abbrev pub IsReopened : List ℕ → List ℕ → Option View → Type 0
+IsReopened a b None = IsShut a × IsShut b
+IsReopened a b (Some v) =
+    IsTaken v.in_a a b × (v.generation ≡ generation_of (open_of v.in_a a b))
+    × (v.place ≡ 64 + number_at 18 (open_of v.in_a a b))

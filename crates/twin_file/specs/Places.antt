@@ -1,0 +1,22 @@
+-- Where a file ends, and what it has up to there.
+use Rattle.std.specs.Prelude.{◌≡◌, ℕ, ◌+◌, ◌≤◌, List, Option, IsSomeAnd}
+use Rattle.block_file.specs.File.{whole, tail_of}
+use Rattle.block_file.specs.declared.file.BlockFile.{BlockFile}
+use Rattle.block_file.specs.Place.{place_of}
+
+-- the length that is told reaches behind the file's tail gate
+abbrev pub HasTail : Option ℕ → BlockFile → Type 0
+HasTail told file = IsSomeAnd told (λ n. place_of file + 1 ≤ n)
+
+-- a copy was begun, and its disk reads as the calls left it
+abbrev pub HasCopy : Option ℕ → Option BlockFile → Type 0
+HasCopy told copy = IsSomeAnd copy (HasTail told)
+
+-- this front and these blocks were built, up to the tail gate where the file ends
+pub record IsBuilt (front : List ℕ) (blocks : List (List ℕ)) (bytes : List ℕ) (file : BlockFile) : Type 0 where
+  pub seen : bytes ≡ whole front blocks
+  pub ends : tail_of front blocks ≡ place_of file
+
+-- a copy was begun, and so much of it was built
+abbrev pub IsBuiltCopy : List ℕ → List (List ℕ) → List ℕ → Option BlockFile → Type 0
+IsBuiltCopy front blocks bytes copy = IsSomeAnd copy (IsBuilt front blocks bytes)

@@ -1,0 +1,47 @@
+-- Two files, of which one is open.
+use Rattle.std.specs.Prelude.{◌≡◌, ◌⊎◌, ℕ, ◌+◌, ◌-◌, ◌^◌, ◌<◌, ◌≤◌, Bool, true, false, List, min}
+use Rattle.block_file.specs.Head.{IsShut, HasHead, IsHeadErr, IsResumeErr, generation_of, number_at}
+use Rattle.block_file.specs.declared.failure.FileErr.{FileErr}
+
+-- the first where b is true, and the second otherwise
+abbrev pub chosen : {A : Type 0} → Bool → A → A → A
+chosen true x y = x
+chosen false x y = y
+
+-- the open one of a first and a second
+abbrev pub open_of : {A : Type 0} → Bool → A → A → A
+open_of in_a a b = chosen in_a a b
+
+-- the one that isn't open
+abbrev pub other_of : {A : Type 0} → Bool → A → A → A
+other_of in_a a b = chosen in_a b a
+
+-- The file of the greater generation is taken, and the first where they are equal: so the other one gives way.
+abbrev pub Yields : Bool → ℕ → ℕ → Type 0
+Yields true other taken = other ≤ taken
+Yields false other taken = other < taken
+
+-- a file that is passed over beside an open one of this generation
+abbrev pub IsPassed : Bool → ℕ → List ℕ → Type 0
+IsPassed in_a taken file = IsShut file ⊎ (HasHead file × Yields in_a (generation_of file) taken)
+
+-- which of two files is taken
+pub record IsTaken (in_a : Bool) (a b : List ℕ) : Type 0 where
+  pub head : HasHead (open_of in_a a b)
+  pub other : IsPassed in_a (generation_of (open_of in_a a b)) (other_of in_a a b)
+
+-- this file is taken of the two
+pub record OpensTo (in_a : Bool) (file a b : List ℕ) : Type 0 where
+  pub taken : IsTaken in_a a b
+  pub is : open_of in_a a b ≡ file
+
+-- the generation of a copy
+abbrev pub next_generation : ℕ → ℕ
+next_generation generation = min (generation + 1) (2 ^ 64 - 1)
+
+-- why two files don't open: the head of a, then that of b, then the length of the base of the file that is taken
+abbrev pub IsReopenErr : List ℕ → List ℕ → FileErr → Type 0
+IsReopenErr a b e =
+    IsHeadErr a e
+    ⊎ (((IsShut a ⊎ HasHead a) × IsHeadErr b e)
+    ⊎ ((in_a : Bool) × IsTaken in_a a b × IsResumeErr (open_of in_a a b) (number_at 18 (open_of in_a a b)) e))

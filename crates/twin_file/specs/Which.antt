@@ -1,0 +1,32 @@
+-- What a `Twin` shows.
+use Rattle.std.specs.Prelude.{◌≡◌, ℕ, Bool, Option}
+use Rattle.block_file.specs.declared.file.BlockFile.{BlockFile}
+use Rattle.block_file.specs.Place.{place_of}
+use Rattle.twin_file.specs.Picking.{View, view}
+use Rattle.twin_file.specs.declared.twin.Twin.{Twin}
+
+-- whether the open file is the first
+abbrev pub in_a_of : Twin → Bool
+in_a_of twin = twin.in_a
+
+-- the generation of the open file
+abbrev pub generation_in : Twin → ℕ
+generation_in twin = twin.generation
+
+-- the open file
+abbrev pub file_of : Twin → BlockFile
+file_of twin = twin.file
+
+-- the copy that was begun
+abbrev pub copy_of : Twin → Option BlockFile
+copy_of twin = twin.copy
+
+-- what is told of the file that was taken
+abbrev pub view_of : Twin → View
+view_of twin = view twin.in_a twin.generation (place_of twin.file)
+
+-- the open file is the same, in the same place
+pub record SameOpen (old new : Twin) : Type 0 where
+  pub in_a : in_a_of new ≡ in_a_of old
+  pub generation : generation_in new ≡ generation_in old
+  pub file : file_of new ≡ file_of old

@@ -1,0 +1,106 @@
+//! The copy that is made in the other file.
+
+ghost use Rattle.std.specs.Prelude.{◌≡◌, ◌≢◌, ◌⊎◌, ◌+◌, ◌<◌, ◌≤◌, ◌++◌, ◌∷◌, ℕ, List, not, get_or, take, drop, IsTrue, IsSomeAnd, OnOk, OnErr};
+ghost use Rattle.block_file.specs.File.{IsVeiled, opened};
+ghost use Rattle.block_file.specs.Head.{CountsAlone, CountsTwoAlone, HasHead, generation_of};
+ghost use Rattle.block_file.specs.Place.{place_of};
+ghost use Rattle.ledger_disk.specs.Disk.{MayLeave, settled, KeepsLength};
+ghost use Rattle.twin_file.specs.Images.{AllOpenTo, AllOpenToEither, IsCopying};
+ghost use Rattle.twin_file.specs.Places.{HasCopy, IsBuiltCopy};
+ghost use Rattle.twin_file.specs.Twin.{open_of, other_of};
+
+use block_file::{BlockFile, FileErr};
+use ledger_disk::Disk;
+
+/// Adds a range of the open file to the copy that was begun.
+pub fn extend<D: Disk>(
+    copy: &mut Option<BlockFile>,
+    to: &mut D,
+    from: &mut D,
+    at: u64,
+    len: u64,
+) -> Result<(), FileErr>
+    requires from { IsSomeAnd (D.told_length from.old) (λ n. at + len ≤ n) }
+    requires begun { HasCopy (D.told_length to.old) copy.old }
+    ensures seen { OnOk result (IsTrue D.tells → (front : List ℕ) (blocks more : List (List ℕ))
+        → IsBuiltCopy front blocks (D.state to.old).seen copy.old
+        → take len (drop at (D.state from.old).seen) ≡ opened more
+        → IsBuiltCopy front (blocks ++ more) (D.state to.new).seen copy.new) }
+    ensures veiled { IsTrue D.tells → IsVeiled (D.state to.old) → IsVeiled (D.state to.new) }
+    ensures same { IsTrue D.tells → D.state from.new ≡ D.state from.old }
+    ensures from { KeepsLength (D.told_length from.old) (D.told_length from.new) }
+    ensures begun { OnOk result (HasCopy (D.told_length to.new) copy.new) }
+    ensures stays { OnErr result (copy.new ≡ copy.old) }
+    ensures moved { OnOk result (IsSomeAnd copy.new
+        (λ file. IsSomeAnd copy.old (λ old. place_of file ≡ place_of old + len))) }
+    ensures faults { CountsTwoAlone result
+        (D.faults from.old) (D.faults from.new) (D.faults to.old) (D.faults to.new) }
+{
+    match copy {
+        Some(file) => file.put_range(to, from, at, len),
+        None => Ok(()),
+    }
+}
+
+// Opens the copy that was begun, on its disk.
+fn unveil<D: Disk>(copy: &mut Option<BlockFile>, disk: &mut D) -> Result<(), FileErr>
+    requires begun { HasCopy (D.told_length disk.old) copy.old }
+    ensures ok { OnOk result (IsTrue D.tells
+        → D.state disk.new ≡ settled (1 ∷ drop 1 (D.state disk.old).seen)) }
+    ensures err { OnErr result (IsTrue D.tells → IsVeiled (D.state disk.old) → (image : List ℕ)
+        → MayLeave (D.state disk.new) image
+        → (get_or image 0 0 ≢ 1) ⊎ (image ≡ 1 ∷ drop 1 (D.state disk.old).seen)) }
+    ensures same { copy.new ≡ copy.old }
+    ensures told { OnOk result (HasCopy (D.told_length disk.new) copy.new) }
+    ensures faults { CountsAlone result (D.faults disk.old) (D.faults disk.new) }
+{
+    match copy {
+        Some(file) => file.unveil(disk),
+        None => Ok(()),
+    }
+}
+
+/// Opens the copy that was begun, in the file that isn't the open one.
+pub fn unveil_other<D: Disk>(
+    in_a: bool,
+    copy: &mut Option<BlockFile>,
+    a: &mut D,
+    b: &mut D,
+) -> Result<(), FileErr>
+    requires begun { HasCopy (other_of in_a (D.told_length a.old) (D.told_length b.old)) copy.old }
+    ensures ok { OnOk result (IsTrue D.tells → other_of in_a (D.state a.new) (D.state b.new)
+        ≡ settled (1 ∷ drop 1 (other_of in_a (D.state a.old) (D.state b.old)).seen)) }
+
+    // The file that this leaves, where it has a head of a greater generation.
+    ensures images { OnOk result (IsTrue D.tells
+        → IsCopying in_a (D.state a.old) (D.state b.old)
+        → (new : List ℕ) → 1 ∷ drop 1 (other_of in_a (D.state a.old) (D.state b.old)).seen ≡ new
+        → HasHead new
+        → generation_of (open_of in_a (D.state a.old) (D.state b.old)).seen < generation_of new
+        → AllOpenTo (not in_a) new (D.state a.new) (D.state b.new)) }
+    ensures images_err { OnErr result (IsTrue D.tells
+        → IsCopying in_a (D.state a.old) (D.state b.old)
+        → (new : List ℕ) → 1 ∷ drop 1 (other_of in_a (D.state a.old) (D.state b.old)).seen ≡ new
+        → HasHead new
+        → generation_of (open_of in_a (D.state a.old) (D.state b.old)).seen < generation_of new
+        → AllOpenToEither in_a (open_of in_a (D.state a.old) (D.state b.old)).seen new
+        (D.state a.new) (D.state b.new)) }
+
+    ensures other { IsTrue D.tells → open_of in_a (D.state a.new) (D.state b.new)
+        ≡ open_of in_a (D.state a.old) (D.state b.old) }
+    ensures same { copy.new ≡ copy.old }
+    ensures told { OnOk result (HasCopy
+        (other_of in_a (D.told_length a.new) (D.told_length b.new)) copy.new) }
+    ensures from { KeepsLength
+        (open_of in_a (D.told_length a.old) (D.told_length b.old))
+        (open_of in_a (D.told_length a.new) (D.told_length b.new)) }
+    ensures faults { CountsTwoAlone result
+        (D.faults a.old) (D.faults a.new) (D.faults b.old) (D.faults b.new) }
+{
+    if in_a {
+        unveil(copy, b)?;
+    } else {
+        unveil(copy, a)?;
+    }
+    Ok(())
+}

@@ -1,0 +1,384 @@
+ghost use Rattle.std.specs.Prelude.{◌≡◌, ◌≢◌, ◌⊎◌, ◌+◌, ◌≤◌, ◌++◌, [], ◌∷◌, ℕ, Bool, List, None, Some, true, not, IsSome, option_map, length, take, drop, IsTrue, IfSome, IsSomeAnd, IfOk, IfErr, OnOk, OnErr};
+ghost use Rattle.block_file.specs.File.{IsSettled, whole, opened};
+ghost use Rattle.block_file.specs.Head.{Counts, CountsTwo, CountsTwoAlone, IsResumeErr, front_of, number_at};
+ghost use Rattle.block_file.specs.Place.{place_of};
+ghost use Rattle.ledger_disk.specs.Disk.{MayLeave, settled, KeepsLength};
+ghost use Rattle.twin_file.specs.Images.{AllOpenTo, AllOpenToEither, AllShut, AreShut, IsCopied, IsCopying, IsMadeOrShut, IsQuiet, StaysOpen};
+ghost use Rattle.twin_file.specs.Picking.{IsReopened, view};
+ghost use Rattle.twin_file.specs.Places.{HasCopy, HasTail, IsBuilt, IsBuiltCopy};
+ghost use Rattle.twin_file.specs.Twin.{open_of, other_of, OpensTo, IsReopenErr, next_generation};
+ghost use Rattle.twin_file.specs.Which.{in_a_of, generation_in, file_of, copy_of, view_of, SameOpen};
+
+use crate::copy::{extend, unveil_other};
+use crate::parts::{begin, clear, make_first, wipe_file};
+use crate::picking::pick;
+use block_file::{BlockFile, FileErr, FileHead};
+use ledger_disk::Disk;
+
+/// Two files on two disks, of which one is open. A copy can be made in the other one, behind a shut gate: its first
+/// byte is 00 on the disk for good until it is opened, so it is shut in every image, however long it is. The open
+/// file of the greater generation is taken, and the first where both are open and the generations equal.
+#[derive(Drop)]
+pub struct Twin {
+    in_a: bool,
+    generation: u64,
+    file: BlockFile,
+    copy: Option<BlockFile>,
+}
+
+impl Twin {
+    ghost use Rattle.std.specs.Borrow.{sem};
+    ghost use Rattle.twin_file.specs.Lending.{LendsFile};
+
+    /// Looks at the head of `a`, then at that of `b`, and takes a file. It stands at its first block. None where both
+    /// are shut. A damage or another version in either head is told, and the length of a base only in the file that
+    /// is taken.
+    pub fn reopen<D: Disk>(a: &mut D, b: &mut D) -> Result<Option<Twin>, FileErr>
+        ensures answer { IfOk result (λ found. IsTrue D.tells
+            → IsReopened (D.state a.old).seen (D.state b.old).seen (option_map view_of found)) }
+        ensures err { IfErr result (λ e. IsTrue D.tells
+            → IsReopenErr (D.state a.old).seen (D.state b.old).seen e) }
+        ensures only { IfErr result (λ e. e ≢ FileErr.NoMemory) }
+
+        // A pair that opens to a file is taken so, and nothing else is answered but a fault or a base that reaches
+        // too far.
+        ensures takes { IfOk result (λ found. IsTrue D.tells → (in_a : Bool) (file : List ℕ)
+            → OpensTo in_a file (D.state a.old).seen (D.state b.old).seen
+            → IsSomeAnd found (λ twin. in_a_of twin ≡ in_a)) }
+        ensures takes_err { IfErr result (λ e. IsTrue D.tells → (in_a : Bool) (file : List ℕ)
+            → OpensTo in_a file (D.state a.old).seen (D.state b.old).seen
+            → (e ≡ FileErr.DiskFault) ⊎ IsResumeErr file (number_at 18 file) e) }
+
+        ensures told { IfOk result (λ found. IfSome found (λ twin. HasTail
+            (open_of (in_a_of twin) (D.told_length a.new) (D.told_length b.new)) (file_of twin))) }
+        ensures state_a { IsTrue D.tells → D.state a.new ≡ D.state a.old }
+        ensures state_b { IsTrue D.tells → D.state b.new ≡ D.state b.old }
+        ensures length_a { KeepsLength (D.told_length a.old) (D.told_length a.new) }
+        ensures length_b { KeepsLength (D.told_length b.old) (D.told_length b.new) }
+        ensures faults { CountsTwo result
+            (D.faults a.old) (D.faults a.new) (D.faults b.old) (D.faults b.new) }
+    {
+        look(a, b)
+    }
+
+    /// Makes generation 1 in `a`, with an empty base and this block alone, and nothing in `b`, which is wiped before
+    /// where it isn't empty. The block is without its gate. Both files must be shut.
+    pub fn make<D: Disk>(a: &mut D, b: &mut D, block: &[u8]) -> Result<Twin, FileErr>
+        ensures first { OnOk result (IsTrue D.tells
+            → D.state a.new ≡ settled (whole (front_of 1 1 []) (block.now ∷ []))) }
+        ensures second { OnOk result (IsTrue D.tells → IsSettled (D.state b.old)
+            → D.state b.new ≡ settled []) }
+
+        // A crash at any time leaves both shut, or the first with that block alone.
+        ensures images { IsTrue D.tells → AreShut (D.state a.old) (D.state b.old)
+            → (image_a image_b : List ℕ) → MayLeave (D.state a.new) image_a
+            → MayLeave (D.state b.new) image_b → IsMadeOrShut block.now image_a image_b }
+
+        // After it nothing is pending.
+        ensures quiet { OnOk result (IsTrue D.tells → AreShut (D.state a.old) (D.state b.old)
+            → IsQuiet true (D.state a.new) (D.state b.new)) }
+
+        ensures twin { IfOk result (λ twin. (in_a_of twin ≡ true) × (generation_in twin ≡ 1)
+            × (place_of (file_of twin) ≡ 65 + length block.now) × (copy_of twin ≡ None)) }
+        ensures built { IfOk result (λ twin. IsTrue D.tells
+            → IsBuilt (front_of 1 1 []) (block.now ∷ []) (D.state a.new).seen (file_of twin)) }
+        ensures told { IfOk result (λ twin. HasTail (D.told_length a.new) (file_of twin)) }
+        ensures faults { CountsTwoAlone result
+            (D.faults a.old) (D.faults a.new) (D.faults b.old) (D.faults b.new) }
+    {
+        clear(b)?;
+        let file = make_first(a, block)?;
+        Ok(Twin {
+            in_a: true,
+            generation: 1,
+            file,
+            copy: None,
+        })
+    }
+
+    /// The open file, for the calls that read it and add to it. They are given its disk, which is `a` where
+    /// [`Twin::in_a`] says so.
+    pub fn file(&mut self) -> &mut BlockFile
+        ensures* writes_back { sem 𝓛 (LendsFile self.entry result) }
+        ensures value { result.now ≡ file_of self.old }
+    {
+        &mut self.file
+    }
+
+    /// Whether the open file is the first.
+    pub fn in_a(&self) -> bool
+        ensures { result ≡ in_a_of self.now }
+    {
+        self.in_a
+    }
+
+    /// The generation of the open file.
+    pub fn generation(&self) -> u64
+        ensures { result ≡ generation_in self.now }
+    {
+        self.generation
+    }
+
+    /// Begins a copy in the other file, whose generation is one greater, or 2^64 - 1 where that is reached. A copy that
+    /// was begun before is given up.
+    pub fn begin_copy<D: Disk>(&mut self, a: &mut D, b: &mut D, base: &[u8]) -> Result<(), FileErr>
+        // A crash at any time leaves the open file as it was, and a file that is passed over.
+        ensures images { IsTrue D.tells → StaysOpen (in_a_of self.old)
+            (D.state a.old) (D.state b.old) (D.state a.new) (D.state b.new) }
+
+        // From then on the copy is shut in every image.
+        ensures shut { OnOk result (IsTrue D.tells
+            → AllShut (other_of (in_a_of self.old) (D.state a.new) (D.state b.new))) }
+        ensures copying { OnOk result (IsTrue D.tells
+            → IsQuiet (in_a_of self.old) (D.state a.old) (D.state b.old)
+            → IsCopying (in_a_of self.old) (D.state a.new) (D.state b.new)) }
+        ensures seen { OnOk result (IsTrue D.tells
+            → IsBuiltCopy (front_of 0 (next_generation (generation_in self.old)) base.now) []
+            (other_of (in_a_of self.old) (D.state a.new) (D.state b.new)).seen
+            (copy_of self.new)) }
+
+        ensures begun { OnOk result (IsSomeAnd (copy_of self.new)
+            (λ copy. (place_of copy ≡ 64 + length base.now)
+            × HasTail (other_of (in_a_of self.old) (D.told_length a.new) (D.told_length b.new))
+            copy)) }
+        ensures given_up { OnErr result (copy_of self.new ≡ None) }
+        ensures which { SameOpen self.old self.new }
+        ensures same { IsTrue D.tells → open_of (in_a_of self.old) (D.state a.new) (D.state b.new)
+            ≡ open_of (in_a_of self.old) (D.state a.old) (D.state b.old) }
+        ensures from { KeepsLength
+            (open_of (in_a_of self.old) (D.told_length a.old) (D.told_length b.old))
+            (open_of (in_a_of self.old) (D.told_length a.new) (D.told_length b.new)) }
+        ensures faults { CountsTwoAlone result
+            (D.faults a.old) (D.faults a.new) (D.faults b.old) (D.faults b.new) }
+    {
+        let generation = self.generation.saturating_add(1);
+        self.copy = None;
+        if self.in_a {
+            self.copy = Some(begin(b, generation, base)?);
+        } else {
+            self.copy = Some(begin(a, generation, base)?);
+        }
+        Ok(())
+    }
+
+    /// Copies `len` bytes at the offset `at` of the open file behind what stands in the copy: blocks with their gates,
+    /// one after the other. They go through a fixed buffer in pieces of 65,536 bytes.
+    pub fn copy_block<D: Disk>(
+        &mut self,
+        a: &mut D,
+        b: &mut D,
+        at: u64,
+        len: u64,
+    ) -> Result<(), FileErr>
+        requires from { IsSomeAnd
+            (open_of (in_a_of self.old) (D.told_length a.old) (D.told_length b.old))
+            (λ n. at + len ≤ n) }
+        requires begun { HasCopy
+            (other_of (in_a_of self.old) (D.told_length a.old) (D.told_length b.old))
+            (copy_of self.old) }
+        ensures seen { OnOk result (IsTrue D.tells → (front : List ℕ) (blocks more : List (List ℕ))
+            → IsBuiltCopy front blocks
+            (other_of (in_a_of self.old) (D.state a.old) (D.state b.old)).seen
+            (copy_of self.old)
+            → take len (drop at (open_of (in_a_of self.old) (D.state a.old) (D.state b.old)).seen)
+            ≡ opened more
+            → IsBuiltCopy front (blocks ++ more)
+            (other_of (in_a_of self.old) (D.state a.new) (D.state b.new)).seen
+            (copy_of self.new)) }
+
+        // The copy stays shut in every image, however much of it was written.
+        ensures shut { IsTrue D.tells
+            → IsCopying (in_a_of self.old) (D.state a.old) (D.state b.old)
+            → AllShut (other_of (in_a_of self.old) (D.state a.new) (D.state b.new)) }
+        ensures copying { IsTrue D.tells
+            → IsCopying (in_a_of self.old) (D.state a.old) (D.state b.old)
+            → IsCopying (in_a_of self.old) (D.state a.new) (D.state b.new) }
+        ensures images { IsTrue D.tells
+            → IsCopying (in_a_of self.old) (D.state a.old) (D.state b.old)
+            → AllOpenTo (in_a_of self.old)
+            (open_of (in_a_of self.old) (D.state a.old) (D.state b.old)).seen
+            (D.state a.new) (D.state b.new) }
+
+        ensures begun { OnOk result (HasCopy
+            (other_of (in_a_of self.old) (D.told_length a.new) (D.told_length b.new))
+            (copy_of self.new)) }
+        ensures moved { OnOk result (IsSomeAnd (copy_of self.new)
+            (λ copy. IsSomeAnd (copy_of self.old) (λ old. place_of copy ≡ place_of old + len))) }
+        ensures stays { OnErr result (self.new ≡ self.old) }
+        ensures which { SameOpen self.old self.new }
+        ensures same { IsTrue D.tells → open_of (in_a_of self.old) (D.state a.new) (D.state b.new)
+            ≡ open_of (in_a_of self.old) (D.state a.old) (D.state b.old) }
+        ensures from { KeepsLength
+            (open_of (in_a_of self.old) (D.told_length a.old) (D.told_length b.old))
+            (open_of (in_a_of self.old) (D.told_length a.new) (D.told_length b.new)) }
+        ensures faults { CountsTwoAlone result
+            (D.faults a.old) (D.faults a.new) (D.faults b.old) (D.faults b.new) }
+    {
+        if self.in_a {
+            extend(&mut self.copy, b, a, at, len)?;
+        } else {
+            extend(&mut self.copy, a, b, at, len)?;
+        }
+        Ok(())
+    }
+
+    /// Opens the copy, which becomes the open file.
+    pub fn switch<D: Disk>(&mut self, a: &mut D, b: &mut D) -> Result<(), FileErr>
+        requires begun { HasCopy
+            (other_of (in_a_of self.old) (D.told_length a.old) (D.told_length b.old))
+            (copy_of self.old) }
+        ensures ok { OnOk result (IsTrue D.tells
+            → other_of (in_a_of self.old) (D.state a.new) (D.state b.new)
+            ≡ settled (1 ∷ drop 1
+            (other_of (in_a_of self.old) (D.state a.old) (D.state b.old)).seen)) }
+
+        // After it every image opens to the new file. A crash in it leaves a pair that opens to the old file or to
+        // the new one.
+        ensures images { OnOk result (IsTrue D.tells
+            → (generation : ℕ) (base : List ℕ) (blocks : List (List ℕ))
+            → IsCopied (in_a_of self.old) generation base blocks (D.state a.old) (D.state b.old)
+            → AllOpenTo (not (in_a_of self.old)) (whole (front_of 1 generation base) blocks)
+            (D.state a.new) (D.state b.new)) }
+        ensures images_err { OnErr result (IsTrue D.tells
+            → (generation : ℕ) (base : List ℕ) (blocks : List (List ℕ))
+            → IsCopied (in_a_of self.old) generation base blocks (D.state a.old) (D.state b.old)
+            → AllOpenToEither (in_a_of self.old)
+            (open_of (in_a_of self.old) (D.state a.old) (D.state b.old)).seen
+            (whole (front_of 1 generation base) blocks) (D.state a.new) (D.state b.new)) }
+
+        // After it nothing is pending.
+        ensures quiet { OnOk result (IsTrue D.tells
+            → (generation : ℕ) (base : List ℕ) (blocks : List (List ℕ))
+            → IsCopied (in_a_of self.old) generation base blocks (D.state a.old) (D.state b.old)
+            → IsQuiet (not (in_a_of self.old)) (D.state a.new) (D.state b.new)) }
+
+        ensures which { OnOk result ((in_a_of self.new ≡ not (in_a_of self.old))
+            × (generation_in self.new ≡ next_generation (generation_in self.old))
+            × (copy_of self.new ≡ None)) }
+        ensures file { OnOk result (copy_of self.old ≡ Some (file_of self.new)) }
+        ensures built { OnOk result (IsTrue D.tells
+            → (generation : ℕ) (base : List ℕ) (blocks : List (List ℕ))
+            → IsBuiltCopy (front_of 0 generation base) blocks
+            (other_of (in_a_of self.old) (D.state a.old) (D.state b.old)).seen
+            (copy_of self.old)
+            → IsBuilt (front_of 1 generation base) blocks
+            (other_of (in_a_of self.old) (D.state a.new) (D.state b.new)).seen
+            (file_of self.new)) }
+        ensures stays { OnErr result (self.new ≡ self.old) }
+        ensures told { OnOk result (HasTail
+            (other_of (in_a_of self.old) (D.told_length a.new) (D.told_length b.new))
+            (file_of self.new)) }
+        ensures same { IsTrue D.tells → open_of (in_a_of self.old) (D.state a.new) (D.state b.new)
+            ≡ open_of (in_a_of self.old) (D.state a.old) (D.state b.old) }
+        ensures from { KeepsLength
+            (open_of (in_a_of self.old) (D.told_length a.old) (D.told_length b.old))
+            (open_of (in_a_of self.old) (D.told_length a.new) (D.told_length b.new)) }
+        ensures faults { CountsTwoAlone result
+            (D.faults a.old) (D.faults a.new) (D.faults b.old) (D.faults b.new) }
+    {
+        unveil_other(self.in_a, &mut self.copy, a, b)?;
+        self.take_over();
+        Ok(())
+    }
+
+    // The copy becomes the open file.
+    fn take_over(&mut self)
+        requires { IsSome (copy_of self.old) }
+        ensures which { (in_a_of self.new ≡ not (in_a_of self.old))
+            × (generation_in self.new ≡ next_generation (generation_in self.old))
+            × (copy_of self.new ≡ None) }
+        ensures file { copy_of self.old ≡ Some (file_of self.new) }
+    {
+        if let Some(file) = self.copy.take() {
+            self.file = file;
+            self.in_a = !self.in_a;
+            self.generation = self.generation.saturating_add(1);
+        }
+    }
+
+    /// Cuts the other file to nothing, for good. A copy that was begun is given up.
+    pub fn wipe<D: Disk>(&mut self, a: &mut D, b: &mut D) -> Result<(), FileErr>
+        ensures ok { OnOk result (IsTrue D.tells
+            → other_of (in_a_of self.old) (D.state a.new) (D.state b.new) ≡ settled []) }
+
+        // A crash at any time leaves the open file as it was, and a file that is passed over.
+        ensures images { IsTrue D.tells → StaysOpen (in_a_of self.old)
+            (D.state a.old) (D.state b.old) (D.state a.new) (D.state b.new) }
+
+        // After it nothing is pending.
+        ensures quiet { OnOk result (IsTrue D.tells
+            → IsQuiet (in_a_of self.old) (D.state a.old) (D.state b.old)
+            → IsQuiet (in_a_of self.old) (D.state a.new) (D.state b.new)) }
+
+        ensures which { SameOpen self.old self.new }
+        ensures given_up { copy_of self.new ≡ None }
+        ensures same { IsTrue D.tells → open_of (in_a_of self.old) (D.state a.new) (D.state b.new)
+            ≡ open_of (in_a_of self.old) (D.state a.old) (D.state b.old) }
+        ensures from { KeepsLength
+            (open_of (in_a_of self.old) (D.told_length a.old) (D.told_length b.old))
+            (open_of (in_a_of self.old) (D.told_length a.new) (D.told_length b.new)) }
+        ensures faults { CountsTwoAlone result
+            (D.faults a.old) (D.faults a.new) (D.faults b.old) (D.faults b.new) }
+    {
+        self.copy = None;
+        if self.in_a {
+            wipe_file(b)?;
+        } else {
+            wipe_file(a)?;
+        }
+        Ok(())
+    }
+}
+
+// Looks at the heads of both files and takes one.
+fn look<D: Disk>(a: &mut D, b: &mut D) -> Result<Option<Twin>, FileErr>
+    ensures answer { IfOk result (λ found. IsTrue D.tells
+        → IsReopened (D.state a.old).seen (D.state b.old).seen (option_map view_of found)) }
+    ensures err { IfErr result (λ e. IsTrue D.tells
+        → IsReopenErr (D.state a.old).seen (D.state b.old).seen e) }
+    ensures only { IfErr result (λ e. e ≢ FileErr.NoMemory) }
+    ensures told { IfOk result (λ found. IfSome found (λ twin. HasTail
+        (open_of (in_a_of twin) (D.told_length a.new) (D.told_length b.new)) (file_of twin))) }
+    ensures state_a { IsTrue D.tells → D.state a.new ≡ D.state a.old }
+    ensures state_b { IsTrue D.tells → D.state b.new ≡ D.state b.old }
+    ensures length_a { KeepsLength (D.told_length a.old) (D.told_length a.new) }
+    ensures length_b { KeepsLength (D.told_length b.old) (D.told_length b.new) }
+    ensures faults { CountsTwo result
+        (D.faults a.old) (D.faults a.new) (D.faults b.old) (D.faults b.new) }
+{
+    let first = BlockFile::head(a)?;
+    let second = BlockFile::head(b)?;
+    match pick(first, second) {
+        Some(picked) => {
+            if picked.in_a {
+                resumed(a, &picked.head, true)
+            } else {
+                resumed(b, &picked.head, false)
+            }
+        }
+        None => Ok(None),
+    }
+}
+
+// The file that is taken, at its first block.
+fn resumed<D: Disk>(disk: &mut D, head: &FileHead, in_a: bool) -> Result<Option<Twin>, FileErr>
+    requires { IsSomeAnd (D.told_length disk.old) (λ n. 65 ≤ n) }
+    ensures twin { IfOk result (λ found. IsSomeAnd found
+        (λ twin. view_of twin ≡ view in_a head.now.generation (64 + head.now.base_len))) }
+    ensures err { IfErr result (λ e. IsTrue D.tells
+        → IsResumeErr (D.state disk.old).seen head.now.base_len e) }
+    ensures only { IfErr result (λ e. e ≢ FileErr.NoMemory) }
+    ensures told { IfOk result (λ found. IsSomeAnd found
+        (λ twin. HasTail (D.told_length disk.new) (file_of twin))) }
+    ensures state { IsTrue D.tells → D.state disk.new ≡ D.state disk.old }
+    ensures length { KeepsLength (D.told_length disk.old) (D.told_length disk.new) }
+    ensures faults { Counts result (D.faults disk.old) (D.faults disk.new) }
+{
+    let file = BlockFile::resume(disk, head)?;
+    Ok(Some(Twin {
+        in_a,
+        generation: head.generation,
+        file,
+        copy: None,
+    }))
+}
