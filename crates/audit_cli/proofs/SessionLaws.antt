@@ -23,7 +23,7 @@ pub record SoFar (hash : Hash) (before now : Outside) (reading : Reading) (trust
   pub lines : List (List ℕ)
   pub input : HasGiven before.source now.source reading lines
   pub output : HasWritten hash before.sink now.sink lines
-  pub trust_is : trust ≡ trust_through nothing_trusted lines
+  pub trust_is : trust ≡ trust_through hash nothing_trusted lines
   pub count_is : count ≡ length lines
 
 -- the beginning of a session
@@ -50,7 +50,7 @@ next_is hash before now reading trust count line s =
 pub sofar_more : (hash : Hash) (before now : Outside) (source : SourceState) (sink : SinkState) (old new : Reading) (bytes line : List ℕ) (trust trust' : Trust) (count : ℕ)
     → SoFar hash before now old trust count → Reads now.source source old new bytes → GivesLine source old new bytes line
     → Appends now.sink.held sink.held (reply_text (count + 1) (answer_to hash trust line)) → now.sink.faults ≤ sink.faults → now.sink.idles ≤ sink.idles
-    → trust' ≡ trust_after trust line
+    → trust' ≡ trust_after hash trust line
     → SoFar hash before (outside source sink) new trust' (count + 1)
 sofar_more hash before now source sink old new bytes line trust trust' count s r g appended faults idles trusted = record {
   lines = s.lines ++ line ∷ [];
@@ -62,6 +62,6 @@ sofar_more hash before now source sink old new bytes line trust trust' count s r
     later = omega (arith, s.output.later);
     idle_later = omega (arith, s.output.idle_later);
   };
-  trust_is = trusted ∙ ap (λ t. trust_after t line) s.trust_is ∙ sym (trust_through-push nothing_trusted s.lines line);
+  trust_is = trusted ∙ ap (λ t. trust_after hash t line) s.trust_is ∙ sym (trust_through-push hash nothing_trusted s.lines line);
   count_is = omega (arith, s.count_is, length-append s.lines (line ∷ []));
 }

@@ -1,12 +1,16 @@
 -- The answer to a line, and what is trusted after it.
-use Rattle.std.specs.Prelude.{ℕ, List, Option, Some, None, Result, Ok, Err}
+use Rattle.std.specs.Prelude.{◌≡◌, IfOk, ℕ, List, Option, Some, None, Result, Ok, Err}
 use Rattle.ledger_bytes.specs.declared.refusal.Refusal.{Refusal}
 use Rattle.tree_model.specs.Tree.{Hash}
 use Rattle.audit_core.specs.declared.refusal.No.{No}
+use Rattle.audit_core.specs.declared.refusal.TrustErr.{TrustErr}
+use Rattle.audit_core.specs.declared.refusal.TrustErr.TheVariants as trust_err
 use Rattle.audit_core.specs.Acceptance.{acceptance}
-use Rattle.audit_core.specs.Trust.{Trust, trust_refusal, with_head}
+use Rattle.audit_core.specs.Trust.{Trust, trust_refusal, head_refusal, with_ledger, with_head}
+use Rattle.audit_core.specs.Extending.{extend_refusal}
+use Rattle.script_lines.specs.declared.said.Which.TheVariants.{Notary}
 use Rattle.audit_cli.specs.declared.line.Line.{Line}
-use Rattle.audit_cli.specs.declared.line.Line.TheVariants.{TrustLedger, Check}
+use Rattle.audit_cli.specs.declared.line.Line.TheVariants.{TrustLedger, TrustNotary, Extend, Check}
 use Rattle.audit_cli.specs.declared.reply.Reply.{Reply}
 use Rattle.audit_cli.specs.declared.reply.Reply.TheVariants as reply
 use Rattle.audit_cli.specs.Grammar.{line_of}
@@ -16,6 +20,12 @@ abbrev pub trusting : Option No → Reply
 trusting None = reply.Yes
 trusting (Some why) = reply.No why
 
+-- the reply to a call that is to trust a head; there is none for want of memory
+abbrev pub RepliesTo : {E : Type 0} → Result (Unit {0}) TrustErr → Result Reply E → Type 0
+RepliesTo (Ok done) result = result ≡ Ok reply.Yes
+RepliesTo (Err (trust_err.No why)) result = result ≡ Ok (reply.No why)
+RepliesTo (Err trust_err.NoMemory) result = IfOk result (λ reply. ⊥)
+
 -- the reply where a proof is accepted, or isn't
 abbrev pub verdict : Result (Unit {0}) No → Reply
 verdict (Ok done) = reply.Yes
@@ -24,6 +34,8 @@ verdict (Err why) = reply.No why
 -- the reply to a line that was read, where this is trusted
 abbrev pub reply_to : Hash → Trust → Result Line Refusal → Reply
 reply_to hash trust (Ok (TrustLedger id head)) = trusting (trust_refusal trust id head)
+reply_to hash trust (Ok (TrustNotary head)) = trusting (head_refusal Notary head trust)
+reply_to hash trust (Ok (Extend which m head proof)) = trusting (extend_refusal hash which m head proof trust)
 reply_to hash trust (Ok (Check claim proof)) = verdict (acceptance hash proof claim trust)
 reply_to hash trust (Err refusal) = reply.Refused refusal
 
@@ -33,15 +45,18 @@ unless_refused None old new = new
 unless_refused (Some why) old new = old
 
 -- what is trusted after a line that was read: only a head that is trusted by it is added
-abbrev pub trust_behind : Trust → Result Line Refusal → Trust
-trust_behind trust (Ok (TrustLedger id head)) = unless_refused (trust_refusal trust id head) trust (with_head trust id head)
-trust_behind trust (Ok (Check claim proof)) = trust
-trust_behind trust (Err refusal) = trust
+abbrev pub trust_behind : Hash → Trust → Result Line Refusal → Trust
+trust_behind hash trust (Ok (TrustLedger id head)) = unless_refused (trust_refusal trust id head) trust (with_ledger trust id head)
+trust_behind hash trust (Ok (TrustNotary head)) = unless_refused (head_refusal Notary head trust) trust (with_head Notary head trust)
+trust_behind hash trust (Ok (Extend which m head proof)) =
+    unless_refused (extend_refusal hash which m head proof trust) trust (with_head which head trust)
+trust_behind hash trust (Ok (Check claim proof)) = trust
+trust_behind hash trust (Err refusal) = trust
 
 -- the reply to a line
 abbrev pub answer_to : Hash → Trust → List ℕ → Reply
 answer_to hash trust line = reply_to hash trust (line_of line)
 
 -- what is trusted after a line
-abbrev pub trust_after : Trust → List ℕ → Trust
-trust_after trust line = trust_behind trust (line_of line)
+abbrev pub trust_after : Hash → Trust → List ℕ → Trust
+trust_after hash trust line = trust_behind hash trust (line_of line)

@@ -6,24 +6,56 @@ use Rattle.ledger_bytes.specs.declared.refusal.Refusal.TheVariants.{BadVerb}
 use Rattle.ledger_io.specs.Lines.{line_limit}
 use Rattle.script_lines.specs.Fields.{Left, fields_of, field_at, end_at}
 use Rattle.script_lines.specs.Grammar.{◌>>=◌}
-use Rattle.script_lines.specs.Spellings.{text_of, word_of, number_of, bytes_of, digest_of, mark_of}
-use Rattle.time_peg.specs.declared.TimeMark.{TimeMark}
+use Rattle.script_lines.specs.Spellings.{text_of, number_of, bytes_of, digest_of, which_of, mark_of}
+use Rattle.script_lines.specs.declared.said.Which.{Which}
+use Rattle.script_lines.specs.declared.said.Which.TheVariants.{Ledger, Notary}
+use Rattle.time_peg.specs.declared.mark.TimeMark.{TimeMark}
 use Rattle.audit_cli.specs.declared.line.Line.{Line}
-use Rattle.audit_cli.specs.declared.line.Line.TheVariants.{TrustLedger, Check}
+use Rattle.audit_cli.specs.declared.line.Line.TheVariants.{TrustLedger, TrustNotary, Extend, Check}
 
 -- a time mark by its three numbers
 abbrev pub mark_from : ℕ × ℕ × ℕ → TimeMark
 mark_from mark = record { jsn = mark.0; index = mark.1; time = mark.2 }
 
--- a head of a ledger that is to be trusted: the word `ledger`, its id, its size and its root
-unfoldable pub trust_at : Left → Result Line Refusal
-trust_at fields = do
-  ledger ← field_at (word_of (codes "ledger")) fields
-  id ← field_at digest_of ledger.1
+-- a head of a ledger that is to be trusted: its id, its size and its root
+unfoldable pub trust_ledger_at : Left → Result Line Refusal
+trust_ledger_at fields = do
+  id ← field_at digest_of fields
   size ← field_at (number_of (2 ^ 64 - 1)) id.1
   root ← field_at digest_of size.1
   end ← end_at root.1
   Ok (TrustLedger id.0 (record { size = size.0; root = root.0 }))
+
+-- a head of a notary that is to be trusted: its size and its root
+unfoldable pub trust_notary_at : Left → Result Line Refusal
+trust_notary_at fields = do
+  size ← field_at (number_of (2 ^ 64 - 1)) fields
+  root ← field_at digest_of size.1
+  end ← end_at root.1
+  Ok (TrustNotary (record { size = size.0; root = root.0 }))
+
+-- a head of one of the two
+abbrev pub trust_of : Which → Left → Result Line Refusal
+trust_of Ledger fields = trust_ledger_at fields
+trust_of Notary fields = trust_notary_at fields
+
+-- a head that is to be trusted: the word `ledger` or `notary`, and what it asks for
+unfoldable pub trust_at : Left → Result Line Refusal
+trust_at fields = do
+  which ← field_at which_of fields
+  trust_of which.0 which.1
+
+-- a head that is to be trusted since it goes on from a trusted one: which tree it is of, the trusted size, the size and the
+-- root, and the bytes of the proof, which are as many as a line has room for
+unfoldable pub extend_at : Left → Result Line Refusal
+extend_at fields = do
+  which ← field_at which_of fields
+  m ← field_at (number_of (2 ^ 64 - 1)) which.1
+  size ← field_at (number_of (2 ^ 64 - 1)) m.1
+  root ← field_at digest_of size.1
+  proof ← field_at (bytes_of line_limit) root.1
+  end ← end_at proof.1
+  Ok (Extend which.0 m.0 (record { size = size.0; root = root.0 }) proof.0)
 
 -- a proof that is to be checked: a journal's number, its leaf digest, the marks in front of it and behind it, and the
 -- proof's bytes, which are as many as a line has room for
@@ -41,6 +73,7 @@ check_at fields = do
 abbrev pub verb_at : List ℕ → Left → Result Line Refusal
 verb_at verb fields =
     if bytes_eq verb (codes "trust") then trust_at fields
+    else if bytes_eq verb (codes "extend") then extend_at fields
     else if bytes_eq verb (codes "check") then check_at fields
     else Err BadVerb
 

@@ -3,7 +3,8 @@ use Rattle.std.specs.Prelude.{ℕ, List, [], ◌∷◌, ◌++◌, codes, decimal
 use Rattle.script_lines.specs.Replies.{refusal_words}
 use Rattle.script_lines.specs.Words.{hex_of, spaced}
 use Rattle.audit_core.specs.declared.refusal.No.{No}
-use Rattle.audit_core.specs.declared.refusal.No.TheVariants.{HeadUnknown, LeafPath, ClaimDiffers, Malformed, HeadDiffers, HeadsFull}
+use Rattle.audit_core.specs.declared.refusal.No.TheVariants.{HeadUnknown, LeafPath, LowerBound, UpperBound, NotaryPath, TimesCross}
+use Rattle.audit_core.specs.declared.refusal.No.TheVariants.{ClaimDiffers, Malformed, BadExtension, HeadDiffers, HeadsFull}
 use Rattle.audit_cli.specs.declared.reply.Reply.{Reply}
 use Rattle.audit_cli.specs.declared.reply.Reply.TheVariants as reply
 
@@ -11,8 +12,13 @@ use Rattle.audit_cli.specs.declared.reply.Reply.TheVariants as reply
 abbrev pub no_words : No → List (List ℕ)
 no_words (HeadUnknown size) = decimal 34 ∷ decimal size ∷ []
 no_words LeafPath = decimal 35 ∷ []
+no_words LowerBound = decimal 36 ∷ []
+no_words UpperBound = decimal 37 ∷ []
+no_words NotaryPath = decimal 38 ∷ []
+no_words TimesCross = decimal 39 ∷ []
 no_words ClaimDiffers = decimal 40 ∷ []
 no_words (Malformed at) = decimal 41 ∷ decimal at ∷ []
+no_words BadExtension = decimal 43 ∷ []
 no_words (HeadDiffers kept) = decimal 44 ∷ hex_of kept ∷ []
 no_words HeadsFull = decimal 45 ∷ []
 

@@ -9,7 +9,7 @@ use Rattle.audit_cli.specs.Replies.{reply_text}
 abbrev pub text_from : Hash → Trust → ℕ → List (List ℕ) → List ℕ
 text_from hash trust number [] = []
 text_from hash trust number (line ∷ lines) =
-    reply_text number (answer_to hash trust line) ++ text_from hash (trust_after trust line) (number + 1) lines
+    reply_text number (answer_to hash trust line) ++ text_from hash (trust_after hash trust line) (number + 1) lines
 
 -- the text of the lines of a script, which are numbered from 1; nothing is trusted in front of them
 abbrev pub audit_text : Hash → List (List ℕ) → List ℕ

@@ -1,13 +1,11 @@
-ghost use Rattle.std.specs.Prelude.{◌≡◌, IfOk, OnOk};
+ghost use Rattle.std.specs.Prelude.{◌≡◌, Ok, IfOk, OnOk};
 ghost use Rattle.audit_core.specs.Acceptance.{acceptance};
-ghost use Rattle.audit_core.specs.Trust.{trust_refusal, with_head};
-ghost use Rattle.audit_cli.specs.Answers.{trusting, verdict, unless_refused, answer_to, trust_after};
+ghost use Rattle.audit_cli.specs.Answers.{verdict, RepliesTo, reply_to, trust_behind, answer_to, trust_after};
 
 use crate::line::{Line, read_line};
 use crate::reply::Reply;
 use audit_core::{Heads, TrustErr, accept};
-use ledger_bytes::{Digest, NoMemory, TreeHash};
-use merkle_tree::Head;
+use ledger_bytes::{NoMemory, TreeHash};
 use proof_codec::Claim;
 use script_lines::Stop;
 use std::alloc::Global;
@@ -19,22 +17,37 @@ pub(crate) fn answer<H: TreeHash>(
     line: &[u8],
 ) -> Result<Reply, NoMemory>
     ensures reply { IfOk result (λ reply. reply ≡ answer_to H.of heads.old line.now) }
-    ensures heads { OnOk result (heads.new ≡ trust_after heads.old line.now) }
+    ensures heads { OnOk result (heads.new ≡ trust_after H.of heads.old line.now) }
 {
     match read_line(alloc, line) {
-        Ok(Line::TrustLedger { id, head }) => trust(heads, &id, &head),
-        Ok(Line::Check { claim, proof }) => Ok(check::<H>(heads, &claim, proof.as_slice())),
+        Ok(line) => reply_to::<H>(heads, line),
         Err(Stop::Refused(refusal)) => Ok(Reply::Refused(refusal)),
         Err(Stop::NoMemory) => Err(NoMemory),
     }
 }
 
-fn trust(heads: &mut Heads, id: &Digest, head: &Head) -> Result<Reply, NoMemory>
-    ensures reply { IfOk result (λ reply. reply ≡ trusting (trust_refusal heads.old id.now head.now)) }
-    ensures heads { OnOk result (heads.new
-        ≡ unless_refused (trust_refusal heads.old id.now head.now) heads.old (with_head heads.old id.now head.now)) }
+fn reply_to<H: TreeHash>(heads: &mut Heads, line: Line) -> Result<Reply, NoMemory>
+    ensures reply { IfOk result (λ reply. reply ≡ reply_to H.of heads.old (Ok line)) }
+    ensures heads { OnOk result (heads.new ≡ trust_behind H.of heads.old (Ok line)) }
 {
-    match heads.trust_ledger(id, head) {
+    match line {
+        Line::TrustLedger { id, head } => reply_of(heads.trust_ledger(&id, &head)),
+        Line::TrustNotary { head } => reply_of(heads.trust_notary(&head)),
+        Line::Extend {
+            which,
+            m,
+            head,
+            proof,
+        } => reply_of(heads.extend::<H>(which, m, &head, proof.as_slice())),
+        Line::Check { claim, proof } => Ok(check::<H>(heads, &claim, proof.as_slice())),
+    }
+}
+
+/// The reply where a head is trusted, or isn't.
+fn reply_of(trusted: Result<(), TrustErr>) -> Result<Reply, NoMemory>
+    ensures { RepliesTo trusted result }
+{
+    match trusted {
         Ok(()) => Ok(Reply::Yes),
         Err(TrustErr::No(no)) => Ok(Reply::No(no)),
         Err(TrustErr::NoMemory) => Err(NoMemory),

@@ -1,13 +1,14 @@
 ghost use Rattle.std.specs.Prelude.{◌≡◌};
 ghost use Rattle.std.specs.Option.{option_map};
 ghost use Rattle.script_lines.specs.Reading.{Reads};
-ghost use Rattle.audit_cli.specs.Grammar.{mark_from, trust_at, check_at, line_at, line_of};
+ghost use Rattle.audit_cli.specs.Grammar.{mark_from, trust_ledger_at, trust_notary_at, trust_at, extend_at, check_at};
+ghost use Rattle.audit_cli.specs.Grammar.{line_at, line_of};
 
 use ledger_bytes::{Bytes, Digest, Refusal};
 use ledger_io::LINE_LIMIT;
 use merkle_tree::Head;
 use proof_codec::Claim;
-use script_lines::{Fields, Stop};
+use script_lines::{Fields, Stop, Which};
 use std::alloc::Global;
 use time_peg::TimeMark;
 
@@ -20,6 +21,19 @@ pub(crate) enum Line {
         id: Digest,
         head: Head,
     },
+    /// A head of a notary is to be trusted: `trust notary SIZE ROOT`.
+    TrustNotary {
+        head: Head,
+    },
+    /// A head is to be trusted that goes on from a trusted one: `extend WHICH M SIZE ROOT HEX`.
+    Extend {
+        which: Which,
+        /// The size of the trusted head.
+        m: u64,
+        head: Head,
+        /// The digests of the proof, one after the other.
+        proof: Bytes,
+    },
     /// A proof is to be checked: `check N LEAF LO HI HEX`.
     Check {
         claim: Claim,
@@ -29,8 +43,9 @@ pub(crate) enum Line {
 }
 
 /// What a line asks for, without its newline. Its fields stand around single spaces, and the first is the verb, column
-/// 1. A number is decimal digits without a leading zero, below 2^64; a digest 64 hexadecimal digits of either case. LO
-/// and HI are `-` or `JSN:INDEX:TIME`, and HEX is `-` for no bytes or two hexadecimal digits for each.
+/// 1. A number is decimal digits without a leading zero, below 2^64; a digest 64 hexadecimal digits of either case. WHICH
+/// is `ledger` or `notary`. LO and HI are `-` or `JSN:INDEX:TIME`, and HEX is `-` for no bytes or two hexadecimal digits
+/// for each.
 pub(crate) fn read_line(alloc: Global, line: &[u8]) -> Result<Line, Stop>
     ensures { Reads result (line_of line.now) }
 {
@@ -44,6 +59,7 @@ fn read_fields(alloc: Global, mut fields: Fields) -> Result<Line, Stop>
     let verb = fields.text()?;
     match verb {
         b"trust" => Ok(trust(fields)?),
+        b"extend" => extend(alloc, fields),
         b"check" => check(alloc, fields),
         _ => Err(Stop::Refused(Refusal::BadVerb)),
     }
@@ -53,7 +69,16 @@ fn read_fields(alloc: Global, mut fields: Fields) -> Result<Line, Stop>
 fn trust(mut fields: Fields) -> Result<Line, Refusal>
     ensures { result ≡ trust_at fields.entry }
 {
-    fields.word(b"ledger")?;
+    match fields.which()? {
+        Which::Ledger => trust_ledger(fields),
+        Which::Notary => trust_notary(fields),
+    }
+}
+
+#[tactic(auto, unfolding(crate::specs::Grammar::trust_ledger_at))]
+fn trust_ledger(mut fields: Fields) -> Result<Line, Refusal>
+    ensures { result ≡ trust_ledger_at fields.entry }
+{
     let id = fields.digest()?;
     let size = fields.number(u64::MAX)?;
     let root = fields.digest()?;
@@ -61,6 +86,36 @@ fn trust(mut fields: Fields) -> Result<Line, Refusal>
     Ok(Line::TrustLedger {
         id,
         head: Head { size, root },
+    })
+}
+
+#[tactic(auto, unfolding(crate::specs::Grammar::trust_notary_at))]
+fn trust_notary(mut fields: Fields) -> Result<Line, Refusal>
+    ensures { result ≡ trust_notary_at fields.entry }
+{
+    let size = fields.number(u64::MAX)?;
+    let root = fields.digest()?;
+    fields.end()?;
+    Ok(Line::TrustNotary {
+        head: Head { size, root },
+    })
+}
+
+#[tactic(auto, unfolding(crate::specs::Grammar::extend_at))]
+fn extend(alloc: Global, mut fields: Fields) -> Result<Line, Stop>
+    ensures { Reads result (extend_at fields.entry) }
+{
+    let which = fields.which()?;
+    let m = fields.number(u64::MAX)?;
+    let size = fields.number(u64::MAX)?;
+    let root = fields.digest()?;
+    let proof = fields.bytes(alloc, LINE_LIMIT)?;
+    fields.end()?;
+    Ok(Line::Extend {
+        which,
+        m,
+        head: Head { size, root },
+        proof,
     })
 }
 

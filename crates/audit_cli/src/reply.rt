@@ -42,8 +42,13 @@ fn put_no(out: &mut Vec<u8>, no: &No) -> Result<(), NoMemory>
     match no {
         No::HeadUnknown { size } => put_code(out, 34, &[Word::Number(*size)]),
         No::LeafPath => put_code(out, 35, &[]),
+        No::LowerBound => put_code(out, 36, &[]),
+        No::UpperBound => put_code(out, 37, &[]),
+        No::NotaryPath => put_code(out, 38, &[]),
+        No::TimesCross => put_code(out, 39, &[]),
         No::ClaimDiffers => put_code(out, 40, &[]),
         No::Malformed { at } => put_code(out, 41, &[Word::Number(*at)]),
+        No::BadExtension => put_code(out, 43, &[]),
         No::HeadDiffers { kept } => put_code(out, 44, &[Word::Hash(*kept)]),
         No::HeadsFull => put_code(out, 45, &[]),
     }
@@ -51,7 +56,8 @@ fn put_no(out: &mut Vec<u8>, no: &No) -> Result<(), NoMemory>
 
 // A code, and the words behind it.
 fn put_code(out: &mut Vec<u8>, code: u64, words: &[Word]) -> Result<(), NoMemory>
-    ensures { OnOk result (out.new.items ≡ out.old.items ++ spaced (codes "no" ∷ decimal code ∷ map word_text words.now)) }
+    ensures { OnOk result (out.new.items
+        ≡ out.old.items ++ spaced (codes "no" ∷ decimal code ∷ map word_text words.now)) }
 {
     put_words(out, &[Word::Text(b"no"), Word::Number(code)])?;
     put_words(out, words)

@@ -52,7 +52,7 @@ fn set_answer<H: TreeHash>(
     line: &[u8],
 ) -> Result<(), NoMemory>
     ensures text { OnOk result (text.new.items ≡ reply_text number (answer_to H.of heads.old line.now)) }
-    ensures heads { OnOk result (heads.new ≡ trust_after heads.old line.now) }
+    ensures heads { OnOk result (heads.new ≡ trust_after H.of heads.old line.now) }
 {
     let reply = answer::<H>(alloc, heads, line)?;
     text.clear();

@@ -1,6 +1,7 @@
 use crate::{audit_run, audit_top};
 use ledger_bytes::{Bytes, NoMemory, Toy};
 use ledger_io::{LINE_LIMIT, MemSink, MemSource};
+use member_book::TagScheme;
 use std::alloc::Global;
 use std::test::Fail;
 
@@ -26,16 +27,31 @@ const LAST_PROOF_CHANGED: &str =
     "0100000000000000030000000000000002c346a4840bce4f8de12d73b3fda6bb93c7f113f7a07ee5b4951f1393dc\
     c51ed50189713d47487c9be9875bd8f6a471f021f10440bea34709c459dce3a1703139500000";
 
-// The leaf digest of journal 1, and its proof with a time journal behind it, whose flag stands at 115.
+// The leaf digest of journal 1, and its proof with a time journal behind it, but for the last digits of the first digest of
+// its path, of the salt and of the root in front of that time journal, which are 2, 7 and 1, and for its last byte, 00.
 const MIDDLE_LEAF: &str = "e17cd0a38398533f50004ec57f5dd3837680b6b072223c6ffc9e2bfa0d0e723c";
 
-const BOUNDED_PROOF: &str =
-    "0100000000000000030000000000000001e17cd0a38398533f50004ec57f5dd3837680b6b072223c6ffc9e2bfa0d\
-    0e723c0264915354a6547b1f887e596e872fd13b2abdc860729da9fe31180a81726cf4a2c346a4840bce4f8de12d\
-    73b3fda6bb93c7f113f7a07ee5b4951f1393dcc51ed5000100000000000000020000000000000000000000000000\
-    03e88b3b30a051bca9ec8bacbfaf3a351389842d99f1769a4959994077e9ec8d875789713d47487c9be9875bd8f6\
-    a471f021f10440bea34709c459dce3a17031395101c346a4840bce4f8de12d73b3fda6bb93c7f113f7a07ee5b495\
-    1f1393dcc51ed5000000000000000100";
+const UP_TO_PATH: &str = "\
+    0100000000000000030000000000000001e17cd0a38398533f50004ec57f5dd3837680b6b072223c6ffc9e2bfa0d\
+    0e723c0264915354a6547b1f887e596e872fd13b2abdc860729da9fe31180a81726cf4a";
+
+const UP_TO_SALT: &str = "\
+    c346a4840bce4f8de12d73b3fda6bb93c7f113f7a07ee5b4951f1393dcc51ed50001000000000000000200000000\
+    0000000000000000000003e88b3b30a051bca9ec8bacbfaf3a351389842d99f1769a4959994077e9ec8d875";
+
+const UP_TO_ROOT: &str = "\
+    89713d47487c9be9875bd8f6a471f021f10440bea34709c459dce3a17031395";
+
+const BEHIND_ROOT: &str = "\
+    01c346a4840bce4f8de12d73b3fda6bb93c7f113f7a07ee5b4951f1393dcc51ed50000000000000001";
+
+// The root of the ledger's first two journals, and one over journal 0 twice.
+const ROOT_OF_TWO: &str = "89713d47487c9be9875bd8f6a471f021f10440bea34709c459dce3a170313951";
+
+const ROOT_OF_TWICE: &str = "abc7acaf5207232a6f91979af5c9fed986ba0314a6003854d3384ea701634539";
+
+// The root over the only entry of the notary.
+const NOTARY_ROOT: &str = "70f8401b84cf76c926c415bdf912718f30518dcb518d3493aad2f17ce92b2cd8";
 
 const DIGEST_OF_NOTHING: &str = "e3b0c44298fc1c149afbf4c8996fb92427ae41e4649b934ca495991b7852b855";
 
@@ -108,12 +124,18 @@ fn run(
         [failing_read].to_vec(alloc)?,
     );
     let mut sink = MemSink::new(alloc, room, [failing_write].to_vec(alloc)?)?;
-    let status = audit_top(alloc, strings.as_slice(), &mut source, &mut sink);
+    let status = audit_top(
+        alloc,
+        strings.as_slice(),
+        &mut source,
+        &mut sink,
+        &TagScheme,
+    );
     Ok((status, sink.written().to_vec(alloc)?))
 }
 
 // A script with the replies to its lines. What is trusted grows along it, and a line of no form changes nothing.
-const SAID: [Said; 40] = [
+const SAID: [Said; 59] = [
     (&["check 0 ", ID, " - - ", CUT_PROOF, "00"], &["no 34 1"]),
     (&["trust ledger ", ID, " 1 ", ID], &["yes"]),
     (&["check 0 ", ID, " - - ", CUT_PROOF, "00"], &["yes"]),
@@ -139,7 +161,7 @@ const SAID: [Said; 40] = [
     (&["check 0 ", ID, " - - ", CUT_PROOF, "00"], &["yes"]),
     (&[""], &["no 10"]),
     (&["trust"], &["no 11 2"]),
-    (&["trust notary 1 ", ID], &["no 11 2"]),
+    (&["trust other 1 ", ID], &["no 11 2"]),
     (&["trust ledger"], &["no 11 3"]),
     (&["trust ledger 0", ID, " 1 ", ID], &["no 11 3"]),
     (&["trust ledger ", ID, " 01 ", ID], &["no 11 4"]),
@@ -153,7 +175,6 @@ const SAID: [Said; 40] = [
     (&["trust ledger ", ID, " 1 ", ID, " "], &["no 11 6"]),
     (&["Trust ledger ", ID, " 1 ", ID], &["no 10"]),
     (&[" trust ledger ", ID, " 1 ", ID], &["no 10"]),
-    (&["extend ledger 1 3 ", ROOT_OF_THREE, " -"], &["no 10"]),
     (&["check -1 ", ID, " - - -"], &["no 11 2"]),
     (&["check 0 - - - -"], &["no 11 3"]),
     (&["check 0 ", ID, " 5:0 - -"], &["no 11 4"]),
@@ -175,6 +196,131 @@ const SAID: [Said; 40] = [
         &["check 0 ABABABABABABABABABABABABABABABABABABABABABABABABABABABABABABABAB - - aB"],
         &["no 41 0"],
     ),
+    (
+        &[
+            "check 1 ",
+            MIDDLE_LEAF,
+            " - 2:0:1000 ",
+            UP_TO_PATH,
+            "2",
+            UP_TO_SALT,
+            "7",
+            UP_TO_ROOT,
+            "1",
+            BEHIND_ROOT,
+            "00",
+        ],
+        &["no 34 1"],
+    ),
+    (&["trust notary 1 ", NOTARY_ROOT], &["yes"]),
+    (
+        &[
+            "check 1 ",
+            MIDDLE_LEAF,
+            " - 2:0:1000 ",
+            UP_TO_PATH,
+            "2",
+            UP_TO_SALT,
+            "7",
+            UP_TO_ROOT,
+            "1",
+            BEHIND_ROOT,
+            "00",
+        ],
+        &["yes"],
+    ),
+    (
+        &[
+            "check 1 ",
+            MIDDLE_LEAF,
+            " 2:0:1000 - ",
+            UP_TO_PATH,
+            "2",
+            UP_TO_SALT,
+            "7",
+            UP_TO_ROOT,
+            "1",
+            BEHIND_ROOT,
+            "00",
+        ],
+        &["no 40"],
+    ),
+    (
+        &[
+            "check 1 ",
+            MIDDLE_LEAF,
+            " - 2:0:1000 ",
+            UP_TO_PATH,
+            "3",
+            UP_TO_SALT,
+            "7",
+            UP_TO_ROOT,
+            "1",
+            BEHIND_ROOT,
+            "00",
+        ],
+        &["no 35"],
+    ),
+    (
+        &[
+            "check 1 ",
+            MIDDLE_LEAF,
+            " - 2:0:1000 ",
+            UP_TO_PATH,
+            "2",
+            UP_TO_SALT,
+            "7",
+            UP_TO_ROOT,
+            "2",
+            BEHIND_ROOT,
+            "00",
+        ],
+        &["no 37"],
+    ),
+    (
+        &[
+            "check 1 ",
+            MIDDLE_LEAF,
+            " - 2:0:1000 ",
+            UP_TO_PATH,
+            "2",
+            UP_TO_SALT,
+            "8",
+            UP_TO_ROOT,
+            "1",
+            BEHIND_ROOT,
+            "00",
+        ],
+        &["no 38"],
+    ),
+    (&["trust notary 1 ", ID], &["no 44", NOTARY_ROOT]),
+    (&["trust notary 1 ", NOTARY_ROOT, " -"], &["no 11 5"]),
+    (
+        &["extend ledger 2 3 ", ROOT_OF_THREE, " ", LAST_LEAF],
+        &["no 34 2"],
+    ),
+    (&["extend ledger 1 2 ", ROOT_OF_TWO, " ", ID], &["no 43"]),
+    (
+        &["extend ledger 1 2 ", ROOT_OF_TWO, " ", MIDDLE_LEAF],
+        &["yes"],
+    ),
+    (
+        &["extend ledger 2 3 ", ROOT_OF_THREE, " ", LAST_LEAF],
+        &["yes"],
+    ),
+    (
+        &["extend ledger 1 2 ", ROOT_OF_TWICE, " ", ID],
+        &["no 44", ROOT_OF_TWO],
+    ),
+    (
+        &["extend ledger 1 2 ", ROOT_OF_TWO, " ", ID, "00"],
+        &["no 41 33"],
+    ),
+    (&["extend notary 1 1 ", NOTARY_ROOT, " -"], &["yes"]),
+    (&["extend notary 2 2 ", NOTARY_ROOT, " -"], &["no 34 2"]),
+    (&["extend other 1 1 ", ID, " -"], &["no 11 2"]),
+    (&["extend ledger 01 1 ", ID, " -"], &["no 11 3"]),
+    (&["extend ledger 1 1 ", ID], &["no 11 6"]),
     (&["trust ledger ", ID, " 0 ", DIGEST_OF_NOTHING], &["yes"]),
 ];
 
@@ -194,23 +340,26 @@ fn answers_each_line(rt: HostRuntime) -> Result<(), Fail> {
     Ok(())
 }
 
-// A proof in hexadecimal digits, cut to each length and whole.
+// A proof in hexadecimal digits, cut to each length up to that of these pieces.
 fn add_cuts(
     alloc: Global,
     script: &mut Script,
     front: &[&str],
-    proof: &str,
-    last: usize,
+    pieces: &[&str],
 ) -> Result<(), NoMemory> {
+    let mut proof = Vec::new(alloc);
+    for piece in pieces {
+        proof.extend_from_slice(piece.as_bytes())?;
+    }
     for count in 0..=proof.len() / 2 {
-        let (digits, _) = proof.as_bytes().split_at(2 * count);
+        let (digits, _) = proof.as_slice().split_at(2 * count);
         for piece in front {
             script.lines.extend_from_slice(piece.as_bytes())?;
         }
         script
             .lines
             .extend_from_slice(if count == 0 { b"-" } else { digits })?;
-        let place = count.min(last).to_string(alloc)?;
+        let place = count.to_string(alloc)?;
         script.add(alloc, &[], &["no 41", place.as_str()])?;
     }
     Ok(())
@@ -218,25 +367,32 @@ fn add_cuts(
 
 #[test]
 fn tells_where_proofs_break(rt: HostRuntime) -> Result<(), Fail> {
-    let mut script = Script::new(rt.alloc());
-    script.add(
+    let mut script = Script::of(
         rt.alloc(),
-        &["trust ledger ", ID, " 3 ", ROOT_OF_THREE],
-        &["yes"],
+        &[
+            (&["trust ledger ", ID, " 3 ", ROOT_OF_THREE], &["yes"]),
+            (&["trust notary 1 ", NOTARY_ROOT], &["yes"]),
+        ],
     )?;
     add_cuts(
         rt.alloc(),
         &mut script,
         &["check 0 ", ID, " - - "],
-        CUT_PROOF,
-        51,
+        &[CUT_PROOF],
     )?;
     add_cuts(
         rt.alloc(),
         &mut script,
         &["check 1 ", MIDDLE_LEAF, " - 2:0:1000 "],
-        BOUNDED_PROOF,
-        115,
+        &[
+            UP_TO_PATH,
+            "2",
+            UP_TO_SALT,
+            "7",
+            UP_TO_ROOT,
+            "1",
+            BEHIND_ROOT,
+        ],
     )?;
     assert_eq!(rt; script.count, 300);
     let (status, written) = run(
@@ -384,7 +540,12 @@ fn checks_under_the_hash_that_is_given(rt: HostRuntime) -> Result<(), Fail> {
     let mut source = MemSource::new(Bytes::of(script.lines), Vec::new(rt.alloc()));
     let mut sink = MemSink::new(rt.alloc(), AMPLE, Vec::new(rt.alloc()))?;
     assert_eq!(rt;
-        audit_run::<Toy, MemSource, MemSink>(rt.alloc(), &mut source, &mut sink),
+        audit_run::<Toy, MemSource, MemSink, TagScheme>(
+            rt.alloc(),
+            &mut source,
+            &mut sink,
+            &TagScheme
+        ),
         0
     );
     assert_eq!(rt; sink.written(), script.text.as_slice());

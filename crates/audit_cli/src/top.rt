@@ -9,6 +9,7 @@ use crate::session::run_script;
 use crate::words::Command;
 use ledger_bytes::{Sha, TreeHash};
 use ledger_io::{Ending, Sink, Source, finish};
+use member_book::Verifier;
 use std::alloc::Global;
 
 /// The program: runs the command that the words after the program's name make. The one form is `script`, which
@@ -24,12 +25,14 @@ use std::alloc::Global;
 /// | 7 | a line or the script is too long | `fail 7 line`, `fail 7 script` |
 ///
 /// Of several, the first that happens is the status. Lines that ended before a fault of reading are answered first.
-/// The last line is written by one attempt; a fault there doesn't change the status.
-pub fn audit_top<S: Source, K: Sink>(
+/// The last line is written by one attempt; a fault there doesn't change the status. No line of a script holds a member's
+/// approval, so that the verifier isn't asked.
+pub fn audit_top<S: Source, K: Sink, V: Verifier>(
     alloc: Global,
     words: &[String],
     source: &mut S,
     sink: &mut K,
+    verifier: &V,
 ) -> u8
     ensures ran { RanProgram sha256 (command_of (map string_bytes words.now)) result
         (outside (S.state source.old) (K.state sink.old)) (outside (S.state source.new) (K.state sink.new)) }
@@ -39,13 +42,18 @@ pub fn audit_top<S: Source, K: Sink>(
         ⊎ Rose (K.state sink.old).idles (K.state sink.new).idles }
 {
     match Command::read(words) {
-        Some(Command::Script) => audit_run::<Sha, S, K>(alloc, source, sink),
+        Some(Command::Script) => audit_run::<Sha, S, K, V>(alloc, source, sink, verifier),
         None => finish(sink, Ending::Usage),
     }
 }
 
 /// Answers the audit script that `source` gives, under this hash. The status is one of those above but 1.
-pub fn audit_run<H: TreeHash, S: Source, K: Sink>(alloc: Global, source: &mut S, sink: &mut K) -> u8
+pub fn audit_run<H: TreeHash, S: Source, K: Sink, V: Verifier>(
+    alloc: Global,
+    source: &mut S,
+    sink: &mut K,
+    _verifier: &V,
+) -> u8
     ensures ran { RanProgram H.of (Some Command.Script) result
         (outside (S.state source.old) (K.state sink.old)) (outside (S.state source.new) (K.state sink.new)) }
     ensures started { result ≢ 1 }

@@ -1,123 +1,140 @@
 -- What is accepted is a proof of the claim under a trusted root, and each such proof is accepted.
-use Rattle.std.proofs.Common.{◌≡◌, ℕ, Bool, true, false, cond, eqb, ◌&&◌, List, Option, Some, None, Result, Ok, Err, refl, sym, ap, ◌∙◌, eq-eqb}
+use Rattle.std.proofs.Common.{◌≡◌, ℕ, Bool, true, false, cond, List, [], ◌∷◌, Option, Some, None, Result, Ok, Err, refl, sym, ap, ◌∙◌}
 use Rattle.std.specs.Prelude.{IsOk}
-use Rattle.std.specs.Str.{bytes_eq}
-use Rattle.std.proofs.lemmas.Bool.{and_from, and_parts, eqb-true}
-use Rattle.std.proofs.lemmas.Slice.Eq.{bytes_eq-Decides}
 use Rattle.ledger_bytes.specs.declared.digest.Digest.{Digest}
 use Rattle.ledger_bytes.specs.declared.failure.Bad.{Bad}
 use Rattle.ledger_bytes.specs.Fields.{IsBytes}
-use Rattle.time_peg.specs.declared.TimeMark.{TimeMark}
 use Rattle.proof_codec.specs.declared.claim.Claim.{Claim}
 use Rattle.proof_codec.specs.Proofs.{Shown}
 use Rattle.proof_codec.specs.Claims.{claim_of}
 use Rattle.proof_codec.specs.Reading.{proof_of}
-use Rattle.proof_codec.proofs.Laws.{proof_of_takes, proof_of_only}
+use Rattle.proof_codec.proofs.Wholes.{proof_of_takes, proof_of_only}
 use Rattle.tree_model.specs.Tree.{Hash}
 use Rattle.tree_model.specs.Path.{fold_bytes}
 use Rattle.audit_core.specs.declared.refusal.No.{No}
-use Rattle.audit_core.specs.declared.refusal.No.TheVariants.{ClaimDiffers, LeafPath}
-use Rattle.audit_core.specs.Trust.{Trust, root_of}
-use Rattle.audit_core.specs.Acceptance.{same_bound, same_claim, is_root, acceptance_under, acceptance_of, acceptance, IsAccepted}
+use Rattle.audit_core.specs.declared.refusal.No.TheVariants.{HeadUnknown, ClaimDiffers, LeafPath, LowerBound, UpperBound, NotaryPath, TimesCross}
+use Rattle.audit_core.specs.declared.known.KnownLedger.{KnownLedger}
+use Rattle.audit_core.specs.Leading.{path_leads}
+use Rattle.audit_core.specs.Bounds.{lower_leads, upper_leads, lower_noted, upper_noted, in_order}
+use Rattle.audit_core.specs.Acceptance.{same_claim, rows, first_failing, is_unnoted, acceptance_under, acceptance_of, acceptance_by, IsAcceptedBy}
+use Rattle.audit_core.proofs.RootLaws.{is_root_means, is_root_of}
+use Rattle.audit_core.proofs.ClaimLaws.{same_claim_means, same_claim_of}
+use Rattle.audit_core.proofs.BoundLaws.{lower_means, lower_leads_of, lower_noted_of, upper_means, upper_leads_of, upper_noted_of, noted_for, order_means, order_of}
 
--- ---- what the tests mean
+-- ---- rows
 
-same_digest : (a b : Digest) → bytes_eq a.0 b.0 ≡ true → a ≡ b
-same_digest a b e =
-    let made : List ℕ → Digest = λ bytes. record { 0 = bytes } in
-    ap made ((bytes_eq-Decides a.0 b.0).0 e)
+passed : (holds : Bool) (why : No) (rest : List (Bool × No)) → first_failing ((holds, why) ∷ rest) ≡ Ok tt → (holds ≡ true) × (first_failing rest ≡ Ok tt)
+passed true why rest e = (refl, e)
+passed false why rest e = absurd cc
 
-same_bytes : (xs : List ℕ) → bytes_eq xs xs ≡ true
-same_bytes xs = (bytes_eq-Decides xs xs).1 refl
+-- what passes the rows of a proof
+record Passes (hash : Hash) (claim : Claim) (p : Shown) (ledger : KnownLedger) (notary : Option Digest) : Type 0 where
+  claimed : same_claim (claim_of p) claim ≡ true
+  leads : path_leads hash ledger.root p.leaf.0 p.n p.size p.path ≡ true
+  lower : lower_leads hash ledger p p.lo ≡ true
+  upper : upper_leads hash ledger p p.hi ≡ true
+  lower_note : lower_noted hash ledger notary p p.lo ≡ true
+  upper_note : upper_noted hash ledger notary p p.hi ≡ true
+  order : in_order p.lo p.hi ≡ true
 
-same_bound_means : (a b : Option TimeMark) → same_bound a b ≡ true → a ≡ b
-same_bound_means None None e = refl
-same_bound_means (Some a) None e = absurd cc
-same_bound_means None (Some b) e = absurd cc
-same_bound_means (Some a) (Some b) e =
-    let front = and_parts (eqb a.jsn b.jsn && eqb a.index b.index) (eqb a.time b.time) e in
-    let first = and_parts (eqb a.jsn b.jsn) (eqb a.index b.index) front.0 in
-    let made : ℕ → ℕ → ℕ → Option TimeMark = λ jsn index time. Some (record { jsn = jsn; index = index; time = time }) in
-    let jsn : a.jsn ≡ b.jsn = eqb-true _ _ first.0 in
-    let index : a.index ≡ b.index = eqb-true _ _ first.1 in
-    let time : a.time ≡ b.time = eqb-true _ _ front.1 in
-    ap (λ n. made n a.index a.time) jsn ∙ (ap (λ n. made b.jsn n a.time) index ∙ ap (λ n. made b.jsn b.index n) time)
+module _ (hash : Hash) (claim : Claim) (p : Shown) (ledger : KnownLedger) (notary : Option Digest) where
+  passes : first_failing (rows hash claim p ledger notary) ≡ Ok tt → Passes hash claim p ledger notary
+  passes e =
+      let from_order : List (Bool × No) = (in_order p.lo p.hi, TimesCross) ∷ [] in
+      let from_upper_note : List (Bool × No) = (upper_noted hash ledger notary p p.hi, NotaryPath) ∷ from_order in
+      let from_lower_note : List (Bool × No) = (lower_noted hash ledger notary p p.lo, NotaryPath) ∷ from_upper_note in
+      let from_upper : List (Bool × No) = (upper_leads hash ledger p p.hi, UpperBound) ∷ from_lower_note in
+      let from_lower : List (Bool × No) = (lower_leads hash ledger p p.lo, LowerBound) ∷ from_upper in
+      let from_leads : List (Bool × No) = (path_leads hash ledger.root p.leaf.0 p.n p.size p.path, LeafPath) ∷ from_lower in
+      let a = passed (same_claim (claim_of p) claim) ClaimDiffers from_leads e in
+      let b = passed (path_leads hash ledger.root p.leaf.0 p.n p.size p.path) LeafPath from_lower a.1 in
+      let c = passed (lower_leads hash ledger p p.lo) LowerBound from_upper b.1 in
+      let d = passed (upper_leads hash ledger p p.hi) UpperBound from_lower_note c.1 in
+      let f = passed (lower_noted hash ledger notary p p.lo) NotaryPath from_upper_note d.1 in
+      let g = passed (upper_noted hash ledger notary p p.hi) NotaryPath from_order f.1 in
+      let h = passed (in_order p.lo p.hi) TimesCross [] g.1 in
+      record { claimed = a.0; leads = b.0; lower = c.0; upper = d.0; lower_note = f.0; upper_note = g.0; order = h.0 }
 
-same_bound_of : (a : Option TimeMark) → same_bound a a ≡ true
-same_bound_of None = refl
-same_bound_of (Some a) =
-    and_from (eqb a.jsn a.jsn && eqb a.index a.index) (eqb a.time a.time)
-    (and_from (eqb a.jsn a.jsn) (eqb a.index a.index) (eq-eqb _ _ refl) (eq-eqb _ _ refl)) (eq-eqb _ _ refl)
+  passed_by : Passes hash claim p ledger notary → first_failing (rows hash claim p ledger notary) ≡ Ok tt
+  passed_by it = rw (it.claimed, it.leads, it.lower, it.upper, it.lower_note, it.upper_note, it.order) refl
 
-same_claim_means : (a b : Claim) → same_claim a b ≡ true → a ≡ b
-same_claim_means a b e =
-    let to_lo = and_parts (eqb a.n b.n && bytes_eq a.leaf.0 b.leaf.0 && same_bound a.lo b.lo) (same_bound a.hi b.hi) e in
-    let to_leaf = and_parts (eqb a.n b.n && bytes_eq a.leaf.0 b.leaf.0) (same_bound a.lo b.lo) to_lo.0 in
-    let to_n = and_parts (eqb a.n b.n) (bytes_eq a.leaf.0 b.leaf.0) to_leaf.0 in
-    let made : ℕ → Digest → Option TimeMark → Option TimeMark → Claim = λ n leaf lo hi. record { n = n; leaf = leaf; lo = lo; hi = hi } in
-    let n : a.n ≡ b.n = eqb-true _ _ to_n.0 in
-    let leaf : a.leaf ≡ b.leaf = same_digest a.leaf b.leaf to_n.1 in
-    let lo : a.lo ≡ b.lo = same_bound_means a.lo b.lo to_leaf.1 in
-    let hi : a.hi ≡ b.hi = same_bound_means a.hi b.hi to_lo.1 in
-    ap (λ x. made x a.leaf a.lo a.hi) n ∙ (ap (λ x. made b.n x a.lo a.hi) leaf ∙ (ap (λ x. made b.n b.leaf x a.hi) lo ∙ ap (λ x. made b.n b.leaf b.lo x) hi))
+-- ---- a proof
 
-same_claim_of : (a : Claim) → same_claim a a ≡ true
-same_claim_of a =
-    let to_leaf = and_from (eqb a.n a.n) (bytes_eq a.leaf.0 a.leaf.0) (eq-eqb _ _ refl) (same_bytes a.leaf.0) in
-    let to_lo = and_from (eqb a.n a.n && bytes_eq a.leaf.0 a.leaf.0) (same_bound a.lo a.lo) to_leaf (same_bound_of a.lo) in
-    and_from (eqb a.n a.n && bytes_eq a.leaf.0 a.leaf.0 && same_bound a.lo a.lo) (same_bound a.hi a.hi) to_lo (same_bound_of a.hi)
+-- what a yes to a proof rests on
+record Rests (hash : Hash) (claim : Claim) (p : Shown) (kept : Option KnownLedger) (notary : Option Digest) : Type 0 where
+  ledger : KnownLedger
+  trusted : kept ≡ Some ledger
+  passing : Passes hash claim p ledger notary
 
-is_root_means : (root : Digest) (folded : Option (List ℕ)) → is_root root folded ≡ true → folded ≡ Some root.0
-is_root_means root (Some folded) e = ap (λ (x : List ℕ). Some x) ((bytes_eq-Decides folded root.0).0 e)
-is_root_means root None e = absurd cc
+-- it is not refused
+not_refused : (test : Bool) (why : No) (r : Result (Unit {0}) No) → cond test (Err why) r ≡ Ok tt → r ≡ Ok tt
+not_refused true why r e = absurd cc
+not_refused false why r e = e
 
--- ---- the answer
+under_found : (hash : Hash) (claim : Claim) (p : Shown) (kept : Option KnownLedger) (notary : Option Digest) → acceptance_under hash claim p kept notary ≡ Ok tt
+    → Rests hash claim p kept notary
+under_found hash claim p None notary e = absurd cc
+under_found hash claim p (Some ledger) notary e =
+    let all = not_refused (is_unnoted p notary) (HeadUnknown p.notary_size) (first_failing (rows hash claim p ledger notary)) e in
+    record { ledger = ledger; trusted = refl; passing = passes hash claim p ledger notary all }
 
-passed : (b : Bool) (why : No) (r : Result (Unit {0}) No) → cond b r (Err why) ≡ Ok tt → (b ≡ true) × (r ≡ Ok tt)
-passed true why r e = (refl, e)
-passed false why r e = absurd cc
+under_only : (hash : Hash) (claim : Claim) (p : Shown) (kept : Option KnownLedger) (ledger : KnownLedger) (notary : Option Digest) → kept ≡ Some ledger
+    → is_unnoted p notary ≡ false → Passes hash claim p ledger notary → acceptance_under hash claim p kept notary ≡ Ok tt
+under_only hash claim p kept ledger notary trusted noted passing =
+    ap (λ k. acceptance_under hash claim p k notary) trusted ∙ rw noted (passed_by hash claim p ledger notary passing)
 
-under_found : (hash : Hash) (claim : Claim) (p : Shown) (kept : Option Digest) → acceptance_under hash claim p kept ≡ Ok tt
-    → (root : Digest) × (kept ≡ Some root) × (claim_of p ≡ claim) × (fold_bytes hash p.leaf.0 p.n p.size p.path ≡ Some root.0)
-under_found hash claim p None e = absurd cc
-under_found hash claim p (Some root) e =
-    let folded : Option (List ℕ) = fold_bytes hash p.leaf.0 p.n p.size p.path in
-    let a = passed (same_claim (claim_of p) claim) ClaimDiffers (cond (is_root root folded) (Ok tt) (Err LeafPath)) e in
-    let b = passed (is_root root folded) LeafPath (Ok tt) a.1 in
-    (root, refl, same_claim_means (claim_of p) claim a.0, is_root_means root folded b.0)
-
-read_found : (hash : Hash) (claim : Claim) (trust : Trust) (read : Result Shown Bad) → acceptance_of hash claim trust read ≡ Ok tt
-    → (p : Shown) × (read ≡ Ok p) × (acceptance_under hash claim p (root_of trust p.size) ≡ Ok tt)
-read_found hash claim trust (Ok p) e = (p, refl, e)
-read_found hash claim trust (Err bad) e = absurd cc
-
-accepted_found : (hash : Hash) (bytes : List ℕ) (claim : Claim) (trust : Trust) → IsBytes bytes → acceptance hash bytes claim trust ≡ Ok tt → IsAccepted hash bytes claim trust
-unfolding acceptance
-accepted_found hash bytes claim trust fits e =
-    let a = read_found hash claim trust (proof_of bytes) e in
-    let text = proof_of_takes bytes a.0 fits a.1 in
-    let b = under_found hash claim a.0 (root_of trust a.0.size) a.2 in
-    record { proof = a.0; is_proof = text.0; text = text.1; claimed = b.2; root = b.0; trusted = b.1; folds = b.3 }
-
-accepted_only : (hash : Hash) (bytes : List ℕ) (claim : Claim) (trust : Trust) → IsAccepted hash bytes claim trust → acceptance hash bytes claim trust ≡ Ok tt
-unfolding acceptance
-accepted_only hash bytes claim trust it =
-    let p : Shown = it.proof in
-    let same : same_claim (claim_of p) claim ≡ true = ap (same_claim (claim_of p)) (sym it.claimed) ∙ same_claim_of (claim_of p) in
-    let read : proof_of bytes ≡ Ok p = proof_of_only bytes p it.is_proof it.text in
-    ap (acceptance_of hash claim trust) read
-    ∙ ap (acceptance_under hash claim p) it.trusted
-    ∙ rw (same, it.folds, same_bytes it.root.0) refl
+read_found : (hash : Hash) (claim : Claim) (ledgers : ℕ → Option KnownLedger) (notaries : ℕ → Option Digest) (read : Result Shown Bad)
+    → acceptance_of hash claim ledgers notaries read ≡ Ok tt → (p : Shown) × (read ≡ Ok p) × (acceptance_under hash claim p (ledgers p.size) (notaries p.notary_size) ≡ Ok tt)
+read_found hash claim ledgers notaries (Ok p) e = (p, refl, e)
+read_found hash claim ledgers notaries (Err bad) e = absurd cc
 
 -- the one value that stands for yes
 is_yes : (r : Result (Unit {0}) No) → IsOk r → r ≡ Ok tt
 is_yes (Ok x) e = refl
 is_yes (Err why) e = absurd cc
 
-pub yes_found : (hash : Hash) (bytes : List ℕ) (claim : Claim) (trust : Trust) (r : Result (Unit {0}) No) → IsBytes bytes
-    → r ≡ acceptance hash bytes claim trust → IsOk r → IsAccepted hash bytes claim trust
-yes_found hash bytes claim trust r fits e ok = accepted_found hash bytes claim trust fits (sym e ∙ is_yes r ok)
+module _ (hash : Hash) (bytes : List ℕ) (claim : Claim) (ledgers : ℕ → Option KnownLedger) (notaries : ℕ → Option Digest) where
+  accepted_found : IsBytes bytes → acceptance_by hash bytes claim ledgers notaries ≡ Ok tt → IsAcceptedBy hash bytes claim ledgers notaries
+  unfolding acceptance_by
+  accepted_found fits e =
+      let read = read_found hash claim ledgers notaries (proof_of bytes) e in
+      let p : Shown = read.0 in
+      let text = proof_of_takes bytes p fits read.1 in
+      let notary : Option Digest = notaries p.notary_size in
+      let rests : Rests hash claim p (ledgers p.size) notary = under_found hash claim p (ledgers p.size) notary read.2 in
+      let passing : Passes hash claim p rests.ledger notary = rests.passing in
+      record {
+        proof = p;
+        is_proof = text.0;
+        text = text.1;
+        claimed = same_claim_means (claim_of p) claim passing.claimed;
+        ledger = rests.ledger;
+        trusted = rests.trusted;
+        leads = is_root_means rests.ledger.root (fold_bytes hash p.leaf.0 p.n p.size p.path) passing.leads;
+        lower = lower_means hash rests.ledger notary p p.lo passing.lower passing.lower_note;
+        upper = upper_means hash rests.ledger notary p p.hi passing.upper passing.upper_note;
+        order = order_means p.lo p.hi passing.order;
+      }
 
-pub yes_only : (hash : Hash) (bytes : List ℕ) (claim : Claim) (trust : Trust) (r : Result (Unit {0}) No)
-    → r ≡ acceptance hash bytes claim trust → IsAccepted hash bytes claim trust → IsOk r
-yes_only hash bytes claim trust r e it = rw (e, accepted_only hash bytes claim trust it) refl
+  accepted_only : IsAcceptedBy hash bytes claim ledgers notaries → acceptance_by hash bytes claim ledgers notaries ≡ Ok tt
+  unfolding acceptance_by
+  accepted_only it =
+      let p : Shown = it.proof in
+      let notary : Option Digest = notaries p.notary_size in
+      let passing : Passes hash claim p it.ledger notary = record {
+        claimed = ap (same_claim (claim_of p)) (sym it.claimed) ∙ same_claim_of (claim_of p);
+        leads = is_root_of it.ledger.root (fold_bytes hash p.leaf.0 p.n p.size p.path) it.leads;
+        lower = lower_leads_of hash it.ledger notary p p.lo it.lower;
+        upper = upper_leads_of hash it.ledger notary p p.hi it.upper;
+        lower_note = lower_noted_of hash it.ledger notary p p.lo it.lower;
+        upper_note = upper_noted_of hash it.ledger notary p p.hi it.upper;
+        order = order_of p.lo p.hi it.order;
+      } in
+      ap (acceptance_of hash claim ledgers notaries) (proof_of_only bytes p it.is_proof it.text)
+      ∙ under_only hash claim p (ledgers p.size) it.ledger notary it.trusted (noted_for hash it.ledger p notary it.lower it.upper) passing
+
+  pub yes_found : (r : Result (Unit {0}) No) → IsBytes bytes → r ≡ acceptance_by hash bytes claim ledgers notaries → IsOk r → IsAcceptedBy hash bytes claim ledgers notaries
+  yes_found r fits e ok = accepted_found fits (sym e ∙ is_yes r ok)
+
+  pub yes_only : (r : Result (Unit {0}) No) → r ≡ acceptance_by hash bytes claim ledgers notaries → IsAcceptedBy hash bytes claim ledgers notaries → IsOk r
+  yes_only r e it = rw (e, accepted_only it) refl

@@ -1,1 +1,5 @@
+pub mod RootLaws
+pub mod ClaimLaws
+pub mod BoundLaws
 pub mod Accepting
+pub mod ExtensionLaws

@@ -1,2 +1,5 @@
-pub mod Acceptance
+pub mod Leading
 pub mod Trust
+pub mod Bounds
+pub mod Acceptance
+pub mod Extending

@@ -2,10 +2,15 @@
 #![tactic(auto)]
 
 mod acceptance;
+mod bounds;
+mod extension;
 mod heads;
+mod known;
+mod leading;
 mod refusal;
 
 pub use acceptance::accept;
+pub use extension::check_extension;
 pub use heads::Heads;
 pub use refusal::{No, TrustErr};
 

@@ -5,6 +5,7 @@
 use audit_cli::audit_top;
 use ledger_bytes::NoMemory;
 use ledger_io::{Ending, StdSink, StdSource, finish};
+use member_book::TagScheme;
 use std::env;
 use std::io::ErrorKind;
 use std::process::ExitCode;
@@ -14,7 +15,13 @@ fn main(rt: HostRuntime) -> ExitCode {
     let mut source = StdSource::new(rt.stdin());
     let mut sink = StdSink::new(rt.stdout());
     ExitCode::from(match words(&rt) {
-        Ok(words) => audit_top(rt.alloc(), words.as_slice(), &mut source, &mut sink),
+        Ok(words) => audit_top(
+            rt.alloc(),
+            words.as_slice(),
+            &mut source,
+            &mut sink,
+            &TagScheme,
+        ),
         Err(NoMemory) => finish(&mut sink, Ending::NoMemory),
     })
 }

@@ -1,2 +1,4 @@
+pub mod Parts
+pub mod Wholes
 pub mod Breaks
-pub mod Laws
+pub mod Pieces

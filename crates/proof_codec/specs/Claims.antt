@@ -1,8 +1,21 @@
 -- What a proof claims.
-use Rattle.std.specs.Prelude.{None}
+use Rattle.std.specs.Prelude.{option_map}
+use Rattle.journal_record.specs.declared.header.Header.{Header}
+use Rattle.time_peg.specs.declared.mark.TimeMark.{TimeMark}
 use Rattle.proof_codec.specs.declared.claim.Claim.{Claim}
-use Rattle.proof_codec.specs.Proofs.{Shown}
+use Rattle.proof_codec.specs.Proofs.{ShownLower, ShownUpper, Shown}
 
--- the journal and its leaf; no bound
+-- the mark that a time journal's header leaves
+abbrev pub mark_of : Header → TimeMark
+mark_of h = record { jsn = h.jsn; index = h.a; time = h.b }
+
+-- the marks of the bounds
+abbrev pub lower_mark : ShownLower → TimeMark
+lower_mark l = mark_of l.header
+
+abbrev pub upper_mark : ShownUpper → TimeMark
+upper_mark u = u.mark
+
+-- the journal, its leaf, and the marks of its bounds
 abbrev pub claim_of : Shown → Claim
-claim_of p = record { n = p.n; leaf = p.leaf; lo = None; hi = None }
+claim_of p = record { n = p.n; leaf = p.leaf; lo = option_map lower_mark p.lo; hi = option_map upper_mark p.hi }

@@ -1,9 +1,39 @@
 -- A journal proof's value and its one spelling.
-use Rattle.std.specs.Prelude.{◌≡◌, ℕ, ◌<◌, ◌≤◌, ◌^◌, ◌/◌, ◌%◌, List, [], ◌∷◌, ◌++◌, length}
+use Rattle.std.specs.Prelude.{◌≡◌, ℕ, ◌+◌, ◌<◌, ◌≤◌, ◌^◌, ◌/◌, ◌%◌, Bool, true, false, ◌||◌, if◌then◌else◌, List, [], ◌∷◌, ◌++◌, length, Option, Some, None, IfSome, ⊤}
 use Rattle.std.specs.Int.{w64, to_be_bytes}
+use Rattle.std.specs.Option.{is_some}
 use Rattle.ledger_bytes.specs.declared.digest.Digest.{Digest}
+use Rattle.journal_record.specs.declared.header.Header.{Header}
+use Rattle.journal_record.specs.declared.header.Kind.TheVariants.{Time}
+use Rattle.journal_record.specs.Header as headers
+use Rattle.journal_record.specs.Rules.{IsHeader}
+use Rattle.time_peg.specs.declared.mark.TimeMark.{TimeMark}
 
--- what a proof shows, without where its path lies in memory
+-- ---- values; digests that stand one after the other are shown as their bytes
+
+-- what a proof shows of the time journal in front
+pub record ShownLower : Type 0 where
+  -- its header
+  pub header : Header
+  -- its path
+  pub path : List ℕ
+  -- the root over the journals in front of it
+  pub root : Digest
+  -- the proof that the ledger goes on from them
+  pub ext : List ℕ
+
+-- what a proof shows of the time journal behind
+pub record ShownUpper : Type 0 where
+  -- its number, and the index and time of the notary's entry
+  pub mark : TimeMark
+  -- the entry's salt
+  pub salt : Digest
+  -- the root over the journals in front of it
+  pub root : Digest
+  -- the proof that the ledger goes on from them
+  pub ext : List ℕ
+
+-- what a proof shows
 pub record Shown : Type 0 where
   -- the size of the ledger's tree
   pub size : ℕ
@@ -11,28 +41,139 @@ pub record Shown : Type 0 where
   pub n : ℕ
   -- the digest of its leaf
   pub leaf : Digest
-  -- the digests of its path, one after the other
+  -- its path
   pub path : List ℕ
+  -- the bounds in time
+  pub lo : Option ShownLower
+  pub hi : Option ShownUpper
+  -- the size of the notary's tree, and the paths of the bounds' entries
+  pub notary_size : ℕ
+  pub lo_path : List ℕ
+  pub hi_path : List ℕ
+
+-- does a proof have a bound?
+abbrev pub is_bounded : Option ShownLower → Option ShownUpper → Bool
+is_bounded lo hi = is_some lo || is_some hi
+
+-- ---- bytes
+
+-- digests behind their count
+abbrev pub counted : List ℕ → List ℕ
+counted digests = (length digests / 32) ∷ digests
+
+-- a lower bound behind its flag
+unfoldable pub lower_text : Option ShownLower → List ℕ
+lower_text None = 0 ∷ []
+lower_text (Some l) = 1 ∷ (headers.spelling l.header ++ (counted l.path ++ (l.root.0 ++ counted l.ext)))
+
+-- a mark's number, index and time
+unfoldable pub mark_text : TimeMark → List ℕ
+mark_text m = to_be_bytes w64 m.jsn ++ (to_be_bytes w64 m.index ++ to_be_bytes w64 m.time)
+
+-- an upper bound behind its flag
+unfoldable pub upper_text : Option ShownUpper → List ℕ
+upper_text None = 0 ∷ []
+upper_text (Some u) = 1 ∷ (mark_text u.mark ++ (u.salt.0 ++ (u.root.0 ++ counted u.ext)))
+
+-- what stands only where a bound is there
+abbrev pub text_if : Bool → List ℕ → List ℕ
+text_if true text = text
+text_if false text = []
+
+-- the size of the notary's tree, where there is a bound, and the path of each bound's entry
+unfoldable pub notary_text : Shown → List ℕ
+notary_text p =
+    text_if (is_bounded p.lo p.hi) (to_be_bytes w64 p.notary_size)
+    ++ (text_if (is_some p.lo) (counted p.lo_path) ++ text_if (is_some p.hi) (counted p.hi_path))
+
+-- the bytes of a proof in front of its bounds
+unfoldable pub front_text : Shown → List ℕ
+front_text p = 1 ∷ (to_be_bytes w64 p.size ++ (to_be_bytes w64 p.n ++ (p.leaf.0 ++ counted p.path)))
 
 -- the bytes of a proof: its fields one after the other
 unfoldable pub spelling : Shown → List ℕ
-spelling p =
-    1 ∷ []
-    ++ to_be_bytes w64 p.size
-    ++ to_be_bytes w64 p.n
-    ++ p.leaf.0
-    ++ (length p.path / 32) ∷ []
-    ++ p.path
-    ++ 0 ∷ []
-    ++ 0 ∷ []
+spelling p = front_text p ++ (lower_text p.lo ++ (upper_text p.hi ++ notary_text p))
 
--- what has a spelling: numbers of eight bytes, a whole leaf digest, and a path of at most 255 whole digests
+-- ---- how long they are
+
+-- how many bytes the bounds have with their flags
+abbrev pub lower_len : Option ShownLower → ℕ
+lower_len None = 1
+lower_len (Some l) = 209 + length l.path + length l.ext
+
+abbrev pub upper_len : Option ShownUpper → ℕ
+upper_len None = 1
+upper_len (Some u) = 90 + length u.ext
+
+-- a lower bound isn't longer than its counts allow
+abbrev pub HasShortLower : Option ShownLower → Type 0
+HasShortLower None = ⊤
+HasShortLower (Some l) = (length l.path ≤ 8160) × (length l.ext ≤ 8160)
+
+-- where the two flags stand
+abbrev pub lower_place : Shown → ℕ
+lower_place p = 50 + length p.path
+
+abbrev pub upper_place : Shown → ℕ
+upper_place p = 50 + length p.path + lower_len p.lo
+
+-- how many bytes a proof has
+abbrev pub proof_len : Shown → ℕ
+proof_len p =
+    50 + length p.path + lower_len p.lo + upper_len p.hi + (if is_bounded p.lo p.hi then 8 else 0)
+    + (if is_some p.lo then 1 + length p.lo_path else 0) + (if is_some p.hi then 1 + length p.hi_path else 0)
+
+-- ---- what has a spelling
+
+-- at most 255 whole digests
+pub record IsDigests (digests : List ℕ) : Type 0 where
+  pub whole : length digests % 32 ≡ 0
+  pub count : length digests / 32 < 256
+
+-- the header of a time journal
+pub record IsTimeHeader (h : Header) : Type 0 where
+  pub rules : IsHeader h
+  pub widths : headers.HasWidths h
+  pub kind : h.kind ≡ Time
+
+pub record IsMark (m : TimeMark) : Type 0 where
+  pub jsn : m.jsn < 2 ^ 64
+  pub index : m.index < 2 ^ 64
+  pub time : m.time < 2 ^ 64
+
+pub record HasLower (l : ShownLower) : Type 0 where
+  pub header : IsTimeHeader l.header
+  pub path : IsDigests l.path
+  pub root : length l.root.0 ≡ 32
+  pub ext : IsDigests l.ext
+
+pub record HasUpper (u : ShownUpper) : Type 0 where
+  pub mark : IsMark u.mark
+  pub salt : length u.salt.0 ≡ 32
+  pub root : length u.root.0 ≡ 32
+  pub ext : IsDigests u.ext
+
+-- the size of the notary's tree is 0 where there is no bound
+abbrev pub IsSizeIf : Bool → ℕ → Type 0
+IsSizeIf true size = size < 2 ^ 64
+IsSizeIf false size = size ≡ 0
+
+-- a path of the notary's tree is there only where its bound is
+abbrev pub IsPathIf : Bool → List ℕ → Type 0
+IsPathIf true path = IsDigests path
+IsPathIf false path = path ≡ []
+
+-- what has a spelling: each number fits its field, each digest has 32 bytes, and what belongs to a bound is there only with it
 pub record HasFields (p : Shown) : Type 0 where
   pub size : p.size < 2 ^ 64
   pub n : p.n < 2 ^ 64
   pub leaf : length p.leaf.0 ≡ 32
-  pub whole : length p.path % 32 ≡ 0
-  pub count : length p.path / 32 < 256
+  pub path : IsDigests p.path
+  pub lower : IfSome p.lo HasLower
+  pub upper : IfSome p.hi HasUpper
+  pub notary_size : IsSizeIf (is_bounded p.lo p.hi) p.notary_size
+  pub lo_path : IsPathIf (is_some p.lo) p.lo_path
+  pub hi_path : IsPathIf (is_some p.hi) p.hi_path
 
 -- what has a spelling that isn't too long
 pub record IsProof (p : Shown) : Type 0 where

@@ -1,10 +1,17 @@
 -- Reading a journal proof from left to right, with the first break that is met.
-use Rattle.std.specs.Prelude.{◌≡◌, ℕ, ◌+◌, ◌*◌, List, length, Result, Ok, Err, nat_lt, ◌==◌, if◌then◌else◌}
+use Rattle.std.specs.Prelude.{◌≡◌, ℕ, ◌+◌, ◌*◌, Bool, true, false, List, [], length, Option, Some, None, Result, Ok, Err, nat_lt, nat_le, ◌==◌, if◌then◌else◌}
 use Rattle.std.specs.Int.{w8, w64}
+use Rattle.std.specs.Option.{is_some}
+use Rattle.ledger_bytes.specs.declared.digest.Digest.{Digest}
 use Rattle.ledger_bytes.specs.declared.failure.Bad.{Bad}
 use Rattle.ledger_bytes.specs.declared.failure.Bad.TheVariants.{Short, Trailing, BadKind, BadFixedField, NewerFormat, TooLong}
 use Rattle.ledger_bytes.specs.Fields.{Left, left, ◌>>=◌, number_at, digest_at, bytes_at, check, end_at}
-use Rattle.proof_codec.specs.Proofs.{Shown}
+use Rattle.journal_record.specs.declared.header.Header.{Header}
+use Rattle.journal_record.specs.declared.header.Kind.{Kind}
+use Rattle.journal_record.specs.declared.header.Kind.TheVariants.{Time}
+use Rattle.time_peg.specs.declared.mark.TimeMark.{TimeMark}
+use Rattle.journal_record.specs.Reading.{header_at}
+use Rattle.proof_codec.specs.Proofs.{ShownLower, ShownUpper, Shown, is_bounded, lower_len}
 
 -- digests behind their count
 unfoldable pub digests_at : Left → Result (List ℕ × Left) Bad
@@ -12,25 +19,111 @@ digests_at l = do
   count ← number_at w8 l
   bytes_at (32 * count.0) count.1
 
--- the flag of a bound, which isn't there
-unfoldable pub flag_at : ℕ → Left → Result (Unit {0} × Left) Bad
+-- the flag of a bound: is it there?
+unfoldable pub flag_at : ℕ → Left → Result (Bool × Left) Bad
 flag_at at l = do
   flag ← number_at w8 l
-  _ ← check (flag.0 == 0) at
-  Ok (tt, flag.1)
+  _ ← check (nat_le flag.0 1) at
+  Ok (flag.0 == 1, flag.1)
 
--- the fields of a proof
-unfoldable pub proof_at : Left → Result (Shown × Left) Bad
-proof_at l = do
+-- how a header at a place breaks: it is cut off, or its place is told
+abbrev pub placed : {A : Type 0} → ℕ → Result A Bad → Result A Bad
+placed at (Ok x) = Ok x
+placed at (Err (Short whole)) = Err (Short whole)
+placed at (Err bad) = Err (BadFixedField at)
+
+-- is it the kind of time journals?
+abbrev pub is_time : Kind → Bool
+is_time Time = true
+is_time kind = false
+
+-- the header of a time journal
+unfoldable pub time_at : ℕ → Left → Result (Header × Left) Bad
+time_at at l = do
+  header ← placed at (header_at l)
+  _ ← check (is_time header.0.kind) at
+  Ok header
+
+-- a lower bound that is there
+unfoldable pub some_lower_at : ℕ → Left → Result (Option ShownLower × Left) Bad
+some_lower_at at l = do
+  header ← time_at at l
+  path ← digests_at header.1
+  root ← digest_at path.1
+  ext ← digests_at root.1
+  Ok (Some (record { header = header.0; path = path.0; root = root.0; ext = ext.0 }), ext.1)
+
+-- a lower bound behind its flag
+unfoldable pub lower_at : ℕ → Left → Result (Option ShownLower × Left) Bad
+lower_at at l = do
+  flag ← flag_at at l
+  if flag.0 then some_lower_at (at + 1) flag.1 else Ok (None, flag.1)
+
+-- a time mark
+unfoldable pub mark_at : Left → Result (TimeMark × Left) Bad
+mark_at l = do
+  jsn ← number_at w64 l
+  index ← number_at w64 jsn.1
+  time ← number_at w64 index.1
+  Ok (record { jsn = jsn.0; index = index.0; time = time.0 }, time.1)
+
+-- an upper bound that is there
+unfoldable pub some_upper_at : Left → Result (Option ShownUpper × Left) Bad
+some_upper_at l = do
+  mark ← mark_at l
+  salt ← digest_at mark.1
+  root ← digest_at salt.1
+  ext ← digests_at root.1
+  Ok (Some (record { mark = mark.0; salt = salt.0; root = root.0; ext = ext.0 }), ext.1)
+
+-- an upper bound behind its flag
+unfoldable pub upper_at : ℕ → Left → Result (Option ShownUpper × Left) Bad
+upper_at at l = do
+  flag ← flag_at at l
+  if flag.0 then some_upper_at flag.1 else Ok (None, flag.1)
+
+-- the size of the notary's tree, where there is a bound
+unfoldable pub size_if : Bool → Left → Result (ℕ × Left) Bad
+size_if there l = if there then number_at w64 l else Ok (0, l)
+
+-- the path of a bound's entry, where it is there
+unfoldable pub path_if : Bool → Left → Result (List ℕ × Left) Bad
+path_if there l = if there then digests_at l else Ok ([], l)
+
+-- the fields in front of the bounds: the ledger's size, the journal, its leaf and its path
+unfoldable pub front_at : Left → Result ((ℕ × ℕ × Digest × List ℕ) × Left) Bad
+front_at l = do
   version ← number_at w8 l
   _ ← check (version.0 == 1) 0
   size ← number_at w64 version.1
   n ← number_at w64 size.1
   leaf ← digest_at n.1
   path ← digests_at leaf.1
-  lower ← flag_at (50 + length path.0) path.1
-  upper ← flag_at (51 + length path.0) lower.1
-  Ok (record { size = size.0; n = n.0; leaf = leaf.0; path = path.0 }, upper.1)
+  Ok ((size.0, n.0, leaf.0, path.0), path.1)
+
+-- the fields of a proof
+unfoldable pub proof_at : Left → Result (Shown × Left) Bad
+proof_at l = do
+  front ← front_at l
+  lo ← lower_at (50 + length front.0.3) front.1
+  hi ← upper_at (50 + length front.0.3 + lower_len lo.0) lo.1
+  notary ← size_if (is_bounded lo.0 hi.0) hi.1
+  lo_path ← path_if (is_some lo.0) notary.1
+  hi_path ← path_if (is_some hi.0) lo_path.1
+  Ok (
+    record {
+      size = front.0.0;
+      n = front.0.1;
+      leaf = front.0.2;
+      path = front.0.3;
+      lo = lo.0;
+      hi = hi.0;
+      notary_size = notary.0;
+      lo_path = lo_path.0;
+      hi_path = hi_path.0;
+    },
+    hi_path.1,
+  )
 
 -- the proof that the bytes spell, all of them
 unfoldable pub proof_of : List ℕ → Result Shown Bad

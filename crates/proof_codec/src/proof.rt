@@ -1,41 +1,57 @@
-ghost use Rattle.std.specs.Prelude.{◌≡◌, ◌≢◌, ℕ, ◌+◌, ◌%◌, ◌<◌, ◌≤◌, List, [], ◌∷◌, ◌++◌, length, take, IfOk, IfErr};
-ghost use Rattle.ledger_bytes.specs.Fields.{Fits};
-ghost use Rattle.proof_codec.specs.Proofs.{Shown, HasFields, IsProof, spelling};
-ghost use Rattle.proof_codec.specs.Reading.{digests_at, flag_at, proof_at, proof_of, IsBreak, Reads};
+ghost use Rattle.std.specs.Prelude.{◌≡◌, ◌≢◌, ◌⊎◌, ℕ, ◌<◌, ◌≤◌, List, [], ◌∷◌, ◌++◌, length, take, IfOk, IfErr};
+ghost use Rattle.proof_codec.specs.Proofs.{Shown, IsProof, spelling, lower_place, upper_place, proof_len};
+ghost use Rattle.proof_codec.specs.Reading.{proof_of, IsBreak};
 ghost use Rattle.proof_codec.specs.Claims.{claim_of};
 
-use crate::Claim;
-use ledger_bytes::{Bad, Bytes, Digest, FieldReader, FieldWriter, NoMemory, check_field};
+use crate::reading::read;
+use crate::writing::write;
+use crate::{Claim, Lower, Upper};
+use ledger_bytes::{Bad, Bytes, Digest, NoMemory};
 use std::alloc::Global;
 use std::marker::Model;
+use time_peg::TimeMark;
 
 /// The greatest length of a proof in bytes.
 pub const PROOF_LIMIT: usize = 8192;
 
-const VERSION: u8 = 1;
-
-/// The flag of a bound that isn't there.
-const ABSENT: u8 = 0;
-
-/// A proof that a journal stands in a ledger, read from bytes that it borrows. Its spelling has these fields one
-/// after the other, all numbers unsigned and big-endian, and at most [`PROOF_LIMIT`] bytes:
+/// A proof that a journal stands in a ledger, with its bounds in time, read from bytes that it borrows. Its spelling has
+/// these fields one after the other, all numbers unsigned and big-endian, and at most [`PROOF_LIMIT`] bytes. Digests that
+/// are counted stand behind one byte with their number.
 ///
-/// | Offset | Length | Field |
-/// |---|---|---|
-/// | 0 | 1 | version, 1 |
-/// | 1 | 8 | the size of the ledger whose root the proof leads to |
-/// | 9 | 8 | the journal's number n |
-/// | 17 | 32 | the digest of its leaf |
-/// | 49 | 1 | count c of the digests that follow |
-/// | 50 | 32c | the path of leaf n in the tree of that size, from the leaf up (RFC 6962, section 2.1.1) |
-/// | 50 + 32c | 1 | flag of the lower bound, 0: there is none |
-/// | 51 + 32c | 1 | flag of the upper bound, 0: there is none |
+/// | Length | Field |
+/// |---|---|
+/// | 1 | version, 1 |
+/// | 8 | the size of the ledger whose root the proof leads to |
+/// | 8 | the journal's number n |
+/// | 32 | the digest of its leaf |
+/// | 1 + 32c | the path of leaf n in the tree of that size, from the leaf up (RFC 6962, section 2.1.1) |
+/// | 1 | flag of the lower bound: 0 there is none, 1 the next four fields follow |
+/// | 174 | the header of time journal j |
+/// | 1 + 32c | the path of leaf j |
+/// | 32 | the root over the first j journals |
+/// | 1 + 32c | the proof that the tree goes on from them (RFC 6962, section 2.1.2) |
+/// | 1 | flag of the upper bound: 0 there is none, 1 the next four fields follow |
+/// | 24 | the number m of a time journal, its notary's index and time |
+/// | 32 | the salt of the notary's entry |
+/// | 32 | the root over the first m journals |
+/// | 1 + 32c | the proof that the tree goes on from them |
+/// | 8 | with a bound, the size of the notary's list |
+/// | 1 + 32c | with a lower bound, the path of its entry in the notary's tree |
+/// | 1 + 32c | with an upper bound, the path of its entry |
 #[derive(Debug, Drop)]
 pub struct Proof<'a> {
     pub size: u64,
     pub n: u64,
     pub leaf: Digest,
     pub path: &'a [u8],
+    pub lo: Option<Lower<'a>>,
+    pub hi: Option<Upper<'a>>,
+    /// 0 where there is no bound.
+    pub notary_size: u64,
+    /// Empty where there is no lower bound.
+    pub lo_path: &'a [u8],
+    /// Empty where there is no upper bound.
+    pub hi_path: &'a [u8],
 }
 
 impl<'a> Model for Proof<'a> {
@@ -43,13 +59,24 @@ impl<'a> Model for Proof<'a> {
 
     ghost Value = { Shown };
 
-    ghost view = { λ p. record { size = p.size; n = p.n; leaf = p.leaf; path = p.path.now } };
+    ghost view = { λ p. record {
+      size = p.size;
+      n = p.n;
+      leaf = p.leaf;
+      path = p.path.now;
+      lo = p.lo;
+      hi = p.hi;
+      notary_size = p.notary_size;
+      lo_path = p.lo_path.now;
+      hi_path = p.hi_path.now;
+    } };
 }
 
 impl<'a> Proof<'a> {
     /// Reads a proof. Errors come by the first break in the order of the bytes: `TooLong` above [`PROOF_LIMIT`]
-    /// before all others; `BadFixedField` at offset 0 for another version, and at the flag's offset for a flag that
-    /// isn't 0; `Short` where a field isn't whole; `Trailing` last.
+    /// before all others; `BadFixedField` at offset 0 for another version, at a flag's offset for a flag above 1, and at
+    /// the header's offset for a header that isn't a time journal's; `Short` where a field isn't whole; `Trailing` last.
+    /// In a header that is cut off what breaks a rule is told before that, and its kind isn't looked at.
     pub fn decode(bytes: &'a [u8]) -> Result<Proof<'a>, Bad>
         // Which answer it is, and at a break which break and where.
         ensures exact { result ≡ proof_of bytes.now }
@@ -68,9 +95,10 @@ impl<'a> Proof<'a> {
         // Another version, whatever follows, is told at its place.
         ensures version { (version : ℕ) (rest : List ℕ) → version ≢ 1 → length bytes.now ≤ 8192
             → bytes.now ≡ version ∷ rest → result ≡ Err (Bad.BadFixedField 0) }
-        // So is another flag behind the path of a proof.
-        ensures flag { (p : Shown) (at flag : ℕ) (rest : List ℕ) → IsProof p → 50 + length p.path ≤ at
-            → at < length (spelling p) → flag ≢ 0 → length bytes.now ≤ 8192
+        // So is another flag.
+        ensures flag { (p : Shown) (at flag : ℕ) (rest : List ℕ) → IsProof p
+            → (at ≡ lower_place p) ⊎ (at ≡ upper_place p)
+            → 1 < flag → length bytes.now ≤ 8192
             → bytes.now ≡ take at (spelling p) ++ flag ∷ rest → result ≡ Err (Bad.BadFixedField at) }
     {
         read(bytes)
@@ -83,89 +111,19 @@ impl<'a> Proof<'a> {
         Claim {
             n: self.n,
             leaf: self.leaf,
-            lo: None,
-            hi: None,
+            lo: self.lo.as_ref().map(|lower| lower.mark()),
+            hi: self.hi.as_ref().map(|upper| upper.mark),
         }
     }
 
     /// The proof's bytes.
     pub fn encode(&self, alloc: Global) -> Result<Bytes, NoMemory>
-        requires whole { length self.now.path % 32 ≡ 0 }
-        requires room { 52 + length self.now.path ≤ 8192 }
+        requires { IsProof self.now }
         ensures text { IfOk result (λ bytes. bytes ≡ spelling self.now) }
+        ensures len { IfOk result (λ bytes. length bytes ≡ proof_len self.now) }
         // Its bytes are read as this proof.
         ensures again { IfOk result (λ bytes. proof_of bytes ≡ Ok self.now) }
     {
         write(self, alloc)
     }
-}
-
-#[tactic(auto, unfolding(crate::specs::Reading::proof_of))]
-fn read(bytes: &[u8]) -> Result<Proof<'_>, Bad>
-    ensures { result ≡ proof_of bytes.now }
-{
-    if bytes.len() > PROOF_LIMIT {
-        return Err(Bad::TooLong);
-    }
-    let mut reader = FieldReader::new(bytes);
-    let proof = take_proof(&mut reader)?;
-    reader.end()?;
-    Ok(proof)
-}
-
-#[tactic(auto, unfolding(crate::specs::Reading::proof_at))]
-fn take_proof<'a>(reader: &mut FieldReader<'a>) -> Result<Proof<'a>, Bad>
-    ensures { Fits result reader.new (proof_at reader.old) }
-{
-    let version = reader.take_u8()?;
-    check_field(version == VERSION, 0)?;
-    let size = reader.take_u64()?;
-    let n = reader.take_u64()?;
-    let leaf = reader.take_digest()?;
-    let path = take_digests(reader)?;
-    take_flag(reader, 50 + path.len() as u64)?;
-    take_flag(reader, 51 + path.len() as u64)?;
-    Ok(Proof {
-        size,
-        n,
-        leaf,
-        path,
-    })
-}
-
-/// Digests behind their count.
-#[tactic(auto, unfolding(crate::specs::Reading::digests_at))]
-fn take_digests<'a>(reader: &mut FieldReader<'a>) -> Result<&'a [u8], Bad>
-    ensures { Reads (λ x. x.now) result reader.new (digests_at reader.old) }
-{
-    let count = reader.take_u8()?;
-    reader.take_slice(32 * count as usize)
-}
-
-/// The flag of a bound, which isn't there.
-#[tactic(auto, unfolding(crate::specs::Reading::flag_at))]
-fn take_flag(reader: &mut FieldReader, at: u64) -> Result<(), Bad>
-    ensures { Fits result reader.new (flag_at at reader.old) }
-{
-    let flag = reader.take_u8()?;
-    check_field(flag == ABSENT, at)
-}
-
-#[tactic(auto, unfolding(crate::specs::Proofs::spelling))]
-fn write(proof: &Proof, alloc: Global) -> Result<Bytes, NoMemory>
-    requires whole { length proof.now.path % 32 ≡ 0 }
-    requires room { 52 + length proof.now.path ≤ 8192 }
-    ensures text { IfOk result (λ bytes. bytes ≡ spelling proof.now) }
-    ensures fields { IfOk result (λ _. HasFields proof.now) }
-{
-    let mut writer = FieldWriter::new(alloc);
-    writer.put_u8(VERSION)?;
-    writer.put_u64(proof.size)?;
-    writer.put_u64(proof.n)?;
-    writer.put_slice(&proof.leaf.0)?;
-    writer.put_u8((proof.path.len() / 32) as u8)?;
-    writer.put_slice(proof.path)?;
-    writer.put_u8(ABSENT)?;
-    writer.put_u8(ABSENT)?;
-    Ok(writer.finish())
 }

@@ -2,68 +2,119 @@ use super::*;
 use hex::FromHex;
 use ledger_bytes::{Bad, Digest};
 use std::test::Fail;
+use time_peg::TimeMark;
 
 // The proof of journal 0 in a ledger of one journal.
 const FIRST: &str =
     "010000000000000001000000000000000064915354a6547b1f887e596e872fd13b2abdc860729da9fe31180a81726cf4a2000000";
 
-// The proof, without its bounds, of journal 208 in a ledger of 210, with the four digests of its path.
-const LATER: &str =
-    "0100000000000000d200000000000000d043c868188439081f8097a609242890843b8e7c66b70799782ac3bbd76eb4b1fe04980512f4a0c078877f3074db9aeb9fd3e9b7cfe91aa31eff2dfc501b6e3ab3def4f1b8bc551788a5211f55aed5ff91c44b2f57916a1bc520d3a1411f4e5b76ad7e2630a4115fb5d58b472ded96d8afe57c0f9046bd55c7c134fb345975c2f1814e3e7f15b67191a1ae0f91425aeddfe349194c00265f9614be273125d0822abc0000";
+// The proof of journal 1 in a ledger of three, whose journal 2 is a time journal.
+const UPPER: &str =
+    "0100000000000000030000000000000001e17cd0a38398533f50004ec57f5dd3837680b6b072223c6ffc9e2bfa0d0e723c026491\
+    5354a6547b1f887e596e872fd13b2abdc860729da9fe31180a81726cf4a2c346a4840bce4f8de12d73b3fda6bb93c7f113f7a07e\
+    e5b4951f1393dcc51ed500010000000000000002000000000000000000000000000003e88b3b30a051bca9ec8bacbfaf3a351389\
+    842d99f1769a4959994077e9ec8d875789713d47487c9be9875bd8f6a471f021f10440bea34709c459dce3a17031395101c346a4\
+    840bce4f8de12d73b3fda6bb93c7f113f7a07ee5b4951f1393dcc51ed5000000000000000100";
+
+// The proof of journal 208 in a ledger of 210 with a time journal in front.
+const LOWER: &str =
+    "0100000000000000d200000000000000d043c868188439081f8097a609242890843b8e7c66b70799782ac3bbd76eb4b1fe049805\
+    12f4a0c078877f3074db9aeb9fd3e9b7cfe91aa31eff2dfc501b6e3ab3def4f1b8bc551788a5211f55aed5ff91c44b2f57916a1b\
+    c520d3a1411f4e5b76ad7e2630a4115fb5d58b472ded96d8afe57c0f9046bd55c7c134fb345975c2f1814e3e7f15b67191a1ae0f\
+    91425aeddfe349194c00265f9614be273125d0822abc01010300000000000000cf00000000000000000000000000000000000000\
+    000000000000000000000000000000000000000000000000000000000000000000000000030000000000000fa02423d6826678f8\
+    d6b3562657374416927b2db72b970edd53531de591dfd0764300000000dbc1b4c900ffe48d575b5da5c638040125f65db0fe3e24\
+    494b76ea986457d98601ba4719c80b6fe911b091a7c05124b64eeece964e09c058ef8f9805daca546b078f7c5fdba95c527f7753\
+    fe2d09beb88fcce10ba247d935bbbd67b208494ea9fac02c1a2b3a524ff346535c34761bd6498d75bffe74a852f233ae5dd95ce2\
+    5bb5663e90487e8558eb9e97f5e49ebfc96ba4edfa0a5279ecddeeb241d71b7603d0caad3a034f4482f35d0398bafdf0cfb931ef\
+    8cfad3e178c69e109e1ab14fb4ff6c4750fa24026ccba586ffe0588cdd2305d98f84b1b5e86478e739b7f0e6251a7e2630a4115f\
+    b5d58b472ded96d8afe57c0f9046bd55c7c134fb345975c2f1814e3e7f15b67191a1ae0f91425aeddfe349194c00265f9614be27\
+    3125d0822abc112fbf4c05234d34e9f560759df1ce8f28958021fd2c91b8593a6eb3db27420d088f7c5fdba95c527f7753fe2d09\
+    beb88fcce10ba247d935bbbd67b208494ea9fa9eed96072802986e244759e8e421db95c7626d0bc5e0e92e4722773de6d7cf53c0\
+    2c1a2b3a524ff346535c34761bd6498d75bffe74a852f233ae5dd95ce25bb5663e90487e8558eb9e97f5e49ebfc96ba4edfa0a52\
+    79ecddeeb241d71b7603d0caad3a034f4482f35d0398bafdf0cfb931ef8cfad3e178c69e109e1ab14fb4ff6c4750fa24026ccba5\
+    86ffe0588cdd2305d98f84b1b5e86478e739b7f0e6251a7e2630a4115fb5d58b472ded96d8afe57c0f9046bd55c7c134fb345975\
+    c2f1814e3e7f15b67191a1ae0f91425aeddfe349194c00265f9614be273125d0822abc00000000000000000402598787c3cd66c3\
+    37d302917ba7a409532af9b489ca6e943126a231ca4f799e403499e8778deec53303d8e1ce9df02d6341c171b63e3c4fb7bd66a6\
+    2d5c488658";
+
+// The proof of journal 200 in that ledger, between two time journals.
+const BOTH: &str =
+    "0100000000000000d200000000000000c8e4b77c5bb4918f87e7a42dcb29d44f88e356939f3c3de26cac3dad8ce5a45d76072021\
+    e686e16bbce64806a8cbc18a20c9b548db78c4b913c82b5b90debfbc2b586415af3a4071feadff45a357602681e501d5168f4f39\
+    ea72281b351ee55233986c6d5f2579210566ea76d659cc33ddbafc024c293cfe3f08fc675a8f739ff3bdcaad3a034f4482f35d03\
+    98bafdf0cfb931ef8cfad3e178c69e109e1ab14fb4ff6c4750fa24026ccba586ffe0588cdd2305d98f84b1b5e86478e739b7f0e6\
+    251a7e2630a4115fb5d58b472ded96d8afe57c0f9046bd55c7c134fb345975c2f1814e3e7f15b67191a1ae0f91425aeddfe34919\
+    4c00265f9614be273125d0822abc010103000000000000009c000000000000000000000000000000000000000000000000000000\
+    00000000000000000000000000000000000000000000000000000000020000000000000bb8fccc7e658bb4e3f342a78defe590c2\
+    f043ff9d10ba4de878d9a77b45cd5c870b00000000dbc1b4c900ffe48d575b5da5c638040125f65db0fe3e24494b76ea986457d9\
+    8601ba4719c80b6fe911b091a7c05124b64eeece964e09c058ef8f9805daca546b08154e926f0a88d095449ec839be383e802c4c\
+    3540b199f3c1b56390a989c5dc58fe8f5c8de4ff7cf367eb4d970e9c30edf35f508854c763d60b79ce737ad815bc45e148ef4737\
+    5461cb8a37c18013d6183edc6500d23def304fb3153618b6b4b575eafae3eec9a2edbd652b5e6880f08dfc3a6dc7b043473b2803\
+    df4ccb91afa44b982387b8aceca205a342a2f1d3f026cc6872056d26c3df77f6eb7e238b29516e9bc80ac17ddadb16623de3cb7d\
+    390dc0a5a8cec1fbadf11f73f8cad12b09771155df9f3ab43a35645b926dce7d0444a42cd6e6c8862acb23466baea9f167fd4e3e\
+    7f15b67191a1ae0f91425aeddfe349194c00265f9614be273125d0822abc485d8510098ee204c59ca1f18f47552312b4026b9897\
+    75bd44d392b3ef84be930745e148ef47375461cb8a37c18013d6183edc6500d23def304fb3153618b6b4b5511415d05abd4b8711\
+    89f2d76bfc2ceef30de4fcca3e73431d7c821056c5f6ea75eafae3eec9a2edbd652b5e6880f08dfc3a6dc7b043473b2803df4ccb\
+    91afa44b982387b8aceca205a342a2f1d3f026cc6872056d26c3df77f6eb7e238b29516e9bc80ac17ddadb16623de3cb7d390dc0\
+    a5a8cec1fbadf11f73f8cad12b09771155df9f3ab43a35645b926dce7d0444a42cd6e6c8862acb23466baea9f167fd4e3e7f15b6\
+    7191a1ae0f91425aeddfe349194c00265f9614be273125d0822abc0100000000000000cf00000000000000030000000000000fa0\
+    2423d6826678f8d6b3562657374416927b2db72b970edd53531de591dfd07643112fbf4c05234d34e9f560759df1ce8f28958021\
+    fd2c91b8593a6eb3db27420d088f7c5fdba95c527f7753fe2d09beb88fcce10ba247d935bbbd67b208494ea9fa9eed9607280298\
+    6e244759e8e421db95c7626d0bc5e0e92e4722773de6d7cf53c02c1a2b3a524ff346535c34761bd6498d75bffe74a852f233ae5d\
+    d95ce25bb5663e90487e8558eb9e97f5e49ebfc96ba4edfa0a5279ecddeeb241d71b7603d0caad3a034f4482f35d0398bafdf0cf\
+    b931ef8cfad3e178c69e109e1ab14fb4ff6c4750fa24026ccba586ffe0588cdd2305d98f84b1b5e86478e739b7f0e6251a7e2630\
+    a4115fb5d58b472ded96d8afe57c0f9046bd55c7c134fb345975c2f1814e3e7f15b67191a1ae0f91425aeddfe349194c00265f96\
+    14be273125d0822abc000000000000000402e6b75609a8d74e8bf3c831aa2a5d3d5f07fc7af200544f1a0c38af088c36037e3499\
+    e8778deec53303d8e1ce9df02d6341c171b63e3c4fb7bd66a62d5c48865802598787c3cd66c337d302917ba7a409532af9b489ca\
+    6e943126a231ca4f799e403499e8778deec53303d8e1ce9df02d6341c171b63e3c4fb7bd66a62d5c488658";
 
 const FIRST_LEAF: &str = "64915354a6547b1f887e596e872fd13b2abdc860729da9fe31180a81726cf4a2";
 
-const LATER_LEAF: &str = "43c868188439081f8097a609242890843b8e7c66b70799782ac3bbd76eb4b1fe";
+const UPPER_LEAF: &str = "e17cd0a38398533f50004ec57f5dd3837680b6b072223c6ffc9e2bfa0d0e723c";
+
+const LOWER_LEAF: &str = "43c868188439081f8097a609242890843b8e7c66b70799782ac3bbd76eb4b1fe";
+
+const BOTH_LEAF: &str = "e4b77c5bb4918f87e7a42dcb29d44f88e356939f3c3de26cac3dad8ce5a45d76";
 
 fn digest(text: &str) -> Result<Digest, hex::FromHexError> {
     Ok(Digest(<[u8; 32]>::from_hex(text)?))
 }
 
+fn mark(jsn: u64, index: u64, time: u64) -> Option<TimeMark> {
+    Some(TimeMark { jsn, index, time })
+}
+
 #[test]
 fn reads_what_it_spells(rt: HostRuntime) -> Result<(), Fail> {
-    for (text, size, n, leaf, count) in [
-        (FIRST, 1, 0, FIRST_LEAF, 0),
-        (LATER, 210, 208, LATER_LEAF, 4),
+    for (text, n, leaf, lo, hi) in [
+        (FIRST, 0, FIRST_LEAF, None, None),
+        (UPPER, 1, UPPER_LEAF, None, mark(2, 0, 1000)),
+        (LOWER, 208, LOWER_LEAF, mark(207, 3, 4000), None),
+        (BOTH, 200, BOTH_LEAF, mark(156, 2, 3000), mark(207, 3, 4000)),
     ] {
         let bytes = hex::decode(rt.alloc(), text)?;
         let proof = Proof::decode(bytes.as_slice()).map_err(|_| "not read")?;
-        assert_eq!(rt; proof.size, size);
-        assert_eq!(rt; proof.path.len(), 32 * count);
-        let claim = Claim {
-            n,
-            leaf: digest(leaf)?,
-            lo: None,
-            hi: None,
-        };
-        assert_eq!(rt; proof.claim(), claim);
-        let whole = proof.path.len() % 32 == 0 && proof.path.len() <= 8140;
-        assert!(rt; whole);
+        let leaf = digest(leaf)?;
+        assert_eq!(rt; proof.claim(), Claim { n, leaf, lo, hi });
         assert_eq!(rt; proof.encode(rt.alloc())?.as_slice(), bytes.as_slice());
-        for end in 0..bytes.len() {
-            assert_eq!(rt;
-                Proof::decode(&bytes[..end]).err(),
-                Some(Bad::Short { at: end as u64 })
-            );
-        }
     }
     Ok(())
 }
 
 #[test]
 fn tells_the_first_break(rt: HostRuntime) -> Result<(), Fail> {
-    let mut bytes = hex::decode(rt.alloc(), LATER)?;
+    let mut bytes = hex::decode(rt.alloc(), BOTH)?;
     bytes.resize(8193, 0)?;
     // A byte that is put at a place, the length that is read, and what breaks.
     for (place, byte, len, bad) in [
-        (0, 2, 0, Some(Bad::Short { at: 0 })),
         (0, 2, 1, Some(Bad::BadFixedField { at: 0 })),
-        (49, 5, 180, Some(Bad::Short { at: 180 })),
-        (49, 3, 180, Some(Bad::BadFixedField { at: 146 })),
-        (178, 2, 180, Some(Bad::BadFixedField { at: 178 })),
-        (179, 2, 180, Some(Bad::BadFixedField { at: 179 })),
-        (179, 0, 181, Some(Bad::Trailing { at: 180 })),
-        (49, 254, 8180, None),
-        (49, 255, 8192, Some(Bad::Short { at: 8192 })),
+        (274, 2, 1447, Some(Bad::BadFixedField { at: 274 })),
+        (276, 1, 1447, Some(Bad::BadFixedField { at: 275 })),
+        (276, 6, 300, Some(Bad::BadFixedField { at: 275 })),
+        (276, 3, 300, Some(Bad::Short { at: 300 })),
+        (274, 1, 1447, None),
+        (274, 1, 1448, Some(Bad::Trailing { at: 1447 })),
         (0, 2, 8193, Some(Bad::TooLong)),
     ] {
         assert!(rt; place < bytes.len());

@@ -1,13 +1,19 @@
 //! Times that a notary tells, and the marks that they leave in a ledger.
 #![tactic(auto)]
 
-/// A time journal, which says what time it was when it was placed.
-#[derive(Clone, Copy, Debug, PartialEq, Eq)]
-pub struct TimeMark {
-    /// The time journal's number in the ledger.
-    pub jsn: u64,
-    /// The index of its entry in the notary's list, from 0.
-    pub index: u64,
-    /// The notary's time, in milliseconds.
-    pub time: u64,
-}
+mod entry;
+mod filling;
+mod index;
+mod laws;
+mod mark;
+mod notary;
+
+pub use entry::{ENTRY_LEN, entry_bytes, peg_of};
+pub use index::TimeIndex;
+pub use journal_record::Stamp;
+pub use laws::{bounds_are_nearest, lists_grow};
+pub use mark::TimeMark;
+pub use notary::{Notary, NotaryErr};
+
+#[cfg(test)]
+mod tests;

@@ -42,4 +42,4 @@ loop-line-preserved g c =
     let text = answers_line g.H.TreeHash.of c.loop-line.heads (c.loop-line.number + 1) _ _ _ c.in-Ok-Some.line c.as_slice-in-loop-line.ensures.value c.in-Ok.ensures.text c.as_slice.ensures in
     sofar_more _ _ _ _ _ c.loop-line.lines _ e.0 c.in-Ok-Some.line c.loop-line.heads _ c.loop-line.number c.loop-line.invariant e.1 e.2
     (subst (Appends _ _) text c.in-Ok-write_all.ensures.ok) c.write_all.ensures.later c.write_all.ensures.idle_later
-    (c.in-Ok.ensures.heads ∙ ap (λ line. trust_after c.loop-line.heads line) c.as_slice.ensures)
+    (c.in-Ok.ensures.heads ∙ ap (λ line. trust_after g.H.TreeHash.of c.loop-line.heads line) c.as_slice.ensures)

@@ -1,5 +1,5 @@
 use Rattle.std.proofs.Common.{◌∙◌, arith}
-use Rattle.proof_codec.proofs.Laws.{proof_of_found, proof_of_only}
+use Rattle.proof_codec.proofs.Wholes.{proof_of_found, proof_of_only}
 use Rattle.proof_codec.proofs.Breaks.{breaks_of, proof_of_cut, proof_of_trailing, proof_of_version, proof_of_flag}
 use Rattle.proof_codec.proofs.proof.Proof.decode.Goals as goal
 
@@ -22,4 +22,4 @@ pub returns-clause-version : goal.returns-clause-version
 returns-clause-version c = λ version rest other room e. c.read.ensures ∙ proof_of_version c.args.bytes.now version rest other room e
 
 pub returns-clause-flag : goal.returns-clause-flag
-returns-clause-flag c = λ p at flag rest is_proof low high other room e. c.read.ensures ∙ proof_of_flag c.args.bytes.now p at flag rest is_proof low high other room e
+returns-clause-flag c = λ p at flag rest is_proof place high room e. c.read.ensures ∙ proof_of_flag c.args.bytes.now p at flag rest is_proof place high room e

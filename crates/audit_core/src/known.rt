@@ -1,0 +1,9 @@
+use ledger_bytes::Digest;
+
+/// What is known of a ledger at one size.
+#[derive(Clone, Copy, Debug, PartialEq, Eq)]
+pub(crate) struct KnownLedger {
+    pub(crate) id: Digest,
+    /// The root of its tree.
+    pub(crate) root: Digest,
+}

@@ -1,0 +1,57 @@
+-- A notary's list: its entries, each of 72 bytes, and how a stamp makes it longer.
+use Rattle.std.specs.Prelude.{◌≡◌, ℕ, ◌+◌, ◌-◌, ◌<◌, ◌≤◌, ◌^◌, ◌⊎◌, min, List, [], ◌∷◌, ◌++◌, length, take, Result, Ok, Err, ⊤}
+use Rattle.std.specs.List.{AllByRecursion}
+use Rattle.std.specs.Int.{w64, to_be_bytes, from_be_bytes}
+use Rattle.ledger_bytes.specs.Tags.{byte_of}
+use Rattle.ledger_bytes.specs.declared.tag.Tag.TheVariants as tag
+use Rattle.journal_record.specs.declared.rules.TheConstants.{NOTARY_LIMIT}
+use Rattle.journal_record.specs.declared.stamp.Stamp.{Stamp}
+use Rattle.time_peg.specs.declared.notary.NotaryErr.{NotaryErr}
+use Rattle.time_peg.specs.declared.notary.NotaryErr.TheVariants.{Failed, Full, NoMemory}
+
+-- what is hashed to a peg: the tag, the ledger's id, the number of journals and the root over them
+abbrev pub peg_string : List ℕ → ℕ → List ℕ → List ℕ
+peg_string id m root = byte_of tag.Peg ∷ (id ++ to_be_bytes w64 m ++ root)
+
+-- the bytes of an entry: its time, the peg and the salt
+abbrev pub entry_of : ℕ → List ℕ → List ℕ → List ℕ
+entry_of time peg salt = to_be_bytes w64 time ++ (peg ++ salt)
+
+-- the time of an entry
+unfoldable pub time_in : List ℕ → ℕ
+time_in entry = from_be_bytes w64 (take 8 entry)
+
+-- the time of the last entry, or the least time there may be
+abbrev pub last_time : ℕ → List (List ℕ) → ℕ
+last_time least [] = least
+last_time least (e ∷ es) = last_time (time_in e) es
+
+-- times never fall, and none is below the least
+abbrev pub NeverFalls : ℕ → List (List ℕ) → Type 0
+NeverFalls least [] = ⊤
+NeverFalls least (e ∷ es) = (least ≤ time_in e) × NeverFalls (time_in e) es
+
+-- a list that a notary may keep
+pub record IsList (es : List (List ℕ)) : Type 0 where
+  pub few : length es ≤ NOTARY_LIMIT
+  pub widths : AllByRecursion (λ e. length e ≡ 72) es
+  pub times : NeverFalls 0 es
+
+-- a list has one entry more, with this peg
+abbrev pub HasOneMore : List ℕ → List (List ℕ) → List (List ℕ) → Type 0
+HasOneMore peg old new = (time : ℕ) × (salt : List ℕ) × (time < 2 ^ 64) × (new ≡ old ++ entry_of time peg salt ∷ [])
+
+-- what a stamp with this peg does to the list, and what it answers: an entry more, whose place, time and salt are told;
+-- after a failure perhaps one of which nothing is told
+abbrev pub IsStamped : List ℕ → List (List ℕ) → List (List ℕ) → Result Stamp NotaryErr → Type 0
+IsStamped peg old new (Ok s) = (s.index ≡ length old) × (new ≡ old ++ entry_of s.time peg s.salt.0 ∷ [])
+IsStamped peg old new (Err Failed) = (new ≡ old) ⊎ HasOneMore peg old new
+IsStamped peg old new (Err Full) = (new ≡ old) × (length old ≡ NOTARY_LIMIT)
+IsStamped peg old new (Err NoMemory) = new ≡ old
+
+-- the count of failed calls rises by one exactly where a failure is answered; at the end of its type it stays
+abbrev pub Counts : {T : Type 0} → Result T NotaryErr → ℕ → ℕ → Type 0
+Counts (Ok x) before now = now ≡ before
+Counts (Err Failed) before now = now ≡ min (before + 1) (2 ^ 64 - 1)
+Counts (Err Full) before now = now ≡ before
+Counts (Err NoMemory) before now = now ≡ before
