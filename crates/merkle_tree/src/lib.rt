@@ -1,19 +1,24 @@
 //! The hash tree of RFC 6962, section 2.1, computed over flat leaves or over the digests of leaves, by any
-//! `TreeHash`, with the paths from its leaves to the root and the proofs that one tree is the beginning of another.
-//! Only `path` and `proof` take memory.
+//! `TreeHash`, with the paths from its leaves to the root and the proofs that one tree is the beginning of another, and
+//! with the two strings of one digest that a false path or proof shows. Only `path` and `proof` take memory.
 #![tactic(auto)]
 
+mod clash;
+mod clashes;
 mod head;
 mod nodes;
 mod paths;
+mod pres;
 mod proofs;
 mod roots;
 mod splits;
 #[cfg(test)]
 mod tests;
 
+pub use clash::{Clash, Pre};
+pub use clashes::{clash_path, clash_proof};
 pub use head::Head;
-pub use nodes::leaf_of;
+pub use nodes::{leaf_of, node_of};
 pub use paths::{fold_path, path};
 pub use proofs::{fold_proof, proof};
 pub use roots::{mth, root_of};

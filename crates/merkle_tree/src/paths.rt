@@ -17,7 +17,8 @@ pub fn path<H: TreeHash>(
     n: usize,
 ) -> Result<Vec<Digest>, NoMemory>
     requires { n < length leaves.now }
-    ensures { IfOk result (λ digests. map (λ d. d.0) digests.items ≡ tree.path H.of n (map (λ d. d.0) leaves.now)) }
+    ensures { IfOk result (λ digests. map (λ d. d.0) digests.items
+        ≡ tree.path H.of n (map (λ d. d.0) leaves.now)) }
 {
     let mut digests = Vec::new(alloc);
     add_path::<H>(&mut digests, leaves, n)?;
@@ -65,7 +66,12 @@ pub fn fold_path<H: TreeHash>(leaf: &Digest, n: u64, size: u64, path: &[u8]) -> 
 }
 
 // The same for a leaf that is there and whole digests.
-fn fold_below<H: TreeHash>(leaf: &Digest, n: u64, size: u64, path: &[u8]) -> Option<Digest>
+pub(crate) fn fold_below<H: TreeHash>(
+    leaf: &Digest,
+    n: u64,
+    size: u64,
+    path: &[u8],
+) -> Option<Digest>
     requires within { n < size }
     requires whole { length path.now % 32 ≡ 0 }
     ensures { option_map (λ d. d.0) result ≡ tree.fold H.of leaf.now.0 n size (cut 32 path.now) }

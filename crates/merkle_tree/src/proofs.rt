@@ -83,7 +83,7 @@ fn folded<H: TreeHash>(m: u64, old: &Digest, size: u64, proof: &[u8]) -> Option<
 }
 
 // The root of the first `m` leaves and that of all, which whole digests give.
-fn roots_below<H: TreeHash>(
+pub(crate) fn roots_below<H: TreeHash>(
     m: u64,
     size: u64,
     known: bool,

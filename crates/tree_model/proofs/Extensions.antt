@@ -23,7 +23,7 @@ module _ (k n : ℕ) (s : IsSplit k n) where
 
 module _ (hash : Hash) (known : Bool) where
   -- a level that is not needed changes nothing
-  sub_at_same : (h m : ℕ) (ds : List (List ℕ)) → length ds ≤ 2 ^ h → sub_at hash (suc h) m known ds ≡ sub_at hash h m known ds
+  pub sub_at_same : (h m : ℕ) (ds : List (List ℕ)) → length ds ≤ 2 ^ h → sub_at hash (suc h) m known ds ≡ sub_at hash h m known ds
   unfolding sub_at
   sub_at_same h m ds fits = rw (le-leb (length ds) (2 ^ h) fits) refl
 

@@ -49,7 +49,7 @@ module _ (hash : Hash) (d : List ℕ) where
   ]
 
   -- the fold at any number of levels that hold the leaves, along the path from the root down
-  fold_enough : (h n size : ℕ) (p : List (List ℕ)) → n < size → size ≤ 2 ^ h → fold_at hash h d n size (reverse p) ≡ fold hash d n size p
+  pub fold_enough : (h n size : ℕ) (p : List (List ℕ)) → n < size → size ≤ 2 ^ h → fold_at hash h d n size (reverse p) ≡ fold hash d n size p
   unfolding fold
   fold_enough h n size p within fits = rw (lt-ltb n size within) (elim (cases_lt h size) [
     | inl below ↦ sym (fold_up size h n size (reverse p) (omega arith) fits)

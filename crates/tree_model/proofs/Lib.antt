@@ -5,3 +5,12 @@ pub mod Paths
 pub mod Folds
 pub mod Extensions
 pub mod ProofFolds
+pub mod PathClashes
+pub mod ProofClashes
+pub mod PlacedPieces
+pub mod Halves
+pub mod Rising
+pub mod Peaks
+pub mod ProofHalves
+pub mod RootsFrom
+pub mod PeakHalves

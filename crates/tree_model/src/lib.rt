@@ -1,13 +1,23 @@
 //! The hash tree of RFC 6962, section 2.1: its definitions over any hash function, of roots (`specs/Tree.antt`),
 //! of inclusion paths (`specs/Path.antt`) and of proofs that one tree is the beginning of another
-//! (`specs/Extension.antt`), and the laws by which a reader compares them with the RFC's text.
+//! (`specs/Extension.antt`), the laws by which a reader compares them with the RFC's text, and the two strings with
+//! one digest that a false path or proof shows (`specs/Clash.antt`). The same tree from the leaves up, level by level
+//! (`specs/Halves.antt`), and its peaks (`specs/Peaks.antt`) serve trees that grow.
 #![tactic(auto)]
+
+mod clashes;
+mod growing;
 
 ghost use Rattle.std.specs.Prelude.{◌≡◌, ℕ, Bool, true, false, ◌-◌, ◌*◌, ◌%◌, ◌^◌, ◌<◌, ◌≤◌, ◌↔◌, List, [], ◌∷◌, ◌++◌, length, take, drop, get_or, All, Some, None, option_map, IsSome};
 ghost use Rattle.std.specs.List.{concat};
 ghost use Rattle.tree_model.specs.Tree.{Hash, node, root, mth, IsSplit, cut};
 ghost use Rattle.tree_model.specs.Path.{path, path_length, fold, fold_bytes};
 ghost use Rattle.tree_model.specs.Extension.{sub, proof, sub_length, proof_length, ext, old_root, fold_proof, fold_proof_bytes};
+
+pub use clashes::{
+    path_clash_is_first, paths_show_clashes, proof_clash_is_first, proofs_show_clashes,
+};
+pub use growing::{halves_give_the_tree, peaks_are_roots, peaks_give_roots};
 
 /// The definition of the Merkle tree hash in RFC 6962, section 2.1, case by case: of an empty list, of one
 /// leaf, and of more leaves, which split at the largest power of two below their number. There is one such
@@ -32,7 +42,8 @@ pub fn is_standard_root()
 /// What it is to cut flat bytes into pieces of one width: each piece has the width, and where nothing is
 /// left over the pieces in a row are the bytes. `exact` says that no other list of pieces is so.
 pub fn is_plain_cut()
-    ensures width { (width : ℕ) (bytes : List ℕ) → All (λ piece. length piece ≡ width) (cut width bytes) }
+    ensures width { (width : ℕ) (bytes : List ℕ)
+        → All (λ piece. length piece ≡ width) (cut width bytes) }
     ensures whole { (width : ℕ) (bytes : List ℕ) → length bytes % width ≡ 0
         → concat (cut width bytes) ≡ bytes }
     ensures exact { (width : ℕ) (pieces : List (List ℕ)) → 0 < width
@@ -44,10 +55,13 @@ pub fn is_plain_cut()
 /// root of the other part; leaves behind the split are counted from it.
 pub fn is_standard_path()
     ensures one { (hash : Hash) (digest : List ℕ) → path hash 0 (digest ∷ []) ≡ [] }
-    ensures left { (hash : Hash) (k n : ℕ) (digests : List (List ℕ)) → IsSplit k (length digests) → n < k
+    ensures left { (hash : Hash) (k n : ℕ) (digests : List (List ℕ)) → IsSplit k (length digests)
+        → n < k
         → path hash n digests ≡ path hash n (take k digests) ++ root hash (drop k digests) ∷ [] }
-    ensures right { (hash : Hash) (k n : ℕ) (digests : List (List ℕ)) → IsSplit k (length digests) → k ≤ n
-        → path hash n digests ≡ path hash (n - k) (drop k digests) ++ root hash (take k digests) ∷ [] }
+    ensures right { (hash : Hash) (k n : ℕ) (digests : List (List ℕ)) → IsSplit k (length digests)
+        → k ≤ n
+        → path hash n digests ≡ path hash (n - k) (drop k digests) ++ root hash (take k digests)
+        ∷ [] }
 
     // How many digests that is, and that 2 ^ h leaves need h at most.
     ensures count { (hash : Hash) (n : ℕ) (digests : List (List ℕ))
@@ -60,15 +74,19 @@ pub fn is_standard_path()
 /// then stands beside the result, on the other side. Nothing else has a fold.
 pub fn is_standard_fold()
     ensures one { (hash : Hash) (digest : List ℕ) → fold hash digest 0 1 [] ≡ Some digest }
-    ensures left { (hash : Hash) (digest side : List ℕ) (k n size : ℕ) (rest : List (List ℕ)) → IsSplit k size
+    ensures left { (hash : Hash) (digest side : List ℕ) (k n size : ℕ) (rest : List (List ℕ))
+        → IsSplit k size
         → n < k → fold hash digest n size (rest ++ side ∷ [])
         ≡ option_map (λ root. node hash root side) (fold hash digest n k rest) }
-    ensures right { (hash : Hash) (digest side : List ℕ) (k n size : ℕ) (rest : List (List ℕ)) → IsSplit k size
+    ensures right { (hash : Hash) (digest side : List ℕ) (k n size : ℕ) (rest : List (List ℕ))
+        → IsSplit k size
         → k ≤ n → fold hash digest n size (rest ++ side ∷ [])
         ≡ option_map (λ root. node hash side root) (fold hash digest (n - k) (size - k) rest) }
-    ensures outside { (hash : Hash) (digest : List ℕ) (n size : ℕ) (digests : List (List ℕ)) → size ≤ n
+    ensures outside { (hash : Hash) (digest : List ℕ) (n size : ℕ) (digests : List (List ℕ))
+        → size ≤ n
         → fold hash digest n size digests ≡ None }
-    ensures missing { (hash : Hash) (digest : List ℕ) (n size : ℕ) → 1 < size → fold hash digest n size [] ≡ None }
+    ensures missing { (hash : Hash) (digest : List ℕ) (n size : ℕ) → 1 < size
+        → fold hash digest n size [] ≡ None }
     ensures over { (hash : Hash) (digest side : List ℕ) (rest : List (List ℕ))
         → fold hash digest 0 1 (rest ++ side ∷ []) ≡ None }
 
@@ -84,11 +102,14 @@ pub fn is_standard_fold()
 /// and as many digests as its path has.
 pub fn paths_give_roots()
     ensures root { (hash : Hash) (n : ℕ) (digests : List (List ℕ)) → n < length digests
-        → fold hash (get_or digests n []) n (length digests) (path hash n digests) ≡ Some (root hash digests) }
+        → fold hash (get_or digests n []) n (length digests) (path hash n digests)
+        ≡ Some (root hash digests) }
     ensures there { (hash : Hash) (digest : List ℕ) (n size : ℕ) (digests : List (List ℕ))
-        → IsSome (fold hash digest n size digests) ↔ ((n < size) × (length digests ≡ path_length n size)) }
+        → IsSome (fold hash digest n size digests) ↔ ((n < size)
+        × (length digests ≡ path_length n size)) }
     ensures there_flat { (hash : Hash) (digest : List ℕ) (n size : ℕ) (bytes : List ℕ)
-        → IsSome (fold_bytes hash digest n size bytes) ↔ ((n < size) × (length bytes ≡ 32 * path_length n size)) }
+        → IsSome (fold_bytes hash digest n size bytes) ↔ ((n < size)
+        × (length bytes ≡ 32 * path_length n size)) }
 {}
 
 /// The proof of RFC 6962, section 2.1.2, that the tree over the first m leaves is the beginning of the tree over
@@ -124,16 +145,19 @@ pub fn is_standard_extension()
         → ext hash size size true old [] ≡ Some (old, old) }
     ensures all_unknown { (hash : Hash) (size : ℕ) (old digest : List ℕ) → 0 < size
         → ext hash size size false old (digest ∷ []) ≡ Some (digest, digest) }
-    ensures left { (hash : Hash) (k m size : ℕ) (known : Bool) (old side : List ℕ) (rest : List (List ℕ))
+    ensures left { (hash : Hash) (k m size : ℕ) (known : Bool) (old side : List ℕ) (rest : List
+        (List ℕ))
         → IsSplit k size → m ≤ k → ext hash m size known old (rest ++ side ∷ [])
         ≡ option_map (λ roots. (roots.0, node hash roots.1 side)) (ext hash m k known old rest) }
-    ensures right { (hash : Hash) (k m size : ℕ) (known : Bool) (old side : List ℕ) (rest : List (List ℕ))
+    ensures right { (hash : Hash) (k m size : ℕ) (known : Bool) (old side : List ℕ) (rest : List
+        (List ℕ))
         → IsSplit k size → k < m → m < size → ext hash m size known old (rest ++ side ∷ [])
         ≡ option_map (λ roots. (node hash side roots.0, node hash side roots.1))
         (ext hash (m - k) (size - k) false old rest) }
 
     // There are roots exactly where there are leaves of both trees, and as many digests as a proof has.
-    ensures there { (hash : Hash) (m size : ℕ) (known : Bool) (old : List ℕ) (digests : List (List ℕ))
+    ensures there { (hash : Hash) (m size : ℕ) (known : Bool) (old : List ℕ) (digests : List
+        (List ℕ))
         → IsSome (ext hash m size known old digests)
         ↔ ((0 < m) × (m ≤ size) × (length digests ≡ sub_length m known size)) }
 

@@ -1,0 +1,9 @@
+pub mod Keeping
+pub mod Placing
+pub mod Climbing
+pub mod Growing
+pub mod Forgetting
+pub mod Peaking
+pub mod Agreeing
+pub mod Over
+pub mod Counting

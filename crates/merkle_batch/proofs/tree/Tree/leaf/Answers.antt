@@ -1,0 +1,15 @@
+use Rattle.std.proofs.Common.{arith, ap, ◌∙◌, ◌+◌, subst, sym}
+use Rattle.merkle_batch.specs.Rows.{Keeps}
+use Rattle.merkle_batch.proofs.Keeping.{has_nodes, stands_keeps}
+use Rattle.merkle_batch.proofs.tree.Tree.leaf.Goals as goal
+
+pub leaf_at-requires-clause-there : goal.leaf_at-requires-clause-there
+leaf_at-requires-clause-there g c =
+    rw c.deref.ensures.value (has_nodes c.self.inside.floor c.self.inside.size (c.args.n + 1) c.self.inside.rows.items (omega (arith, c.in_ok-check_leaf.ensures.within.1)) c.self.invariant.1)
+
+pub returns-clause-leaf : goal.returns-clause-leaf
+returns-clause-leaf g c ds stands =
+    let hash = g.H.TreeHash.of in
+    let view = c.self.view_is in
+    let kept = stands_keeps hash c.args.self.now ds stands in
+    c.leaf_at.ensures hash ds (subst (λ t. Keeps hash c.self.inside.floor t ds) (sym (ap (λ t. t.rows) view) ∙ sym c.deref.ensures.value) (subst (λ p. Keeps hash p c.args.self.now.rows ds) (sym (ap (λ t. t.floor) view)) kept))
