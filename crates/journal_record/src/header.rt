@@ -101,7 +101,8 @@ impl Header {
         // What is read keeps every rule and is spelled so, each byte of it.
         ensures found { IfOk result (λ h. IsHeader h × (bytes.now ≡ spelling h)) }
         // What keeps every rule and is spelled so is read.
-        ensures only { (h : HeaderRecord) → IsHeader h → HasWidths h → bytes.now ≡ spelling h → result ≡ Ok h }
+        ensures only { (h : HeaderRecord) → IsHeader h → HasWidths h → bytes.now ≡ spelling h
+            → result ≡ Ok h }
         // What is left of a header when its end is cut off is too short.
         ensures cut { (h : HeaderRecord) (k : ℕ) → IsHeader h → HasWidths h → k < 174
             → bytes.now ≡ take k (spelling h) → result ≡ Err (Bad.Short k) }

@@ -17,7 +17,8 @@ pub fn request_digest(
     content_len: u32,
     content_digest: &Digest,
 ) -> Digest
-    ensures { result.0 ≡ request_digest_of id.now.0 member clue.now.0 content_len content_digest.now.0 }
+    ensures { result.0 ≡ request_digest_of id.now.0 member clue.now.0 content_len
+        content_digest.now.0 }
 {
     let mut hasher = Sha::start(Tag::AppendRequest.byte());
     hasher.add(&id.0);
@@ -58,7 +59,8 @@ pub fn purge_request_digest(id: &Digest, point: u64, root: &Digest) -> Digest
 
 // The digest of a tag's byte, an identity, a place in that ledger and a digest.
 fn placed_digest(tag: Tag, id: &Digest, place: u64, digest: &Digest) -> Digest
-    ensures { result.0 ≡ sha256 (byte_of tag ∷ (id.now.0 ++ to_be_bytes w64 place ++ digest.now.0)) }
+    ensures { result.0 ≡ sha256 (byte_of tag ∷ (id.now.0 ++ to_be_bytes w64 place
+        ++ digest.now.0)) }
 {
     let mut hasher = Sha::start(tag.byte());
     hasher.add(&id.0);

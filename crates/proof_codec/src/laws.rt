@@ -5,8 +5,10 @@ ghost use Rattle.proof_codec.specs.Proofs.{ShownLower, ShownUpper, Shown, HasFie
 pub fn proofs_have_room()
     ensures len { (p : Shown) → HasFields p → length (spelling p) ≡ proof_len p }
     // In a ledger of 2^20 journals under a notary of as many entries a path has 20 digests.
-    ensures million { (p : Shown) (l : ShownLower) (u : ShownUpper) → HasFields p → p.lo ≡ Some l → p.hi ≡ Some u
-        → length p.path ≡ 32 * 20 → length l.path ≡ 32 * 20 → length l.ext ≡ 32 * 20 → length u.ext ≡ 32 * 20
+    ensures million { (p : Shown) (l : ShownLower) (u : ShownUpper) → HasFields p → p.lo ≡ Some l
+        → p.hi ≡ Some u
+        → length p.path ≡ 32 * 20 → length l.path ≡ 32 * 20 → length l.ext ≡ 32 * 20
+        → length u.ext ≡ 32 * 20
         → length p.lo_path ≡ 32 * 20 → length p.hi_path ≡ 32 * 20 → length (spelling p) ≡ 4199 }
     // In a ledger of 2^32 journals a path has at most 32 digests and an extension 33, and under a notary of 2^24 entries
     // a path has at most 24.

@@ -87,10 +87,12 @@ impl<'a> Proof<'a> {
         // No other error comes.
         ensures breaks { IfErr result IsBreak }
         // What is left of a proof when its end is cut off is too short.
-        ensures cut { (p : Shown) (k : ℕ) → IsProof p → k < length (spelling p) → bytes.now ≡ take k (spelling p)
+        ensures cut { (p : Shown) (k : ℕ) → IsProof p → k < length (spelling p)
+            → bytes.now ≡ take k (spelling p)
             → result ≡ Err (Bad.Short k) }
         // Bytes behind a proof are told by the place of the first.
-        ensures trailing { (p : Shown) (rest : List ℕ) → IsProof p → rest ≢ [] → length bytes.now ≤ 8192
+        ensures trailing { (p : Shown) (rest : List ℕ) → IsProof p → rest ≢ []
+            → length bytes.now ≤ 8192
             → bytes.now ≡ spelling p ++ rest → result ≡ Err (Bad.Trailing (length (spelling p))) }
         // Another version, whatever follows, is told at its place.
         ensures version { (version : ℕ) (rest : List ℕ) → version ≢ 1 → length bytes.now ≤ 8192
@@ -99,7 +101,8 @@ impl<'a> Proof<'a> {
         ensures flag { (p : Shown) (at flag : ℕ) (rest : List ℕ) → IsProof p
             → (at ≡ lower_place p) ⊎ (at ≡ upper_place p)
             → 1 < flag → length bytes.now ≤ 8192
-            → bytes.now ≡ take at (spelling p) ++ flag ∷ rest → result ≡ Err (Bad.BadFixedField at) }
+            → bytes.now ≡ take at (spelling p) ++ flag ∷ rest
+            → result ≡ Err (Bad.BadFixedField at) }
     {
         read(bytes)
     }

@@ -54,7 +54,8 @@ fn take_proof<'a>(reader: &mut FieldReader<'a>) -> Result<Proof<'a>, Bad>
 /// The ledger's size, the journal's number, its leaf and its path.
 #[tactic(auto, unfolding(crate::specs::Reading::front_at))]
 fn take_front<'a>(reader: &mut FieldReader<'a>) -> Result<(u64, u64, Digest, &'a [u8]), Bad>
-    ensures front { reading.Reads (λ x. (x.0, x.1, x.2, x.3.now)) result reader.new (reading.front_at reader.old) }
+    ensures front { reading.Reads (λ x. (x.0, x.1, x.2, x.3.now)) result reader.new
+        (reading.front_at reader.old) }
     ensures few { IfOk result (λ x. length x.3.now ≤ 8160) }
 {
     let version = reader.take_u8()?;

@@ -1,40 +1,53 @@
 -- The text of each reply.
-use Rattle.std.specs.Prelude.{ℕ, List, [], ◌∷◌, ◌++◌, codes, decimal, Option, Some, None}
+use Rattle.std.specs.Prelude.{ℕ, List, [], ◌∷◌, ◌++◌, codes, decimal, Option, Some, None, option_map}
+use Rattle.ledger_bytes.specs.Codes.{refusal_code}
 use Rattle.ledger_bytes.specs.declared.refusal.Refusal.{Refusal}
 use Rattle.ledger_bytes.specs.declared.refusal.Refusal.TheVariants.{BadVerb, BadField, BadLane, Damaged, UnknownMember, WrongKey, MissingApproval, ApprovalOrder, MemberNumber, MembersFull, NoJournal, Purged, NotData, NotTime, AlreadyOcculted, LeafDiffers, RootDiffers, NotaryFault, NotaryFull, Full, BadSize, CluesFull}
+use Rattle.journal_record.specs.declared.mark.TimeMark.{TimeMark}
 use Rattle.script_lines.specs.declared.reply.Reply.{Reply}
 use Rattle.script_lines.specs.declared.reply.Reply.TheVariants.{Placed, Whole, Occulted, Proof, Extension, Clue, Head, Refused}
 use Rattle.script_lines.specs.Words.{hex_of, hex_or_dash, list_text, mark_text, spaced, which_text}
 
--- a refusal's code and the fields that are printed behind it
+-- the fields that are printed behind a refusal's code
+abbrev pub refusal_fields : Refusal → List (List ℕ)
+refusal_fields BadVerb = []
+refusal_fields (BadField column) = decimal column ∷ []
+refusal_fields BadLane = []
+refusal_fields (Damaged kept found) = hex_of kept ∷ hex_of found ∷ []
+refusal_fields (UnknownMember member) = decimal member ∷ []
+refusal_fields (WrongKey member) = decimal member ∷ []
+refusal_fields (MissingApproval member) = decimal member ∷ []
+refusal_fields (ApprovalOrder at) = decimal at ∷ []
+refusal_fields (MemberNumber next) = decimal next ∷ []
+refusal_fields MembersFull = []
+refusal_fields (NoJournal size) = decimal size ∷ []
+refusal_fields (Purged point) = decimal point ∷ []
+refusal_fields (NotData kind) = decimal kind ∷ []
+refusal_fields (NotTime kind) = decimal kind ∷ []
+refusal_fields (AlreadyOcculted by) = decimal by ∷ []
+refusal_fields (LeafDiffers kept) = hex_of kept ∷ []
+refusal_fields (RootDiffers kept) = hex_of kept ∷ []
+refusal_fields NotaryFault = []
+refusal_fields NotaryFull = []
+refusal_fields (Full kept size) = decimal kept ∷ decimal size ∷ []
+refusal_fields (BadSize size) = decimal size ∷ []
+refusal_fields CluesFull = []
+
+-- the words that tell a refusal: its code, and its fields
 abbrev pub refusal_words : Refusal → List (List ℕ)
-refusal_words BadVerb = decimal 10 ∷ []
-refusal_words (BadField column) = decimal 11 ∷ decimal column ∷ []
-refusal_words BadLane = decimal 12 ∷ []
-refusal_words (Damaged kept found) = decimal 13 ∷ hex_of kept ∷ hex_of found ∷ []
-refusal_words (UnknownMember member) = decimal 14 ∷ decimal member ∷ []
-refusal_words (WrongKey member) = decimal 15 ∷ decimal member ∷ []
-refusal_words (MissingApproval member) = decimal 16 ∷ decimal member ∷ []
-refusal_words (ApprovalOrder at) = decimal 17 ∷ decimal at ∷ []
-refusal_words (MemberNumber next) = decimal 18 ∷ decimal next ∷ []
-refusal_words MembersFull = decimal 19 ∷ []
-refusal_words (NoJournal size) = decimal 20 ∷ decimal size ∷ []
-refusal_words (Purged point) = decimal 21 ∷ decimal point ∷ []
-refusal_words (NotData kind) = decimal 22 ∷ decimal kind ∷ []
-refusal_words (NotTime kind) = decimal 23 ∷ decimal kind ∷ []
-refusal_words (AlreadyOcculted by) = decimal 24 ∷ decimal by ∷ []
-refusal_words (LeafDiffers kept) = decimal 25 ∷ hex_of kept ∷ []
-refusal_words (RootDiffers kept) = decimal 26 ∷ hex_of kept ∷ []
-refusal_words NotaryFault = decimal 27 ∷ []
-refusal_words NotaryFull = decimal 28 ∷ []
-refusal_words (Full kept size) = decimal 29 ∷ decimal kept ∷ decimal size ∷ []
-refusal_words (BadSize size) = decimal 33 ∷ decimal size ∷ []
-refusal_words CluesFull = decimal 42 ∷ []
+refusal_words refusal = decimal (refusal_code refusal) ∷ refusal_fields refusal
 
 -- the words of a notary's stamp, where there is one: its index and time
 abbrev pub stamp_words : Option (ℕ × ℕ) → List (List ℕ)
 stamp_words None = []
 stamp_words (Some stamp) = decimal stamp.0 ∷ decimal stamp.1 ∷ []
+
+-- a time mark by its three numbers
+abbrev pub mark_told : ℕ × ℕ × ℕ → TimeMark
+mark_told said = record { jsn = said.0; index = said.1; time = said.2 }
+
+abbrev pub marked : Option (ℕ × ℕ × ℕ) → Option TimeMark
+marked said = option_map mark_told said
 
 -- the words of a reply
 abbrev pub reply_words : Reply → List (List ℕ)
@@ -43,7 +56,7 @@ reply_words (Placed jsn leaf block size root stamp) =
 reply_words (Whole header content who) = codes "whole" ∷ hex_or_dash header ∷ hex_or_dash content ∷ hex_or_dash who ∷ []
 reply_words (Occulted header who) = codes "occulted" ∷ hex_or_dash header ∷ hex_or_dash who ∷ []
 reply_words (Proof n leaf lo hi proof) =
-    codes "proof" ∷ decimal n ∷ hex_of leaf ∷ mark_text lo ∷ mark_text hi ∷ hex_or_dash proof ∷ []
+    codes "proof" ∷ decimal n ∷ hex_of leaf ∷ mark_text (marked lo) ∷ mark_text (marked hi) ∷ hex_or_dash proof ∷ []
 reply_words (Extension which m size root proof) =
     codes "extension" ∷ which_text which ∷ decimal m ∷ decimal size ∷ hex_of root ∷ hex_or_dash proof ∷ []
 reply_words (Clue count kept) = codes "clue" ∷ decimal count ∷ list_text kept ∷ []

@@ -10,6 +10,7 @@ use Rattle.ledger_bytes.specs.Digests.{digest}
 use Rattle.ledger_bytes.specs.declared.digest.Digest.{Digest}
 use Rattle.ledger_bytes.specs.declared.limits.TheConstants.{APPROVAL_LIMIT, NAME_LIMIT, PROOF_LIMIT}
 use Rattle.script_lines.specs.Parts.{parts, all_of}
+use Rattle.journal_record.specs.declared.mark.TimeMark.{TimeMark}
 use Rattle.script_lines.specs.declared.said.SaidApproval.{SaidApproval}
 use Rattle.script_lines.specs.declared.said.Which.{Which}
 use Rattle.script_lines.specs.declared.said.Which.TheVariants.{Ledger, Notary}
@@ -94,7 +95,7 @@ abbrev pub approvals_of : List ℕ → Option (List SaidApproval)
 approvals_of text = if is_dash text then Some [] else approvals_from (parts 44 text)
 
 -- a time mark by its three parts: a journal's number, a notary's index and its time
-abbrev pub mark_from : List (List ℕ) → Option (ℕ × ℕ × ℕ)
+abbrev pub mark_from : List (List ℕ) → Option TimeMark
 mark_from [] = None
 mark_from (jsn ∷ []) = None
 mark_from (jsn ∷ index ∷ []) = None
@@ -102,9 +103,9 @@ mark_from (jsn_text ∷ index_text ∷ time_text ∷ []) = do
   jsn ← number_of (2 ^ 64 - 1) jsn_text
   index ← number_of (2 ^ 64 - 1) index_text
   time ← number_of (2 ^ 64 - 1) time_text
-  Some (jsn, index, time)
+  Some (record { jsn = jsn; index = index; time = time })
 mark_from (jsn ∷ index ∷ time ∷ more ∷ texts) = None
 
 -- no time mark as `-`, or one as `JSN:INDEX:TIME`
-abbrev pub mark_of : List ℕ → Option (Option (ℕ × ℕ × ℕ))
+abbrev pub mark_of : List ℕ → Option (Option TimeMark)
 mark_of text = if is_dash text then Some None else option_map (λ mark. Some mark) (mark_from (parts 58 text))

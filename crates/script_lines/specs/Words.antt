@@ -2,6 +2,7 @@
 use Rattle.std.specs.Prelude.{ℕ, List, [], ◌∷◌, ◌++◌, codes, decimal, Option, Some, None}
 use Rattle.hex.specs.Hex.{encode_lower}
 use Rattle.ledger_bytes.specs.declared.digest.Digest.{Digest}
+use Rattle.journal_record.specs.declared.mark.TimeMark.{TimeMark}
 use Rattle.script_lines.specs.declared.said.Which.{Which}
 use Rattle.script_lines.specs.declared.said.Which.TheVariants.{Ledger, Notary}
 use Rattle.script_lines.specs.declared.words.Word.{Word}
@@ -17,9 +18,9 @@ hex_or_dash [] = codes "-"
 hex_or_dash (byte ∷ bytes) = encode_lower (byte ∷ bytes)
 
 -- a time mark as `JSN:INDEX:TIME`, or `-` for none
-abbrev pub mark_text : Option (ℕ × ℕ × ℕ) → List ℕ
+abbrev pub mark_text : Option TimeMark → List ℕ
 mark_text None = codes "-"
-mark_text (Some mark) = decimal mark.0 ++ codes ":" ++ decimal mark.1 ++ codes ":" ++ decimal mark.2
+mark_text (Some mark) = decimal mark.jsn ++ codes ":" ++ decimal mark.index ++ codes ":" ++ decimal mark.time
 
 -- numbers, each behind a comma
 abbrev pub behind_commas : List ℕ → List ℕ

@@ -10,6 +10,7 @@ use crate::spellings::{
 };
 use crate::splits::cut;
 use crate::stop::Stop;
+use journal_record::TimeMark;
 use ledger_bytes::{Bytes, Digest, Items, Refusal};
 use std::alloc::Global;
 use std::marker::Model;
@@ -55,7 +56,8 @@ impl<'a> Fields<'a> {
 
     /// The field, whatever stands in it.
     pub fn text(&mut self) -> Result<&'a [u8], Refusal>
-        ensures takes { MatchResult result (λ text. field_at text_of self.old ≡ Ok (text.now, self.new))
+        ensures takes { MatchResult result (λ text. field_at text_of self.old
+            ≡ Ok (text.now, self.new))
             (λ refusal. field_at text_of self.old ≡ Err refusal) }
         ensures goes_on { self.new ≡ behind self.old }
         ensures refused { IfErr result (λ refusal. refusal ≡ Refusal.BadField self.old.column) }
@@ -161,7 +163,7 @@ impl<'a> Fields<'a> {
     }
 
     /// No time mark as `-`, or one as `JSN:INDEX:TIME`: a journal's number, a notary's index and its time.
-    pub fn mark(&mut self) -> Result<Option<(u64, u64, u64)>, Refusal>
+    pub fn mark(&mut self) -> Result<Option<TimeMark>, Refusal>
         ensures takes { field_at mark_of self.old ≡ taken result self.new }
         ensures goes_on { self.new ≡ behind self.old }
         ensures refused { IfErr result (λ refusal. refusal ≡ Refusal.BadField self.old.column) }

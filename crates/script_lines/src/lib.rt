@@ -22,4 +22,4 @@ pub use spellings::{is_bytes, read_bytes, read_clue, read_digest, read_name, rea
 pub use spoken::Spoken;
 pub use stop::Stop;
 pub use verbs::read_line;
-pub use words::{Word, put_number, put_words};
+pub use words::{Word, put_no, put_number, put_words};

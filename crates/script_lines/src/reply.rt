@@ -4,7 +4,8 @@ ghost use Rattle.script_lines.specs.Replies as spec;
 ghost use Rattle.script_lines.specs.Words.{hex_of, spaced, which_text};
 
 use crate::said::Which;
-use crate::words::{Word, put_number, put_words};
+use crate::words::{Word, put_no, put_number, put_words};
+use journal_record::TimeMark;
 use ledger_bytes::{Bytes, Digest, Items, NoMemory, Refusal};
 use std::alloc::Global;
 
@@ -108,7 +109,8 @@ pub fn reply_text(alloc: Global, lane: u8, index: u64, reply: &Reply) -> Result<
 
 /// Appends the text that [`reply_text`] gives.
 pub fn put_reply(out: &mut Vec<u8>, lane: u8, index: u64, reply: &Reply) -> Result<(), NoMemory>
-    ensures ok { OnOk result (out.new.items ≡ out.old.items ++ spec.reply_text lane index reply.now) }
+    ensures ok { OnOk result (out.new.items
+        ≡ out.old.items ++ spec.reply_text lane index reply.now) }
     ensures err { OnErr result (out.new.items ≡ out.old.items) }
 {
     let len = out.len();
@@ -120,7 +122,8 @@ pub fn put_reply(out: &mut Vec<u8>, lane: u8, index: u64, reply: &Reply) -> Resu
 }
 
 fn put_line(out: &mut Vec<u8>, lane: u8, index: u64, reply: &Reply) -> Result<(), NoMemory>
-    ensures ok { OnOk result (out.new.items ≡ out.old.items ++ spec.reply_text lane index reply.now) }
+    ensures ok { OnOk result (out.new.items
+        ≡ out.old.items ++ spec.reply_text lane index reply.now) }
     ensures err { OnErr result (Begins out.old.items out.new.items) }
 {
     put_number(out, u64::from(lane))?;
@@ -131,7 +134,8 @@ fn put_line(out: &mut Vec<u8>, lane: u8, index: u64, reply: &Reply) -> Result<()
 }
 
 fn put_reply_words(out: &mut Vec<u8>, reply: &Reply) -> Result<(), NoMemory>
-    ensures ok { OnOk result (out.new.items ≡ out.old.items ++ spaced (spec.reply_words reply.now)) }
+    ensures ok { OnOk result (out.new.items
+        ≡ out.old.items ++ spaced (spec.reply_words reply.now)) }
     ensures err { OnErr result (Begins out.old.items out.new.items) }
 {
     match reply {
@@ -199,7 +203,8 @@ fn put_placed(
     stamp: Option<(u64, u64)>,
 ) -> Result<(), NoMemory>
     ensures ok { OnOk result (out.new.items
-        ≡ out.old.items ++ spaced (spec.reply_words (Reply.Placed jsn leaf.now block size root.now stamp))) }
+        ≡ out.old.items ++ spaced (spec.reply_words
+        (Reply.Placed jsn leaf.now block size root.now stamp))) }
     ensures err { OnErr result (Begins out.old.items out.new.items) }
 {
     put_words(
@@ -284,11 +289,19 @@ fn put_proof(
             Word::Text(b"proof"),
             Word::Number(n),
             Word::Hash(*leaf),
-            Word::Mark(lo),
-            Word::Mark(hi),
+            Word::Mark(marked(lo)),
+            Word::Mark(marked(hi)),
             Word::Hex(proof.as_slice()),
         ],
     )
+}
+
+// The time mark of these three numbers.
+fn marked(said: Option<(u64, u64, u64)>) -> Option<TimeMark>
+    ensures { result ≡ spec.marked said }
+{
+    let (jsn, index, time) = said?;
+    Some(TimeMark { jsn, index, time })
 }
 
 fn put_extension(
@@ -300,7 +313,8 @@ fn put_extension(
     proof: &Bytes,
 ) -> Result<(), NoMemory>
     ensures ok { OnOk result (out.new.items
-        ≡ out.old.items ++ spaced (spec.reply_words (Reply.Extension which m size root.now proof.now))) }
+        ≡ out.old.items ++ spaced (spec.reply_words
+        (Reply.Extension which m size root.now proof.now))) }
     ensures err { OnErr result (Begins out.old.items out.new.items) }
 {
     put_words(
@@ -317,7 +331,8 @@ fn put_extension(
 }
 
 fn put_clue(out: &mut Vec<u8>, count: u32, kept: &Items<u64>) -> Result<(), NoMemory>
-    ensures ok { OnOk result (out.new.items ≡ out.old.items ++ spaced (spec.reply_words (Reply.Clue count kept.now))) }
+    ensures ok { OnOk result (out.new.items
+        ≡ out.old.items ++ spaced (spec.reply_words (Reply.Clue count kept.now))) }
     ensures err { OnErr result (Begins out.old.items out.new.items) }
 {
     put_words(
@@ -341,78 +356,43 @@ fn name_of(which: Which) -> &'static [u8]
 
 /// Appends a refusal's words, each behind a space: `no`, its code, and its fields.
 pub fn put_refusal(out: &mut Vec<u8>, refusal: &Refusal) -> Result<(), NoMemory>
-    ensures ok { OnOk result (out.new.items ≡ out.old.items ++ spaced (spec.reply_words (Reply.Refused refusal.now))) }
+    ensures ok { OnOk result (out.new.items
+        ≡ out.old.items ++ spaced (spec.reply_words (Reply.Refused refusal.now))) }
     ensures err { OnErr result (Begins out.old.items out.new.items) }
 {
+    let code = refusal.code();
     match refusal {
-        Refusal::BadVerb => put_code(out, 10),
-        Refusal::BadField { column } => put_numbered(out, 11, u64::from(*column)),
-        Refusal::BadLane => put_code(out, 12),
-        Refusal::Damaged { kept, found } => put_words(
-            out,
-            &[
-                Word::Text(b"no"),
-                Word::Number(13),
-                Word::Hash(*kept),
-                Word::Hash(*found),
-            ],
-        ),
-        Refusal::UnknownMember { member } => put_numbered(out, 14, u64::from(*member)),
-        Refusal::WrongKey { member } => put_numbered(out, 15, u64::from(*member)),
-        Refusal::MissingApproval { member } => put_numbered(out, 16, u64::from(*member)),
-        Refusal::ApprovalOrder { at } => put_numbered(out, 17, u64::from(*at)),
-        Refusal::MemberNumber { next } => put_numbered(out, 18, u64::from(*next)),
-        Refusal::MembersFull => put_code(out, 19),
-        Refusal::NoJournal { size } => put_numbered(out, 20, *size),
-        Refusal::Purged { point } => put_numbered(out, 21, *point),
-        Refusal::NotData { kind } => put_numbered(out, 22, u64::from(*kind)),
-        Refusal::NotTime { kind } => put_numbered(out, 23, u64::from(*kind)),
-        Refusal::AlreadyOcculted { by } => put_numbered(out, 24, *by),
-        Refusal::LeafDiffers { kept } => put_hashed(out, 25, kept),
-        Refusal::RootDiffers { kept } => put_hashed(out, 26, kept),
-        Refusal::NotaryFault => put_code(out, 27),
-        Refusal::NotaryFull => put_code(out, 28),
-        Refusal::Full { kept, size } => put_words(
-            out,
-            &[
-                Word::Text(b"no"),
-                Word::Number(29),
-                Word::Number(*kept),
-                Word::Number(*size),
-            ],
-        ),
-        Refusal::BadSize { size } => put_numbered(out, 33, *size),
-        Refusal::CluesFull => put_code(out, 42),
+        Refusal::BadVerb
+        | Refusal::BadLane
+        | Refusal::MembersFull
+        | Refusal::NotaryFault
+        | Refusal::NotaryFull
+        | Refusal::CluesFull => put_no(out, code, &[]),
+        Refusal::BadField { column: number }
+        | Refusal::UnknownMember { member: number }
+        | Refusal::WrongKey { member: number }
+        | Refusal::MissingApproval { member: number }
+        | Refusal::ApprovalOrder { at: number }
+        | Refusal::MemberNumber { next: number } => {
+            put_no(out, code, &[Word::Number(u64::from(*number))])
+        }
+        Refusal::NotData { kind } | Refusal::NotTime { kind } => {
+            put_no(out, code, &[Word::Number(u64::from(*kind))])
+        }
+        Refusal::NoJournal { size: number }
+        | Refusal::Purged { point: number }
+        | Refusal::AlreadyOcculted { by: number }
+        | Refusal::BadSize { size: number } => put_no(out, code, &[Word::Number(*number)]),
+        Refusal::LeafDiffers { kept } | Refusal::RootDiffers { kept } => {
+            put_no(out, code, &[Word::Hash(*kept)])
+        }
+        Refusal::Damaged { kept, found } => {
+            put_no(out, code, &[Word::Hash(*kept), Word::Hash(*found)])
+        }
+        Refusal::Full { kept, size } => {
+            put_no(out, code, &[Word::Number(*kept), Word::Number(*size)])
+        }
     }
-}
-
-fn put_code(out: &mut Vec<u8>, code: u64) -> Result<(), NoMemory>
-    ensures ok { OnOk result (out.new.items ≡ out.old.items ++ spaced (codes "no" ∷ decimal code ∷ [])) }
-    ensures err { OnErr result (Begins out.old.items out.new.items) }
-{
-    put_words(out, &[Word::Text(b"no"), Word::Number(code)])
-}
-
-fn put_numbered(out: &mut Vec<u8>, code: u64, number: u64) -> Result<(), NoMemory>
-    ensures ok { OnOk result (out.new.items
-        ≡ out.old.items ++ spaced (codes "no" ∷ decimal code ∷ decimal number ∷ [])) }
-    ensures err { OnErr result (Begins out.old.items out.new.items) }
-{
-    put_words(
-        out,
-        &[Word::Text(b"no"), Word::Number(code), Word::Number(number)],
-    )
-}
-
-fn put_hashed(out: &mut Vec<u8>, code: u64, digest: &Digest) -> Result<(), NoMemory>
-    ensures ok { OnOk result (out.new.items
-        ≡ out.old.items ++ spaced (codes "no" ∷ decimal code ∷ hex_of digest.now ∷ [])) }
-    ensures err { OnErr result (Begins out.old.items out.new.items) }
-{
-    put_words(
-        out,
-        &[Word::Text(b"no"), Word::Number(code), Word::Hash(*digest)],
-    )
 }
 
 #[cfg(test)]

@@ -6,6 +6,7 @@ ghost use Rattle.script_lines.specs.Spellings.{is_decimal, number_of, bytes_of, 
 use crate::said::{SaidApproval, Which};
 use crate::splits::{cut, split_once};
 use hex::{FromHex, FromHexError};
+use journal_record::TimeMark;
 use ledger_bytes::{APPROVAL_LIMIT, Bytes, Digest, Items, NAME_LIMIT, NoMemory, PROOF_LIMIT};
 use std::alloc::Global;
 
@@ -122,7 +123,8 @@ pub(crate) fn read_which(text: &[u8]) -> Option<Which>
 
 fn read_approval(alloc: Global, text: &[u8]) -> Result<Option<SaidApproval>, NoMemory>
     ensures approval { IfOk result (λ read. read ≡ approval_of text.now) }
-    ensures long { IfOk result (λ read. IfSome read (λ approval. length approval.proof ≤ PROOF_LIMIT)) }
+    ensures long { IfOk result (λ read. IfSome read (λ approval. length approval.proof
+        ≤ PROOF_LIMIT)) }
 {
     let Some((member, proof)) = split_once(text, b':') else {
         return Ok(None);
@@ -148,7 +150,8 @@ pub(crate) fn read_approvals(
 ) -> Result<Option<Items<SaidApproval>>, NoMemory>
     ensures approvals { IfOk result (λ read. read ≡ approvals_of text.now) }
     ensures few { IfOk result (λ read. IfSome read (λ given. length given ≤ APPROVAL_LIMIT)) }
-    ensures long { IfOk result (λ read. IfSome read (All (λ approval. length approval.proof ≤ PROOF_LIMIT))) }
+    ensures long { IfOk result (λ read. IfSome read (All (λ approval. length approval.proof
+        ≤ PROOF_LIMIT))) }
 {
     let mut given = Vec::new(alloc);
     if text == b"-".as_slice() {
@@ -169,7 +172,7 @@ pub(crate) fn read_approvals(
     Ok(Some(Items::of(given)))
 }
 
-pub(crate) fn read_mark(text: &[u8]) -> Option<Option<(u64, u64, u64)>>
+pub(crate) fn read_mark(text: &[u8]) -> Option<Option<TimeMark>>
     ensures { result ≡ mark_of text.now }
 {
     if text == b"-".as_slice() {
@@ -180,11 +183,11 @@ pub(crate) fn read_mark(text: &[u8]) -> Option<Option<(u64, u64, u64)>>
     if let Some(_) = split_once(time, b':') {
         return None;
     }
-    Some(Some((
-        read_number(jsn, u64::MAX)?,
-        read_number(index, u64::MAX)?,
-        read_number(time, u64::MAX)?,
-    )))
+    Some(Some(TimeMark {
+        jsn: read_number(jsn, u64::MAX)?,
+        index: read_number(index, u64::MAX)?,
+        time: read_number(time, u64::MAX)?,
+    }))
 }
 
 #[cfg(test)]

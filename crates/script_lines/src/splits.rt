@@ -5,7 +5,8 @@ use memchr::memchr;
 
 /// The text up to the first separator, and the text behind that.
 pub(crate) fn cut(text: &[u8], separator: u8) -> (&[u8], Option<&[u8]>)
-    ensures { parts separator text.now ≡ result.0.now ∷ parts_left separator (option_map (λ t. t.now) result.1) }
+    ensures { parts separator text.now
+        ≡ result.0.now ∷ parts_left separator (option_map (λ t. t.now) result.1) }
 {
     match split_once(text, separator) {
         Some((first, rest)) => (first, Some(rest)),

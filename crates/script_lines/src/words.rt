@@ -1,9 +1,10 @@
-ghost use Rattle.std.specs.Prelude.{◌≡◌, ◌++◌, codes, decimal, map, OnOk, OnErr};
+ghost use Rattle.std.specs.Prelude.{◌≡◌, ◌∷◌, ◌++◌, codes, decimal, map, OnOk, OnErr};
 ghost use Rattle.hex.specs.Hex.{encode_lower};
 ghost use Rattle.ledger_bytes.specs.Begins.{Begins};
 ghost use Rattle.script_lines.specs.Words.{behind_commas, hex_or_dash, list_text, mark_text, spaced, word_text};
 
 use itoa::Buffer;
+use journal_record::TimeMark;
 use ledger_bytes::{Digest, NoMemory};
 
 /// How many bytes are turned to digits at a time.
@@ -21,7 +22,7 @@ pub enum Word<'a> {
     /// Bytes as two lower-case hexadecimal digits each, or `-` for none.
     Hex(&'a [u8]),
     /// A time mark as `JSN:INDEX:TIME`, or `-` for none.
-    Mark(Option<(u64, u64, u64)>),
+    Mark(Option<TimeMark>),
     /// Numbers with commas between, or `-` for none.
     Numbers(&'a [u64]),
 }
@@ -36,6 +37,16 @@ pub fn put_words(out: &mut Vec<u8>, words: &[Word]) -> Result<(), NoMemory>
         put_word(out, word)?;
     }
     Ok(())
+}
+
+/// Appends what tells that something is refused, each word behind a space: `no`, a code, and the words behind it.
+pub fn put_no(out: &mut Vec<u8>, code: u8, words: &[Word]) -> Result<(), NoMemory>
+    ensures ok { OnOk result (out.new.items
+        ≡ out.old.items ++ spaced (codes "no" ∷ decimal code ∷ map word_text words.now)) }
+    ensures err { OnErr result (Begins out.old.items out.new.items) }
+{
+    put_words(out, &[Word::Text(b"no"), Word::Number(u64::from(code))])?;
+    put_words(out, words)
 }
 
 fn put_word(out: &mut Vec<u8>, word: &Word) -> Result<(), NoMemory>
@@ -103,18 +114,18 @@ fn put_hex(out: &mut Vec<u8>, bytes: &[u8]) -> Result<(), NoMemory>
     Ok(())
 }
 
-fn put_mark(out: &mut Vec<u8>, mark: Option<(u64, u64, u64)>) -> Result<(), NoMemory>
+fn put_mark(out: &mut Vec<u8>, mark: Option<TimeMark>) -> Result<(), NoMemory>
     ensures ok { OnOk result (out.new.items ≡ out.old.items ++ mark_text mark) }
     ensures err { OnErr result (Begins out.old.items out.new.items) }
 {
-    let Some((jsn, index, time)) = mark else {
+    let Some(mark) = mark else {
         return put_dash(out);
     };
-    put_number(out, jsn)?;
+    put_number(out, mark.jsn)?;
     out.push(b':')?;
-    put_number(out, index)?;
+    put_number(out, mark.index)?;
     out.push(b':')?;
-    put_number(out, time)
+    put_number(out, mark.time)
 }
 
 fn put_list(out: &mut Vec<u8>, numbers: &[u64]) -> Result<(), NoMemory>

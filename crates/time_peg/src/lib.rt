@@ -5,14 +5,12 @@ mod entry;
 mod filling;
 mod index;
 mod laws;
-mod mark;
 mod notary;
 
 pub use entry::{ENTRY_LEN, entry_bytes, peg_of};
 pub use index::TimeIndex;
-pub use journal_record::Stamp;
+pub use journal_record::{Stamp, TimeMark};
 pub use laws::{bounds_are_nearest, lists_grow};
-pub use mark::TimeMark;
 pub use notary::{Notary, NotaryErr};
 
 #[cfg(test)]
