@@ -78,6 +78,17 @@ under_found hash claim p (Some ledger) notary e =
     let all = not_refused (is_unnoted p notary) (HeadUnknown p.notary_size) (first_failing (rows hash claim p ledger notary)) e in
     record { ledger = ledger; trusted = refl; passing = passes hash claim p ledger notary all }
 
+-- an accepted proof is of the claim, and its leaf leads to the root that is known
+pub under_leads : (hash : Hash) (claim : Claim) (p : Shown) (kept : Option KnownLedger) (notary : Option Digest) → acceptance_under hash claim p kept notary ≡ Ok tt
+    → (ledger : KnownLedger) × (kept ≡ Some ledger) × (claim_of p ≡ claim) × (fold_bytes hash p.leaf.0 p.n p.size p.path ≡ Some ledger.root.0)
+under_leads hash claim p kept notary e =
+    let rests : Rests hash claim p kept notary = under_found hash claim p kept notary e in (
+      rests.ledger,
+      rests.trusted,
+      same_claim_means (claim_of p) claim rests.passing.claimed,
+      is_root_means rests.ledger.root (fold_bytes hash p.leaf.0 p.n p.size p.path) rests.passing.leads,
+    )
+
 under_only : (hash : Hash) (claim : Claim) (p : Shown) (kept : Option KnownLedger) (ledger : KnownLedger) (notary : Option Digest) → kept ≡ Some ledger
     → is_unnoted p notary ≡ false → Passes hash claim p ledger notary → acceptance_under hash claim p kept notary ≡ Ok tt
 under_only hash claim p kept ledger notary trusted noted passing =
@@ -89,7 +100,7 @@ read_found hash claim ledgers notaries (Ok p) e = (p, refl, e)
 read_found hash claim ledgers notaries (Err bad) e = absurd cc
 
 -- the one value that stands for yes
-is_yes : (r : Result (Unit {0}) No) → IsOk r → r ≡ Ok tt
+pub is_yes : (r : Result (Unit {0}) No) → IsOk r → r ≡ Ok tt
 is_yes (Ok x) e = refl
 is_yes (Err why) e = absurd cc
 

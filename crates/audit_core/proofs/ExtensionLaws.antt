@@ -20,7 +20,7 @@ use Rattle.audit_core.proofs.RootLaws.{same_bytes, same_digest, is_root_means}
 -- ---- nothing stands against it
 
 -- of two refusals neither is there
-neither : (a b : Option No) → option_or a b ≡ None → (a ≡ None) × (b ≡ None)
+pub neither : (a b : Option No) → option_or a b ≡ None → (a ≡ None) × (b ≡ None)
 neither None b e = (refl, e)
 neither (Some why) b e = absurd cc
 

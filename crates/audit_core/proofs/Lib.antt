@@ -3,3 +3,5 @@ pub mod ClaimLaws
 pub mod BoundLaws
 pub mod Accepting
 pub mod ExtensionLaws
+pub mod Judging
+pub mod Truths

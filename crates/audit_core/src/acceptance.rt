@@ -46,7 +46,7 @@ fn answer_of<H: TreeHash>(proof: &[u8], claim: &Claim, heads: &Heads) -> Result<
 }
 
 // Where bytes break that spell no proof.
-fn place_of(bad: Bad) -> u64
+pub(crate) fn place_of(bad: Bad) -> u64
     requires { IsBreak bad }
     ensures { result ≡ place_of bad }
 {

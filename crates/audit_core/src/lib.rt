@@ -5,14 +5,20 @@ mod acceptance;
 mod bounds;
 mod extension;
 mod heads;
+mod judgement;
 mod known;
+mod laws;
 mod leading;
 mod refusal;
+mod verdict;
 
 pub use acceptance::accept;
 pub use extension::check_extension;
 pub use heads::Heads;
+pub use judgement::judge;
+pub use laws::{extension_is_true, extensions_are_true, yes_is_true, yes_stays_true};
 pub use refusal::{No, TrustErr};
+pub use verdict::Verdict;
 
 #[cfg(test)]
 mod tests;

@@ -1,0 +1,116 @@
+-- How a proof of a claim is judged by the whole lists, under their own heads.
+use Rattle.std.specs.Prelude.{◌≡◌, ℕ, ◌==◌, ◌&&◌, nat_lt, Bool, true, false, if◌then◌else◌, List, [], length, map, get_or, Option, Some, None, option_map, Result, Ok, Err}
+use Rattle.std.specs.Str.{bytes_eq}
+use Rattle.ledger_bytes.specs.declared.digest.Digest.{Digest}
+use Rattle.ledger_bytes.specs.declared.failure.Bad.{Bad}
+use Rattle.proof_codec.specs.declared.claim.Claim.{Claim}
+use Rattle.proof_codec.specs.Proofs.{Shown}
+use Rattle.proof_codec.specs.Reading.{proof_of}
+use Rattle.tree_model.specs.Tree.{Hash, leaf, mth, cut}
+use Rattle.tree_model.specs.Clash.{IsClash, path_clash}
+use Rattle.merkle_tree.specs.declared.clash.Clash.{Clash}
+use Rattle.merkle_tree.specs.Strings.{pair_of}
+use Rattle.audit_core.specs.declared.known.KnownLedger.{KnownLedger}
+use Rattle.audit_core.specs.declared.refusal.No.{No}
+use Rattle.audit_core.specs.declared.verdict.Verdict.{Verdict}
+use Rattle.audit_core.specs.declared.verdict.Verdict.TheVariants as verdict
+use Rattle.script_lines.specs.declared.said.Which.TheVariants.{Ledger}
+use Rattle.audit_core.specs.Trust.{Trust, root_of}
+use Rattle.audit_core.specs.Acceptance.{acceptance_by, acceptance_under, IsAcceptedBy}
+use Rattle.audit_core.specs.Truth.{Lists, HasJournal, IsTrueOf}
+
+-- ---- acceptance under the lists' own heads
+
+-- the root that a list has, at its own size and no other
+abbrev pub own_root : Hash → List (List ℕ) → ℕ → Option Digest
+own_root hash list size = if size == length list then Some (record { 0 = mth hash list }) else None
+
+-- what is known of the ledger by its list
+abbrev pub own_ledger : Hash → Lists → ℕ → Option KnownLedger
+own_ledger hash lists size = option_map (λ root. record { id = lists.id; root = root }) (own_root hash lists.headers size)
+
+-- what is known of the notary
+abbrev pub own_notary : Hash → Lists → ℕ → Option Digest
+own_notary hash lists size = own_root hash lists.entries size
+
+-- what an auditor answers who trusts the lists' own heads and no other
+abbrev pub own_acceptance : Hash → Lists → List ℕ → Claim → Result (Unit {0}) No
+own_acceptance hash lists bytes claim = acceptance_by hash bytes claim (own_ledger hash lists) (own_notary hash lists)
+
+-- and when that is yes
+abbrev pub IsAcceptedByOwn : Hash → Lists → List ℕ → Claim → Type 0
+IsAcceptedByOwn hash lists bytes claim = IsAcceptedBy hash bytes claim (own_ledger hash lists) (own_notary hash lists)
+
+-- ---- lists under a trusted head
+
+-- these are headers of all journals of a ledger with the trusted head that the bytes of a proof name: as many as the
+-- proof's size, with the root that is trusted for it
+pub record IsUnderHead (hash : Hash) (trust : Trust) (bytes : List ℕ) (list : List (List ℕ)) : Type 0 where
+  pub proof : Shown
+  pub read : proof_of bytes ≡ Ok proof
+  pub root : Digest
+  pub trusted : root_of Ledger trust proof.size ≡ Some root
+  pub count : length list ≡ proof.size
+  pub root_is : mth hash list ≡ root.0
+
+-- ---- the two strings that a false proof shows
+
+-- those that the path of the leaf shows, going down from the root
+abbrev pub leaf_clash : Hash → Lists → Shown → Option (List ℕ × List ℕ)
+leaf_clash hash lists p = path_clash hash p.leaf.0 p.n (map (leaf hash) lists.headers) (cut 32 p.path)
+
+abbrev pub clash_in : Hash → Lists → Result Shown Bad → Option (List ℕ × List ℕ)
+clash_in hash lists (Ok p) = leaf_clash hash lists p
+clash_in hash lists (Err bad) = None
+
+-- those that the bytes of a proof without bounds show: its leaf's path is all that it has
+unfoldable pub clash_of : Hash → Lists → List ℕ → Option (List ℕ × List ℕ)
+clash_of hash lists bytes = clash_in hash lists (proof_of bytes)
+
+-- the two strings of a clash are these, the proof's first, and have one digest
+pub record IsClashOf (hash : Hash) (found : Option (List ℕ × List ℕ)) (clash : Clash) : Type 0 where
+  pub found_is : found ≡ Some (pair_of clash)
+  pub clashes : IsClash hash (pair_of clash).0 (pair_of clash).1
+
+-- ---- verdicts
+
+-- is it so that the ledger has a journal n, with this digest of its leaf?
+abbrev pub has_journal : Hash → Lists → ℕ → Digest → Bool
+has_journal hash lists n digest = nat_lt n (length lists.headers) && bytes_eq (leaf hash (get_or lists.headers n [])) digest.0
+
+-- what is judged by an answer, where the claim is true or else these strings are shown: why it is refused, or the strings
+-- if it is accepted and false
+abbrev pub judgement_by : Result (Unit {0}) No → Bool → Option (List ℕ × List ℕ) → Result (Option (List ℕ × List ℕ)) No
+judgement_by (Err why) holds found = Err why
+judgement_by (Ok done) true found = Ok None
+judgement_by (Ok done) false found = Ok found
+
+-- how the bytes of a proof of a claim without bounds are judged by the lists
+abbrev pub judgement : Hash → Lists → List ℕ → Claim → Result (Option (List ℕ × List ℕ)) No
+judgement hash lists bytes claim =
+    judgement_by (own_acceptance hash lists bytes claim) (has_journal hash lists claim.n claim.leaf) (clash_of hash lists bytes)
+
+-- what a verdict says
+abbrev pub said_by : Verdict → Result (Option (List ℕ × List ℕ)) No
+said_by (verdict.Unaccepted why) = Err why
+said_by verdict.True = Ok None
+said_by (verdict.Clash clash) = Ok (Some (pair_of clash))
+
+-- a proof of a claim isn't accepted; it is, and the claim is true; or it is and the claim is false, which shows a clash
+abbrev pub Judges : Hash → Lists → List ℕ → Claim → Verdict → Type 0
+Judges hash lists bytes claim (verdict.Unaccepted why) = own_acceptance hash lists bytes claim ≡ Err why
+Judges hash lists bytes claim verdict.True = IsAcceptedByOwn hash lists bytes claim × IsTrueOf hash lists claim
+Judges hash lists bytes claim (verdict.Clash clash) =
+    IsAcceptedByOwn hash lists bytes claim × (IsTrueOf hash lists claim → ⊥)
+    × IsClashOf hash (clash_of hash lists bytes) clash
+
+-- the same of a proof that was read, by its leaf alone
+abbrev pub JudgesShown : Hash → Lists → Claim → Shown → Verdict → Type 0
+JudgesShown hash lists claim p (verdict.Unaccepted why) =
+    acceptance_under hash claim p (own_ledger hash lists p.size) (own_notary hash lists p.notary_size) ≡ Err why
+JudgesShown hash lists claim p verdict.True =
+    (acceptance_under hash claim p (own_ledger hash lists p.size) (own_notary hash lists p.notary_size) ≡ Ok tt)
+    × HasJournal hash lists p.n p.leaf
+JudgesShown hash lists claim p (verdict.Clash clash) =
+    (acceptance_under hash claim p (own_ledger hash lists p.size) (own_notary hash lists p.notary_size) ≡ Ok tt)
+    × (HasJournal hash lists p.n p.leaf → ⊥) × IsClashOf hash (leaf_clash hash lists p) clash

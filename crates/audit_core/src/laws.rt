@@ -1,0 +1,88 @@
+ghost use Rattle.std.specs.Prelude.{◌≡◌, ◌⊎◌, ℕ, List, ◌∷◌, length, Some, None, Ok};
+ghost use Rattle.ledger_bytes.specs.declared.digest.Digest.{Digest as DigestRecord};
+ghost use Rattle.merkle_tree.specs.declared.head.Head.{Head as HeadRecord};
+ghost use Rattle.proof_codec.specs.declared.claim.Claim.{Claim as ClaimRecord};
+ghost use Rattle.proof_codec.specs.Proofs.{Shown};
+ghost use Rattle.proof_codec.specs.Reading.{proof_of};
+ghost use Rattle.script_lines.specs.declared.said.Which.{Which as Tree};
+ghost use Rattle.script_lines.specs.declared.said.Which.TheVariants.{Ledger};
+ghost use Rattle.tree_model.specs.Tree.{Hash, mth};
+ghost use Rattle.tree_model.specs.Clash.{Clashes};
+ghost use Rattle.audit_core.specs.Trust.{Trust, root_of};
+ghost use Rattle.audit_core.specs.Acceptance.{acceptance};
+ghost use Rattle.audit_core.specs.Extending.{extend_refusal, IsExtension};
+ghost use Rattle.audit_core.specs.Truth.{Lists, HasJournal, IsTrueOf};
+ghost use Rattle.audit_core.specs.Judgement.{IsUnderHead, leaf_clash, clash_of};
+ghost use Rattle.audit_core.specs.Chains.{first_of, BeginsWith, extension_clash, Extension, LeadsTo, chain_clash};
+
+/// Where `accept` says yes, the claim is true of each list of headers under the trusted head that the proof names, or the
+/// proof and the list show two different strings with one digest. This rests on the bytes and the trusted heads alone,
+/// and holds for every hash whose digests have 32 bytes.
+pub fn yes_is_true()
+    // The ledger has the journal, with or without bounds in the claim.
+    ensures journal { (hash : Hash) (bytes : List ℕ) (claim : ClaimRecord) (trust : Trust)
+        (lists : Lists) → ((message : List ℕ) → length (hash message) ≡ 32)
+        → acceptance hash bytes claim trust ≡ Ok tt
+        → (under : IsUnderHead hash trust bytes lists.headers)
+        → HasJournal hash lists claim.n claim.leaf
+        ⊎ Clashes hash (leaf_clash hash lists under.proof) }
+    // Where the claim has no bounds the proof has none.
+    ensures bare { (hash : Hash) (bytes : List ℕ) (claim : ClaimRecord) (trust : Trust)
+        (proof : Shown) → acceptance hash bytes claim trust ≡ Ok tt
+        → claim.lo ≡ None → claim.hi ≡ None → proof_of bytes ≡ Ok proof
+        → (proof.lo ≡ None) × (proof.hi ≡ None) }
+    // Then the journal is all that is claimed.
+    ensures unbounded { (hash : Hash) (bytes : List ℕ) (claim : ClaimRecord) (trust : Trust)
+        (lists : Lists) → ((message : List ℕ) → length (hash message) ≡ 32)
+        → acceptance hash bytes claim trust ≡ Ok tt → claim.lo ≡ None → claim.hi ≡ None
+        → IsUnderHead hash trust bytes lists.headers
+        → IsTrueOf hash lists claim ⊎ Clashes hash (clash_of hash lists bytes) }
+{}
+
+/// Where an extension from the trusted root of the first `m` items is accepted, each list under the new head begins
+/// with `m` items that have that root, or the extension and the list show two different strings with one digest.
+pub fn extension_is_true()
+    ensures list { (hash : Hash) (which : Tree) (m : ℕ) (head : HeadRecord) (bytes : List ℕ)
+        (trust : Trust) (list : List (List ℕ))
+        → ((message : List ℕ) → length (hash message) ≡ 32)
+        → (it : IsExtension hash which m head bytes trust)
+        → length list ≡ head.size → mth hash list ≡ head.root.0
+        → BeginsWith hash list m it.old.0
+        ⊎ Clashes hash (extension_clash hash list m it.old.0 bytes) }
+    // It is one where nothing stands against the new head.
+    ensures extends { (hash : Hash) (which : Tree) (m : ℕ) (head : HeadRecord) (bytes : List ℕ)
+        (trust : Trust) → extend_refusal hash which m head bytes trust ≡ None
+        → IsExtension hash which m head bytes trust }
+{}
+
+/// Where extensions lead from one head to another, each list under the last one begins with items under the first, or
+/// the first extension, back from the last head, that isn't the list's shows two different strings with one digest.
+pub fn extensions_are_true()
+    ensures list { (hash : Hash) (m : ℕ) (old : List ℕ) (extensions : List Extension) (size : ℕ)
+        (root : List ℕ) (list : List (List ℕ))
+        → ((message : List ℕ) → length (hash message) ≡ 32)
+        → LeadsTo hash m old extensions size root
+        → length list ≡ size → mth hash list ≡ root
+        → BeginsWith hash list m old ⊎ Clashes hash (chain_clash hash list extensions) }
+    // An extension that is accepted goes on from where others lead.
+    ensures next { (hash : Hash) (which : Tree) (first : ℕ) (root : List ℕ)
+        (extensions : List Extension) (m : ℕ) (head : HeadRecord) (bytes : List ℕ) (trust : Trust)
+        (it : IsExtension hash which m head bytes trust)
+        → LeadsTo hash first root extensions m it.old.0
+        → LeadsTo hash first root (record { m = m; old = it.old.0; digests = bytes } ∷ extensions)
+        head.size head.root.0 }
+{}
+
+/// Where `accept` says yes, the claim is also true of each list of headers under another head that extensions lead to
+/// from the one that the proof names, or they or the proof show two different strings with one digest.
+pub fn yes_stays_true()
+    ensures { (hash : Hash) (bytes : List ℕ) (claim : ClaimRecord) (trust : Trust)
+        (lists : Lists) (proof : Shown) (root : DigestRecord) (extensions : List Extension)
+        (head : HeadRecord) → ((message : List ℕ) → length (hash message) ≡ 32)
+        → acceptance hash bytes claim trust ≡ Ok tt → claim.lo ≡ None → claim.hi ≡ None
+        → proof_of bytes ≡ Ok proof → root_of Ledger trust proof.size ≡ Some root
+        → LeadsTo hash proof.size root.0 extensions head.size head.root.0
+        → length lists.headers ≡ head.size → mth hash lists.headers ≡ head.root.0
+        → IsTrueOf hash lists claim ⊎ (Clashes hash (chain_clash hash lists.headers extensions)
+        ⊎ Clashes hash (clash_of hash (first_of proof.size lists) bytes)) }
+{}
