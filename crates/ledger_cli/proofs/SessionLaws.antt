@@ -1,11 +1,10 @@
 -- Lemmas on how far a session came: what it has judged, and what it has written.
-use Rattle.std.proofs.Common.{◌≡◌, ℕ, ◌+◌, ◌<◌, ◌⊎◌, inl, inr, Bool, true, false, cond, List, [], ◌∷◌, ◌++◌, length, map, filter, ◌==◌, take, drop, refl, ap, sym, subst, ◌∙◌, arith, length-append}
-use Rattle.std.proofs.lemmas.List.{map-append, take-map, take_at, take-append-drop}
+use Rattle.std.proofs.Common.{◌≡◌, ℕ, ◌+◌, ◌<◌, ◌⊎◌, inl, inr, Bool, true, false, cond, List, [], ◌∷◌, ◌++◌, length, map, filter, ◌==◌, refl, ap, sym, subst, ◌∙◌, arith, length-append}
+use Rattle.std.proofs.lemmas.List.{map-append}
 use Rattle.ledger_model.specs.Dues.{due_for, dues}
 use Rattle.ledger_model.specs.History.{History, close}
 use Rattle.ledger_model.specs.InOrder.{step_of, steps_of}
 use Rattle.ledger_bytes.specs.Begins.{Begins}
-use Rattle.ledger_model.specs.Merge.{IsPartialMerge}
 use Rattle.ledger_model.specs.Rules.{after_step, after_steps, after_window}
 use Rattle.ledger_model.specs.Scheme.{Scheme}
 use Rattle.ledger_model.specs.Step.{Step}
@@ -16,8 +15,8 @@ use Rattle.ledger_model.proofs.DueLaws.{after_steps-append, dues-append}
 use Rattle.ledger_model.proofs.GrowLaws.{IsEnded, goes_moved, moves_close, close_none, close_settled}
 use Rattle.script_lines.specs.Grammar.{spoken}
 use Rattle.ledger_model.proofs.LineLaws.{spoken-lane}
-use Rattle.ledger_model.proofs.LaneLaws.{said_after-append, merges_front, windows_end, with_last}
-use Rattle.ledger_model.proofs.ProgressLaws.{Ahead, Underway, underway_none, ahead_step, underway_waits, underway_written, underway_window, text_end, step_ends, close_ends, text_empty, due_text_is}
+use Rattle.ledger_model.proofs.LaneLaws.{said_after-append, windows_end, windows_on, with_last}
+use Rattle.ledger_model.proofs.ProgressLaws.{Ahead, Underway, underway_none, ahead_step, underway_waits, underway_written, underway_window, text_end, text_on, text_stays, step_ends, close_ends, text_empty, due_text_is}
 use Rattle.ledger_model.proofs.WindowLaws.{IsCut, cut_none, cut_more, cut_whole, bytes_of-push}
 use Rattle.ledger_cli.specs.Settling.{settled_text, Takes}
 
@@ -231,19 +230,16 @@ module _ (scheme : Scheme) (h : History) (script : List (List ℕ)) (written : L
       ∙ text_end scheme h (steps_of p.done) (map step_of p.current) written p.begun p.pending p.under.ahead
       ∙ ap (λ w. written ++ w) (sym (ap (λ g. settled_text (close g) ds) p.ledger_is ∙ ap (λ d. settled_text (after_window scheme p.begun p.pending) d) p.dues_are ∙ due_at scheme p.begun p.pending p.under.ahead.none (inl p.under.same)))
 
-  -- the lines of the window at hand whose replies were written
-  abbrev pub front : List Said
-  front = take (length p.under.front) p.current
-
-  front_is : map step_of front ≡ p.under.front
-  front_is = sym (take-map step_of (length p.under.front) p.current) ∙ ap (take (length p.under.front)) p.under.split ∙ take_at p.under.front p.pending (length p.under.front) refl
-
-  -- what was written is the text of the lines whose replies were written
-  pub answered_is : text scheme h (steps_of (with_last p.done front)) ≡ written
-  answered_is = text_last scheme h p.done front ∙ ap (λ f. text scheme h (steps_of p.done ++ f ∷ [])) front_is ∙ p.under.answered
-
-  -- these are the first lines of all that were read
-  pub answered_part : (all : List (List ℕ)) → Begins script all → IsPartialMerge (windows (said all)) (steps_of (with_last p.done front))
-  answered_part all b =
-      let begins : Begins front p.current = record { rest = drop (length p.under.front) p.current; is = sym (take-append-drop (length p.under.front) p.current) } in
-      subst (λ xs. IsPartialMerge (windows (said xs)) (steps_of (with_last p.done front))) (sym b.is) (merges_front script b.rest p.done p.current front p.cut begins)
+  -- what was written begins the text of each script that goes on from here
+  pub text_begins : (tail : List (List ℕ)) → Begins written (text scheme h (steps_of (windows (said (script ++ tail)))))
+  text_begins tail =
+      elim (windows_on script tail p.done p.current p.cut) [
+        | inl on ↦
+            let all : steps_of (windows (said (script ++ tail))) ≡ steps_of p.done ++ (map step_of p.current ++ map step_of on.rest) ∷ steps_of on.more =
+            ap steps_of on.is ∙ map-append (map step_of) p.done ((p.current ++ on.rest) ∷ on.more) ∙ ap (λ c. steps_of p.done ++ c ∷ steps_of on.more) (map-append step_of p.current on.rest) in
+            subst (λ steps. Begins written (text scheme h steps)) (sym all)
+            (text_on scheme h (steps_of p.done) (map step_of p.current) written p.begun p.pending p.under.ahead (map step_of on.rest) (steps_of on.more))
+        | inr stays ↦
+            subst (λ all. Begins written (text scheme h (steps_of all))) (sym stays.1)
+            (text_stays scheme h (steps_of p.done) (map step_of p.current) written p.begun p.pending p.under.ahead (ap (map step_of) stays.0))
+      ]

@@ -1,6 +1,8 @@
 -- Lemmas on the taking of lines, and on the writing of what is due.
-use Rattle.std.proofs.Common.{◌≡◌, ℕ, ◌-◌, ◌≤◌, length, sym, inl, inr, List, ◌∷◌, [], ◌++◌, Ok, Err, refl, ap, subst, ◌∙◌}
-use Rattle.ledger_io.specs.Outside.{SinkState, MeetsFault}
+use Rattle.std.proofs.Common.{◌≡◌, ℕ, ◌-◌, length, sym, List, ◌∷◌, [], ◌++◌, Result, Ok, Err, ap, subst, ◌∙◌}
+use Rattle.std.specs.Result.{IsErrAnd}
+use Rattle.std.specs.Prelude.{OnOk}
+use Rattle.ledger_io.specs.Outside.{SinkState, MeetsOne}
 use Rattle.ledger_io.specs.Writing.{WritesFirst}
 use Rattle.ledger_io.specs.declared.writer.WriteErr.{WriteErr}
 use Rattle.ledger_io.specs.declared.writer.WriteErr.TheVariants.{WriteFault}
@@ -18,7 +20,6 @@ use Rattle.ledger_model.specs.declared.answer.Answer.{Answer}
 use Rattle.ledger_model.specs.declared.due.Due.{Due}
 use Rattle.ledger_model.specs.declared.job.Job.{Job}
 use Rattle.ledger_io.specs.Endings.{ending_of}
-use Rattle.ledger_io.specs.declared.ending.Ending.{Ending}
 use Rattle.ledger_io.specs.declared.ending.Ending.TheVariants as ending
 use Rattle.ledger_io.specs.declared.failure.LineErr.{LineErr}
 use Rattle.ledger_io.specs.declared.failure.LineErr.TheVariants as line
@@ -27,7 +28,7 @@ use Rattle.ledger_cli.specs.declared.session.Halt.TheVariants as halt
 use Rattle.ledger_model.proofs.GrowLaws.{size_closed}
 use Rattle.ledger_book.specs.Books.{sealed}
 use Rattle.ledger_cli.specs.Carries.{Carried, Does, Carries}
-use Rattle.ledger_cli.specs.Settling.{settled_text, WritesDues, EndsScript, IsEndingOf, TakesLine, halt_of}
+use Rattle.ledger_cli.specs.Settling.{settled_text, WritesDues, TakesLine, halt_of}
 
 abbrev due_at : ℕ → ℕ → Answer → Due
 due_at lane index answer = record { lane = lane; index = index; answer = answer }
@@ -56,31 +57,28 @@ settled_piece h piece set block head given ds none p s g b is =
 
 -- a fault of writing what is due
 pub write_halts : (h : History) (old new : List Due) (before after : SinkState) (piece : List ℕ) (error : WriteErr) → piece ≡ settled_text h old
-    → WritesFirst before.held after.held piece error → MeetsFault before after → before.faults ≤ after.faults → before.idles ≤ after.idles
-    → WritesDues h old new before after (Err halt.WriteFault)
-write_halts h old new before after piece (WriteFault taken) is first cause faults idles =
+    → WritesFirst before.held after.held piece error → MeetsOne before after → WritesDues h old new before after (Err halt.WriteFault)
+write_halts h old new before after piece (WriteFault taken) is first one =
     let part = subst (λ text. WritesFirst before.held after.held text (WriteFault taken)) is first in
-    record { wrote = ((taken, part.0, part.1), cause); later = faults; idle_later = idles }
+    ((taken, part.0, part.1), one)
 
--- the last of what is due is written
-pub ends_whole : (h : History) (old new : List Due) (before after : SinkState) (asked : Ending) → WritesDues h old new before after (Ok tt) → EndsScript h old before after asked asked
-ends_whole h old new before after asked w = record { ended = inl (refl, w.wrote.0); later = w.later; idle_later = w.idle_later }
-
--- .. or a halt comes in between
-pub ends_halted : (h : History) (old new : List Due) (before after : SinkState) (asked : Ending) (why : Halt) → WritesDues h old new before after (Err why) → EndsScript h old before after asked (halt_of why)
-ends_halted h old new before after asked halt.NoMemory w = record { ended = inr (inl (refl, w.wrote)); later = w.later; idle_later = w.idle_later }
-ends_halted h old new before after asked halt.WriteFault w = record { ended = inr (inr (refl, w.wrote)); later = w.later; idle_later = w.idle_later }
-
--- a session that isn't to end for its words doesn't
-pub started : (asked got : Ending) → (asked ≡ ending.Usage → ⊥) → IsEndingOf asked got → got ≡ ending.Usage → ⊥
-started asked got never ends is =
-    elim ends [
-      | inl same ↦ never (sym same ∙ is)
-      | inr halted ↦ elim halted [ inl memory ↦ (let no : ⊥ = cc (memory, is) in no) | inr fault ↦ (let no : ⊥ = cc (fault, is) in no) ]
-    ]
+-- a halt is no faulty command line, nor is an error of reading
+pub halt_started : (why : Halt) → halt_of why ≡ ending.Usage → ⊥
+halt_started halt.NoMemory is = let no : ⊥ = cc is in no
+halt_started halt.WriteFault is = let no : ⊥ = cc is in no
 
 pub error_started : (error : LineErr) → ending_of error ≡ ending.Usage → ⊥
 error_started line.ReadFault is = let no : ⊥ = cc is in no
 error_started line.LineTooLong is = let no : ⊥ = cc is in no
 error_started line.ScriptTooLong is = let no : ⊥ = cc is in no
 error_started line.NoMemory is = let no : ⊥ = cc is in no
+
+-- an error that is this one
+pub err_by : {T E : Type 0} (IsSo : Result T E → Type 0) (result : Result T E) (wanted : E) → IsErrAnd result (λ error. error ≡ wanted) → IsSo (Err wanted) → IsSo result
+err_by IsSo (Ok value) wanted is so = absurd is
+err_by IsSo (Err error) wanted is so = subst (λ e. IsSo (Err e)) (sym is) so
+
+-- what is promised of an end without error asks nothing of an error
+pub not_done : {T E : Type 0} (X : Type 0) (P : E → Type 0) (result : Result T E) → IsErrAnd result P → OnOk result X
+not_done X P (Ok value) is = absurd is
+not_done X P (Err error) is = tt

@@ -1,7 +1,7 @@
 -- How a session takes lines and writes what is due.
-use Rattle.std.specs.Prelude.{◌≡◌, ℕ, ◌+◌, ◌-◌, ◌<◌, ◌≤◌, ◌⊎◌, if◌then◌else◌, List, [], ◌∷◌, ◌++◌, length, take, Result, Ok, Err}
+use Rattle.std.specs.Prelude.{◌≡◌, ℕ, ◌+◌, ◌-◌, ◌<◌, if◌then◌else◌, List, [], ◌∷◌, ◌++◌, length, take, Result, Ok, Err}
 use Rattle.std.specs.Io.KnownBytes.{Appends}
-use Rattle.ledger_io.specs.Outside.{SinkState, MeetsFault}
+use Rattle.ledger_io.specs.Outside.{SinkState, MeetsNone, MeetsOne}
 use Rattle.ledger_model.specs.Dues.{due_for, dues_text}
 use Rattle.ledger_model.specs.History.{History, size, root, close}
 use Rattle.ledger_model.specs.InOrder.{step_of}
@@ -21,33 +21,19 @@ settled_text h dues = dues_text (length h.closed - 1) (size h) (root h (size h))
 
 -- how far the writing of what is due came
 abbrev pub Flushed : List ℕ → List Due → SinkState → SinkState → Result (Unit {0}) Halt → Type 0
-Flushed text dues before after (Ok done) = Appends before.held after.held text × (dues ≡ [])
+Flushed text dues before after (Ok done) = Appends before.held after.held text × MeetsNone before after × (dues ≡ [])
 Flushed text dues before after (Err NoMemory) = after ≡ before
 Flushed text dues before after (Err WriteFault) =
-    ((taken : ℕ) × (taken < length text) × Appends before.held after.held (take taken text)) × MeetsFault before after
+    ((taken : ℕ) × (taken < length text) × Appends before.held after.held (take taken text)) × MeetsOne before after
 
 -- what is due is written
-pub record WritesDues (h : History) (old new : List Due) (before after : SinkState) (result : Result (Unit {0}) Halt) : Type 0 where
-  pub wrote : Flushed (settled_text h old) new before after result
-  pub later : before.faults ≤ after.faults
-  pub idle_later : before.idles ≤ after.idles
+abbrev pub WritesDues : History → List Due → List Due → SinkState → SinkState → Result (Unit {0}) Halt → Type 0
+WritesDues h old new before after result = Flushed (settled_text h old) new before after result
 
 -- the ending that a stop before the script's end brings
 abbrev pub halt_of : Halt → Ending
 halt_of NoMemory = ending.NoMemory
 halt_of WriteFault = ending.WriteFault
-
--- a session that was to end so does, or a halt comes in between
-abbrev pub IsEndingOf : Ending → Ending → Type 0
-IsEndingOf asked got = (got ≡ asked) ⊎ ((got ≡ ending.NoMemory) ⊎ (got ≡ ending.WriteFault))
-
--- how a session ends that was to end so: what is due in the history with its last block ended is written, or it isn't
-pub record EndsScript (h : History) (dues : List Due) (before after : SinkState) (asked got : Ending) : Type 0 where
-  pub ended : ((got ≡ asked) × Appends before.held after.held (settled_text h dues))
-      ⊎ (((got ≡ ending.NoMemory) × (after ≡ before))
-      ⊎ ((got ≡ ending.WriteFault) × (((taken : ℕ) × (taken < length (settled_text h dues)) × Appends before.held after.held (take taken (settled_text h dues))) × MeetsFault before after)))
-  pub later : before.faults ≤ after.faults
-  pub idle_later : before.idles ≤ after.idles
 
 -- the history after a line, whose window it may end
 abbrev pub after_line : Scheme → History → ℕ → ℕ → Said → History

@@ -13,7 +13,8 @@ pub(crate) fn set_dues(
     head: &Head,
     dues: &[Due],
 ) -> Result<(), NoMemory>
-    ensures { OnOk result (text.new.items ≡ dues_text block head.now.size head.now.root.0 dues.now) }
+    ensures { OnOk result (text.new.items
+        ≡ dues_text block head.now.size head.now.root.0 dues.now) }
 {
     text.clear();
     for due in dues {
@@ -30,7 +31,8 @@ fn put_due(
     size: u64,
     root: &Digest,
 ) -> Result<(), NoMemory>
-    ensures { OnOk result (text.new.items ≡ text.old.items ++ due_text block size root.now.0 due.now) }
+    ensures { OnOk result (text.new.items
+        ≡ text.old.items ++ due_text block size root.now.0 due.now) }
 {
     match &due.answer {
         Answer::Reply(reply) => put_reply(text, due.lane, due.index, reply),

@@ -115,7 +115,8 @@ impl Ledger {
 
     // Ends the open block where it is full.
     fn end_full(&mut self)
-        ensures { (h : History) (job : AnyJob) → Carries self.old h → Carries self.new (settled job h) }
+        ensures { (h : History) (job : AnyJob) → Carries self.old h
+            → Carries self.new (settled job h) }
     {
         if self.book.is_block_full() {
             self.end_block();
@@ -126,7 +127,8 @@ impl Ledger {
     fn judge(&mut self, job: &Job) -> Result<Answer, NoMemory>
         requires { fits_job job.now ≡ true }
         ensures { IfOk result (λ answer. (g : History) (x : Said) → Carries self.old g
-            → (closes_before job.now ≡ true → g.waiting ≡ []) → Judges g (step_of x) job.now answer self.new) }
+            → (closes_before job.now ≡ true → g.waiting ≡ [])
+            → Judges g (step_of x) job.now answer self.new) }
     {
         match self.book.apply(job, None)? {
             Outcome::Refused(refusal) => Ok(Answer::Reply(Reply::Refused(refusal))),
@@ -141,7 +143,8 @@ impl Ledger {
 
     // What is told to a query, where no journal waits.
     fn reply_to(&self, query: &Query) -> Result<Reply, NoMemory>
-        ensures { IfOk result (λ reply. (h : History) (x : Said) → Carries self.now h → h.waiting ≡ []
+        ensures { IfOk result (λ reply. (h : History) (x : Said) → Carries self.now h
+            → h.waiting ≡ []
             → reply ≡ told h (step_of x) query.now) }
     {
         match query {

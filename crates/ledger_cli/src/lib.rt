@@ -8,11 +8,13 @@ mod prepare;
 mod requests;
 mod session;
 mod signing;
+mod standard;
 mod top;
 mod window;
 mod words;
 
 pub use signing::{Request, Signing};
+pub use standard::ledger_standard;
 pub use top::ledger_top;
 pub use words::Command;
 

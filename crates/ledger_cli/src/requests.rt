@@ -20,7 +20,8 @@ pub(crate) fn record_job<V: Verifier>(
 ) -> Job
     requires content { length content ≤ CONTENT_LIMIT }
     requires proof { length proof ≤ PROOF_LIMIT }
-    ensures job { result ≡ appends.append_with (V.shows verifier.now) id.now.0 member clue content proof }
+    ensures job { result ≡ appends.append_with
+        (V.shows verifier.now) id.now.0 member clue content proof }
     ensures fits { fits_job result ≡ true }
 {
     let digest = content_digest(content.as_slice());

@@ -108,7 +108,8 @@ pub(crate) fn read_request(
     verb: &[u8],
     fields: &[String],
 ) -> Result<Option<Request>, NoMemory>
-    ensures ok { IfOk result (λ request. request ≡ request_of verb.now (map string_bytes fields.now)) }
+    ensures ok { IfOk result (λ request. request
+        ≡ request_of verb.now (map string_bytes fields.now)) }
     ensures err { OnErr result (IsSome (request_of verb.now (map string_bytes fields.now))) }
 {
     if verb == b"append".as_slice() {

@@ -1,8 +1,8 @@
-ghost use Rattle.std.specs.Prelude.{◌≡◌, ◌≢◌, ◌⊎◌, ◌↔◌, None, map, string_bytes};
-ghost use Rattle.ledger_bytes.specs.Causes.{Rose};
-ghost use Rattle.ledger_io.specs.Outside.{SourceState, outside};
+ghost use Rattle.std.specs.Prelude.{◌≡◌, ◌≢◌, ◌↔◌, None, map, string_bytes};
+ghost use Rattle.ledger_io.specs.Outside.{SourceState, outside, counted, MeetsNone, MeetsOne};
+ghost use Rattle.ledger_io.specs.Runs.{Served, Wrote};
 ghost use Rattle.ledger_model.specs.Genesis.{founded};
-ghost use Rattle.ledger_cli.specs.Runs.{RanProgram, Served, ServedBy, Wrote};
+ghost use Rattle.ledger_cli.specs.Runs.{Answers, RanProgram, ServedBy};
 ghost use Rattle.ledger_cli.specs.Signing.{signed_text};
 ghost use Rattle.ledger_cli.specs.Words.{command_of};
 
@@ -29,7 +29,8 @@ use std::alloc::Global;
 /// | 6 | want of memory | `fail 6 memory` |
 /// | 7 | a line or the script is too long | `fail 7 line`, `fail 7 script` |
 ///
-/// Of several, the first that happens is the status. Lines that ended before a fault of reading are answered first.
+/// Of several, the first that happens is the status: a run that is done met no fault, and one that ends with a fault of
+/// reading or writing met that one. Lines that ended before a fault of reading are answered first.
 /// The last line is written by one attempt; a fault there doesn't change the status.
 pub fn ledger_top<S: Source, K: Sink, V: Verifier>(
     alloc: Global,
@@ -39,11 +40,14 @@ pub fn ledger_top<S: Source, K: Sink, V: Verifier>(
     verifier: &V,
 ) -> u8
     ensures ran { RanProgram (V.shows verifier.now) (command_of (map string_bytes words.now)) result
-        (outside (S.state source.old) (K.state sink.old)) (outside (S.state source.new) (K.state sink.new)) }
+        (outside (S.state source.old) (K.state sink.old))
+        (outside (S.state source.new) (K.state sink.new)) }
     ensures usage { (result ≡ 1) ↔ (command_of (map string_bytes words.now) ≡ None) }
-    ensures read_fault { result ≡ 2 → Rose (S.state source.old).faults (S.state source.new).faults }
-    ensures write_fault { result ≡ 3 → Rose (K.state sink.old).faults (K.state sink.new).faults
-        ⊎ Rose (K.state sink.old).idles (K.state sink.new).idles }
+    ensures done { result ≡ 0 → ((S.state source.new).faults ≡ (S.state source.old).faults)
+        × MeetsNone (K.state sink.old) (K.state sink.new) }
+    ensures read_fault { result ≡ 2
+        → (S.state source.new).faults ≡ counted (S.state source.old).faults }
+    ensures write_fault { result ≡ 3 → MeetsOne (K.state sink.old) (K.state sink.new) }
 {
     let ending = run_words(alloc, words, source, sink, verifier);
     finish(sink, ending)
@@ -57,8 +61,10 @@ fn run_words<S: Source, K: Sink, V: Verifier>(
     sink: &mut K,
     verifier: &V,
 ) -> Ending
-    ensures served { ServedBy (V.shows verifier.now) (command_of (map string_bytes words.now)) result
-        (outside (S.state source.old) (K.state sink.old)) (outside (S.state source.new) (K.state sink.new)) }
+    ensures served { ServedBy (V.shows verifier.now)
+        (command_of (map string_bytes words.now)) result
+        (outside (S.state source.old) (K.state sink.old))
+        (outside (S.state source.new) (K.state sink.new)) }
     ensures usage { (result ≡ Ending.Usage) ↔ (command_of (map string_bytes words.now) ≡ None) }
 {
     match Command::read(alloc, words) {
@@ -76,8 +82,9 @@ fn run_dry<S: Source, K: Sink, V: Verifier>(
     sink: &mut K,
     verifier: &V,
 ) -> Ending
-    ensures served { Served (V.shows verifier.now) (founded genesis.now) result
-        (outside (S.state source.old) (K.state sink.old)) (outside (S.state source.new) (K.state sink.new)) }
+    ensures served { Served (Answers (V.shows verifier.now) (founded genesis.now)) result
+        (outside (S.state source.old) (K.state sink.old))
+        (outside (S.state source.new) (K.state sink.new)) }
     ensures started { result ≢ Ending.Usage }
 {
     match Ledger::new(alloc, genesis) {

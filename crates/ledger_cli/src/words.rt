@@ -69,8 +69,10 @@ fn read_sign(
     verb: &str,
     fields: &[String],
 ) -> Result<Option<Command>, NoMemory>
-    ensures ok { IfOk result (λ command. command ≡ sign_of id.now key.now verb.now (map string_bytes fields.now)) }
-    ensures err { OnErr result (IsSome (sign_of id.now key.now verb.now (map string_bytes fields.now))) }
+    ensures ok { IfOk result (λ command. command
+        ≡ sign_of id.now key.now verb.now (map string_bytes fields.now)) }
+    ensures err { OnErr result (IsSome (sign_of id.now key.now verb.now
+        (map string_bytes fields.now))) }
 {
     let (Some(id), Some(key)) = (read_digest(id.as_bytes()), read_digest(key.as_bytes())) else {
         return Ok(None);

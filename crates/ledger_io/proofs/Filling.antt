@@ -16,12 +16,11 @@ take-written before into post rest at n len e h k =
 
 -- a read into `into`, whose bytes stand behind those that were kept
 pub Fetches-read : (before after : SourceState) (old kept into now : List ℕ) (n most : ℕ) → kept ≡ old → length into ≡ most → n ≤ length into
-    → Consumes before.left after.left (take n into) × (n ≡ 0 → 0 < length into → IsAtEnd after.left) → before.faults ≤ after.faults
+    → Consumes before.left after.left (take n into) × (n ≡ 0 → 0 < length into → IsAtEnd after.left)
     → now ≡ kept ++ take n into → Fetches before after old now most (Ok n)
-Fetches-read before after old kept into now n most same room within read later now_is = record {
+Fetches-read before after old kept into now n most same room within read now_is = record {
   bytes = take n into;
   consumed = read.0;
-  later = later;
   held = now_is ∙ ap (λ l. l ++ take n into) same;
   outcome = (sym (length-take-le n into within), omega arith, λ none some. read.1 none (omega arith));
 }

@@ -37,7 +37,6 @@ IsSound-more held now bytes looked total more ended s unended e few = record {
 HasRead-trans : (a b c : SourceState) (old mid new : Reading) (xs ys : List ℕ) → HasRead a b old mid xs → HasRead b c mid new ys → HasRead a c old new (xs ++ ys)
 HasRead-trans a b c old mid new xs ys p q = record {
   consumed = Consumes-trans a.left b.left c.left xs ys p.consumed q.consumed;
-  later = let l = p.later in let m = q.later in omega arith;
   held = q.held ∙ ap (λ l. l ++ ys) p.held ∙ append_assoc old.held xs ys;
   total = let l = p.total in let m = q.total in omega (arith, length-append xs ys);
   bounded = q.bounded;
@@ -51,7 +50,7 @@ rest_given : (a c : SourceState) (old last new : Reading) (bytes : List ℕ) (an
     → (x : List ℕ) × Reads a c old new x × Gives a c old (noted new answer) x answer
 rest_given a c old last new bytes (Ok (Some line)) unended sound h end fits short t = (
   bytes,
-  record { consumed = h.consumed; later = h.later; total = ap (λ (r : Reading). r.total) t.2 ∙ h.total; bounded = let e = ap (λ (r : Reading). r.total) t.2 in omega arith },
+  record { consumed = h.consumed; total = ap (λ (r : Reading). r.total) t.2 ∙ h.total; bounded = let e = ap (λ (r : Reading). r.total) t.2 in omega arith },
   record {
     unended = unended;
     sound = sound;
@@ -69,7 +68,7 @@ rest_given a c old last new bytes (Ok (Some line)) unended sound h end fits shor
 )
 rest_given a c old last new bytes (Ok None) unended sound h end fits short t = (
   bytes,
-  record { consumed = h.consumed; later = h.later; total = ap (λ (r : Reading). r.total) t.1 ∙ h.total; bounded = let e = ap (λ (r : Reading). r.total) t.1 in omega arith },
+  record { consumed = h.consumed; total = ap (λ (r : Reading). r.total) t.1 ∙ h.total; bounded = let e = ap (λ (r : Reading). r.total) t.1 in omega arith },
   record {
     sound = sound;
     given = sym h.held ∙ t.0;
@@ -85,7 +84,7 @@ rest_given a c old last new bytes (Err LineTooLong) unended sound h end fits sho
 rest_given a c old last new bytes (Err ScriptTooLong) unended sound h end fits short t = absurd t
 rest_given a c old last new bytes (Err NoMemory) unended sound h end fits short t = (
   bytes,
-  record { consumed = h.consumed; later = h.later; total = ap (λ (r : Reading). r.total) t ∙ h.total; bounded = let e = ap (λ (r : Reading). r.total) t in let b = h.bounded in omega arith },
+  record { consumed = h.consumed; total = ap (λ (r : Reading). r.total) t ∙ h.total; bounded = let e = ap (λ (r : Reading). r.total) t in let b = h.bounded in omega arith },
   inr (record {
     unended = unended;
     sound = sound;

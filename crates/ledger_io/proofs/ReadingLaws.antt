@@ -4,7 +4,6 @@ use Rattle.std.specs.Prelude.{All}
 use Rattle.std.specs.Io.KnownBytes.{Consumes, IsAtEnd}
 use Rattle.std.proofs.KnownBytes.{Consumes-nil, Consumes-trans}
 use Rattle.std.proofs.lemmas.List.Elements.{All-weaker, All-push, All-nil}
-use Rattle.ledger_bytes.specs.Begins.{Begins}
 use Rattle.ledger_io.specs.Outside.{SourceState}
 use Rattle.ledger_io.specs.Lines.{lines_of, broken, IsUnbroken, IsLine, Splits, script_limit}
 use Rattle.ledger_io.specs.Reading.{Reading, Reads, GivesLine, GivesNone, IsBrokenOff, IsLast, Fails}
@@ -23,7 +22,8 @@ pub record HasGiven (before now : SourceState) (reading : Reading) (lines : List
   pub total : reading.total ≡ length read
   pub bounded : reading.total ≤ script_limit
   pub few : length lines + length reading.held ≤ length read
-  pub later : before.faults ≤ now.faults
+  pub short : reading.ended ≡ true → length read < script_limit
+  pub faults : now.faults ≡ before.faults
 
 -- nothing was read yet
 pub read_none : (before : SourceState) (reading : Reading) → reading ≡ record { held = []; total = 0; ended = false; failed = None } → HasGiven before before reading []
@@ -39,7 +39,8 @@ read_none before reading is =
       total = refl;
       bounded = omega arith;
       few = omega arith;
-      later = omega arith;
+      short = λ e. absurd (let no : ⊥ = cc in no);
+      faults = refl;
     } in
     subst (λ r. HasGiven before before r []) (sym is) start
 
@@ -57,8 +58,8 @@ pub read_on : (before now : SourceState) (reading : Reading) (lines : List (List
 read_on before now reading lines bytes h e = ap (λ x. x ++ bytes) (h.unended e) ∙ append_assoc (broken lines) reading.held bytes
 
 -- a line more that a newline ended
-read_broken : (before mid after : SourceState) (old new : Reading) (bytes line : List ℕ) (lines : List (List ℕ)) → HasGiven before mid old lines → Reads mid after old new bytes → GivesLine after old new bytes line → IsBrokenOff old new bytes line → HasGiven before after new (lines ++ line ∷ [])
-read_broken before mid after old new bytes line lines h r g b = record {
+read_broken : (before mid after : SourceState) (old new : Reading) (bytes line : List ℕ) (lines : List (List ℕ)) → HasGiven before mid old lines → Reads mid after old new bytes → after.faults ≡ mid.faults → GivesLine after old new bytes line → IsBrokenOff old new bytes line → HasGiven before after new (lines ++ line ∷ [])
+read_broken before mid after old new bytes line lines h r k g b = record {
   read = h.read ++ bytes;
   consumed = Consumes-trans before.left mid.left after.left h.read bytes h.consumed r.consumed;
   each = All-push IsLine lines line h.each g.fits;
@@ -69,7 +70,8 @@ read_broken before mid after old new bytes line lines h r g b = record {
   total = omega (arith, r.total, h.total, length-append h.read bytes);
   bounded = r.bounded;
   few = omega (arith, h.few, length-append h.read bytes, length-append old.held bytes, length-append line (10 ∷ new.held), ap length b.given, length-append lines (line ∷ []));
-  later = omega (arith, h.later, r.later);
+  short = λ e. absurd (let no : ⊥ = cc (b.ended, e) in no);
+  faults = k ∙ h.faults;
 }
 
 pub some_length : {A : Type 0} (xs : List A) → xs ≢ [] → 0 < length xs
@@ -77,8 +79,8 @@ some_length [] none = absurd (none refl)
 some_length (x ∷ xs) some = omega arith
 
 -- a line more that the end of the source ended
-read_last : (before mid after : SourceState) (old new : Reading) (bytes line : List ℕ) (lines : List (List ℕ)) → HasGiven before mid old lines → Reads mid after old new bytes → GivesLine after old new bytes line → IsLast after old new bytes line → HasGiven before after new (lines ++ line ∷ [])
-read_last before mid after old new bytes line lines h r g b =
+read_last : (before mid after : SourceState) (old new : Reading) (bytes line : List ℕ) (lines : List (List ℕ)) → HasGiven before mid old lines → Reads mid after old new bytes → after.faults ≡ mid.faults → GivesLine after old new bytes line → IsLast after old new bytes line → HasGiven before after new (lines ++ line ∷ [])
+read_last before mid after old new bytes line lines h r k g b =
     let some : 0 < length line = some_length line b.some in
     let held : length new.held ≡ 0 = ap length b.none_held in record {
       read = h.read ++ bytes;
@@ -91,24 +93,17 @@ read_last before mid after old new bytes line lines h r g b =
       total = omega (arith, r.total, h.total, length-append h.read bytes);
       bounded = r.bounded;
       few = omega (arith, h.few, held, some, length-append h.read bytes, length-append old.held bytes, ap length b.given, length-append lines (line ∷ []));
-      later = omega (arith, h.later, r.later);
+      short = λ e. omega (arith, b.short, r.total, h.total, length-append h.read bytes);
+      faults = k ∙ h.faults;
     }
 
 -- a line more
-pub read_more : (before mid after : SourceState) (old new : Reading) (bytes line : List ℕ) (lines : List (List ℕ)) → HasGiven before mid old lines → Reads mid after old new bytes → GivesLine after old new bytes line → HasGiven before after new (lines ++ line ∷ [])
-read_more before mid after old new bytes line lines h r g =
+pub read_more : (before mid after : SourceState) (old new : Reading) (bytes line : List ℕ) (lines : List (List ℕ)) → HasGiven before mid old lines → Reads mid after old new bytes → after.faults ≡ mid.faults → GivesLine after old new bytes line → HasGiven before after new (lines ++ line ∷ [])
+read_more before mid after old new bytes line lines h r k g =
     elim g.rest [
-      | inl b ↦ read_broken before mid after old new bytes line lines h r g b
-      | inr b ↦ read_last before mid after old new bytes line lines h r g b
+      | inl b ↦ read_broken before mid after old new bytes line lines h r k g b
+      | inr b ↦ read_last before mid after old new bytes line lines h r k g b
     ]
-
--- the lines that were given are the first of all that were read
-pub first_lines : (before now : SourceState) (reading : Reading) (lines : List (List ℕ)) (h : HasGiven before now reading lines) → Begins lines (lines_of h.read)
-first_lines before now reading lines h =
-    elim reading.ended as (λ e. reading.ended ≡ e → Begins lines (lines_of h.read)) [
-      | true ↦ λ e. record { rest = []; is = h.ended e ∙ sym (append-nil lines) }
-      | false ↦ λ e. record { rest = lines_of reading.held; is = ap lines_of (h.unended e) ∙ lines_of-broken lines reading.held (unbroken lines h.each) }
-    ] refl
 
 -- a line brings the end nearer: less may be read yet, or less is held
 pub line_smaller : (mid after : SourceState) (old new : Reading) (bytes line : List ℕ) → Reads mid after old new bytes → GivesLine after old new bytes line → 2 * (script_limit - new.total) + length new.held < 2 * (script_limit - old.total) + length old.held
@@ -137,9 +132,6 @@ module _ (before mid after : SourceState) (old new : Reading) (bytes : List ℕ)
   pub given_consumed : Consumes before.left after.left (h.read ++ bytes)
   given_consumed = Consumes-trans before.left mid.left after.left h.read bytes h.consumed r.consumed
 
-  pub given_later : before.faults ≤ after.faults
-  given_later = omega (arith, h.later, r.later)
-
   -- where the source has ended, the lines that were given are all lines
   pub given_all : GivesNone mid after old new bytes → (lines_of (h.read ++ bytes) ≡ lines) × IsAtEnd after.left
   given_all g =
@@ -154,10 +146,3 @@ module _ (before mid after : SourceState) (old new : Reading) (bytes : List ℕ)
   -- at an error, what was read is the lines that were given and what is held
   pub given_split : (error : LineErr) → Fails mid after old new bytes error → Splits (h.read ++ bytes) lines new.held
   given_split error f = record { is = read_on before mid old lines bytes h f.unended ∙ ap (λ x. broken lines ++ x) (sym f.held); each = h.each }
-
-  -- the lines that were given are the first of all
-  pub given_first : old.ended ≡ false → Begins lines (lines_of (h.read ++ bytes))
-  given_first e = record {
-    rest = lines_of (old.held ++ bytes);
-    is = ap lines_of (read_on before mid old lines bytes h e) ∙ lines_of-broken lines (old.held ++ bytes) (unbroken lines h.each);
-  }

@@ -1,5 +1,5 @@
 -- Lemmas on the writing of a last line.
-use Rattle.std.proofs.Common.{◌≡◌, ℕ, ◌≤◌, ◌<◌, cond, ap, inl, inr, List, [], length, take, drop, Result, Ok, Err, refl, sym, append-nil, arith}
+use Rattle.std.proofs.Common.{◌≡◌, ℕ, ◌<◌, cond, ap, inl, inr, List, [], length, take, drop, Result, Ok, Err, refl, sym, append-nil, arith}
 use Rattle.std.specs.Prelude.{◌&&◌, nat_lt, OnOk, IfErr}
 use Rattle.std.specs.Io.KnownBytes.{Appends}
 use Rattle.std.proofs.lemmas.Bool.Decides.{eqb_tells}
@@ -15,24 +15,20 @@ idles_same before n piece some =
     elim (eqb_tells n 0) [ inl p ↦ absurd (omega (arith, p.1, some)) | inr p ↦ ap (λ t. cond (t && nat_lt 0 (length piece)) (counted before) before) p.0 ]
 
 -- a part of the line was written
-last_part : (line : List ℕ) (before after : SinkState) (error : WriteErr) → WritesFirst before.held after.held line error → MeetsOne before after → before.faults ≤ after.faults → before.idles ≤ after.idles → WritesLast line before after
-last_part line before after (write_err.WriteFault taken) first one f i = record {
+last_part : (line : List ℕ) (before after : SinkState) (error : WriteErr) → WritesFirst before.held after.held line error → MeetsOne before after → WritesLast line before after
+last_part line before after (write_err.WriteFault taken) first one = record {
   last = take taken line;
   appended = first.1;
   front = record { rest = drop taken line; is = sym (take-append-drop taken line) };
   once = inr (let fewer = first.0 in let part = length-take-le taken line (omega (arith, fewer)) in let short : length (take taken line) < length line = omega (arith, fewer, part) in short, one);
-  later = f;
-  idle_later = i;
 }
 
 -- writing a line comes to that
-pub last_written : (line : List ℕ) (before after : SinkState) (result : Result (Unit {0}) WriteErr) → OnOk result (Appends before.held after.held line) → IfErr result (WritesFirst before.held after.held line) → MeetsAtMostOne result before after → before.faults ≤ after.faults → before.idles ≤ after.idles → WritesLast line before after
-last_written line before after (Ok done) appended first once f i = record {
+pub last_written : (line : List ℕ) (before after : SinkState) (result : Result (Unit {0}) WriteErr) → OnOk result (Appends before.held after.held line) → IfErr result (WritesFirst before.held after.held line) → MeetsAtMostOne result before after → WritesLast line before after
+last_written line before after (Ok done) appended first once = record {
   last = line;
   appended = appended;
   front = record { rest = []; is = sym (append-nil line) };
   once = inl (refl, once);
-  later = f;
-  idle_later = i;
 }
-last_written line before after (Err error) appended first once f i = last_part line before after error first once f i
+last_written line before after (Err error) appended first once = last_part line before after error first once

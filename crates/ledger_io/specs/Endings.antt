@@ -1,8 +1,5 @@
--- How a run over the lines of a source ends: its exit status, its last line, and its cause.
-use Rattle.std.specs.Prelude.{◌≡◌, ℕ, ◌<◌, ◌^◌, List, [], length, codes, ⊤}
-use Rattle.std.specs.Io.KnownBytes.{IsAtEnd}
-use Rattle.ledger_bytes.specs.Causes.{Rose}
-use Rattle.ledger_io.specs.Outside.{Outside, MeetsFault}
+-- How a run over the lines of a source ends: its exit status and its last line.
+use Rattle.std.specs.Prelude.{ℕ, List, [], codes}
 use Rattle.ledger_io.specs.declared.failure.LineErr.{LineErr}
 use Rattle.ledger_io.specs.declared.failure.LineErr.TheVariants as line_err
 use Rattle.ledger_io.specs.declared.ending.Ending.{Ending}
@@ -34,13 +31,3 @@ ending_of line_err.ReadFault = ReadFault
 ending_of line_err.LineTooLong = LineTooLong
 ending_of line_err.ScriptTooLong = ScriptTooLong
 ending_of line_err.NoMemory = NoMemory
-
--- why a run that read these bytes ended so
-abbrev pub Causes : Ending → List ℕ → Outside → Outside → Type 0
-Causes Done read before after = IsAtEnd after.source.left × (length read < 2 ^ 40)
-Causes Usage read before after = read ≡ []
-Causes ReadFault read before after = Rose before.source.faults after.source.faults × (length read < 2 ^ 40)
-Causes WriteFault read before after = MeetsFault before.sink after.sink
-Causes NoMemory read before after = ⊤
-Causes LineTooLong read before after = ⊤
-Causes ScriptTooLong read before after = length read ≡ 2 ^ 40

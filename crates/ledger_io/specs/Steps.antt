@@ -1,8 +1,7 @@
 -- The steps of a reader of lines.
 use Rattle.std.specs.Prelude.{◌≡◌, ◌≢◌, ℕ, ◌+◌, ◌<◌, ◌≤◌, Bool, true, List, [], ◌∷◌, ◌++◌, length, take, Option, Some, None, Result, Ok, Err}
 use Rattle.std.specs.Io.KnownBytes.{Consumes, IsAtEnd}
-use Rattle.ledger_bytes.specs.Causes.{Rose}
-use Rattle.ledger_io.specs.Outside.{SourceState}
+use Rattle.ledger_io.specs.Outside.{SourceState, counted}
 use Rattle.ledger_io.specs.Lines.{script_limit, IsUnbroken, IsLine, BeginsTooLong}
 use Rattle.ledger_io.specs.Reading.{Reading}
 use Rattle.ledger_io.specs.declared.failure.LineErr.{LineErr}
@@ -24,7 +23,6 @@ pub record IsSound (held : List ℕ) (looked total : ℕ) (ended : Bool) : Type 
 -- bytes were read behind those that are held, and nothing else changed
 pub record HasRead (before after : SourceState) (old new : Reading) (bytes : List ℕ) : Type 0 where
   pub consumed : Consumes before.left after.left bytes
-  pub later : before.faults ≤ after.faults
   pub held : new.held ≡ old.held ++ bytes
   pub total : new.total ≡ old.total + length bytes
   pub bounded : new.total ≤ script_limit
@@ -34,7 +32,7 @@ pub record HasRead (before after : SourceState) (old new : Reading) (bytes : Lis
 -- what a single read of at most so many bytes came to
 abbrev pub Fetched : SourceState → SourceState → ℕ → List ℕ → Result ℕ LineErr → Type 0
 Fetched before after most bytes (Ok n) = (n ≡ length bytes) × (n ≤ most) × (n ≡ 0 → 0 < most → IsAtEnd after.left)
-Fetched before after most bytes (Err ReadFault) = (bytes ≡ []) × Rose before.faults after.faults
+Fetched before after most bytes (Err ReadFault) = (bytes ≡ []) × (after.faults ≡ counted before.faults)
 Fetched before after most bytes (Err LineTooLong) = ⊥
 Fetched before after most bytes (Err ScriptTooLong) = ⊥
 Fetched before after most bytes (Err NoMemory) = bytes ≡ []
@@ -48,7 +46,6 @@ gained (Err error) = 0
 pub record Fetches (before after : SourceState) (old new : List ℕ) (most : ℕ) (result : Result ℕ LineErr) : Type 0 where
   pub bytes : List ℕ
   pub consumed : Consumes before.left after.left bytes
-  pub later : before.faults ≤ after.faults
   pub held : new ≡ old ++ bytes
   pub outcome : Fetched before after most bytes result
 

@@ -1,5 +1,5 @@
 -- How far the writing of a whole piece came.
-use Rattle.std.specs.Prelude.{◌≡◌, ℕ, ◌<◌, ◌≤◌, ◌⊎◌, List, length, take, Option, Result, Ok, Err}
+use Rattle.std.specs.Prelude.{◌≡◌, ℕ, ◌<◌, ◌⊎◌, List, length, take, Option, Result, Ok, Err}
 use Rattle.std.specs.Io.KnownBytes.{Appends}
 use Rattle.ledger_bytes.specs.Begins.{Begins}
 use Rattle.ledger_io.specs.Outside.{SinkState, MeetsNone, MeetsOne}
@@ -21,6 +21,3 @@ pub record WritesLast (line : List ℕ) (before after : SinkState) : Type 0 wher
   pub appended : Appends before.held after.held last
   pub front : Begins last line
   pub once : ((last ≡ line) × MeetsNone before after) ⊎ ((length last < length line) × MeetsOne before after)
-  -- no count of faults fell
-  pub later : before.faults ≤ after.faults
-  pub idle_later : before.idles ≤ after.idles

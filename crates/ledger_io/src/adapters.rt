@@ -15,7 +15,8 @@ pub struct StdSource<R> {
 
 impl<R: Read> StdSource<R> {
     pub fn new(reader: R) -> Self
-        ensures { ⟦<StdSource<R> as Source>⟧.state result ≡ record { left = R.remaining reader; faults = 0 } }
+        ensures { ⟦<StdSource<R> as Source>⟧.state result
+            ≡ record { left = R.remaining reader; faults = 0 } }
     {
         StdSource { reader, faults: 0 }
     }
@@ -50,7 +51,8 @@ pub struct StdSink<W> {
 
 impl<W: Write> StdSink<W> {
     pub fn new(writer: W) -> Self
-        ensures { ⟦<StdSink<W> as Sink>⟧.state result ≡ record { held = None; faults = 0; idles = 0 } }
+        ensures { ⟦<StdSink<W> as Sink>⟧.state result
+            ≡ record { held = None; faults = 0; idles = 0 } }
     {
         StdSink {
             writer,

@@ -1,4 +1,5 @@
-ghost use Rattle.std.specs.Prelude.{◌≡◌, ℕ, ◌+◌, ◌-◌, ◌^◌, ◌<◌, ◌≤◌, List, [], ◌++◌, length, take, drop, vec_len, OnOk};
+ghost use Rattle.std.specs.Prelude.{◌≡◌, ℕ, ◌+◌, ◌-◌, ◌^◌, ◌<◌, ◌≤◌, List, [], ◌++◌, length, take, drop, vec_len, None, OnOk};
+ghost use Rattle.ledger_io.specs.Reading.{faults_next};
 ghost use Rattle.ledger_io.specs.Steps.{Fetches, gained};
 
 use crate::{LineErr, Source};
@@ -60,7 +61,10 @@ impl Buffer {
     /// Reads at most `most` bytes behind those that it holds, in one call, and answers how many.
     pub fn fetch<S: Source>(&mut self, source: &mut S, most: usize) -> Result<usize, LineErr>
         requires { most < 2 ^ 63 }
-        ensures { Fetches (S.state source.old) (S.state source.new) self.old self.new most result }
+        ensures fetches { Fetches (S.state source.old) (S.state source.new)
+            self.old self.new most result }
+        ensures counts { (S.state source.new).faults
+            ≡ faults_next result None (S.state source.old).faults }
     {
         self.move_to_front();
         let count = read_at(source, &mut self.bytes, self.filled, most)?;
@@ -81,6 +85,8 @@ fn read_at<S: Source>(
     ensures fetches { Fetches (S.state source.old) (S.state source.new) (take at bytes.old.items)
         (take (at + gained result) bytes.new.items) most result }
     ensures len { at + gained result ≤ length bytes.new.items }
+    ensures counts { (S.state source.new).faults
+        ≡ faults_next result None (S.state source.old).faults }
 {
     lengthen(bytes, at + most)?;
     Ok(source.read(&mut bytes.as_mut_slice()[at..at + most])?)

@@ -1,6 +1,7 @@
 ghost use Rattle.std.specs.Prelude.{◌≡◌};
 
-use crate::LineErr;
+use crate::{LineErr, WriteErr};
+use ledger_bytes::NoMemory;
 
 /// How a run over the lines of a source ended. Each ending has an exit status and a last line.
 #[derive(Clone, Copy, Debug, PartialEq, Eq)]
@@ -64,5 +65,25 @@ impl From<LineErr> for Ending {
             LineErr::ScriptTooLong => Ending::ScriptTooLong,
             LineErr::NoMemory => Ending::NoMemory,
         }
+    }
+}
+
+impl From<WriteErr> for Ending {
+    ghost use Rattle.ledger_io.specs.declared.ending.Ending.TheVariants.{WriteFault};
+
+    ghost from_gives = { λ _ ending. ending ≡ WriteFault };
+
+    fn from(_: WriteErr) -> Self {
+        Ending::WriteFault
+    }
+}
+
+impl From<NoMemory> for Ending {
+    ghost use Rattle.ledger_io.specs.declared.ending.Ending.TheVariants.{NoMemory as no_memory};
+
+    ghost from_gives = { λ _ ending. ending ≡ no_memory };
+
+    fn from(_: NoMemory) -> Self {
+        Ending::NoMemory
     }
 }

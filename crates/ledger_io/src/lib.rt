@@ -1,10 +1,12 @@
 //! What is read and written: the traits of a source and a sink, their forms in memory and over std's readers and
-//! writers, the lines of a source, the writing of a whole piece, and how a run over such lines ends.
+//! writers, the lines of a source, the writing of a whole piece, the words of a command line, and how a run over such
+//! lines ends.
 #![tactic(auto)]
 
 mod adapters;
 mod buffer;
 mod calls;
+mod command;
 mod ending;
 mod failure;
 mod memory;
@@ -13,6 +15,7 @@ mod reader;
 mod writer;
 
 pub use adapters::{StdSink, StdSource};
+pub use command::command_words;
 pub use ending::Ending;
 pub use failure::LineErr;
 pub use memory::{MemSink, MemSource};

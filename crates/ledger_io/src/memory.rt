@@ -45,7 +45,8 @@ impl Source for MemSource {
 
     fn read(&mut self, into: &mut [u8]) -> Result<usize, Failed>
         ensures bound { ReadsAtMost result into.new }
-        ensures bytes { ReadConsumes (source_state self.old).left (source_state self.new).left result into.new }
+        ensures bytes { ReadConsumes (source_state self.old).left
+            (source_state self.new).left result into.new }
         ensures cause { HasCause self.old.plan.faults self.new.plan.faults result }
         ensures counts { self.new.plan.faults ≡ faults_after self.old.plan.faults result }
         ensures fails { IsErr result ↔ Contains self.old.plan.fail_at self.old.plan.next }
@@ -124,7 +125,8 @@ impl Sink for MemSink {
 
     fn write(&mut self, piece: &[u8]) -> Result<usize, Failed>
         ensures bound { WritesAtMost result piece.now }
-        ensures bytes { WriteAppends (sink_state self.old).held (sink_state self.new).held result piece.now }
+        ensures bytes { WriteAppends (sink_state self.old).held
+            (sink_state self.new).held result piece.now }
         ensures cause { HasCause self.old.plan.faults self.new.plan.faults result }
         ensures counts { self.new.plan.faults ≡ faults_after self.old.plan.faults result }
         ensures idle { CountsIdle self.old.idles self.new.idles result piece.now }

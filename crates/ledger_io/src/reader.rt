@@ -1,6 +1,6 @@
 ghost use Rattle.std.specs.Prelude.{◌≡◌, ◌≢◌, ℕ, ◌<◌, ◌≤◌, List, [], false, None, length, IsTrue, ◌↔◌, MatchOption};
 ghost use Rattle.ledger_io.specs.Lines.{line_limit, script_limit, IsUnbroken, IsLine, BreaksAt};
-ghost use Rattle.ledger_io.specs.Reading.{Reads, Gives};
+ghost use Rattle.ledger_io.specs.Reading.{Reads, Gives, faults_next};
 ghost use Rattle.ledger_io.specs.Steps.{noted, HasRead, Fetched, TakesLine, TakesRest};
 
 use crate::buffer::Buffer;
@@ -59,9 +59,12 @@ impl Lines {
     /// return stays where it is. Once there is no further line, or after an error, it reads nothing more and each
     /// call answers the same. Lines that a newline ended before a fault come before the error.
     pub fn next<S: Source>(&mut self, source: &mut S) -> Result<Option<Bytes>, LineErr>
-        ensures { (bytes : List ℕ)
+        ensures gives { (bytes : List ℕ)
             × Reads (S.state source.old) (S.state source.new) self.old self.new bytes
             × Gives (S.state source.old) (S.state source.new) self.old self.new bytes result }
+        // The source failed once where that is answered for the first time, and else not at all.
+        ensures counts { (S.state source.new).faults
+            ≡ faults_next result self.old.failed (S.state source.old).faults }
     {
         if let Some(error) = self.failed {
             return Err(error);
@@ -81,9 +84,12 @@ impl Lines {
         requires unended { self.old.ended ≡ false }
         requires sound { self.old.failed ≡ None }
         requires bounded { self.old.total ≤ script_limit }
-        ensures { (bytes : List ℕ)
+        ensures gives { (bytes : List ℕ)
             × Reads (S.state source.old) (S.state source.new) self.old self.new bytes
-            × Gives (S.state source.old) (S.state source.new) self.old (noted self.new result) bytes result }
+            × Gives (S.state source.old) (S.state source.new) self.old
+            (noted self.new result) bytes result }
+        ensures counts { (S.state source.new).faults
+            ≡ faults_next result None (S.state source.old).faults }
     {
         loop {
             match self.take_line() {
@@ -141,10 +147,12 @@ impl Lines {
     fn fill<S: Source>(&mut self, source: &mut S) -> Result<usize, LineErr>
         requires short { self.old.total < script_limit }
         requires unended { self.old.ended ≡ false }
-        ensures { (bytes : List ℕ) × (most : ℕ)
+        ensures fills { (bytes : List ℕ) × (most : ℕ)
             × HasRead (S.state source.old) (S.state source.new) self.old self.new bytes
             × (0 < most)
             × Fetched (S.state source.old) (S.state source.new) most bytes result }
+        ensures counts { (S.state source.new).faults
+            ≡ faults_next result None (S.state source.old).faults }
     {
         let most = PIECE.min(SCRIPT_LIMIT - self.total) as usize;
         let count = self.buffer.fetch(source, most)?;

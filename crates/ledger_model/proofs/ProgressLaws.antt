@@ -1,5 +1,6 @@
 -- Lemmas on how a run of windows comes forward, step by step, where replies wait for the ends of their blocks.
 use Rattle.std.proofs.Common.{◌≡◌, ℕ, ◌-◌, ◌⊎◌, inl, inr, List, [], ◌∷◌, ◌++◌, length, refl, ap, sym, subst, ◌∙◌, append_assoc, append-nil}
+use Rattle.ledger_bytes.specs.Begins.{Begins}
 use Rattle.ledger_model.specs.Dues.{dues, dues_text}
 use Rattle.ledger_model.specs.History.{History, size, root, close}
 use Rattle.ledger_model.specs.Rules.{after_step, after_steps, after_window}
@@ -14,22 +15,16 @@ pub record Ahead (scheme : Scheme) (h : History) (done : List (List Step)) (curr
   pub none : begun.waiting ≡ []
   pub text_is : (tail : List Step) (more : List (List Step)) → text scheme h (done ++ (current ++ tail) ∷ more) ≡ written ++ (window_text scheme begun (pending ++ tail) ++ text scheme (after_window scheme begun (pending ++ tail)) more)
 
--- .. where the open block is the only one since then; `front` are the steps of the window at hand whose replies were written
+-- .. where the open block is the only one since then
 pub record Underway (scheme : Scheme) (h : History) (done : List (List Step)) (current : List Step) (written : List ℕ) (begun : History) (pending : List Step) : Type 0 where
   pub ahead : Ahead scheme h done current written begun pending
   pub same : (after_steps scheme begun pending).closed ≡ begun.closed
-  pub front : List Step
-  pub split : current ≡ front ++ pending
-  pub answered : text scheme h (done ++ front ∷ []) ≡ written
 
 -- the beginning of a run
 pub underway_none : (scheme : Scheme) (h : History) → h.waiting ≡ [] → Underway scheme h [] [] [] h []
 underway_none scheme h none = record {
   ahead = record { none = none; text_is = λ tail more. refl };
   same = refl;
-  front = [];
-  split = refl;
-  answered = refl;
 }
 
 -- a step more
@@ -49,9 +44,6 @@ pub underway_waits : (scheme : Scheme) (h : History) (done : List (List Step)) (
 underway_waits scheme h done current written begun pending step u same = record {
   ahead = ahead_step scheme h done current written begun pending step u.ahead;
   same = ap (λ (g : History). g.closed) (after_steps-append scheme begun pending (step ∷ [])) ∙ same;
-  front = u.front;
-  split = ap (λ c. c ++ step ∷ []) u.split ∙ append_assoc u.front pending (step ∷ []);
-  answered = u.answered;
 }
 
 -- all that waits is written, where nothing waits in the history any more
@@ -71,9 +63,6 @@ underway_written scheme h done current written begun pending u none =
     in record {
       ahead = record { none = none; text_is = ahead };
       same = refl;
-      front = current;
-      split = sym (append-nil current);
-      answered = ap (λ c. text scheme h (done ++ c ∷ [])) (sym (append-nil current)) ∙ ahead [] [] ∙ append-nil (written ++ now);
     }
 
 -- the end of the window at hand
@@ -92,9 +81,6 @@ underway_window scheme h done current written begun pending u none =
     in record {
       ahead = record { none = none; text_is = ahead };
       same = refl;
-      front = [];
-      split = refl;
-      answered = ahead [] [] ∙ append-nil (written ++ window_text scheme begun pending);
     }
 
 -- the whole text, where the script ends with the window at hand
@@ -127,3 +113,20 @@ text_empty scheme h done = text-append scheme h done ([] ∷ []) ∙ append-nil 
 pub due_text_is : (scheme : Scheme) (begun g : History) (steps : List Step) → begun.waiting ≡ [] → g.waiting ≡ [] → (g.closed ≡ begun.closed) ⊎ IsEnded begun g → Goes (after_steps scheme begun steps) g
     → dues_text (length g.closed - 1) (size g) (root g (size g)) (dues scheme begun steps) ≡ steps_text scheme g begun steps
 due_text_is scheme begun g steps none ended b goes = sym (block_text scheme begun g steps none ended b (goes_size (after_steps scheme begun steps) g goes))
+
+-- what was written begins the text of each run that goes on from here, by windows
+pub text_on : (scheme : Scheme) (h : History) (done : List (List Step)) (current : List Step) (written : List ℕ) (begun : History) (pending : List Step)
+    → Ahead scheme h done current written begun pending → (rest : List Step) (more : List (List Step)) → Begins written (text scheme h (done ++ (current ++ rest) ∷ more))
+text_on scheme h done current written begun pending u rest more = record {
+  rest = window_text scheme begun (pending ++ rest) ++ text scheme (after_window scheme begun (pending ++ rest)) more;
+  is = u.text_is rest more;
+}
+
+-- .. also where it takes no line more
+pub text_stays : (scheme : Scheme) (h : History) (done : List (List Step)) (current : List Step) (written : List ℕ) (begun : History) (pending : List Step)
+    → Ahead scheme h done current written begun pending → current ≡ [] → Begins written (text scheme h done)
+text_stays scheme h done current written begun pending u none =
+    let on = text_on scheme h done current written begun pending u [] [] in record {
+      rest = on.rest;
+      is = sym (text_empty scheme h done) ∙ ap (λ c. text scheme h (done ++ c ∷ [])) (sym (ap (λ c. c ++ []) none)) ∙ on.is;
+    }

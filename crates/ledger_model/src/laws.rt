@@ -27,9 +27,11 @@ pub fn windows_are_parts()
 pub fn blocks_are_journals_with_ends()
     ensures blocks { (n : ℕ) (blocks : List (List Entry)) (open_block : List Entry)
         → cut_at n (ends_from n blocks) (flat_map (λ block. block) blocks ++ open_block) ≡ blocks }
-    ensures journals { (n : ℕ) (ends : List ℕ) (journals : List Entry) → Rises n ends (n + length journals)
+    ensures journals { (n : ℕ) (ends : List ℕ) (journals : List Entry)
+        → Rises n ends (n + length journals)
         → flat_map (λ block. block) (cut_at n ends journals) ≡ journals }
-    ensures ends { (n : ℕ) (ends : List ℕ) (journals : List Entry) → Rises n ends (n + length journals)
+    ensures ends { (n : ℕ) (ends : List ℕ) (journals : List Entry)
+        → Rises n ends (n + length journals)
         → ends_from n (cut_at n ends journals) ≡ ends }
 {}
 
@@ -63,5 +65,6 @@ pub fn lawful_headers_obey_their_layout()
 /// From journal 0 on the whole point is seen; from a later journal on it is, where what is seen reaches that journal.
 pub fn points_are_seen()
     ensures all { (h : History) → seen_point 0 h ≡ point h }
-    ensures later { (h : History) (floor : ℕ) → IsLawful h → floor ≤ seen_point floor h → seen_point floor h ≡ point h }
+    ensures later { (h : History) (floor : ℕ) → IsLawful h → floor ≤ seen_point floor h
+        → seen_point floor h ≡ point h }
 {}

@@ -10,6 +10,7 @@ use journal_record::{clue_digest, content_digest, member_request_digest, request
 use ledger_book::{Book, Genesis, Job, Limits, Outcome, Query, Sealed, View};
 use ledger_bytes::{Bytes, Digest, NoMemory, Refusal};
 use member_book::{TagScheme, tag_proof};
+use merkle_batch::TreeErr;
 use merkle_tree::Head;
 use std::alloc::Global;
 use std::process::Abort;
@@ -157,10 +158,13 @@ fn leaves_of_journals(rt: HostRuntime) -> Result<(), Fail> {
         digest("3b9b8378383890d298097d6f65884029554696de63fb03929518fcd45a4706cb")?,
         digest("d5bafe4ff5eb75d98a360fd0a779d19ac6abbd6e75a890c22a7d59c35f349099")?,
     ];
-    assert!(rt; book.leaves() == leaves.as_slice());
+    for (number, leaf) in (0..3).zip(leaves) {
+        assert!(rt; book.tree().leaf(number) == Ok(leaf));
+    }
+    assert!(rt; book.tree().leaf(3) == Err(TreeErr::Beyond { size: 3 }));
     assert!(rt; book.id() == leaves[0]);
     let placed = append(rt.alloc(), &mut book, 2, 3, b"inv")?;
-    let leaf = *book.leaves().last().ok_or("no leaf")?;
+    let leaf = book.tree().leaf(3)?;
     assert!(rt; placed == Outcome::Placed { jsn: 3, leaf });
     Ok(())
 }

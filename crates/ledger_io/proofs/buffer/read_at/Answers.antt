@@ -15,5 +15,5 @@ returns-clause-fetches g c =
     ap (take at) c.as_mut_slice.ensures.value ∙ sym (take-take at _ _ c.requires.within) ∙ ap (take at) c.lengthen.ensures.kept in
     let long : at ≤ length whole = omega (arith, c.in_ok-lengthen.ensures.len) in
     let room : at + n ≤ c.lengthen.new.bytes.len = omega (arith, c.in_ok-lengthen.ensures.len) in
-    Fetches-read _ _ _ (take at whole) into _ n c.args.most same size within c.in_ok-read.ensures.bytes c.in_ok-read.ensures.cause.later
+    Fetches-read _ _ _ (take at whole) into _ n c.args.most same size within c.in_ok-read.ensures.bytes
     (take-written (take at whole) into _ _ at n c.lengthen.new.bytes.len (length-take-le at whole long) within room)

@@ -11,6 +11,4 @@ loop-taken-preserved g c = record {
       let some : 0 < c.in-Ok.count = omega arith in
       let none = c.loop-taken.invariant.none in
       (c.in-Ok.ensures.counts ∙ none.0, c.in-Ok.ensures.idle.count ∙ idles_same _ c.in-Ok.count _ some ∙ none.1);
-  later = omega arith;
-  idle_later = omega arith;
 }

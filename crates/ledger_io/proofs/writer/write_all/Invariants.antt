@@ -8,8 +8,6 @@ invariant-loop-taken g l = record {
   within : l.taken ≤ length l.piece;
   appended : Appends (g.K.Sink.state l.fn.sink).held (g.K.Sink.state l.sink).held (take l.taken l.piece);
   none : MeetsNone (g.K.Sink.state l.fn.sink) (g.K.Sink.state l.sink);
-  later : (g.K.Sink.state l.fn.sink).faults ≤ (g.K.Sink.state l.sink).faults;
-  idle_later : (g.K.Sink.state l.fn.sink).idles ≤ (g.K.Sink.state l.sink).idles;
 }
 
 abbrev pub decreases-loop-taken : goal.decreases-loop-taken

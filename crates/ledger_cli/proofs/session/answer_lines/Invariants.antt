@@ -1,10 +1,10 @@
 use Rattle.std.proofs.Common.{◌≡◌, ◌+◌, ◌-◌, ◌*◌, ◌≤◌, [], length}
 use Rattle.ledger_io.specs.Lines.{script_limit}
+use Rattle.ledger_io.specs.Outside.{outside}
 use Rattle.ledger_model.specs.History.{History}
 use Rattle.ledger_cli.specs.Carries.{Carries}
-use Rattle.ledger_io.specs.Outside.{outside}
 use Rattle.ledger_cli.proofs.EndLaws.{Reached}
-use Rattle.ledger_cli.proofs.session.run_script.Given as goal
+use Rattle.ledger_cli.proofs.session.answer_lines.Given as goal
 
 abbrev pub invariant-loop-line : goal.invariant-loop-line
 invariant-loop-line g l =
