@@ -2,3 +2,4 @@ pub mod TextLaws
 pub mod SessionLaws
 pub mod EndLaws
 pub mod TopLaws
+pub mod YesLaws

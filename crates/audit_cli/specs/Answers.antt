@@ -8,9 +8,11 @@ use Rattle.audit_core.specs.declared.refusal.TrustErr.TheVariants as trust_err
 use Rattle.audit_core.specs.Acceptance.{acceptance}
 use Rattle.audit_core.specs.Trust.{Trust, trust_refusal, head_refusal, with_ledger, with_head}
 use Rattle.audit_core.specs.Extending.{extend_refusal}
+use Rattle.audit_core.specs.Truth.{lists_of}
+use Rattle.audit_core.specs.Judgement.{judgement}
 use Rattle.script_lines.specs.declared.said.Which.TheVariants.{Notary}
 use Rattle.audit_cli.specs.declared.line.Line.{Line}
-use Rattle.audit_cli.specs.declared.line.Line.TheVariants.{TrustLedger, TrustNotary, Extend, Check}
+use Rattle.audit_cli.specs.declared.line.Line.TheVariants.{TrustLedger, TrustNotary, Extend, Check, Judge}
 use Rattle.audit_cli.specs.declared.reply.Reply.{Reply}
 use Rattle.audit_cli.specs.declared.reply.Reply.TheVariants as reply
 use Rattle.audit_cli.specs.Grammar.{line_of}
@@ -31,12 +33,19 @@ abbrev pub verdict : Result (Unit {0}) No → Reply
 verdict (Ok done) = reply.Yes
 verdict (Err why) = reply.No why
 
+-- the reply to what is judged: a proof isn't accepted, or else its claim is true, or false and shows two strings
+abbrev pub judging : Result (Option (List ℕ × List ℕ)) No → Reply
+judging (Err why) = reply.Unaccepted why
+judging (Ok None) = reply.True
+judging (Ok (Some pair)) = reply.Clash pair.0 pair.1
+
 -- the reply to a line that was read, where this is trusted
 abbrev pub reply_to : Hash → Trust → Result Line Refusal → Reply
 reply_to hash trust (Ok (TrustLedger id head)) = trusting (trust_refusal trust id head)
 reply_to hash trust (Ok (TrustNotary head)) = trusting (head_refusal Notary head trust)
 reply_to hash trust (Ok (Extend which m head proof)) = trusting (extend_refusal hash which m head proof trust)
 reply_to hash trust (Ok (Check claim proof)) = verdict (acceptance hash proof claim trust)
+reply_to hash trust (Ok (Judge id headers entries claim proof)) = judging (judgement hash (lists_of id headers entries) proof claim)
 reply_to hash trust (Err refusal) = reply.Refused refusal
 
 -- the second where nothing stands against it, else the first
@@ -51,6 +60,7 @@ trust_behind hash trust (Ok (TrustNotary head)) = unless_refused (head_refusal N
 trust_behind hash trust (Ok (Extend which m head proof)) =
     unless_refused (extend_refusal hash which m head proof trust) trust (with_head which head trust)
 trust_behind hash trust (Ok (Check claim proof)) = trust
+trust_behind hash trust (Ok (Judge id headers entries claim proof)) = trust
 trust_behind hash trust (Err refusal) = trust
 
 -- the reply to a line

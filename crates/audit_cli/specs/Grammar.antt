@@ -1,21 +1,16 @@
 -- The lines of an audit script.
-use Rattle.std.specs.Prelude.{ℕ, ◌-◌, ◌^◌, if◌then◌else◌, List, codes, option_map, Result, Ok, Err}
+use Rattle.std.specs.Prelude.{◌≡◌, ℕ, ◌-◌, ◌^◌, ◌%◌, ◌==◌, if◌then◌else◌, ⊤, List, length, codes, Option, Some, None, Result, Ok, Err}
 use Rattle.std.specs.Str.{bytes_eq}
 use Rattle.ledger_bytes.specs.declared.refusal.Refusal.{Refusal}
 use Rattle.ledger_bytes.specs.declared.refusal.Refusal.TheVariants.{BadVerb}
 use Rattle.ledger_io.specs.Lines.{line_limit}
 use Rattle.script_lines.specs.Fields.{Left, fields_of, field_at, end_at}
 use Rattle.script_lines.specs.Grammar.{◌>>=◌}
-use Rattle.script_lines.specs.Spellings.{text_of, number_of, bytes_of, digest_of, which_of, mark_of}
+use Rattle.script_lines.specs.Spellings.{text_of, word_of, number_of, bytes_of, digest_of, which_of, mark_of}
 use Rattle.script_lines.specs.declared.said.Which.{Which}
 use Rattle.script_lines.specs.declared.said.Which.TheVariants.{Ledger, Notary}
-use Rattle.time_peg.specs.declared.mark.TimeMark.{TimeMark}
 use Rattle.audit_cli.specs.declared.line.Line.{Line}
-use Rattle.audit_cli.specs.declared.line.Line.TheVariants.{TrustLedger, TrustNotary, Extend, Check}
-
--- a time mark by its three numbers
-abbrev pub mark_from : ℕ × ℕ × ℕ → TimeMark
-mark_from mark = record { jsn = mark.0; index = mark.1; time = mark.2 }
+use Rattle.audit_cli.specs.declared.line.Line.TheVariants.{TrustLedger, TrustNotary, Extend, Check, Judge}
 
 -- a head of a ledger that is to be trusted: its id, its size and its root
 unfoldable pub trust_ledger_at : Left → Result Line Refusal
@@ -67,7 +62,31 @@ check_at fields = do
   hi ← field_at mark_of lo.1
   proof ← field_at (bytes_of line_limit) hi.1
   end ← end_at proof.1
-  Ok (Check (record { n = n.0; leaf = leaf.0; lo = option_map mark_from lo.0; hi = option_map mark_from hi.0 }) proof.0)
+  Ok (Check (record { n = n.0; leaf = leaf.0; lo = lo.0; hi = hi.0 }) proof.0)
+
+-- bytes that are pieces of this width, none left over
+abbrev pub pieces_from : ℕ → Option (List ℕ) → Option (List ℕ)
+pieces_from width None = None
+pieces_from width (Some bytes) = if length bytes % width == 0 then Some bytes else None
+
+-- a list of pieces of one width, one after the other: no bytes as `-`, or as many as a line has room for
+abbrev pub pieces_of : ℕ → List ℕ → Option (List ℕ)
+pieces_of width text = pieces_from width (bytes_of line_limit text)
+
+-- a proof that is to be judged by the whole lists: the ledger's id, the headers of all its journals, all entries of its
+-- notary, a claim as `check` has it, but without marks so far, and the proof's bytes
+unfoldable pub judge_at : Left → Result Line Refusal
+judge_at fields = do
+  id ← field_at digest_of fields
+  headers ← field_at (pieces_of 174) id.1
+  entries ← field_at (pieces_of 72) headers.1
+  n ← field_at (number_of (2 ^ 64 - 1)) entries.1
+  leaf ← field_at digest_of n.1
+  lo ← field_at (word_of (codes "-")) leaf.1
+  hi ← field_at (word_of (codes "-")) lo.1
+  proof ← field_at (bytes_of line_limit) hi.1
+  end ← end_at proof.1
+  Ok (Judge id.0 headers.0 entries.0 (record { n = n.0; leaf = leaf.0; lo = None; hi = None }) proof.0)
 
 -- a line by its verb and the fields behind that
 abbrev pub verb_at : List ℕ → Left → Result Line Refusal
@@ -75,6 +94,7 @@ verb_at verb fields =
     if bytes_eq verb (codes "trust") then trust_at fields
     else if bytes_eq verb (codes "extend") then extend_at fields
     else if bytes_eq verb (codes "check") then check_at fields
+    else if bytes_eq verb (codes "judge") then judge_at fields
     else Err BadVerb
 
 -- a line by all its fields, of which the first is the verb
@@ -86,3 +106,12 @@ line_at fields = do
 -- what a line asks for, or why it is refused: its verb is unknown, or a field is missing, extra or ill-formed
 abbrev pub line_of : List ℕ → Result Line Refusal
 line_of line = line_at (fields_of line)
+
+-- what a line asks to be judged can be: its lists are whole headers and whole entries, and its claim has no marks
+abbrev pub IsFit : Line → Type 0
+IsFit (TrustLedger id head) = ⊤
+IsFit (TrustNotary head) = ⊤
+IsFit (Extend which m head proof) = ⊤
+IsFit (Check claim proof) = ⊤
+IsFit (Judge id headers entries claim proof) =
+    (length headers % 174 ≡ 0) × (length entries % 72 ≡ 0) × (claim.lo ≡ None) × (claim.hi ≡ None)

@@ -1,7 +1,7 @@
 -- The text of each reply.
 use Rattle.std.specs.Prelude.{ℕ, List, [], ◌∷◌, ◌++◌, codes, decimal}
 use Rattle.script_lines.specs.Replies.{refusal_words}
-use Rattle.script_lines.specs.Words.{hex_of, spaced}
+use Rattle.script_lines.specs.Words.{hex_of, hex_or_dash, spaced}
 use Rattle.audit_core.specs.declared.refusal.No.{No}
 use Rattle.audit_core.specs.declared.refusal.No.TheVariants.{HeadUnknown, LeafPath, LowerBound, UpperBound, NotaryPath, TimesCross}
 use Rattle.audit_core.specs.declared.refusal.No.TheVariants.{ClaimDiffers, Malformed, BadExtension, HeadDiffers, HeadsFull}
@@ -26,6 +26,9 @@ no_words HeadsFull = decimal 45 ∷ []
 abbrev pub reply_words : Reply → List (List ℕ)
 reply_words reply.Yes = codes "yes" ∷ []
 reply_words (reply.No why) = codes "no" ∷ no_words why
+reply_words reply.True = codes "true" ∷ []
+reply_words (reply.Unaccepted why) = codes "unaccepted" ∷ no_words why
+reply_words (reply.Clash told truth) = codes "clash" ∷ hex_or_dash told ∷ hex_or_dash truth ∷ []
 reply_words (reply.Refused refusal) = codes "no" ∷ refusal_words refusal
 
 -- the text that answers the line with this number

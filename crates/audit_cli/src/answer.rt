@@ -1,11 +1,14 @@
 ghost use Rattle.std.specs.Prelude.{◌≡◌, Ok, IfOk, OnOk};
 ghost use Rattle.audit_core.specs.Acceptance.{acceptance};
-ghost use Rattle.audit_cli.specs.Answers.{verdict, RepliesTo, reply_to, trust_behind, answer_to, trust_after};
+ghost use Rattle.audit_core.specs.Judgement.{said_by};
+ghost use Rattle.audit_cli.specs.Grammar.{IsFit};
+ghost use Rattle.audit_cli.specs.Answers.{verdict, judging, RepliesTo, reply_to, trust_behind};
+ghost use Rattle.audit_cli.specs.Answers.{answer_to, trust_after};
 
 use crate::line::{Line, read_line};
 use crate::reply::Reply;
-use audit_core::{Heads, TrustErr, accept};
-use ledger_bytes::{NoMemory, TreeHash};
+use audit_core::{Heads, TrustErr, Verdict, accept, judge};
+use ledger_bytes::{Bytes, NoMemory, TreeHash};
 use proof_codec::Claim;
 use script_lines::Stop;
 use std::alloc::Global;
@@ -20,13 +23,14 @@ pub(crate) fn answer<H: TreeHash>(
     ensures heads { OnOk result (heads.new ≡ trust_after H.of heads.old line.now) }
 {
     match read_line(alloc, line) {
-        Ok(line) => reply_to::<H>(heads, line),
+        Ok(line) => reply_to::<H>(alloc, heads, line),
         Err(Stop::Refused(refusal)) => Ok(Reply::Refused(refusal)),
         Err(Stop::NoMemory) => Err(NoMemory),
     }
 }
 
-fn reply_to<H: TreeHash>(heads: &mut Heads, line: Line) -> Result<Reply, NoMemory>
+fn reply_to<H: TreeHash>(alloc: Global, heads: &mut Heads, line: Line) -> Result<Reply, NoMemory>
+    requires { IsFit line }
     ensures reply { IfOk result (λ reply. reply ≡ reply_to H.of heads.old (Ok line)) }
     ensures heads { OnOk result (heads.new ≡ trust_behind H.of heads.old (Ok line)) }
 {
@@ -40,6 +44,17 @@ fn reply_to<H: TreeHash>(heads: &mut Heads, line: Line) -> Result<Reply, NoMemor
             proof,
         } => reply_of(heads.extend::<H>(which, m, &head, proof.as_slice())),
         Line::Check { claim, proof } => Ok(check::<H>(heads, &claim, proof.as_slice())),
+        Line::Judge {
+            id,
+            headers,
+            entries,
+            claim,
+            proof,
+        } => {
+            let (headers, entries) = (headers.as_slice(), entries.as_slice());
+            let verdict = judge::<H>(&id, headers, entries, proof.as_slice(), &claim);
+            reply_for(alloc, verdict)
+        }
     }
 }
 
@@ -60,5 +75,19 @@ fn check<H: TreeHash>(heads: &Heads, claim: &Claim, proof: &[u8]) -> Reply
     match accept::<H>(proof, claim, heads) {
         Ok(()) => Reply::Yes,
         Err(no) => Reply::No(no),
+    }
+}
+
+/// The reply that tells a verdict. It has its own copies of the strings of a clash.
+fn reply_for(alloc: Global, verdict: Verdict) -> Result<Reply, NoMemory>
+    ensures { IfOk result (λ reply. reply ≡ judging (said_by verdict)) }
+{
+    match verdict {
+        Verdict::Unaccepted(why) => Ok(Reply::Unaccepted(why)),
+        Verdict::True => Ok(Reply::True),
+        Verdict::Clash(clash) => Ok(Reply::Clash {
+            told: Bytes::copy_of(alloc, clash.told.as_slice())?,
+            truth: Bytes::copy_of(alloc, clash.truth.as_slice())?,
+        }),
     }
 }

@@ -3,12 +3,14 @@
 #![tactic(auto)]
 
 mod answer;
+mod laws;
 mod line;
 mod reply;
 mod session;
 mod top;
 mod words;
 
+pub use laws::{checked_claims_are_true, extended_heads_go_on, replies_stand_in_place};
 pub use top::{audit_run, audit_top};
 
 #[cfg(test)]

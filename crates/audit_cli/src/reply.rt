@@ -1,18 +1,29 @@
-ghost use Rattle.std.specs.Prelude.{◌≡◌, [], ◌∷◌, ◌++◌, codes, decimal, map, OnOk};
-ghost use Rattle.script_lines.specs.Words.{spaced, word_text};
+ghost use Rattle.std.specs.Prelude.{◌≡◌, ◌++◌, OnOk};
+ghost use Rattle.script_lines.specs.Words.{spaced};
 ghost use Rattle.audit_cli.specs.Replies.{no_words, reply_words, reply_text};
 
 use audit_core::No;
-use ledger_bytes::{NoMemory, Refusal};
+use ledger_bytes::{Bytes, NoMemory, Refusal};
 use script_lines::{Word, put_number, put_refusal, put_words};
 
 /// The answer to a line of an audit script.
-#[derive(Clone, Copy, Debug, PartialEq, Eq)]
+#[derive(Debug, Drop)]
 pub(crate) enum Reply {
     /// The head is trusted, or the proof is accepted.
     Yes,
     /// The head isn't trusted, or the proof isn't accepted.
     No(No),
+    /// The proof isn't accepted under the lists' own heads.
+    Unaccepted(No),
+    /// It is, and its claim is true of the lists.
+    True,
+    /// It is, and its claim is false of the lists. Then these two strings have one digest.
+    Clash {
+        /// The proof's string.
+        told: Bytes,
+        /// The list's, in its place.
+        truth: Bytes,
+    },
     /// The line is of no form that is read.
     Refused(Refusal),
 }
@@ -31,34 +42,42 @@ fn put_reply_words(out: &mut Vec<u8>, reply: &Reply) -> Result<(), NoMemory>
 {
     match reply {
         Reply::Yes => put_words(out, &[Word::Text(b"yes")]),
-        Reply::No(no) => put_no(out, no),
+        Reply::No(why) => {
+            put_words(out, &[Word::Text(b"no")])?;
+            put_why(out, why)
+        }
+        Reply::True => put_words(out, &[Word::Text(b"true")]),
+        Reply::Unaccepted(why) => {
+            put_words(out, &[Word::Text(b"unaccepted")])?;
+            put_why(out, why)
+        }
+        Reply::Clash { told, truth } => put_words(
+            out,
+            &[
+                Word::Text(b"clash"),
+                Word::Hex(told.as_slice()),
+                Word::Hex(truth.as_slice()),
+            ],
+        ),
         Reply::Refused(refusal) => put_refusal(out, refusal),
     }
 }
 
-fn put_no(out: &mut Vec<u8>, no: &No) -> Result<(), NoMemory>
-    ensures { OnOk result (out.new.items ≡ out.old.items ++ spaced (codes "no" ∷ no_words no.now)) }
+// The code of a no, and the words behind it.
+fn put_why(out: &mut Vec<u8>, why: &No) -> Result<(), NoMemory>
+    ensures { OnOk result (out.new.items ≡ out.old.items ++ spaced (no_words why.now)) }
 {
-    match no {
-        No::HeadUnknown { size } => put_code(out, 34, &[Word::Number(*size)]),
-        No::LeafPath => put_code(out, 35, &[]),
-        No::LowerBound => put_code(out, 36, &[]),
-        No::UpperBound => put_code(out, 37, &[]),
-        No::NotaryPath => put_code(out, 38, &[]),
-        No::TimesCross => put_code(out, 39, &[]),
-        No::ClaimDiffers => put_code(out, 40, &[]),
-        No::Malformed { at } => put_code(out, 41, &[Word::Number(*at)]),
-        No::BadExtension => put_code(out, 43, &[]),
-        No::HeadDiffers { kept } => put_code(out, 44, &[Word::Hash(*kept)]),
-        No::HeadsFull => put_code(out, 45, &[]),
+    match why {
+        No::HeadUnknown { size } => put_words(out, &[Word::Number(34), Word::Number(*size)]),
+        No::LeafPath => put_words(out, &[Word::Number(35)]),
+        No::LowerBound => put_words(out, &[Word::Number(36)]),
+        No::UpperBound => put_words(out, &[Word::Number(37)]),
+        No::NotaryPath => put_words(out, &[Word::Number(38)]),
+        No::TimesCross => put_words(out, &[Word::Number(39)]),
+        No::ClaimDiffers => put_words(out, &[Word::Number(40)]),
+        No::Malformed { at } => put_words(out, &[Word::Number(41), Word::Number(*at)]),
+        No::BadExtension => put_words(out, &[Word::Number(43)]),
+        No::HeadDiffers { kept } => put_words(out, &[Word::Number(44), Word::Hash(*kept)]),
+        No::HeadsFull => put_words(out, &[Word::Number(45)]),
     }
-}
-
-// A code, and the words behind it.
-fn put_code(out: &mut Vec<u8>, code: u64, words: &[Word]) -> Result<(), NoMemory>
-    ensures { OnOk result (out.new.items
-        ≡ out.old.items ++ spaced (codes "no" ∷ decimal code ∷ map word_text words.now)) }
-{
-    put_words(out, &[Word::Text(b"no"), Word::Number(code)])?;
-    put_words(out, words)
 }

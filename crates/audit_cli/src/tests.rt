@@ -55,6 +55,25 @@ const NOTARY_ROOT: &str = "70f8401b84cf76c926c415bdf912718f30518dcb518d3493aad2f
 
 const DIGEST_OF_NOTHING: &str = "e3b0c44298fc1c149afbf4c8996fb92427ae41e4649b934ca495991b7852b855";
 
+// The headers of the same three journals, and the only entry of the notary. The entry's salt is the last 32 bytes of its
+// digits, and stands in the last header too.
+const HEADERS_OF_THREE: &str = "\
+    010000000000000000000000000000000000000000000000000000000000000000000000000000000000000000000000\
+    0000000000000000000000000000000000000000000000000000914cc74d53cd8261488272a6f032311caec3902f46b0\
+    b58cf98417cddf94e382000000402c66600c9d6ab5196b84e5fb389401569af0f4ebcfdac5ce763f4ec34c4c435f01ba\
+    4719c80b6fe911b091a7c05124b64eeece964e09c058ef8f9805daca546b010100000000000000010000000000000000\
+    000000000000000000000000000000000000000000000000000000000000000000000000000000000000000000000000\
+    000000000000000045ab4df7151b96fe3fdaa2ffe2851781324f1e7e8cd93e909a6f084b485ebf7700000000dbc1b4c9\
+    00ffe48d575b5da5c638040125f65db0fe3e24494b76ea986457d9863c1ab984c2f51fa50128f81a4ffcb9d6ff5c1c16\
+    50aaecbd3ba5d43c2a610804010300000000000000020000000000000000000000000000000000000000000000000000\
+    00000000000000000000000000000000000000000000000000000000000000000000000003e88b3b30a051bca9ec8bac\
+    bfaf3a351389842d99f1769a4959994077e9ec8d875700000000dbc1b4c900ffe48d575b5da5c638040125f65db0fe3e\
+    24494b76ea986457d98601ba4719c80b6fe911b091a7c05124b64eeece964e09c058ef8f9805daca546b";
+
+const ENTRY: &str = "\
+    00000000000003e8d3e923369f1a17273378e4588c53cb7a7e4655eaf44fd91d5846346e2697f3f18b3b30a051bca9ec\
+    8bacbfaf3a351389842d99f1769a4959994077e9ec8d8757";
+
 // More room than any of these runs writes, and a call that none of them makes.
 const AMPLE: usize = 65_536;
 
@@ -340,6 +359,150 @@ fn answers_each_line(rt: HostRuntime) -> Result<(), Fail> {
     Ok(())
 }
 
+// Proofs that are judged by the whole lists, with a bound and without, and lines of no form.
+const JUDGED: [Said; 10] = [
+    (
+        &[
+            "judge ",
+            ID,
+            " ",
+            HEADERS_OF_THREE,
+            " ",
+            ENTRY,
+            " 1 ",
+            MIDDLE_LEAF,
+            " - 2:0:1000 ",
+            UP_TO_PATH,
+            "2",
+            UP_TO_SALT,
+            "7",
+            UP_TO_ROOT,
+            "1",
+            BEHIND_ROOT,
+            "00",
+        ],
+        &["no 11 8"],
+    ),
+    (
+        &[
+            "judge ",
+            ID,
+            " ",
+            HEADERS_OF_THREE,
+            " ",
+            ENTRY,
+            " 1 ",
+            MIDDLE_LEAF,
+            " 2:0:1000 - ",
+            UP_TO_PATH,
+            "2",
+            UP_TO_SALT,
+            "7",
+            UP_TO_ROOT,
+            "1",
+            BEHIND_ROOT,
+            "00",
+        ],
+        &["no 11 7"],
+    ),
+    (
+        &[
+            "judge ",
+            ID,
+            " ",
+            HEADERS_OF_THREE,
+            " ",
+            ENTRY,
+            " 1 ",
+            MIDDLE_LEAF,
+            " - - ",
+            UP_TO_PATH,
+            "2",
+            UP_TO_SALT,
+            "7",
+            UP_TO_ROOT,
+            "1",
+            BEHIND_ROOT,
+            "00",
+        ],
+        &["unaccepted 40"],
+    ),
+    (
+        &[
+            "judge ",
+            ID,
+            " ",
+            HEADERS_OF_THREE,
+            " ",
+            ENTRY,
+            " 2 ",
+            LAST_LEAF,
+            " - - ",
+            LAST_PROOF,
+        ],
+        &["true"],
+    ),
+    (
+        &[
+            "judge ",
+            ID,
+            " ",
+            HEADERS_OF_THREE,
+            " ",
+            ENTRY,
+            " 2 ",
+            LAST_LEAF,
+            " - - ",
+            LAST_PROOF_CHANGED,
+        ],
+        &["unaccepted 35"],
+    ),
+    (
+        &[
+            "judge ",
+            ID,
+            " ",
+            HEADERS_OF_THREE,
+            " ",
+            ENTRY,
+            " 2 ",
+            LAST_LEAF,
+            " - - ",
+            CUT_PROOF,
+        ],
+        &["unaccepted 41 51"],
+    ),
+    (
+        &["judge ", ID, " - - 2 ", LAST_LEAF, " - - ", LAST_PROOF],
+        &["unaccepted 34 3"],
+    ),
+    (
+        &["judge ", ID, " 00 - 2 ", LAST_LEAF, " - - ", LAST_PROOF],
+        &["no 11 3"],
+    ),
+    (
+        &["judge ", ID, " - 00 2 ", LAST_LEAF, " - - ", LAST_PROOF],
+        &["no 11 4"],
+    ),
+    (&["judge ", ID, " - - 0 ", ID, " - - - -"], &["no 11 10"]),
+];
+
+#[test]
+fn judges_by_the_whole_lists(rt: HostRuntime) -> Result<(), Fail> {
+    let script = Script::of(rt.alloc(), &JUDGED)?;
+    let (status, written) = run(
+        rt.alloc(),
+        &["script"],
+        script.lines.as_slice(),
+        NEVER,
+        AMPLE,
+        NEVER,
+    )?;
+    assert_eq!(rt; written.as_slice(), script.text.as_slice());
+    assert_eq!(rt; status, 0);
+    Ok(())
+}
+
 // A proof in hexadecimal digits, cut to each length up to that of these pieces.
 fn add_cuts(
     alloc: Global,
@@ -502,7 +665,20 @@ fn ends_at_a_line_that_is_too_long(rt: HostRuntime) -> Result<(), Fail> {
 fn checks_under_the_hash_that_is_given(rt: HostRuntime) -> Result<(), Fail> {
     // Three leaves with the digests 1, 2 and 3 under the toy hash: their root is 8, and the path of the first is 2, 3.
     let zeros = "00000000000000000000000000000000000000000000000000000000000000";
-    let said: [(&[&str], &[&str]); 3] = [
+    // The header of each of two leaves but for its last byte, and the strings of the node over them: that of a false path,
+    // and that of the headers.
+    let front = "\
+        0000000000000000000000000000000000000000000000000000000000000000000000000000000000000000\
+        0000000000000000000000000000000000000000000000000000000000000000000000000000000000000000\
+        0000000000000000000000000000000000000000000000000000000000000000000000000000000000000000\
+        0000000000000000000000000000000000000000000000000000000000000000000000000000000000";
+    let told = "\
+        0100000000000000000000000000000000000000000000000000000000000000060000000000000000000000\
+        000000000000000000000000000000000000000006";
+    let truth = "\
+        0100000000000000000000000000000000000000000000000000000000000000050000000000000000000000\
+        000000000000000000000000000000000000000007";
+    let said: [(&[&str], &[&str]); 6] = [
         (&["trust ledger ", zeros, "00 3 ", zeros, "08"], &["yes"]),
         (
             &[
@@ -531,6 +707,60 @@ fn checks_under_the_hash_that_is_given(rt: HostRuntime) -> Result<(), Fail> {
                 "030000",
             ],
             &["no 35"],
+        ),
+        (
+            &[
+                "judge ",
+                zeros,
+                "00 ",
+                front,
+                "05",
+                front,
+                "07 - 0 ",
+                zeros,
+                "06 - - 0100000000000000020000000000000000",
+                zeros,
+                "0601",
+                zeros,
+                "060000",
+            ],
+            &["clash", told, truth],
+        ),
+        (
+            &[
+                "judge ",
+                zeros,
+                "00 ",
+                front,
+                "05",
+                front,
+                "07 - 0 ",
+                zeros,
+                "05 - - 0100000000000000020000000000000000",
+                zeros,
+                "0501",
+                zeros,
+                "070000",
+            ],
+            &["true"],
+        ),
+        (
+            &[
+                "judge ",
+                zeros,
+                "00 ",
+                front,
+                "05",
+                front,
+                "07 - 0 ",
+                zeros,
+                "05 - - 0100000000000000020000000000000000",
+                zeros,
+                "0501",
+                zeros,
+                "060000",
+            ],
+            &["unaccepted 35"],
         ),
     ];
     let mut script = Script::new(rt.alloc());

@@ -1,7 +1,6 @@
-ghost use Rattle.std.specs.Prelude.{◌≡◌, ◌≢◌, ◌⊎◌, ◌↔◌, Some, None, map, string_bytes};
+ghost use Rattle.std.specs.Prelude.{◌≡◌, ◌≢◌, ◌↔◌, Some, None, map, string_bytes};
 ghost use Rattle.sha2.specs.Sha256.{sha256};
-ghost use Rattle.ledger_bytes.specs.Causes.{Rose};
-ghost use Rattle.ledger_io.specs.Outside.{outside};
+ghost use Rattle.ledger_io.specs.Outside.{outside, counted, MeetsNone, MeetsOne};
 ghost use Rattle.audit_cli.specs.Runs.{RanProgram};
 ghost use Rattle.audit_cli.specs.Words.{command_of};
 
@@ -24,7 +23,8 @@ use std::alloc::Global;
 /// | 6 | want of memory | `fail 6 memory` |
 /// | 7 | a line or the script is too long | `fail 7 line`, `fail 7 script` |
 ///
-/// Of several, the first that happens is the status. Lines that ended before a fault of reading are answered first.
+/// Of several, the first that happens is the status: a run that is done met no fault, and one that ends with a fault of
+/// reading or writing met that one. Lines that ended before a fault of reading are answered first.
 /// The last line is written by one attempt; a fault there doesn't change the status. No line of a script holds a member's
 /// approval, so that the verifier isn't asked.
 pub fn audit_top<S: Source, K: Sink, V: Verifier>(
@@ -35,11 +35,14 @@ pub fn audit_top<S: Source, K: Sink, V: Verifier>(
     verifier: &V,
 ) -> u8
     ensures ran { RanProgram sha256 (command_of (map string_bytes words.now)) result
-        (outside (S.state source.old) (K.state sink.old)) (outside (S.state source.new) (K.state sink.new)) }
+        (outside (S.state source.old) (K.state sink.old))
+        (outside (S.state source.new) (K.state sink.new)) }
     ensures usage { (result ≡ 1) ↔ (command_of (map string_bytes words.now) ≡ None) }
-    ensures read_fault { result ≡ 2 → Rose (S.state source.old).faults (S.state source.new).faults }
-    ensures write_fault { result ≡ 3 → Rose (K.state sink.old).faults (K.state sink.new).faults
-        ⊎ Rose (K.state sink.old).idles (K.state sink.new).idles }
+    ensures done { result ≡ 0 → ((S.state source.new).faults ≡ (S.state source.old).faults)
+        × MeetsNone (K.state sink.old) (K.state sink.new) }
+    ensures read_fault { result ≡ 2
+        → (S.state source.new).faults ≡ counted (S.state source.old).faults }
+    ensures write_fault { result ≡ 3 → MeetsOne (K.state sink.old) (K.state sink.new) }
 {
     match Command::read(words) {
         Some(Command::Script) => audit_run::<Sha, S, K, V>(alloc, source, sink, verifier),
@@ -55,11 +58,14 @@ pub fn audit_run<H: TreeHash, S: Source, K: Sink, V: Verifier>(
     _verifier: &V,
 ) -> u8
     ensures ran { RanProgram H.of (Some Command.Script) result
-        (outside (S.state source.old) (K.state sink.old)) (outside (S.state source.new) (K.state sink.new)) }
+        (outside (S.state source.old) (K.state sink.old))
+        (outside (S.state source.new) (K.state sink.new)) }
     ensures started { result ≢ 1 }
-    ensures read_fault { result ≡ 2 → Rose (S.state source.old).faults (S.state source.new).faults }
-    ensures write_fault { result ≡ 3 → Rose (K.state sink.old).faults (K.state sink.new).faults
-        ⊎ Rose (K.state sink.old).idles (K.state sink.new).idles }
+    ensures done { result ≡ 0 → ((S.state source.new).faults ≡ (S.state source.old).faults)
+        × MeetsNone (K.state sink.old) (K.state sink.new) }
+    ensures read_fault { result ≡ 2
+        → (S.state source.new).faults ≡ counted (S.state source.old).faults }
+    ensures write_fault { result ≡ 3 → MeetsOne (K.state sink.old) (K.state sink.new) }
 {
     let ending = run_script::<H, S, K>(alloc, source, sink);
     finish(sink, ending)

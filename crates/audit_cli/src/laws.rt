@@ -1,0 +1,53 @@
+ghost use Rattle.std.specs.Prelude.{◌≡◌, ◌⊎◌, ◌↔◌, ◌+◌, ℕ, List, [], ◌∷◌, ◌++◌, length, None, Some, Ok};
+ghost use Rattle.ledger_bytes.specs.declared.digest.Digest.{Digest as DigestRecord};
+ghost use Rattle.merkle_tree.specs.declared.head.Head.{Head as HeadRecord};
+ghost use Rattle.proof_codec.specs.declared.claim.Claim.{Claim as ClaimRecord};
+ghost use Rattle.script_lines.specs.declared.said.Which.{Which as Tree};
+ghost use Rattle.tree_model.specs.Tree.{Hash, mth};
+ghost use Rattle.tree_model.specs.Clash.{Clashes};
+ghost use Rattle.audit_core.specs.Trust.{root_of};
+ghost use Rattle.audit_core.specs.Truth.{Lists, IsTrueOf};
+ghost use Rattle.audit_core.specs.Judgement.{IsUnderHead, clash_of};
+ghost use Rattle.audit_core.specs.Chains.{BeginsWith, extension_clash};
+ghost use Rattle.audit_cli.specs.declared.line.Line.TheVariants.{Extend, Check};
+ghost use Rattle.audit_cli.specs.declared.reply.Reply.{Reply as ReplyRecord};
+ghost use Rattle.audit_cli.specs.declared.reply.Reply.TheVariants.{Yes};
+ghost use Rattle.audit_cli.specs.Grammar.{line_of};
+ghost use Rattle.audit_cli.specs.Replies.{reply_text};
+ghost use Rattle.audit_cli.specs.Texts.{audit_text, text_from, trusted_behind, reply_behind};
+
+/// The text of a script tells the reply to each line in its place: behind the text of the lines in front of it, with its
+/// number, judged under what those lines made trusted. It reads `yes` there exactly where the reply is yes.
+pub fn replies_stand_in_place()
+    ensures place { (hash : Hash) (lines : List (List ℕ)) (line : List ℕ) (rest : List (List ℕ))
+        → audit_text hash (lines ++ line ∷ rest)
+        ≡ audit_text hash lines ++ (reply_text (length lines + 1) (reply_behind hash lines line)
+        ++ text_from hash (trusted_behind hash (lines ++ line ∷ [])) (length lines + 2) rest) }
+    ensures told { (number : ℕ) (reply : ReplyRecord)
+        → (reply_text number reply ≡ reply_text number Yes) ↔ (reply ≡ Yes) }
+{}
+
+/// Where a line of a script asks to check a proof of a claim without bounds, and the reply is yes, the claim is true of
+/// each list of headers under the trusted head that the proof names, or the proof and the list show two different
+/// strings with one digest. This holds for every hash whose digests have 32 bytes, whatever the lines in front are.
+pub fn checked_claims_are_true()
+    ensures { (hash : Hash) (lines : List (List ℕ)) (line : List ℕ) (claim : ClaimRecord)
+        (bytes : List ℕ) (lists : Lists) → ((message : List ℕ) → length (hash message) ≡ 32)
+        → line_of line ≡ Ok (Check claim bytes) → reply_behind hash lines line ≡ Yes
+        → claim.lo ≡ None → claim.hi ≡ None
+        → IsUnderHead hash (trusted_behind hash lines) bytes lists.headers
+        → IsTrueOf hash lists claim ⊎ Clashes hash (clash_of hash lists bytes) }
+{}
+
+/// Where a line of a script asks to extend the trusted head of `m` items, and the reply is yes, there is such a head, and
+/// each list under the new one begins with `m` items under it, or the extension and the list show two different strings
+/// with one digest. This holds for every hash whose digests have 32 bytes, whatever the lines in front are.
+pub fn extended_heads_go_on()
+    ensures { (hash : Hash) (lines : List (List ℕ)) (line : List ℕ) (which : Tree) (m : ℕ)
+        (head : HeadRecord) (bytes : List ℕ) (list : List (List ℕ))
+        → ((message : List ℕ) → length (hash message) ≡ 32)
+        → line_of line ≡ Ok (Extend which m head bytes) → reply_behind hash lines line ≡ Yes
+        → length list ≡ head.size → mth hash list ≡ head.root.0
+        → (old : DigestRecord) × (root_of which (trusted_behind hash lines) m ≡ Some old)
+        × (BeginsWith hash list m old.0 ⊎ Clashes hash (extension_clash hash list m old.0 bytes)) }
+{}
