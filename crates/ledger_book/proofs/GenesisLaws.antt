@@ -1,28 +1,40 @@
--- Lemmas on the book of a new ledger.
-use Rattle.std.proofs.Common.{◌≡◌, ℕ, List, [], ◌∷◌, ◌++◌, length, take, refl, ap, sym, subst, ◌∙◌, arith}
+-- Lemmas on the book of a first journal.
+use Rattle.std.proofs.Common.{◌≡◌, ℕ, true, cond, not, List, [], ◌∷◌, ◌++◌, length, take, drop, refl, ap, sym, subst, ◌∙◌, arith}
+use Rattle.std.specs.List.{fold}
+use Rattle.std.specs.Prelude.{max, map}
+use Rattle.std.proofs.lemmas.Bool.{eqb-true}
 use Rattle.std.proofs.lemmas.List.{take_at, drop_at}
 use Rattle.sha2.specs.Sha256.{sha256}
 use Rattle.tree_model.specs.Tree.{leaf}
 use Rattle.tree_model.proofs.Levels.{root_one}
 use Rattle.ledger_bytes.specs.Digests.{digest}
 use Rattle.ledger_bytes.specs.declared.digest.Digest.{Digest}
+use Rattle.journal_record.specs.Entry.{Entry}
 use Rattle.journal_record.specs.Header.{spelling}
 use Rattle.journal_record.specs.Members as book
+use Rattle.journal_record.specs.Rules.{IsHeader, jsn_ok, clue_ok}
 use Rattle.journal_record.specs.declared.header.Header.{Header}
+use Rattle.journal_record.specs.declared.header.Kind.{Kind}
+use Rattle.journal_record.specs.declared.header.Kind.TheVariants as kind
 use Rattle.journal_record.specs.declared.member.Member.{Member}
+use Rattle.merkle_batch.specs.Rows.{Levels, StandsFor}
 use Rattle.clue_index.specs.Added.{begun}
 use Rattle.clue_index.specs.Index as index
-use Rattle.ledger_model.specs.Genesis.{genesis_header, founded}
+use Rattle.ledger_model.specs.Genesis.{genesis_header, genesis_journal}
 use Rattle.ledger_model.specs.History as model
-use Rattle.ledger_model.specs.Members.{members}
+use Rattle.ledger_model.specs.History.{history, is_purge}
+use Rattle.ledger_model.specs.Lawful.{AreLawful, IsNextOf}
+use Rattle.ledger_model.specs.Members.{members, is_member, member_of}
 use Rattle.ledger_model.specs.declared.genesis.Genesis.{Genesis}
 use Rattle.ledger_model.specs.declared.limits.Limits.{Limits}
 use Rattle.ledger_model.proofs.KeepLaws.{genesis_lawful}
 use Rattle.ledger_book.specs.Books.{Kept, Serves, aged_all, clues_added}
+use Rattle.ledger_book.specs.Replaying.{IsFirst, begun_with}
+use Rattle.ledger_book.proofs.ClueLaws.{marks_same}
 
--- what the book of a new ledger keeps
-abbrev pub first_kept : Limits → Digest → List ℕ → List Member → index.Kept → List Header → List Digest → Kept
-first_kept limits leaf ends members clues headers leaves = record {
+-- what the book of a first journal keeps
+abbrev pub first_kept : Limits → Digest → List ℕ → List Member → index.Kept → List Header → Levels → Kept
+first_kept limits leaf ends members clues headers tree = record {
   limits = limits;
   floor = 0;
   size = 1;
@@ -35,43 +47,82 @@ first_kept limits leaf ends members clues headers leaves = record {
   members = members;
   clues = clues;
   headers = headers;
-  leaves = leaves;
+  tree = tree;
 }
 
-founded_members : (genesis : Genesis) → length genesis.operator.0 ≡ 32 → book.founders genesis.operator genesis.regulator ≡ members (founded genesis)
-unfolding members genesis_header
-founded_members genesis wide =
-    ap (λ x. book.founders (digest x) genesis.regulator) (sym (take_at genesis.operator.0 genesis.regulator.0 32 wide))
-    ∙ ap (λ x. book.founders (digest (take 32 (genesis.operator.0 ++ genesis.regulator.0))) (digest x)) (sym (drop_at genesis.operator.0 genesis.regulator.0 32 wide))
+-- a first journal
+module _ (header : Header) (operator regulator : Digest) (j : Entry) (kind_is : header.kind ≡ kind.Genesis) (layout : IsHeader header) (first : IsFirst header operator regulator j) where
+  first_kind : j.header.kind ≡ kind.Genesis
+  first_kind = ap (λ (x : Header). x.kind) first.header_is ∙ kind_is
 
-founded_root : (genesis : Genesis) → model.root (founded genesis) 1 ≡ leaf sha256 (spelling (genesis_header genesis))
-unfolding model.root
-founded_root genesis = root_one sha256 (leaf sha256 (spelling (genesis_header genesis)))
+  first_layout : IsHeader j.header
+  first_layout = subst IsHeader (sym first.header_is) layout
 
-founded_id : (genesis : Genesis) → model.id (founded genesis) ≡ leaf sha256 (spelling (genesis_header genesis))
-unfolding model.id
-founded_id genesis = refl
+  first_lawful : AreLawful (j ∷ [])
+  first_lawful = record {
+    next = (
+      record {
+        layout = first_layout;
+        jsn = eqb-true j.header.jsn 0 (subst (λ k. jsn_ok k j.header.jsn ≡ true) first_kind first_layout.jsn);
+        below = omega (arith, eqb-true j.header.jsn 0 (subst (λ k. jsn_ok k j.header.jsn ≡ true) first_kind first_layout.jsn));
+        own = subst (IsNextOf (history [] []) j.header) (sym first_kind) tt;
+      },
+      tt,
+    );
+    founded = ap (λ (x : Header). x.content_digest.0) first.header_is ∙ first.digest_is;
+  }
 
-founded_clues : (genesis : Genesis) → clues_added 0 (model.journals (founded genesis)) ≡ begun []
-unfolding genesis_header
-founded_clues genesis = refl
+  first_members : book.founders operator regulator ≡ members (begun_with j)
+  unfolding members
+  first_members =
+      ap (λ x. book.founders (digest x) regulator) first.operator_is ∙ ap (λ x. book.founders (digest (take 32 j.content)) (digest x)) first.regulator_is
+      ∙ ap (λ (k : Kind). book.founders (digest (take 32 j.content)) (digest (drop 32 j.content)) ++ map member_of (cond (is_member k) (j ∷ []) [])) (sym first_kind)
 
-founded_point : (genesis : Genesis) → model.seen_point 0 (founded genesis) ≡ 0
-unfolding model.seen_point genesis_header
-founded_point genesis = refl
+  first_clues : clues_added 0 (model.journals (begun_with j)) ≡ begun []
+  first_clues = marks_same 0 [] j (ap not (subst (λ k. clue_ok k j.header.clue ≡ true) first_kind first_layout.clue))
 
--- the book of a new ledger stands for its history
-pub serves_founded : (limits : Limits) (genesis : Genesis) (leaf_is : Digest) (encoded : List ℕ) (ms : List Member) (clues : index.Kept) (hs : List Header) (leaves : List Digest) (ends : List ℕ) (header : Header)
-    → header ≡ genesis_header genesis → encoded ≡ spelling header → leaf_is.0 ≡ leaf sha256 encoded → ms ≡ book.founders genesis.operator genesis.regulator → length genesis.operator.0 ≡ 32 → index.Stands clues (begun []) → hs ≡ header ∷ [] → leaves ≡ leaf_is ∷ [] → ends ≡ 1 ∷ []
-    → Serves (first_kept limits leaf_is ends ms clues hs leaves) (founded genesis)
-serves_founded limits genesis leaf_is encoded ms clues hs leaves ends header h e l m wide c hss ls es =
-    let told : leaf_is.0 ≡ leaf sha256 (spelling (genesis_header genesis)) = l ∙ ap (leaf sha256) (e ∙ ap spelling h) in record {
-      stands = record {
-        lawful = genesis_lawful genesis;
-        counts = record { size = refl; floor = omega arith; point = sym (founded_point genesis); blocks = refl; sealed_is = refl; ends = es };
-        tree = record { root = told ∙ sym (founded_root genesis); id = told ∙ sym (founded_id genesis); headers_are = hss ∙ ap (λ x. x ∷ []) h; leaves = ls ∙ ap (λ x. digest x ∷ []) told };
-        members = ap (aged_all 0) (m ∙ founded_members genesis wide);
-        clues = subst (index.Stands clues) (sym (founded_clues genesis)) c;
-      };
-      seen = omega arith;
-    }
+  first_point : model.seen_point 0 (begun_with j) ≡ 0
+  unfolding model.seen_point
+  first_point = ap (λ (k : Kind). fold max 0 (cond (is_purge k) j.header.a 0 ∷ [])) first_kind
+
+  first_root : model.root (begun_with j) 1 ≡ leaf sha256 (spelling j.header)
+  unfolding model.root
+  first_root = root_one sha256 (leaf sha256 (spelling j.header))
+
+  first_id : model.id (begun_with j) ≡ leaf sha256 (spelling j.header)
+  unfolding model.id
+  first_id = refl
+
+  -- its book stands for the history that has it alone
+  pub serves_first : (limits : Limits) (tip : Digest) (encoded : List ℕ) (ms : List Member) (clues : index.Kept) (hs : List Header) (rows : Levels) (ends : List ℕ)
+      → encoded ≡ spelling header → tip.0 ≡ leaf sha256 encoded → ms ≡ book.founders operator regulator → index.Stands clues (begun []) → hs ≡ header ∷ [] → StandsFor sha256 rows (tip.0 ∷ []) → ends ≡ 1 ∷ []
+      → Serves (first_kept limits tip ends ms clues hs rows) (begun_with j)
+  serves_first limits tip encoded ms clues hs rows ends e l m c hss stands es =
+      let told : tip.0 ≡ leaf sha256 (spelling j.header) = l ∙ ap (leaf sha256) (e ∙ ap spelling (sym first.header_is)) in record {
+        stands = record {
+          lawful = first_lawful;
+          counts = record { size = refl; floor = omega arith; point = sym first_point; blocks = refl; sealed_is = refl; ends = es };
+          tree = record { root = told ∙ sym first_root; id = told ∙ sym first_id; headers_are = hss ∙ ap (λ x. x ∷ []) (sym first.header_is); leaves = subst (λ x. StandsFor sha256 rows (x ∷ [])) told stands };
+          members = ap (aged_all 0) (m ∙ first_members);
+          clues = subst (index.Stands clues) (sym first_clues) c;
+        };
+        seen = omega arith;
+      }
+
+-- the first journal of a new ledger
+module _ (genesis : Genesis) where
+  pub genesis_kind : (header : Header) → header ≡ genesis_header genesis → header.kind ≡ kind.Genesis
+  unfolding genesis_header
+  genesis_kind header is = ap (λ (x : Header). x.kind) is
+
+  pub genesis_layout : (header : Header) → header ≡ genesis_header genesis → IsHeader header
+  genesis_layout header is = subst IsHeader (sym is) (genesis_lawful genesis).next.0.layout
+
+  pub genesis_first : (header : Header) → header ≡ genesis_header genesis → length genesis.operator.0 ≡ 32 → IsFirst header genesis.operator genesis.regulator (genesis_journal genesis)
+  unfolding genesis_header
+  genesis_first header is wide = record {
+    header_is = sym is;
+    operator_is = sym (take_at genesis.operator.0 genesis.regulator.0 32 wide);
+    regulator_is = sym (drop_at genesis.operator.0 genesis.regulator.0 32 wide);
+    digest_is = ap (λ (x : Header). x.content_digest.0) is;
+  }

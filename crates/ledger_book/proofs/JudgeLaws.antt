@@ -67,17 +67,17 @@ clue_known l h clue n is more =
     let test : (length (jsns_with h clue) == 0) ≡ false = ne_eqb (length (jsns_with h clue)) 0 (λ none. let no : ⊥ = omega (arith, is, more, none) in no) in
     clues_as l h clue false (and_left (not (is_no_clue clue) && length (jsns_with h clue) == 0) _ (and_right (not (is_no_clue clue)) _ test))
 
-pub clue_room : (k : Kept) (h : History) (clue : Digest) (n : ℕ) → Stands k h → ((a : Added) → index.Stands k.clues a → n ≡ length (different a)) → n < k.limits.clues → NoRefusal (clues_full k.limits h clue)
-clue_room k h clue n s told room =
+pub clue_room : (limits : Limits) (k : Kept) (h : History) (clue : Digest) (n : ℕ) → Stands k h → ((a : Added) → index.Stands k.clues a → n ≡ length (different a)) → n < limits.clues → NoRefusal (clues_full limits h clue)
+clue_room limits k h clue n s told room =
     let is = told_clues k h n s told in
-    clues_as k.limits h clue false (and_right (not (is_no_clue clue) && length (jsns_with h clue) == 0) _ (lt-leb k.limits.clues (clue_count h) (omega (arith, is, room))))
+    clues_as limits h clue false (and_right (not (is_no_clue clue) && length (jsns_with h clue) == 0) _ (lt-leb limits.clues (clue_count h) (omega (arith, is, room))))
 
-pub clue_full : (k : Kept) (h : History) (clue : Digest) (ordinal n : ℕ) → Stands k h → is_no_clue clue ≡ false → ordinal ≡ length (jsns_with h clue) + 1 → ordinal ≤ 1 → ((a : Added) → index.Stands k.clues a → n ≡ length (different a)) → k.limits.clues ≤ n → Some CluesFull ≡ clues_full k.limits h clue
-clue_full k h clue ordinal n s some next first told full =
+pub clue_full : (limits : Limits) (k : Kept) (h : History) (clue : Digest) (ordinal n : ℕ) → Stands k h → is_no_clue clue ≡ false → ordinal ≡ length (jsns_with h clue) + 1 → ordinal ≤ 1 → ((a : Added) → index.Stands k.clues a → n ≡ length (different a)) → limits.clues ≤ n → Some CluesFull ≡ clues_full limits h clue
+clue_full limits k h clue ordinal n s some next first told full =
     let is = told_clues k h n s told in
     let none : (length (jsns_with h clue) == 0) ≡ true = eq-eqb (length (jsns_with h clue)) 0 (omega (arith, next, first)) in
-    let test : nat_le k.limits.clues (clue_count h) ≡ true = le-leb k.limits.clues (clue_count h) (omega (arith, is, full)) in
-    clues_as k.limits h clue true (and_from _ _ (and_from _ _ (ap not some) none) test)
+    let test : nat_le limits.clues (clue_count h) ≡ true = le-leb limits.clues (clue_count h) (omega (arith, is, full)) in
+    clues_as limits h clue true (and_from _ _ (and_from _ _ (ap not some) none) test)
 
 -- where the next journal stands among those of its clue
 pub ordinal_none : (h : History) (clue : Digest) → is_no_clue clue ≡ true → 0 ≡ next_ordinal h clue

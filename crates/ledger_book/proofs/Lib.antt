@@ -5,3 +5,4 @@ pub mod StandsLaws
 pub mod GenesisLaws
 pub mod JudgeLaws
 pub mod ApplyLaws
+mod ReplayLaws

@@ -7,6 +7,7 @@ use Rattle.std.proofs.lemmas.List.Concat.{flat_map-append}
 use Rattle.std.proofs.lemmas.List.Elements.{filter-append}
 use Rattle.sha2.specs.Sha256.{sha256}
 use Rattle.tree_model.specs.Tree as tree
+use Rattle.merkle_batch.specs.Rows.{Levels, StandsFor}
 use Rattle.ledger_bytes.specs.Digests.{digest}
 use Rattle.ledger_bytes.specs.declared.digest.Digest.{Digest}
 use Rattle.journal_record.specs.Entry.{Entry}
@@ -30,8 +31,8 @@ use Rattle.ledger_model.proofs.GrowLaws.{close_settled, close_ended, size_closed
 use Rattle.ledger_model.proofs.KeepLaws.{journals_wider}
 use Rattle.ledger_model.proofs.LawfulLaws.{later_seen, lawful_more, none_hidden, some_journal}
 use Rattle.ledger_model.proofs.PlaceLaws.{founders_kept, admitted_more, admitted_same, point_same}
-use Rattle.ledger_book.specs.Books.{Kept, Stands, Serves, headers, sealed, ends_above, aged, aged_all, clues_added}
-use Rattle.ledger_book.specs.Steps.{MayPlace, IsLeafOf, with_clue_of}
+use Rattle.ledger_book.specs.Books.{Kept, Stands, Serves, headers, leaf_digests, sealed, ends_above, aged, aged_all, clues_added}
+use Rattle.ledger_book.specs.Steps.{IsAsBefore, MayPlace, IsLeafOf, with_clue_of}
 use Rattle.ledger_book.specs.Seals.{head_at, ended, seal_of}
 use Rattle.ledger_book.specs.declared.sealed.Sealed.{Sealed}
 use Rattle.ledger_book.proofs.ClueLaws.{marks_more, marks_same, marks_below}
@@ -51,15 +52,15 @@ stands_settled k h s none = subst (Stands k) (close_settled h (none_waits k h s 
 pub point_is : (k : Kept) (h : History) → Serves k h → k.point ≡ model.point h
 point_is k h s = s.stands.counts.point ∙ later_seen h k.floor s.stands.lawful (subst (λ n. k.floor ≤ n) s.stands.counts.point s.seen)
 
-digests_of : (js : List Entry) → map (λ (d : Digest). d.0) (map (λ (j : Entry). digest (leaf_digest j)) js) ≡ map (tree.leaf sha256) (map (λ (j : Entry). spelling j.header) js)
+digests_of : (js : List Entry) → map leaf_digest js ≡ map (tree.leaf sha256) (map (λ (j : Entry). spelling j.header) js)
 digests_of [] = refl
 digests_of (j ∷ js) = ap (λ rest. leaf_digest j ∷ rest) (digests_of js)
 
--- the root over the digests of all leaves
-pub root_of_leaves : (k : Kept) (h : History) (root : List ℕ) → Stands k h → root ≡ tree.root sha256 (map (λ (d : Digest). d.0) k.leaves) → root ≡ model.root h (model.size h)
+-- the root over all leaves
+pub root_told : (k : Kept) (h : History) (root : List ℕ) → Stands k h → ((ds : List (List ℕ)) → StandsFor sha256 k.tree ds → root ≡ tree.root sha256 ds) → root ≡ model.root h (model.size h)
 unfolding model.root
-root_of_leaves k h root s is =
-    is ∙ ap (λ (ds : List Digest). tree.root sha256 (map (λ (d : Digest). d.0) ds)) s.tree.leaves ∙ ap (tree.root sha256) (digests_of (journals h))
+root_told k h root s told =
+    told (leaf_digests h) s.tree.leaves ∙ ap (tree.root sha256) (digests_of (journals h))
     ∙ ap (tree.mth sha256) (sym (take_all (model.size h) (model.leaves h) (omega (arith, length-map (journals h) (λ (j : Entry). spelling j.header)))))
 
 -- the history with its open block ended
@@ -109,7 +110,7 @@ stands_shut k h root ends s some r more =
         root = r ∙ sym (shut_root h (model.size h)) ∙ ap (model.root (shut h)) (sym all);
         id = s.tree.id ∙ ap first_leaf_digest (sym e);
         headers_are = s.tree.headers_are ∙ ap (λ (js : List Entry). drop k.floor (map (λ (j : Entry). j.header) js)) (sym e);
-        leaves = s.tree.leaves ∙ ap (λ (js : List Entry). map (λ (j : Entry). digest (leaf_digest j)) js) (sym e);
+        leaves = subst (λ (js : List Entry). StandsFor sha256 k.tree (map leaf_digest js)) (sym e) s.tree.leaves;
       };
       members = s.members ∙ ap (λ js. aged_all k.floor (founders js ++ admitted js)) (sym e);
       clues = subst (λ (js : List Entry). index.Stands k.clues (clues_added k.floor js)) (sym e) s.clues;
@@ -174,11 +175,11 @@ no_purge h x kind.Occult own = absurd own
 no_purge h x kind.Purge own = absurd own
 
 -- a journal more in the open block
-stands_wider : (k : Kept) (h : History) (j : Entry) (ms : List Member) (t : index.Kept) → Stands k h → MayPlace h j.header
+stands_wider : (k : Kept) (h : History) (j : Entry) (ms : List Member) (t : index.Kept) (rows : Levels) → Stands k h → MayPlace h j.header
     → aged_all k.floor ms ≡ aged_all k.floor (members (wider h j)) → index.Stands t (clues_added k.floor (journals (wider h j)))
-    → Stands (record k { size = k.size + 1; members = ms; clues = t; headers = k.headers ++ j.header ∷ []; leaves = k.leaves ++ digest (leaf_digest j) ∷ [] }) (wider h j)
+    → StandsFor sha256 rows (leaf_digests h ++ leaf_digest j ∷ []) → Stands (record k { size = k.size + 1; members = ms; clues = t; headers = k.headers ++ j.header ∷ []; tree = rows }) (wider h j)
 unfolding model.seen_point model.id
-stands_wider k h j ms t s next same clues =
+stands_wider k h j ms t rows s next same clues leaves =
     let e = journals_wider h j in
     let some = some_journal (journals h) s.lawful in
     let below : length (journals_of h.closed) ≤ model.size h = omega (arith, length-append (journals_of h.closed) h.waiting) in
@@ -200,9 +201,7 @@ stands_wider k h j ms t s next same clues =
         headers_are =
             ap (λ hs. hs ++ j.header ∷ []) s.tree.headers_are ∙ sym (drop-append-le k.floor (headers h) (j.header ∷ []) (omega (arith, low, length-map (journals h) (λ (x : Entry). x.header))))
             ∙ ap (drop k.floor) (sym (ap (map (λ (x : Entry). x.header)) e ∙ map-append (λ (x : Entry). x.header) (journals h) (j ∷ [])));
-        leaves =
-            ap (λ ls. ls ++ digest (leaf_digest j) ∷ []) s.tree.leaves
-            ∙ sym (ap (map (λ (x : Entry). digest (leaf_digest x))) e ∙ map-append (λ (x : Entry). digest (leaf_digest x)) (journals h) (j ∷ []));
+        leaves = subst (StandsFor sha256 rows) (sym (ap (map leaf_digest) e ∙ map-append leaf_digest (journals h) (j ∷ []))) leaves;
       };
       members = same;
       clues = clues;
@@ -233,26 +232,22 @@ abbrev pub AddsClue : index.Kept → index.Kept → Header → Type 0
 AddsClue old new header = (a : Added) → index.Stands old a → a.floor ≤ header.jsn → All (λ m. m.jsn < header.jsn) a.marks → index.Stands new (with_clue_of header a)
 
 -- the lists with a header more
-pub record Grown (k : Kept) (hs : List Header) (ls : List Digest) (ends : List ℕ) (header : Header) (tip : Digest) : Type 0 where
+pub record Grown (k : Kept) (hs : List Header) (rows : Levels) (ends : List ℕ) (header : Header) (tip : Digest) : Type 0 where
   pub headers_are : hs ≡ k.headers ++ header ∷ []
-  pub leaves_are : ls ≡ k.leaves ++ tip ∷ []
+  pub leaves_are : (ds : List (List ℕ)) → StandsFor sha256 k.tree ds → StandsFor sha256 rows (ds ++ tip.0 ∷ [])
   pub ends_are : ends ≡ k.ends
   pub tip_is : IsLeafOf header tip
 
 -- what a book keeps behind a journal
-abbrev pub kept_with : Kept → List Member → index.Kept → List Header → List Digest → List ℕ → Kept
-kept_with k ms t hs ls ends = record k { size = k.size + 1; ends = ends; members = ms; clues = t; headers = hs; leaves = ls }
+abbrev pub kept_with : Kept → List Member → index.Kept → List Header → Levels → List ℕ → Kept
+kept_with k ms t hs rows ends = record k { size = k.size + 1; ends = ends; members = ms; clues = t; headers = hs; tree = rows }
 
 -- with lists that are equal to those
-grown : (k : Kept) (g : History) (j : Entry) (ms : List Member) (t : index.Kept) (hs : List Header) (ls : List Digest) (ends : List ℕ) (header : Header) (tip : Digest)
-    → j.header ≡ header → Grown k hs ls ends header tip → Stands (kept_with k ms t (k.headers ++ j.header ∷ []) (k.leaves ++ digest (leaf_digest j) ∷ []) k.ends) g → Stands (kept_with k ms t hs ls ends) g
-grown k g j ms t hs ls ends header tip is more s =
-    let heads : k.headers ++ j.header ∷ [] ≡ hs = ap (λ x. k.headers ++ x ∷ []) is ∙ sym more.headers_are in
-    let leaf_same : leaf_digest j ≡ tip.0 = ap (λ (x : Header). tree.leaf sha256 (spelling x)) is ∙ sym more.tip_is in
-    let tips : k.leaves ++ digest (leaf_digest j) ∷ [] ≡ ls = ap (λ x. k.leaves ++ digest x ∷ []) leaf_same ∙ sym more.leaves_are in
-    subst (λ (x : List ℕ). Stands (kept_with k ms t hs ls x) g) (sym more.ends_are)
-    (subst (λ (x : List Digest). Stands (kept_with k ms t hs x k.ends) g) tips
-    (subst (λ (x : List Header). Stands (kept_with k ms t x (k.leaves ++ digest (leaf_digest j) ∷ []) k.ends) g) heads s))
+grown : (k : Kept) (g : History) (j : Entry) (ms : List Member) (t : index.Kept) (hs : List Header) (rows : Levels) (ends : List ℕ) (header : Header)
+    → j.header ≡ header → hs ≡ k.headers ++ header ∷ [] → ends ≡ k.ends → Stands (kept_with k ms t (k.headers ++ j.header ∷ []) rows k.ends) g → Stands (kept_with k ms t hs rows ends) g
+grown k g j ms t hs rows ends header is heads_are ends_are s =
+    let heads : k.headers ++ j.header ∷ [] ≡ hs = ap (λ x. k.headers ++ x ∷ []) is ∙ sym heads_are in
+    subst (λ (x : List ℕ). Stands (kept_with k ms t hs rows x) g) (sym ends_are) (subst (λ (x : List Header). Stands (kept_with k ms t x rows k.ends) g) heads s)
 
 module _ (k : Kept) (h : History) (j : Entry) (header : Header) (s : Stands k h) (is : j.header ≡ header) (next : MayPlace h header) where
   placing : MayPlace h j.header
@@ -264,20 +259,26 @@ module _ (k : Kept) (h : History) (j : Entry) (header : Header) (s : Stands k h)
   low : k.floor ≤ model.size h
   low = omega (arith, s.counts.floor, length-append (journals_of h.closed) h.waiting)
 
+  -- the tree with the journal's leaf
+  leaf_more : (rows : Levels) (tip : Digest) → IsLeafOf header tip → ((ds : List (List ℕ)) → StandsFor sha256 k.tree ds → StandsFor sha256 rows (ds ++ tip.0 ∷ [])) → StandsFor sha256 rows (leaf_digests h ++ leaf_digest j ∷ [])
+  leaf_more rows tip tip_is more =
+      let same : tip.0 ≡ leaf_digest j = tip_is ∙ ap (λ (x : Header). tree.leaf sha256 (spelling x)) (sym is) in
+      subst (λ d. StandsFor sha256 rows (leaf_digests h ++ d ∷ [])) same (more (leaf_digests h) s.tree.leaves)
+
   -- a member's record
-  pub stands_record : (t : index.Kept) (hs : List Header) (ls : List Digest) (ends : List ℕ) (tip : Digest) → header.kind ≡ kind.Content → AddsClue k.clues t header → Grown k hs ls ends header tip
-      → Stands (kept_with k k.members t hs ls ends) (wider h j)
-  stands_record t hs ls ends tip content adds more =
+  pub stands_record : (t : index.Kept) (hs : List Header) (rows : Levels) (ends : List ℕ) (tip : Digest) → header.kind ≡ kind.Content → AddsClue k.clues t header → Grown k hs rows ends header tip
+      → Stands (kept_with k k.members t hs rows ends) (wider h j)
+  stands_record t hs rows ends tip content adds more =
       let kind_is : j.header.kind ≡ kind.Content = ap (λ (x : Header). x.kind) is ∙ content in
       let told = adds (clues_added k.floor (journals h)) s.clues (omega (arith, low, next.jsn)) (subst (λ n. All (λ (m : Mark). m.jsn < n) (clues_added k.floor (journals h)).marks) (sym next.jsn) (marks_below k.floor (journals h) s.lawful)) in
       let clues : index.Stands t (clues_added k.floor (journals (wider h j))) = subst (index.Stands t) (ap (λ (x : Header). with_clue_of x (clues_added k.floor (journals h))) (sym is) ∙ wider_clues k.floor h j) told in
-      grown k (wider h j) j k.members t hs ls ends header tip is more
-      (stands_wider k h j k.members t s placing (s.members ∙ ap (aged_all k.floor) (sym (wider_members_same h j some_yet (ap is_member kind_is)))) clues)
+      grown k (wider h j) j k.members t hs rows ends header is more.headers_are more.ends_are
+      (stands_wider k h j k.members t rows s placing (s.members ∙ ap (aged_all k.floor) (sym (wider_members_same h j some_yet (ap is_member kind_is)))) clues (leaf_more rows tip more.tip_is more.leaves_are))
 
   -- a new member
-  pub stands_member : (ms : List Member) (hs : List Header) (ls : List Digest) (ends : List ℕ) (tip : Digest) → header.kind ≡ kind.Member → ms ≡ k.members ++ record { key = header.link; jsn = header.jsn } ∷ []
-      → Grown k hs ls ends header tip → Stands (kept_with k ms k.clues hs ls ends) (wider h j)
-  stands_member ms hs ls ends tip member added more =
+  pub stands_member : (ms : List Member) (hs : List Header) (rows : Levels) (ends : List ℕ) (tip : Digest) → header.kind ≡ kind.Member → ms ≡ k.members ++ record { key = header.link; jsn = header.jsn } ∷ []
+      → Grown k hs rows ends header tip → Stands (kept_with k ms k.clues hs rows ends) (wider h j)
+  stands_member ms hs rows ends tip member added more =
       let kind_is : j.header.kind ≡ kind.Member = ap (λ (x : Header). x.kind) is ∙ member in
       let none_j : is_no_clue j.header.clue ≡ true = ap (λ (x : Header). is_no_clue x.clue) is ∙ subst (λ (x : Kind). clue_ok x header.clue ≡ true) member next.layout.clue in
       let same : clues_added k.floor (journals h) ≡ clues_added k.floor (journals (wider h j)) = sym (ap (λ b. cond b (clues_added k.floor (journals h)) (with_mark j.header.clue.0 j.header.jsn (clues_added k.floor (journals h)))) none_j) ∙ wider_clues k.floor h j in
@@ -285,5 +286,23 @@ module _ (k : Kept) (h : History) (j : Entry) (header : Header) (s : Stands k h)
       ap (aged_all k.floor) (added ∙ ap (λ (x : Header). k.members ++ record { key = x.link; jsn = x.jsn } ∷ []) (sym is)) ∙ map-append (aged k.floor) k.members (member_of j ∷ [])
       ∙ ap (λ x. x ++ aged_all k.floor (member_of j ∷ [])) s.members ∙ sym (map-append (aged k.floor) (members h) (member_of j ∷ []))
       ∙ ap (aged_all k.floor) (sym (wider_members_more h j some_yet (ap is_member kind_is))) in
-      grown k (wider h j) j ms k.clues hs ls ends header tip is more
-      (stands_wider k h j ms k.clues s placing joined (subst (index.Stands k.clues) same s.clues))
+      grown k (wider h j) j ms k.clues hs rows ends header is more.headers_are more.ends_are
+      (stands_wider k h j ms k.clues rows s placing joined (subst (index.Stands k.clues) same s.clues) (leaf_more rows tip more.tip_is more.leaves_are))
+
+-- more room for the tree changes nothing
+pub as_before_stands : (old new : Kept) (h : History) → IsAsBefore old new → Stands old h → Stands new h
+as_before_stands old new h same s =
+    let moved : Stands (record old { tree = new.tree }) h = record {
+      lawful = s.lawful;
+      counts = record { size = s.counts.size; floor = s.counts.floor; point = s.counts.point; blocks = s.counts.blocks; sealed_is = s.counts.sealed_is; ends = s.counts.ends };
+      tree = record { root = s.tree.root; id = s.tree.id; headers_are = s.tree.headers_are; leaves = same.tree (leaf_digests h) s.tree.leaves };
+      members = s.members;
+      clues = s.clues;
+    } in
+    subst (λ (k : Kept). Stands k h) (sym same.kept) moved
+
+pub as_before_serves : (old new : Kept) (h : History) → IsAsBefore old new → Serves old h → Serves new h
+as_before_serves old new h same s = record {
+  stands = as_before_stands old new h same s.stands;
+  seen = subst (λ (k : Kept). k.floor ≤ k.point) (sym same.kept) s.seen;
+}

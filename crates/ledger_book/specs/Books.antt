@@ -1,9 +1,10 @@
 -- What a book keeps of a history, and what it is to stand for one.
 use Rattle.std.specs.Prelude.{◌≡◌, ℕ, ◌≤◌, if◌then◌else◌, List, [], map, filter, drop, length, nat_lt}
-use Rattle.ledger_bytes.specs.Digests.{digest}
+use Rattle.sha2.specs.Sha256.{sha256}
 use Rattle.ledger_bytes.specs.declared.digest.Digest.{Digest}
 use Rattle.journal_record.specs.Entry.{Entry}
 use Rattle.journal_record.specs.declared.header.Header.{Header}
+use Rattle.merkle_batch.specs.Rows.{Levels, StandsFor}
 use Rattle.journal_record.specs.declared.member.Member.{Member}
 use Rattle.clue_index.specs.Added.{Mark, Added}
 use Rattle.clue_index.specs.Index as index
@@ -19,8 +20,8 @@ abbrev pub headers : History → List Header
 headers h = map (λ journal. journal.header) (journals h)
 
 -- the digests of all journals as leaves
-abbrev pub leaf_digests : History → List Digest
-leaf_digests h = map (λ journal. digest (leaf_digest journal)) (journals h)
+abbrev pub leaf_digests : History → List (List ℕ)
+leaf_digests h = map leaf_digest (journals h)
 
 -- how many journals stand in blocks that have ended
 abbrev pub sealed : History → ℕ
@@ -62,7 +63,7 @@ pub record Kept : Type 0 where
   pub members : List Member
   pub clues : index.Kept
   pub headers : List Header
-  pub leaves : List Digest
+  pub tree : Levels
 
 -- the numbers are those of this history
 pub record HasCounts (k : Kept) (h : History) : Type 0 where
@@ -78,7 +79,7 @@ pub record HasTree (k : Kept) (h : History) : Type 0 where
   pub root : k.root.0 ≡ model.root h (sealed h)
   pub id : k.id.0 ≡ model.id h
   pub headers_are : k.headers ≡ drop k.floor (headers h)
-  pub leaves : k.leaves ≡ leaf_digests h
+  pub leaves : StandsFor sha256 k.tree (leaf_digests h)
 
 -- the book keeps what this lawful history says, as far as it keeps it
 pub record Stands (k : Kept) (h : History) : Type 0 where

@@ -1,3 +1,4 @@
 pub mod Books
+pub mod Replaying
 pub mod Seals
 pub mod Steps

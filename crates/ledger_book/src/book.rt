@@ -1,4 +1,6 @@
 ghost use Rattle.std.specs.Prelude.{◌≡◌, ◌↔◌, ◌≤◌, IsTrue, IfOk, IfNone, length, nat_le, slice_get, option_copied, Option, None, true, if◌then◌else◌};
+ghost use Rattle.sha2.specs.Sha256.{sha256};
+ghost use Rattle.merkle_batch.specs.Rows.{StandsFor};
 ghost use Rattle.ledger_model.specs.Clues.{jsns_with};
 ghost use Rattle.ledger_model.specs.Genesis.{founded};
 ghost use Rattle.ledger_model.specs.History as model;
@@ -14,6 +16,7 @@ ghost use Rattle.ledger_book.specs.Steps.{IsSame};
 mod applying;
 mod judging;
 mod placing;
+mod replaying;
 
 use crate::Sealed;
 use crate::headers::first_header;
@@ -22,7 +25,8 @@ use journal_record::Header;
 use ledger_bytes::{BLOCK_LIMIT, Digest, NoMemory, Sha};
 use ledger_model::{Genesis, Limits, View};
 use member_book::MemberBook;
-use merkle_tree::{Head, leaf_of, root_of};
+use merkle_batch::Tree;
+use merkle_tree::Head;
 use std::alloc::Global;
 use std::marker::Model;
 
@@ -45,12 +49,12 @@ pub struct Book {
     members: MemberBook,
     clues: ClueIndex,
     headers: Vec<Header>,
-    /// The digests of all journals as leaves.
-    leaves: Vec<Digest>,
+    /// The tree over all journals.
+    tree: Tree<Sha>,
 }
 
 impl Model for Book {
-    ghost use Rattle.std.specs.Prelude.{◌^◌, ◌<◌, ◌≤◌, vec_len, vec_capacity};
+    ghost use Rattle.std.specs.Prelude.{◌≡◌, ◌^◌, ◌<◌, ◌≤◌, vec_len, vec_capacity};
     ghost use Rattle.ledger_model.specs.Limits.{AreWithin};
     ghost use Rattle.ledger_book.specs.Books.{Kept};
 
@@ -69,11 +73,11 @@ impl Model for Book {
       members = b.members;
       clues = b.clues;
       headers = b.headers.items;
-      leaves = b.leaves.items;
+      tree = b.tree;
     } };
 
     ghost invariant = { λ b. (1 ≤ b.size) × (b.size < 2 ^ 32) × AreWithin b.limits × (b.blocks ≤ b.head.size) × (b.head.size ≤ b.size)
-        × (b.head.size < b.size → vec_len b.ends < vec_capacity b.ends) };
+        × (b.head.size < b.size → vec_len b.ends < vec_capacity b.ends) × (b.tree.size ≡ b.size) };
 }
 
 impl Book {
@@ -85,32 +89,17 @@ impl Book {
         ensures floor { IfOk result (λ book. (book.floor ≡ 0) × (book.point ≡ 0)) }
     {
         let header = first_header(genesis);
-        let leaf = leaf_of::<Sha>(&header.encode());
-        let members = MemberBook::new(alloc, &genesis.operator, &genesis.regulator)?;
-        let headers = vec![in alloc; header]?;
-        let leaves = vec![in alloc; leaf]?;
-        let ends = vec![in alloc; 1]?;
-        Ok(Book {
+        Self::from_first(
+            alloc,
+            &header,
+            &genesis.operator,
+            &genesis.regulator,
             limits,
-            floor: 0,
-            size: 1,
-            point: 0,
-            blocks: 1,
-            head: Head {
-                size: 1,
-                root: leaf,
-            },
-            ends,
-            id: leaf,
-            members,
-            clues: ClueIndex::new(alloc),
-            headers,
-            leaves,
-        })
+        )
     }
 
-    /// Ends the open block, where a journal waits in it. It takes no memory. The root is computed anew over the leaves'
-    /// digests.
+    /// Ends the open block, where a journal waits in it. It takes no memory, since room was made before
+    /// each journal was placed.
     pub fn seal(&mut self) -> Option<Sealed>
         ensures stands { (h : History) → Stands self.old h → Stands self.new (close h) }
         ensures sealed { (h : History) → Stands self.old h → result ≡ seal_of h }
@@ -120,7 +109,7 @@ impl Book {
         if self.head.size == self.size {
             return None;
         }
-        let root = root_of::<Sha>(self.leaves.as_slice());
+        let root = self.tree.root();
         let sealed = Sealed {
             block: self.blocks,
             first: self.head.size,
@@ -151,7 +140,8 @@ impl Book {
     /// The header of journal `n`, where it is kept.
     pub fn header(&self, n: u64) -> Option<&Header>
         ensures { (h : History) → Serves self.now h
-            → option_copied result ≡ (if nat_le self.now.floor n then slice_get (headers h) n else None) }
+            → option_copied result
+            ≡ (if nat_le self.now.floor n then slice_get (headers h) n else None) }
     {
         let at = n.checked_sub(self.floor)?;
         self.headers.get(at as usize)
@@ -180,7 +170,8 @@ impl Book {
 
     /// The first journal that a purge has left, or 0, as far as purges behind the first kept header tell it.
     pub fn point(&self) -> u64
-        ensures seen { (h : History) → Stands self.now h → result ≡ model.seen_point self.now.floor h }
+        ensures seen { (h : History) → Stands self.now h
+            → result ≡ model.seen_point self.now.floor h }
         ensures point { (h : History) → Serves self.now h → result ≡ model.point h }
     {
         self.point
@@ -195,14 +186,16 @@ impl Book {
 
     /// Whether the open block has as many journals as a block may have. It is to be ended then.
     pub fn is_block_full(&self) -> bool
-        ensures { (h : History) → Stands self.now h → IsTrue result ↔ (BLOCK_LIMIT ≤ length h.waiting) }
+        ensures { (h : History) → Stands self.now h → IsTrue result
+            ↔ (BLOCK_LIMIT ≤ length h.waiting) }
     {
         self.unsealed() >= BLOCK_LIMIT
     }
 
     /// Whether there is no room for a journal of the operator.
     pub fn full(&self) -> bool
-        ensures { (h : History) → Serves self.now h → result ≡ is_full self.now.limits.hard self.now.limits h }
+        ensures { (h : History) → Serves self.now h
+            → result ≡ is_full self.now.limits.hard self.now.limits h }
     {
         self.size.saturating_sub(self.point) >= self.limits.hard || self.size >= self.limits.size
     }
@@ -210,8 +203,10 @@ impl Book {
     /// How many journals a clue has over the whole history, and the numbers of those from the point on, ascending. No
     /// clue has none.
     pub fn clue(&self, clue: &Digest) -> Result<(u32, Vec<u64>), NoMemory>
-        ensures count { IfOk result (λ r. (h : History) → Serves self.now h → r.0 ≡ length (jsns_with h clue.now)) }
-        ensures kept { IfOk result (λ r. (h : History) → Serves self.now h → r.1.items ≡ kept_with h clue.now) }
+        ensures count { IfOk result (λ r. (h : History) → Serves self.now h
+            → r.0 ≡ length (jsns_with h clue.now)) }
+        ensures kept { IfOk result (λ r. (h : History) → Serves self.now h
+            → r.1.items ≡ kept_with h clue.now) }
     {
         let point = self.point;
         let (count, mut kept) = self.clues.of(clue)?;
@@ -219,10 +214,10 @@ impl Book {
         Ok((count, kept))
     }
 
-    /// The digests of all journals as leaves.
-    pub fn leaves(&self) -> &[Digest]
-        ensures { (h : History) → Stands self.now h → result.now ≡ leaf_digests h }
+    /// The tree over all journals.
+    pub fn tree(&self) -> &Tree<Sha>
+        ensures { (h : History) → Stands self.now h → StandsFor sha256 result.now (leaf_digests h) }
     {
-        self.leaves.as_slice()
+        &self.tree
     }
 }

@@ -63,7 +63,8 @@ pub(crate) fn record_header(
 ) -> Header
     requires { length by.now.proof < 2 ^ 16 }
     ensures { (content : List ℕ) → length content ≡ content_len
-        → result ≡ append_header place.jsn member clue.now place.ordinal place.previous content content_digest.now
+        → result ≡ append_header place.jsn member clue.now place.ordinal place.previous content
+        content_digest.now
         request.now by.now }
 {
     Header {

@@ -1,13 +1,18 @@
 //! The state of a ledger's history: what is kept of it to judge each job, to place its journals and to end blocks.
-//! A call costs no more than what it touches, but for the root at a block's end.
+//! A call costs no more than what it touches; the root at a block's end costs a hash for each level of the tree.
 #![tactic(auto)]
 
 mod book;
 mod headers;
+mod laws;
 mod prepared;
 mod sealed;
 
 pub use book::Book;
+pub use laws::room_changes_nothing;
 pub use ledger_model::{Genesis, Job, Limits, Outcome, Query, View};
 pub use prepared::Prepared;
 pub use sealed::Sealed;
+
+#[cfg(test)]
+mod tests;

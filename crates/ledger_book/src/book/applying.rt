@@ -6,7 +6,7 @@ ghost use Rattle.ledger_model.specs.History.{History};
 ghost use Rattle.ledger_model.specs.Outcomes.{AsksFor};
 ghost use Rattle.ledger_model.specs.declared.job.Job.TheVariants as asked;
 ghost use Rattle.ledger_book.specs.Books.{Serves};
-ghost use Rattle.ledger_book.specs.Steps.{IsSame, PlacesNothing, NeverReads, Applies};
+ghost use Rattle.ledger_book.specs.Steps.{IsSame, IsAsBefore, PlacesNothing, NeverReads, Applies};
 
 use super::Book;
 use crate::headers::{new_member_header, record_header};
@@ -22,7 +22,7 @@ impl Book {
         requires { fits_job job.now ≡ true }
         ensures ok { IfOk result (λ outcome. (h : History) → Serves self.old h
             → Applies self.old.limits (option_copied stamp.entry) h job.now outcome self.new) }
-        ensures err { OnErr result (self.new ≡ self.old) }
+        ensures err { OnErr result (IsAsBefore self.old self.new) }
         ensures same { IsSame self.old self.new }
         ensures unchanged { IfOk result (λ outcome. PlacesNothing outcome → self.new ≡ self.old) }
         ensures asked { IfOk result (AsksFor job.now) }
@@ -56,10 +56,12 @@ impl Book {
     ) -> Result<Outcome, NoMemory>
         requires content { length content.now ≤ CONTENT_LIMIT }
         requires proof { length by.now.proof ≤ PROOF_LIMIT }
-        ensures ok { IfOk result (λ outcome. (stamp : Option StampRecord) (h : History) → Serves self.old h
+        ensures ok { IfOk result (λ outcome. (stamp : Option StampRecord) (h : History)
+            → Serves self.old h
             → Applies self.old.limits stamp h
-            (asked.Append member clue.now content.now content_digest.now request.now by.now) outcome self.new) }
-        ensures err { OnErr result (self.new ≡ self.old) }
+            (asked.Append member clue.now content.now content_digest.now request.now by.now) outcome
+            self.new) }
+        ensures err { OnErr result (IsAsBefore self.old self.new) }
         ensures same { IsSame self.old self.new }
         ensures unchanged { IfOk result (λ outcome. PlacesNothing outcome → self.new ≡ self.old) }
         ensures places { IfOk result NeverReads }
@@ -93,9 +95,11 @@ impl Book {
         by: &Approval,
     ) -> Result<Outcome, NoMemory>
         requires { length by.now.proof ≤ PROOF_LIMIT }
-        ensures ok { IfOk result (λ outcome. (stamp : Option StampRecord) (h : History) → Serves self.old h
-            → Applies self.old.limits stamp h (asked.NewMember number key.now by.now) outcome self.new) }
-        ensures err { OnErr result (self.new ≡ self.old) }
+        ensures ok { IfOk result (λ outcome. (stamp : Option StampRecord) (h : History)
+            → Serves self.old h
+            → Applies self.old.limits stamp h
+            (asked.NewMember number key.now by.now) outcome self.new) }
+        ensures err { OnErr result (IsAsBefore self.old self.new) }
         ensures same { IsSame self.old self.new }
         ensures unchanged { IfOk result (λ outcome. PlacesNothing outcome → self.new ≡ self.old) }
         ensures places { IfOk result NeverReads }

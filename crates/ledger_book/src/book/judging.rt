@@ -3,12 +3,13 @@ ghost use Rattle.ledger_bytes.specs.declared.limits.TheConstants.{MEMBER_LIMIT};
 ghost use Rattle.journal_record.specs.Members.{keys};
 ghost use Rattle.ledger_model.specs.History.{History};
 ghost use Rattle.ledger_model.specs.Judgements.{full, unknown_in, wrong_key_in, clues_full, append_judgements, member_judgements, first_refusal};
-ghost use Rattle.ledger_model.specs.Limits.{AreWithin};
+ghost use Rattle.ledger_model.specs.Limits.{AreWithin, real};
 ghost use Rattle.ledger_book.specs.Books.{Stands, Serves};
 
 use super::Book;
 use journal_record::Approval;
 use ledger_bytes::{Digest, Refusal};
+use ledger_model::Limits;
 
 impl Book {
     /// Why a member's record with this clue is refused, where it is.
@@ -19,8 +20,9 @@ impl Book {
         by: &Approval,
     ) -> Option<Refusal>
         ensures refusal { (h : History) → Serves self.now h
-            → result ≡ first_refusal (append_judgements self.now.limits h member clue.now by.now.key) }
-        ensures room { IfNone result (self.now.size < self.now.limits.size) }
+            → result ≡ first_refusal
+            (append_judgements self.now.limits h member clue.now by.now.key) }
+        ensures room { IfNone result (self.now.size < real.size) }
         ensures within { AreWithin self.now.limits }
     {
         if let Some(refusal) = self.full_refusal() {
@@ -29,14 +31,14 @@ impl Book {
         if let Some(refusal) = self.key_refusal(member, &by.key) {
             return Some(refusal);
         }
-        self.clue_refusal(clue)
+        self.clue_refusal(clue, self.limits)
     }
 
     /// Why a new member with this number is refused, where it is.
     pub(super) fn member_refusal(&self, number: u32, by: &Approval) -> Option<Refusal>
         ensures refusal { (h : History) → Serves self.now h
             → result ≡ first_refusal (member_judgements self.now.limits h number by.now.key) }
-        ensures room { IfNone result (self.now.size < self.now.limits.size) }
+        ensures room { IfNone result (self.now.size < real.size) }
         ensures next { IfNone result (length self.now.members < MEMBER_LIMIT) }
         ensures within { AreWithin self.now.limits }
     {
@@ -52,7 +54,7 @@ impl Book {
     // Whether there is no room for a member's journal.
     fn full_refusal(&self) -> Option<Refusal>
         ensures refusal { (h : History) → Serves self.now h → result ≡ full self.now.limits h }
-        ensures room { IfNone result (self.now.size < self.now.limits.size) }
+        ensures room { IfNone result (self.now.size < real.size) }
         ensures within { AreWithin self.now.limits }
     {
         let kept = self.size.saturating_sub(self.point);
@@ -68,7 +70,8 @@ impl Book {
     // Whether the member isn't known, or the key that a proof shows isn't the member's.
     fn key_refusal(&self, member: u32, shown: &Option<Digest>) -> Option<Refusal>
         ensures { result ≡ first_refusal
-            (unknown_in (keys self.now.members) member ∷ wrong_key_in (keys self.now.members) member shown.now ∷ []) }
+            (unknown_in (keys self.now.members) member
+            ∷ wrong_key_in (keys self.now.members) member shown.now ∷ []) }
     {
         match self.members.key(member) {
             None => Some(Refusal::UnknownMember { member }),
@@ -82,10 +85,10 @@ impl Book {
         }
     }
 
-    // Whether the clue is a new one, and there are as many as there may be.
-    fn clue_refusal(&self, clue: &Digest) -> Option<Refusal>
-        requires { self.now.size < self.now.limits.size }
-        ensures { (h : History) → Stands self.now h → result ≡ clues_full self.now.limits h clue.now }
+    /// Whether the clue is a new one, and there are as many as there may be by these limits.
+    pub(super) fn clue_refusal(&self, clue: &Digest, limits: Limits) -> Option<Refusal>
+        requires { self.now.size < real.size }
+        ensures { (h : History) → Stands self.now h → result ≡ clues_full limits h clue.now }
     {
         if *clue == Digest::ZERO {
             return None;
@@ -94,7 +97,7 @@ impl Book {
         if ordinal > 1 {
             return None;
         }
-        if self.clues.clues() < self.limits.clues {
+        if self.clues.clues() < limits.clues {
             return None;
         }
         Some(Refusal::CluesFull)

@@ -6,9 +6,10 @@ ghost use Rattle.clue_index.specs.Added.{Added};
 ghost use Rattle.clue_index.specs.Index as index;
 ghost use Rattle.ledger_model.specs.Clues.{next_ordinal, last_journal};
 ghost use Rattle.ledger_model.specs.History.{History};
+ghost use Rattle.ledger_model.specs.Limits.{real};
 ghost use Rattle.ledger_model.specs.Outcomes.{with_waiting};
 ghost use Rattle.ledger_book.specs.Books.{Stands};
-ghost use Rattle.ledger_book.specs.Steps.{IsSame, MayPlace, IsLeafOf, with_clue_of};
+ghost use Rattle.ledger_book.specs.Steps.{IsSame, IsAsBefore, MayPlace, IsLeafOf, with_clue_of};
 
 use super::Book;
 use crate::headers::Place;
@@ -20,10 +21,12 @@ use merkle_tree::leaf_of;
 impl Book {
     /// Where the next journal stands, which has this clue.
     pub(super) fn place_of(&self, clue: &Digest) -> Place
-        requires { self.now.size < self.now.limits.size }
+        requires { self.now.size < real.size }
         ensures jsn { result.jsn ≡ self.now.size }
-        ensures ordinal { (h : History) → Stands self.now h → result.ordinal ≡ next_ordinal h clue.now }
-        ensures previous { (h : History) → Stands self.now h → result.previous ≡ last_journal h clue.now }
+        ensures ordinal { (h : History) → Stands self.now h
+            → result.ordinal ≡ next_ordinal h clue.now }
+        ensures previous { (h : History) → Stands self.now h
+            → result.previous ≡ last_journal h clue.now }
     {
         let jsn = self.size;
         if *clue == Digest::ZERO {
@@ -43,19 +46,21 @@ impl Book {
 
     /// Places a member's record in the open block, and answers its leaf digest.
     pub(super) fn place_record(&mut self, header: Header) -> Result<Digest, NoMemory>
-        requires { self.old.size < self.old.limits.size }
-        ensures ok { OnOk result ((h : History) (journal : Entry) → Stands self.old h → journal.header ≡ header
-            → header.kind ≡ kind.Content → MayPlace h header → Stands self.new (with_waiting (Some journal) h)) }
+        requires { self.old.size < real.size }
+        ensures ok { OnOk result ((h : History) (journal : Entry) → Stands self.old h
+            → journal.header ≡ header
+            → header.kind ≡ kind.Content → MayPlace h header
+            → Stands self.new (with_waiting (Some journal) h)) }
         ensures leaf { IfOk result (IsLeafOf header) }
-        ensures err { OnErr result (self.new ≡ self.old) }
+        ensures err { OnErr result (IsAsBefore self.old self.new) }
         ensures same { IsSame self.old self.new }
     {
         self.headers.reserve(1)?;
-        self.leaves.reserve(1)?;
+        self.tree.reserve(1)?;
         self.ends.reserve(1)?;
         let leaf = leaf_of::<Sha>(&header.encode());
         add_clue(&mut self.clues, &header)?;
-        self.leaves.push_reserved(leaf);
+        self.tree.add_leaves(&[leaf]);
         self.headers.push_reserved(header);
         self.size += 1;
         Ok(leaf)
@@ -63,20 +68,22 @@ impl Book {
 
     /// Places a new member in the open block, and answers the leaf digest.
     pub(super) fn place_member(&mut self, header: Header) -> Result<Digest, NoMemory>
-        requires room { self.old.size < self.old.limits.size }
+        requires room { self.old.size < real.size }
         requires few { length self.old.members < MEMBER_LIMIT }
-        ensures ok { OnOk result ((h : History) (journal : Entry) → Stands self.old h → journal.header ≡ header
-            → header.kind ≡ kind.Member → MayPlace h header → Stands self.new (with_waiting (Some journal) h)) }
+        ensures ok { OnOk result ((h : History) (journal : Entry) → Stands self.old h
+            → journal.header ≡ header
+            → header.kind ≡ kind.Member → MayPlace h header
+            → Stands self.new (with_waiting (Some journal) h)) }
         ensures leaf { IfOk result (IsLeafOf header) }
-        ensures err { OnErr result (self.new ≡ self.old) }
+        ensures err { OnErr result (IsAsBefore self.old self.new) }
         ensures same { IsSame self.old self.new }
     {
         self.headers.reserve(1)?;
-        self.leaves.reserve(1)?;
+        self.tree.reserve(1)?;
         self.ends.reserve(1)?;
         let leaf = leaf_of::<Sha>(&header.encode());
         self.members.admit(&header.link, header.jsn)?;
-        self.leaves.push_reserved(leaf);
+        self.tree.add_leaves(&[leaf]);
         self.headers.push_reserved(header);
         self.size += 1;
         Ok(leaf)
@@ -86,7 +93,8 @@ impl Book {
 // Adds a journal to its clue, where it has one.
 fn add_clue(clues: &mut ClueIndex, header: &Header) -> Result<(), NoMemory>
     ensures ok { OnOk result ((a : Added) → index.Stands clues.old a → a.floor ≤ header.now.jsn
-        → All (λ m. m.jsn < header.now.jsn) a.marks → index.Stands clues.new (with_clue_of header.now a)) }
+        → All (λ m. m.jsn < header.now.jsn) a.marks
+        → index.Stands clues.new (with_clue_of header.now a)) }
     ensures err { OnErr result (clues.new ≡ clues.old) }
 {
     if header.clue == Digest::ZERO {

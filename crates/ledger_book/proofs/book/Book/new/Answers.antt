@@ -1,7 +1,14 @@
-use Rattle.ledger_book.proofs.GenesisLaws.{serves_founded}
+use Rattle.std.proofs.lemmas.Result.{IfOk-weaker}
+use Rattle.ledger_model.specs.Genesis.{genesis_journal}
+use Rattle.ledger_book.proofs.GenesisLaws.{genesis_kind, genesis_layout, genesis_first}
 use Rattle.ledger_book.proofs.book.Book.new.Goals as goal
+
+pub from_first-requires-clause-kind : goal.from_first-requires-clause-kind
+from_first-requires-clause-kind c = genesis_kind c.args.genesis.now c.first_header-header.result c.first_header-header.ensures.header
+
+pub from_first-requires-clause-layout : goal.from_first-requires-clause-layout
+from_first-requires-clause-layout c = genesis_layout c.args.genesis.now c.first_header-header.result c.first_header-header.ensures.header
 
 pub returns-clause-serves : goal.returns-clause-serves
 returns-clause-serves c =
-    serves_founded c.args.limits c.args.genesis.now c.leaf_of-leaf.result c.encode.result c.in_ok-members.members c.new-2.result c.in_ok-headers.headers.items c.in_ok-leaves.leaves.items c.in_ok-ends.ends.items c.first_header-header.result
-    c.first_header-header.ensures.header c.encode.ensures.bytes c.leaf_of-leaf.ensures c.in_ok-members.ensures c.first_header-header.ensures.width c.new-2.ensures c.in_ok-headers.ensures.items c.in_ok-leaves.ensures.items c.in_ok-ends.ensures.items
+    IfOk-weaker c.from_first.result _ _ (λ book serves. serves (genesis_journal c.args.genesis.now) (genesis_first c.args.genesis.now c.first_header-header.result c.first_header-header.ensures.header c.first_header-header.ensures.width)) c.from_first.ensures.serves

@@ -1,0 +1,126 @@
+ghost use Rattle.std.specs.Prelude.{◌≡◌, ◌<◌, ◌⊎◌, ◌↔◌, IsTrue, IfOk, OnErr, length};
+ghost use Rattle.ledger_bytes.specs.declared.limits.TheConstants.{MEMBER_LIMIT};
+ghost use Rattle.journal_record.specs.Entry.{Entry};
+ghost use Rattle.journal_record.specs.Rules.{IsHeader};
+ghost use Rattle.journal_record.specs.declared.header.Kind.TheVariants as kind;
+ghost use Rattle.ledger_model.specs.History.{History};
+ghost use Rattle.ledger_model.specs.Lawful.{IsNextRecord};
+ghost use Rattle.ledger_model.specs.Limits.{AreWithin, real};
+ghost use Rattle.ledger_book.specs.Books.{Stands, Serves};
+ghost use Rattle.ledger_book.specs.Replaying.{IsFirst, begun_with, Replays};
+ghost use Rattle.ledger_book.specs.Steps.{IsSame, IsAsBefore, MayPlace};
+
+use super::Book;
+use block_file::Damage;
+use clue_index::ClueIndex;
+use journal_record::{Header, Kind};
+use ledger_bytes::{Digest, NoMemory, Sha};
+use ledger_model::Limits;
+use member_book::MemberBook;
+use merkle_batch::Tree;
+use merkle_tree::{Head, leaf_of};
+use std::alloc::Global;
+
+impl Book {
+    /// The book of a ledger whose journal 0 has this header and, as its content, the keys of the operator and the
+    /// regulator. Journal 0 stands alone in a block that has ended.
+    pub fn from_first(
+        alloc: Global,
+        header: &Header,
+        operator: &Digest,
+        regulator: &Digest,
+        limits: Limits,
+    ) -> Result<Self, NoMemory>
+        requires kind { header.now.kind ≡ kind.Genesis }
+        requires layout { IsHeader header.now }
+        requires limits { AreWithin limits }
+        ensures serves { IfOk result (λ book. (journal : Entry)
+            → IsFirst header.now operator.now regulator.now journal
+            → Serves book (begun_with journal)) }
+        ensures limits { IfOk result (λ book. book.limits ≡ limits) }
+        ensures floor { IfOk result (λ book. (book.floor ≡ 0) × (book.point ≡ 0)) }
+    {
+        let leaf = leaf_of::<Sha>(&header.encode());
+        let members = MemberBook::new(alloc, operator, regulator)?;
+        let headers = vec![in alloc; *header]?;
+        let mut tree = Tree::new(alloc);
+        tree.reserve(1)?;
+        tree.add_leaves(&[leaf]);
+        let ends = vec![in alloc; 1]?;
+        Ok(Book {
+            limits,
+            floor: 0,
+            size: 1,
+            point: 0,
+            blocks: 1,
+            head: Head {
+                size: 1,
+                root: leaf,
+            },
+            ends,
+            id: leaf,
+            members,
+            clues: ClueIndex::new(alloc),
+            headers,
+            tree,
+        })
+    }
+
+    /// Places the journal with this header in the open block, where it is the next one. Contents aren't looked at,
+    /// since they may be hidden. A header that isn't the next one has the damage [`Damage::Entry`] with the number
+    /// that is next, and changes nothing; so does an `Err`. What no job places so far is never the next one: a
+    /// journal of the kinds time, occult and purge.
+    pub fn replay(&mut self, header: &Header) -> Result<Result<(), Damage>, NoMemory>
+        requires layout { IsHeader header.now }
+        ensures ok { IfOk result (λ told. Replays self.old header.now told self.new) }
+        ensures err { OnErr result (IsAsBefore self.old self.new) }
+        ensures same { IsSame self.old self.new }
+    {
+        if !self.is_next(header) {
+            return Ok(Err(Damage::Entry { jsn: self.size }));
+        }
+        if header.kind == Kind::Member {
+            self.place_member(*header)?;
+        } else {
+            self.place_record(*header)?;
+        }
+        Ok(Ok(()))
+    }
+
+    // Whether a header is the next one, by the limits of each ledger but those for trial.
+    fn is_next(&self, header: &Header) -> bool
+        requires layout { IsHeader header.now }
+        ensures next { (h : History) → Serves self.now h → IsTrue result ↔ MayPlace h header.now }
+        ensures room { IsTrue result → self.now.size < real.size }
+        ensures kinds { IsTrue result → (header.now.kind ≡ kind.Content)
+            ⊎ (header.now.kind ≡ kind.Member) }
+        ensures few { IsTrue result → header.now.kind ≡ kind.Member
+            → length self.now.members < MEMBER_LIMIT }
+    {
+        let most = Limits::real().size;
+        if header.jsn != self.size || self.size >= most {
+            return false;
+        }
+        match header.kind {
+            Kind::Content => self.is_next_record(header),
+            Kind::Member => header.a == u64::from(self.members.count()),
+            Kind::Genesis | Kind::Time | Kind::Occult | Kind::Purge => false,
+        }
+    }
+
+    // Whether a member's record is the next one, where its number is: the member is known, the clue's numbers are the
+    // next ones, and there is room for the clue.
+    fn is_next_record(&self, header: &Header) -> bool
+        requires { self.now.size < real.size }
+        ensures { (h : History) → Stands self.now h → IsTrue result ↔ IsNextRecord h header.now }
+    {
+        if header.member >= self.members.count() {
+            return false;
+        }
+        let place = self.place_of(&header.clue);
+        if header.clue_ord != place.ordinal || header.clue_prev != place.previous {
+            return false;
+        }
+        self.clue_refusal(&header.clue, Limits::real()).is_none()
+    }
+}

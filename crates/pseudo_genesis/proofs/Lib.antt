@@ -1,0 +1,5 @@
+mod Many
+mod Loops
+mod Pieces
+mod Wholes
+mod Breaks
