@@ -1,18 +1,21 @@
 -- Which file is taken.
-use Rattle.std.specs.Prelude.{◌≡◌, ℕ, ◌+◌, ◌<◌, ◌≤◌, ◌⊎◌, Bool, true, false, List, Option, Some, None}
+use Rattle.std.specs.Prelude.{◌≡◌, ℕ, ◌+◌, ◌<◌, ◌≤◌, ◌⊎◌, Bool, true, false, List, take, drop, Option, Some, None}
 use Rattle.block_file.specs.Head.{IsShut, generation_of, number_at}
 use Rattle.block_file.specs.declared.head.FileHead.{FileHead}
 use Rattle.twin_file.specs.Twin.{open_of, IsTaken}
 use Rattle.twin_file.specs.declared.picking.Picked.{Picked}
 
--- which file was taken, its generation, and the place of its first block
+-- which file was taken, its generation, the place of its first block, and what its head says of its base
 pub record View : Type 0 where
   pub in_a : Bool
   pub generation : ℕ
   pub place : ℕ
+  pub base_len : ℕ
+  pub base_digest : List ℕ
 
-abbrev pub view : Bool → ℕ → ℕ → View
-view in_a generation place = record { in_a = in_a; generation = generation; place = place }
+abbrev pub view : Bool → ℕ → ℕ → ℕ → List ℕ → View
+view in_a generation place base_len base_digest =
+    record { in_a = in_a; generation = generation; place = place; base_len = base_len; base_digest = base_digest }
 
 -- the open file of the greater generation, and the first where they are equal
 abbrev pub IsPicked : Option FileHead → Option FileHead → Option Picked → Type 0
@@ -28,4 +31,5 @@ abbrev pub IsReopened : List ℕ → List ℕ → Option View → Type 0
 IsReopened a b None = IsShut a × IsShut b
 IsReopened a b (Some v) =
     IsTaken v.in_a a b × (v.generation ≡ generation_of (open_of v.in_a a b))
-    × (v.place ≡ 64 + number_at 18 (open_of v.in_a a b))
+    × (v.place ≡ 64 + number_at 18 (open_of v.in_a a b)) × (v.base_len ≡ number_at 18 (open_of v.in_a a b))
+    × (v.base_digest ≡ take 32 (drop 26 (open_of v.in_a a b)))

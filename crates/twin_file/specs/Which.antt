@@ -1,7 +1,7 @@
 -- What a `Twin` shows.
 use Rattle.std.specs.Prelude.{◌≡◌, ℕ, Bool, Option}
 use Rattle.block_file.specs.declared.file.BlockFile.{BlockFile}
-use Rattle.block_file.specs.Place.{place_of}
+use Rattle.block_file.specs.Place.{place_of, base_len_of, base_digest_of}
 use Rattle.twin_file.specs.Picking.{View, view}
 use Rattle.twin_file.specs.declared.twin.Twin.{Twin}
 
@@ -23,7 +23,7 @@ copy_of twin = twin.copy
 
 -- what is told of the file that was taken
 abbrev pub view_of : Twin → View
-view_of twin = view twin.in_a twin.generation (place_of twin.file)
+view_of twin = view twin.in_a twin.generation (place_of twin.file) (base_len_of twin.file) (base_digest_of twin.file)
 
 -- the open file is the same, in the same place
 pub record SameOpen (old new : Twin) : Type 0 where

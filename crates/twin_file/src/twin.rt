@@ -1,7 +1,7 @@
 ghost use Rattle.std.specs.Prelude.{◌≡◌, ◌≢◌, ◌⊎◌, ◌+◌, ◌≤◌, ◌++◌, [], ◌∷◌, ℕ, Bool, List, None, Some, true, not, IsSome, option_map, length, take, drop, IsTrue, IfSome, IsSomeAnd, IfOk, IfErr, OnOk, OnErr};
 ghost use Rattle.block_file.specs.File.{IsSettled, whole, opened};
 ghost use Rattle.block_file.specs.Head.{Counts, CountsTwo, CountsTwoAlone, IsResumeErr, front_of, number_at};
-ghost use Rattle.block_file.specs.Place.{place_of};
+ghost use Rattle.block_file.specs.Place.{place_of, base_len_of};
 ghost use Rattle.ledger_disk.specs.Disk.{MayLeave, settled, KeepsLength};
 ghost use Rattle.twin_file.specs.Images.{AllOpenTo, AllOpenToEither, AllShut, AreShut, IsCopied, IsCopying, IsMadeOrShut, IsQuiet, StaysOpen};
 ghost use Rattle.twin_file.specs.Picking.{IsReopened, view};
@@ -49,6 +49,8 @@ impl Twin {
             → OpensTo in_a file (D.state a.old).seen (D.state b.old).seen
             → (e ≡ FileErr.DiskFault) ⊎ IsResumeErr file (number_at 18 file) e) }
 
+        ensures begins { IfOk result (λ found. IfSome found (λ twin.
+            place_of (file_of twin) ≡ 64 + base_len_of (file_of twin))) }
         ensures told { IfOk result (λ found. IfSome found (λ twin. HasTail
             (open_of (in_a_of twin) (D.told_length a.new) (D.told_length b.new)) (file_of twin))) }
         ensures state_a { IsTrue D.tells → D.state a.new ≡ D.state a.old }
@@ -337,6 +339,8 @@ fn look<D: Disk>(a: &mut D, b: &mut D) -> Result<Option<Twin>, FileErr>
     ensures err { IfErr result (λ e. IsTrue D.tells
         → IsReopenErr (D.state a.old).seen (D.state b.old).seen e) }
     ensures only { IfErr result (λ e. e ≢ FileErr.NoMemory) }
+    ensures begins { IfOk result (λ found. IfSome found (λ twin.
+        place_of (file_of twin) ≡ 64 + base_len_of (file_of twin))) }
     ensures told { IfOk result (λ found. IfSome found (λ twin. HasTail
         (open_of (in_a_of twin) (D.told_length a.new) (D.told_length b.new)) (file_of twin))) }
     ensures state_a { IsTrue D.tells → D.state a.new ≡ D.state a.old }
@@ -364,7 +368,10 @@ fn look<D: Disk>(a: &mut D, b: &mut D) -> Result<Option<Twin>, FileErr>
 fn resumed<D: Disk>(disk: &mut D, head: &FileHead, in_a: bool) -> Result<Option<Twin>, FileErr>
     requires { IsSomeAnd (D.told_length disk.old) (λ n. 65 ≤ n) }
     ensures twin { IfOk result (λ found. IsSomeAnd found
-        (λ twin. view_of twin ≡ view in_a head.now.generation (64 + head.now.base_len))) }
+        (λ twin. view_of twin ≡ view in_a head.now.generation (64 + head.now.base_len)
+        head.now.base_len head.now.base_digest.0)) }
+    ensures begins { IfOk result (λ found. IfSome found (λ twin.
+        place_of (file_of twin) ≡ 64 + base_len_of (file_of twin))) }
     ensures err { IfErr result (λ e. IsTrue D.tells
         → IsResumeErr (D.state disk.old).seen head.now.base_len e) }
     ensures only { IfErr result (λ e. e ≢ FileErr.NoMemory) }

@@ -1,0 +1,189 @@
+-- The file of a new ledger is clean for its history.
+use Rattle.std.proofs.Common.{◌≡◌, inl, inr, ℕ, ◌+◌, false, cond, List, [], ◌∷◌, ◌++◌, length, refl, sym, ◌∙◌, ap, subst, arith, length-append, append_assoc, append-nil}
+use Rattle.std.proofs.lemmas.Bool.{true≢false}
+use Rattle.sha2.proofs.Facts256.{length-sha256}
+use Rattle.journal_record.specs.Entry.{Entry}
+use Rattle.ledger_model.specs.Genesis.{genesis_header, genesis_journal, founded}
+use Rattle.ledger_model.specs.History.{point}
+use Rattle.ledger_model.specs.Outcomes.{hidden}
+use Rattle.ledger_model.specs.declared.genesis.Genesis.{Genesis}
+use Rattle.journal_record.specs.Blocks.{IsEntry, written, body_of, block_bytes, leaves_of}
+use Rattle.block_file.specs.File.{whole}
+use Rattle.block_file.specs.Head.{front_of, digest_of}
+use Rattle.ledger_open.specs.Heads.{IsFront}
+use Rattle.std.specs.Int.{to_be_bytes, w32, w64}
+use Rattle.std.specs.Prelude.{sum_by, Option, Some, None, nat_le, slice_get}
+use Rattle.std.proofs.lemmas.List.Sums.{sum_by-cons}
+use Rattle.block_file.specs.declared.block.RecordAt.{RecordAt}
+use Rattle.journal_record.specs.Header.{spelling}
+use Rattle.journal_record.specs.Records.{AreReadable}
+use Rattle.journal_record.specs.declared.header.Header.{Header}
+use Rattle.ledger_book.specs.Books.{Kept, Stands, Serves, headers}
+use Rattle.ledger_book.specs.Seals.{head_of}
+use Rattle.ledger_model.specs.History.{History}
+use Rattle.merkle_tree.specs.declared.head.Head.{Head}
+use Rattle.ledger_open.specs.Opening.{known, Knows}
+use Rattle.ledger_open.specs.Places.{record_len}
+use Rattle.ledger_disk.specs.Disk.{State, settled}
+use Rattle.ledger_model.specs.Genesis.{HasKeys}
+use Rattle.twin_file.specs.Images.{AreShut, IsMadeOrShut}
+use Rattle.ledger_open.specs.Founding.{IsFounded, IsFoundedOrShut}
+use Rattle.ledger_open.specs.Growing.{new_file}
+use Rattle.ledger_open.proofs.GrowLaws.{erased_stands}
+use Rattle.ledger_open.proofs.SizeLaws.{body_size, block_size, mth_size}
+use Rattle.ledger_open.proofs.TakeLaws.{root_is}
+use Rattle.twin_file.proofs.HeadLaws.{tail_size}
+use Rattle.std.proofs.lemmas.List.{drop_all}
+use Rattle.ledger_model.proofs.KeepLaws.{founded_lawful}
+use Rattle.ledger_open.specs.Standing.{ground, IsKept, IsClean, IsCleanPair, StandsFor}
+
+-- the front of a file of generation 1 without a base
+first_front : IsFront 1 [] (front_of 1 1 [])
+first_front =
+    let size : length (digest_of []) ≡ 32 = length-sha256 (7 ∷ []) in record {
+      size = omega (arith, tail_size 1 1 [], length-append (front_of 1 1 []) []);
+      gate = refl;
+      magic_is = refl;
+      version = refl;
+      generation_is = refl;
+      base_len = refl;
+      digest = λ some. absurd (some refl);
+      base_is = drop_all 64 (front_of 1 1 []) (omega (arith, tail_size 1 1 [], length-append (front_of 1 1 []) []));
+    }
+
+module _ (genesis : Genesis) (operator : length genesis.operator.0 ≡ 32) (regulator : length genesis.regulator.0 ≡ 32) where
+  abbrev blocks : List (List Entry)
+  blocks = (genesis_journal genesis ∷ []) ∷ []
+
+  entry_is : IsEntry 0 (genesis_journal genesis)
+  unfolding genesis_header
+  entry_is = record {
+    jsn = refl;
+    rules = record { version = refl; jsn = refl; member = refl; clue = refl; clue_ord = refl; clue_prev = refl; a = refl; b = refl; content_len = refl };
+    widths = record {
+      version = omega arith;
+      jsn = omega arith;
+      member = omega arith;
+      clue_ord = omega arith;
+      clue_prev = omega arith;
+      a = omega arith;
+      b = omega arith;
+      content_len = omega arith;
+      clue = refl;
+      link = length-sha256 _;
+      content_digest = length-sha256 _;
+      who_digest = length-sha256 _;
+    };
+    content = omega (arith, operator, regulator, length-append genesis.operator.0 genesis.regulator.0);
+    who = omega arith;
+  }
+
+  shown_all : (n : ℕ) → hidden (founded genesis) n ≡ false
+  unfolding genesis_header
+  shown_all n = refl
+
+  floor_is : point (founded genesis) ≡ 0
+  unfolding point genesis_header
+  floor_is = refl
+
+  kept_is : IsKept (hidden (founded genesis)) (hidden (founded genesis)) (genesis_journal genesis) (genesis_journal genesis)
+  kept_is = record { header = refl; who = refl; shown = λ s. refl; zeroed = λ z. let no : ⊥ = true≢false (sym z ∙ shown_all _) in absurd no }
+
+  -- the file that a new ledger is given: a head of generation 1, block 0 behind an open gate, and a shut tail gate
+  pub founded_clean : IsClean (whole (front_of 1 1 []) (written (ground).root [] blocks)) (founded genesis)
+  founded_clean = record {
+    erased = record {
+      generation = 1;
+      keeps = record {
+        blocks = blocks;
+        file = record {
+          front = front_of 1 1 [];
+          head = first_front;
+          lawful = (record { some = omega arith; most = omega arith; entries = (entry_is, tt) }, tt);
+          stands = record { gate = 0; rest = []; is = refl; shut = λ e. cc };
+        };
+        same = ((kept_is, tt), tt);
+      };
+      early = omega arith;
+      none = refl;
+      floor = floor_is;
+      lawful = founded_lawful genesis;
+    };
+    ends = refl;
+  }
+
+  block_readable : AreReadable (genesis_journal genesis ∷ [])
+  block_readable = (record { rules = entry_is.rules; widths = entry_is.widths; content = entry_is.content; who = entry_is.who }, tt)
+
+  len_is : sum_by record_len (genesis_journal genesis ∷ []) ≡ 242
+  unfolding genesis_header
+  len_is = omega (arith, sum_by-cons record_len (genesis_journal genesis) [])
+
+  body_len : length (body_of (genesis_journal genesis ∷ [])) ≡ 242
+  body_len = body_size (genesis_journal genesis ∷ []) block_readable ∙ len_is
+
+  -- the bytes of block 0, piece by piece
+  first_bytes : (root : List ℕ) → ((((((([] ++ to_be_bytes w32 1) ++ to_be_bytes w64 242) ++ root) ++ spelling (genesis_header genesis)) ++ to_be_bytes w32 0) ++ genesis.operator.0) ++ genesis.regulator.0) ≡ block_bytes root (genesis_journal genesis ∷ [])
+  unfolding block_bytes
+  first_bytes root =
+      pieces (to_be_bytes w32 1) (to_be_bytes w64 242) root (spelling (genesis_header genesis)) (to_be_bytes w32 0) genesis.operator.0 genesis.regulator.0
+      ∙ ap (λ (n : ℕ). to_be_bytes w32 1 ++ (to_be_bytes w64 n ++ (root ++ body_of (genesis_journal genesis ∷ [])))) (sym body_len) where
+        pieces : (a b c d e f g : List ℕ) → (((((([] ++ a) ++ b) ++ c) ++ d) ++ e) ++ f) ++ g ≡ a ++ (b ++ (c ++ ((d ++ (e ++ ((f ++ g) ++ []))) ++ [])))
+        pieces a b c d e f g = simp (append_assoc, append-nil)
+
+  pub first_bytes_of : (root a b s e : List ℕ) → a ≡ to_be_bytes w32 1 → b ≡ to_be_bytes w64 242 → s ≡ spelling (genesis_header genesis) → e ≡ to_be_bytes w32 0
+      → (((((a ++ b) ++ root) ++ s) ++ e) ++ genesis.operator.0) ++ genesis.regulator.0 ≡ block_bytes root (genesis_journal genesis ∷ [])
+  first_bytes_of root a b s e aa bb ss ee =
+      subst (λ (x : List ℕ). (((((x ++ b) ++ root) ++ s) ++ e) ++ genesis.operator.0) ++ genesis.regulator.0 ≡ block_bytes root (genesis_journal genesis ∷ [])) (sym aa)
+      (subst (λ (x : List ℕ). (((((to_be_bytes w32 1 ++ x) ++ root) ++ s) ++ e) ++ genesis.operator.0) ++ genesis.regulator.0 ≡ block_bytes root (genesis_journal genesis ∷ [])) (sym bb)
+      (subst (λ (x : List ℕ). (((((to_be_bytes w32 1 ++ to_be_bytes w64 242) ++ root) ++ x) ++ e) ++ genesis.operator.0) ++ genesis.regulator.0 ≡ block_bytes root (genesis_journal genesis ∷ [])) (sym ss)
+      (subst (λ (x : List ℕ). (((((to_be_bytes w32 1 ++ to_be_bytes w64 242) ++ root) ++ spelling (genesis_header genesis)) ++ x) ++ genesis.operator.0) ++ genesis.regulator.0 ≡ block_bytes root (genesis_journal genesis ∷ [])) (sym ee) (first_bytes root))))
+
+  pub first_block_size : (root : List ℕ) → length root ≡ 32 → length (block_bytes root (genesis_journal genesis ∷ [])) ≡ 286
+  first_block_size root size = block_size root (genesis_journal genesis ∷ []) size block_readable ∙ ap (λ (n : ℕ). 44 + n) len_is
+
+  pub first_knows : (book : Kept) (places : List RecordAt) (header : Header) → header ≡ genesis_header genesis → Serves book (founded genesis) → places ≡ record { header = header; content_at = 287; who_at = 351; who_len = 0 } ∷ []
+      → Knows (known book places 351) (founded genesis).closed
+  unfolding genesis_header
+  first_knows book places header is serves listed = record {
+    lawful = (record { some = omega arith; most = omega arith; entries = (entry_is, tt) }, tt);
+    legal = founded_lawful genesis;
+    serves = serves;
+    places = listed ∙ ap (λ (h : Header). record { header = h; content_at = 287; who_at = 351; who_len = 0 } ∷ []) is;
+    tail = omega (arith, len_is);
+  }
+
+-- the header that the book tells
+pub header_is : (floor : ℕ) (x : Header) (genesis : Genesis) → floor ≡ 0 → (let some : Option Header = Some x in some ≡ cond (nat_le floor 0) (slice_get (headers (founded genesis)) 0) None) → x ≡ genesis_header genesis
+header_is floor x genesis none is =
+    some_same x (genesis_header genesis) (is ∙ ap (λ (n : ℕ). cond (nat_le n 0) (slice_get (headers (founded genesis)) 0) None) none) where
+      some_same : (x y : Header) → (let a : Option Header = Some x in let b : Option Header = Some y in a ≡ b) → x ≡ y
+      some_same x y e = cc
+
+-- the root of block 0
+pub first_root_is : (book : Kept) (head : Head) (genesis : Genesis) → Serves book (founded genesis) → ((h : History) → Stands book h → head ≡ head_of h) → head.root.0 ≡ (ground).root (leaves_of (genesis_journal genesis ∷ []))
+first_root_is book head genesis serves is = ap (λ (x : Head). x.root.0) (is (founded genesis) serves.stands) ∙ root_is [] (genesis_journal genesis ∷ [])
+
+-- what a crash may leave of a new ledger
+pub made_images : (genesis : Genesis) (block image_a image_b : List ℕ) → HasKeys genesis → block ≡ block_bytes ((ground).root (leaves_of (genesis_journal genesis ∷ []))) (genesis_journal genesis ∷ []) → IsMadeOrShut block image_a image_b → IsFoundedOrShut genesis image_a image_b
+made_images genesis block image_a image_b keys is (shut, inl both) = inl (both, shut)
+made_images genesis block image_a image_b keys is (shut, inr made) =
+    let new : image_a ≡ new_file genesis = made.0 ∙ ap (λ (l : List ℕ). whole (front_of 1 1 []) (l ∷ [])) is in
+    inr (inl (subst (λ (l : List ℕ). StandsFor l (founded genesis)) (sym new) (erased_stands (new_file genesis) (founded genesis) (founded_clean genesis keys.operator keys.regulator).erased), ap length made.1))
+
+-- the states at the call
+pub shut_now : (a b a_now b_now : State) → a_now ≡ settled a.seen → b_now ≡ settled b.seen → AreShut a b → AreShut a_now b_now
+shut_now a b a_now b_now same_a same_b shut =
+    let one : a_now ≡ a = same_a ∙ sym shut.quiet_a in
+    let two : b_now ≡ b = same_b ∙ sym shut.quiet_b in
+    subst (λ (s : State). AreShut s b_now) (sym one) (subst (λ (s : State). AreShut a s) (sym two) shut)
+
+-- the place of the tail gate
+pub first_place : (genesis : Genesis) (block : List ℕ) (place : ℕ) → HasKeys genesis → block ≡ block_bytes ((ground).root (leaves_of (genesis_journal genesis ∷ []))) (genesis_journal genesis ∷ []) → place ≡ 65 + length block → place ≡ 351
+first_place genesis block place keys is at =
+    at ∙ ap (λ (l : List ℕ). 65 + length l) is ∙ ap (λ (n : ℕ). 65 + n) (first_block_size genesis keys.operator keys.regulator _ (mth_size (leaves_of (genesis_journal genesis ∷ []))))
+
+-- a pair of a new ledger is clean
+pub founded_pair : (genesis : Genesis) (a b : State) → HasKeys genesis → IsFounded genesis a b → IsCleanPair a.seen b.seen (founded genesis)
+founded_pair genesis a b keys f =
+    inl (subst (λ (l : List ℕ). IsClean l (founded genesis)) (sym (ap (λ (s : State). s.seen) f.first)) (founded_clean genesis keys.operator keys.regulator), ap (λ (s : State). length s.seen) f.second)

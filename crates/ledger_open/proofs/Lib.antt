@@ -1,0 +1,17 @@
+pub mod SizeLaws
+pub mod AgainLaws
+pub mod KeptLaws
+pub mod HidingLaws
+pub mod GrowLaws
+pub mod FoundingLaws
+pub mod FollowLaws
+pub mod NextLaws
+pub mod DamageLaws
+pub mod PlaceLaws
+pub mod WholeLaws
+pub mod PairLaws
+pub mod TakeLaws
+pub mod BegunLaws
+pub mod FirstLaws
+pub mod MoreLaws
+pub mod OpenLaws

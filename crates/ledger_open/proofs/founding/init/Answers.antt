@@ -1,0 +1,24 @@
+use Rattle.std.proofs.Common.{sym, ◌∙◌, subst, ℕ}
+use Rattle.block_file.specs.Place.{place_of}
+use Rattle.ledger_model.specs.Genesis.{founded}
+use Rattle.twin_file.specs.Which.{file_of}
+use Rattle.ledger_open.specs.Opening.{Knows, known}
+use Rattle.ledger_open.proofs.FoundingLaws.{made_images, shut_now, first_place}
+use Rattle.ledger_open.proofs.founding.init.Goals as goal
+
+pub returns-in-Ok-clause-ok : goal.returns-in-Ok-clause-ok
+returns-in-Ok-clause-ok g c =
+    let place = first_place c.args.genesis.now c.as_slice.result.now (place_of (file_of c.in-Ok.twin)) c.in_ok-made.ensures.keys (c.as_slice.ensures.value ∙ c.in_ok-made.ensures.block) c.in-Ok.ensures.twin.2 in
+    (subst (λ (n : ℕ). Knows (known c.in_ok-made.made.book c.in_ok-made.made.places.list n) (founded c.args.genesis.now).closed) (sym place) c.in_ok-made.ensures.known, c.in-Ok.ensures.twin.0)
+
+pub returns-in-Ok-clause-images : goal.returns-in-Ok-clause-images
+returns-in-Ok-clause-images g c told shut image_a image_b left_a left_b =
+    made_images c.args.genesis.now c.as_slice.result.now image_a image_b c.in_ok-made.ensures.keys (c.as_slice.ensures.value ∙ c.in_ok-made.ensures.block)
+    (c.in-Ok.ensures.images told
+    (shut_now (g.D.Disk.state c.args.a.now) (g.D.Disk.state c.args.b.now) (g.D.Disk.state c.is_open.new.disk) (g.D.Disk.state c.is_open-2.new.disk) (c.in_ok-is_open.ensures.state told ∙ c.in_ok-sync.ensures.ok told) (c.in_ok-is_open-2.ensures.state told ∙ c.in_ok-sync-2.ensures.ok told) shut) image_a image_b left_a left_b)
+
+pub returns-in-Err-clause-images : goal.returns-in-Err-clause-images
+returns-in-Err-clause-images g c told shut image_a image_b left_a left_b =
+    made_images c.args.genesis.now c.as_slice.result.now image_a image_b c.in_ok-made.ensures.keys (c.as_slice.ensures.value ∙ c.in_ok-made.ensures.block)
+    (c.in-Err.ensures.images told
+    (shut_now (g.D.Disk.state c.args.a.now) (g.D.Disk.state c.args.b.now) (g.D.Disk.state c.is_open.new.disk) (g.D.Disk.state c.is_open-2.new.disk) (c.in_ok-is_open.ensures.state told ∙ c.in_ok-sync.ensures.ok told) (c.in_ok-is_open-2.ensures.state told ∙ c.in_ok-sync-2.ensures.ok told) shut) image_a image_b left_a left_b)

@@ -1,0 +1,47 @@
+-- A file with a block more, and the file of a new ledger.
+use Rattle.std.specs.Prelude.{◌≡◌, ℕ, false, List, [], ◌∷◌, ◌++◌}
+use Rattle.std.specs.List.{list_any}
+use Rattle.block_file.specs.File.{Stands, whole}
+use Rattle.block_file.specs.Head.{front_of}
+use Rattle.journal_record.specs.Blocks as record_
+use Rattle.journal_record.specs.Blocks.{block_bytes, leaves_of, written}
+use Rattle.journal_record.specs.Entry.{Entry}
+use Rattle.ledger_model.specs.Genesis.{founded}
+use Rattle.ledger_model.specs.History.{History, history, journals, journals_of, size, point}
+use Rattle.ledger_model.specs.Lawful.{AreNext, IsBlock}
+use Rattle.ledger_model.specs.Outcomes.{hides}
+use Rattle.ledger_model.specs.declared.genesis.Genesis.{Genesis}
+use Rattle.ledger_open.specs.Standing.{ground, StandsFor, IsErased, IsClean, HasBlocks}
+
+-- the history with a block more
+abbrev pub with_block : List Entry → History → History
+with_block block h = history (h.closed ++ block ∷ []) []
+
+-- the file has this block more behind the blocks that it had
+abbrev pub HasBlockMore : {generation : ℕ} {blocks : List (List Entry)} {image : List ℕ} → HasBlocks ground generation blocks image → List Entry → List ℕ → Type 0
+HasBlockMore {blocks = blocks} x block new =
+    Stands x.front (written (ground).root [] blocks ++ block_bytes ((ground).root (leaves_of (journals_of blocks) ++ leaves_of block)) block ∷ []) new
+
+-- a block that may be the next one of this history
+pub record IsNextBlock (h : History) (block : List Entry) : Type 0 where
+  pub entries : record_.IsBlock (size h) block
+  pub shape : IsBlock block
+  pub next : AreNext (journals h) block
+  pub floor : point (with_block block h) ≡ 0
+
+abbrev pub Grows : Type 0
+Grows =
+    (image new : List ℕ) (h : History) (block : List Entry) (erased : IsErased image h) → IsNextBlock h block
+    → HasBlockMore erased.keeps.file block new → StandsFor new (with_block block h)
+
+abbrev pub GrowsErased : Type 0
+GrowsErased =
+    (image new : List ℕ) (h : History) (block : List Entry) → IsErased image h → IsNextBlock h block
+    → ((n : ℕ) → list_any (hides n) block ≡ false) → StandsFor new (with_block block h) → IsErased new (with_block block h)
+
+-- the file of a new ledger: a head of generation 1 without a base, block 0 and a tail gate
+abbrev pub new_file : Genesis → List ℕ
+new_file genesis = whole (front_of 1 1 []) (written (ground).root [] (founded genesis).closed)
+
+abbrev pub IsNewClean : Genesis → Type 0
+IsNewClean genesis = IsClean (new_file genesis) (founded genesis)

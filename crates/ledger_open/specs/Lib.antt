@@ -1,0 +1,9 @@
+pub mod Heads
+pub mod Standing
+pub mod Places
+pub mod PlaceList
+pub mod Damages
+pub mod Founding
+pub mod Growing
+pub mod Opening
+pub mod Taking

@@ -1,0 +1,164 @@
+-- What is known of a ledger that was made or opened, and what making and opening leave.
+use Rattle.std.specs.Prelude.{◌≡◌, ◌⊎◌, ℕ, ◌+◌, ◌≤◌, Bool, IsTrue, List, [], length, take, drop, Result, MatchResult}
+use Rattle.block_file.specs.File.{IsSettled}
+use Rattle.block_file.specs.Head.{IsShut, HasHead, number_at}
+use Rattle.block_file.specs.Place.{base_len_of, base_digest_of}
+use Rattle.block_file.specs.declared.file.BlockFile.{BlockFile}
+use Rattle.block_file.specs.declared.block.RecordAt.{RecordAt}
+use Rattle.block_file.specs.declared.failure.FileErr.{FileErr}
+use Rattle.block_file.specs.declared.failure.FileErr.TheVariants as files
+use Rattle.journal_record.specs.Blocks.{AreBlocks}
+use Rattle.journal_record.specs.Entry.{Entry}
+use Rattle.ledger_book.specs.Books.{Kept, Serves}
+use Rattle.ledger_bytes.specs.Causes.{Rose}
+use Rattle.ledger_disk.specs.Disk.{State, MayLeave, settled}
+use Rattle.ledger_model.specs.History.{history}
+use Rattle.ledger_model.specs.Lawful.{IsLawful}
+use Rattle.twin_file.specs.Twin.{open_of, other_of, IsTaken, IsReopenErr}
+use Rattle.ledger_open.specs.Damages.{Begun, IsDamage}
+use Rattle.ledger_open.specs.Places.{places_at, after_at}
+use Rattle.ledger_open.specs.Standing.{ground, HasBlocks}
+use Rattle.ledger_open.specs.declared.failure.OpenErr.{OpenErr}
+use Rattle.ledger_open.specs.declared.failure.OpenErr.TheVariants.{DiskFault, Damaged, Empty, Exists, NewerFormat, NoMemory}
+
+-- ---- what is known, whatever the disks tell
+
+-- what a book keeps, the places of journals, and the place of the next gate
+pub record Known : Type 0 where
+  pub book : Kept
+  pub places : List RecordAt
+  pub place : ℕ
+
+abbrev pub known : Kept → List RecordAt → ℕ → Known
+known book places place = record { book = book; places = places; place = place }
+
+-- They are those of these blocks, which may be a ledger's. No disk is in it.
+pub record Knows (k : Known) (blocks : List (List Entry)) : Type 0 where
+  pub lawful : AreBlocks 0 blocks
+  pub legal : IsLawful (history blocks [])
+  pub serves : Serves k.book (history blocks [])
+  pub places : k.places ≡ places_at 64 blocks
+  pub tail : k.place ≡ after_at 64 blocks
+
+-- ---- what was read
+
+-- a file with a head that is known, which names no base
+pub record IsPlain (file : List ℕ) : Type 0 where
+  pub head : HasHead file
+  pub none : number_at 18 file ≡ 0
+
+-- some blocks are known; and where the disk tells its bytes, the file begins with them
+pub record HasRead (tells : Bool) (file : List ℕ) (k : Known) : Type 0 where
+  pub blocks : List (List Entry)
+  pub knows : Knows k blocks
+  pub begun : IsTrue tells → IsPlain file → Begun ground file blocks k.place
+
+-- an open file has these blocks, of some generation
+abbrev pub HasFile : List (List Entry) → List ℕ → Type 0
+HasFile blocks file = (generation : ℕ) × HasBlocks ground generation blocks file
+
+-- some blocks are known; and where the disk tells its bytes, the file has them
+pub record HasKnown (tells : Bool) (file : List ℕ) (k : Known) : Type 0 where
+  pub blocks : List (List Entry)
+  pub knows : Knows k blocks
+  pub has : IsTrue tells → HasFile blocks file
+
+-- what a `BlockFile` tells of the head of this file, which is open and known
+pub record IsHeadOf (file : List ℕ) (taken : BlockFile) : Type 0 where
+  pub head : HasHead file
+  pub base_len : base_len_of taken ≡ number_at 18 file
+  pub base_digest : base_digest_of taken ≡ take 32 (drop 26 file)
+
+-- ---- answers
+
+-- what of a file's errors is handed on
+abbrev pub as_open : FileErr → OpenErr
+as_open files.DiskFault = DiskFault
+as_open (files.Damaged damage) = Damaged damage
+as_open (files.NewerFormat found) = NewerFormat found
+as_open files.NoMemory = NoMemory
+
+-- a fault of a disk, or want of memory
+abbrev pub IsOutside : OpenErr → Type 0
+IsOutside DiskFault = Unit {0}
+IsOutside NoMemory = Unit {0}
+IsOutside (Damaged damage) = ⊥
+IsOutside Empty = ⊥
+IsOutside Exists = ⊥
+IsOutside (NewerFormat found) = ⊥
+
+-- why an open file is read no further
+abbrev pub IsReadErr : List ℕ → OpenErr → Type 0
+IsReadErr file DiskFault = Unit {0}
+IsReadErr file NoMemory = Unit {0}
+IsReadErr file (Damaged damage) = IsDamage file damage
+IsReadErr file Empty = ⊥
+IsReadErr file Exists = ⊥
+IsReadErr file (NewerFormat found) = ⊥
+
+-- a fault is answered where a count rose; by every other answer none did
+abbrev pub CountsErr : OpenErr → ℕ → ℕ → Type 0
+CountsErr DiskFault old new = Rose old new × (old ≤ new)
+CountsErr NoMemory old new = new ≡ old
+CountsErr (Damaged damage) old new = new ≡ old
+CountsErr Empty old new = new ≡ old
+CountsErr Exists old new = new ≡ old
+CountsErr (NewerFormat found) old new = new ≡ old
+
+abbrev pub CountsRead : {T : Type 0} → Result T OpenErr → ℕ → ℕ → Type 0
+CountsRead result old new = MatchResult result (λ _. new ≡ old) (λ e. CountsErr e old new)
+
+-- a call on two disks: a fault is answered where the count of one rose
+abbrev pub CountsTwoErr : OpenErr → ℕ → ℕ → ℕ → ℕ → Type 0
+CountsTwoErr DiskFault x1 x2 y1 y2 = (Rose x1 x2 ⊎ Rose y1 y2) × (x1 ≤ x2) × (y1 ≤ y2)
+CountsTwoErr NoMemory x1 x2 y1 y2 = (x2 ≡ x1) × (y2 ≡ y1)
+CountsTwoErr (Damaged damage) x1 x2 y1 y2 = (x2 ≡ x1) × (y2 ≡ y1)
+CountsTwoErr Empty x1 x2 y1 y2 = (x2 ≡ x1) × (y2 ≡ y1)
+CountsTwoErr Exists x1 x2 y1 y2 = (x2 ≡ x1) × (y2 ≡ y1)
+CountsTwoErr (NewerFormat found) x1 x2 y1 y2 = (x2 ≡ x1) × (y2 ≡ y1)
+
+abbrev pub CountsOpen : {T : Type 0} → Result T OpenErr → ℕ → ℕ → ℕ → ℕ → Type 0
+CountsOpen result x1 x2 y1 y2 = MatchResult result (λ _. (x2 ≡ x1) × (y2 ≡ y1)) (λ e. CountsTwoErr e x1 x2 y1 y2)
+
+-- Why a pair of files isn't opened. The heads are looked at first, that of a before that of b, and then the length of the
+-- base of the file that is taken; then that file is read.
+abbrev pub IsOpenErr : List ℕ → List ℕ → OpenErr → Type 0
+IsOpenErr a b DiskFault = Unit {0}
+IsOpenErr a b NoMemory = Unit {0}
+IsOpenErr a b Empty = IsShut a × IsShut b
+IsOpenErr a b Exists = ⊥
+IsOpenErr a b (NewerFormat found) = IsReopenErr a b (files.NewerFormat found)
+IsOpenErr a b (Damaged damage) =
+    IsReopenErr a b (files.Damaged damage)
+    ⊎ ((in_a : Bool) × IsTaken in_a a b × IsDamage (open_of in_a a b) damage)
+
+-- ---- what opening leaves
+
+-- every image has the blocks that the file had
+abbrev pub KeepsBlocks : State → State → Type 0
+KeepsBlocks old new =
+    (generation : ℕ) (blocks : List (List Entry)) → HasBlocks ground generation blocks old.seen → (image : List ℕ)
+    → MayLeave new image → HasBlocks ground generation blocks image
+
+-- what is known of the open file, which is cut behind its tail gate, and of the other one, which is emptied
+pub record IsOpenedAs (tells : Bool) (k : Known) (open_old other_old open_new other_new : State) : Type 0 where
+  pub blocks : List (List Entry)
+  pub knows : Knows k blocks
+  pub has : IsTrue tells → HasFile blocks open_old.seen
+  pub open_is : IsTrue tells → open_new ≡ settled (take (k.place + 1) open_old.seen)
+  pub other_is : IsTrue tells → IsSettled other_old → other_new ≡ settled []
+
+-- The file that is taken was read as these blocks, it ends with its tail gate, and the other is empty. Nothing is pending.
+pub record IsReopened (in_a : Bool) (place : ℕ) (blocks : List (List Entry)) (a b a_new b_new : State) : Type 0 where
+  pub taken : IsTaken in_a a.seen b.seen
+  pub has : HasFile blocks (open_of in_a a b).seen
+  pub open_is : open_of in_a a_new b_new ≡ settled (take (place + 1) (open_of in_a a b).seen)
+  pub other_is : other_of in_a a_new b_new ≡ settled []
+
+-- The pair is clean for these blocks: nothing is pending, the open file has them and ends with its tail gate, which stands
+-- at this place, and the other file is empty.
+pub record IsCleanAt (in_a : Bool) (place : ℕ) (blocks : List (List Entry)) (a b : State) : Type 0 where
+  pub quiet : IsSettled (open_of in_a a b)
+  pub empty : other_of in_a a b ≡ settled []
+  pub has : HasFile blocks (open_of in_a a b).seen
+  pub ends : length (open_of in_a a b).seen ≡ place + 1

@@ -1,0 +1,116 @@
+-- What a pair of files stands for: a history, of which hidden contents aren't kept.
+use Rattle.std.specs.Prelude.{◌≡◌, ◌⊎◌, ℕ, ◌-◌, ◌≤◌, Bool, true, false, List, [], ◌∷◌, length, take, replicate, ⊤}
+use Rattle.std.specs.List.{list_any}
+use Rattle.sha2.specs.Sha256.{sha256}
+use Rattle.tree_model.specs.Tree.{mth}
+use Rattle.block_file.specs.File.{Stands}
+use Rattle.journal_record.specs.Blocks.{AreBlocks, written}
+use Rattle.journal_record.specs.Entry.{Entry}
+use Rattle.ledger_model.specs.History.{History, journals, size, point}
+use Rattle.ledger_model.specs.Lawful.{IsLawful}
+use Rattle.ledger_model.specs.Outcomes.{hides, hidden}
+use Rattle.ledger_open.specs.Heads.{IsFront}
+
+-- ---- the blocks of a file
+
+-- Where a file begins: with this journal, behind this base. root gives the root over all journals, where those from
+-- the first one on have these leaves.
+pub record Floor : Type 0 where
+  pub first : ℕ
+  pub base : List ℕ
+  pub root : List (List ℕ) → List ℕ
+
+-- a file that begins with journal 0
+abbrev pub ground : Floor
+ground = record { first = 0; base = []; root = mth sha256 }
+
+-- an open file of this generation that begins at this floor, and has these blocks
+pub record HasBlocks (floor : Floor) (generation : ℕ) (blocks : List (List Entry)) (image : List ℕ) : Type 0 where
+  pub front : List ℕ
+  pub head : IsFront generation floor.base front
+  pub lawful : AreBlocks floor.first blocks
+  pub stands : Stands front (written floor.root [] blocks) image
+
+-- ---- from the blocks of a file to those of a history
+
+-- all of these bytes are zeros
+abbrev pub AreZeros : List ℕ → Type 0
+AreZeros bytes = bytes ≡ replicate (length bytes) 0
+
+-- f is what is kept of journal e: all of it, but for the content where that is hidden; and where the content is gone
+-- it is zeros
+pub record IsKept (hid gone : ℕ → Bool) (e f : Entry) : Type 0 where
+  pub header : f.header ≡ e.header
+  pub who : f.who ≡ e.who
+  pub shown : hid e.header.jsn ≡ false → f.content ≡ e.content
+  pub zeroed : gone e.header.jsn ≡ true → AreZeros f.content
+
+abbrev pub AllKept : (ℕ → Bool) → (ℕ → Bool) → List Entry → List Entry → Type 0
+AllKept hid gone [] [] = ⊤
+AllKept hid gone (e ∷ es) (f ∷ fs) = IsKept hid gone e f × AllKept hid gone es fs
+AllKept hid gone _ _ = ⊥
+
+-- the same blocks, but for hidden contents
+abbrev pub SameButHidden : (ℕ → Bool) → (ℕ → Bool) → List (List Entry) → List (List Entry) → Type 0
+SameButHidden hid gone [] [] = ⊤
+SameButHidden hid gone (b ∷ bs) (c ∷ cs) = AllKept hid gone b c × SameButHidden hid gone bs cs
+SameButHidden hid gone _ _ = ⊥
+
+-- the file keeps these blocks of a history that hides and has given up these contents
+pub record Keeps (floor : Floor) (generation : ℕ) (hid gone : ℕ → Bool) (bs : List (List Entry)) (image : List ℕ) : Type 0 where
+  pub blocks : List (List Entry)
+  pub file : HasBlocks floor generation blocks image
+  pub same : SameButHidden hid gone bs blocks
+
+-- ---- histories
+
+-- whether a journal before the last hides the content of journal n
+abbrev pub hidden_before : History → ℕ → Bool
+hidden_before h n = list_any (hides n) (take (size h - 1) (journals h))
+
+-- The image has this history, where these contents are zeros, and those that are hidden beside them may be any bytes.
+-- No purge has a point above 0, and each file begins with journal 0.
+pub record StandsBy (gone : ℕ → Bool) (image : List ℕ) (h : History) : Type 0 where
+  pub generation : ℕ
+  pub keeps : Keeps ground generation (hidden h) gone h.closed image
+  pub early : generation ≤ size h
+  pub none : h.waiting ≡ []
+  pub floor : point h ≡ 0
+  pub lawful : IsLawful h
+
+-- the image stands for this history: a content that only the last journal hides may be any bytes
+abbrev pub StandsFor : List ℕ → History → Type 0
+StandsFor image h = StandsBy (hidden_before h) image h
+
+-- .. and each hidden content is gone
+abbrev pub IsErased : List ℕ → History → Type 0
+IsErased image h = StandsBy (hidden h) image h
+
+-- the image is read as this history, whatever stands where contents are hidden
+abbrev pub Reads : List ℕ → History → Type 0
+Reads image h = StandsBy (λ n. false) image h
+
+-- it stands for this history with each hidden content gone, and ends with its tail gate
+pub record IsClean (image : List ℕ) (h : History) : Type 0 where
+  pub erased : IsErased image h
+  pub ends : erased.keeps.file.stands.rest ≡ []
+
+-- a pair of files stands for a history: one of them does, and the other is empty
+abbrev pub PairFor : List ℕ → List ℕ → History → Type 0
+PairFor a b h = (StandsFor a h × (length b ≡ 0)) ⊎ (StandsFor b h × (length a ≡ 0))
+
+-- .. and it is clean
+abbrev pub IsCleanPair : List ℕ → List ℕ → History → Type 0
+IsCleanPair a b h = (IsClean a h × (length b ≡ 0)) ⊎ (IsClean b h × (length a ≡ 0))
+
+-- the same blocks in two histories, but for contents that are hidden in both
+abbrev pub Alike : History → History → Type 0
+Alike h k = SameButHidden (hidden h) (λ n. false) h.closed k.closed
+
+-- an image stands for one history at most, but for what is hidden
+abbrev pub IsOneHistory : Type 0
+IsOneHistory = (image : List ℕ) (h k : History) → StandsFor image h → StandsFor image k → Alike h k
+
+-- a pair of files stands for one history at most, but for what is hidden
+abbrev pub IsOnePair : Type 0
+IsOnePair = (a b : List ℕ) (h k : History) → PairFor a b h → PairFor a b k → Alike h k

@@ -1,0 +1,92 @@
+ghost use Rattle.std.specs.Prelude.{◌≡◌, ◌⊎◌, Bool, List, ℕ, length};
+ghost use Rattle.block_file.specs.declared.failure.Damage.{Damage};
+ghost use Rattle.ledger_model.specs.Genesis.{HasKeys, founded};
+ghost use Rattle.ledger_model.specs.History.{History, journals};
+ghost use Rattle.ledger_model.specs.declared.genesis.Genesis.{Genesis};
+ghost use Rattle.ledger_open.specs.Damages.{IsDamage};
+ghost use Rattle.ledger_open.specs.Founding.{IsFounded};
+ghost use Rattle.ledger_open.specs.Growing.{Grows, GrowsErased, IsNewClean};
+ghost use Rattle.ledger_open.specs.Places.{AreAtPlaces};
+ghost use Rattle.ledger_open.specs.Opening.{Known, Knows, IsOpenErr, IsOutside, IsReopened, IsCleanAt};
+ghost use Rattle.ledger_open.specs.Standing.{IsOneHistory, IsOnePair, StandsFor, PairFor, IsClean, IsCleanPair};
+ghost use Rattle.ledger_open.specs.declared.failure.OpenErr.{OpenErr};
+ghost use Rattle.ledger_open.specs.declared.failure.OpenErr.TheVariants as errors;
+ghost use Rattle.block_file.specs.Head.{IsShut};
+ghost use Rattle.ledger_book.specs.Books.{Serves};
+ghost use Rattle.ledger_disk.specs.Disk.{State, settled};
+ghost use Rattle.journal_record.specs.Entry.{Entry};
+ghost use Rattle.twin_file.specs.Twin.{open_of};
+
+/// Histories that one image stands for agree but for hidden contents, and so do those of a pair.
+pub fn a_pair_stands_for_one_history()
+    ensures image { IsOneHistory }
+    ensures pair { IsOnePair }
+{}
+
+/// A file that stands for a history is read without any damage.
+pub fn a_standing_file_has_no_damage()
+    ensures { (image : List ℕ) (h : History) (damage : Damage) → StandsFor image h
+        → IsDamage image damage → ⊥ }
+{}
+
+/// Each journal of a history stands at its place in the file, as far as it is kept.
+pub fn journals_stand_at_their_places()
+    ensures { AreAtPlaces }
+{}
+
+/// A block more behind a file whose hidden contents are gone: the file stands for the history with the block, and its
+/// hidden contents are gone where no journal of the block hides another.
+pub fn a_block_more_is_one_more()
+    ensures stands { Grows }
+    ensures erased { GrowsErased }
+{}
+
+/// The file that a new ledger is given is clean for the history of its genesis.
+pub fn a_new_file_is_clean()
+    ensures { (genesis : Genesis) → HasKeys genesis → IsNewClean genesis }
+{}
+
+/// Nothing but a fault or want of memory keeps a pair that stands for a history from being opened.
+pub fn a_standing_pair_opens()
+    ensures { (a b : List ℕ) (h : History) (e : OpenErr) → PairFor a b h → IsOpenErr a b e
+        → IsOutside e }
+{}
+
+/// The book of a ledger that was opened stands for each history that the pair stands for.
+pub fn an_opened_book_stands_for_the_history()
+    ensures { (k : Known) (in_a : Bool) (blocks : List (List Entry)) (a b a_new b_new : State)
+        (h : History) → Knows k blocks → IsReopened in_a k.place blocks a b a_new b_new
+        → PairFor a.seen b.seen h → Serves k.book h }
+{}
+
+/// A pair that was opened is clean: the open file ends with its tail gate, and the other is empty. Of one that was clean
+/// no byte has changed.
+pub fn an_opened_pair_is_clean()
+    ensures clean { (k : Known) (in_a : Bool) (blocks : List (List Entry))
+        (a b a_new b_new : State) → Knows k blocks
+        → IsReopened in_a k.place blocks a b a_new b_new
+        → IsCleanAt in_a k.place blocks a_new b_new }
+    ensures left { (k : Known) (in_a : Bool) (blocks : List (List Entry))
+        (a b a_new b_new : State) (h : History) → Knows k blocks
+        → IsReopened in_a k.place blocks a b a_new b_new → IsClean (open_of in_a a b).seen h
+        → open_of in_a a_new b_new ≡ settled (open_of in_a a b).seen }
+{}
+
+/// The pair that making a ledger leaves is clean for the history of its genesis.
+pub fn a_new_pair_is_clean()
+    ensures { (genesis : Genesis) (a b : State) → HasKeys genesis → IsFounded genesis a b
+        → IsCleanPair a.seen b.seen (founded genesis) }
+{}
+
+/// Where a pair was opened, it has no damage, and is neither empty nor of another version.
+pub fn an_opened_pair_has_no_damage()
+    ensures { (k : Known) (in_a : Bool) (blocks : List (List Entry)) (a b a_new b_new : State)
+        (e : OpenErr) → Knows k blocks → IsReopened in_a k.place blocks a b a_new b_new
+        → IsOpenErr a.seen b.seen e → IsOutside e }
+{}
+
+/// Where both files are shut nothing else is told of them than that there is no ledger, but for a fault or want of memory.
+pub fn a_shut_pair_is_empty()
+    ensures { (a b : List ℕ) → IsShut a → IsShut b → (e : OpenErr) → IsOpenErr a b e
+        → IsOutside e ⊎ (e ≡ errors.Empty) }
+{}

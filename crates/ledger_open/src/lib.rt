@@ -1,0 +1,29 @@
+//! A ledger on two files: what a pair of files stands for, a new ledger, and one that is opened again.
+#![tactic(auto)]
+
+mod failure;
+mod first;
+mod founding;
+mod laws;
+mod opened;
+mod places;
+mod reading;
+mod reopening;
+mod taking;
+
+pub use failure::OpenErr;
+pub use founding::init;
+pub use laws::{
+    a_block_more_is_one_more, a_new_file_is_clean, a_new_pair_is_clean,
+    a_pair_stands_for_one_history, a_shut_pair_is_empty, a_standing_file_has_no_damage,
+    a_standing_pair_opens, an_opened_book_stands_for_the_history, an_opened_pair_has_no_damage,
+    an_opened_pair_is_clean, journals_stand_at_their_places,
+};
+pub use opened::Opened;
+pub use places::Places;
+pub use reopening::reopen;
+
+#[cfg(test)]
+mod plain;
+#[cfg(test)]
+mod tests;
