@@ -42,7 +42,8 @@ impl ClueIndex {
 
     /// The index of a ledger that begins with these states, of clues that aren't zero. No journal is kept.
     pub fn from_states(alloc: Global, states: &[ClueState]) -> Result<Self, NoMemory>
-        ensures { IfOk result (λ index. All (λ s. s.clue.0 ≢ no_clue) states.now → Stands index (begun states.now)) }
+        ensures { IfOk result (λ index. All (λ s. s.clue.0 ≢ no_clue) states.now
+            → Stands index (begun states.now)) }
     {
         let mut slots = BTreeMap::new(alloc);
         for state in states {
@@ -57,9 +58,11 @@ impl ClueIndex {
 
     /// The ordinal of the clue's next journal, and the number of the one before it or 0. The next ordinal is a `u32`.
     pub fn next_of(&self, clue: &Digest) -> (u32, u64)
-        ensures ordinal { (a : Added) → Stands self.now a → count_of (trail_of a clue.now.0) < 2 ^ 32 - 1
+        ensures ordinal { (a : Added) → Stands self.now a
+            → count_of (trail_of a clue.now.0) < 2 ^ 32 - 1
             → result.0 ≡ count_of (trail_of a clue.now.0) + 1 }
-        ensures previous { (a : Added) → Stands self.now a → result.1 ≡ last_of (trail_of a clue.now.0) }
+        ensures previous { (a : Added) → Stands self.now a
+            → result.1 ≡ last_of (trail_of a clue.now.0) }
     {
         match self.slots.get(&clue.0) {
             Some(slot) => (slot.count().saturating_add(1), slot.last()),
@@ -77,7 +80,8 @@ impl ClueIndex {
     /// Adds the next journal of a clue. The clue isn't zero, and the number is above those of all journals that were
     /// added, and not below the first journal that is kept. After an `Err` the index is as before.
     pub fn add(&mut self, clue: &Digest, jsn: u64) -> Result<(), NoMemory>
-        ensures ok { OnOk result ((a : Added) → Stands self.old a → clue.now.0 ≢ no_clue → a.floor ≤ jsn
+        ensures ok { OnOk result ((a : Added) → Stands self.old a → clue.now.0 ≢ no_clue
+            → a.floor ≤ jsn
             → All (λ m. m.jsn < jsn) a.marks
             → Stands self.new (with_mark clue.now.0 jsn a)) }
         ensures err { OnErr result (self.new ≡ self.old) }
@@ -95,7 +99,8 @@ impl ClueIndex {
     /// How many journals the clue has over the whole history, where that is a `u32`, and the numbers of those that are
     /// kept, ascending.
     pub fn of(&self, clue: &Digest) -> Result<(u32, Vec<u64>), NoMemory>
-        ensures count { IfOk result (λ r. (a : Added) → Stands self.now a → count_of (trail_of a clue.now.0) < 2 ^ 32
+        ensures count { IfOk result (λ r. (a : Added) → Stands self.now a
+            → count_of (trail_of a clue.now.0) < 2 ^ 32
             → r.0 ≡ count_of (trail_of a clue.now.0)) }
         ensures kept { IfOk result (λ r. (a : Added) → Stands self.now a
             → r.1.items ≡ kept_from a.floor (trail_of a clue.now.0)) }
@@ -114,7 +119,8 @@ impl ClueIndex {
     /// by then isn't among them. `p` isn't below the first journal that is kept, and each count is a `u32`.
     pub fn state_at(&self, p: u64) -> Result<Vec<ClueState>, NoMemory>
         ensures { IfOk result (λ states. (a : Added) → Stands self.now a → a.floor ≤ p
-            → ((clue : List ℕ) → count_of (trail_of a clue) < 2 ^ 32) → states.items ≡ states_at p a) }
+            → ((clue : List ℕ) → count_of (trail_of a clue) < 2 ^ 32)
+            → states.items ≡ states_at p a) }
     {
         let mut states = Vec::new(self.alloc);
         for (clue, slot) in self.slots.iter() {

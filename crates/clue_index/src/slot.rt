@@ -73,7 +73,8 @@ impl Slot {
 
     /// The numbers of the journals from `floor` on.
     pub(crate) fn kept(&self, alloc: Global, floor: u64) -> Result<Vec<u64>, NoMemory>
-        ensures { IfOk result (λ kept. Ascends self.now.jsns → kept.items ≡ kept_from floor self.now) }
+        ensures { IfOk result (λ kept. Ascends self.now.jsns
+            → kept.items ≡ kept_from floor self.now) }
     {
         let first = self.jsns.partition_point(|jsn| *jsn < floor);
         Ok(Vec::from_slice(alloc, &self.jsns.as_slice()[first..])?)

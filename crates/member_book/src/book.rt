@@ -126,7 +126,8 @@ impl MemberBook {
         ensures ok { OnOk result ((number_refusal self.old number ≡ None)
             × (self.new ≡ self.old ++ record { key = key.now; jsn = jsn } ∷ [])) }
         ensures err { OnErr result (self.new ≡ self.old) }
-        ensures cause { IfErr result (λ e. (e ≡ AddErr.NoMemory) ⊎ (number_refusal self.old number ≡ refusal_of e)) }
+        ensures cause { IfErr result (λ e. (e ≡ AddErr.NoMemory)
+            ⊎ (number_refusal self.old number ≡ refusal_of e)) }
     {
         match self.number_refusal(number) {
             Some(Refusal::MemberNumber { next }) => Err(AddErr::MemberNumber { next }),

@@ -26,7 +26,8 @@ impl Verifier for TagScheme {
     fn key_of(&self, message: &Digest, proof: &[u8]) -> Option<Digest>
         ensures shows { option_map (λ d. d.0) result ≡ tag_key_of message.now.0 proof.now }
         // A key's proof shows that key, and what shows a key is that key's proof.
-        ensures found { (key : List ℕ) → length key ≡ 32 → proof.now ≡ tag_proof_of key message.now.0
+        ensures found { (key : List ℕ) → length key ≡ 32
+            → proof.now ≡ tag_proof_of key message.now.0
             → option_map (λ d. d.0) result ≡ Some key }
         ensures only { IfSome result (λ key. proof.now ≡ tag_proof_of key.0 message.now.0) }
     {
