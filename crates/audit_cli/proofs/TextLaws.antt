@@ -4,7 +4,7 @@ use Rattle.std.specs.Prelude.{decimal}
 use Rattle.ledger_bytes.specs.Begins.{Begins}
 use Rattle.ledger_io.specs.Runs.{AreWhole}
 use Rattle.ledger_io.proofs.RunLaws.{whole_append}
-use Rattle.script_lines.specs.Words.{spaced}
+use Rattle.script_lines.specs.Words.{spaced_words}
 use Rattle.tree_model.specs.Tree.{Hash}
 use Rattle.audit_core.specs.Trust.{Trust, nothing_trusted}
 use Rattle.audit_cli.specs.Answers.{answer_to, trust_after}
@@ -56,7 +56,7 @@ text_from-whole hash trust number [] = inl refl
 text_from-whole hash trust number (line ∷ lines) =
     let reply = answer_to hash trust line in
     whole_append (reply_text number reply) (text_from hash (trust_after hash trust line) (number + 1) lines)
-    (inr (decimal number ++ spaced (reply_words reply), refl)) (text_from-whole hash (trust_after hash trust line) (number + 1) lines)
+    (inr (decimal number ++ spaced_words (reply_words reply), refl)) (text_from-whole hash (trust_after hash trust line) (number + 1) lines)
 
 pub text_whole : (hash : Hash) (lines : List (List ℕ)) → AreWhole (audit_text hash lines)
 text_whole hash lines = text_from-whole hash nothing_trusted 1 lines

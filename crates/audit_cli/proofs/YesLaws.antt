@@ -6,7 +6,7 @@ use Rattle.std.proofs.lemmas.List.{append_cancel_left}
 use Rattle.ledger_bytes.specs.declared.digest.Digest.{Digest}
 use Rattle.merkle_tree.specs.declared.head.Head.{Head}
 use Rattle.proof_codec.specs.declared.claim.Claim.{Claim}
-use Rattle.script_lines.specs.Words.{spaced}
+use Rattle.script_lines.specs.Words.{spaced_words}
 use Rattle.script_lines.specs.declared.said.Which.{Which}
 use Rattle.tree_model.specs.Tree.{Hash, mth}
 use Rattle.tree_model.specs.Clash.{Clashes}
@@ -22,18 +22,18 @@ use Rattle.audit_core.proofs.Truths.{yes_true, extension_of, extension_true}
 use Rattle.audit_cli.specs.declared.line.Line.TheVariants.{Extend, Check}
 use Rattle.audit_cli.specs.declared.reply.Reply.{Reply}
 use Rattle.audit_cli.specs.declared.reply.Reply.TheVariants as reply
-use Rattle.audit_cli.specs.Answers.{trusting, verdict, reply_to, answer_to}
+use Rattle.audit_cli.specs.Answers.{trust_reply, verdict, reply_to, answer_to}
 use Rattle.audit_cli.specs.Grammar.{line_of}
 use Rattle.audit_cli.specs.Replies.{reply_words, reply_text}
 
 -- ---- the word
 
 -- what reads as yes has its first letter behind the space
-first_letter : (text : List ℕ) → (text ≡ spaced (reply_words reply.Yes) ++ codes "\n") → (get_or text 1 0 == 121) ≡ true
+first_letter : (text : List ℕ) → (text ≡ spaced_words (reply_words reply.Yes) ++ codes "\n") → (get_or text 1 0 == 121) ≡ true
 first_letter text e = ap (λ t. get_or t 1 0 == 121) e
 
 -- no other reply has
-yes_alone : (given : Reply) → spaced (reply_words given) ++ codes "\n" ≡ spaced (reply_words reply.Yes) ++ codes "\n" → given ≡ reply.Yes
+yes_alone : (given : Reply) → spaced_words (reply_words given) ++ codes "\n" ≡ spaced_words (reply_words reply.Yes) ++ codes "\n" → given ≡ reply.Yes
 yes_alone reply.Yes e = refl
 yes_alone (reply.No why) e = absurd (false≢true (first_letter _ e))
 yes_alone (reply.Unaccepted why) e = absurd (false≢true (first_letter _ e))
@@ -43,7 +43,7 @@ yes_alone (reply.Refused refusal) e = absurd (false≢true (first_letter _ e))
 
 pub told_yes : (number : ℕ) (given : Reply) → (reply_text number given ≡ reply_text number reply.Yes) ↔ (given ≡ reply.Yes)
 told_yes number given =
-    let split = λ (r : Reply). append_assoc (decimal number) (spaced (reply_words r)) (codes "\n") in (
+    let split = λ (r : Reply). append_assoc (decimal number) (spaced_words (reply_words r)) (codes "\n") in (
       λ same. yes_alone given (append_cancel_left (decimal number) _ _ (sym (split given) ∙ same ∙ split reply.Yes)),
       λ is. ap (reply_text number) is,
     )
@@ -54,7 +54,7 @@ accepted : (said : Result (Unit {0}) No) → verdict said ≡ reply.Yes → said
 accepted (Ok done) e = refl
 accepted (Err why) e = absurd cc
 
-unrefused : (refusal : Option No) → trusting refusal ≡ reply.Yes → refusal ≡ None
+unrefused : (refusal : Option No) → trust_reply refusal ≡ reply.Yes → refusal ≡ None
 unrefused None e = refl
 unrefused (Some why) e = absurd cc
 

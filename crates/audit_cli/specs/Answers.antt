@@ -18,9 +18,9 @@ use Rattle.audit_cli.specs.declared.reply.Reply.TheVariants as reply
 use Rattle.audit_cli.specs.Grammar.{line_of}
 
 -- the reply where this stands against a head, or nothing does
-abbrev pub trusting : Option No → Reply
-trusting None = reply.Yes
-trusting (Some why) = reply.No why
+abbrev pub trust_reply : Option No → Reply
+trust_reply None = reply.Yes
+trust_reply (Some why) = reply.No why
 
 -- the reply to a call that is to trust a head; there is none for want of memory
 abbrev pub RepliesTo : {E : Type 0} → Result (Unit {0}) TrustErr → Result Reply E → Type 0
@@ -34,18 +34,18 @@ verdict (Ok done) = reply.Yes
 verdict (Err why) = reply.No why
 
 -- the reply to what is judged: a proof isn't accepted, or else its claim is true, or false and shows two strings
-abbrev pub judging : Result (Option (List ℕ × List ℕ)) No → Reply
-judging (Err why) = reply.Unaccepted why
-judging (Ok None) = reply.True
-judging (Ok (Some pair)) = reply.Clash pair.0 pair.1
+abbrev pub judge_reply : Result (Option (List ℕ × List ℕ)) No → Reply
+judge_reply (Err why) = reply.Unaccepted why
+judge_reply (Ok None) = reply.True
+judge_reply (Ok (Some pair)) = reply.Clash pair.0 pair.1
 
 -- the reply to a line that was read, where this is trusted
 abbrev pub reply_to : Hash → Trust → Result Line Refusal → Reply
-reply_to hash trust (Ok (TrustLedger id head)) = trusting (trust_refusal trust id head)
-reply_to hash trust (Ok (TrustNotary head)) = trusting (head_refusal Notary head trust)
-reply_to hash trust (Ok (Extend which m head proof)) = trusting (extend_refusal hash which m head proof trust)
+reply_to hash trust (Ok (TrustLedger id head)) = trust_reply (trust_refusal trust id head)
+reply_to hash trust (Ok (TrustNotary head)) = trust_reply (head_refusal Notary head trust)
+reply_to hash trust (Ok (Extend which m head proof)) = trust_reply (extend_refusal hash which m head proof trust)
 reply_to hash trust (Ok (Check claim proof)) = verdict (acceptance hash proof claim trust)
-reply_to hash trust (Ok (Judge id headers entries claim proof)) = judging (judgement hash (lists_of id headers entries) proof claim)
+reply_to hash trust (Ok (Judge id headers entries claim proof)) = judge_reply (judgement hash (lists_of id headers entries) proof claim)
 reply_to hash trust (Err refusal) = reply.Refused refusal
 
 -- the second where nothing stands against it, else the first

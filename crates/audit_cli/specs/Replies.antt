@@ -1,7 +1,7 @@
 -- The text of each reply.
 use Rattle.std.specs.Prelude.{ℕ, List, [], ◌∷◌, ◌++◌, codes, decimal}
 use Rattle.script_lines.specs.Replies.{refusal_words}
-use Rattle.script_lines.specs.Words.{hex_of, hex_or_dash, spaced}
+use Rattle.script_lines.specs.Words.{hex_of, hex_or_dash, spaced_words}
 use Rattle.audit_core.specs.declared.refusal.No.{No}
 use Rattle.audit_core.specs.declared.refusal.No.TheVariants.{HeadUnknown, LeafPath, LowerBound, UpperBound, NotaryPath, TimesCross}
 use Rattle.audit_core.specs.declared.refusal.No.TheVariants.{ClaimDiffers, Malformed, BadExtension, HeadDiffers, HeadsFull}
@@ -33,4 +33,4 @@ reply_words (reply.Refused refusal) = codes "no" ∷ refusal_words refusal
 
 -- the text that answers the line with this number
 abbrev pub reply_text : ℕ → Reply → List ℕ
-reply_text number reply = decimal number ++ spaced (reply_words reply) ++ codes "\n"
+reply_text number reply = decimal number ++ spaced_words (reply_words reply) ++ codes "\n"

@@ -1,5 +1,5 @@
 ghost use Rattle.std.specs.Prelude.{◌≡◌, ◌++◌, OnOk};
-ghost use Rattle.script_lines.specs.Words.{spaced};
+ghost use Rattle.script_lines.specs.Words.{spaced_words};
 ghost use Rattle.audit_cli.specs.Replies.{no_words, reply_words, reply_text};
 
 use audit_core::No;
@@ -38,7 +38,7 @@ pub(crate) fn put_reply(out: &mut Vec<u8>, number: u64, reply: &Reply) -> Result
 }
 
 fn put_reply_words(out: &mut Vec<u8>, reply: &Reply) -> Result<(), NoMemory>
-    ensures { OnOk result (out.new.items ≡ out.old.items ++ spaced (reply_words reply.now)) }
+    ensures { OnOk result (out.new.items ≡ out.old.items ++ spaced_words (reply_words reply.now)) }
 {
     match reply {
         Reply::Yes => put_words(out, &[Word::Text(b"yes")]),
@@ -65,7 +65,7 @@ fn put_reply_words(out: &mut Vec<u8>, reply: &Reply) -> Result<(), NoMemory>
 
 // The code of a no, and the words behind it.
 fn put_why(out: &mut Vec<u8>, why: &No) -> Result<(), NoMemory>
-    ensures { OnOk result (out.new.items ≡ out.old.items ++ spaced (no_words why.now)) }
+    ensures { OnOk result (out.new.items ≡ out.old.items ++ spaced_words (no_words why.now)) }
 {
     match why {
         No::HeadUnknown { size } => put_words(out, &[Word::Number(34), Word::Number(*size)]),

@@ -150,7 +150,7 @@ fn run(
         &mut sink,
         &TagScheme,
     );
-    Ok((status, sink.written().to_vec(alloc)?))
+    Ok((status, sink.written_bytes().to_vec(alloc)?))
 }
 
 // A script with the replies to its lines. What is trusted grows along it, and a line of no form changes nothing.
@@ -778,6 +778,6 @@ fn checks_under_the_hash_that_is_given(rt: HostRuntime) -> Result<(), Fail> {
         ),
         0
     );
-    assert_eq!(rt; sink.written(), script.text.as_slice());
+    assert_eq!(rt; sink.written_bytes(), script.text.as_slice());
     Ok(())
 }

@@ -1,6 +1,6 @@
 ghost use Rattle.std.specs.Prelude.{◌≡◌, ◌≢◌, ◌↔◌, Some, None, map, string_bytes};
 ghost use Rattle.sha2.specs.Sha256.{sha256};
-ghost use Rattle.ledger_io.specs.Outside.{outside, counted, MeetsNone, MeetsOne};
+ghost use Rattle.ledger_io.specs.Outside.{outside, count_after, MeetsNone, MeetsOne};
 ghost use Rattle.audit_cli.specs.Runs.{RanProgram};
 ghost use Rattle.audit_cli.specs.Words.{command_of};
 
@@ -41,7 +41,7 @@ pub fn audit_top<S: Source, K: Sink, V: Verifier>(
     ensures done { result ≡ 0 → ((S.state source.new).faults ≡ (S.state source.old).faults)
         × MeetsNone (K.state sink.old) (K.state sink.new) }
     ensures read_fault { result ≡ 2
-        → (S.state source.new).faults ≡ counted (S.state source.old).faults }
+        → (S.state source.new).faults ≡ count_after (S.state source.old).faults }
     ensures write_fault { result ≡ 3 → MeetsOne (K.state sink.old) (K.state sink.new) }
 {
     match Command::read(words) {
@@ -64,7 +64,7 @@ pub fn audit_run<H: TreeHash, S: Source, K: Sink, V: Verifier>(
     ensures done { result ≡ 0 → ((S.state source.new).faults ≡ (S.state source.old).faults)
         × MeetsNone (K.state sink.old) (K.state sink.new) }
     ensures read_fault { result ≡ 2
-        → (S.state source.new).faults ≡ counted (S.state source.old).faults }
+        → (S.state source.new).faults ≡ count_after (S.state source.old).faults }
     ensures write_fault { result ≡ 3 → MeetsOne (K.state sink.old) (K.state sink.new) }
 {
     let ending = run_script::<H, S, K>(alloc, source, sink);

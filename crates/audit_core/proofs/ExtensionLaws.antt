@@ -12,7 +12,7 @@ use Rattle.tree_model.proofs.ProofFolds.{fold_proof_even}
 use Rattle.script_lines.specs.declared.said.Which.{Which}
 use Rattle.audit_core.specs.declared.refusal.No.{No}
 use Rattle.audit_core.specs.declared.refusal.No.TheVariants.{Malformed, BadExtension}
-use Rattle.audit_core.specs.Trust.{Trust, root_of, differing}
+use Rattle.audit_core.specs.Trust.{Trust, root_of, digest_fault}
 use Rattle.audit_core.specs.Leading.{is_root}
 use Rattle.audit_core.specs.Extending.{digests_refusal, leading_refusal, extension_refusal, unless, extension, IsExtension}
 use Rattle.audit_core.proofs.RootLaws.{same_bytes, same_digest, is_root_means}
@@ -50,13 +50,13 @@ leading_none hash m head bytes (Some old) e =
     let folded : Option (List ℕ) = fold_proof_bytes hash m old.0 head.size bytes in
     (old, refl, is_root_means head.root folded (met (is_root head.root folded) BadExtension None e).0)
 
-differing_none : (kept : Option Digest) (given : Digest) → differing kept given None ≡ None → (root : Digest) → kept ≡ Some root → root ≡ given
+differing_none : (kept : Option Digest) (given : Digest) → digest_fault kept given None ≡ None → (root : Digest) → kept ≡ Some root → root ≡ given
 differing_none None given e root is = absurd cc
 differing_none (Some kept) given e root is =
     let which : kept ≡ root = cc in
     sym which ∙ same_digest kept given (let differs : cond (bytes_eq kept.0 given.0) None (Some _) ≡ None = e in (met (bytes_eq kept.0 given.0) _ None differs).0)
 
-none_differing : (kept : Option Digest) (given : Digest) → ((root : Digest) → kept ≡ Some root → root ≡ given) → differing kept given None ≡ None
+none_differing : (kept : Option Digest) (given : Digest) → ((root : Digest) → kept ≡ Some root → root ≡ given) → digest_fault kept given None ≡ None
 none_differing None given agrees = refl
 none_differing (Some kept) given agrees =
     let same : bytes_eq kept.0 given.0 ≡ true = sym (ap (λ (d : Digest). bytes_eq kept.0 d.0) (agrees kept refl)) ∙ same_bytes kept.0 in
@@ -69,7 +69,7 @@ module _ (hash : Hash) (which : Which) (m : ℕ) (head : Head) (bytes : List ℕ
   extension_found r is ok =
       let none = unless_none (extension_refusal hash which m head bytes trust) (subst IsOk is ok) in
       let a = neither (digests_refusal bytes) _ none in
-      let b = neither (leading_refusal hash m head bytes (root_of which trust m)) (differing (root_of which trust head.size) head.root None) a.1 in
+      let b = neither (leading_refusal hash m head bytes (root_of which trust m)) (digest_fault (root_of which trust head.size) head.root None) a.1 in
       let c = leading_none hash m head bytes (root_of which trust m) b.0 in
       record { room = digests_none bytes a.0; old = c.0; trusted = c.1; leads = c.2; agrees = differing_none (root_of which trust head.size) head.root b.1 }
 
@@ -80,5 +80,5 @@ module _ (hash : Hash) (which : Which) (m : ℕ) (head : Head) (bytes : List ℕ
       let digests : digests_refusal bytes ≡ None = rw (few, whole) refl in
       let leading : leading_refusal hash m head bytes (root_of which trust m) ≡ None =
       ap (leading_refusal hash m head bytes) it.trusted ∙ rw (it.leads, same_bytes head.root.0) refl in
-      let agrees : differing (root_of which trust head.size) head.root None ≡ None = none_differing (root_of which trust head.size) head.root it.agrees in
+      let agrees : digest_fault (root_of which trust head.size) head.root None ≡ None = none_differing (root_of which trust head.size) head.root it.agrees in
       rw is (rw (digests, leading, agrees) refl)

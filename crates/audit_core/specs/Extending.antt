@@ -8,7 +8,7 @@ use Rattle.tree_model.specs.Extension.{fold_proof_bytes}
 use Rattle.script_lines.specs.declared.said.Which.{Which}
 use Rattle.audit_core.specs.declared.refusal.No.{No}
 use Rattle.audit_core.specs.declared.refusal.No.TheVariants.{Malformed, HeadUnknown, BadExtension}
-use Rattle.audit_core.specs.Trust.{Trust, root_of, differing, head_refusal}
+use Rattle.audit_core.specs.Trust.{Trust, root_of, digest_fault, head_refusal}
 use Rattle.audit_core.specs.Leading.{proof_leads}
 
 -- why bytes are no digests of an extension: they are too many, or no whole digests
@@ -28,7 +28,7 @@ leading_refusal hash m head bytes (Some old) =
 abbrev pub extension_refusal : Hash → Which → ℕ → Head → List ℕ → Trust → Option No
 extension_refusal hash which m head bytes trust =
     option_or (digests_refusal bytes)
-    (option_or (leading_refusal hash m head bytes (root_of which trust m)) (differing (root_of which trust head.size) head.root None))
+    (option_or (leading_refusal hash m head bytes (root_of which trust m)) (digest_fault (root_of which trust head.size) head.root None))
 
 -- yes where nothing stands against it
 abbrev pub unless : Option No → Result (Unit {0}) No

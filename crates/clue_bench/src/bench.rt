@@ -29,7 +29,7 @@ pub(crate) struct Seen {
 /// Does what is planned with an index of its own.
 pub(crate) fn run(alloc: Global, plan: &Plan) -> Result<Seen, NoMemory> {
     let clues = (plan.journals / 10).max(1);
-    let index = filled(alloc, plan.journals, clues)?;
+    let index = fill_index(alloc, plan.journals, clues)?;
     let mut seen = Seen {
         clues: index.clues(),
         ordinals: 0,
@@ -51,7 +51,7 @@ pub(crate) fn run(alloc: Global, plan: &Plan) -> Result<Seen, NoMemory> {
 }
 
 /// An index to which journals were added, the clues in turn.
-fn filled(alloc: Global, journals: u64, clues: u64) -> Result<ClueIndex, NoMemory>
+fn fill_index(alloc: Global, journals: u64, clues: u64) -> Result<ClueIndex, NoMemory>
     requires { 0 < clues }
 {
     let mut index = ClueIndex::new(alloc);

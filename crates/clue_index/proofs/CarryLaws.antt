@@ -8,7 +8,7 @@ use Rattle.std.proofs.lemmas.List.Elements.{recursion_from_All}
 use Rattle.std.proofs.lemmas.List.Folds.{list_any-append}
 use Rattle.std.proofs.lemmas.Map.Text.{is_eq-slice_cmp}
 use Rattle.std.proofs.lemmas.Slice.Eq.{bytes_eq-Decides}
-use Rattle.clue_index.specs.Added.{Added, Mark, with_floor, from_point, no_clue, state_of, jsns_of, trail_of, clues_of, table_of, different, state_below, begun_states, states_at}
+use Rattle.clue_index.specs.Added.{Added, Mark, with_floor, from_point, no_clue, state_of, jsns_of, trail_of, clues_of, table_of, different_clues, state_below, begun_states, states_at}
 use Rattle.clue_index.specs.Index.{Kept, Stands}
 use Rattle.clue_index.specs.Trail.{Trail, no_trail, below, seen_from, count_of, last_of, Ascends}
 use Rattle.clue_index.specs.declared.state.ClueState.{ClueState}
@@ -137,7 +137,7 @@ module _ (p : ℕ) (a : Added) where
         unseen false y never u v = refl
 
   -- the clues in their order are those that were given
-  pub given : (q : List ℕ) → list_any (tie q) (different a) ≡ list_any (tie q) (clues_of a)
+  pub given : (q : List ℕ) → list_any (tie q) (different_clues a) ≡ list_any (tie q) (clues_of a)
   given q = sym (contains_key-keys (table_of a) q) ∙ (ap is_some (get-table_of a q) ∙ some_cond (list_any (tie q) (clues_of a)) (trail_of a q)) where
     some_cond : (b : Bool) (t : Trail) → is_some (cond b (Some t) None) ≡ b
     some_cond true t = refl
@@ -162,7 +162,7 @@ module _ (p : ℕ) (a : Added) where
         let n : ℕ = count_of (below p (trail_of a q)) in
         let whole : Trail = trail_from (at q) in
         let bare : n ≡ 0 → no_trail ≡ whole = λ none. let last = stateless none in λ i. record { count = sym none i; last = sym last i; jsns = [] } in
-        chosen q (different a) no_trail
+        chosen q (different_clues a) no_trail
         ∙ (ap (λ b. cond b (cond (nat_lt 0 n) whole no_trail) no_trail) (given q)
         ∙ ⊎_elim (λ is. cond-true _ _ _ is
         ∙ ⊎_elim (λ some. cond-true _ _ _ some) (λ none. cond-false _ _ _ none ∙ bare (let le = ltb-false 0 n none in omega arith)) (cases_Bool (nat_lt 0 n)))
@@ -182,7 +182,7 @@ module _ (p : ℕ) (a : Added) where
         let seen : seen_from p (trail_of b q) ≡ seen_from p (trail_of a q) =
         ap (seen_from p) trail_begun ∙ seen_later p p (trail_of a q) (omega arith) (Ascends-jsns_of q a.marks rises) in
         let same : list_any (tie q) (clues_of b) ≡ list_any (tie q) (clues_of a) =
-        given_counted b q (counted_states (map at (different a)))
+        given_counted b q (counted_states (map at (different_clues a)))
         ∙ (ap (nat_lt 0) (ap count_of trail_begun ∙ count_seen p (trail_of a q)) ∙ sym (given_counted a q counted)) in
         ap (option_map (seen_from p)) (get-table_of b q)
         ∙ (ap (λ x. option_map (seen_from p) (cond x (Some (trail_of b q)) None)) same

@@ -7,9 +7,9 @@ use Rattle.std.proofs.lemmas.Bool.{cond-false}
 use Rattle.std.proofs.lemmas.List.{map-append}
 use Rattle.std.proofs.lemmas.List.Elements.{recursion_from_All, All-map}
 use Rattle.std.proofs.lemmas.Option.{cond_some}
-use Rattle.clue_index.specs.Added.{Added, Mark, begun, with_mark, with_floor, no_clue, jsns_of, trail_of, table_of}
+use Rattle.clue_index.specs.Added.{Added, Mark, added_at_first, with_mark, with_floor, no_clue, jsns_of, trail_of, table_of}
 use Rattle.clue_index.specs.Index.{Kept, Stands, trail_in}
-use Rattle.clue_index.specs.Trail.{Trail, no_trail, grown, seen_from, kept_from, count_of, last_of, Ascends}
+use Rattle.clue_index.specs.Trail.{Trail, no_trail, grown_trail, seen_from, kept_from, count_of, last_of, Ascends}
 use Rattle.clue_index.specs.declared.state.ClueState.{ClueState}
 use Rattle.clue_index.proofs.TableLaws.{tie, tie_apart, get-table_of, trail_from_get, get-with_mark, trail_from, get-begun}
 use Rattle.clue_index.proofs.TrailLaws.{count_seen, last_seen, seen_later, seen_grown, all_below, all_filter, Ascends-filter, Ascends-push}
@@ -111,7 +111,7 @@ old_alike k a clue (Some t) st is = (found k a st clue t is, st.ascend clue t is
 
 -- a journal more in an index
 pub stands_added : (k l : Kept) (a : Added) (clue : List ℕ) (jsn : ℕ) (o : Option Trail) (s : Trail) → trail_in clue k.trails ≡ o
-    → s ≡ grown jsn (unwrap_or o no_trail) → l.floor ≡ k.floor
+    → s ≡ grown_trail jsn (unwrap_or o no_trail) → l.floor ≡ k.floor
     → ((q : List ℕ) → trail_in q l.trails ≡ cond (tie clue q) (Some s) (trail_in q k.trails))
     → Stands k a → clue ≢ no_clue → a.floor ≤ jsn → All (λ m. m.jsn < jsn) a.marks → Stands l (with_mark clue jsn a)
 stands_added k l a clue jsn o s is s-is l-floor trails st named le above =
@@ -126,16 +126,16 @@ stands_added k l a clue jsn o s is s-is l-floor trails st named le above =
     subst (λ t. Ascends t.jsns) (sym s-is) (Ascends-push old.jsns jsn alike.1 (all_below a.floor jsn old.jsns le kept_low)) in
     let rises : Ascends (map (λ m. m.jsn) (with_mark clue jsn a).marks) =
     subst Ascends (sym (map-append (λ m. m.jsn) a.marks (record { clue = clue; jsn = jsn } ∷ []))) (Ascends-push _ jsn st.rises all_low) in
-    let seen : seen_from a.floor s ≡ seen_from a.floor (grown jsn (trail_of a clue)) =
-    ap (seen_from a.floor) s-is ∙ (seen_grown a.floor jsn old le ∙ (ap (grown jsn) alike.0 ∙ sym (seen_grown a.floor jsn (trail_of a clue) le))) in
-    stands_changed k l a (with_mark clue jsn a) clue s (grown jsn (trail_of a clue)) st l-floor refl trails (get-with_mark clue jsn a) seen rise rises named
+    let seen : seen_from a.floor s ≡ seen_from a.floor (grown_trail jsn (trail_of a clue)) =
+    ap (seen_from a.floor) s-is ∙ (seen_grown a.floor jsn old le ∙ (ap (grown_trail jsn) alike.0 ∙ sym (seen_grown a.floor jsn (trail_of a clue) le))) in
+    stands_changed k l a (with_mark clue jsn a) clue s (grown_trail jsn (trail_of a clue)) st l-floor refl trails (get-with_mark clue jsn a) seen rise rises named
 
 -- a state more in an index that begins
 pub stands_begun : (k l : Kept) (states : List ClueState) (s : ClueState) → l.floor ≡ k.floor
     → ((q : List ℕ) → trail_in q l.trails ≡ cond (tie s.clue.0 q) (Some (trail_from s)) (trail_in q k.trails))
-    → Stands k (begun states) → s.clue.0 ≢ no_clue → Stands l (begun (states ++ s ∷ []))
+    → Stands k (added_at_first states) → s.clue.0 ≢ no_clue → Stands l (added_at_first (states ++ s ∷ []))
 stands_begun k l states s l-floor trails st named =
-    stands_changed k l (begun states) (begun (states ++ s ∷ [])) s.clue.0 (trail_from s) (trail_from s) st l-floor refl trails (get-begun states s) refl tt tt named
+    stands_changed k l (added_at_first states) (added_at_first (states ++ s ∷ [])) s.clue.0 (trail_from s) (trail_from s) st l-floor refl trails (get-begun states s) refl tt tt named
 
 -- two options that look alike from one journal look alike from a later one
 later_alike : (p q : ℕ) (x y : Option Trail) → p ≤ q → ((t : Trail) → x ≡ Some t → Ascends t.jsns) → ((t : Trail) → y ≡ Some t → Ascends t.jsns)
@@ -171,11 +171,11 @@ stands_dropped k l a p l-floor l-trails st =
     }
 
 -- an index without a clue
-pub stands_empty : (k : Kept) → k.floor ≡ 0 → k.trails ≡ [] → Stands k (begun [])
+pub stands_empty : (k : Kept) → k.floor ≡ 0 → k.trails ≡ [] → Stands k (added_at_first [])
 stands_empty k floor none = record {
   floor = floor;
-  at = λ q. ap (λ ts. option_map (seen_from k.floor) (trail_in q ts)) none ∙ sym (ap (option_map (seen_from 0)) (get-table_of (begun []) q));
+  at = λ q. ap (λ ts. option_map (seen_from k.floor) (trail_in q ts)) none ∙ sym (ap (option_map (seen_from 0)) (get-table_of (added_at_first []) q));
   ascend = λ q t is. let bad : None ≡ Some t = sym (ap (trail_in q) none) ∙ is in cc;
   rises = tt;
-  clear = get-table_of (begun []) no_clue;
+  clear = get-table_of (added_at_first []) no_clue;
 }

@@ -1,5 +1,5 @@
 -- Laws of the states at a point in their order.
-use Rattle.std.proofs.Common.{◌≡◌, ◌≢◌, ℕ, ◌<◌, Bool, true, false, cond, List, [], ◌∷◌, map, filter, nat_lt, refl, sym, ap, subst, ◌∙◌, ◌++◌, None}
+use Rattle.std.proofs.Common.{◌≡◌, ◌≢◌, ℕ, ◌<◌, Bool, true, false, cond, List, [], ◌∷◌, map, filter, nat_lt, refl, sym, ap, subst, ◌∙◌, None}
 use Rattle.std.specs.Prelude.{T, bytes_eq, length}
 use Rattle.std.specs.List.{All, AllByRecursion, list_any}
 use Rattle.std.specs.List.Sorted.{IsStrictlySortedBy}
@@ -18,7 +18,7 @@ use Rattle.std.proofs.lemmas.List.Kept.{IsStrictlySortedBy-filter}
 use Rattle.std.proofs.lemmas.Map.Keys.{IsDistinct-from_sorted}
 use Rattle.std.proofs.lemmas.Map.Made.{length-from_keys}
 use Rattle.std.proofs.lemmas.Map.Text.{is_eq-slice_cmp}
-use Rattle.clue_index.specs.Added.{Added, no_clue, trail_of, clues_of, table_of, different, state_below, begun_states, states_at}
+use Rattle.clue_index.specs.Added.{Added, no_clue, trail_of, clues_of, table_of, different_clues, state_below, begun_states, states_at}
 use Rattle.clue_index.specs.Trail.{Trail}
 use Rattle.clue_index.proofs.CarryLaws.{counted_states, given}
 use Rattle.clue_index.proofs.TableLaws.{tie, tie_same, absent_from_get}
@@ -58,11 +58,11 @@ clues_told p a (c ∷ clues) =
 pub states_ascend : (p : ℕ) (a : Added) → IsStrictlySortedBy (slice_cmp nat_cmp) (map (λ s. s.clue.0) (states_at p a))
 states_ascend p a =
     let rise = keys_rise (entries (table_of a)) (true_of _ (entries_sorted (table_of a))) in
-    subst (IsStrictlySortedBy (slice_cmp nat_cmp)) (sym (clues_told p a (different a))) (IsStrictlySortedBy-filter (slice_cmp nat_cmp) _ (different a) rise)
+    subst (IsStrictlySortedBy (slice_cmp nat_cmp)) (sym (clues_told p a (different_clues a))) (IsStrictlySortedBy-filter (slice_cmp nat_cmp) _ (different_clues a) rise)
 
 -- each has a count
 pub states_counted : (p : ℕ) (a : Added) → All (λ s. 0 < s.count) (states_at p a)
-states_counted p a = All-from_recursion (λ s. 0 < s.count) (states_at p a) (counted_states (map (λ clue. state_below p clue (trail_of a clue)) (different a)))
+states_counted p a = All-from_recursion (λ s. 0 < s.count) (states_at p a) (counted_states (map (λ clue. state_below p clue (trail_of a clue)) (different_clues a)))
 
 named_clues : (p : ℕ) (a : Added) (clues : List (List ℕ)) → list_any (tie no_clue) clues ≡ false
     → AllByRecursion (λ s. s.clue.0 ≢ no_clue) (begun_states (map (λ clue. state_below p clue (trail_of a clue)) clues))
@@ -80,15 +80,15 @@ named_clues p a (c ∷ clues) is =
 -- none is of zeros
 pub states_named : (p : ℕ) (a : Added) → get (table_of a) no_clue ≡ None → All (λ s. s.clue.0 ≢ no_clue) (states_at p a)
 states_named p a none =
-    All-from_recursion (λ s. s.clue.0 ≢ no_clue) (states_at p a) (named_clues p a (different a) (given p a no_clue ∙ absent_from_get a no_clue none))
+    All-from_recursion (λ s. s.clue.0 ≢ no_clue) (states_at p a) (named_clues p a (different_clues a) (given p a no_clue ∙ absent_from_get a no_clue none))
 
 -- clues tie where their bytes are the same
 tie_is : tie ≡ bytes_eq
 tie_is = λ i. λ x y. (is_eq-slice_cmp x y) i
 
 -- there are as many different clues as were given, where the same are counted once
-pub different_count : (a : Added) → length (different a) ≡ distinct_count bytes_eq (clues_of a)
+pub different_count : (a : Added) → length (different_clues a) ≡ distinct_count bytes_eq (clues_of a)
 different_count a =
     let rise = keys_rise (entries (table_of a)) (true_of _ (entries_sorted (table_of a))) in
-    length-from_keys (eq_by_cmp_equiv nat_list_cmp_total) (different a) (clues_of a) (IsDistinct-from_sorted (slice_cmp nat_cmp) (different a) rise) (given 0 a)
+    length-from_keys (eq_by_cmp_equiv nat_list_cmp_total) (different_clues a) (clues_of a) (IsDistinct-from_sorted (slice_cmp nat_cmp) (different_clues a) rise) (given 0 a)
     ∙ ap (λ same. distinct_count same (clues_of a)) tie_is

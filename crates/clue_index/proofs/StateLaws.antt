@@ -13,7 +13,7 @@ use Rattle.std.proofs.lemmas.Bool.{and_from, cond-true, cond-false, lt-ltb, le-l
 use Rattle.std.proofs.lemmas.Cmp.{nat_list_cmp_total}
 use Rattle.std.proofs.lemmas.List.{append-nil, map-append}
 use Rattle.std.proofs.lemmas.List.Elements.{recursion_from_All, filter-append}
-use Rattle.clue_index.specs.Added.{Added, trail_of, table_of, different, state_below, begun_states, states_at}
+use Rattle.clue_index.specs.Added.{Added, trail_of, table_of, different_clues, state_below, begun_states, states_at}
 use Rattle.clue_index.specs.Index.{Kept, Stands, trail_in}
 use Rattle.clue_index.specs.Trail.{Trail, seen_from, below, count_of, last_of, Ascends}
 use Rattle.clue_index.specs.declared.state.ClueState.{ClueState}
@@ -58,7 +58,7 @@ trail_in-find q [] = refl
 trail_in-find q (e ∷ es) = ap (cond (eq_by_cmp (slice_cmp nat_cmp) q e.0) (Some e.1)) (trail_in-find q es)
 
 -- the clues of an index are those that were given
-pub keys-trails : (k : Kept) (a : Added) → Stands k a → IsStrictlySortedBy (slice_cmp nat_cmp) (keys_of k.trails) → keys_of k.trails ≡ different a
+pub keys-trails : (k : Kept) (a : Added) → Stands k a → IsStrictlySortedBy (slice_cmp nat_cmp) (keys_of k.trails) → keys_of k.trails ≡ different_clues a
 keys-trails k a st rise =
     let f : Trail → Trail = seen_from a.floor in
     let es : List (List ℕ × Trail) = entries (table_of a) in

@@ -13,8 +13,8 @@ use Rattle.std.proofs.lemmas.List.Folds.{list_any-append}
 use Rattle.std.proofs.lemmas.List.Sums.{fold-append}
 use Rattle.std.proofs.lemmas.Map.Text.{is_eq-slice_cmp}
 use Rattle.std.proofs.lemmas.Slice.Eq.{bytes_eq-Decides}
-use Rattle.clue_index.specs.Added.{Added, Mark, begun, with_mark, state_of, jsns_of, trail_of, clues_of, table_of}
-use Rattle.clue_index.specs.Trail.{Trail, no_trail, grown}
+use Rattle.clue_index.specs.Added.{Added, Mark, added_at_first, with_mark, state_of, jsns_of, trail_of, clues_of, table_of}
+use Rattle.clue_index.specs.Trail.{Trail, no_trail, grown_trail}
 use Rattle.clue_index.specs.declared.state.ClueState.{ClueState}
 
 -- whether two clues tie in the order of their bytes
@@ -90,7 +90,7 @@ clues_of-with_mark : (clue : List ℕ) (jsn : ℕ) (a : Added) → clues_of (wit
 clues_of-with_mark clue jsn a = simp (map-append, append_assoc)
 
 -- the journals with a journal more of the clue
-trail_here : (clue : List ℕ) (jsn : ℕ) (a : Added) → trail_of (with_mark clue jsn a) clue ≡ grown jsn (trail_of a clue)
+trail_here : (clue : List ℕ) (jsn : ℕ) (a : Added) → trail_of (with_mark clue jsn a) clue ≡ grown_trail jsn (trail_of a clue)
 trail_here clue jsn a =
     let same : bytes_eq clue clue ≡ true = (bytes_eq-Decides clue clue).1 refl in
     let m : Mark = record { clue = clue; jsn = jsn } in
@@ -141,7 +141,7 @@ table_changed a b clue t more here others q =
 
 -- the table with a journal more
 pub get-with_mark : (clue : List ℕ) (jsn : ℕ) (a : Added) (q : List ℕ)
-    → get (table_of (with_mark clue jsn a)) q ≡ cond (tie clue q) (Some (grown jsn (trail_of a clue))) (get (table_of a) q)
+    → get (table_of (with_mark clue jsn a)) q ≡ cond (tie clue q) (Some (grown_trail jsn (trail_of a clue))) (get (table_of a) q)
 get-with_mark clue jsn a =
     table_changed a (with_mark clue jsn a) clue _ (clues_of-with_mark clue jsn a) (trail_here clue jsn a) (λ q apart. trail_other clue q jsn a apart)
 
@@ -151,15 +151,15 @@ trail_from s = record { count = s.count; last = s.last; jsns = [] }
 
 -- the states with another behind them
 pub get-begun : (states : List ClueState) (s : ClueState) (q : List ℕ)
-    → get (table_of (begun (states ++ s ∷ []))) q ≡ cond (tie s.clue.0 q) (Some (trail_from s)) (get (table_of (begun states)) q)
+    → get (table_of (added_at_first (states ++ s ∷ []))) q ≡ cond (tie s.clue.0 q) (Some (trail_from s)) (get (table_of (added_at_first states)) q)
 get-begun states s =
     let told : (q : List ℕ) → state_of q (states ++ s ∷ []) ≡ cond (bytes_eq q s.clue.0) (trail_from s) (state_of q states) =
     λ q. fold-append (λ t s. cond (bytes_eq q s.clue.0) (trail_from s) t) no_trail states (s ∷ []) in
-    let here : trail_of (begun (states ++ s ∷ [])) s.clue.0 ≡ trail_from s =
+    let here : trail_of (added_at_first (states ++ s ∷ [])) s.clue.0 ≡ trail_from s =
     let is = told s.clue.0 ∙ cond-true _ _ _ ((bytes_eq-Decides s.clue.0 s.clue.0).1 refl) in
     λ i. record { count = (is i).count; last = (is i).last; jsns = [] } in
-    let others : (q : List ℕ) → q ≢ s.clue.0 → trail_of (begun (states ++ s ∷ [])) q ≡ trail_of (begun states) q =
+    let others : (q : List ℕ) → q ≢ s.clue.0 → trail_of (added_at_first (states ++ s ∷ [])) q ≡ trail_of (added_at_first states) q =
     λ q apart. let is = told q ∙ cond-false _ _ _ (bytes_apart q s.clue.0 apart) in
     λ i. record { count = (is i).count; last = (is i).last; jsns = [] } in
-    let more : clues_of (begun (states ++ s ∷ [])) ≡ clues_of (begun states) ++ s.clue.0 ∷ [] = simp (map-append, append-nil) in
-    table_changed (begun states) (begun (states ++ s ∷ [])) s.clue.0 (trail_from s) more here others
+    let more : clues_of (added_at_first (states ++ s ∷ [])) ≡ clues_of (added_at_first states) ++ s.clue.0 ∷ [] = simp (map-append, append-nil) in
+    table_changed (added_at_first states) (added_at_first (states ++ s ∷ [])) s.clue.0 (trail_from s) more here others

@@ -5,7 +5,7 @@ use Rattle.std.specs.List.Sorted.{IsPartitionedBy, IsPartitionPoint}
 use Rattle.std.proofs.lemmas.Bool.{cond-true, cond-false, lt-ltb, ltb-true, ltb-false, le-leb, lt-leb, le-ltb, leb-true, cases_lt}
 use Rattle.std.proofs.lemmas.List.Elements.{All-from_recursion, filter-append}
 use Rattle.std.proofs.lemmas.List.{append-nil}
-use Rattle.clue_index.specs.Trail.{Trail, last_from, count_of, last_of, below, seen_from, grown, Ascends}
+use Rattle.clue_index.specs.Trail.{Trail, last_from, count_of, last_of, below, seen_from, grown_trail, Ascends}
 
 -- what is behind some numbers is their last
 pub last_from-push : (last : ℕ) (ns : List ℕ) (n : ℕ) → last_from last (ns ++ n ∷ []) ≡ n
@@ -181,7 +181,7 @@ seen_later p q t le rise =
     λ i. record { count = counts i; last = lasts i; jsns = late i }
 
 -- a journal from p on is seen from p
-pub seen_grown : (p jsn : ℕ) (t : Trail) → p ≤ jsn → seen_from p (grown jsn t) ≡ grown jsn (seen_from p t)
+pub seen_grown : (p jsn : ℕ) (t : Trail) → p ≤ jsn → seen_from p (grown_trail jsn t) ≡ grown_trail jsn (seen_from p t)
 seen_grown p jsn t le =
     let low : filter (λ n. nat_lt n p) (t.jsns ++ jsn ∷ []) ≡ filter (λ n. nat_lt n p) t.jsns =
     filter-append (λ n. nat_lt n p) t.jsns (jsn ∷ []) ∙ (ap (λ more. filter (λ n. nat_lt n p) t.jsns ++ more) (cond-false _ _ _ (le-ltb jsn p le)) ∙ append-nil _) in

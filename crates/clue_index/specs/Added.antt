@@ -19,8 +19,8 @@ pub record Added : Type 0 where
   pub floor : ℕ
 
 -- what a new index was given
-abbrev pub begun : List ClueState → Added
-begun states = record { states = states; marks = []; floor = 0 }
+abbrev pub added_at_first : List ClueState → Added
+added_at_first states = record { states = states; marks = []; floor = 0 }
 
 -- with a journal more
 abbrev pub with_mark : List ℕ → ℕ → Added → Added
@@ -58,8 +58,8 @@ abbrev pub table_of : Added → FinMap (slice_cmp nat_cmp) Trail
 table_of a = from_entries (map (λ clue. (clue, trail_of a clue)) (clues_of a))
 
 -- the different clues, ascending by their bytes
-abbrev pub different : Added → List (List ℕ)
-different a = keys (table_of a)
+abbrev pub different_clues : Added → List (List ℕ)
+different_clues a = keys (table_of a)
 
 -- a clue's state when the journals below p had been placed, from its journals
 abbrev pub state_below : ℕ → List ℕ → Trail → ClueState
@@ -75,7 +75,7 @@ begun_states states = filter (λ s. nat_lt 0 s.count) states
 
 -- the states of all clues that had a journal when the journals below p had been placed, ascending by their bytes
 abbrev pub states_at : ℕ → Added → List ClueState
-states_at p a = begun_states (map (state_at p a) (different a))
+states_at p a = begun_states (map (state_at p a) (different_clues a))
 
 -- what an index is given that begins at p: the states there, and the journals from p on
 abbrev pub from_point : ℕ → Added → Added

@@ -39,8 +39,8 @@ abbrev pub seen_from : ℕ → Trail → Trail
 seen_from p t = record { count = count_of (below p t); last = last_of (below p t); jsns = kept_from p t }
 
 -- with a journal more
-abbrev pub grown : ℕ → Trail → Trail
-grown jsn t = record { count = t.count; last = t.last; jsns = t.jsns ++ jsn ∷ [] }
+abbrev pub grown_trail : ℕ → Trail → Trail
+grown_trail jsn t = record { count = t.count; last = t.last; jsns = t.jsns ++ jsn ∷ [] }
 
 -- each number is below those behind it
 abbrev pub Ascends : List ℕ → Type 0

@@ -1,5 +1,5 @@
 ghost use Rattle.std.specs.Prelude.{◌≡◌, ◌≢◌, [], ◌+◌, ◌-◌, ◌^◌, ◌<◌, ◌≤◌, ℕ, List, length, max, All, IfOk, OnOk, OnErr};
-ghost use Rattle.clue_index.specs.Added.{Added, Mark, begun, with_mark, with_floor, no_clue, trail_of, different, states_at};
+ghost use Rattle.clue_index.specs.Added.{Added, Mark, added_at_first, with_mark, with_floor, no_clue, trail_of, different_clues, states_at};
 ghost use Rattle.clue_index.specs.Index.{Stands};
 ghost use Rattle.clue_index.specs.Trail.{count_of, last_of, kept_from, Ascends};
 
@@ -31,7 +31,7 @@ impl Model for ClueIndex {
 impl ClueIndex {
     /// The index of a ledger without a clue.
     pub fn new(alloc: Global) -> Self
-        ensures { Stands result (begun []) }
+        ensures { Stands result (added_at_first []) }
     {
         ClueIndex {
             alloc,
@@ -43,7 +43,7 @@ impl ClueIndex {
     /// The index of a ledger that begins with these states, of clues that aren't zero. No journal is kept.
     pub fn from_states(alloc: Global, states: &[ClueState]) -> Result<Self, NoMemory>
         ensures { IfOk result (λ index. All (λ s. s.clue.0 ≢ no_clue) states.now
-            → Stands index (begun states.now)) }
+            → Stands index (added_at_first states.now)) }
     {
         let mut slots = BTreeMap::new(alloc);
         for state in states {
@@ -72,7 +72,7 @@ impl ClueIndex {
 
     /// How many different clues there were over the whole history.
     pub fn clues(&self) -> u64
-        ensures { (a : Added) → Stands self.now a → result ≡ length (different a) }
+        ensures { (a : Added) → Stands self.now a → result ≡ length (different_clues a) }
     {
         self.slots.len() as u64
     }
@@ -110,7 +110,7 @@ impl ClueIndex {
             → IfOk result (λ r. (a : Added) → Stands self.now a → (r.0 ≡ 0) × (r.1.items ≡ [])) }
     {
         match self.slots.get(&clue.0) {
-            Some(slot) => Ok((slot.count(), slot.kept(self.alloc, self.floor)?)),
+            Some(slot) => Ok((slot.count(), slot.kept_jsns(self.alloc, self.floor)?)),
             None => Ok((0, Vec::new(self.alloc))),
         }
     }

@@ -1,5 +1,5 @@
 ghost use Rattle.std.specs.Prelude.{◌≡◌, [], ◌-◌, ◌^◌, ◌<◌, min, IfOk, OnOk, OnErr};
-ghost use Rattle.clue_index.specs.Trail.{no_trail, count_of, last_of, last_from, kept_from, below, grown, Ascends};
+ghost use Rattle.clue_index.specs.Trail.{no_trail, count_of, last_of, last_from, kept_from, below, grown_trail, Ascends};
 
 use crate::ClueState;
 use ledger_bytes::{Digest, NoMemory};
@@ -39,7 +39,7 @@ impl Slot {
 
     /// A clue whose first journal has this number.
     pub(crate) fn first(alloc: Global, jsn: u64) -> Result<Self, NoMemory>
-        ensures { IfOk result (λ slot. slot ≡ grown jsn no_trail) }
+        ensures { IfOk result (λ slot. slot ≡ grown_trail jsn no_trail) }
     {
         Ok(Slot {
             count: 0,
@@ -50,7 +50,7 @@ impl Slot {
 
     /// Adds a journal. After an `Err` the slot is as before.
     pub(crate) fn grow(&mut self, jsn: u64) -> Result<(), NoMemory>
-        ensures ok { OnOk result (self.new ≡ grown jsn self.old) }
+        ensures ok { OnOk result (self.new ≡ grown_trail jsn self.old) }
         ensures err { OnErr result (self.new ≡ self.old) }
     {
         self.jsns.push(jsn)?;
@@ -61,7 +61,7 @@ impl Slot {
     pub(crate) fn count(&self) -> u32
         ensures { count_of self.now < 2 ^ 32 → result ≡ count_of self.now }
     {
-        self.count.saturating_add(saturated(self.jsns.len()))
+        self.count.saturating_add(to_count(self.jsns.len()))
     }
 
     /// The number of the clue's last journal, or 0.
@@ -72,7 +72,7 @@ impl Slot {
     }
 
     /// The numbers of the journals from `floor` on.
-    pub(crate) fn kept(&self, alloc: Global, floor: u64) -> Result<Vec<u64>, NoMemory>
+    pub(crate) fn kept_jsns(&self, alloc: Global, floor: u64) -> Result<Vec<u64>, NoMemory>
         ensures { IfOk result (λ kept. Ascends self.now.jsns
             → kept.items ≡ kept_from floor self.now) }
     {
@@ -90,7 +90,7 @@ impl Slot {
         let early = self.early(p);
         ClueState {
             clue: *clue,
-            count: self.count.saturating_add(saturated(early.len())),
+            count: self.count.saturating_add(to_count(early.len())),
             last: last_in(self.last, early),
         }
     }
@@ -115,7 +115,7 @@ fn last_in(before: u64, jsns: &[u64]) -> u64
 }
 
 /// A number as a `u32`, or the greatest `u32` where it is greater.
-fn saturated(number: usize) -> u32
+fn to_count(number: usize) -> u32
     ensures { result ≡ min number (2 ^ 32 - 1) }
 {
     u32::try_from(number).unwrap_or(u32::MAX)

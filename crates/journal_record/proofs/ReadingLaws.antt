@@ -7,7 +7,7 @@ use Rattle.std.proofs.lemmas.List.{append-nil, nil_from_length}
 use Rattle.ledger_bytes.specs.declared.digest.Digest.{Digest}
 use Rattle.ledger_bytes.specs.declared.failure.Bad.{Bad}
 use Rattle.ledger_bytes.specs.declared.failure.Bad.TheVariants.{BadFixedField, NewerFormat, Short, Trailing}
-use Rattle.ledger_bytes.specs.Fields.{Left, left, ◌>>=◌, number_at, digest_at, end_at, IsBytes, Took, ReadsBack}
+use Rattle.ledger_bytes.specs.Fields.{Left, left_from, ◌>>=◌, number_at, digest_at, end_at, IsBytes, Took, ReadsBack}
 use Rattle.ledger_bytes.proofs.Fields.{bind_ok, check_ok, Took-then, wide32, wide64, number_back, byte_back, digest_back, IsTextOf, text_none, text_then, digest_text, number_text, byte_text, cut_told, trailing_told}
 use Rattle.journal_record.specs.declared.header.Header.{Header}
 use Rattle.journal_record.specs.declared.header.Kind.{Kind}
@@ -349,7 +349,7 @@ header_back = record { again = λ h whole rest fits. (header_is h whole fits).ag
 header_of_takes : (bytes : List ℕ) (h : Header) → IsBytes bytes → header_of bytes ≡ Ok h → IsHeader h × (bytes ≡ spelling h)
 unfolding header_of
 header_of_takes bytes h fits e =
-    let start : Left = left (length bytes) bytes in
+    let start : Left = left_from (length bytes) bytes in
     let b = bind_ok (header_at start) (λ read. end_at read.0 read.1) h e in
     let c = check_ok (eqb (length b.0.1.rest) 0) (Trailing (b.0.1.whole - length b.0.1.rest)) b.0.0 h b.2 in
     let took = header_takes start b.0.0 b.0.1 fits b.1 in
@@ -360,8 +360,8 @@ header_of_takes bytes h fits e =
 header_of_again : (h : Header) → IsWhole h → header_of (spelling h) ≡ Ok h
 unfolding header_of
 header_of_again h fits =
-    let read : header_at (left (length (spelling h)) (spelling h)) ≡ Ok (h, left (length (spelling h)) []) =
-    ap (λ (t : List ℕ). header_at (left (length (spelling h)) t)) (sym (append-nil (spelling h))) ∙ (header_is h (length (spelling h)) fits).again [] in
+    let read : header_at (left_from (length (spelling h)) (spelling h)) ≡ Ok (h, left_from (length (spelling h)) []) =
+    ap (λ (t : List ℕ). header_at (left_from (length (spelling h)) t)) (sym (append-nil (spelling h))) ∙ (header_is h (length (spelling h)) fits).again [] in
     rw read refl
 
 pub header_of_only : (bytes : List ℕ) (h : Header) → IsHeader h → HasWidths h → bytes ≡ spelling h → header_of bytes ≡ Ok h

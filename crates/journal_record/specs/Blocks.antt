@@ -48,6 +48,6 @@ AreBlocks n [] = ⊤
 AreBlocks n (b ∷ bs) = IsBlock n b × AreBlocks (n + length b) bs
 
 -- blocks as they are written, where journals with these leaves came before; root gives the root over leaves
-abbrev pub written : (List (List ℕ) → List ℕ) → List (List ℕ) → List (List Entry) → List (List ℕ)
-written root seen [] = []
-written root seen (b ∷ bs) = block_bytes (root (seen ++ leaves_of b)) b ∷ written root (seen ++ leaves_of b) bs
+abbrev pub written_blocks : (List (List ℕ) → List ℕ) → List (List ℕ) → List (List Entry) → List (List ℕ)
+written_blocks root seen [] = []
+written_blocks root seen (b ∷ bs) = block_bytes (root (seen ++ leaves_of b)) b ∷ written_blocks root (seen ++ leaves_of b) bs

@@ -3,7 +3,7 @@ use Rattle.std.specs.Prelude.{ℕ, List, length, Result, Ok, Err, if◌then◌el
 use Rattle.std.specs.Int.{w8, w32, w64}
 use Rattle.ledger_bytes.specs.declared.failure.Bad.{Bad}
 use Rattle.ledger_bytes.specs.declared.failure.Bad.TheVariants.{BadKind, NewerFormat}
-use Rattle.ledger_bytes.specs.Fields.{Left, left, ◌>>=◌, number_at, digest_at, check, end_at}
+use Rattle.ledger_bytes.specs.Fields.{Left, left_from, ◌>>=◌, number_at, digest_at, check, end_at}
 use Rattle.journal_record.specs.declared.header.Header.{Header}
 use Rattle.journal_record.specs.declared.header.Kind.{Kind}
 use Rattle.journal_record.specs.declared.reading.Front.{Front}
@@ -92,5 +92,5 @@ header_at l = do
 -- the header that the bytes spell, all of them
 unfoldable pub header_of : List ℕ → Result Header Bad
 header_of bytes = do
-  read ← header_at (left (length bytes) bytes)
+  read ← header_at (left_from (length bytes) bytes)
   end_at read.0 read.1

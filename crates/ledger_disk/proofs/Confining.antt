@@ -1,7 +1,7 @@
 -- What stays where only a part of a file is written.
 use Rattle.std.proofs.Common.{◌≡◌, ◌⊎◌, inl, inr, ℕ, ◌+◌, ◌-◌, ◌<◌, ◌≤◌, min, List, [], ◌∷◌, ◌++◌, length, get_or, take, drop, refl, sym, ◌∙◌, ap, subst, arith, append_assoc, length-append, length-drop, length-take}
 use Rattle.std.proofs.lemmas.List.{get_or-take, get_or-drop, take_at, take-take, drop_at, drop-drop, ext_get_or}
-use Rattle.ledger_disk.specs.Disk.{State, MayLeave, IsUntouched, Torn, wrote, overlaid, settled, MayHaveWritten}
+use Rattle.ledger_disk.specs.Disk.{State, MayLeave, IsUntouched, Torn, with_write, overlay, settled_state, MayHaveWritten}
 use Rattle.ledger_disk.specs.Guards.{AreWithin, Outside, Confined}
 
 AreWithin-push : (at n : ℕ) (rs : List (ℕ × ℕ)) (b k : ℕ) → AreWithin at n rs → at ≤ b → b + k ≤ at + n → AreWithin at n (rs ++ (b, k) ∷ [])
@@ -16,7 +16,7 @@ outside_untouched at n (r ∷ rs) i within (inr above) = (inr (omega arith), out
 pub same_outside : (at n : ℕ) (file : List ℕ) → Outside at n file file
 same_outside at n file = record { size = refl; before = refl; after = refl }
 
-pub confined_settled : (at n : ℕ) (file : List ℕ) → Confined at n file (settled file)
+pub confined_settled : (at n : ℕ) (file : List ℕ) → Confined at n file (settled_state file)
 confined_settled at n file = record { seen = same_outside at n file; stable = refl; least = refl; greatest = refl; ranges = tt }
 
 pub outside_torn : (at n b k : ℕ) (file old new : List ℕ) → Outside at n file old → at ≤ b → b + k ≤ at + n → at + n ≤ length file → Torn b k old new → Outside at n file new
@@ -29,7 +29,7 @@ outside_torn at n b k file old new outside low high within torn =
       after = ap (λ (m : ℕ). drop m new) (sym to) ∙ sym (drop-drop far (b + k) new) ∙ ap (λ (l : List ℕ). drop far l) torn.after ∙ drop-drop far (b + k) old ∙ ap (λ (m : ℕ). drop m old) to ∙ outside.after;
     }
 
-pub confined_wrote : (at n b k : ℕ) (file new : List ℕ) (s : State) → Confined at n file s → at ≤ b → b + k ≤ at + n → at + n ≤ length file → Torn b k s.seen new → Confined at n file (wrote b k new s)
+pub confined_wrote : (at n b k : ℕ) (file new : List ℕ) (s : State) → Confined at n file s → at ≤ b → b + k ≤ at + n → at + n ≤ length file → Torn b k s.seen new → Confined at n file (with_write b k new s)
 confined_wrote at n b k file new s confined low high within torn =
     let outside = outside_torn at n b k file s.seen new confined.seen low high within torn in
     record { seen = outside; stable = confined.stable; least = confined.least; greatest = omega (arith, confined.greatest, outside.size); ranges = AreWithin-push at n s.ranges b k confined.ranges low high }
@@ -53,13 +53,13 @@ confined_image at n file s image confined left =
     }
 
 -- a piece, and the next one behind it
-pub overlaid_more : (at : ℕ) (p q file : List ℕ) → at ≤ length file → overlaid (at + length p) q (overlaid at p file) ≡ overlaid at (p ++ q) file
+pub overlaid_more : (at : ℕ) (p q file : List ℕ) → at ≤ length file → overlay (at + length p) q (overlay at p file) ≡ overlay at (p ++ q) file
 overlaid_more at p q file within =
     let front : length (take at file ++ p) ≡ at + length p = omega (arith, length-append (take at file) p, length-take at file) in
-    let before : take (at + length p) (overlaid at p file) ≡ take at file ++ p = take_at (take at file ++ p) (drop (at + length p) file) (at + length p) front in
-    let rest : drop (at + length p + length q) (overlaid at p file) ≡ drop (at + length (p ++ q)) file =
-    sym (drop-drop (length q) (at + length p) (overlaid at p file)) ∙ ap (λ (l : List ℕ). drop (length q) l) (drop_at (take at file ++ p) (drop (at + length p) file) (at + length p) front)
+    let before : take (at + length p) (overlay at p file) ≡ take at file ++ p = take_at (take at file ++ p) (drop (at + length p) file) (at + length p) front in
+    let rest : drop (at + length p + length q) (overlay at p file) ≡ drop (at + length (p ++ q)) file =
+    sym (drop-drop (length q) (at + length p) (overlay at p file)) ∙ ap (λ (l : List ℕ). drop (length q) l) (drop_at (take at file ++ p) (drop (at + length p) file) (at + length p) front)
     ∙ drop-drop (length q) (at + length p) file ∙ ap (λ (m : ℕ). drop m file) (omega (arith, length-append p q)) in
-    ap (λ (l : List ℕ). l ++ q ++ drop (at + length p + length q) (overlaid at p file)) before
+    ap (λ (l : List ℕ). l ++ q ++ drop (at + length p + length q) (overlay at p file)) before
     ∙ ap (λ (l : List ℕ). take at file ++ p ++ q ++ l) rest
     ∙ ap (λ (l : List ℕ). l ++ drop (at + length (p ++ q)) file) (append_assoc (take at file) p q)

@@ -1,7 +1,7 @@
 -- What a write leaves of a disk.
 use Rattle.std.proofs.Common.{◌≡◌, ◌⊎◌, inl, inr, ℕ, ◌+◌, ◌-◌, ◌<◌, ◌≤◌, max, List, [], ◌∷◌, ◌++◌, length, get_or, take, drop, refl, sym, ◌∙◌, ap, subst, arith, append_assoc, length-append, length-drop, length-take}
 use Rattle.std.proofs.lemmas.List.{get_or-take, get_or-drop, take_at, drop_at}
-use Rattle.ledger_disk.specs.Disk.{State, MayLeave, IsUntouched, Torn, wrote, overlaid}
+use Rattle.ledger_disk.specs.Disk.{State, MayLeave, IsUntouched, Torn, with_write, overlay}
 use Rattle.ledger_disk.specs.Parts.{state_of}
 
 pub IsUntouched-append : (i : ℕ) (rs : List (ℕ × ℕ)) (at n : ℕ) → IsUntouched i (rs ++ (at, n) ∷ []) → IsUntouched i rs × ((i < at) ⊎ (at + n ≤ i))
@@ -18,7 +18,7 @@ same_outside at n old new within torn i inside (inr above) =
     (omega arith, ap (λ (j : ℕ). get_or new j 0) (sym is) ∙ sym (get_or-drop (at + n) new k 0) ∙ ap (λ (l : List ℕ). get_or l k 0) torn.after ∙ get_or-drop (at + n) old k 0 ∙ ap (λ (j : ℕ). get_or old j 0) is)
 
 -- what a torn write gives is one of the images
-pub torn_may_be_left : (s : State) (at n : ℕ) (file : List ℕ) → at ≤ length s.seen → MayLeave s s.seen → Torn at n s.seen file → MayLeave (wrote at n file s) file
+pub torn_may_be_left : (s : State) (at n : ℕ) (file : List ℕ) → at ≤ length s.seen → MayLeave s s.seen → Torn at n s.seen file → MayLeave (with_write at n file s) file
 torn_may_be_left s at n file within left torn = record {
   no_shorter = omega (arith, left.no_shorter, torn.no_shorter);
   no_longer = omega arith;
@@ -28,10 +28,10 @@ torn_may_be_left s at n file within left torn = record {
       same.1 ∙ left.kept i same.0 stable parts.0;
 }
 
-pub overlaid_torn : (at : ℕ) (piece file : List ℕ) → at ≤ length file → Torn at (length piece) file (overlaid at piece file)
+pub overlaid_torn : (at : ℕ) (piece file : List ℕ) → at ≤ length file → Torn at (length piece) file (overlay at piece file)
 overlaid_torn at piece file within =
     let front : length (take at file) ≡ at = omega (arith, length-take at file) in
-    let size : length (overlaid at piece file) ≡ at + length piece + (length file - (at + length piece)) = omega (arith, front, length-append (take at file ++ piece) (drop (at + length piece) file), length-append (take at file) piece, length-drop (at + length piece) file) in
+    let size : length (overlay at piece file) ≡ at + length piece + (length file - (at + length piece)) = omega (arith, front, length-append (take at file ++ piece) (drop (at + length piece) file), length-append (take at file) piece, length-drop (at + length piece) file) in
     record {
       before = ap (take at) (append_assoc (take at file) piece (drop (at + length piece) file)) ∙ take_at (take at file) (piece ++ drop (at + length piece) file) at front ∙ refl;
       after = drop_at (take at file ++ piece) (drop (at + length piece) file) (at + length piece) (omega (arith, front, length-append (take at file) piece));

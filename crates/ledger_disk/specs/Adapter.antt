@@ -1,7 +1,7 @@
 -- What an adapter over a real file tells: its length from its first call on, and nothing of its contents.
 use Rattle.std.specs.Prelude.{◌≡◌, ℕ, ◌^◌, ◌≤◌, [], Option, Some, None, MatchOption, ⊤}
 use Rattle.std.proofs.Common.{subst}
-use Rattle.ledger_disk.specs.Disk.{State, settled}
+use Rattle.ledger_disk.specs.Disk.{State, settled_state}
 
 -- this length, once there is a file
 abbrev pub told_of : {A : Type 0} → Option A → ℕ → Option ℕ
@@ -9,8 +9,8 @@ told_of None n = None
 told_of (Some a) n = Some n
 
 -- what nothing reads, since no contents are told
-abbrev pub untold : State
-untold = settled []
+abbrev pub untold_state : State
+untold_state = settled_state []
 
 -- a bound of the length is one of what is told
 pub told_bounded : {A : Type 0} (file : Option A) (m n : ℕ) → told_of file m ≡ Some n → m ≤ 2 ^ 62 → n ≤ 2 ^ 62

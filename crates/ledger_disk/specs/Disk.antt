@@ -27,16 +27,16 @@ pub record MayLeave (s : State) (image : List ℕ) : Type 0 where
       → get_or image i 0 ≡ get_or s.stable i 0
 
 -- nothing is pending
-abbrev pub settled : List ℕ → State
-settled bytes = record { seen = bytes; stable = bytes; ranges = []; least = length bytes; greatest = length bytes }
+abbrev pub settled_state : List ℕ → State
+settled_state bytes = record { seen = bytes; stable = bytes; ranges = []; least = length bytes; greatest = length bytes }
 
 -- the bytes of a file with these at this offset
-abbrev pub overlaid : ℕ → List ℕ → List ℕ → List ℕ
-overlaid at bytes file = take at file ++ bytes ++ drop (at + length bytes) file
+abbrev pub overlay : ℕ → List ℕ → List ℕ → List ℕ
+overlay at bytes file = take at file ++ bytes ++ drop (at + length bytes) file
 
 -- n bytes at this offset were written, and the file is now this one
-abbrev pub wrote : ℕ → ℕ → List ℕ → State → State
-wrote at n file s = record s { seen = file; ranges = s.ranges ++ (at, n) ∷ []; greatest = max s.greatest (length file) }
+abbrev pub with_write : ℕ → ℕ → List ℕ → State → State
+with_write at n file s = record s { seen = file; ranges = s.ranges ++ (at, n) ∷ []; greatest = max s.greatest (length file) }
 
 -- the disk is now cut to n bytes
 abbrev pub cut_to : ℕ → State → State
@@ -51,7 +51,7 @@ pub record Torn (at n : ℕ) (old new : List ℕ) : Type 0 where
 
 -- what a write that failed leaves
 abbrev pub MayHaveWritten : ℕ → ℕ → State → State → Type 0
-MayHaveWritten at n old new = (new ≡ old) ⊎ ((file : List ℕ) × Torn at n old.seen file × (new ≡ wrote at n file old))
+MayHaveWritten at n old new = (new ≡ old) ⊎ ((file : List ℕ) × Torn at n old.seen file × (new ≡ with_write at n file old))
 
 -- what a cut that failed leaves
 abbrev pub MayHaveCut : ℕ → State → State → Type 0

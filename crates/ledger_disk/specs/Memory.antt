@@ -22,8 +22,8 @@ abbrev pub pending_of : MemDisk → ℕ
 pending_of m = length m.ranges.items
 
 -- the length that it tells
-abbrev pub told : MemDisk → Option ℕ
-told m = Some (length m.bytes.items)
+abbrev pub told_len : MemDisk → Option ℕ
+told_len m = Some (length m.bytes.items)
 
 -- no call was made, and these will fail
 abbrev pub IsUnused : List ℕ → MemDisk → Type 0

@@ -1,5 +1,5 @@
 ghost use Rattle.std.specs.Prelude.{◌≡◌, ◌≤◌, ◌+◌, ◌-◌, ◌^◌, ◌++◌, ℕ, Bool, IsTrue, List, Option, Some, length, min, max, take, drop, IfOk, IfSome, IsSome, IsSomeAnd, OnOk, OnErr};
-ghost use Rattle.ledger_disk.specs.Disk.{State, MayLeave, settled, overlaid, wrote, cut_to, MayHaveWritten, MayHaveCut, CountsFault, KeepsLength};
+ghost use Rattle.ledger_disk.specs.Disk.{State, MayLeave, settled_state, overlay, with_write, cut_to, MayHaveWritten, MayHaveCut, CountsFault, KeepsLength};
 
 use ledger_bytes::Failed;
 
@@ -41,8 +41,8 @@ pub trait Disk {
     fn write(&mut self, at: u64, piece: &[u8]) -> Result<(), Failed>
         requires { IfSome (told_length self.old) (λ n. at ≤ n) }
         ensures ok { OnOk result (IsTrue tells → state self.new
-            ≡ wrote at (length piece.now)
-            (overlaid at piece.now (state self.old).seen) (state self.old)) }
+            ≡ with_write at (length piece.now)
+            (overlay at piece.now (state self.old).seen) (state self.old)) }
         ensures err { OnErr result (IsTrue tells
             → MayHaveWritten at (length piece.now) (state self.old) (state self.new)) }
 
@@ -72,7 +72,7 @@ pub trait Disk {
 
     /// Makes all that was written stand for good: afterwards a crash leaves what a read gives, and nothing else.
     fn sync(&mut self) -> Result<(), Failed>
-        ensures ok { OnOk result (IsTrue tells → state self.new ≡ settled (state self.old).seen) }
+        ensures ok { OnOk result (IsTrue tells → state self.new ≡ settled_state (state self.old).seen) }
         ensures err { OnErr result (IsTrue tells → state self.new ≡ state self.old) }
         ensures told { OnOk result (IsSome (told_length self.new)) }
         ensures length { KeepsLength (told_length self.old) (told_length self.new) }

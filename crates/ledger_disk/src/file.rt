@@ -155,12 +155,12 @@ fn length_left(file: &Option<File>, kept: u64, least: u64, greatest: u64) -> u64
 }
 
 impl<R: Files<File = File> + Drop> Disk for FileDisk<R> {
-    ghost use Rattle.ledger_disk.specs.Adapter.{untold, told_bounded};
+    ghost use Rattle.ledger_disk.specs.Adapter.{untold_state, told_bounded};
     ghost use Rattle.ledger_disk.specs.Bounds.{not_told};
 
     ghost tells = { false };
 
-    ghost state = { λ _. untold };
+    ghost state = { λ _. untold_state };
 
     ghost told_length = { λ d. told_of d.file d.length };
 

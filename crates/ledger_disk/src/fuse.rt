@@ -1,5 +1,5 @@
 ghost use Rattle.std.specs.Prelude.{◌≡◌, ◌+◌, ◌-◌, ◌^◌, ◌≤◌, ◌++◌, IsTrue, length, take, drop, min, max, Some, IfOk, OnOk, OnErr, IsErr, IfSome, IsSome, IsSomeAnd};
-ghost use Rattle.ledger_disk.specs.Disk.{settled, overlaid, wrote, cut_to, MayHaveWritten, MayHaveCut, CountsFault, KeepsLength};
+ghost use Rattle.ledger_disk.specs.Disk.{settled_state, overlay, with_write, cut_to, MayHaveWritten, MayHaveCut, CountsFault, KeepsLength};
 
 use crate::Disk;
 use ledger_bytes::Failed;
@@ -112,7 +112,7 @@ impl<D: Disk> Disk for FuseDisk<D> {
     fn write(&mut self, at: u64, piece: &[u8]) -> Result<(), Failed>
         requires { IfSome (D.told_length (inner_of self.old)) (λ n. at ≤ n) }
         ensures ok { OnOk result (IsTrue D.tells → D.state (inner_of self.new)
-            ≡ wrote at (length piece.now) (overlaid at piece.now (D.state (inner_of self.old)).seen)
+            ≡ with_write at (length piece.now) (overlay at piece.now (D.state (inner_of self.old)).seen)
             (D.state (inner_of self.old))) }
         ensures err { OnErr result (IsTrue D.tells → MayHaveWritten at (length piece.now)
             (D.state (inner_of self.old)) (D.state (inner_of self.new))) }
@@ -154,7 +154,7 @@ impl<D: Disk> Disk for FuseDisk<D> {
 
     fn sync(&mut self) -> Result<(), Failed>
         ensures ok { OnOk result (IsTrue D.tells
-            → D.state (inner_of self.new) ≡ settled (D.state (inner_of self.old)).seen) }
+            → D.state (inner_of self.new) ≡ settled_state (D.state (inner_of self.old)).seen) }
         ensures err { OnErr result (IsTrue D.tells
             → D.state (inner_of self.new) ≡ D.state (inner_of self.old)) }
         ensures told { OnOk result (IsSome (D.told_length (inner_of self.new))) }

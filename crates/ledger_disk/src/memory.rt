@@ -1,6 +1,6 @@
 ghost use Rattle.std.specs.Prelude.{◌≡◌, ◌+◌, ◌-◌, ◌^◌, ◌<◌, ◌≤◌, ◌++◌, [], true, set, length, take, drop, Some, max, min, IfOk, OnOk, OnErr, IsSome, IfSome, IsSomeAnd, vec_capacity};
 ghost use Rattle.ledger_bytes.specs.Causes.{Rose};
-ghost use Rattle.ledger_disk.specs.Disk.{MayLeave, settled, overlaid, wrote, cut_to, CountsFault, KeepsLength, MayHaveWritten, MayHaveCut};
+ghost use Rattle.ledger_disk.specs.Disk.{MayLeave, settled_state, overlay, with_write, cut_to, CountsFault, KeepsLength, MayHaveWritten, MayHaveCut};
 ghost use Rattle.ledger_disk.specs.Parts.{state_of};
 ghost use Rattle.ledger_disk.specs.Picks.{IsPicked};
 
@@ -61,7 +61,7 @@ impl MemDisk {
     /// An empty disk that can hold `room` bytes. `fail_at` has the numbers of the calls of `len`, `read`, `write`,
     /// `cut` and `sync` that fail, counted together. The first call has the number 0.
     pub fn new(alloc: Global, room: usize, fail_at: Vec<u64>) -> Result<MemDisk, NoMemory>
-        ensures empty { IfOk result (λ disk. memory_state disk ≡ settled []) }
+        ensures empty { IfOk result (λ disk. memory_state disk ≡ settled_state []) }
         ensures plan { IfOk result (IsUnused fail_at.items) }
         ensures room { IfOk result (λ disk. room_of disk ≡ room) }
     {
@@ -84,15 +84,15 @@ impl MemDisk {
         ensures image { IfOk result (λ disk.
             MayLeave (memory_state self.now) (memory_state disk).seen) }
         ensures settled { IfOk result
-            (λ disk. memory_state disk ≡ settled (memory_state disk).seen) }
+            (λ disk. memory_state disk ≡ settled_state (memory_state disk).seen) }
         ensures picked { IfOk result (λ disk.
             IsPicked pick (memory_state self.now) (memory_state disk).seen) }
         ensures plan { IfOk result (IsUnused []) }
         ensures room { IfOk result (λ disk. room_of disk ≡ room_of self.now) }
     {
         match pick {
-            Pick::AllWritten => holding(self.alloc, self.room, &self.bytes),
-            Pick::NoneWritten => holding(self.alloc, self.room, &self.stable),
+            Pick::AllWritten => disk_of(self.alloc, self.room, &self.bytes),
+            Pick::NoneWritten => disk_of(self.alloc, self.room, &self.stable),
             Pick::Torn(seed) => {
                 let image = torn_bytes(
                     self.alloc,
@@ -101,7 +101,7 @@ impl MemDisk {
                     self.greatest,
                     seed,
                 )?;
-                holding(self.alloc, self.room, &image)
+                disk_of(self.alloc, self.room, &image)
             }
         }
     }
@@ -116,8 +116,8 @@ impl MemDisk {
     /// Changes a byte, in what is read and in what is stable.
     pub fn set_byte(&mut self, at: u64, to: u8)
         requires inside { at < length (memory_state self.old).seen }
-        requires quiet { memory_state self.old ≡ settled (memory_state self.old).seen }
-        ensures state { memory_state self.new ≡ settled (set (memory_state self.old).seen at to) }
+        requires quiet { memory_state self.old ≡ settled_state (memory_state self.old).seen }
+        ensures state { memory_state self.new ≡ settled_state (set (memory_state self.old).seen at to) }
         ensures plan { SamePlan self.old self.new }
     {
         self.bytes[at as usize] = to;
@@ -152,11 +152,11 @@ impl MemDisk {
 }
 
 // A disk that holds these bytes, with nothing pending.
-fn holding(alloc: Global, room: u64, image: &[u8]) -> Result<MemDisk, NoMemory>
+fn disk_of(alloc: Global, room: u64, image: &[u8]) -> Result<MemDisk, NoMemory>
     requires bounded { length image.now ≤ 2 ^ 62 }
     requires within { length image.now ≤ room }
     ensures state { IfOk result (λ disk. state_of disk.bytes.items disk.stable.items
-        disk.ranges.items disk.least disk.greatest ≡ settled image.now) }
+        disk.ranges.items disk.least disk.greatest ≡ settled_state image.now) }
     ensures plan { IfOk result (λ disk. (disk.fail_at.items ≡ []) × (disk.calls ≡ 0)
         × (disk.faults ≡ 0)) }
     ensures room { IfOk result (λ disk. disk.room ≡ room) }
@@ -188,7 +188,7 @@ fn with_room(alloc: Global, room: u64, image: &[u8]) -> Result<Vec<u8>, AllocErr
 
 impl Disk for MemDisk {
     ghost use Rattle.std.specs.Prelude.{◌⊎◌, refl};
-    ghost use Rattle.ledger_disk.specs.Memory.{IsRefused, IsCounted, room_of, pending_of, memory_state, memory_faults, told};
+    ghost use Rattle.ledger_disk.specs.Memory.{IsRefused, IsCounted, room_of, pending_of, memory_state, memory_faults, told_len};
     ghost use Rattle.ledger_disk.specs.Bounds.{some_bounded};
 
     ghost tells = { true };
@@ -207,9 +207,9 @@ impl Disk for MemDisk {
     ghost seen_may_be_left = { λ m _. m.consistent };
 
     fn len(&mut self) -> Result<u64, Failed>
-        ensures value { IfOk result (λ n. told self.new ≡ Some n) }
+        ensures value { IfOk result (λ n. told_len self.new ≡ Some n) }
         ensures state { memory_state self.new ≡ memory_state self.old }
-        ensures length { KeepsLength (told self.old) (told self.new) }
+        ensures length { KeepsLength (told_len self.old) (told_len self.new) }
         ensures faults { CountsFault result (memory_faults self.old) (memory_faults self.new) }
         ensures refused { OnErr result (IsRefused self.old) }
         ensures counted { IsCounted result self.old self.new }
@@ -219,13 +219,13 @@ impl Disk for MemDisk {
     }
 
     fn read(&mut self, at: u64, into: &mut [u8]) -> Result<usize, Failed>
-        ensures told { OnOk result (IsSome (told self.new)) }
-        ensures count { IfOk result (λ n. IfSome (told self.new)
+        ensures told { OnOk result (IsSome (told_len self.new)) }
+        ensures count { IfOk result (λ n. IfSome (told_len self.new)
             (λ len. n ≡ min (length into.old) (len - at))) }
         ensures bytes { IfOk result
             (λ n. into.new ≡ take n (drop at (memory_state self.old).seen) ++ drop n into.old) }
         ensures state { memory_state self.new ≡ memory_state self.old }
-        ensures length { KeepsLength (told self.old) (told self.new) }
+        ensures length { KeepsLength (told_len self.old) (told_len self.new) }
         ensures faults { CountsFault result (memory_faults self.old) (memory_faults self.new) }
         ensures refused { OnErr result (IsRefused self.old) }
         ensures counted { IsCounted result self.old self.new }
@@ -236,16 +236,16 @@ impl Disk for MemDisk {
     }
 
     fn write(&mut self, at: u64, piece: &[u8]) -> Result<(), Failed>
-        requires { IfSome (told self.old) (λ n. at ≤ n) }
-        ensures ok { OnOk result (memory_state self.new ≡ wrote at (length piece.now)
-            (overlaid at piece.now (memory_state self.old).seen) (memory_state self.old)) }
+        requires { IfSome (told_len self.old) (λ n. at ≤ n) }
+        ensures ok { OnOk result (memory_state self.new ≡ with_write at (length piece.now)
+            (overlay at piece.now (memory_state self.old).seen) (memory_state self.old)) }
         ensures err { OnErr result (MayHaveWritten at (length piece.now)
             (memory_state self.old) (memory_state self.new)) }
-        ensures told { OnOk result (IsSomeAnd (told self.new) (λ n. at + length piece.now ≤ n)) }
+        ensures told { OnOk result (IsSomeAnd (told_len self.new) (λ n. at + length piece.now ≤ n)) }
         ensures fits { OnOk result (at + length piece.now ≤ 2 ^ 62) }
-        ensures length { OnOk result (IfSome (told self.old)
-            (λ n. told self.new ≡ Some (max n (at + length piece.now)))) }
-        ensures length_err { OnErr result (IfSome (told self.old) (λ n. IsSomeAnd (told self.new)
+        ensures length { OnOk result (IfSome (told_len self.old)
+            (λ n. told_len self.new ≡ Some (max n (at + length piece.now)))) }
+        ensures length_err { OnErr result (IfSome (told_len self.old) (λ n. IsSomeAnd (told_len self.new)
             (λ m. (n ≤ m) × (m ≤ max n (at + length piece.now))))) }
         ensures faults { CountsFault result (memory_faults self.old) (memory_faults self.new) }
 
@@ -272,13 +272,13 @@ impl Disk for MemDisk {
     }
 
     fn cut(&mut self, to: u64) -> Result<(), Failed>
-        requires { IfSome (told self.old) (λ n. to ≤ n) }
+        requires { IfSome (told_len self.old) (λ n. to ≤ n) }
         ensures ok { OnOk result (memory_state self.new ≡ cut_to to (memory_state self.old)) }
         ensures err { OnErr result (MayHaveCut to (memory_state self.old) (memory_state self.new)) }
-        ensures told { OnOk result (IsSome (told self.new)) }
-        ensures length { OnOk result (told self.new ≡ Some to) }
-        ensures length_err { OnErr result (IfSome (told self.old)
-            (λ n. IsSomeAnd (told self.new) (λ m. (to ≤ m) × (m ≤ n)))) }
+        ensures told { OnOk result (IsSome (told_len self.new)) }
+        ensures length { OnOk result (told_len self.new ≡ Some to) }
+        ensures length_err { OnErr result (IfSome (told_len self.old)
+            (λ n. IsSomeAnd (told_len self.new) (λ m. (to ≤ m) × (m ≤ n)))) }
         ensures faults { CountsFault result (memory_faults self.old) (memory_faults self.new) }
         ensures refused { OnErr result (IsRefused self.old) }
         ensures uncut { OnErr result (memory_state self.new ≡ memory_state self.old) }
@@ -291,10 +291,10 @@ impl Disk for MemDisk {
     }
 
     fn sync(&mut self) -> Result<(), Failed>
-        ensures ok { OnOk result (memory_state self.new ≡ settled (memory_state self.old).seen) }
+        ensures ok { OnOk result (memory_state self.new ≡ settled_state (memory_state self.old).seen) }
         ensures err { OnErr result (memory_state self.new ≡ memory_state self.old) }
-        ensures told { OnOk result (IsSome (told self.new)) }
-        ensures length { KeepsLength (told self.old) (told self.new) }
+        ensures told { OnOk result (IsSome (told_len self.new)) }
+        ensures length { KeepsLength (told_len self.old) (told_len self.new) }
         ensures faults { CountsFault result (memory_faults self.old) (memory_faults self.new) }
         ensures refused { OnErr result (IsRefused self.old) }
         ensures counted { IsCounted result self.old self.new }

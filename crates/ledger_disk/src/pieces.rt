@@ -2,14 +2,14 @@
 
 ghost use Rattle.std.specs.Prelude.{◌≡◌, ◌⊎◌, ◌+◌, ◌-◌, ◌<◌, ◌≤◌, ◌++◌, ℕ, get_or, length, min, take, drop};
 ghost use Rattle.std.specs.Vec.{vec_capacity};
-ghost use Rattle.ledger_disk.specs.Disk.{overlaid, IsUntouched};
+ghost use Rattle.ledger_disk.specs.Disk.{overlay, IsUntouched};
 
 /// Puts a piece over what is there, and past the end, without taking memory.
 pub fn overlay(file: &mut Vec<u8>, at: usize, piece: &[u8])
     requires within { at ≤ length file.old.items }
     requires room { at + length piece.now ≤ vec_capacity file.old }
     requires held { length file.old.items ≤ vec_capacity file.old }
-    ensures items { file.new.items ≡ overlaid at piece.now file.old.items }
+    ensures items { file.new.items ≡ overlay at piece.now file.old.items }
     ensures capacity { vec_capacity file.old ≤ vec_capacity file.new }
 {
     let inside = piece.len().min(file.len() - at);

@@ -7,7 +7,7 @@ use Rattle.std.proofs.lemmas.List.Elements.{All-same, All-append, All-from_get_o
 use Rattle.std.proofs.lemmas.Bool.Decides.{eqb_tells}
 use Rattle.std.proofs.Math.Seq.{take-add}
 use Rattle.memchr.specs.Find.{IsFirstByte, is_byte}
-use Rattle.ledger_io.specs.Lines.{line_limit, onto_first, lines_of, broken, IsUnbroken, BeginsTooLong, BreaksAt}
+use Rattle.ledger_io.specs.Lines.{line_limit, onto_first, lines_of, text_of_lines, IsUnbroken, BeginsTooLong, BreaksAt}
 
 -- a search for the first newline
 pub newline_first : (bytes : List ℕ) (found : Option ℕ) → IsFirstByte (is_byte 10) bytes found → MatchOption found (IsUnbroken bytes) (BreaksAt bytes)
@@ -75,17 +75,17 @@ lines_of-rest (b ∷ c ∷ rest) h some =
     ∙ ap (onto_first b) (lines_of-rest (c ∷ rest) (All-tail (λ b. b ≢ 10) b (c ∷ rest) h) (λ e. cc))
 
 -- whole lines, and the lines of what follows
-pub lines_of-broken : (lines : List (List ℕ)) (rest : List ℕ) → All IsUnbroken lines → lines_of (broken lines ++ rest) ≡ lines ++ lines_of rest
+pub lines_of-broken : (lines : List (List ℕ)) (rest : List ℕ) → All IsUnbroken lines → lines_of (text_of_lines lines ++ rest) ≡ lines ++ lines_of rest
 lines_of-broken [] rest h = refl
 lines_of-broken (line ∷ lines) rest h =
-    ap lines_of (append_assoc line (10 ∷ broken lines) rest) ∙ lines_of-line line (broken lines ++ rest) (All-head IsUnbroken line lines h)
+    ap lines_of (append_assoc line (10 ∷ text_of_lines lines) rest) ∙ lines_of-line line (text_of_lines lines ++ rest) (All-head IsUnbroken line lines h)
     ∙ ap (λ l. line ∷ l) (lines_of-broken lines rest (All-tail IsUnbroken line lines h))
 
 -- lines, one after the other
-pub broken-append : (xs ys : List (List ℕ)) → broken (xs ++ ys) ≡ broken xs ++ broken ys
+pub broken-append : (xs ys : List (List ℕ)) → text_of_lines (xs ++ ys) ≡ text_of_lines xs ++ text_of_lines ys
 broken-append [] ys = refl
-broken-append (line ∷ xs) ys = ap (λ l. line ++ 10 ∷ l) (broken-append xs ys) ∙ sym (append_assoc line (10 ∷ broken xs) (broken ys))
+broken-append (line ∷ xs) ys = ap (λ l. line ++ 10 ∷ l) (broken-append xs ys) ∙ sym (append_assoc line (10 ∷ text_of_lines xs) (text_of_lines ys))
 
 -- a line more at the end
-pub broken-push : (lines : List (List ℕ)) (line : List ℕ) → broken (lines ++ line ∷ []) ≡ broken lines ++ (line ++ 10 ∷ [])
+pub broken-push : (lines : List (List ℕ)) (line : List ℕ) → text_of_lines (lines ++ line ∷ []) ≡ text_of_lines lines ++ (line ++ 10 ∷ [])
 broken-push lines line = broken-append lines (line ∷ [])

@@ -8,7 +8,7 @@ use Rattle.std.proofs.KnownBytes.{Consumes-trans}
 use Rattle.ledger_io.specs.Outside.{SourceState}
 use Rattle.ledger_io.specs.Lines.{script_limit, IsUnbroken, IsLine}
 use Rattle.ledger_io.specs.Reading.{Reading, Reads, Gives}
-use Rattle.ledger_io.specs.Steps.{noted, HasRead, Fetched, TakesLine, TakesRest, IsSound}
+use Rattle.ledger_io.specs.Steps.{reading_after, HasRead, Fetched, TakesLine, TakesRest, IsSound}
 use Rattle.ledger_io.specs.declared.failure.LineErr.{LineErr}
 use Rattle.ledger_io.specs.declared.failure.LineErr.TheVariants.{ReadFault, LineTooLong, ScriptTooLong, NoMemory}
 
@@ -47,7 +47,7 @@ HasRead-trans a b c old mid new xs ys p q = record {
 -- what is answered at the end of the source
 rest_given : (a c : SourceState) (old last new : Reading) (bytes : List ℕ) (answer : Result (Option (List ℕ)) LineErr) → old.ended ≡ false → old.failed ≡ None
     → HasRead a c old last bytes → IsAtEnd c.left → IsLine last.held → last.total < script_limit → TakesRest last new answer
-    → (x : List ℕ) × Reads a c old new x × Gives a c old (noted new answer) x answer
+    → (x : List ℕ) × Reads a c old new x × Gives a c old (reading_after new answer) x answer
 rest_given a c old last new bytes (Ok (Some line)) unended sound h end fits short t = (
   bytes,
   record { consumed = h.consumed; total = ap (λ (r : Reading). r.total) t.2 ∙ h.total; bounded = let e = ap (λ (r : Reading). r.total) t.2 in omega arith },
@@ -99,7 +99,7 @@ rest_given a c old last new bytes (Err NoMemory) unended sound h end fits short 
 pub end_given : (a b c : SourceState) (old mid same last new : Reading) (bytes ys : List ℕ) (most n : ℕ) (answer : Result (Option (List ℕ)) LineErr)
     → old.ended ≡ false → old.failed ≡ None → HasRead a b old mid bytes → TakesLine mid same (Ok None) → same.total ≢ script_limit
     → HasRead b c same last ys → 0 < most → Fetched b c most ys (Ok n) → n ≡ 0 → TakesRest last new answer
-    → (x : List ℕ) × Reads a c old new x × Gives a c old (noted new answer) x answer
+    → (x : List ℕ) × Reads a c old new x × Gives a c old (reading_after new answer) x answer
 end_given a b c old mid same last new bytes ys most n answer unended sound h kept few more some fetched zero t =
     let none : ys ≡ [] = nil_from_length ys (sym fetched.0 ∙ zero) in
     let held : last.held ≡ mid.held = more.held ∙ ap (λ l. same.held ++ l) none ∙ append-nil same.held ∙ ap (λ (r : Reading). r.held) kept.1 in

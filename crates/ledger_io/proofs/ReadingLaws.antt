@@ -5,7 +5,7 @@ use Rattle.std.specs.Io.KnownBytes.{Consumes, IsAtEnd}
 use Rattle.std.proofs.KnownBytes.{Consumes-nil, Consumes-trans}
 use Rattle.std.proofs.lemmas.List.Elements.{All-weaker, All-push, All-nil}
 use Rattle.ledger_io.specs.Outside.{SourceState}
-use Rattle.ledger_io.specs.Lines.{lines_of, broken, IsUnbroken, IsLine, Splits, script_limit}
+use Rattle.ledger_io.specs.Lines.{lines_of, text_of_lines, IsUnbroken, IsLine, Splits, script_limit}
 use Rattle.ledger_io.specs.Reading.{Reading, Reads, GivesLine, GivesNone, IsBrokenOff, IsLast, Fails}
 use Rattle.ledger_io.specs.declared.failure.LineErr.{LineErr}
 use Rattle.ledger_io.proofs.LineLemmas.{lines_of-broken, lines_of-rest, broken-push}
@@ -15,7 +15,7 @@ pub record HasGiven (before now : SourceState) (reading : Reading) (lines : List
   pub read : List ℕ
   pub consumed : Consumes before.left now.left read
   pub each : All IsLine lines
-  pub unended : reading.ended ≡ false → read ≡ broken lines ++ reading.held
+  pub unended : reading.ended ≡ false → read ≡ text_of_lines lines ++ reading.held
   pub ended : reading.ended ≡ true → lines_of read ≡ lines
   pub at_end : reading.ended ≡ true → IsAtEnd now.left
   pub sound : reading.failed ≡ None
@@ -45,17 +45,17 @@ read_none before reading is =
     subst (λ r. HasGiven before before r []) (sym is) start
 
 -- a line more among the lines that newlines end
-broken_more : (lines : List (List ℕ)) (line held : List ℕ) → broken lines ++ (line ++ 10 ∷ held) ≡ broken (lines ++ line ∷ []) ++ held
+broken_more : (lines : List (List ℕ)) (line held : List ℕ) → text_of_lines lines ++ (line ++ 10 ∷ held) ≡ text_of_lines (lines ++ line ∷ []) ++ held
 broken_more lines line held =
-    ap (λ x. broken lines ++ x) (sym (append_assoc line (10 ∷ []) held)) ∙ sym (append_assoc (broken lines) (line ++ 10 ∷ []) held)
+    ap (λ x. text_of_lines lines ++ x) (sym (append_assoc line (10 ∷ []) held)) ∙ sym (append_assoc (text_of_lines lines) (line ++ 10 ∷ []) held)
     ∙ ap (λ x. x ++ held) (sym (broken-push lines line))
 
 pub unbroken : (lines : List (List ℕ)) → All IsLine lines → All IsUnbroken lines
 unbroken lines each = All-weaker IsLine IsUnbroken (λ line fits. fits.0) lines each
 
 -- what was read with some bytes more, where the source hasn't ended
-pub read_on : (before now : SourceState) (reading : Reading) (lines : List (List ℕ)) (bytes : List ℕ) (h : HasGiven before now reading lines) → reading.ended ≡ false → h.read ++ bytes ≡ broken lines ++ (reading.held ++ bytes)
-read_on before now reading lines bytes h e = ap (λ x. x ++ bytes) (h.unended e) ∙ append_assoc (broken lines) reading.held bytes
+pub read_on : (before now : SourceState) (reading : Reading) (lines : List (List ℕ)) (bytes : List ℕ) (h : HasGiven before now reading lines) → reading.ended ≡ false → h.read ++ bytes ≡ text_of_lines lines ++ (reading.held ++ bytes)
+read_on before now reading lines bytes h e = ap (λ x. x ++ bytes) (h.unended e) ∙ append_assoc (text_of_lines lines) reading.held bytes
 
 -- a line more that a newline ended
 read_broken : (before mid after : SourceState) (old new : Reading) (bytes line : List ℕ) (lines : List (List ℕ)) → HasGiven before mid old lines → Reads mid after old new bytes → after.faults ≡ mid.faults → GivesLine after old new bytes line → IsBrokenOff old new bytes line → HasGiven before after new (lines ++ line ∷ [])
@@ -63,7 +63,7 @@ read_broken before mid after old new bytes line lines h r k g b = record {
   read = h.read ++ bytes;
   consumed = Consumes-trans before.left mid.left after.left h.read bytes h.consumed r.consumed;
   each = All-push IsLine lines line h.each g.fits;
-  unended = λ e. read_on before mid old lines bytes h g.unended ∙ ap (λ x. broken lines ++ x) b.given ∙ broken_more lines line new.held;
+  unended = λ e. read_on before mid old lines bytes h g.unended ∙ ap (λ x. text_of_lines lines ++ x) b.given ∙ broken_more lines line new.held;
   ended = λ e. absurd (let no : ⊥ = cc (b.ended, e) in no);
   at_end = λ e. absurd (let no : ⊥ = cc (b.ended, e) in no);
   sound = g.unfailed;
@@ -87,7 +87,7 @@ read_last before mid after old new bytes line lines h r k g b =
       consumed = Consumes-trans before.left mid.left after.left h.read bytes h.consumed r.consumed;
       each = All-push IsLine lines line h.each g.fits;
       unended = λ e. absurd (let no : ⊥ = cc (b.ended, e) in no);
-      ended = λ e. ap lines_of (read_on before mid old lines bytes h g.unended ∙ ap (λ x. broken lines ++ x) b.given) ∙ lines_of-broken lines line (unbroken lines h.each) ∙ ap (λ x. lines ++ x) (lines_of-rest line g.fits.0 b.some);
+      ended = λ e. ap lines_of (read_on before mid old lines bytes h g.unended ∙ ap (λ x. text_of_lines lines ++ x) b.given) ∙ lines_of-broken lines line (unbroken lines h.each) ∙ ap (λ x. lines ++ x) (lines_of-rest line g.fits.0 b.some);
       at_end = λ e. b.at_end;
       sound = g.unfailed;
       total = omega (arith, r.total, h.total, length-append h.read bytes);
@@ -136,7 +136,7 @@ module _ (before mid after : SourceState) (old new : Reading) (bytes : List ℕ)
   pub given_all : GivesNone mid after old new bytes → (lines_of (h.read ++ bytes) ≡ lines) × IsAtEnd after.left
   given_all g =
       elim g.cause [
-        | inl end ↦ (ap lines_of (read_on before mid old lines bytes h end.0 ∙ ap (λ x. broken lines ++ x) g.given) ∙ lines_of-broken lines [] (unbroken lines h.each) ∙ append-nil lines, end.1)
+        | inl end ↦ (ap lines_of (read_on before mid old lines bytes h end.0 ∙ ap (λ x. text_of_lines lines ++ x) g.given) ∙ lines_of-broken lines [] (unbroken lines h.each) ∙ append-nil lines, end.1)
         | inr again ↦ (
           ap lines_of (ap (λ x. h.read ++ x) again.1.none ∙ append-nil h.read) ∙ h.ended again.0,
           subst (λ (k : SourceState). IsAtEnd k.left) (sym again.1.source) (h.at_end again.0),
@@ -145,4 +145,4 @@ module _ (before mid after : SourceState) (old new : Reading) (bytes : List ℕ)
 
   -- at an error, what was read is the lines that were given and what is held
   pub given_split : (error : LineErr) → Fails mid after old new bytes error → Splits (h.read ++ bytes) lines new.held
-  given_split error f = record { is = read_on before mid old lines bytes h f.unended ∙ ap (λ x. broken lines ++ x) (sym f.held); each = h.each }
+  given_split error f = record { is = read_on before mid old lines bytes h f.unended ∙ ap (λ x. text_of_lines lines ++ x) (sym f.held); each = h.each }

@@ -4,7 +4,7 @@ use Rattle.std.specs.Io.KnownBytes.{Consumes, Appends}
 use Rattle.std.proofs.KnownBytes.{Consumes-nil, Appends-nil}
 use Rattle.ledger_bytes.specs.Begins.{Begins}
 use Rattle.ledger_io.specs.Lines.{lines_of, script_limit, IsLine, BeginsTooLong}
-use Rattle.ledger_io.specs.Outside.{SourceState, SinkState, Outside, outside, counted, MeetsNone}
+use Rattle.ledger_io.specs.Outside.{SourceState, SinkState, Outside, outside, count_after, MeetsNone}
 use Rattle.ledger_io.specs.Reading.{Reading, Reads, GivesNone, Fails, faults_next}
 use Rattle.ledger_io.specs.Runs.{EndsBehind, EndsReading, ending_after, SomeAnswer, SomeOfScript, AreWhole, Served}
 use Rattle.std.specs.Prelude.{IfErr}
@@ -44,7 +44,7 @@ module _ (before mid after : SourceState) (old new : Reading) (bytes : List ℕ)
   pub ended_failed : (error : LineErr) → ((error ≡ NoMemory) → ⊥) → after.faults ≡ faults_next {T = Option (List ℕ)} (Err error) old.failed mid.faults → Fails mid after old new bytes error → EndsReading (Some error) before after (h.read ++ bytes) lines
   ended_failed ReadFault other k f =
       let few : length (h.read ++ bytes) < script_limit = omega (arith, f.cause.2, r.total, h.total, length-append h.read bytes) in
-      (subst (λ n. after.faults ≡ counted n) h.faults f.cause.0, few, behind ReadFault IsLine f f.cause.1)
+      (subst (λ n. after.faults ≡ count_after n) h.faults f.cause.0, few, behind ReadFault IsLine f f.cause.1)
   ended_failed LineTooLong other k f = (k ∙ h.faults, behind LineTooLong BeginsTooLong f f.cause)
   ended_failed ScriptTooLong other k f =
       let all : length (h.read ++ bytes) ≡ script_limit = omega (arith, f.cause.0, r.total, h.total, length-append h.read bytes) in

@@ -4,7 +4,7 @@ use Rattle.std.specs.Prelude.{◌&&◌, nat_lt, OnOk, IfErr}
 use Rattle.std.specs.Io.KnownBytes.{Appends}
 use Rattle.std.proofs.lemmas.Bool.Decides.{eqb_tells}
 use Rattle.std.proofs.lemmas.List.{take-append-drop, length-take-le}
-use Rattle.ledger_io.specs.Outside.{SinkState, MeetsOne, counted, idles_after}
+use Rattle.ledger_io.specs.Outside.{SinkState, MeetsOne, count_after, idles_after}
 use Rattle.ledger_io.specs.Writing.{WritesFirst, MeetsAtMostOne, WritesLast}
 use Rattle.ledger_io.specs.declared.writer.WriteErr.{WriteErr}
 use Rattle.ledger_io.specs.declared.writer.WriteErr.TheVariants as write_err
@@ -12,7 +12,7 @@ use Rattle.ledger_io.specs.declared.writer.WriteErr.TheVariants as write_err
 -- a write that took something isn't idle
 pub idles_same : (before n : ℕ) (piece : List ℕ) → 0 < n → idles_after {E = Unit {0}} before (Ok n) piece ≡ before
 idles_same before n piece some =
-    elim (eqb_tells n 0) [ inl p ↦ absurd (omega (arith, p.1, some)) | inr p ↦ ap (λ t. cond (t && nat_lt 0 (length piece)) (counted before) before) p.0 ]
+    elim (eqb_tells n 0) [ inl p ↦ absurd (omega (arith, p.1, some)) | inr p ↦ ap (λ t. cond (t && nat_lt 0 (length piece)) (count_after before) before) p.0 ]
 
 -- a part of the line was written
 last_part : (line : List ℕ) (before after : SinkState) (error : WriteErr) → WritesFirst before.held after.held line error → MeetsOne before after → WritesLast line before after

@@ -20,9 +20,9 @@ lines_of [] = []
 lines_of (b ∷ bytes) = if b == 10 then [] ∷ lines_of bytes else onto_first b (lines_of bytes)
 
 -- lines, each with a newline at its end
-abbrev pub broken : List (List ℕ) → List ℕ
-broken [] = []
-broken (line ∷ lines) = line ++ 10 ∷ broken lines
+abbrev pub text_of_lines : List (List ℕ) → List ℕ
+text_of_lines [] = []
+text_of_lines (line ∷ lines) = line ++ 10 ∷ text_of_lines lines
 
 -- there is no newline in the bytes
 abbrev pub IsUnbroken : List ℕ → Type 0
@@ -50,5 +50,5 @@ pub record BreaksAt (bytes : List ℕ) (i : ℕ) : Type 0 where
 
 -- the bytes are these lines, each with its newline, and then a rest
 pub record Splits (bytes : List ℕ) (lines : List (List ℕ)) (rest : List ℕ) : Type 0 where
-  pub is : bytes ≡ broken lines ++ rest
+  pub is : bytes ≡ text_of_lines lines ++ rest
   pub each : All IsLine lines

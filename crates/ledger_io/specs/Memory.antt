@@ -1,6 +1,6 @@
 -- What clauses see of a source and a sink in memory.
 use Rattle.std.specs.Prelude.{◌≡◌, ℕ, ◌-◌, Bool, true, false, if◌then◌else◌, List, ◌++◌, length, take, drop, min, Result, Ok, Err, Some}
-use Rattle.ledger_io.specs.Outside.{SourceState, SinkState, counted, is_idle}
+use Rattle.ledger_io.specs.Outside.{SourceState, SinkState, count_after, is_idle}
 
 -- the calls of an object: the number of the next, the numbers of those that fail, and how many failed
 pub record Plan : Type 0 where
@@ -14,7 +14,7 @@ unused_plan fail_at = record { next = 0; fail_at = fail_at; faults = 0 }
 
 -- the calls after one more, which failed or didn't
 abbrev pub after_call : Plan → Bool → Plan
-after_call plan failed = record plan { next = counted plan.next; faults = if failed then counted plan.faults else plan.faults }
+after_call plan failed = record plan { next = count_after plan.next; faults = if failed then count_after plan.faults else plan.faults }
 
 -- a source in memory: the bytes left, and its calls
 pub record Feed : Type 0 where
@@ -44,5 +44,5 @@ sink_state store = record { held = Some store.held; faults = store.plan.faults; 
 -- what a write does: it takes as many bytes as its room leaves, or it fails and only counts
 abbrev pub Stores : {E : Type 0} → Store → Store → List ℕ → Result ℕ E → Type 0
 Stores old new piece (Ok n) = (n ≡ min (length piece) (old.room - length old.held))
-    × (new ≡ record old { held = old.held ++ take n piece; plan = after_call old.plan false; idles = if is_idle n piece then counted old.idles else old.idles })
+    × (new ≡ record old { held = old.held ++ take n piece; plan = after_call old.plan false; idles = if is_idle n piece then count_after old.idles else old.idles })
 Stores old new piece (Err e) = new ≡ record old { plan = after_call old.plan true }

@@ -14,13 +14,13 @@ pub record SinkState : Type 0 where
   pub idles : ℕ
 
 -- one more, in a count that stays at the end of its type
-abbrev pub counted : ℕ → ℕ
-counted n = min (n + 1) (2 ^ 64 - 1)
+abbrev pub count_after : ℕ → ℕ
+count_after n = min (n + 1) (2 ^ 64 - 1)
 
 -- the count of failed calls after a call: one more exactly where it failed
 abbrev pub faults_after : {T E : Type 0} → ℕ → Result T E → ℕ
 faults_after before (Ok value) = before
-faults_after before (Err error) = counted before
+faults_after before (Err error) = count_after before
 
 -- a write that took n bytes took nothing of a piece that isn't empty
 abbrev pub is_idle : ℕ → List ℕ → Bool
@@ -28,7 +28,7 @@ is_idle n piece = (n == 0) && nat_lt 0 (length piece)
 
 -- the count of idle writes after a write: one more exactly where the write was idle
 abbrev pub idles_after : {E : Type 0} → ℕ → Result ℕ E → List ℕ → ℕ
-idles_after before (Ok n) piece = if is_idle n piece then counted before else before
+idles_after before (Ok n) piece = if is_idle n piece then count_after before else before
 idles_after before (Err error) piece = before
 
 -- the count of idle writes doesn't fall, and it is the one after this write
@@ -46,7 +46,7 @@ MeetsNone before after = (after.faults ≡ before.faults) × (after.idles ≡ be
 
 -- writing met one fault and no more
 abbrev pub MeetsOne : SinkState → SinkState → Type 0
-MeetsOne before after = ((after.faults ≡ counted before.faults) × (after.idles ≡ before.idles)) ⊎ ((after.faults ≡ before.faults) × (after.idles ≡ counted before.idles))
+MeetsOne before after = ((after.faults ≡ count_after before.faults) × (after.idles ≡ before.idles)) ⊎ ((after.faults ≡ before.faults) × (after.idles ≡ count_after before.idles))
 
 -- the objects that a run is handed: what it reads from and what it writes to
 pub record Outside : Type 0 where

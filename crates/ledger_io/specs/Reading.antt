@@ -1,7 +1,7 @@
 -- What a reader of lines reads and answers.
 use Rattle.std.specs.Prelude.{◌≡◌, ◌≢◌, ℕ, ◌+◌, ◌<◌, ◌≤◌, Bool, true, false, ◌⊎◌, List, [], ◌∷◌, ◌++◌, length, Option, Some, None, Result, Ok, Err, ⊤}
 use Rattle.std.specs.Io.KnownBytes.{Consumes, IsAtEnd}
-use Rattle.ledger_io.specs.Outside.{SourceState, counted}
+use Rattle.ledger_io.specs.Outside.{SourceState, count_after}
 use Rattle.ledger_io.specs.Lines.{script_limit, IsLine, BeginsTooLong}
 use Rattle.ledger_io.specs.declared.failure.LineErr.{LineErr}
 use Rattle.ledger_io.specs.declared.failure.LineErr.TheVariants.{ReadFault, LineTooLong, ScriptTooLong, NoMemory}
@@ -23,7 +23,7 @@ pub record Reads (before after : SourceState) (old new : Reading) (bytes : List 
 -- after this error or none
 abbrev pub faults_next : {T : Type 0} → Result T LineErr → Option LineErr → ℕ → ℕ
 faults_next (Ok line) failed before = before
-faults_next (Err ReadFault) None before = counted before
+faults_next (Err ReadFault) None before = count_after before
 faults_next (Err ReadFault) (Some error) before = before
 faults_next (Err LineTooLong) failed before = before
 faults_next (Err ScriptTooLong) failed before = before
@@ -69,7 +69,7 @@ pub record GivesNone (before after : SourceState) (old new : Reading) (bytes : L
 
 -- what brings each error about, where the bytes held and the number of bytes read are as they stand
 abbrev pub BringsAbout : SourceState → SourceState → List ℕ → ℕ → LineErr → Type 0
-BringsAbout before after held total ReadFault = (after.faults ≡ counted before.faults) × IsLine held × (total < script_limit)
+BringsAbout before after held total ReadFault = (after.faults ≡ count_after before.faults) × IsLine held × (total < script_limit)
 BringsAbout before after held total LineTooLong = BeginsTooLong held
 BringsAbout before after held total ScriptTooLong = (total ≡ script_limit) × IsLine held
 BringsAbout before after held total NoMemory = ⊤

@@ -5,7 +5,7 @@ use Rattle.std.specs.Io.KnownBytes.{Consumes, Appends, IsAtEnd}
 use Rattle.ledger_bytes.specs.Begins.{Begins}
 use Rattle.ledger_io.specs.Endings.{ending_of, last_line}
 use Rattle.ledger_io.specs.Lines.{lines_of, script_limit, IsLine, BeginsTooLong, Splits}
-use Rattle.ledger_io.specs.Outside.{SourceState, SinkState, Outside, outside, counted, MeetsNone, MeetsOne}
+use Rattle.ledger_io.specs.Outside.{SourceState, SinkState, Outside, outside, count_after, MeetsNone, MeetsOne}
 use Rattle.ledger_io.specs.Writing.{WritesLast}
 use Rattle.ledger_io.specs.declared.ending.Ending.{Ending}
 use Rattle.ledger_io.specs.declared.ending.Ending.TheVariants.{Done, Usage, ReadFault, WriteFault, NoMemory, LineTooLong, ScriptTooLong}
@@ -24,7 +24,7 @@ abbrev pub EndsReading : Option LineErr → SourceState → SourceState → List
 EndsReading None before after read lines =
     (after.faults ≡ before.faults) × IsAtEnd after.left × (length read < script_limit) × (lines ≡ lines_of read) × All IsLine lines
 EndsReading (Some line_err.ReadFault) before after read lines =
-    (after.faults ≡ counted before.faults) × (length read < script_limit) × EndsBehind read lines IsLine
+    (after.faults ≡ count_after before.faults) × (length read < script_limit) × EndsBehind read lines IsLine
 EndsReading (Some line_err.LineTooLong) before after read lines =
     (after.faults ≡ before.faults) × EndsBehind read lines BeginsTooLong
 EndsReading (Some line_err.ScriptTooLong) before after read lines =

@@ -1,16 +1,16 @@
 -- The steps of a reader of lines.
 use Rattle.std.specs.Prelude.{◌≡◌, ◌≢◌, ℕ, ◌+◌, ◌<◌, ◌≤◌, Bool, true, List, [], ◌∷◌, ◌++◌, length, take, Option, Some, None, Result, Ok, Err}
 use Rattle.std.specs.Io.KnownBytes.{Consumes, IsAtEnd}
-use Rattle.ledger_io.specs.Outside.{SourceState, counted}
+use Rattle.ledger_io.specs.Outside.{SourceState, count_after}
 use Rattle.ledger_io.specs.Lines.{script_limit, IsUnbroken, IsLine, BeginsTooLong}
 use Rattle.ledger_io.specs.Reading.{Reading}
 use Rattle.ledger_io.specs.declared.failure.LineErr.{LineErr}
 use Rattle.ledger_io.specs.declared.failure.LineErr.TheVariants.{ReadFault, LineTooLong, ScriptTooLong, NoMemory}
 
 -- the reader, with the error of its last answer noted
-abbrev pub noted : Reading → Result (Option (List ℕ)) LineErr → Reading
-noted reader (Ok line) = reader
-noted reader (Err error) = record reader { failed = Some error }
+abbrev pub reading_after : Reading → Result (Option (List ℕ)) LineErr → Reading
+reading_after reader (Ok line) = reader
+reading_after reader (Err error) = record reader { failed = Some error }
 
 -- what a reader keeps to: `looked` of the held bytes were searched for a newline, with none found
 pub record IsSound (held : List ℕ) (looked total : ℕ) (ended : Bool) : Type 0 where
@@ -32,15 +32,15 @@ pub record HasRead (before after : SourceState) (old new : Reading) (bytes : Lis
 -- what a single read of at most so many bytes came to
 abbrev pub Fetched : SourceState → SourceState → ℕ → List ℕ → Result ℕ LineErr → Type 0
 Fetched before after most bytes (Ok n) = (n ≡ length bytes) × (n ≤ most) × (n ≡ 0 → 0 < most → IsAtEnd after.left)
-Fetched before after most bytes (Err ReadFault) = (bytes ≡ []) × (after.faults ≡ counted before.faults)
+Fetched before after most bytes (Err ReadFault) = (bytes ≡ []) × (after.faults ≡ count_after before.faults)
 Fetched before after most bytes (Err LineTooLong) = ⊥
 Fetched before after most bytes (Err ScriptTooLong) = ⊥
 Fetched before after most bytes (Err NoMemory) = bytes ≡ []
 
 -- how many bytes a read brought
-abbrev pub gained : Result ℕ LineErr → ℕ
-gained (Ok n) = n
-gained (Err error) = 0
+abbrev pub gain : Result ℕ LineErr → ℕ
+gain (Ok n) = n
+gain (Err error) = 0
 
 -- a read of at most so many bytes behind those that are held
 pub record Fetches (before after : SourceState) (old new : List ℕ) (most : ℕ) (result : Result ℕ LineErr) : Type 0 where

@@ -1,6 +1,6 @@
 ghost use Rattle.std.specs.Prelude.{◌≡◌, ℕ, ◌+◌, ◌-◌, ◌^◌, ◌<◌, ◌≤◌, List, [], ◌++◌, length, take, drop, vec_len, None, OnOk};
 ghost use Rattle.ledger_io.specs.Reading.{faults_next};
-ghost use Rattle.ledger_io.specs.Steps.{Fetches, gained};
+ghost use Rattle.ledger_io.specs.Steps.{Fetches, gain};
 
 use crate::{LineErr, Source};
 use std::alloc::{AllocError, Global};
@@ -83,8 +83,8 @@ fn read_at<S: Source>(
     requires within { at ≤ vec_len bytes.old }
     requires few { most < 2 ^ 63 }
     ensures fetches { Fetches (S.state source.old) (S.state source.new) (take at bytes.old.items)
-        (take (at + gained result) bytes.new.items) most result }
-    ensures len { at + gained result ≤ length bytes.new.items }
+        (take (at + gain result) bytes.new.items) most result }
+    ensures len { at + gain result ≤ length bytes.new.items }
     ensures counts { (S.state source.new).faults
         ≡ faults_next result None (S.state source.old).faults }
 {

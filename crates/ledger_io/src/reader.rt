@@ -1,7 +1,7 @@
 ghost use Rattle.std.specs.Prelude.{◌≡◌, ◌≢◌, ℕ, ◌<◌, ◌≤◌, List, [], false, None, length, IsTrue, ◌↔◌, MatchOption};
 ghost use Rattle.ledger_io.specs.Lines.{line_limit, script_limit, IsUnbroken, IsLine, BreaksAt};
 ghost use Rattle.ledger_io.specs.Reading.{Reads, Gives, faults_next};
-ghost use Rattle.ledger_io.specs.Steps.{noted, HasRead, Fetched, TakesLine, TakesRest};
+ghost use Rattle.ledger_io.specs.Steps.{reading_after, HasRead, Fetched, TakesLine, TakesRest};
 
 use crate::buffer::Buffer;
 use crate::{LineErr, Source};
@@ -87,7 +87,7 @@ impl Lines {
         ensures gives { (bytes : List ℕ)
             × Reads (S.state source.old) (S.state source.new) self.old self.new bytes
             × Gives (S.state source.old) (S.state source.new) self.old
-            (noted self.new result) bytes result }
+            (reading_after self.new result) bytes result }
         ensures counts { (S.state source.new).faults
             ≡ faults_next result None (S.state source.old).faults }
     {

@@ -9,7 +9,7 @@ use std::io::{Read, Write};
 use std::test::Fail;
 
 // The lines up to the end or an error, with a bar after each, and the error.
-fn told<S: Source>(
+fn told_of<S: Source>(
     alloc: Global,
     lines: &mut Lines,
     source: &mut S,
@@ -43,7 +43,7 @@ fn gives_lines(rt: HostRuntime) -> Result<(), Fail> {
         let kept = Bytes::copy_of(rt.alloc(), bytes)?;
         let mut source = MemSource::new(kept, Vec::new(rt.alloc()));
         let mut lines = Lines::new(rt.alloc());
-        let (text, error) = told(rt.alloc(), &mut lines, &mut source)?;
+        let (text, error) = told_of(rt.alloc(), &mut lines, &mut source)?;
         assert_eq!(rt; text.as_slice(), want);
         assert_eq!(rt; error, None);
         assert!(rt; lines.next(&mut source)?.is_none());
@@ -65,7 +65,7 @@ fn bounds_lines(rt: HostRuntime) -> Result<(), Fail> {
         bytes.extend_from_slice(end)?;
         let mut source = MemSource::new(Bytes::of(bytes), Vec::new(rt.alloc()));
         let mut lines = Lines::new(rt.alloc());
-        let (text, error) = told(rt.alloc(), &mut lines, &mut source)?;
+        let (text, error) = told_of(rt.alloc(), &mut lines, &mut source)?;
         assert_eq!(rt; text.len(), if want.is_none() { len + 3 } else { 2 });
         assert_eq!(rt; error, want);
         assert_eq!(rt; lines.next(&mut source).err(), want);
@@ -80,7 +80,7 @@ fn tells_faults(rt: HostRuntime) -> Result<(), Fail> {
         let bytes = Bytes::copy_of(rt.alloc(), b"ab\ncd")?;
         let mut source = MemSource::new(bytes, [call].to_vec(rt.alloc())?);
         let mut lines = Lines::new(rt.alloc());
-        let (text, error) = told(rt.alloc(), &mut lines, &mut source)?;
+        let (text, error) = told_of(rt.alloc(), &mut lines, &mut source)?;
         assert_eq!(rt; text.as_slice(), want);
         assert_eq!(rt; error, Some(LineErr::ReadFault));
         assert_eq!(rt; lines.next(&mut source).err(), Some(LineErr::ReadFault));
@@ -104,7 +104,7 @@ fn writes_into_memory(rt: HostRuntime) -> Result<(), Fail> {
             result,
             want.map_err(|taken| WriteErr::WriteFault { taken })
         );
-        assert_eq!(rt; sink.written(), written);
+        assert_eq!(rt; sink.written_bytes(), written);
         assert_eq!(rt; sink.faults(), faults);
     }
     Ok(())
@@ -171,13 +171,13 @@ impl Read for Broken {
 fn reads_over_std(rt: HostRuntime) -> Result<(), Fail> {
     let bytes: &[u8] = b"ab\nc";
     let mut source = StdSource::new(bytes);
-    let (text, error) = told(rt.alloc(), &mut Lines::new(rt.alloc()), &mut source)?;
+    let (text, error) = told_of(rt.alloc(), &mut Lines::new(rt.alloc()), &mut source)?;
     assert_eq!(rt; text.as_slice(), b"ab|c|".as_slice());
     assert_eq!(rt; error, None);
     assert_eq!(rt; source.faults(), 0);
 
     let mut broken = StdSource::new(Broken);
-    let (text, error) = told(rt.alloc(), &mut Lines::new(rt.alloc()), &mut broken)?;
+    let (text, error) = told_of(rt.alloc(), &mut Lines::new(rt.alloc()), &mut broken)?;
     assert_eq!(rt; text.as_slice(), b"".as_slice());
     assert_eq!(rt; error, Some(LineErr::ReadFault));
     assert_eq!(rt; broken.faults(), 1);
@@ -198,7 +198,7 @@ fn ends_runs(rt: HostRuntime) -> Result<(), Fail> {
     for (ending, status, line) in rows {
         let mut sink = MemSink::new(rt.alloc(), 64, Vec::new(rt.alloc()))?;
         assert_eq!(rt; finish(&mut sink, ending), status, "at {ending:?}");
-        assert_eq!(rt; sink.written(), line, "at {ending:?}");
+        assert_eq!(rt; sink.written_bytes(), line, "at {ending:?}");
         assert_eq!(rt; ending.status(), status, "at {ending:?}");
         assert_eq!(rt; ending.last_line(), line, "at {ending:?}");
     }

@@ -69,10 +69,10 @@ pub fn fold_proof<H: TreeHash>(m: u64, old: &Digest, size: u64, proof: &[u8]) ->
         ⊎ (length proof.now ≢ 32 * tree.proof_length m size)
         ⊎ (tree.old_root H.of m old.now.0 size (cut 32 proof.now) ≢ Some old.now.0)) }
 {
-    folded::<H>(m, old, size, proof)
+    fold_proof_bytes::<H>(m, old, size, proof)
 }
 
-fn folded<H: TreeHash>(m: u64, old: &Digest, size: u64, proof: &[u8]) -> Option<Digest>
+fn fold_proof_bytes<H: TreeHash>(m: u64, old: &Digest, size: u64, proof: &[u8]) -> Option<Digest>
     ensures { option_map (λ d. d.0) result ≡ tree.fold_proof_bytes H.of m old.now.0 size proof.now }
 {
     if m == 0 || size < m || proof.len() % 32 != 0 {

@@ -9,13 +9,13 @@ use Rattle.std.proofs.lemmas.List.{length-take, take_at}
 use Rattle.ledger_bytes.specs.declared.failure.Bad.{Bad}
 use Rattle.ledger_bytes.specs.declared.failure.NoMemory.{NoMemory}
 use Rattle.ledger_bytes.specs.declared.failure.Bad.TheVariants.{Short, Trailing, BadKind, BadFixedField, NewerFormat, TooLong}
-use Rattle.ledger_bytes.specs.Fields.{Left, left, ◌>>=◌, bytes_at, number_at, digest_at, check, end_at}
+use Rattle.ledger_bytes.specs.Fields.{Left, left_from, ◌>>=◌, bytes_at, number_at, digest_at, check, end_at}
 use Rattle.ledger_bytes.proofs.Fields.{byte_again, cut_told, trailing_told}
 use Rattle.journal_record.specs.Reading.{header_at}
 use Rattle.journal_record.proofs.Spelling.{length-spelling as length-header}
 use Rattle.journal_record.specs.declared.mark.TimeMark.{TimeMark}
-use Rattle.proof_codec.specs.Proofs.{ShownLower, ShownUpper, Shown, is_bounded, counted, lower_text, mark_text, upper_text, text_if, notary_text, front_text, spelling, lower_len, upper_len, lower_place, upper_place, proof_len, HasLower, HasUpper, HasFields, IsProof}
-use Rattle.proof_codec.specs.Reading.{digests_at, flag_at, placed, is_time, time_at, some_lower_at, lower_at, mark_at, some_upper_at, upper_at, size_if, path_if, front_at, proof_at, proof_of, IsBreak}
+use Rattle.proof_codec.specs.Proofs.{ShownLower, ShownUpper, Shown, is_bounded, with_count, lower_text, mark_text, upper_text, text_if, notary_text, front_text, spelling, lower_len, upper_len, lower_place, upper_place, proof_len, HasLower, HasUpper, HasFields, IsProof}
+use Rattle.proof_codec.specs.Reading.{digests_at, flag_at, header_break, is_time, time_at, some_lower_at, lower_at, mark_at, some_upper_at, upper_at, size_if, path_if, front_at, proof_at, proof_of, IsBreak}
 use Rattle.proof_codec.proofs.Parts.{lower_is, lower_from_flag, upper_from_flag}
 use Rattle.proof_codec.proofs.Wholes.{front_of, front_bytes, front_is, front_fits, from_front, from_lo, from_hi, proof_text}
 
@@ -55,7 +55,7 @@ flag_breaks at l =
     then_breaks (number_at w8 l) (λ flag. check (nat_le flag.0 1) at >>= λ _. Ok (eqb flag.0 1, flag.1)) (number_breaks w8 l)
     (λ flag. then_breaks (check (nat_le flag.0 1) at) (λ _. Ok (eqb flag.0 1, flag.1)) (check_breaks (nat_le flag.0 1) at) (λ _. tt))
 
-placed_breaks : {A : Type 0} (at : ℕ) (r : Result A Bad) → IfErr (placed at r) IsBreak
+placed_breaks : {A : Type 0} (at : ℕ) (r : Result A Bad) → IfErr (header_break at r) IsBreak
 placed_breaks at (Ok x) = tt
 placed_breaks at (Err (Short whole)) = tt
 placed_breaks at (Err (Trailing place)) = tt
@@ -67,7 +67,7 @@ placed_breaks at (Err TooLong) = tt
 time_breaks : (at : ℕ) (l : Left) → IfErr (time_at at l) IsBreak
 unfolding time_at
 time_breaks at l =
-    then_breaks (placed at (header_at l)) (λ header. check (is_time header.0.kind) at >>= λ _. Ok header) (placed_breaks at (header_at l))
+    then_breaks (header_break at (header_at l)) (λ header. check (is_time header.0.kind) at >>= λ _. Ok header) (placed_breaks at (header_at l))
     (λ header. then_breaks (check (is_time header.0.kind) at) (λ _. Ok header) (check_breaks (is_time header.0.kind) at) (λ _. tt))
 
 some_lower_breaks : (at : ℕ) (l : Left) → IfErr (some_lower_at at l) IsBreak
@@ -146,7 +146,7 @@ long_breaks false r breaks = breaks
 proof_of_breaks : (bytes : List ℕ) → IfErr (proof_of bytes) IsBreak
 unfolding proof_of
 proof_of_breaks bytes =
-    let start : Left = left (length bytes) bytes in
+    let start : Left = left_from (length bytes) bytes in
     long_breaks (ltb 8192 (length bytes)) (proof_at start >>= λ read. end_at read.0 read.1)
     (then_breaks (proof_at start) (λ read. end_at read.0 read.1) (proof_breaks start)
     (λ read. end_breaks (eqb (length read.1.rest) 0) (read.1.whole - length read.1.rest) read.0))
@@ -179,17 +179,17 @@ proof_of_version bytes version rest other room e =
     let wrong : eqb version 1 ≡ false = ne_eqb version 1 other in
     rw (short, e, byte_again version (length (version ∷ rest)) rest, wrong) refl
 
-flag_wrong : (at flag whole : ℕ) (rest : List ℕ) → 1 < flag → flag_at at (left whole (flag ∷ rest)) ≡ Err (BadFixedField at)
+flag_wrong : (at flag whole : ℕ) (rest : List ℕ) → 1 < flag → flag_at at (left_from whole (flag ∷ rest)) ≡ Err (BadFixedField at)
 unfolding flag_at
 flag_wrong at flag whole rest high =
     let wrong : nat_le flag 1 ≡ false = lt-leb flag 1 high in
     rw (byte_again flag whole rest, wrong) refl
 
-lower_flag_wrong : (at flag whole : ℕ) (rest : List ℕ) → 1 < flag → lower_at at (left whole (flag ∷ rest)) ≡ Err (BadFixedField at)
+lower_flag_wrong : (at flag whole : ℕ) (rest : List ℕ) → 1 < flag → lower_at at (left_from whole (flag ∷ rest)) ≡ Err (BadFixedField at)
 unfolding lower_at
 lower_flag_wrong at flag whole rest high = ap (λ r. r >>= lower_from_flag at) (flag_wrong at flag whole rest high)
 
-upper_flag_wrong : (at flag whole : ℕ) (rest : List ℕ) → 1 < flag → upper_at at (left whole (flag ∷ rest)) ≡ Err (BadFixedField at)
+upper_flag_wrong : (at flag whole : ℕ) (rest : List ℕ) → 1 < flag → upper_at at (left_from whole (flag ∷ rest)) ≡ Err (BadFixedField at)
 unfolding upper_at
 upper_flag_wrong at flag whole rest high = ap (λ r. r >>= upper_from_flag) (flag_wrong at flag whole rest high)
 
@@ -215,7 +215,7 @@ length-size : (there : Bool) (size : ℕ) → length (text_if there (to_be_bytes
 length-size true size = refl
 length-size false size = refl
 
-length-path : (there : Bool) (path : List ℕ) → length (text_if there (counted path)) ≡ cond there (1 + length path) 0
+length-path : (there : Bool) (path : List ℕ) → length (text_if there (with_count path)) ≡ cond there (1 + length path) 0
 length-path true path = omega arith
 length-path false path = refl
 
@@ -229,23 +229,23 @@ length-proof p fits =
     let d = length-size (is_bounded p.lo p.hi) p.notary_size in
     let e = length-path (is_some p.lo) p.lo_path in
     let f = length-path (is_some p.hi) p.hi_path in
-    rw (length-append (front_bytes (front_of p)) (lower_text p.lo ++ (upper_text p.hi ++ notary_text p)), length-append (lower_text p.lo) (upper_text p.hi ++ notary_text p), length-append (upper_text p.hi) (notary_text p), length-append (text_if (is_bounded p.lo p.hi) (to_be_bytes w64 p.notary_size)) (text_if (is_some p.lo) (counted p.lo_path) ++ text_if (is_some p.hi) (counted p.hi_path)), length-append (text_if (is_some p.lo) (counted p.lo_path)) (text_if (is_some p.hi) (counted p.hi_path)), a, b, c, d, e, f) (omega arith)
+    rw (length-append (front_bytes (front_of p)) (lower_text p.lo ++ (upper_text p.hi ++ notary_text p)), length-append (lower_text p.lo) (upper_text p.hi ++ notary_text p), length-append (upper_text p.hi) (notary_text p), length-append (text_if (is_bounded p.lo p.hi) (to_be_bytes w64 p.notary_size)) (text_if (is_some p.lo) (with_count p.lo_path) ++ text_if (is_some p.hi) (with_count p.hi_path)), length-append (text_if (is_some p.lo) (with_count p.lo_path)) (text_if (is_some p.hi) (with_count p.hi_path)), a, b, c, d, e, f) (omega arith)
 
 -- another flag in place of the lower bound's
 flag_first : (p : Shown) (flag whole : ℕ) (rest : List ℕ) → HasFields p → 1 < flag
-    → proof_at (left whole (take (lower_place p) (spelling p) ++ flag ∷ rest)) ≡ Err (BadFixedField (lower_place p))
+    → proof_at (left_from whole (take (lower_place p) (spelling p) ++ flag ∷ rest)) ≡ Err (BadFixedField (lower_place p))
 unfolding proof_at spelling front_text
 flag_first p flag whole rest fits high =
     let front : List ℕ = front_bytes (front_of p) in
     let behind : List ℕ = lower_text p.lo ++ (upper_text p.hi ++ notary_text p) in
     let text : take (lower_place p) (front ++ behind) ≡ front = take_at front behind (lower_place p) (length-front p fits.leaf) in
-    ap (λ (t : List ℕ). front_at (left whole (t ++ flag ∷ rest)) >>= from_front) text
+    ap (λ (t : List ℕ). front_at (left_from whole (t ++ flag ∷ rest)) >>= from_front) text
     ∙ (ap (λ r. r >>= from_front) ((front_is (front_of p) whole (front_fits p fits)).again (flag ∷ rest))
     ∙ ap (λ r. r >>= from_lo (front_of p)) (lower_flag_wrong (lower_place p) flag whole rest high))
 
 -- and in place of the upper bound's
 flag_second : (p : Shown) (flag whole : ℕ) (rest : List ℕ) → HasFields p → 1 < flag
-    → proof_at (left whole (take (upper_place p) (spelling p) ++ flag ∷ rest)) ≡ Err (BadFixedField (upper_place p))
+    → proof_at (left_from whole (take (upper_place p) (spelling p) ++ flag ∷ rest)) ≡ Err (BadFixedField (upper_place p))
 unfolding proof_at spelling front_text
 flag_second p flag whole rest fits high =
     let front : List ℕ = front_bytes (front_of p) in
@@ -254,14 +254,14 @@ flag_second p flag whole rest fits high =
     let both : length (front ++ lower) ≡ upper_place p = omega (arith, length-append front lower, length-front p fits.leaf, length-lower p.lo fits.lower) in
     let text : take (upper_place p) (front ++ (lower ++ behind)) ≡ front ++ lower =
     ap (take (upper_place p)) (sym (append_assoc front lower behind)) ∙ take_at (front ++ lower) behind (upper_place p) both in
-    ap (λ (t : List ℕ). front_at (left whole (t ++ flag ∷ rest)) >>= from_front) text
-    ∙ (ap (λ (t : List ℕ). front_at (left whole t) >>= from_front) (append_assoc front lower (flag ∷ rest))
+    ap (λ (t : List ℕ). front_at (left_from whole (t ++ flag ∷ rest)) >>= from_front) text
+    ∙ (ap (λ (t : List ℕ). front_at (left_from whole t) >>= from_front) (append_assoc front lower (flag ∷ rest))
     ∙ (ap (λ r. r >>= from_front) ((front_is (front_of p) whole (front_fits p fits)).again (lower ++ flag ∷ rest))
     ∙ (ap (λ r. r >>= from_lo (front_of p)) ((lower_is (lower_place p) whole p.lo fits.lower).again (flag ∷ rest))
     ∙ ap (λ r. r >>= from_hi (front_of p) p.lo) (upper_flag_wrong (upper_place p) flag whole rest high))))
 
 proof_flag : (p : Shown) (at flag whole : ℕ) (rest : List ℕ) → HasFields p → (at ≡ lower_place p) ⊎ (at ≡ upper_place p) → 1 < flag
-    → proof_at (left whole (take at (spelling p) ++ flag ∷ rest)) ≡ Err (BadFixedField at)
+    → proof_at (left_from whole (take at (spelling p) ++ flag ∷ rest)) ≡ Err (BadFixedField at)
 proof_flag p at flag whole rest fits (inl is) high = rw is (flag_first p flag whole rest fits high)
 proof_flag p at flag whole rest fits (inr is) high = rw is (flag_second p flag whole rest fits high)
 
@@ -270,8 +270,8 @@ pub proof_of_flag : (bytes : List ℕ) (p : Shown) (at flag : ℕ) (rest : List 
 unfolding proof_of
 proof_of_flag bytes p at flag rest is_proof place high room e =
     let short : ltb 8192 (length bytes) ≡ false = le-ltb _ _ room in
-    let read : proof_at (left (length bytes) bytes) ≡ Err (BadFixedField at) =
-    ap (λ (t : List ℕ). proof_at (left (length bytes) t)) e ∙ proof_flag p at flag (length bytes) rest is_proof.fields place high in
+    let read : proof_at (left_from (length bytes) bytes) ≡ Err (BadFixedField at) =
+    ap (λ (t : List ℕ). proof_at (left_from (length bytes) t)) e ∙ proof_flag p at flag (length bytes) rest is_proof.fields place high in
     rw (short, read) refl
 
 pub written_len : (p : Shown) (made : Result (List ℕ) NoMemory) → HasFields p → IfOk made (λ bytes. bytes ≡ spelling p) → IfOk made (λ bytes. length bytes ≡ proof_len p)

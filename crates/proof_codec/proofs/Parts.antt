@@ -7,7 +7,7 @@ use Rattle.std.proofs.lemmas.List.{append-nil}
 use Rattle.ledger_bytes.specs.declared.digest.Digest.{Digest}
 use Rattle.ledger_bytes.specs.declared.failure.Bad.{Bad}
 use Rattle.ledger_bytes.specs.declared.failure.Bad.TheVariants.{Short, Trailing, BadKind, BadFixedField, NewerFormat, TooLong}
-use Rattle.ledger_bytes.specs.Fields.{Left, left, ◌>>=◌, bytes_at, number_at, digest_at, check, IsBytes, Took, ReadsBack}
+use Rattle.ledger_bytes.specs.Fields.{Left, left_from, ◌>>=◌, bytes_at, number_at, digest_at, check, IsBytes, Took, ReadsBack}
 use Rattle.ledger_bytes.proofs.Fields.{bind_ok, check_ok, ok_is, Took-then, wide64, number_back, byte_back, digest_back, byte_takes, bytes_takes, IsTextOf, text_none, text_then, bytes_text, digest_text, number_text, byte_text}
 use Rattle.journal_record.specs.declared.header.Header.{Header}
 use Rattle.journal_record.specs.declared.header.Kind.{Kind}
@@ -17,8 +17,8 @@ use Rattle.journal_record.specs.Reading.{header_at}
 use Rattle.journal_record.proofs.ReadingSteps.{plain_takes, field_takes, field_text, answered, ended}
 use Rattle.journal_record.proofs.ReadingLaws.{header_is, header_back}
 use Rattle.journal_record.specs.declared.mark.TimeMark.{TimeMark}
-use Rattle.proof_codec.specs.Proofs.{ShownLower, ShownUpper, counted, lower_text, mark_text, upper_text, text_if, IsDigests, IsTimeHeader, IsMark, HasLower, HasUpper, IsSizeIf, IsPathIf}
-use Rattle.proof_codec.specs.Reading.{digests_at, flag_at, placed, is_time, time_at, some_lower_at, lower_at, mark_at, some_upper_at, upper_at, size_if, path_if}
+use Rattle.proof_codec.specs.Proofs.{ShownLower, ShownUpper, with_count, lower_text, mark_text, upper_text, text_if, IsDigests, IsTimeHeader, IsMark, HasLower, HasUpper, IsSizeIf, IsPathIf}
+use Rattle.proof_codec.specs.Reading.{digests_at, flag_at, header_break, is_time, time_at, some_lower_at, lower_at, mark_at, some_upper_at, upper_at, size_if, path_if}
 
 -- ---- steps
 
@@ -43,7 +43,7 @@ back64 = number_back w64 (2 ^ 64) wide64
 
 -- ---- digests behind their count
 
-digests_takes : (l : Left) (path : List ℕ) (after : Left) → IsBytes l.rest → digests_at l ≡ Ok (path, after) → Took l (counted path) after × IsDigests path
+digests_takes : (l : Left) (path : List ℕ) (after : Left) → IsBytes l.rest → digests_at l ≡ Ok (path, after) → Took l (with_count path) after × IsDigests path
 unfolding digests_at
 digests_takes l path after fits e =
     let a = bind_ok (number_at w8 l) (λ count. bytes_at (32 * count.0) count.1) (path, after) e in
@@ -53,14 +53,14 @@ digests_takes l path after fits e =
     let both : Took l (a.0.0 ∷ [] ++ path) after = Took-then l (a.0.0 ∷ []) a.0.1 path after count.0 digests.0 in
     (subst (λ (k : ℕ). Took l (k ∷ path) after) number both, record { whole = omega (arith, digests.1); count = omega (arith, digests.1, count.1) })
 
-pub digests_text : (path : List ℕ) (whole : ℕ) → IsDigests path → IsTextOf digests_at whole (counted path) path
+pub digests_text : (path : List ℕ) (whole : ℕ) → IsDigests path → IsTextOf digests_at whole (with_count path) path
 unfolding digests_at
 digests_text path whole fits =
     let count : ℕ = length path / 32 in
     let size : length path ≡ 32 * count = omega (arith, fits.whole) in
     text_then (number_at w8) (λ count. bytes_at (32 * count.0) count.1) whole (count ∷ []) path count path (byte_text count whole) (bytes_text (32 * count) whole path size)
 
-pub digests_back : ReadsBack digests_at counted IsDigests
+pub digests_back : ReadsBack digests_at with_count IsDigests
 digests_back = record { again = λ path whole rest fits. (digests_text path whole fits).again rest; takes = digests_takes }
 
 -- ---- flags
@@ -99,7 +99,7 @@ flag_back at = record { again = λ flag whole rest fits. (flag_text at whole fla
 
 -- ---- the header of a time journal
 
-placed_ok : {A : Type 0} (at : ℕ) (r : Result A Bad) (x : A) → placed at r ≡ Ok x → r ≡ Ok x
+placed_ok : {A : Type 0} (at : ℕ) (r : Result A Bad) (x : A) → header_break at r ≡ Ok x → r ≡ Ok x
 placed_ok at (Ok y) x e = e
 placed_ok at (Err (Short whole)) x e = absurd cc
 placed_ok at (Err (Trailing place)) x e = absurd cc
@@ -122,7 +122,7 @@ from_kind at header = check (is_time header.0.kind) at >>= λ _. Ok header
 time_takes : (at : ℕ) (l : Left) (h : Header) (after : Left) → IsBytes l.rest → time_at at l ≡ Ok (h, after) → Took l (headers.spelling h) after × IsTimeHeader h
 unfolding time_at
 time_takes at l h after bytes e =
-    let a = bind_ok (placed at (header_at l)) (from_kind at) (h, after) e in
+    let a = bind_ok (header_break at (header_at l)) (from_kind at) (h, after) e in
     let b = bind_ok (check (is_time a.0.0.kind) at) (λ _. Ok a.0) (h, after) a.2 in
     let t = header_back.takes l a.0.0 a.0.1 bytes (placed_ok at (header_at l) a.0 a.1) in
     let kind = time_kind a.0.0.kind (check_holds (is_time a.0.0.kind) at b.0 b.1) in
@@ -134,8 +134,8 @@ time_text at whole h fits =
     let is = header_is h whole (record { rules = fits.rules; widths = fits.widths }) in
     let kind : is_time h.kind ≡ true = ap is_time fits.kind in
     record {
-      again = λ rest. ap (λ r. placed at r >>= from_kind at) (is.again rest) ∙ ap (λ ok. check ok at >>= λ _. ended h (left whole rest)) kind;
-      cut = λ k lt. ap (λ r. placed at r >>= from_kind at) (is.cut k lt);
+      again = λ rest. ap (λ r. header_break at r >>= from_kind at) (is.again rest) ∙ ap (λ ok. check ok at >>= λ _. ended h (left_from whole rest)) kind;
+      cut = λ k lt. ap (λ r. header_break at r >>= from_kind at) (is.cut k lt);
     }
 
 time_back : (at : ℕ) → ReadsBack (time_at at) headers.spelling IsTimeHeader
@@ -144,7 +144,7 @@ time_back at = record { again = λ h whole rest fits. (time_text at whole h fits
 -- ---- the lower bound
 
 abbrev some_lower_text : ShownLower → List ℕ
-some_lower_text x = headers.spelling x.header ++ (counted x.path ++ (x.root.0 ++ counted x.ext))
+some_lower_text x = headers.spelling x.header ++ (with_count x.path ++ (x.root.0 ++ with_count x.ext))
 
 abbrev lower_from : Header → List ℕ → Digest → List ℕ → ShownLower
 lower_from header path root ext = record { header = header; path = path; root = root; ext = ext }
@@ -165,12 +165,12 @@ some_lower_takes : (at : ℕ) (l : Left) (o : Option ShownLower) (after : Left) 
 unfolding some_lower_at
 some_lower_takes at l o after bytes e =
     let h = plain_takes (time_at at) headers.spelling IsTimeHeader (time_back at) from_header l (o, after) bytes e in
-    let p = plain_takes digests_at counted IsDigests digests_back (from_path h.0.0) h.0.1 (o, after) h.1.bytes h.3 in
+    let p = plain_takes digests_at with_count IsDigests digests_back (from_path h.0.0) h.0.1 (o, after) h.1.bytes h.3 in
     let r = plain_takes digest_at (λ d. d.0) (λ d. length d.0 ≡ 32) digest_back (from_root h.0.0 p.0.0) p.0.1 (o, after) p.1.bytes p.3 in
-    let x = plain_takes digests_at counted IsDigests digests_back (from_ext h.0.0 p.0.0 r.0.0) r.0.1 (o, after) r.1.bytes r.3 in
-    let t3 = Took-then p.0.1 r.0.0.0 r.0.1 (counted x.0.0) x.0.1 r.1 x.1 in
-    let t2 = Took-then h.0.1 (counted p.0.0) p.0.1 (r.0.0.0 ++ counted x.0.0) x.0.1 p.1 t3 in
-    let t1 = Took-then l (headers.spelling h.0.0) h.0.1 (counted p.0.0 ++ (r.0.0.0 ++ counted x.0.0)) x.0.1 h.1 t2 in
+    let x = plain_takes digests_at with_count IsDigests digests_back (from_ext h.0.0 p.0.0 r.0.0) r.0.1 (o, after) r.1.bytes r.3 in
+    let t3 = Took-then p.0.1 r.0.0.0 r.0.1 (with_count x.0.0) x.0.1 r.1 x.1 in
+    let t2 = Took-then h.0.1 (with_count p.0.0) p.0.1 (r.0.0.0 ++ with_count x.0.0) x.0.1 p.1 t3 in
+    let t1 = Took-then l (headers.spelling h.0.0) h.0.1 (with_count p.0.0 ++ (r.0.0.0 ++ with_count x.0.0)) x.0.1 h.1 t2 in
     let value : ShownLower = lower_from h.0.0 p.0.0 r.0.0 x.0.0 in
     let fits : HasLower value = record { header = h.2; path = p.2; root = r.2; ext = x.2 } in
     there_answered some_lower_text HasLower l value x.0.1 o after x.3 t1 fits
@@ -178,10 +178,10 @@ some_lower_takes at l o after bytes e =
 some_lower_is : (at whole : ℕ) (x : ShownLower) → HasLower x → IsTextOf (some_lower_at at) whole (some_lower_text x) (Some x)
 unfolding some_lower_at
 some_lower_is at whole x fits =
-    let ext = text_last digests_at (from_ext x.header x.path x.root) whole (counted x.ext) x.ext (Some x) (digests_text x.ext whole fits.ext) (text_none whole (Some x)) in
-    let root = text_then digest_at (from_root x.header x.path) whole x.root.0 (counted x.ext) x.root (Some x) (digest_text x.root whole fits.root) ext in
-    let path = text_then digests_at (from_path x.header) whole (counted x.path) (x.root.0 ++ counted x.ext) x.path (Some x) (digests_text x.path whole fits.path) root in
-    text_then (time_at at) from_header whole (headers.spelling x.header) (counted x.path ++ (x.root.0 ++ counted x.ext)) x.header (Some x) (time_text at whole x.header fits.header) path
+    let ext = text_last digests_at (from_ext x.header x.path x.root) whole (with_count x.ext) x.ext (Some x) (digests_text x.ext whole fits.ext) (text_none whole (Some x)) in
+    let root = text_then digest_at (from_root x.header x.path) whole x.root.0 (with_count x.ext) x.root (Some x) (digest_text x.root whole fits.root) ext in
+    let path = text_then digests_at (from_path x.header) whole (with_count x.path) (x.root.0 ++ with_count x.ext) x.path (Some x) (digests_text x.path whole fits.path) root in
+    text_then (time_at at) from_header whole (headers.spelling x.header) (with_count x.path ++ (x.root.0 ++ with_count x.ext)) x.header (Some x) (time_text at whole x.header fits.header) path
 
 abbrev pub lower_from_flag : ℕ → Bool × Left → Result (Option ShownLower × Left) Bad
 lower_from_flag at flag = cond flag.0 (some_lower_at (at + 1) flag.1) (Ok (None, flag.1))
@@ -242,7 +242,7 @@ mark_back : ReadsBack mark_at mark_text IsMark
 mark_back = record { again = λ m whole rest fits. (mark_is m whole fits).again rest; takes = mark_takes }
 
 abbrev some_upper_text : ShownUpper → List ℕ
-some_upper_text x = mark_text x.mark ++ (x.salt.0 ++ (x.root.0 ++ counted x.ext))
+some_upper_text x = mark_text x.mark ++ (x.salt.0 ++ (x.root.0 ++ with_count x.ext))
 
 abbrev upper_from : TimeMark → Digest → Digest → List ℕ → ShownUpper
 upper_from mark salt root ext = record { mark = mark; salt = salt; root = root; ext = ext }
@@ -265,10 +265,10 @@ some_upper_takes l o after bytes e =
     let m = plain_takes mark_at mark_text IsMark mark_back from_mark l (o, after) bytes e in
     let s = plain_takes digest_at (λ d. d.0) (λ d. length d.0 ≡ 32) digest_back (from_salt m.0.0) m.0.1 (o, after) m.1.bytes m.3 in
     let r = plain_takes digest_at (λ d. d.0) (λ d. length d.0 ≡ 32) digest_back (upper_from_root m.0.0 s.0.0) s.0.1 (o, after) s.1.bytes s.3 in
-    let x = plain_takes digests_at counted IsDigests digests_back (upper_from_ext m.0.0 s.0.0 r.0.0) r.0.1 (o, after) r.1.bytes r.3 in
-    let t3 = Took-then s.0.1 r.0.0.0 r.0.1 (counted x.0.0) x.0.1 r.1 x.1 in
-    let t2 = Took-then m.0.1 s.0.0.0 s.0.1 (r.0.0.0 ++ counted x.0.0) x.0.1 s.1 t3 in
-    let t1 = Took-then l (mark_text m.0.0) m.0.1 (s.0.0.0 ++ (r.0.0.0 ++ counted x.0.0)) x.0.1 m.1 t2 in
+    let x = plain_takes digests_at with_count IsDigests digests_back (upper_from_ext m.0.0 s.0.0 r.0.0) r.0.1 (o, after) r.1.bytes r.3 in
+    let t3 = Took-then s.0.1 r.0.0.0 r.0.1 (with_count x.0.0) x.0.1 r.1 x.1 in
+    let t2 = Took-then m.0.1 s.0.0.0 s.0.1 (r.0.0.0 ++ with_count x.0.0) x.0.1 s.1 t3 in
+    let t1 = Took-then l (mark_text m.0.0) m.0.1 (s.0.0.0 ++ (r.0.0.0 ++ with_count x.0.0)) x.0.1 m.1 t2 in
     let value : ShownUpper = upper_from m.0.0 s.0.0 r.0.0 x.0.0 in
     let fits : HasUpper value = record { mark = m.2; salt = s.2; root = r.2; ext = x.2 } in
     there_answered some_upper_text HasUpper l value x.0.1 o after x.3 t1 fits
@@ -276,10 +276,10 @@ some_upper_takes l o after bytes e =
 some_upper_is : (whole : ℕ) (x : ShownUpper) → HasUpper x → IsTextOf some_upper_at whole (some_upper_text x) (Some x)
 unfolding some_upper_at
 some_upper_is whole x fits =
-    let ext = text_last digests_at (upper_from_ext x.mark x.salt x.root) whole (counted x.ext) x.ext (Some x) (digests_text x.ext whole fits.ext) (text_none whole (Some x)) in
-    let root = text_then digest_at (upper_from_root x.mark x.salt) whole x.root.0 (counted x.ext) x.root (Some x) (digest_text x.root whole fits.root) ext in
-    let salt = text_then digest_at (from_salt x.mark) whole x.salt.0 (x.root.0 ++ counted x.ext) x.salt (Some x) (digest_text x.salt whole fits.salt) root in
-    text_then mark_at from_mark whole (mark_text x.mark) (x.salt.0 ++ (x.root.0 ++ counted x.ext)) x.mark (Some x) (mark_is x.mark whole fits.mark) salt
+    let ext = text_last digests_at (upper_from_ext x.mark x.salt x.root) whole (with_count x.ext) x.ext (Some x) (digests_text x.ext whole fits.ext) (text_none whole (Some x)) in
+    let root = text_then digest_at (upper_from_root x.mark x.salt) whole x.root.0 (with_count x.ext) x.root (Some x) (digest_text x.root whole fits.root) ext in
+    let salt = text_then digest_at (from_salt x.mark) whole x.salt.0 (x.root.0 ++ with_count x.ext) x.salt (Some x) (digest_text x.salt whole fits.salt) root in
+    text_then mark_at from_mark whole (mark_text x.mark) (x.salt.0 ++ (x.root.0 ++ with_count x.ext)) x.mark (Some x) (mark_is x.mark whole fits.mark) salt
 
 abbrev pub upper_from_flag : Bool × Left → Result (Option ShownUpper × Left) Bad
 upper_from_flag flag = cond flag.0 (some_upper_at flag.1) (Ok (None, flag.1))
@@ -318,13 +318,13 @@ unfolding size_if
 size_is true whole size fits = number_text w64 (2 ^ 64) wide64 size whole fits
 size_is false whole size fits = subst (λ (n : ℕ). IsTextOf (λ l. Ok (0, l)) whole [] n) (sym fits) (text_none whole 0)
 
-pub path_takes : (there : Bool) (l : Left) (path : List ℕ) (after : Left) → IsBytes l.rest → path_if there l ≡ Ok (path, after) → Took l (text_if there (counted path)) after × IsPathIf there path
+pub path_takes : (there : Bool) (l : Left) (path : List ℕ) (after : Left) → IsBytes l.rest → path_if there l ≡ Ok (path, after) → Took l (text_if there (with_count path)) after × IsPathIf there path
 unfolding path_if
 path_takes true l path after bytes e = digests_takes l path after bytes e
 path_takes false l path after bytes e =
     subst (λ (y : List ℕ × Left). Took l [] y.1 × (y.0 ≡ [])) (ok_is ([], l) (path, after) e) (record { whole = refl; parts = refl; bytes = bytes }, refl)
 
-pub path_is : (there : Bool) (whole : ℕ) (path : List ℕ) → IsPathIf there path → IsTextOf (path_if there) whole (text_if there (counted path)) path
+pub path_is : (there : Bool) (whole : ℕ) (path : List ℕ) → IsPathIf there path → IsTextOf (path_if there) whole (text_if there (with_count path)) path
 unfolding path_if
 path_is true whole path fits = digests_text path whole fits
 path_is false whole path fits = subst (λ (p : List ℕ). IsTextOf (λ l. Ok ([], l)) whole [] p) (sym fits) (text_none whole [])

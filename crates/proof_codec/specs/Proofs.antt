@@ -58,13 +58,13 @@ is_bounded lo hi = is_some lo || is_some hi
 -- ---- bytes
 
 -- digests behind their count
-abbrev pub counted : List ℕ → List ℕ
-counted digests = (length digests / 32) ∷ digests
+abbrev pub with_count : List ℕ → List ℕ
+with_count digests = (length digests / 32) ∷ digests
 
 -- a lower bound behind its flag
 unfoldable pub lower_text : Option ShownLower → List ℕ
 lower_text None = 0 ∷ []
-lower_text (Some l) = 1 ∷ (headers.spelling l.header ++ (counted l.path ++ (l.root.0 ++ counted l.ext)))
+lower_text (Some l) = 1 ∷ (headers.spelling l.header ++ (with_count l.path ++ (l.root.0 ++ with_count l.ext)))
 
 -- a mark's number, index and time
 unfoldable pub mark_text : TimeMark → List ℕ
@@ -73,7 +73,7 @@ mark_text m = to_be_bytes w64 m.jsn ++ (to_be_bytes w64 m.index ++ to_be_bytes w
 -- an upper bound behind its flag
 unfoldable pub upper_text : Option ShownUpper → List ℕ
 upper_text None = 0 ∷ []
-upper_text (Some u) = 1 ∷ (mark_text u.mark ++ (u.salt.0 ++ (u.root.0 ++ counted u.ext)))
+upper_text (Some u) = 1 ∷ (mark_text u.mark ++ (u.salt.0 ++ (u.root.0 ++ with_count u.ext)))
 
 -- what stands only where a bound is there
 abbrev pub text_if : Bool → List ℕ → List ℕ
@@ -84,11 +84,11 @@ text_if false text = []
 unfoldable pub notary_text : Shown → List ℕ
 notary_text p =
     text_if (is_bounded p.lo p.hi) (to_be_bytes w64 p.notary_size)
-    ++ (text_if (is_some p.lo) (counted p.lo_path) ++ text_if (is_some p.hi) (counted p.hi_path))
+    ++ (text_if (is_some p.lo) (with_count p.lo_path) ++ text_if (is_some p.hi) (with_count p.hi_path))
 
 -- the bytes of a proof in front of its bounds
 unfoldable pub front_text : Shown → List ℕ
-front_text p = 1 ∷ (to_be_bytes w64 p.size ++ (to_be_bytes w64 p.n ++ (p.leaf.0 ++ counted p.path)))
+front_text p = 1 ∷ (to_be_bytes w64 p.size ++ (to_be_bytes w64 p.n ++ (p.leaf.0 ++ with_count p.path)))
 
 -- the bytes of a proof: its fields one after the other
 unfoldable pub spelling : Shown → List ℕ

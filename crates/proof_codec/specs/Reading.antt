@@ -5,7 +5,7 @@ use Rattle.std.specs.Option.{is_some}
 use Rattle.ledger_bytes.specs.declared.digest.Digest.{Digest}
 use Rattle.ledger_bytes.specs.declared.failure.Bad.{Bad}
 use Rattle.ledger_bytes.specs.declared.failure.Bad.TheVariants.{Short, Trailing, BadKind, BadFixedField, NewerFormat, TooLong}
-use Rattle.ledger_bytes.specs.Fields.{Left, left, ◌>>=◌, number_at, digest_at, bytes_at, check, end_at}
+use Rattle.ledger_bytes.specs.Fields.{Left, left_from, ◌>>=◌, number_at, digest_at, bytes_at, check, end_at}
 use Rattle.journal_record.specs.declared.header.Header.{Header}
 use Rattle.journal_record.specs.declared.header.Kind.{Kind}
 use Rattle.journal_record.specs.declared.header.Kind.TheVariants.{Time}
@@ -27,10 +27,10 @@ flag_at at l = do
   Ok (flag.0 == 1, flag.1)
 
 -- how a header at a place breaks: it is cut off, or its place is told
-abbrev pub placed : {A : Type 0} → ℕ → Result A Bad → Result A Bad
-placed at (Ok x) = Ok x
-placed at (Err (Short whole)) = Err (Short whole)
-placed at (Err bad) = Err (BadFixedField at)
+abbrev pub header_break : {A : Type 0} → ℕ → Result A Bad → Result A Bad
+header_break at (Ok x) = Ok x
+header_break at (Err (Short whole)) = Err (Short whole)
+header_break at (Err bad) = Err (BadFixedField at)
 
 -- is it the kind of time journals?
 abbrev pub is_time : Kind → Bool
@@ -40,7 +40,7 @@ is_time kind = false
 -- the header of a time journal
 unfoldable pub time_at : ℕ → Left → Result (Header × Left) Bad
 time_at at l = do
-  header ← placed at (header_at l)
+  header ← header_break at (header_at l)
   _ ← check (is_time header.0.kind) at
   Ok header
 
@@ -128,7 +128,7 @@ proof_at l = do
 -- the proof that the bytes spell, all of them
 unfoldable pub proof_of : List ℕ → Result Shown Bad
 proof_of bytes = if nat_lt 8192 (length bytes) then Err TooLong else (do
-  read ← proof_at (left (length bytes) bytes)
+  read ← proof_at (left_from (length bytes) bytes)
   end_at read.0 read.1)
 
 -- how the bytes of a proof can break

@@ -124,14 +124,14 @@ fn take_some_lower<'a>(reader: &mut FieldReader<'a>, at: u64) -> Result<Option<L
 fn take_time(reader: &mut FieldReader, at: u64) -> Result<Header, Bad>
     ensures { Fits result reader.new (reading.time_at at reader.old) }
 {
-    let header = placed(take_header(reader), at)?;
+    let header = header_break(take_header(reader), at)?;
     check_field(is_time(header.kind), at)?;
     Ok(header)
 }
 
 /// How a header at this place breaks.
-fn placed(read: Result<Header, Bad>, at: u64) -> Result<Header, Bad>
-    ensures { result ≡ reading.placed at read }
+fn header_break(read: Result<Header, Bad>, at: u64) -> Result<Header, Bad>
+    ensures { result ≡ reading.header_break at read }
 {
     match read {
         Ok(header) => Ok(header),

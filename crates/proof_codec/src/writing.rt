@@ -1,7 +1,7 @@
 //! Writing a proof field by field.
 
 ghost use Rattle.std.specs.Prelude.{◌≡◌, ◌++◌, IfOk, IfSome, OnOk};
-ghost use Rattle.proof_codec.specs.Proofs.{HasFields, HasLower, HasUpper, IsDigests, IsPathIf, spelling, counted, text_if};
+ghost use Rattle.proof_codec.specs.Proofs.{HasFields, HasLower, HasUpper, IsDigests, IsPathIf, spelling, with_count, text_if};
 ghost use Rattle.proof_codec.specs.Proofs.{lower_text, mark_text, upper_text, front_text, notary_text};
 
 use crate::{Lower, Proof, Upper};
@@ -44,7 +44,7 @@ fn put_front(writer: &mut FieldWriter, proof: &Proof) -> Result<(), NoMemory>
 /// Digests behind their count.
 fn put_digests(writer: &mut FieldWriter, digests: &[u8]) -> Result<(), NoMemory>
     requires { IsDigests digests.now }
-    ensures { OnOk result (writer.new ≡ writer.old ++ counted digests.now) }
+    ensures { OnOk result (writer.new ≡ writer.old ++ with_count digests.now) }
 {
     writer.put_u8((digests.len() / 32) as u8)?;
     writer.put_slice(digests)
@@ -105,7 +105,7 @@ fn put_notary(writer: &mut FieldWriter, proof: &Proof) -> Result<(), NoMemory>
 /// The path of a bound's entry, where it is there.
 fn put_path(writer: &mut FieldWriter, is_there: bool, path: &[u8]) -> Result<(), NoMemory>
     requires { IsPathIf is_there path.now }
-    ensures { OnOk result (writer.new ≡ writer.old ++ text_if is_there (counted path.now)) }
+    ensures { OnOk result (writer.new ≡ writer.old ++ text_if is_there (with_count path.now)) }
 {
     if is_there {
         put_digests(writer, path)

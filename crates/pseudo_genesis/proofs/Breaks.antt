@@ -5,7 +5,7 @@ use Rattle.std.specs.Int.{Width, w8, w16, w32, w64, byte_len}
 use Rattle.ledger_bytes.specs.Digests.{zero_digest}
 use Rattle.ledger_bytes.specs.declared.failure.Bad.{Bad}
 use Rattle.ledger_bytes.specs.declared.failure.Bad.TheVariants.{Short, Trailing, NewerFormat}
-use Rattle.ledger_bytes.specs.Fields.{Left, left, number_at, digest_at, check, end_at}
+use Rattle.ledger_bytes.specs.Fields.{Left, left_from, number_at, digest_at, check, end_at}
 use Rattle.pseudo_genesis.specs.declared.base.Base.{Base}
 use Rattle.pseudo_genesis.specs.declared.base.BaseErr.{BaseErr}
 use Rattle.pseudo_genesis.specs.declared.base.BaseErr.TheVariants as base_err
@@ -90,7 +90,7 @@ base_breaks l =
 base_of_breaks : (bytes : List ℕ) → IfErr (base_of bytes) IsBreak
 unfolding base_of
 base_of_breaks bytes =
-    let start : Left = left (length bytes) bytes in
+    let start : Left = left_from (length bytes) bytes in
     then_breaks (base_at start) (λ read. end_at read.0 read.1) (base_breaks start)
     (λ read. end_breaks (eqb (length read.1.rest) 0) (read.1.whole - length read.1.rest) read.0)
 

@@ -12,7 +12,7 @@ use Rattle.ledger_bytes.specs.Digests.{zero_digest}
 use Rattle.ledger_bytes.specs.declared.digest.Digest.{Digest}
 use Rattle.ledger_bytes.specs.declared.failure.Bad.{Bad}
 use Rattle.ledger_bytes.specs.declared.failure.Bad.TheVariants.{Short, Trailing, BadFixedField, NewerFormat}
-use Rattle.ledger_bytes.specs.Fields.{Left, left, ◌>>=◌, number_at, digest_at, end_at, IsBytes, Took, ReadsBack}
+use Rattle.ledger_bytes.specs.Fields.{Left, left_from, ◌>>=◌, number_at, digest_at, end_at, IsBytes, Took, ReadsBack}
 use Rattle.ledger_bytes.proofs.Fields.{bind_ok, check_ok, Took-then, wide16, wide32, wide64, number_back, byte_back, digest_back, IsTextOf, text_none, text_then, digest_text, number_text, byte_text, cut_told, trailing_told}
 use Rattle.journal_record.proofs.ReadingSteps.{ruled, plain_takes, field_takes, field_text, answered}
 use Rattle.clue_index.specs.declared.state.ClueState.{ClueState}
@@ -272,7 +272,7 @@ base_text b whole rules widths =
 base_of_takes : (bytes : List ℕ) (b : Base) → IsBytes bytes → base_of bytes ≡ Ok b → IsBase b × HasWidths b × (bytes ≡ spelling b)
 unfolding base_of
 base_of_takes bytes b fits e =
-    let start : Left = left (length bytes) bytes in
+    let start : Left = left_from (length bytes) bytes in
     let r = bind_ok (base_at start) (λ read. end_at read.0 read.1) b e in
     let c = check_ok (eqb (length r.0.1.rest) 0) (Trailing (r.0.1.whole - length r.0.1.rest)) r.0.0 b r.2 in
     let took = base_takes start r.0.0 r.0.1 fits r.1 in
@@ -283,8 +283,8 @@ base_of_takes bytes b fits e =
 pub base_of_only : (bytes : List ℕ) (b : Base) → IsBase b → HasWidths b → bytes ≡ spelling b → base_of bytes ≡ Ok b
 unfolding base_of
 base_of_only bytes b rules widths e =
-    let read : base_at (left (length bytes) bytes) ≡ Ok (b, left (length bytes) []) =
-    ap (λ (t : List ℕ). base_at (left (length bytes) t)) (e ∙ sym (append-nil (spelling b))) ∙ (base_text b (length bytes) rules widths).again [] in
+    let read : base_at (left_from (length bytes) bytes) ≡ Ok (b, left_from (length bytes) []) =
+    ap (λ (t : List ℕ). base_at (left_from (length bytes) t)) (e ∙ sym (append-nil (spelling b))) ∙ (base_text b (length bytes) rules widths).again [] in
     ap (λ r. r >>= λ read. end_at read.0 read.1) read
 
 pub base_of_cut : (bytes : List ℕ) (b : Base) (k : ℕ) → IsBase b → HasWidths b → k < length (spelling b) → bytes ≡ take k (spelling b) → base_of bytes ≡ Err (Short k)

@@ -5,7 +5,7 @@ use Rattle.ledger_bytes.specs.Digests.{zero_digest}
 use Rattle.ledger_bytes.specs.declared.digest.Digest.{Digest}
 use Rattle.ledger_bytes.specs.declared.failure.Bad.{Bad}
 use Rattle.ledger_bytes.specs.declared.failure.Bad.TheVariants as bad
-use Rattle.ledger_bytes.specs.Fields.{Left, left, ◌>>=◌, number_at, digest_at, check, end_at}
+use Rattle.ledger_bytes.specs.Fields.{Left, left_from, ◌>>=◌, number_at, digest_at, check, end_at}
 use Rattle.clue_index.specs.declared.state.ClueState.{ClueState}
 use Rattle.pseudo_genesis.specs.declared.base.Base.{Base}
 use Rattle.pseudo_genesis.specs.declared.base.BaseErr.{BaseErr}
@@ -107,7 +107,7 @@ base_at l = do
 -- the base that the bytes spell, all of them
 unfoldable pub base_of : List ℕ → Result Base Bad
 base_of bytes = do
-  read ← base_at (left (length bytes) bytes)
+  read ← base_at (left_from (length bytes) bytes)
   end_at read.0 read.1
 
 -- A call answers what a reading gives, or that memory was wanted.

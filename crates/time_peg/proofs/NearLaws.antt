@@ -3,7 +3,7 @@ use Rattle.std.proofs.Common.{◌≡◌, inl, inr, ℕ, ◌<◌, ◌≤◌, Bool
 use Rattle.std.specs.List.{AllByRecursion}
 use Rattle.std.proofs.lemmas.Bool.{ltb-true, ltb-false}
 use Rattle.journal_record.specs.declared.mark.TimeMark.{TimeMark}
-use Rattle.time_peg.specs.Times.{Rises, first_mark, last_mark, marks_before, marks_behind, lower, upper, IsOneOf, IsNearestBefore, IsNearestBehind}
+use Rattle.time_peg.specs.Times.{Rises, first_mark, last_mark, marks_before, marks_behind, lower_bound, upper_bound, IsOneOf, IsNearestBefore, IsNearestBehind}
 
 all_map : (P Q : TimeMark → Type 0) → ((m : TimeMark) → P m → Q m) → (ms : List TimeMark) → AllByRecursion P ms → AllByRecursion Q ms
 all_map P Q f [] all = all
@@ -32,11 +32,11 @@ before_false : (n : ℕ) (m : TimeMark) (ms : List TimeMark) (o : Option TimeMar
 before_false n m ms None high near = (high, near)
 before_false n m ms (Some b) high near = (inr near.0, near.1, ((λ low. absurd (omega (arith, high, low))), near.2))
 
-pub nearest_before : (n : ℕ) (ms : List TimeMark) → Rises ms → IsNearestBefore n ms (lower n ms)
+pub nearest_before : (n : ℕ) (ms : List TimeMark) → Rises ms → IsNearestBefore n ms (lower_bound n ms)
 nearest_before n [] rise = rise
 nearest_before n (m ∷ ms) rise = by (nearest_before n ms rise.1) (nat_lt m.jsn n) refl
   where
-    by : IsNearestBefore n ms (lower n ms) → (b : Bool) → nat_lt m.jsn n ≡ b → IsNearestBefore n (m ∷ ms) (last_mark (cond b (m ∷ marks_before n ms) (marks_before n ms)))
+    by : IsNearestBefore n ms (lower_bound n ms) → (b : Bool) → nat_lt m.jsn n ≡ b → IsNearestBefore n (m ∷ ms) (last_mark (cond b (m ∷ marks_before n ms) (marks_before n ms)))
     by near true is = before_true n m ms (marks_before n ms) (ltb-true m.jsn n is) rise.0 near
     by near false is = before_false n m ms (last_mark (marks_before n ms)) (ltb-false m.jsn n is) near
 
@@ -44,10 +44,10 @@ behind_false : (n : ℕ) (m : TimeMark) (ms : List TimeMark) (o : Option TimeMar
 behind_false n m ms None low near = (low, near)
 behind_false n m ms (Some b) low near = (inr near.0, near.1, ((λ high. absurd (omega (arith, high, low))), near.2))
 
-pub nearest_behind : (n : ℕ) (ms : List TimeMark) → Rises ms → IsNearestBehind n ms (upper n ms)
+pub nearest_behind : (n : ℕ) (ms : List TimeMark) → Rises ms → IsNearestBehind n ms (upper_bound n ms)
 nearest_behind n [] rise = rise
 nearest_behind n (m ∷ ms) rise = by (nearest_behind n ms rise.1) (nat_lt n m.jsn) refl
   where
-    by : IsNearestBehind n ms (upper n ms) → (b : Bool) → nat_lt n m.jsn ≡ b → IsNearestBehind n (m ∷ ms) (first_mark (cond b (m ∷ marks_behind n ms) (marks_behind n ms)))
+    by : IsNearestBehind n ms (upper_bound n ms) → (b : Bool) → nat_lt n m.jsn ≡ b → IsNearestBehind n (m ∷ ms) (first_mark (cond b (m ∷ marks_behind n ms) (marks_behind n ms)))
     by near true is = (inl refl, ltb-true n m.jsn is, ((λ high. omega arith), all_map (λ k. m.jsn < k.jsn) (λ k. n < k.jsn → m.jsn ≤ k.jsn) (λ k less high. omega (arith, less)) ms rise.0))
     by near false is = behind_false n m ms (first_mark (marks_behind n ms)) (ltb-false n m.jsn is) near

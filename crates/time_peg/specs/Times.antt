@@ -28,11 +28,11 @@ abbrev pub marks_from : ℕ → List TimeMark → List TimeMark
 marks_from p ms = filter (λ m. nat_le p m.jsn) ms
 
 -- the bounds of journal n in time
-abbrev pub lower : ℕ → List TimeMark → Option TimeMark
-lower n ms = last_mark (marks_before n ms)
+abbrev pub lower_bound : ℕ → List TimeMark → Option TimeMark
+lower_bound n ms = last_mark (marks_before n ms)
 
-abbrev pub upper : ℕ → List TimeMark → Option TimeMark
-upper n ms = first_mark (marks_behind n ms)
+abbrev pub upper_bound : ℕ → List TimeMark → Option TimeMark
+upper_bound n ms = first_mark (marks_behind n ms)
 
 -- a mark is one of these
 abbrev pub IsOneOf : TimeMark → List TimeMark → Type 0

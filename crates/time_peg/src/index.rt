@@ -1,6 +1,6 @@
 ghost use Rattle.std.specs.Prelude.{◌≡◌, ◌<◌, [], ◌∷◌, ◌++◌, OnOk, OnErr};
 ghost use Rattle.std.specs.List.{AllByRecursion};
-ghost use Rattle.time_peg.specs.Times.{lower, upper, marks_from, Rises};
+ghost use Rattle.time_peg.specs.Times.{lower_bound, upper_bound, marks_from, Rises};
 
 use crate::TimeMark;
 use ledger_bytes::NoMemory;
@@ -47,8 +47,8 @@ impl TimeIndex {
     /// The bounds of journal n in time: the last time journal in front of it, and the first behind it. A time journal is
     /// no bound of itself. They are found by a search.
     pub fn bounds_of(&self, n: u64) -> (Option<TimeMark>, Option<TimeMark>)
-        ensures lower { result.0 ≡ lower n self.now }
-        ensures upper { result.1 ≡ upper n self.now }
+        ensures lower { result.0 ≡ lower_bound n self.now }
+        ensures upper { result.1 ≡ upper_bound n self.now }
         // The numbers rise, so that these are the nearest.
         ensures rises { Rises self.now }
     {
@@ -63,7 +63,7 @@ impl TimeIndex {
     }
 
     fn before(&self, n: u64) -> Option<TimeMark>
-        ensures mark { result ≡ lower n self.now }
+        ensures mark { result ≡ lower_bound n self.now }
         ensures rises { Rises self.now }
     {
         let end = self.marks.partition_point(|m| m.jsn < n);
@@ -71,7 +71,7 @@ impl TimeIndex {
     }
 
     fn behind(&self, n: u64) -> Option<TimeMark>
-        ensures { result ≡ upper n self.now }
+        ensures { result ≡ upper_bound n self.now }
     {
         let first = self.marks.partition_point(|m| m.jsn <= n);
         self.marks.as_slice()[first..].first().copied()

@@ -1,16 +1,16 @@
 ghost use Rattle.std.specs.Prelude.{◌≡◌, ◌<◌, ◌≤◌, ℕ, List, [], ◌∷◌, ◌++◌, length};
 ghost use Rattle.journal_record.specs.declared.rules.TheConstants.{NOTARY_LIMIT};
 ghost use Rattle.time_peg.specs.Entries.{IsList, last_time, time_in};
-ghost use Rattle.time_peg.specs.Times.{Rises, lower, upper, IsNearestBefore, IsNearestBehind};
+ghost use Rattle.time_peg.specs.Times.{Rises, lower_bound, upper_bound, IsNearestBefore, IsNearestBehind};
 ghost use Rattle.journal_record.specs.declared.mark.TimeMark.{TimeMark};
 
 /// The bounds of a journal are the nearest time journals on its two sides, and each is missing exactly where there is none
 /// on that side.
 pub fn bounds_are_nearest()
     ensures before { (n : ℕ) (marks : List TimeMark) → Rises marks
-        → IsNearestBefore n marks (lower n marks) }
+        → IsNearestBefore n marks (lower_bound n marks) }
     ensures behind { (n : ℕ) (marks : List TimeMark) → Rises marks
-        → IsNearestBehind n marks (upper n marks) }
+        → IsNearestBehind n marks (upper_bound n marks) }
 {}
 
 /// A notary's list may be empty, and it may grow by an entry whose time isn't below that of the last one.

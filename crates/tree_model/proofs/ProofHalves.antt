@@ -6,7 +6,7 @@ use Rattle.std.specs.Prelude.{if◌then◌else◌, nat_le}
 use Rattle.tree_model.specs.Tree.{Hash, root_at}
 use Rattle.tree_model.specs.Path.{path_at, path}
 use Rattle.tree_model.specs.Extension.{sub_at, proof}
-use Rattle.tree_model.specs.Halves.{halve, own}
+use Rattle.tree_model.specs.Halves.{halve, own_part}
 use Rattle.std.proofs.lemmas.List.{drop-take}
 use Rattle.tree_model.proofs.Extensions.{sub_at_same, sub_enough}
 use Rattle.tree_model.proofs.Paths.{path_at_same, path_at_left, path_at_right, path_enough}
@@ -14,8 +14,8 @@ use Rattle.tree_model.proofs.Splits.{pow_twice, le_pow}
 use Rattle.tree_model.proofs.Halves.{length-halve, halve-take, halve-drop, root_at_halve}
 
 -- the last of the first m digests stands in front
-own_take : (known : Bool) (k m : ℕ) (ds : List (List ℕ)) → 0 < m → m ≤ k → own known m (take k ds) ≡ own known m ds
-unfolding own
+own_take : (known : Bool) (k m : ℕ) (ds : List (List ℕ)) → 0 < m → m ≤ k → own_part known m (take k ds) ≡ own_part known m ds
+unfolding own_part
 own_take known k m ds some le =
     let rest : k ≡ (m - 1) + (k - (m - 1)) = omega arith in
     let same : take 1 (drop (m - 1) (take k ds)) ≡ take 1 (drop (m - 1) ds) =
@@ -23,8 +23,8 @@ own_take known k m ds some le =
     ap (λ t. if known then (if nat_le m 1 then [] else t) else t) same
 
 -- or behind
-own_drop : (known : Bool) (k m : ℕ) (ds : List (List ℕ)) → 0 < k → k < m → own false (m - k) (drop k ds) ≡ own known m ds
-unfolding own
+own_drop : (known : Bool) (k m : ℕ) (ds : List (List ℕ)) → 0 < k → k < m → own_part false (m - k) (drop k ds) ≡ own_part known m ds
+unfolding own_part
 own_drop true k m ds some lt =
     let place : k + ((m - k) - 1) ≡ m - 1 = omega arith in
     rw (lt-leb m 1 (omega arith)) (ap (take 1) (drop-drop ((m - k) - 1) k ds ∙ ap (λ j. drop j ds) place))
@@ -103,8 +103,8 @@ module _ (hash : Hash) where
   even_pow (suc h) some = omega (arith, pow_twice h)
 
   -- where it has an odd number: its last node, unless that is the whole older tree, and the path of that node
-  pub sub_at_odd : (h m : ℕ) (known : Bool) (ds : List (List ℕ)) → length ds ≤ 2 ^ h → m % 2 ≡ 1 → (m < length ds) ⊎ ((m ≡ 1) × (length ds ≡ 1)) → sub_at hash h m known ds ≡ own known m ds ++ path_at hash h (m - 1) ds
-  unfolding sub_at path_at own root_at
+  pub sub_at_odd : (h m : ℕ) (known : Bool) (ds : List (List ℕ)) → length ds ≤ 2 ^ h → m % 2 ≡ 1 → (m < length ds) ⊎ ((m ≡ 1) × (length ds ≡ 1)) → sub_at hash h m known ds ≡ own_part known m ds ++ path_at hash h (m - 1) ds
+  unfolding sub_at path_at own_part root_at
   sub_at_odd zero m known ds fits odd (inl less) = absurd (omega arith)
   sub_at_odd zero m true ds fits odd (inr one) = rw one.0 refl
   sub_at_odd zero m false [] fits odd (inr one) = absurd (omega (arith, one.1))
@@ -112,7 +112,7 @@ module _ (hash : Hash) where
   sub_at_odd (suc h) m known ds fits odd where_is = elim (cases_lt (2 ^ h) (length ds)) [
     | inr small ↦
         sub_at_same hash known h m ds small ∙ sub_at_odd h m known ds small odd where_is
-        ∙ ap (λ t. own known m ds ++ t) (sym (path_at_same hash h (m - 1) ds small))
+        ∙ ap (λ t. own_part known m ds ++ t) (sym (path_at_same hash h (m - 1) ds small))
     | inl more ↦
         let pos : 0 < 2 ^ h = pow_pos h in
         let less : m < length ds = elim where_is [ inl l ↦ l | inr one ↦ omega (arith, one.0) ] in
@@ -129,22 +129,22 @@ module _ (hash : Hash) where
               ] in
               sub_at_left h m known ds more less left
               ∙ ap (λ p. p ++ root_at hash h (drop (2 ^ h) ds) ∷ []) (sub_at_odd h m known (take (2 ^ h) ds) (omega (arith, len_front)) odd front ∙ ap (λ o. o ++ path_at hash h (m - 1) (take (2 ^ h) ds)) (own_take known (2 ^ h) m ds (omega arith) left))
-              ∙ append_assoc (own known m ds) (path_at hash h (m - 1) (take (2 ^ h) ds)) (root_at hash h (drop (2 ^ h) ds) ∷ [])
-              ∙ ap (λ t. own known m ds ++ t) (sym (path_at_left hash h (m - 1) ds more (omega arith)))
+              ∙ append_assoc (own_part known m ds) (path_at hash h (m - 1) (take (2 ^ h) ds)) (root_at hash h (drop (2 ^ h) ds) ∷ [])
+              ∙ ap (λ t. own_part known m ds ++ t) (sym (path_at_left hash h (m - 1) ds more (omega arith)))
           | inl right ↦
               let some : h ≡ 0 → ⊥ = λ none. let one : 2 ^ h ≡ 1 = ap (λ j. 2 ^ j) none in omega (arith, one, pow_twice h) in
               let place : (m - 2 ^ h) - 1 ≡ (m - 1) - 2 ^ h = omega arith in
               sub_at_right h m known ds more less right
               ∙ ap (λ p. p ++ root_at hash h (take (2 ^ h) ds) ∷ []) (sub_at_odd h (m - 2 ^ h) false (drop (2 ^ h) ds) (omega (arith, len_back, pow_twice h)) (omega (arith, even_pow h some)) (inl (omega (arith, len_back)))
               ∙ ap₂ (λ o j. o ++ path_at hash h j (drop (2 ^ h) ds)) (own_drop known (2 ^ h) m ds pos right) place)
-              ∙ append_assoc (own known m ds) (path_at hash h ((m - 1) - 2 ^ h) (drop (2 ^ h) ds)) (root_at hash h (take (2 ^ h) ds) ∷ [])
-              ∙ ap (λ t. own known m ds ++ t) (sym (path_at_right hash h (m - 1) ds more (omega arith)))
+              ∙ append_assoc (own_part known m ds) (path_at hash h ((m - 1) - 2 ^ h) (drop (2 ^ h) ds)) (root_at hash h (take (2 ^ h) ds) ∷ [])
+              ∙ ap (λ t. own_part known m ds ++ t) (sym (path_at_right hash h (m - 1) ds more (omega arith)))
         ]
   ]
 
   -- the same of the proof
-  pub proof-odd : (m : ℕ) (ds : List (List ℕ)) → m < length ds → m % 2 ≡ 1 → proof hash m ds ≡ own true m ds ++ path hash (m - 1) ds
+  pub proof-odd : (m : ℕ) (ds : List (List ℕ)) → m < length ds → m % 2 ≡ 1 → proof hash m ds ≡ own_part true m ds ++ path hash (m - 1) ds
   proof-odd m ds less odd =
       let n = length ds in
       sym (sub_enough hash true n m ds (le_pow n)) ∙ sub_at_odd n m true ds (le_pow n) odd (inl less)
-      ∙ ap (λ t. own true m ds ++ t) (path_enough hash n (m - 1) ds (le_pow n))
+      ∙ ap (λ t. own_part true m ds ++ t) (path_enough hash n (m - 1) ds (le_pow n))

@@ -1,7 +1,7 @@
 -- The whole nodes of a level, as leaves are added, and with what stands behind them at the right edge.
 use Rattle.std.proofs.Common.{◌≡◌, ℕ, zero, suc, ◌-◌, ◌*◌, ◌%◌, ◌<◌, ◌≤◌, Option, Some, None, List, [], ◌∷◌, ◌++◌, length, get_or, take, refl, sym, ap, ◌∙◌, arith}
 use Rattle.tree_model.specs.Tree.{Hash, node}
-use Rattle.tree_model.specs.Halves.{pairs, halve, edge, joined}
+use Rattle.tree_model.specs.Halves.{pairs, halve, edge, joined_node}
 
 module _ (hash : Hash) where
   -- a digest that has no other beside it makes no pair
@@ -33,7 +33,7 @@ module _ (hash : Hash) where
       rw more (ap (λ t. node hash x y ∷ t) (halve_even k rest r (omega arith)))
 
   -- an odd number in front: the last of them is joined with the edge
-  pub halve_odd : (k : ℕ) (ds : List (List ℕ)) (r : Option (List ℕ)) → 2 * k < length ds → halve hash (take (suc (2 * k)) ds ++ edge r) ≡ take k (pairs hash ds) ++ joined hash (get_or ds (2 * k) []) r ∷ []
+  pub halve_odd : (k : ℕ) (ds : List (List ℕ)) (r : Option (List ℕ)) → 2 * k < length ds → halve hash (take (suc (2 * k)) ds ++ edge r) ≡ take k (pairs hash ds) ++ joined_node hash (get_or ds (2 * k) []) r ∷ []
   unfolding halve pairs
   halve_odd k [] r lt = absurd (omega arith)
   halve_odd zero (x ∷ rest) None lt = refl

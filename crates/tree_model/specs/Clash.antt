@@ -20,8 +20,8 @@ abbrev pub node_bytes : List ℕ → List ℕ → List ℕ
 node_bytes left right = 1 ∷ left ++ right
 
 -- that string of the highest node over a list that splits at k
-abbrev pub highest : Hash → ℕ → List (List ℕ) → List ℕ
-highest hash k ds = node_bytes (root hash (take k ds)) (root hash (drop k ds))
+abbrev pub highest_node : Hash → ℕ → List (List ℕ) → List ℕ
+highest_node hash k ds = node_bytes (root hash (take k ds)) (root hash (drop k ds))
 
 -- the strings of one node, the told one first, where they differ, or what is found below
 abbrev pub or_below : List ℕ → List ℕ → Option (List ℕ × List ℕ) → Option (List ℕ × List ℕ)

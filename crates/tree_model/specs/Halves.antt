@@ -28,10 +28,10 @@ edge None = []
 edge (Some d) = d ∷ []
 
 -- a digest joined with what stands behind it at the right edge
-abbrev pub joined : Hash → List ℕ → Option (List ℕ) → List ℕ
-joined hash d None = d
-joined hash d (Some r) = node hash d r
+abbrev pub joined_node : Hash → List ℕ → Option (List ℕ) → List ℕ
+joined_node hash d None = d
+joined_node hash d (Some r) = node hash d r
 
 -- the last of the first m digests, as a proof begins with it: not where it is the only one, and known
-unfoldable pub own : Bool → ℕ → List (List ℕ) → List (List ℕ)
-own known m ds = if known then (if nat_le m 1 then [] else take 1 (drop (m - 1) ds)) else take 1 (drop (m - 1) ds)
+unfoldable pub own_part : Bool → ℕ → List (List ℕ) → List (List ℕ)
+own_part known m ds = if known then (if nat_le m 1 then [] else take 1 (drop (m - 1) ds)) else take 1 (drop (m - 1) ds)

@@ -2,7 +2,7 @@ ghost use Rattle.std.specs.Prelude.{◌≡◌, ◌≢◌, ℕ, Bool, true, false
 ghost use Rattle.tree_model.specs.Tree.{Hash, root, IsSplit};
 ghost use Rattle.tree_model.specs.Path.{fold};
 ghost use Rattle.tree_model.specs.Extension.{ext, fold_proof};
-ghost use Rattle.tree_model.specs.Clash.{Clashes, node_bytes, highest, path_clash, sub_clash, proof_clash};
+ghost use Rattle.tree_model.specs.Clash.{Clashes, node_bytes, highest_node, path_clash, sub_clash, proof_clash};
 
 /// A path by which anything but the leaf's digest folds to the root of a list shows two different strings with one
 /// digest. This is so for every hash whose digests have 32 bytes.
@@ -36,25 +36,25 @@ pub fn path_clash_is_first()
     ensures left { (hash : Hash) (digest side left : List ℕ) (k n : ℕ)
         (digests rest : List (List ℕ)) → IsSplit k (length digests) → n < k
         → fold hash digest n k rest ≡ Some left
-        → node_bytes left side ≢ highest hash k digests
+        → node_bytes left side ≢ highest_node hash k digests
         → path_clash hash digest n digests (rest ++ side ∷ [])
-        ≡ Some (node_bytes left side, highest hash k digests) }
+        ≡ Some (node_bytes left side, highest_node hash k digests) }
     ensures left_below { (hash : Hash) (digest side left : List ℕ) (k n : ℕ)
         (digests rest : List (List ℕ)) → IsSplit k (length digests) → n < k
         → fold hash digest n k rest ≡ Some left
-        → node_bytes left side ≡ highest hash k digests
+        → node_bytes left side ≡ highest_node hash k digests
         → path_clash hash digest n digests (rest ++ side ∷ [])
         ≡ path_clash hash digest n (take k digests) rest }
     ensures right { (hash : Hash) (digest side right : List ℕ) (k n : ℕ)
         (digests rest : List (List ℕ)) → IsSplit k (length digests) → k ≤ n → n < length digests
         → fold hash digest (n - k) (length digests - k) rest ≡ Some right
-        → node_bytes side right ≢ highest hash k digests
+        → node_bytes side right ≢ highest_node hash k digests
         → path_clash hash digest n digests (rest ++ side ∷ [])
-        ≡ Some (node_bytes side right, highest hash k digests) }
+        ≡ Some (node_bytes side right, highest_node hash k digests) }
     ensures right_below { (hash : Hash) (digest side right : List ℕ) (k n : ℕ)
         (digests rest : List (List ℕ)) → IsSplit k (length digests) → k ≤ n → n < length digests
         → fold hash digest (n - k) (length digests - k) rest ≡ Some right
-        → node_bytes side right ≡ highest hash k digests
+        → node_bytes side right ≡ highest_node hash k digests
         → path_clash hash digest n digests (rest ++ side ∷ [])
         ≡ path_clash hash digest (n - k) (drop k digests) rest }
 {}
@@ -72,25 +72,25 @@ pub fn proof_clash_is_first()
     ensures left { (hash : Hash) (k m : ℕ) (known : Bool) (old side first new : List ℕ)
         (digests rest : List (List ℕ)) → IsSplit k (length digests) → 0 < m → m ≤ k
         → ext hash m k known old rest ≡ Some (first, new)
-        → node_bytes new side ≢ highest hash k digests
+        → node_bytes new side ≢ highest_node hash k digests
         → sub_clash hash m known old digests (rest ++ side ∷ [])
-        ≡ Some (node_bytes new side, highest hash k digests) }
+        ≡ Some (node_bytes new side, highest_node hash k digests) }
     ensures left_below { (hash : Hash) (k m : ℕ) (known : Bool) (old side first new : List ℕ)
         (digests rest : List (List ℕ)) → IsSplit k (length digests) → 0 < m → m ≤ k
         → ext hash m k known old rest ≡ Some (first, new)
-        → node_bytes new side ≡ highest hash k digests
+        → node_bytes new side ≡ highest_node hash k digests
         → sub_clash hash m known old digests (rest ++ side ∷ [])
         ≡ sub_clash hash m known old (take k digests) rest }
     ensures right { (hash : Hash) (k m : ℕ) (known : Bool) (old side first new : List ℕ)
         (digests rest : List (List ℕ)) → IsSplit k (length digests) → k < m → m < length digests
         → ext hash (m - k) (length digests - k) false old rest ≡ Some (first, new)
-        → node_bytes side new ≢ highest hash k digests
+        → node_bytes side new ≢ highest_node hash k digests
         → sub_clash hash m known old digests (rest ++ side ∷ [])
-        ≡ Some (node_bytes side new, highest hash k digests) }
+        ≡ Some (node_bytes side new, highest_node hash k digests) }
     ensures right_below { (hash : Hash) (k m : ℕ) (known : Bool) (old side first new : List ℕ)
         (digests rest : List (List ℕ)) → IsSplit k (length digests) → k < m → m < length digests
         → ext hash (m - k) (length digests - k) false old rest ≡ Some (first, new)
-        → node_bytes side new ≡ highest hash k digests
+        → node_bytes side new ≡ highest_node hash k digests
         → sub_clash hash m known old digests (rest ++ side ∷ [])
         ≡ sub_clash hash (m - k) false old (drop k digests) rest }
 {}

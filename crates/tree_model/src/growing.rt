@@ -2,7 +2,7 @@ ghost use Rattle.std.specs.Prelude.{◌≡◌, ℕ, true, ◌+◌, ◌-◌, ◌*
 ghost use Rattle.tree_model.specs.Tree.{Hash, node, root, IsSplit};
 ghost use Rattle.tree_model.specs.Path.{path};
 ghost use Rattle.tree_model.specs.Extension.{proof};
-ghost use Rattle.tree_model.specs.Halves.{pairs, halve, beside, own};
+ghost use Rattle.tree_model.specs.Halves.{pairs, halve, beside, own_part};
 ghost use Rattle.tree_model.specs.Peaks.{peaks};
 ghost use Rattle.tree_model.specs.RootFrom.{root_from};
 
@@ -21,7 +21,7 @@ pub fn halves_give_the_tree()
         → proof hash m digests ≡ proof hash (m / 2) (halve hash digests) }
     ensures proof_odd { (hash : Hash) (m : ℕ) (digests : List (List ℕ))
         → m < length digests → m % 2 ≡ 1
-        → proof hash m digests ≡ own true m digests ++ path hash (m - 1) digests }
+        → proof hash m digests ≡ own_part true m digests ++ path hash (m - 1) digests }
     ensures peaks { (hash : Hash) (digests : List (List ℕ)) → peaks hash digests
         ≡ peaks hash (pairs hash digests) ++ drop (2 * (length digests / 2)) digests }
 {}

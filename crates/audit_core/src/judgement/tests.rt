@@ -65,7 +65,7 @@ fn node(left: u8, right: u8) -> [u8; 65] {
 }
 
 // What is judged of a proof of journal 0 under two headers that end in 05 and 07.
-fn judged(leaf: u8, side: u8, claimed: u8) -> Verdict {
+fn judge_leaf(leaf: u8, side: u8, claimed: u8) -> Verdict {
     let mut headers = [0; 348];
     headers[173] = 5;
     headers[347] = 7;
@@ -80,10 +80,10 @@ fn judged(leaf: u8, side: u8, claimed: u8) -> Verdict {
 
 #[test]
 fn judges_by_the_toy_hash(rt: HostRuntime) {
-    assert_eq!(rt; judged(5, 7, 5), Verdict::True);
-    assert_eq!(rt; judged(5, 6, 5), Verdict::Unaccepted(No::LeafPath));
-    assert_eq!(rt; judged(6, 6, 5), Verdict::Unaccepted(No::ClaimDiffers));
-    match judged(6, 6, 6) {
+    assert_eq!(rt; judge_leaf(5, 7, 5), Verdict::True);
+    assert_eq!(rt; judge_leaf(5, 6, 5), Verdict::Unaccepted(No::LeafPath));
+    assert_eq!(rt; judge_leaf(6, 6, 5), Verdict::Unaccepted(No::ClaimDiffers));
+    match judge_leaf(6, 6, 6) {
         Verdict::Clash(clash) => {
             assert_eq!(rt; clash.told.as_slice(), node(6, 6).as_slice());
             assert_eq!(rt; clash.truth.as_slice(), node(5, 7).as_slice());

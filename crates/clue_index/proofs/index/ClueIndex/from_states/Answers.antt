@@ -1,6 +1,6 @@
 use Rattle.std.proofs.Common.{◌≡◌, List, [], ℕ, cond, take, get_or, refl, sym, ap, subst, ◌∙◌, Some}
 use Rattle.std.proofs.lemmas.List.{take_more}
-use Rattle.clue_index.specs.Added.{begun}
+use Rattle.clue_index.specs.Added.{added_at_first}
 use Rattle.clue_index.specs.declared.state.ClueState.{ClueState}
 use Rattle.clue_index.specs.Index.{Stands, trail_in}
 use Rattle.clue_index.proofs.IndexLaws.{stands_empty, stands_begun}
@@ -18,5 +18,5 @@ loop-state-preserved c named =
     let s : ClueState = get_or states i none in
     let trails : (q : List ℕ) → trail_in q c.insert.new.self.entries ≡ cond (tie s.clue.0 q) (Some (trail_from s)) (trail_in q c.loop-state.slots.entries) =
     λ q. c.in_ok-insert.ensures.updates.0 q ∙ ap (λ t. cond (tie s.clue.0 q) (Some t) (trail_in q c.loop-state.slots.entries)) c.of_state.ensures in
-    subst (λ xs. Stands (record { trails = c.insert.new.self.entries; floor = 0 }) (begun xs)) (sym (take_more states i none c.loop-state-test.true))
+    subst (λ xs. Stands (record { trails = c.insert.new.self.entries; floor = 0 }) (added_at_first xs)) (sym (take_more states i none c.loop-state-test.true))
     (stands_begun (record { trails = c.loop-state.slots.entries; floor = 0 }) _ (take i states) s refl trails (c.loop-state.invariant named) (named i none c.loop-state-test.true))

@@ -1,9 +1,9 @@
 use Rattle.std.proofs.Common.{◌≢◌, take}
 use Rattle.std.specs.List.{All}
-use Rattle.clue_index.specs.Added.{begun, no_clue}
+use Rattle.clue_index.specs.Added.{added_at_first, no_clue}
 use Rattle.clue_index.specs.Index.{Stands}
 use Rattle.clue_index.proofs.index.ClueIndex.from_states.Given as goal
 
 abbrev pub invariant-loop-state : goal.invariant-loop-state
 invariant-loop-state l =
-    All (λ s. s.clue.0 ≢ no_clue) l.states → Stands (record { trails = l.slots.entries; floor = 0 }) (begun (take l.state-index l.states))
+    All (λ s. s.clue.0 ≢ no_clue) l.states → Stands (record { trails = l.slots.entries; floor = 0 }) (added_at_first (take l.state-index l.states))

@@ -5,7 +5,7 @@ use Rattle.std.proofs.lemmas.Grind.{common_steps}
 use Rattle.std.proofs.lemmas.List.Sorted.{IsPartitionPoint-from_clause}
 use Rattle.std.proofs.lemmas.Bool.{le-leb, leb-true, leb-false, lt-ltb, le-ltb}
 use Rattle.std.specs.List.Sorted.{IsPartitionPoint}
-use Rattle.time_peg.specs.Times.{upper, marks_behind}
+use Rattle.time_peg.specs.Times.{upper_bound, marks_behind}
 use Rattle.journal_record.specs.declared.mark.TimeMark.{TimeMark}
 use Rattle.time_peg.proofs.TimesLaws.{partitioned, behind, first_is}
 use Rattle.time_peg.proofs.index.TimeIndex.behind.Goals as goal
@@ -25,4 +25,4 @@ returns c =
     let xs = c.as_slice.result.now in
     let tail : take (length xs - c.partition_point-first.result) (drop c.partition_point-first.result xs) ≡ drop c.partition_point-first.result xs = take_all _ _ (omega (arith, length-drop c.partition_point-first.result xs)) in
     c.copied.ensures ∙ (c.first.ensures.value ∙ (ap (λ l. slice_get l 0) tail ∙ (ap (λ xs. slice_get (drop c.partition_point-first.result xs) 0) c.as_slice.ensures.value
-    ∙ (ap (λ xs. slice_get xs 0) back ∙ (first_is (marks_behind n ms) ∙ ap (upper n) c.self.view_is)))))
+    ∙ (ap (λ xs. slice_get xs 0) back ∙ (first_is (marks_behind n ms) ∙ ap (upper_bound n) c.self.view_is)))))

@@ -4,7 +4,7 @@ use Rattle.std.proofs.lemmas.List.Sorted.{IsPartitionPoint-from_clause}
 use Rattle.std.specs.List.Sorted.{IsPartitionPoint}
 use Rattle.clue_index.specs.Trail.{Ascends, kept_from}
 use Rattle.clue_index.proofs.TrailLaws.{partitioned, kept_behind}
-use Rattle.clue_index.proofs.slot.Slot.kept.Goals as goal
+use Rattle.clue_index.proofs.slot.Slot.kept_jsns.Goals as goal
 
 pub returns : goal.returns
 returns c rise =
