@@ -2,9 +2,9 @@
 use Rattle.std.proofs.Common.{◌≡◌, ℕ, ◌+◌, ◌≤◌, List, ◌∷◌, ◌++◌, length, take, drop, replicate, sym, ◌∙◌, ap, subst, arith, append_assoc, length-append, length-take, length-drop}
 use Rattle.std.proofs.lemmas.List.{take_at, drop_at, drop-drop, take-append-drop, length-replicate}
 use Rattle.std.proofs.lemmas.List.Concat.{flat_map-append}
-use Rattle.ledger_disk.specs.Disk.{overlaid}
+use Rattle.ledger_disk.specs.Disk.{overlay}
 use Rattle.ledger_disk.specs.Guards.{Outside}
-use Rattle.block_file.specs.File.{Stands, opened, tail_of}
+use Rattle.block_file.specs.File.{Stands, open_blocks, tail_of}
 
 -- a file in three parts, of which the middle one is changed
 outside_parts : (a c b image : List ℕ) (at n : ℕ) → length a ≡ at → length c ≡ n → Outside at n (a ++ c ++ b) image → image ≡ a ++ take n (drop at image) ++ b
@@ -22,15 +22,15 @@ regroup f o h c r a t = simp append_assoc
 module _ (front : List ℕ) (before after : List (List ℕ)) (head rest : List ℕ) where
   -- what stands before the content
   abbrev up_to : List ℕ
-  up_to = (front ++ opened before) ++ (1 ∷ head)
+  up_to = (front ++ open_blocks before) ++ (1 ∷ head)
 
   -- a file by the content of one of its blocks
-  parts : (c tail : List ℕ) → front ++ opened (before ++ (head ++ c ++ rest) ∷ after) ++ tail ≡ ((front ++ opened before) ++ (1 ∷ head)) ++ c ++ (rest ++ (opened after ++ tail))
+  parts : (c tail : List ℕ) → front ++ open_blocks (before ++ (head ++ c ++ rest) ∷ after) ++ tail ≡ ((front ++ open_blocks before) ++ (1 ∷ head)) ++ c ++ (rest ++ (open_blocks after ++ tail))
   parts c tail =
-      ap (λ (l : List ℕ). front ++ l ++ tail) (flat_map-append (λ b. 1 ∷ b) before ((head ++ c ++ rest) ∷ after)) ∙ regroup front (opened before) (1 ∷ head) c rest (opened after) tail
+      ap (λ (l : List ℕ). front ++ l ++ tail) (flat_map-append (λ b. 1 ∷ b) before ((head ++ c ++ rest) ∷ after)) ∙ regroup front (open_blocks before) (1 ∷ head) c rest (open_blocks after) tail
 
-  size_up_to : length ((front ++ opened before) ++ (1 ∷ head)) ≡ tail_of front before + 1 + length head
-  size_up_to = omega (arith, length-append (front ++ opened before) (1 ∷ head))
+  size_up_to : length ((front ++ open_blocks before) ++ (1 ∷ head)) ≡ tail_of front before + 1 + length head
+  size_up_to = omega (arith, length-append (front ++ open_blocks before) (1 ∷ head))
 
   -- an image with all else as before has the same blocks, but for that content
   pub changed : (content file image : List ℕ) (at n : ℕ) → Stands front (before ++ (head ++ content ++ rest) ∷ after) file → tail_of front before + 1 + length head ≡ at → length content ≡ n
@@ -38,15 +38,15 @@ module _ (front : List ℕ) (before after : List (List ℕ)) (head rest : List �
   changed content file image at n stands place size outside =
       let tail = stands.gate ∷ stands.rest in
       let is = stands.is ∙ parts content tail in
-      let image_is = outside_parts up_to content (rest ++ (opened after ++ tail)) image at n (size_up_to ∙ place) size (subst (λ (l : List ℕ). Outside at n l image) is outside) in
+      let image_is = outside_parts up_to content (rest ++ (open_blocks after ++ tail)) image at n (size_up_to ∙ place) size (subst (λ (l : List ℕ). Outside at n l image) is outside) in
       record { gate = stands.gate; rest = stands.rest; is = image_is ∙ sym (parts (take n (drop at image)) tail); shut = stands.shut }
 
   -- and where zeros stand there now, it is zeros
   pub zeroed : (content file : List ℕ) (at n : ℕ) → Stands front (before ++ (head ++ content ++ rest) ∷ after) file → tail_of front before + 1 + length head ≡ at → length content ≡ n
-      → Stands front (before ++ (head ++ replicate n 0 ++ rest) ∷ after) (overlaid at (replicate n 0) file)
+      → Stands front (before ++ (head ++ replicate n 0 ++ rest) ∷ after) (overlay at (replicate n 0) file)
   zeroed content file at n stands place size =
       let tail = stands.gate ∷ stands.rest in
-      let behind = rest ++ (opened after ++ tail) in
+      let behind = rest ++ (open_blocks after ++ tail) in
       let is = stands.is ∙ parts content tail in
       let zeros : length (replicate {A = ℕ} n 0) ≡ n = length-replicate {A = ℕ} n 0 in
       let first : take at file ≡ up_to = ap (λ (l : List ℕ). take at l) (is ∙ append_assoc up_to content behind) ∙ take_at up_to (content ++ behind) at (size_up_to ∙ place) in
@@ -63,5 +63,5 @@ module _ (front : List ℕ) (before after : List (List ℕ)) (head rest : List �
   changed_some content file image at n stands place size outside =
       let tail = stands.gate ∷ stands.rest in
       let is = stands.is ∙ parts content tail in
-      let long : at + n ≤ length file = omega (arith, ap length is, size_up_to, place, size, length-append (up_to ++ content) (rest ++ (opened after ++ tail)), length-append up_to content) in
+      let long : at + n ≤ length file = omega (arith, ap length is, size_up_to, place, size, length-append (up_to ++ content) (rest ++ (open_blocks after ++ tail)), length-append up_to content) in
       (take n (drop at image), omega (arith, long, outside.size, length-take n (drop at image), length-drop at image), changed content file image at n stands place size outside)

@@ -3,7 +3,7 @@ use Rattle.std.specs.Prelude.{Option, Some, None, IsSomeAnd}
 use Rattle.std.proofs.Common.{◌≡◌, ℕ, ◌+◌, ◌≤◌, List, ◌++◌, length, take, drop, sym, ◌∙◌, ap, subst, arith, length-drop, length-take}
 use Rattle.std.proofs.lemmas.List.{drop-drop}
 use Rattle.std.proofs.Math.Seq.{take-add}
-use Rattle.ledger_disk.specs.Disk.{overlaid, KeepsLength}
+use Rattle.ledger_disk.specs.Disk.{overlay, KeepsLength}
 use Rattle.ledger_disk.proofs.Confining.{overlaid_more}
 
 pub keeps_some : (old new : Option ℕ) (k : ℕ) → KeepsLength old new → IsSomeAnd old (λ n. k ≤ n) → IsSomeAnd new (λ n. k ≤ n)
@@ -18,11 +18,11 @@ take_more_of : (m n : ℕ) (l : List ℕ) → take m l ++ take n (drop m l) ≡ 
 take_more_of m n l = sym (take-add m n l)
 
 pub copied_more : (place at done n len : ℕ) (source to : List ℕ) → at + len ≤ length source → done + n ≤ len → place ≤ length to
-    → overlaid (place + done) (take n (drop (at + done) source)) (overlaid place (take done (drop at source)) to) ≡ overlaid place (take (done + n) (drop at source)) to
+    → overlay (place + done) (take n (drop (at + done) source)) (overlay place (take done (drop at source)) to) ≡ overlay place (take (done + n) (drop at source)) to
 copied_more place at done n len source to long within there =
     let front = take done (drop at source) in
     let size : length front ≡ done = omega (arith, length-take done (drop at source), length-drop at source) in
-    ap (λ (k : ℕ). overlaid (place + k) (take n (drop (at + done) source)) (overlaid place front to)) (sym size)
+    ap (λ (k : ℕ). overlay (place + k) (take n (drop (at + done) source)) (overlay place front to)) (sym size)
     ∙ overlaid_more place front (take n (drop (at + done) source)) to there
-    ∙ ap (λ (l : List ℕ). overlaid place (front ++ take n l) to) (sym (drop-drop done at source))
-    ∙ ap (λ (l : List ℕ). overlaid place l to) (take_more_of done n (drop at source))
+    ∙ ap (λ (l : List ℕ). overlay place (front ++ take n l) to) (sym (drop-drop done at source))
+    ∙ ap (λ (l : List ℕ). overlay place l to) (take_more_of done n (drop at source))

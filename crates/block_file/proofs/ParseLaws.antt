@@ -17,7 +17,7 @@ use Rattle.journal_record.specs.declared.header.Header.{Header}
 use Rattle.journal_record.proofs.ReadingLaws.{header_of_only}
 use Rattle.journal_record.proofs.Spelling.{length-spelling}
 use Rattle.block_file.specs.Blocks.{AreBlock, BeginsAt, IsRead, IsOpenBlock, room_at, head_at, body_at, count_in, body_len_in, HasBodyAt, IsNoEntry, IsHeadDamage, IsBodyErr, IsNextBlock, IsOutside, GivesBlock, GivesEnd}
-use Rattle.block_file.specs.File.{Stands, opened, tail_of}
+use Rattle.block_file.specs.File.{Stands, open_blocks, tail_of}
 use Rattle.block_file.specs.declared.block.BlockAt.{BlockAt}
 use Rattle.block_file.specs.declared.failure.Damage.{Damage}
 use Rattle.block_file.specs.declared.failure.Damage.TheVariants as damage
@@ -271,26 +271,26 @@ given at first file root es block are (Err (Damaged d)) is =
 -- ---- a file's blocks
 
 -- what stands behind a block is a gate and more
-behind_block : (after : List (List ℕ)) (gate : ℕ) (rest : List ℕ) → (next : ℕ) × (more : List ℕ) × (opened after ++ gate ∷ rest ≡ next ∷ more)
+behind_block : (after : List (List ℕ)) (gate : ℕ) (rest : List ℕ) → (next : ℕ) × (more : List ℕ) × (open_blocks after ++ gate ∷ rest ≡ next ∷ more)
 behind_block [] gate rest = (gate, rest, refl)
-behind_block (b ∷ bs) gate rest = (1, (b ++ opened bs) ++ gate ∷ rest, refl)
+behind_block (b ∷ bs) gate rest = (1, (b ++ open_blocks bs) ++ gate ∷ rest, refl)
 
 -- where a block stands in a file that stands for blocks, it is open
 pub stands_open : (front : List ℕ) (before after : List (List ℕ)) (root : List ℕ) (es : List Entry) (file : List ℕ) (at : ℕ) → Stands front (before ++ block_bytes root es ∷ after) file → tail_of front before ≡ at → length root ≡ 32 → IsOpenBlock at root es file
 stands_open front before after root es file at stands place digest =
     let next = behind_block after stands.gate stands.rest in
-    let split : file ≡ (front ++ opened before) ++ (1 ∷ (block_bytes root es ++ (opened after ++ stands.gate ∷ stands.rest))) =
+    let split : file ≡ (front ++ open_blocks before) ++ (1 ∷ (block_bytes root es ++ (open_blocks after ++ stands.gate ∷ stands.rest))) =
     stands.is
     ∙ ap (λ (l : List ℕ). (front ++ l) ++ stands.gate ∷ stands.rest) (flat_map-append (λ b. 1 ∷ b) before (block_bytes root es ∷ after))
-    ∙ ap (λ (l : List ℕ). l ++ stands.gate ∷ stands.rest) (sym (append_assoc front (opened before) ((1 ∷ block_bytes root es) ++ opened after)))
-    ∙ append_assoc (front ++ opened before) ((1 ∷ block_bytes root es) ++ opened after) (stands.gate ∷ stands.rest)
-    ∙ ap (λ (l : List ℕ). (front ++ opened before) ++ l) (append_assoc (1 ∷ block_bytes root es) (opened after) (stands.gate ∷ stands.rest)) in
+    ∙ ap (λ (l : List ℕ). l ++ stands.gate ∷ stands.rest) (sym (append_assoc front (open_blocks before) ((1 ∷ block_bytes root es) ++ open_blocks after)))
+    ∙ append_assoc (front ++ open_blocks before) ((1 ∷ block_bytes root es) ++ open_blocks after) (stands.gate ∷ stands.rest)
+    ∙ ap (λ (l : List ℕ). (front ++ open_blocks before) ++ l) (append_assoc (1 ∷ block_bytes root es) (open_blocks after) (stands.gate ∷ stands.rest)) in
     record {
       digest = digest;
       gate = next.0;
       rest = next.1;
       is = ap (λ (l : List ℕ). drop at l) split
-          ∙ drop_at (front ++ opened before) (1 ∷ (block_bytes root es ++ (opened after ++ stands.gate ∷ stands.rest))) at place
+          ∙ drop_at (front ++ open_blocks before) (1 ∷ (block_bytes root es ++ (open_blocks after ++ stands.gate ∷ stands.rest))) at place
           ∙ ap (λ (l : List ℕ). 1 ∷ (block_bytes root es ++ l)) next.2;
     }
 

@@ -3,13 +3,13 @@ use Rattle.std.specs.Int.{from_be_bytes, w64}
 use Rattle.std.proofs.Common.{◌≡◌, ◌≢◌, ℕ, ◌≤◌, List, [], ◌∷◌, ◌++◌, length, take, drop, refl, sym, ◌∙◌, ap, arith, append_assoc, length-drop}
 use Rattle.std.proofs.lemmas.List.{drop_at, take_at, take-append-le, drop-append-le}
 use Rattle.journal_record.specs.Records.{number_8}
-use Rattle.block_file.specs.File.{Stands, opened, IsWhole, AreWhole}
+use Rattle.block_file.specs.File.{Stands, open_blocks, IsWhole, AreWhole}
 
 -- blocks, and a shut gate behind them
 record Follows (blocks : List (List ℕ)) (bytes : List ℕ) : Type 0 where
   pub gate : ℕ
   pub rest : List ℕ
-  pub is : bytes ≡ opened blocks ++ gate ∷ rest
+  pub is : bytes ≡ open_blocks blocks ++ gate ∷ rest
   pub shut : gate ≢ 1
 
 follows : (front : List ℕ) (blocks : List (List ℕ)) (file : List ℕ) → Stands front blocks file → Follows blocks (drop (length front) file)
@@ -17,7 +17,7 @@ follows front blocks file stands =
     record {
       gate = stands.gate;
       rest = stands.rest;
-      is = ap (λ (l : List ℕ). drop (length front) l) (stands.is ∙ append_assoc front (opened blocks) (stands.gate ∷ stands.rest)) ∙ drop_at front (opened blocks ++ stands.gate ∷ stands.rest) (length front) refl;
+      is = ap (λ (l : List ℕ). drop (length front) l) (stands.is ∙ append_assoc front (open_blocks blocks) (stands.gate ∷ stands.rest)) ∙ drop_at front (open_blocks blocks ++ stands.gate ∷ stands.rest) (length front) refl;
       shut = stands.shut;
     }
 
@@ -38,10 +38,10 @@ follows_same [] [] bytes wx wy x y = refl
 follows_same [] (b ∷ ys) bytes wx wy x y = absurd (let one : x.gate ≡ 1 = cc (x.is, y.is) in x.shut one)
 follows_same (a ∷ xs) [] bytes wx wy x y = absurd (let one : y.gate ≡ 1 = cc (x.is, y.is) in y.shut one)
 follows_same (a ∷ xs) (b ∷ ys) bytes wx wy x y =
-    let flat_x : drop 1 bytes ≡ a ++ (opened xs ++ x.gate ∷ x.rest) = ap (λ (l : List ℕ). drop 1 l) x.is ∙ append_assoc a (opened xs) (x.gate ∷ x.rest) in
-    let flat_y : drop 1 bytes ≡ b ++ (opened ys ++ y.gate ∷ y.rest) = ap (λ (l : List ℕ). drop 1 l) y.is ∙ append_assoc b (opened ys) (y.gate ∷ y.rest) in
+    let flat_x : drop 1 bytes ≡ a ++ (open_blocks xs ++ x.gate ∷ x.rest) = ap (λ (l : List ℕ). drop 1 l) x.is ∙ append_assoc a (open_blocks xs) (x.gate ∷ x.rest) in
+    let flat_y : drop 1 bytes ≡ b ++ (open_blocks ys ++ y.gate ∷ y.rest) = ap (λ (l : List ℕ). drop 1 l) y.is ∙ append_assoc b (open_blocks ys) (y.gate ∷ y.rest) in
     let one = one_block a b _ _ wx.0 wy.0 (sym flat_x ∙ flat_y) in
-    let rest = follows_same xs ys (opened xs ++ x.gate ∷ x.rest) wx.1 wy.1 (record { gate = x.gate; rest = x.rest; is = refl; shut = x.shut }) (record { gate = y.gate; rest = y.rest; is = one.1; shut = y.shut }) in
+    let rest = follows_same xs ys (open_blocks xs ++ x.gate ∷ x.rest) wx.1 wy.1 (record { gate = x.gate; rest = x.rest; is = refl; shut = x.shut }) (record { gate = y.gate; rest = y.rest; is = one.1; shut = y.shut }) in
     ap (λ (z : List ℕ). z ∷ xs) one.0 ∙ ap (λ (l : List (List ℕ)). b ∷ l) rest
 
 pub one_parse : (front : List ℕ) (blocks others : List (List ℕ)) (file : List ℕ) → AreWhole blocks → AreWhole others → Stands front blocks file → Stands front others file → blocks ≡ others

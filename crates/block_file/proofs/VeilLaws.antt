@@ -3,7 +3,7 @@ use Rattle.std.specs.Prelude.{Result, Ok, Err, OnErr, OnOk}
 use Rattle.std.proofs.Common.{◌≡◌, ◌≢◌, ◌⊎◌, inl, inr, ℕ, ◌+◌, ◌≤◌, List, [], ◌∷◌, ◌++◌, length, get_or, take, drop, sym, ◌∙◌, ap, subst, arith, append_assoc, length-append}
 use Rattle.std.proofs.lemmas.Bool.{cases_eq}
 use Rattle.std.proofs.lemmas.List.{get_or-take, append-nil, drop_all}
-use Rattle.ledger_disk.specs.Disk.{State, MayLeave, settled, overlaid, MayHaveWritten, wrote}
+use Rattle.ledger_disk.specs.Disk.{State, MayLeave, settled_state, overlay, MayHaveWritten, with_write}
 use Rattle.ledger_disk.proofs.Confining.{overlaid_more}
 use Rattle.ledger_disk.specs.Guards.{Guards}
 use Rattle.ledger_disk.proofs.Guarding.{guards_image, guards_may, guards_wrote, one_byte_may}
@@ -11,7 +11,7 @@ use Rattle.block_file.specs.Head.{IsShut}
 use Rattle.block_file.specs.File.{IsVeiled}
 
 -- a write behind what is guarded, whether it fails or not
-pub guards_both : {T E : Type 0} (r : Result T E) (P : Type 0) (old new : State) (front file : List ℕ) (at n : ℕ) → OnOk r (P → new ≡ wrote at n file old) → OnErr r (P → MayHaveWritten at n old new) → length front ≤ at → P → Guards old front → Guards new front
+pub guards_both : {T E : Type 0} (r : Result T E) (P : Type 0) (old new : State) (front file : List ℕ) (at n : ℕ) → OnOk r (P → new ≡ with_write at n file old) → OnErr r (P → MayHaveWritten at n old new) → length front ≤ at → P → Guards old front → Guards new front
 guards_both (Ok x) P old new front file at n ok err behind p guards = subst (λ (s : State). Guards s front) (sym (ok p)) (guards_wrote old front file at n guards behind)
 guards_both (Err e) P old new front file at n ok err behind p guards = guards_may old new front at n guards behind (err p)
 
@@ -25,7 +25,7 @@ pub veiled_shut : (s : State) (image : List ℕ) → IsVeiled s → MayLeave s i
 veiled_shut s image veiled left = inr (veiled_gate s image veiled left)
 
 -- while the gate is written
-pub opening : (file : List ℕ) (new : State) (image : List ℕ) → 1 ≤ length file → MayHaveWritten 0 1 (settled file) new → MayLeave new image → (get_or image 0 0 ≢ 1) ⊎ (image ≡ 1 ∷ drop 1 file)
+pub opening : (file : List ℕ) (new : State) (image : List ℕ) → 1 ≤ length file → MayHaveWritten 0 1 (settled_state file) new → MayLeave new image → (get_or image 0 0 ≢ 1) ⊎ (image ≡ 1 ∷ drop 1 file)
 opening file new image long may left =
     let torn = one_byte_may file new 0 image (omega arith) may left in
     let is : image ≡ torn.0 ∷ drop 1 file = torn.1 in
@@ -35,8 +35,8 @@ opening file new image long may left =
     ]
 
 -- A piece over the last byte, and a byte behind it. An empty piece leaves the last byte, and the new one is over it.
-pub over_the_tail : (file piece : List ℕ) (at : ℕ) → length file ≡ at + 1 → overlaid (at + length piece) (0 ∷ []) (overlaid at piece file) ≡ take at file ++ piece ++ 0 ∷ []
+pub over_the_tail : (file piece : List ℕ) (at : ℕ) → length file ≡ at + 1 → overlay (at + length piece) (0 ∷ []) (overlay at piece file) ≡ take at file ++ piece ++ 0 ∷ []
 over_the_tail file piece at size =
-    let begin : overlaid (at + length piece) (0 ∷ []) (overlaid at piece file) ≡ overlaid at (piece ++ 0 ∷ []) file = overlaid_more at piece (0 ∷ []) file (omega (arith, size)) in
+    let begin : overlay (at + length piece) (0 ∷ []) (overlay at piece file) ≡ overlay at (piece ++ 0 ∷ []) file = overlaid_more at piece (0 ∷ []) file (omega (arith, size)) in
     let rest : drop (at + length (piece ++ 0 ∷ [])) file ≡ [] = drop_all (at + length (piece ++ 0 ∷ [])) file (omega (arith, size, length-append piece (0 ∷ []))) in
     begin ∙ ap (λ (l : List ℕ). take at file ++ (piece ++ 0 ∷ []) ++ l) rest ∙ append-nil (take at file ++ (piece ++ 0 ∷ [])) ∙ sym (append_assoc (take at file) piece (0 ∷ []))

@@ -1,12 +1,12 @@
 -- What the two steps of a commit leave of a file of blocks.
 use Rattle.std.specs.Prelude.{Result, Ok, Err, OnErr, Option, Some, None, IfSome, IsSomeAnd}
-use Rattle.std.proofs.Common.{◌≡◌, ◌⊎◌, inl, inr, ℕ, ◌+◌, ◌≤◌, List, [], ◌∷◌, ◌++◌, length, get_or, take, drop, refl, sym, ◌∙◌, ap, subst, arith, append_assoc, length-append, length-take}
+use Rattle.std.proofs.Common.{◌≡◌, ◌⊎◌, inl, inr, ℕ, ◌+◌, ◌≤◌, List, [], ◌∷◌, ◌++◌, length, get_or, take, drop, refl, sym, ◌∙◌, ap, subst, arith, append_assoc, length-append, length-take, length-drop}
 use Rattle.std.proofs.lemmas.Bool.{cases_eq}
 use Rattle.std.proofs.lemmas.List.{take_at, drop_at, take-append-drop, flat_map_more, get_or_at, drop_more, append-nil}
-use Rattle.ledger_disk.specs.Disk.{State, MayLeave, settled, overlaid}
+use Rattle.ledger_disk.specs.Disk.{State, MayLeave, settled_state, overlay}
 use Rattle.ledger_disk.specs.Guards.{Guards}
 use Rattle.ledger_disk.proofs.Guarding.{guards_settled, guards_image}
-use Rattle.block_file.specs.File.{Stands, IsSettled, IsShutAt, opened, tail_of, staged}
+use Rattle.block_file.specs.File.{Stands, IsSettled, IsShutAt, open_blocks, tail_of, staged_file}
 
 pub on_err : {T E : Type 0} (r : Result T E) (P : Type 0) → P → OnErr r P
 on_err (Ok x) P p = tt
@@ -14,30 +14,30 @@ on_err (Err e) P p = p
 
 module _ (front : List ℕ) (blocks : List (List ℕ)) (file : List ℕ) (at : ℕ) (stands : Stands front blocks file) (place : tail_of front blocks ≡ at) where
   done : List ℕ
-  done = front ++ opened blocks
+  done = front ++ open_blocks blocks
 
-  upto : take (at + 1) file ≡ (front ++ opened blocks) ++ stands.gate ∷ []
+  upto : take (at + 1) file ≡ (front ++ open_blocks blocks) ++ stands.gate ∷ []
   upto =
-      let split : (front ++ opened blocks) ++ stands.gate ∷ stands.rest ≡ ((front ++ opened blocks) ++ stands.gate ∷ []) ++ stands.rest = sym (append_assoc (front ++ opened blocks) (stands.gate ∷ []) stands.rest) in
+      let split : (front ++ open_blocks blocks) ++ stands.gate ∷ stands.rest ≡ ((front ++ open_blocks blocks) ++ stands.gate ∷ []) ++ stands.rest = sym (append_assoc (front ++ open_blocks blocks) (stands.gate ∷ []) stands.rest) in
       ap (λ (l : List ℕ). take (at + 1) l) (stands.is ∙ split)
-      ∙ take_at ((front ++ opened blocks) ++ stands.gate ∷ []) stands.rest (at + 1) (omega (arith, place, length-append (front ++ opened blocks) (stands.gate ∷ [])))
+      ∙ take_at ((front ++ open_blocks blocks) ++ stands.gate ∷ []) stands.rest (at + 1) (omega (arith, place, length-append (front ++ open_blocks blocks) (stands.gate ∷ [])))
 
   pub long : at + 1 ≤ length file
-  long = omega (arith, ap length stands.is, place, length-append (front ++ opened blocks) (stands.gate ∷ stands.rest))
+  long = omega (arith, ap length stands.is, place, length-append (front ++ open_blocks blocks) (stands.gate ∷ stands.rest))
 
   -- a file that begins like this one, up to its tail gate
   pub kept : (image : List ℕ) → take (at + 1) image ≡ take (at + 1) file → Stands front blocks image
   kept image same = record {
     gate = stands.gate;
     rest = drop (at + 1) image;
-    is = sym (take-append-drop (at + 1) image) ∙ ap (λ (l : List ℕ). l ++ drop (at + 1) image) (same ∙ upto) ∙ append_assoc (front ++ opened blocks) (stands.gate ∷ []) (drop (at + 1) image);
+    is = sym (take-append-drop (at + 1) image) ∙ ap (λ (l : List ℕ). l ++ drop (at + 1) image) (same ∙ upto) ∙ append_assoc (front ++ open_blocks blocks) (stands.gate ∷ []) (drop (at + 1) image);
     shut = stands.shut;
   }
 
   pub kept_image : (s : State) → IsSettled s → s.seen ≡ file → (new : State) (image : List ℕ) → ((begin : List ℕ) → Guards s begin → length begin ≤ at + 1 → Guards new begin) → MayLeave new image → Stands front blocks image
   kept_image s quiet seen new image keeps left =
       let size : length (take (at + 1) file) ≡ at + 1 = omega (arith, long, length-take (at + 1) file) in
-      let is : s ≡ settled file = quiet ∙ ap settled seen in
+      let is : s ≡ settled_state file = quiet ∙ ap settled_state seen in
       let now = keeps (take (at + 1) file) (subst (λ (t : State). Guards t (take (at + 1) file)) (sym is) (guards_settled file (at + 1) long)) (omega arith) in
       let begins : take (length (take (at + 1) file)) image ≡ take (at + 1) file = guards_image new (take (at + 1) file) image now left in
       kept image (ap (λ (n : ℕ). take n image) (sym size) ∙ begins)
@@ -50,37 +50,37 @@ module _ (front : List ℕ) (blocks : List (List ℕ)) (file : List ℕ) (at : �
     after : List ℕ
     after = block ++ (0 ∷ drop (at + 2 + length block) file)
 
-    staged_is : staged at block file ≡ ((front ++ opened blocks) ++ stands.gate ∷ []) ++ (block ++ (0 ∷ drop (at + 2 + length block) file))
+    staged_is : staged_file at block file ≡ ((front ++ open_blocks blocks) ++ stands.gate ∷ []) ++ (block ++ (0 ∷ drop (at + 2 + length block) file))
     staged_is =
         ap (λ (l : List ℕ). l ++ block ++ 0 ∷ drop (at + 2 + length block) file) upto
-        ∙ append_assoc ((front ++ opened blocks) ++ stands.gate ∷ []) block (0 ∷ drop (at + 2 + length block) file)
+        ∙ append_assoc ((front ++ open_blocks blocks) ++ stands.gate ∷ []) block (0 ∷ drop (at + 2 + length block) file)
 
-    pub staged_before : take at (staged at block file) ≡ front ++ opened blocks
+    pub staged_before : take at (staged_file at block file) ≡ front ++ open_blocks blocks
     staged_before =
-        ap (λ (l : List ℕ). take at l) (staged_is ∙ append_assoc (front ++ opened blocks) (stands.gate ∷ []) (block ++ (0 ∷ drop (at + 2 + length block) file)))
-        ∙ take_at (front ++ opened blocks) (stands.gate ∷ (block ++ (0 ∷ drop (at + 2 + length block) file))) at place
+        ap (λ (l : List ℕ). take at l) (staged_is ∙ append_assoc (front ++ open_blocks blocks) (stands.gate ∷ []) (block ++ (0 ∷ drop (at + 2 + length block) file)))
+        ∙ take_at (front ++ open_blocks blocks) (stands.gate ∷ (block ++ (0 ∷ drop (at + 2 + length block) file))) at place
 
-    pub staged_behind : drop (at + 1) (staged at block file) ≡ block ++ (0 ∷ drop (at + 2 + length block) file)
+    pub staged_behind : drop (at + 1) (staged_file at block file) ≡ block ++ (0 ∷ drop (at + 2 + length block) file)
     staged_behind =
         ap (λ (l : List ℕ). drop (at + 1) l) staged_is
-        ∙ drop_at ((front ++ opened blocks) ++ stands.gate ∷ []) (block ++ (0 ∷ drop (at + 2 + length block) file)) (at + 1) (omega (arith, place, length-append (front ++ opened blocks) (stands.gate ∷ [])))
+        ∙ drop_at ((front ++ open_blocks blocks) ++ stands.gate ∷ []) (block ++ (0 ∷ drop (at + 2 + length block) file)) (at + 1) (omega (arith, place, length-append (front ++ open_blocks blocks) (stands.gate ∷ [])))
 
-    with_gate : (gate : ℕ) (image : List ℕ) → image ≡ take at (staged at block file) ++ gate ∷ drop (at + 1) (staged at block file) → image ≡ (front ++ opened blocks) ++ (gate ∷ (block ++ (0 ∷ drop (at + 2 + length block) file)))
-    with_gate gate image is = is ∙ ap (λ (l : List ℕ). l ++ gate ∷ drop (at + 1) (staged at block file)) staged_before ∙ ap (λ (l : List ℕ). (front ++ opened blocks) ++ gate ∷ l) staged_behind
+    with_gate : (gate : ℕ) (image : List ℕ) → image ≡ take at (staged_file at block file) ++ gate ∷ drop (at + 1) (staged_file at block file) → image ≡ (front ++ open_blocks blocks) ++ (gate ∷ (block ++ (0 ∷ drop (at + 2 + length block) file)))
+    with_gate gate image is = is ∙ ap (λ (l : List ℕ). l ++ gate ∷ drop (at + 1) (staged_file at block file)) staged_before ∙ ap (λ (l : List ℕ). (front ++ open_blocks blocks) ++ gate ∷ l) staged_behind
 
     -- behind an open gate it counts
-    pub with_block : (image : List ℕ) → image ≡ take at (staged at block file) ++ 1 ∷ drop (at + 1) (staged at block file) → Stands front (blocks ++ block ∷ []) image
+    pub with_block : (image : List ℕ) → image ≡ take at (staged_file at block file) ++ 1 ∷ drop (at + 1) (staged_file at block file) → Stands front (blocks ++ block ∷ []) image
     with_block image is = record {
       gate = 0;
       rest = drop (at + 2 + length block) file;
-      is = with_gate 1 image is ∙ sym (append_assoc (front ++ opened blocks) (1 ∷ block) (0 ∷ drop (at + 2 + length block) file)) ∙ ap (λ (l : List ℕ). l ++ 0 ∷ drop (at + 2 + length block) file) (flat_map_more (λ b. 1 ∷ b) front blocks block);
+      is = with_gate 1 image is ∙ sym (append_assoc (front ++ open_blocks blocks) (1 ∷ block) (0 ∷ drop (at + 2 + length block) file)) ∙ ap (λ (l : List ℕ). l ++ 0 ∷ drop (at + 2 + length block) file) (flat_map_more (λ b. 1 ∷ b) front blocks block);
       shut = λ is. cc;
     }
 
     -- behind any other it doesn't
-    pub either : (gate : ℕ) (image : List ℕ) → image ≡ take at (staged at block file) ++ gate ∷ drop (at + 1) (staged at block file) → Stands front blocks image ⊎ Stands front (blocks ++ block ∷ []) image
+    pub either : (gate : ℕ) (image : List ℕ) → image ≡ take at (staged_file at block file) ++ gate ∷ drop (at + 1) (staged_file at block file) → Stands front blocks image ⊎ Stands front (blocks ++ block ∷ []) image
     either gate image is = elim (cases_eq gate 1) [
-      | inl one ↦ inr (with_block image (is ∙ ap (λ (g : ℕ). take at (staged at block file) ++ g ∷ drop (at + 1) (staged at block file)) one))
+      | inl one ↦ inr (with_block image (is ∙ ap (λ (g : ℕ). take at (staged_file at block file) ++ g ∷ drop (at + 1) (staged_file at block file)) one))
       | inr other ↦ inl (record { gate = gate; rest = block ++ (0 ∷ drop (at + 2 + length block) file); is = with_gate gate image is; shut = other })
     ]
 
@@ -92,7 +92,7 @@ told_within (Some k) n m is within = let same : k ≡ n = cc in omega arith
 -- the tail gate of a file that stands is shut
 pub tail_shut : (front : List ℕ) (blocks : List (List ℕ)) (file : List ℕ) → Stands front blocks file → IsShutAt (tail_of front blocks) file
 tail_shut front blocks file stands =
-    let gate : get_or file (tail_of front blocks) 0 ≡ stands.gate = ap (λ (l : List ℕ). get_or l (tail_of front blocks) 0) stands.is ∙ get_or_at (front ++ opened blocks) stands.gate stands.rest 0 (tail_of front blocks) refl in
+    let gate : get_or file (tail_of front blocks) 0 ≡ stands.gate = ap (λ (l : List ℕ). get_or l (tail_of front blocks) 0) stands.is ∙ get_or_at (front ++ open_blocks blocks) stands.gate stands.rest 0 (tail_of front blocks) refl in
     (long front blocks file (tail_of front blocks) stands refl, λ one. stands.shut (sym gate ∙ one))
 
 -- a file with a shut gate, as one without blocks
@@ -104,15 +104,30 @@ shut_stands at file shut = record {
   shut = shut.1;
 }
 
-pub shut_after : (at : ℕ) (block file new : List ℕ) → IsShutAt at file → new ≡ take at (staged at block file) ++ 1 ∷ drop (at + 1) (staged at block file) → IsShutAt (at + 1 + length block) new
+pub shut_after : (at : ℕ) (block file new : List ℕ) → IsShutAt at file → new ≡ take at (staged_file at block file) ++ 1 ∷ drop (at + 1) (staged_file at block file) → IsShutAt (at + 1 + length block) new
 shut_after at block file new shut is =
     let place : tail_of (take at file) [] ≡ at = omega (arith, shut.0, length-take at file, length-append {A = ℕ} (take at file) []) in
     let stands = with_block (take at file) [] file at (shut_stands at file shut) place block new is in
     let size : tail_of (take at file) (block ∷ []) ≡ at + 1 + length block = omega (arith, shut.0, length-take at file, length-append (take at file) ((1 ∷ block) ++ []), length-append (1 ∷ block) []) in
     subst (λ (n : ℕ). IsShutAt n new) size (tail_shut (take at file) (block ∷ []) new stands)
 
+-- a file that ended with its tail gate ends with its new one
+pub ends_after : (at : ℕ) (block file new : List ℕ) → length file ≡ at + 1 → new ≡ take at (staged_file at block file) ++ 1 ∷ drop (at + 1) (staged_file at block file) → length new ≡ at + 1 + length block + 1
+ends_after at block file new ends is =
+    let parts : length ((take (at + 1) file ++ block) ++ 0 ∷ drop (at + 2 + length block) file) ≡ at + 2 + length block =
+    omega (arith, ends, length-append (take (at + 1) file ++ block) (0 ∷ drop (at + 2 + length block) file), length-append (take (at + 1) file) block, length-take (at + 1) file, length-drop (at + 2 + length block) file) in
+    let size : length (staged_file at block file) ≡ at + 2 + length block = parts in
+    omega (
+      arith,
+      size,
+      ap length is,
+      length-append (take at (staged_file at block file)) (1 ∷ drop (at + 1) (staged_file at block file)),
+      length-take at (staged_file at block file),
+      length-drop (at + 1) (staged_file at block file),
+    )
+
 -- one byte over another, by the parts
-pub gate_over : (at : ℕ) (file : List ℕ) → overlaid at (1 ∷ []) file ≡ take at file ++ 1 ∷ drop (at + 1) file
+pub gate_over : (at : ℕ) (file : List ℕ) → overlay at (1 ∷ []) file ≡ take at file ++ 1 ∷ drop (at + 1) file
 gate_over at file = append_assoc (take at file) (1 ∷ []) (drop (at + 1) file)
 
 pub told_within_some : (told : Option ℕ) (n m : ℕ) → told ≡ Some n → IsSomeAnd told (λ k. m ≤ k) → m ≤ n

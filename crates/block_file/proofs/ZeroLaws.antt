@@ -2,7 +2,7 @@
 use Rattle.std.specs.Prelude.{Result, Ok, Err, OnErr, OnOk}
 use Rattle.std.proofs.Common.{◌≡◌, inl, inr, ℕ, ◌+◌, ◌-◌, ◌≤◌, List, length, take, drop, sym, ◌∙◌, ap, subst, arith}
 use Rattle.std.proofs.lemmas.List.{drop-drop, drop-take, take-take, take-replicate, drop-replicate}
-use Rattle.ledger_disk.specs.Disk.{State, MayLeave, settled, MayHaveWritten}
+use Rattle.ledger_disk.specs.Disk.{State, MayLeave, settled_state, MayHaveWritten}
 use Rattle.ledger_disk.specs.Guards.{Outside, Confined}
 use Rattle.ledger_disk.proofs.Guarding.{settled_image}
 use Rattle.ledger_disk.proofs.Confining.{outside_torn, confined_image}
@@ -25,7 +25,7 @@ outside_may at n b k file old new outside low high within (inl same) = subst (λ
 outside_may at n b k file old new outside low high within (inr torn) = subst (λ (s : State). Outside at n file s.seen) (sym torn.2) (outside_torn at n b k file old.seen torn.0 outside low high within torn.1)
 
 -- where it was settled, or as it was
-pub synced_images : {T E : Type 0} (r : Result T E) (P : Type 0) (at n : ℕ) (file : List ℕ) (old new : State) → OnOk r (P → new ≡ settled old.seen) → OnErr r (P → new ≡ old) → P → Outside at n file old.seen → Confined at n file old
+pub synced_images : {T E : Type 0} (r : Result T E) (P : Type 0) (at n : ℕ) (file : List ℕ) (old new : State) → OnOk r (P → new ≡ settled_state old.seen) → OnErr r (P → new ≡ old) → P → Outside at n file old.seen → Confined at n file old
     → (image : List ℕ) → MayLeave new image → Outside at n file image
 synced_images (Ok x) P at n file old new ok err p outside confined image left =
     subst (λ (l : List ℕ). Outside at n file l) (sym (settled_image old.seen image (subst (λ (s : State). MayLeave s image) (ok p) left))) outside

@@ -2,18 +2,18 @@
 use Rattle.std.specs.Prelude.{◌≡◌, ◌≢◌, ◌⊎◌, ℕ, ◌+◌, ◌≤◌, List, [], ◌∷◌, ◌++◌, length, get_or, take, drop, replicate, ⊤}
 use Rattle.std.specs.List.{flat_map}
 use Rattle.journal_record.specs.Records.{number_8}
-use Rattle.ledger_disk.specs.Disk.{State, settled}
+use Rattle.ledger_disk.specs.Disk.{State, settled_state}
 use Rattle.ledger_disk.specs.Guards.{Guards}
 
 -- each of these blocks behind an open gate
-abbrev pub opened : List (List ℕ) → List ℕ
-opened blocks = flat_map (λ block. 1 ∷ block) blocks
+abbrev pub open_blocks : List (List ℕ) → List ℕ
+open_blocks blocks = flat_map (λ block. 1 ∷ block) blocks
 
 -- The file is this front and these blocks, and then a gate that is shut. What is behind it doesn't count.
 pub record Stands (front : List ℕ) (blocks : List (List ℕ)) (file : List ℕ) : Type 0 where
   pub gate : ℕ
   pub rest : List ℕ
-  pub is : file ≡ front ++ opened blocks ++ gate ∷ rest
+  pub is : file ≡ front ++ open_blocks blocks ++ gate ∷ rest
   pub shut : gate ≢ 1
 
 -- blocks by the content of one of them, and what stands around it
@@ -37,15 +37,15 @@ IsOneParse =
 
 -- where its tail gate stands
 abbrev pub tail_of : List ℕ → List (List ℕ) → ℕ
-tail_of front blocks = length (front ++ opened blocks)
+tail_of front blocks = length (front ++ open_blocks blocks)
 
 -- a gate stands at this place and is shut
 abbrev pub IsShutAt : ℕ → List ℕ → Type 0
 IsShutAt at file = (at + 1 ≤ length file) × (get_or file at 0 ≢ 1)
 
 -- the file is this front and these blocks, and ends with a tail gate
-abbrev pub whole : List ℕ → List (List ℕ) → List ℕ
-whole front blocks = front ++ opened blocks ++ 0 ∷ []
+abbrev pub whole_file : List ℕ → List (List ℕ) → List ℕ
+whole_file front blocks = front ++ open_blocks blocks ++ 0 ∷ []
 
 -- its first byte is 00 on the disk for good
 abbrev pub IsVeiled : State → Type 0
@@ -61,11 +61,11 @@ IsZeros at n file = take n (drop at file) ≡ replicate n 0
 
 -- nothing is pending
 abbrev pub IsSettled : State → Type 0
-IsSettled s = s ≡ settled s.seen
+IsSettled s = s ≡ settled_state s.seen
 
 -- a block and a new tail gate stand behind the gate at this place
-abbrev pub staged : ℕ → List ℕ → List ℕ → List ℕ
-staged at block file = take (at + 1) file ++ block ++ 0 ∷ drop (at + 2 + length block) file
+abbrev pub staged_file : ℕ → List ℕ → List ℕ → List ℕ
+staged_file at block file = take (at + 1) file ++ block ++ 0 ∷ drop (at + 2 + length block) file
 
 -- this block was added, in each image, and nothing is pending
 pub record HasBlock (front : List ℕ) (blocks : List (List ℕ)) (block : List ℕ) (s : State) : Type 0 where

@@ -1,5 +1,5 @@
 ghost use Rattle.std.specs.Prelude.{◌≡◌, ◌+◌, ◌^◌, ◌<◌, ◌≤◌, ◌++◌, [], ◌∷◌, ℕ, List, length, take, drop, IsTrue, IsSomeAnd, IfOk, OnOk, OnErr};
-ghost use Rattle.ledger_disk.specs.Disk.{overlaid, wrote, MayHaveWritten, CountsFault, KeepsLength};
+ghost use Rattle.ledger_disk.specs.Disk.{overlay, with_write, MayHaveWritten, CountsFault, KeepsLength};
 ghost use Rattle.ledger_disk.specs.Guards.{Guards};
 ghost use Rattle.block_file.specs.Head.{CountsOneFault};
 ghost use Rattle.block_file.specs.File.{IsVeiled};
@@ -22,7 +22,7 @@ pub(crate) fn copy_piece<D: Disk>(
     requires to { IsSomeAnd (D.told_length to.old) (λ m. place ≤ m) }
     ensures ok { OnOk result (IsTrue D.tells
         → D.state to.new
-        ≡ wrote place n (overlaid place (take n (drop at (D.state from.old).seen))
+        ≡ with_write place n (overlay place (take n (drop at (D.state from.old).seen))
         (D.state to.old).seen) (D.state to.old)) }
     ensures err { OnErr result (IsTrue D.tells
         → MayHaveWritten place n (D.state to.old) (D.state to.new)) }
@@ -50,7 +50,7 @@ pub(crate) fn copy_range<D: Disk>(
     requires to { IsSomeAnd (D.told_length to.old) (λ m. place ≤ m) }
     ensures ok { OnOk result (IsTrue D.tells
         → (D.state to.new).seen
-        ≡ overlaid place (take len (drop at (D.state from.old).seen)) (D.state to.old).seen) }
+        ≡ overlay place (take len (drop at (D.state from.old).seen)) (D.state to.old).seen) }
     ensures guards { IsTrue D.tells → (front : List ℕ) → Guards (D.state to.old) front
         → length front ≤ place → Guards (D.state to.new) front }
     ensures same { IsTrue D.tells → D.state from.new ≡ D.state from.old }
@@ -102,7 +102,7 @@ pub(crate) fn end_copy<D: Disk>(disk: &mut D, at: u64) -> Result<(), Failed>
     requires length { IsSomeAnd (D.told_length disk.old) (λ n. at ≤ n) }
     requires behind { 1 ≤ at }
     ensures seen { OnOk result (IsTrue D.tells
-        → (D.state disk.new).seen ≡ overlaid at (0 ∷ []) (D.state disk.old).seen) }
+        → (D.state disk.new).seen ≡ overlay at (0 ∷ []) (D.state disk.old).seen) }
     ensures veiled { IsTrue D.tells → IsVeiled (D.state disk.old) → IsVeiled (D.state disk.new) }
     ensures told { OnOk result (IsSomeAnd (D.told_length disk.new) (λ n. at + 1 ≤ n)) }
     ensures fits { OnOk result (at + 1 ≤ 2 ^ 62) }

@@ -1,11 +1,11 @@
 ghost use Rattle.std.specs.Prelude.{◌≡◌, ◌≢◌, ◌⊎◌, ◌+◌, ◌^◌, ◌<◌, ◌≤◌, ◌++◌, [], ◌∷◌, ℕ, List, length, get_or, take, drop, replicate, IsTrue, IfSome, IfNone, IsSomeAnd, Some, IfOk, IfErr, OnOk, OnErr};
-ghost use Rattle.ledger_disk.specs.Disk.{MayLeave, settled, overlaid, KeepsLength};
+ghost use Rattle.ledger_disk.specs.Disk.{MayLeave, settled_state, overlay, KeepsLength};
 ghost use Rattle.ledger_disk.specs.Guards.{Outside};
 ghost use Rattle.block_file.specs.Head.{Counts, CountsAlone, CountsTwoAlone, digest_of, front_of, IsShut, IsHead, IsResumeErr, IsBaseErr};
 ghost use Rattle.block_file.specs.Blocks.{AreBlock, IsRead, IsNextBlock, GivesBlock, GivesEnd};
 ghost use Rattle.journal_record.specs.Blocks.{block_bytes};
 ghost use Rattle.journal_record.specs.Entry.{Entry};
-ghost use Rattle.block_file.specs.File.{Stands, HasBlock, IsSettled, IsShutAt, IsZeros, IsVeiled, IsScrapOf, tail_of, whole, opened, with_content};
+ghost use Rattle.block_file.specs.File.{Stands, HasBlock, IsSettled, IsShutAt, IsZeros, IsVeiled, IsScrapOf, tail_of, whole_file, open_blocks, with_content};
 
 use crate::copying::put_copy;
 use crate::head::{base_digest, check_form, read_fields};
@@ -59,7 +59,7 @@ impl BlockFile {
 
     /// Begins a file: cuts what is there, and leaves one shut gate.
     pub fn start<D: Disk>(disk: &mut D) -> Result<(), FileErr>
-        ensures ok { OnOk result (IsTrue D.tells → D.state disk.new ≡ settled (0 ∷ [])) }
+        ensures ok { OnOk result (IsTrue D.tells → D.state disk.new ≡ settled_state (0 ∷ [])) }
 
         // A crash leaves a front of what was there, or at most one byte.
         ensures err { OnErr result (IsTrue D.tells → IsSettled (D.state disk.old)
@@ -80,9 +80,9 @@ impl BlockFile {
     #[tactic(auto, using(crate::proofs::VeilLaws::veiled_shut))]
     pub fn create<D: Disk>(disk: &mut D, generation: u64, base: &[u8]) -> Result<BlockFile, FileErr>
         requires length { IsSomeAnd (D.told_length disk.old) (λ n. 1 ≤ n) }
-        requires started { IsTrue D.tells → D.state disk.old ≡ settled (0 ∷ []) }
+        requires started { IsTrue D.tells → D.state disk.old ≡ settled_state (0 ∷ []) }
         ensures seen { OnOk result (IsTrue D.tells
-            → (D.state disk.new).seen ≡ whole (front_of 0 generation base.now) []) }
+            → (D.state disk.new).seen ≡ whole_file (front_of 0 generation base.now) []) }
         ensures veiled { IsTrue D.tells → IsVeiled (D.state disk.new) }
 
         // A crash leaves it shut.
@@ -111,9 +111,9 @@ impl BlockFile {
     pub fn put_block<D: Disk>(&mut self, disk: &mut D, block: &[u8]) -> Result<(), FileErr>
         requires length { IsSomeAnd (D.told_length disk.old) (λ n. place_of self.old + 1 ≤ n) }
         ensures seen { OnOk result (IsTrue D.tells → (front : List ℕ) (blocks : List (List ℕ))
-            → (D.state disk.old).seen ≡ whole front blocks
+            → (D.state disk.old).seen ≡ whole_file front blocks
             → tail_of front blocks ≡ place_of self.old
-            → (D.state disk.new).seen ≡ whole front (blocks ++ block.now ∷ [])) }
+            → (D.state disk.new).seen ≡ whole_file front (blocks ++ block.now ∷ [])) }
         ensures veiled { IsTrue D.tells → IsVeiled (D.state disk.old)
             → IsVeiled (D.state disk.new) }
 
@@ -146,10 +146,10 @@ impl BlockFile {
         requires length { IsSomeAnd (D.told_length disk.old) (λ n. place_of self.old + 1 ≤ n) }
         ensures seen { OnOk result (IsTrue D.tells
             → (front : List ℕ) (blocks more : List (List ℕ))
-            → (D.state disk.old).seen ≡ whole front blocks
+            → (D.state disk.old).seen ≡ whole_file front blocks
             → tail_of front blocks ≡ place_of self.old
-            → take len (drop at (D.state from.old).seen) ≡ opened more
-            → (D.state disk.new).seen ≡ whole front (blocks ++ more)) }
+            → take len (drop at (D.state from.old).seen) ≡ open_blocks more
+            → (D.state disk.new).seen ≡ whole_file front (blocks ++ more)) }
         ensures veiled { IsTrue D.tells → IsVeiled (D.state disk.old)
             → IsVeiled (D.state disk.new) }
 
@@ -175,7 +175,7 @@ impl BlockFile {
     pub fn unveil<D: Disk>(&mut self, disk: &mut D) -> Result<(), FileErr>
         requires length { IsSomeAnd (D.told_length disk.old) (λ n. place_of self.old + 1 ≤ n) }
         ensures ok { OnOk result (IsTrue D.tells
-            → D.state disk.new ≡ settled (1 ∷ drop 1 (D.state disk.old).seen)) }
+            → D.state disk.new ≡ settled_state (1 ∷ drop 1 (D.state disk.old).seen)) }
 
         // A crash leaves it shut, or whole and open.
         ensures err { OnErr result (IsTrue D.tells → IsVeiled (D.state disk.old)
@@ -254,7 +254,7 @@ impl BlockFile {
 
         // After it every image has zeros there, and all else as before.
         ensures ok { OnOk result (IsTrue D.tells
-            → D.state disk.new ≡ settled (overlaid at (replicate len 0) (D.state disk.old).seen)) }
+            → D.state disk.new ≡ settled_state (overlay at (replicate len 0) (D.state disk.old).seen)) }
 
         // All else reads as before, and is so in each image where nothing was pending.
         ensures seen { IsTrue D.tells
@@ -296,7 +296,7 @@ impl BlockFile {
 
         // After it the file ends with its tail gate in every image.
         ensures ok { OnOk result (IsTrue D.tells
-            → D.state disk.new ≡ settled (take (place_of self.old + 1) (D.state disk.old).seen)) }
+            → D.state disk.new ≡ settled_state (take (place_of self.old + 1) (D.state disk.old).seen)) }
 
         // An image has the same blocks.
         ensures images { IsTrue D.tells → IsSettled (D.state disk.old)
@@ -417,6 +417,11 @@ impl BlockFile {
         ensures base { KeepsBase self.old self.new }
         ensures gate { OnOk result (IsTrue D.tells
             → IsShutAt (place_of self.new) (D.state disk.new).seen) }
+
+        // A file that ended with its tail gate ends with its new one.
+        ensures ends { OnOk result (IsTrue D.tells
+            → length (D.state disk.old).seen ≡ place_of self.old + 1
+            → length (D.state disk.new).seen ≡ place_of self.new + 1) }
         ensures length { OnOk result (IsSomeAnd (D.told_length disk.new)
             (λ n. place_of self.new + 1 ≤ n)) }
         ensures faults { CountsAlone result (D.faults disk.old) (D.faults disk.new) }

@@ -95,8 +95,8 @@ fn sum_of(body: &[u8], count: u32) -> u64
     sum
 }
 
-/// The header that these bytes spell.
-fn decoded(bytes: &[u8]) -> Option<Header>
+/// The header that these bytes spell. Which field breaks isn't handed on: of a file the journal alone is told.
+fn decode_header(bytes: &[u8]) -> Option<Header>
     ensures found { IfSome result (λ h. IsHeader h × HasWidths h × (bytes.now ≡ spelling h)) }
     ensures none { IfNone result ((bad : Bad) × (header_of bytes.now ≡ Err bad)) }
 {
@@ -106,7 +106,8 @@ fn decoded(bytes: &[u8]) -> Option<Header>
     }
 }
 
-/// Reads the records that fill a body, which stands at this place; its first journal has this number.
+/// Reads the records that fill a body, which stands at this place; its first journal has this number. There is room for
+/// all of them from the first on, since the body that they fill is in memory too.
 fn read_records(
     alloc: Global,
     body: &[u8],
@@ -122,13 +123,15 @@ fn read_records(
     ensures err { IfErr result (λ e. (e ≡ err.NoMemory)
         ⊎ ((n : ℕ) × (e ≡ err.Damaged (damage.Entry (first + n))) × BreaksAt count body.now n)) }
 {
-    let mut records = Vec::new(alloc);
+    let Ok(mut records) = Vec::with_capacity(alloc, count as usize) else {
+        return Err(FileErr::NoMemory);
+    };
     let mut rest = body;
     let mut left = count;
     let mut place = at;
     while left > 0 {
         let (bytes, _) = rest.split_at(174);
-        let Some(header) = decoded(bytes) else {
+        let Some(header) = decode_header(bytes) else {
             return Err(FileErr::Damaged(Damage::Entry {
                 jsn: first + u64::from(count - left),
             }));

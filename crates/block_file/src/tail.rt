@@ -1,7 +1,7 @@
 ghost use Rattle.std.specs.Prelude.{◌≡◌, ◌+◌, ◌^◌, ◌≤◌, ◌++◌, [], ◌∷◌, ℕ, List, length, take, drop, IsTrue, IfSome, IsSomeAnd, Some, OnOk, OnErr, min};
-ghost use Rattle.ledger_disk.specs.Disk.{MayLeave, settled, overlaid, CountsFault};
+ghost use Rattle.ledger_disk.specs.Disk.{MayLeave, settled_state, overlay, CountsFault};
 ghost use Rattle.ledger_disk.specs.Guards.{Guards};
-ghost use Rattle.block_file.specs.File.{IsSettled, staged};
+ghost use Rattle.block_file.specs.File.{IsSettled, staged_file};
 
 use ledger_bytes::Failed;
 use ledger_disk::Disk;
@@ -11,7 +11,7 @@ pub(crate) fn stage<D: Disk>(disk: &mut D, at: u64, block: &[u8]) -> Result<(), 
     requires place { at ≤ 2 ^ 62 }
     requires length { IfSome (D.told_length disk.old) (λ n. at + 1 ≤ n) }
     ensures ok { OnOk result (IsTrue D.tells
-        → D.state disk.new ≡ settled (staged at block.now (D.state disk.old).seen)) }
+        → D.state disk.new ≡ settled_state (staged_file at block.now (D.state disk.old).seen)) }
     ensures err { OnErr result (IsTrue D.tells → (front : List ℕ)
         → Guards (D.state disk.old) front → length front ≤ at + 1
         → Guards (D.state disk.new) front) }
@@ -29,7 +29,7 @@ pub(crate) fn stage<D: Disk>(disk: &mut D, at: u64, block: &[u8]) -> Result<(), 
 pub(crate) fn open_gate<D: Disk>(disk: &mut D, at: u64) -> Result<(), Failed>
     requires { IfSome (D.told_length disk.old) (λ n. at + 1 ≤ n) }
     ensures ok { OnOk result (IsTrue D.tells
-        → D.state disk.new ≡ settled (overlaid at (1 ∷ []) (D.state disk.old).seen)) }
+        → D.state disk.new ≡ settled_state (overlay at (1 ∷ []) (D.state disk.old).seen)) }
     ensures err { OnErr result (IsTrue D.tells → IsSettled (D.state disk.old) → (image : List ℕ)
         → MayLeave (D.state disk.new) image
         → (gate : ℕ) × (image ≡ take at (D.state disk.old).seen ++ gate ∷ drop (at + 1)
@@ -63,7 +63,7 @@ pub(crate) fn cut_behind<D: Disk>(disk: &mut D, to: u64) -> Result<(), Failed>
 /// Cuts a file that is longer, and syncs.
 pub(crate) fn cut_for_good<D: Disk>(disk: &mut D, to: u64) -> Result<(), Failed>
     ensures ok { OnOk result (IsTrue D.tells
-        → D.state disk.new ≡ settled (take to (D.state disk.old).seen)) }
+        → D.state disk.new ≡ settled_state (take to (D.state disk.old).seen)) }
     ensures err { OnErr result (IsTrue D.tells → (front : List ℕ)
         → Guards (D.state disk.old) front → length front ≤ to → Guards (D.state disk.new) front) }
     ensures idle { OnErr result (IsTrue D.tells → length (D.state disk.old).seen ≤ to

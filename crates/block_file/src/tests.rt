@@ -65,7 +65,7 @@ const PURGED: [&str; 25] = [
     "67af2550ddb600",
 ];
 
-fn decoded(alloc: Global, text: &[&str]) -> Result<Vec<u8>, Fail> {
+fn decode_lines(alloc: Global, text: &[&str]) -> Result<Vec<u8>, Fail> {
     let mut bytes = Vec::new(alloc);
     for line in text {
         bytes.extend_from_slice(&hex::decode(alloc, line)?)?;
@@ -129,8 +129,8 @@ fn count_blocks(alloc: Global, disk: &mut MemDisk) -> Result<u32, FileErr> {
 #[test]
 fn a_new_file_is_written_and_read(rt: HostRuntime) -> Result<(), Fail> {
     let alloc = rt.alloc();
-    let new = decoded(alloc, &NEW)?;
-    let block = decoded(alloc, &BLOCK)?;
+    let new = decode_lines(alloc, &NEW)?;
+    let block = decode_lines(alloc, &BLOCK)?;
     assert_eq!(rt; new.len(), 352);
     let mut disk = disk_of(alloc, b"what was there before")?;
     BlockFile::start(&mut disk)?;
@@ -166,8 +166,8 @@ fn a_new_file_is_written_and_read(rt: HostRuntime) -> Result<(), Fail> {
 #[test]
 fn a_commit_is_stopped_at_each_call(rt: HostRuntime) -> Result<(), Fail> {
     let alloc = rt.alloc();
-    let new = decoded(alloc, &NEW)?;
-    let block = decoded(alloc, &BLOCK)?;
+    let new = decode_lines(alloc, &NEW)?;
+    let block = decode_lines(alloc, &BLOCK)?;
     for (left, all, none, torn) in [
         (0, 1, 1, 1),
         (1, 1, 1, 1),
@@ -210,7 +210,7 @@ fn a_commit_is_stopped_at_each_call(rt: HostRuntime) -> Result<(), Fail> {
 #[test]
 fn a_cut_file_is_told(rt: HostRuntime) -> Result<(), Fail> {
     let alloc = rt.alloc();
-    let new = decoded(alloc, &NEW)?;
+    let new = decode_lines(alloc, &NEW)?;
     for size in 0..352_u64 {
         let mut disk = disk_of(alloc, new.get(..size as usize).unwrap_or(b""))?;
         let told = match first_block(alloc, &mut disk, 0) {
@@ -239,7 +239,7 @@ fn a_cut_file_is_told(rt: HostRuntime) -> Result<(), Fail> {
 #[test]
 fn a_changed_file_is_told(rt: HostRuntime) -> Result<(), Fail> {
     let alloc = rt.alloc();
-    let new = decoded(alloc, &NEW)?;
+    let new = decode_lines(alloc, &NEW)?;
     let length = |at, kept, found| FileErr::Damaged(Damage::Length { at, kept, found });
     let rows: [(&[(usize, u8)], u64, FileErr); 13] = [
         (&[(1, 0), (9, 7)], 0, FileErr::Damaged(Damage::Magic)),
@@ -270,7 +270,7 @@ fn a_changed_file_is_told(rt: HostRuntime) -> Result<(), Fail> {
 #[test]
 fn a_file_with_a_base_is_copied(rt: HostRuntime) -> Result<(), Fail> {
     let alloc = rt.alloc();
-    let purged = decoded(alloc, &PURGED)?;
+    let purged = decode_lines(alloc, &PURGED)?;
     let mut from = disk_of(alloc, &purged)?;
     let Some(head) = BlockFile::head(&mut from)? else {
         return Ok(assert!(rt; false));

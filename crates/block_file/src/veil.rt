@@ -1,5 +1,5 @@
 ghost use Rattle.std.specs.Prelude.{◌≡◌, ◌≢◌, ◌⊎◌, ◌+◌, ◌^◌, ◌≤◌, ◌++◌, [], ◌∷◌, ℕ, List, length, get_or, take, drop, IsTrue, IsSomeAnd, IfOk, OnOk, OnErr};
-ghost use Rattle.ledger_disk.specs.Disk.{MayLeave, settled, CountsFault};
+ghost use Rattle.ledger_disk.specs.Disk.{MayLeave, settled_state, CountsFault};
 ghost use Rattle.block_file.specs.Head.{head_of};
 ghost use Rattle.block_file.specs.File.{IsVeiled};
 
@@ -76,7 +76,7 @@ pub(crate) fn open_tail<D: Disk>(disk: &mut D, at: u64) -> Result<(), Failed>
 pub(crate) fn open_for_good<D: Disk>(disk: &mut D) -> Result<(), Failed>
     requires { IsSomeAnd (D.told_length disk.old) (λ m. 1 ≤ m) }
     ensures ok { OnOk result (IsTrue D.tells
-        → D.state disk.new ≡ settled (1 ∷ drop 1 (D.state disk.old).seen)) }
+        → D.state disk.new ≡ settled_state (1 ∷ drop 1 (D.state disk.old).seen)) }
     ensures err { OnErr result (IsTrue D.tells → IsVeiled (D.state disk.old) → (image : List ℕ)
         → MayLeave (D.state disk.new) image
         → (get_or image 0 0 ≢ 1) ⊎ (image ≡ 1 ∷ drop 1 (D.state disk.old).seen)) }

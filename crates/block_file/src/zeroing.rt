@@ -1,5 +1,5 @@
 ghost use Rattle.std.specs.Prelude.{◌≡◌, ◌≢◌, ◌+◌, ◌<◌, ◌≤◌, ℕ, List, length, replicate, IsTrue, IsSomeAnd, IfOk, OnOk, OnErr, true, false};
-ghost use Rattle.ledger_disk.specs.Disk.{MayLeave, settled, overlaid, wrote, MayHaveWritten, CountsFault, KeepsLength};
+ghost use Rattle.ledger_disk.specs.Disk.{MayLeave, settled_state, overlay, with_write, MayHaveWritten, CountsFault, KeepsLength};
 ghost use Rattle.ledger_disk.specs.Guards.{Outside, Confined};
 ghost use Rattle.block_file.specs.File.{IsSettled, IsZeros};
 
@@ -45,7 +45,7 @@ pub(crate) fn write_zeros<D: Disk>(disk: &mut D, at: u64, n: u64) -> Result<(), 
     requires length { IsSomeAnd (D.told_length disk.old) (λ m. at + n ≤ m) }
     ensures ok { OnOk result (IsTrue D.tells
         → D.state disk.new
-        ≡ wrote at n (overlaid at (replicate n 0) (D.state disk.old).seen) (D.state disk.old)) }
+        ≡ with_write at n (overlay at (replicate n 0) (D.state disk.old).seen) (D.state disk.old)) }
     ensures err { OnErr result (IsTrue D.tells
         → MayHaveWritten at n (D.state disk.old) (D.state disk.new)) }
     ensures length { KeepsLength (D.told_length disk.old) (D.told_length disk.new) }
@@ -60,7 +60,7 @@ pub(crate) fn clear_piece<D: Disk>(disk: &mut D, at: u64, n: u64) -> Result<(), 
     requires piece { n ≤ 4096 }
     requires length { IsSomeAnd (D.told_length disk.old) (λ m. at + n ≤ m) }
     ensures seen { OnOk result (IsTrue D.tells
-        → (D.state disk.new).seen ≡ overlaid at (replicate n 0) (D.state disk.old).seen) }
+        → (D.state disk.new).seen ≡ overlay at (replicate n 0) (D.state disk.old).seen) }
     ensures state { IsTrue D.tells → MayHaveWritten at n (D.state disk.old) (D.state disk.new) }
     ensures idle { IsTrue D.tells → IsZeros at n (D.state disk.old).seen
         → D.state disk.new ≡ D.state disk.old }
@@ -77,7 +77,7 @@ pub(crate) fn clear_piece<D: Disk>(disk: &mut D, at: u64, n: u64) -> Result<(), 
 pub(crate) fn zero_pieces<D: Disk>(disk: &mut D, at: u64, len: u64) -> Result<(), Failed>
     requires length { IsSomeAnd (D.told_length disk.old) (λ n. at + len ≤ n) }
     ensures seen { OnOk result (IsTrue D.tells
-        → (D.state disk.new).seen ≡ overlaid at (replicate len 0) (D.state disk.old).seen) }
+        → (D.state disk.new).seen ≡ overlay at (replicate len 0) (D.state disk.old).seen) }
     ensures outside { IsTrue D.tells
         → Outside at len (D.state disk.old).seen (D.state disk.new).seen }
     ensures confined { IsTrue D.tells → IsSettled (D.state disk.old)
@@ -100,7 +100,7 @@ pub(crate) fn zero_pieces<D: Disk>(disk: &mut D, at: u64, len: u64) -> Result<()
 pub(crate) fn zero<D: Disk>(disk: &mut D, at: u64, len: u64) -> Result<(), Failed>
     requires length { IsSomeAnd (D.told_length disk.old) (λ n. at + len ≤ n) }
     ensures ok { OnOk result (IsTrue D.tells
-        → D.state disk.new ≡ settled (overlaid at (replicate len 0) (D.state disk.old).seen)) }
+        → D.state disk.new ≡ settled_state (overlay at (replicate len 0) (D.state disk.old).seen)) }
     ensures seen { IsTrue D.tells → Outside at len (D.state disk.old).seen (D.state disk.new).seen }
     ensures images { IsTrue D.tells → IsSettled (D.state disk.old) → (image : List ℕ)
         → MayLeave (D.state disk.new) image → Outside at len (D.state disk.old).seen image }

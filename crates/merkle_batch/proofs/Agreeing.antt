@@ -3,7 +3,7 @@ use Rattle.std.proofs.Common.{◌≡◌, ℕ, ◌+◌, ◌-◌, ◌*◌, ◌/◌
 use Rattle.std.proofs.lemmas.List.{drop-take, nil_from_length}
 use Rattle.std.proofs.lemmas.Bool.{cases_eq}
 use Rattle.tree_model.specs.Tree.{Hash, root}
-use Rattle.tree_model.specs.Halves.{pairs, edge, joined}
+use Rattle.tree_model.specs.Halves.{pairs, edge, joined_node}
 use Rattle.tree_model.specs.Peaks.{peaks}
 use Rattle.tree_model.proofs.Halves.{length-pairs, root-halve}
 use Rattle.tree_model.proofs.Peaks.{peaks-pairs, pairs-take, pairs-drop}
@@ -63,7 +63,7 @@ same_roots hash p (row ∷ rows) ds es behind fits within one two =
           ∙ same_roots hash (p / 2) rows (pairs hash ds) (pairs hash es) behind fits_up within_up one.1 two.1
           ∙ ap (root hash) (sym (join_even hash p es within row p within two.0 behind even))
       | inr odd ↦
-          let x = joined hash (get_or row.nodes 0 []) behind in
+          let x = joined_node hash (get_or row.nodes 0 []) behind in
           ap (root hash) (join_odd hash p ds fits row p fits one.0 behind 0 x (omega arith) (omega arith) refl)
           ∙ same_roots hash (p / 2) rows (pairs hash ds) (pairs hash es) (Some x) fits_up within_up one.1 two.1
           ∙ ap (root hash) (sym (join_odd hash p es within row p within two.0 behind 0 x (omega arith) (omega arith) refl))

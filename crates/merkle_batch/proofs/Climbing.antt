@@ -8,7 +8,7 @@ use Rattle.std.specs.Prelude.{Result, Ok, Err, OnOk}
 use Rattle.tree_model.specs.Tree.{Hash, root}
 use Rattle.tree_model.specs.Path.{path}
 use Rattle.tree_model.specs.Extension.{proof}
-use Rattle.tree_model.specs.Halves.{pairs, halve, edge, beside, own}
+use Rattle.tree_model.specs.Halves.{pairs, halve, edge, beside, own_part}
 use Rattle.tree_model.proofs.ProofHalves.{proof-halve, proof-odd}
 use Rattle.tree_model.proofs.Levels.{root_one, root_none}
 use Rattle.tree_model.proofs.Paths.{path_one}
@@ -149,21 +149,21 @@ module _ (hash : Hash) where
       rest below ∙ ap (λ t. old ++ t) (ap (proof hash (m / 2)) (sym up) ∙ sym (proof-halve hash m cs some (omega arith) even))
 
   -- of an odd number it is the last node and its path
-  pub proof_here : (m : ℕ) (cs side old mid new : List (List ℕ)) → m < length cs → m % 2 ≡ 1 → own true m cs ≡ side → mid ≡ old ++ side
+  pub proof_here : (m : ℕ) (cs side old mid new : List (List ℕ)) → m < length cs → m % 2 ≡ 1 → own_part true m cs ≡ side → mid ≡ old ++ side
       → new ≡ mid ++ path hash (m - 1) cs → new ≡ old ++ proof hash m cs
   proof_here m cs side old mid new less odd is first rest =
       rest ∙ ap (λ t. t ++ path hash (m - 1) cs) first ∙ append_assoc old side (path hash (m - 1) cs)
       ∙ ap (λ t. old ++ t) (ap (λ t. t ++ path hash (m - 1) cs) (sym is) ∙ sym (proof-odd hash m cs less odd))
 
 -- the last of one is the whole older tree
-pub own_one : (m : ℕ) (xs : List (List ℕ)) → m ≡ 1 → own true m xs ≡ []
-unfolding own
+pub own_one : (m : ℕ) (xs : List (List ℕ)) → m ≡ 1 → own_part true m xs ≡ []
+unfolding own_part
 own_one m xs one = rw one refl
 
 -- the last of more is a kept node
 pub own_more : (p place m count : ℕ) (row : Row) (ds cs : List (List ℕ)) (x : List ℕ) → 1 < m → m ≤ count → count ≤ length ds → row.nodes ≡ drop (first_of p) ds → place + first_of p ≡ m - 1
-    → x ≡ get_or row.nodes place [] → own true m (take count ds ++ cs) ≡ x ∷ []
-unfolding own
+    → x ≡ get_or row.nodes place [] → own_part true m (take count ds ++ cs) ≡ x ∷ []
+unfolding own_part
 own_more p place m count row ds cs x more le within is at made =
     let front : length (take count ds) ≡ count = length-take-le count ds within in
     let len : m - 1 < length (take count ds ++ cs) = omega (arith, front, length-append (take count ds) cs) in

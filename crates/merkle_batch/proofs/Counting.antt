@@ -7,7 +7,7 @@ use Rattle.std.specs.Int.Count.{ones_step}
 use Rattle.tree_model.specs.Tree.{Hash}
 use Rattle.tree_model.specs.Path.{path, path_length}
 use Rattle.tree_model.specs.Extension.{proof_length}
-use Rattle.tree_model.specs.Halves.{pairs, halve, edge, beside, own}
+use Rattle.tree_model.specs.Halves.{pairs, halve, edge, beside, own_part}
 use Rattle.tree_model.proofs.Halves.{length-pairs, length-halve, path-halve}
 use Rattle.tree_model.proofs.Paths.{length-path, path_one}
 use Rattle.tree_model.proofs.Extensions.{length-sub, sub_all}
@@ -28,10 +28,10 @@ module _ (hash : Hash) (cs : List (List ℕ)) where
       ∙ length-sub hash (m / 2) true (halve hash cs) (omega arith) (omega (arith, length-halve hash cs))
 
   -- from an odd number the last of these, unless it is the only one, and those of its path
-  odd_count : (m : ℕ) → m < length cs → m % 2 ≡ 1 → proof_length m (length cs) ≡ length (own true m cs) + path_length (m - 1) (length cs)
+  odd_count : (m : ℕ) → m < length cs → m % 2 ≡ 1 → proof_length m (length cs) ≡ length (own_part true m cs) + path_length (m - 1) (length cs)
   odd_count m less odd =
-      sym (length-sub hash m true cs (omega arith) (omega arith)) ∙ ap length (proof-odd hash m cs less odd) ∙ length-append (own true m cs) (path hash (m - 1) cs)
-      ∙ ap (λ j. length (own true m cs) + j) (length-path hash (m - 1) cs)
+      sym (length-sub hash m true cs (omega arith) (omega arith)) ∙ ap length (proof-odd hash m cs less odd) ∙ length-append (own_part true m cs) (path hash (m - 1) cs)
+      ∙ ap (λ j. length (own_part true m cs) + j) (length-path hash (m - 1) cs)
 
 -- the path of what stands at the edge alone has none
 pub end_count : (hash : Hash) (n count : ℕ) (b : Option (List ℕ)) → count ≡ 0 → n < count + length (edge b) → path_length n (count + length (edge b)) ≡ 0
@@ -104,7 +104,7 @@ module _ (p count : ℕ) (row : Row) (floor : p ≤ count) (there : count ≤ fi
 
     -- from an odd number
     pub odd_up : (m : ℕ) (side : Option (List ℕ)) (old mid new : ℕ) → m % 2 ≡ 1
-        → ((ds cs : List (List ℕ)) → row.nodes ≡ drop (first_of p) ds → count ≤ length ds → own true m (take count ds ++ cs) ≡ edge side)
+        → ((ds cs : List (List ℕ)) → row.nodes ≡ drop (first_of p) ds → count ≤ length ds → own_part true m (take count ds ++ cs) ≡ edge side)
         → mid ≡ old + length (edge side) → (m - 1 < count + length (edge b) → new ≡ mid + path_length (m - 1) (count + length (edge b)))
         → m < count + length (edge b) → new ≡ old + proof_length m (count + length (edge b))
     odd_up m side old mid new odd last first rest less =

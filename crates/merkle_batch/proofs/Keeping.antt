@@ -3,7 +3,7 @@ use Rattle.std.proofs.Common.{◌≡◌, ℕ, suc, ◌+◌, ◌-◌, ◌*◌, �
 use Rattle.std.proofs.lemmas.List.{drop-append-le, get_or-drop, get_or_append_left, drop_all, append-nil}
 use Rattle.std.proofs.lemmas.Bool.{cases_eq}
 use Rattle.tree_model.specs.Tree.{Hash, node}
-use Rattle.tree_model.specs.Halves.{pairs, halve, edge, joined}
+use Rattle.tree_model.specs.Halves.{pairs, halve, edge, joined_node}
 use Rattle.tree_model.proofs.Halves.{length-pairs}
 use Rattle.tree_model.proofs.Rising.{pairs_more, pairs_next, halve_even, halve_odd}
 use Rattle.merkle_batch.specs.Rows.{Row, first_of, Keeps, Counts, HasNodes, HasRoom, Levels, StandsFor}
@@ -148,13 +148,13 @@ module _ (hash : Hash) (p : ℕ) (ds : List (List ℕ)) (floor : p ≤ length ds
         ap (λ j. halve hash (take j ds ++ edge behind)) (sym whole) ∙ halve_even hash (count / 2) ds behind (omega arith)
 
     -- an odd number: the last of them is joined with it
-    pub join_odd : (place : ℕ) (x : List ℕ) → count % 2 ≡ 1 → place + first_of p ≡ count - 1 → x ≡ joined hash (get_or row.nodes place []) behind
+    pub join_odd : (place : ℕ) (x : List ℕ) → count % 2 ≡ 1 → place + first_of p ≡ count - 1 → x ≡ joined_node hash (get_or row.nodes place []) behind
         → halve hash (take count ds ++ edge behind) ≡ take (count / 2) (pairs hash ds) ++ edge (Some x)
     join_odd place x odd at made =
         let whole : suc (2 * (count / 2)) ≡ count = omega arith in
         ap (λ j. halve hash (take j ds ++ edge behind)) (sym whole) ∙ halve_odd hash (count / 2) ds behind (omega arith)
         ∙ ap (λ t. take (count / 2) (pairs hash ds) ++ t ∷ [])
-        (ap (λ l. joined hash l behind) (sym (kept_at row place (2 * (count / 2)) is (omega arith))) ∙ sym made)
+        (ap (λ l. joined_node hash l behind) (sym (kept_at row place (2 * (count / 2)) is (omega arith))) ∙ sym made)
 
 -- a tree over no leaves
 pub new_stands : (hash : Hash) (rows : List Row) → rows ≡ [] → StandsFor hash (record { rows = rows; size = 0; floor = 0; spare = 0 }) []

@@ -2,7 +2,7 @@ ghost use Rattle.std.specs.Prelude.{◌≡◌, ℕ, suc, ◌+◌, ◌-◌, ◌*�
 ghost use Rattle.tree_model.specs.Tree.{Hash};
 ghost use Rattle.tree_model.specs.Path.{path, path_length};
 ghost use Rattle.tree_model.specs.Extension.{proof, proof_length};
-ghost use Rattle.tree_model.specs.Halves.{halve, pairs, edge, beside, own};
+ghost use Rattle.tree_model.specs.Halves.{halve, pairs, edge, beside, own_part};
 ghost use Rattle.tree_model.specs.Peaks.{peaks as peaks_of};
 ghost use Rattle.merkle_batch.specs.Over.{KeepsOver, root_over};
 ghost use Rattle.merkle_batch.specs.Rows.{first_of, Keeps, Counts, HasRoom, HasNodes, Grown, Forgot, IsNil, root_of};
@@ -352,7 +352,7 @@ fn last_of(row: &Row, p: u64, m: u64, count: u64) -> Option<Digest>
     requires within { m ≤ count }
     requires there { count ≤ first_of p + length row.now.nodes }
     ensures { (ds cs : List (List ℕ)) → row.now.nodes ≡ drop (first_of p) ds → count ≤ length ds
-        → own true m (take count ds ++ cs) ≡ edge (option_map (λ d. d.0) result) }
+        → own_part true m (take count ds ++ cs) ≡ edge (option_map (λ d. d.0) result) }
 {
     if m == 1 {
         None

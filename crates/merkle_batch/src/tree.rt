@@ -15,6 +15,9 @@ use std::alloc::Global;
 use std::marker::{Model, PhantomData};
 use thiserror::Error;
 
+// Room is made for so many leaves at least, so that a call for one leaf seldom looks at every level.
+const LEAST_ROOM: u64 = 64;
+
 /// Why a tree gives no answer.
 #[derive(Clone, Copy, Debug, PartialEq, Eq, Error)]
 pub enum TreeErr {
@@ -243,6 +246,7 @@ impl<H: TreeHash> Tree<H> {
         if more >= 1 << 63 {
             return Err(NoMemory);
         }
+        let more = more.max(LEAST_ROOM);
         reserve(self.alloc, &mut self.rows, 0, more)?;
         self.spare = more;
         Ok(())

@@ -4,7 +4,7 @@ use Rattle.std.specs.Int.{from_be_bytes, to_be_bytes, w64}
 use Rattle.std.proofs.lemmas.Nat.{from_be_bytes-to_be_bytes_8}
 use Rattle.std.proofs.lemmas.List.{take_at, append-nil}
 use Rattle.sha2.proofs.Facts256.{length-sha256}
-use Rattle.block_file.specs.File.{whole, opened, tail_of}
+use Rattle.block_file.specs.File.{whole_file, open_blocks, tail_of}
 use Rattle.block_file.specs.Head.{front_of, HasHead, generation_of, digest_of}
 
 size_of : (a b c d e f g : List ℕ) → length a ≡ 8 → length b ≡ 8 → length c ≡ 32 → length d ≡ 6 → length g ≡ 1 → 55 ≤ length ((((((a ++ b) ++ c) ++ d) ++ e) ++ f) ++ g)
@@ -19,16 +19,16 @@ front_piece a b c d e f g size =
     ap (λ (l : List ℕ). take 8 l) same ∙ take_at a (b ++ (c ++ (d ++ (e ++ (f ++ g))))) 8 size
 
 module _ (generation : ℕ) (base : List ℕ) (blocks : List (List ℕ)) where
-  pub has_head : HasHead (whole (front_of 1 generation base) blocks)
+  pub has_head : HasHead (whole_file (front_of 1 generation base) blocks)
   has_head = record {
-    is_open = record { long = omega (arith, size_of (to_be_bytes w64 generation) (to_be_bytes w64 (length base)) (digest_of base) (replicate {A = ℕ} 6 0) base (opened blocks) (0 ∷ []) refl refl (length-sha256 (7 ∷ base)) refl refl); gate = refl };
+    is_open = record { long = omega (arith, size_of (to_be_bytes w64 generation) (to_be_bytes w64 (length base)) (digest_of base) (replicate {A = ℕ} 6 0) base (open_blocks blocks) (0 ∷ []) refl refl (length-sha256 (7 ∷ base)) refl refl); gate = refl };
     magic_is = refl;
     version = refl;
   }
 
-  pub generation_is : generation < 2 ^ 64 → generation_of (whole (front_of 1 generation base) blocks) ≡ generation
+  pub generation_is : generation < 2 ^ 64 → generation_of (whole_file (front_of 1 generation base) blocks) ≡ generation
   generation_is fits =
-      ap (λ (l : List ℕ). from_be_bytes w64 l) (front_piece (to_be_bytes w64 generation) (to_be_bytes w64 (length base)) (digest_of base) (replicate {A = ℕ} 6 0) base (opened blocks) (0 ∷ []) refl)
+      ap (λ (l : List ℕ). from_be_bytes w64 l) (front_piece (to_be_bytes w64 generation) (to_be_bytes w64 (length base)) (digest_of base) (replicate {A = ℕ} 6 0) base (open_blocks blocks) (0 ∷ []) refl)
       ∙ from_be_bytes-to_be_bytes_8 generation fits
 
 pub tail_size : (gate generation : ℕ) (base : List ℕ) → tail_of (front_of gate generation base) [] ≡ 64 + length base

@@ -4,12 +4,12 @@ use Rattle.std.proofs.Common.{◌≡◌, ◌≢◌, ◌⊎◌, inl, inr, ℕ, �
 use Rattle.std.proofs.lemmas.Bool.{cases_lt}
 use Rattle.std.proofs.lemmas.List.{get_or-take, drop-take, take-take, take_all}
 use Rattle.std.specs.Int.{from_be_bytes, w64}
-use Rattle.ledger_disk.specs.Disk.{State, MayLeave, MayHaveCut, cut_to, settled}
+use Rattle.ledger_disk.specs.Disk.{State, MayLeave, MayHaveCut, cut_to, settled_state}
 use Rattle.ledger_disk.proofs.Guarding.{settled_image, cut_image}
 use Rattle.block_file.specs.File.{IsSettled, IsVeiled, IsScrapOf}
 use Rattle.block_file.specs.Head.{IsShut, HasHead, generation_of}
 use Rattle.block_file.proofs.VeilLaws.{veiled_gate, veiled_shut}
-use Rattle.twin_file.specs.Twin.{other_of, chosen, Yields, IsPassed, OpensTo}
+use Rattle.twin_file.specs.Twin.{other_of, choice, Yields, IsPassed, OpensTo}
 use Rattle.twin_file.specs.Images.{AllShut, AllOpenTo, IsCopying, IsQuiet, KeepsPassed, AllOpenToEither}
 
 -- a part of a front
@@ -67,11 +67,11 @@ new_true new image_a image_b is has has_new less =
     record { taken = record { head = subst HasHead (sym is) has_new; other = inr (has, omega (arith, less, ap generation_of is)) }; is = is }
 
 -- the other file was worked on
-pub opens_in_b : (in_a : Bool) → in_a ≡ true → (a b b_new : State) → KeepsPassed b b_new → IsQuiet in_a a b → AllOpenTo in_a (chosen in_a a b).seen a b_new
+pub opens_in_b : (in_a : Bool) → in_a ≡ true → (a b b_new : State) → KeepsPassed b b_new → IsQuiet in_a a b → AllOpenTo in_a (choice in_a a b).seen a b_new
 opens_in_b true is a b b_new keeps quiet image_a image_b left_a left_b = pair_true a image_a image_b quiet.quiet_a quiet.taken.head left_a (keeps quiet.quiet_b true (generation_of a.seen) quiet.taken.other image_b left_b)
 opens_in_b false is a b b_new keeps quiet image_a image_b left_a left_b = absurd (cc is)
 
-pub opens_in_a : (in_a : Bool) → in_a ≡ false → (a b a_new : State) → KeepsPassed a a_new → IsQuiet in_a a b → AllOpenTo in_a (chosen in_a a b).seen a_new b
+pub opens_in_a : (in_a : Bool) → in_a ≡ false → (a b a_new : State) → KeepsPassed a a_new → IsQuiet in_a a b → AllOpenTo in_a (choice in_a a b).seen a_new b
 opens_in_a false is a b a_new keeps quiet image_a image_b left_a left_b = pair_false b image_a image_b quiet.quiet_b quiet.taken.head left_b (keeps quiet.quiet_a false (generation_of b.seen) quiet.taken.other image_a left_a)
 opens_in_a true is a b a_new keeps quiet image_a image_b left_a left_b = absurd (cc is)
 
@@ -98,38 +98,38 @@ either_new : (old new image : List ℕ) → 1 ∷ drop 1 old ≡ new → (get_or
 either_new old new image is (inl shut) = inl shut
 either_new old new image is (inr same) = inr (same ∙ is)
 
-pub either_in_b : (in_a : Bool) → in_a ≡ true → (a b b_new : State) → IsOpening b b_new → IsCopying in_a a b → (new : List ℕ) → 1 ∷ drop 1 (chosen in_a b a).seen ≡ new → HasHead new
-    → generation_of (chosen in_a a b).seen < generation_of new → AllOpenToEither in_a (chosen in_a a b).seen new a b_new
+pub either_in_b : (in_a : Bool) → in_a ≡ true → (a b b_new : State) → IsOpening b b_new → IsCopying in_a a b → (new : List ℕ) → 1 ∷ drop 1 (choice in_a b a).seen ≡ new → HasHead new
+    → generation_of (choice in_a a b).seen < generation_of new → AllOpenToEither in_a (choice in_a a b).seen new a b_new
 either_in_b true is a b b_new each copying new new_is has_new less image_a image_b left_a left_b = either_true a new image_a image_b copying.quiet copying.head has_new less left_a (either_new b.seen new image_b new_is (each copying.veiled image_b left_b))
 either_in_b false is a b b_new each copying new new_is has_new less image_a image_b left_a left_b = absurd (cc is)
 
-pub either_in_a : (in_a : Bool) → in_a ≡ false → (a b a_new : State) → IsOpening a a_new → IsCopying in_a a b → (new : List ℕ) → 1 ∷ drop 1 (chosen in_a b a).seen ≡ new → HasHead new
-    → generation_of (chosen in_a a b).seen < generation_of new → AllOpenToEither in_a (chosen in_a a b).seen new a_new b
+pub either_in_a : (in_a : Bool) → in_a ≡ false → (a b a_new : State) → IsOpening a a_new → IsCopying in_a a b → (new : List ℕ) → 1 ∷ drop 1 (choice in_a b a).seen ≡ new → HasHead new
+    → generation_of (choice in_a a b).seen < generation_of new → AllOpenToEither in_a (choice in_a a b).seen new a_new b
 either_in_a false is a b a_new each copying new new_is has_new less image_a image_b left_a left_b = either_false b new image_a image_b copying.quiet copying.head has_new less left_b (either_new a.seen new image_a new_is (each copying.veiled image_a left_a))
 either_in_a true is a b a_new each copying new new_is has_new less image_a image_b left_a left_b = absurd (cc is)
 
 -- once the copy is open
-pub new_in_b : (in_a : Bool) → in_a ≡ true → (a b b_new : State) → b_new ≡ settled (1 ∷ drop 1 b.seen) → IsCopying in_a a b → (new : List ℕ) → 1 ∷ drop 1 (chosen in_a b a).seen ≡ new → HasHead new
-    → generation_of (chosen in_a a b).seen < generation_of new → AllOpenTo (not in_a) new a b_new
+pub new_in_b : (in_a : Bool) → in_a ≡ true → (a b b_new : State) → b_new ≡ settled_state (1 ∷ drop 1 b.seen) → IsCopying in_a a b → (new : List ℕ) → 1 ∷ drop 1 (choice in_a b a).seen ≡ new → HasHead new
+    → generation_of (choice in_a a b).seen < generation_of new → AllOpenTo (not in_a) new a b_new
 new_in_b true is a b b_new now copying new new_is has_new less image_a image_b left_a left_b =
     let is_a : image_a ≡ a.seen = settled_image a.seen image_a (subst (λ (s : State). MayLeave s image_a) copying.quiet left_a) in
-    new_false new image_a image_b (settled_image new image_b (subst (λ (s : State). MayLeave s image_b) (now ∙ ap settled new_is) left_b)) (subst HasHead (sym is_a) copying.head) has_new (omega (arith, less, ap generation_of is_a))
+    new_false new image_a image_b (settled_image new image_b (subst (λ (s : State). MayLeave s image_b) (now ∙ ap settled_state new_is) left_b)) (subst HasHead (sym is_a) copying.head) has_new (omega (arith, less, ap generation_of is_a))
 new_in_b false is a b b_new now copying new new_is has_new less image_a image_b left_a left_b = absurd (cc is)
 
-pub new_in_a : (in_a : Bool) → in_a ≡ false → (a b a_new : State) → a_new ≡ settled (1 ∷ drop 1 a.seen) → IsCopying in_a a b → (new : List ℕ) → 1 ∷ drop 1 (chosen in_a b a).seen ≡ new → HasHead new
-    → generation_of (chosen in_a a b).seen < generation_of new → AllOpenTo (not in_a) new a_new b
+pub new_in_a : (in_a : Bool) → in_a ≡ false → (a b a_new : State) → a_new ≡ settled_state (1 ∷ drop 1 a.seen) → IsCopying in_a a b → (new : List ℕ) → 1 ∷ drop 1 (choice in_a b a).seen ≡ new → HasHead new
+    → generation_of (choice in_a a b).seen < generation_of new → AllOpenTo (not in_a) new a_new b
 new_in_a false is a b a_new now copying new new_is has_new less image_a image_b left_a left_b =
     let is_b : image_b ≡ b.seen = settled_image b.seen image_b (subst (λ (s : State). MayLeave s image_b) copying.quiet left_b) in
-    new_true new image_a image_b (settled_image new image_a (subst (λ (s : State). MayLeave s image_a) (now ∙ ap settled new_is) left_a)) (subst HasHead (sym is_b) copying.head) has_new (omega (arith, less, ap generation_of is_b))
+    new_true new image_a image_b (settled_image new image_a (subst (λ (s : State). MayLeave s image_a) (now ∙ ap settled_state new_is) left_a)) (subst HasHead (sym is_b) copying.head) has_new (omega (arith, less, ap generation_of is_b))
 new_in_a true is a b a_new now copying new new_is has_new less image_a image_b left_a left_b = absurd (cc is)
 
 -- while a range is copied
-pub copied_in_b : (in_a : Bool) → in_a ≡ true → (a b a_new b_new : State) → a_new ≡ a → (IsVeiled b → IsVeiled b_new) → IsCopying in_a a b → AllOpenTo in_a (chosen in_a a b).seen a_new b_new
+pub copied_in_b : (in_a : Bool) → in_a ≡ true → (a b a_new b_new : State) → a_new ≡ a → (IsVeiled b → IsVeiled b_new) → IsCopying in_a a b → AllOpenTo in_a (choice in_a a b).seen a_new b_new
 copied_in_b true is a b a_new b_new same veiled copying image_a image_b left_a left_b =
     pair_true a image_a image_b copying.quiet copying.head (subst (λ (s : State). MayLeave s image_a) same left_a) (inl (inr (veiled_gate b_new image_b (veiled copying.veiled) left_b)))
 copied_in_b false is a b a_new b_new same veiled copying image_a image_b left_a left_b = absurd (cc is)
 
-pub copied_in_a : (in_a : Bool) → in_a ≡ false → (a b a_new b_new : State) → b_new ≡ b → (IsVeiled a → IsVeiled a_new) → IsCopying in_a a b → AllOpenTo in_a (chosen in_a a b).seen a_new b_new
+pub copied_in_a : (in_a : Bool) → in_a ≡ false → (a b a_new b_new : State) → b_new ≡ b → (IsVeiled a → IsVeiled a_new) → IsCopying in_a a b → AllOpenTo in_a (choice in_a a b).seen a_new b_new
 copied_in_a false is a b a_new b_new same veiled copying image_a image_b left_a left_b =
     pair_false b image_a image_b copying.quiet copying.head (subst (λ (s : State). MayLeave s image_b) same left_b) (inl (inr (veiled_gate a_new image_a (veiled copying.veiled) left_a)))
 copied_in_a true is a b a_new b_new same veiled copying image_a image_b left_a left_b = absurd (cc is)

@@ -4,13 +4,13 @@ use Rattle.std.proofs.Common.{◌≡◌, inl, inr, ℕ, List, sym, subst, arith}
 use Rattle.block_file.specs.Head.{IsHead, Names, IsResumeErr}
 use Rattle.block_file.specs.declared.head.FileHead.{FileHead}
 use Rattle.block_file.specs.declared.failure.FileErr.{FileErr}
-use Rattle.twin_file.specs.Twin.{chosen, IsTaken, IsReopenErr}
+use Rattle.twin_file.specs.Twin.{choice, IsTaken, IsReopenErr}
 use Rattle.twin_file.specs.Picking.{IsPicked}
 use Rattle.twin_file.specs.declared.picking.Picked.{Picked}
 
 -- the file of a pick, and what its head tells
 abbrev IsRight : List ℕ → List ℕ → Picked → Type 0
-IsRight a b p = IsTaken p.in_a a b × Names (chosen p.in_a a b) p.head
+IsRight a b p = IsTaken p.in_a a b × Names (choice p.in_a a b) p.head
 
 some_same : {A : Type 0} (x y : A) → Some x ≡ Some y → x ≡ y
 some_same x y is = cc
@@ -27,6 +27,6 @@ picked_right a b (Some x) (Some y) p one two (inl is) =
 picked_right a b (Some x) (Some y) p one two (inr is) =
     right_of a b p (record { in_a = false; head = y }) is.1 (record { head = two.has; other = inr (one.has, omega (arith, is.0, one.generation, two.generation)) }, two)
 
-pub taken_err : (a b : List ℕ) (p : Picked) (e : FileErr) → IsRight a b p → IsResumeErr (chosen p.in_a a b) p.head.base_len e → IsReopenErr a b e
+pub taken_err : (a b : List ℕ) (p : Picked) (e : FileErr) → IsRight a b p → IsResumeErr (choice p.in_a a b) p.head.base_len e → IsReopenErr a b e
 taken_err a b p e right err =
-    inr (inr (p.in_a, right.0, subst (λ (n : ℕ). IsResumeErr (chosen p.in_a a b) n e) right.1.base_len err))
+    inr (inr (p.in_a, right.0, subst (λ (n : ℕ). IsResumeErr (choice p.in_a a b) n e) right.1.base_len err))

@@ -5,7 +5,7 @@ use Rattle.block_file.specs.Head.{IsShut, IsOpen, HasHead, IsHeadErr, IsResumeEr
 use Rattle.block_file.specs.declared.failure.Damage.TheVariants.{Magic, BaseForm, Base, Length, Entry, Root, Content}
 use Rattle.block_file.specs.declared.failure.FileErr.{FileErr}
 use Rattle.block_file.specs.declared.failure.FileErr.TheVariants.{DiskFault, Damaged, NewerFormat, NoMemory}
-use Rattle.twin_file.specs.Twin.{chosen, IsTaken, IsPassed, OpensTo, IsReopenErr}
+use Rattle.twin_file.specs.Twin.{choice, IsTaken, IsPassed, OpensTo, IsReopenErr}
 use Rattle.twin_file.specs.Picking.{IsReopened}
 use Rattle.twin_file.specs.Which.{in_a_of, view_of}
 use Rattle.twin_file.specs.declared.twin.Twin.{Twin}
@@ -72,5 +72,5 @@ pub reopen_err : (a b : List ℕ) (e : FileErr) (x : Bool) (file : List ℕ) →
 reopen_err a b e x file opens (inl err) = inl (head_err a e (side_a a b x opens.taken) err)
 reopen_err a b e x file opens (inr (inl err)) = inl (head_err b e (side_b a b x opens.taken) err.1)
 reopen_err a b e x file opens (inr (inr err)) =
-    let same : chosen err.0 a b ≡ file = ap (λ (y : Bool). chosen y a b) (taken_once a b err.0 x err.1 opens.taken) ∙ opens.is in
+    let same : choice err.0 a b ≡ file = ap (λ (y : Bool). choice y a b) (taken_once a b err.0 x err.1 opens.taken) ∙ opens.is in
     inr (subst (λ (l : List ℕ). IsResumeErr l (number_at 18 l) e) same err.2)

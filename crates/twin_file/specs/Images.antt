@@ -1,7 +1,7 @@
 -- What a crash may leave of two files, of which one is open.
 use Rattle.std.specs.Prelude.{◌≡◌, ◌⊎◌, ℕ, ◌^◌, ◌<◌, Bool, not, List, [], ◌∷◌}
 use Rattle.ledger_disk.specs.Disk.{State, MayLeave}
-use Rattle.block_file.specs.File.{IsSettled, IsVeiled, whole}
+use Rattle.block_file.specs.File.{IsSettled, IsVeiled, whole_file}
 use Rattle.block_file.specs.Head.{IsShut, HasHead, generation_of, front_of}
 use Rattle.twin_file.specs.Twin.{open_of, other_of, IsPassed, IsTaken, OpensTo}
 
@@ -22,7 +22,7 @@ AllShut s = (image : List ℕ) → MayLeave s image → IsShut image
 
 -- The second file is shut, and the first is shut too or holds this one block and nothing else.
 abbrev pub IsMadeOrShut : List ℕ → List ℕ → List ℕ → Type 0
-IsMadeOrShut block a b = IsShut b × (IsShut a ⊎ ((a ≡ whole (front_of 1 1 []) (block ∷ [])) × (b ≡ [])))
+IsMadeOrShut block a b = IsShut b × (IsShut a ⊎ ((a ≡ whole_file (front_of 1 1 []) (block ∷ [])) × (b ≡ [])))
 
 -- both files are shut, and nothing is pending on either
 pub record AreShut (a b : State) : Type 0 where
@@ -46,7 +46,7 @@ pub record IsCopying (in_a : Bool) (a b : State) : Type 0 where
 -- the copy has this generation, which is greater than that of the open file, this base and these blocks
 pub record IsCopied (in_a : Bool) (generation : ℕ) (base : List ℕ) (blocks : List (List ℕ)) (a b : State) : Type 0 where
   pub copying : IsCopying in_a a b
-  pub seen : (other_of in_a a b).seen ≡ whole (front_of 0 generation base) blocks
+  pub seen : (other_of in_a a b).seen ≡ whole_file (front_of 0 generation base) blocks
   pub newer : generation_of (open_of in_a a b).seen < generation
   pub fits : generation < 2 ^ 64
 

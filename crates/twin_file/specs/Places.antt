@@ -1,6 +1,6 @@
 -- Where a file ends, and what it has up to there.
 use Rattle.std.specs.Prelude.{◌≡◌, ℕ, ◌+◌, ◌≤◌, List, Option, IsSomeAnd}
-use Rattle.block_file.specs.File.{whole, tail_of}
+use Rattle.block_file.specs.File.{whole_file, tail_of}
 use Rattle.block_file.specs.declared.file.BlockFile.{BlockFile}
 use Rattle.block_file.specs.Place.{place_of}
 
@@ -14,7 +14,7 @@ HasCopy told copy = IsSomeAnd copy (HasTail told)
 
 -- this front and these blocks were built, up to the tail gate where the file ends
 pub record IsBuilt (front : List ℕ) (blocks : List (List ℕ)) (bytes : List ℕ) (file : BlockFile) : Type 0 where
-  pub seen : bytes ≡ whole front blocks
+  pub seen : bytes ≡ whole_file front blocks
   pub ends : tail_of front blocks ≡ place_of file
 
 -- a copy was begun, and so much of it was built

@@ -4,17 +4,17 @@ use Rattle.block_file.specs.Head.{IsShut, HasHead, IsHeadErr, IsResumeErr, gener
 use Rattle.block_file.specs.declared.failure.FileErr.{FileErr}
 
 -- the first where b is true, and the second otherwise
-abbrev pub chosen : {A : Type 0} → Bool → A → A → A
-chosen true x y = x
-chosen false x y = y
+abbrev pub choice : {A : Type 0} → Bool → A → A → A
+choice true x y = x
+choice false x y = y
 
 -- the open one of a first and a second
 abbrev pub open_of : {A : Type 0} → Bool → A → A → A
-open_of in_a a b = chosen in_a a b
+open_of in_a a b = choice in_a a b
 
 -- the one that isn't open
 abbrev pub other_of : {A : Type 0} → Bool → A → A → A
-other_of in_a a b = chosen in_a b a
+other_of in_a a b = choice in_a b a
 
 -- The file of the greater generation is taken, and the first where they are equal: so the other one gives way.
 abbrev pub Yields : Bool → ℕ → ℕ → Type 0

@@ -1,10 +1,10 @@
 //! The copy that is made in the other file.
 
 ghost use Rattle.std.specs.Prelude.{◌≡◌, ◌≢◌, ◌⊎◌, ◌+◌, ◌<◌, ◌≤◌, ◌++◌, ◌∷◌, ℕ, List, not, get_or, take, drop, IsTrue, IsSomeAnd, OnOk, OnErr};
-ghost use Rattle.block_file.specs.File.{IsVeiled, opened};
+ghost use Rattle.block_file.specs.File.{IsVeiled, open_blocks};
 ghost use Rattle.block_file.specs.Head.{CountsAlone, CountsTwoAlone, HasHead, generation_of};
 ghost use Rattle.block_file.specs.Place.{place_of};
-ghost use Rattle.ledger_disk.specs.Disk.{MayLeave, settled, KeepsLength};
+ghost use Rattle.ledger_disk.specs.Disk.{MayLeave, settled_state, KeepsLength};
 ghost use Rattle.twin_file.specs.Images.{AllOpenTo, AllOpenToEither, IsCopying};
 ghost use Rattle.twin_file.specs.Places.{HasCopy, IsBuiltCopy};
 ghost use Rattle.twin_file.specs.Twin.{open_of, other_of};
@@ -24,7 +24,7 @@ pub fn extend<D: Disk>(
     requires begun { HasCopy (D.told_length to.old) copy.old }
     ensures seen { OnOk result (IsTrue D.tells → (front : List ℕ) (blocks more : List (List ℕ))
         → IsBuiltCopy front blocks (D.state to.old).seen copy.old
-        → take len (drop at (D.state from.old).seen) ≡ opened more
+        → take len (drop at (D.state from.old).seen) ≡ open_blocks more
         → IsBuiltCopy front (blocks ++ more) (D.state to.new).seen copy.new) }
     ensures veiled { IsTrue D.tells → IsVeiled (D.state to.old) → IsVeiled (D.state to.new) }
     ensures same { IsTrue D.tells → D.state from.new ≡ D.state from.old }
@@ -42,11 +42,11 @@ pub fn extend<D: Disk>(
     }
 }
 
-// Opens the copy that was begun, on its disk.
+// Opens the copy that was begun, on its disk. Callers come with one: without it there is nothing to do.
 fn unveil<D: Disk>(copy: &mut Option<BlockFile>, disk: &mut D) -> Result<(), FileErr>
     requires begun { HasCopy (D.told_length disk.old) copy.old }
     ensures ok { OnOk result (IsTrue D.tells
-        → D.state disk.new ≡ settled (1 ∷ drop 1 (D.state disk.old).seen)) }
+        → D.state disk.new ≡ settled_state (1 ∷ drop 1 (D.state disk.old).seen)) }
     ensures err { OnErr result (IsTrue D.tells → IsVeiled (D.state disk.old) → (image : List ℕ)
         → MayLeave (D.state disk.new) image
         → (get_or image 0 0 ≢ 1) ⊎ (image ≡ 1 ∷ drop 1 (D.state disk.old).seen)) }
@@ -69,7 +69,7 @@ pub fn unveil_other<D: Disk>(
 ) -> Result<(), FileErr>
     requires begun { HasCopy (other_of in_a (D.told_length a.old) (D.told_length b.old)) copy.old }
     ensures ok { OnOk result (IsTrue D.tells → other_of in_a (D.state a.new) (D.state b.new)
-        ≡ settled (1 ∷ drop 1 (other_of in_a (D.state a.old) (D.state b.old)).seen)) }
+        ≡ settled_state (1 ∷ drop 1 (other_of in_a (D.state a.old) (D.state b.old)).seen)) }
 
     // The file that this leaves, where it has a head of a greater generation.
     ensures images { OnOk result (IsTrue D.tells

@@ -1,10 +1,10 @@
 //! What is done to one of the two files.
 
 ghost use Rattle.std.specs.Prelude.{◌≡◌, ◌⊎◌, ◌+◌, [], ◌∷◌, ℕ, List, Some, length, IsTrue, IsSomeAnd, IfOk, OnOk};
-ghost use Rattle.block_file.specs.File.{IsSettled, IsVeiled, whole};
+ghost use Rattle.block_file.specs.File.{IsSettled, IsVeiled, whole_file};
 ghost use Rattle.block_file.specs.Head.{CountsAlone, IsShut, front_of};
 ghost use Rattle.block_file.specs.Place.{place_of};
-ghost use Rattle.ledger_disk.specs.Disk.{MayLeave, settled};
+ghost use Rattle.ledger_disk.specs.Disk.{MayLeave, settled_state};
 ghost use Rattle.twin_file.specs.Images.{KeepsPassed};
 ghost use Rattle.twin_file.specs.Places.{HasTail};
 
@@ -14,7 +14,7 @@ use ledger_disk::Disk;
 /// Begins a file of this generation behind a shut gate.
 pub fn begin<D: Disk>(disk: &mut D, generation: u64, base: &[u8]) -> Result<BlockFile, FileErr>
     ensures seen { OnOk result (IsTrue D.tells
-        → (D.state disk.new).seen ≡ whole (front_of 0 generation base.now) []) }
+        → (D.state disk.new).seen ≡ whole_file (front_of 0 generation base.now) []) }
     ensures veiled { OnOk result (IsTrue D.tells → IsVeiled (D.state disk.new)) }
     ensures images { IsTrue D.tells → KeepsPassed (D.state disk.old) (D.state disk.new) }
     ensures place { IfOk result (λ file. place_of file ≡ 64 + length base.now) }
@@ -27,7 +27,7 @@ pub fn begin<D: Disk>(disk: &mut D, generation: u64, base: &[u8]) -> Result<Bloc
 
 /// Cuts a file to nothing, for good.
 pub fn wipe_file<D: Disk>(disk: &mut D) -> Result<(), FileErr>
-    ensures ok { OnOk result (IsTrue D.tells → D.state disk.new ≡ settled []) }
+    ensures ok { OnOk result (IsTrue D.tells → D.state disk.new ≡ settled_state []) }
     ensures images { IsTrue D.tells → KeepsPassed (D.state disk.old) (D.state disk.new) }
     ensures told { OnOk result (D.told_length disk.new ≡ Some 0) }
     ensures faults { CountsAlone result (D.faults disk.old) (D.faults disk.new) }
@@ -40,7 +40,7 @@ pub fn wipe_file<D: Disk>(disk: &mut D) -> Result<(), FileErr>
 /// Cuts a file that isn't empty to nothing, for good.
 pub fn clear<D: Disk>(disk: &mut D) -> Result<(), FileErr>
     ensures ok { OnOk result (IsTrue D.tells → IsSettled (D.state disk.old)
-        → D.state disk.new ≡ settled []) }
+        → D.state disk.new ≡ settled_state []) }
     ensures images { IsTrue D.tells → KeepsPassed (D.state disk.old) (D.state disk.new) }
     ensures faults { CountsAlone result (D.faults disk.old) (D.faults disk.new) }
 {
@@ -53,10 +53,10 @@ pub fn clear<D: Disk>(disk: &mut D) -> Result<(), FileErr>
 /// Makes a file of generation 1 that has one block.
 pub fn make_first<D: Disk>(disk: &mut D, block: &[u8]) -> Result<BlockFile, FileErr>
     ensures ok { OnOk result (IsTrue D.tells
-        → D.state disk.new ≡ settled (whole (front_of 1 1 []) (block.now ∷ []))) }
+        → D.state disk.new ≡ settled_state (whole_file (front_of 1 1 []) (block.now ∷ []))) }
     ensures images { IsTrue D.tells → IsSettled (D.state disk.old) → IsShut (D.state disk.old).seen
         → (image : List ℕ) → MayLeave (D.state disk.new) image
-        → IsShut image ⊎ (image ≡ whole (front_of 1 1 []) (block.now ∷ [])) }
+        → IsShut image ⊎ (image ≡ whole_file (front_of 1 1 []) (block.now ∷ [])) }
     ensures place { IfOk result (λ file. place_of file ≡ 65 + length block.now) }
     ensures told { IfOk result (HasTail (D.told_length disk.new)) }
     ensures faults { CountsAlone result (D.faults disk.old) (D.faults disk.new) }

@@ -1,8 +1,8 @@
 ghost use Rattle.std.specs.Prelude.{◌≡◌, ◌≢◌, ◌⊎◌, ◌+◌, ◌≤◌, ◌++◌, [], ◌∷◌, ℕ, Bool, List, None, Some, true, not, IsSome, option_map, length, take, drop, IsTrue, IfSome, IsSomeAnd, IfOk, IfErr, OnOk, OnErr};
-ghost use Rattle.block_file.specs.File.{IsSettled, whole, opened};
+ghost use Rattle.block_file.specs.File.{IsSettled, whole_file, open_blocks};
 ghost use Rattle.block_file.specs.Head.{Counts, CountsTwo, CountsTwoAlone, IsResumeErr, front_of, number_at};
 ghost use Rattle.block_file.specs.Place.{place_of, base_len_of};
-ghost use Rattle.ledger_disk.specs.Disk.{MayLeave, settled, KeepsLength};
+ghost use Rattle.ledger_disk.specs.Disk.{MayLeave, settled_state, KeepsLength};
 ghost use Rattle.twin_file.specs.Images.{AllOpenTo, AllOpenToEither, AllShut, AreShut, IsCopied, IsCopying, IsMadeOrShut, IsQuiet, StaysOpen};
 ghost use Rattle.twin_file.specs.Picking.{IsReopened, view};
 ghost use Rattle.twin_file.specs.Places.{HasCopy, HasTail, IsBuilt, IsBuiltCopy};
@@ -67,9 +67,9 @@ impl Twin {
     /// where it isn't empty. The block is without its gate. Both files must be shut.
     pub fn make<D: Disk>(a: &mut D, b: &mut D, block: &[u8]) -> Result<Twin, FileErr>
         ensures first { OnOk result (IsTrue D.tells
-            → D.state a.new ≡ settled (whole (front_of 1 1 []) (block.now ∷ []))) }
+            → D.state a.new ≡ settled_state (whole_file (front_of 1 1 []) (block.now ∷ []))) }
         ensures second { OnOk result (IsTrue D.tells → IsSettled (D.state b.old)
-            → D.state b.new ≡ settled []) }
+            → D.state b.new ≡ settled_state []) }
 
         // A crash at any time leaves both shut, or the first with that block alone.
         ensures images { IsTrue D.tells → AreShut (D.state a.old) (D.state b.old)
@@ -183,7 +183,7 @@ impl Twin {
             (other_of (in_a_of self.old) (D.state a.old) (D.state b.old)).seen
             (copy_of self.old)
             → take len (drop at (open_of (in_a_of self.old) (D.state a.old) (D.state b.old)).seen)
-            ≡ opened more
+            ≡ open_blocks more
             → IsBuiltCopy front (blocks ++ more)
             (other_of (in_a_of self.old) (D.state a.new) (D.state b.new)).seen
             (copy_of self.new)) }
@@ -231,7 +231,7 @@ impl Twin {
             (copy_of self.old) }
         ensures ok { OnOk result (IsTrue D.tells
             → other_of (in_a_of self.old) (D.state a.new) (D.state b.new)
-            ≡ settled (1 ∷ drop 1
+            ≡ settled_state (1 ∷ drop 1
             (other_of (in_a_of self.old) (D.state a.old) (D.state b.old)).seen)) }
 
         // After it every image opens to the new file. A crash in it leaves a pair that opens to the old file or to
@@ -239,14 +239,14 @@ impl Twin {
         ensures images { OnOk result (IsTrue D.tells
             → (generation : ℕ) (base : List ℕ) (blocks : List (List ℕ))
             → IsCopied (in_a_of self.old) generation base blocks (D.state a.old) (D.state b.old)
-            → AllOpenTo (not (in_a_of self.old)) (whole (front_of 1 generation base) blocks)
+            → AllOpenTo (not (in_a_of self.old)) (whole_file (front_of 1 generation base) blocks)
             (D.state a.new) (D.state b.new)) }
         ensures images_err { OnErr result (IsTrue D.tells
             → (generation : ℕ) (base : List ℕ) (blocks : List (List ℕ))
             → IsCopied (in_a_of self.old) generation base blocks (D.state a.old) (D.state b.old)
             → AllOpenToEither (in_a_of self.old)
             (open_of (in_a_of self.old) (D.state a.old) (D.state b.old)).seen
-            (whole (front_of 1 generation base) blocks) (D.state a.new) (D.state b.new)) }
+            (whole_file (front_of 1 generation base) blocks) (D.state a.new) (D.state b.new)) }
 
         // After it nothing is pending.
         ensures quiet { OnOk result (IsTrue D.tells
@@ -301,7 +301,7 @@ impl Twin {
     /// Cuts the other file to nothing, for good. A copy that was begun is given up.
     pub fn wipe<D: Disk>(&mut self, a: &mut D, b: &mut D) -> Result<(), FileErr>
         ensures ok { OnOk result (IsTrue D.tells
-            → other_of (in_a_of self.old) (D.state a.new) (D.state b.new) ≡ settled []) }
+            → other_of (in_a_of self.old) (D.state a.new) (D.state b.new) ≡ settled_state []) }
 
         // A crash at any time leaves the open file as it was, and a file that is passed over.
         ensures images { IsTrue D.tells → StaysOpen (in_a_of self.old)
@@ -355,9 +355,9 @@ fn look<D: Disk>(a: &mut D, b: &mut D) -> Result<Option<Twin>, FileErr>
     match pick(first, second) {
         Some(picked) => {
             if picked.in_a {
-                resumed(a, &picked.head, true)
+                resume(a, &picked.head, true)
             } else {
-                resumed(b, &picked.head, false)
+                resume(b, &picked.head, false)
             }
         }
         None => Ok(None),
@@ -365,7 +365,7 @@ fn look<D: Disk>(a: &mut D, b: &mut D) -> Result<Option<Twin>, FileErr>
 }
 
 // The file that is taken, at its first block.
-fn resumed<D: Disk>(disk: &mut D, head: &FileHead, in_a: bool) -> Result<Option<Twin>, FileErr>
+fn resume<D: Disk>(disk: &mut D, head: &FileHead, in_a: bool) -> Result<Option<Twin>, FileErr>
     requires { IsSomeAnd (D.told_length disk.old) (λ n. 65 ≤ n) }
     ensures twin { IfOk result (λ found. IsSomeAnd found
         (λ twin. view_of twin ≡ view in_a head.now.generation (64 + head.now.base_len)

@@ -1,6 +1,6 @@
 use Rattle.std.specs.Prelude.{IsSomeAnd}
 use Rattle.std.proofs.Common.{rules, arith, sym, ap, subst, ◌∙◌, length, List, ℕ, take, drop, ◌+◌, ◌≤◌, add_assoc}
-use Rattle.ledger_disk.specs.Disk.{State, overlaid}
+use Rattle.ledger_disk.specs.Disk.{State, overlay}
 use Rattle.ledger_disk.specs.Guards.{Guards}
 use Rattle.ledger_disk.proofs.Guarding.{guards_may, guards_wrote}
 use Rattle.block_file.proofs.WriteLaws.{told_within_some}
@@ -23,8 +23,8 @@ loop-done-preserved g c = record {
       let long : c.args.at + c.args.len ≤ length source = told_within_some _ (length source) (c.args.at + c.args.len) (g.met.D.Disk.length_is c.args.from.now told) c.requires.from in
       let there : c.args.place ≤ length first = told_within_some _ (length first) c.args.place (g.met.D.Disk.length_is c.args.to.now told) c.requires.to in
       ap (λ (s : State). s.seen) (c.in_ok-copy_piece.ensures.ok told)
-      ∙ ap (λ (s : State). overlaid (c.args.place + c.loop-done.done) (take c.min-n.result (drop (c.args.at + c.loop-done.done) s.seen)) (g.D.Disk.state c.loop-done.to).seen) (c.loop-done.invariant.same told)
-      ∙ ap (λ (l : List ℕ). overlaid (c.args.place + c.loop-done.done) (take c.min-n.result (drop (c.args.at + c.loop-done.done) source)) l) (c.loop-done.invariant.seen told)
+      ∙ ap (λ (s : State). overlay (c.args.place + c.loop-done.done) (take c.min-n.result (drop (c.args.at + c.loop-done.done) s.seen)) (g.D.Disk.state c.loop-done.to).seen) (c.loop-done.invariant.same told)
+      ∙ ap (λ (l : List ℕ). overlay (c.args.place + c.loop-done.done) (take c.min-n.result (drop (c.args.at + c.loop-done.done) source)) l) (c.loop-done.invariant.seen told)
       ∙ copied_more c.args.place c.args.at c.loop-done.done c.min-n.result c.args.len source first long (omega (arith, c.min-n.ensures, c.loop-done-test.true)) there;
   guards = λ told front guards le.
       subst (λ (s : State). Guards s front) (sym (c.in_ok-copy_piece.ensures.ok told)) (guards_wrote (g.D.Disk.state c.loop-done.to) front _ _ _ (c.loop-done.invariant.guards told front guards le) (omega arith));

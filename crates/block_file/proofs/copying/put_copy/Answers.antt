@@ -1,5 +1,5 @@
 use Rattle.std.proofs.Common.{arith, ◌∙◌, ap, sym, ℕ, List, [], ◌∷◌, ◌+◌, ◌≤◌, ◌≡◌, length, take, drop, length-take, length-drop}
-use Rattle.ledger_disk.specs.Disk.{overlaid}
+use Rattle.ledger_disk.specs.Disk.{overlay}
 use Rattle.block_file.proofs.WriteLaws.{told_within_some}
 use Rattle.block_file.proofs.VeilLaws.{over_the_tail}
 use Rattle.block_file.proofs.copying.put_copy.Goals as goal
@@ -21,6 +21,6 @@ returns-clause-seen g c told size =
     let piece = take c.args.len (drop c.args.at from) in
     let len : length piece ≡ c.args.len = omega (arith, length-take c.args.len (drop c.args.at from), length-drop c.args.at from) in
     c.in_ok-end_copy.ensures.seen told
-    ∙ ap (λ (l : List ℕ). overlaid (c.args.place + c.args.len) (0 ∷ []) l) (c.in_ok-copy_range.ensures.ok told)
-    ∙ ap (λ (k : ℕ). overlaid (c.args.place + k) (0 ∷ []) (overlaid c.args.place piece file)) (sym len)
+    ∙ ap (λ (l : List ℕ). overlay (c.args.place + c.args.len) (0 ∷ []) l) (c.in_ok-copy_range.ensures.ok told)
+    ∙ ap (λ (k : ℕ). overlay (c.args.place + k) (0 ∷ []) (overlay c.args.place piece file)) (sym len)
     ∙ over_the_tail file piece c.args.place size

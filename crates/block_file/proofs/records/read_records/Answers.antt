@@ -16,4 +16,4 @@ loop-left-preserved c =
     let f = c.in-Some.ensures.found in
     taken_more _ _ _ _ _ _ _ c.loop-left.invariant c.loop-left-test.true c.in-Some.header
     (rest_bytes _ _ _ _ _ _ _ c.loop-left.invariant c.loop-left-test.true (λ i. omega (arith, c.type_inv.body i)))
-    f.0 f.1 (sym f.2 ∙ c.split_at.ensures.front) _ _ _ c.behind-rest.ensures c.record_len-len.ensures.len (pushed _ _ _ _ _ _ _ _ c.in-Ok.ensures.items c.from-in-loop-left.ensures c.number32.ensures)
+    f.0 f.1 (sym f.2 ∙ c.split_at.ensures.front) _ _ _ c.behind-rest.ensures c.record_len-len.ensures.len (pushed _ _ _ _ _ _ _ _ c.in-Ok-push.ensures.items c.from-in-loop-left.ensures c.number32.ensures)

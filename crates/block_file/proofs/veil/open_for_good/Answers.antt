@@ -1,6 +1,6 @@
 use Rattle.std.proofs.Common.{arith, subst, inl, inr, length, ◌≤◌, ◌∷◌, []}
 use Rattle.std.proofs.lemmas.Result.{on_err_weaker}
-use Rattle.ledger_disk.specs.Disk.{State, MayHaveWritten, settled, MayLeave, overlaid}
+use Rattle.ledger_disk.specs.Disk.{State, MayHaveWritten, settled_state, MayLeave, overlay}
 use Rattle.ledger_disk.proofs.Ranges.{overlaid_torn}
 use Rattle.block_file.proofs.WriteLaws.{on_err, told_within_some}
 use Rattle.block_file.proofs.VeilLaws.{veiled_gate, opening}
@@ -21,7 +21,7 @@ returns-clause-err g c = on_err_weaker c.sync-2.result (λ same told veiled imag
     let seen = (g.D.Disk.state c.args.disk.now).seen in
     let within : 1 ≤ length seen = told_within_some _ (length seen) 1 (g.met.D.Disk.length_is c.args.disk.now told) c.requires in
     let done = c.in_ok-write.ensures.ok told in
-    let after = overlaid 0 (1 ∷ []) (g.D.Disk.state c.sync.new.self).seen in
-    let may : MayHaveWritten 0 1 (settled seen) (g.D.Disk.state c.write.new.self) =
+    let after = overlay 0 (1 ∷ []) (g.D.Disk.state c.sync.new.self).seen in
+    let may : MayHaveWritten 0 1 (settled_state seen) (g.D.Disk.state c.write.new.self) =
     subst (λ (s : State). MayHaveWritten 0 1 s (g.D.Disk.state c.write.new.self)) (c.in_ok-sync.ensures.ok told) (inr (after, overlaid_torn 0 (1 ∷ []) _ (omega arith), done)) in
     opening seen (g.D.Disk.state c.write.new.self) image within may (subst (λ (s : State). MayLeave s image) (same told) left)) c.sync-2.ensures.err

@@ -1,6 +1,6 @@
 use Rattle.std.proofs.Common.{rules, arith, sym, ap, subst, ◌∙◌, length, List, ℕ, replicate, ◌+◌, ◌≤◌}
 use Rattle.std.proofs.lemmas.List.{replicate-append-replicate, length-replicate}
-use Rattle.ledger_disk.specs.Disk.{State, overlaid}
+use Rattle.ledger_disk.specs.Disk.{State, overlay}
 use Rattle.ledger_disk.proofs.Confining.{confined_may, overlaid_more}
 use Rattle.block_file.specs.File.{IsZeros}
 use Rattle.block_file.proofs.WriteLaws.{told_within_some}
@@ -43,10 +43,10 @@ loop-done-preserved g c =
           let within : at + c.args.len ≤ length seen = told_within_some _ (length seen) (at + c.args.len) (g.met.D.Disk.length_is c.args.disk.now told) c.requires.length in
           let zeros = length-replicate {A = ℕ} done 0 in
           c.in_ok-clear_piece.ensures.seen told
-          ∙ ap (λ (l : List ℕ). overlaid (at + done) (replicate n 0) l) (c.loop-done.invariant.seen told)
-          ∙ ap (λ (k : ℕ). overlaid (at + k) (replicate n 0) (overlaid at (replicate done 0) seen)) (sym zeros)
+          ∙ ap (λ (l : List ℕ). overlay (at + done) (replicate n 0) l) (c.loop-done.invariant.seen told)
+          ∙ ap (λ (k : ℕ). overlay (at + k) (replicate n 0) (overlay at (replicate done 0) seen)) (sym zeros)
           ∙ overlaid_more at (replicate done 0) (replicate n 0) seen (omega (arith, within))
-          ∙ ap (λ (l : List ℕ). overlaid at l seen) (replicate-append-replicate done n 0);
+          ∙ ap (λ (l : List ℕ). overlay at l seen) (replicate-append-replicate done n 0);
       outside = λ told.
           let within : at + c.args.len ≤ length seen = told_within_some _ (length seen) (at + c.args.len) (g.met.D.Disk.length_is c.args.disk.now told) c.requires.length in
           outside_may at c.args.len (at + done) n seen before after (c.loop-done.invariant.outside told) (omega arith) high within (c.clear_piece.ensures.state told);
