@@ -18,7 +18,7 @@ use Rattle.ledger_model.specs.History.{History, size, leaf_digest}
 use Rattle.ledger_model.specs.Judgements.{own_refusal}
 use Rattle.ledger_model.specs.Limits.{AreWithin}
 use Rattle.ledger_model.specs.Outcomes as outcomes
-use Rattle.ledger_model.specs.Outcomes.{placed, with_waiting, after_judgement, placed_as, accepted, judged}
+use Rattle.ledger_model.specs.Outcomes.{placed_journal, with_waiting, after_judgement, placed_as, accepted_outcome, judged_outcome}
 use Rattle.ledger_model.specs.declared.job.Job.{Job}
 use Rattle.ledger_model.specs.declared.job.Job.TheVariants.{Append, NewMember}
 use Rattle.ledger_model.specs.declared.limits.Limits.{Limits}
@@ -30,28 +30,28 @@ use Rattle.ledger_book.specs.Steps.{Applies, IsSame, MayPlace, IsLeafOf}
 
 -- a refusal changes nothing
 pub applies_refused : (limits : Limits) (stamp : Option Stamp) (h : History) (job : Job) (refusal : Refusal) (k : Kept) → own_refusal limits h job ≡ Some refusal → Serves k h → Applies limits stamp h job (Refused refusal) k
-unfolding outcomes.outcome outcomes.applied
+unfolding outcomes.outcome outcomes.with_job
 applies_refused limits stamp h job refusal k is s = record {
-  outcome_is = sym (ap (λ r. judged r (accepted h stamp job)) is);
-  serves = subst (Serves k) (sym (ap (λ r. after_judgement r (placed h stamp job) h) is)) s;
+  outcome_is = sym (ap (λ r. judged_outcome r (accepted_outcome h stamp job)) is);
+  serves = subst (Serves k) (sym (ap (λ r. after_judgement r (placed_journal h stamp job) h) is)) s;
 }
 
 -- an accepted job places its journal
-pub applies_placed : (limits : Limits) (stamp : Option Stamp) (h : History) (job : Job) (j : Entry) (jsn : ℕ) (tip : Digest) (k : Kept) → own_refusal limits h job ≡ None → placed h stamp job ≡ Some j
-    → accepted h stamp job ≡ placed_as (size h) j → jsn ≡ size h → tip.0 ≡ leaf_digest j → Serves k (with_waiting (Some j) h) → Applies limits stamp h job (Placed jsn tip) k
-unfolding outcomes.outcome outcomes.applied
+pub applies_placed : (limits : Limits) (stamp : Option Stamp) (h : History) (job : Job) (j : Entry) (jsn : ℕ) (tip : Digest) (k : Kept) → own_refusal limits h job ≡ None → placed_journal h stamp job ≡ Some j
+    → accepted_outcome h stamp job ≡ placed_as (size h) j → jsn ≡ size h → tip.0 ≡ leaf_digest j → Serves k (with_waiting (Some j) h) → Applies limits stamp h job (Placed jsn tip) k
+unfolding outcomes.outcome outcomes.with_job
 applies_placed limits stamp h job j jsn tip k none is told at tip_is s = record {
-  outcome_is = ap (λ n. Placed n tip) at ∙ ap (λ d. Placed (size h) (digest d)) tip_is ∙ sym (ap (λ r. judged r (accepted h stamp job)) none ∙ told);
-  serves = subst (Serves k) (sym (ap (λ r. after_judgement r (placed h stamp job) h) none ∙ ap (λ o. with_waiting o h) is)) s;
+  outcome_is = ap (λ n. Placed n tip) at ∙ ap (λ d. Placed (size h) (digest d)) tip_is ∙ sym (ap (λ r. judged_outcome r (accepted_outcome h stamp job)) none ∙ told);
+  serves = subst (Serves k) (sym (ap (λ r. after_judgement r (placed_journal h stamp job) h) none ∙ ap (λ o. with_waiting o h) is)) s;
 }
 
 -- .. or none
-pub applies_reading : (limits : Limits) (stamp : Option Stamp) (h : History) (job : Job) (query : Query) (k : Kept) → own_refusal limits h job ≡ None → placed h stamp job ≡ None → accepted h stamp job ≡ Reading query
+pub applies_reading : (limits : Limits) (stamp : Option Stamp) (h : History) (job : Job) (query : Query) (k : Kept) → own_refusal limits h job ≡ None → placed_journal h stamp job ≡ None → accepted_outcome h stamp job ≡ Reading query
     → Serves k h → Applies limits stamp h job (Reading query) k
-unfolding outcomes.outcome outcomes.applied
+unfolding outcomes.outcome outcomes.with_job
 applies_reading limits stamp h job query k none is told s = record {
-  outcome_is = sym (ap (λ r. judged r (accepted h stamp job)) none ∙ told);
-  serves = subst (Serves k) (sym (ap (λ r. after_judgement r (placed h stamp job) h) none ∙ ap (λ o. with_waiting o h) is)) s;
+  outcome_is = sym (ap (λ r. judged_outcome r (accepted_outcome h stamp job)) none ∙ told);
+  serves = subst (Serves k) (sym (ap (λ r. after_judgement r (placed_journal h stamp job) h) none ∙ ap (λ o. with_waiting o h) is)) s;
 }
 
 -- the book still serves where its floor and its point are as they were

@@ -18,7 +18,7 @@ use Rattle.journal_record.specs.declared.header.Kind.{Kind}
 use Rattle.journal_record.specs.declared.header.Kind.TheVariants as kind
 use Rattle.journal_record.specs.declared.member.Member.{Member}
 use Rattle.merkle_batch.specs.Rows.{Levels, StandsFor}
-use Rattle.clue_index.specs.Added.{begun}
+use Rattle.clue_index.specs.Added.{added_at_first}
 use Rattle.clue_index.specs.Index as index
 use Rattle.ledger_model.specs.Genesis.{genesis_header, genesis_journal}
 use Rattle.ledger_model.specs.History as model
@@ -28,7 +28,7 @@ use Rattle.ledger_model.specs.Members.{members, is_member, member_of}
 use Rattle.ledger_model.specs.declared.genesis.Genesis.{Genesis}
 use Rattle.ledger_model.specs.declared.limits.Limits.{Limits}
 use Rattle.ledger_model.proofs.KeepLaws.{genesis_lawful}
-use Rattle.ledger_book.specs.Books.{Kept, Serves, aged_all, clues_added}
+use Rattle.ledger_book.specs.Books.{Kept, Serves, aged_members, clues_added}
 use Rattle.ledger_book.specs.Replaying.{IsFirst, begun_with}
 use Rattle.ledger_book.proofs.ClueLaws.{marks_same}
 
@@ -78,7 +78,7 @@ module _ (header : Header) (operator regulator : Digest) (j : Entry) (kind_is : 
       ap (λ x. book.founders (digest x) regulator) first.operator_is ∙ ap (λ x. book.founders (digest (take 32 j.content)) (digest x)) first.regulator_is
       ∙ ap (λ (k : Kind). book.founders (digest (take 32 j.content)) (digest (drop 32 j.content)) ++ map member_of (cond (is_member k) (j ∷ []) [])) (sym first_kind)
 
-  first_clues : clues_added 0 (model.journals (begun_with j)) ≡ begun []
+  first_clues : clues_added 0 (model.journals (begun_with j)) ≡ added_at_first []
   first_clues = marks_same 0 [] j (ap not (subst (λ k. clue_ok k j.header.clue ≡ true) first_kind first_layout.clue))
 
   first_point : model.seen_point 0 (begun_with j) ≡ 0
@@ -95,7 +95,7 @@ module _ (header : Header) (operator regulator : Digest) (j : Entry) (kind_is : 
 
   -- its book stands for the history that has it alone
   pub serves_first : (limits : Limits) (tip : Digest) (encoded : List ℕ) (ms : List Member) (clues : index.Kept) (hs : List Header) (rows : Levels) (ends : List ℕ)
-      → encoded ≡ spelling header → tip.0 ≡ leaf sha256 encoded → ms ≡ book.founders operator regulator → index.Stands clues (begun []) → hs ≡ header ∷ [] → StandsFor sha256 rows (tip.0 ∷ []) → ends ≡ 1 ∷ []
+      → encoded ≡ spelling header → tip.0 ≡ leaf sha256 encoded → ms ≡ book.founders operator regulator → index.Stands clues (added_at_first []) → hs ≡ header ∷ [] → StandsFor sha256 rows (tip.0 ∷ []) → ends ≡ 1 ∷ []
       → Serves (first_kept limits tip ends ms clues hs rows) (begun_with j)
   serves_first limits tip encoded ms clues hs rows ends e l m c hss stands es =
       let told : tip.0 ≡ leaf sha256 (spelling j.header) = l ∙ ap (leaf sha256) (e ∙ ap spelling (sym first.header_is)) in record {
@@ -103,7 +103,7 @@ module _ (header : Header) (operator regulator : Digest) (j : Entry) (kind_is : 
           lawful = first_lawful;
           counts = record { size = refl; floor = omega arith; point = sym first_point; blocks = refl; sealed_is = refl; ends = es };
           tree = record { root = told ∙ sym first_root; id = told ∙ sym first_id; headers_are = hss ∙ ap (λ x. x ∷ []) (sym first.header_is); leaves = subst (λ x. StandsFor sha256 rows (x ∷ [])) told stands };
-          members = ap (aged_all 0) (m ∙ first_members);
+          members = ap (aged_members 0) (m ∙ first_members);
           clues = subst (index.Stands clues) (sym first_clues) c;
         };
         seen = omega arith;

@@ -5,13 +5,13 @@ use Rattle.std.proofs.lemmas.Bool.{le-leb, leb-true, lt-leb, lt-ltb, ne_eqb, and
 use Rattle.ledger_bytes.specs.declared.digest.Digest.{Digest}
 use Rattle.ledger_bytes.specs.declared.refusal.Refusal.{Refusal}
 use Rattle.ledger_bytes.specs.declared.refusal.Refusal.TheVariants.{Full, UnknownMember, CluesFull}
-use Rattle.clue_index.specs.Added.{Added, different, trail_of}
+use Rattle.clue_index.specs.Added.{Added, different_clues, trail_of}
 use Rattle.clue_index.specs.Index as index
 use Rattle.clue_index.specs.Trail.{kept_from}
 use Rattle.journal_record.specs.Rules.{is_no_clue}
 use Rattle.ledger_model.specs.Clues.{jsns_with, clue_count, last_of, next_ordinal, last_journal}
 use Rattle.ledger_model.specs.History.{History, size}
-use Rattle.ledger_model.specs.Judgements.{kept, is_full, full, clues_full, first_refusal, unknown_in}
+use Rattle.ledger_model.specs.Judgements.{kept_count, is_full, fullness, clues_full, first_refusal, unknown_in}
 use Rattle.ledger_model.specs.Texts.{kept_with}
 use Rattle.ledger_model.specs.declared.limits.Limits.{Limits}
 use Rattle.ledger_book.specs.Books.{Kept, Stands, Serves}
@@ -19,36 +19,36 @@ use Rattle.ledger_book.proofs.ClueLaws.{told_clues, told_kept}
 use Rattle.ledger_book.proofs.StandsLaws.{point_is}
 
 -- whether there is room
-full_as : (l : Limits) (h : History) (b : Bool) → is_full l.soft l h ≡ b → cond b (Some (Full (kept h) (size h))) None ≡ full l h
-unfolding full
-full_as l h b is = sym (ap (λ v. cond v (Some (Full (kept h) (size h))) None) is)
+full_as : (l : Limits) (h : History) (b : Bool) → is_full l.soft l h ≡ b → cond b (Some (Full (kept_count h) (size h))) None ≡ fullness l h
+unfolding fullness
+full_as l h b is = sym (ap (λ v. cond v (Some (Full (kept_count h) (size h))) None) is)
 
-kept_is : (k : Kept) (h : History) (n : ℕ) → Serves k h → n ≡ k.size - k.point → n ≡ kept h
+kept_is : (k : Kept) (h : History) (n : ℕ) → Serves k h → n ≡ k.size - k.point → n ≡ kept_count h
 kept_is k h n s is = omega (arith, is, s.stands.counts.size, point_is k h s)
 
-full_told : (k : Kept) (h : History) (n : ℕ) → Serves k h → n ≡ k.size - k.point → Some (Full n k.size) ≡ Some (Full (kept h) (size h))
-full_told k h n s is = ap (λ x. Some (Full x k.size)) (kept_is k h n s is) ∙ ap (λ x. Some (Full (kept h) x)) s.stands.counts.size
+full_told : (k : Kept) (h : History) (n : ℕ) → Serves k h → n ≡ k.size - k.point → Some (Full n k.size) ≡ Some (Full (kept_count h) (size h))
+full_told k h n s is = ap (λ x. Some (Full x k.size)) (kept_is k h n s is) ∙ ap (λ x. Some (Full (kept_count h) x)) s.stands.counts.size
 
-pub full_by_kept : (k : Kept) (h : History) (n : ℕ) → Serves k h → n ≡ k.size - k.point → k.limits.soft ≤ n → Some (Full n k.size) ≡ full k.limits h
+pub full_by_kept : (k : Kept) (h : History) (n : ℕ) → Serves k h → n ≡ k.size - k.point → k.limits.soft ≤ n → Some (Full n k.size) ≡ fullness k.limits h
 full_by_kept k h n s is most =
-    let test : nat_le k.limits.soft (kept h) ≡ true = le-leb k.limits.soft (kept h) (omega (arith, most, kept_is k h n s is)) in
+    let test : nat_le k.limits.soft (kept_count h) ≡ true = le-leb k.limits.soft (kept_count h) (omega (arith, most, kept_is k h n s is)) in
     full_told k h n s is ∙ full_as k.limits h true (ap (λ b. b || nat_le k.limits.size (size h)) test)
 
-pub full_by_size : (k : Kept) (h : History) (n : ℕ) → Serves k h → n ≡ k.size - k.point → n < k.limits.soft → k.limits.size ≤ k.size → Some (Full n k.size) ≡ full k.limits h
+pub full_by_size : (k : Kept) (h : History) (n : ℕ) → Serves k h → n ≡ k.size - k.point → n < k.limits.soft → k.limits.size ≤ k.size → Some (Full n k.size) ≡ fullness k.limits h
 full_by_size k h n s is less most =
-    let first : nat_le k.limits.soft (kept h) ≡ false = lt-leb k.limits.soft (kept h) (omega (arith, less, kept_is k h n s is)) in
+    let first : nat_le k.limits.soft (kept_count h) ≡ false = lt-leb k.limits.soft (kept_count h) (omega (arith, less, kept_is k h n s is)) in
     let test : nat_le k.limits.size (size h) ≡ true = le-leb k.limits.size (size h) (omega (arith, most, s.stands.counts.size)) in
     full_told k h n s is ∙ full_as k.limits h true (ap (λ b. b || nat_le k.limits.size (size h)) first ∙ test)
 
-pub full_not : (k : Kept) (h : History) (n : ℕ) → Serves k h → n ≡ k.size - k.point → n < k.limits.soft → k.size < k.limits.size → (let none : Option Refusal = None in none ≡ full k.limits h)
+pub full_not : (k : Kept) (h : History) (n : ℕ) → Serves k h → n ≡ k.size - k.point → n < k.limits.soft → k.size < k.limits.size → (let none : Option Refusal = None in none ≡ fullness k.limits h)
 full_not k h n s is less room =
-    let first : nat_le k.limits.soft (kept h) ≡ false = lt-leb k.limits.soft (kept h) (omega (arith, less, kept_is k h n s is)) in
+    let first : nat_le k.limits.soft (kept_count h) ≡ false = lt-leb k.limits.soft (kept_count h) (omega (arith, less, kept_is k h n s is)) in
     let test : nat_le k.limits.size (size h) ≡ false = lt-leb k.limits.size (size h) (omega (arith, room, s.stands.counts.size)) in
     full_as k.limits h false (ap (λ b. b || nat_le k.limits.size (size h)) first ∙ test)
 
 -- whether there is room for a journal of the operator
 pub hard_full : (k : Kept) (h : History) (n : ℕ) → Serves k h → n ≡ k.size - k.point → (nat_le k.limits.hard n || nat_le k.limits.size k.size) ≡ is_full k.limits.hard k.limits h
-hard_full k h n s is = ap (λ x. nat_le k.limits.hard x || nat_le k.limits.size k.size) (kept_is k h n s is) ∙ ap (λ x. nat_le k.limits.hard (kept h) || nat_le k.limits.size x) s.stands.counts.size
+hard_full k h n s is = ap (λ x. nat_le k.limits.hard x || nat_le k.limits.size k.size) (kept_is k h n s is) ∙ ap (λ x. nat_le k.limits.hard (kept_count h) || nat_le k.limits.size x) s.stands.counts.size
 
 -- whether there is room for a new clue
 abbrev NoRefusal : Option Refusal → Type 0
@@ -67,16 +67,16 @@ clue_known l h clue n is more =
     let test : (length (jsns_with h clue) == 0) ≡ false = ne_eqb (length (jsns_with h clue)) 0 (λ none. let no : ⊥ = omega (arith, is, more, none) in no) in
     clues_as l h clue false (and_left (not (is_no_clue clue) && length (jsns_with h clue) == 0) _ (and_right (not (is_no_clue clue)) _ test))
 
-pub clue_room : (limits : Limits) (k : Kept) (h : History) (clue : Digest) (n : ℕ) → Stands k h → ((a : Added) → index.Stands k.clues a → n ≡ length (different a)) → n < limits.clues → NoRefusal (clues_full limits h clue)
+pub clue_room : (limits : Limits) (k : Kept) (h : History) (clue : Digest) (n : ℕ) → Stands k h → ((a : Added) → index.Stands k.clues a → n ≡ length (different_clues a)) → n < limits.clues → NoRefusal (clues_full limits h clue)
 clue_room limits k h clue n s told room =
     let is = told_clues k h n s told in
     clues_as limits h clue false (and_right (not (is_no_clue clue) && length (jsns_with h clue) == 0) _ (lt-leb limits.clues (clue_count h) (omega (arith, is, room))))
 
-pub clue_full : (limits : Limits) (k : Kept) (h : History) (clue : Digest) (ordinal n : ℕ) → Stands k h → is_no_clue clue ≡ false → ordinal ≡ length (jsns_with h clue) + 1 → ordinal ≤ 1 → ((a : Added) → index.Stands k.clues a → n ≡ length (different a)) → limits.clues ≤ n → Some CluesFull ≡ clues_full limits h clue
-clue_full limits k h clue ordinal n s some next first told full =
+pub clue_full : (limits : Limits) (k : Kept) (h : History) (clue : Digest) (ordinal n : ℕ) → Stands k h → is_no_clue clue ≡ false → ordinal ≡ length (jsns_with h clue) + 1 → ordinal ≤ 1 → ((a : Added) → index.Stands k.clues a → n ≡ length (different_clues a)) → limits.clues ≤ n → Some CluesFull ≡ clues_full limits h clue
+clue_full limits k h clue ordinal n s some next first told fullness =
     let is = told_clues k h n s told in
     let none : (length (jsns_with h clue) == 0) ≡ true = eq-eqb (length (jsns_with h clue)) 0 (omega (arith, next, first)) in
-    let test : nat_le limits.clues (clue_count h) ≡ true = le-leb limits.clues (clue_count h) (omega (arith, is, full)) in
+    let test : nat_le limits.clues (clue_count h) ≡ true = le-leb limits.clues (clue_count h) (omega (arith, is, fullness)) in
     clues_as limits h clue true (and_from _ _ (and_from _ _ (ap not some) none) test)
 
 -- where the next journal stands among those of its clue
@@ -132,8 +132,8 @@ above floor point (n ∷ ns) low =
     let rest = above floor point ns low in
     elim (nat_le point n) as (λ high. nat_le point n ≡ high → filter (λ m. nat_le point m) (cond (nat_le floor n) (n ∷ filter (λ m. nat_le floor m) ns) (filter (λ m. nat_le floor m) ns)) ≡ cond high (n ∷ filter (λ m. nat_le point m) ns) (filter (λ m. nat_le point m) ns)) [
       | true ↦ λ e.
-          let kept : nat_le floor n ≡ true = le-leb floor n (omega (arith, low, leb-true point n e)) in
-          ap (λ b. filter (λ m. nat_le point m) (cond b (n ∷ filter (λ m. nat_le floor m) ns) (filter (λ m. nat_le floor m) ns))) kept
+          let above : nat_le floor n ≡ true = le-leb floor n (omega (arith, low, leb-true point n e)) in
+          ap (λ b. filter (λ m. nat_le point m) (cond b (n ∷ filter (λ m. nat_le floor m) ns) (filter (λ m. nat_le floor m) ns))) above
           ∙ ap (λ b. cond b (n ∷ filter (λ m. nat_le point m) (filter (λ m. nat_le floor m) ns)) (filter (λ m. nat_le point m) (filter (λ m. nat_le floor m) ns))) e ∙ ap (λ ms. n ∷ ms) rest
       | false ↦ λ e.
           elim (nat_le floor n) as (λ b. filter (λ m. nat_le point m) (cond b (n ∷ filter (λ m. nat_le floor m) ns) (filter (λ m. nat_le floor m) ns)) ≡ filter (λ m. nat_le point m) ns) [

@@ -10,7 +10,7 @@ use Rattle.ledger_model.specs.Clues.{jsns_with, clue_count, next_ordinal, last_j
 use Rattle.ledger_model.specs.History.{History, history, journals}
 use Rattle.ledger_model.specs.Judgements.{clues_full}
 use Rattle.ledger_model.specs.Lawful.{IsNextOf, IsNextRecord}
-use Rattle.ledger_model.specs.Limits.{real}
+use Rattle.ledger_model.specs.Limits.{real_limits}
 use Rattle.ledger_model.specs.Members.{members}
 use Rattle.ledger_book.specs.Books.{Kept, Stands}
 use Rattle.ledger_book.specs.Steps.{MayPlace}
@@ -20,7 +20,7 @@ use Rattle.ledger_book.proofs.MemberLaws.{known_count}
 pub members_told : (k : Kept) (h : History) → Stands k h → length k.members ≡ length (members h)
 members_told k h s = known_count k.floor k.members (members h) s.members
 
-module _ (k : Kept) (h : History) (x : Header) (s : Stands k h) (layout : IsHeader x) (at : x.jsn ≡ k.size) (room : k.size < real.size) where
+module _ (k : Kept) (h : History) (x : Header) (s : Stands k h) (layout : IsHeader x) (at : x.jsn ≡ k.size) (room : k.size < real_limits.size) where
   -- the header is next where it is next by its kind
   next_by_kind : (sort : Kind) → x.kind ≡ sort → IsNextOf (history [] (journals h)) x sort → MayPlace h x
   next_by_kind sort is own = record {

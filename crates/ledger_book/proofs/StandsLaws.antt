@@ -22,18 +22,18 @@ use Rattle.clue_index.specs.Index as index
 use Rattle.ledger_model.specs.History as model
 use Rattle.ledger_model.specs.History.{History, history, journals, journals_of, close, leaf_digest, first_leaf_digest, is_purge, purge_point, greatest_point}
 use Rattle.ledger_model.specs.Lawful.{AreLawful, IsNextOf}
-use Rattle.ledger_model.specs.Members.{members, founders, is_member, admits, member_of, admitted}
+use Rattle.ledger_model.specs.Members.{members, founders, is_member, admits, member_of, admitted_members}
 use Rattle.ledger_model.specs.Outcomes as outcomes
-use Rattle.ledger_model.specs.Outcomes.{is_occult, hidden, hides}
+use Rattle.ledger_model.specs.Outcomes.{is_occult, is_hidden, hides}
 use Rattle.ledger_model.specs.declared.view.View.TheVariants as view
 use Rattle.ledger_model.proofs.EndLaws.{ends_push}
 use Rattle.ledger_model.proofs.GrowLaws.{close_settled, close_ended, size_closed, root_kept}
 use Rattle.ledger_model.proofs.KeepLaws.{journals_wider}
 use Rattle.ledger_model.proofs.LawfulLaws.{later_seen, lawful_more, none_hidden, some_journal}
 use Rattle.ledger_model.proofs.PlaceLaws.{founders_kept, admitted_more, admitted_same, point_same}
-use Rattle.ledger_book.specs.Books.{Kept, Stands, Serves, headers, leaf_digests, sealed, ends_above, aged, aged_all, clues_added}
+use Rattle.ledger_book.specs.Books.{Kept, Stands, Serves, headers, leaf_digests, sealed_size, ends_above, aged_member, aged_members, clues_added}
 use Rattle.ledger_book.specs.Steps.{IsAsBefore, MayPlace, IsLeafOf, with_clue_of}
-use Rattle.ledger_book.specs.Seals.{head_at, ended, seal_of}
+use Rattle.ledger_book.specs.Seals.{head_at, sealed_block, seal_of}
 use Rattle.ledger_book.specs.declared.sealed.Sealed.{Sealed}
 use Rattle.ledger_book.proofs.ClueLaws.{marks_more, marks_same, marks_below}
 
@@ -78,7 +78,7 @@ shut_root : (h : History) (n : ℕ) → model.root (shut h) n ≡ model.root h n
 unfolding model.root
 shut_root h n = ap (λ (js : List Entry). tree.mth sha256 (take n (map (λ (j : Entry). spelling j.header) js))) (shut_journals h)
 
-shut_sealed : (h : History) → sealed (shut h) ≡ model.size h
+shut_sealed : (h : History) → sealed_size (shut h) ≡ model.size h
 shut_sealed h = sym (size_closed (shut h) refl) ∙ ap length (shut_journals h)
 
 -- a block's end is another end above the floor
@@ -112,7 +112,7 @@ stands_shut k h root ends s some r more =
         headers_are = s.tree.headers_are ∙ ap (λ (js : List Entry). drop k.floor (map (λ (j : Entry). j.header) js)) (sym e);
         leaves = subst (λ (js : List Entry). StandsFor sha256 k.tree (map leaf_digest js)) (sym e) s.tree.leaves;
       };
-      members = s.members ∙ ap (λ js. aged_all k.floor (founders js ++ admitted js)) (sym e);
+      members = s.members ∙ ap (λ js. aged_members k.floor (founders js ++ admitted_members js)) (sym e);
       clues = subst (λ (js : List Entry). index.Stands k.clues (clues_added k.floor js)) (sym e) s.clues;
     }
 
@@ -121,7 +121,7 @@ pub stands_closed : (k : Kept) (h : History) (root : Digest) (ends : List ℕ) �
 stands_closed k h root ends s some r more =
     subst (Stands (record k { blocks = k.blocks + 1; sealed = k.size; ends = ends; root = root })) (shut_is h (omega (arith, waiting_count k h s))) (stands_shut k h root ends s some r more)
 
-ended_some : (h : History) (js : List Entry) → 0 < length js → ended h js ≡ Some (record { block = model.blocks h; first = sealed h; head = head_at h (model.size h) })
+ended_some : (h : History) (js : List Entry) → 0 < length js → sealed_block h js ≡ Some (record { block = model.blocks h; first = sealed_size h; head = head_at h (model.size h) })
 ended_some h [] some = absurd (omega (arith, some))
 ended_some h (j ∷ js) some = refl
 
@@ -130,28 +130,28 @@ told block first size root = Some (record { block = block; first = first; head =
 
 pub seal_some : (k : Kept) (h : History) (root : Digest) → Stands k h → k.sealed < k.size → root.0 ≡ model.root h (model.size h) → told k.blocks k.sealed k.size root ≡ seal_of h
 seal_some k h root s some r =
-    ap (λ x. told x k.sealed k.size root) s.counts.blocks ∙ ap (λ x. told (model.blocks h) x k.size root) s.counts.sealed_is ∙ ap (λ x. told (model.blocks h) (sealed h) x root) s.counts.size
-    ∙ ap (λ x. told (model.blocks h) (sealed h) (model.size h) (digest x)) r ∙ sym (ended_some h h.waiting (omega (arith, waiting_count k h s)))
+    ap (λ x. told x k.sealed k.size root) s.counts.blocks ∙ ap (λ x. told (model.blocks h) x k.size root) s.counts.sealed_is ∙ ap (λ x. told (model.blocks h) (sealed_size h) x root) s.counts.size
+    ∙ ap (λ x. told (model.blocks h) (sealed_size h) (model.size h) (digest x)) r ∙ sym (ended_some h h.waiting (omega (arith, waiting_count k h s)))
 
 -- what can be shown of a journal
 pub view_absent : (k : Kept) (h : History) (n : ℕ) → Serves k h → k.size ≤ n → view.Absent ≡ outcomes.view h n
 unfolding outcomes.view
-view_absent k h n s above = sym (ap (λ v. cond v view.Absent (cond (nat_lt n (model.point h)) (view.Purged (model.point h)) (cond (hidden h n) view.Occulted view.Whole))) (le-leb (model.size h) n (omega (arith, s.stands.counts.size))))
+view_absent k h n s above = sym (ap (λ v. cond v view.Absent (cond (nat_lt n (model.point h)) (view.Purged (model.point h)) (cond (is_hidden h n) view.Occulted view.Whole))) (le-leb (model.size h) n (omega (arith, s.stands.counts.size))))
 
-view_there : (h : History) (n : ℕ) → n < model.size h → cond (nat_lt n (model.point h)) (view.Purged (model.point h)) (cond (hidden h n) view.Occulted view.Whole) ≡ outcomes.view h n
+view_there : (h : History) (n : ℕ) → n < model.size h → cond (nat_lt n (model.point h)) (view.Purged (model.point h)) (cond (is_hidden h n) view.Occulted view.Whole) ≡ outcomes.view h n
 unfolding outcomes.view
-view_there h n below = sym (ap (λ v. cond v view.Absent (cond (nat_lt n (model.point h)) (view.Purged (model.point h)) (cond (hidden h n) view.Occulted view.Whole))) (lt-leb (model.size h) n below))
+view_there h n below = sym (ap (λ v. cond v view.Absent (cond (nat_lt n (model.point h)) (view.Purged (model.point h)) (cond (is_hidden h n) view.Occulted view.Whole))) (lt-leb (model.size h) n below))
 
 pub view_purged : (k : Kept) (h : History) (n : ℕ) → Serves k h → n < k.size → n < k.point → view.Purged k.point ≡ outcomes.view h n
 view_purged k h n s below purged =
     ap view.Purged (point_is k h s)
-    ∙ sym (ap (λ v. cond v (view.Purged (model.point h)) (cond (hidden h n) view.Occulted view.Whole)) (lt-ltb n (model.point h) (omega (arith, purged, point_is k h s))))
+    ∙ sym (ap (λ v. cond v (view.Purged (model.point h)) (cond (is_hidden h n) view.Occulted view.Whole)) (lt-ltb n (model.point h) (omega (arith, purged, point_is k h s))))
     ∙ view_there h n (omega (arith, below, s.stands.counts.size))
 
 pub view_whole : (k : Kept) (h : History) (n : ℕ) → Serves k h → n < k.size → k.point ≤ n → view.Whole ≡ outcomes.view h n
 view_whole k h n s below kept =
     sym (ap (λ v. cond v view.Occulted view.Whole) (none_hidden h n s.stands.lawful))
-    ∙ sym (ap (λ v. cond v (view.Purged (model.point h)) (cond (hidden h n) view.Occulted view.Whole)) (le-ltb n (model.point h) (omega (arith, kept, point_is k h s))))
+    ∙ sym (ap (λ v. cond v (view.Purged (model.point h)) (cond (is_hidden h n) view.Occulted view.Whole)) (le-ltb n (model.point h) (omega (arith, kept, point_is k h s))))
     ∙ view_there h n (omega (arith, below, s.stands.counts.size))
 
 -- the history with a journal more in its open block
@@ -176,7 +176,7 @@ no_purge h x kind.Purge own = absurd own
 
 -- a journal more in the open block
 stands_wider : (k : Kept) (h : History) (j : Entry) (ms : List Member) (t : index.Kept) (rows : Levels) → Stands k h → MayPlace h j.header
-    → aged_all k.floor ms ≡ aged_all k.floor (members (wider h j)) → index.Stands t (clues_added k.floor (journals (wider h j)))
+    → aged_members k.floor ms ≡ aged_members k.floor (members (wider h j)) → index.Stands t (clues_added k.floor (journals (wider h j)))
     → StandsFor sha256 rows (leaf_digests h ++ leaf_digest j ∷ []) → Stands (record k { size = k.size + 1; members = ms; clues = t; headers = k.headers ++ j.header ∷ []; tree = rows }) (wider h j)
 unfolding model.seen_point model.id
 stands_wider k h j ms t rows s next same clues leaves =
@@ -218,14 +218,14 @@ wider_clues floor h j =
 wider_members_same : (h : History) (j : Entry) → 1 ≤ model.size h → admits j ≡ false → members (wider h j) ≡ members h
 unfolding members
 wider_members_same h j some none =
-    ap (λ js. founders js ++ admitted js) (journals_wider h j) ∙ ap (λ x. x ++ admitted (journals h ++ j ∷ [])) (founders_kept (journals h) (j ∷ []) some)
+    ap (λ js. founders js ++ admitted_members js) (journals_wider h j) ∙ ap (λ x. x ++ admitted_members (journals h ++ j ∷ [])) (founders_kept (journals h) (j ∷ []) some)
     ∙ ap (λ x. founders (journals h) ++ x) (admitted_same (journals h) j none)
 
 wider_members_more : (h : History) (j : Entry) → 1 ≤ model.size h → admits j ≡ true → members (wider h j) ≡ members h ++ member_of j ∷ []
 unfolding members
 wider_members_more h j some one =
-    ap (λ js. founders js ++ admitted js) (journals_wider h j) ∙ ap (λ x. x ++ admitted (journals h ++ j ∷ [])) (founders_kept (journals h) (j ∷ []) some)
-    ∙ ap (λ x. founders (journals h) ++ x) (admitted_more (journals h) j one) ∙ sym (append_assoc (founders (journals h)) (admitted (journals h)) (member_of j ∷ []))
+    ap (λ js. founders js ++ admitted_members js) (journals_wider h j) ∙ ap (λ x. x ++ admitted_members (journals h ++ j ∷ [])) (founders_kept (journals h) (j ∷ []) some)
+    ∙ ap (λ x. founders (journals h) ++ x) (admitted_more (journals h) j one) ∙ sym (append_assoc (founders (journals h)) (admitted_members (journals h)) (member_of j ∷ []))
 
 -- what an index of clues that was given a journal's clue tells
 abbrev pub AddsClue : index.Kept → index.Kept → Header → Type 0
@@ -273,7 +273,7 @@ module _ (k : Kept) (h : History) (j : Entry) (header : Header) (s : Stands k h)
       let told = adds (clues_added k.floor (journals h)) s.clues (omega (arith, low, next.jsn)) (subst (λ n. All (λ (m : Mark). m.jsn < n) (clues_added k.floor (journals h)).marks) (sym next.jsn) (marks_below k.floor (journals h) s.lawful)) in
       let clues : index.Stands t (clues_added k.floor (journals (wider h j))) = subst (index.Stands t) (ap (λ (x : Header). with_clue_of x (clues_added k.floor (journals h))) (sym is) ∙ wider_clues k.floor h j) told in
       grown k (wider h j) j k.members t hs rows ends header is more.headers_are more.ends_are
-      (stands_wider k h j k.members t rows s placing (s.members ∙ ap (aged_all k.floor) (sym (wider_members_same h j some_yet (ap is_member kind_is)))) clues (leaf_more rows tip more.tip_is more.leaves_are))
+      (stands_wider k h j k.members t rows s placing (s.members ∙ ap (aged_members k.floor) (sym (wider_members_same h j some_yet (ap is_member kind_is)))) clues (leaf_more rows tip more.tip_is more.leaves_are))
 
   -- a new member
   pub stands_member : (ms : List Member) (hs : List Header) (rows : Levels) (ends : List ℕ) (tip : Digest) → header.kind ≡ kind.Member → ms ≡ k.members ++ record { key = header.link; jsn = header.jsn } ∷ []
@@ -282,10 +282,10 @@ module _ (k : Kept) (h : History) (j : Entry) (header : Header) (s : Stands k h)
       let kind_is : j.header.kind ≡ kind.Member = ap (λ (x : Header). x.kind) is ∙ member in
       let none_j : is_no_clue j.header.clue ≡ true = ap (λ (x : Header). is_no_clue x.clue) is ∙ subst (λ (x : Kind). clue_ok x header.clue ≡ true) member next.layout.clue in
       let same : clues_added k.floor (journals h) ≡ clues_added k.floor (journals (wider h j)) = sym (ap (λ b. cond b (clues_added k.floor (journals h)) (with_mark j.header.clue.0 j.header.jsn (clues_added k.floor (journals h)))) none_j) ∙ wider_clues k.floor h j in
-      let joined : aged_all k.floor ms ≡ aged_all k.floor (members (wider h j)) =
-      ap (aged_all k.floor) (added ∙ ap (λ (x : Header). k.members ++ record { key = x.link; jsn = x.jsn } ∷ []) (sym is)) ∙ map-append (aged k.floor) k.members (member_of j ∷ [])
-      ∙ ap (λ x. x ++ aged_all k.floor (member_of j ∷ [])) s.members ∙ sym (map-append (aged k.floor) (members h) (member_of j ∷ []))
-      ∙ ap (aged_all k.floor) (sym (wider_members_more h j some_yet (ap is_member kind_is))) in
+      let joined : aged_members k.floor ms ≡ aged_members k.floor (members (wider h j)) =
+      ap (aged_members k.floor) (added ∙ ap (λ (x : Header). k.members ++ record { key = x.link; jsn = x.jsn } ∷ []) (sym is)) ∙ map-append (aged_member k.floor) k.members (member_of j ∷ [])
+      ∙ ap (λ x. x ++ aged_members k.floor (member_of j ∷ [])) s.members ∙ sym (map-append (aged_member k.floor) (members h) (member_of j ∷ []))
+      ∙ ap (aged_members k.floor) (sym (wider_members_more h j some_yet (ap is_member kind_is))) in
       grown k (wider h j) j ms k.clues hs rows ends header is more.headers_are more.ends_are
       (stands_wider k h j ms k.clues rows s placing joined (subst (index.Stands k.clues) same s.clues) (leaf_more rows tip more.tip_is more.leaves_are))
 

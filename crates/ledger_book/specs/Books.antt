@@ -24,19 +24,19 @@ abbrev pub leaf_digests : History → List (List ℕ)
 leaf_digests h = map leaf_digest (journals h)
 
 -- how many journals stand in blocks that have ended
-abbrev pub sealed : History → ℕ
-sealed h = length (journals_of h.closed)
+abbrev pub sealed_size : History → ℕ
+sealed_size h = length (journals_of h.closed)
 
 -- the sizes above a floor at which blocks have ended
 abbrev pub ends_above : ℕ → History → List ℕ
 ends_above floor h = filter (λ end. nat_lt floor end) (model.ends h)
 
 -- a member whose journal isn't kept has no number of it
-abbrev pub aged : ℕ → Member → Member
-aged floor m = record { key = m.key; jsn = if nat_lt m.jsn floor then 0 else m.jsn }
+abbrev pub aged_member : ℕ → Member → Member
+aged_member floor m = record { key = m.key; jsn = if nat_lt m.jsn floor then 0 else m.jsn }
 
-abbrev pub aged_all : ℕ → List Member → List Member
-aged_all floor members = map (aged floor) members
+abbrev pub aged_members : ℕ → List Member → List Member
+aged_members floor members = map (aged_member floor) members
 
 -- a journal's clue and its number
 abbrev pub mark_of : Entry → Mark
@@ -68,15 +68,15 @@ pub record Kept : Type 0 where
 -- the numbers are those of this history
 pub record HasCounts (k : Kept) (h : History) : Type 0 where
   pub size : k.size ≡ model.size h
-  pub floor : k.floor ≤ sealed h
+  pub floor : k.floor ≤ sealed_size h
   pub point : k.point ≡ model.seen_point k.floor h
   pub blocks : k.blocks ≡ model.blocks h
-  pub sealed_is : k.sealed ≡ sealed h
+  pub sealed_is : k.sealed ≡ sealed_size h
   pub ends : k.ends ≡ ends_above k.floor h
 
 -- the digests and headers are those of this history
 pub record HasTree (k : Kept) (h : History) : Type 0 where
-  pub root : k.root.0 ≡ model.root h (sealed h)
+  pub root : k.root.0 ≡ model.root h (sealed_size h)
   pub id : k.id.0 ≡ model.id h
   pub headers_are : k.headers ≡ drop k.floor (headers h)
   pub leaves : StandsFor sha256 k.tree (leaf_digests h)
@@ -86,7 +86,7 @@ pub record Stands (k : Kept) (h : History) : Type 0 where
   pub lawful : AreLawful (journals h)
   pub counts : HasCounts k h
   pub tree : HasTree k h
-  pub members : aged_all k.floor k.members ≡ aged_all k.floor (member.members h)
+  pub members : aged_members k.floor k.members ≡ aged_members k.floor (member.members h)
   pub clues : index.Stands k.clues (clues_added k.floor (journals h))
 
 -- .. and a purge up to its first header has been seen

@@ -2,7 +2,7 @@ ghost use Rattle.std.specs.Prelude.{◌≡◌, ◌↔◌, ◌≤◌, IsTrue, IfO
 ghost use Rattle.sha2.specs.Sha256.{sha256};
 ghost use Rattle.merkle_batch.specs.Rows.{StandsFor};
 ghost use Rattle.ledger_model.specs.Clues.{jsns_with};
-ghost use Rattle.ledger_model.specs.Genesis.{founded};
+ghost use Rattle.ledger_model.specs.Genesis.{new_ledger};
 ghost use Rattle.ledger_model.specs.History as model;
 ghost use Rattle.ledger_model.specs.History.{History, close};
 ghost use Rattle.ledger_model.specs.Judgements.{is_full};
@@ -84,7 +84,7 @@ impl Book {
     /// The book of a new ledger, which has journal 0 alone, in a block that has ended.
     pub fn new(alloc: Global, genesis: &Genesis, limits: Limits) -> Result<Self, NoMemory>
         requires { AreWithin limits }
-        ensures serves { IfOk result (λ book. Serves book (founded genesis.now)) }
+        ensures serves { IfOk result (λ book. Serves book (new_ledger genesis.now)) }
         ensures limits { IfOk result (λ book. book.limits ≡ limits) }
         ensures floor { IfOk result (λ book. (book.floor ≡ 0) × (book.point ≡ 0)) }
     {
@@ -178,7 +178,7 @@ impl Book {
     }
 
     /// How many journals wait in the open block.
-    pub fn unsealed(&self) -> u64
+    pub fn waiting_count(&self) -> u64
         ensures { (h : History) → Stands self.now h → result ≡ length h.waiting }
     {
         self.size - self.head.size
@@ -189,7 +189,7 @@ impl Book {
         ensures { (h : History) → Stands self.now h → IsTrue result
             ↔ (BLOCK_LIMIT ≤ length h.waiting) }
     {
-        self.unsealed() >= BLOCK_LIMIT
+        self.waiting_count() >= BLOCK_LIMIT
     }
 
     /// Whether there is no room for a journal of the operator.

@@ -16,9 +16,9 @@ use Rattle.journal_record.specs.declared.member.Member.{Member}
 use Rattle.ledger_model.specs.Appends.{append_header, append_journal, member_header, member_journal}
 use Rattle.ledger_model.specs.Clues.{jsns_with, clue_count, last_of, next_ordinal, last_journal}
 use Rattle.ledger_model.specs.History.{History, history, journals, size}
-use Rattle.ledger_model.specs.Judgements.{kept, is_full, full, unknown_in, wrong_key_in, clues_full, append_judgements, member_judgements, first_refusal}
+use Rattle.ledger_model.specs.Judgements.{kept_count, is_full, fullness, unknown_in, wrong_key_in, clues_full, append_judgements, member_judgements, first_refusal}
 use Rattle.ledger_model.specs.Lawful.{IsNext, AreLawful, IsWhole}
-use Rattle.ledger_model.specs.Limits.{real, AreWithin}
+use Rattle.ledger_model.specs.Limits.{real_limits, AreWithin}
 use Rattle.ledger_model.specs.Members.{members, keys}
 use Rattle.ledger_model.specs.declared.limits.Limits.{Limits}
 use Rattle.ledger_model.proofs.LawfulLaws.{lawful_from, some_journal, lawful_members, AreBetween, numbers_between, last_between}
@@ -39,22 +39,22 @@ if_not : (b : Bool) (x : Refusal) → IsNone (cond b None (Some x)) → b ≡ tr
 if_not true x is = refl
 if_not false x is = absurd cc
 
-room_is : (limits : Limits) (h : History) → IsNone (full limits h) → size h < limits.size
-unfolding full
-room_is limits h is = leb-false limits.size (size h) (right_of (nat_le limits.soft (kept h)) (nat_le limits.size (size h)) (if_none (is_full limits.soft limits h) _ is)) where
+room_is : (limits : Limits) (h : History) → IsNone (fullness limits h) → size h < limits.size
+unfolding fullness
+room_is limits h is = leb-false limits.size (size h) (right_of (nat_le limits.soft (kept_count h)) (nat_le limits.size (size h)) (if_none (is_full limits.soft limits h) _ is)) where
   right_of : (v w : Bool) → (v || w) ≡ false → w ≡ false
   right_of true w e = absurd cc
   right_of false w e = e
 
 -- where there is room for a clue under lower limits, there is under those of each ledger
-clues_room : (limits : Limits) (h : History) (clue : Digest) → limits.clues ≤ real.clues → IsNone (clues_full limits h clue) → IsNone (clues_full real h clue)
+clues_room : (limits : Limits) (h : History) (clue : Digest) → limits.clues ≤ real_limits.clues → IsNone (clues_full limits h clue) → IsNone (clues_full real_limits h clue)
 unfolding clues_full
 clues_room limits h clue within is =
     by_first (not (is_no_clue clue) && length (jsns_with h clue) == 0) (if_none (not (is_no_clue clue) && length (jsns_with h clue) == 0 && nat_le limits.clues (clue_count h)) CluesFull is)
   where
-    by_first : (new : Bool) → (new && nat_le limits.clues (clue_count h)) ≡ false → IsNone (cond (new && nat_le real.clues (clue_count h)) (Some CluesFull) None)
+    by_first : (new : Bool) → (new && nat_le limits.clues (clue_count h)) ≡ false → IsNone (cond (new && nat_le real_limits.clues (clue_count h)) (Some CluesFull) None)
     by_first false e = refl
-    by_first true e = let less = leb-false limits.clues (clue_count h) e in ap (λ v. cond v (Some CluesFull) None) (lt-leb real.clues (clue_count h) (omega (arith, less, within)))
+    by_first true e = let less = leb-false limits.clues (clue_count h) e in ap (λ v. cond v (Some CluesFull) None) (lt-leb real_limits.clues (clue_count h) (omega (arith, less, within)))
 
 -- the clue's numbers obey the layout
 between : (h : History) (clue : Digest) → AreLawful (journals h) → AreBetween (size h) (jsns_with h clue)
@@ -87,18 +87,18 @@ module _ (limits : Limits) (within : AreWithin limits) (h : History) (member : �
   abbrev placed_record : Entry
   placed_record = append_journal h member clue content content_digest request by
 
-  room : size h < real.size
-  room = let less = room_is limits h (none_first (full limits h) _ judged).0 in omega (arith, less, within.size)
+  room : size h < real_limits.size
+  room = let less = room_is limits h (none_first (fullness limits h) _ judged).0 in omega (arith, less, within.size)
 
   known : member < length (members h)
   known =
-      let a = none_first (full limits h) _ judged in
+      let a = none_first (fullness limits h) _ judged in
       let b = none_first (unknown_in (keys h) member) _ a.1 in
       omega (arith, ltb-true member (length (keys h)) (if_not (is_known (keys h) member) _ b.0), length-map (members h) (λ (m : Member). m.key.0))
 
-  clue_room : IsNone (clues_full real h clue)
+  clue_room : IsNone (clues_full real_limits h clue)
   clue_room =
-      let a = none_first (full limits h) _ judged in
+      let a = none_first (fullness limits h) _ judged in
       let b = none_first (unknown_in (keys h) member) _ a.1 in
       let c = none_first (wrong_key_in (keys h) member by.key) _ b.1 in
       clues_room limits h clue within.clues (none_first (clues_full limits h clue) _ c.1).0
@@ -139,13 +139,13 @@ record_whole h member clue content content_digest request by is = record {
 
 -- a new member that is accepted
 module _ (limits : Limits) (within : AreWithin limits) (h : History) (number : ℕ) (key : Digest) (by : Approval) (judged : IsNone (first_refusal (member_judgements limits h number by.key))) where
-  member_room : size h < real.size
-  member_room = let less = room_is limits h (none_first (full limits h) _ judged).0 in omega (arith, less, within.size)
+  member_room : size h < real_limits.size
+  member_room = let less = room_is limits h (none_first (fullness limits h) _ judged).0 in omega (arith, less, within.size)
 
   numbered : (length (members h) < MEMBER_LIMIT) × (number ≡ length (members h))
-  numbered = by_test (nat_le MEMBER_LIMIT (length (members h))) refl (none_first (number_refusal (members h) number) _ (none_first (full limits h) _ judged).1).0 where
-    by_test : (full : Bool) → nat_le MEMBER_LIMIT (length (members h)) ≡ full
-        → IsNone (cond full (Some MembersFull) (cond (number == length (members h)) None (Some (MemberNumber (length (members h)))))) → (length (members h) < MEMBER_LIMIT) × (number ≡ length (members h))
+  numbered = by_test (nat_le MEMBER_LIMIT (length (members h))) refl (none_first (number_refusal (members h) number) _ (none_first (fullness limits h) _ judged).1).0 where
+    by_test : (test : Bool) → nat_le MEMBER_LIMIT (length (members h)) ≡ test
+        → IsNone (cond test (Some MembersFull) (cond (number == length (members h)) None (Some (MemberNumber (length (members h)))))) → (length (members h) < MEMBER_LIMIT) × (number ≡ length (members h))
     by_test true e none = absurd cc
     by_test false e none = (leb-false MEMBER_LIMIT (length (members h)) e, eqb-true number (length (members h)) (if_not (number == length (members h)) _ none))
 

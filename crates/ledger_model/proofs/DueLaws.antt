@@ -10,11 +10,12 @@ use Rattle.script_lines.specs.Replies.{reply_text}
 use Rattle.script_lines.specs.declared.reply.Reply.TheVariants as reply
 use Rattle.ledger_model.specs.Appends.{append_journal, member_journal}
 use Rattle.ledger_model.specs.Dues.{due_for, dues, reply_at, dues_text, IsWithin}
+use Rattle.ledger_model.specs.Growing.{Grows}
 use Rattle.ledger_model.specs.History.{History, id, journals, journals_of, size, root, close, block_of, end_of}
 use Rattle.ledger_model.specs.Judgements.{own_refusal}
-use Rattle.ledger_model.specs.Limits.{real}
-use Rattle.ledger_model.specs.Outcomes.{after_judgement, applied, placed_as, judged, outcome}
-use Rattle.ledger_model.specs.Rules.{settled, job_of, after_job, after_step, after_steps, after_window, after}
+use Rattle.ledger_model.specs.Limits.{real_limits}
+use Rattle.ledger_model.specs.Outcomes.{after_judgement, with_job, placed_as, judged_outcome, outcome}
+use Rattle.ledger_model.specs.Rules.{settled_history, job_of, after_job, after_step, after_steps, after_window, after}
 use Rattle.ledger_model.specs.Scheme.{Scheme}
 use Rattle.ledger_model.specs.Step.{Step}
 use Rattle.ledger_model.specs.Texts.{answer_for, answer_to, told_stamp, reply_in, step_text, steps_text, window_text, text}
@@ -22,8 +23,8 @@ use Rattle.ledger_model.specs.declared.answer.Answer.{Answer}
 use Rattle.ledger_model.specs.declared.answer.Answer.TheVariants.{Reply, Receipt}
 use Rattle.ledger_model.specs.declared.due.Due.{Due}
 use Rattle.ledger_model.specs.declared.job.Job.{Job}
-use Rattle.ledger_model.specs.declared.job.Job.TheVariants.{Refused, Append, NewMember, Clue, Head}
-use Rattle.ledger_model.proofs.GrowLaws.{IsEnded, Moves, Goes, is_placed, moves_job, moves_close, goes_not, goes_moved, goes_then, goes_size, size_closed, root_kept, block_of-goes, end_of-goes, end_of-le, block_of-ended, end_of-ended}
+use Rattle.ledger_model.specs.declared.job.Job.TheVariants.{Refused, Append, NewMember, Get, Clue, Head}
+use Rattle.ledger_model.proofs.GrowLaws.{IsEnded, Moves, is_placed, moves_job, moves_close, grows_not, grows_moved, grows_then, grows_size, size_closed, root_kept, block_of-grows, end_of-grows, end_of-le, block_of-ended, end_of-ended}
 
 -- each receipt's journal has a number of this range
 abbrev pub AllWithin : ℕ → ℕ → List Due → Type 0
@@ -32,20 +33,21 @@ AllWithin low high (due ∷ dues) = IsWithin low high due.answer × AllWithin lo
 
 -- a journal that is placed has the next number
 within_judged : (k : History) (step : Step) (job : Job) (refusal : Option Refusal) (journal : Entry)
-    → IsWithin (size k) (size (settled job (after_judgement refusal (Some journal) k))) (answer_for k step (judged refusal (placed_as (size k) journal)))
+    → IsWithin (size k) (size (settled_history job (after_judgement refusal (Some journal) k))) (answer_for k step (judged_outcome refusal (placed_as (size k) journal)))
 within_judged k step job (Some refusal) journal = tt
 within_judged k step job None journal =
     let p = is_placed k job journal in (omega arith, omega (arith, ap length p.journals_are, length-append (journals k) (journal ∷ [])))
 
 -- a receipt's journal is the one that the job places
-within_job : (k : History) (step : Step) (job : Job) → IsWithin (size k) (size (after_job k step job)) (answer_to k step job)
-unfolding after_job answer_to applied outcome
+pub within_job : (k : History) (step : Step) (job : Job) → IsWithin (size k) (size (after_job k step job)) (answer_to k step job)
+unfolding after_job answer_to with_job outcome
 within_job k step (Refused refusal) = tt
 within_job k step (Append member clue content content_digest request by) =
     let job = Append member clue content content_digest request by in
-    within_judged k step job (own_refusal real k job) (append_journal k member clue content content_digest request by)
+    within_judged k step job (own_refusal real_limits k job) (append_journal k member clue content content_digest request by)
 within_job k step (NewMember number key by) =
-    let job = NewMember number key by in within_judged k step job (own_refusal real k job) (member_journal (size k) number key by)
+    let job = NewMember number key by in within_judged k step job (own_refusal real_limits k job) (member_journal (size k) number key by)
+within_job k step (Get n) = tt
 within_job k step (Clue clue) = tt
 within_job k step Head = tt
 
@@ -53,26 +55,31 @@ within_step : (scheme : Scheme) (k : History) (step : Step) → IsWithin (size k
 unfolding after_step
 within_step scheme k step = within_job k step (job_of scheme (id k) step.line)
 
-pub goes_step : (scheme : Scheme) (k : History) (step : Step) → Goes k (after_step scheme k step)
+pub grows_step : (scheme : Scheme) (k : History) (step : Step) → Grows k (after_step scheme k step)
 unfolding after_step
-goes_step scheme k step = goes_moved k (after_job k step (job_of scheme (id k) step.line)) (moves_job k step (job_of scheme (id k) step.line))
+grows_step scheme k step = grows_moved k (after_job k step (job_of scheme (id k) step.line)) (moves_job k step (job_of scheme (id k) step.line))
 
 pub moves_step : (scheme : Scheme) (k : History) (step : Step) → Moves k (after_step scheme k step)
 unfolding after_step
 moves_step scheme k step = moves_job k step (job_of scheme (id k) step.line)
 
-pub goes_steps : (scheme : Scheme) (k : History) (steps : List Step) → Goes k (after_steps scheme k steps)
-goes_steps scheme k [] = goes_not k
-goes_steps scheme k (step ∷ steps) = goes_then k (after_step scheme k step) (after_steps scheme (after_step scheme k step) steps) (goes_step scheme k step) (goes_steps scheme (after_step scheme k step) steps)
+pub grows_steps : (scheme : Scheme) (k : History) (steps : List Step) → Grows k (after_steps scheme k steps)
+grows_steps scheme k [] = grows_not k
+grows_steps scheme k (step ∷ steps) = grows_then k (after_step scheme k step) (after_steps scheme (after_step scheme k step) steps) (grows_step scheme k step) (grows_steps scheme (after_step scheme k step) steps)
 
-pub goes_window : (scheme : Scheme) (k : History) (steps : List Step) → Goes k (after_window scheme k steps)
-goes_window scheme k steps = goes_then k (after_steps scheme k steps) (after_window scheme k steps) (goes_steps scheme k steps) (goes_moved (after_steps scheme k steps) (close (after_steps scheme k steps)) (moves_close (after_steps scheme k steps)))
+pub grows_window : (scheme : Scheme) (k : History) (steps : List Step) → Grows k (after_window scheme k steps)
+grows_window scheme k steps = grows_then k (after_steps scheme k steps) (after_window scheme k steps) (grows_steps scheme k steps) (grows_moved (after_steps scheme k steps) (close (after_steps scheme k steps)) (moves_close (after_steps scheme k steps)))
 
-within_wider : (low lower high higher : ℕ) (answer : Answer) → lower ≤ low → high ≤ higher → IsWithin low high answer → IsWithin lower higher answer
+pub grows_windows : (scheme : Scheme) (k : History) (windows : List (List Step)) → Grows k (after scheme k windows)
+grows_windows scheme k [] = grows_not k
+grows_windows scheme k (window ∷ windows) =
+    let g = after_window scheme k window in grows_then k g (after scheme g windows) (grows_window scheme k window) (grows_windows scheme g windows)
+
+pub within_wider : (low lower high higher : ℕ) (answer : Answer) → lower ≤ low → high ≤ higher → IsWithin low high answer → IsWithin lower higher answer
 within_wider low lower high higher (Reply reply) l h w = tt
 within_wider low lower high higher (Receipt jsn leaf stamp) l h w = (omega (arith, w.0), omega (arith, w.1))
 
-all_wider : (low lower high : ℕ) (ds : List Due) → lower ≤ low → AllWithin low high ds → AllWithin lower high ds
+pub all_wider : (low lower high : ℕ) (ds : List Due) → lower ≤ low → AllWithin low high ds → AllWithin lower high ds
 all_wider low lower high [] l w = tt
 all_wider low lower high (due ∷ ds) l w = (within_wider low lower high high due.answer l (omega arith) w.0, all_wider low lower high ds l w.1)
 
@@ -82,27 +89,27 @@ dues_within scheme k [] = tt
 dues_within scheme k (step ∷ steps) =
     let g = after_step scheme k step in
     let last = after_steps scheme g steps in (
-      within_wider (size k) (size k) (size g) (size last) (due_for scheme k step).answer (omega arith) (goes_size g last (goes_steps scheme g steps)) (within_step scheme k step),
-      all_wider (size g) (size k) (size last) (dues scheme g steps) (goes_size k g (goes_step scheme k step)) (dues_within scheme g steps),
+      within_wider (size k) (size k) (size g) (size last) (due_for scheme k step).answer (omega arith) (grows_size g last (grows_steps scheme g steps)) (within_step scheme k step),
+      all_wider (size g) (size k) (size last) (dues scheme g steps) (grows_size k g (grows_step scheme k step)) (dues_within scheme g steps),
     )
 
 -- the replies of answers in one history are those in another
 abbrev Agree : History → History → Answer → Type 0
 Agree window g answer = reply_in window answer ≡ reply_in g answer
 
-receipt_kept : (g window : History) (jsn : ℕ) (leaf : Digest) (stamp : Option Stamp) → g.waiting ≡ [] → Goes g window → jsn < size g → Agree window g (Receipt jsn leaf stamp)
+pub receipt_kept : (g window : History) (jsn : ℕ) (leaf : Digest) (stamp : Option Stamp) → g.waiting ≡ [] → Grows g window → jsn < size g → Agree window g (Receipt jsn leaf stamp)
 receipt_kept g window jsn leaf stamp none a below =
-    let at = end_of-goes g window jsn none a below in
-    ap (λ b. reply.Placed jsn leaf b (end_of window jsn) (digest (root window (end_of window jsn))) (told_stamp stamp)) (block_of-goes g window jsn none a below)
+    let at = end_of-grows g window jsn none a below in
+    ap (λ b. reply.Placed jsn leaf b (end_of window jsn) (digest (root window (end_of window jsn))) (told_stamp stamp)) (block_of-grows g window jsn none a below)
     ∙ ap (λ n. reply.Placed jsn leaf (block_of g jsn) n (digest (root window n)) (told_stamp stamp)) at
     ∙ ap (λ r. reply.Placed jsn leaf (block_of g jsn) (end_of g jsn) (digest r) (told_stamp stamp)) (root_kept g window a.more (end_of g jsn) a.journals_are (end_of-le g jsn none below))
 
-answer_kept : (g window : History) (low : ℕ) (answer : Answer) → g.waiting ≡ [] → Goes g window → IsWithin low (size g) answer → Agree window g answer
+pub answer_kept : (g window : History) (low : ℕ) (answer : Answer) → g.waiting ≡ [] → Grows g window → IsWithin low (size g) answer → Agree window g answer
 answer_kept g window low (Reply reply) none a w = refl
 answer_kept g window low (Receipt jsn leaf stamp) none a w = receipt_kept g window jsn leaf stamp none a w.1
 
 -- the text of some steps in a later history is that in the history where their blocks have ended
-steps_kept : (scheme : Scheme) (k g window : History) (low : ℕ) (steps : List Step) → g.waiting ≡ [] → Goes g window → AllWithin low (size g) (dues scheme k steps) → steps_text scheme window k steps ≡ steps_text scheme g k steps
+pub steps_kept : (scheme : Scheme) (k g window : History) (low : ℕ) (steps : List Step) → g.waiting ≡ [] → Grows g window → AllWithin low (size g) (dues scheme k steps) → steps_text scheme window k steps ≡ steps_text scheme g k steps
 unfolding step_text
 steps_kept scheme k g window low [] none a w = refl
 steps_kept scheme k g window low (step ∷ steps) none a w =
@@ -125,7 +132,7 @@ window_split scheme k xs ys none =
     let g = after_steps scheme k xs in
     let same : after_window scheme k (xs ++ ys) ≡ after_window scheme g ys = ap close (after_steps-append scheme k xs ys) in
     ap (λ w. steps_text scheme w k (xs ++ ys)) same ∙ steps_text-append scheme (after_window scheme g ys) k xs ys
-    ∙ ap (λ front. front ++ window_text scheme g ys) (steps_kept scheme k g (after_window scheme g ys) (size k) xs none (goes_window scheme g ys) (dues_within scheme k xs))
+    ∙ ap (λ front. front ++ window_text scheme g ys) (steps_kept scheme k g (after_window scheme g ys) (size k) xs none (grows_window scheme g ys) (dues_within scheme k xs))
 
 -- what a block that has ended makes of the answers that were due for it
 receipt_ended : (k g : History) (jsn : ℕ) (leaf : Digest) (stamp : Option Stamp) → k.waiting ≡ [] → (e : IsEnded k g) → size k ≤ jsn → jsn < size g → reply_in g (Receipt jsn leaf stamp) ≡ reply_at (length g.closed - 1) (size g) (root g (size g)) (Receipt jsn leaf stamp)
@@ -134,7 +141,7 @@ receipt_ended k g jsn leaf stamp none e above below =
     ap (λ b. reply.Placed jsn leaf b (end_of g jsn) (digest (root g (end_of g jsn))) (told_stamp stamp)) (block_of-ended k g jsn none e above below)
     ∙ ap (λ n. reply.Placed jsn leaf (length g.closed - 1) n (digest (root g n)) (told_stamp stamp)) at
 
-answer_ended : (k g : History) (answer : Answer) → k.waiting ≡ [] → (size g ≡ size k) ⊎ IsEnded k g → IsWithin (size k) (size g) answer → reply_in g answer ≡ reply_at (length g.closed - 1) (size g) (root g (size g)) answer
+pub answer_ended : (k g : History) (answer : Answer) → k.waiting ≡ [] → (size g ≡ size k) ⊎ IsEnded k g → IsWithin (size k) (size g) answer → reply_in g answer ≡ reply_at (length g.closed - 1) (size g) (root g (size g)) answer
 answer_ended k g (Reply reply) none ended w = refl
 answer_ended k g (Receipt jsn leaf stamp) none ended w =
     elim ended [ inl same ↦ absurd (let no : ⊥ = omega (arith, same, w.0, w.1) in no) | inr e ↦ receipt_ended k g jsn leaf stamp none e w.0 w.1 ]
@@ -146,7 +153,7 @@ dues_ended scheme k g j (step ∷ steps) none ended w =
     ap (λ r. reply_text step.lane step.index r ++ steps_text scheme g (after_step scheme j step) steps) (answer_ended k g (due_for scheme j step).answer none ended w.0)
     ∙ ap (λ rest. reply_text step.lane step.index (reply_at (length g.closed - 1) (size g) (root g (size g)) (due_for scheme j step).answer) ++ rest) (dues_ended scheme k g (after_step scheme j step) steps none ended w.1)
 
-all_higher : (low high higher : ℕ) (ds : List Due) → high ≤ higher → AllWithin low high ds → AllWithin low higher ds
+pub all_higher : (low high higher : ℕ) (ds : List Due) → high ≤ higher → AllWithin low high ds → AllWithin low higher ds
 all_higher low high higher [] h w = tt
 all_higher low high higher (due ∷ ds) h w = (within_wider low low high higher due.answer (omega arith) h w.0, all_higher low high higher ds h w.1)
 

@@ -9,14 +9,15 @@ use Rattle.ledger_bytes.specs.declared.limits.TheConstants.{BLOCK_LIMIT}
 use Rattle.ledger_bytes.specs.declared.refusal.Refusal.{Refusal}
 use Rattle.journal_record.specs.Entry.{Entry}
 use Rattle.journal_record.specs.Header.{spelling}
+use Rattle.ledger_model.specs.Growing.{Grows}
 use Rattle.ledger_model.specs.History.{History, history, journals_of, journals, size, leaves, root, close_by, close, block_from, end_from, block_of, end_of}
 use Rattle.ledger_model.specs.Judgements.{own_refusal}
-use Rattle.ledger_model.specs.Limits.{real}
-use Rattle.ledger_model.specs.Outcomes.{placed, with_waiting, after_judgement, applied}
-use Rattle.ledger_model.specs.Rules.{settled, stamp_of, after_job}
+use Rattle.ledger_model.specs.Limits.{real_limits}
+use Rattle.ledger_model.specs.Outcomes.{placed_journal, with_waiting, after_judgement, with_job}
+use Rattle.ledger_model.specs.Rules.{settled_history, stamp_of, after_job}
 use Rattle.ledger_model.specs.Step.{Step}
 use Rattle.ledger_model.specs.declared.job.Job.{Job}
-use Rattle.ledger_model.specs.declared.job.Job.TheVariants.{Refused, Append, NewMember, Clue, Head}
+use Rattle.ledger_model.specs.declared.job.Job.TheVariants.{Refused, Append, NewMember, Get, Clue, Head}
 
 -- a block more has ended, and nothing waits
 pub record IsEnded (k g : History) : Type 0 where
@@ -74,7 +75,7 @@ ended_by blocks [] journal = refl
 ended_by blocks (x ∷ xs) journal = refl
 
 -- a journal more in the open block, which ends where that fills it
-pub is_placed : (k : History) (job : Job) (journal : Entry) → IsPlaced k (settled job (with_waiting (Some journal) k)) journal
+pub is_placed : (k : History) (job : Job) (journal : Entry) → IsPlaced k (settled_history job (with_waiting (Some journal) k)) journal
 unfolding close
 is_placed k job journal =
     elim (nat_le BLOCK_LIMIT (length (k.waiting ++ journal ∷ []))) as (λ full. IsPlaced k (cond full (close_by k.closed (k.waiting ++ journal ∷ [])) (history k.closed (k.waiting ++ journal ∷ []))) journal) [
@@ -83,11 +84,11 @@ is_placed k job journal =
     ]
 
 -- no journal more
-moves_settled : (k : History) (job : Job) → Moves k (settled job k)
+moves_settled : (k : History) (job : Job) → Moves k (settled_history job k)
 moves_settled k job = elim (nat_le BLOCK_LIMIT (length k.waiting)) as (λ full. Moves k (cond full (close k) k)) [ true ↦ moves_close k | false ↦ moves_not k ]
 
 -- a job that is judged at once
-moves_judged : (k : History) (job : Job) (refusal : Option Refusal) (journal : Option Entry) → Moves k (settled job (after_judgement refusal journal k))
+moves_judged : (k : History) (job : Job) (refusal : Option Refusal) (journal : Option Entry) → Moves k (settled_history job (after_judgement refusal journal k))
 moves_judged k job (Some refusal) journal = moves_settled k job
 moves_judged k job None None = moves_settled k job
 moves_judged k job None (Some journal) = let p = is_placed k job journal in record { more = journal ∷ []; journals_are = p.journals_are; blocks_are = p.blocks_are }
@@ -102,20 +103,21 @@ unfolding close
 close_none k = close_by_none k.closed k.waiting
 
 -- where nothing waits, nothing ends behind a job
-pub settled_none : (k : History) (job : Job) → k.waiting ≡ [] → k ≡ settled job k
+pub settled_none : (k : History) (job : Job) → k.waiting ≡ [] → k ≡ settled_history job k
 settled_none k job none = sym (ap (λ (w : List Entry). cond (nat_le BLOCK_LIMIT (length w)) (close k) k) none)
 
 -- a job that is judged once the open block has ended, and places nothing
-pub moves_asking : (k : History) (job : Job) → Moves k (settled job (close k))
+pub moves_asking : (k : History) (job : Job) → Moves k (settled_history job (close k))
 moves_asking k job = subst (Moves k) (settled_none (close k) job (close_none k)) (moves_close k)
 
 -- a job
 pub moves_job : (k : History) (step : Step) (job : Job) → Moves k (after_job k step job)
-unfolding after_job applied
+unfolding after_job with_job
 moves_job k step (Refused refusal) = moves_settled k (Refused refusal)
 moves_job k step (Append member clue content content_digest request by) =
-    let job = Append member clue content content_digest request by in moves_judged k job (own_refusal real k job) (placed k (stamp_of step) job)
-moves_job k step (NewMember number key by) = let job = NewMember number key by in moves_judged k job (own_refusal real k job) (placed k (stamp_of step) job)
+    let job = Append member clue content content_digest request by in moves_judged k job (own_refusal real_limits k job) (placed_journal k (stamp_of step) job)
+moves_job k step (NewMember number key by) = let job = NewMember number key by in moves_judged k job (own_refusal real_limits k job) (placed_journal k (stamp_of step) job)
+moves_job k step (Get n) = moves_asking k (Get n)
 moves_job k step (Clue clue) = moves_asking k (Clue clue)
 moves_job k step Head = moves_asking k Head
 
@@ -127,7 +129,7 @@ root_kept k g more m is le =
     let whole : leaves g ≡ leaves k ++ map f more = ap (map f) is ∙ map-append f (journals k) more in
     ap (λ xs. mth sha256 (take m xs)) whole ∙ ap (mth sha256) (take-append-le m (leaves k) (map f more) (omega (arith, length-map (journals k) f)))
 
-length-journals_of : (block : List Entry) (blocks : List (List Entry)) → length (journals_of (block ∷ blocks)) ≡ length block + length (journals_of blocks)
+pub length-journals_of : (block : List Entry) (blocks : List (List Entry)) → length (journals_of (block ∷ blocks)) ≡ length block + length (journals_of blocks)
 length-journals_of block blocks = length-append block (journals_of blocks)
 
 -- later blocks change no block of the journals before them
@@ -169,47 +171,48 @@ end_from-last n (first ∷ blocks) block jsn above below =
     let e : nat_lt jsn (n + length first) ≡ false = le-ltb jsn (n + length first) (omega (arith, length-journals_of first blocks)) in
     rw e (end_from-last (n + length first) blocks block jsn (omega (arith, length-journals_of first blocks)) (omega (arith, length-journals_of first blocks)) ∙ omega (arith, length-journals_of first blocks))
 
--- one history comes of another: journals came behind, and blocks ended
-pub record Goes (k g : History) : Type 0 where
-  pub more : List Entry
-  pub journals_are : journals g ≡ journals k ++ more
-  pub blocks : List (List Entry)
-  pub closed_are : g.closed ≡ k.closed ++ blocks
+-- nothing came behind
+pub grows_not : (k : History) → Grows k k
+grows_not k = record { more = []; journals_are = sym (append-nil (journals k)); blocks = []; closed_are = sym (append-nil k.closed) }
 
-pub goes_not : (k : History) → Goes k k
-goes_not k = record { more = []; journals_are = sym (append-nil (journals k)); blocks = []; closed_are = sym (append-nil k.closed) }
-
-pub goes_moved : (k g : History) → Moves k g → Goes k g
-goes_moved k g m = record {
+pub grows_moved : (k g : History) → Moves k g → Grows k g
+grows_moved k g m = record {
   more = m.more;
   journals_are = m.journals_are;
   blocks = elim m.blocks_are [ inl same ↦ [] | inr ended ↦ ended.block ∷ [] ];
   closed_are = elim m.blocks_are as (λ b. g.closed ≡ k.closed ++ elim b [ inl same ↦ [] | inr ended ↦ ended.block ∷ [] ]) [ inl same ↦ same ∙ sym (append-nil k.closed) | inr ended ↦ ended.closed_are ];
 }
 
-pub goes_then : (k g h : History) → Goes k g → Goes g h → Goes k h
-goes_then k g h a b = record {
+pub grows_then : (k g h : History) → Grows k g → Grows g h → Grows k h
+grows_then k g h a b = record {
   more = a.more ++ b.more;
   journals_are = b.journals_are ∙ ap (λ x. x ++ b.more) a.journals_are ∙ append_assoc (journals k) a.more b.more;
   blocks = a.blocks ++ b.blocks;
   closed_are = b.closed_are ∙ ap (λ x. x ++ b.blocks) a.closed_are ∙ append_assoc k.closed a.blocks b.blocks;
 }
 
-pub goes_size : (k g : History) → Goes k g → size k ≤ size g
-goes_size k g a = omega (arith, ap length a.journals_are, length-append (journals k) a.more)
+-- the end of the open block, and a job
+pub grows_close : (h : History) → Grows h (close h)
+grows_close h = grows_moved h (close h) (moves_close h)
+
+pub grows_job : (h : History) (step : Step) (job : Job) → Grows h (after_job h step job)
+grows_job h step job = grows_moved h (after_job h step job) (moves_job h step job)
+
+pub grows_size : (k g : History) → Grows k g → size k ≤ size g
+grows_size k g a = omega (arith, ap length a.journals_are, length-append (journals k) a.more)
 
 -- where nothing waits, all journals stand in blocks that have ended
 pub size_closed : (k : History) → k.waiting ≡ [] → size k ≡ length (journals_of k.closed)
 size_closed k none = ap (λ w. length (journals_of k.closed ++ w)) none ∙ ap length (append-nil (journals_of k.closed))
 
 -- what a receipt says doesn't change when the history goes on
-pub block_of-goes : (k g : History) (jsn : ℕ) → k.waiting ≡ [] → Goes k g → jsn < size k → block_of g jsn ≡ block_of k jsn
+pub block_of-grows : (k g : History) (jsn : ℕ) → k.waiting ≡ [] → Grows k g → jsn < size k → block_of g jsn ≡ block_of k jsn
 unfolding block_of
-block_of-goes k g jsn none a below = ap (λ bs. block_from 0 bs jsn) a.closed_are ∙ block_from-append 0 k.closed a.blocks jsn (omega (arith, size_closed k none)) (omega arith)
+block_of-grows k g jsn none a below = ap (λ bs. block_from 0 bs jsn) a.closed_are ∙ block_from-append 0 k.closed a.blocks jsn (omega (arith, size_closed k none)) (omega arith)
 
-pub end_of-goes : (k g : History) (jsn : ℕ) → k.waiting ≡ [] → Goes k g → jsn < size k → end_of g jsn ≡ end_of k jsn
+pub end_of-grows : (k g : History) (jsn : ℕ) → k.waiting ≡ [] → Grows k g → jsn < size k → end_of g jsn ≡ end_of k jsn
 unfolding end_of
-end_of-goes k g jsn none a below = ap (λ bs. end_from 0 bs jsn) a.closed_are ∙ end_from-append 0 k.closed a.blocks jsn (omega (arith, size_closed k none)) (omega arith)
+end_of-grows k g jsn none a below = ap (λ bs. end_from 0 bs jsn) a.closed_are ∙ end_from-append 0 k.closed a.blocks jsn (omega (arith, size_closed k none)) (omega arith)
 
 pub end_of-le : (k : History) (jsn : ℕ) → k.waiting ≡ [] → jsn < size k → end_of k jsn ≤ size k
 unfolding end_of

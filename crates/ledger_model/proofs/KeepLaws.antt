@@ -9,25 +9,25 @@ use Rattle.ledger_bytes.specs.declared.digest.Digest.{Digest}
 use Rattle.ledger_bytes.specs.declared.limits.TheConstants.{BLOCK_LIMIT, NAME_LIMIT, CONTENT_LIMIT, PROOF_LIMIT}
 use Rattle.ledger_bytes.specs.declared.refusal.Refusal.{Refusal}
 use Rattle.journal_record.specs.Entry.{Entry, content_digest_of}
-use Rattle.script_lines.specs.Grammar.{spoken}
+use Rattle.script_lines.specs.Grammar.{spoken_line}
 use Rattle.script_lines.specs.Limits.{fits_what}
 use Rattle.script_lines.specs.declared.line.Line.{Line}
 use Rattle.script_lines.specs.declared.line.Line.TheVariants as line
 use Rattle.script_lines.proofs.Fitting.{spoken_fits}
 use Rattle.ledger_model.specs.Appends.{append_with, member_job, append_header, append_journal, member_header, member_journal}
 use Rattle.ledger_model.specs.Fitting.{fits_approval, fits_job}
-use Rattle.ledger_model.specs.Genesis.{HasKeys, genesis_header, genesis_journal, founded}
+use Rattle.ledger_model.specs.Genesis.{HasKeys, genesis_header, genesis_journal, new_ledger}
 use Rattle.ledger_model.specs.History.{History, history, journals, journals_of, id, close_by, close}
 use Rattle.ledger_model.specs.Judgements.{own_refusal}
 use Rattle.ledger_model.specs.Lawful.{AreLawful, gathers, AllGather, IsBlock, IsOpenBlock, IsLawful, IsWhole, IsSound}
-use Rattle.ledger_model.specs.Limits.{real, AreWithin}
-use Rattle.ledger_model.specs.Outcomes.{after_judgement, applied}
-use Rattle.ledger_model.specs.Rules.{job_for, job_of, settled, after_job, after_step, after_steps, after_window, after}
+use Rattle.ledger_model.specs.Limits.{real_limits, AreWithin}
+use Rattle.ledger_model.specs.Outcomes.{after_judgement, with_job}
+use Rattle.ledger_model.specs.Rules.{job_for, job_of, settled_history, after_job, after_step, after_steps, after_window, after}
 use Rattle.ledger_model.specs.Scheme.{Scheme}
 use Rattle.ledger_model.specs.Step.{Step}
 use Rattle.ledger_model.specs.declared.genesis.Genesis.{Genesis}
 use Rattle.ledger_model.specs.declared.job.Job.{Job}
-use Rattle.ledger_model.specs.declared.job.Job.TheVariants.{Refused, Append, NewMember, Clue, Head}
+use Rattle.ledger_model.specs.declared.job.Job.TheVariants.{Refused, Append, NewMember, Get, Clue, Head}
 use Rattle.ledger_model.proofs.AcceptedLaws.{record_next, record_whole, member_next, member_whole}
 use Rattle.ledger_model.proofs.GrowLaws.{journals_of-push}
 use Rattle.ledger_model.proofs.LawfulLaws.{lawful_more}
@@ -62,17 +62,17 @@ close_keeps h lawful blocks most gathered = by_waiting h.closed h.waiting lawful
     waiting_is = no_block;
   }
 
-close_lawful : (h : History) → IsLawful h → IsLawful (close h)
+pub close_lawful : (h : History) → IsLawful h → IsLawful (close h)
 close_lawful h l = close_keeps h l.journals_are l.blocks_are (omega (arith, l.waiting_is.room)) l.waiting_is.gathered
 
-settled_keeps : (h : History) (job : Job) → AreLawful (journals h) → All IsBlock h.closed → length h.waiting ≤ BLOCK_LIMIT → AllGather h.waiting → IsLawful (settled job h)
+settled_keeps : (h : History) (job : Job) → AreLawful (journals h) → All IsBlock h.closed → length h.waiting ≤ BLOCK_LIMIT → AllGather h.waiting → IsLawful (settled_history job h)
 settled_keeps h job lawful blocks most gathered =
     elim (nat_le BLOCK_LIMIT (length h.waiting)) as (λ full. nat_le BLOCK_LIMIT (length h.waiting) ≡ full → IsLawful (cond full (close h) h)) [
       | true ↦ λ e. close_keeps h lawful blocks most gathered
       | false ↦ λ e. record { journals_are = lawful; blocks_are = blocks; waiting_is = record { room = leb-false BLOCK_LIMIT (length h.waiting) e; gathered = gathered } }
     ] refl
 
-settled_lawful : (h : History) (job : Job) → IsLawful h → IsLawful (settled job h)
+settled_lawful : (h : History) (job : Job) → IsLawful h → IsLawful (settled_history job h)
 settled_lawful h job l = settled_keeps h job l.journals_are l.blocks_are (omega (arith, l.waiting_is.room)) l.waiting_is.gathered
 
 all_gather : (es : List Entry) (e : Entry) → AllGather es → gathers e.header.kind ≡ true → AllGather (es ++ e ∷ [])
@@ -80,12 +80,12 @@ all_gather [] e all is = ap (λ b. b && true) is
 all_gather (x ∷ es) e all is = let parts = and_parts (gathers x.header.kind) (list_all (λ (y : Entry). gathers y.header.kind) es) all in and_from _ _ parts.0 (all_gather es e parts.1 is)
 
 -- a journal that is placed, or refused
-placed_lawful : (h : History) (job : Job) (refusal : Option Refusal) (j : Entry) → IsLawful h → gathers j.header.kind ≡ true → (refusal ≡ None → AreLawful (journals h ++ j ∷ [])) → IsLawful (settled job (after_judgement refusal (Some j) h))
+placed_lawful : (h : History) (job : Job) (refusal : Option Refusal) (j : Entry) → IsLawful h → gathers j.header.kind ≡ true → (refusal ≡ None → AreLawful (journals h ++ j ∷ [])) → IsLawful (settled_history job (after_judgement refusal (Some j) h))
 placed_lawful h job (Some refusal) j l is next = settled_lawful h job l
 placed_lawful h job None j l is next =
     settled_keeps (wider h j) job (subst AreLawful (sym (journals_wider h j)) (next refl)) l.blocks_are (omega (arith, l.waiting_is.room, length-append h.waiting (j ∷ []))) (all_gather h.waiting j l.waiting_is.gathered is)
 
-real_within : AreWithin real
+real_within : AreWithin real_limits
 real_within = record { soft = omega arith; hard = omega arith; size = omega arith; clues = omega arith }
 
 -- the parts of a job that fits
@@ -97,37 +97,39 @@ content_short member clue content content_digest request by fits =
     (leb-true (length content) CONTENT_LIMIT front.0, front.1)
 
 pub job_lawful : (h : History) (step : Step) (job : Job) → fits_job job ≡ true → IsLawful h → IsLawful (after_job h step job)
-unfolding after_job applied append_header member_header
+unfolding after_job with_job append_header member_header
 job_lawful h step (Refused refusal) fits l = settled_lawful h (Refused refusal) l
 job_lawful h step (Append member clue content content_digest request by) fits l =
     let job = Append member clue content content_digest request by in
-    placed_lawful h job (own_refusal real h job) (append_journal h member clue content content_digest request by) l refl
-    (λ none. lawful_more (journals h) _ l.journals_are (record_next real real_within h member clue content content_digest request by none l.journals_are (content_short member clue content content_digest request by fits).0))
+    placed_lawful h job (own_refusal real_limits h job) (append_journal h member clue content content_digest request by) l refl
+    (λ none. lawful_more (journals h) _ l.journals_are (record_next real_limits real_within h member clue content content_digest request by none l.journals_are (content_short member clue content content_digest request by fits).0))
 job_lawful h step (NewMember number key by) fits l =
     let job = NewMember number key by in
-    placed_lawful h job (own_refusal real h job) (member_journal _ number key by) l refl
-    (λ none. lawful_more (journals h) _ l.journals_are (member_next real real_within h number key by none l.journals_are))
+    placed_lawful h job (own_refusal real_limits h job) (member_journal _ number key by) l refl
+    (λ none. lawful_more (journals h) _ l.journals_are (member_next real_limits real_within h number key by none l.journals_are))
+job_lawful h step (Get n) fits l = settled_lawful (close h) (Get n) (close_lawful h l)
 job_lawful h step (Clue clue) fits l = settled_lawful (close h) (Clue clue) (close_lawful h l)
 job_lawful h step Head fits l = settled_lawful (close h) Head (close_lawful h l)
 
 close_sound : (h : History) → IsSound h → IsSound (close h)
 close_sound h s = subst (All IsWhole) (sym (journals_close h)) s
 
-settled_sound : (h : History) (job : Job) → IsSound h → IsSound (settled job h)
+settled_sound : (h : History) (job : Job) → IsSound h → IsSound (settled_history job h)
 settled_sound h job s = elim (nat_le BLOCK_LIMIT (length h.waiting)) as (λ full. IsSound (cond full (close h) h)) [ true ↦ close_sound h s | false ↦ s ]
 
-placed_sound : (h : History) (job : Job) (refusal : Option Refusal) (j : Entry) → IsSound h → IsWhole j → IsSound (settled job (after_judgement refusal (Some j) h))
+placed_sound : (h : History) (job : Job) (refusal : Option Refusal) (j : Entry) → IsSound h → IsWhole j → IsSound (settled_history job (after_judgement refusal (Some j) h))
 placed_sound h job (Some refusal) j s whole = settled_sound h job s
 placed_sound h job None j s whole = settled_sound (wider h j) job (subst (All IsWhole) (sym (journals_wider h j)) (All-push IsWhole (journals h) j s whole))
 
 pub job_sound : (h : History) (step : Step) (job : Job) → fits_job job ≡ true → IsSound h → IsSound (after_job h step job)
-unfolding after_job applied
+unfolding after_job with_job
 job_sound h step (Refused refusal) fits s = settled_sound h (Refused refusal) s
 job_sound h step (Append member clue content content_digest request by) fits s =
     let job = Append member clue content content_digest request by in
-    placed_sound h job (own_refusal real h job) _ s (record_whole h member clue content content_digest request by (content_short member clue content content_digest request by fits).1)
+    placed_sound h job (own_refusal real_limits h job) _ s (record_whole h member clue content content_digest request by (content_short member clue content content_digest request by fits).1)
 job_sound h step (NewMember number key by) fits s =
-    let job = NewMember number key by in placed_sound h job (own_refusal real h job) _ s (member_whole _ number key by)
+    let job = NewMember number key by in placed_sound h job (own_refusal real_limits h job) _ s (member_whole _ number key by)
+job_sound h step (Get n) fits s = settled_sound (close h) (Get n) (close_sound h s)
 job_sound h step (Clue clue) fits s = settled_sound (close h) (Clue clue) (close_sound h s)
 job_sound h step Head fits s = settled_sound (close h) Head (close_sound h s)
 
@@ -149,20 +151,21 @@ for_fits scheme id (Ok (line.Append member clue content proof)) fits =
     let front = and_parts (nat_le (length clue) NAME_LIMIT) (nat_le (length content) CONTENT_LIMIT) parts.0 in
     record_fits scheme id member _ content proof (leb-true (length content) CONTENT_LIMIT front.1) (leb-true (length proof) PROOF_LIMIT parts.1)
 for_fits scheme id (Ok (line.NewMember number key proof)) fits = member_fits scheme id number key proof (leb-true (length proof) PROOF_LIMIT fits)
+for_fits scheme id (Ok (line.Get n)) fits = refl
 for_fits scheme id (Ok (line.Clue name)) fits = refl
 for_fits scheme id (Ok line.Head) fits = refl
 
 pub job_fits : (scheme : Scheme) (id text : List ℕ) → fits_job (job_of scheme id text) ≡ true
 unfolding job_of
-job_fits scheme id text = for_fits scheme id (spoken text).1 (spoken_fits text)
+job_fits scheme id text = for_fits scheme id (spoken_line text).1 (spoken_fits text)
 
 -- whatever lines are run
 module _ (scheme : Scheme) where
-  step_lawful : (h : History) (step : Step) → IsLawful h → IsLawful (after_step scheme h step)
+  pub step_lawful : (h : History) (step : Step) → IsLawful h → IsLawful (after_step scheme h step)
   unfolding after_step
   step_lawful h step l = job_lawful h step (job_of scheme (id h) step.line) (job_fits scheme (id h) step.line) l
 
-  steps_lawful : (h : History) (steps : List Step) → IsLawful h → IsLawful (after_steps scheme h steps)
+  pub steps_lawful : (h : History) (steps : List Step) → IsLawful h → IsLawful (after_steps scheme h steps)
   steps_lawful h [] l = l
   steps_lawful h (step ∷ steps) l = steps_lawful (after_step scheme h step) steps (step_lawful h step l)
 
@@ -198,14 +201,14 @@ genesis_lawful genesis = record {
   founded = refl;
 }
 
-pub founded_lawful : (genesis : Genesis) → IsLawful (founded genesis)
+pub founded_lawful : (genesis : Genesis) → IsLawful (new_ledger genesis)
 founded_lawful genesis = record {
   journals_are = genesis_lawful genesis;
   blocks_are = All-cons IsBlock (genesis_journal genesis ∷ []) [] (record { some = omega arith; most = omega arith; gathered = λ other. absurd (other refl) }) (All-nil IsBlock);
   waiting_is = no_block;
 }
 
-pub founded_sound : (genesis : Genesis) → HasKeys genesis → IsSound (founded genesis)
+pub founded_sound : (genesis : Genesis) → HasKeys genesis → IsSound (new_ledger genesis)
 unfolding genesis_header
 founded_sound genesis keys =
     All-cons IsWhole (genesis_journal genesis) [] (record { length_is = omega (arith, length-append genesis.operator.0 genesis.regulator.0, keys.operator, keys.regulator); content_is = refl; who_is = refl }) (All-nil IsWhole)

@@ -17,8 +17,8 @@ use Rattle.journal_record.specs.declared.member.Member.{Member}
 use Rattle.ledger_model.specs.Clues.{has_clue, is_of_clue, numbers_of, last_of}
 use Rattle.ledger_model.specs.History.{History, history, journals, is_purge, purge_point, greatest_point, point, seen_point}
 use Rattle.ledger_model.specs.Lawful.{IsNext, IsNextOf, AreNext, IsFounded, AreLawful}
-use Rattle.ledger_model.specs.Members.{founders, is_member, admits, member_of, admitted, members}
-use Rattle.ledger_model.specs.Outcomes.{is_occult, hides, hidden}
+use Rattle.ledger_model.specs.Members.{founders, is_member, admits, member_of, admitted_members, members}
+use Rattle.ledger_model.specs.Outcomes.{is_occult, hides, is_hidden}
 use Rattle.ledger_model.proofs.PlaceLaws.{founders_kept, admitted_more, admitted_same}
 
 -- each journal has the number of its place, counted from m, and obeys its layout
@@ -80,7 +80,7 @@ HasMembers es = (2 ≤ length (members (history [] es))) × (length (members (hi
 members_step : (before : List Entry) (e : Entry) → 1 ≤ length before → IsNext (history [] before) e.header → HasMembers before → HasMembers (before ++ e ∷ [])
 unfolding members
 members_step before e some next few =
-    let kept = ap length (ap (λ (l : List Member). l ++ admitted (before ++ e ∷ [])) (founders_kept before (e ∷ []) some)) in
+    let kept = ap length (ap (λ (l : List Member). l ++ admitted_members (before ++ e ∷ [])) (founders_kept before (e ∷ []) some)) in
     elim (admits e) as (λ v. admits e ≡ v → HasMembers (before ++ e ∷ [])) [
       | true ↦ λ is.
           let own = admits_own (history [] before) e.header e.header.kind is next.own next.layout.a in
@@ -88,9 +88,9 @@ members_step before e some next few =
             arith,
             kept,
             ap length (ap (λ (l : List Member). founders before ++ l) (admitted_more before e is)),
-            length-append (founders before) (admitted before ++ member_of e ∷ []),
-            length-append (admitted before) (member_of e ∷ []),
-            length-append (founders before) (admitted before),
+            length-append (founders before) (admitted_members before ++ member_of e ∷ []),
+            length-append (admitted_members before) (member_of e ∷ []),
+            length-append (founders before) (admitted_members before),
           ) in
           (omega (arith, few.0, count), omega (arith, own.0, own.1, count))
       | false ↦ λ is.
@@ -107,7 +107,7 @@ members_more before (e ∷ es) some next few =
 members_first : (e : Entry) → e.header.kind ≡ kind.Genesis → HasMembers (e ∷ [])
 unfolding members
 members_first e is =
-    let two : length (founders (e ∷ []) ++ admitted (e ∷ [])) ≡ 2 = ap length (ap (λ (k : Kind). founders (e ∷ []) ++ map member_of (cond (is_member k) (e ∷ []) [])) is) in
+    let two : length (founders (e ∷ []) ++ admitted_members (e ∷ [])) ≡ 2 = ap length (ap (λ (k : Kind). founders (e ∷ []) ++ map member_of (cond (is_member k) (e ∷ []) [])) is) in
     (omega (arith, two), omega (arith, two))
 
 pub lawful_members : (es : List Entry) → AreLawful es → HasMembers es
@@ -163,7 +163,7 @@ purge_below kind.Member x n ok at = omega (arith, at)
 purge_below kind.Time x n ok at = omega (arith, at)
 purge_below kind.Occult x n ok at = omega (arith, at)
 
-point_below : (n m start : ℕ) (es : List Entry) → AreFrom m es → m + length es ≤ n → start < n → fold max start (map purge_point es) < n
+pub point_below : (n m start : ℕ) (es : List Entry) → AreFrom m es → m + length es ≤ n → start < n → fold max start (map purge_point es) < n
 point_below n m start [] from below low = low
 point_below n m start (e ∷ es) from below low =
     let here = purge_below e.header.kind e.header n from.1.a (omega (arith, from.0, below)) in
@@ -216,5 +216,5 @@ none_hide : (n : ℕ) (before es : List Entry) → AreNext before es → list_an
 none_hide n before [] next = refl
 none_hide n before (e ∷ es) next = or_from _ _ (never_hides (history [] before) e.header e.header.kind n next.0.own) (none_hide n (before ++ e ∷ []) es next.1)
 
-pub none_hidden : (h : History) (n : ℕ) → AreLawful (journals h) → hidden h n ≡ false
+pub none_hidden : (h : History) (n : ℕ) → AreLawful (journals h) → is_hidden h n ≡ false
 none_hidden h n lawful = none_hide n [] (journals h) lawful.next

@@ -4,8 +4,15 @@ pub mod LineLaws
 pub mod EndLaws
 pub mod GrowLaws
 pub mod DueLaws
-pub mod ProgressLaws
+pub mod RunLaws
+pub mod PreparedLaws
+pub mod GetLaws
+pub mod WaitLaws
+pub mod WrittenLaws
 pub mod PlaceLaws
 pub mod LawfulLaws
 pub mod AcceptedLaws
 pub mod KeepLaws
+pub mod ByteLaws
+pub mod FitLaws
+pub mod CountLaws

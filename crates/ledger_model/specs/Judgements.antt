@@ -9,20 +9,20 @@ use Rattle.ledger_model.specs.Clues.{jsns_with, clue_count}
 use Rattle.ledger_model.specs.History.{History, size, point}
 use Rattle.ledger_model.specs.Members.{members, keys}
 use Rattle.ledger_model.specs.declared.job.Job.{Job}
-use Rattle.ledger_model.specs.declared.job.Job.TheVariants.{Refused, Append, NewMember, Clue, Head}
+use Rattle.ledger_model.specs.declared.job.Job.TheVariants.{Refused, Append, NewMember, Get, Clue, Head}
 use Rattle.ledger_model.specs.declared.limits.Limits.{Limits}
 
 -- how many journals are kept
-abbrev pub kept : History → ℕ
-kept h = size h - point h
+abbrev pub kept_count : History → ℕ
+kept_count h = size h - point h
 
 -- whether so many journals are kept, or there are as many over the whole life as there may be
 abbrev pub is_full : ℕ → Limits → History → Bool
-is_full most limits h = nat_le most (kept h) || nat_le limits.size (size h)
+is_full most limits h = nat_le most (kept_count h) || nat_le limits.size (size h)
 
 -- there is no room for a member's journal
-unfoldable pub full : Limits → History → Option Refusal
-full limits h = if is_full limits.soft limits h then Some (Full (kept h) (size h)) else None
+unfoldable pub fullness : Limits → History → Option Refusal
+fullness limits h = if is_full limits.soft limits h then Some (Full (kept_count h) (size h)) else None
 
 -- among members with these keys there is none with this number
 abbrev pub unknown_in : List (List ℕ) → ℕ → Option Refusal
@@ -42,18 +42,19 @@ clues_full limits h clue =
 -- a member's record whose proof shows this key
 abbrev pub append_judgements : Limits → History → ℕ → Digest → Option Digest → List (Option Refusal)
 append_judgements limits h member clue shown =
-    full limits h ∷ unknown_in (keys h) member ∷ wrong_key_in (keys h) member shown ∷ clues_full limits h clue ∷ []
+    fullness limits h ∷ unknown_in (keys h) member ∷ wrong_key_in (keys h) member shown ∷ clues_full limits h clue ∷ []
 
 -- a new member, where the proof of member 0 shows this key
 abbrev pub member_judgements : Limits → History → ℕ → Option Digest → List (Option Refusal)
 member_judgements limits h number shown =
-    full limits h ∷ number_refusal (members h) number ∷ wrong_key_in (keys h) 0 shown ∷ []
+    fullness limits h ∷ number_refusal (members h) number ∷ wrong_key_in (keys h) 0 shown ∷ []
 
 -- what may refuse a job by the history alone
 abbrev pub own_judgements : Limits → History → Job → List (Option Refusal)
 own_judgements limits h (Refused refusal) = Some refusal ∷ []
 own_judgements limits h (Append member clue content content_digest request by) = append_judgements limits h member clue by.key
 own_judgements limits h (NewMember number key by) = member_judgements limits h number by.key
+own_judgements limits h (Get n) = []
 own_judgements limits h (Clue clue) = []
 own_judgements limits h Head = []
 

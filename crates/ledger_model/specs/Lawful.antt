@@ -10,7 +10,7 @@ use Rattle.journal_record.specs.declared.header.Kind.TheVariants as kind
 use Rattle.ledger_model.specs.Clues.{next_ordinal, last_journal}
 use Rattle.ledger_model.specs.History.{History, history, journals, size}
 use Rattle.ledger_model.specs.Judgements.{clues_full}
-use Rattle.ledger_model.specs.Limits.{real}
+use Rattle.ledger_model.specs.Limits.{real_limits}
 use Rattle.ledger_model.specs.Members.{members}
 
 -- a member's record: the member is known, the clue's numbers are the next ones, and there is room for the clue
@@ -18,7 +18,7 @@ pub record IsNextRecord (h : History) (x : Header) : Type 0 where
   pub member : x.member < length (members h)
   pub clue_ord : x.clue_ord ≡ next_ordinal h x.clue
   pub clue_prev : x.clue_prev ≡ last_journal h x.clue
-  pub room : clues_full real h x.clue ≡ None
+  pub room : clues_full real_limits h x.clue ≡ None
 
 -- what the next journal must be by its kind; the other kinds are placed by no job so far
 abbrev pub IsNextOf : History → Header → Kind → Type 0
@@ -31,7 +31,7 @@ IsNextOf h x other = ⊥
 pub record IsNext (h : History) (x : Header) : Type 0 where
   pub layout : IsHeader x
   pub jsn : x.jsn ≡ size h
-  pub below : x.jsn < real.size
+  pub below : x.jsn < real_limits.size
   pub own : IsNextOf h x x.kind
 
 -- journals behind these, each the next one

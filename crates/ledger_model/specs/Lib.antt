@@ -13,8 +13,11 @@ pub mod Outcomes
 pub mod Lawful
 pub mod Notary
 pub mod Rules
+pub mod Growing
+pub mod Getting
 pub mod Texts
 pub mod Dues
+pub mod Prepared
 pub mod Windows
 pub mod Merge
 pub mod InOrder

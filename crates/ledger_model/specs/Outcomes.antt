@@ -21,12 +21,13 @@ use Rattle.ledger_model.specs.declared.view.View.{View}
 use Rattle.ledger_model.specs.declared.view.View.TheVariants.{Absent, Purged, Occulted, Whole}
 
 -- the journal that an accepted job places, where it places one; no job so far has a stamp in it
-abbrev pub placed : History → Option Stamp → Job → Option Entry
-placed h stamp (job.Refused refusal) = None
-placed h stamp (job.Append member clue content content_digest request by) = Some (append_journal h member clue content content_digest request by)
-placed h stamp (job.NewMember number key by) = Some (member_journal (size h) number key by)
-placed h stamp (job.Clue clue) = None
-placed h stamp job.Head = None
+abbrev pub placed_journal : History → Option Stamp → Job → Option Entry
+placed_journal h stamp (job.Refused refusal) = None
+placed_journal h stamp (job.Append member clue content content_digest request by) = Some (append_journal h member clue content content_digest request by)
+placed_journal h stamp (job.NewMember number key by) = Some (member_journal (size h) number key by)
+placed_journal h stamp (job.Get n) = None
+placed_journal h stamp (job.Clue clue) = None
+placed_journal h stamp job.Head = None
 
 -- the history with a journal more, which waits in the open block
 abbrev pub with_waiting : Option Entry → History → History
@@ -39,42 +40,44 @@ after_judgement (Some refusal) journal h = h
 after_judgement None journal h = with_waiting journal h
 
 -- the history after a job, whose journal waits
-unfoldable pub applied : Limits → Option Stamp → History → Job → History
-applied limits stamp h job = after_judgement (own_refusal limits h job) (placed h stamp job) h
+unfoldable pub with_job : Limits → Option Stamp → History → Job → History
+with_job limits stamp h job = after_judgement (own_refusal limits h job) (placed_journal h stamp job) h
 
 -- what a job asks for, where it asks
-abbrev pub asked : Job → Option Query
-asked (job.Clue clue) = Some (query.Clue clue)
-asked job.Head = Some query.Head
-asked other = None
+abbrev pub query_of : Job → Option Query
+query_of (job.Get n) = Some (query.Get n)
+query_of (job.Clue clue) = Some (query.Clue clue)
+query_of job.Head = Some query.Head
+query_of other = None
 
 -- a journal was placed that has this number
 abbrev pub placed_as : ℕ → Entry → Outcome
 placed_as jsn journal = Placed jsn (digest (leaf_digest journal))
 
 -- what comes of an accepted job
-abbrev pub accepted : History → Option Stamp → Job → Outcome
-accepted h stamp (job.Refused refusal) = Refused refusal
-accepted h stamp (job.Append member clue content content_digest request by) =
+abbrev pub accepted_outcome : History → Option Stamp → Job → Outcome
+accepted_outcome h stamp (job.Refused refusal) = Refused refusal
+accepted_outcome h stamp (job.Append member clue content content_digest request by) =
     placed_as (size h) (append_journal h member clue content content_digest request by)
-accepted h stamp (job.NewMember number key by) = placed_as (size h) (member_journal (size h) number key by)
-accepted h stamp (job.Clue clue) = Reading (query.Clue clue)
-accepted h stamp job.Head = Reading query.Head
+accepted_outcome h stamp (job.NewMember number key by) = placed_as (size h) (member_journal (size h) number key by)
+accepted_outcome h stamp (job.Get n) = Reading (query.Get n)
+accepted_outcome h stamp (job.Clue clue) = Reading (query.Clue clue)
+accepted_outcome h stamp job.Head = Reading query.Head
 
 -- what comes of a job after its judgement
-abbrev pub judged : Option Refusal → Outcome → Outcome
-judged (Some refusal) outcome = Refused refusal
-judged None outcome = outcome
+abbrev pub judged_outcome : Option Refusal → Outcome → Outcome
+judged_outcome (Some refusal) outcome = Refused refusal
+judged_outcome None outcome = outcome
 
 -- what comes of a job
 unfoldable pub outcome : Limits → Option Stamp → History → Job → Outcome
-outcome limits stamp h job = judged (own_refusal limits h job) (accepted h stamp job)
+outcome limits stamp h job = judged_outcome (own_refusal limits h job) (accepted_outcome h stamp job)
 
 -- only a job that asks is told to read, and it is told what it asks for
 abbrev pub AsksFor : Job → Outcome → Type 0
 AsksFor job (Refused refusal) = ⊤
 AsksFor job (Placed jsn leaf) = ⊤
-AsksFor job (Reading query) = asked job ≡ Some query
+AsksFor job (Reading query) = query_of job ≡ Some query
 
 abbrev pub is_occult : Kind → Bool
 is_occult kind.Occult = true
@@ -84,12 +87,12 @@ is_occult other = false
 abbrev pub hides : ℕ → Entry → Bool
 hides n journal = is_occult journal.header.kind && journal.header.a == n
 
-abbrev pub hidden : History → ℕ → Bool
-hidden h n = list_any (hides n) (journals h)
+abbrev pub is_hidden : History → ℕ → Bool
+is_hidden h n = list_any (hides n) (journals h)
 
 -- what of journal n can be shown
 unfoldable pub view : History → ℕ → View
 view h n =
     if nat_le (size h) n then Absent
     else (if nat_lt n (point h) then Purged (point h)
-    else (if hidden h n then Occulted else Whole))
+    else (if is_hidden h n then Occulted else Whole))

@@ -3,29 +3,30 @@ use Rattle.std.specs.Prelude.{ℕ, ◌||◌, Bool, true, false, if◌then◌else
 use Rattle.ledger_bytes.specs.declared.limits.TheConstants.{BLOCK_LIMIT}
 use Rattle.ledger_bytes.specs.declared.refusal.Refusal.{Refusal}
 use Rattle.journal_record.specs.declared.stamp.Stamp.{Stamp}
-use Rattle.script_lines.specs.Grammar.{spoken}
+use Rattle.script_lines.specs.Grammar.{spoken_line}
 use Rattle.script_lines.specs.declared.line.Line.{Line}
 use Rattle.script_lines.specs.declared.line.Line.TheVariants as line
 use Rattle.ledger_model.specs.Appends.{append_with, member_job, clue_of}
 use Rattle.ledger_model.specs.History.{History, id, close}
-use Rattle.ledger_model.specs.Limits.{real}
-use Rattle.ledger_model.specs.Outcomes.{applied}
+use Rattle.ledger_model.specs.Limits.{real_limits}
+use Rattle.ledger_model.specs.Outcomes.{with_job}
 use Rattle.ledger_model.specs.Scheme.{Scheme}
 use Rattle.ledger_model.specs.Step.{Step}
 use Rattle.ledger_model.specs.declared.job.Job.{Job}
-use Rattle.ledger_model.specs.declared.job.Job.TheVariants.{Refused, Append, NewMember, Clue, Head}
+use Rattle.ledger_model.specs.declared.job.Job.TheVariants.{Refused, Append, NewMember, Get, Clue, Head}
 
 -- what a line that was read asks for, on the ledger with this id
 abbrev pub job_for : Scheme → List ℕ → Result Line Refusal → Job
 job_for scheme id (Err refusal) = Refused refusal
 job_for scheme id (Ok (line.Append member clue content proof)) = append_with scheme id member (clue_of clue) content proof
 job_for scheme id (Ok (line.NewMember number key proof)) = member_job scheme id number key proof
+job_for scheme id (Ok (line.Get n)) = Get n
 job_for scheme id (Ok (line.Clue name)) = Clue (clue_of name)
 job_for scheme id (Ok line.Head) = Head
 
 -- what a line asks for, on the ledger with this id
 unfoldable pub job_of : Scheme → List ℕ → List ℕ → Job
-job_of scheme id line = job_for scheme id (spoken line).1
+job_of scheme id line = job_for scheme id (spoken_line line).1
 
 -- whether a job ends the open block before it is judged
 abbrev pub closes_before : Job → Bool
@@ -43,8 +44,8 @@ abbrev pub judged_at : History → Job → History
 judged_at h job = if closes_before job then close h else h
 
 -- the history where a job is done: the open block ends where it is full, or where the job wants it
-abbrev pub settled : Job → History → History
-settled job h = if closes_after job || nat_le BLOCK_LIMIT (length h.waiting) then close h else h
+abbrev pub settled_history : Job → History → History
+settled_history job h = if closes_after job || nat_le BLOCK_LIMIT (length h.waiting) then close h else h
 
 -- the stamp that the notary gave in a step; no line so far asks for one
 abbrev pub stamp_of : Step → Option Stamp
@@ -52,7 +53,7 @@ stamp_of step = None
 
 -- the history after a job: it is judged, it places what it places, and a block ends
 unfoldable pub after_job : History → Step → Job → History
-after_job h step job = settled job (applied real (stamp_of step) (judged_at h job) job)
+after_job h step job = settled_history job (with_job real_limits (stamp_of step) (judged_at h job) job)
 
 -- the history after a step
 unfoldable pub after_step : Scheme → History → Step → History

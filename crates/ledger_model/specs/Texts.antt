@@ -10,8 +10,9 @@ use Rattle.script_lines.specs.Replies.{reply_text}
 use Rattle.script_lines.specs.declared.reply.Reply.{Reply as AnyReply}
 use Rattle.script_lines.specs.declared.reply.Reply.TheVariants as reply
 use Rattle.ledger_model.specs.Clues.{jsns_with}
+use Rattle.ledger_model.specs.Getting.{get_reply}
 use Rattle.ledger_model.specs.History.{History, id, size, root, blocks, point, block_of, end_of}
-use Rattle.ledger_model.specs.Limits.{real}
+use Rattle.ledger_model.specs.Limits.{real_limits}
 use Rattle.ledger_model.specs.Outcomes.{outcome}
 use Rattle.ledger_model.specs.Rules.{job_of, judged_at, stamp_of, after_step, after_window}
 use Rattle.ledger_model.specs.Scheme.{Scheme}
@@ -22,29 +23,30 @@ use Rattle.ledger_model.specs.declared.job.Job.{Job}
 use Rattle.ledger_model.specs.declared.outcome.Outcome.{Outcome}
 use Rattle.ledger_model.specs.declared.outcome.Outcome.TheVariants.{Refused, Placed, Reading}
 use Rattle.ledger_model.specs.declared.outcome.Query.{Query}
-use Rattle.ledger_model.specs.declared.outcome.Query.TheVariants.{Clue, Head}
+use Rattle.ledger_model.specs.declared.outcome.Query.TheVariants.{Get, Clue, Head}
 
 -- the numbers of a clue's journals from the point on
 abbrev pub kept_with : History → Digest → List ℕ
 kept_with h clue = filter (λ jsn. nat_le (point h) jsn) (jsns_with h clue)
 
 -- what is told to a query that is judged against h
-abbrev pub told : History → Step → Query → AnyReply
-told h step (Clue clue) = reply.Clue (length (jsns_with h clue)) (kept_with h clue)
-told h step Head =
+abbrev pub told_reply : History → Step → Query → AnyReply
+told_reply h step (Get n) = get_reply h n
+told_reply h step (Clue clue) = reply.Clue (length (jsns_with h clue)) (kept_with h clue)
+told_reply h step Head =
     reply.Head (digest (id h)) (size h) (digest (root h (size h))) (blocks h) (point h) (length step.after) (digest (mth sha256 step.after))
 
 -- the answer to a job that is judged against h, by what came of it
 abbrev pub answer_for : History → Step → Outcome → Answer
 answer_for h step (Refused refusal) = Reply (reply.Refused refusal)
 answer_for h step (Placed jsn leaf) = Receipt jsn leaf (stamp_of step)
-answer_for h step (Reading query) = Reply (told h step query)
+answer_for h step (Reading query) = Reply (told_reply h step query)
 
 -- the answer to a job, judged against everything placed before it
 unfoldable pub answer_to : History → Step → Job → Answer
 answer_to h step job =
     let g = judged_at h job in
-    answer_for g step (outcome real (stamp_of step) g job)
+    answer_for g step (outcome real_limits (stamp_of step) g job)
 
 -- what a receipt tells of a stamp: its index and its time
 abbrev pub told_stamp : Option Stamp → Option (ℕ × ℕ)

@@ -31,6 +31,11 @@ pub enum Job {
         /// The approval of member 0.
         by: Approval,
     },
+    /// A journal.
+    Get {
+        /// The journal's number.
+        n: u64,
+    },
     /// The journals of a clue.
     Clue {
         /// The digest of the clue's name, or 32 zero bytes for no clue.
@@ -47,7 +52,7 @@ impl Job {
     {
         match self {
             Job::Refused(_) | Job::Append { .. } | Job::NewMember { .. } => false,
-            Job::Clue { .. } | Job::Head => true,
+            Job::Get { .. } | Job::Clue { .. } | Job::Head => true,
         }
     }
 }

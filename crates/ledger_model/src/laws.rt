@@ -1,18 +1,31 @@
-ghost use Rattle.std.specs.Prelude.{◌≡◌, ℕ, ◌+◌, ◌≤◌, List, ◌++◌, length, All, true};
+ghost use Rattle.std.specs.Prelude.{◌≡◌, ℕ, ◌+◌, ◌^◌, ◌<◌, ◌≤◌, List, ◌++◌, length, All, Some, slice_get, true};
 ghost use Rattle.std.specs.List.{flat_map};
+ghost use Rattle.ledger_bytes.specs.declared.digest.Digest.{Digest};
 ghost use Rattle.journal_record.specs.Entry.{Entry};
+ghost use Rattle.journal_record.specs.Header.{spelling};
 ghost use Rattle.journal_record.specs.Rules.{IsHeader};
+ghost use Rattle.script_lines.specs.Receipts.{AllFit, IsReceipted};
+ghost use Rattle.script_lines.specs.declared.reply.Reply.TheVariants as replies;
+ghost use Rattle.ledger_model.specs.Dues.{dues, all_dues, due_lines, due_replies, EachCounted, HasLeaf, AllIn};
 ghost use Rattle.ledger_model.specs.Ends.{ends_from, cut_at, Rises};
 ghost use Rattle.ledger_model.specs.Fitting.{fits_job};
-ghost use Rattle.ledger_model.specs.Genesis.{founded, HasKeys};
-ghost use Rattle.ledger_model.specs.History.{History, journals, point, seen_point};
+ghost use Rattle.ledger_model.specs.Genesis.{new_ledger, HasKeys};
+ghost use Rattle.ledger_model.specs.Getting.{get_reply};
+ghost use Rattle.ledger_model.specs.Growing.{Grows};
+ghost use Rattle.ledger_model.specs.History.{History, journals, journals_of, size, id, point, seen_point};
+ghost use Rattle.ledger_model.specs.InOrder.{steps_of};
 ghost use Rattle.ledger_model.specs.Lawful.{IsLawful, IsSound};
-ghost use Rattle.ledger_model.specs.Rules.{after_job, after};
+ghost use Rattle.ledger_model.specs.Outcomes.{view};
+ghost use Rattle.ledger_model.specs.Prepared.{prepared_items, after_jobs, job_dues};
+ghost use Rattle.ledger_model.specs.Rules.{after_job, after_steps, after};
 ghost use Rattle.ledger_model.specs.Scheme.{Scheme};
 ghost use Rattle.ledger_model.specs.Step.{Step};
-ghost use Rattle.ledger_model.specs.Windows.{Said, windows, AllButLastWhole, NoneWholeBefore};
+ghost use Rattle.ledger_model.specs.Texts.{text};
+ghost use Rattle.ledger_model.specs.Windows.{Said, said_lines, windows, AllButLastWhole, NoneWholeBefore};
+ghost use Rattle.ledger_model.specs.declared.due.Due.{Due as AnyDue};
 ghost use Rattle.ledger_model.specs.declared.genesis.Genesis.{Genesis};
 ghost use Rattle.ledger_model.specs.declared.job.Job.{Job};
+ghost use Rattle.ledger_model.specs.declared.view.View.TheVariants as views;
 
 /// The windows of a script are its lines in order, none lost. Each but the last has 4,096 lines or
 /// 16,777,216 bytes, and none has so many before its last line.
@@ -37,8 +50,8 @@ pub fn blocks_are_journals_with_ends()
 
 /// A new ledger's history is lawful and sound.
 pub fn new_ledgers_keep_the_rules()
-    ensures lawful { (genesis : Genesis) → IsLawful (founded genesis) }
-    ensures sound { (genesis : Genesis) → HasKeys genesis → IsSound (founded genesis) }
+    ensures lawful { (genesis : Genesis) → IsLawful (new_ledger genesis) }
+    ensures sound { (genesis : Genesis) → HasKeys genesis → IsSound (new_ledger genesis) }
 {}
 
 /// A job that a line may make leaves a lawful history lawful, and a sound one sound.
@@ -62,9 +75,60 @@ pub fn lawful_headers_obey_their_layout()
     ensures { (h : History) → IsLawful h → All (λ journal. IsHeader journal.header) (journals h) }
 {}
 
+/// A sound history is told as it is: a journal that is whole with its header, its content and its who, and one whose
+/// content is hidden with its header and its who. So no journal of it is told to be damaged.
+pub fn sound_histories_show_their_journals()
+    ensures whole { (h : History) (n : ℕ) (e : Entry) → IsSound h → slice_get (journals h) n ≡ Some e
+        → view h n ≡ views.Whole
+        → get_reply h n ≡ replies.Whole (spelling e.header) e.content e.who }
+    ensures occulted { (h : History) (n : ℕ) (e : Entry) → IsSound h → slice_get (journals h) n ≡ Some e
+        → view h n ≡ views.Occulted
+        → get_reply h n ≡ replies.Occulted (spelling e.header) e.who }
+{}
+
 /// From journal 0 on the whole point is seen; from a later journal on it is, where what is seen reaches that journal.
 pub fn points_are_seen()
     ensures all { (h : History) → seen_point 0 h ≡ point h }
     ensures later { (h : History) (floor : ℕ) → IsLawful h → floor ≤ seen_point floor h
         → seen_point floor h ≡ point h }
+{}
+
+/// What is due for the lines of a run is what the run writes: each due as its line, in any later history.
+pub fn a_run_is_its_dues()
+    ensures { (scheme : Scheme) (h f : History) (steps : List (List Step))
+        → Grows (after scheme h steps) f
+        → due_lines f (all_dues scheme h steps) ≡ text scheme h steps }
+{}
+
+/// Jobs that were prepared with the ledger's id at a window's start are those of the window's lines.
+pub fn a_window_is_its_lines()
+    ensures after { (scheme : Scheme) (h : History) (steps : List Step) → 1 ≤ size h
+        → after_jobs h (prepared_items scheme (id h) steps) ≡ after_steps scheme h steps }
+    ensures dues { (scheme : Scheme) (h : History) (steps : List Step) → 1 ≤ size h
+        → job_dues h (prepared_items scheme (id h) steps) ≡ dues scheme h steps }
+{}
+
+/// Where what was written begins the lines of dues whose journals stand in some blocks, each whole line of it that is
+/// a receipt is that of a journal of these blocks. The same holds where the lines are followed by a tail in which
+/// no line is a receipt.
+pub fn a_written_receipt_is_kept()
+    ensures lines { (f : History) (blocks : List (List Entry)) (dues : List AnyDue)
+        (part rest : List ℕ) (jsn : ℕ) (leaf : Digest)
+        → part ++ rest ≡ due_lines f dues → AllFit (due_replies f dues) → AllIn blocks dues
+        → IsReceipted part jsn leaf → HasLeaf (journals_of blocks) jsn leaf }
+    ensures tail { (f : History) (blocks : List (List Entry)) (dues : List AnyDue)
+        (tail part rest : List ℕ) (jsn : ℕ) (leaf : Digest)
+        → part ++ rest ≡ due_lines f dues ++ tail → AllFit (due_replies f dues) → AllIn blocks dues
+        → (IsReceipted tail jsn leaf → ⊥)
+        → IsReceipted part jsn leaf → HasLeaf (journals_of blocks) jsn leaf }
+{}
+
+/// Whatever lines are run: in each later lawful history, the numbers of each reply that is due are as programs have
+/// them, and the leaf digests of receipts are bytes, where the steps' numbers are as programs have them. They are for each script of fewer than 2^64 lines.
+pub fn the_replies_of_a_run_fit()
+    ensures replies { (scheme : Scheme) (h f : History) (steps : List (List Step))
+        → EachCounted steps → IsLawful h → IsLawful f → Grows (after scheme h steps) f
+        → AllFit (due_replies f (all_dues scheme h steps)) }
+    ensures steps { (lines : List (List ℕ)) → length lines < 2 ^ 64
+        → EachCounted (steps_of (windows (said_lines lines))) }
 {}

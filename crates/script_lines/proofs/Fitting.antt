@@ -1,5 +1,5 @@
 -- What is read of a line keeps to a line's limits.
-use Rattle.std.proofs.Common.{◌≡◌, ℕ, ◌*◌, ◌-◌, ◌^◌, ◌≤◌, ◌&&◌, nat_le, nat_lt, if◌then◌else◌, Bool, true, false, cond, List, [], ◌∷◌, length, codes, Option, Some, None, Result, Ok, Err, refl, sym, ap, ◌∙◌, arith}
+use Rattle.std.proofs.Common.{◌≡◌, ℕ, ◌*◌, ◌-◌, ◌^◌, ◌≤◌, ◌&&◌, nat_le, nat_lt, if◌then◌else◌, Bool, true, false, cond, List, [], ◌∷◌, length, codes, Option, Some, None, Result, Ok, Err, refl, ap, arith}
 use Rattle.std.specs.Result.{result_ok}
 use Rattle.std.specs.Str.{bytes_eq}
 use Rattle.std.proofs.lemmas.Bool.{and_from, and_parts, le-leb, leb-true}
@@ -8,13 +8,12 @@ use Rattle.hex.specs.declared.error.FromHexError.{FromHexError}
 use Rattle.hex.proofs.HexLemmas.{decode_of-ok}
 use Rattle.ledger_bytes.specs.declared.limits.TheConstants.{CONTENT_LIMIT, NAME_LIMIT, PROOF_LIMIT}
 use Rattle.ledger_bytes.specs.declared.refusal.Refusal.{Refusal}
-use Rattle.ledger_bytes.specs.declared.refusal.Refusal.TheVariants.{BadVerb, BadLane}
 use Rattle.script_lines.specs.Fields.{Left, fields_of, read_or_bad, field_from, field_at, end_from, end_at}
-use Rattle.script_lines.specs.Grammar.{◌>>=◌, append_at, member_at, clue_at, head_at, verb_at, asked_by, lane_of, spoken_by, spoken_at, spoken}
+use Rattle.script_lines.specs.Grammar.{◌>>=◌, append_at, member_at, get_at, clue_at, head_at, verb_at, asked_by, lane_of, spoken_by, spoken_at, spoken_line}
 use Rattle.script_lines.specs.Limits.{fits_line, is_of_form, fits_what}
 use Rattle.script_lines.specs.Spellings.{text_of, number_of, bytes_of, digest_of, clue_of, name_of, is_dash}
 use Rattle.script_lines.specs.declared.line.Line.{Line}
-use Rattle.script_lines.specs.declared.line.Line.TheVariants.{Append, NewMember, Clue, Head}
+use Rattle.script_lines.specs.declared.line.Line.TheVariants.{Append, NewMember, Get, Clue, Head}
 
 -- what a field reads as keeps to a rule, or the refusal is one of a line's form
 abbrev Gives : {A : Type 0} → (A → Type 0) → Result (A × Left) Refusal → Type 0
@@ -99,6 +98,12 @@ member_fits fields =
     then_fits (λ proof. length proof ≤ PROOF_LIMIT) _ _ (field_gives (λ proof. length proof ≤ PROOF_LIMIT) (bytes_of PROOF_LIMIT) key.1 (bytes_short PROOF_LIMIT)) (λ proof p.
     end_fits proof.1 (NewMember number.0 key.0 proof.0) (le-leb (length proof.0) PROOF_LIMIT p))))
 
+get_fits : (fields : Left) → fits_what (get_at fields) ≡ true
+unfolding get_at
+get_fits fields =
+    then_fits Any _ _ (field_gives Any (number_of (2 ^ 64 - 1)) fields (λ text x is. tt)) (λ n m.
+    end_fits n.1 (Get n.0) refl)
+
 clue_fits : (fields : Left) → fits_what (clue_at fields) ≡ true
 unfolding clue_at
 clue_fits fields =
@@ -118,8 +123,9 @@ verb_fits : (verb : List ℕ) (fields : Left) → fits_what (verb_at verb fields
 verb_fits verb fields =
     either_fits (bytes_eq verb (codes "append")) _ _ (append_fits fields)
     (either_fits (bytes_eq verb (codes "member")) _ _ (member_fits fields)
+    (either_fits (bytes_eq verb (codes "get")) _ _ (get_fits fields)
     (either_fits (bytes_eq verb (codes "clue")) _ _ (clue_fits fields)
-    (either_fits (bytes_eq verb (codes "head")) _ _ (head_fits fields) refl)))
+    (either_fits (bytes_eq verb (codes "head")) _ _ (head_fits fields) refl))))
 
 asked_fits : (verb : Result (List ℕ × Left) Refusal) → fits_what (asked_by verb) ≡ true
 asked_fits (Ok verb) = verb_fits verb.0 verb.1
@@ -134,6 +140,6 @@ by_first (Ok first) = by_lane (lane_of first.0) first.1
 by_first (Err refusal) = refl
 
 -- what a line asks for keeps to the limits, or its refusal is one of a line's form
-pub spoken_fits : (line : List ℕ) → fits_what (spoken line).1 ≡ true
-unfolding spoken
+pub spoken_fits : (line : List ℕ) → fits_what (spoken_line line).1 ≡ true
+unfolding spoken_line
 spoken_fits line = by_first (field_at text_of (fields_of line))

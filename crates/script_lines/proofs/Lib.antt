@@ -5,3 +5,6 @@ pub mod Hexes
 pub mod Numbers
 pub mod Sayings
 pub mod Fitting
+pub mod WordLaws
+pub mod ReceiptLaws
+pub mod SpokenLaws

@@ -51,6 +51,6 @@ abbrev pub end_at : Left → Result (Unit {0}) Refusal
 end_at left = end_from left.column left.fields
 
 -- what was read and what is left behind it, or the refusal
-abbrev pub taken : {A : Type 0} → Result A Refusal → Left → Result (A × Left) Refusal
-taken (Ok x) left = Ok (x, left)
-taken (Err refusal) left = Err refusal
+abbrev pub taken_field : {A : Type 0} → Result A Refusal → Left → Result (A × Left) Refusal
+taken_field (Ok x) left = Ok (x, left)
+taken_field (Err refusal) left = Err refusal

@@ -7,7 +7,7 @@ use Rattle.ledger_bytes.specs.declared.refusal.Refusal.TheVariants.{BadVerb, Bad
 use Rattle.script_lines.specs.Fields.{Left, fields_of, field_at, end_at}
 use Rattle.script_lines.specs.Spellings.{text_of, number_of, bytes_of, digest_of, clue_of}
 use Rattle.script_lines.specs.declared.line.Line.{Line}
-use Rattle.script_lines.specs.declared.line.Line.TheVariants.{Append, NewMember, Clue, Head}
+use Rattle.script_lines.specs.declared.line.Line.TheVariants.{Append, NewMember, Get, Clue, Head}
 
 -- the second step, with what the first gave
 infixl 10 ◌>>=◌
@@ -34,6 +34,13 @@ member_at fields = do
   end ← end_at proof.1
   Ok (NewMember number.0 key.0 proof.0)
 
+-- `get N`
+unfoldable pub get_at : Left → Result Line Refusal
+get_at fields = do
+  n ← field_at (number_of (2 ^ 64 - 1)) fields
+  end ← end_at n.1
+  Ok (Get n.0)
+
 -- `clue NAME`, where NAME is a clue's name, or `-` for no clue
 unfoldable pub clue_at : Left → Result Line Refusal
 clue_at fields = do
@@ -52,6 +59,7 @@ abbrev pub verb_at : List ℕ → Left → Result Line Refusal
 verb_at verb fields =
     if bytes_eq verb (codes "append") then append_at fields
     else if bytes_eq verb (codes "member") then member_at fields
+    else if bytes_eq verb (codes "get") then get_at fields
     else if bytes_eq verb (codes "clue") then clue_at fields
     else if bytes_eq verb (codes "head") then head_at fields
     else Err BadVerb
@@ -83,5 +91,5 @@ spoken_at (Err refusal) = (0, Err BadLane)
 
 -- the lane that a line belongs to, and what it asks for or why it is refused. The lane is judged first, then the verb,
 -- then the verb's fields from left to right, and a field too many last.
-unfoldable pub spoken : List ℕ → ℕ × Result Line Refusal
-spoken line = spoken_at (field_at text_of (fields_of line))
+unfoldable pub spoken_line : List ℕ → ℕ × Result Line Refusal
+spoken_line line = spoken_at (field_at text_of (fields_of line))

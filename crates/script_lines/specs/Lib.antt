@@ -4,6 +4,7 @@ pub mod Limits
 pub mod Parts
 pub mod Reading
 pub mod Replies
+pub mod Receipts
 pub mod Sayings
 pub mod Spellings
 pub mod Words

@@ -6,7 +6,7 @@ use Rattle.ledger_bytes.specs.declared.refusal.Refusal.TheVariants.{BadVerb, Bad
 use Rattle.journal_record.specs.declared.mark.TimeMark.{TimeMark}
 use Rattle.script_lines.specs.declared.reply.Reply.{Reply}
 use Rattle.script_lines.specs.declared.reply.Reply.TheVariants.{Placed, Whole, Occulted, Proof, Extension, Clue, Head, Refused}
-use Rattle.script_lines.specs.Words.{hex_of, hex_or_dash, list_text, mark_text, spaced, which_text}
+use Rattle.script_lines.specs.Words.{hex_of, hex_or_dash, list_text, mark_text, spaced_words, which_text}
 
 -- the fields that are printed behind a refusal's code
 abbrev pub refusal_fields : Refusal → List (List ℕ)
@@ -46,8 +46,8 @@ stamp_words (Some stamp) = decimal stamp.0 ∷ decimal stamp.1 ∷ []
 abbrev pub mark_told : ℕ × ℕ × ℕ → TimeMark
 mark_told said = record { jsn = said.0; index = said.1; time = said.2 }
 
-abbrev pub marked : Option (ℕ × ℕ × ℕ) → Option TimeMark
-marked said = option_map mark_told said
+abbrev pub time_mark : Option (ℕ × ℕ × ℕ) → Option TimeMark
+time_mark said = option_map mark_told said
 
 -- the words of a reply
 abbrev pub reply_words : Reply → List (List ℕ)
@@ -56,7 +56,7 @@ reply_words (Placed jsn leaf block size root stamp) =
 reply_words (Whole header content who) = codes "whole" ∷ hex_or_dash header ∷ hex_or_dash content ∷ hex_or_dash who ∷ []
 reply_words (Occulted header who) = codes "occulted" ∷ hex_or_dash header ∷ hex_or_dash who ∷ []
 reply_words (Proof n leaf lo hi proof) =
-    codes "proof" ∷ decimal n ∷ hex_of leaf ∷ mark_text (marked lo) ∷ mark_text (marked hi) ∷ hex_or_dash proof ∷ []
+    codes "proof" ∷ decimal n ∷ hex_of leaf ∷ mark_text (time_mark lo) ∷ mark_text (time_mark hi) ∷ hex_or_dash proof ∷ []
 reply_words (Extension which m size root proof) =
     codes "extension" ∷ which_text which ∷ decimal m ∷ decimal size ∷ hex_of root ∷ hex_or_dash proof ∷ []
 reply_words (Clue count kept) = codes "clue" ∷ decimal count ∷ list_text kept ∷ []
@@ -67,4 +67,4 @@ reply_words (Refused refusal) = codes "no" ∷ refusal_words refusal
 -- the line that answers the line with this index in its lane
 abbrev pub reply_text : ℕ → ℕ → Reply → List ℕ
 reply_text lane index reply =
-    decimal lane ++ codes "." ++ decimal index ++ spaced (reply_words reply) ++ codes "\n"
+    decimal lane ++ codes "." ++ decimal index ++ spaced_words (reply_words reply) ++ codes "\n"

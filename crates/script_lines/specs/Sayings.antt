@@ -2,9 +2,9 @@
 use Rattle.std.specs.Prelude.{◌≡◌, ◌≢◌, ℕ, ◌<◌, ◌≤◌, ◌^◌, ◌==◌, false, List, [], ◌∷◌, ◌++◌, length, All, codes, decimal, ⊤}
 use Rattle.hex.specs.Hex.{IsBytes}
 use Rattle.ledger_bytes.specs.declared.limits.TheConstants.{CONTENT_LIMIT, NAME_LIMIT, PROOF_LIMIT}
-use Rattle.script_lines.specs.Words.{hex_of, hex_or_dash, spaced}
+use Rattle.script_lines.specs.Words.{hex_of, hex_or_dash, spaced_words}
 use Rattle.script_lines.specs.declared.line.Line.{Line}
-use Rattle.script_lines.specs.declared.line.Line.TheVariants.{Append, NewMember, Clue, Head}
+use Rattle.script_lines.specs.declared.line.Line.TheVariants.{Append, NewMember, Get, Clue, Head}
 
 -- a clue's name, or `-` for no clue
 abbrev pub clue_text : List ℕ → List ℕ
@@ -16,12 +16,13 @@ abbrev pub line_words : Line → List (List ℕ)
 line_words (Append member clue content proof) =
     codes "append" ∷ decimal member ∷ clue_text clue ∷ hex_or_dash content ∷ hex_or_dash proof ∷ []
 line_words (NewMember number key proof) = codes "member" ∷ decimal number ∷ hex_of key ∷ hex_or_dash proof ∷ []
+line_words (Get n) = codes "get" ∷ decimal n ∷ []
 line_words (Clue name) = codes "clue" ∷ clue_text name ∷ []
 line_words Head = codes "head" ∷ []
 
 -- a line's text on lane 0
 abbrev pub line_text : Line → List ℕ
-line_text line = codes "0" ++ spaced (line_words line)
+line_text line = codes "0" ++ spaced_words (line_words line)
 
 -- no space stands in a text
 abbrev pub IsOneField : List ℕ → Type 0
@@ -47,5 +48,6 @@ abbrev pub IsSayable : Line → Type 0
 IsSayable (Append member clue content proof) =
     (member < 2 ^ 32) × IsClue clue × IsShort CONTENT_LIMIT content × IsShort PROOF_LIMIT proof
 IsSayable (NewMember number key proof) = (number < 2 ^ 32) × (length key.0 ≡ 32) × IsBytes key.0 × IsShort PROOF_LIMIT proof
+IsSayable (Get n) = n < 2 ^ 64
 IsSayable (Clue name) = IsClue name
 IsSayable Head = ⊤

@@ -47,6 +47,6 @@ word_text (Mark mark) = mark_text mark
 word_text (Numbers numbers) = list_text numbers.now
 
 -- the words, each behind a space
-abbrev pub spaced : List (List ℕ) → List ℕ
-spaced [] = []
-spaced (word ∷ words) = 32 ∷ (word ++ spaced words)
+abbrev pub spaced_words : List (List ℕ) → List ℕ
+spaced_words [] = []
+spaced_words (word ∷ words) = 32 ∷ (word ++ spaced_words words)

@@ -1,6 +1,6 @@
 ghost use Rattle.std.specs.Prelude.{◌≡◌, ◌≤◌, length, All, Ok, Err, IfErr, IfOk, MatchResult};
 ghost use Rattle.ledger_bytes.specs.declared.limits.TheConstants.{APPROVAL_LIMIT, NAME_LIMIT, PROOF_LIMIT};
-ghost use Rattle.script_lines.specs.Fields.{fields_of, behind, field_at, end_at, taken};
+ghost use Rattle.script_lines.specs.Fields.{fields_of, behind, field_at, end_at, taken_field};
 ghost use Rattle.script_lines.specs.Reading.{IsStopAt, Takes};
 ghost use Rattle.script_lines.specs.Spellings.{text_of, word_of, number_of, bytes_of, digest_of, clue_of, which_of, approvals_of, mark_of};
 
@@ -73,7 +73,7 @@ impl<'a> Fields<'a> {
 
     /// Passes over exactly this word.
     pub fn word(&mut self, word: &[u8]) -> Result<(), Refusal>
-        ensures takes { field_at (word_of word.now) self.old ≡ taken result self.new }
+        ensures takes { field_at (word_of word.now) self.old ≡ taken_field result self.new }
         ensures goes_on { self.new ≡ behind self.old }
         ensures refused { IfErr result (λ refusal. refusal ≡ Refusal.BadField self.old.column) }
     {
@@ -87,7 +87,7 @@ impl<'a> Fields<'a> {
 
     /// A decimal number without a leading zero, at most `most`.
     pub fn number(&mut self, most: u64) -> Result<u64, Refusal>
-        ensures takes { field_at (number_of most) self.old ≡ taken result self.new }
+        ensures takes { field_at (number_of most) self.old ≡ taken_field result self.new }
         ensures goes_on { self.new ≡ behind self.old }
         ensures refused { IfErr result (λ refusal. refusal ≡ Refusal.BadField self.old.column) }
         ensures high { IfOk result (λ number. number ≤ most) }
@@ -98,7 +98,7 @@ impl<'a> Fields<'a> {
 
     /// 64 hexadecimal digits of either case.
     pub fn digest(&mut self) -> Result<Digest, Refusal>
-        ensures takes { field_at digest_of self.old ≡ taken result self.new }
+        ensures takes { field_at digest_of self.old ≡ taken_field result self.new }
         ensures goes_on { self.new ≡ behind self.old }
         ensures refused { IfErr result (λ refusal. refusal ≡ Refusal.BadField self.old.column) }
     {
@@ -137,7 +137,7 @@ impl<'a> Fields<'a> {
 
     /// `ledger` or `notary`.
     pub fn which(&mut self) -> Result<Which, Refusal>
-        ensures takes { field_at which_of self.old ≡ taken result self.new }
+        ensures takes { field_at which_of self.old ≡ taken_field result self.new }
         ensures goes_on { self.new ≡ behind self.old }
         ensures refused { IfErr result (λ refusal. refusal ≡ Refusal.BadField self.old.column) }
     {
@@ -164,7 +164,7 @@ impl<'a> Fields<'a> {
 
     /// No time mark as `-`, or one as `JSN:INDEX:TIME`: a journal's number, a notary's index and its time.
     pub fn mark(&mut self) -> Result<Option<TimeMark>, Refusal>
-        ensures takes { field_at mark_of self.old ≡ taken result self.new }
+        ensures takes { field_at mark_of self.old ≡ taken_field result self.new }
         ensures goes_on { self.new ≡ behind self.old }
         ensures refused { IfErr result (λ refusal. refusal ≡ Refusal.BadField self.old.column) }
     {

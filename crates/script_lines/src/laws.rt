@@ -1,5 +1,8 @@
-ghost use Rattle.std.specs.Prelude.{◌≡◌, ℕ, ◌^◌, ◌<◌, ◌≤◌, List, Some, Ok, decimal};
-ghost use Rattle.script_lines.specs.Grammar.{spoken};
+ghost use Rattle.std.specs.Prelude.{◌≡◌, ℕ, ◌^◌, ◌<◌, ◌≤◌, ◌==◌, List, [], ◌∷◌, ◌++◌, Some, Ok, decimal, true, not};
+ghost use Rattle.std.specs.List.{list_all};
+ghost use Rattle.ledger_bytes.specs.declared.digest.Digest.{Digest as AnyDigest};
+ghost use Rattle.script_lines.specs.Grammar.{spoken_line};
+ghost use Rattle.script_lines.specs.Receipts.{IsReceipted};
 ghost use Rattle.script_lines.specs.Sayings.{line_text, IsSayable};
 ghost use Rattle.script_lines.specs.Spellings.{number_of};
 ghost use Rattle.script_lines.specs.declared.line.Line.{Line as AnyLine};
@@ -15,5 +18,12 @@ pub fn numbers_are_decimal()
 /// What a line can say is read from its text: with its numbers in decimal digits, its bytes and keys as lower-case
 /// hexadecimal digits, `-` for no bytes and for no clue, and one space between.
 pub fn lines_are_read_back()
-    ensures { (line : AnyLine) → IsSayable line → spoken (line_text line) ≡ (0, Ok line) }
+    ensures { (line : AnyLine) → IsSayable line → spoken_line (line_text line) ≡ (0, Ok line) }
+{}
+
+/// A line that doesn't begin with a digit, as the last line of a run that failed, is no receipt.
+pub fn other_lines_are_no_receipts()
+    ensures { (first : ℕ) (text : List ℕ) (jsn : ℕ) (leaf : AnyDigest) → 57 < first
+        → list_all (λ byte. not (byte == 10)) (first ∷ text) ≡ true
+        → IsReceipted (first ∷ text ++ 10 ∷ []) jsn leaf → ⊥ }
 {}

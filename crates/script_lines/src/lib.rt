@@ -14,7 +14,7 @@ mod verbs;
 mod words;
 
 pub use fields::Fields;
-pub use laws::{lines_are_read_back, numbers_are_decimal};
+pub use laws::{lines_are_read_back, numbers_are_decimal, other_lines_are_no_receipts};
 pub use line::Line;
 pub use reply::{Reply, put_refusal, put_reply, reply_text};
 pub use said::{SaidApproval, Which};

@@ -23,6 +23,11 @@ pub enum Line {
         /// The proof of member 0, up to 4,096 bytes.
         proof: Bytes,
     },
+    /// A journal is asked for: `get N`.
+    Get {
+        /// The journal's number.
+        n: u64,
+    },
     /// A clue's journals are asked for: `clue NAME`.
     Clue {
         /// The clue's name, up to 64 bytes. No clue is the empty name.

@@ -1,7 +1,7 @@
 ghost use Rattle.std.specs.Prelude.{◌≡◌, [], ◌∷◌, ◌++◌, codes, decimal, IfOk, OnOk, OnErr};
 ghost use Rattle.ledger_bytes.specs.Begins.{Begins};
 ghost use Rattle.script_lines.specs.Replies as spec;
-ghost use Rattle.script_lines.specs.Words.{hex_of, spaced, which_text};
+ghost use Rattle.script_lines.specs.Words.{hex_of, spaced_words, which_text};
 
 use crate::said::Which;
 use crate::words::{Word, put_no, put_number, put_words};
@@ -135,7 +135,7 @@ fn put_line(out: &mut Vec<u8>, lane: u8, index: u64, reply: &Reply) -> Result<()
 
 fn put_reply_words(out: &mut Vec<u8>, reply: &Reply) -> Result<(), NoMemory>
     ensures ok { OnOk result (out.new.items
-        ≡ out.old.items ++ spaced (spec.reply_words reply.now)) }
+        ≡ out.old.items ++ spaced_words (spec.reply_words reply.now)) }
     ensures err { OnErr result (Begins out.old.items out.new.items) }
 {
     match reply {
@@ -203,7 +203,7 @@ fn put_placed(
     stamp: Option<(u64, u64)>,
 ) -> Result<(), NoMemory>
     ensures ok { OnOk result (out.new.items
-        ≡ out.old.items ++ spaced (spec.reply_words
+        ≡ out.old.items ++ spaced_words (spec.reply_words
         (Reply.Placed jsn leaf.now block size root.now stamp))) }
     ensures err { OnErr result (Begins out.old.items out.new.items) }
 {
@@ -222,7 +222,7 @@ fn put_placed(
 }
 
 fn put_stamp(out: &mut Vec<u8>, stamp: Option<(u64, u64)>) -> Result<(), NoMemory>
-    ensures ok { OnOk result (out.new.items ≡ out.old.items ++ spaced (spec.stamp_words stamp)) }
+    ensures ok { OnOk result (out.new.items ≡ out.old.items ++ spaced_words (spec.stamp_words stamp)) }
     ensures err { OnErr result (Begins out.old.items out.new.items) }
 {
     match stamp {
@@ -238,7 +238,7 @@ fn put_whole<'a>(
     who: &'a Bytes,
 ) -> Result<(), NoMemory>
     ensures ok { OnOk result (out.new.items
-        ≡ out.old.items ++ spaced (spec.reply_words (Reply.Whole header.now content.now who.now))) }
+        ≡ out.old.items ++ spaced_words (spec.reply_words (Reply.Whole header.now content.now who.now))) }
     ensures err { OnErr result (Begins out.old.items out.new.items) }
 {
     put_words(
@@ -258,7 +258,7 @@ fn put_occulted<'a>(
     who: &'a Bytes,
 ) -> Result<(), NoMemory>
     ensures ok { OnOk result (out.new.items
-        ≡ out.old.items ++ spaced (spec.reply_words (Reply.Occulted header.now who.now))) }
+        ≡ out.old.items ++ spaced_words (spec.reply_words (Reply.Occulted header.now who.now))) }
     ensures err { OnErr result (Begins out.old.items out.new.items) }
 {
     put_words(
@@ -280,7 +280,7 @@ fn put_proof(
     proof: &Bytes,
 ) -> Result<(), NoMemory>
     ensures ok { OnOk result (out.new.items
-        ≡ out.old.items ++ spaced (spec.reply_words (Reply.Proof n leaf.now lo hi proof.now))) }
+        ≡ out.old.items ++ spaced_words (spec.reply_words (Reply.Proof n leaf.now lo hi proof.now))) }
     ensures err { OnErr result (Begins out.old.items out.new.items) }
 {
     put_words(
@@ -289,16 +289,16 @@ fn put_proof(
             Word::Text(b"proof"),
             Word::Number(n),
             Word::Hash(*leaf),
-            Word::Mark(marked(lo)),
-            Word::Mark(marked(hi)),
+            Word::Mark(time_mark(lo)),
+            Word::Mark(time_mark(hi)),
             Word::Hex(proof.as_slice()),
         ],
     )
 }
 
 // The time mark of these three numbers.
-fn marked(said: Option<(u64, u64, u64)>) -> Option<TimeMark>
-    ensures { result ≡ spec.marked said }
+fn time_mark(said: Option<(u64, u64, u64)>) -> Option<TimeMark>
+    ensures { result ≡ spec.time_mark said }
 {
     let (jsn, index, time) = said?;
     Some(TimeMark { jsn, index, time })
@@ -313,7 +313,7 @@ fn put_extension(
     proof: &Bytes,
 ) -> Result<(), NoMemory>
     ensures ok { OnOk result (out.new.items
-        ≡ out.old.items ++ spaced (spec.reply_words
+        ≡ out.old.items ++ spaced_words (spec.reply_words
         (Reply.Extension which m size root.now proof.now))) }
     ensures err { OnErr result (Begins out.old.items out.new.items) }
 {
@@ -332,7 +332,7 @@ fn put_extension(
 
 fn put_clue(out: &mut Vec<u8>, count: u32, kept: &Items<u64>) -> Result<(), NoMemory>
     ensures ok { OnOk result (out.new.items
-        ≡ out.old.items ++ spaced (spec.reply_words (Reply.Clue count kept.now))) }
+        ≡ out.old.items ++ spaced_words (spec.reply_words (Reply.Clue count kept.now))) }
     ensures err { OnErr result (Begins out.old.items out.new.items) }
 {
     put_words(
@@ -357,7 +357,7 @@ fn name_of(which: Which) -> &'static [u8]
 /// Appends a refusal's words, each behind a space: `no`, its code, and its fields.
 pub fn put_refusal(out: &mut Vec<u8>, refusal: &Refusal) -> Result<(), NoMemory>
     ensures ok { OnOk result (out.new.items
-        ≡ out.old.items ++ spaced (spec.reply_words (Reply.Refused refusal.now))) }
+        ≡ out.old.items ++ spaced_words (spec.reply_words (Reply.Refused refusal.now))) }
     ensures err { OnErr result (Begins out.old.items out.new.items) }
 {
     let code = refusal.code();

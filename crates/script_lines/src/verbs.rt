@@ -1,5 +1,5 @@
 ghost use Rattle.std.specs.Prelude.{◌≡◌, ◌≤◌, true, IfOk, IfSome};
-ghost use Rattle.script_lines.specs.Grammar.{append_at, member_at, clue_at, head_at, asked_by, lane_of, spoken};
+ghost use Rattle.script_lines.specs.Grammar.{append_at, member_at, get_at, clue_at, head_at, asked_by, lane_of, spoken_line};
 ghost use Rattle.script_lines.specs.Fields.{field_at};
 ghost use Rattle.script_lines.specs.Reading.{Reads, fits_read};
 ghost use Rattle.script_lines.specs.Spellings.{text_of};
@@ -17,9 +17,9 @@ const LANES: u8 = 1;
 /// Reads a line, without its newline. Fields stand around single spaces. The first is the lane, then comes the verb, and
 /// then the verb's fields. A number is decimal digits without a leading zero; bytes are `-` for none or two hexadecimal
 /// digits each, of either case. A line whose lane isn't served belongs to lane 0.
-#[tactic(auto, unfolding(crate::specs::Grammar::spoken))]
+#[tactic(auto, unfolding(crate::specs::Grammar::spoken_line))]
 pub fn read_line(alloc: Global, line: &[u8]) -> Result<Spoken, NoMemory>
-    ensures { IfOk result (λ s. (s.lane, s.what) ≡ spoken line.now) }
+    ensures { IfOk result (λ s. (s.lane, s.what) ≡ spoken_line line.now) }
 {
     let mut fields = Fields::of(line);
     let lane = match fields.text() {
@@ -62,12 +62,18 @@ fn read_asked(alloc: Global, mut fields: Fields) -> Result<Line, Stop>
     let Ok(verb) = fields.text() else {
         return Err(Stop::Refused(Refusal::BadVerb));
     };
-    match verb {
-        b"append" => read_append(alloc, fields),
-        b"member" => read_member(alloc, fields),
-        b"clue" => read_clue(alloc, fields),
-        b"head" => read_head(fields),
-        _ => Err(Stop::Refused(Refusal::BadVerb)),
+    if verb == b"append".as_slice() {
+        read_append(alloc, fields)
+    } else if verb == b"member".as_slice() {
+        read_member(alloc, fields)
+    } else if verb == b"get".as_slice() {
+        read_get(fields)
+    } else if verb == b"clue".as_slice() {
+        read_clue(alloc, fields)
+    } else if verb == b"head".as_slice() {
+        read_head(fields)
+    } else {
+        Err(Stop::Refused(Refusal::BadVerb))
     }
 }
 
@@ -103,6 +109,16 @@ fn read_member(alloc: Global, mut fields: Fields) -> Result<Line, Stop>
         key,
         proof,
     })
+}
+
+#[tactic(auto, unfolding(crate::specs::Grammar::get_at))]
+fn read_get(mut fields: Fields) -> Result<Line, Stop>
+    ensures reads { Reads result (get_at fields.entry) }
+    ensures fits { fits_read result ≡ true }
+{
+    let n = fields.number(u64::MAX)?;
+    fields.end()?;
+    Ok(Line::Get { n })
 }
 
 #[tactic(auto, unfolding(crate::specs::Grammar::clue_at))]

@@ -1,7 +1,7 @@
 ghost use Rattle.std.specs.Prelude.{◌≡◌, ◌∷◌, ◌++◌, codes, decimal, map, OnOk, OnErr};
 ghost use Rattle.hex.specs.Hex.{encode_lower};
 ghost use Rattle.ledger_bytes.specs.Begins.{Begins};
-ghost use Rattle.script_lines.specs.Words.{behind_commas, hex_or_dash, list_text, mark_text, spaced, word_text};
+ghost use Rattle.script_lines.specs.Words.{behind_commas, hex_or_dash, list_text, mark_text, spaced_words, word_text};
 
 use itoa::Buffer;
 use journal_record::TimeMark;
@@ -29,7 +29,7 @@ pub enum Word<'a> {
 
 /// Appends the words, each behind a space. Where memory is missing the buffer begins as it was.
 pub fn put_words(out: &mut Vec<u8>, words: &[Word]) -> Result<(), NoMemory>
-    ensures ok { OnOk result (out.new.items ≡ out.old.items ++ spaced (map word_text words.now)) }
+    ensures ok { OnOk result (out.new.items ≡ out.old.items ++ spaced_words (map word_text words.now)) }
     ensures err { OnErr result (Begins out.old.items out.new.items) }
 {
     for word in words {
@@ -42,7 +42,7 @@ pub fn put_words(out: &mut Vec<u8>, words: &[Word]) -> Result<(), NoMemory>
 /// Appends what tells that something is refused, each word behind a space: `no`, a code, and the words behind it.
 pub fn put_no(out: &mut Vec<u8>, code: u8, words: &[Word]) -> Result<(), NoMemory>
     ensures ok { OnOk result (out.new.items
-        ≡ out.old.items ++ spaced (codes "no" ∷ decimal code ∷ map word_text words.now)) }
+        ≡ out.old.items ++ spaced_words (codes "no" ∷ decimal code ∷ map word_text words.now)) }
     ensures err { OnErr result (Begins out.old.items out.new.items) }
 {
     put_words(out, &[Word::Text(b"no"), Word::Number(u64::from(code))])?;

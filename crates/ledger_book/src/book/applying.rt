@@ -39,6 +39,7 @@ impl Book {
                 by,
             } => self.apply_record(*member, clue, content, content_digest, request, by),
             Job::NewMember { number, key, by } => self.apply_member(*number, key, by),
+            Job::Get { n } => Ok(Outcome::Reading(Query::Get { n: *n })),
             Job::Clue { clue } => Ok(Outcome::Reading(Query::Clue { clue: *clue })),
             Job::Head => Ok(Outcome::Reading(Query::Head)),
         }

@@ -2,8 +2,8 @@ ghost use Rattle.std.specs.Prelude.{◌≡◌, ◌<◌, [], ◌∷◌, length, I
 ghost use Rattle.ledger_bytes.specs.declared.limits.TheConstants.{MEMBER_LIMIT};
 ghost use Rattle.journal_record.specs.Members.{keys};
 ghost use Rattle.ledger_model.specs.History.{History};
-ghost use Rattle.ledger_model.specs.Judgements.{full, unknown_in, wrong_key_in, clues_full, append_judgements, member_judgements, first_refusal};
-ghost use Rattle.ledger_model.specs.Limits.{AreWithin, real};
+ghost use Rattle.ledger_model.specs.Judgements.{fullness, unknown_in, wrong_key_in, clues_full, append_judgements, member_judgements, first_refusal};
+ghost use Rattle.ledger_model.specs.Limits.{AreWithin, real_limits};
 ghost use Rattle.ledger_book.specs.Books.{Stands, Serves};
 
 use super::Book;
@@ -22,7 +22,7 @@ impl Book {
         ensures refusal { (h : History) → Serves self.now h
             → result ≡ first_refusal
             (append_judgements self.now.limits h member clue.now by.now.key) }
-        ensures room { IfNone result (self.now.size < real.size) }
+        ensures room { IfNone result (self.now.size < real_limits.size) }
         ensures within { AreWithin self.now.limits }
     {
         if let Some(refusal) = self.full_refusal() {
@@ -38,7 +38,7 @@ impl Book {
     pub(super) fn member_refusal(&self, number: u32, by: &Approval) -> Option<Refusal>
         ensures refusal { (h : History) → Serves self.now h
             → result ≡ first_refusal (member_judgements self.now.limits h number by.now.key) }
-        ensures room { IfNone result (self.now.size < real.size) }
+        ensures room { IfNone result (self.now.size < real_limits.size) }
         ensures next { IfNone result (length self.now.members < MEMBER_LIMIT) }
         ensures within { AreWithin self.now.limits }
     {
@@ -53,8 +53,8 @@ impl Book {
 
     // Whether there is no room for a member's journal.
     fn full_refusal(&self) -> Option<Refusal>
-        ensures refusal { (h : History) → Serves self.now h → result ≡ full self.now.limits h }
-        ensures room { IfNone result (self.now.size < real.size) }
+        ensures refusal { (h : History) → Serves self.now h → result ≡ fullness self.now.limits h }
+        ensures room { IfNone result (self.now.size < real_limits.size) }
         ensures within { AreWithin self.now.limits }
     {
         let kept = self.size.saturating_sub(self.point);
@@ -87,7 +87,7 @@ impl Book {
 
     /// Whether the clue is a new one, and there are as many as there may be by these limits.
     pub(super) fn clue_refusal(&self, clue: &Digest, limits: Limits) -> Option<Refusal>
-        requires { self.now.size < real.size }
+        requires { self.now.size < real_limits.size }
         ensures { (h : History) → Stands self.now h → result ≡ clues_full limits h clue.now }
     {
         if *clue == Digest::ZERO {

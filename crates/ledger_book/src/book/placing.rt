@@ -6,7 +6,7 @@ ghost use Rattle.clue_index.specs.Added.{Added};
 ghost use Rattle.clue_index.specs.Index as index;
 ghost use Rattle.ledger_model.specs.Clues.{next_ordinal, last_journal};
 ghost use Rattle.ledger_model.specs.History.{History};
-ghost use Rattle.ledger_model.specs.Limits.{real};
+ghost use Rattle.ledger_model.specs.Limits.{real_limits};
 ghost use Rattle.ledger_model.specs.Outcomes.{with_waiting};
 ghost use Rattle.ledger_book.specs.Books.{Stands};
 ghost use Rattle.ledger_book.specs.Steps.{IsSame, IsAsBefore, MayPlace, IsLeafOf, with_clue_of};
@@ -21,7 +21,7 @@ use merkle_tree::leaf_of;
 impl Book {
     /// Where the next journal stands, which has this clue.
     pub(super) fn place_of(&self, clue: &Digest) -> Place
-        requires { self.now.size < real.size }
+        requires { self.now.size < real_limits.size }
         ensures jsn { result.jsn ≡ self.now.size }
         ensures ordinal { (h : History) → Stands self.now h
             → result.ordinal ≡ next_ordinal h clue.now }
@@ -46,7 +46,7 @@ impl Book {
 
     /// Places a member's record in the open block, and answers its leaf digest.
     pub(super) fn place_record(&mut self, header: Header) -> Result<Digest, NoMemory>
-        requires { self.old.size < real.size }
+        requires { self.old.size < real_limits.size }
         ensures ok { OnOk result ((h : History) (journal : Entry) → Stands self.old h
             → journal.header ≡ header
             → header.kind ≡ kind.Content → MayPlace h header
@@ -68,7 +68,7 @@ impl Book {
 
     /// Places a new member in the open block, and answers the leaf digest.
     pub(super) fn place_member(&mut self, header: Header) -> Result<Digest, NoMemory>
-        requires room { self.old.size < real.size }
+        requires room { self.old.size < real_limits.size }
         requires few { length self.old.members < MEMBER_LIMIT }
         ensures ok { OnOk result ((h : History) (journal : Entry) → Stands self.old h
             → journal.header ≡ header

@@ -5,7 +5,7 @@ ghost use Rattle.journal_record.specs.Rules.{IsHeader};
 ghost use Rattle.journal_record.specs.declared.header.Kind.TheVariants as kind;
 ghost use Rattle.ledger_model.specs.History.{History};
 ghost use Rattle.ledger_model.specs.Lawful.{IsNextRecord};
-ghost use Rattle.ledger_model.specs.Limits.{AreWithin, real};
+ghost use Rattle.ledger_model.specs.Limits.{AreWithin, real_limits};
 ghost use Rattle.ledger_book.specs.Books.{Stands, Serves};
 ghost use Rattle.ledger_book.specs.Replaying.{IsFirst, begun_with, Replays};
 ghost use Rattle.ledger_book.specs.Steps.{IsSame, IsAsBefore, MayPlace};
@@ -91,7 +91,7 @@ impl Book {
     fn is_next(&self, header: &Header) -> bool
         requires layout { IsHeader header.now }
         ensures next { (h : History) → Serves self.now h → IsTrue result ↔ MayPlace h header.now }
-        ensures room { IsTrue result → self.now.size < real.size }
+        ensures room { IsTrue result → self.now.size < real_limits.size }
         ensures kinds { IsTrue result → (header.now.kind ≡ kind.Content)
             ⊎ (header.now.kind ≡ kind.Member) }
         ensures few { IsTrue result → header.now.kind ≡ kind.Member
@@ -111,7 +111,7 @@ impl Book {
     // Whether a member's record is the next one, where its number is: the member is known, the clue's numbers are the
     // next ones, and there is room for the clue.
     fn is_next_record(&self, header: &Header) -> bool
-        requires { self.now.size < real.size }
+        requires { self.now.size < real_limits.size }
         ensures { (h : History) → Stands self.now h → IsTrue result ↔ IsNextRecord h header.now }
     {
         if header.member >= self.members.count() {

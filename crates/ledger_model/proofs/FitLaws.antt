@@ -1,0 +1,276 @@
+-- The numbers of each reply that is due in a run are as programs have them, and so are the leaf digests of receipts.
+use Rattle.std.specs.Prelude.{⊤, All, nat_le, nat_lt, filter, slice_get}
+use Rattle.std.proofs.Common.{◌≡◌, ℕ, suc, ◌+◌, ◌<◌, ◌≤◌, ◌&&◌, ◌==◌, not, Bool, true, false, cond, List, [], ◌∷◌, ◌++◌, length, Option, Some, None, Result, Ok, Err, refl, sym, ap, subst, arith, append_assoc, append-nil, length-append}
+use Rattle.ledger_bytes.specs.Fields.{IsBytes}
+use Rattle.ledger_bytes.specs.declared.digest.Digest.{Digest}
+use Rattle.ledger_bytes.specs.declared.limits.TheConstants.{MEMBER_LIMIT}
+use Rattle.ledger_bytes.specs.declared.refusal.Refusal.{Refusal}
+use Rattle.ledger_bytes.specs.declared.refusal.Refusal.TheVariants as refusals
+use Rattle.journal_record.specs.Entry.{Entry}
+use Rattle.journal_record.specs.Members.{is_known, is_key_of, number_refusal}
+use Rattle.journal_record.specs.Rules.{is_no_clue}
+use Rattle.journal_record.specs.declared.member.Member.{Member}
+use Rattle.script_lines.specs.Grammar.{spoken_line}
+use Rattle.script_lines.specs.Receipts.{Told, Fits, AllFits, StampFits, RefusalFits, ReplyFits, AllFit}
+use Rattle.script_lines.specs.declared.line.Line.{Line}
+use Rattle.script_lines.specs.declared.line.Line.TheVariants as line
+use Rattle.script_lines.proofs.SpokenLaws.{WhatFits, spoken_counts}
+use Rattle.ledger_model.specs.Appends.{append_with, member_job, append_journal, member_journal}
+use Rattle.ledger_model.specs.Clues.{numbers_of, jsns_with, clue_count}
+use Rattle.ledger_model.specs.Dues.{IsWithin, due_for, dues, all_dues, due_reply, due_replies, IsCounted, AllCounted, EachCounted}
+use Rattle.ledger_model.specs.Growing.{Grows}
+use Rattle.ledger_model.specs.History.{History, id, journals, journals_of, size, point, block_from, end_from, block_of, end_of, close}
+use Rattle.ledger_model.specs.Judgements.{kept_count, is_full, fullness, unknown_in, wrong_key_in, clues_full, first_refusal, own_refusal}
+use Rattle.ledger_model.specs.Lawful.{AreNext, IsBlock, IsLawful}
+use Rattle.ledger_model.specs.Limits.{real_limits}
+use Rattle.ledger_model.specs.Members.{members, keys}
+use Rattle.ledger_model.specs.Outcomes.{placed_as, judged_outcome, outcome}
+use Rattle.ledger_model.specs.Rules.{job_for, job_of, closes_before, judged_at, stamp_of, after_step, after_steps, after_window, after}
+use Rattle.ledger_model.specs.Scheme.{Scheme}
+use Rattle.ledger_model.specs.Step.{Step}
+use Rattle.ledger_model.specs.Texts.{kept_with, answer_for, answer_to, told_stamp, reply_in}
+use Rattle.ledger_model.specs.declared.answer.Answer.{Answer}
+use Rattle.ledger_model.specs.declared.answer.Answer.TheVariants.{Reply, Receipt}
+use Rattle.ledger_model.specs.declared.due.Due.{Due}
+use Rattle.ledger_model.specs.declared.job.Job.{Job}
+use Rattle.ledger_model.specs.declared.job.Job.TheVariants.{Refused, Append, NewMember, Get, Clue, Head}
+use Rattle.ledger_model.proofs.ByteLaws.{leaf_bytes}
+use Rattle.ledger_model.proofs.DueLaws.{grows_steps, AllWithin, all_wider, all_higher, dues_within, grows_windows}
+use Rattle.ledger_model.proofs.GetLaws.{get_fits}
+use Rattle.ledger_model.proofs.GrowLaws.{length-journals_of, grows_close, grows_size, grows_then}
+use Rattle.ledger_model.proofs.KeepLaws.{run_lawful, close_lawful, step_lawful, steps_lawful}
+use Rattle.ledger_model.proofs.LawfulLaws.{lawful_from, some_journal, lawful_members, AreBetween, numbers_between, numbers_few, point_below}
+
+-- how much a lawful history holds
+
+few_behind : (before es : List Entry) → length before ≤ real_limits.size → AreNext before es → length (before ++ es) ≤ real_limits.size
+few_behind before [] few next = omega (arith, few, ap length (append-nil before))
+few_behind before (e ∷ es) few next =
+    omega (arith, ap length (append_assoc before (e ∷ []) es), few_behind (before ++ e ∷ []) es (omega (arith, length-append before (e ∷ []), next.0.jsn, next.0.below)) next.1)
+
+pub size_few : (h : History) → IsLawful h → size h ≤ real_limits.size
+size_few h l = few_behind [] (journals h) (omega arith) l.journals_are.next
+
+blocks_few : (bs : List (List Entry)) → All IsBlock bs → length bs ≤ length (journals_of bs)
+blocks_few [] all = omega arith
+blocks_few (b ∷ bs) all = omega (arith, length-journals_of b bs, (all 0 [] (omega arith)).some, blocks_few bs (λ k d lt. all (suc k) d (omega (arith, lt))))
+
+closed_few : (h : History) → IsLawful h → length h.closed ≤ size h
+closed_few h l = omega (arith, blocks_few h.closed l.blocks_are, length-append (journals_of h.closed) h.waiting)
+
+block_few : (n : ℕ) (bs : List (List Entry)) (jsn : ℕ) → block_from n bs jsn ≤ length bs
+block_few n [] jsn = omega arith
+block_few n (b ∷ bs) jsn =
+    elim (nat_lt jsn (n + length b)) as (λ v. cond v 0 (block_from (n + length b) bs jsn + 1) ≤ length (b ∷ bs)) [ true ↦ omega arith | false ↦ omega (arith, block_few (n + length b) bs jsn) ]
+
+end_few : (n : ℕ) (bs : List (List Entry)) (jsn : ℕ) → end_from n bs jsn ≤ n + length (journals_of bs)
+end_few n [] jsn = omega arith
+end_few n (b ∷ bs) jsn =
+    elim (nat_lt jsn (n + length b)) as (λ v. cond v (n + length b) (end_from (n + length b) bs jsn) ≤ n + length (journals_of (b ∷ bs))) [
+      | true ↦ omega (arith, length-journals_of b bs)
+      | false ↦ omega (arith, length-journals_of b bs, end_few (n + length b) bs jsn)
+    ]
+
+block_of_few : (h : History) (jsn : ℕ) → block_of h jsn ≤ length h.closed
+unfolding block_of
+block_of_few h jsn = block_few 0 h.closed jsn
+
+end_of_few : (h : History) (jsn : ℕ) → end_of h jsn ≤ size h
+unfolding end_of
+end_of_few h jsn = omega (arith, end_few 0 h.closed jsn, length-append (journals_of h.closed) h.waiting)
+
+point_few : (h : History) → IsLawful h → point h < size h
+unfolding point
+point_few h l = point_below (size h) 0 0 (journals h) (lawful_from (journals h) l.journals_are) (omega arith) (omega (arith, some_journal (journals h) l.journals_are))
+
+members_few : (h : History) → IsLawful h → length (members h) ≤ MEMBER_LIMIT
+unfolding members
+members_few h l = (lawful_members (journals h) l.journals_are).1
+
+-- the journals of a clue
+
+between_fit : (n : ℕ) (p : ℕ → Bool) (js : List ℕ) → n ≤ real_limits.size → AreBetween n js → AllFits (filter p js)
+between_fit n p [] few b = tt
+between_fit n p (j ∷ js) few b =
+    elim (p j) as (λ v. AllFits (cond v (j ∷ filter p js) (filter p js))) [ true ↦ (omega (arith, few, b.1), between_fit n p js few b.2) | false ↦ between_fit n p js few b.2 ]
+
+kept_fit : (h : History) (clue : Digest) → IsLawful h → AllFits (kept_with h clue)
+unfolding jsns_with
+kept_fit h clue l = between_fit (size h) (λ jsn. nat_le (point h) jsn) (numbers_of clue (journals h)) (size_few h l) (numbers_between (size h) 0 clue (journals h) (lawful_from (journals h) l.journals_are) (omega arith))
+
+count_fits : (h : History) (clue : Digest) → IsLawful h → Fits (length (jsns_with h clue))
+unfolding jsns_with
+count_fits h clue l = omega (arith, numbers_few clue (journals h), size_few h l)
+
+-- refusals
+
+abbrev MayFit : Option Refusal → Type 0
+MayFit None = ⊤
+MayFit (Some refusal) = RefusalFits refusal
+
+abbrev RowFits : List (Option Refusal) → Type 0
+RowFits [] = ⊤
+RowFits (r ∷ row) = MayFit r × RowFits row
+
+first_fits : (row : List (Option Refusal)) → RowFits row → MayFit (first_refusal row)
+first_fits [] f = tt
+first_fits (Some refusal ∷ row) f = f.0
+first_fits (None ∷ row) f = first_fits row f.1
+
+full_fits : (h : History) → IsLawful h → MayFit (fullness real_limits h)
+unfolding fullness
+full_fits h l =
+    elim (is_full real_limits.soft real_limits h) as (λ v. MayFit (cond v (Some (refusals.Full (kept_count h) (size h))) None)) [ true ↦ (omega (arith, size_few h l), omega (arith, size_few h l)) | false ↦ tt ]
+
+unknown_fits : (known : List (List ℕ)) (member : ℕ) → Fits member → MayFit (unknown_in known member)
+unknown_fits known member f = elim (is_known known member) as (λ v. MayFit (cond v None (Some (refusals.UnknownMember member)))) [ true ↦ tt | false ↦ f ]
+
+wrong_fits : (known : List (List ℕ)) (member : ℕ) (shown : Option Digest) → Fits member → MayFit (wrong_key_in known member shown)
+wrong_fits known member shown f =
+    elim (is_key_of shown (slice_get known member)) as (λ v. MayFit (cond v None (Some (refusals.WrongKey member)))) [ true ↦ tt | false ↦ f ]
+
+clues_fit : (h : History) (clue : Digest) → MayFit (clues_full real_limits h clue)
+unfolding clues_full
+clues_fit h clue =
+    elim (not (is_no_clue clue) && length (jsns_with h clue) == 0 && nat_le real_limits.clues (clue_count h)) as (λ v. MayFit (cond v (Some refusals.CluesFull) None)) [ true ↦ tt | false ↦ tt ]
+
+number_fits : (ms : List Member) (number : ℕ) → Fits (length ms) → MayFit (number_refusal ms number)
+number_fits ms number f =
+    elim (nat_le MEMBER_LIMIT (length ms)) as (λ v. MayFit (cond v (Some refusals.MembersFull) (cond (number == length ms) None (Some (refusals.MemberNumber (length ms)))))) [
+      | true ↦ tt
+      | false ↦ elim (number == length ms) as (λ v. MayFit (cond v None (Some (refusals.MemberNumber (length ms))))) [ true ↦ tt | false ↦ f ]
+    ]
+
+-- the numbers of a job that a refusal may tell
+abbrev pub JobFits : Job → Type 0
+JobFits (Refused refusal) = RefusalFits refusal
+JobFits (Append member clue content content_digest request by) = Fits member
+JobFits (NewMember number key by) = ⊤
+JobFits (Get n) = ⊤
+JobFits (Clue clue) = ⊤
+JobFits Head = ⊤
+
+own_fits : (h : History) (job : Job) → IsLawful h → JobFits job → MayFit (own_refusal real_limits h job)
+own_fits h (Refused refusal) l f = f
+own_fits h (Append member clue content content_digest request by) l f =
+    first_fits (fullness real_limits h ∷ unknown_in (keys h) member ∷ wrong_key_in (keys h) member by.key ∷ clues_full real_limits h clue ∷ [])
+    (full_fits h l, (unknown_fits (keys h) member f, (wrong_fits (keys h) member by.key f, (clues_fit h clue, tt))))
+own_fits h (NewMember number key by) l f =
+    first_fits (fullness real_limits h ∷ number_refusal (members h) number ∷ wrong_key_in (keys h) 0 by.key ∷ [])
+    (full_fits h l, (number_fits (members h) number (omega (arith, members_few h l)), (wrong_fits (keys h) 0 by.key (omega arith), tt)))
+own_fits h (Get n) l f = tt
+own_fits h (Clue clue) l f = tt
+own_fits h Head l f = tt
+
+for_fits : (scheme : Scheme) (id : List ℕ) (what : Result Line Refusal) → WhatFits what → JobFits (job_for scheme id what)
+unfolding append_with member_job
+for_fits scheme id (Err refusal) f = f
+for_fits scheme id (Ok (line.Append member clue content proof)) f = f
+for_fits scheme id (Ok (line.NewMember number key proof)) f = tt
+for_fits scheme id (Ok (line.Get n)) f = tt
+for_fits scheme id (Ok (line.Clue name)) f = tt
+for_fits scheme id (Ok line.Head) f = tt
+
+pub job_counts : (scheme : Scheme) (id text : List ℕ) → JobFits (job_of scheme id text)
+unfolding job_of
+job_counts scheme id text = for_fits scheme id (spoken_line text).1 (spoken_counts text)
+
+-- answers
+
+abbrev AnswerFits : Answer → Type 0
+AnswerFits (Reply reply) = ReplyFits reply
+AnswerFits (Receipt jsn leaf stamp) = IsBytes leaf.0 × StampFits (told_stamp stamp)
+
+placed_fits : (h : History) (step : Step) (refusal : Option Refusal) (journal : Entry) → MayFit refusal → AnswerFits (answer_for h step (judged_outcome refusal (placed_as (size h) journal)))
+placed_fits h step (Some refusal) journal f = f
+placed_fits h step None journal f = (leaf_bytes journal, tt)
+
+outcome_fits : (h : History) (step : Step) (job : Job) → IsLawful h → IsCounted step → JobFits job → AnswerFits (answer_for h step (outcome real_limits (stamp_of step) h job))
+unfolding outcome
+outcome_fits h step (Refused refusal) l c f = f
+outcome_fits h step (Append member clue content content_digest request by) l c f =
+    let job = Append member clue content content_digest request by in
+    placed_fits h step (own_refusal real_limits h job) (append_journal h member clue content content_digest request by) (own_fits h job l f)
+outcome_fits h step (NewMember number key by) l c f =
+    let job = NewMember number key by in placed_fits h step (own_refusal real_limits h job) (member_journal (size h) number key by) (own_fits h job l f)
+outcome_fits h step (Get n) l c f = get_fits h n (omega (arith, size_few h l)) (omega (arith, point_few h l, size_few h l))
+outcome_fits h step (Clue clue) l c f = (count_fits h clue l, kept_fit h clue l)
+outcome_fits h step Head l c f =
+    (omega (arith, size_few h l), omega (arith, closed_few h l, size_few h l), omega (arith, point_few h l, size_few h l), c.entries)
+
+judged_lawful : (h : History) (b : Bool) → IsLawful h → IsLawful (cond b (close h) h)
+judged_lawful h true l = close_lawful h l
+judged_lawful h false l = l
+
+pub answer_fits : (h : History) (step : Step) (job : Job) → IsLawful h → IsCounted step → JobFits job → AnswerFits (answer_to h step job)
+unfolding answer_to
+answer_fits h step job l c f = outcome_fits (judged_at h job) step job (judged_lawful h (closes_before job) l) c f
+
+reply_fits : (f : History) (answer : Answer) → IsLawful f → AnswerFits answer → IsWithin 0 (size f) answer → ReplyFits (reply_in f answer)
+reply_fits f (Reply reply) l a w = a
+reply_fits f (Receipt jsn leaf stamp) l a w = (
+  omega (arith, w.1, size_few f l),
+  a.0,
+  omega (arith, block_of_few f jsn, closed_few f l, size_few f l),
+  omega (arith, end_of_few f jsn, size_few f l),
+  a.1,
+)
+
+-- what is due in a run
+
+fit-append : (xs ys : List Told) → AllFit xs → AllFit ys → AllFit (xs ++ ys)
+fit-append [] ys x y = y
+fit-append (t ∷ xs) ys x y = (x.0, fit-append xs ys x.1 y)
+
+-- the first of some dues fit where all do
+pub fit-first : (f : History) (xs ys : List Due) → AllFit (due_replies f (xs ++ ys)) → AllFit (due_replies f xs)
+fit-first f [] ys a = tt
+fit-first f (d ∷ xs) ys a = (a.0, fit-first f xs ys a.1)
+
+replies-append : (f : History) (xs ys : List Due) → due_replies f (xs ++ ys) ≡ due_replies f xs ++ due_replies f ys
+replies-append f [] ys = refl
+replies-append f (d ∷ xs) ys = ap (λ (ts : List Told). due_reply f d ∷ ts) (replies-append f xs ys)
+
+steps_fit : (scheme : Scheme) (h f : History) (steps : List Step) → IsLawful h → IsLawful f → AllCounted steps → AllWithin 0 (size f) (dues scheme h steps) → AllFit (due_replies f (dues scheme h steps))
+steps_fit scheme h f [] l k c w = tt
+steps_fit scheme h f (step ∷ steps) l k c w = (
+  record {
+    lane = c.0.lane;
+    index = c.0.index;
+    reply = reply_fits f (due_for scheme h step).answer k (answer_fits h step (job_of scheme (id h) step.line) l c.0 (job_counts scheme (id h) step.line)) w.0;
+  },
+  steps_fit scheme (after_step scheme h step) f steps (step_lawful scheme h step l) k c.1 w.1,
+)
+
+-- also where their last block hasn't ended
+pub part_fits : (scheme : Scheme) (h f : History) (steps : List Step) → IsLawful h → IsLawful f → AllCounted steps → Grows (after_steps scheme h steps) f → AllFit (due_replies f (dues scheme h steps))
+part_fits scheme h f steps l k c later =
+    let last = after_steps scheme h steps in
+    steps_fit scheme h f steps l k c
+    (all_higher 0 (size last) (size f) (dues scheme h steps) (grows_size last f later)
+    (all_wider (size h) 0 (size last) (dues scheme h steps) (omega arith) (dues_within scheme h steps)))
+
+pub window_fits : (scheme : Scheme) (h f : History) (steps : List Step) → IsLawful h → IsLawful f → AllCounted steps → Grows (after_window scheme h steps) f → AllFit (due_replies f (dues scheme h steps))
+window_fits scheme h f steps l k c later =
+    let last = after_steps scheme h steps in
+    part_fits scheme h f steps l k c (grows_then last (after_window scheme h steps) f (grows_close last) later)
+
+-- each reply of a run fits, in each later history that is lawful
+pub run_fits : (scheme : Scheme) (h f : History) (windows : List (List Step)) → EachCounted windows → IsLawful h → IsLawful f → Grows (after scheme h windows) f → AllFit (due_replies f (all_dues scheme h windows))
+run_fits scheme h f [] c l k later = tt
+run_fits scheme h f (window ∷ windows) c l k later =
+    let g = after_window scheme h window in
+    subst AllFit (sym (replies-append f (dues scheme h window) (all_dues scheme g windows)))
+    (fit-append (due_replies f (dues scheme h window)) (due_replies f (all_dues scheme g windows))
+    (window_fits scheme h f window l k c.0 (grows_then g (after scheme g windows) f (grows_windows scheme g windows) later))
+    (run_fits scheme g f windows c.1 (close_lawful (after_steps scheme h window) (steps_lawful scheme h window l)) k later))
+
+-- .. also of a window that is underway
+pub underway_fits : (scheme : Scheme) (h f : History) (windows : List (List Step)) (steps : List Step) → EachCounted windows → AllCounted steps → IsLawful h → IsLawful f → Grows (after_steps scheme (after scheme h windows) steps) f
+    → AllFit (due_replies f (all_dues scheme h windows ++ dues scheme (after scheme h windows) steps))
+underway_fits scheme h f windows steps c d l k later =
+    let g = after scheme h windows in
+    subst AllFit (sym (replies-append f (all_dues scheme h windows) (dues scheme g steps)))
+    (fit-append (due_replies f (all_dues scheme h windows)) (due_replies f (dues scheme g steps))
+    (run_fits scheme h f windows c l k (grows_then g (after_steps scheme g steps) f (grows_steps scheme g steps) later))
+    (part_fits scheme g f steps (run_lawful scheme h windows l) k d later))

@@ -1,0 +1,193 @@
+-- Lemmas on receipts that wait for their block's end, and on what is written once it has ended.
+use Rattle.std.specs.Prelude.{slice_get}
+use Rattle.std.proofs.Common.{◌≡◌, ℕ, zero, suc, ◌-◌, ◌≤◌, ◌⊎◌, inl, inr, List, [], ◌∷◌, ◌++◌, length, Option, Some, None, refl, ap, sym, ◌∙◌, arith, append_assoc, append-nil, length-append}
+use Rattle.std.proofs.lemmas.List.{map-append, length-map}
+use Rattle.std.proofs.lemmas.List.Concat.{flat_map-append}
+use Rattle.std.proofs.lemmas.Option.{none-some, slice_get_within}
+use Rattle.ledger_bytes.specs.Begins.{Begins}
+use Rattle.ledger_bytes.specs.Digests.{digest}
+use Rattle.ledger_bytes.specs.declared.digest.Digest.{Digest}
+use Rattle.ledger_bytes.specs.declared.refusal.Refusal.{Refusal}
+use Rattle.journal_record.specs.Entry.{Entry}
+use Rattle.script_lines.specs.Replies.{reply_text}
+use Rattle.ledger_model.specs.Appends.{append_journal, member_journal}
+use Rattle.ledger_model.specs.Dues.{IsWithin, due_of, due_line, due_lines, due_text, dues_text, digests_of, HasLeaf, IsWaiting, AllWaiting, IsIn, AllIn}
+use Rattle.ledger_model.specs.Growing.{Grows}
+use Rattle.ledger_model.specs.History.{History, history, journals, journals_of, size, root, close, leaf_digest}
+use Rattle.ledger_model.specs.Judgements.{own_refusal}
+use Rattle.ledger_model.specs.Limits.{real_limits}
+use Rattle.ledger_model.specs.Outcomes.{placed_journal, with_waiting, after_judgement, with_job, placed_as, judged_outcome, outcome}
+use Rattle.ledger_model.specs.Rules.{judged_at, stamp_of}
+use Rattle.ledger_model.specs.Step.{Step}
+use Rattle.ledger_model.specs.Texts.{answer_for, answer_to}
+use Rattle.ledger_model.specs.declared.answer.Answer.{Answer}
+use Rattle.ledger_model.specs.declared.answer.Answer.TheVariants.{Reply, Receipt}
+use Rattle.ledger_model.specs.declared.due.Due.{Due}
+use Rattle.ledger_model.specs.declared.job.Job.{Job}
+use Rattle.ledger_model.specs.declared.job.Job.TheVariants.{Refused, Append, NewMember, Get, Clue, Head}
+use Rattle.ledger_model.proofs.DueLaws.{answer_kept, answer_ended}
+use Rattle.ledger_model.proofs.GetLaws.{get_no_receipt}
+use Rattle.ledger_model.proofs.GrowLaws.{IsEnded, moves_close, close_none, grows_close, grows_size, size_closed}
+
+-- an element that is there stays there
+pub slice_get-more : {A : Type 0} (xs ys : List A) (i : ℕ) (a : A) → slice_get xs i ≡ Some a → slice_get (xs ++ ys) i ≡ Some a
+slice_get-more [] ys i a is = absurd (none-some a is)
+slice_get-more (x ∷ xs) ys zero a is = is
+slice_get-more (x ∷ xs) ys (suc i) a is = slice_get-more xs ys i a is
+
+slice_get-last : {A : Type 0} (xs : List A) (a : A) → slice_get (xs ++ a ∷ []) (length xs) ≡ Some a
+slice_get-last [] a = refl
+slice_get-last (x ∷ xs) a = slice_get-last xs a
+
+abbrev digest_at : Entry → Digest
+digest_at journal = digest (leaf_digest journal)
+
+-- a journal that is there stays there
+pub leaf_more : (js more : List Entry) (jsn : ℕ) (leaf : Digest) → HasLeaf js jsn leaf → HasLeaf (js ++ more) jsn leaf
+leaf_more js more jsn leaf has = ap (λ ds. slice_get ds jsn) (map-append digest_at js more) ∙ slice_get-more (digests_of js) (digests_of more) jsn leaf has
+
+leaf_last : (js : List Entry) (journal : Entry) → HasLeaf (js ++ journal ∷ []) (length js) (digest (leaf_digest journal))
+leaf_last js journal =
+    ap (λ ds. slice_get ds (length js)) (map-append digest_at js (journal ∷ []))
+    ∙ ap (λ n. slice_get (digests_of js ++ digest_at journal ∷ []) n) (sym (length-map js digest_at))
+    ∙ slice_get-last (digests_of js) (digest_at journal)
+
+pub leaf_within : (js : List Entry) (jsn : ℕ) (leaf : Digest) → HasLeaf js jsn leaf → suc jsn ≤ length js
+leaf_within js jsn leaf has = omega (arith, slice_get_within (digests_of js) jsn leaf has, length-map js digest_at)
+
+-- journals more wait in the open block
+pub record Waits (h g : History) : Type 0 where
+  pub more : List Entry
+  pub is : g ≡ history h.closed (h.waiting ++ more)
+
+pub waits_not : (h : History) → Waits h h
+waits_not h = record { more = []; is = ap (history h.closed) (sym (append-nil h.waiting)) }
+
+waits_with : (h : History) (journal : Option Entry) → Waits h (with_waiting journal h)
+waits_with h None = waits_not h
+waits_with h (Some journal) = record { more = journal ∷ []; is = refl }
+
+waits_judged : (h : History) (refusal : Option Refusal) (journal : Option Entry) → Waits h (after_judgement refusal journal h)
+waits_judged h (Some refusal) journal = waits_not h
+waits_judged h None journal = waits_with h journal
+
+pub waits_job : (h : History) (step : Step) (job : Job) → Waits h (with_job real_limits (stamp_of step) h job)
+unfolding with_job
+waits_job h step job = waits_judged h (own_refusal real_limits h job) (placed_journal h (stamp_of step) job)
+
+waits_journals : (h g : History) (x : Waits h g) → journals g ≡ journals h ++ x.more
+waits_journals h g x = ap journals x.is ∙ sym (append_assoc (journals_of h.closed) h.waiting x.more)
+
+pub waits_closed : (h g : History) → Waits h g → g.closed ≡ h.closed
+waits_closed h g x = ap (λ (k : History). k.closed) x.is
+
+pub grows_waits : (h g : History) → Waits h g → Grows h g
+grows_waits h g x = record { more = x.more; journals_are = waits_journals h g x; blocks = []; closed_are = waits_closed h g x ∙ sym (append-nil h.closed) }
+
+-- receipts that waited wait on
+still_waiting : (h g : History) (answer : Answer) → Waits h g → IsWaiting h answer → IsWaiting g answer
+still_waiting h g (Reply reply) x w = w
+still_waiting h g (Receipt jsn leaf stamp) x w = (
+  omega (arith, w.0, ap (λ bs. length (journals_of bs)) (waits_closed h g x)),
+  ap (λ js. slice_get (digests_of js) jsn) (waits_journals h g x) ∙ leaf_more (journals h) x.more jsn leaf w.1,
+)
+
+pub all_still_waiting : (h g : History) (ds : List Due) → Waits h g → AllWaiting h ds → AllWaiting g ds
+all_still_waiting h g [] x w = tt
+all_still_waiting h g (d ∷ ds) x w = (still_waiting h g d.answer x w.0, all_still_waiting h g ds x w.1)
+
+pub waiting-append : (h : History) (xs ys : List Due) → AllWaiting h xs → AllWaiting h ys → AllWaiting h (xs ++ ys)
+waiting-append h [] ys x y = y
+waiting-append h (d ∷ xs) ys x y = (x.0, waiting-append h xs ys x.1 y)
+
+pub waiting-first : (h : History) (xs ys : List Due) → AllWaiting h (xs ++ ys) → AllWaiting h xs
+waiting-first h [] ys x = tt
+waiting-first h (d ∷ xs) ys x = (x.0, waiting-first h xs ys x.1)
+
+-- what is due for a job waits with its journal
+placed_waits : (h : History) (step : Step) (refusal : Option Refusal) (journal : Entry) → IsWaiting (after_judgement refusal (Some journal) h) (answer_for h step (judged_outcome refusal (placed_as (size h) journal)))
+placed_waits h step (Some refusal) journal = tt
+placed_waits h step None journal = (
+  omega (arith, length-append (journals_of h.closed) h.waiting),
+  ap (λ js. slice_get (digests_of js) (size h)) (sym (append_assoc (journals_of h.closed) h.waiting (journal ∷ []))) ∙ leaf_last (journals h) journal,
+)
+
+pub answer_waits : (h : History) (step : Step) (job : Job) → IsWaiting (with_job real_limits (stamp_of step) h job) (answer_for h step (outcome real_limits (stamp_of step) h job))
+unfolding outcome with_job
+answer_waits h step (Refused refusal) = tt
+answer_waits h step (Append member clue content content_digest request by) =
+    placed_waits h step (own_refusal real_limits h (Append member clue content content_digest request by)) (append_journal h member clue content content_digest request by)
+answer_waits h step (NewMember number key by) = placed_waits h step (own_refusal real_limits h (NewMember number key by)) (member_journal (size h) number key by)
+answer_waits h step (Get n) = get_no_receipt (λ jsn leaf. ⊥) h n
+answer_waits h step (Clue clue) = tt
+answer_waits h step Head = tt
+
+-- .. in the history after the job, before its block ends
+pub due_waits : (h : History) (step : Step) (job : Job) → IsWaiting (with_job real_limits (stamp_of step) (judged_at h job) job) (due_of h step job).answer
+unfolding answer_to
+due_waits h step job = answer_waits (judged_at h job) step job
+
+-- journals in blocks
+
+pub in-append : (blocks : List (List Entry)) (xs ys : List Due) → AllIn blocks xs → AllIn blocks ys → AllIn blocks (xs ++ ys)
+in-append blocks [] ys x y = y
+in-append blocks (d ∷ xs) ys x y = (x.0, in-append blocks xs ys x.1 y)
+
+pub in-first : (blocks : List (List Entry)) (xs ys : List Due) → AllIn blocks (xs ++ ys) → AllIn blocks xs
+in-first blocks [] ys x = tt
+in-first blocks (d ∷ xs) ys x = (x.0, in-first blocks xs ys x.1)
+
+-- journals that stand in some blocks stand in these and more
+in_more : (blocks more : List (List Entry)) (answer : Answer) → Begins blocks more → IsIn blocks answer → IsIn more answer
+in_more blocks more (Reply reply) b x = x
+in_more blocks more (Receipt jsn leaf stamp) b x =
+    ap (λ js. slice_get (digests_of js) jsn) (ap journals_of b.is ∙ flat_map-append (λ (block : List Entry). block) blocks b.rest) ∙ leaf_more (journals_of blocks) (journals_of b.rest) jsn leaf x
+
+pub all_in_more : (blocks more : List (List Entry)) (ds : List Due) → Begins blocks more → AllIn blocks ds → AllIn more ds
+all_in_more blocks more [] b x = tt
+all_in_more blocks more (d ∷ ds) b x = (in_more blocks more d.answer b x.0, all_in_more blocks more ds b x.1)
+
+pub begins_closed : (h g : History) → Grows h g → Begins h.closed g.closed
+begins_closed h g x = record { rest = x.blocks; is = x.closed_are }
+
+-- once the open block has ended, the journals of all receipts that waited stand in blocks
+in_ended : (h : History) (answer : Answer) → IsWaiting h answer → IsIn (close h).closed answer
+in_ended h (Reply reply) x = x
+in_ended h (Receipt jsn leaf stamp) x =
+    let g = close h in
+    let later = grows_close h in
+    let all : journals_of g.closed ≡ journals h ++ later.more = sym (ap (λ (w : List Entry). journals_of g.closed ++ w) (close_none h) ∙ append-nil (journals_of g.closed)) ∙ later.journals_are in
+    ap (λ js. slice_get (digests_of js) jsn) all ∙ leaf_more (journals h) later.more jsn leaf x.1
+
+pub all_in_ended : (h : History) (ds : List Due) → AllWaiting h ds → AllIn (close h).closed ds
+all_in_ended h [] x = tt
+all_in_ended h (d ∷ ds) x = (in_ended h d.answer x.0, all_in_ended h ds x.1)
+
+-- lines at a block's end
+
+pub within_of : (h g : History) (answer : Answer) → size h ≤ size g → IsWaiting h answer → IsWithin (size (history h.closed [])) (size g) answer
+within_of h g (Reply reply) le x = tt
+within_of h g (Receipt jsn leaf stamp) le x =
+    (omega (arith, x.0, ap length (append-nil (journals_of h.closed))), omega (arith, le, leaf_within (journals h) jsn leaf x.1))
+
+ended_of : (h : History) → (size (close h) ≡ size (history h.closed [])) ⊎ IsEnded (history h.closed []) (close h)
+ended_of h =
+    elim (moves_close h).blocks_are [
+      | inl same ↦ inl (size_closed (close h) (close_none h) ∙ ap (λ bs. length (journals_of bs)) same ∙ sym (size_closed (history h.closed []) refl))
+      | inr e ↦ inr (record { block = e.block; closed_are = e.closed_are; none = e.none })
+    ]
+
+-- the line that is due where the open block has ended
+line_ended : (h f : History) (due : Due) → Grows (close h) f → IsWaiting h due.answer → due_line f due ≡ due_text (length (close h).closed - 1) (size (close h)) (root (close h) (size (close h))) due
+line_ended h f due later x =
+    let g = close h in
+    let k = history h.closed [] in
+    let within = within_of h g due.answer (grows_size h g (grows_close h)) x in
+    ap (reply_text due.lane due.index) (answer_kept g f (size k) due.answer (close_none h) later within ∙ answer_ended k g due.answer refl (ended_of h) within)
+
+-- what is written at a block's end are the lines of all that was due, in each later history
+pub lines_ended : (h f : History) (ds : List Due) → Grows (close h) f → AllWaiting h ds → dues_text (length (close h).closed - 1) (size (close h)) (root (close h) (size (close h))) ds ≡ due_lines f ds
+lines_ended h f [] later x = refl
+lines_ended h f (d ∷ ds) later x =
+    let g = close h in
+    ap (λ l. l ++ dues_text (length g.closed - 1) (size g) (root g (size g)) ds) (sym (line_ended h f d later x.0)) ∙ ap (λ l. due_line f d ++ l) (lines_ended h f ds later x.1)

@@ -1,0 +1,128 @@
+-- The numbers of a line that was read, and those of its refusal, are as programs have them.
+use Rattle.std.specs.Prelude.{⊤}
+use Rattle.std.specs.Str.{bytes_eq}
+use Rattle.std.proofs.Common.{◌≡◌, ℕ, ◌-◌, ◌^◌, ◌&&◌, nat_le, if◌then◌else◌, Bool, true, false, cond, List, [], ◌∷◌, codes, Option, Some, None, Result, Ok, Err, refl, arith}
+use Rattle.std.proofs.lemmas.Bool.{and_parts, leb-true}
+use Rattle.ledger_bytes.specs.declared.limits.TheConstants.{CONTENT_LIMIT, PROOF_LIMIT}
+use Rattle.ledger_bytes.specs.declared.refusal.Refusal.{Refusal}
+use Rattle.script_lines.specs.Fields.{Left, fields_of, next_column, read_or_bad, field_from, field_at, end_from, end_at}
+use Rattle.script_lines.specs.Grammar.{◌>>=◌, append_at, member_at, get_at, clue_at, head_at, verb_at, asked_by, lane_of, spoken_by, spoken_at, spoken_line}
+use Rattle.script_lines.specs.Receipts.{Fits, RefusalFits}
+use Rattle.script_lines.specs.Spellings.{text_of, number_of, bytes_of, digest_of, clue_of, is_decimal, value_behind}
+use Rattle.script_lines.specs.declared.line.Line.{Line}
+use Rattle.script_lines.specs.declared.line.Line.TheVariants.{Append, NewMember, Get, Clue, Head}
+
+-- the numbers that a refusal of the line may tell
+abbrev pub LineFits : Line → Type 0
+LineFits (Append member clue content proof) = Fits member
+LineFits (NewMember number key proof) = ⊤
+LineFits (Get n) = ⊤
+LineFits (Clue name) = ⊤
+LineFits Head = ⊤
+
+abbrev pub WhatFits : Result Line Refusal → Type 0
+WhatFits (Ok line) = LineFits line
+WhatFits (Err refusal) = RefusalFits refusal
+
+-- what a field reads as keeps to a rule and the column behind it fits, or the refusal does
+abbrev Gives : {A : Type 0} → (A → Type 0) → Result (A × Left) Refusal → Type 0
+Gives P (Ok read) = P read.0 × Fits read.1.column
+Gives P (Err refusal) = RefusalFits refusal
+
+next_fits : (column : ℕ) → Fits (next_column column)
+next_fits column = omega arith
+
+gives_or : {A : Type 0} (P : A → Type 0) (column : ℕ) (read : Option A) (rest : Left) → Fits column → Fits rest.column → ((x : A) → read ≡ Some x → P x) → Gives P (read_or_bad column read rest)
+gives_or P column None rest here next keeps = here
+gives_or P column (Some x) rest here next keeps = (keeps x refl, next)
+
+field_gives : {A : Type 0} (P : A → Type 0) (read : List ℕ → Option A) (left : Left) → Fits left.column → ((text : List ℕ) (x : A) → read text ≡ Some x → P x) → Gives P (field_at read left)
+field_gives P read left here keeps = by left.fields where
+  by : (fields : List (List ℕ)) → Gives P (field_from read left.column fields)
+  by [] = here
+  by (field ∷ fields) = gives_or P left.column (read field) _ here (next_fits left.column) (keeps field)
+
+then_fits : {A : Type 0} (P : A → Type 0) (first : Result (A × Left) Refusal) (second : A × Left → Result Line Refusal)
+    → Gives P first → ((x : A × Left) → P x.0 → Fits x.1.column → WhatFits (second x)) → WhatFits (first >>= second)
+then_fits P (Ok x) second first_fits fits = fits x first_fits.0 first_fits.1
+then_fits P (Err refusal) second first_fits fits = first_fits
+
+end_fits : (left : Left) (line : Line) → Fits left.column → LineFits line → WhatFits (end_at left >>= (λ end. Ok line))
+end_fits left line here fits = by left.fields where
+  by : (fields : List (List ℕ)) → WhatFits (end_from left.column fields >>= (λ end. Ok line))
+  by [] = fits
+  by (field ∷ fields) = here
+
+abbrev Any : {A : Type 0} → A → Type 0
+Any x = Unit {0}
+
+number_fits : (text : List ℕ) (n : ℕ) → number_of (2 ^ 32 - 1) text ≡ Some n → Fits n
+number_fits text n is =
+    elim (is_decimal text && nat_le (value_behind 0 text) (2 ^ 32 - 1)) as (λ v. (is_decimal text && nat_le (value_behind 0 text) (2 ^ 32 - 1)) ≡ v → cond v (Some (value_behind 0 text)) None ≡ Some n → Fits n) [
+      | true ↦ λ fits read.
+          let same : value_behind 0 text ≡ n = cc in
+          omega (arith, same, leb-true (value_behind 0 text) (2 ^ 32 - 1) (and_parts (is_decimal text) (nat_le (value_behind 0 text) (2 ^ 32 - 1)) fits).1)
+      | false ↦ λ fits read. absurd cc
+    ] refl is
+
+append_fits : (fields : Left) → Fits fields.column → WhatFits (append_at fields)
+unfolding append_at
+append_fits fields here =
+    then_fits Fits _ _ (field_gives Fits (number_of (2 ^ 32 - 1)) fields here number_fits) (λ member m a.
+    then_fits Any _ _ (field_gives Any clue_of member.1 a (λ text x is. tt)) (λ clue c b.
+    then_fits Any _ _ (field_gives Any (bytes_of CONTENT_LIMIT) clue.1 b (λ text x is. tt)) (λ content d e.
+    then_fits Any _ _ (field_gives Any (bytes_of PROOF_LIMIT) content.1 e (λ text x is. tt)) (λ proof p f.
+    end_fits proof.1 (Append member.0 clue.0 content.0 proof.0) f m))))
+
+member_fits : (fields : Left) → Fits fields.column → WhatFits (member_at fields)
+unfolding member_at
+member_fits fields here =
+    then_fits Any _ _ (field_gives Any (number_of (2 ^ 32 - 1)) fields here (λ text x is. tt)) (λ number n a.
+    then_fits Any _ _ (field_gives Any digest_of number.1 a (λ text x is. tt)) (λ key k b.
+    then_fits Any _ _ (field_gives Any (bytes_of PROOF_LIMIT) key.1 b (λ text x is. tt)) (λ proof p c.
+    end_fits proof.1 (NewMember number.0 key.0 proof.0) c tt)))
+
+get_fits : (fields : Left) → Fits fields.column → WhatFits (get_at fields)
+unfolding get_at
+get_fits fields here =
+    then_fits Any _ _ (field_gives Any (number_of (2 ^ 64 - 1)) fields here (λ text x is. tt)) (λ n m a.
+    end_fits n.1 (Get n.0) a tt)
+
+clue_fits : (fields : Left) → Fits fields.column → WhatFits (clue_at fields)
+unfolding clue_at
+clue_fits fields here =
+    then_fits Any _ _ (field_gives Any clue_of fields here (λ text x is. tt)) (λ name n a.
+    end_fits name.1 (Clue name.0) a tt)
+
+head_fits : (fields : Left) → Fits fields.column → WhatFits (head_at fields)
+unfolding head_at
+head_fits fields here = end_fits fields Head here tt
+
+either_fits : (b : Bool) (x y : Result Line Refusal) → WhatFits x → WhatFits y → WhatFits (if b then x else y)
+either_fits true x y first second = first
+either_fits false x y first second = second
+
+verb_fits : (verb : List ℕ) (fields : Left) → Fits fields.column → WhatFits (verb_at verb fields)
+verb_fits verb fields here =
+    either_fits (bytes_eq verb (codes "append")) _ _ (append_fits fields here)
+    (either_fits (bytes_eq verb (codes "member")) _ _ (member_fits fields here)
+    (either_fits (bytes_eq verb (codes "get")) _ _ (get_fits fields here)
+    (either_fits (bytes_eq verb (codes "clue")) _ _ (clue_fits fields here)
+    (either_fits (bytes_eq verb (codes "head")) _ _ (head_fits fields here) tt))))
+
+asked_fits : (verb : Result (List ℕ × Left) Refusal) → Gives Any verb → WhatFits (asked_by verb)
+asked_fits (Ok verb) g = verb_fits verb.0 verb.1 g.1
+asked_fits (Err refusal) g = tt
+
+by_lane : (lane : Option ℕ) (fields : Left) → Fits fields.column → WhatFits (spoken_by lane fields).1
+by_lane None fields here = tt
+by_lane (Some lane) fields here = asked_fits (field_at text_of fields) (field_gives Any text_of fields here (λ text x is. tt))
+
+by_first : (first : Result (List ℕ × Left) Refusal) → Gives Any first → WhatFits (spoken_at first).1
+by_first (Ok first) g = by_lane (lane_of first.0) first.1 g.1
+by_first (Err refusal) g = tt
+
+-- the numbers of what a line asks for fit, or those of its refusal
+pub spoken_counts : (line : List ℕ) → WhatFits (spoken_line line).1
+unfolding spoken_line
+spoken_counts line = by_first (field_at text_of (fields_of line)) (field_gives Any text_of (fields_of line) (omega arith) (λ text x is. tt))

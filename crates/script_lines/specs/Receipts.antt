@@ -1,0 +1,144 @@
+-- The receipts among the whole lines of what was written.
+use Rattle.std.specs.Prelude.{◌≡◌, ◌≢◌, ◌⊎◌, ℕ, ◌^◌, ◌==◌, ◌<◌, if◌then◌else◌, List, [], ◌∷◌, ◌++◌, codes, decimal, Option, Some, None, ⊤}
+use Rattle.std.specs.List.{flat_map}
+use Rattle.hex.specs.Hex.{IsBytes}
+use Rattle.ledger_bytes.specs.declared.digest.Digest.{Digest}
+use Rattle.ledger_bytes.specs.declared.refusal.Refusal.{Refusal}
+use Rattle.ledger_bytes.specs.declared.refusal.Refusal.TheVariants as refusals
+use Rattle.script_lines.specs.Replies.{reply_words, reply_text}
+use Rattle.script_lines.specs.Words.{spaced_words}
+use Rattle.script_lines.specs.declared.reply.Reply.{Reply}
+use Rattle.script_lines.specs.declared.reply.Reply.TheVariants.{Placed, Whole, Occulted, Proof, Extension, Clue, Head, Refused}
+
+-- the lines that end in these bytes, where a line was begun
+abbrev pub lines_after : List ℕ → List ℕ → List (List ℕ)
+lines_after begun [] = []
+lines_after begun (b ∷ bs) =
+    if b == 10 then begun ∷ lines_after [] bs else lines_after (begun ++ b ∷ []) bs
+
+-- the whole lines of some bytes, without their newlines
+abbrev pub whole_lines : List ℕ → List (List ℕ)
+whole_lines bytes = lines_after [] bytes
+
+-- a line is among some
+abbrev pub IsAmong : List (List ℕ) → List ℕ → Type 0
+IsAmong [] line = ⊥
+IsAmong (first ∷ lines) line = (first ≡ line) ⊎ IsAmong lines line
+
+-- a reply's line without its newline
+abbrev pub reply_line : ℕ → ℕ → Reply → List ℕ
+reply_line lane index reply =
+    decimal lane ++ codes "." ++ decimal index ++ spaced_words (reply_words reply)
+
+-- a whole line of these bytes is a receipt of this journal with this leaf digest
+pub record IsReceipted (bytes : List ℕ) (jsn : ℕ) (leaf : Digest) : Type 0 where
+  pub lane : ℕ
+  pub index : ℕ
+  pub block : ℕ
+  pub size : ℕ
+  pub root : Digest
+  pub stamp : Option (ℕ × ℕ)
+  pub line : IsAmong (whole_lines bytes) (reply_line lane index (Placed jsn leaf block size root stamp))
+  pub lane_fits : lane < 2 ^ 64
+  pub index_fits : index < 2 ^ 64
+  pub jsn_fits : jsn < 2 ^ 64
+  pub leaf_fits : IsBytes leaf.0
+
+-- a reply with the line that it answers
+pub record Told : Type 0 where
+  pub lane : ℕ
+  pub index : ℕ
+  pub reply : Reply
+
+-- the text of some replies
+abbrev pub told_text : List Told → List ℕ
+told_text replies = flat_map (λ told. reply_text told.lane told.index told.reply) replies
+
+-- a receipt has what is said of its journal's number and leaf digest; another reply is no receipt
+abbrev pub OfReceipt : (ℕ → Digest → Type 0) → Reply → Type 0
+OfReceipt Holds (Placed jsn leaf block size root stamp) = Holds jsn leaf
+OfReceipt Holds (Whole header content who) = ⊤
+OfReceipt Holds (Occulted header who) = ⊤
+OfReceipt Holds (Proof n leaf lo hi proof) = ⊤
+OfReceipt Holds (Extension which m size root proof) = ⊤
+OfReceipt Holds (Clue count kept) = ⊤
+OfReceipt Holds (Head id size root blocks point notary_size notary_root) = ⊤
+OfReceipt Holds (Refused refusal) = ⊤
+
+-- each receipt among these replies has it
+abbrev pub EachReceipt : (ℕ → Digest → Type 0) → List Told → Type 0
+EachReceipt Holds [] = ⊤
+EachReceipt Holds (told ∷ replies) = OfReceipt Holds told.reply × EachReceipt Holds replies
+
+-- bytes without a space or a newline
+abbrev pub IsWord : List ℕ → Type 0
+IsWord [] = ⊤
+IsWord (b ∷ bs) = (b ≢ 32) × (b ≢ 10) × IsWord bs
+
+abbrev pub AreWords : List (List ℕ) → Type 0
+AreWords [] = ⊤
+AreWords (word ∷ words) = IsWord word × AreWords words
+
+-- a number as programs have it
+abbrev pub Fits : ℕ → Type 0
+Fits n = n < 2 ^ 64
+
+abbrev pub AllFits : List ℕ → Type 0
+AllFits [] = ⊤
+AllFits (n ∷ ns) = Fits n × AllFits ns
+
+abbrev pub MarkFits : Option (ℕ × ℕ × ℕ) → Type 0
+MarkFits None = ⊤
+MarkFits (Some mark) = Fits mark.0 × Fits mark.1 × Fits mark.2
+
+abbrev pub StampFits : Option (ℕ × ℕ) → Type 0
+StampFits None = ⊤
+StampFits (Some stamp) = Fits stamp.0 × Fits stamp.1
+
+-- A refusal's numbers are as programs have them. Of its digests nothing is asked: no hexadecimal digit breaks a line.
+abbrev pub RefusalFits : Refusal → Type 0
+RefusalFits refusals.BadVerb = ⊤
+RefusalFits (refusals.BadField column) = Fits column
+RefusalFits refusals.BadLane = ⊤
+RefusalFits (refusals.Damaged kept found) = ⊤
+RefusalFits (refusals.UnknownMember member) = Fits member
+RefusalFits (refusals.WrongKey member) = Fits member
+RefusalFits (refusals.MissingApproval member) = Fits member
+RefusalFits (refusals.ApprovalOrder at) = Fits at
+RefusalFits (refusals.MemberNumber next) = Fits next
+RefusalFits refusals.MembersFull = ⊤
+RefusalFits (refusals.NoJournal size) = Fits size
+RefusalFits (refusals.Purged point) = Fits point
+RefusalFits (refusals.NotData kind) = Fits kind
+RefusalFits (refusals.NotTime kind) = Fits kind
+RefusalFits (refusals.AlreadyOcculted by) = Fits by
+RefusalFits (refusals.LeafDiffers kept) = ⊤
+RefusalFits (refusals.RootDiffers kept) = ⊤
+RefusalFits refusals.NotaryFault = ⊤
+RefusalFits refusals.NotaryFull = ⊤
+RefusalFits (refusals.Full kept size) = Fits kept × Fits size
+RefusalFits (refusals.BadSize size) = Fits size
+RefusalFits refusals.CluesFull = ⊤
+
+-- a reply's numbers are as programs have them, and so is the leaf digest of a receipt
+abbrev pub ReplyFits : Reply → Type 0
+ReplyFits (Placed jsn leaf block size root stamp) =
+    Fits jsn × IsBytes leaf.0 × Fits block × Fits size × StampFits stamp
+ReplyFits (Whole header content who) = ⊤
+ReplyFits (Occulted header who) = ⊤
+ReplyFits (Proof n leaf lo hi proof) = Fits n × MarkFits lo × MarkFits hi
+ReplyFits (Extension which m size root proof) = Fits m × Fits size
+ReplyFits (Clue count kept) = Fits count × AllFits kept
+ReplyFits (Head id size root blocks point notary_size notary_root) =
+    Fits size × Fits blocks × Fits point × Fits notary_size
+ReplyFits (Refused refusal) = RefusalFits refusal
+
+-- a reply that fits, with its line as programs have it
+pub record FitsReply (told : Told) : Type 0 where
+  pub lane : Fits told.lane
+  pub index : Fits told.index
+  pub reply : ReplyFits told.reply
+
+abbrev pub AllFit : List Told → Type 0
+AllFit [] = ⊤
+AllFit (told ∷ replies) = FitsReply told × AllFit replies
