@@ -10,10 +10,10 @@ use Rattle.journal_record.specs.Header.{spelling}
 use Rattle.journal_record.specs.declared.header.Header.{Header}
 use Rattle.journal_record.proofs.Spelling.{length-spelling}
 use Rattle.journal_record.proofs.ReadingLaws.{header_of_only}
-use Rattle.journal_record.specs.Blocks.{record_bytes, body_of, block_bytes, leaves_of, AreBlocks, written}
+use Rattle.journal_record.specs.Blocks.{record_bytes, body_of, block_bytes, leaves_of, AreBlocks, written_blocks}
 use Rattle.journal_record.specs.Records.{IsReadable, AreReadable}
 use Rattle.ledger_bytes.specs.declared.limits.TheConstants.{BLOCK_LIMIT}
-use Rattle.block_file.specs.File.{opened, Stands}
+use Rattle.block_file.specs.File.{open_blocks, Stands}
 use Rattle.block_file.specs.Head.{number_at}
 use Rattle.ledger_open.specs.Heads.{IsFront}
 use Rattle.ledger_open.specs.Standing.{Floor, HasBlocks}
@@ -82,7 +82,7 @@ block_again a b es fs r s aa bb few_es few_fs ee ff is =
     (three.0, four.0, four.1)
 
 pub blocks_again : (root : List (List ℕ) → List ℕ) → GivesDigests root → (seen : List (List ℕ)) (n : ℕ) (h k : List (List Entry)) (g i : ℕ) (r s : List ℕ) → AreBlocks n h → AreBlocks n k → g ≢ 1 → i ≢ 1
-    → opened (written root seen h) ++ g ∷ r ≡ opened (written root seen k) ++ i ∷ s → h ≡ k
+    → open_blocks (written_blocks root seen h) ++ g ∷ r ≡ open_blocks (written_blocks root seen k) ++ i ∷ s → h ≡ k
 blocks_again root size seen n [] [] g i r s hh kk gg ii is = refl
 blocks_again root size seen n [] (c ∷ cs) g i r s hh kk gg ii is = absurd (gg (ap (λ (l : List ℕ). get_or l 0 0) is))
 blocks_again root size seen n (b ∷ bs) [] g i r s hh kk gg ii is = absurd (ii (sym (ap (λ (l : List ℕ). get_or l 0 0) is)))
@@ -90,11 +90,11 @@ blocks_again root size seen n (b ∷ bs) (c ∷ cs) g i r s hh kk gg ii is =
     let behind = ap (λ (l : List ℕ). drop 1 l) is in
     let x = block_bytes (root (seen ++ leaves_of b)) b in
     let y = block_bytes (root (seen ++ leaves_of c)) c in
-    let one = block_again (root (seen ++ leaves_of b)) (root (seen ++ leaves_of c)) b c (opened (written root (seen ++ leaves_of b) bs) ++ g ∷ r) (opened (written root (seen ++ leaves_of c) cs) ++ i ∷ s) (size (seen ++ leaves_of b)) (size (seen ++ leaves_of c)) hh.0.most kk.0.most (readable n b hh.0.entries) (readable n c kk.0.entries)
-    (sym (append_assoc (block_bytes (root (seen ++ leaves_of b)) b) (opened (written root (seen ++ leaves_of b) bs)) (g ∷ r)) ∙ behind ∙ append_assoc (block_bytes (root (seen ++ leaves_of c)) c) (opened (written root (seen ++ leaves_of c) cs)) (i ∷ s)) in
+    let one = block_again (root (seen ++ leaves_of b)) (root (seen ++ leaves_of c)) b c (open_blocks (written_blocks root (seen ++ leaves_of b) bs) ++ g ∷ r) (open_blocks (written_blocks root (seen ++ leaves_of c) cs) ++ i ∷ s) (size (seen ++ leaves_of b)) (size (seen ++ leaves_of c)) hh.0.most kk.0.most (readable n b hh.0.entries) (readable n c kk.0.entries)
+    (sym (append_assoc (block_bytes (root (seen ++ leaves_of b)) b) (open_blocks (written_blocks root (seen ++ leaves_of b) bs)) (g ∷ r)) ∙ behind ∙ append_assoc (block_bytes (root (seen ++ leaves_of c)) c) (open_blocks (written_blocks root (seen ++ leaves_of c) cs)) (i ∷ s)) in
     let there : AreBlocks (n + length b) cs = subst (λ (x : List Entry). AreBlocks (n + length x) cs) (sym one.1) kk.1 in
     let two = blocks_again root size (seen ++ leaves_of b) (n + length b) bs cs g i r s hh.1 there gg ii
-    (one.2 ∙ ap (λ (x : List Entry). opened (written root (seen ++ leaves_of x) cs) ++ i ∷ s) (sym one.1)) in
+    (one.2 ∙ ap (λ (x : List Entry). open_blocks (written_blocks root (seen ++ leaves_of x) cs) ++ i ∷ s) (sym one.1)) in
     ap (λ (x : List Entry). x ∷ bs) one.1 ∙ ap (λ (xs : List (List Entry)). c ∷ xs) two
 
 pub number_front : (at : ℕ) (x r : List ℕ) → at + 8 ≤ length x → number_at at (x ++ r) ≡ number_at at x
@@ -111,8 +111,8 @@ front_again g i b c f e r s ff ee is =
     (sym ff.generation_is ∙ ap (number_at 10) one.0 ∙ ee.generation_is, sym ff.base_is ∙ ap (λ (l : List ℕ). drop 64 l) one.0 ∙ ee.base_is, one.1)
 
 -- a file by its front, and what is behind it
-pub flat : (front : List ℕ) (blocks : List (List ℕ)) (file : List ℕ) (s : Stands front blocks file) → file ≡ front ++ (opened blocks ++ s.gate ∷ s.rest)
-flat front blocks file s = s.is ∙ append_assoc front (opened blocks) (s.gate ∷ s.rest)
+pub flat : (front : List ℕ) (blocks : List (List ℕ)) (file : List ℕ) (s : Stands front blocks file) → file ≡ front ++ (open_blocks blocks ++ s.gate ∷ s.rest)
+flat front blocks file s = s.is ∙ append_assoc front (open_blocks blocks) (s.gate ∷ s.rest)
 
 -- a file has one list of blocks
 pub blocks_unique : (floor : Floor) (g i : ℕ) (bs cs : List (List Entry)) (image : List ℕ) → GivesDigests floor.root → HasBlocks floor g bs image → HasBlocks floor i cs image → (g ≡ i) × (bs ≡ cs)

@@ -4,9 +4,9 @@ use Rattle.std.proofs.Common.{◌≡◌, ◌≢◌, ℕ, ◌+◌, ◌≤◌, Lis
 use Rattle.std.proofs.lemmas.List.{drop_at, get_or-drop, take-append-le, drop-append-le, drop_all}
 use Rattle.std.proofs.lemmas.List.Concat.{flat_map-append}
 use Rattle.block_file.specs.Blocks.{IsOpenBlock}
-use Rattle.block_file.specs.File.{Stands, opened}
+use Rattle.block_file.specs.File.{Stands, open_blocks}
 use Rattle.block_file.specs.Head.{number_at, generation_of}
-use Rattle.journal_record.specs.Blocks.{block_bytes, leaves_of, IsBlock, written}
+use Rattle.journal_record.specs.Blocks.{block_bytes, leaves_of, IsBlock, written_blocks}
 use Rattle.journal_record.specs.Entry.{Entry}
 use Rattle.ledger_model.specs.History.{journals_of}
 use Rattle.ledger_open.specs.Damages.{Begun}
@@ -72,8 +72,8 @@ begun_more file ks at root es b o root_is block = record {
   head = b.head;
   lawful = blocks_more 0 ks es b.lawful (subst (λ (n : ℕ). IsBlock n es) (omega arith) block);
   rest = o.gate ∷ o.rest;
-  is = b.is ∙ ap (λ (l : List ℕ). (b.front ++ opened (written (ground).root [] ks)) ++ l) rest_is ∙ sym (append_assoc (b.front ++ opened (written (ground).root [] ks)) (1 ∷ block_bytes own es) (o.gate ∷ o.rest)) ∙ ap (λ (l : List ℕ). l ++ o.gate ∷ o.rest) front_is;
-  place = sym (ap length front_is) ∙ length-append (b.front ++ opened (written (ground).root [] ks)) (1 ∷ block_bytes own es) ∙ omega (arith, b.place, block_len);
+  is = b.is ∙ ap (λ (l : List ℕ). (b.front ++ open_blocks (written_blocks (ground).root [] ks)) ++ l) rest_is ∙ sym (append_assoc (b.front ++ open_blocks (written_blocks (ground).root [] ks)) (1 ∷ block_bytes own es) (o.gate ∷ o.rest)) ∙ ap (λ (l : List ℕ). l ++ o.gate ∷ o.rest) front_is;
+  place = sym (ap length front_is) ∙ length-append (b.front ++ open_blocks (written_blocks (ground).root [] ks)) (1 ∷ block_bytes own es) ∙ omega (arith, b.place, block_len);
 } where
   own : List ℕ
   own = (ground).root (leaves_of (journals_of ks) ++ leaves_of es)
@@ -82,19 +82,19 @@ begun_more file ks at root es b o root_is block = record {
   block_len = block_size own es (mth_size (leaves_of (journals_of ks) ++ leaves_of es)) (readable (length (journals_of ks)) es block.entries)
 
   rest_is : b.rest ≡ (1 ∷ block_bytes own es) ++ (o.gate ∷ o.rest)
-  rest_is = sym (ap (λ (l : List ℕ). drop at l) b.is ∙ drop_at (b.front ++ opened (written (ground).root [] ks)) b.rest at b.place) ∙ o.is ∙ ap (λ (r : List ℕ). 1 ∷ (block_bytes r es ++ o.gate ∷ o.rest)) root_is
+  rest_is = sym (ap (λ (l : List ℕ). drop at l) b.is ∙ drop_at (b.front ++ open_blocks (written_blocks (ground).root [] ks)) b.rest at b.place) ∙ o.is ∙ ap (λ (r : List ℕ). 1 ∷ (block_bytes r es ++ o.gate ∷ o.rest)) root_is
 
-  front_is : (b.front ++ opened (written (ground).root [] ks)) ++ (1 ∷ block_bytes own es) ≡ b.front ++ opened (written (ground).root [] (ks ++ es ∷ []))
+  front_is : (b.front ++ open_blocks (written_blocks (ground).root [] ks)) ++ (1 ∷ block_bytes own es) ≡ b.front ++ open_blocks (written_blocks (ground).root [] (ks ++ es ∷ []))
   front_is =
-      append_assoc b.front (opened (written (ground).root [] ks)) (1 ∷ block_bytes own es)
-      ∙ ap (λ (l : List ℕ). b.front ++ l) (ap (λ (l : List ℕ). opened (written (ground).root [] ks) ++ l) (sym (append-nil (1 ∷ block_bytes own es)))
-      ∙ sym (flat_map-append (λ (x : List ℕ). 1 ∷ x) (written (ground).root [] ks) (block_bytes own es ∷ [])) ∙ ap opened (sym (written_more (ground).root [] ks es)))
+      append_assoc b.front (open_blocks (written_blocks (ground).root [] ks)) (1 ∷ block_bytes own es)
+      ∙ ap (λ (l : List ℕ). b.front ++ l) (ap (λ (l : List ℕ). open_blocks (written_blocks (ground).root [] ks) ++ l) (sym (append-nil (1 ∷ block_bytes own es)))
+      ∙ sym (flat_map-append (λ (x : List ℕ). 1 ∷ x) (written_blocks (ground).root [] ks) (block_bytes own es ∷ [])) ∙ ap open_blocks (sym (written_more (ground).root [] ks es)))
 
 -- the next gate is shut: the file has the blocks that were read
 pub begun_ends : (file : List ℕ) (ks : List (List Entry)) (at : ℕ) → Begun ground file ks at → get_or file at 0 ≢ 1 → at + 1 ≤ length file → HasFile ks file
 begun_ends file ks at b shut inside = (b.generation, record { front = b.front; head = b.head; lawful = b.lawful; stands = by_rest b.rest b.is }) where
-  by_rest : (rest : List ℕ) → file ≡ (b.front ++ opened (written (ground).root [] ks)) ++ rest → Stands b.front (written (ground).root [] ks) file
-  by_rest [] is = absurd (omega (arith, inside, b.place, ap length is, length-append (b.front ++ opened (written (ground).root [] ks)) []))
+  by_rest : (rest : List ℕ) → file ≡ (b.front ++ open_blocks (written_blocks (ground).root [] ks)) ++ rest → Stands b.front (written_blocks (ground).root [] ks) file
+  by_rest [] is = absurd (omega (arith, inside, b.place, ap length is, length-append (b.front ++ open_blocks (written_blocks (ground).root [] ks)) []))
   by_rest (g ∷ gs) is = record {
     gate = g;
     rest = gs;
@@ -103,4 +103,4 @@ begun_ends file ks at b shut inside = (b.generation, record { front = b.front; h
   } where
     gate_at : get_or file at 0 ≡ g
     gate_at = let e : at ≡ at + 0 = omega arith in ap (λ (k : ℕ). get_or file k 0) e ∙ sym (get_or-drop at file 0 0)
-        ∙ ap (λ (l : List ℕ). get_or l 0 0) (ap (λ (l : List ℕ). drop at l) is ∙ drop_at (b.front ++ opened (written (ground).root [] ks)) (g ∷ gs) at b.place)
+        ∙ ap (λ (l : List ℕ). get_or l 0 0) (ap (λ (l : List ℕ). drop at l) is ∙ drop_at (b.front ++ open_blocks (written_blocks (ground).root [] ks)) (g ∷ gs) at b.place)

@@ -8,14 +8,14 @@ use Rattle.block_file.specs.declared.failure.Damage.{Damage}
 use Rattle.block_file.specs.declared.failure.Damage.TheVariants.{Magic, BaseForm, Base, Length, Entry as Entries, Root, Content}
 use Rattle.block_file.specs.declared.failure.FileErr.TheVariants.{Damaged}
 use Rattle.block_file.proofs.ParseLaws.{given}
-use Rattle.journal_record.specs.Blocks.{leaves_of, IsBlock, written}
+use Rattle.journal_record.specs.Blocks.{leaves_of, IsBlock, written_blocks}
 use Rattle.journal_record.specs.Entry.{Entry, content_digest_of}
 use Rattle.ledger_model.specs.History.{history, journals_of}
 use Rattle.ledger_model.specs.Lawful as lawful
 use Rattle.ledger_model.specs.Lawful.{IsLawful, AreNext, IsFounded}
 use Rattle.ledger_open.specs.Damages.{IsReadTo, IsNextHere, IsNotNext, CanShare, IsOtherContent, IsBlockDamage, IsDamage}
 use Rattle.ledger_open.specs.Standing.{ground, HasBlocks}
-use Rattle.block_file.specs.File.{opened}
+use Rattle.block_file.specs.File.{open_blocks}
 use Rattle.block_file.specs.Head.{number_at}
 use Rattle.ledger_open.proofs.AgainLaws.{flat, number_front}
 use Rattle.ledger_open.proofs.FollowLaws.{IsBehind, behind, behind_none, behind_open, behind_block, are_block, open_same}
@@ -58,8 +58,8 @@ next_of ks b bs l =
 -- a file that begins with journal 0 names no base
 pub no_base : (generation : ℕ) (cs : List (List Entry)) (file : List ℕ) → HasBlocks ground generation cs file → number_at 18 file ≡ 0
 no_base generation cs file x =
-    ap (number_at 18) (flat x.front (written (ground).root [] cs) file x.stands)
-    ∙ number_front 18 x.front (opened (written (ground).root [] cs) ++ x.stands.gate ∷ x.stands.rest) (omega (arith, x.head.size)) ∙ x.head.base_len
+    ap (number_at 18) (flat x.front (written_blocks (ground).root [] cs) file x.stands)
+    ∙ number_front 18 x.front (open_blocks (written_blocks (ground).root [] cs) ++ x.stands.gate ∷ x.stands.rest) (omega (arith, x.head.size)) ∙ x.head.base_len
 
 module _ (file : List ℕ) (generation : ℕ) (cs : List (List Entry)) (x : HasBlocks ground generation cs file) (legal : IsLawful (history cs [])) where
   -- what follows behind the blocks that were read

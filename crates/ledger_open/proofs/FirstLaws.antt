@@ -28,7 +28,7 @@ use Rattle.ledger_model.specs.History.{history, journals_of}
 use Rattle.ledger_model.specs.Lawful as lawful
 use Rattle.ledger_model.specs.Lawful.{IsNext, AreNext, IsLawful}
 use Rattle.ledger_open.specs.Damages.{IsNotNext, IsOtherRoot, Begun, IsReadTo, IsNextHere, IsDamage}
-use Rattle.ledger_open.specs.Opening.{known, Knows, HasRead, IsPlain, IsReadErr, as_open}
+use Rattle.ledger_open.specs.Opening.{known_from, Knows, HasRead, IsPlain, IsReadErr, as_open}
 use Rattle.ledger_open.specs.Places.{entry_at}
 use Rattle.ledger_open.specs.Standing.{ground}
 use Rattle.ledger_open.specs.Taking.{Headed, IsBadBlock}
@@ -217,7 +217,7 @@ with_content content e = record { header = e.header; content = content; who = e.
 module _ (block : BlockAt) (first : RecordAt) (content : List ℕ) (book : Kept) (places : List RecordAt) (place : ℕ)
     (one : block.records ≡ first ∷ []) (size : length content ≡ 64) (listed : places ≡ first ∷ []) (tail : place ≡ 65 + block.len)
     (serves : (j : Entry) → j.header ≡ first.header → j.content ≡ content → Serves book (begun_with j)) where
-  first_known : (e : Entry) → AreBlock 0 (e ∷ []) → IsRead 64 (e ∷ []) block → first ≡ record_at 109 e → Knows (known book places place) ((with_content content e ∷ []) ∷ [])
+  first_known : (e : Entry) → AreBlock 0 (e ∷ []) → IsRead 64 (e ∷ []) block → first ≡ record_at 109 e → Knows (known_from book places place) ((with_content content e ∷ []) ∷ [])
   first_known e b r at =
       let s = serves (with_content content e) (ap (λ (x : RecordAt). x.header) (sym at)) refl in record {
         lawful = (record { some = omega arith; most = omega arith; entries = (record { jsn = b.begins; rules = b.readable.0.rules; widths = b.readable.0.widths; content = size ∙ sym (keys_len e [] b); who = b.readable.0.who }, tt) }, tt);
@@ -232,7 +232,7 @@ module _ (block : BlockAt) (first : RecordAt) (content : List ℕ) (book : Kept)
       }
 
   pub first_read : (tells : Bool) (file : List ℕ) → (es : List Entry) × AreBlock 0 es × IsRead 64 es block → (IsTrue tells → FirstHere file block) → (IsTrue tells → content ≡ take 64 (drop first.content_at file))
-      → block.root.0 ≡ leaf sha256 (spelling first.header) → HasRead tells file (known book places place)
+      → block.root.0 ≡ leaf sha256 (spelling first.header) → HasRead tells file (known_from book places place)
   first_read false file read here told root_is =
       let s = single_of read.0 block first read.1.some read.2 one in
       record { blocks = (with_content content s.entry ∷ []) ∷ []; knows = first_known s.entry (subst (AreBlock 0) s.is read.1) (subst (λ (l : List Entry). IsRead 64 l block) s.is read.2) s.place; begun = λ t. absurd (true≢false (sym t)) }

@@ -2,8 +2,8 @@
 use Rattle.std.proofs.Common.{◌≡◌, ◌≢◌, ℕ, ◌+◌, ◌≤◌, List, [], ◌∷◌, ◌++◌, length, get_or, drop, refl, sym, ◌∙◌, ap, subst, arith, append_assoc, append-nil, length-append}
 use Rattle.std.proofs.lemmas.List.{drop_at, get_or-drop, map-append}
 use Rattle.block_file.specs.Blocks.{AreBlock, BeginsAt, IsOpenBlock}
-use Rattle.block_file.specs.File.{opened}
-use Rattle.journal_record.specs.Blocks.{block_bytes, leaves_of, AreFrom, IsBlock, AreBlocks, written}
+use Rattle.block_file.specs.File.{open_blocks}
+use Rattle.journal_record.specs.Blocks.{block_bytes, leaves_of, AreFrom, IsBlock, AreBlocks, written_blocks}
 use Rattle.journal_record.specs.Entry.{Entry}
 use Rattle.journal_record.specs.Header.{spelling}
 use Rattle.ledger_model.specs.History.{journals_of}
@@ -17,29 +17,29 @@ record Follows (root : List (List ℕ) → List ℕ) (seen : List (List ℕ)) (n
   pub more : List (List Entry)
   pub are : cs ≡ ks ++ more
   pub lawful : AreBlocks (n + length (journals_of ks)) more
-  pub left : rest ≡ opened (written root (seen ++ leaves_of (journals_of ks)) more) ++ g ∷ r
+  pub left : rest ≡ open_blocks (written_blocks root (seen ++ leaves_of (journals_of ks)) more) ++ g ∷ r
 
 follows : (root : List (List ℕ) → List ℕ) → GivesDigests root → (seen : List (List ℕ)) (n : ℕ) (ks cs : List (List Entry)) (rest : List ℕ) (g : ℕ) (r : List ℕ) → AreBlocks n ks → AreBlocks n cs → g ≢ 1
-    → opened (written root seen ks) ++ rest ≡ opened (written root seen cs) ++ g ∷ r → Follows root seen n ks cs rest g r
+    → open_blocks (written_blocks root seen ks) ++ rest ≡ open_blocks (written_blocks root seen cs) ++ g ∷ r → Follows root seen n ks cs rest g r
 follows root digests seen n [] cs rest g r kk cc gg is = record {
   more = cs;
   are = refl;
   lawful = subst (λ (m : ℕ). AreBlocks m cs) (omega arith) cc;
-  left = is ∙ ap (λ (l : List (List ℕ)). opened (written root l cs) ++ g ∷ r) (sym (append-nil seen));
+  left = is ∙ ap (λ (l : List (List ℕ)). open_blocks (written_blocks root l cs) ++ g ∷ r) (sym (append-nil seen));
 }
 follows root digests seen n (b ∷ bs) [] rest g r kk cc gg is = absurd (gg (sym (ap (λ (l : List ℕ). get_or l 0 0) is)))
 follows root digests seen n (b ∷ bs) (c ∷ cs) rest g r kk cc gg is =
     let behind = ap (λ (l : List ℕ). drop 1 l) is in
-    let one = block_again (root (seen ++ leaves_of b)) (root (seen ++ leaves_of c)) b c (opened (written root (seen ++ leaves_of b) bs) ++ rest) (opened (written root (seen ++ leaves_of c) cs) ++ g ∷ r) (digests (seen ++ leaves_of b)) (digests (seen ++ leaves_of c)) kk.0.most cc.0.most (readable n b kk.0.entries) (readable n c cc.0.entries)
-    (sym (append_assoc (block_bytes (root (seen ++ leaves_of b)) b) (opened (written root (seen ++ leaves_of b) bs)) rest) ∙ behind ∙ append_assoc (block_bytes (root (seen ++ leaves_of c)) c) (opened (written root (seen ++ leaves_of c) cs)) (g ∷ r)) in
+    let one = block_again (root (seen ++ leaves_of b)) (root (seen ++ leaves_of c)) b c (open_blocks (written_blocks root (seen ++ leaves_of b) bs) ++ rest) (open_blocks (written_blocks root (seen ++ leaves_of c) cs) ++ g ∷ r) (digests (seen ++ leaves_of b)) (digests (seen ++ leaves_of c)) kk.0.most cc.0.most (readable n b kk.0.entries) (readable n c cc.0.entries)
+    (sym (append_assoc (block_bytes (root (seen ++ leaves_of b)) b) (open_blocks (written_blocks root (seen ++ leaves_of b) bs)) rest) ∙ behind ∙ append_assoc (block_bytes (root (seen ++ leaves_of c)) c) (open_blocks (written_blocks root (seen ++ leaves_of c) cs)) (g ∷ r)) in
     let there : AreBlocks (n + length b) cs = subst (λ (x : List Entry). AreBlocks (n + length x) cs) (sym one.1) cc.1 in
     let f = follows root digests (seen ++ leaves_of b) (n + length b) bs cs rest g r kk.1 there gg
-    (one.2 ∙ ap (λ (x : List Entry). opened (written root (seen ++ leaves_of x) cs) ++ g ∷ r) (sym one.1)) in
+    (one.2 ∙ ap (λ (x : List Entry). open_blocks (written_blocks root (seen ++ leaves_of x) cs) ++ g ∷ r) (sym one.1)) in
     record {
       more = f.more;
       are = ap (λ (x : List Entry). x ∷ cs) (sym one.1) ∙ ap (λ (xs : List (List Entry)). b ∷ xs) f.are;
       lawful = subst (λ (m : ℕ). AreBlocks m f.more) (omega (arith, length-append b (journals_of bs))) f.lawful;
-      left = f.left ∙ ap (λ (l : List (List ℕ)). opened (written root l f.more) ++ g ∷ r) (append_assoc seen (leaves_of b) (leaves_of (journals_of bs)) ∙ ap (λ (l : List (List ℕ)). seen ++ l) (sym (map-append (λ (e : Entry). spelling e.header) b (journals_of bs))));
+      left = f.left ∙ ap (λ (l : List (List ℕ)). open_blocks (written_blocks root l f.more) ++ g ∷ r) (append_assoc seen (leaves_of b) (leaves_of (journals_of bs)) ∙ ap (λ (l : List (List ℕ)). seen ++ l) (sym (map-append (λ (e : Entry). spelling e.header) b (journals_of bs))));
     }
 
 -- what a file that has these blocks has behind those that were read
@@ -50,12 +50,12 @@ pub record IsBehind (floor : Floor) (file : List ℕ) (ks cs : List (List Entry)
   pub gate : ℕ
   pub rest : List ℕ
   pub shut : gate ≢ 1
-  pub left : drop at file ≡ opened (written floor.root (leaves_of (journals_of ks)) more) ++ gate ∷ rest
+  pub left : drop at file ≡ open_blocks (written_blocks floor.root (leaves_of (journals_of ks)) more) ++ gate ∷ rest
 
 pub behind : (floor : Floor) → GivesDigests floor.root → (generation : ℕ) (file : List ℕ) (ks cs : List (List Entry)) (at : ℕ) → Begun floor file ks at → HasBlocks floor generation cs file → IsBehind floor file ks cs at
 behind floor digests generation file ks cs at b x =
-    let parts : b.front ++ (opened (written floor.root [] ks) ++ b.rest) ≡ x.front ++ (opened (written floor.root [] cs) ++ x.stands.gate ∷ x.stands.rest) =
-    sym (append_assoc b.front (opened (written floor.root [] ks)) b.rest) ∙ sym b.is ∙ flat x.front (written floor.root [] cs) file x.stands in
+    let parts : b.front ++ (open_blocks (written_blocks floor.root [] ks) ++ b.rest) ≡ x.front ++ (open_blocks (written_blocks floor.root [] cs) ++ x.stands.gate ∷ x.stands.rest) =
+    sym (append_assoc b.front (open_blocks (written_blocks floor.root [] ks)) b.rest) ∙ sym b.is ∙ flat x.front (written_blocks floor.root [] cs) file x.stands in
     let one = front_again b.generation generation floor.base floor.base b.front x.front _ _ b.head x.head parts in
     let f = follows floor.root digests [] floor.first ks cs b.rest x.stands.gate x.stands.rest b.lawful x.lawful x.stands.shut one.2 in
     record {
@@ -65,7 +65,7 @@ behind floor digests generation file ks cs at b x =
       gate = x.stands.gate;
       rest = x.stands.rest;
       shut = x.stands.shut;
-      left = ap (λ (l : List ℕ). drop at l) b.is ∙ drop_at (b.front ++ opened (written floor.root [] ks)) b.rest at b.place ∙ f.left;
+      left = ap (λ (l : List ℕ). drop at l) b.is ∙ drop_at (b.front ++ open_blocks (written_blocks floor.root [] ks)) b.rest at b.place ∙ f.left;
     }
 
 gate_at : (at : ℕ) (file : List ℕ) → get_or file at 0 ≡ get_or (drop at file) 0 0
@@ -74,7 +74,7 @@ gate_at at file = let e : at ≡ at + 0 = omega arith in ap (λ (k : ℕ). get_o
 -- where no block follows, the next gate is shut
 pub behind_none : (floor : Floor) (file : List ℕ) (ks cs : List (List Entry)) (at : ℕ) (x : IsBehind floor file ks cs at) → x.more ≡ [] → get_or file at 0 ≢ 1
 behind_none floor file ks cs at x none is =
-    x.shut (sym (ap (λ (l : List ℕ). get_or l 0 0) (x.left ∙ ap (λ (m : List (List Entry)). opened (written floor.root (leaves_of (journals_of ks)) m) ++ x.gate ∷ x.rest) none)) ∙ sym (gate_at at file) ∙ is)
+    x.shut (sym (ap (λ (l : List ℕ). get_or l 0 0) (x.left ∙ ap (λ (m : List (List Entry)). open_blocks (written_blocks floor.root (leaves_of (journals_of ks)) m) ++ x.gate ∷ x.rest) none)) ∙ sym (gate_at at file) ∙ is)
 
 -- bytes of which there is one
 record Parted (bytes : List ℕ) : Type 0 where
@@ -99,16 +99,16 @@ module _ (floor : Floor) (digests : GivesDigests floor.root) (file : List ℕ) (
   root = floor.root (leaves_of (journals_of ks) ++ leaves_of b)
 
   tail : List ℕ
-  tail = opened (written floor.root (leaves_of (journals_of ks) ++ leaves_of b) bs) ++ x.gate ∷ x.rest
+  tail = open_blocks (written_blocks floor.root (leaves_of (journals_of ks) ++ leaves_of b) bs) ++ x.gate ∷ x.rest
 
   tail_some : Parted tail
   unfolding tail
-  tail_some = parted (opened (written floor.root (leaves_of (journals_of ks) ++ leaves_of b) bs) ++ x.gate ∷ x.rest) (omega (arith, length-append (opened (written floor.root (leaves_of (journals_of ks) ++ leaves_of b) bs)) (x.gate ∷ x.rest)))
+  tail_some = parted (open_blocks (written_blocks floor.root (leaves_of (journals_of ks) ++ leaves_of b) bs) ++ x.gate ∷ x.rest) (omega (arith, length-append (open_blocks (written_blocks floor.root (leaves_of (journals_of ks) ++ leaves_of b) bs)) (x.gate ∷ x.rest)))
 
   stands : drop at file ≡ 1 ∷ (block_bytes root b ++ tail)
   unfolding tail
-  stands = x.left ∙ ap (λ (m : List (List Entry)). opened (written floor.root (leaves_of (journals_of ks)) m) ++ x.gate ∷ x.rest) is
-      ∙ ap (λ (l : List ℕ). 1 ∷ l) (append_assoc (block_bytes root b) (opened (written floor.root (leaves_of (journals_of ks) ++ leaves_of b) bs)) (x.gate ∷ x.rest))
+  stands = x.left ∙ ap (λ (m : List (List Entry)). open_blocks (written_blocks floor.root (leaves_of (journals_of ks)) m) ++ x.gate ∷ x.rest) is
+      ∙ ap (λ (l : List ℕ). 1 ∷ l) (append_assoc (block_bytes root b) (open_blocks (written_blocks floor.root (leaves_of (journals_of ks) ++ leaves_of b) bs)) (x.gate ∷ x.rest))
 
   pub behind_open : IsOpenBlock at root b file
   behind_open = record {

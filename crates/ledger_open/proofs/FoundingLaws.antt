@@ -3,12 +3,12 @@ use Rattle.std.proofs.Common.{◌≡◌, inl, inr, ℕ, ◌+◌, false, cond, Li
 use Rattle.std.proofs.lemmas.Bool.{true≢false}
 use Rattle.sha2.proofs.Facts256.{length-sha256}
 use Rattle.journal_record.specs.Entry.{Entry}
-use Rattle.ledger_model.specs.Genesis.{genesis_header, genesis_journal, founded}
+use Rattle.ledger_model.specs.Genesis.{genesis_header, genesis_journal, new_ledger}
 use Rattle.ledger_model.specs.History.{point}
-use Rattle.ledger_model.specs.Outcomes.{hidden}
+use Rattle.ledger_model.specs.Outcomes.{is_hidden}
 use Rattle.ledger_model.specs.declared.genesis.Genesis.{Genesis}
-use Rattle.journal_record.specs.Blocks.{IsEntry, written, body_of, block_bytes, leaves_of}
-use Rattle.block_file.specs.File.{whole}
+use Rattle.journal_record.specs.Blocks.{IsEntry, written_blocks, body_of, block_bytes, leaves_of}
+use Rattle.block_file.specs.File.{whole_file}
 use Rattle.block_file.specs.Head.{front_of, digest_of}
 use Rattle.ledger_open.specs.Heads.{IsFront}
 use Rattle.std.specs.Int.{to_be_bytes, w32, w64}
@@ -22,9 +22,9 @@ use Rattle.ledger_book.specs.Books.{Kept, Stands, Serves, headers}
 use Rattle.ledger_book.specs.Seals.{head_of}
 use Rattle.ledger_model.specs.History.{History}
 use Rattle.merkle_tree.specs.declared.head.Head.{Head}
-use Rattle.ledger_open.specs.Opening.{known, Knows}
+use Rattle.ledger_open.specs.Opening.{known_from, Knows}
 use Rattle.ledger_open.specs.Places.{record_len}
-use Rattle.ledger_disk.specs.Disk.{State, settled}
+use Rattle.ledger_disk.specs.Disk.{State, settled_state}
 use Rattle.ledger_model.specs.Genesis.{HasKeys}
 use Rattle.twin_file.specs.Images.{AreShut, IsMadeOrShut}
 use Rattle.ledger_open.specs.Founding.{IsFounded, IsFoundedOrShut}
@@ -78,19 +78,19 @@ module _ (genesis : Genesis) (operator : length genesis.operator.0 ≡ 32) (regu
     who = omega arith;
   }
 
-  shown_all : (n : ℕ) → hidden (founded genesis) n ≡ false
+  shown_all : (n : ℕ) → is_hidden (new_ledger genesis) n ≡ false
   unfolding genesis_header
   shown_all n = refl
 
-  floor_is : point (founded genesis) ≡ 0
+  floor_is : point (new_ledger genesis) ≡ 0
   unfolding point genesis_header
   floor_is = refl
 
-  kept_is : IsKept (hidden (founded genesis)) (hidden (founded genesis)) (genesis_journal genesis) (genesis_journal genesis)
+  kept_is : IsKept (is_hidden (new_ledger genesis)) (is_hidden (new_ledger genesis)) (genesis_journal genesis) (genesis_journal genesis)
   kept_is = record { header = refl; who = refl; shown = λ s. refl; zeroed = λ z. let no : ⊥ = true≢false (sym z ∙ shown_all _) in absurd no }
 
   -- the file that a new ledger is given: a head of generation 1, block 0 behind an open gate, and a shut tail gate
-  pub founded_clean : IsClean (whole (front_of 1 1 []) (written (ground).root [] blocks)) (founded genesis)
+  pub founded_clean : IsClean (whole_file (front_of 1 1 []) (written_blocks (ground).root [] blocks)) (new_ledger genesis)
   founded_clean = record {
     erased = record {
       generation = 1;
@@ -142,8 +142,8 @@ module _ (genesis : Genesis) (operator : length genesis.operator.0 ≡ 32) (regu
   pub first_block_size : (root : List ℕ) → length root ≡ 32 → length (block_bytes root (genesis_journal genesis ∷ [])) ≡ 286
   first_block_size root size = block_size root (genesis_journal genesis ∷ []) size block_readable ∙ ap (λ (n : ℕ). 44 + n) len_is
 
-  pub first_knows : (book : Kept) (places : List RecordAt) (header : Header) → header ≡ genesis_header genesis → Serves book (founded genesis) → places ≡ record { header = header; content_at = 287; who_at = 351; who_len = 0 } ∷ []
-      → Knows (known book places 351) (founded genesis).closed
+  pub first_knows : (book : Kept) (places : List RecordAt) (header : Header) → header ≡ genesis_header genesis → Serves book (new_ledger genesis) → places ≡ record { header = header; content_at = 287; who_at = 351; who_len = 0 } ∷ []
+      → Knows (known_from book places 351) (new_ledger genesis).closed
   unfolding genesis_header
   first_knows book places header is serves listed = record {
     lawful = (record { some = omega arith; most = omega arith; entries = (entry_is, tt) }, tt);
@@ -154,25 +154,25 @@ module _ (genesis : Genesis) (operator : length genesis.operator.0 ≡ 32) (regu
   }
 
 -- the header that the book tells
-pub header_is : (floor : ℕ) (x : Header) (genesis : Genesis) → floor ≡ 0 → (let some : Option Header = Some x in some ≡ cond (nat_le floor 0) (slice_get (headers (founded genesis)) 0) None) → x ≡ genesis_header genesis
+pub header_is : (floor : ℕ) (x : Header) (genesis : Genesis) → floor ≡ 0 → (let some : Option Header = Some x in some ≡ cond (nat_le floor 0) (slice_get (headers (new_ledger genesis)) 0) None) → x ≡ genesis_header genesis
 header_is floor x genesis none is =
-    some_same x (genesis_header genesis) (is ∙ ap (λ (n : ℕ). cond (nat_le n 0) (slice_get (headers (founded genesis)) 0) None) none) where
+    some_same x (genesis_header genesis) (is ∙ ap (λ (n : ℕ). cond (nat_le n 0) (slice_get (headers (new_ledger genesis)) 0) None) none) where
       some_same : (x y : Header) → (let a : Option Header = Some x in let b : Option Header = Some y in a ≡ b) → x ≡ y
       some_same x y e = cc
 
 -- the root of block 0
-pub first_root_is : (book : Kept) (head : Head) (genesis : Genesis) → Serves book (founded genesis) → ((h : History) → Stands book h → head ≡ head_of h) → head.root.0 ≡ (ground).root (leaves_of (genesis_journal genesis ∷ []))
-first_root_is book head genesis serves is = ap (λ (x : Head). x.root.0) (is (founded genesis) serves.stands) ∙ root_is [] (genesis_journal genesis ∷ [])
+pub first_root_is : (book : Kept) (head : Head) (genesis : Genesis) → Serves book (new_ledger genesis) → ((h : History) → Stands book h → head ≡ head_of h) → head.root.0 ≡ (ground).root (leaves_of (genesis_journal genesis ∷ []))
+first_root_is book head genesis serves is = ap (λ (x : Head). x.root.0) (is (new_ledger genesis) serves.stands) ∙ root_is [] (genesis_journal genesis ∷ [])
 
 -- what a crash may leave of a new ledger
 pub made_images : (genesis : Genesis) (block image_a image_b : List ℕ) → HasKeys genesis → block ≡ block_bytes ((ground).root (leaves_of (genesis_journal genesis ∷ []))) (genesis_journal genesis ∷ []) → IsMadeOrShut block image_a image_b → IsFoundedOrShut genesis image_a image_b
 made_images genesis block image_a image_b keys is (shut, inl both) = inl (both, shut)
 made_images genesis block image_a image_b keys is (shut, inr made) =
-    let new : image_a ≡ new_file genesis = made.0 ∙ ap (λ (l : List ℕ). whole (front_of 1 1 []) (l ∷ [])) is in
-    inr (inl (subst (λ (l : List ℕ). StandsFor l (founded genesis)) (sym new) (erased_stands (new_file genesis) (founded genesis) (founded_clean genesis keys.operator keys.regulator).erased), ap length made.1))
+    let new : image_a ≡ new_file genesis = made.0 ∙ ap (λ (l : List ℕ). whole_file (front_of 1 1 []) (l ∷ [])) is in
+    inr (inl (subst (λ (l : List ℕ). StandsFor l (new_ledger genesis)) (sym new) (erased_stands (new_file genesis) (new_ledger genesis) (founded_clean genesis keys.operator keys.regulator).erased), ap length made.1))
 
 -- the states at the call
-pub shut_now : (a b a_now b_now : State) → a_now ≡ settled a.seen → b_now ≡ settled b.seen → AreShut a b → AreShut a_now b_now
+pub shut_now : (a b a_now b_now : State) → a_now ≡ settled_state a.seen → b_now ≡ settled_state b.seen → AreShut a b → AreShut a_now b_now
 shut_now a b a_now b_now same_a same_b shut =
     let one : a_now ≡ a = same_a ∙ sym shut.quiet_a in
     let two : b_now ≡ b = same_b ∙ sym shut.quiet_b in
@@ -184,6 +184,6 @@ first_place genesis block place keys is at =
     at ∙ ap (λ (l : List ℕ). 65 + length l) is ∙ ap (λ (n : ℕ). 65 + n) (first_block_size genesis keys.operator keys.regulator _ (mth_size (leaves_of (genesis_journal genesis ∷ []))))
 
 -- a pair of a new ledger is clean
-pub founded_pair : (genesis : Genesis) (a b : State) → HasKeys genesis → IsFounded genesis a b → IsCleanPair a.seen b.seen (founded genesis)
+pub founded_pair : (genesis : Genesis) (a b : State) → HasKeys genesis → IsFounded genesis a b → IsCleanPair a.seen b.seen (new_ledger genesis)
 founded_pair genesis a b keys f =
-    inl (subst (λ (l : List ℕ). IsClean l (founded genesis)) (sym (ap (λ (s : State). s.seen) f.first)) (founded_clean genesis keys.operator keys.regulator), ap (λ (s : State). length s.seen) f.second)
+    inl (subst (λ (l : List ℕ). IsClean l (new_ledger genesis)) (sym (ap (λ (s : State). s.seen) f.first)) (founded_clean genesis keys.operator keys.regulator), ap (λ (s : State). length s.seen) f.second)

@@ -13,8 +13,8 @@ use Rattle.journal_record.specs.Entry.{Entry}
 use Rattle.journal_record.specs.Header.{spelling}
 use Rattle.journal_record.specs.declared.header.Header.{Header}
 use Rattle.ledger_model.specs.History.{History, history, journals_of, journals, size, point}
-use Rattle.ledger_model.specs.Outcomes.{is_occult, hides, hidden}
-use Rattle.journal_record.specs.Blocks.{block_bytes, leaves_of, AreFrom, IsBlock, AreBlocks, written}
+use Rattle.ledger_model.specs.Outcomes.{is_occult, hides, is_hidden}
+use Rattle.journal_record.specs.Blocks.{block_bytes, leaves_of, AreFrom, IsBlock, AreBlocks, written_blocks}
 use Rattle.block_file.specs.File.{Stands}
 use Rattle.ledger_open.specs.Standing.{Floor, ground, HasBlocks, AllKept, SameButHidden, hidden_before, StandsFor, IsErased, Alike, StandsBy, Reads}
 use Rattle.ledger_open.proofs.SizeLaws.{mth_size}
@@ -26,10 +26,10 @@ use Rattle.ledger_open.proofs.HidingLaws.{from_blocks, none_above, journals_clos
 pub one_history : (gone gone′ : ℕ → Bool) (image : List ℕ) (h k : History) → StandsBy gone image h → StandsBy gone′ image k → Alike h k
 one_history gone gone′ image h k x y =
     let same = (blocks_unique ground x.generation y.generation x.keeps.blocks y.keeps.blocks image mth_size x.keeps.file y.keeps.file).1 in
-    let there : SameButHidden (hidden k) gone′ k.closed x.keeps.blocks = subst (λ (bs : List (List Entry)). SameButHidden (hidden k) gone′ k.closed bs) (sym same) y.keeps.same in
-    let hide : (n : ℕ) → hidden h n ≡ hidden k n = λ n. hidden_by (hidden h) gone h x.keeps.blocks n x.none x.keeps.same ∙ sym (hidden_by (hidden k) gone′ k x.keeps.blocks n y.none there) in
-    same_alike (hidden h) gone gone′ h.closed k.closed x.keeps.blocks x.keeps.same
-    (same_weaker (hidden k) gone′ (hidden h) gone′ (λ n s. sym (hide n) ∙ s) (λ n z. z) k.closed x.keeps.blocks there)
+    let there : SameButHidden (is_hidden k) gone′ k.closed x.keeps.blocks = subst (λ (bs : List (List Entry)). SameButHidden (is_hidden k) gone′ k.closed bs) (sym same) y.keeps.same in
+    let hide : (n : ℕ) → is_hidden h n ≡ is_hidden k n = λ n. hidden_by (is_hidden h) gone h x.keeps.blocks n x.none x.keeps.same ∙ sym (hidden_by (is_hidden k) gone′ k x.keeps.blocks n y.none there) in
+    same_alike (is_hidden h) gone gone′ h.closed k.closed x.keeps.blocks x.keeps.same
+    (same_weaker (is_hidden k) gone′ (is_hidden h) gone′ (λ n s. sym (hide n) ∙ s) (λ n z. z) k.closed x.keeps.blocks there)
 
 -- an image that has a history with more zeros has it with fewer
 pub stands_weaker : (gone gone′ : ℕ → Bool) (image : List ℕ) (h : History) → ((n : ℕ) → gone′ n ≡ true → gone n ≡ true) → StandsBy gone image h → StandsBy gone′ image h
@@ -38,7 +38,7 @@ stands_weaker gone gone′ image h fewer x = record {
   keeps = record {
     blocks = x.keeps.blocks;
     file = x.keeps.file;
-    same = same_weaker (hidden h) gone (hidden h) gone′ (λ n s. s) fewer h.closed x.keeps.blocks x.keeps.same;
+    same = same_weaker (is_hidden h) gone (is_hidden h) gone′ (λ n s. s) fewer h.closed x.keeps.blocks x.keeps.same;
   };
   early = x.early;
   none = x.none;
@@ -56,7 +56,7 @@ erased_stands image h x = record {
   keeps = record {
     blocks = x.keeps.blocks;
     file = x.keeps.file;
-    same = same_weaker (hidden h) (hidden h) (hidden h) (hidden_before h) (λ n s. s) (λ n z. before_hidden h n z) h.closed x.keeps.blocks x.keeps.same;
+    same = same_weaker (is_hidden h) (is_hidden h) (is_hidden h) (hidden_before h) (λ n s. s) (λ n z. before_hidden h n z) h.closed x.keeps.blocks x.keeps.same;
   };
   early = x.early;
   none = x.none;
@@ -65,13 +65,13 @@ erased_stands image h x = record {
 }
 
 -- an image is clean where the last journal hides nothing new
-pub stands_erased : (image : List ℕ) (h : History) → StandsFor image h → ((n : ℕ) → hidden h n ≡ true → hidden_before h n ≡ true) → IsErased image h
+pub stands_erased : (image : List ℕ) (h : History) → StandsFor image h → ((n : ℕ) → is_hidden h n ≡ true → hidden_before h n ≡ true) → IsErased image h
 stands_erased image h x old = record {
   generation = x.generation;
   keeps = record {
     blocks = x.keeps.blocks;
     file = x.keeps.file;
-    same = same_weaker (hidden h) (hidden_before h) (hidden h) (hidden h) (λ n s. s) old h.closed x.keeps.blocks x.keeps.same;
+    same = same_weaker (is_hidden h) (hidden_before h) (is_hidden h) (is_hidden h) (λ n s. s) old h.closed x.keeps.blocks x.keeps.same;
   };
   early = x.early;
   none = x.none;
@@ -84,11 +84,11 @@ leaves_from : (seen : List (List ℕ)) (b : List Entry) (bs : List (List Entry))
 leaves_from seen b bs = append_assoc seen (leaves_of b) (leaves_of (journals_of bs)) ∙ ap (λ (l : List (List ℕ)). seen ++ l) (sym (map-append (λ (e : Entry). spelling e.header) b (journals_of bs)))
 
 pub written_more : (root : List (List ℕ) → List ℕ) (seen : List (List ℕ)) (bs : List (List Entry)) (b : List Entry)
-    → written root seen (bs ++ b ∷ []) ≡ written root seen bs ++ block_bytes (root ((seen ++ leaves_of (journals_of bs)) ++ leaves_of b)) b ∷ []
+    → written_blocks root seen (bs ++ b ∷ []) ≡ written_blocks root seen bs ++ block_bytes (root ((seen ++ leaves_of (journals_of bs)) ++ leaves_of b)) b ∷ []
 written_more root seen [] b = ap (λ (l : List (List ℕ)). block_bytes (root (l ++ leaves_of b)) b ∷ []) (sym (append-nil seen))
 written_more root seen (c ∷ cs) b =
     ap (λ (l : List (List ℕ)). block_bytes (root (seen ++ leaves_of c)) c ∷ l)
-    (written_more root (seen ++ leaves_of c) cs b ∙ ap (λ (l : List (List ℕ)). written root (seen ++ leaves_of c) cs ++ block_bytes (root (l ++ leaves_of b)) b ∷ []) (leaves_from seen c cs))
+    (written_more root (seen ++ leaves_of c) cs b ∙ ap (λ (l : List (List ℕ)). written_blocks root (seen ++ leaves_of c) cs ++ block_bytes (root (l ++ leaves_of b)) b ∷ []) (leaves_from seen c cs))
 
 pub blocks_more : (n : ℕ) (bs : List (List Entry)) (b : List Entry) → AreBlocks n bs → IsBlock (n + length (journals_of bs)) b → AreBlocks n (bs ++ b ∷ [])
 blocks_more n [] b a bb = (subst (λ (m : ℕ). IsBlock m b) (omega arith) bb, tt)
@@ -97,7 +97,7 @@ blocks_more n (c ∷ cs) b a bb = (a.0, blocks_more (n + length c) cs b a.1 (sub
 -- a file that has a block more
 pub file_more : (floor : Floor) (generation : ℕ) (bs : List (List Entry)) (b : List Entry) (image new : List ℕ) (x : HasBlocks floor generation bs image)
     → IsBlock (floor.first + length (journals_of bs)) b
-    → Stands x.front (written floor.root [] bs ++ block_bytes (floor.root (leaves_of (journals_of bs) ++ leaves_of b)) b ∷ []) new
+    → Stands x.front (written_blocks floor.root [] bs ++ block_bytes (floor.root (leaves_of (journals_of bs) ++ leaves_of b)) b ∷ []) new
     → HasBlocks floor generation (bs ++ b ∷ []) new
 file_more floor generation bs b image new x bb stands = record {
   front = x.front;
@@ -163,36 +163,36 @@ module _ (image new : List ℕ) (h : History) (b : List Entry) (x : IsErased ima
   more = history (h.closed ++ b ∷ []) []
 
   count : size h ≡ length (journals_of x.keeps.blocks)
-  count = ap length (journals_closed h x.none) ∙ sym (length-map (journals_of h.closed)) ∙ ap length (header_map_same (hidden h) (hidden h) (λ (y : Header). y.jsn) (journals_of h.closed) (journals_of x.keeps.blocks) (all_kept (hidden h) (hidden h) h.closed x.keeps.blocks x.keeps.same)) ∙ length-map (journals_of x.keeps.blocks) where
+  count = ap length (journals_closed h x.none) ∙ sym (length-map (journals_of h.closed)) ∙ ap length (header_map_same (is_hidden h) (is_hidden h) (λ (y : Header). y.jsn) (journals_of h.closed) (journals_of x.keeps.blocks) (all_kept (is_hidden h) (is_hidden h) h.closed x.keeps.blocks x.keeps.same)) ∙ length-map (journals_of x.keeps.blocks) where
     length-map : (es : List Entry) → length (map (λ (e : Entry). e.header.jsn) es) ≡ length es
     length-map es = Rattle.std.proofs.lemmas.List.length-map es (λ (e : Entry). e.header.jsn)
 
-  old : (n : ℕ) → list_any (hides n) (journals_of h.closed) ≡ hidden h n
+  old : (n : ℕ) → list_any (hides n) (journals_of h.closed) ≡ is_hidden h n
   old n = ap (list_any (hides n)) (sym (journals_closed h x.none))
 
-  new_before : (n : ℕ) → hidden_before more n ≡ hidden h n
+  new_before : (n : ℕ) → hidden_before more n ≡ is_hidden h n
   new_before n = before_push h.closed b n bb.some ∙ ap (λ (v : Bool). list_any (hides n) (journals_of h.closed) || v) (rule n) ∙ or_false (list_any (hides n) (journals_of h.closed)) ∙ old n where
     or_false : (v : Bool) → (v || false) ≡ v
     or_false true = refl
     or_false false = refl
 
-  new_hidden : (n : ℕ) → hidden more n ≡ false → hidden h n ≡ false
+  new_hidden : (n : ℕ) → is_hidden more n ≡ false → is_hidden h n ≡ false
   new_hidden n s = sym (old n) ∙ left_of (list_any (hides n) (journals_of h.closed)) (list_any (hides n) b) (sym (hidden_push h.closed b n) ∙ s) where
     left_of : (v w : Bool) → (v || w) ≡ false → v ≡ false
     left_of true w e = e
     left_of false w e = refl
 
-  none_new : (n : ℕ) → size h ≤ n → hidden h n ≡ false
-  none_new n le = hidden_by (hidden h) (hidden h) h x.keeps.blocks n x.none x.keeps.same ∙ none_above 0 n (journals_of x.keeps.blocks) (from_blocks 0 x.keeps.blocks x.keeps.file.lawful) (omega (arith, le, count))
+  none_new : (n : ℕ) → size h ≤ n → is_hidden h n ≡ false
+  none_new n le = hidden_by (is_hidden h) (is_hidden h) h x.keeps.blocks n x.none x.keeps.same ∙ none_above 0 n (journals_of x.keeps.blocks) (from_blocks 0 x.keeps.blocks x.keeps.file.lawful) (omega (arith, le, count))
 
-  same_then : SameButHidden (hidden more) (hidden_before more) (h.closed ++ b ∷ []) (x.keeps.blocks ++ b ∷ [])
+  same_then : SameButHidden (is_hidden more) (hidden_before more) (h.closed ++ b ∷ []) (x.keeps.blocks ++ b ∷ [])
   same_then =
-      same_more (hidden more) (hidden_before more) h.closed x.keeps.blocks b b
-      (same_weaker (hidden h) (hidden h) (hidden more) (hidden_before more) new_hidden (λ n z. sym (new_before n) ∙ z) h.closed x.keeps.blocks x.keeps.same)
-      (all_self (hidden more) (hidden_before more) (size h) b bb.entries (λ n le. new_before n ∙ none_new n le))
+      same_more (is_hidden more) (hidden_before more) h.closed x.keeps.blocks b b
+      (same_weaker (is_hidden h) (is_hidden h) (is_hidden more) (hidden_before more) new_hidden (λ n z. sym (new_before n) ∙ z) h.closed x.keeps.blocks x.keeps.same)
+      (all_self (is_hidden more) (hidden_before more) (size h) b bb.entries (λ n le. new_before n ∙ none_new n le))
 
   -- A block more behind a clean file: the image stands for the history with the block, where at most its last journal hides another.
-  pub grows : Stands x.keeps.file.front (written (ground).root [] x.keeps.blocks ++ block_bytes ((ground).root (leaves_of (journals_of x.keeps.blocks) ++ leaves_of b)) b ∷ []) new → StandsFor new more
+  pub grows : Stands x.keeps.file.front (written_blocks (ground).root [] x.keeps.blocks ++ block_bytes ((ground).root (leaves_of (journals_of x.keeps.blocks) ++ leaves_of b)) b ∷ []) new → StandsFor new more
   grows stands = record {
     generation = x.generation;
     keeps = record {
@@ -209,7 +209,7 @@ module _ (image new : List ℕ) (h : History) (b : List Entry) (x : IsErased ima
   -- .. and it is clean, where no journal of the block hides another
   pub grows_erased : ((n : ℕ) → list_any (hides n) b ≡ false) → StandsFor new more → IsErased new more
   grows_erased none y = stands_erased new more y (λ n t. new_before n ∙ shown n t) where
-    shown : (n : ℕ) → hidden more n ≡ true → hidden h n ≡ true
+    shown : (n : ℕ) → is_hidden more n ≡ true → is_hidden h n ≡ true
     shown n t = sym (old n) ∙ right_none (list_any (hides n) (journals_of h.closed)) (list_any (hides n) b) (none n) (sym (hidden_push h.closed b n) ∙ t) where
       right_none : (v w : Bool) → w ≡ false → (v || w) ≡ true → v ≡ true
       right_none true w e t = refl

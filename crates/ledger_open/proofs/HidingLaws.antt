@@ -11,7 +11,7 @@ use Rattle.journal_record.specs.declared.header.Header.{Header}
 use Rattle.journal_record.specs.declared.header.Kind.{Kind}
 use Rattle.journal_record.specs.declared.header.Kind.TheVariants.{Genesis, Content, Member, Time, Occult, Purge}
 use Rattle.ledger_model.specs.History.{History, history, journals_of, journals, size}
-use Rattle.ledger_model.specs.Outcomes.{is_occult, hides, hidden}
+use Rattle.ledger_model.specs.Outcomes.{is_occult, hides, is_hidden}
 use Rattle.journal_record.specs.Blocks.{AreFrom, AreBlocks}
 use Rattle.ledger_open.specs.Standing.{SameButHidden, hidden_before}
 use Rattle.ledger_open.proofs.KeptLaws.{all_kept, header_any_same}
@@ -47,12 +47,12 @@ pub journals_push : (bs : List (List Entry)) (b : List Entry) → journals (hist
 journals_push bs b = append-nil (journals_of (bs ++ b ∷ [])) ∙ flat_map-append (λ (x : List Entry). x) bs (b ∷ []) ∙ ap (λ (l : List Entry). journals_of bs ++ l) (append-nil b)
 
 -- the same is hidden by what the file has
-pub hidden_by : (hid gone : ℕ → Bool) (h : History) (cs : List (List Entry)) (n : ℕ) → h.waiting ≡ [] → SameButHidden hid gone h.closed cs → hidden h n ≡ list_any (hides n) (journals_of cs)
+pub hidden_by : (hid gone : ℕ → Bool) (h : History) (cs : List (List Entry)) (n : ℕ) → h.waiting ≡ [] → SameButHidden hid gone h.closed cs → is_hidden h n ≡ list_any (hides n) (journals_of cs)
 hidden_by hid gone h cs n none s =
     ap (list_any (hides n)) (journals_closed h none) ∙ header_any_same hid gone (λ (x : Header). is_occult x.kind && x.a == n) (journals_of h.closed) (journals_of cs) (all_kept hid gone h.closed cs s)
 
 -- a block more
-pub hidden_push : (bs : List (List Entry)) (b : List Entry) (n : ℕ) → hidden (history (bs ++ b ∷ []) []) n ≡ (list_any (hides n) (journals_of bs) || list_any (hides n) b)
+pub hidden_push : (bs : List (List Entry)) (b : List Entry) (n : ℕ) → is_hidden (history (bs ++ b ∷ []) []) n ≡ (list_any (hides n) (journals_of bs) || list_any (hides n) b)
 hidden_push bs b n = ap (list_any (hides n)) (journals_push bs b) ∙ list_any-append (hides n) (journals_of bs) b
 
 take_over : (xs ys : List Entry) (k : ℕ) → take (length xs + k) (xs ++ ys) ≡ xs ++ take k ys
@@ -77,5 +77,5 @@ any_take p k es t = by_parts (list_any p (drop k es)) (list_any p (take k es)) t
   by_parts : (v w : Bool) → w ≡ true → list_any p es ≡ (w || v) → list_any p es ≡ true
   by_parts v w t is = is ∙ ap (λ (x : Bool). x || v) t
 
-pub before_hidden : (h : History) (n : ℕ) → hidden_before h n ≡ true → hidden h n ≡ true
+pub before_hidden : (h : History) (n : ℕ) → hidden_before h n ≡ true → is_hidden h n ≡ true
 before_hidden h n t = any_take (hides n) (size h - 1) (journals h) t

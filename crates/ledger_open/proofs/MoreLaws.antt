@@ -18,7 +18,7 @@ use Rattle.ledger_model.specs.Lawful as lawful
 use Rattle.ledger_model.specs.Lawful.{AreNext, IsLawful}
 use Rattle.merkle_tree.specs.declared.head.Head.{Head}
 use Rattle.ledger_open.specs.Damages.{Begun, IsReadTo, IsDamage}
-use Rattle.ledger_open.specs.Opening.{Known, known, Knows, HasRead, HasKnown, HasFile, IsHeadOf, IsPlain, IsReadErr, as_open}
+use Rattle.ledger_open.specs.Opening.{Known, known_from, Knows, HasRead, HasKnown, HasFile, IsHeadOf, IsPlain, IsReadErr, as_open}
 use Rattle.ledger_open.specs.Places.{record_len, records_at, places_at, after_at}
 use Rattle.ledger_open.specs.Standing.{ground}
 use Rattle.ledger_open.specs.Taking.{Headed, TakesBlock, IsBadBlock}
@@ -102,7 +102,7 @@ module _ (k : Known) (block : BlockAt) (book : Kept) (places : List RecordAt) (p
   block_of : (ks : List (List Entry)) (es : List Entry) → AreBlock first es → TakesBlock book ks es block.root.0 → IsBlock (length (journals_of ks)) es
   block_of ks es b t = record { some = b.some; most = b.most; entries = from_next (journals_of ks) es t.next b.readable }
 
-  more_known : (ks : List (List Entry)) (es : List Entry) → Knows k ks → AreBlock first es → IsRead k.place es block → Knows (known book places place) (ks ++ es ∷ [])
+  more_known : (ks : List (List Entry)) (es : List Entry) → Knows k ks → AreBlock first es → IsRead k.place es block → Knows (known_from book places place) (ks ++ es ∷ [])
   more_known ks es n b r =
       let t = takes ks es (headed_read k.place es block r) n.serves in record {
         lawful = blocks_more 0 ks es n.lawful (subst (λ (m : ℕ). IsBlock m es) (omega arith) (block_of ks es b t));
@@ -116,7 +116,7 @@ module _ (k : Known) (block : BlockAt) (book : Kept) (places : List RecordAt) (p
         tail = omega (arith, tail, r.len, body_size es b.readable, n.tail, after_push 64 ks es);
       }
 
-  pub more_read : (tells : Bool) (file : List ℕ) → HasRead tells file k → (es : List Entry) × AreBlock first es × IsRead k.place es block → (IsTrue tells → MoreHere file k.place first block) → HasRead tells file (known book places place)
+  pub more_read : (tells : Bool) (file : List ℕ) → HasRead tells file k → (es : List Entry) × AreBlock first es × IsRead k.place es block → (IsTrue tells → MoreHere file k.place first block) → HasRead tells file (known_from book places place)
   more_read false file r read here =
       record { blocks = r.blocks ++ read.0 ∷ []; knows = more_known r.blocks read.0 r.knows read.1 read.2; begun = λ t. absurd (true≢false (sym t)) }
   more_read true file r read here =

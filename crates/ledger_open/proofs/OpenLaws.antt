@@ -3,22 +3,22 @@ use Rattle.std.specs.Prelude.{Bool, true, false, IsTrue, Option, Some, option_ma
 use Rattle.std.proofs.Common.{◌≡◌, ◌≢◌, ◌⊎◌, inl, inr, refl, ℕ, ◌+◌, ◌≤◌, ◌<◌, List, [], ◌∷◌, ◌++◌, length, get_or, take, drop, sym, ◌∙◌, ap, subst, arith, append_assoc, length-append, length-drop}
 use Rattle.std.proofs.lemmas.Bool.{true≢false}
 use Rattle.std.proofs.lemmas.List.{nil_from_length, take-append-le, drop-append-le, get_or_append_left, take_at, take_all}
-use Rattle.block_file.specs.File.{IsSettled, Stands, opened, tail_of}
+use Rattle.block_file.specs.File.{IsSettled, Stands, open_blocks, tail_of}
 use Rattle.block_file.specs.Head.{IsShut, IsOpen, HasHead, IsHeadErr, IsResumeErr, number_at}
 use Rattle.block_file.specs.declared.failure.Damage.{Damage}
 use Rattle.block_file.specs.declared.failure.Damage.TheVariants as damages
 use Rattle.block_file.specs.declared.failure.FileErr.{FileErr}
 use Rattle.block_file.specs.declared.failure.FileErr.TheVariants as files
-use Rattle.journal_record.specs.Blocks.{written}
+use Rattle.journal_record.specs.Blocks.{written_blocks}
 use Rattle.journal_record.specs.Entry.{Entry}
 use Rattle.ledger_disk.proofs.Guarding.{settled_image}
-use Rattle.ledger_disk.specs.Disk.{State, settled, MayLeave}
+use Rattle.ledger_disk.specs.Disk.{State, settled_state, MayLeave}
 use Rattle.ledger_model.specs.History.{History, history}
 use Rattle.ledger_model.specs.Lawful.{IsLawful}
 use Rattle.twin_file.proofs.TakeLaws.{taken_once, reopen_err}
 use Rattle.ledger_open.specs.Damages.{IsDamage}
 use Rattle.twin_file.specs.Picking.{IsReopened as IsLooked}
-use Rattle.twin_file.specs.Twin.{chosen, IsTaken, IsReopenErr}
+use Rattle.twin_file.specs.Twin.{choice, IsTaken, IsReopenErr}
 use Rattle.twin_file.specs.Which.{in_a_of, file_of, view_of}
 use Rattle.twin_file.specs.declared.twin.Twin.{Twin}
 use Rattle.ledger_open.specs.Opening.{Known, Knows, HasFile, IsHeadOf, IsOutside, IsOpenErr, IsOpenedAs, IsReopened, IsCleanAt, KeepsBlocks, as_open}
@@ -36,15 +36,15 @@ use Rattle.ledger_open.proofs.WholeLaws.{stands_undamaged, serves_each}
 -- a file with blocks has a head that is known
 module _ (generation : ℕ) (bs : List (List Entry)) (file : List ℕ) (x : HasBlocks ground generation bs file) where
   tail : List ℕ
-  tail = opened (written (ground).root [] bs) ++ x.stands.gate ∷ x.stands.rest
+  tail = open_blocks (written_blocks (ground).root [] bs) ++ x.stands.gate ∷ x.stands.rest
 
   file_is : file ≡ x.front ++ tail
   unfolding tail
-  file_is = flat x.front (written (ground).root [] bs) file x.stands
+  file_is = flat x.front (written_blocks (ground).root [] bs) file x.stands
 
   some : 1 ≤ length tail
   unfolding tail
-  some = omega (arith, length-append (opened (written (ground).root [] bs)) (x.stands.gate ∷ x.stands.rest))
+  some = omega (arith, length-append (open_blocks (written_blocks (ground).root [] bs)) (x.stands.gate ∷ x.stands.rest))
 
   piece : (at n : ℕ) → at + n ≤ 64 → take n (drop at file) ≡ take n (drop at x.front)
   piece at n le =
@@ -61,7 +61,7 @@ module _ (generation : ℕ) (bs : List (List Entry)) (file : List ℕ) (x : HasB
     version = byte 9 (omega arith) ∙ x.head.version;
   }
 
-  pub tail_is : tail_of x.front (written (ground).root [] bs) ≡ after_at 64 bs
+  pub tail_is : tail_of x.front (written_blocks (ground).root [] bs) ≡ after_at 64 bs
   tail_is = tail_place ground mth_size x.front 64 bs x.lawful x.head.size
 
 -- ---- images of the open file
@@ -75,16 +75,16 @@ pub trim_keeps : (old mid new : State) (k : Known) (ks : List (List Entry)) → 
     → IsSettled old → KeepsBlocks old new
 trim_keeps old mid new k ks same knows has images quiet generation bs x image left =
     let one = (blocks_unique ground has.0 generation ks bs old.seen mth_size has.1 x).1 in
-    let tail : tail_of x.front (written (ground).root [] bs) ≡ k.place = tail_is generation bs old.seen x ∙ ap (after_at 64) (sym one) ∙ sym knows.tail in
+    let tail : tail_of x.front (written_blocks (ground).root [] bs) ≡ k.place = tail_is generation bs old.seen x ∙ ap (after_at 64) (sym one) ∙ sym knows.tail in
     record {
       front = x.front;
       head = x.head;
       lawful = x.lawful;
-      stands = images (subst IsSettled (sym same) quiet) x.front (written (ground).root [] bs) (subst (λ (s : State). Stands x.front (written (ground).root [] bs) s.seen) (sym same) x.stands) tail image left;
+      stands = images (subst IsSettled (sym same) quiet) x.front (written_blocks (ground).root [] bs) (subst (λ (s : State). Stands x.front (written_blocks (ground).root [] bs) s.seen) (sym same) x.stands) tail image left;
     }
 
 -- an image with the blocks of another stands for what that one stands for
-stands_again : (gone : ℕ → Bool) (old new : List ℕ) (h : History) → ((generation : ℕ) (bs : List (List Entry)) → HasBlocks ground generation bs old → HasBlocks ground generation bs new) → StandsBy gone old h → StandsBy gone new h
+pub stands_again : (gone : ℕ → Bool) (old new : List ℕ) (h : History) → ((generation : ℕ) (bs : List (List Entry)) → HasBlocks ground generation bs old → HasBlocks ground generation bs new) → StandsBy gone old h → StandsBy gone new h
 stands_again gone old new h keeps x = record {
   generation = x.generation;
   keeps = record { blocks = x.keeps.blocks; file = keeps x.generation x.keeps.blocks x.keeps.file; same = x.keeps.same };
@@ -102,7 +102,7 @@ head_of file h x = has_head x.generation x.keeps.blocks file x.keeps.file
 empty_no : {P : Type 0} (file : List ℕ) → length file ≡ 0 → HasHead file → P
 empty_no file none head = absurd (omega (arith, none, head.is_open.long))
 
-pub taken_pair : (x : Bool) (a b : List ℕ) (h : History) → IsTaken x a b → PairFor a b h → StandsFor (chosen x a b) h × (length (chosen x b a) ≡ 0)
+pub taken_pair : (x : Bool) (a b : List ℕ) (h : History) → IsTaken x a b → PairFor a b h → StandsFor (choice x a b) h × (length (choice x b a) ≡ 0)
 taken_pair true a b h t (inl p) = p
 taken_pair true a b h t (inr p) = empty_no a p.1 t.head
 taken_pair false a b h t (inl p) = empty_no b p.1 t.head
@@ -117,8 +117,8 @@ same_pair h a b na nb ea eb qa qb p image_a image_b la lb =
     subst (λ (x : List ℕ). PairFor x image_b h) (sym one) (subst (λ (x : List ℕ). PairFor a.seen x h) (sym two) p)
 
 -- both were synced
-pub synced : (s m : State) → m ≡ settled s.seen → IsSettled m
-synced s m e = e ∙ ap settled (sym (ap (λ (s : State). s.seen) e))
+pub synced : (s m : State) → m ≡ settled_state s.seen → IsSettled m
+synced s m e = e ∙ ap settled_state (sym (ap (λ (s : State). s.seen) e))
 
 pub pair_synced : (h : History) (a b ma mb : State) → ma.seen ≡ a.seen → mb.seen ≡ b.seen → PairFor a.seen b.seen h → PairFor ma.seen mb.seen h
 pair_synced h a b ma mb ea eb p =
@@ -135,7 +135,7 @@ module _ (h : History) (open_ other new_open new_other : State) (quiet : IsSettl
 
 pub record IsTakenAs (a b : List ℕ) (x : Bool) (twin : Twin) : Type 0 where
   pub taken : IsTaken x a b
-  pub head : IsHeadOf (chosen x a b) (file_of twin)
+  pub head : IsHeadOf (choice x a b) (file_of twin)
 
 pub taken_as : (a b : List ℕ) (found : Option Twin) (twin : Twin) (x : Bool) → found ≡ Some twin → IsLooked a b (option_map view_of found) → in_a_of twin ≡ x → IsTakenAs a b x twin
 taken_as a b found twin x is looked which =
@@ -147,7 +147,7 @@ taken_at a b a_now b_now x twin same_a same_b t =
     subst (λ (s : State). IsTaken x s.seen b_now.seen) (sym same_a) (subst (λ (s : State). IsTaken x a.seen s.seen) (sym same_b) t.taken)
 
 -- the first is the open file
-pub reopened_a : (tells x : Bool) (k : Known) (a b a_now b_now a_new b_new : State) → x ≡ true → (IsTrue tells → IsTaken true a_now.seen b_now.seen) → (IsTrue tells → a_now ≡ settled a.seen) → (IsTrue tells → b_now ≡ settled b.seen)
+pub reopened_a : (tells x : Bool) (k : Known) (a b a_now b_now a_new b_new : State) → x ≡ true → (IsTrue tells → IsTaken true a_now.seen b_now.seen) → (IsTrue tells → a_now ≡ settled_state a.seen) → (IsTrue tells → b_now ≡ settled_state b.seen)
     → IsOpenedAs tells k a_now b_now a_new b_new → (blocks : List (List Entry)) × Knows k blocks × (IsTrue tells → IsReopened x k.place blocks a b a_new b_new)
 reopened_a tells true k a b a_now b_now a_new b_new is taken same_a same_b o = (
   o.blocks,
@@ -158,14 +158,14 @@ reopened_a tells true k a b a_now b_now a_new b_new is taken same_a same_b o = (
       record {
         taken = subst (λ (l : List ℕ). IsTaken true l b.seen) one (subst (λ (l : List ℕ). IsTaken true a_now.seen l) two (taken told));
         has = subst (HasFile o.blocks) one (o.has told);
-        open_is = o.open_is told ∙ ap (λ (l : List ℕ). settled (take (k.place + 1) l)) one;
+        open_is = o.open_is told ∙ ap (λ (l : List ℕ). settled_state (take (k.place + 1) l)) one;
         other_is = o.other_is told (synced b b_now (same_b told));
       },
 )
 reopened_a tells false k a b a_now b_now a_new b_new is taken same_a same_b o = absurd (true≢false (sym is))
 
 -- the second is
-pub reopened_b : (tells x : Bool) (k : Known) (a b a_now b_now a_new b_new : State) → x ≡ false → (IsTrue tells → IsTaken false a_now.seen b_now.seen) → (IsTrue tells → a_now ≡ settled a.seen) → (IsTrue tells → b_now ≡ settled b.seen)
+pub reopened_b : (tells x : Bool) (k : Known) (a b a_now b_now a_new b_new : State) → x ≡ false → (IsTrue tells → IsTaken false a_now.seen b_now.seen) → (IsTrue tells → a_now ≡ settled_state a.seen) → (IsTrue tells → b_now ≡ settled_state b.seen)
     → IsOpenedAs tells k b_now a_now b_new a_new → (blocks : List (List Entry)) × Knows k blocks × (IsTrue tells → IsReopened x k.place blocks a b a_new b_new)
 reopened_b tells false k a b a_now b_now a_new b_new is taken same_a same_b o = (
   o.blocks,
@@ -176,7 +176,7 @@ reopened_b tells false k a b a_now b_now a_new b_new is taken same_a same_b o = 
       record {
         taken = subst (λ (l : List ℕ). IsTaken false l b.seen) one (subst (λ (l : List ℕ). IsTaken false a_now.seen l) two (taken told));
         has = subst (HasFile o.blocks) two (o.has told);
-        open_is = o.open_is told ∙ ap (λ (l : List ℕ). settled (take (k.place + 1) l)) two;
+        open_is = o.open_is told ∙ ap (λ (l : List ℕ). settled_state (take (k.place + 1) l)) two;
         other_is = o.other_is told (synced a a_now (same_a told));
       },
 )
@@ -218,7 +218,7 @@ open_of_err file (damages.Content jsn kept found) e = absurd e
 empty_open : (file : List ℕ) → length file ≡ 0 → IsOpen file → ⊥
 empty_open file none o = omega (arith, none, o.long)
 
-shut_of : (a b : List ℕ) (x : Bool) → IsShut a → IsShut b → IsShut (chosen x a b)
+shut_of : (a b : List ℕ) (x : Bool) → IsShut a → IsShut b → IsShut (choice x a b)
 shut_of a b true sa sb = sa
 shut_of a b false sa sb = sb
 
@@ -244,7 +244,7 @@ module _ (a b : List ℕ) (h : History) (p : PairFor a b h) where
   damaged_no : (damage : Damage) → IsReopenErr a b (files.Damaged damage) → ⊥
   damaged_no damage (inl e) = head_err_no a damage side_a e
   damaged_no damage (inr (inl e)) = head_err_no b damage side_b e.1
-  damaged_no damage (inr (inr e)) = resume_no (chosen e.0 a b) (number_at 18 (chosen e.0 a b)) damage (base_none (chosen e.0 a b) (taken_pair e.0 a b h e.1 p).0) e.2
+  damaged_no damage (inr (inr e)) = resume_no (choice e.0 a b) (number_at 18 (choice e.0 a b)) damage (base_none (choice e.0 a b) (taken_pair e.0 a b h e.1 p).0) e.2
 
   newer_none : (found : ℕ) → IsReopenErr a b (files.NewerFormat found) → ⊥
   newer_none found (inl e) = newer_no a found side_a e
@@ -262,23 +262,23 @@ module _ (a b : List ℕ) (h : History) (p : PairFor a b h) where
   pair_opens errors.Exists why = why
   pair_opens (errors.NewerFormat found) why = newer_none found why
   pair_opens (errors.Damaged damage) (inl why) = damaged_no damage why
-  pair_opens (errors.Damaged damage) (inr why) = stands_undamaged (chosen why.0 a b) h damage (taken_pair why.0 a b h why.1 p).0 why.2
+  pair_opens (errors.Damaged damage) (inr why) = stands_undamaged (choice why.0 a b) h damage (taken_pair why.0 a b h why.1 p).0 why.2
 
 -- where this file is taken, and has lawful blocks, nothing else keeps the pair from being opened either
-module _ (x : Bool) (a b : List ℕ) (t : IsTaken x a b) (generation : ℕ) (ks : List (List Entry)) (has : HasBlocks ground generation ks (chosen x a b)) (legal : IsLawful (history ks [])) where
-  by_looks : (e : FileErr) → e ≢ files.DiskFault → IsReopenErr a b e → IsResumeErr (chosen x a b) (number_at 18 (chosen x a b)) e
-  by_looks e other why = elim (reopen_err a b e x (chosen x a b) (record { taken = t; is = refl }) why) [ inl fault ↦ absurd (other fault) | inr r ↦ r ]
+module _ (x : Bool) (a b : List ℕ) (t : IsTaken x a b) (generation : ℕ) (ks : List (List Entry)) (has : HasBlocks ground generation ks (choice x a b)) (legal : IsLawful (history ks [])) where
+  by_looks : (e : FileErr) → e ≢ files.DiskFault → IsReopenErr a b e → IsResumeErr (choice x a b) (number_at 18 (choice x a b)) e
+  by_looks e other why = elim (reopen_err a b e x (choice x a b) (record { taken = t; is = refl }) why) [ inl fault ↦ absurd (other fault) | inr r ↦ r ]
 
   pub opened_only : (e : OpenErr) → IsOpenErr a b e → IsOutside e
   opened_only errors.DiskFault why = tt
   opened_only errors.NoMemory why = tt
-  opened_only errors.Empty why = shut_open (chosen x a b) (shut_of a b x why.0 why.1) t.head.is_open
+  opened_only errors.Empty why = shut_open (choice x a b) (shut_of a b x why.0 why.1) t.head.is_open
   opened_only errors.Exists why = why
   opened_only (errors.NewerFormat found) why = by_looks (files.NewerFormat found) (λ same. let no : ⊥ = cc same in no) why
   opened_only (errors.Damaged damage) (inl why) =
-      resume_no (chosen x a b) (number_at 18 (chosen x a b)) damage (no_base generation ks (chosen x a b) has) (by_looks (files.Damaged damage) (λ same. let no : ⊥ = cc same in no) why)
+      resume_no (choice x a b) (number_at 18 (choice x a b)) damage (no_base generation ks (choice x a b) has) (by_looks (files.Damaged damage) (λ same. let no : ⊥ = cc same in no) why)
   opened_only (errors.Damaged damage) (inr why) =
-      none_damaged (chosen x a b) generation ks has legal damage (subst (λ (y : Bool). IsDamage (chosen y a b) damage) (taken_once a b why.0 x why.1 t) why.2)
+      none_damaged (choice x a b) generation ks has legal damage (subst (λ (y : Bool). IsDamage (choice y a b) damage) (taken_once a b why.0 x why.1 t) why.2)
 
 pub reopened_only : (k : Known) (x : Bool) (ks : List (List Entry)) (a b a_new b_new : State) (e : OpenErr) → Knows k ks → IsReopened x k.place ks a b a_new b_new → IsOpenErr a.seen b.seen e → IsOutside e
 reopened_only k true ks a b a_new b_new e knows r why = opened_only true a.seen b.seen r.taken r.has.0 ks r.has.1 knows.legal e why
@@ -295,51 +295,51 @@ shut_empty a b sa sb (errors.NewerFormat found) (inr (inl why)) = absurd (shut_o
 shut_empty a b sa sb (errors.NewerFormat found) (inr (inr why)) = absurd why.2
 shut_empty a b sa sb (errors.Damaged damage) (inl (inl why)) = absurd (shut_open a sa (open_of_err a damage why).0)
 shut_empty a b sa sb (errors.Damaged damage) (inl (inr (inl why))) = absurd (shut_open b sb (open_of_err b damage why.1).0)
-shut_empty a b sa sb (errors.Damaged damage) (inl (inr (inr (x, taken, why)))) = absurd (shut_open (chosen x a b) (shut_of a b x sa sb) taken.head.is_open)
-shut_empty a b sa sb (errors.Damaged damage) (inr (x, taken, why)) = absurd (shut_open (chosen x a b) (shut_of a b x sa sb) taken.head.is_open)
+shut_empty a b sa sb (errors.Damaged damage) (inl (inr (inr (x, taken, why)))) = absurd (shut_open (choice x a b) (shut_of a b x sa sb) taken.head.is_open)
+shut_empty a b sa sb (errors.Damaged damage) (inr (x, taken, why)) = absurd (shut_open (choice x a b) (shut_of a b x sa sb) taken.head.is_open)
 
 -- what was opened serves each history that the pair stands for
 pub pair_served : (k : Known) (x : Bool) (ks : List (List Entry)) (a b a_new b_new : State) (h : History) → Knows k ks → IsReopened x k.place ks a b a_new b_new → PairFor a.seen b.seen h → Serves k.book h
 pair_served k x ks a b a_new b_new h knows r p =
-    serves_each (hidden_before h) (chosen x a b).seen h r.has.0 ks k.book (stands_in x a b h r.taken p) r.has.1 knows.serves where
-      stands_in : (x : Bool) (a b : State) (h : History) → IsTaken x a.seen b.seen → PairFor a.seen b.seen h → StandsFor (chosen x a b).seen h
+    serves_each (hidden_before h) (choice x a b).seen h r.has.0 ks k.book (stands_in x a b h r.taken p) r.has.1 knows.serves where
+      stands_in : (x : Bool) (a b : State) (h : History) → IsTaken x a.seen b.seen → PairFor a.seen b.seen h → StandsFor (choice x a b).seen h
       stands_in true a b h t p = (taken_pair true a.seen b.seen h t p).0
       stands_in false a b h t p = (taken_pair false a.seen b.seen h t p).0
 
 -- ---- a file that was cut behind its tail gate
 
-module _ (generation : ℕ) (bs : List (List Entry)) (file : List ℕ) (x : HasBlocks ground generation bs file) (at : ℕ) (ends : tail_of x.front (written (ground).root [] bs) ≡ at) where
-  cut_is : take (at + 1) file ≡ (x.front ++ opened (written (ground).root [] bs)) ++ x.stands.gate ∷ []
+module _ (generation : ℕ) (bs : List (List Entry)) (file : List ℕ) (x : HasBlocks ground generation bs file) (at : ℕ) (ends : tail_of x.front (written_blocks (ground).root [] bs) ≡ at) where
+  cut_is : take (at + 1) file ≡ (x.front ++ open_blocks (written_blocks (ground).root [] bs)) ++ x.stands.gate ∷ []
   cut_is =
-      ap (λ (l : List ℕ). take (at + 1) l) (x.stands.is ∙ sym (append_assoc (x.front ++ opened (written (ground).root [] bs)) (x.stands.gate ∷ []) x.stands.rest))
-      ∙ take_at ((x.front ++ opened (written (ground).root [] bs)) ++ x.stands.gate ∷ []) x.stands.rest (at + 1) (omega (arith, ends, length-append (x.front ++ opened (written (ground).root [] bs)) (x.stands.gate ∷ [])))
+      ap (λ (l : List ℕ). take (at + 1) l) (x.stands.is ∙ sym (append_assoc (x.front ++ open_blocks (written_blocks (ground).root [] bs)) (x.stands.gate ∷ []) x.stands.rest))
+      ∙ take_at ((x.front ++ open_blocks (written_blocks (ground).root [] bs)) ++ x.stands.gate ∷ []) x.stands.rest (at + 1) (omega (arith, ends, length-append (x.front ++ open_blocks (written_blocks (ground).root [] bs)) (x.stands.gate ∷ [])))
 
-  cut_has : HasBlocks ground generation bs (take (at + 1) file)
+  pub cut_has : HasBlocks ground generation bs (take (at + 1) file)
   cut_has = record { front = x.front; head = x.head; lawful = x.lawful; stands = record { gate = x.stands.gate; rest = []; is = cut_is; shut = x.stands.shut } }
 
   cut_length : length (take (at + 1) file) ≡ at + 1
-  cut_length = ap length cut_is ∙ omega (arith, ends, length-append (x.front ++ opened (written (ground).root [] bs)) (x.stands.gate ∷ []))
+  cut_length = ap length cut_is ∙ omega (arith, ends, length-append (x.front ++ open_blocks (written_blocks (ground).root [] bs)) (x.stands.gate ∷ []))
 
 -- what was opened is clean
 pub reopened_clean : (k : Known) (x : Bool) (ks : List (List Entry)) (a b a_new b_new : State) → Knows k ks → IsReopened x k.place ks a b a_new b_new → IsCleanAt x k.place ks a_new b_new
 reopened_clean k x ks a b a_new b_new knows r =
     let f = r.has in
     let ends = tail_is f.0 ks _ f.1 ∙ sym knows.tail in
-    let now : (chosen x a_new b_new).seen ≡ take (k.place + 1) (chosen x a b).seen = ap (λ (s : State). s.seen) r.open_is in
+    let now : (choice x a_new b_new).seen ≡ take (k.place + 1) (choice x a b).seen = ap (λ (s : State). s.seen) r.open_is in
     record {
-      quiet = r.open_is ∙ ap settled (sym now);
+      quiet = r.open_is ∙ ap settled_state (sym now);
       empty = r.other_is;
       has = (f.0, subst (λ (l : List ℕ). HasBlocks ground f.0 ks l) (sym now) (cut_has f.0 ks _ f.1 k.place ends));
       ends = ap length now ∙ cut_length f.0 ks _ f.1 k.place ends;
     }
 
 -- .. and has the bytes that it had, where it was clean
-pub left_clean : (k : Known) (x : Bool) (ks : List (List Entry)) (a b a_new b_new : State) (h : History) → Knows k ks → IsReopened x k.place ks a b a_new b_new → IsClean (chosen x a b).seen h → chosen x a_new b_new ≡ settled (chosen x a b).seen
+pub left_clean : (k : Known) (x : Bool) (ks : List (List Entry)) (a b a_new b_new : State) (h : History) → Knows k ks → IsReopened x k.place ks a b a_new b_new → IsClean (choice x a b).seen h → choice x a_new b_new ≡ settled_state (choice x a b).seen
 left_clean k x ks a b a_new b_new h knows r c =
     let e = c.erased in
     let f = e.keeps.file in
-    let one : e.keeps.blocks ≡ ks = (blocks_unique ground e.generation r.has.0 e.keeps.blocks ks (chosen x a b).seen mth_size f r.has.1).1 in
-    let place : tail_of f.front (written (ground).root [] e.keeps.blocks) ≡ k.place = tail_is e.generation e.keeps.blocks (chosen x a b).seen f ∙ ap (after_at 64) one ∙ sym knows.tail in
-    let size : length (chosen x a b).seen ≡ k.place + 1 =
-    omega (arith, place, ap length c.ends, ap length f.stands.is, length-append (f.front ++ opened (written (ground).root [] e.keeps.blocks)) (f.stands.gate ∷ f.stands.rest)) in
-    r.open_is ∙ ap settled (take_all (k.place + 1) (chosen x a b).seen (omega (arith, size)))
+    let one : e.keeps.blocks ≡ ks = (blocks_unique ground e.generation r.has.0 e.keeps.blocks ks (choice x a b).seen mth_size f r.has.1).1 in
+    let place : tail_of f.front (written_blocks (ground).root [] e.keeps.blocks) ≡ k.place = tail_is e.generation e.keeps.blocks (choice x a b).seen f ∙ ap (after_at 64) one ∙ sym knows.tail in
+    let size : length (choice x a b).seen ≡ k.place + 1 =
+    omega (arith, place, ap length c.ends, ap length f.stands.is, length-append (f.front ++ open_blocks (written_blocks (ground).root [] e.keeps.blocks)) (f.stands.gate ∷ f.stands.rest)) in
+    r.open_is ∙ ap settled_state (take_all (k.place + 1) (choice x a b).seen (omega (arith, size)))

@@ -5,16 +5,16 @@ use Rattle.std.proofs.Common.{◌≡◌, ℕ, ◌+◌, List, [], ◌∷◌, ◌+
 use Rattle.std.proofs.lemmas.List.{take_at, drop_at, drop-drop, map-append}
 use Rattle.std.proofs.lemmas.List.Sums.{sum_by-cons}
 use Rattle.block_file.specs.Blocks.{IsOpenBlock, record_at, records_from}
-use Rattle.block_file.specs.File.{opened, tail_of}
+use Rattle.block_file.specs.File.{open_blocks, tail_of}
 use Rattle.block_file.specs.declared.block.RecordAt.{RecordAt}
 use Rattle.journal_record.proofs.Spelling.{length-spelling}
-use Rattle.journal_record.specs.Blocks.{record_bytes, body_of, block_bytes, leaves_of, AreBlocks, written}
+use Rattle.journal_record.specs.Blocks.{record_bytes, body_of, block_bytes, leaves_of, AreBlocks, written_blocks}
 use Rattle.journal_record.specs.Entry.{Entry}
 use Rattle.journal_record.specs.Header.{spelling}
 use Rattle.journal_record.specs.Records.{IsReadable, AreReadable}
 use Rattle.journal_record.specs.declared.header.Header.{Header}
 use Rattle.ledger_model.specs.History.{History, journals_of, journals}
-use Rattle.ledger_model.specs.Outcomes.{hidden}
+use Rattle.ledger_model.specs.Outcomes.{is_hidden}
 use Rattle.ledger_open.specs.Places.{record_len, records_at, places_at, after_at, entry_at, places_of}
 use Rattle.ledger_open.specs.Standing.{Floor, ground, HasBlocks, AllKept, SameButHidden, StandsBy}
 use Rattle.ledger_open.proofs.AgainLaws.{entry_is, flat}
@@ -69,17 +69,17 @@ module _ (file : List ℕ) where
       ∙ ap (λ (l : List Entry). e ∷ l) (records_here (at + record_len e) es rest r.1 later)
 
   blocks_here : (root : List (List ℕ) → List ℕ) → GivesDigests root → (seen : List (List ℕ)) (n at : ℕ) (bs : List (List Entry)) (rest : List ℕ) → AreBlocks n bs
-      → drop at file ≡ opened (written root seen bs) ++ rest → map (entry_at file) (places_at at bs) ≡ journals_of bs
+      → drop at file ≡ open_blocks (written_blocks root seen bs) ++ rest → map (entry_at file) (places_at at bs) ≡ journals_of bs
   blocks_here root digests seen n at [] rest a is = refl
   blocks_here root digests seen n at (b ∷ bs) rest a is =
       let r = readable n b a.0.entries in
-      let later = opened (written root (seen ++ leaves_of b) bs) ++ rest in
-      let block : drop at file ≡ (1 ∷ block_bytes (root (seen ++ leaves_of b)) b) ++ (opened (written root (seen ++ leaves_of b) bs) ++ rest) =
-      is ∙ append_assoc (1 ∷ block_bytes (root (seen ++ leaves_of b)) b) (opened (written root (seen ++ leaves_of b) bs)) rest in
-      let body : drop (at + 45) file ≡ body_of b ++ (opened (written root (seen ++ leaves_of b) bs) ++ rest) =
-      sym (drop-drop 45 at file) ∙ ap (λ (l : List ℕ). drop 45 l) block ∙ body_behind (root (seen ++ leaves_of b)) b (opened (written root (seen ++ leaves_of b) bs) ++ rest) (digests (seen ++ leaves_of b)) in
-      let next : drop (at + 45 + sum_by record_len b) file ≡ opened (written root (seen ++ leaves_of b) bs) ++ rest =
-      sym (drop-drop (sum_by record_len b) (at + 45) file) ∙ ap (λ (l : List ℕ). drop (sum_by record_len b) l) body ∙ drop_at (body_of b) (opened (written root (seen ++ leaves_of b) bs) ++ rest) (sum_by record_len b) (body_size b r) in
+      let later = open_blocks (written_blocks root (seen ++ leaves_of b) bs) ++ rest in
+      let block : drop at file ≡ (1 ∷ block_bytes (root (seen ++ leaves_of b)) b) ++ (open_blocks (written_blocks root (seen ++ leaves_of b) bs) ++ rest) =
+      is ∙ append_assoc (1 ∷ block_bytes (root (seen ++ leaves_of b)) b) (open_blocks (written_blocks root (seen ++ leaves_of b) bs)) rest in
+      let body : drop (at + 45) file ≡ body_of b ++ (open_blocks (written_blocks root (seen ++ leaves_of b) bs) ++ rest) =
+      sym (drop-drop 45 at file) ∙ ap (λ (l : List ℕ). drop 45 l) block ∙ body_behind (root (seen ++ leaves_of b)) b (open_blocks (written_blocks root (seen ++ leaves_of b) bs) ++ rest) (digests (seen ++ leaves_of b)) in
+      let next : drop (at + 45 + sum_by record_len b) file ≡ open_blocks (written_blocks root (seen ++ leaves_of b) bs) ++ rest =
+      sym (drop-drop (sum_by record_len b) (at + 45) file) ∙ ap (λ (l : List ℕ). drop (sum_by record_len b) l) body ∙ drop_at (body_of b) (open_blocks (written_blocks root (seen ++ leaves_of b) bs) ++ rest) (sum_by record_len b) (body_size b r) in
       map-append (entry_at file) (records_at (at + 45) b) (places_at (at + 45 + sum_by record_len b) bs)
       ∙ ap (λ (l : List Entry). l ++ map (entry_at file) (places_at (at + 45 + sum_by record_len b) bs)) (records_here (at + 45) b _ r body)
       ∙ ap (λ (l : List Entry). b ++ l) (blocks_here root digests (seen ++ leaves_of b) (n + length b) (at + 45 + sum_by record_len b) bs rest a.1 next)
@@ -95,8 +95,8 @@ pub file_here : (floor : Floor) → GivesDigests floor.root → (generation : �
     → map (entry_at image) (places_at (64 + length floor.base) bs) ≡ journals_of bs
 file_here floor digests generation bs image x =
     blocks_here image floor.root digests [] floor.first (64 + length floor.base) bs (x.stands.gate ∷ x.stands.rest) x.lawful
-    (ap (λ (l : List ℕ). drop (64 + length floor.base) l) (flat x.front (written floor.root [] bs) image x.stands)
-    ∙ drop_at x.front (opened (written floor.root [] bs) ++ x.stands.gate ∷ x.stands.rest) (64 + length floor.base) x.head.size)
+    (ap (λ (l : List ℕ). drop (64 + length floor.base) l) (flat x.front (written_blocks floor.root [] bs) image x.stands)
+    ∙ drop_at x.front (open_blocks (written_blocks floor.root [] bs) ++ x.stands.gate ∷ x.stands.rest) (64 + length floor.base) x.head.size)
 
 -- ---- the same places by what is kept
 
@@ -125,21 +125,21 @@ places_kept hid gone at (b ∷ bs) (c ∷ cs) s =
     ∙ ap (λ (l : List RecordAt). records_at (at + 45) c ++ l) (places_kept hid gone (at + 45 + sum_by record_len c) bs cs s.1)
 
 -- each journal of a history stands at its place, as far as it is kept
-pub history_here : (gone : ℕ → Bool) (image : List ℕ) (h : History) → StandsBy gone image h → AllKept (hidden h) gone (journals h) (map (entry_at image) (places_of h))
+pub history_here : (gone : ℕ → Bool) (image : List ℕ) (h : History) → StandsBy gone image h → AllKept (is_hidden h) gone (journals h) (map (entry_at image) (places_of h))
 history_here gone image h x =
     let read : map (entry_at image) (places_of h) ≡ journals_of x.keeps.blocks =
-    ap (map (entry_at image)) (places_kept (hidden h) gone 64 h.closed x.keeps.blocks x.keeps.same) ∙ file_here ground mth_size x.generation x.keeps.blocks image x.keeps.file in
-    subst (AllKept (hidden h) gone (journals h)) (sym read)
-    (subst (λ (l : List Entry). AllKept (hidden h) gone l (journals_of x.keeps.blocks)) (sym (journals_closed h x.none)) (all_kept (hidden h) gone h.closed x.keeps.blocks x.keeps.same))
+    ap (map (entry_at image)) (places_kept (is_hidden h) gone 64 h.closed x.keeps.blocks x.keeps.same) ∙ file_here ground mth_size x.generation x.keeps.blocks image x.keeps.file in
+    subst (AllKept (is_hidden h) gone (journals h)) (sym read)
+    (subst (λ (l : List Entry). AllKept (is_hidden h) gone l (journals_of x.keeps.blocks)) (sym (journals_closed h x.none)) (all_kept (is_hidden h) gone h.closed x.keeps.blocks x.keeps.same))
 
 -- ---- where blocks end
 
-after_is : (root : List (List ℕ) → List ℕ) → GivesDigests root → (seen : List (List ℕ)) (n at : ℕ) (bs : List (List Entry)) → AreBlocks n bs → at + length (opened (written root seen bs)) ≡ after_at at bs
+after_is : (root : List (List ℕ) → List ℕ) → GivesDigests root → (seen : List (List ℕ)) (n at : ℕ) (bs : List (List Entry)) → AreBlocks n bs → at + length (open_blocks (written_blocks root seen bs)) ≡ after_at at bs
 after_is root digests seen n at [] a = omega arith
 after_is root digests seen n at (b ∷ bs) a =
     let later = after_is root digests (seen ++ leaves_of b) (n + length b) (at + 45 + sum_by record_len b) bs a.1 in
     let one = block_size (root (seen ++ leaves_of b)) b (digests (seen ++ leaves_of b)) (readable n b a.0.entries) in
-    omega (arith, later, one, length-append (block_bytes (root (seen ++ leaves_of b)) b) (opened (written root (seen ++ leaves_of b) bs)))
+    omega (arith, later, one, length-append (block_bytes (root (seen ++ leaves_of b)) b) (open_blocks (written_blocks root (seen ++ leaves_of b) bs)))
 
-pub tail_place : (floor : Floor) → GivesDigests floor.root → (front : List ℕ) (at : ℕ) (bs : List (List Entry)) → AreBlocks floor.first bs → length front ≡ at → tail_of front (written floor.root [] bs) ≡ after_at at bs
-tail_place floor digests front at bs a size = omega (arith, size, after_is floor.root digests [] floor.first at bs a, length-append front (opened (written floor.root [] bs)))
+pub tail_place : (floor : Floor) → GivesDigests floor.root → (front : List ℕ) (at : ℕ) (bs : List (List Entry)) → AreBlocks floor.first bs → length front ≡ at → tail_of front (written_blocks floor.root [] bs) ≡ after_at at bs
+tail_place floor digests front at bs a size = omega (arith, size, after_is floor.root digests [] floor.first at bs a, length-append front (open_blocks (written_blocks floor.root [] bs)))

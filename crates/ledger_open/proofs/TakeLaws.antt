@@ -14,7 +14,7 @@ use Rattle.journal_record.specs.Blocks.{leaves_of}
 use Rattle.journal_record.specs.Entry.{Entry}
 use Rattle.journal_record.specs.Header.{spelling}
 use Rattle.journal_record.specs.declared.header.Header.{Header}
-use Rattle.ledger_book.specs.Books.{Kept, Stands, Serves, sealed}
+use Rattle.ledger_book.specs.Books.{Kept, Stands, Serves, sealed_size}
 use Rattle.ledger_book.specs.Seals.{head_of}
 use Rattle.ledger_book.specs.Steps.{IsSame}
 use Rattle.ledger_bytes.specs.declared.digest.Digest.{Digest}
@@ -185,13 +185,13 @@ unfolding close
 close_is blocks [] some = absurd (omega (arith, some))
 close_is blocks (e ∷ es) some = refl
 
-pub root_is : (blocks : List (List Entry)) (es : List Entry) → root (history (blocks ++ es ∷ []) []) (sealed (history (blocks ++ es ∷ []) [])) ≡ mth sha256 (leaves_of (journals_of blocks) ++ leaves_of es)
+pub root_is : (blocks : List (List Entry)) (es : List Entry) → root (history (blocks ++ es ∷ []) []) (sealed_size (history (blocks ++ es ∷ []) [])) ≡ mth sha256 (leaves_of (journals_of blocks) ++ leaves_of es)
 unfolding root
 root_is blocks es =
     let parts : journals_of (blocks ++ es ∷ []) ++ [] ≡ journals_of blocks ++ es = journals_push blocks es in
-    let size : length (leaves (history (blocks ++ es ∷ []) [])) ≡ sealed (history (blocks ++ es ∷ []) []) =
+    let size : length (leaves (history (blocks ++ es ∷ []) [])) ≡ sealed_size (history (blocks ++ es ∷ []) []) =
     length-map (journals_of (blocks ++ es ∷ []) ++ []) (λ (e : Entry). spelling e.header) ∙ ap length (append-nil (journals_of (blocks ++ es ∷ []))) in
-    ap (mth sha256) (take_all (sealed (history (blocks ++ es ∷ []) [])) (leaves (history (blocks ++ es ∷ []) [])) (omega (arith, size)))
+    ap (mth sha256) (take_all (sealed_size (history (blocks ++ es ∷ []) [])) (leaves (history (blocks ++ es ∷ []) [])) (omega (arith, size)))
     ∙ ap (λ (l : List Entry). mth sha256 (leaves_of l)) parts ∙ ap (mth sha256) (map-append (λ (e : Entry). spelling e.header) (journals_of blocks) es)
 
 -- what the end of a block tells

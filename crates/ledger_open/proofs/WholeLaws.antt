@@ -6,7 +6,7 @@ use Rattle.journal_record.specs.Entry.{Entry}
 use Rattle.ledger_book.specs.Books.{Kept, Serves}
 use Rattle.ledger_model.specs.History.{History, history}
 use Rattle.ledger_model.specs.Lawful.{IsLawful}
-use Rattle.ledger_model.specs.Outcomes.{hidden}
+use Rattle.ledger_model.specs.Outcomes.{is_hidden}
 use Rattle.ledger_model.proofs.LawfulLaws.{none_hidden}
 use Rattle.ledger_open.specs.Damages.{IsDamage}
 use Rattle.ledger_open.specs.Standing.{ground, HasBlocks, AllKept, SameButHidden, StandsBy, StandsFor, hidden_before}
@@ -30,7 +30,7 @@ module _ (hid gone : ℕ → Bool) (shown : (n : ℕ) → hid n ≡ false) where
 -- a file that stands for a history has its blocks
 pub own_blocks : (gone : ℕ → Bool) (image : List ℕ) (h : History) (x : StandsBy gone image h) → HasBlocks ground x.generation h.closed image
 own_blocks gone image h x =
-    subst (λ (l : List (List Entry)). HasBlocks ground x.generation l image) (blocks_same (hidden h) gone (λ n. none_hidden h n x.lawful.journals_are) h.closed x.keeps.blocks x.keeps.same) x.keeps.file
+    subst (λ (l : List (List Entry)). HasBlocks ground x.generation l image) (blocks_same (is_hidden h) gone (λ n. none_hidden h n x.lawful.journals_are) h.closed x.keeps.blocks x.keeps.same) x.keeps.file
 
 -- a history none of whose journals waits
 pub history_is : (h : History) → h.waiting ≡ [] → history h.closed [] ≡ h

@@ -1,12 +1,12 @@
 -- When a file is read no further, and which damage that is.
 use Rattle.std.specs.Prelude.{◌≡◌, ◌≢◌, ◌⊎◌, ℕ, ◌+◌, ◌<◌, List, [], ◌∷◌, ◌++◌, length, take, drop, get_or}
 use Rattle.block_file.specs.Blocks.{AreBlock, IsOpenBlock, IsBlockErr}
-use Rattle.block_file.specs.File.{opened, tail_of}
+use Rattle.block_file.specs.File.{open_blocks, tail_of}
 use Rattle.block_file.specs.Head.{digest_of, number_at, IsBaseErr}
 use Rattle.block_file.specs.declared.failure.Damage.{Damage}
 use Rattle.block_file.specs.declared.failure.Damage.TheVariants.{Magic, BaseForm, Base, Length, Entry as Entries, Root, Content}
 use Rattle.block_file.specs.declared.failure.FileErr.TheVariants.{Damaged}
-use Rattle.journal_record.specs.Blocks.{leaves_of, AreBlocks, written}
+use Rattle.journal_record.specs.Blocks.{leaves_of, AreBlocks, written_blocks}
 use Rattle.journal_record.specs.Entry.{Entry, content_digest_of}
 use Rattle.ledger_model.specs.History.{history, journals_of}
 use Rattle.ledger_model.specs.Lawful.{AreNext, IsNext, IsLawful, AllGather}
@@ -20,8 +20,8 @@ pub record Begun (floor : Floor) (file : List ℕ) (blocks : List (List Entry)) 
   pub head : IsFront generation floor.base front
   pub lawful : AreBlocks floor.first blocks
   pub rest : List ℕ
-  pub is : file ≡ (front ++ opened (written floor.root [] blocks)) ++ rest
-  pub place : tail_of front (written floor.root [] blocks) ≡ at
+  pub is : file ≡ (front ++ open_blocks (written_blocks floor.root [] blocks)) ++ rest
+  pub place : tail_of front (written_blocks floor.root [] blocks) ≡ at
 
 -- these blocks may be a ledger's, and the file begins with them; or there are none
 pub record IsReadTo (file : List ℕ) (blocks : List (List Entry)) (at : ℕ) : Type 0 where

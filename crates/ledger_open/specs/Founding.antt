@@ -1,8 +1,8 @@
 -- What making a new ledger leaves.
 use Rattle.std.specs.Prelude.{◌≡◌, ◌⊎◌, ℕ, List, []}
 use Rattle.block_file.specs.Head.{IsShut, IsOpen}
-use Rattle.ledger_disk.specs.Disk.{State, settled}
-use Rattle.ledger_model.specs.Genesis.{founded}
+use Rattle.ledger_disk.specs.Disk.{State, settled_state}
+use Rattle.ledger_model.specs.Genesis.{new_ledger}
 use Rattle.ledger_model.specs.declared.genesis.Genesis.{Genesis}
 use Rattle.ledger_open.specs.Growing.{new_file}
 use Rattle.ledger_open.specs.Standing.{PairFor}
@@ -13,9 +13,9 @@ IsOneOpen a b = IsOpen a ⊎ IsOpen b
 
 -- the first is the file of this new ledger, and the second is empty; nothing is pending
 pub record IsFounded (genesis : Genesis) (a b : State) : Type 0 where
-  pub first : a ≡ settled (new_file genesis)
-  pub second : b ≡ settled []
+  pub first : a ≡ settled_state (new_file genesis)
+  pub second : b ≡ settled_state []
 
 -- two files are shut, or stand for the new ledger
 abbrev pub IsFoundedOrShut : Genesis → List ℕ → List ℕ → Type 0
-IsFoundedOrShut genesis a b = (IsShut a × IsShut b) ⊎ PairFor a b (founded genesis)
+IsFoundedOrShut genesis a b = (IsShut a × IsShut b) ⊎ PairFor a b (new_ledger genesis)

@@ -1,12 +1,12 @@
 -- A file with a block more, and the file of a new ledger.
 use Rattle.std.specs.Prelude.{◌≡◌, ℕ, false, List, [], ◌∷◌, ◌++◌}
 use Rattle.std.specs.List.{list_any}
-use Rattle.block_file.specs.File.{Stands, whole}
+use Rattle.block_file.specs.File.{Stands, whole_file}
 use Rattle.block_file.specs.Head.{front_of}
 use Rattle.journal_record.specs.Blocks as record_
-use Rattle.journal_record.specs.Blocks.{block_bytes, leaves_of, written}
+use Rattle.journal_record.specs.Blocks.{block_bytes, leaves_of, written_blocks}
 use Rattle.journal_record.specs.Entry.{Entry}
-use Rattle.ledger_model.specs.Genesis.{founded}
+use Rattle.ledger_model.specs.Genesis.{new_ledger}
 use Rattle.ledger_model.specs.History.{History, history, journals, journals_of, size, point}
 use Rattle.ledger_model.specs.Lawful.{AreNext, IsBlock}
 use Rattle.ledger_model.specs.Outcomes.{hides}
@@ -20,7 +20,7 @@ with_block block h = history (h.closed ++ block ∷ []) []
 -- the file has this block more behind the blocks that it had
 abbrev pub HasBlockMore : {generation : ℕ} {blocks : List (List Entry)} {image : List ℕ} → HasBlocks ground generation blocks image → List Entry → List ℕ → Type 0
 HasBlockMore {blocks = blocks} x block new =
-    Stands x.front (written (ground).root [] blocks ++ block_bytes ((ground).root (leaves_of (journals_of blocks) ++ leaves_of block)) block ∷ []) new
+    Stands x.front (written_blocks (ground).root [] blocks ++ block_bytes ((ground).root (leaves_of (journals_of blocks) ++ leaves_of block)) block ∷ []) new
 
 -- a block that may be the next one of this history
 pub record IsNextBlock (h : History) (block : List Entry) : Type 0 where
@@ -41,7 +41,7 @@ GrowsErased =
 
 -- the file of a new ledger: a head of generation 1 without a base, block 0 and a tail gate
 abbrev pub new_file : Genesis → List ℕ
-new_file genesis = whole (front_of 1 1 []) (written (ground).root [] (founded genesis).closed)
+new_file genesis = whole_file (front_of 1 1 []) (written_blocks (ground).root [] (new_ledger genesis).closed)
 
 abbrev pub IsNewClean : Genesis → Type 0
-IsNewClean genesis = IsClean (new_file genesis) (founded genesis)
+IsNewClean genesis = IsClean (new_file genesis) (new_ledger genesis)

@@ -11,7 +11,7 @@ use Rattle.journal_record.specs.Blocks.{AreBlocks}
 use Rattle.journal_record.specs.Entry.{Entry}
 use Rattle.ledger_book.specs.Books.{Kept, Serves}
 use Rattle.ledger_bytes.specs.Causes.{Rose}
-use Rattle.ledger_disk.specs.Disk.{State, MayLeave, settled}
+use Rattle.ledger_disk.specs.Disk.{State, MayLeave, settled_state}
 use Rattle.ledger_model.specs.History.{history}
 use Rattle.ledger_model.specs.Lawful.{IsLawful}
 use Rattle.twin_file.specs.Twin.{open_of, other_of, IsTaken, IsReopenErr}
@@ -29,8 +29,8 @@ pub record Known : Type 0 where
   pub places : List RecordAt
   pub place : ℕ
 
-abbrev pub known : Kept → List RecordAt → ℕ → Known
-known book places place = record { book = book; places = places; place = place }
+abbrev pub known_from : Kept → List RecordAt → ℕ → Known
+known_from book places place = record { book = book; places = places; place = place }
 
 -- They are those of these blocks, which may be a ledger's. No disk is in it.
 pub record Knows (k : Known) (blocks : List (List Entry)) : Type 0 where
@@ -145,20 +145,20 @@ pub record IsOpenedAs (tells : Bool) (k : Known) (open_old other_old open_new ot
   pub blocks : List (List Entry)
   pub knows : Knows k blocks
   pub has : IsTrue tells → HasFile blocks open_old.seen
-  pub open_is : IsTrue tells → open_new ≡ settled (take (k.place + 1) open_old.seen)
-  pub other_is : IsTrue tells → IsSettled other_old → other_new ≡ settled []
+  pub open_is : IsTrue tells → open_new ≡ settled_state (take (k.place + 1) open_old.seen)
+  pub other_is : IsTrue tells → IsSettled other_old → other_new ≡ settled_state []
 
 -- The file that is taken was read as these blocks, it ends with its tail gate, and the other is empty. Nothing is pending.
 pub record IsReopened (in_a : Bool) (place : ℕ) (blocks : List (List Entry)) (a b a_new b_new : State) : Type 0 where
   pub taken : IsTaken in_a a.seen b.seen
   pub has : HasFile blocks (open_of in_a a b).seen
-  pub open_is : open_of in_a a_new b_new ≡ settled (take (place + 1) (open_of in_a a b).seen)
-  pub other_is : other_of in_a a_new b_new ≡ settled []
+  pub open_is : open_of in_a a_new b_new ≡ settled_state (take (place + 1) (open_of in_a a b).seen)
+  pub other_is : other_of in_a a_new b_new ≡ settled_state []
 
 -- The pair is clean for these blocks: nothing is pending, the open file has them and ends with its tail gate, which stands
 -- at this place, and the other file is empty.
 pub record IsCleanAt (in_a : Bool) (place : ℕ) (blocks : List (List Entry)) (a b : State) : Type 0 where
   pub quiet : IsSettled (open_of in_a a b)
-  pub empty : other_of in_a a b ≡ settled []
+  pub empty : other_of in_a a b ≡ settled_state []
   pub has : HasFile blocks (open_of in_a a b).seen
   pub ends : length (open_of in_a a b).seen ≡ place + 1

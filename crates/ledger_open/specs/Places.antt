@@ -5,7 +5,7 @@ use Rattle.block_file.specs.declared.block.RecordAt.{RecordAt}
 use Rattle.journal_record.specs.Entry.{Entry}
 use Rattle.ledger_model.specs.History.{History, journals}
 use Rattle.ledger_open.specs.Standing.{AllKept, StandsBy}
-use Rattle.ledger_model.specs.Outcomes.{hidden}
+use Rattle.ledger_model.specs.Outcomes.{is_hidden}
 
 -- how many bytes a journal takes in its block, by its header: the same for a history and for what a file keeps of it
 abbrev pub record_len : Entry → ℕ
@@ -43,4 +43,4 @@ places_of h = places_at 64 h.closed
 abbrev pub AreAtPlaces : Type 0
 AreAtPlaces =
     (gone : ℕ → Bool) (image : List ℕ) (h : History) → StandsBy gone image h
-    → AllKept (hidden h) gone (journals h) (map (entry_at image) (places_of h))
+    → AllKept (is_hidden h) gone (journals h) (map (entry_at image) (places_of h))

@@ -4,11 +4,11 @@ use Rattle.std.specs.List.{list_any}
 use Rattle.sha2.specs.Sha256.{sha256}
 use Rattle.tree_model.specs.Tree.{mth}
 use Rattle.block_file.specs.File.{Stands}
-use Rattle.journal_record.specs.Blocks.{AreBlocks, written}
+use Rattle.journal_record.specs.Blocks.{AreBlocks, written_blocks}
 use Rattle.journal_record.specs.Entry.{Entry}
 use Rattle.ledger_model.specs.History.{History, journals, size, point}
 use Rattle.ledger_model.specs.Lawful.{IsLawful}
-use Rattle.ledger_model.specs.Outcomes.{hides, hidden}
+use Rattle.ledger_model.specs.Outcomes.{hides, is_hidden}
 use Rattle.ledger_open.specs.Heads.{IsFront}
 
 -- ---- the blocks of a file
@@ -29,7 +29,7 @@ pub record HasBlocks (floor : Floor) (generation : ℕ) (blocks : List (List Ent
   pub front : List ℕ
   pub head : IsFront generation floor.base front
   pub lawful : AreBlocks floor.first blocks
-  pub stands : Stands front (written floor.root [] blocks) image
+  pub stands : Stands front (written_blocks floor.root [] blocks) image
 
 -- ---- from the blocks of a file to those of a history
 
@@ -72,7 +72,7 @@ hidden_before h n = list_any (hides n) (take (size h - 1) (journals h))
 -- No purge has a point above 0, and each file begins with journal 0.
 pub record StandsBy (gone : ℕ → Bool) (image : List ℕ) (h : History) : Type 0 where
   pub generation : ℕ
-  pub keeps : Keeps ground generation (hidden h) gone h.closed image
+  pub keeps : Keeps ground generation (is_hidden h) gone h.closed image
   pub early : generation ≤ size h
   pub none : h.waiting ≡ []
   pub floor : point h ≡ 0
@@ -84,7 +84,7 @@ StandsFor image h = StandsBy (hidden_before h) image h
 
 -- .. and each hidden content is gone
 abbrev pub IsErased : List ℕ → History → Type 0
-IsErased image h = StandsBy (hidden h) image h
+IsErased image h = StandsBy (is_hidden h) image h
 
 -- the image is read as this history, whatever stands where contents are hidden
 abbrev pub Reads : List ℕ → History → Type 0
@@ -105,7 +105,7 @@ IsCleanPair a b h = (IsClean a h × (length b ≡ 0)) ⊎ (IsClean b h × (lengt
 
 -- the same blocks in two histories, but for contents that are hidden in both
 abbrev pub Alike : History → History → Type 0
-Alike h k = SameButHidden (hidden h) (λ n. false) h.closed k.closed
+Alike h k = SameButHidden (is_hidden h) (λ n. false) h.closed k.closed
 
 -- an image stands for one history at most, but for what is hidden
 abbrev pub IsOneHistory : Type 0

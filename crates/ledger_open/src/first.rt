@@ -16,7 +16,7 @@ ghost use Rattle.ledger_book.specs.Replaying.{begun_with};
 ghost use Rattle.ledger_bytes.specs.declared.digest.Digest.{Digest};
 ghost use Rattle.ledger_disk.specs.Disk.{KeepsLength};
 ghost use Rattle.ledger_model.specs.Limits.{AreWithin};
-ghost use Rattle.ledger_open.specs.Opening.{HasRead, IsPlain, IsReadErr, CountsRead, known};
+ghost use Rattle.ledger_open.specs.Opening.{HasRead, IsPlain, IsReadErr, CountsRead, known_from};
 ghost use Rattle.ledger_open.specs.Taking.{Headed, IsBadBlock};
 ghost use Rattle.ledger_open.specs.declared.failure.OpenErr.TheVariants as errors;
 
@@ -124,6 +124,7 @@ fn begin_book(
     ensures ok { IfOk result (λ read. (read.places.list ≡ first.now ∷ [])
         × ((e : Entry) → e.header ≡ first.now.header → e.content ≡ content.now
         → Serves read.book (begun_with e))) }
+    ensures limits { IfOk result (λ read. read.book.limits ≡ limits) }
     ensures err { IfErr result (λ e. e ≡ errors.NoMemory) }
 {
     let (operator, regulator) = keys_of(content);
@@ -149,7 +150,8 @@ pub fn read_first<D: Disk>(
     requires place { place_of file.old ≡ 64 }
     requires limits { AreWithin limits }
     ensures ok { IfOk result (λ read. HasRead D.tells (D.state disk.old).seen
-        (known read.book read.places.list (place_of file.new))) }
+        (known_from read.book read.places.list (place_of file.new))) }
+    ensures limits { IfOk result (λ read. read.book.limits ≡ limits) }
     ensures err { IfErr result (λ e. IsTrue D.tells → IsPlain (D.state disk.old).seen
         → IsReadErr (D.state disk.old).seen e) }
     ensures only { IfErr result (λ e. (e ≢ errors.Empty) × (e ≢ errors.Exists)) }

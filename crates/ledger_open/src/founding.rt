@@ -5,13 +5,13 @@ ghost use Rattle.block_file.specs.Head.{IsShut, IsOpen};
 ghost use Rattle.block_file.specs.Place.{place_of};
 ghost use Rattle.journal_record.specs.Blocks.{block_bytes, leaves_of};
 ghost use Rattle.ledger_disk.specs.Disk.{MayLeave, KeepsLength};
-ghost use Rattle.ledger_model.specs.Genesis.{HasKeys, founded, genesis_journal, genesis_header, founders_content};
+ghost use Rattle.ledger_model.specs.Genesis.{HasKeys, new_ledger, genesis_journal, genesis_header, founders_content};
 ghost use Rattle.ledger_model.specs.Limits.{AreWithin};
 ghost use Rattle.twin_file.specs.Images.{AreShut};
 ghost use Rattle.twin_file.specs.Places.{HasTail};
 ghost use Rattle.twin_file.specs.Which.{in_a_of, file_of, generation_in};
 ghost use Rattle.ledger_open.specs.Founding.{IsOneOpen, IsFounded, IsFoundedOrShut};
-ghost use Rattle.ledger_open.specs.Opening.{known, Knows, IsOutside, CountsRead, CountsOpen};
+ghost use Rattle.ledger_open.specs.Opening.{known_from, Knows, IsOutside, CountsRead, CountsOpen};
 ghost use Rattle.ledger_open.specs.Standing.{ground};
 ghost use Rattle.ledger_open.specs.declared.failure.OpenErr.TheVariants as errors;
 
@@ -26,7 +26,7 @@ use merkle_tree::leaf_of;
 use std::alloc::Global;
 use twin_file::Twin;
 
-// Whether a file is open, whatever its head says else.
+// Whether a file is open, whatever its head says else: over a damaged ledger none is made.
 fn is_open<D: Disk>(disk: &mut D) -> Result<bool, OpenErr>
     ensures open { IfOk result (λ open_now. IsTrue D.tells → open_now ≡ true
         → IsOpen (D.state disk.old).seen) }
@@ -80,11 +80,12 @@ fn first_block(
     Ok(block)
 }
 
-// Makes all that takes memory.
+// Makes all that takes memory, so that want of it leaves both disks alone.
 fn prepare(alloc: Global, genesis: &Genesis, limits: Limits) -> Result<Made, NoMemory>
     requires { AreWithin limits }
-    ensures known { IfOk result (λ made. Knows (known made.book made.places.list 351)
-        (founded genesis.now).closed) }
+    ensures known { IfOk result (λ made. Knows (known_from made.book made.places.list 351)
+        (new_ledger genesis.now).closed) }
+    ensures limits { IfOk result (λ made. made.book.limits ≡ limits) }
     ensures block { IfOk result (λ made. made.block.items ≡ block_bytes
         ((ground).root (leaves_of (genesis_journal genesis.now ∷ [])))
         (genesis_journal genesis.now ∷ [])) }
@@ -121,8 +122,10 @@ pub fn init<D: Disk>(
 ) -> Result<Opened, OpenErr>
     requires { AreWithin limits }
     ensures ok { IfOk result (λ opened. Knows
-        (known opened.book opened.places.list (place_of (file_of opened.twin)))
-        (founded genesis.now).closed × (in_a_of opened.twin ≡ true)) }
+        (known_from opened.book opened.places.list (place_of (file_of opened.twin)))
+        (new_ledger genesis.now).closed × (in_a_of opened.twin ≡ true)) }
+    ensures limits { IfOk result (λ opened. opened.book.limits ≡ limits) }
+    ensures keys { OnOk result (HasKeys genesis.now) }
     ensures founded { OnOk result (IsTrue D.tells
         → IsFounded genesis.now (D.state a.new) (D.state b.new)) }
     ensures shut { OnOk result (IsTrue D.tells

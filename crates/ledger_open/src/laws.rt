@@ -1,6 +1,6 @@
 ghost use Rattle.std.specs.Prelude.{◌≡◌, ◌⊎◌, Bool, List, ℕ, length};
 ghost use Rattle.block_file.specs.declared.failure.Damage.{Damage};
-ghost use Rattle.ledger_model.specs.Genesis.{HasKeys, founded};
+ghost use Rattle.ledger_model.specs.Genesis.{HasKeys, new_ledger};
 ghost use Rattle.ledger_model.specs.History.{History, journals};
 ghost use Rattle.ledger_model.specs.declared.genesis.Genesis.{Genesis};
 ghost use Rattle.ledger_open.specs.Damages.{IsDamage};
@@ -13,7 +13,7 @@ ghost use Rattle.ledger_open.specs.declared.failure.OpenErr.{OpenErr};
 ghost use Rattle.ledger_open.specs.declared.failure.OpenErr.TheVariants as errors;
 ghost use Rattle.block_file.specs.Head.{IsShut};
 ghost use Rattle.ledger_book.specs.Books.{Serves};
-ghost use Rattle.ledger_disk.specs.Disk.{State, settled};
+ghost use Rattle.ledger_disk.specs.Disk.{State, settled_state};
 ghost use Rattle.journal_record.specs.Entry.{Entry};
 ghost use Rattle.twin_file.specs.Twin.{open_of};
 
@@ -69,13 +69,13 @@ pub fn an_opened_pair_is_clean()
     ensures left { (k : Known) (in_a : Bool) (blocks : List (List Entry))
         (a b a_new b_new : State) (h : History) → Knows k blocks
         → IsReopened in_a k.place blocks a b a_new b_new → IsClean (open_of in_a a b).seen h
-        → open_of in_a a_new b_new ≡ settled (open_of in_a a b).seen }
+        → open_of in_a a_new b_new ≡ settled_state (open_of in_a a b).seen }
 {}
 
 /// The pair that making a ledger leaves is clean for the history of its genesis.
 pub fn a_new_pair_is_clean()
     ensures { (genesis : Genesis) (a b : State) → HasKeys genesis → IsFounded genesis a b
-        → IsCleanPair a.seen b.seen (founded genesis) }
+        → IsCleanPair a.seen b.seen (new_ledger genesis) }
 {}
 
 /// Where a pair was opened, it has no damage, and is neither empty nor of another version.

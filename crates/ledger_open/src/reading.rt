@@ -6,7 +6,7 @@ ghost use Rattle.block_file.specs.Place.{place_of, base_len_of, base_digest_of};
 ghost use Rattle.journal_record.specs.Entry.{Entry};
 ghost use Rattle.ledger_disk.specs.Disk.{KeepsLength};
 ghost use Rattle.ledger_model.specs.Limits.{AreWithin};
-ghost use Rattle.ledger_open.specs.Opening.{HasRead, HasKnown, IsHeadOf, IsPlain, IsReadErr, CountsRead, known};
+ghost use Rattle.ledger_open.specs.Opening.{HasRead, HasKnown, IsHeadOf, IsPlain, IsReadErr, CountsRead, known_from};
 ghost use Rattle.ledger_open.specs.declared.failure.OpenErr.TheVariants as errors;
 
 use crate::first::read_first;
@@ -35,9 +35,10 @@ fn read_more<D: Disk>(
 ) -> Result<bool, OpenErr>
     requires told { IsSomeAnd (D.told_length disk.old) (λ n. place_of file.old + 1 ≤ n) }
     requires known { HasRead D.tells (D.state disk.old).seen
-        (known book.old places.old.list (place_of file.old)) }
+        (known_from book.old places.old.list (place_of file.old)) }
     ensures ok { OnOk result (HasRead D.tells (D.state disk.old).seen
-        (known book.new places.new.list (place_of file.new))) }
+        (known_from book.new places.new.list (place_of file.new))) }
+    ensures limits { OnOk result (book.new.limits ≡ book.old.limits) }
     ensures nearer { IfOk result (λ more. place_of file.old + (if more then 1 else 0)
         ≤ place_of file.new) }
     ensures shut { IfOk result (λ more. more ≡ false → IsTrue D.tells
@@ -76,9 +77,10 @@ fn read_rest<D: Disk>(
     requires told { IsSomeAnd (D.told_length disk.old) (λ n. place_of file.old + 1 ≤ n) }
     requires plain { IsTrue D.tells → IsPlain (D.state disk.old).seen }
     requires known { HasRead D.tells (D.state disk.old).seen
-        (known read.book read.places.list (place_of file.old)) }
+        (known_from read.book read.places.list (place_of file.old)) }
     ensures ok { IfOk result (λ read. HasKnown D.tells (D.state disk.old).seen
-        (known read.book read.places.list (place_of file.new))) }
+        (known_from read.book read.places.list (place_of file.new))) }
+    ensures limits { IfOk result (λ found. found.book.limits ≡ read.book.limits) }
     ensures err { IfErr result (λ e. IsTrue D.tells → IsReadErr (D.state disk.old).seen e) }
     ensures only { IfErr result (λ e. (e ≢ errors.Empty) × (e ≢ errors.Exists)) }
     ensures told { OnOk result (IsSomeAnd (D.told_length disk.new)
@@ -101,7 +103,7 @@ fn read_rest<D: Disk>(
     Ok(Read { book, places })
 }
 
-// Looks at the base: there is none so far.
+// Looks at the base: there is none so far, so each that has its digest breaks at its first byte.
 fn check_base<D: Disk>(alloc: Global, file: &BlockFile, disk: &mut D) -> Result<(), OpenErr>
     requires told { IsSomeAnd (D.told_length disk.old) (λ n. 64 + base_len_of file.now ≤ n) }
     requires head { IsTrue D.tells → IsHeadOf (D.state disk.old).seen file.now }
@@ -135,7 +137,8 @@ pub(crate) fn read_file<D: Disk>(
     requires head { IsTrue D.tells → IsHeadOf (D.state disk.old).seen file.old }
     requires limits { AreWithin limits }
     ensures ok { IfOk result (λ read. HasKnown D.tells (D.state disk.old).seen
-        (known read.book read.places.list (place_of file.new))) }
+        (known_from read.book read.places.list (place_of file.new))) }
+    ensures limits { IfOk result (λ read. read.book.limits ≡ limits) }
     ensures err { IfErr result (λ e. IsTrue D.tells → IsReadErr (D.state disk.old).seen e) }
     ensures only { IfErr result (λ e. (e ≢ errors.Empty) × (e ≢ errors.Exists)) }
     ensures told { OnOk result (IsSomeAnd (D.told_length disk.new)

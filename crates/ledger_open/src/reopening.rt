@@ -4,13 +4,13 @@ ghost use Rattle.std.specs.Prelude.{◌≡◌, ◌≢◌, ◌+◌, ◌≤◌, []
 ghost use Rattle.block_file.specs.File.{IsSettled};
 ghost use Rattle.block_file.specs.Place.{place_of, base_len_of};
 ghost use Rattle.journal_record.specs.Entry.{Entry};
-ghost use Rattle.ledger_disk.specs.Disk.{MayLeave, settled, CountsFault};
+ghost use Rattle.ledger_disk.specs.Disk.{MayLeave, settled_state, CountsFault};
 ghost use Rattle.ledger_model.specs.History.{History};
 ghost use Rattle.ledger_model.specs.Limits.{AreWithin};
 ghost use Rattle.twin_file.specs.Places.{HasTail};
 ghost use Rattle.twin_file.specs.Twin.{open_of};
 ghost use Rattle.twin_file.specs.Which.{in_a_of, file_of};
-ghost use Rattle.ledger_open.specs.Opening.{known, Knows, IsHeadOf, IsOpenedAs, IsOutside, IsReadErr, IsOpenErr, IsReopened, KeepsBlocks, CountsOpen};
+ghost use Rattle.ledger_open.specs.Opening.{known_from, Knows, IsHeadOf, IsOpenedAs, IsOutside, IsReadErr, IsOpenErr, IsReopened, KeepsBlocks, CountsOpen};
 ghost use Rattle.ledger_open.specs.Standing.{PairFor};
 ghost use Rattle.ledger_open.specs.declared.failure.OpenErr.TheVariants as errors;
 
@@ -21,10 +21,10 @@ use ledger_model::Limits;
 use std::alloc::Global;
 use twin_file::Twin;
 
-// Cuts a file that isn't empty to nothing, for good.
+// Cuts a file that isn't empty to nothing, for good. An empty one isn't touched, so a clean pair opens without a write.
 fn clear<D: Disk>(disk: &mut D) -> Result<(), OpenErr>
     ensures ok { OnOk result (IsTrue D.tells → IsSettled (D.state disk.old)
-        → D.state disk.new ≡ settled []) }
+        → D.state disk.new ≡ settled_state []) }
     ensures idle { IsTrue D.tells → (D.state disk.old).seen ≡ []
         → D.state disk.new ≡ D.state disk.old }
     ensures err { IfErr result (λ e. e ≡ errors.DiskFault) }
@@ -37,42 +37,43 @@ fn clear<D: Disk>(disk: &mut D) -> Result<(), OpenErr>
     Ok(())
 }
 
-// Reads the open file, cuts what stands behind its tail gate, and empties the other file.
+// Reads the file that was taken, cuts what stands behind its tail gate, and empties the other one.
 fn open_file<D: Disk>(
     alloc: Global,
     twin: Twin,
-    open: &mut D,
+    taken: &mut D,
     other: &mut D,
     limits: Limits,
 ) -> Result<Opened, OpenErr>
-    requires told { HasTail (D.told_length open.old) (file_of twin) }
+    requires told { HasTail (D.told_length taken.old) (file_of twin) }
     requires place { place_of (file_of twin) ≡ 64 + base_len_of (file_of twin) }
-    requires head { IsTrue D.tells → IsHeadOf (D.state open.old).seen (file_of twin) }
+    requires head { IsTrue D.tells → IsHeadOf (D.state taken.old).seen (file_of twin) }
     requires limits { AreWithin limits }
     ensures ok { IfOk result (λ opened. (in_a_of opened.twin ≡ in_a_of twin) × IsOpenedAs D.tells
-        (known opened.book opened.places.list (place_of (file_of opened.twin)))
-        (D.state open.old) (D.state other.old) (D.state open.new) (D.state other.new)) }
-    ensures told { IfOk result (λ opened. HasTail (D.told_length open.new)
+        (known_from opened.book opened.places.list (place_of (file_of opened.twin)))
+        (D.state taken.old) (D.state other.old) (D.state taken.new) (D.state other.new)) }
+    ensures limits { IfOk result (λ opened. opened.book.limits ≡ limits) }
+    ensures told { IfOk result (λ opened. HasTail (D.told_length taken.new)
         (file_of opened.twin)) }
-    ensures err { IfErr result (λ e. IsTrue D.tells → IsReadErr (D.state open.old).seen e) }
+    ensures err { IfErr result (λ e. IsTrue D.tells → IsReadErr (D.state taken.old).seen e) }
     ensures only { IfErr result (λ e. (e ≢ errors.Empty) × (e ≢ errors.Exists)) }
     ensures same { IfErr result (λ e. (IsOutside e → ⊥) → IsTrue D.tells
-        → (D.state open.new ≡ D.state open.old) × (D.state other.new ≡ D.state other.old)) }
+        → (D.state taken.new ≡ D.state taken.old) × (D.state other.new ≡ D.state other.old)) }
 
     // At every exit each image of the open file has its blocks, and an empty other file is left alone.
-    ensures images { IsTrue D.tells → IsSettled (D.state open.old)
-        → KeepsBlocks (D.state open.old) (D.state open.new) }
+    ensures images { IsTrue D.tells → IsSettled (D.state taken.old)
+        → KeepsBlocks (D.state taken.old) (D.state taken.new) }
     ensures idle { IsTrue D.tells → (D.state other.old).seen ≡ []
         → D.state other.new ≡ D.state other.old }
-    ensures faults { CountsOpen result (D.faults open.old) (D.faults open.new)
+    ensures faults { CountsOpen result (D.faults taken.old) (D.faults taken.new)
         (D.faults other.old) (D.faults other.new) }
 {
     let mut twin = twin;
-    let read = match read_file(alloc, twin.file(), open, limits) {
+    let read = match read_file(alloc, twin.file(), taken, limits) {
         Ok(read) => read,
         Err(e) => return Err(e),
     };
-    if let Err(e) = twin.file().trim(open) {
+    if let Err(e) = twin.file().trim(taken) {
         return Err(OpenErr::from(e));
     }
     match clear(other) {
@@ -95,9 +96,10 @@ pub fn reopen<D: Disk>(
 ) -> Result<Opened, OpenErr>
     requires { AreWithin limits }
     ensures ok { IfOk result (λ opened. (blocks : List (List Entry))
-        × Knows (known opened.book opened.places.list (place_of (file_of opened.twin))) blocks
+        × Knows (known_from opened.book opened.places.list (place_of (file_of opened.twin))) blocks
         × (IsTrue D.tells → IsReopened (in_a_of opened.twin) (place_of (file_of opened.twin)) blocks
         (D.state a.old) (D.state b.old) (D.state a.new) (D.state b.new))) }
+    ensures limits { IfOk result (λ opened. opened.book.limits ≡ limits) }
     ensures told { IfOk result (λ opened. HasTail
         (open_of (in_a_of opened.twin) (D.told_length a.new) (D.told_length b.new))
         (file_of opened.twin)) }

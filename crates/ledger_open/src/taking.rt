@@ -25,8 +25,8 @@ fn gathers(kind: Kind) -> bool
     }
 }
 
-/// How many of a block's first journals can stand in one block.
-pub(crate) fn sharing(records: &[RecordAt]) -> usize
+/// How many of a block's first journals can stand in one block. One alone always can, whatever its kind.
+pub(crate) fn share_len(records: &[RecordAt]) -> usize
     requires { 1 ≤ length records.now }
     ensures some { 1 ≤ result }
     ensures most { result ≤ length records.now }
@@ -47,6 +47,7 @@ fn replay_records(book: &mut Book, records: &[RecordAt]) -> Result<(), OpenErr>
     requires { All (λ r. IsHeader r.header) records.now }
     ensures ok { OnOk result ((blocks : List (List Entry)) (es : List Entry) → Headed es records.now
         → Serves book.old (history blocks []) → Goes book.new blocks es) }
+    ensures limits { OnOk result (book.new.limits ≡ book.old.limits) }
     ensures err { IfErr result (λ e. (e ≡ errors.NoMemory) ⊎ ((jsn : ℕ)
         × (e ≡ errors.Damaged (damages.Entry jsn))
         × ((blocks : List (List Entry)) (es : List Entry) → Headed es records.now
@@ -71,6 +72,7 @@ pub(crate) fn take_block(book: &mut Book, block: &BlockAt, first: u64) -> Result
     ensures ok { OnOk result ((blocks : List (List Entry)) (es : List Entry)
         → Headed es block.now.records
         → Serves book.old (history blocks []) → TakesBlock book.new blocks es block.now.root.0) }
+    ensures limits { OnOk result (book.new.limits ≡ book.old.limits) }
     ensures err { IfErr result (λ e. (e ≡ errors.NoMemory) ⊎ ((damage : Damage)
         × (e ≡ errors.Damaged damage)
         × ((blocks : List (List Entry)) (es : List Entry) → Headed es block.now.records
@@ -79,7 +81,7 @@ pub(crate) fn take_block(book: &mut Book, block: &BlockAt, first: u64) -> Result
 {
     let number = book.blocks();
     let records = block.records.as_slice();
-    let share = sharing(records);
+    let share = share_len(records);
     if let Err(e) = replay_records(book, &records[..share]) {
         return Err(e);
     }

@@ -2,14 +2,15 @@ use Rattle.std.proofs.Common.{◌≡◌, ◌≢◌, ◌+◌, ◌-◌, ◌^◌, �
 use Rattle.std.specs.Prelude.{IsTrue, IsSomeAnd}
 use Rattle.block_file.specs.Place.{place_of}
 use Rattle.ledger_disk.specs.Disk.{KeepsLength}
-use Rattle.ledger_open.specs.Opening.{HasRead, known}
+use Rattle.ledger_open.specs.Opening.{HasRead, known_from}
 use Rattle.ledger_open.proofs.reading.read_rest.Given as goal
 
 abbrev pub invariant-loop-more : goal.invariant-loop-more
 invariant-loop-more g l =
     let state = g.D.Disk.state in
     record {
-      read : HasRead g.D.Disk.tells (state l.fn.disk).seen (known l.book l.places.list (place_of l.file));
+      read : HasRead g.D.Disk.tells (state l.fn.disk).seen (known_from l.book l.places.list (place_of l.file));
+      limits : l.book.limits ≡ l.fn.read.book.limits;
       shut : l.more ≡ false → IsTrue g.D.Disk.tells → get_or (state l.fn.disk).seen (place_of l.file) 0 ≢ 1;
       told : IsSomeAnd (g.D.Disk.told_length l.disk) (λ n. place_of l.file + 1 ≤ n);
       keeps : KeepsLength (g.D.Disk.told_length l.fn.disk) (g.D.Disk.told_length l.disk);

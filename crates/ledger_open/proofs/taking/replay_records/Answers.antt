@@ -1,4 +1,4 @@
-use Rattle.std.proofs.Common.{refl, ap, arith, inr, get_or}
+use Rattle.std.proofs.Common.{refl, ap, ◌∙◌, arith, inr, get_or}
 use Rattle.ledger_open.proofs.TakeLaws.{went_more, went_other, went_all, at_any, replayed, refused}
 use Rattle.ledger_open.specs.declared.failure.OpenErr.TheVariants as errors
 use Rattle.ledger_open.proofs.taking.replay_records.Goals as goal
@@ -6,12 +6,15 @@ use Rattle.ledger_open.proofs.taking.replay_records.Goals as goal
 pub returns-in-Ok-Err-clause-err : goal.returns-in-Ok-Err-clause-err
 returns-in-Ok-Err-clause-err c =
     let r = refused _ _ _ c.in-Ok-Err.field-0 c.in-Ok-Err.damage c.in-Ok-Err.field-0-is c.in-Ok-Err.ensures.ok in
-    inr (_, ap errors.Damaged r.0, went_other _ _ _ _ _ (get_or c.args.records.now c.loop-record.record-index _) c.loop-record-test.true (at_any _ _ _ _ c.loop-record-test.true) c.loop-record.invariant r.1 refl)
+    inr (_, ap errors.Damaged r.0, went_other _ _ _ _ _ (get_or c.args.records.now c.loop-record.record-index _) c.loop-record-test.true (at_any _ _ _ _ c.loop-record-test.true) c.loop-record.invariant.went r.1 refl)
 
 pub loop-record-preserved : goal.loop-record-preserved
-loop-record-preserved c =
-    went_more _ _ _ _ _ (get_or c.args.records.now c.loop-record.record-index _) c.loop-record-test.true (at_any _ _ _ _ c.loop-record-test.true) c.loop-record.invariant
-    (replayed _ _ _ c.in-Ok-Ok.field-0 c.in-Ok-Ok.field-0-0 c.in-Ok-Ok.field-0-is c.in-Ok-Ok.ensures.ok)
+loop-record-preserved c = record {
+  went =
+      went_more _ _ _ _ _ (get_or c.args.records.now c.loop-record.record-index _) c.loop-record-test.true (at_any _ _ _ _ c.loop-record-test.true) c.loop-record.invariant.went
+      (replayed _ _ _ c.in-Ok-Ok.field-0 c.in-Ok-Ok.field-0-0 c.in-Ok-Ok.field-0-is c.in-Ok-Ok.ensures.ok);
+  limits = c.in-Ok-Ok.ensures.same.limits ∙ c.loop-record.invariant.limits;
+}
 
 pub returns-clause-ok : goal.returns-clause-ok
-returns-clause-ok c = went_all _ _ _ _ (omega (arith, c.loop-record-test.false, c.loop-record.auto.record-index-end)) c.loop-record.invariant
+returns-clause-ok c = went_all _ _ _ _ (omega (arith, c.loop-record-test.false, c.loop-record.auto.record-index-end)) c.loop-record.invariant.went

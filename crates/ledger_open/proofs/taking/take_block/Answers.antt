@@ -10,8 +10,8 @@ returns-in-Err-clause-err c = elim c.in-Err.ensures.err [
     damages.Entry why.0,
     why.1,
     λ blocks es h number s.
-        other_first c.as_slice-records.result.now c.sharing-share.result why.0 blocks es c.sharing-share.ensures.most (headed_by es _ _ c.as_slice-records.ensures h) (c.sharing-share.ensures.share es (headed_by es _ _ c.as_slice-records.ensures h))
-        (why.2 blocks _ (headed_take c.sharing-share.result es _ (headed_by es _ _ c.as_slice-records.ensures h)) s),
+        other_first c.as_slice-records.result.now c.share_len-share.result why.0 blocks es c.share_len-share.ensures.most (headed_by es _ _ c.as_slice-records.ensures h) (c.share_len-share.ensures.share es (headed_by es _ _ c.as_slice-records.ensures h))
+        (why.2 blocks _ (headed_take c.share_len-share.result es _ (headed_by es _ _ c.as_slice-records.ensures h)) s),
   )
 ]
 
@@ -21,7 +21,7 @@ returns-then-share-records-clause-err c =
       damages.Entry _,
       refl,
       λ blocks es h number s.
-          not_alone c.args.book.now c.replay_records.new.book c.as_slice-records.result.now c.sharing-share.result c.sharing-share.ensures.some c.sharing-share.ensures.share c.in_default.ensures.ok c.args.first c.if-share-records.true (c.sharing-share.ensures.apart c.if-share-records.true)
+          not_alone c.args.book.now c.replay_records.new.book c.as_slice-records.result.now c.share_len-share.result c.share_len-share.ensures.some c.share_len-share.ensures.share c.in_default.ensures.ok c.args.first c.if-share-records.true (c.share_len-share.ensures.apart c.if-share-records.true)
           blocks es (headed_by es _ _ c.as_slice-records.ensures h) number s,
     )
 
@@ -31,13 +31,13 @@ returns-then-ne-clause-err c =
       damages.Root _ _ _,
       refl,
       λ blocks es h number s.
-          other_root c.args.book.now c.replay_records.new.book c.as_slice-records.result.now c.sharing-share.result c.sharing-share.ensures.some c.sharing-share.ensures.share c.in_default.ensures.ok
-          c.seal.new.self c.head.result c.blocks-number.result c.args.block.now.root (omega (arith, c.if-share-records.false, c.sharing-share.ensures.most)) c.seal.ensures.stands c.seal.ensures.same c.head.ensures
+          other_root c.args.book.now c.replay_records.new.book c.as_slice-records.result.now c.share_len-share.result c.share_len-share.ensures.some c.share_len-share.ensures.share c.in_default.ensures.ok
+          c.seal.new.self c.head.result c.blocks-number.result c.args.block.now.root (omega (arith, c.if-share-records.false, c.share_len-share.ensures.most)) c.seal.ensures.stands c.seal.ensures.same c.head.ensures
           (other_bytes _ _ (sym c.ne.ensures ∙ c.if-ne.true)) c.blocks-number.ensures blocks es (headed_by es _ _ c.as_slice-records.ensures h) s,
     )
 
 pub returns-clause-ok : goal.returns-clause-ok
 returns-clause-ok c blocks es h s =
-    takes_block c.args.book.now c.replay_records.new.book c.as_slice-records.result.now c.sharing-share.result c.sharing-share.ensures.some c.sharing-share.ensures.share c.in_default.ensures.ok
-    c.seal.new.self c.head.result c.args.block.now.root.0 (omega (arith, c.if-share-records.false, c.sharing-share.ensures.most)) c.seal.ensures.stands c.seal.ensures.same c.head.ensures
+    takes_block c.args.book.now c.replay_records.new.book c.as_slice-records.result.now c.share_len-share.result c.share_len-share.ensures.some c.share_len-share.ensures.share c.in_default.ensures.ok
+    c.seal.new.self c.head.result c.args.block.now.root.0 (omega (arith, c.if-share-records.false, c.share_len-share.ensures.most)) c.seal.ensures.stands c.seal.ensures.same c.head.ensures
     (same_bytes _ _ (sym c.ne.ensures ∙ c.if-ne.false)) blocks es (headed_by es _ _ c.as_slice-records.ensures h) s

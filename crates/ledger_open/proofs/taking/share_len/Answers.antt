@@ -2,7 +2,7 @@ use Rattle.std.proofs.Common.{sym, ◌∙◌, subst, arith, get_or, ℕ, ◌≡�
 use Rattle.ledger_open.specs.Damages.{CanShare}
 use Rattle.std.specs.Prelude.{take, length}
 use Rattle.ledger_open.proofs.TakeLaws.{all_share, max_share, apart, at_any, all_gather}
-use Rattle.ledger_open.proofs.taking.sharing.Goals as goal
+use Rattle.ledger_open.proofs.taking.share_len.Goals as goal
 
 pub returns-then-not-gathers-clause-share : goal.returns-then-not-gathers-clause-share
 returns-then-not-gathers-clause-share c es h =

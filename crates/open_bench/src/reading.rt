@@ -1,0 +1,67 @@
+//! A file of blocks, read once for the headers alone.
+
+use anyhow::{Context, Result};
+use ledger_bytes::{Digest, Sha};
+use ledger_disk::Disk;
+use merkle_tree::leaf_of;
+use std::alloc::Global;
+
+// The offset of the first gate of a file without a base.
+const FIRST_GATE: u64 = 64;
+
+/// What was seen of a file.
+#[derive(Clone, Copy)]
+pub(crate) struct Seen {
+    pub(crate) headers: u64,
+    /// The leaves of all headers, combined by exclusive or.
+    pub(crate) digest: Digest,
+}
+
+/// Reads a file block by block, in three pieces each: the gate, the head and the body. Each header is hashed once.
+pub(crate) fn read_all<D: Disk>(alloc: Global, disk: &mut D) -> Result<Seen> {
+    let mut seen = Seen {
+        headers: 0,
+        digest: Digest([0; 32]),
+    };
+    let mut body = Vec::new(alloc);
+    let mut at = FIRST_GATE;
+    for _ in 0..u64::MAX {
+        let mut gate = [0; 1];
+        disk.read(at, &mut gate)?;
+        if gate[0] != 1 {
+            break;
+        }
+        let mut head = [0; 44];
+        disk.read(at.saturating_add(1), &mut head)?;
+        let count = number_at(&head, 0).context("no count")?;
+        let len = number_at(&head, 8).context("no length")?;
+        body.resize(len as usize, 0)?;
+        disk.read(at.saturating_add(45), body.as_mut_slice())?;
+        hash_records(&body, count, &mut seen).context("a record isn't whole")?;
+        at = at.saturating_add(45).saturating_add(u64::from(len));
+    }
+    Ok(seen)
+}
+
+// Hashes the header of each record in a body.
+fn hash_records(body: &[u8], count: u32, seen: &mut Seen) -> Option<()> {
+    let mut rest = body;
+    for _ in 0..count {
+        let content_len = number_at(rest, 106)?;
+        let who_len = number_at(rest, 174)?;
+        let leaf = leaf_of::<Sha>(rest.get(..174)?);
+        for index in 0..32 {
+            seen.digest.0[index] ^= leaf.0[index];
+        }
+        seen.headers = seen.headers.saturating_add(1);
+        let len = u64::from(content_len) + u64::from(who_len) + 178;
+        rest = rest.get(len as usize..)?;
+    }
+    Some(())
+}
+
+// The number of the four bytes at a place. A body's length has eight, of which the first four are zeros here.
+fn number_at(bytes: &[u8], at: usize) -> Option<u32> {
+    let (front, _) = bytes.get(at..)?.split_first_chunk::<4>()?;
+    Some(u32::from_be_bytes(*front))
+}
