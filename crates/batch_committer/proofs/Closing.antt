@@ -1,0 +1,276 @@
+-- What a block's end does to a history, to what is kept of it, and to what the disks may leave.
+use Rattle.std.specs.Prelude.{Bool, true, false, IsTrue, sum_by}
+use Rattle.std.specs.List.{list_any, list_all}
+use Rattle.std.proofs.Common.{◌≡◌, ◌⊎◌, inl, inr, ℕ, ◌+◌, ◌<◌, ◌≤◌, ◌==◌, ◌&&◌, ◌||◌, List, [], ◌∷◌, ◌++◌, length, map, take, refl, ap, sym, subst, ◌∙◌, arith, append_assoc, append-nil, length-append}
+use Rattle.std.proofs.lemmas.Bool.{true≢false, and_parts}
+use Rattle.std.proofs.lemmas.List.{map-append, length-map, take_all, nil_from_length}
+use Rattle.std.proofs.lemmas.List.Sums.{sum_by-cons}
+use Rattle.sha2.specs.Sha256.{sha256}
+use Rattle.tree_model.specs.Tree.{mth}
+use Rattle.ledger_bytes.specs.declared.limits.TheConstants.{BLOCK_LIMIT}
+use Rattle.journal_record.specs.Blocks as record_
+use Rattle.journal_record.specs.Blocks.{record_bytes, body_of, block_bytes, leaves_of, written_blocks, AreFrom}
+use Rattle.journal_record.specs.Entry.{Entry}
+use Rattle.journal_record.specs.Header.{spelling}
+use Rattle.journal_record.specs.declared.header.Header.{Header}
+use Rattle.journal_record.specs.declared.header.Kind.{Kind}
+use Rattle.journal_record.specs.declared.header.Kind.TheVariants.{Genesis, Content, Member, Time, Occult, Purge}
+use Rattle.block_file.specs.Blocks.{record_at}
+use Rattle.block_file.specs.File.{Stands, tail_of, IsSettled, HasBlock}
+use Rattle.block_file.specs.declared.block.RecordAt.{RecordAt}
+use Rattle.ledger_disk.proofs.Guarding.{settled_image}
+use Rattle.ledger_disk.specs.Disk.{State, MayLeave, settled_state}
+use Rattle.ledger_model.specs.History.{History, history, journals, journals_of, size, leaves, root, point, greatest_point, purge_point, is_purge, close, close_by}
+use Rattle.ledger_model.specs.Lawful as lawful
+use Rattle.ledger_model.specs.Lawful.{AreNext, AllGather, gathers, AreLawful}
+use Rattle.ledger_model.specs.Outcomes.{hides, is_occult}
+use Rattle.ledger_model.proofs.GrowLaws.{close_none, size_closed}
+use Rattle.ledger_model.proofs.KeepLaws.{journals_close}
+use Rattle.ledger_model.proofs.PlaceLaws.{point_same}
+use Rattle.ledger_book.specs.Books.{sealed_size}
+use Rattle.twin_file.specs.Twin.{open_of, other_of}
+use Rattle.ledger_open.specs.Growing.{with_block, IsNextBlock}
+use Rattle.ledger_open.specs.Places.{record_len, records_at, places_at, after_at}
+use Rattle.ledger_open.specs.Standing.{ground, HasBlocks, StandsFor, IsErased, PairFor}
+use Rattle.ledger_open.proofs.AgainLaws.{blocks_unique}
+use Rattle.ledger_open.proofs.GrowLaws.{erased_stands, grows, grows_erased}
+use Rattle.ledger_open.proofs.HidingLaws.{journals_push}
+use Rattle.ledger_open.proofs.NextLaws.{next_behind}
+use Rattle.ledger_open.proofs.OpenLaws.{tail_is}
+use Rattle.ledger_open.proofs.SizeLaws.{mth_size, block_size, body_size, record_size, readable}
+use Rattle.ledger_open.proofs.WholeLaws.{own_blocks}
+use Rattle.batch_committer.specs.Committed.{open_bytes, other_bytes, IsCommitted, IsUncommitted}
+use Rattle.batch_committer.specs.World.{Kept, World, Pair, Located, Keeps, IsCleanFor, Holds, sealed_part}
+
+-- ---- the history
+
+pub close_some : (blocks : List (List Entry)) (waiting : List Entry) → 1 ≤ length waiting → close_by blocks waiting ≡ history (blocks ++ waiting ∷ []) []
+close_some blocks [] some = absurd (omega (arith, some))
+close_some blocks (journal ∷ rest) some = refl
+
+-- the history with its open block ended
+pub close_is : (h : History) → 1 ≤ length h.waiting → close h ≡ history (h.closed ++ h.waiting ∷ []) []
+unfolding close
+close_is h some = close_some h.closed h.waiting some
+
+pub closed_is : (h : History) → 1 ≤ length h.waiting → (close h).closed ≡ h.closed ++ h.waiting ∷ []
+closed_is h some = ap (λ (k : History). k.closed) (close_is h some)
+
+-- its blocks alone are all of it
+pub sealed_close : (h : History) → 1 ≤ length h.waiting → with_block h.waiting (sealed_part h) ≡ sealed_part (close h)
+sealed_close h some = ap (λ (bs : List (List Entry)). history bs []) (sym (closed_is h some))
+
+pub sealed_same : (h : History) → h.waiting ≡ [] → sealed_part h ≡ h
+sealed_same h none = ap (λ (l : List Entry). history h.closed l) (sym none)
+
+pub journals_sealed : (h : History) → journals (sealed_part h) ≡ journals_of h.closed
+journals_sealed h = append-nil (journals_of h.closed)
+
+pub size_sealed : (h : History) → size (sealed_part h) ≡ sealed_size h
+size_sealed h = ap length (journals_sealed h)
+
+-- the leaves of a history are those of its blocks and of its open block
+pub leaves_parts : (h : History) → leaves h ≡ leaves_of (journals_of h.closed) ++ leaves_of h.waiting
+leaves_parts h = map-append (λ (e : Entry). spelling e.header) (journals_of h.closed) h.waiting
+
+pub sealed_all : (h : History) → h.waiting ≡ [] → sealed_size h ≡ size h
+sealed_all h none = sym (size_closed h none)
+
+-- the root at the end of the open block
+pub root_closed : (h : History) → root (close h) (sealed_size (close h)) ≡ mth sha256 (leaves h)
+unfolding root
+root_closed h =
+    let g = close h in
+    ap (mth sha256)
+    (take_all (sealed_size g) (leaves g) (omega (arith, sealed_all g (close_none h), length-map (journals g) (λ (j : Entry). spelling j.header)))
+    ∙ ap (map (λ (j : Entry). spelling j.header)) (journals_close h))
+
+-- ---- what gathers neither hides nor purges
+
+kind_hides : (k : Kind) (a n : ℕ) → gathers k ≡ true → (is_occult k && a == n) ≡ false
+kind_hides Genesis a n g = refl
+kind_hides Content a n g = refl
+kind_hides Member a n g = refl
+kind_hides Time a n g = refl
+kind_hides Occult a n g = absurd (true≢false (sym g))
+kind_hides Purge a n g = refl
+
+pub gathered_hides : (n : ℕ) (es : List Entry) → AllGather es → list_any (hides n) es ≡ false
+gathered_hides n [] g = refl
+gathered_hides n (e ∷ es) g =
+    let both = and_parts (gathers e.header.kind) (list_all (λ (x : Entry). gathers x.header.kind) es) g in
+    ap (λ (v : Bool). v || list_any (hides n) es) (kind_hides e.header.kind e.header.a n both.0) ∙ gathered_hides n es both.1
+
+kind_purges : (k : Kind) → gathers k ≡ true → is_purge k ≡ false
+kind_purges Genesis g = refl
+kind_purges Content g = refl
+kind_purges Member g = refl
+kind_purges Time g = refl
+kind_purges Occult g = refl
+kind_purges Purge g = absurd (true≢false (sym g))
+
+point_none : (e : Entry) (v : Bool) → is_purge e.header.kind ≡ v → v ≡ false → purge_point e ≡ 0
+point_none e v is none = rw (is ∙ none)
+
+gathered_point : (before es : List Entry) → AllGather es → greatest_point (before ++ es) ≡ greatest_point before
+gathered_point before [] g = ap greatest_point (append-nil before)
+gathered_point before (e ∷ es) g =
+    let both = and_parts (gathers e.header.kind) (list_all (λ (x : Entry). gathers x.header.kind) es) g in
+    ap greatest_point (sym (append_assoc before (e ∷ []) es)) ∙ gathered_point (before ++ e ∷ []) es both.1
+    ∙ point_same before e (point_none e (is_purge e.header.kind) refl (kind_purges e.header.kind both.0))
+
+point_block : (h : History) → AllGather h.waiting → point (sealed_part h) ≡ 0 → point (with_block h.waiting (sealed_part h)) ≡ 0
+unfolding point
+point_block h g none =
+    ap greatest_point (journals_push h.closed h.waiting) ∙ gathered_point (journals_of h.closed) h.waiting g
+    ∙ ap greatest_point (sym (journals_sealed h)) ∙ none
+
+-- ---- the open block may be the next one
+
+module _ (k : Kept) (h : History) (p : Keeps k h) where
+  pub next_block_is : 1 ≤ length h.waiting → length h.waiting ≤ BLOCK_LIMIT → point (sealed_part h) ≡ 0 → IsNextBlock (sealed_part h) h.waiting
+  next_block_is some most floor = record {
+    entries = record { some = some; most = most; entries = subst (λ (n : ℕ). AreFrom n h.waiting) (sym (size_sealed h)) p.next };
+    shape = record { some = some; most = most; gathered = λ one. p.gathered };
+    next = subst (λ (l : List Entry). AreNext l h.waiting) (sym (journals_sealed h)) (next_behind [] (journals_of h.closed) h.waiting p.serves.stands.lawful.next);
+    floor = point_block h p.gathered floor;
+  }
+
+-- ---- the open file
+
+-- the file keeps the blocks of the history
+same_blocks : (image : List ℕ) (h : History) (x : IsErased image h) → x.keeps.blocks ≡ h.closed
+same_blocks image h x = (blocks_unique ground x.generation x.generation x.keeps.blocks h.closed image mth_size x.keeps.file (own_blocks _ image h x)).1
+
+pub tail_at : (image : List ℕ) (h : History) (x : IsErased image h) → tail_of x.keeps.file.front (written_blocks (ground).root [] x.keeps.blocks) ≡ after_at 64 h.closed
+tail_at image h x = tail_is x.generation x.keeps.blocks image x.keeps.file ∙ ap (after_at 64) (same_blocks image h x)
+
+-- another image with the same front and blocks
+pub stands_by : (image new : List ℕ) (h : History) (x : IsErased image h) → Stands x.keeps.file.front (written_blocks (ground).root [] x.keeps.blocks) new → IsErased new h
+stands_by image new h x stands = record {
+  generation = x.generation;
+  keeps = record {
+    blocks = x.keeps.blocks;
+    file = record { front = x.keeps.file.front; head = x.keeps.file.head; lawful = x.keeps.file.lawful; stands = stands };
+    same = x.keeps.same;
+  };
+  early = x.early;
+  none = x.none;
+  floor = x.floor;
+  lawful = x.lawful;
+}
+
+-- the bytes of a block, as the file has them behind its blocks
+abbrev pub next_bytes : History → List ℕ
+next_bytes h = block_bytes (mth sha256 (leaves h)) h.waiting
+
+bytes_behind : (image : List ℕ) (h : History) (x : IsErased image (sealed_part h)) → next_bytes h ≡ block_bytes ((ground).root (leaves_of (journals_of x.keeps.blocks) ++ leaves_of h.waiting)) h.waiting
+bytes_behind image h x =
+    ap (λ (l : List (List ℕ)). block_bytes (mth sha256 l) h.waiting)
+    (leaves_parts h ∙ ap (λ (bs : List (List Entry)). leaves_of (journals_of bs) ++ leaves_of h.waiting) (sym (same_blocks image (sealed_part h) x)))
+
+module _ (k : Kept) (h : History) (p : Keeps k h) (some : 1 ≤ length h.waiting) (most : length h.waiting ≤ BLOCK_LIMIT) (image new : List ℕ) (x : IsErased image (sealed_part h))
+    (stands : Stands x.keeps.file.front (written_blocks (ground).root [] x.keeps.blocks ++ next_bytes h ∷ []) new) where
+  n : IsNextBlock (sealed_part h) h.waiting
+  n = next_block_is k h p some most x.floor
+
+  -- the image stands for the history with the open block ended
+  more_stands : StandsFor new (with_block h.waiting (sealed_part h))
+  more_stands =
+      let n = next_block_is k h p some most x.floor in
+      grows image new (sealed_part h) h.waiting x n.entries n.shape n.next n.floor
+      (subst (λ (b : List ℕ). Stands x.keeps.file.front (written_blocks (ground).root [] x.keeps.blocks ++ b ∷ []) new) (bytes_behind image h x) stands)
+
+  pub block_stands : StandsFor new (sealed_part (close h))
+  block_stands = subst (StandsFor new) (sealed_close h some) more_stands
+
+  pub block_erased : IsErased new (sealed_part (close h))
+  block_erased =
+      let n = next_block_is k h p some most x.floor in
+      subst (IsErased new) (sealed_close h some)
+      (grows_erased image new (sealed_part h) h.waiting x n.entries n.shape n.next n.floor (λ m. gathered_hides m h.waiting p.gathered) more_stands)
+
+-- ---- images of a pair
+
+-- an empty file that nothing is pending on
+empty_image : (s : State) (image : List ℕ) → s ≡ settled_state [] → MayLeave s image → length image ≡ 0
+empty_image s image is left = ap length (settled_image [] image (subst (λ (t : State). MayLeave t image) is left))
+
+pair_of : (in_a : Bool) (a b : State) (i j : List ℕ) (h : History) → other_of in_a a b ≡ settled_state [] → MayLeave a i → MayLeave b j → StandsFor (open_of in_a i j) h → PairFor i j h
+pair_of true a b i j h empty left_a left_b x = inl (x, empty_image b j empty left_b)
+pair_of false a b i j h empty left_a left_b x = inr (x, empty_image a i empty left_a)
+
+open_left : (in_a : Bool) (a b : State) (i j : List ℕ) → MayLeave a i → MayLeave b j → MayLeave (open_of in_a a b) (open_of in_a i j)
+open_left true a b i j left_a left_b = left_a
+open_left false a b i j left_a left_b = left_b
+
+-- a clean pair leaves what it stands for
+pub clean_image : (in_a : Bool) (place : ℕ) (h : History) (a b : State) (i j : List ℕ) → IsCleanFor in_a place h a b → MayLeave a i → MayLeave b j → PairFor i j h
+clean_image in_a place h a b i j x left_a left_b =
+    let seen = (open_of in_a a b).seen in
+    let is : open_of in_a i j ≡ seen = settled_image seen (open_of in_a i j) (subst (λ (s : State). MayLeave s (open_of in_a i j)) x.quiet (open_left in_a a b i j left_a left_b)) in
+    pair_of in_a a b i j h x.empty left_a left_b (subst (λ (l : List ℕ). StandsFor l h) (sym is) (erased_stands seen h x.erased))
+
+-- ---- a commit
+
+module _ (tells : Bool) (w : World) (h : History) (p : Holds tells w h) (some : 1 ≤ length h.waiting) (most : length h.waiting ≤ BLOCK_LIMIT) (disks : Pair) where
+  tail : tail_of p.disks.erased.keeps.file.front (written_blocks (ground).root [] p.disks.erased.keeps.blocks) ≡ w.kept.place
+  tail = tail_at _ (sealed_part h) p.disks.erased ∙ sym p.keeps.located.tail
+
+  -- that was done
+  pub commit_clean : (next : ℕ) → next ≡ w.kept.place + 1 + length (next_bytes h) → IsCommitted tells w.kept.in_a w.kept.place (next_bytes h) w.disks disks
+      → IsCleanFor w.kept.in_a next (sealed_part (close h)) disks.a.bytes disks.b.bytes
+  commit_clean next at c =
+      let has = c.has p.told p.disks.erased.keeps.file.front (written_blocks (ground).root [] p.disks.erased.keeps.blocks) p.disks.erased.keeps.file.stands tail in
+      record {
+        quiet = has.nothing_pending;
+        empty = c.other ∙ p.disks.empty;
+        erased = block_erased w.kept h p.keeps some most _ _ p.disks.erased has.stands;
+        ends = c.ends p.told p.disks.ends ∙ ap (λ (n : ℕ). n + 1) (sym at);
+      }
+
+  -- .. or that failed
+  pub commit_left : (i j : List ℕ) → IsUncommitted tells w.kept.in_a w.kept.place (next_bytes h) w.disks disks → MayLeave disks.a.bytes i → MayLeave disks.b.bytes j
+      → PairFor i j (sealed_part h) ⊎ PairFor i j (sealed_part (close h))
+  commit_left i j c left_a left_b =
+      let in_a = w.kept.in_a in
+      let x = p.disks.erased in
+      let empty : other_of in_a disks.a.bytes disks.b.bytes ≡ settled_state [] = c.other ∙ p.disks.empty in
+      elim (c.may p.told p.disks.quiet x.keeps.file.front (written_blocks (ground).root [] x.keeps.blocks) x.keeps.file.stands tail (open_of in_a i j) (open_left in_a disks.a.bytes disks.b.bytes i j left_a left_b)) [
+        | inl s ↦ inl (pair_of in_a disks.a.bytes disks.b.bytes i j (sealed_part h) empty left_a left_b (erased_stands _ (sealed_part h) (stands_by _ (open_of in_a i j) (sealed_part h) x s)))
+        | inr s ↦ inr (pair_of in_a disks.a.bytes disks.b.bytes i j (sealed_part (close h)) empty left_a left_b (block_stands w.kept h p.keeps some most _ (open_of in_a i j) x s))
+      ]
+
+-- ---- places
+
+pub places_more : (at : ℕ) (bs : List (List Entry)) (b : List Entry) → places_at at (bs ++ b ∷ []) ≡ places_at at bs ++ records_at (after_at at bs + 45) b
+places_more at [] b = append-nil (records_at (at + 45) b)
+places_more at (x ∷ bs) b =
+    let next = at + 45 + sum_by record_len x in
+    ap (λ (l : List RecordAt). records_at (at + 45) x ++ l) (places_more next bs b) ∙ sym (append_assoc (records_at (at + 45) x) (places_at next bs) (records_at (after_at next bs + 45) b))
+
+after_more : (at : ℕ) (bs : List (List Entry)) (b : List Entry) → after_at at (bs ++ b ∷ []) ≡ after_at at bs + 45 + sum_by record_len b
+after_more at [] b = refl
+after_more at (x ∷ bs) b = after_more (at + 45 + sum_by record_len x) bs b
+
+pub records_more : (at : ℕ) (es : List Entry) (e : Entry) → records_at at (es ++ e ∷ []) ≡ records_at at es ++ record_at (at + sum_by record_len es) e ∷ []
+records_more at [] e = ap (λ (n : ℕ). record_at n e ∷ []) (omega arith)
+records_more at (x ∷ es) e =
+    ap (λ (l : List RecordAt). record_at at x ∷ l)
+    (records_more (at + record_len x) es e ∙ ap (λ (n : ℕ). records_at (at + record_len x) es ++ record_at n e ∷ []) (omega (arith, sum_by-cons record_len x es)))
+
+-- the bytes of gathered journals are as many as their places say
+pub body_len : (n : ℕ) (es : List Entry) → AreFrom n es → length (body_of es) ≡ sum_by record_len es
+body_len n es a = body_size es (readable n es a)
+
+pub bytes_len : (h : History) → AreFrom (sealed_size h) h.waiting → length (next_bytes h) ≡ 44 + sum_by record_len h.waiting
+bytes_len h a = block_size (mth sha256 (leaves h)) h.waiting (mth_size (leaves h)) (readable (sealed_size h) h.waiting a)
+
+-- the places of what is kept once the open block has ended
+pub located_close : (k new : Kept) (h : History) → 1 ≤ length h.waiting → new.places ≡ k.places → new.place ≡ k.place + 1 + length (next_bytes h) → AreFrom (sealed_size h) h.waiting → Located k h → Located new (close h)
+located_close k new h some places place from l =
+    let closed = closed_is h some in record {
+      places = places ∙ l.places ∙ ap (λ (n : ℕ). places_at 64 h.closed ++ records_at (n + 45) h.waiting) l.tail ∙ sym (places_more 64 h.closed h.waiting) ∙ ap (places_at 64) (sym closed)
+          ∙ sym (append-nil (places_at 64 (close h).closed)) ∙ ap (λ (es : List Entry). places_at 64 (close h).closed ++ records_at (new.place + 45) es) (sym (close_none h));
+      tail = omega (arith, place, bytes_len h from, l.tail, after_more 64 h.closed h.waiting, ap (after_at 64) closed);
+    }

@@ -1,0 +1,132 @@
+-- What is told of a journal that was read is what the history says of it.
+use Rattle.std.specs.Prelude.{◌<◌, ◌≤◌, nat_le, nat_lt, slice_get, get_or}
+use Rattle.std.proofs.Common.{◌≡◌, ◌⊎◌, inl, inr, ℕ, zero, suc, ◌+◌, Bool, true, false, cond, List, [], ◌∷◌, length, map, Option, Some, None, refl, sym, ◌∙◌, ap, subst, arith}
+use Rattle.std.proofs.lemmas.Option.{none-some, slice_get_read, slice_get_past}
+use Rattle.ledger_bytes.specs.declared.refusal.Refusal.{Refusal}
+use Rattle.ledger_bytes.specs.declared.refusal.Refusal.TheVariants.{NoJournal, Purged as PurgedBelow}
+use Rattle.journal_record.specs.Entry.{Entry}
+use Rattle.journal_record.specs.Header.{spelling}
+use Rattle.journal_record.specs.declared.header.Header.{Header}
+use Rattle.block_file.specs.declared.block.RecordAt.{RecordAt}
+use Rattle.script_lines.specs.declared.reply.Reply.{Reply}
+use Rattle.script_lines.specs.declared.reply.Reply.TheVariants as reply
+use Rattle.ledger_model.specs.Getting.{content_damage, who_damage, reply_unless, whole_reply, occulted_reply, reply_on, shown_reply, get_reply}
+use Rattle.ledger_model.specs.History.{History, journals, size, point}
+use Rattle.ledger_model.specs.Judgements.{first_refusal}
+use Rattle.ledger_model.specs.Outcomes.{is_hidden, view}
+use Rattle.ledger_model.specs.declared.view.View.{View}
+use Rattle.ledger_model.specs.declared.view.View.TheVariants.{Absent, Purged, Occulted, Whole}
+use Rattle.ledger_model.proofs.LawfulLaws.{AreFrom, lawful_from}
+use Rattle.ledger_open.specs.Places.{entry_at, places_of}
+use Rattle.ledger_open.specs.Standing.{IsKept, AllKept, IsErased}
+use Rattle.ledger_open.proofs.PlaceLaws.{history_here}
+
+-- ---- the parts of a journal, compared
+
+pub none_of : {A : Type 0} (o : Option A) → ((a : A) → o ≡ Some a → ⊥) → (let none : Option A = None in o ≡ none)
+none_of None never = refl
+none_of (Some a) never = absurd (never a refl)
+
+pub whole_as : (header : Header) (content who : List ℕ) (first second : Option Refusal) → first ≡ content_damage header content → second ≡ who_damage header who
+    → reply_unless (first_refusal (first ∷ second ∷ [])) (reply.Whole (spelling header) content who) ≡ whole_reply header content who
+unfolding whole_reply
+whole_as header content who first second a b =
+    ap (λ o. reply_unless (first_refusal (o ∷ second ∷ [])) (reply.Whole (spelling header) content who)) a
+    ∙ ap (λ o. reply_unless (first_refusal (content_damage header content ∷ o ∷ [])) (reply.Whole (spelling header) content who)) b
+
+pub occulted_as : (header : Header) (who : List ℕ) (damage : Option Refusal) → damage ≡ who_damage header who → reply_unless damage (reply.Occulted (spelling header) who) ≡ occulted_reply header who
+unfolding occulted_reply
+occulted_as header who damage is = ap (λ o. reply_unless o (reply.Occulted (spelling header) who)) is
+
+-- ---- what stands at a journal's place
+
+pub found_in : {A : Type 0} (list xs : List A) (n : ℕ) (x : A) → xs ≡ list → n < length xs → x ≡ get_or xs n x → slice_get list n ≡ Some x
+found_in list xs n x is inside at = ap (λ l. slice_get l n) (sym is) ∙ slice_get_read xs (length xs) n x refl inside at
+
+pub past_in : {A : Type 0} (list xs : List A) (n : ℕ) → xs ≡ list → length xs ≤ n → (let none : Option A = None in slice_get list n ≡ none)
+past_in list xs n is past = ap (λ l. slice_get l n) (sym is) ∙ slice_get_past xs n past
+
+-- a journal of which this is kept
+record IsThere (hid gone : ℕ → Bool) (es : List Entry) (n : ℕ) (f : Entry) : Type 0 where
+  e : Entry
+  there : slice_get es n ≡ Some e
+  kept : IsKept hid gone e f
+
+there_at : (hid gone : ℕ → Bool) (file : List ℕ) (es : List Entry) (ps : List RecordAt) (n : ℕ) (p : RecordAt) → AllKept hid gone es (map (entry_at file) ps) → slice_get ps n ≡ Some p → IsThere hid gone es n (entry_at file p)
+there_at hid gone file es [] n p a is = absurd (none-some p is)
+there_at hid gone file [] (q ∷ ps) n p a is = absurd a
+there_at hid gone file (e ∷ es) (q ∷ ps) zero p a is =
+    let same : q ≡ p = cc is in record { e = e; there = refl; kept = subst (λ (x : RecordAt). IsKept hid gone e (entry_at file x)) same a.0 }
+there_at hid gone file (e ∷ es) (q ∷ ps) (suc n) p a is =
+    let t = there_at hid gone file es ps n p a.1 is in record { e = t.e; there = t.there; kept = t.kept }
+
+none_at : (hid gone : ℕ → Bool) (file : List ℕ) (es : List Entry) (ps : List RecordAt) (n : ℕ) → AllKept hid gone es (map (entry_at file) ps) → slice_get ps n ≡ None → (let none : Option Entry = None in slice_get es n ≡ none)
+none_at hid gone file [] [] n a is = refl
+none_at hid gone file (e ∷ es) [] n a is = absurd a
+none_at hid gone file [] (q ∷ ps) n a is = absurd a
+none_at hid gone file (e ∷ es) (q ∷ ps) zero a is = absurd (none-some q (sym is))
+none_at hid gone file (e ∷ es) (q ∷ ps) (suc n) a is = none_at hid gone file es ps n a.1 is
+
+-- each journal has the number of its place
+numbered : (m : ℕ) (es : List Entry) (n : ℕ) (e : Entry) → AreFrom m es → slice_get es n ≡ Some e → e.header.jsn ≡ m + n
+numbered m [] n e from is = absurd (none-some e is)
+numbered m (x ∷ es) zero e from is = let same : x ≡ e = cc is in omega (arith, ap (λ (y : Entry). y.header.jsn) same, from.0)
+numbered m (x ∷ es) (suc n) e from is = omega (arith, numbered (m + 1) es n e from.2 is)
+
+-- a journal that is whole isn't hidden
+shown_at : (h : History) (n : ℕ) → Whole ≡ view h n → is_hidden h n ≡ false
+unfolding view
+shown_at h n is = by_tests (nat_le (size h) n) (nat_lt n (point h)) (is_hidden h n) is where
+  by_tests : (absent purged hidden : Bool) → Whole ≡ cond absent Absent (cond purged (Purged (point h)) (cond hidden Occulted Whole)) → hidden ≡ false
+  by_tests true purged hidden e = absurd cc
+  by_tests false true hidden e = absurd cc
+  by_tests false false true e = absurd cc
+  by_tests false false false e = refl
+
+-- ---- replies
+
+by_view : (h : History) (n : ℕ) (v : View) (r : Reply) → v ≡ view h n → r ≡ shown_reply h n v → r ≡ get_reply h n
+unfolding get_reply
+by_view h n v r shown is = is ∙ ap (shown_reply h n) shown
+
+pub told_absent : (h : History) (n : ℕ) (r : Reply) (v : View) → v ≡ Absent → v ≡ view h n → r ≡ reply.Refused (NoJournal (size h)) → r ≡ get_reply h n
+told_absent h n r v absent shown is = by_view h n Absent r (sym absent ∙ shown) is
+
+pub told_purged : (h : History) (n p : ℕ) (v : View) → v ≡ Purged p → v ≡ view h n → reply.Refused (PurgedBelow p) ≡ get_reply h n
+told_purged h n p v purged shown = by_view h n (Purged p) (reply.Refused (PurgedBelow p)) (sym purged ∙ shown) refl
+
+module _ (image : List ℕ) (h : History) (n : ℕ) (stands : IsErased image h) (places : List RecordAt) (are : places ≡ places_of h) (v : View) (shown : v ≡ view h n) where
+  at_places : AllKept (is_hidden h) (is_hidden h) (journals h) (map (entry_at image) (places_of h))
+  at_places = history_here (is_hidden h) image h stands
+
+  there : (p : RecordAt) → slice_get places n ≡ Some p → IsThere (is_hidden h) (is_hidden h) (journals h) n (entry_at image p)
+  there p found = there_at (is_hidden h) (is_hidden h) image (journals h) (places_of h) n p at_places (ap (λ ps. slice_get ps n) (sym are) ∙ found)
+
+  not_there : slice_get places n ≡ None → (let none : Option Entry = None in slice_get (journals h) n ≡ none)
+  not_there none = none_at (is_hidden h) (is_hidden h) image (journals h) (places_of h) n at_places (ap (λ ps. slice_get ps n) (sym are) ∙ none)
+
+  -- what was read of a whole journal
+  pub told_whole : (p : RecordAt) → v ≡ Whole → slice_get places n ≡ Some p → whole_reply p.header (entry_at image p).content (entry_at image p).who ≡ get_reply h n
+  told_whole p whole found =
+      let t = there p found in
+      let number : t.e.header.jsn ≡ n = omega (arith, numbered 0 (journals h) n t.e (lawful_from (journals h) stands.lawful.journals_are) t.there) in
+      let content : (entry_at image p).content ≡ t.e.content = t.kept.shown (ap (is_hidden h) number ∙ shown_at h n (sym whole ∙ shown)) in
+      by_view h n Whole (whole_reply p.header (entry_at image p).content (entry_at image p).who) (sym whole ∙ shown)
+      (ap (λ x. whole_reply x (entry_at image p).content (entry_at image p).who) t.kept.header
+      ∙ ap (λ x. whole_reply t.e.header x (entry_at image p).who) content
+      ∙ ap (λ x. whole_reply t.e.header t.e.content x) t.kept.who
+      ∙ ap (reply_on (size h) (λ (e : Entry). whole_reply e.header e.content e.who)) (sym t.there))
+
+  -- .. and of one whose content is hidden
+  pub told_occulted : (p : RecordAt) → v ≡ Occulted → slice_get places n ≡ Some p → occulted_reply p.header (entry_at image p).who ≡ get_reply h n
+  told_occulted p occulted found =
+      let t = there p found in
+      by_view h n Occulted (occulted_reply p.header (entry_at image p).who) (sym occulted ∙ shown)
+      (ap (λ x. occulted_reply x (entry_at image p).who) t.kept.header
+      ∙ ap (occulted_reply t.e.header) t.kept.who
+      ∙ ap (reply_on (size h) (λ (e : Entry). occulted_reply e.header e.who)) (sym t.there))
+
+  -- nothing is read of a journal that has no place, and there is none
+  pub told_none : (r : Reply) → (v ≡ Whole) ⊎ (v ≡ Occulted) → slice_get places n ≡ None → r ≡ reply.Refused (NoJournal (size h)) → r ≡ get_reply h n
+  told_none r (inl whole) none is = by_view h n Whole r (sym whole ∙ shown) (is ∙ ap (reply_on (size h) (λ (e : Entry). whole_reply e.header e.content e.who)) (sym (not_there none)))
+  told_none r (inr occulted) none is = by_view h n Occulted r (sym occulted ∙ shown) (is ∙ ap (reply_on (size h) (λ (e : Entry). occulted_reply e.header e.who)) (sym (not_there none)))

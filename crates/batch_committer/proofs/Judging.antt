@@ -1,0 +1,305 @@
+-- A job was judged by the book, and its journal gathered.
+use Rattle.std.specs.Prelude.{Bool, true, false, IsTrue, ◌↔◌, Result, Ok, Err, OnOk, nat_le, ◌==◌, bytes_eq, slice_get, if◌then◌else◌, sum_by}
+use Rattle.std.specs.Int.{w16, w32, to_be_bytes}
+use Rattle.std.specs.List.{list_all}
+use Rattle.std.proofs.Common.{◌≡◌, ℕ, zero, suc, ◌+◌, ◌<◌, ◌≤◌, ◌&&◌, cond, List, [], ◌∷◌, ◌++◌, length, map, Option, Some, None, refl, ap, sym, subst, ◌∙◌, arith, append_assoc, append-nil, length-append}
+use Rattle.std.proofs.lemmas.Bool.{le-leb, leb-true, eqb-true, and_parts}
+use Rattle.std.proofs.lemmas.List.Concat.{flat_map-append}
+use Rattle.std.proofs.lemmas.Option.{none-some}
+use Rattle.ledger_bytes.specs.declared.digest.Digest.{Digest}
+use Rattle.ledger_bytes.specs.declared.limits.TheConstants.{CONTENT_LIMIT, PROOF_LIMIT}
+use Rattle.ledger_bytes.specs.declared.refusal.Refusal.{Refusal}
+use Rattle.journal_record.specs.Approval.{who_of, approval_bytes}
+use Rattle.journal_record.specs.Blocks.{record_bytes, body_of, IsEntry, AreFrom}
+use Rattle.journal_record.specs.Entry.{Entry, content_digest_of}
+use Rattle.journal_record.specs.Header.{HasWidths}
+use Rattle.journal_record.specs.declared.approval.Approval.{Approval}
+use Rattle.journal_record.specs.declared.approval.TheConstants.{WHO_LIMIT}
+use Rattle.journal_record.specs.declared.header.Header.{Header}
+use Rattle.script_lines.specs.declared.reply.Reply.TheVariants as reply
+use Rattle.block_file.specs.Blocks.{record_at}
+use Rattle.block_file.specs.declared.block.RecordAt.{RecordAt}
+use Rattle.ledger_model.specs.Appends.{append_journal, member_journal, append_header, member_header}
+use Rattle.ledger_model.specs.Fitting.{fits_approval, fits_job}
+use Rattle.ledger_model.specs.History.{History, history, journals, journals_of, size}
+use Rattle.ledger_model.specs.Judgements.{own_refusal}
+use Rattle.ledger_model.specs.Lawful.{IsNext, AreNext, AllGather, gathers}
+use Rattle.ledger_model.specs.Limits.{real_limits}
+use Rattle.ledger_model.specs.Outcomes.{placed_journal, with_waiting, after_judgement, with_job, judged_outcome, accepted_outcome, outcome, AsksFor, query_of}
+use Rattle.ledger_model.specs.Rules.{closes_before}
+use Rattle.ledger_model.specs.Step.{Step}
+use Rattle.ledger_model.specs.Texts.{answer_for, told_reply}
+use Rattle.ledger_model.specs.declared.answer.Answer.{Answer}
+use Rattle.ledger_model.specs.declared.answer.Answer.TheVariants.{Reply, Receipt}
+use Rattle.ledger_model.specs.declared.due.Due.{Due}
+use Rattle.ledger_model.specs.declared.job.Job.{Job}
+use Rattle.ledger_model.specs.declared.job.Job.TheVariants.{Refused, Append, NewMember, Get, Clue, Head}
+use Rattle.ledger_model.specs.declared.limits.Limits.{Limits}
+use Rattle.ledger_model.specs.declared.outcome.Outcome.{Outcome}
+use Rattle.ledger_model.specs.declared.outcome.Outcome.TheVariants as came
+use Rattle.ledger_model.specs.declared.outcome.Query.{Query}
+use Rattle.ledger_book.specs.Books as books
+use Rattle.ledger_book.specs.Books.{Serves, headers, sealed_size}
+use Rattle.ledger_book.specs.Steps.{IsSame, PlacesNothing, Applies}
+use Rattle.ledger_open.proofs.AgainLaws.{entry_is}
+use Rattle.ledger_open.proofs.HidingLaws.{from_more}
+use Rattle.ledger_open.proofs.NextLaws.{next_behind}
+use Rattle.ledger_open.specs.Places.{record_len, records_at, places_at}
+use Rattle.batch_committer.specs.Steps.{HasParts, HasJournal, IsGathered, Gathers, Judged, KeepsRest}
+use Rattle.batch_committer.specs.World.{Kept, Located, Keeps}
+use Rattle.batch_committer.proofs.Closing.{records_more, body_len}
+
+-- ---- what came of a job
+
+-- a job that placed nothing changes nothing
+judged_same : (h : History) (job : Job) (refusal : Option Refusal) (o : Outcome) → PlacesNothing o → o ≡ judged_outcome refusal (accepted_outcome h None job) → after_judgement refusal (placed_journal h None job) h ≡ h
+judged_same h job (Some refusal) o none is = refl
+judged_same h (Refused why) None o none is = refl
+judged_same h (Append member clue content content_digest request by) None o none is = absurd (subst PlacesNothing is none)
+judged_same h (NewMember number key by) None o none is = absurd (subst PlacesNothing is none)
+judged_same h (Get n) None o none is = refl
+judged_same h (Clue clue) None o none is = refl
+judged_same h Head None o none is = refl
+
+pub same_job : (limits : Limits) (h : History) (job : Job) (o : Outcome) → PlacesNothing o → o ≡ outcome limits None h job → with_job limits None h job ≡ h
+unfolding outcome with_job
+same_job limits h job o none is = judged_same h job (own_refusal limits h job) o none is
+
+-- a job placed a journal
+pub record WasPlaced (limits : Limits) (h : History) (job : Job) (jsn : ℕ) : Type 0 where
+  pub journal : Entry
+  pub jsn_is : jsn ≡ size h
+  pub placed_is : placed_journal h None job ≡ Some journal
+  pub after : with_job limits None h job ≡ with_waiting (Some journal) h
+
+record IsJudgedAs (h : History) (job : Job) (refusal : Option Refusal) (jsn : ℕ) : Type 0 where
+  accepted : refusal ≡ None
+  journal : Entry
+  jsn_is : jsn ≡ size h
+  placed_is : placed_journal h None job ≡ Some journal
+
+judged_as : (h : History) (job : Job) (refusal : Option Refusal) (jsn : ℕ) (leaf : Digest) → came.Placed jsn leaf ≡ judged_outcome refusal (accepted_outcome h None job) → IsJudgedAs h job refusal jsn
+judged_as h job (Some refusal) jsn leaf is = absurd (let no : ⊥ = cc is in no)
+judged_as h (Refused why) None jsn leaf is = absurd (let no : ⊥ = cc is in no)
+judged_as h (Append member clue content content_digest request by) None jsn leaf is =
+    record { accepted = refl; journal = append_journal h member clue content content_digest request by; jsn_is = cc is; placed_is = refl }
+judged_as h (NewMember number key by) None jsn leaf is = record { accepted = refl; journal = member_journal (size h) number key by; jsn_is = cc is; placed_is = refl }
+judged_as h (Get n) None jsn leaf is = absurd (let no : ⊥ = cc is in no)
+judged_as h (Clue clue) None jsn leaf is = absurd (let no : ⊥ = cc is in no)
+judged_as h Head None jsn leaf is = absurd (let no : ⊥ = cc is in no)
+
+pub was_placed : (limits : Limits) (h : History) (job : Job) (jsn : ℕ) (leaf : Digest) → came.Placed jsn leaf ≡ outcome limits None h job → WasPlaced limits h job jsn
+unfolding outcome with_job
+was_placed limits h job jsn leaf is =
+    let j = judged_as h job (own_refusal limits h job) jsn leaf is in record {
+      journal = j.journal;
+      jsn_is = j.jsn_is;
+      placed_is = j.placed_is;
+      after = ap (λ r. after_judgement r (placed_journal h None job) h) j.accepted ∙ ap (λ o. after_judgement None o h) j.placed_is;
+    }
+
+-- ---- the journal that a job places
+
+who_few : (by : Approval) → length by.proof ≤ PROOF_LIMIT → length (who_of (by ∷ [])) ≤ WHO_LIMIT
+who_few by few =
+    omega (arith, few, ap length (append-nil (approval_bytes by)), length-append (to_be_bytes w32 by.member ++ to_be_bytes w16 (length by.proof)) by.proof, length-append (to_be_bytes w32 by.member) (to_be_bytes w16 (length by.proof)))
+
+proof_few : (member : ℕ) (by : Approval) → fits_approval member by ≡ true → length by.proof ≤ PROOF_LIMIT
+proof_few member by fits = leb-true (length by.proof) PROOF_LIMIT (and_parts (by.member == member) (nat_le (length by.proof) PROOF_LIMIT) fits).1
+
+-- its parts
+pub record IsMade (job : Job) (journal : Entry) : Type 0 where
+  pub content : List ℕ
+  pub by : Approval
+  pub parts : HasParts job content by
+  pub content_is : journal.content ≡ content
+  pub who_is : journal.who ≡ who_of (by ∷ [])
+  pub len : length journal.content ≡ journal.header.content_len
+  pub few : length journal.who ≤ WHO_LIMIT
+  pub gathers_is : gathers journal.header.kind ≡ true
+
+made_as : (job : Job) (got journal : Entry) → got ≡ journal → IsMade job got → IsMade job journal
+made_as job got journal is m = subst (IsMade job) is m
+
+pub is_made : (h : History) (job : Job) (journal : Entry) → fits_job job ≡ true → placed_journal h None job ≡ Some journal → IsMade job journal
+unfolding append_header member_header
+is_made h (Refused why) journal fits is = absurd (none-some journal is)
+is_made h (Append member clue content content_digest request by) journal fits is =
+    made_as (Append member clue content content_digest request by) (append_journal h member clue content content_digest request by) journal (cc is)
+    (record { content = content; by = by; parts = (refl, refl); content_is = refl; who_is = refl; len = refl; few = who_few by (proof_few member by (and_parts (nat_le (length content) CONTENT_LIMIT && bytes_eq content_digest.0 (content_digest_of content)) (fits_approval member by) fits).1); gathers_is = refl })
+is_made h (NewMember number key by) journal fits is =
+    made_as (NewMember number key by) (member_journal (size h) number key by) journal (cc is)
+    (record { content = []; by = by; parts = (refl, refl); content_is = refl; who_is = refl; len = refl; few = who_few by (proof_few 0 by fits); gathers_is = refl })
+is_made h (Get n) journal fits is = absurd (none-some journal is)
+is_made h (Clue clue) journal fits is = absurd (none-some journal is)
+is_made h Head journal fits is = absurd (none-some journal is)
+
+-- ---- the journal in the book
+
+get_last : {A : Type 0} (xs : List A) (x : A) → slice_get (xs ++ x ∷ []) (length xs) ≡ Some x
+get_last [] x = refl
+get_last (y ∷ ys) x = get_last ys x
+
+journals_more : (h : History) (journal : Entry) → journals (with_waiting (Some journal) h) ≡ journals h ++ journal ∷ []
+journals_more h journal = sym (append_assoc (journals_of h.closed) h.waiting (journal ∷ []))
+
+pub last_journal_is : (h : History) (journal : Entry) → slice_get (journals (with_waiting (Some journal) h)) (size h) ≡ Some journal
+last_journal_is h journal = ap (λ js. slice_get js (size h)) (journals_more h journal) ∙ get_last (journals h) journal
+
+-- the journal that was placed last is the next one
+last_next : (k : books.Kept) (h : History) (journal : Entry) → Serves k (with_waiting (Some journal) h) → IsNext (history [] (journals h)) journal.header
+last_next k h journal s =
+    (next_behind [] (journals h) (journal ∷ []) (subst (AreNext []) (journals_more h journal) s.stands.lawful.next)).0
+
+-- the book has the journal that it placed for a job
+pub has_placed : (old new : books.Kept) (h : History) (job : Job) (o : Outcome) (jsn : ℕ) (leaf : Digest) → Serves old h → Applies old.limits None h job o new → IsSame old new → o ≡ came.Placed jsn leaf → HasJournal new jsn
+has_placed old new h job o jsn leaf s applies same is =
+    let w = was_placed old.limits h job jsn leaf (sym is ∙ applies.outcome_is) in record {
+      h = with_job old.limits None h job;
+      serves = applies.serves;
+      kept = omega (arith, same.floor, s.stands.counts.floor, w.jsn_is, length-append (journals_of h.closed) h.waiting);
+      below = omega (arith, w.jsn_is, ap size w.after, ap length (journals_more h w.journal), length-append (journals h) (w.journal ∷ []));
+    }
+
+-- the header that the book keeps of a journal
+get_header : (js : List Entry) (n : ℕ) (journal : Entry) → slice_get js n ≡ Some journal → slice_get (map (λ (j : Entry). j.header) js) n ≡ Some journal.header
+get_header [] n journal is = absurd (none-some journal is)
+get_header (j ∷ js) zero journal is = ap (λ (o : Option Entry). header_in o) is where
+  header_in : Option Entry → Option Header
+  header_in None = None
+  header_in (Some e) = Some e.header
+get_header (j ∷ js) (suc n) journal is = get_header js n journal is
+
+pub header_is : (k : books.Kept) (h : History) (n : ℕ) (journal : Entry) (header : Header) → k.floor ≤ n → slice_get (journals h) n ≡ Some journal → Some header ≡ (if nat_le k.floor n then slice_get (headers h) n else None) → header ≡ journal.header
+header_is k h n journal header floor is got =
+    let same : Some header ≡ Some journal.header = got ∙ ap (λ v. cond v (slice_get (headers h) n) None) (le-leb k.floor n floor) ∙ get_header (journals h) n journal is in
+    cc same
+
+-- the journal was gathered
+pub gathered_by : (old new : Kept) (header : Header) (content : List ℕ) (by : Approval) (place : RecordAt) (journal : Entry) → header ≡ journal.header → journal.content ≡ content → journal.who ≡ who_of (by ∷ []) → HasWidths header
+    → new.body ≡ old.body ++ record_bytes (record { header = header; content = content; who = who_of (by ∷ []) }) → new.places ≡ old.places ++ place ∷ [] → place ≡ record_at (old.place + 45 + length old.body) journal → IsGathered old new journal
+gathered_by old new header content by place journal header_is content_is who_is widths body places place_is = record {
+  widths = subst HasWidths header_is widths;
+  body = body ∙ ap (λ (e : Entry). old.body ++ record_bytes e) (entry_is (record { header = header; content = content; who = who_of (by ∷ []) }) journal header_is (sym content_is) (sym who_is));
+  places = places ∙ ap (λ p. old.places ++ p ∷ []) place_is;
+}
+
+pub gathered_at : (k0 k1 new : Kept) (journal : Entry) → k0 ≡ k1 → IsGathered k0 new journal → IsGathered k1 new journal
+gathered_at k0 k1 new journal is g = subst (λ k. IsGathered k new journal) is g
+
+-- ---- what is kept after a job
+
+pub gathers_kept : (k : Kept) (h : History) → Keeps k h → Gathers k h
+gathers_kept k h p = record { serves = p.serves; limits = p.limits; floor = p.floor; body = p.body; next = p.next; gathered = p.gathered; located = p.located }
+
+-- by another value where nothing that counts has changed
+gathers_same : (old new : Kept) (h : History) → new.book ≡ old.book → new.body ≡ old.body → new.places ≡ old.places → new.place ≡ old.place → Gathers old h → Gathers new h
+gathers_same old new h book body places place g = record {
+  serves = subst (λ b. Serves b h) (sym book) g.serves;
+  limits = ap (λ (b : books.Kept). b.limits) book ∙ g.limits;
+  floor = ap (λ (b : books.Kept). b.floor) book ∙ g.floor;
+  body = body ∙ g.body;
+  next = g.next;
+  gathered = g.gathered;
+  located = record { places = places ∙ g.located.places ∙ ap (λ (n : ℕ). places_at 64 h.closed ++ records_at (n + 45) h.waiting) (sym place); tail = place ∙ g.located.tail };
+}
+
+gather_more : (es : List Entry) (e : Entry) → AllGather es → gathers e.header.kind ≡ true → AllGather (es ++ e ∷ [])
+gather_more [] e all is = ap (λ v. v && true) is
+gather_more (x ∷ es) e all is =
+    let both = and_parts (gathers x.header.kind) (list_all (λ (y : Entry). gathers y.header.kind) es) all in
+    ap (λ (v : Bool). v && list_all (λ (y : Entry). gathers y.header.kind) (es ++ e ∷ [])) both.0 ∙ gather_more es e both.1 is
+
+-- with a journal more
+gathers_more : (old mid new : Kept) (h : History) (job : Job) (journal : Entry) → Keeps old h → IsMade job journal → Serves new.book (with_waiting (Some journal) h) → IsSame old.book new.book → mid.body ≡ old.body → mid.places ≡ old.places → mid.place ≡ old.place
+    → new.place ≡ old.place → IsGathered mid new journal → Gathers new (with_waiting (Some journal) h)
+gathers_more old mid new h job journal p m serves same body places place new_place g =
+    let next = last_next new.book h journal serves in
+    let entry : IsEntry (sealed_size h + length h.waiting) journal = record {
+      jsn = next.jsn ∙ length-append (journals_of h.closed) h.waiting;
+      rules = next.layout;
+      widths = g.widths;
+      content = m.len;
+      who = m.few;
+    } in
+    record {
+      serves = serves;
+      limits = same.limits ∙ p.limits;
+      floor = same.floor ∙ p.floor;
+      body = g.body ∙ ap (λ (l : List ℕ). l ++ record_bytes journal) (body ∙ p.body) ∙ ap (λ (l : List ℕ). body_of h.waiting ++ l) (sym (append-nil (record_bytes journal))) ∙ sym (flat_map-append record_bytes h.waiting (journal ∷ []));
+      next = from_more (sealed_size h) h.waiting (journal ∷ []) p.next (entry, tt);
+      gathered = gather_more h.waiting journal p.gathered m.gathers_is;
+      located = record {
+        places = g.places ∙ ap (λ (l : List RecordAt). l ++ record_at (mid.place + 45 + length mid.body) journal ∷ []) (places ∙ p.located.places)
+            ∙ ap (λ (n : ℕ). (places_at 64 h.closed ++ records_at (old.place + 45) h.waiting) ++ record_at n journal ∷ []) (omega (arith, place, ap length body, ap length p.body, body_len (sealed_size h) h.waiting p.next))
+            ∙ append_assoc (places_at 64 h.closed) (records_at (old.place + 45) h.waiting) (record_at (old.place + 45 + sum_by record_len h.waiting) journal ∷ [])
+            ∙ ap (λ (l : List RecordAt). places_at 64 h.closed ++ l) (sym (records_more (old.place + 45) h.waiting journal))
+            ∙ ap (λ (n : ℕ). places_at 64 h.closed ++ records_at (n + 45) (h.waiting ++ journal ∷ [])) (sym new_place);
+        tail = new_place ∙ p.located.tail;
+      };
+    }
+
+-- ---- the judgement
+
+real_applies : (old new : books.Kept) (h : History) (job : Job) (o : Outcome) → old.limits ≡ real_limits → Applies old.limits None h job o new → Applies real_limits None h job o new
+real_applies old new h job o is a = subst (λ limits. Applies limits None h job o new) is a
+
+-- nothing was placed: what was told is due
+pub judged_same_kept : (old new : Kept) (h : History) (step : Step) (job : Job) (o : Outcome) (answer : Answer) → Keeps old h → Applies old.book.limits None h job o new.book → PlacesNothing o → (PlacesNothing o → new.book ≡ old.book)
+    → new.body ≡ old.body → new.places ≡ old.places → new.place ≡ old.place → answer ≡ answer_for h step o → Judged new h step job answer
+judged_same_kept old new h step job o answer p applies none book body places place is =
+    let a = real_applies old.book new.book h job o p.limits applies in record {
+      answer_is = is ∙ ap (answer_for h step) a.outcome_is;
+      gathers = subst (Gathers new) (sym (same_job real_limits h job o none a.outcome_is)) (gathers_same old new h (book none) body places place (gathers_kept old h p));
+    }
+
+-- a journal was placed
+pub judged_placed : (old mid new : Kept) (h : History) (step : Step) (job : Job) (o : Outcome) (jsn : ℕ) (leaf : Digest) (answer : Answer) → Keeps old h → fits_job job ≡ true → Applies old.book.limits None h job o new.book → IsSame old.book new.book → o ≡ came.Placed jsn leaf
+    → ((g : History) (journal : Entry) (content : List ℕ) (by : Approval) → HasParts job content by → Serves new.book g → slice_get (journals g) jsn ≡ Some journal → new.book.floor ≤ jsn → journal.content ≡ content → journal.who ≡ who_of (by ∷ []) → IsGathered mid new journal)
+    → mid.body ≡ old.body → mid.places ≡ old.places → mid.place ≡ old.place → new.place ≡ old.place → answer ≡ answer_for h step o → Judged new h step job answer
+judged_placed old mid new h step job o jsn leaf answer p fits applies same is gathered body places place new_place answer_is =
+    let a = real_applies old.book new.book h job o p.limits applies in
+    let w = was_placed real_limits h job jsn leaf (sym is ∙ a.outcome_is) in
+    let m = is_made h job w.journal fits w.placed_is in
+    let s : Serves new.book (with_waiting (Some w.journal) h) = subst (Serves new.book) w.after a.serves in
+    let there : slice_get (journals (with_waiting (Some w.journal) h)) jsn ≡ Some w.journal = ap (slice_get (journals (with_waiting (Some w.journal) h))) w.jsn_is ∙ last_journal_is h w.journal in
+    let g = gathered (with_waiting (Some w.journal) h) w.journal m.content m.by m.parts s there (omega (arith, same.floor, p.floor)) m.content_is m.who_is in record {
+      answer_is = answer_is ∙ ap (answer_for h step) a.outcome_is;
+      gathers = subst (Gathers new) (sym w.after) (gathers_more old mid new h job w.journal p m s same body places place new_place g);
+    }
+
+-- a job that asks for something ends the open block first
+asks_closes : (job : Job) (q : Query) → query_of job ≡ Some q → closes_before job ≡ true
+asks_closes (Refused refusal) q is = absurd (let no : ⊥ = cc is in no)
+asks_closes (Append member clue content content_digest request by) q is = absurd (let no : ⊥ = cc is in no)
+asks_closes (NewMember number key by) q is = absurd (let no : ⊥ = cc is in no)
+asks_closes (Get n) q is = refl
+asks_closes (Clue clue) q is = refl
+asks_closes Head q is = refl
+
+-- .. so nothing waits when it is told
+pub asked_settled : (g : History) (job : Job) (o : Outcome) (q : Query) → AsksFor job o → o ≡ came.Reading q → (closes_before job ≡ true → g.waiting ≡ []) → g.waiting ≡ []
+asked_settled g job o q told is none = none (asks_closes job q (subst (AsksFor job) is told))
+
+-- from the clauses of a call
+pub on_ok_then : {T E : Type 0} {A B : Type 0} (result : Result T E) → (A → B) → OnOk result A → OnOk result B
+on_ok_then (Ok value) f x = f x
+on_ok_then (Err error) f x = tt
+
+pub on_ok_both : {T E : Type 0} {A B C : Type 0} (result : Result T E) → (A → B → C) → OnOk result A → OnOk result B → OnOk result C
+on_ok_both (Ok value) f x y = f x y
+on_ok_both (Err error) f x y = tt
+
+-- .. by a value that is known by an equation, and what is due came behind
+pub judged_dues : (k0 k1 : Kept) (ds : List Due) (g : History) (step : Step) (job : Job) (answer : Answer) → k1 ≡ k0 → Judged k0 g step job answer → Judged (record k1 { dues = ds }) g step job answer
+judged_dues k0 k1 ds g step job answer is j =
+    let m = subst (λ k. Judged k g step job answer) (sym is) j in
+    let x = m.gathers in record {
+      answer_is = m.answer_is;
+      gathers = record { serves = x.serves; limits = x.limits; floor = x.floor; body = x.body; next = x.next; gathered = x.gathered; located = record { places = x.located.places; tail = x.located.tail } };
+    }
+
+-- none of some is left exactly where their number is 0
+pub none_by : (count : ℕ) (es : List Entry) → count ≡ length es → IsTrue (count == 0) ↔ (es ≡ [])
+none_by count [] is = (λ _. refl, λ _. ap (λ n. n == 0) is)
+none_by count (e ∷ es) is = (λ none. absurd (let no : ⊥ = omega (arith, is, eqb-true count 0 none) in no), λ none. absurd (let no : ⊥ = cc none in no))

@@ -1,0 +1,11 @@
+pub mod Heads
+pub mod WayLaws
+pub mod Closing
+pub mod Opening
+pub mod Ending
+pub mod Committing
+pub mod ReadLaws
+pub mod Judging
+pub mod Offering
+pub mod Telling
+pub mod GetLaws

@@ -1,0 +1,218 @@
+-- What is known of a ledger that was made or opened, and of one that is held.
+use Rattle.std.specs.Prelude.{Bool, true, false, IsTrue, IsSomeAnd}
+use Rattle.std.proofs.Common.{◌≡◌, inl, inr, ℕ, ◌+◌, ◌<◌, ◌≤◌, List, [], ◌∷◌, ◌++◌, length, take, refl, ap, sym, subst, ◌∙◌, arith, append-nil, length-append}
+use Rattle.std.proofs.lemmas.Bool.{true≢false}
+use Rattle.std.proofs.lemmas.List.{nil_from_length}
+use Rattle.block_file.proofs.WriteLaws.{tail_shut}
+use Rattle.block_file.specs.File.{Stands, IsSettled, IsShutAt, open_blocks, tail_of, whole_file}
+use Rattle.block_file.specs.Head.{front_of}
+use Rattle.journal_record.specs.Blocks.{written_blocks}
+use Rattle.journal_record.specs.Entry.{Entry}
+use Rattle.ledger_bytes.specs.declared.limits.TheConstants.{BLOCK_LIMIT}
+use Rattle.ledger_disk.specs.Disk.{State, MayLeave, settled_state}
+use Rattle.ledger_io.specs.Outside.{SinkState}
+use Rattle.ledger_model.proofs.LawfulLaws.{later_seen, none_hidden, some_journal}
+use Rattle.ledger_model.specs.Genesis.{HasKeys, new_ledger}
+use Rattle.ledger_model.specs.History.{History, history, journals, journals_of, size, point}
+use Rattle.ledger_model.specs.Lawful.{IsLawful}
+use Rattle.ledger_model.specs.Limits.{real_limits}
+use Rattle.ledger_model.specs.Outcomes.{is_hidden}
+use Rattle.ledger_model.specs.declared.genesis.Genesis.{Genesis}
+use Rattle.ledger_book.specs.Books as books
+use Rattle.ledger_book.specs.Books.{Serves}
+use Rattle.twin_file.specs.Twin.{choice, open_of, other_of, IsTaken}
+use Rattle.ledger_open.specs.Founding.{IsFounded}
+use Rattle.ledger_open.specs.Growing.{new_file}
+use Rattle.ledger_open.specs.Opening.{Known, Knows, IsReopened, IsCleanAt}
+use Rattle.ledger_open.specs.Places.{places_at, after_at}
+use Rattle.ledger_open.specs.Standing.{ground, HasBlocks, StandsFor, IsErased, IsClean, IsCleanPair, PairFor, hidden_before}
+use Rattle.ledger_open.proofs.AgainLaws.{blocks_unique}
+use Rattle.ledger_open.proofs.FoundingLaws.{founded_clean}
+use Rattle.ledger_open.proofs.GrowLaws.{stands_erased}
+use Rattle.ledger_open.proofs.OpenLaws.{tail_is, stands_again, taken_pair, cut_has, reopened_clean}
+use Rattle.ledger_open.proofs.SizeLaws.{mth_size}
+use Rattle.ledger_open.proofs.WholeLaws.{own_blocks, history_is}
+use Rattle.batch_committer.specs.Opened.{kept_from, IsOpened, IsQuietFor}
+use Rattle.batch_committer.specs.World.{Kept, World, DiskState, Pair, world, Reads, Fits, HasRoom, IsCleanFor, Holds, sealed_part}
+use Rattle.batch_committer.proofs.Closing.{clean_image, tail_at, sealed_same}
+
+-- ---- the history of some blocks
+
+-- the book keeps all headers
+floor_none : (k : books.Kept) (h : History) → Serves k h → point h ≡ 0 → k.floor ≡ 0
+floor_none k h s none =
+    let seen : k.floor ≤ k.point = s.seen in
+    let all = later_seen h k.floor s.stands.lawful (omega (arith, seen, s.stands.counts.point)) in
+    omega (arith, seen, s.stands.counts.point, all, none)
+
+held_blocks : (tells : Bool) (k : Known) (in_a : Bool) (disks : Pair) (sink : SinkState) (bs : List (List Entry)) → IsOpened k in_a disks bs → k.book.limits ≡ real_limits → IsTrue tells → IsCleanFor in_a k.place (history bs []) disks.a.bytes disks.b.bytes
+    → Holds tells (world (kept_from k in_a) disks sink) (history bs [])
+held_blocks tells k in_a disks sink bs o limits told clean = record {
+  told = told;
+  keeps = record {
+    serves = o.knows.serves;
+    limits = limits;
+    floor = floor_none k.book (history bs []) o.knows.serves clean.erased.floor;
+    dues = tt;
+    body = refl;
+    next = tt;
+    gathered = refl;
+    located = record { places = o.knows.places ∙ sym (append-nil (places_at 64 bs)); tail = o.knows.tail };
+  };
+  disks = clean;
+}
+
+-- ---- a ledger that was opened
+
+-- a file that was cut behind its tail gate stands for what it stood for, and nothing is hidden in it
+cut_erased : (old : List ℕ) (place : ℕ) (bs : List (List Entry)) → place ≡ after_at 64 bs → StandsFor old (history bs []) → IsErased (take (place + 1) old) (history bs [])
+cut_erased old place bs at x =
+    let h = history bs [] in
+    let erased : IsErased old h = stands_erased old h x (λ n t. absurd (true≢false (sym t ∙ none_hidden h n x.lawful.journals_are))) in
+    let own = own_blocks (hidden_before h) old h x in
+    stands_again (is_hidden h) old (take (place + 1) old) h
+    (λ generation cs y.
+    let same : cs ≡ bs = (blocks_unique ground generation x.generation cs bs old mth_size y own).1 in
+    cut_has generation cs old y place (tail_is generation cs old y ∙ ap (after_at 64) same ∙ sym at)) erased
+
+-- which blocks it has
+blocks_are : (k : Known) (in_a : Bool) (blocks : List (List Entry)) (a b new_a new_b : State) (h : History) → IsReopened in_a k.place blocks a b new_a new_b → StandsFor (open_of in_a a b).seen h → history blocks [] ≡ h
+blocks_are k in_a blocks a b new_a new_b h r x =
+    let own = own_blocks (hidden_before h) (open_of in_a a b).seen h x in
+    let same : blocks ≡ h.closed = (blocks_unique ground r.has.0 x.generation blocks h.closed (open_of in_a a b).seen mth_size r.has.1 own).1 in
+    ap (λ (bs : List (List Entry)). history bs []) same ∙ history_is h x.none
+
+stands_open : (in_a : Bool) (a b : State) (h : History) → IsTaken in_a a.seen b.seen → PairFor a.seen b.seen h → StandsFor (open_of in_a a b).seen h
+stands_open true a b h t p = (taken_pair true a.seen b.seen h t p).0
+stands_open false a b h t p = (taken_pair false a.seen b.seen h t p).0
+
+pub opened_held : (tells : Bool) (k : Known) (in_a : Bool) (blocks : List (List Entry)) (a b : State) (disks : Pair) (sink : SinkState) (h : History) → IsOpened k in_a disks blocks → k.book.limits ≡ real_limits → IsTrue tells
+    → IsReopened in_a k.place blocks a b disks.a.bytes disks.b.bytes → PairFor a.seen b.seen h → Holds tells (world (kept_from k in_a) disks sink) h
+opened_held tells k in_a blocks a b disks sink h o limits told r p =
+    let x = stands_open in_a a b h r.taken p in
+    let is : history blocks [] ≡ h = blocks_are k in_a blocks a b disks.a.bytes disks.b.bytes h r x in
+    let c = reopened_clean k in_a blocks a b disks.a.bytes disks.b.bytes o.knows r in
+    let now : (open_of in_a disks.a.bytes disks.b.bytes).seen ≡ take (k.place + 1) (open_of in_a a b).seen = ap (λ (s : State). s.seen) r.open_is in
+    subst (Holds tells (world (kept_from k in_a) disks sink)) is
+    (held_blocks tells k in_a disks sink blocks o limits told (record {
+      quiet = c.quiet;
+      empty = c.empty;
+      erased = subst (λ (l : List ℕ). IsErased l (history blocks [])) (sym now) (cut_erased (open_of in_a a b).seen k.place blocks o.knows.tail (subst (StandsFor (open_of in_a a b).seen) (sym is) x));
+      ends = c.ends;
+    }))
+
+-- ---- what a call asks for
+
+shut_of : (k : Known) (in_a : Bool) (blocks : List (List Entry)) (a b : State) → Knows k blocks → IsCleanAt in_a k.place blocks a b → IsShutAt k.place (open_of in_a a b).seen
+shut_of k in_a blocks a b knows c =
+    let file = (open_of in_a a b).seen in
+    let x = c.has.1 in
+    subst (λ (n : ℕ). IsShutAt n file) (tail_is c.has.0 blocks file x ∙ sym knows.tail) (tail_shut x.front (written_blocks (ground).root [] blocks) file x.stands)
+
+shut_at : (in_a : Bool) (place : ℕ) (disks : Pair) → IsShutAt place (open_of in_a disks.a.bytes disks.b.bytes).seen → IsShutAt place (open_of in_a disks.a disks.b).bytes.seen
+shut_at true place disks s = s
+shut_at false place disks s = s
+
+few_of : (book : books.Kept) (blocks : List (List Entry)) → Serves book (history blocks []) → book.size ≡ book.sealed
+few_of book blocks s = omega (arith, s.stands.counts.size, s.stands.counts.sealed_is, ap length (append-nil (journals_of blocks)))
+
+fits_of : (tells : Bool) (k : Known) (in_a : Bool) (disks : Pair) (sink : SinkState) (blocks : List (List Entry)) → IsOpened k in_a disks blocks → (IsTrue tells → IsShutAt k.place (open_of in_a disks.a.bytes disks.b.bytes).seen)
+    → Fits tells (world (kept_from k in_a) disks sink)
+fits_of tells k in_a disks sink blocks o shut = record {
+  some = (history blocks [], o.knows.serves);
+  reads = record { told = o.told; shut = λ told. shut_at in_a k.place disks (shut told) };
+  few = omega (arith, few_of k.book blocks o.knows.serves);
+}
+
+pub opened_fits : (tells : Bool) (k : Known) (in_a : Bool) (blocks : List (List Entry)) (a b : State) (disks : Pair) (sink : SinkState) → IsOpened k in_a disks blocks
+    → (IsTrue tells → IsReopened in_a k.place blocks a b disks.a.bytes disks.b.bytes) → Fits tells (world (kept_from k in_a) disks sink)
+opened_fits tells k in_a blocks a b disks sink o r =
+    fits_of tells k in_a disks sink blocks o (λ told. shut_of k in_a blocks disks.a.bytes disks.b.bytes o.knows (reopened_clean k in_a blocks a b disks.a.bytes disks.b.bytes o.knows (r told)))
+
+pub opened_room : (k : Known) (in_a : Bool) (blocks : List (List Entry)) (disks : Pair) → IsOpened k in_a disks blocks → HasRoom (kept_from k in_a)
+opened_room k in_a blocks disks o = omega (arith, few_of k.book blocks o.knows.serves)
+
+-- ---- a ledger that was made
+
+-- how long a clean file is
+clean_length : (image : List ℕ) (h : History) (place : ℕ) (x : IsErased image h) → x.keeps.file.stands.rest ≡ [] → place ≡ after_at 64 h.closed → length image ≡ place + 1
+clean_length image h place x none at =
+    let f = x.keeps.file in
+    let written = written_blocks (ground).root [] x.keeps.blocks in
+    omega (arith, at, tail_at image h x, ap length none, ap length f.stands.is, length-append (f.front ++ open_blocks written) (f.stands.gate ∷ f.stands.rest))
+
+-- .. and that one of such a length is clean
+length_clean : (image : List ℕ) (h : History) (place : ℕ) (x : IsErased image h) → length image ≡ place + 1 → place ≡ after_at 64 h.closed → x.keeps.file.stands.rest ≡ []
+length_clean image h place x long at =
+    let f = x.keeps.file in
+    let written = written_blocks (ground).root [] x.keeps.blocks in
+    nil_from_length f.stands.rest (omega (arith, at, tail_at image h x, long, ap length f.stands.is, length-append (f.front ++ open_blocks written) (f.stands.gate ∷ f.stands.rest)))
+
+module _ (k : Known) (genesis : Genesis) (disks : Pair) (keys : HasKeys genesis) (knows : Knows k (new_ledger genesis).closed) (f : IsFounded genesis disks.a.bytes disks.b.bytes) where
+  seen_is : disks.a.bytes.seen ≡ new_file genesis
+  seen_is = ap (λ (s : State). s.seen) f.first
+
+  founded_for : IsCleanFor true k.place (new_ledger genesis) disks.a.bytes disks.b.bytes
+  founded_for =
+      let c = founded_clean genesis keys.operator keys.regulator in record {
+        quiet = f.first ∙ ap settled_state (sym seen_is);
+        empty = f.second;
+        erased = subst (λ (l : List ℕ). IsErased l (new_ledger genesis)) (sym seen_is) c.erased;
+        ends = ap length seen_is ∙ clean_length (new_file genesis) (new_ledger genesis) k.place c.erased c.ends knows.tail;
+      }
+
+  founded_shut : IsShutAt k.place disks.a.bytes.seen
+  founded_shut =
+      let x = (founded_for).erased in
+      subst (λ (n : ℕ). IsShutAt n disks.a.bytes.seen) (tail_at disks.a.bytes.seen (new_ledger genesis) x ∙ sym knows.tail)
+      (tail_shut x.keeps.file.front (written_blocks (ground).root [] x.keeps.blocks) disks.a.bytes.seen x.keeps.file.stands)
+
+pub founded_held : (tells : Bool) (k : Known) (genesis : Genesis) (disks : Pair) (sink : SinkState) → HasKeys genesis → IsOpened k true disks (new_ledger genesis).closed → k.book.limits ≡ real_limits → IsTrue tells → IsFounded genesis disks.a.bytes disks.b.bytes
+    → Holds tells (world (kept_from k true) disks sink) (new_ledger genesis)
+founded_held tells k genesis disks sink keys o limits told f = held_blocks tells k true disks sink (new_ledger genesis).closed o limits told (founded_for k genesis disks keys o.knows f)
+
+pub founded_fits : (tells : Bool) (k : Known) (genesis : Genesis) (disks : Pair) (sink : SinkState) → HasKeys genesis → IsOpened k true disks (new_ledger genesis).closed → (IsTrue tells → IsFounded genesis disks.a.bytes disks.b.bytes)
+    → Fits tells (world (kept_from k true) disks sink)
+founded_fits tells k genesis disks sink keys o f = fits_of tells k true disks sink (new_ledger genesis).closed o (λ told. founded_shut k genesis disks keys o.knows (f told))
+
+-- ---- a ledger that is held
+
+settled_by : (s : State) → s ≡ settled_state [] → IsSettled s
+settled_by s is = is ∙ ap settled_state (sym (ap (λ (t : State). t.seen) is))
+
+quiet_for : (in_a : Bool) (place : ℕ) (disks : Pair) (h : History) → place ≡ after_at 64 h.closed → IsCleanFor in_a place h disks.a.bytes disks.b.bytes → IsQuietFor disks h
+quiet_for true place disks h at x = record {
+  a = x.quiet;
+  b = settled_by disks.b.bytes x.empty;
+  clean = inl (record { erased = x.erased; ends = length_clean disks.a.bytes.seen h place x.erased x.ends at }, ap (λ (s : State). length s.seen) x.empty);
+  images = λ i j left_a left_b. clean_image true place h disks.a.bytes disks.b.bytes i j x left_a left_b;
+}
+quiet_for false place disks h at x = record {
+  a = settled_by disks.a.bytes x.empty;
+  b = x.quiet;
+  clean = inr (record { erased = x.erased; ends = length_clean disks.b.bytes.seen h place x.erased x.ends at }, ap (λ (s : State). length s.seen) x.empty);
+  images = λ i j left_a left_b. clean_image false place h disks.a.bytes disks.b.bytes i j x left_a left_b;
+}
+
+pub held_quiet : (tells : Bool) (w : World) (h : History) → Holds tells w h → h.waiting ≡ [] → IsQuietFor w.disks h
+held_quiet tells w h p none =
+    quiet_for w.kept.in_a w.kept.place w.disks h p.keeps.located.tail
+    (subst (λ (g : History). IsCleanFor w.kept.in_a w.kept.place g w.disks.a.bytes w.disks.b.bytes) (sealed_same h none) p.disks)
+
+pub held_lawful : (tells : Bool) (w : World) (h : History) → Holds tells w h → HasRoom w.kept → IsLawful h
+held_lawful tells w h p room = record {
+  journals_are = p.keeps.serves.stands.lawful;
+  blocks_are = p.disks.erased.lawful.blocks_are;
+  waiting_is = record {
+    room = omega (arith, room, p.keeps.serves.stands.counts.size, p.keeps.serves.stands.counts.sealed_is, length-append (journals_of h.closed) h.waiting);
+    gathered = p.keeps.gathered;
+  };
+}
+
+pub held_some : (tells : Bool) (w : World) (h : History) → Holds tells w h → 1 ≤ size h
+held_some tells w h p = some_journal (journals h) p.keeps.serves.stands.lawful
+
+-- the length that is told of the open one of two disks
+pub told_at : (in_a : Bool) (a b : DiskState) (place : ℕ) → IsSomeAnd (open_of in_a a.told b.told) (λ n. place + 1 ≤ n) → IsSomeAnd (open_of in_a a b).told (λ n. place + 1 ≤ n)
+told_at true a b place told = told
+told_at false a b place told = told

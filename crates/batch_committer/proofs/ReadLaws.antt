@@ -1,0 +1,109 @@
+-- Reading changes nothing that counts.
+use Rattle.std.specs.Prelude.{Bool, true, false, IsSomeAnd, Option, Some, None}
+use Rattle.std.proofs.Common.{◌≡◌, inl, inr, ℕ, ◌+◌, ◌≤◌, List, [], ◌++◌, refl, ap, sym, subst, ◌∙◌, append-nil}
+use Rattle.std.proofs.KnownBytes.{Appends-nil}
+use Rattle.block_file.specs.File.{IsShutAt}
+use Rattle.journal_record.specs.Entry.{Entry}
+use Rattle.ledger_disk.specs.Disk.{State, KeepsLength}
+use Rattle.ledger_io.specs.Outside.{SinkState}
+use Rattle.ledger_model.specs.Growing.{Grows}
+use Rattle.ledger_model.specs.History.{History, history}
+use Rattle.ledger_model.specs.declared.due.Due.{Due}
+use Rattle.ledger_model.proofs.GrowLaws.{grows_not}
+use Rattle.ledger_book.specs.Books as books
+use Rattle.twin_file.specs.Twin.{open_of}
+use Rattle.ledger_open.specs.Places.{places_at, records_at, places_of}
+use Rattle.ledger_open.specs.Standing.{IsErased}
+use Rattle.batch_committer.specs.Read.{WasRead, ReadEnds, WereRead, NoneFailed, ReadingEnds}
+use Rattle.batch_committer.specs.World.{DiskState, Pair, pair, Kept, world, Reads, Fits, IsCleanFor, Holds, Goes, Says, EndsBy, Ended, sealed_part}
+use Rattle.batch_committer.specs.declared.end.End.{End}
+use Rattle.batch_committer.specs.declared.end.End.TheVariants.{DiskFault, WriteFault, NoMemory, Closed}
+use Rattle.batch_committer.proofs.Ending.{stops_before}
+
+-- ---- nothing was read
+
+keeps_length : (o : Option ℕ) → KeepsLength o o
+keeps_length None = tt
+keeps_length (Some n) = refl
+
+unread_one : (tells : Bool) (d : DiskState) → WasRead tells d d
+unread_one tells d = record { bytes = λ _. refl; told = keeps_length d.told }
+
+pub unread : (tells : Bool) (disks : Pair) → WereRead tells disks disks
+unread tells disks = record { a = unread_one tells disks.a; b = unread_one tells disks.b }
+
+-- ---- what is held, where the disks were read
+
+module _ (tells : Bool) (old new : Pair) (read : WereRead tells old new) where
+  holds_read : (k : Kept) (sink : SinkState) (h : History) → Holds tells (world k old sink) h → Holds tells (world k new sink) h
+  holds_read k sink h p = record {
+    told = p.told;
+    keeps = p.keeps;
+    disks = subst (λ (b : State). IsCleanFor k.in_a k.place (sealed_part h) new.a.bytes b) (sym (read.b.bytes p.told))
+        (subst (λ (a : State). IsCleanFor k.in_a k.place (sealed_part h) a old.b.bytes) (sym (read.a.bytes p.told)) p.disks);
+  }
+
+  told_still : (place : ℕ) (o n : Option ℕ) → KeepsLength o n → IsSomeAnd o (λ (m : ℕ). place + 1 ≤ m) → IsSomeAnd n (λ (m : ℕ). place + 1 ≤ m)
+  told_still place None n keeps is = absurd is
+  told_still place (Some m) n keeps is = subst (λ (x : Option ℕ). IsSomeAnd x (λ (y : ℕ). place + 1 ≤ y)) (sym keeps) is
+
+  reads_one : (place : ℕ) (d x : DiskState) → WasRead tells d x → Reads tells place d → Reads tells place x
+  reads_one place d x r s = record { told = told_still place d.told x.told r.told s.told; shut = λ t. subst (λ (b : State). IsShutAt place b.seen) (sym (r.bytes t)) (s.shut t) }
+
+  reads_by : (in_a : Bool) (place : ℕ) → Reads tells place (open_of in_a old.a old.b) → Reads tells place (open_of in_a new.a new.b)
+  reads_by true place s = reads_one place old.a new.a read.a s
+  reads_by false place s = reads_one place old.b new.b read.b s
+
+  pub fits_read : (k : Kept) (sink : SinkState) → Fits tells (world k old sink) → Fits tells (world k new sink)
+  fits_read k sink f = record { some = f.some; reads = reads_by k.in_a k.place f.reads; few = f.few }
+
+  -- reading leads to the same history, and nothing becomes due by it
+  pub goes_read : (k : Kept) (sink : SinkState) → NoneFailed old new → Goes tells (world k old sink) (λ h. h) (λ h. []) (world k new sink)
+  goes_read k sink none = record {
+    holds = λ h p. holds_read k sink h p;
+    grows = λ h p. grows_not h;
+    sofar = [];
+    appended = Appends-nil sink.held;
+    writes = λ h p. record { done = []; split = append-nil k.dues; kept = tt; text = λ f y z. refl };
+    no_fault = record { a = none.0; b = none.1; sink = (refl, refl) };
+  }
+
+  says_none : (end : End) → ReadingEnds end old new → Says end [] []
+  says_none DiskFault e = refl
+  says_none WriteFault e = absurd e
+  says_none NoMemory e = refl
+  says_none Closed e = absurd e
+
+  ends_by : (end : End) (k t : Kept) (sink : SinkState) → ReadingEnds end old new → EndsBy end (world k old sink) (world t new sink)
+  ends_by DiskFault k t sink e = (e, (refl, refl))
+  ends_by WriteFault k t sink e = absurd e
+  ends_by NoMemory k t sink e = record { a = e.0; b = e.1; sink = (refl, refl) }
+  ends_by Closed k t sink e = absurd e
+
+  -- a run that reading ended, on the way to a history
+  pub read_ended : (k t : Kept) (sink : SinkState) (f : History → History) (d : History → List Due) (end : End) → ((h : History) → Grows h (f h)) → ReadingEnds end old new → Ended tells (world k old sink) f d end (world t new sink)
+  read_ended k t sink f d end grows e = record {
+    grows = λ h p. grows h;
+    part = [];
+    appended = Appends-nil sink.held;
+    stops = λ h p. stops_before tells (world k new sink) h (f h) (k.dues ++ d h) end (says_none end e) (grows h) (holds_read k sink h p);
+    cause = ends_by end k t sink e;
+  }
+
+-- the same for a book that is known by an equation
+pub holds_book : (tells : Bool) (k : Kept) (book : books.Kept) (disks : Pair) (sink : SinkState) (h : History) → book ≡ k.book → Holds tells (world k disks sink) h → Holds tells (world (record k { book = book }) disks sink) h
+holds_book tells k book disks sink h is p = subst (λ b. Holds tells (world (record k { book = b }) disks sink) h) (sym is) p
+
+-- ---- where the journals of a history stand that is held, where none waits
+
+module _ (tells : Bool) (k : Kept) (disks : Pair) (sink : SinkState) (h : History) (p : Holds tells (world k disks sink) h) (none : h.waiting ≡ []) where
+  pub places_held : k.places ≡ places_of h
+  places_held = p.keeps.located.places ∙ ap (λ (w : List Entry). places_at 64 h.closed ++ records_at (k.place + 45) w) none ∙ append-nil (places_at 64 h.closed)
+
+  whole_held : sealed_part h ≡ h
+  whole_held = ap (history h.closed) (sym none)
+
+  pub erased_held : (in_a : Bool) → k.in_a ≡ in_a → IsErased (open_of in_a disks.a.bytes disks.b.bytes).seen h
+  erased_held in_a is =
+      subst (IsErased (open_of in_a disks.a.bytes disks.b.bytes).seen) whole_held
+      (subst (λ (v : Bool). IsErased (open_of v disks.a.bytes disks.b.bytes).seen (sealed_part h)) is p.disks.erased)

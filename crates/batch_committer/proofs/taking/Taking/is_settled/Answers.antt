@@ -1,0 +1,8 @@
+use Rattle.std.proofs.Common.{◌≡◌, length, sym, subst}
+use Rattle.ledger_book.specs.Books.{Serves}
+use Rattle.batch_committer.specs.World.{Kept, Keeps}
+use Rattle.batch_committer.proofs.Judging.{none_by}
+use Rattle.batch_committer.proofs.taking.Taking.is_settled.Goals as goal
+
+pub returns : goal.returns
+returns c = λ h keeps. none_by c.waiting_count.result h.waiting (c.waiting_count.ensures h (subst (λ (k : Kept). Keeps k h) (sym c.self.view_is) keeps).serves.stands)

@@ -1,0 +1,6 @@
+pub mod Spelled
+pub mod World
+pub mod Steps
+pub mod Opened
+pub mod Committed
+pub mod Read

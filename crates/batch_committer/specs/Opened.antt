@@ -1,0 +1,26 @@
+-- A committer of a ledger that was made or opened just now.
+use Rattle.std.specs.Prelude.{ℕ, ◌+◌, ◌≤◌, Bool, IsTrue, IsSomeAnd, List}
+use Rattle.journal_record.specs.Entry.{Entry}
+use Rattle.block_file.specs.File.{IsSettled}
+use Rattle.ledger_disk.specs.Disk.{State, MayLeave}
+use Rattle.ledger_model.specs.History.{History}
+use Rattle.twin_file.specs.Twin.{open_of}
+use Rattle.ledger_open.specs.Opening.{Known, Knows, IsReopened}
+use Rattle.ledger_open.specs.Standing.{PairFor, IsCleanPair}
+use Rattle.batch_committer.specs.World.{Kept, Pair, first_kept}
+
+-- what is kept of a ledger of which this is known
+abbrev pub kept_from : Known → Bool → Kept
+kept_from known in_a = first_kept known.book known.places known.place in_a
+
+-- the ledger was made or opened: these are its blocks, and the length of its open file is told
+pub record IsOpened (known : Known) (in_a : Bool) (disks : Pair) (blocks : List (List Entry)) : Type 0 where
+  pub knows : Knows known blocks
+  pub told : IsSomeAnd (open_of in_a disks.a disks.b).told (λ n. known.place + 1 ≤ n)
+
+-- nothing is pending, the pair is clean for this history, and so is each pair of images
+pub record IsQuietFor (disks : Pair) (h : History) : Type 0 where
+  pub a : IsSettled disks.a.bytes
+  pub b : IsSettled disks.b.bytes
+  pub clean : IsCleanPair disks.a.bytes.seen disks.b.bytes.seen h
+  pub images : (a b : List ℕ) → MayLeave disks.a.bytes a → MayLeave disks.b.bytes b → PairFor a b h

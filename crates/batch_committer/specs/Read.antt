@@ -1,0 +1,35 @@
+-- What reading a journal from the open file leaves.
+use Rattle.std.specs.Prelude.{◌≡◌, ℕ, ◌≤◌, Bool, IsTrue}
+use Rattle.ledger_bytes.specs.Causes.{Rose}
+use Rattle.ledger_disk.specs.Disk.{KeepsLength}
+use Rattle.batch_committer.specs.World.{DiskState, Pair, OneFailed}
+use Rattle.batch_committer.specs.declared.end.End.{End}
+use Rattle.batch_committer.specs.declared.end.End.TheVariants.{DiskFault, WriteFault, NoMemory, Closed}
+
+-- a disk was read: its bytes, and what may be left of them, are the same, and so is the length that it told
+pub record WasRead (tells : Bool) (old new : DiskState) : Type 0 where
+  pub bytes : IsTrue tells → new.bytes ≡ old.bytes
+  pub told : KeepsLength old.told new.told
+
+-- why a reading ended the run: the disk failed, and its count of faults rose; or memory was short, and none did
+abbrev pub ReadEnds : End → ℕ → ℕ → Type 0
+ReadEnds DiskFault old new = Rose old new × (old ≤ new)
+ReadEnds WriteFault old new = ⊥
+ReadEnds NoMemory old new = new ≡ old
+ReadEnds Closed old new = ⊥
+
+-- two disks of which at most one was read
+pub record WereRead (tells : Bool) (old new : Pair) : Type 0 where
+  pub a : WasRead tells old.a new.a
+  pub b : WasRead tells old.b new.b
+
+-- no disk failed
+abbrev pub NoneFailed : Pair → Pair → Type 0
+NoneFailed old new = (new.a.faults ≡ old.a.faults) × (new.b.faults ≡ old.b.faults)
+
+-- why reading one of them ended the run
+abbrev pub ReadingEnds : End → Pair → Pair → Type 0
+ReadingEnds DiskFault old new = OneFailed old new
+ReadingEnds WriteFault old new = ⊥
+ReadingEnds NoMemory old new = NoneFailed old new
+ReadingEnds Closed old new = ⊥

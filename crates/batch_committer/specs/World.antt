@@ -1,0 +1,208 @@
+-- What a committer, its disks and its sink tell, and how a call leads from one to the next.
+use Rattle.std.specs.Prelude.{◌≡◌, ℕ, ◌+◌, ◌<◌, ◌≤◌, ◌⊎◌, Bool, IsTrue, IsSomeAnd, List, [], ◌++◌, length, Option}
+use Rattle.std.specs.Io.KnownBytes.{Appends}
+use Rattle.ledger_bytes.specs.Begins.{Begins}
+use Rattle.ledger_bytes.specs.Causes.{Rose}
+use Rattle.ledger_bytes.specs.declared.limits.TheConstants.{BLOCK_LIMIT}
+use Rattle.journal_record.specs.Blocks.{body_of, AreFrom}
+use Rattle.block_file.specs.File.{IsSettled, IsShutAt}
+use Rattle.block_file.specs.declared.block.RecordAt.{RecordAt}
+use Rattle.ledger_disk.specs.Disk.{State, MayLeave, settled_state}
+use Rattle.ledger_io.specs.Outside.{SinkState, MeetsNone, MeetsOne}
+use Rattle.ledger_model.specs.Dues.{due_lines, AllWaiting, AllIn}
+use Rattle.ledger_model.specs.Growing.{Grows}
+use Rattle.ledger_model.specs.History.{History, history}
+use Rattle.ledger_model.specs.Lawful.{AllGather}
+use Rattle.ledger_model.specs.Limits.{real_limits}
+use Rattle.ledger_model.specs.declared.due.Due.{Due}
+use Rattle.ledger_book.specs.Books as books
+use Rattle.ledger_book.specs.Books.{Serves, sealed_size}
+use Rattle.twin_file.specs.Twin.{open_of, other_of}
+use Rattle.ledger_open.specs.Places.{records_at, places_at, after_at}
+use Rattle.ledger_open.specs.Standing.{IsErased, PairFor}
+use Rattle.batch_committer.specs.declared.end.End.{End}
+use Rattle.batch_committer.specs.declared.end.End.TheVariants.{DiskFault, WriteFault, NoMemory, Closed}
+
+-- ---- what is told
+
+-- what a disk tells: its contents, its length, and how many of its calls failed
+pub record DiskState : Type 0 where
+  pub bytes : State
+  pub told : Option ℕ
+  pub faults : ℕ
+
+abbrev pub disk : State → Option ℕ → ℕ → DiskState
+disk bytes told faults = record { bytes = bytes; told = told; faults = faults }
+
+pub record Pair : Type 0 where
+  pub a : DiskState
+  pub b : DiskState
+
+abbrev pub pair : DiskState → DiskState → Pair
+pair a b = record { a = a; b = b }
+
+-- what a committer keeps
+pub record Kept : Type 0 where
+  pub book : books.Kept
+  -- where the open file's tail gate stands, and whether that file is the first
+  pub place : ℕ
+  pub in_a : Bool
+  -- the records of the open block
+  pub body : List ℕ
+  -- where each journal stands, or will stand
+  pub places : List RecordAt
+  -- what is due, and waits for the open block's end
+  pub dues : List Due
+
+-- what is kept of a ledger that was made or opened just now
+abbrev pub first_kept : books.Kept → List RecordAt → ℕ → Bool → Kept
+first_kept book places place in_a = record { book = book; place = place; in_a = in_a; body = []; places = places; dues = [] }
+
+-- what a committer keeps, and whether a call has ended its run
+pub record Held : Type 0 where
+  pub kept : Kept
+  pub ended : Bool
+
+pub record World : Type 0 where
+  pub kept : Kept
+  pub disks : Pair
+  pub sink : SinkState
+
+abbrev pub world : Kept → Pair → SinkState → World
+world kept disks sink = record { kept = kept; disks = disks; sink = sink }
+
+-- ---- what a call asks for
+
+-- the open file reads as the calls left it: the length that is told reaches behind its tail gate, and that gate is shut
+pub record Reads (tells : Bool) (place : ℕ) (d : DiskState) : Type 0 where
+  pub told : IsSomeAnd d.told (λ n. place + 1 ≤ n)
+  pub shut : IsTrue tells → IsShutAt place d.bytes.seen
+
+-- some history has this book
+abbrev pub ServesSome : books.Kept → Type 0
+ServesSome book = (h : History) × Serves book h
+
+-- What each call asks for, also where the disks tell nothing: the book is that of some history, the open file reads as the
+-- calls left it, and the open block has no more journals than a block may have.
+pub record Fits (tells : Bool) (w : World) : Type 0 where
+  pub some : ServesSome w.kept.book
+  pub reads : Reads tells w.kept.place (open_of w.kept.in_a w.disks.a w.disks.b)
+  pub few : w.kept.book.size ≤ w.kept.book.sealed + BLOCK_LIMIT
+
+-- a journal more has room in the open block
+abbrev pub HasRoom : Kept → Type 0
+HasRoom k = k.book.size < k.book.sealed + BLOCK_LIMIT
+
+-- ---- which history it is
+
+-- the history without its open block
+abbrev pub sealed_part : History → History
+sealed_part h = history h.closed []
+
+-- the places are those of this history's journals, and the tail gate stands behind its blocks
+pub record Located (k : Kept) (h : History) : Type 0 where
+  pub places : k.places ≡ places_at 64 h.closed ++ records_at (k.place + 45) h.waiting
+  pub tail : k.place ≡ after_at 64 h.closed
+
+-- the committer keeps what this history says
+pub record Keeps (k : Kept) (h : History) : Type 0 where
+  pub serves : Serves k.book h
+  pub limits : k.book.limits ≡ real_limits
+  pub floor : k.book.floor ≡ 0
+  pub dues : AllWaiting h k.dues
+  pub body : k.body ≡ body_of h.waiting
+  pub next : AreFrom (sealed_size h) h.waiting
+  pub gathered : AllGather h.waiting
+  pub located : Located k h
+
+-- The pair is clean for a history where no journal waits, and nothing is pending: the open file has it and ends with its
+-- tail gate, which stands at this place, and the other file is empty.
+pub record IsCleanFor (in_a : Bool) (place : ℕ) (h : History) (a b : State) : Type 0 where
+  pub quiet : IsSettled (open_of in_a a b)
+  pub empty : other_of in_a a b ≡ settled_state []
+  pub erased : IsErased (open_of in_a a b).seen h
+  pub ends : length (open_of in_a a b).seen ≡ place + 1
+
+-- this is the history that the committer and its disks have
+pub record Holds (tells : Bool) (w : World) (h : History) : Type 0 where
+  pub told : IsTrue tells
+  pub keeps : Keeps w.kept h
+  pub disks : IsCleanFor w.kept.in_a w.kept.place (sealed_part h) w.disks.a.bytes w.disks.b.bytes
+
+-- ---- ways
+
+-- no fault was met
+pub record MeetsNoFault (before after : World) : Type 0 where
+  pub a : after.disks.a.faults ≡ before.disks.a.faults
+  pub b : after.disks.b.faults ≡ before.disks.b.faults
+  pub sink : MeetsNone before.sink after.sink
+
+-- Of the lines that were due, and those that became due on the way to h, the first are written and the others wait. What is
+-- written is told of each later history whose blocks have ended: what comes later doesn't change it.
+pub record Writes (h : History) (old more new : List Due) (sofar : List ℕ) : Type 0 where
+  pub done : List Due
+  pub split : old ++ more ≡ done ++ new
+  pub kept : AllIn h.closed done
+  pub text : (f : History) → Grows h f → f.waiting ≡ [] → sofar ≡ due_lines f done
+
+-- a call led from each history to the next one, by which this became due
+pub record Goes (tells : Bool) (before : World) (next : History → History) (due : History → List Due) (after : World) : Type 0 where
+  pub holds : (h : History) → Holds tells before h → Holds tells after (next h)
+  pub grows : (h : History) → Holds tells before h → Grows h (next h)
+  pub sofar : List ℕ
+  pub appended : Appends before.sink.held after.sink.held sofar
+  pub writes : (h : History) → Holds tells before h → Writes (next h) before.kept.dues (due h) after.kept.dues sofar
+  pub no_fault : MeetsNoFault before after
+
+-- The images stand for the blocks of h and maybe for more of those of the whole history, and every journal whose receipt was
+-- begun is in them.
+pub record Left (h whole : History) (done : List Due) (a b : List ℕ) : Type 0 where
+  pub kept : History
+  pub stands : PairFor a b kept
+  pub no_shorter : Begins h.closed kept.closed
+  pub no_longer : Begins kept.closed whole.closed
+  pub receipts : AllIn kept.closed done
+
+-- how far the lines were written: whole, but for a fault of the sink
+abbrev pub Says : End → List ℕ → List ℕ → Type 0
+Says DiskFault part lines = part ≡ lines
+Says WriteFault part lines = Begins part lines × (length part < length lines)
+Says NoMemory part lines = part ≡ lines
+Says Closed part lines = part ≡ lines
+
+-- What stands where a call ended the run on the way from h to the whole history: the first lines of those that are due were
+-- written, as they are in each later history whose blocks have ended, and what the disks may leave has their journals.
+pub record Stops (h whole : History) (dues : List Due) (end : End) (part : List ℕ) (disks : Pair) : Type 0 where
+  pub done : List Due
+  pub rest : List Due
+  pub split : dues ≡ done ++ rest
+  pub said : (f : History) → Grows whole f → f.waiting ≡ [] → Says end part (due_lines f done)
+  pub images : (a b : List ℕ) → MayLeave disks.a.bytes a → MayLeave disks.b.bytes b → Left h whole done a b
+
+-- the count of faults rose
+pub record HasRisen (before after : DiskState) : Type 0 where
+  pub rose : Rose before.faults after.faults
+  pub later : before.faults ≤ after.faults
+
+-- one of the two disks failed, and the other didn't
+abbrev pub OneFailed : Pair → Pair → Type 0
+OneFailed before after =
+    (HasRisen before.a after.a × (after.b.faults ≡ before.b.faults))
+    ⊎ (HasRisen before.b after.b × (after.a.faults ≡ before.a.faults))
+
+-- each end has its cause, and no other fault was met
+abbrev pub EndsBy : End → World → World → Type 0
+EndsBy DiskFault before after = OneFailed before.disks after.disks × MeetsNone before.sink after.sink
+EndsBy WriteFault before after =
+    (after.disks.a.faults ≡ before.disks.a.faults) × (after.disks.b.faults ≡ before.disks.b.faults)
+    × MeetsOne before.sink after.sink
+EndsBy NoMemory before after = MeetsNoFault before after
+EndsBy Closed before after = ⊥
+
+-- a call ended the run on the way to the next history
+pub record Ended (tells : Bool) (before : World) (next : History → History) (due : History → List Due) (end : End) (after : World) : Type 0 where
+  pub grows : (h : History) → Holds tells before h → Grows h (next h)
+  pub part : List ℕ
+  pub appended : Appends before.sink.held after.sink.held part
+  pub stops : (h : History) → Holds tells before h → Stops h (next h) (before.kept.dues ++ due h) end part after.disks
+  pub cause : EndsBy end before after

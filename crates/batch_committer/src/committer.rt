@@ -1,0 +1,177 @@
+ghost use Rattle.std.specs.Prelude.{◌≡◌, ◌↔◌, [], ◌∷◌, List, ℕ, true, false, is_err, IsTrue, OnOk, IfErr, Err};
+ghost use Rattle.block_file.specs.Place.{place_of};
+ghost use Rattle.ledger_model.specs.Dues.{due_of};
+ghost use Rattle.ledger_model.specs.History.{History, id, close};
+ghost use Rattle.ledger_model.specs.Rules.{after_job};
+ghost use Rattle.twin_file.specs.Which.{in_a_of, file_of};
+ghost use Rattle.batch_committer.specs.Steps.{step_at};
+ghost use Rattle.batch_committer.specs.World.{disk, pair, world, first_kept, Fits, HasRoom, Keeps, Goes, Ended};
+
+use crate::End;
+use crate::taking::Taking;
+use ledger_book::Prepared;
+use ledger_bytes::Digest;
+use ledger_disk::Disk;
+use ledger_io::Sink;
+use ledger_open::Opened;
+use std::alloc::Global;
+use std::marker::Model;
+
+/// Takes jobs, one after the other: gathers their journals into blocks, commits these on the two disks of the ledger, and
+/// writes replies in the order of the jobs, a receipt once its block is on the disk for good. A block ends where it has
+/// 64 journals, before a job that asks for that, and by a flush. Each call is handed the same two disks and the same
+/// sink. Once a call has ended the run nothing more is taken, and the disks aren't used again.
+#[derive(Drop)]
+pub struct Committer {
+    inner: Taking,
+    ended: bool,
+}
+
+impl Model for Committer {
+    ghost use Rattle.batch_committer.specs.World.{Held};
+
+    ghost Value = { Held };
+
+    ghost view = { λ c. record { kept = c.inner; ended = c.ended } };
+}
+
+impl Committer {
+    /// A committer of a ledger that was made or opened. It takes no memory.
+    pub fn new(alloc: Global, opened: Opened) -> Self
+        ensures kept { result.kept ≡ first_kept opened.book opened.places.list
+            (place_of (file_of opened.twin)) (in_a_of opened.twin) }
+        ensures ended { result.ended ≡ false }
+    {
+        Committer {
+            inner: Taking::new(alloc, opened),
+            ended: false,
+        }
+    }
+
+    /// The ledger's id.
+    pub fn id(&self) -> Digest
+        ensures { (h : History) → Keeps self.now.kept h → result.0 ≡ id h }
+    {
+        self.inner.id()
+    }
+
+    /// Whether no journal waits for its block's end.
+    pub fn is_settled(&self) -> bool
+        ensures { (h : History) → Keeps self.now.kept h → IsTrue result ↔ (h.waiting ≡ []) }
+    {
+        self.inner.is_settled()
+    }
+
+    /// Takes a job, which came from a line: ends the open block before it where the job asks for that, judges the job,
+    /// gathers its journal, and ends the block that it fills. What is due for the job is written with the block's end.
+    pub fn offer<D: Disk, K: Sink>(
+        &mut self,
+        a: &mut D,
+        b: &mut D,
+        sink: &mut K,
+        item: Prepared,
+    ) -> Result<(), End>
+        requires fits { self.old.ended ≡ false → Fits D.tells (world self.old.kept
+            (pair (disk (D.state a.old) (D.told_length a.old) (D.faults a.old))
+            (disk (D.state b.old) (D.told_length b.old) (D.faults b.old)))
+            (K.state sink.old)) }
+        requires room { self.old.ended ≡ false → HasRoom self.old.kept }
+
+        // The line plays no part once its job is there.
+        ensures ok { OnOk result ((line : List ℕ) → Goes D.tells
+            (world self.old.kept
+            (pair (disk (D.state a.old) (D.told_length a.old) (D.faults a.old))
+            (disk (D.state b.old) (D.told_length b.old) (D.faults b.old)))
+            (K.state sink.old))
+            (λ h. after_job h (step_at item.lane item.index line) item.job)
+            (λ h. due_of h (step_at item.lane item.index line) item.job ∷ [])
+            (world self.new.kept
+            (pair (disk (D.state a.new) (D.told_length a.new) (D.faults a.new))
+            (disk (D.state b.new) (D.told_length b.new) (D.faults b.new)))
+            (K.state sink.new))) }
+        ensures fits { OnOk result (Fits D.tells (world self.new.kept
+            (pair (disk (D.state a.new) (D.told_length a.new) (D.faults a.new))
+            (disk (D.state b.new) (D.told_length b.new) (D.faults b.new)))
+            (K.state sink.new))) }
+        ensures room { OnOk result (HasRoom self.new.kept) }
+        ensures err { IfErr result (λ end. self.old.ended ≡ false → (line : List ℕ) → Ended D.tells
+            (world self.old.kept
+            (pair (disk (D.state a.old) (D.told_length a.old) (D.faults a.old))
+            (disk (D.state b.old) (D.told_length b.old) (D.faults b.old)))
+            (K.state sink.old))
+            (λ h. after_job h (step_at item.lane item.index line) item.job)
+            (λ h. due_of h (step_at item.lane item.index line) item.job ∷ [])
+            end
+            (world self.new.kept
+            (pair (disk (D.state a.new) (D.told_length a.new) (D.faults a.new))
+            (disk (D.state b.new) (D.told_length b.new) (D.faults b.new)))
+            (K.state sink.new))) }
+        ensures closed { (result ≡ Err End.Closed) ↔ (self.old.ended ≡ true) }
+        ensures ended { self.new.ended ≡ is_err result }
+        ensures same { self.old.ended ≡ true → self.new ≡ self.old }
+        ensures unused { self.old.ended ≡ true → (a.new ≡ a.old) × (b.new ≡ b.old)
+            × (sink.new ≡ sink.old) }
+    {
+        if self.ended {
+            return Err(End::Closed);
+        }
+        match self.inner.take(a, b, sink, &item) {
+            Ok(()) => Ok(()),
+            Err(end) => {
+                self.ended = true;
+                Err(end)
+            }
+        }
+    }
+
+    /// Ends the open block, and writes all that is due.
+    pub fn flush<D: Disk, K: Sink>(&mut self, a: &mut D, b: &mut D, sink: &mut K) -> Result<(), End>
+        requires { self.old.ended ≡ false → Fits D.tells (world self.old.kept
+            (pair (disk (D.state a.old) (D.told_length a.old) (D.faults a.old))
+            (disk (D.state b.old) (D.told_length b.old) (D.faults b.old)))
+            (K.state sink.old)) }
+        ensures ok { OnOk result (Goes D.tells
+            (world self.old.kept
+            (pair (disk (D.state a.old) (D.told_length a.old) (D.faults a.old))
+            (disk (D.state b.old) (D.told_length b.old) (D.faults b.old)))
+            (K.state sink.old))
+            close (λ h. [])
+            (world self.new.kept
+            (pair (disk (D.state a.new) (D.told_length a.new) (D.faults a.new))
+            (disk (D.state b.new) (D.told_length b.new) (D.faults b.new)))
+            (K.state sink.new))) }
+        ensures fits { OnOk result (Fits D.tells (world self.new.kept
+            (pair (disk (D.state a.new) (D.told_length a.new) (D.faults a.new))
+            (disk (D.state b.new) (D.told_length b.new) (D.faults b.new)))
+            (K.state sink.new))) }
+        ensures room { OnOk result (HasRoom self.new.kept) }
+        ensures dues { OnOk result (self.new.kept.dues ≡ []) }
+        ensures err { IfErr result (λ end. self.old.ended ≡ false → Ended D.tells
+            (world self.old.kept
+            (pair (disk (D.state a.old) (D.told_length a.old) (D.faults a.old))
+            (disk (D.state b.old) (D.told_length b.old) (D.faults b.old)))
+            (K.state sink.old))
+            close (λ h. []) end
+            (world self.new.kept
+            (pair (disk (D.state a.new) (D.told_length a.new) (D.faults a.new))
+            (disk (D.state b.new) (D.told_length b.new) (D.faults b.new)))
+            (K.state sink.new))) }
+        ensures closed { (result ≡ Err End.Closed) ↔ (self.old.ended ≡ true) }
+        ensures ended { self.new.ended ≡ is_err result }
+        ensures same { self.old.ended ≡ true → self.new ≡ self.old }
+        ensures unused { self.old.ended ≡ true → (a.new ≡ a.old) × (b.new ≡ b.old)
+            × (sink.new ≡ sink.old) }
+    {
+        if self.ended {
+            Err(End::Closed)
+        } else {
+            match self.inner.settle(a, b, sink) {
+                Ok(()) => Ok(()),
+                Err(end) => {
+                    self.ended = true;
+                    Err(end)
+                }
+            }
+        }
+    }
+}

@@ -1,0 +1,41 @@
+use ledger_bytes::NoMemory;
+use ledger_io::WriteErr;
+use thiserror::Error;
+
+/// Why a call of a committer ended its run.
+#[derive(Clone, Copy, Debug, PartialEq, Eq, Error)]
+pub enum End {
+    /// A call of a disk failed, and its count of faults rose.
+    #[error("a disk failed")]
+    DiskFault,
+    /// The sink failed, or it took nothing of a piece that wasn't empty.
+    #[error("writing failed")]
+    WriteFault,
+    #[error("out of memory")]
+    NoMemory,
+    /// An earlier call ended the run.
+    #[error("the run has ended")]
+    Closed,
+}
+
+impl From<NoMemory> for End {
+    ghost use Rattle.std.specs.Prelude.{◌≡◌};
+    ghost use Rattle.batch_committer.specs.declared.end.End.TheVariants.{NoMemory as no_memory};
+
+    ghost from_gives = { λ _ end. end ≡ no_memory };
+
+    fn from(_: NoMemory) -> Self {
+        End::NoMemory
+    }
+}
+
+impl From<WriteErr> for End {
+    ghost use Rattle.std.specs.Prelude.{◌≡◌};
+    ghost use Rattle.batch_committer.specs.declared.end.End.TheVariants.{WriteFault};
+
+    ghost from_gives = { λ _ end. end ≡ WriteFault };
+
+    fn from(_: WriteErr) -> Self {
+        End::WriteFault
+    }
+}

@@ -1,0 +1,149 @@
+ghost use Rattle.std.specs.Prelude.{◌≡◌, [], IsTrue, IfOk, IfErr, OnOk, take, drop};
+ghost use Rattle.ledger_book.specs.Books.{Serves};
+ghost use Rattle.ledger_model.specs.Getting as spec;
+ghost use Rattle.ledger_model.specs.History.{History, size};
+ghost use Rattle.ledger_open.specs.Places.{entry_at, places_of};
+ghost use Rattle.ledger_open.specs.Standing.{IsErased};
+ghost use Rattle.batch_committer.specs.Read.{WasRead, ReadEnds};
+ghost use Rattle.batch_committer.specs.World.{disk};
+
+use crate::End;
+use block_file::RecordAt;
+use journal_record::{Header, content_digest, who_digest};
+use ledger_book::Book;
+use ledger_bytes::{Bytes, Digest, Refusal};
+use ledger_disk::Disk;
+use ledger_model::View;
+use ledger_open::Places;
+use script_lines::Reply;
+use std::alloc::Global;
+
+/// The reply to a line that asks for journal `n`, where no journal waits. What the journal's header doesn't tell is read
+/// from the open file, whose disk this is, and compared with the digests that the header names.
+pub(crate) fn get<D: Disk>(
+    alloc: Global,
+    book: &Book,
+    places: &Places,
+    file: &mut D,
+    n: u64,
+) -> Result<Reply, End>
+    ensures told { IfOk result (λ reply. IsTrue D.tells → (h : History) → Serves book.now h
+        → places.now.list ≡ places_of h → IsErased (D.state file.old).seen h
+        → reply ≡ spec.get_reply h n) }
+    ensures read { WasRead D.tells (disk (D.state file.old) (D.told_length file.old) (D.faults file.old))
+        (disk (D.state file.new) (D.told_length file.new) (D.faults file.new)) }
+    ensures no_fault { OnOk result (D.faults file.new ≡ D.faults file.old) }
+    ensures err { IfErr result (λ end. ReadEnds end (D.faults file.old) (D.faults file.new)) }
+{
+    let place = places.as_slice().get(n as usize);
+    match book.view(n) {
+        View::Absent => Ok(no_journal(book)),
+        View::Purged { point } => Ok(Reply::Refused(Refusal::Purged { point })),
+        View::Occulted => match place {
+            Some(place) => occulted(alloc, file, place),
+            None => Ok(no_journal(book)),
+        },
+        View::Whole => match place {
+            Some(place) => whole(alloc, file, place),
+            None => Ok(no_journal(book)),
+        },
+    }
+}
+
+fn no_journal(book: &Book) -> Reply
+    ensures { (h : History) → Serves book.now h → h.waiting ≡ []
+        → result ≡ Reply.Refused (Refusal.NoJournal (size h)) }
+{
+    Reply::Refused(Refusal::NoJournal {
+        size: book.head().size,
+    })
+}
+
+// A journal with its content and its who, which stand at this place.
+fn whole<D: Disk>(alloc: Global, file: &mut D, place: &RecordAt) -> Result<Reply, End>
+    ensures told { IfOk result (λ reply. IsTrue D.tells → reply ≡ spec.whole_reply place.now.header
+        (entry_at (D.state file.old).seen place.now).content
+        (entry_at (D.state file.old).seen place.now).who) }
+    ensures read { WasRead D.tells (disk (D.state file.old) (D.told_length file.old) (D.faults file.old))
+        (disk (D.state file.new) (D.told_length file.new) (D.faults file.new)) }
+    ensures no_fault { OnOk result (D.faults file.new ≡ D.faults file.old) }
+    ensures err { IfErr result (λ end. ReadEnds end (D.faults file.old) (D.faults file.new)) }
+{
+    let content = read_piece(alloc, file, place.content_at, place.header.content_len)?;
+    let who = read_piece(alloc, file, place.who_at, place.who_len)?;
+    Ok(whole_reply(&place.header, content, who))
+}
+
+// A journal with its who alone, which stands at this place.
+fn occulted<D: Disk>(alloc: Global, file: &mut D, place: &RecordAt) -> Result<Reply, End>
+    ensures told { IfOk result (λ reply. IsTrue D.tells → reply ≡ spec.occulted_reply place.now.header
+        (entry_at (D.state file.old).seen place.now).who) }
+    ensures read { WasRead D.tells (disk (D.state file.old) (D.told_length file.old) (D.faults file.old))
+        (disk (D.state file.new) (D.told_length file.new) (D.faults file.new)) }
+    ensures no_fault { OnOk result (D.faults file.new ≡ D.faults file.old) }
+    ensures err { IfErr result (λ end. ReadEnds end (D.faults file.old) (D.faults file.new)) }
+{
+    let who = read_piece(alloc, file, place.who_at, place.who_len)?;
+    Ok(occulted_reply(&place.header, who))
+}
+
+// A range of the file, as far as bytes stand there. A piece that is cut short has another digest than the whole one.
+fn read_piece<D: Disk>(alloc: Global, file: &mut D, at: u64, len: u32) -> Result<Vec<u8>, End>
+    ensures bytes { IfOk result (λ piece. IsTrue D.tells
+        → piece.items ≡ take len (drop at (D.state file.old).seen)) }
+    ensures read { WasRead D.tells (disk (D.state file.old) (D.told_length file.old) (D.faults file.old))
+        (disk (D.state file.new) (D.told_length file.new) (D.faults file.new)) }
+    ensures no_fault { OnOk result (D.faults file.new ≡ D.faults file.old) }
+    ensures err { IfErr result (λ end. ReadEnds end (D.faults file.old) (D.faults file.new)) }
+{
+    let mut piece = Vec::new(alloc);
+    let Ok(()) = piece.resize(len as usize, 0) else {
+        return Err(End::NoMemory);
+    };
+    let Ok(count) = file.read(at, piece.as_mut_slice()) else {
+        return Err(End::DiskFault);
+    };
+    piece.truncate(count);
+    Ok(piece)
+}
+
+// The reply on a journal with these parts.
+fn whole_reply(header: &Header, content: Vec<u8>, who: Vec<u8>) -> Reply
+    ensures { result ≡ spec.whole_reply header.now content.items who.items }
+{
+    if let Some(refusal) = damage(header.content_digest, content_digest(&content)) {
+        return Reply::Refused(refusal);
+    }
+    if let Some(refusal) = damage(header.who_digest, who_digest(&who)) {
+        return Reply::Refused(refusal);
+    }
+    Reply::Whole {
+        header: header.encode(),
+        content: Bytes::of(content),
+        who: Bytes::of(who),
+    }
+}
+
+// The reply on a journal whose content is hidden, with this who.
+fn occulted_reply(header: &Header, who: Vec<u8>) -> Reply
+    ensures { result ≡ spec.occulted_reply header.now who.items }
+{
+    match damage(header.who_digest, who_digest(&who)) {
+        Some(refusal) => Reply::Refused(refusal),
+        None => Reply::Occulted {
+            header: header.encode(),
+            who: Bytes::of(who),
+        },
+    }
+}
+
+// A part of a journal has another digest than the one that was kept of it.
+fn damage(kept: Digest, found: Digest) -> Option<Refusal>
+    ensures { result ≡ spec.damage kept found.0 }
+{
+    if found == kept {
+        None
+    } else {
+        Some(Refusal::Damaged { kept, found })
+    }
+}

@@ -1,0 +1,24 @@
+//! Jobs are judged one after the other and their journals gathered into blocks; blocks are committed on the two disks of an
+//! opened ledger, and replies written: a receipt only once its block is on the disk for good.
+#![tactic(auto)]
+
+mod block;
+mod commit;
+mod committer;
+mod dues;
+mod end;
+mod getting;
+mod head;
+mod laws;
+mod queries;
+mod taking;
+
+pub use committer::Committer;
+pub use end::End;
+pub use laws::{
+    a_held_history_is_lawful, a_held_ledger_is_clean, a_new_ledger_is_held,
+    an_opened_ledger_is_held,
+};
+
+#[cfg(test)]
+mod tests;

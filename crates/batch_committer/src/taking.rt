@@ -1,0 +1,543 @@
+ghost use Rattle.std.specs.Prelude.{◌≡◌, ◌↔◌, ◌≤◌, ◌<◌, ◌+◌, ◌^◌, ◌++◌, [], ◌∷◌, length, slice_get, Some, None, Bool, true, List, ℕ, IfOk, IfErr, OnOk, OnErr, IsTrue};
+ghost use Rattle.journal_record.specs.Approval.{who_of};
+ghost use Rattle.journal_record.specs.Entry.{Entry};
+ghost use Rattle.journal_record.specs.declared.approval.Approval.{Approval as AnyApproval};
+ghost use Rattle.ledger_bytes.specs.declared.limits.TheConstants.{PROOF_LIMIT};
+ghost use Rattle.block_file.specs.Blocks.{record_at};
+ghost use Rattle.block_file.specs.Place.{place_of};
+ghost use Rattle.ledger_io.specs.Outside.{SinkState};
+ghost use Rattle.ledger_model.specs.Dues.{due_of};
+ghost use Rattle.ledger_model.specs.Fitting.{fits_job};
+ghost use Rattle.ledger_model.specs.History.{History, journals, id, close};
+ghost use Rattle.ledger_model.specs.InOrder.{step_of};
+ghost use Rattle.ledger_model.specs.Limits.{real_limits};
+ghost use Rattle.ledger_model.specs.Outcomes.{with_job};
+ghost use Rattle.ledger_model.specs.Rules.{closes_before, judged_at, settled_history, after_job};
+ghost use Rattle.ledger_model.specs.Texts.{told_reply};
+ghost use Rattle.ledger_model.specs.Windows.{Said};
+ghost use Rattle.ledger_model.specs.declared.job.Job.{Job as AnyJob};
+ghost use Rattle.ledger_book.specs.Books.{Serves};
+ghost use Rattle.twin_file.specs.Which.{in_a_of, file_of};
+ghost use Rattle.batch_committer.specs.Read.{WereRead, NoneFailed, ReadingEnds};
+ghost use Rattle.batch_committer.specs.Steps.{step_at, due_by, HasParts, HasJournal, IsGathered, Judged, KeepsRest};
+ghost use Rattle.batch_committer.specs.World.{Pair, disk, pair, world, first_kept, Reads, ServesSome, Fits, HasRoom, Keeps, Holds, Goes, Ended};
+
+use crate::End;
+use crate::block::{APPROVAL_LEN, OpenBlock};
+use crate::commit::commit;
+use crate::dues::spell;
+use crate::queries::reply_to;
+use block_file::RecordAt;
+use journal_record::{Approval, Header};
+use ledger_book::{Book, Job, Outcome, Prepared, Query};
+use ledger_bytes::{BLOCK_LIMIT, Digest, NoMemory};
+use ledger_disk::Disk;
+use ledger_io::{Sink, write_all};
+use ledger_model::{Answer, Due};
+use ledger_open::{Opened, Places};
+use script_lines::Reply;
+use std::alloc::Global;
+use std::marker::Model;
+use twin_file::Twin;
+
+/// How many bytes of a record stand before its content: the header, and the length of who placed the journal.
+const RECORD_HEAD_LEN: u64 = 178;
+
+/// The length of a block's gate and head in bytes.
+const BLOCK_HEAD_LEN: u64 = 45;
+
+/// What takes jobs while no call has ended its run.
+#[derive(Drop)]
+pub(crate) struct Taking {
+    alloc: Global,
+    book: Book,
+    twin: Twin,
+    /// Where each journal stands, or will stand.
+    places: Places,
+    block: OpenBlock,
+    /// What is due, and waits for the open block's end.
+    dues: Vec<Due>,
+    /// The lines that are written, in a buffer that is used again.
+    text: Vec<u8>,
+}
+
+impl Model for Taking {
+    ghost use Rattle.block_file.specs.Place.{place_of};
+    ghost use Rattle.twin_file.specs.Which.{in_a_of, file_of};
+    ghost use Rattle.batch_committer.specs.World.{Kept};
+
+    ghost Value = { Kept };
+
+    ghost view = { λ t. record {
+      book = t.book;
+      place = place_of (file_of t.twin);
+      in_a = in_a_of t.twin;
+      body = t.block.body;
+      places = t.places.list;
+      dues = t.dues.items;
+    } };
+}
+
+impl Taking {
+    pub(crate) fn new(alloc: Global, opened: Opened) -> Self
+        ensures { result ≡ first_kept opened.book opened.places.list
+            (place_of (file_of opened.twin)) (in_a_of opened.twin) }
+    {
+        Taking {
+            alloc,
+            book: opened.book,
+            twin: opened.twin,
+            places: opened.places,
+            block: OpenBlock::new(alloc),
+            dues: Vec::new(alloc),
+            text: Vec::new(alloc),
+        }
+    }
+
+    /// The ledger's id.
+    pub(crate) fn id(&self) -> Digest
+        ensures { (h : History) → Keeps self.now h → result.0 ≡ id h }
+    {
+        self.book.id()
+    }
+
+    /// Whether no journal waits for its block's end.
+    pub(crate) fn is_settled(&self) -> bool
+        ensures { (h : History) → Keeps self.now h → IsTrue result ↔ (h.waiting ≡ []) }
+    {
+        self.book.waiting_count() == 0
+    }
+
+    /// Takes a job, which came from a line: ends the open block where the job asks for that, judges the job and gathers
+    /// what it places, and ends the block that it fills.
+    pub(crate) fn take<D: Disk, K: Sink>(
+        &mut self,
+        a: &mut D,
+        b: &mut D,
+        sink: &mut K,
+        item: &Prepared,
+    ) -> Result<(), End>
+        requires fits { Fits D.tells (world self.old
+            (pair (disk (D.state a.old) (D.told_length a.old) (D.faults a.old))
+            (disk (D.state b.old) (D.told_length b.old) (D.faults b.old)))
+            (K.state sink.old)) }
+        requires room { HasRoom self.old }
+        ensures ok { OnOk result ((line : List ℕ) → Goes D.tells
+            (world self.old
+            (pair (disk (D.state a.old) (D.told_length a.old) (D.faults a.old))
+            (disk (D.state b.old) (D.told_length b.old) (D.faults b.old)))
+            (K.state sink.old))
+            (λ h. after_job h (step_at item.now.lane item.now.index line) item.now.job)
+            (λ h. due_of h (step_at item.now.lane item.now.index line) item.now.job ∷ [])
+            (world self.new
+            (pair (disk (D.state a.new) (D.told_length a.new) (D.faults a.new))
+            (disk (D.state b.new) (D.told_length b.new) (D.faults b.new)))
+            (K.state sink.new))) }
+        ensures fits { OnOk result (Fits D.tells (world self.new
+            (pair (disk (D.state a.new) (D.told_length a.new) (D.faults a.new))
+            (disk (D.state b.new) (D.told_length b.new) (D.faults b.new)))
+            (K.state sink.new))) }
+        ensures room { OnOk result (HasRoom self.new) }
+        ensures err { IfErr result (λ end. (line : List ℕ) → Ended D.tells
+            (world self.old
+            (pair (disk (D.state a.old) (D.told_length a.old) (D.faults a.old))
+            (disk (D.state b.old) (D.told_length b.old) (D.faults b.old)))
+            (K.state sink.old))
+            (λ h. after_job h (step_at item.now.lane item.now.index line) item.now.job)
+            (λ h. due_of h (step_at item.now.lane item.now.index line) item.now.job ∷ [])
+            end
+            (world self.new
+            (pair (disk (D.state a.new) (D.told_length a.new) (D.faults a.new))
+            (disk (D.state b.new) (D.told_length b.new) (D.faults b.new)))
+            (K.state sink.new))) }
+    {
+        self.end_before(a, b, sink, &item.job)?;
+        self.take_in(a, b, item)?;
+        self.end_full(a, b, sink)
+    }
+
+    /// Ends the open block, where a journal waits in it, and writes all that is due.
+    pub(crate) fn settle<D: Disk, K: Sink>(
+        &mut self,
+        a: &mut D,
+        b: &mut D,
+        sink: &mut K,
+    ) -> Result<(), End>
+        requires fits { Fits D.tells (world self.old
+            (pair (disk (D.state a.old) (D.told_length a.old) (D.faults a.old))
+            (disk (D.state b.old) (D.told_length b.old) (D.faults b.old)))
+            (K.state sink.old)) }
+        ensures ok { OnOk result (Goes D.tells
+            (world self.old
+            (pair (disk (D.state a.old) (D.told_length a.old) (D.faults a.old))
+            (disk (D.state b.old) (D.told_length b.old) (D.faults b.old)))
+            (K.state sink.old))
+            close (λ h. [])
+            (world self.new
+            (pair (disk (D.state a.new) (D.told_length a.new) (D.faults a.new))
+            (disk (D.state b.new) (D.told_length b.new) (D.faults b.new)))
+            (K.state sink.new))) }
+        ensures fits { OnOk result (Fits D.tells (world self.new
+            (pair (disk (D.state a.new) (D.told_length a.new) (D.faults a.new))
+            (disk (D.state b.new) (D.told_length b.new) (D.faults b.new)))
+            (K.state sink.new))) }
+        ensures empty { OnOk result ((self.new.book.size ≡ self.new.book.sealed)
+            × (self.new.dues ≡ [])) }
+        ensures err { IfErr result (λ end. Ended D.tells
+            (world self.old
+            (pair (disk (D.state a.old) (D.told_length a.old) (D.faults a.old))
+            (disk (D.state b.old) (D.told_length b.old) (D.faults b.old)))
+            (K.state sink.old))
+            close (λ h. []) end
+            (world self.new
+            (pair (disk (D.state a.new) (D.told_length a.new) (D.faults a.new))
+            (disk (D.state b.new) (D.told_length b.new) (D.faults b.new)))
+            (K.state sink.new))) }
+    {
+        if self.book.waiting_count() == 0 {
+            self.write_dues(sink)
+        } else {
+            self.end_block(a, b, sink)
+        }
+    }
+
+    // Writes all that is due, where no journal waits for its block's end.
+    fn write_dues<K: Sink>(&mut self, sink: &mut K) -> Result<(), End>
+        requires { (h : History) → Serves self.old.book h → h.waiting ≡ [] }
+        ensures ok { OnOk result ((tells : Bool) (disks : Pair) → Goes tells
+            (world self.old disks (K.state sink.old))
+            close (λ h. [])
+            (world self.new disks (K.state sink.new))) }
+        ensures same { OnOk result ((self.new.book ≡ self.old.book)
+            × (self.new.place ≡ self.old.place) × (self.new.in_a ≡ self.old.in_a)
+            × (self.new.dues ≡ [])) }
+        ensures err { IfErr result (λ end. (tells : Bool) (disks : Pair) → Ended tells
+            (world self.old disks (K.state sink.old))
+            close (λ h. []) end
+            (world self.new disks (K.state sink.new))) }
+    {
+        spell(&mut self.text, &self.book, self.dues.as_slice())?;
+        write_all(sink, self.text.as_slice())?;
+        self.dues.clear();
+        Ok(())
+    }
+
+    // Ends the open block, in which a journal waits: commits it, and then writes all that is due. All memory is taken
+    // before the first call of a disk.
+    fn end_block<D: Disk, K: Sink>(&mut self, a: &mut D, b: &mut D, sink: &mut K) -> Result<(), End>
+        requires fits { Fits D.tells (world self.old
+            (pair (disk (D.state a.old) (D.told_length a.old) (D.faults a.old))
+            (disk (D.state b.old) (D.told_length b.old) (D.faults b.old)))
+            (K.state sink.old)) }
+        requires waits { self.old.book.sealed < self.old.book.size }
+        ensures ok { OnOk result (Goes D.tells
+            (world self.old
+            (pair (disk (D.state a.old) (D.told_length a.old) (D.faults a.old))
+            (disk (D.state b.old) (D.told_length b.old) (D.faults b.old)))
+            (K.state sink.old))
+            close (λ h. [])
+            (world self.new
+            (pair (disk (D.state a.new) (D.told_length a.new) (D.faults a.new))
+            (disk (D.state b.new) (D.told_length b.new) (D.faults b.new)))
+            (K.state sink.new))) }
+        ensures fits { OnOk result (Fits D.tells (world self.new
+            (pair (disk (D.state a.new) (D.told_length a.new) (D.faults a.new))
+            (disk (D.state b.new) (D.told_length b.new) (D.faults b.new)))
+            (K.state sink.new))) }
+        ensures empty { OnOk result ((self.new.book.size ≡ self.new.book.sealed)
+            × (self.new.dues ≡ [])) }
+        ensures err { IfErr result (λ end. Ended D.tells
+            (world self.old
+            (pair (disk (D.state a.old) (D.told_length a.old) (D.faults a.old))
+            (disk (D.state b.old) (D.told_length b.old) (D.faults b.old)))
+            (K.state sink.old))
+            close (λ h. []) end
+            (world self.new
+            (pair (disk (D.state a.new) (D.told_length a.new) (D.faults a.new))
+            (disk (D.state b.new) (D.told_length b.new) (D.faults b.new)))
+            (K.state sink.new))) }
+    {
+        let count = self.book.waiting_count() as u32;
+        self.book.seal();
+        spell(&mut self.text, &self.book, self.dues.as_slice())?;
+        self.block.finish(count, &self.book.head().root)?;
+        commit(&mut self.twin, a, b, self.block.as_slice())?;
+        write_all(sink, self.text.as_slice())?;
+        self.block.clear();
+        self.dues.clear();
+        Ok(())
+    }
+
+    // Ends the open block before a job that asks for that.
+    fn end_before<D: Disk, K: Sink>(
+        &mut self,
+        a: &mut D,
+        b: &mut D,
+        sink: &mut K,
+        job: &Job,
+    ) -> Result<(), End>
+        requires fits { Fits D.tells (world self.old
+            (pair (disk (D.state a.old) (D.told_length a.old) (D.faults a.old))
+            (disk (D.state b.old) (D.told_length b.old) (D.faults b.old)))
+            (K.state sink.old)) }
+        requires room { HasRoom self.old }
+        ensures ok { OnOk result (Goes D.tells
+            (world self.old
+            (pair (disk (D.state a.old) (D.told_length a.old) (D.faults a.old))
+            (disk (D.state b.old) (D.told_length b.old) (D.faults b.old)))
+            (K.state sink.old))
+            (λ h. judged_at h job.now) (λ h. [])
+            (world self.new
+            (pair (disk (D.state a.new) (D.told_length a.new) (D.faults a.new))
+            (disk (D.state b.new) (D.told_length b.new) (D.faults b.new)))
+            (K.state sink.new))) }
+        ensures fits { OnOk result (Fits D.tells (world self.new
+            (pair (disk (D.state a.new) (D.told_length a.new) (D.faults a.new))
+            (disk (D.state b.new) (D.told_length b.new) (D.faults b.new)))
+            (K.state sink.new))) }
+        ensures room { OnOk result (HasRoom self.new) }
+        ensures settled { OnOk result (closes_before job.now ≡ true
+            → (h : History) → Serves self.new.book h → h.waiting ≡ []) }
+        ensures err { IfErr result (λ end. Ended D.tells
+            (world self.old
+            (pair (disk (D.state a.old) (D.told_length a.old) (D.faults a.old))
+            (disk (D.state b.old) (D.told_length b.old) (D.faults b.old)))
+            (K.state sink.old))
+            (λ h. judged_at h job.now) (λ h. []) end
+            (world self.new
+            (pair (disk (D.state a.new) (D.told_length a.new) (D.faults a.new))
+            (disk (D.state b.new) (D.told_length b.new) (D.faults b.new)))
+            (K.state sink.new))) }
+    {
+        if job.closes_before() {
+            self.settle(a, b, sink)
+        } else {
+            Ok(())
+        }
+    }
+
+    // Ends the open block where it is full, and writes all that is due where no journal waits.
+    fn end_full<D: Disk, K: Sink>(&mut self, a: &mut D, b: &mut D, sink: &mut K) -> Result<(), End>
+        requires { Fits D.tells (world self.old
+            (pair (disk (D.state a.old) (D.told_length a.old) (D.faults a.old))
+            (disk (D.state b.old) (D.told_length b.old) (D.faults b.old)))
+            (K.state sink.old)) }
+        ensures ok { OnOk result ((job : AnyJob) → Goes D.tells
+            (world self.old
+            (pair (disk (D.state a.old) (D.told_length a.old) (D.faults a.old))
+            (disk (D.state b.old) (D.told_length b.old) (D.faults b.old)))
+            (K.state sink.old))
+            (settled_history job) (λ h. [])
+            (world self.new
+            (pair (disk (D.state a.new) (D.told_length a.new) (D.faults a.new))
+            (disk (D.state b.new) (D.told_length b.new) (D.faults b.new)))
+            (K.state sink.new))) }
+        ensures fits { OnOk result (Fits D.tells (world self.new
+            (pair (disk (D.state a.new) (D.told_length a.new) (D.faults a.new))
+            (disk (D.state b.new) (D.told_length b.new) (D.faults b.new)))
+            (K.state sink.new))) }
+        ensures room { OnOk result (HasRoom self.new) }
+        ensures err { IfErr result (λ end. (job : AnyJob) → Ended D.tells
+            (world self.old
+            (pair (disk (D.state a.old) (D.told_length a.old) (D.faults a.old))
+            (disk (D.state b.old) (D.told_length b.old) (D.faults b.old)))
+            (K.state sink.old))
+            (settled_history job) (λ h. []) end
+            (world self.new
+            (pair (disk (D.state a.new) (D.told_length a.new) (D.faults a.new))
+            (disk (D.state b.new) (D.told_length b.new) (D.faults b.new)))
+            (K.state sink.new))) }
+    {
+        let waiting = self.book.waiting_count();
+        if waiting == 0 || waiting >= BLOCK_LIMIT {
+            self.settle(a, b, sink)
+        } else {
+            Ok(())
+        }
+    }
+
+    // Judges a job and gathers what it places, and keeps what is due for it with the rest.
+    fn take_in<D: Disk>(&mut self, a: &mut D, b: &mut D, item: &Prepared) -> Result<(), End>
+        requires some { ServesSome self.old.book }
+        requires settled { closes_before item.now.job ≡ true
+            → (h : History) → Serves self.old.book h → h.waiting ≡ [] }
+        ensures ok { OnOk result ((line : List ℕ) (sink : SinkState) → Goes D.tells
+            (world self.old
+            (pair (disk (D.state a.old) (D.told_length a.old) (D.faults a.old))
+            (disk (D.state b.old) (D.told_length b.old) (D.faults b.old)))
+            sink)
+            (λ g. with_job real_limits None g item.now.job)
+            (λ g. due_by g (step_at item.now.lane item.now.index line) item.now.job ∷ [])
+            (world self.new
+            (pair (disk (D.state a.new) (D.told_length a.new) (D.faults a.new))
+            (disk (D.state b.new) (D.told_length b.new) (D.faults b.new)))
+            sink)) }
+        ensures err { IfErr result (λ end. (line : List ℕ) (sink : SinkState) → Ended D.tells
+            (world self.old
+            (pair (disk (D.state a.old) (D.told_length a.old) (D.faults a.old))
+            (disk (D.state b.old) (D.told_length b.old) (D.faults b.old)))
+            sink)
+            (λ g. with_job real_limits None g item.now.job)
+            (λ g. due_by g (step_at item.now.lane item.now.index line) item.now.job ∷ [])
+            end
+            (world self.new
+            (pair (disk (D.state a.new) (D.told_length a.new) (D.faults a.new))
+            (disk (D.state b.new) (D.told_length b.new) (D.faults b.new)))
+            sink)) }
+        ensures read { WereRead D.tells
+            (pair (disk (D.state a.old) (D.told_length a.old) (D.faults a.old))
+            (disk (D.state b.old) (D.told_length b.old) (D.faults b.old)))
+            (pair (disk (D.state a.new) (D.told_length a.new) (D.faults a.new))
+            (disk (D.state b.new) (D.told_length b.new) (D.faults b.new))) }
+        ensures serves { OnOk result ((h : History) → Serves self.old.book h
+            → Serves self.new.book (with_job self.old.book.limits None h item.now.job)) }
+        ensures place { self.new.place ≡ self.old.place }
+        ensures in_a { self.new.in_a ≡ self.old.in_a }
+    {
+        let answer = self.judge(a, b, &item.job)?;
+        let due = Due {
+            lane: item.lane,
+            index: item.index,
+            answer,
+        };
+        let Ok(()) = self.dues.push(due) else {
+            return Err(End::NoMemory);
+        };
+        Ok(())
+    }
+
+    // Judges a job, gathers what it places, and answers what is due for it.
+    fn judge<D: Disk>(&mut self, a: &mut D, b: &mut D, job: &Job) -> Result<Answer, End>
+        requires fits { fits_job job.now ≡ true }
+        requires some { ServesSome self.old.book }
+        ensures judged { IfOk result (λ answer. (h : History) (x : Said) (sink : SinkState)
+            → Holds D.tells
+            (world self.old
+            (pair (disk (D.state a.old) (D.told_length a.old) (D.faults a.old))
+            (disk (D.state b.old) (D.told_length b.old) (D.faults b.old)))
+            sink)
+            h
+            → (closes_before job.now ≡ true → h.waiting ≡ [])
+            → Judged self.new h (step_of x) job.now answer) }
+        ensures serves { OnOk result ((h : History) → Serves self.old.book h
+            → Serves self.new.book (with_job self.old.book.limits None h job.now)) }
+        ensures rest { KeepsRest self.old self.new }
+        ensures read { WereRead D.tells
+            (pair (disk (D.state a.old) (D.told_length a.old) (D.faults a.old))
+            (disk (D.state b.old) (D.told_length b.old) (D.faults b.old)))
+            (pair (disk (D.state a.new) (D.told_length a.new) (D.faults a.new))
+            (disk (D.state b.new) (D.told_length b.new) (D.faults b.new))) }
+        ensures no_fault { OnOk result (NoneFailed
+            (pair (disk (D.state a.old) (D.told_length a.old) (D.faults a.old))
+            (disk (D.state b.old) (D.told_length b.old) (D.faults b.old)))
+            (pair (disk (D.state a.new) (D.told_length a.new) (D.faults a.new))
+            (disk (D.state b.new) (D.told_length b.new) (D.faults b.new)))) }
+        ensures err { IfErr result (λ end. ReadingEnds end
+            (pair (disk (D.state a.old) (D.told_length a.old) (D.faults a.old))
+            (disk (D.state b.old) (D.told_length b.old) (D.faults b.old)))
+            (pair (disk (D.state a.new) (D.told_length a.new) (D.faults a.new))
+            (disk (D.state b.new) (D.told_length b.new) (D.faults b.new)))) }
+    {
+        match self.book.apply(job, None)? {
+            Outcome::Refused(refusal) => Ok(Answer::Reply(Reply::Refused(refusal))),
+            Outcome::Placed { jsn, leaf } => {
+                self.gather_placed(job, jsn)?;
+                Ok(Answer::Receipt {
+                    jsn,
+                    leaf,
+                    stamp: None,
+                })
+            }
+            Outcome::Reading(query) => Ok(Answer::Reply(self.tell(a, b, &query)?)),
+        }
+    }
+
+    // What is told to a query, where no journal waits.
+    fn tell<D: Disk>(&self, a: &mut D, b: &mut D, query: &Query) -> Result<Reply, End>
+        ensures told { IfOk result (λ reply. (h : History) (x : Said) (sink : SinkState)
+            → Holds D.tells
+            (world self.now
+            (pair (disk (D.state a.old) (D.told_length a.old) (D.faults a.old))
+            (disk (D.state b.old) (D.told_length b.old) (D.faults b.old)))
+            sink)
+            h
+            → h.waiting ≡ [] → reply ≡ told_reply h (step_of x) query.now) }
+        ensures read { WereRead D.tells
+            (pair (disk (D.state a.old) (D.told_length a.old) (D.faults a.old))
+            (disk (D.state b.old) (D.told_length b.old) (D.faults b.old)))
+            (pair (disk (D.state a.new) (D.told_length a.new) (D.faults a.new))
+            (disk (D.state b.new) (D.told_length b.new) (D.faults b.new))) }
+        ensures no_fault { OnOk result (NoneFailed
+            (pair (disk (D.state a.old) (D.told_length a.old) (D.faults a.old))
+            (disk (D.state b.old) (D.told_length b.old) (D.faults b.old)))
+            (pair (disk (D.state a.new) (D.told_length a.new) (D.faults a.new))
+            (disk (D.state b.new) (D.told_length b.new) (D.faults b.new)))) }
+        ensures err { IfErr result (λ end. ReadingEnds end
+            (pair (disk (D.state a.old) (D.told_length a.old) (D.faults a.old))
+            (disk (D.state b.old) (D.told_length b.old) (D.faults b.old)))
+            (pair (disk (D.state a.new) (D.told_length a.new) (D.faults a.new))
+            (disk (D.state b.new) (D.told_length b.new) (D.faults b.new)))) }
+    {
+        if self.twin.in_a() {
+            reply_to(self.alloc, &self.book, &self.places, a, query)
+        } else {
+            reply_to(self.alloc, &self.book, &self.places, b, query)
+        }
+    }
+
+    // Gathers the journal that the book has placed for a job.
+    fn gather_placed(&mut self, job: &Job, jsn: u64) -> Result<(), NoMemory>
+        requires fits { fits_job job.now ≡ true }
+        requires has { HasJournal self.old.book jsn }
+        ensures gathered { OnOk result ((h : History) (journal : Entry) (content : List ℕ)
+            (by : AnyApproval) → HasParts job.now content by → Serves self.old.book h
+            → slice_get (journals h) jsn ≡ Some journal → self.old.book.floor ≤ jsn
+            → journal.content ≡ content → journal.who ≡ who_of (by ∷ [])
+            → IsGathered self.old self.new journal) }
+        ensures book { self.new.book ≡ self.old.book }
+        ensures rest { KeepsRest self.old self.new }
+    {
+        match job {
+            Job::Append { content, by, .. } => self.gather(jsn, content.as_slice(), by),
+            Job::NewMember { by, .. } => self.gather(jsn, &[], by),
+            Job::Refused(_) | Job::Get { .. } | Job::Clue { .. } | Job::Head => Ok(()),
+        }
+    }
+
+    // Gathers a journal of the book: keeps its place, and its bytes behind those of the open block.
+    fn gather(&mut self, jsn: u64, content: &[u8], by: &Approval) -> Result<(), NoMemory>
+        requires has { HasJournal self.old.book jsn }
+        requires proof { length by.now.proof ≤ PROOF_LIMIT }
+        ensures gathered { OnOk result ((h : History) (journal : Entry) → Serves self.old.book h
+            → slice_get (journals h) jsn ≡ Some journal → self.old.book.floor ≤ jsn
+            → journal.content ≡ content.now → journal.who ≡ who_of (by.now ∷ [])
+            → IsGathered self.old self.new journal) }
+        ensures book { self.new.book ≡ self.old.book }
+        ensures rest { KeepsRest self.old self.new }
+    {
+        let header = match self.book.header(jsn) {
+            Some(header) => *header,
+            None => unreachable!(),
+        };
+        let at = self.twin.file().tail() + BLOCK_HEAD_LEN + self.block.len();
+        self.places.reserve(1)?;
+        self.places.push(place_of_record(at, &header, by));
+        self.block.put(&header, content, by)
+    }
+}
+
+// The place of a journal whose record begins at this offset.
+fn place_of_record(at: u64, header: &Header, by: &Approval) -> RecordAt
+    requires room { at ≤ 2 ^ 63 + 2 ^ 62 + 45 }
+    requires proof { length by.now.proof ≤ PROOF_LIMIT }
+    ensures { (journal : Entry) → journal.header ≡ header.now → journal.who ≡ who_of (by.now ∷ [])
+        → result ≡ record_at at journal }
+{
+    let content_at = at + RECORD_HEAD_LEN;
+    RecordAt {
+        header: *header,
+        content_at,
+        who_at: content_at + u64::from(header.content_len),
+        who_len: APPROVAL_LEN + by.proof.as_slice().len() as u32,
+    }
+}
