@@ -1,7 +1,9 @@
+pub mod CarryLaws
 pub mod JobLaws
-pub mod ApplyLaws
-pub mod SettlingLaws
-pub mod SessionLaws
-pub mod EndLaws
-pub mod TopLaws
+pub mod LineLaws
+pub mod OpeningLaws
 pub mod RequestLaws
+pub mod SessionLaws
+pub mod StopLaws
+pub mod TakeLaws
+pub mod TopLaws

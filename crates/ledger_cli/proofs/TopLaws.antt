@@ -1,52 +1,230 @@
 -- Lemmas on the whole of a run.
-use Rattle.std.proofs.Common.{◌≡◌, ℕ, ◌<◌, List, [], length, take, drop, Option, Some, None, refl, sym, subst, arith}
+use Rattle.std.proofs.Common.{◌≡◌, ℕ, ◌+◌, ◌<◌, ◌⊎◌, inl, inr, Bool, List, [], length, take, drop, Option, Some, None, refl, sym, subst, ap, ◌∙◌, arith}
+use Rattle.std.specs.Prelude.{IsTrue, IsSome}
 use Rattle.std.proofs.KnownBytes.{Appends-nil}
-use Rattle.std.proofs.lemmas.List.{take-append-drop, length-take-le}
-use Rattle.ledger_io.specs.Endings.{last_line}
-use Rattle.ledger_io.specs.Outside.{SourceState, SinkState, MeetsOne, Outside, outside}
-use Rattle.ledger_io.specs.Runs.{FallsShort, Served, Wrote}
+use Rattle.batch_committer.specs.World.{Pair}
+use Rattle.ledger_io.specs.Outside.{SourceState, SinkState, MeetsNone, MeetsOne, Outside, outside, count_after}
+use Rattle.ledger_io.specs.Runs.{FallsShort, Wrote}
 use Rattle.ledger_io.specs.Writing.{WritesLast, WritesFirst}
 use Rattle.ledger_io.specs.declared.ending.Ending.{Ending}
-use Rattle.ledger_io.specs.declared.ending.Ending.TheVariants as ending
+use Rattle.ledger_io.specs.declared.ending.Ending.TheVariants as run
 use Rattle.ledger_io.specs.declared.writer.WriteErr.{WriteErr}
 use Rattle.ledger_io.specs.declared.writer.WriteErr.TheVariants.{WriteFault}
-use Rattle.ledger_io.proofs.RunLaws.{served_unstarted}
-use Rattle.ledger_model.specs.Genesis.{founded}
-use Rattle.ledger_model.specs.History.{History, history}
 use Rattle.ledger_model.specs.Scheme.{Scheme}
-use Rattle.ledger_cli.specs.Runs.{Answers, ServedBy, RanBy}
+use Rattle.ledger_model.specs.declared.genesis.Genesis.{Genesis}
+use Rattle.ledger_open.specs.Founding.{IsFoundedOrShut}
+use Rattle.twin_file.specs.Images.{AreShut}
+use Rattle.ledger_disk.specs.Disk.{MayLeave}
+use Rattle.ledger_cli.specs.Endings.{status_of, last_line, HasWords}
+use Rattle.ledger_cli.specs.Runs.{Handed, handed, Faults, NoneFailed, FailedOnce, NoDiskFailed, DiskFailed, FaultsBy, NothingFailed, IsMaking, Makes, RunsNew, Signs, ServedBy, Finishes}
+use Rattle.ledger_cli.specs.declared.ending.LedgerEnding.{LedgerEnding}
+use Rattle.ledger_cli.specs.declared.ending.LedgerEnding.TheVariants.{Run, DiskFault, Damaged, Empty, Exists, NewerFormat}
 use Rattle.ledger_cli.specs.declared.words.Command.{Command}
-use Rattle.ledger_cli.specs.declared.words.Command.TheVariants.{Dry, Sign}
-use Rattle.ledger_cli.proofs.EndLaws.{text_for, in_order}
+use Rattle.ledger_cli.specs.declared.words.Command.TheVariants as command
+use Rattle.ledger_cli.proofs.CarryLaws.{quiet_image, first_short}
+use Rattle.ledger_cli.proofs.OpeningLaws.{again_unstarted}
 
--- no memory to begin with: nothing is read or written
-pub unstarted : (scheme : Scheme) (h : History) (before : Outside) → Served (Answers scheme h) ending.NoMemory before before
-unstarted scheme h before = served_unstarted (Answers scheme h) before (λ lines. (text_for scheme h lines, in_order scheme h lines, record { rest = text_for scheme h lines; is = refl }))
+-- ---- a piece of a text
 
--- .. by the command
-pub unstarted_by : (scheme : Scheme) (command : Option Command) (before : Outside) → ServedBy scheme command ending.NoMemory before before
-unstarted_by scheme None before = unstarted scheme (history [] []) before
-unstarted_by scheme (Some (Dry genesis)) before = unstarted scheme (founded genesis) before
-unstarted_by scheme (Some (Sign signing)) before = record { written = []; unread = refl; appended = Appends-nil before.sink.held; output = (refl, (refl, refl)) }
+pub wrote_part : (due piece : List ℕ) (source : SourceState) (before now : SinkState) (error : WriteErr) → piece ≡ due → WritesFirst before.held now.held piece error
+    → MeetsOne before now → Wrote due run.WriteFault (outside source before) (outside source now)
+wrote_part due piece source before now (WriteFault taken) is first one = record {
+  written = take taken piece;
+  unread = refl;
+  appended = first.1;
+  output = (first_short due piece taken is first.0, one);
+}
 
--- a fault leaves a part of the text
-pub wrote_part : (due piece : List ℕ) (source : SourceState) (before after : SinkState) (error : WriteErr) → piece ≡ due → WritesFirst before.held after.held piece error
-    → MeetsOne before after → Wrote due ending.WriteFault (outside source before) (outside source after)
-wrote_part due piece source before after (WriteFault taken) is first one =
-    let fewer : taken < length piece = first.0 in
-    let short : FallsShort (take taken piece) piece = (
-      record { rest = drop taken piece; is = sym (take-append-drop taken piece) },
-      omega (arith, length-take-le taken piece (omega (arith, fewer))),
-    ) in record {
-      written = take taken piece;
-      unread = refl;
-      appended = first.1;
-      output = (subst (λ text. FallsShort (take taken piece) text) is short, one);
-    }
+-- ---- nothing was done for want of memory
 
--- what a command did, and the last line, are a run of that command
-pub ran_by : (scheme : Scheme) (command : Option Command) (end : Ending) (before : Outside) (source : SourceState) (mid after : SinkState) → ServedBy scheme command end before (outside source mid) → WritesLast (last_line end) mid after
-    → RanBy scheme command end before (outside source after)
-ran_by scheme None end before source mid after s l = record { sink = mid; served = s; last = l }
-ran_by scheme (Some (Dry genesis)) end before source mid after s l = record { sink = mid; served = s; last = l }
-ran_by scheme (Some (Sign signing)) end before source mid after s l = record { sink = mid; wrote = s; last = l }
+images_stay : (genesis : Genesis) (disks : Pair) → AreShut disks.a.bytes disks.b.bytes → (a b : List ℕ) → MayLeave disks.a.bytes a → MayLeave disks.b.bytes b → IsFoundedOrShut genesis a b
+images_stay genesis disks s a b x y =
+    subst (λ l. IsFoundedOrShut genesis l b) (sym (quiet_image disks.a.bytes a s.quiet_a x))
+    (subst (λ l. IsFoundedOrShut genesis disks.a.bytes.seen l) (sym (quiet_image disks.b.bytes b s.quiet_b y)) (inl (s.shut_a, s.shut_b)))
+
+nothing : (x : Handed) → FaultsBy (Run run.NoMemory) x x
+nothing x = record { source_is = inl refl; sink_is = (refl, refl); disks_are = record { a = refl; b = refl } }
+
+pub unstarted_by : (scheme : Scheme) (tells : Bool) (words : Option Command) (x : Handed) → IsSome words → ServedBy scheme tells words (Run run.NoMemory) x x
+unstarted_by scheme tells None x some = absurd (let no : ⊥ = cc some in no)
+unstarted_by scheme tells (Some (command.Dry genesis)) x some = record {
+  serves = λ t s. inr (tt, record { unread = refl; unwritten = refl });
+  exists = λ t is. absurd (let no : ⊥ = cc is in no);
+  faults = nothing x;
+}
+unstarted_by scheme tells (Some (command.Init genesis)) x some = record {
+  written = [];
+  unread = refl;
+  appended = Appends-nil x.sink.held;
+  told = refl;
+  made = λ no. absurd no;
+  making = record {
+    exists = λ t is. absurd (let no : ⊥ = cc is in no);
+    left = λ t o. record { a = refl; b = refl };
+    images = λ t s. images_stay genesis x.disks s;
+  };
+  faults = nothing x;
+}
+unstarted_by scheme tells (Some command.Run) x some = again_unstarted scheme tells x.source x.sink x.disks x.disks refl
+unstarted_by scheme tells (Some (command.Sign signing)) x some = record {
+  plain = run.NoMemory;
+  ending_is = refl;
+  wrote = record { written = []; unread = refl; appended = Appends-nil x.sink.held; output = (refl, (refl, refl)) };
+  disks_are = refl;
+}
+
+-- ---- faults of a whole run
+
+-- a text that was written met what its ending tells
+signed_faults : (written_text : List ℕ) (plain : Ending) (before now : Handed) → Wrote written_text plain (outside before.source before.sink) (outside now.source now.sink) → now.disks ≡ before.disks → FaultsBy (Run plain) before now
+signed_faults written_text run.Done before now w is = record { source_is = ap (λ (s : SourceState). s.faults) w.unread; sink_is = w.output.1; disks_are = record { a = ap (λ (d : Pair). d.a.faults) is; b = ap (λ (d : Pair). d.b.faults) is } }
+signed_faults written_text run.Usage before now w is = absurd w.output
+signed_faults written_text run.ReadFault before now w is = absurd w.output
+signed_faults written_text run.WriteFault before now w is = record { source_is = inl (ap (λ (s : SourceState). s.faults) w.unread); sink_is = w.output.1; disks_are = record { a = ap (λ (d : Pair). d.a.faults) is; b = ap (λ (d : Pair). d.b.faults) is } }
+signed_faults written_text run.NoMemory before now w is = record { source_is = inl (ap (λ (s : SourceState). s.faults) w.unread); sink_is = w.output.1; disks_are = record { a = ap (λ (d : Pair). d.a.faults) is; b = ap (λ (d : Pair). d.b.faults) is } }
+signed_faults written_text run.LineTooLong before now w is = absurd w.output
+signed_faults written_text run.ScriptTooLong before now w is = absurd w.output
+
+-- which faults a command met before its last line; words of no form did nothing
+served_faults : (scheme : Scheme) (tells : Bool) (words : Option Command) (met : LedgerEnding) (before now : Handed) → ServedBy scheme tells words met before now → ((words ≡ None) × (met ≡ Run run.Usage)) ⊎ FaultsBy met before now
+served_faults scheme tells None met before now s = inl (refl, s.0)
+served_faults scheme tells (Some (command.Dry genesis)) met before now s = inr s.faults
+served_faults scheme tells (Some (command.Init genesis)) met before now s = inr s.faults
+served_faults scheme tells (Some command.Run) met before now s = inr s.faults
+served_faults scheme tells (Some (command.Sign signing)) met before now s = inr (subst (λ e. FaultsBy e before now) (sym s.ending_is) (signed_faults _ s.plain before now s.wrote s.disks_are))
+
+-- an ending by its status
+is_usage : (e : LedgerEnding) → status_of e ≡ 1 → e ≡ Run run.Usage
+is_usage (Run run.Usage) is = refl
+is_usage (Run run.Done) is = absurd (omega (arith, is))
+is_usage (Run run.ReadFault) is = absurd (omega (arith, is))
+is_usage (Run run.WriteFault) is = absurd (omega (arith, is))
+is_usage (Run run.NoMemory) is = absurd (omega (arith, is))
+is_usage (Run run.LineTooLong) is = absurd (omega (arith, is))
+is_usage (Run run.ScriptTooLong) is = absurd (omega (arith, is))
+is_usage DiskFault is = absurd (omega (arith, is))
+is_usage (Damaged damage) is = absurd (omega (arith, is))
+is_usage Empty is = absurd (omega (arith, is))
+is_usage Exists is = absurd (omega (arith, is))
+is_usage (NewerFormat found) is = absurd (omega (arith, is))
+
+is_done : (e : LedgerEnding) → status_of e ≡ 0 → e ≡ Run run.Done
+is_done (Run run.Done) is = refl
+is_done (Run run.Usage) is = absurd (omega (arith, is))
+is_done (Run run.ReadFault) is = absurd (omega (arith, is))
+is_done (Run run.WriteFault) is = absurd (omega (arith, is))
+is_done (Run run.NoMemory) is = absurd (omega (arith, is))
+is_done (Run run.LineTooLong) is = absurd (omega (arith, is))
+is_done (Run run.ScriptTooLong) is = absurd (omega (arith, is))
+is_done DiskFault is = absurd (omega (arith, is))
+is_done (Damaged damage) is = absurd (omega (arith, is))
+is_done Empty is = absurd (omega (arith, is))
+is_done Exists is = absurd (omega (arith, is))
+is_done (NewerFormat found) is = absurd (omega (arith, is))
+
+is_read : (e : LedgerEnding) → status_of e ≡ 2 → e ≡ Run run.ReadFault
+is_read (Run run.ReadFault) is = refl
+is_read (Run run.Done) is = absurd (omega (arith, is))
+is_read (Run run.Usage) is = absurd (omega (arith, is))
+is_read (Run run.WriteFault) is = absurd (omega (arith, is))
+is_read (Run run.NoMemory) is = absurd (omega (arith, is))
+is_read (Run run.LineTooLong) is = absurd (omega (arith, is))
+is_read (Run run.ScriptTooLong) is = absurd (omega (arith, is))
+is_read DiskFault is = absurd (omega (arith, is))
+is_read (Damaged damage) is = absurd (omega (arith, is))
+is_read Empty is = absurd (omega (arith, is))
+is_read Exists is = absurd (omega (arith, is))
+is_read (NewerFormat found) is = absurd (omega (arith, is))
+
+is_write : (e : LedgerEnding) → status_of e ≡ 3 → e ≡ Run run.WriteFault
+is_write (Run run.WriteFault) is = refl
+is_write (Run run.Done) is = absurd (omega (arith, is))
+is_write (Run run.Usage) is = absurd (omega (arith, is))
+is_write (Run run.ReadFault) is = absurd (omega (arith, is))
+is_write (Run run.NoMemory) is = absurd (omega (arith, is))
+is_write (Run run.LineTooLong) is = absurd (omega (arith, is))
+is_write (Run run.ScriptTooLong) is = absurd (omega (arith, is))
+is_write DiskFault is = absurd (omega (arith, is))
+is_write (Damaged damage) is = absurd (omega (arith, is))
+is_write Empty is = absurd (omega (arith, is))
+is_write Exists is = absurd (omega (arith, is))
+is_write (NewerFormat found) is = absurd (omega (arith, is))
+
+is_disk : (e : LedgerEnding) → status_of e ≡ 4 → e ≡ DiskFault
+is_disk DiskFault is = refl
+is_disk (Run run.Done) is = absurd (omega (arith, is))
+is_disk (Run run.Usage) is = absurd (omega (arith, is))
+is_disk (Run run.ReadFault) is = absurd (omega (arith, is))
+is_disk (Run run.WriteFault) is = absurd (omega (arith, is))
+is_disk (Run run.NoMemory) is = absurd (omega (arith, is))
+is_disk (Run run.LineTooLong) is = absurd (omega (arith, is))
+is_disk (Run run.ScriptTooLong) is = absurd (omega (arith, is))
+is_disk (Damaged damage) is = absurd (omega (arith, is))
+is_disk Empty is = absurd (omega (arith, is))
+is_disk Exists is = absurd (omega (arith, is))
+is_disk (NewerFormat found) is = absurd (omega (arith, is))
+
+-- an empty line meets no fault
+no_last : (before now : SinkState) → WritesLast [] before now → MeetsNone before now
+no_last before now w = elim w.once [ inl whole ↦ whole.1 | inr short ↦ absurd (let no : ⊥ = omega (arith, short.0) in no) ]
+
+module _ (scheme : Scheme) (tells : Bool) (words : Option Command) (status : ℕ) (met : LedgerEnding) (before : Handed) (source : SourceState) (disks : Pair) (mid last : SinkState)
+    (s : ServedBy scheme tells words met before (handed source mid disks)) (f : Finishes met status mid last) where
+  -- the ending that the status tells is the one that was met, where it isn't want of memory
+  was_met : (e : LedgerEnding) → f.ending ≡ e → (Run run.NoMemory ≡ e → ⊥) → met ≡ e
+  was_met e is not = elim f.told [ inl same ↦ sym same ∙ is | inr none ↦ absurd (not (sym none.0 ∙ is)) ]
+
+  -- .. and its faults are those that were met
+  faults_met : (e : LedgerEnding) → met ≡ e → (e ≡ Run run.Usage → ⊥) → FaultsBy e before (handed source mid disks)
+  faults_met e is not =
+      elim (served_faults scheme tells words met before (handed source mid disks) s) [
+        | inl usage ↦ absurd (not (sym is ∙ usage.1))
+        | inr faults ↦ subst (λ x. FaultsBy x before (handed source mid disks)) is faults
+      ]
+
+  empty_line : (e : LedgerEnding) → f.ending ≡ e → last_line e ≡ [] → MeetsNone mid last
+  empty_line e is none = no_last mid last (subst (λ l. WritesLast l mid last) (ap last_line is ∙ none) f.last)
+
+  pub usage_only : status ≡ 1 → words ≡ None
+  usage_only is =
+      let e : f.ending ≡ Run run.Usage = is_usage f.ending (sym f.status_is ∙ is) in
+      let m = was_met (Run run.Usage) e (λ same. let no : ⊥ = cc same in no) in
+      elim (served_faults scheme tells words met before (handed source mid disks) s) [
+        | inl usage ↦ usage.0
+        | inr faults ↦ absurd (subst (λ x. FaultsBy x before (handed source mid disks)) m faults)
+      ]
+
+  pub usage_where : words ≡ None → status ≡ 1
+  usage_where is =
+      let m : met ≡ Run run.Usage = (subst (λ w. ServedBy scheme tells w met before (handed source mid disks)) is s).0 in
+      elim f.told [
+        | inl same ↦ f.status_is ∙ ap status_of (same ∙ m)
+        | inr none ↦ absurd (subst HasWords m none.1)
+      ]
+
+  pub done_met : status ≡ 0 → NothingFailed before (handed source last disks)
+  done_met is =
+      let e : f.ending ≡ Run run.Done = is_done f.ending (sym f.status_is ∙ is) in
+      let faults = faults_met (Run run.Done) (was_met (Run run.Done) e (λ same. let no : ⊥ = cc same in no)) (λ same. let no : ⊥ = cc same in no) in
+      let none = empty_line (Run run.Done) e refl in record {
+        source_is = faults.source_is;
+        sink_is = (none.0 ∙ faults.sink_is.0, none.1 ∙ faults.sink_is.1);
+        disks_are = faults.disks_are;
+      }
+
+  pub read_met : status ≡ 2 → source.faults ≡ count_after before.source.faults
+  read_met is =
+      let e : f.ending ≡ Run run.ReadFault = is_read f.ending (sym f.status_is ∙ is) in
+      (faults_met (Run run.ReadFault) (was_met (Run run.ReadFault) e (λ same. let no : ⊥ = cc same in no)) (λ same. let no : ⊥ = cc same in no)).source_is
+
+  pub write_met : status ≡ 3 → MeetsOne before.sink last
+  write_met is =
+      let e : f.ending ≡ Run run.WriteFault = is_write f.ending (sym f.status_is ∙ is) in
+      let faults = faults_met (Run run.WriteFault) (was_met (Run run.WriteFault) e (λ same. let no : ⊥ = cc same in no)) (λ same. let no : ⊥ = cc same in no) in
+      let none = empty_line (Run run.WriteFault) e refl in
+      elim faults.sink_is [ inl x ↦ inl (none.0 ∙ x.0, none.1 ∙ x.1) | inr x ↦ inr (none.0 ∙ x.0, none.1 ∙ x.1) ]
+
+  pub disk_met : status ≡ 4 → DiskFailed before.disks disks
+  disk_met is =
+      let e : f.ending ≡ DiskFault = is_disk f.ending (sym f.status_is ∙ is) in
+      (faults_met DiskFault (was_met DiskFault e (λ same. let no : ⊥ = cc same in no)) (λ same. let no : ⊥ = cc same in no)).disks_are

@@ -1,5 +1,5 @@
 pub mod Signing
 pub mod Words
-pub mod Carries
+pub mod Endings
 pub mod Runs
-pub mod Settling
+pub mod Session

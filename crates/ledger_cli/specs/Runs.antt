@@ -1,45 +1,289 @@
--- What a run of the program did, from the bytes that came in to the bytes that went out.
-use Rattle.std.specs.Prelude.{◌≡◌, ℕ, ◌↔◌, List, [], Option, Some, None}
+-- What a run of the program did, from the bytes that came in to the bytes that went out and the files that are left.
+use Rattle.std.specs.Prelude.{◌≡◌, ⊤, ℕ, ◌≤◌, ◌⊎◌, Bool, IsTrue, List, [], ◌∷◌, codes, decimal, Option, None, Some, IsSome, IfSome}
 use Rattle.std.specs.List.{flat_map}
-use Rattle.ledger_io.specs.Endings.{status_of}
-use Rattle.ledger_io.specs.Outside.{Outside}
-use Rattle.ledger_io.specs.Runs.{Served, Ran, Wrote, RanOnce}
+use Rattle.std.specs.Io.KnownBytes.{Consumes, Appends}
+use Rattle.batch_committer.specs.World.{DiskState, Pair}
+use Rattle.block_file.specs.File.{IsSettled}
+use Rattle.ledger_bytes.specs.Begins.{Begins}
+use Rattle.ledger_bytes.specs.Causes.{Rose}
+use Rattle.ledger_disk.specs.Disk.{MayLeave}
+use Rattle.ledger_io.specs.Outside.{SourceState, SinkState, Outside, outside, count_after, MeetsNone, MeetsOne}
+use Rattle.ledger_io.specs.Runs.{Answered, SomeOfScript, FallsShort, AreWhole, Wrote}
+use Rattle.ledger_io.specs.Writing.{WritesLast}
 use Rattle.ledger_io.specs.declared.ending.Ending.{Ending}
-use Rattle.ledger_io.specs.declared.ending.Ending.TheVariants.{Usage}
-use Rattle.ledger_model.specs.Genesis.{founded}
-use Rattle.ledger_model.specs.History.{History, history}
+use Rattle.ledger_io.specs.declared.ending.Ending.TheVariants as run
+use Rattle.ledger_io.specs.declared.failure.LineErr.{LineErr}
+use Rattle.ledger_io.specs.declared.failure.LineErr.TheVariants as line_err
+use Rattle.ledger_model.specs.Genesis.{new_ledger}
+use Rattle.ledger_model.specs.History.{History, id, journals_of}
 use Rattle.ledger_model.specs.Merge.{IsMerge}
 use Rattle.ledger_model.specs.Notary.{IsAttended}
+use Rattle.ledger_bytes.specs.declared.digest.Digest.{Digest}
+use Rattle.ledger_model.specs.Dues.{HasLeaf}
+use Rattle.script_lines.specs.Receipts.{IsReceipted}
+use Rattle.ledger_model.specs.Rules.{after}
 use Rattle.ledger_model.specs.Scheme.{Scheme}
 use Rattle.ledger_model.specs.Step.{Step}
 use Rattle.ledger_model.specs.Texts.{text}
-use Rattle.ledger_model.specs.Windows.{said, windows}
+use Rattle.ledger_model.specs.Windows.{said_lines, windows}
+use Rattle.ledger_model.specs.declared.genesis.Genesis.{Genesis}
+use Rattle.ledger_open.specs.Founding.{IsFounded, IsFoundedOrShut, IsOneOpen}
+use Rattle.ledger_open.specs.Opening.{IsOpenErr, IsOutside}
+use Rattle.ledger_open.specs.Standing.{PairFor, IsCleanPair}
+use Rattle.ledger_open.specs.declared.failure.OpenErr.{OpenErr}
+use Rattle.twin_file.specs.Images.{AreShut}
+use Rattle.ledger_bytes.specs.Digests.{digest}
+use Rattle.script_lines.specs.Words.{hex_of}
+use Rattle.ledger_cli.specs.Endings.{line_of, status_of, last_line, refusal_of, HasWords}
 use Rattle.ledger_cli.specs.Signing.{signed_text}
+use Rattle.ledger_cli.specs.declared.ending.LedgerEnding.{LedgerEnding}
+use Rattle.ledger_cli.specs.declared.ending.LedgerEnding.TheVariants.{Run, DiskFault, Damaged, Empty, Exists, NewerFormat}
 use Rattle.ledger_cli.specs.declared.words.Command.{Command}
-use Rattle.ledger_cli.specs.declared.words.Command.TheVariants.{Dry, Sign}
+use Rattle.ledger_cli.specs.declared.words.Command.TheVariants as command
+
+-- ---- what a run is handed
+
+-- what the program reads from, what it writes to, and the two disks of the ledger
+pub record Handed : Type 0 where
+  pub source : SourceState
+  pub sink : SinkState
+  pub disks : Pair
+
+abbrev pub handed : SourceState → SinkState → Pair → Handed
+handed source sink disks = record { source = source; sink = sink; disks = disks }
+
+abbrev pub outside_of : Handed → Outside
+outside_of x = outside x.source x.sink
+
+-- nothing is pending on the two disks
+pub record AreQuiet (disks : Pair) : Type 0 where
+  pub a : IsSettled disks.a.bytes
+  pub b : IsSettled disks.b.bytes
+
+-- the two files stand for this history
+abbrev pub StandFor : Pair → History → Type 0
+StandFor disks h = PairFor disks.a.bytes.seen disks.b.bytes.seen h
+
+-- both read as before
+pub record ReadAsBefore (before after_all : Pair) : Type 0 where
+  pub a : after_all.a.bytes.seen ≡ before.a.bytes.seen
+  pub b : after_all.b.bytes.seen ≡ before.b.bytes.seen
+
+-- ---- which faults were met
+
+-- no call of a disk failed
+pub record NoDiskFailed (before after_all : Pair) : Type 0 where
+  pub a : after_all.a.faults ≡ before.a.faults
+  pub b : after_all.b.faults ≡ before.b.faults
+
+-- a call of a disk failed
+pub record DiskFailed (before after_all : Pair) : Type 0 where
+  pub rose : Rose before.a.faults after_all.a.faults ⊎ Rose before.b.faults after_all.b.faults
+  pub later_a : before.a.faults ≤ after_all.a.faults
+  pub later_b : before.b.faults ≤ after_all.b.faults
+
+-- the source failed at most once: lines that were whole before that are answered, which may meet a fault of its own
+abbrev pub FailedAtMostOnce : ℕ → ℕ → Type 0
+FailedAtMostOnce before now = (now ≡ before) ⊎ (now ≡ count_after before)
+
+-- the fault that an ending tells is the only one of its object, and beside it only reading may have failed before
+pub record Faults (source : ℕ → ℕ → Type 0) (sink : SinkState → SinkState → Type 0) (disks : Pair → Pair → Type 0) (before after_all : Handed) : Type 0 where
+  pub source_is : source before.source.faults after_all.source.faults
+  pub sink_is : sink before.sink after_all.sink
+  pub disks_are : disks before.disks after_all.disks
+
+abbrev pub NoneFailed : ℕ → ℕ → Type 0
+NoneFailed before now = now ≡ before
+
+abbrev pub FailedOnce : ℕ → ℕ → Type 0
+FailedOnce before now = now ≡ count_after before
+
+-- no fault was met
+abbrev pub NothingFailed : Handed → Handed → Type 0
+NothingFailed before after_all = Faults NoneFailed MeetsNone NoDiskFailed before after_all
+
+-- which faults were met, by the ending
+abbrev pub FaultsBy : LedgerEnding → Handed → Handed → Type 0
+FaultsBy (Run run.Done) before after_all = Faults NoneFailed MeetsNone NoDiskFailed before after_all
+FaultsBy (Run run.Usage) before after_all = ⊥
+FaultsBy (Run run.ReadFault) before after_all = Faults FailedOnce MeetsNone NoDiskFailed before after_all
+FaultsBy (Run run.WriteFault) before after_all = Faults FailedAtMostOnce MeetsOne NoDiskFailed before after_all
+FaultsBy (Run run.NoMemory) before after_all = Faults FailedAtMostOnce MeetsNone NoDiskFailed before after_all
+FaultsBy (Run run.LineTooLong) before after_all = Faults NoneFailed MeetsNone NoDiskFailed before after_all
+FaultsBy (Run run.ScriptTooLong) before after_all = Faults NoneFailed MeetsNone NoDiskFailed before after_all
+FaultsBy DiskFault before after_all = Faults FailedAtMostOnce MeetsNone DiskFailed before after_all
+FaultsBy (Damaged damage) before after_all = Faults NoneFailed MeetsNone NoDiskFailed before after_all
+FaultsBy Empty before after_all = Faults NoneFailed MeetsNone NoDiskFailed before after_all
+FaultsBy Exists before after_all = Faults NoneFailed MeetsNone NoDiskFailed before after_all
+FaultsBy (NewerFormat found) before after_all = Faults NoneFailed MeetsNone NoDiskFailed before after_all
+
+-- ---- a script on a ledger
 
 -- what is answered to the lines of a script on a history: the text of a merge of them, window by window
 pub record Answers (scheme : Scheme) (h : History) (lines : List (List ℕ)) (replies : List ℕ) : Type 0 where
   pub steps : List (List Step)
-  pub merge : IsMerge (windows (said lines)) steps
+  pub merge : IsMerge (windows (said_lines lines)) steps
   pub attended : IsAttended [] [] 0 (flat_map (λ window. window) steps)
   pub replies_are : replies ≡ text scheme h steps
 
--- a run to its ending, by the command: everything but the last line
-abbrev pub ServedBy : Scheme → Option Command → Ending → Outside → Outside → Type 0
-ServedBy scheme None ending before after = Served (Answers scheme (history [] [])) ending before after
-ServedBy scheme (Some (Dry genesis)) ending before after = Served (Answers scheme (founded genesis)) ending before after
-ServedBy scheme (Some (Sign signing)) ending before after = Wrote (signed_text signing) ending before after
+-- Two images stand for a history that goes on from h and ends at a block's end of the whole history, or is h. Each receipt that was
+-- written whole is kept in it.
+pub record MayStand (h whole : History) (replies : List ℕ) (a b : List ℕ) : Type 0 where
+  pub kept : History
+  pub stands : PairFor a b kept
+  pub no_shorter : Begins h.closed kept.closed
+  pub no_longer : Begins kept.closed whole.closed
+  pub receipts : (jsn : ℕ) (leaf : Digest) → IsReceipted replies jsn leaf → HasLeaf (journals_of kept.closed) jsn leaf
 
--- a run to the last line that is written, by the command
-abbrev pub RanBy : Scheme → Option Command → Ending → Outside → Outside → Type 0
-RanBy scheme None ending before after = Ran (Answers scheme (history [] [])) ending before after
-RanBy scheme (Some (Dry genesis)) ending before after = Ran (Answers scheme (founded genesis)) ending before after
-RanBy scheme (Some (Sign signing)) ending before after = RanOnce (signed_text signing) ending before after
+-- so do all images that a crash may leave
+abbrev pub AllStand : History → History → List ℕ → Pair → Type 0
+AllStand h whole replies disks =
+    (a b : List ℕ) → MayLeave disks.a.bytes a → MayLeave disks.b.bytes b → MayStand h whole replies a b
+
+-- the lines are answered, and the pair is clean for the history after them
+pub record AnswersOn (scheme : Scheme) (h : History) (disks : Pair) (lines : List (List ℕ)) (replies : List ℕ) : Type 0 where
+  pub answers : Answers scheme h lines replies
+  pub clean : IsCleanPair disks.a.bytes.seen disks.b.bytes.seen (after scheme h answers.steps)
+  pub quiet : AreQuiet disks
+  pub images : AllStand h (after scheme h answers.steps) replies disks
+
+-- a text answers the lines, and what is left after some replies stands for a beginning of the history after them
+pub record StopsOn (scheme : Scheme) (h : History) (replies : List ℕ) (disks : Pair) (lines : List (List ℕ)) (whole_text : List ℕ) : Type 0 where
+  pub answers : Answers scheme h lines whole_text
+  pub images : AllStand h (after scheme h answers.steps) replies disks
+
+-- all lines that count are answered
+abbrev pub AnswersAll : Scheme → History → Option LineErr → List ℕ → List ℕ → Handed → Handed → Type 0
+AnswersAll scheme h end read replies before after_all =
+    Answered (AnswersOn scheme h after_all.disks) end read replies (outside_of before) (outside_of after_all)
+
+-- the run stopped: some text that answers the script is so, and of its history a beginning is left
+abbrev pub StopsSo : Scheme → History → List ℕ → List ℕ → Handed → Handed → (List ℕ → Type 0) → Type 0
+StopsSo scheme h read replies before after_all IsSo =
+    SomeOfScript (StopsOn scheme h replies after_all.disks) before.source after_all.source read IsSo
+
+-- what was written before the last line and what is left, by the ending
+abbrev pub Replies : Scheme → History → LedgerEnding → List ℕ → List ℕ → Handed → Handed → Type 0
+Replies scheme h (Run run.Done) read replies before after_all = AnswersAll scheme h None read replies before after_all
+Replies scheme h (Run run.Usage) read replies before after_all = ⊥
+Replies scheme h (Run run.ReadFault) read replies before after_all = AnswersAll scheme h (Some line_err.ReadFault) read replies before after_all
+Replies scheme h (Run run.WriteFault) read replies before after_all = StopsSo scheme h read replies before after_all (FallsShort replies)
+Replies scheme h (Run run.NoMemory) read replies before after_all = AreWhole replies × StopsSo scheme h read replies before after_all (Begins replies)
+Replies scheme h (Run run.LineTooLong) read replies before after_all = AnswersAll scheme h (Some line_err.LineTooLong) read replies before after_all
+Replies scheme h (Run run.ScriptTooLong) read replies before after_all = AnswersAll scheme h (Some line_err.ScriptTooLong) read replies before after_all
+Replies scheme h DiskFault read replies before after_all = AreWhole replies × StopsSo scheme h read replies before after_all (Begins replies)
+Replies scheme h (Damaged damage) read replies before after_all = ⊥
+Replies scheme h Empty read replies before after_all = ⊥
+Replies scheme h Exists read replies before after_all = ⊥
+Replies scheme h (NewerFormat found) read replies before after_all = ⊥
+
+-- a script is run on the ledger with this history: everything but the last line
+pub record Serves (scheme : Scheme) (h : History) (ending : LedgerEnding) (before after_all : Handed) : Type 0 where
+  -- the bytes that were read, and those that were written
+  pub read : List ℕ
+  pub replies : List ℕ
+  pub consumed : Consumes before.source.left after_all.source.left read
+  pub appended : Appends before.sink.held after_all.sink.held replies
+  pub replied : Replies scheme h ending read replies before after_all
+
+-- nothing was read or written
+pub record IsUnstarted (before after_all : Handed) : Type 0 where
+  pub unread : after_all.source ≡ before.source
+  pub unwritten : after_all.sink ≡ before.sink
+
+-- ---- the commands
+
+-- a disk failed, or memory was missing
+abbrev pub IsOutsideEnding : LedgerEnding → Type 0
+IsOutsideEnding (Run run.NoMemory) = ⊤
+IsOutsideEnding DiskFault = ⊤
+IsOutsideEnding other = ⊥
+
+-- a refusal has its cause in what stands in the files; nothing is read or written, and the files read as before
+pub record IsRefused (e : OpenErr) (before after_all : Handed) : Type 0 where
+  pub cause : IsOpenErr before.disks.a.bytes.seen before.disks.b.bytes.seen e
+  pub unstarted : IsUnstarted before after_all
+  pub left : ReadAsBefore before.disks after_all.disks
+
+-- `run`: the ledger that is there is opened, and the script is run on it
+pub record RunsAgain (scheme : Scheme) (tells : Bool) (ending : LedgerEnding) (before after_all : Handed) : Type 0 where
+  -- whatever history the pair stood for
+  pub serves : IsTrue tells → AreQuiet before.disks → (h : History) → StandFor before.disks h → Serves scheme h ending before after_all
+  pub refused : IsTrue tells → IfSome (refusal_of ending) (λ e. IsRefused e before after_all)
+  -- what shows damage, or is no ledger, isn't run
+  pub exact : IsTrue tells → (e : OpenErr) → IsOpenErr before.disks.a.bytes.seen before.disks.b.bytes.seen e → (IsOutside e → ⊥)
+      → IsSome (refusal_of ending) ⊎ IsOutsideEnding ending
+  pub faults : FaultsBy ending before after_all
+
+-- what is told of a new ledger: its id, its size and its root
+abbrev pub ledger_line : Genesis → List ℕ
+ledger_line genesis =
+    let first = hex_of (digest (id (new_ledger genesis))) in line_of (codes "ledger") (first ∷ decimal 1 ∷ first ∷ [])
+
+-- how far the line of a new ledger was written, by the ending
+abbrev pub ToldBy : List ℕ → LedgerEnding → List ℕ → Type 0
+ToldBy line (Run run.Done) written = written ≡ line
+ToldBy line (Run run.WriteFault) written = FallsShort written line
+ToldBy line ending written = written ≡ []
+
+-- whether an ending comes behind the making of the ledger
+abbrev pub IsMade : LedgerEnding → Type 0
+IsMade (Run run.Done) = ⊤
+IsMade (Run run.WriteFault) = ⊤
+IsMade ending = ⊥
+
+-- a ledger is made of two files that are shut, or there is one already
+pub record IsMaking (genesis : Genesis) (tells : Bool) (ending : LedgerEnding) (before after_all : Handed) : Type 0 where
+  pub exists : IsTrue tells → ending ≡ Exists → IsOneOpen before.disks.a.bytes.seen before.disks.b.bytes.seen
+  pub left : IsTrue tells → IsOneOpen before.disks.a.bytes.seen before.disks.b.bytes.seen → ReadAsBefore before.disks after_all.disks
+  -- a crash at any time leaves both shut, or the new ledger
+  pub images : IsTrue tells → AreShut before.disks.a.bytes before.disks.b.bytes → (a b : List ℕ)
+      → MayLeave after_all.disks.a.bytes a → MayLeave after_all.disks.b.bytes b → IsFoundedOrShut genesis a b
+
+-- `init`: a new ledger, and one line that tells it
+pub record Makes (genesis : Genesis) (tells : Bool) (ending : LedgerEnding) (before after_all : Handed) : Type 0 where
+  pub written : List ℕ
+  pub unread : after_all.source ≡ before.source
+  pub appended : Appends before.sink.held after_all.sink.held written
+  pub told : ToldBy (ledger_line genesis) ending written
+  pub made : IsMade ending → IsTrue tells → IsFounded genesis after_all.disks.a.bytes after_all.disks.b.bytes
+  pub making : IsMaking genesis tells ending before after_all
+  pub faults : FaultsBy ending before after_all
+
+-- `dry`: a new ledger, and the script is run on it
+pub record RunsNew (scheme : Scheme) (genesis : Genesis) (tells : Bool) (ending : LedgerEnding) (before after_all : Handed) : Type 0 where
+  pub serves : IsTrue tells → AreShut before.disks.a.bytes before.disks.b.bytes
+      → Serves scheme (new_ledger genesis) ending before after_all ⊎ (IsOutsideEnding ending × IsUnstarted before after_all)
+  pub exists : IsTrue tells → ending ≡ Exists → IsOneOpen before.disks.a.bytes.seen before.disks.b.bytes.seen × IsUnstarted before after_all × ReadAsBefore before.disks after_all.disks
+  pub faults : FaultsBy ending before after_all
+
+-- `sign`: one text is written
+pub record Signs (written_text : List ℕ) (ending : LedgerEnding) (before after_all : Handed) : Type 0 where
+  pub plain : Ending
+  pub ending_is : ending ≡ Run plain
+  pub wrote : Wrote written_text plain (outside_of before) (outside_of after_all)
+  pub disks_are : after_all.disks ≡ before.disks
+
+-- everything but the last line, by the command
+abbrev pub ServedBy : Scheme → Bool → Option Command → LedgerEnding → Handed → Handed → Type 0
+ServedBy scheme tells None ending before after_all = (ending ≡ Run run.Usage) × (after_all ≡ before)
+ServedBy scheme tells (Some (command.Dry genesis)) ending before after_all = RunsNew scheme genesis tells ending before after_all
+ServedBy scheme tells (Some (command.Init genesis)) ending before after_all = Makes genesis tells ending before after_all
+ServedBy scheme tells (Some command.Run) ending before after_all = RunsAgain scheme tells ending before after_all
+ServedBy scheme tells (Some (command.Sign signing)) ending before after_all = Signs (signed_text signing) ending before after_all
+
+-- The last line was written by one attempt, and this is the status. Where the line is made of words and there is no memory for them,
+-- the run ends for want of memory.
+pub record Finishes (met : LedgerEnding) (status : ℕ) (before now : SinkState) : Type 0 where
+  pub ending : LedgerEnding
+  pub told : (ending ≡ met) ⊎ ((ending ≡ Run run.NoMemory) × HasWords met)
+  pub status_is : status ≡ status_of ending
+  pub last : WritesLast (last_line ending) before now
 
 -- a run of the program with some words, to its exit status
-pub record RanProgram (scheme : Scheme) (command : Option Command) (status : ℕ) (before after : Outside) : Type 0 where
-  pub ending : Ending
-  pub status_is : status ≡ status_of ending
-  pub usage : (ending ≡ Usage) ↔ (command ≡ None)
-  pub ran : RanBy scheme command ending before after
+pub record RanProgram (scheme : Scheme) (tells : Bool) (words : Option Command) (status : ℕ) (before after_all : Handed) : Type 0 where
+  pub met : LedgerEnding
+  -- the sink as it was in front of the last line
+  pub sink : SinkState
+  pub served : ServedBy scheme tells words met before (handed after_all.source sink after_all.disks)
+  pub finishes : Finishes met status sink after_all.sink

@@ -1,18 +1,33 @@
 -- The words of the command line.
-use Rattle.std.specs.Prelude.{ℕ, nat_eq, if◌then◌else◌, List, [], ◌∷◌, codes, Option, Some, None}
+use Rattle.std.specs.Prelude.{ℕ, nat_eq, if◌then◌else◌, List, [], ◌∷◌, codes, Option, Some, None, option_map}
+use Rattle.ledger_model.specs.declared.genesis.Genesis.{Genesis}
 use Rattle.std.specs.Cmp.Lexicographic.{pointwise}
 use Rattle.script_lines.specs.Spellings.{◌>>=◌, digest_of, name_of}
 use Rattle.ledger_cli.specs.Signing.{request_of}
 use Rattle.ledger_cli.specs.declared.words.Command.{Command}
-use Rattle.ledger_cli.specs.declared.words.Command.TheVariants.{Dry, Sign}
+use Rattle.ledger_cli.specs.declared.words.Command.TheVariants.{Dry, Init, Run, Sign}
 
 -- the ledger that a name and two keys make, where they are of their forms
-abbrev pub dry_of : List ℕ → List ℕ → List ℕ → Option Command
-dry_of name_word operator_word regulator_word = do
+abbrev pub genesis_of : List ℕ → List ℕ → List ℕ → Option Genesis
+genesis_of name_word operator_word regulator_word = do
   name ← name_of name_word
   operator ← digest_of operator_word
   regulator ← digest_of regulator_word
-  Some (Dry (record { name = name; operator = operator; regulator = regulator }))
+  Some (record { name = name; operator = operator; regulator = regulator })
+
+-- `NAME OPKEY REGKEY`: a new ledger, and a run on it
+abbrev pub dry_of : List ℕ → List ℕ → List ℕ → Option Command
+dry_of name operator regulator = option_map Dry (genesis_of name operator regulator)
+
+-- `DIR NAME OPKEY REGKEY`: a new ledger in a folder, whose name has at least one byte
+abbrev pub init_of : List ℕ → List ℕ → List ℕ → List ℕ → Option Command
+init_of [] name operator regulator = None
+init_of (byte ∷ bytes) name operator regulator = option_map Init (genesis_of name operator regulator)
+
+-- `DIR`: the ledger in a folder
+abbrev pub run_of : List ℕ → Option Command
+run_of [] = None
+run_of (byte ∷ bytes) = Some Run
 
 -- the request of a verb and its words that a key is to prove, on the ledger with this id
 abbrev pub sign_of : List ℕ → List ℕ → List ℕ → List (List ℕ) → Option Command
@@ -22,13 +37,32 @@ sign_of id_word key_word verb words = do
   request ← request_of verb words
   Some (Sign (record { id = id; key = key; request = request }))
 
--- what the words ask for: `dry NAME OPKEY REGKEY`, or `sign ID KEY` and then a request
+-- `init` has five words
+abbrev pub init_from : List ℕ → List ℕ → List ℕ → List (List ℕ) → Option Command
+init_from folder name operator [] = None
+init_from folder name operator (regulator ∷ []) = init_of folder name operator regulator
+init_from folder name operator (regulator ∷ more ∷ words) = None
+
+-- what two words ask for
+abbrev pub of_two : List ℕ → List ℕ → Option Command
+of_two verb folder = if pointwise nat_eq verb (codes "run") then run_of folder else None
+
+-- what four words ask for
+abbrev pub of_four : List ℕ → List ℕ → List ℕ → List ℕ → Option Command
+of_four verb name operator regulator = if pointwise nat_eq verb (codes "dry") then dry_of name operator regulator else None
+
+-- what five words and more ask for
+abbrev pub of_more : List ℕ → List ℕ → List ℕ → List ℕ → List (List ℕ) → Option Command
+of_more verb second third fourth words =
+    if pointwise nat_eq verb (codes "sign") then sign_of second third fourth words
+    else if pointwise nat_eq verb (codes "init") then init_from second third fourth words
+    else None
+
+-- what the words ask for: `run DIR`, `dry NAME OPKEY REGKEY`, `init DIR NAME OPKEY REGKEY`, or `sign ID KEY` and then a request
 abbrev pub command_of : List (List ℕ) → Option Command
 command_of [] = None
 command_of (verb ∷ []) = None
-command_of (verb ∷ name ∷ []) = None
+command_of (verb ∷ folder ∷ []) = of_two verb folder
 command_of (verb ∷ name ∷ operator ∷ []) = None
-command_of (verb ∷ name ∷ operator ∷ regulator ∷ []) =
-    if pointwise nat_eq verb (codes "dry") then dry_of name operator regulator else None
-command_of (verb ∷ id ∷ key ∷ asked ∷ word ∷ words) =
-    if pointwise nat_eq verb (codes "sign") then sign_of id key asked (word ∷ words) else None
+command_of (verb ∷ name ∷ operator ∷ regulator ∷ []) = of_four verb name operator regulator
+command_of (verb ∷ second ∷ third ∷ fourth ∷ fifth ∷ words) = of_more verb second third fourth (fifth ∷ words)

@@ -1,9 +1,8 @@
-//! The top call of `ledgerctl`: from the words of the command line and the bytes of a script to the bytes that
-//! are written and the exit status.
+//! The top call of `ledgerctl`: from the words of the command line, the bytes of a script and two files to the bytes that
+//! are written, the files that are left and the exit status.
 #![tactic(auto)]
 
-mod dues;
-mod ledger;
+mod ending;
 mod prepare;
 mod requests;
 mod session;
@@ -13,6 +12,7 @@ mod top;
 mod window;
 mod words;
 
+pub use ending::LedgerEnding;
 pub use signing::{Request, Signing};
 pub use standard::ledger_standard;
 pub use top::ledger_top;

@@ -1,5 +1,5 @@
 ghost use Rattle.std.specs.Prelude.{◌≡◌, true, Ok, IfOk};
-ghost use Rattle.script_lines.specs.Grammar.{spoken};
+ghost use Rattle.script_lines.specs.Grammar.{spoken_line};
 ghost use Rattle.script_lines.specs.Limits.{fits_line};
 ghost use Rattle.ledger_model.specs.Fitting.{fits_job};
 ghost use Rattle.ledger_model.specs.Rules.{job_for, job_of};
@@ -21,7 +21,7 @@ pub(crate) fn prepare<V: Verifier>(
     index: u64,
     line: &[u8],
 ) -> Result<Prepared, NoMemory>
-    ensures lane { IfOk result (λ item. item.lane ≡ (spoken line.now).0) }
+    ensures lane { IfOk result (λ item. item.lane ≡ (spoken_line line.now).0) }
     ensures index { IfOk result (λ item. item.index ≡ index) }
     ensures job { IfOk result (λ item. item.job ≡ job_of (V.shows verifier.now) id.now.0 line.now) }
 {
@@ -34,7 +34,6 @@ pub(crate) fn prepare<V: Verifier>(
 }
 
 // The job of a line that has a right form.
-
 fn prepare_line<V: Verifier>(verifier: &V, id: &Digest, line: Line) -> Job
     requires { fits_line line ≡ true }
     ensures job { result ≡ job_for (V.shows verifier.now) id.now.0 (Ok line) }
@@ -55,6 +54,7 @@ fn prepare_line<V: Verifier>(verifier: &V, id: &Digest, line: Line) -> Job
             proof,
         ),
         Line::NewMember { number, key, proof } => member_job(verifier, id, number, key, proof),
+        Line::Get { n } => Job::Get { n },
         Line::Clue { name } => Job::Clue {
             clue: clue_digest(name.as_slice()),
         },

@@ -1,26 +1,84 @@
-ghost use Rattle.std.specs.Prelude.{◌≤◌};
+ghost use Rattle.std.specs.Prelude.{◌≤◌, IfOk};
 
 use crate::ledger_top;
 use ledger_bytes::NoMemory;
-use ledger_io::{Ending, StdSink, StdSource, command_words, finish};
+use ledger_disk::{FileDisk, MemDisk};
+use ledger_io::{Ending, Sink, Source, StdSink, StdSource, command_words, finish};
 use member_book::TagScheme;
 
+/// How many bytes each of the two disks in memory can hold on which `dry` runs.
+const DRY_ROOM: usize = 67_108_864;
+
 /// Runs the program over standard input and standard output, by the words of its command line, and answers its exit
-/// status. Proofs are those of the tag scheme. What [`ledger_top`] promises holds of it, but standard input and output
-/// tell nothing of what they gave and took.
+/// status. `init` and `run` use the files `ledger.a` and `ledger.b` of their folder, which has to be there; `dry` uses two
+/// disks in memory of 67,108,864 bytes each. Proofs are those of the tag scheme. What [`ledger_top`] promises holds of
+/// it, but standard input and output and real files tell nothing of what they gave and took.
 pub fn ledger_standard(rt: &HostRuntime) -> u8
-    ensures { result ≤ 7 }
+    ensures { result ≤ 9 }
 {
     let mut source = StdSource::new(rt.stdin());
     let mut sink = StdSink::new(rt.stdout());
-    match command_words(rt) {
-        Ok(words) => ledger_top(
-            rt.alloc(),
-            words.as_slice(),
-            &mut source,
-            &mut sink,
-            &TagScheme,
-        ),
+    let Ok(words) = command_words(rt) else {
+        return finish(&mut sink, Ending::NoMemory);
+    };
+    let words = words.as_slice();
+    let status = match folder_of(words) {
+        Some(folder) => run_on_files(rt, folder, words, &mut source, &mut sink),
+        None => run_in_memory(rt, words, &mut source, &mut sink),
+    };
+    match status {
+        Ok(status) => status,
         Err(NoMemory) => finish(&mut sink, Ending::NoMemory),
     }
+}
+
+// The folder that `init` or `run` is to use.
+fn folder_of(words: &[String]) -> Option<&str> {
+    match words {
+        [verb, folder] if verb.as_str() == "run" => Some(folder.as_str()),
+        [verb, folder, _, _, _] if verb.as_str() == "init" => Some(folder.as_str()),
+        _ => None,
+    }
+}
+
+// Nothing is opened where the words turn out to be of no form.
+fn run_on_files<S: Source, K: Sink>(
+    rt: &HostRuntime,
+    folder: &str,
+    words: &[String],
+    source: &mut S,
+    sink: &mut K,
+) -> Result<u8, NoMemory>
+    ensures { IfOk result (λ status. status ≤ 9) }
+{
+    let mut a = file_in(rt, folder, "/ledger.a")?;
+    let mut b = file_in(rt, folder, "/ledger.b")?;
+    Ok(ledger_top(rt.alloc(), words, source, sink, &mut a, &mut b, &TagScheme))
+}
+
+fn file_in<'a>(
+    rt: &'a HostRuntime,
+    folder: &str,
+    name: &str,
+) -> Result<FileDisk<&'a HostRuntime>, NoMemory> {
+    let mut path = String::from_str(rt.alloc(), folder)?;
+    path.push_str(name)?;
+    FileDisk::at(rt, rt.alloc(), path.as_str())
+}
+
+fn run_in_memory<S: Source, K: Sink>(
+    rt: &HostRuntime,
+    words: &[String],
+    source: &mut S,
+    sink: &mut K,
+) -> Result<u8, NoMemory>
+    ensures { IfOk result (λ status. status ≤ 9) }
+{
+    let room = match words {
+        [verb, ..] if verb.as_str() == "dry" => DRY_ROOM,
+        _ => 0,
+    };
+    let mut a = MemDisk::new(rt.alloc(), room, Vec::new(rt.alloc()))?;
+    let mut b = MemDisk::new(rt.alloc(), room, Vec::new(rt.alloc()))?;
+    Ok(ledger_top(rt.alloc(), words, source, sink, &mut a, &mut b, &TagScheme))
 }

@@ -1,5 +1,6 @@
 use crate::{Command, ledger_top};
 use ledger_bytes::{Bytes, Digest, NoMemory};
+use ledger_disk::MemDisk;
 use ledger_io::{MemSink, MemSource};
 use member_book::TagScheme;
 use plain::Plain;
@@ -8,6 +9,7 @@ use std::alloc::Global;
 use std::test::Fail;
 
 mod book;
+mod files;
 mod plain;
 mod sign;
 
@@ -104,6 +106,9 @@ const AMPLE: usize = 65_536;
 
 const NEVER: u64 = u64::MAX;
 
+// How many bytes each of the two disks can hold.
+const DISK_ROOM: usize = 16_777_216;
+
 fn strings(alloc: Global, words: &[&str]) -> Result<Vec<String>, NoMemory> {
     let mut strings = Vec::new(alloc);
     for word in words {
@@ -133,7 +138,10 @@ fn repeated(alloc: Global, lines: &[(usize, &[&str])]) -> Result<Vec<u8>, NoMemo
 }
 
 // These lines, each of them so many times: its front, a filling of so many bytes, and its end.
-fn filled(alloc: Global, lines: &[(usize, &str, (usize, u8), &str)]) -> Result<Vec<u8>, NoMemory> {
+fn fill_lines(
+    alloc: Global,
+    lines: &[(usize, &str, (usize, u8), &str)],
+) -> Result<Vec<u8>, NoMemory> {
     let mut script = Vec::new(alloc);
     for (times, front, (count, byte), end) in lines {
         let mut filling = Vec::new(alloc);
@@ -168,8 +176,19 @@ fn run(
     let words = strings(alloc, words)?;
     let mut source = MemSource::new(Bytes::of(script), [failing_read].to_vec(alloc)?);
     let mut sink = MemSink::new(alloc, room, [failing_write].to_vec(alloc)?)?;
-    let status = ledger_top(alloc, words.as_slice(), &mut source, &mut sink, &TagScheme);
-    Ok((status, sink.written().to_vec(alloc)?))
+    let mut a = MemDisk::new(alloc, DISK_ROOM, Vec::new(alloc))?;
+    let mut b = MemDisk::new(alloc, DISK_ROOM, Vec::new(alloc))?;
+    let words = words.as_slice();
+    let status = ledger_top(
+        alloc,
+        words,
+        &mut source,
+        &mut sink,
+        &mut a,
+        &mut b,
+        &TagScheme,
+    );
+    Ok((status, sink.written_bytes().to_vec(alloc)?))
 }
 
 fn is_as_wanted(alloc: Global, written: &[u8], want: &Written) -> Result<bool, NoMemory> {
@@ -184,28 +203,32 @@ fn is_as_wanted(alloc: Global, written: &[u8], want: &Written) -> Result<bool, N
 }
 
 // Whether a run of such lines ends and writes as it is to.
-fn answers_filled(
+fn answers_to_filled(
     alloc: Global,
     lines: &[(usize, &str, (usize, u8), &str)],
     want_status: u8,
     want: &Written,
 ) -> Result<bool, NoMemory> {
-    let script = filled(alloc, lines)?;
+    let script = fill_lines(alloc, lines)?;
     let (status, written) = run(alloc, &DEMO, script, NEVER, AMPLE, NEVER)?;
     Ok(status == want_status && is_as_wanted(alloc, written.as_slice(), want)?)
 }
 
 #[test]
 fn answers_scripts(rt: HostRuntime) -> Result<(), Fail> {
-    let rows: [(&[&str], &str, &[&str]); 6] = [
+    let rows: [(&[&str], &str, &[&str]); 7] = [
         (&DEMO, "", &[]),
         (
             &DEMO,
-            "\n8 head\n0 hed\n0 get\n0 get 01\n0 clue inv\n0 clue\n0 member 2\n0 append 0 inv - -\n1 head",
+            "\n8 head\n0 hed\n0 get\n0 get 01\n0 get 0 1\n0 get 5",
             &[
-                "0.1 no 12\n0.2 no 12\n0.3 no 10\n0.4 no 10\n0.5 no 10\n0.6 clue 0 -\n\
-                0.7 no 11 3\n0.8 no 11 4\n0.9 no 15 0\n0.10 no 12\n",
+                "0.1 no 12\n0.2 no 12\n0.3 no 10\n0.4 no 11 3\n0.5 no 11 3\n0.6 no 11 4\n0.7 no 20 1\n",
             ],
+        ),
+        (
+            &DEMO,
+            "0 clue inv\n0 clue\n0 member 2\n0 append 0 inv - -\n1 head",
+            &["0.1 clue 0 -\n0.2 no 11 3\n0.3 no 11 4\n0.4 no 15 0\n0.5 no 12\n"],
         ),
         (&DEMO, "0 head", &["0.1 ", HEAD]),
         (&DEMO, "0 head\n", &["0.1 ", HEAD]),
@@ -412,7 +435,7 @@ fn bounds_bytes(rt: HostRuntime) -> Result<(), Fail> {
     ];
     for (lines, want_status, want) in rows {
         assert!(rt;
-            answers_filled(rt.alloc(), lines, want_status, &want)?,
+            answers_to_filled(rt.alloc(), lines, want_status, &want)?,
             "at {want:?}"
         );
     }
@@ -454,7 +477,7 @@ fn bounds_windows(rt: HostRuntime) -> Result<(), Fail> {
     ];
     for (lines, want_status, want) in rows {
         assert!(rt;
-            answers_filled(rt.alloc(), lines, want_status, &want)?,
+            answers_to_filled(rt.alloc(), lines, want_status, &want)?,
             "at {want:?}"
         );
     }
@@ -564,7 +587,7 @@ fn answers_like_a_plain_list(rt: HostRuntime) -> Result<(), Fail> {
     }
     plain.clue("clue39")?;
     plain.head()?;
-    let (script, want) = plain.end()?;
+    let (script, want) = plain.end_run()?;
     let (status, written) = run(rt.alloc(), &DEMO, script, NEVER, AMPLE, NEVER)?;
     assert_eq!(rt; written, want);
     assert_eq!(rt; status, 0);
@@ -601,7 +624,7 @@ fn ends_the_last_block(rt: HostRuntime) -> Result<(), Fail> {
 
 #[test]
 fn refuses_words(rt: HostRuntime) -> Result<(), Fail> {
-    let rows: [&[&str]; 9] = [
+    let rows: [&[&str]; 19] = [
         &[],
         &[""],
         &["dry", "demo"],
@@ -626,6 +649,16 @@ fn refuses_words(rt: HostRuntime) -> Result<(), Fail> {
         ],
         &["dry", "n", OPERATOR, REGULATOR, "x"],
         &["Dry", "n", OPERATOR, REGULATOR],
+        &["run"],
+        &["run", ""],
+        &["run", "d", "x"],
+        &["Run", "d"],
+        &["init", "d", "n", OPERATOR],
+        &["init", "d", "n", OPERATOR, REGULATOR, "x"],
+        &["init", "", "n", OPERATOR, REGULATOR],
+        &["init", "d", "", OPERATOR, REGULATOR],
+        &["init", "d", "n", "0", REGULATOR],
+        &["init", "d", "n", OPERATOR, "0"],
     ];
     for words in rows {
         let script = joined(rt.alloc(), &["0 head\n"])?;

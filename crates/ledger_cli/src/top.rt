@@ -1,24 +1,28 @@
-ghost use Rattle.std.specs.Prelude.{◌≡◌, ◌≢◌, ◌↔◌, None, map, string_bytes};
-ghost use Rattle.ledger_io.specs.Outside.{SourceState, outside, counted, MeetsNone, MeetsOne};
-ghost use Rattle.ledger_io.specs.Runs.{Served, Wrote};
-ghost use Rattle.ledger_model.specs.Genesis.{founded};
-ghost use Rattle.ledger_cli.specs.Runs.{Answers, RanProgram, ServedBy};
+ghost use Rattle.std.specs.Prelude.{◌≡◌, ◌↔◌, None, map, string_bytes};
+ghost use Rattle.batch_committer.specs.World.{Pair, disk, pair};
+ghost use Rattle.ledger_io.specs.Outside.{SourceState, count_after, MeetsOne};
+ghost use Rattle.ledger_cli.specs.Runs.{handed, DiskFailed, Finishes, Makes, NothingFailed, RanProgram, RunsAgain, RunsNew, ServedBy, Signs};
 ghost use Rattle.ledger_cli.specs.Signing.{signed_text};
 ghost use Rattle.ledger_cli.specs.Words.{command_of};
 
 use crate::Command;
-use crate::ledger::Ledger;
+use crate::ending::{LedgerEnding, put_line};
 use crate::session::run_script;
 use crate::signing::Signing;
+use batch_committer::Committer;
 use ledger_bytes::NoMemory;
-use ledger_io::{Ending, Sink, Source, finish, write_all};
-use ledger_model::Genesis;
+use ledger_disk::Disk;
+use ledger_io::{Ending, Sink, Source, finish, write_all, write_last};
+use ledger_model::{Genesis, Limits};
+use ledger_open::{init, reopen};
 use member_book::Verifier;
+use script_lines::Word;
 use std::alloc::Global;
 
-/// The program: runs the command that the words after the program's name make. `dry` runs the script that `source` gives
-/// and writes its replies to `sink`; whose key a proof shows is what the verifier says. `sign` reads nothing and writes one
-/// text. It answers the exit status:
+/// The program: runs the command that the words after the program's name make. `init` makes a ledger of the two disks.
+/// `run` opens the ledger that is there, and runs the script that `source` gives on it; its replies are written to `sink`,
+/// a receipt once its block is on the disk for good. `dry` does both with a new ledger. `sign` reads nothing, uses no disk
+/// and writes one text. Whose key a proof shows is what the verifier says. It answers the exit status:
 ///
 /// | Status | Comes | Last line |
 /// |---|---|---|
@@ -26,80 +30,194 @@ use std::alloc::Global;
 /// | 1 | exactly where the words are of no form | `fail 1 usage` |
 /// | 2 | only where the source failed | `fail 2 read` |
 /// | 3 | only where the sink failed, or took nothing of a piece that wasn't empty | none |
+/// | 4 | only where a disk failed | `fail 4 disk` |
+/// | 5 | `run`: the open file is damaged | `fail 5` and the damage |
 /// | 6 | want of memory | `fail 6 memory` |
 /// | 7 | a line or the script is too long | `fail 7 line`, `fail 7 script` |
+/// | 8 | `run` where there is no ledger, `init` and `dry` where there is one | `fail 8 empty`, `fail 8 exists` |
+/// | 9 | `run`: the version of an open file isn't 1 | `fail 9 format` and the version |
 ///
-/// Of several, the first that happens is the status: a run that is done met no fault, and one that ends with a fault of
-/// reading or writing met that one. Lines that ended before a fault of reading are answered first.
-/// The last line is written by one attempt; a fault there doesn't change the status.
-pub fn ledger_top<S: Source, K: Sink, V: Verifier>(
+/// Of several, the first that happens is the status: a run that is done met no fault, and one that ends with a fault met
+/// that one. Lines that ended before a fault of reading are answered first. The last line is written by one attempt; a
+/// fault there doesn't change the status.
+pub fn ledger_top<S: Source, K: Sink, D: Disk, V: Verifier>(
     alloc: Global,
     words: &[String],
     source: &mut S,
     sink: &mut K,
+    a: &mut D,
+    b: &mut D,
     verifier: &V,
 ) -> u8
-    ensures ran { RanProgram (V.shows verifier.now) (command_of (map string_bytes words.now)) result
-        (outside (S.state source.old) (K.state sink.old))
-        (outside (S.state source.new) (K.state sink.new)) }
+    ensures ran { RanProgram (V.shows verifier.now) D.tells
+        (command_of (map string_bytes words.now)) result
+        (handed (S.state source.old) (K.state sink.old)
+        (pair (disk (D.state a.old) (D.told_length a.old) (D.faults a.old))
+        (disk (D.state b.old) (D.told_length b.old) (D.faults b.old))))
+        (handed (S.state source.new) (K.state sink.new)
+        (pair (disk (D.state a.new) (D.told_length a.new) (D.faults a.new))
+        (disk (D.state b.new) (D.told_length b.new) (D.faults b.new)))) }
     ensures usage { (result ≡ 1) ↔ (command_of (map string_bytes words.now) ≡ None) }
-    ensures done { result ≡ 0 → ((S.state source.new).faults ≡ (S.state source.old).faults)
-        × MeetsNone (K.state sink.old) (K.state sink.new) }
+    ensures done { result ≡ 0 → NothingFailed
+        (handed (S.state source.old) (K.state sink.old)
+        (pair (disk (D.state a.old) (D.told_length a.old) (D.faults a.old))
+        (disk (D.state b.old) (D.told_length b.old) (D.faults b.old))))
+        (handed (S.state source.new) (K.state sink.new)
+        (pair (disk (D.state a.new) (D.told_length a.new) (D.faults a.new))
+        (disk (D.state b.new) (D.told_length b.new) (D.faults b.new)))) }
     ensures read_fault { result ≡ 2
-        → (S.state source.new).faults ≡ counted (S.state source.old).faults }
+        → (S.state source.new).faults ≡ count_after (S.state source.old).faults }
     ensures write_fault { result ≡ 3 → MeetsOne (K.state sink.old) (K.state sink.new) }
+    ensures disk_fault { result ≡ 4 → DiskFailed
+        (pair (disk (D.state a.old) (D.told_length a.old) (D.faults a.old))
+        (disk (D.state b.old) (D.told_length b.old) (D.faults b.old)))
+        (pair (disk (D.state a.new) (D.told_length a.new) (D.faults a.new))
+        (disk (D.state b.new) (D.told_length b.new) (D.faults b.new))) }
 {
-    let ending = run_words(alloc, words, source, sink, verifier);
-    finish(sink, ending)
+    let met = run_words(alloc, words, source, sink, a, b, verifier);
+    finish_run(alloc, sink, met)
 }
 
-// All but the last line.
-fn run_words<S: Source, K: Sink, V: Verifier>(
-    alloc: Global,
-    words: &[String],
-    source: &mut S,
-    sink: &mut K,
-    verifier: &V,
-) -> Ending
-    ensures served { ServedBy (V.shows verifier.now)
-        (command_of (map string_bytes words.now)) result
-        (outside (S.state source.old) (K.state sink.old))
-        (outside (S.state source.new) (K.state sink.new)) }
-    ensures usage { (result ≡ Ending.Usage) ↔ (command_of (map string_bytes words.now) ≡ None) }
+// The last line is written by one attempt. For one that is made of words memory is taken.
+fn finish_run<K: Sink>(alloc: Global, sink: &mut K, met: LedgerEnding) -> u8
+    ensures { Finishes met result (K.state sink.old) (K.state sink.new) }
 {
-    match Command::read(alloc, words) {
-        Ok(Some(Command::Dry(genesis))) => run_dry(alloc, &genesis, source, sink, verifier),
-        Ok(Some(Command::Sign(signing))) => run_sign(&signing, sink),
-        Ok(None) => Ending::Usage,
-        Err(NoMemory) => Ending::NoMemory,
+    if let Some(line) = met.fixed_line() {
+        write_last(sink, line);
+        return met.status();
+    }
+    let mut line = Vec::new(alloc);
+    match met.put_line(&mut line) {
+        Ok(()) => {
+            write_last(sink, line.as_slice());
+            met.status()
+        }
+        Err(NoMemory) => finish(sink, Ending::NoMemory),
     }
 }
 
-fn run_dry<S: Source, K: Sink, V: Verifier>(
+// All but the last line.
+fn run_words<S: Source, K: Sink, D: Disk, V: Verifier>(
+    alloc: Global,
+    words: &[String],
+    source: &mut S,
+    sink: &mut K,
+    a: &mut D,
+    b: &mut D,
+    verifier: &V,
+) -> LedgerEnding
+    ensures { ServedBy (V.shows verifier.now) D.tells
+        (command_of (map string_bytes words.now)) result
+        (handed (S.state source.old) (K.state sink.old)
+        (pair (disk (D.state a.old) (D.told_length a.old) (D.faults a.old))
+        (disk (D.state b.old) (D.told_length b.old) (D.faults b.old))))
+        (handed (S.state source.new) (K.state sink.new)
+        (pair (disk (D.state a.new) (D.told_length a.new) (D.faults a.new))
+        (disk (D.state b.new) (D.told_length b.new) (D.faults b.new)))) }
+{
+    match Command::read(alloc, words) {
+        Ok(Some(Command::Dry(genesis))) => {
+            run_new(alloc, &genesis, source, sink, a, b, verifier)
+        }
+        Ok(Some(Command::Init(genesis))) => make(alloc, &genesis, sink, a, b),
+        Ok(Some(Command::Run)) => run_again(alloc, source, sink, a, b, verifier),
+        Ok(Some(Command::Sign(signing))) => sign(&signing, sink),
+        Ok(None) => LedgerEnding::Run(Ending::Usage),
+        Err(NoMemory) => LedgerEnding::Run(Ending::NoMemory),
+    }
+}
+
+// Opens the ledger of two disks, and runs a script on it.
+fn run_again<S: Source, K: Sink, D: Disk, V: Verifier>(
+    alloc: Global,
+    source: &mut S,
+    sink: &mut K,
+    a: &mut D,
+    b: &mut D,
+    verifier: &V,
+) -> LedgerEnding
+    ensures { RunsAgain (V.shows verifier.now) D.tells result
+        (handed (S.state source.old) (K.state sink.old)
+        (pair (disk (D.state a.old) (D.told_length a.old) (D.faults a.old))
+        (disk (D.state b.old) (D.told_length b.old) (D.faults b.old))))
+        (handed (S.state source.new) (K.state sink.new)
+        (pair (disk (D.state a.new) (D.told_length a.new) (D.faults a.new))
+        (disk (D.state b.new) (D.told_length b.new) (D.faults b.new)))) }
+{
+    match reopen(alloc, a, b, Limits::real()) {
+        Ok(opened) => {
+            let mut committer = Committer::new(alloc, opened);
+            run_script(alloc, verifier, &mut committer, a, b, source, sink)
+        }
+        Err(e) => LedgerEnding::from(e),
+    }
+}
+
+// Makes a ledger of two disks, and runs a script on it.
+fn run_new<S: Source, K: Sink, D: Disk, V: Verifier>(
     alloc: Global,
     genesis: &Genesis,
     source: &mut S,
     sink: &mut K,
+    a: &mut D,
+    b: &mut D,
     verifier: &V,
-) -> Ending
-    ensures served { Served (Answers (V.shows verifier.now) (founded genesis.now)) result
-        (outside (S.state source.old) (K.state sink.old))
-        (outside (S.state source.new) (K.state sink.new)) }
-    ensures started { result ≢ Ending.Usage }
+) -> LedgerEnding
+    ensures { RunsNew (V.shows verifier.now) genesis.now D.tells result
+        (handed (S.state source.old) (K.state sink.old)
+        (pair (disk (D.state a.old) (D.told_length a.old) (D.faults a.old))
+        (disk (D.state b.old) (D.told_length b.old) (D.faults b.old))))
+        (handed (S.state source.new) (K.state sink.new)
+        (pair (disk (D.state a.new) (D.told_length a.new) (D.faults a.new))
+        (disk (D.state b.new) (D.told_length b.new) (D.faults b.new)))) }
 {
-    match Ledger::new(alloc, genesis) {
-        Ok(mut ledger) => run_script(alloc, verifier, &mut ledger, source, sink),
-        Err(NoMemory) => Ending::NoMemory,
+    match init(alloc, a, b, genesis, Limits::real()) {
+        Ok(opened) => {
+            let mut committer = Committer::new(alloc, opened);
+            run_script(alloc, verifier, &mut committer, a, b, source, sink)
+        }
+        Err(e) => LedgerEnding::from(e),
     }
 }
 
-fn run_sign<K: Sink>(signing: &Signing, sink: &mut K) -> Ending
-    ensures served { (source : SourceState) → Wrote (signed_text signing.now) result
-        (outside source (K.state sink.old)) (outside source (K.state sink.new)) }
-    ensures started { result ≢ Ending.Usage }
+// Makes a ledger of two disks, and writes a line that tells it.
+fn make<K: Sink, D: Disk>(
+    alloc: Global,
+    genesis: &Genesis,
+    sink: &mut K,
+    a: &mut D,
+    b: &mut D,
+) -> LedgerEnding
+    ensures { (source : SourceState) → Makes genesis.now D.tells result
+        (handed source (K.state sink.old)
+        (pair (disk (D.state a.old) (D.told_length a.old) (D.faults a.old))
+        (disk (D.state b.old) (D.told_length b.old) (D.faults b.old))))
+        (handed source (K.state sink.new)
+        (pair (disk (D.state a.new) (D.told_length a.new) (D.faults a.new))
+        (disk (D.state b.new) (D.told_length b.new) (D.faults b.new)))) }
+{
+    let id = match init(alloc, a, b, genesis, Limits::real()) {
+        Ok(opened) => opened.book.id(),
+        Err(e) => return LedgerEnding::from(e),
+    };
+    let mut line = Vec::new(alloc);
+    let words = [Word::Hash(id), Word::Number(1), Word::Hash(id)];
+    let Ok(()) = put_line(&mut line, b"ledger", &words) else {
+        return LedgerEnding::Run(Ending::NoMemory);
+    };
+    match write_all(sink, line.as_slice()) {
+        Ok(()) => LedgerEnding::Run(Ending::Done),
+        Err(_) => LedgerEnding::Run(Ending::WriteFault),
+    }
+}
+
+// Writes the text of a request.
+fn sign<K: Sink>(signing: &Signing, sink: &mut K) -> LedgerEnding
+    ensures { (source : SourceState) (disks : Pair) → Signs (signed_text signing.now) result
+        (handed source (K.state sink.old) disks) (handed source (K.state sink.new) disks) }
 {
     match write_all(sink, &signing.text()) {
-        Ok(()) => Ending::Done,
-        Err(_) => Ending::WriteFault,
+        Ok(()) => LedgerEnding::Run(Ending::Done),
+        Err(_) => LedgerEnding::Run(Ending::WriteFault),
     }
 }

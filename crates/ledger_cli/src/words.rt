@@ -1,5 +1,5 @@
 ghost use Rattle.std.specs.Prelude.{◌≡◌, map, string_bytes, IfOk, OnErr, IsSome};
-ghost use Rattle.ledger_cli.specs.Words.{dry_of, sign_of};
+ghost use Rattle.ledger_cli.specs.Words.{dry_of, genesis_of, init_of, of_four, of_more, of_two, sign_of};
 
 use crate::signing::{Signing, read_request};
 use ledger_bytes::{Bytes, NoMemory};
@@ -10,8 +10,12 @@ use std::alloc::Global;
 /// What the words of the command line ask for.
 #[derive(Debug, Drop)]
 pub enum Command {
-    /// `dry NAME OPKEY REGKEY`: a ledger in memory, which lasts as long as the run.
+    /// `dry NAME OPKEY REGKEY`: a new ledger on the disks that are handed in, and a run of the script on it.
     Dry(Genesis),
+    /// `init DIR NAME OPKEY REGKEY`: a new ledger. It reads no input.
+    Init(Genesis),
+    /// `run DIR`: the ledger that is there, and a run of the script on it.
+    Run,
     /// `sign ID KEY` and a request: the request's message, and the key's proof of it. It reads no input.
     Sign(Signing),
 }
@@ -19,21 +23,85 @@ pub enum Command {
 impl Command {
     ghost use Rattle.ledger_cli.specs.Words.{command_of};
 
-    /// The command that the words after the program's name make, or None where they are of no form.
+    /// The command that the words after the program's name make, or None where they are of no form. The folder of
+    /// `init` and `run` isn't part of it: the disks over its files are handed in.
     pub fn read(alloc: Global, words: &[String]) -> Result<Option<Self>, NoMemory>
         ensures ok { IfOk result (λ command. command ≡ command_of (map string_bytes words.now)) }
         ensures err { OnErr result (IsSome (command_of (map string_bytes words.now))) }
     {
         match words {
-            [verb, name, operator, regulator] if verb.as_str() == "dry" => {
-                read_dry(alloc, name.as_str(), operator.as_str(), regulator.as_str())
-            }
-            [verb, id, key, asked, _, ..] if verb.as_str() == "sign" => {
-                let fields = &words[4..];
-                read_sign(alloc, id.as_str(), key.as_str(), asked.as_str(), fields)
-            }
+            [verb, folder] => Ok(read_two(verb.as_str(), folder.as_str())),
+            [verb, name, operator, regulator] => read_four(
+                alloc,
+                verb.as_str(),
+                name.as_str(),
+                operator.as_str(),
+                regulator.as_str(),
+            ),
+            [verb, second, third, fourth, _, ..] => read_more(
+                alloc,
+                verb.as_str(),
+                second.as_str(),
+                third.as_str(),
+                fourth.as_str(),
+                &words[4..],
+            ),
             _ => Ok(None),
         }
+    }
+}
+
+fn read_two(verb: &str, folder: &str) -> Option<Command>
+    ensures { result ≡ of_two verb.now folder.now }
+{
+    if verb == "run" && !folder.is_empty() {
+        Some(Command::Run)
+    } else {
+        None
+    }
+}
+
+fn read_four(
+    alloc: Global,
+    verb: &str,
+    name: &str,
+    operator: &str,
+    regulator: &str,
+) -> Result<Option<Command>, NoMemory>
+    ensures ok { IfOk result (λ command. command
+        ≡ of_four verb.now name.now operator.now regulator.now) }
+    ensures err { OnErr result (IsSome (of_four verb.now name.now operator.now regulator.now)) }
+{
+    if verb == "dry" {
+        read_dry(alloc, name, operator, regulator)
+    } else {
+        Ok(None)
+    }
+}
+
+// Five words and more.
+fn read_more(
+    alloc: Global,
+    verb: &str,
+    second: &str,
+    third: &str,
+    fourth: &str,
+    fields: &[String],
+) -> Result<Option<Command>, NoMemory>
+    ensures ok { IfOk result (λ command. command
+        ≡ of_more verb.now second.now third.now fourth.now (map string_bytes fields.now)) }
+    ensures err { OnErr result (IsSome
+        (of_more verb.now second.now third.now fourth.now (map string_bytes fields.now))) }
+{
+    if verb == "sign" {
+        read_sign(alloc, second, third, fourth, fields)
+    } else if verb == "init" {
+        match fields {
+            [regulator] => read_init(alloc, second, third, fourth, regulator.as_str()),
+            _ => Ok(None),
+        }
+    } else {
+        Ok(None)
     }
 }
 
@@ -46,6 +114,41 @@ fn read_dry(
     ensures ok { IfOk result (λ command. command ≡ dry_of name.now operator.now regulator.now) }
     ensures err { OnErr result (IsSome (dry_of name.now operator.now regulator.now)) }
 {
+    match read_genesis(alloc, name, operator, regulator)? {
+        Some(genesis) => Ok(Some(Command::Dry(genesis))),
+        None => Ok(None),
+    }
+}
+
+fn read_init(
+    alloc: Global,
+    folder: &str,
+    name: &str,
+    operator: &str,
+    regulator: &str,
+) -> Result<Option<Command>, NoMemory>
+    ensures ok { IfOk result (λ command. command
+        ≡ init_of folder.now name.now operator.now regulator.now) }
+    ensures err { OnErr result (IsSome (init_of folder.now name.now operator.now regulator.now)) }
+{
+    if folder.is_empty() {
+        return Ok(None);
+    }
+    match read_genesis(alloc, name, operator, regulator)? {
+        Some(genesis) => Ok(Some(Command::Init(genesis))),
+        None => Ok(None),
+    }
+}
+
+fn read_genesis(
+    alloc: Global,
+    name: &str,
+    operator: &str,
+    regulator: &str,
+) -> Result<Option<Genesis>, NoMemory>
+    ensures ok { IfOk result (λ genesis. genesis ≡ genesis_of name.now operator.now regulator.now) }
+    ensures err { OnErr result (IsSome (genesis_of name.now operator.now regulator.now)) }
+{
     let Some(name) = read_name(name.as_bytes()) else {
         return Ok(None);
     };
@@ -55,11 +158,11 @@ fn read_dry(
     ) else {
         return Ok(None);
     };
-    Ok(Some(Command::Dry(Genesis {
+    Ok(Some(Genesis {
         name: Bytes::copy_of(alloc, name)?,
         operator,
         regulator,
-    })))
+    }))
 }
 
 fn read_sign(

@@ -188,7 +188,7 @@ fn journals_of_a_clue(rt: HostRuntime) -> Result<(), Fail> {
 fn asking_places_nothing(rt: HostRuntime) -> Result<(), Fail> {
     let mut book = small(&rt, rt.alloc())?;
     let head = book.apply(&Job::Head, None)?;
-    assert!(rt; head == Outcome::Reading(Query::Head) && book.unsealed() == 2);
+    assert!(rt; head == Outcome::Reading(Query::Head) && book.waiting_count() == 2);
     assert!(rt; book.view(2) == View::Whole && book.view(3) == View::Absent);
     assert!(rt; !book.full() && !book.is_block_full() && book.point() == 0);
     Ok(())
@@ -256,6 +256,6 @@ fn all_members(rt: HostRuntime) -> Result<(), Fail> {
     let full = Wanted::Refused(Refusal::MembersFull);
     let list = [(Asked::Member(256, 9), full), (Asked::Member(7, 1), full)];
     run(&rt, rt.alloc(), &mut book, &list)?;
-    assert!(rt; book.unsealed() == 254 && book.is_block_full());
+    assert!(rt; book.waiting_count() == 254 && book.is_block_full());
     Ok(())
 }

@@ -133,10 +133,15 @@ impl Plain {
         self.answer(Answer::Reply(head))
     }
 
-    /// The script, and the replies to it once it has ended.
-    pub(super) fn end(mut self) -> Result<(Vec<u8>, Vec<u8>), NoMemory> {
+    /// The script so far, and the replies to it once it has ended. What follows is the next script on the ledger.
+    pub(super) fn end_run(&mut self) -> Result<(Vec<u8>, Vec<u8>), NoMemory> {
         self.end_block()?;
-        Ok((self.script, self.replies))
+        let script = self.script.as_slice().to_vec(self.alloc)?;
+        let replies = self.replies.as_slice().to_vec(self.alloc)?;
+        self.index = 0;
+        self.script.clear();
+        self.replies.clear();
+        Ok((script, replies))
     }
 
     fn say_member(&mut self, number: u32, key: &Digest) -> Result<[u8; 64], NoMemory> {

@@ -127,8 +127,19 @@ fn sign_append(alloc: Global, clue: &str, content: &str) -> Result<(u8, usize), 
     words.push(String::from_str(alloc, content)?)?;
     let mut source = MemSource::new(Bytes::of(Vec::new(alloc)), Vec::new(alloc));
     let mut sink = MemSink::new(alloc, AMPLE, Vec::new(alloc))?;
-    let status = ledger_top(alloc, words.as_slice(), &mut source, &mut sink, &TagScheme);
-    Ok((status, sink.written().len()))
+    let mut a = MemDisk::new(alloc, 0, Vec::new(alloc))?;
+    let mut b = MemDisk::new(alloc, 0, Vec::new(alloc))?;
+    let words = words.as_slice();
+    let status = ledger_top(
+        alloc,
+        words,
+        &mut source,
+        &mut sink,
+        &mut a,
+        &mut b,
+        &TagScheme,
+    );
+    Ok((status, sink.written_bytes().len()))
 }
 
 // A clue's name has at most 64 bytes, a newline among them, and a content at most 65,536.

@@ -1,10 +1,5 @@
-use Rattle.ledger_cli.proofs.TopLaws.{ran_by}
+use Rattle.ledger_cli.proofs.TopLaws.{done_met}
 use Rattle.ledger_cli.proofs.top.ledger_top.Goals as goal
 
-pub returns-clause-ran : goal.returns-clause-ran
-returns-clause-ran g c = record {
-  ending = c.run_words-ending.result;
-  status_is = c.finish.ensures.status;
-  usage = c.run_words-ending.ensures.usage;
-  ran = ran_by _ _ c.run_words-ending.result _ _ _ _ c.run_words-ending.ensures.served c.finish.ensures.last;
-}
+pub returns-clause-done : goal.returns-clause-done
+returns-clause-done g c = done_met _ _ _ _ c.run_words-met.result _ _ _ _ _ c.run_words-met.ensures c.finish_run.ensures

@@ -1,0 +1,124 @@
+-- Lemmas on a run whose disks were opened or made first.
+use Rattle.std.proofs.Common.{◌≡◌, ℕ, ◌≤◌, ◌⊎◌, inl, inr, Bool, ◌<◌, List, [], ◌++◌, length, take, drop, refl, ap, sym, subst, ◌∙◌, arith}
+use Rattle.std.specs.Prelude.{⊤, IsTrue, IfSome}
+use Rattle.std.proofs.KnownBytes.{Consumes-nil, Appends-nil}
+use Rattle.std.proofs.lemmas.List.{take-append-drop, length-take-le}
+use Rattle.batch_committer.specs.World.{DiskState, Pair}
+use Rattle.batch_committer.proofs.WayLaws.{begins_not}
+use Rattle.block_file.specs.File.{IsSettled}
+use Rattle.ledger_bytes.specs.Begins.{Begins}
+use Rattle.ledger_bytes.specs.Causes.{Rose}
+use Rattle.ledger_disk.specs.Disk.{State, MayLeave, settled_state}
+use Rattle.ledger_disk.proofs.Guarding.{settled_image}
+use Rattle.ledger_io.specs.Lines.{lines_of}
+use Rattle.ledger_io.specs.Outside.{SourceState, SinkState}
+use Rattle.ledger_io.specs.Runs.{FallsShort, SomeOfScript}
+use Rattle.ledger_io.specs.declared.ending.Ending.TheVariants as run
+use Rattle.ledger_model.specs.History.{History}
+use Rattle.ledger_model.specs.Rules.{after}
+use Rattle.ledger_model.specs.Scheme.{Scheme}
+use Rattle.ledger_model.proofs.DueLaws.{grows_windows}
+use Rattle.ledger_model.proofs.WaitLaws.{begins_closed}
+use Rattle.ledger_open.specs.Standing.{PairFor}
+use Rattle.ledger_open.specs.declared.failure.OpenErr.{OpenErr}
+use Rattle.ledger_cli.specs.Endings.{refusal_of}
+use Rattle.ledger_cli.specs.Runs.{Handed, handed, AreQuiet, StandFor, Faults, NoDiskFailed, DiskFailed, FaultsBy, StopsOn, Serves}
+use Rattle.ledger_cli.specs.Session.{IsOfLines}
+use Rattle.ledger_cli.specs.declared.ending.LedgerEnding.{LedgerEnding}
+use Rattle.ledger_cli.specs.declared.ending.LedgerEnding.TheVariants.{Run, DiskFault, Damaged, Empty, Exists, NewerFormat}
+use Rattle.ledger_cli.proofs.LineLaws.{steps_for, text_for, in_order}
+
+-- ---- what is told of a run is told of what it was handed before the disks were opened
+
+pub serves_from : (scheme : Scheme) (h : History) (ending : LedgerEnding) (source : SourceState) (sink : SinkState) (d e : Pair) (now : Handed) → Serves scheme h ending (handed source sink d) now → Serves scheme h ending (handed source sink e) now
+serves_from scheme h (Run run.Done) source sink d e now s = record { read = s.read; replies = s.replies; consumed = s.consumed; appended = s.appended; replied = s.replied }
+serves_from scheme h (Run run.Usage) source sink d e now s = absurd s.replied
+serves_from scheme h (Run run.ReadFault) source sink d e now s = record { read = s.read; replies = s.replies; consumed = s.consumed; appended = s.appended; replied = s.replied }
+serves_from scheme h (Run run.WriteFault) source sink d e now s = record { read = s.read; replies = s.replies; consumed = s.consumed; appended = s.appended; replied = s.replied }
+serves_from scheme h (Run run.NoMemory) source sink d e now s = record { read = s.read; replies = s.replies; consumed = s.consumed; appended = s.appended; replied = s.replied }
+serves_from scheme h (Run run.LineTooLong) source sink d e now s = record { read = s.read; replies = s.replies; consumed = s.consumed; appended = s.appended; replied = s.replied }
+serves_from scheme h (Run run.ScriptTooLong) source sink d e now s = record { read = s.read; replies = s.replies; consumed = s.consumed; appended = s.appended; replied = s.replied }
+serves_from scheme h DiskFault source sink d e now s = record { read = s.read; replies = s.replies; consumed = s.consumed; appended = s.appended; replied = s.replied }
+serves_from scheme h (Damaged damage) source sink d e now s = absurd s.replied
+serves_from scheme h Empty source sink d e now s = absurd s.replied
+serves_from scheme h Exists source sink d e now s = absurd s.replied
+serves_from scheme h (NewerFormat found) source sink d e now s = absurd s.replied
+
+module _ (source : SourceState) (sink : SinkState) (d e : Pair) (now : Handed) (a : d.a.faults ≡ e.a.faults) (b : d.b.faults ≡ e.b.faults) where
+  none_from : (S : ℕ → ℕ → Type 0) (K : SinkState → SinkState → Type 0) → Faults S K NoDiskFailed (handed source sink d) now → Faults S K NoDiskFailed (handed source sink e) now
+  none_from S K f = record { source_is = f.source_is; sink_is = f.sink_is; disks_are = record { a = f.disks_are.a ∙ a; b = f.disks_are.b ∙ b } }
+
+  rose_from : Rose d.a.faults now.disks.a.faults ⊎ Rose d.b.faults now.disks.b.faults → Rose e.a.faults now.disks.a.faults ⊎ Rose e.b.faults now.disks.b.faults
+  rose_from (inl r) = inl (subst (λ n. Rose n now.disks.a.faults) a r)
+  rose_from (inr r) = inr (subst (λ n. Rose n now.disks.b.faults) b r)
+
+  pub faults_from : (ending : LedgerEnding) → FaultsBy ending (handed source sink d) now → FaultsBy ending (handed source sink e) now
+  faults_from (Run run.Done) f = none_from _ _ f
+  faults_from (Run run.Usage) f = absurd f
+  faults_from (Run run.ReadFault) f = none_from _ _ f
+  faults_from (Run run.WriteFault) f = none_from _ _ f
+  faults_from (Run run.NoMemory) f = none_from _ _ f
+  faults_from (Run run.LineTooLong) f = none_from _ _ f
+  faults_from (Run run.ScriptTooLong) f = none_from _ _ f
+  faults_from DiskFault f = record {
+    source_is = f.source_is;
+    sink_is = f.sink_is;
+    disks_are = record { rose = rose_from f.disks_are.rose; later_a = omega (arith, a, f.disks_are.later_a); later_b = omega (arith, b, f.disks_are.later_b) };
+  }
+  faults_from (Damaged damage) f = none_from _ _ f
+  faults_from Empty f = none_from _ _ f
+  faults_from Exists f = none_from _ _ f
+  faults_from (NewerFormat found) f = none_from _ _ f
+
+-- ---- a run that didn't begin
+
+module _ (scheme : Scheme) (h : History) (source : SourceState) (sink : SinkState) (old now : Pair) (images : (a b : List ℕ) → MayLeave now.a.bytes a → MayLeave now.b.bytes b → PairFor a b h) where
+  stops_first : (lines : List (List ℕ)) → StopsOn scheme h [] now lines (text_for scheme h lines)
+  stops_first lines = record {
+    answers = in_order scheme h lines;
+    images = λ a b x y. record {
+      kept = h;
+      stands = images a b x y;
+      no_shorter = begins_not h.closed;
+      no_longer = begins_closed h (after scheme h (steps_for lines)) (grows_windows scheme h (steps_for lines));
+      receipts = λ jsn leaf r. absurd r.line;
+    };
+  }
+
+  some_first : SomeOfScript (StopsOn scheme h [] now) source source [] (Begins [])
+  some_first = inl (refl, λ more. (text_for scheme h (lines_of more), stops_first (lines_of more), record { rest = text_for scheme h (lines_of more); is = refl }))
+
+  pub serves_none : Serves scheme h (Run run.NoMemory) (handed source sink old) (handed source sink now)
+  serves_none = record { read = []; replies = []; consumed = Consumes-nil source.left; appended = Appends-nil sink.held; replied = (inl refl, some_first) }
+
+  pub serves_fault : Serves scheme h DiskFault (handed source sink old) (handed source sink now)
+  serves_fault = record { read = []; replies = []; consumed = Consumes-nil source.left; appended = Appends-nil sink.held; replied = (inl refl, some_first) }
+
+-- where nothing is pending each image is what is read
+pub quiet_image : (s : State) (image : List ℕ) → IsSettled s → MayLeave s image → image ≡ s.seen
+quiet_image s image quiet left = settled_image s.seen image (subst (λ (t : State). MayLeave t image) quiet left)
+
+pub quiet_pair : (disks : Pair) (h : History) → AreQuiet disks → StandFor disks h → (a b : List ℕ) → MayLeave disks.a.bytes a → MayLeave disks.b.bytes b → PairFor a b h
+quiet_pair disks h q p a b x y =
+    subst (λ l. PairFor l b h) (sym (quiet_image disks.a.bytes a q.a x)) (subst (λ l. PairFor disks.a.bytes.seen l h) (sym (quiet_image disks.b.bytes b q.b y)) p)
+
+-- a run over lines tells no refusal
+pub of_lines : (ending : LedgerEnding) (P : OpenErr → Type 0) → IsOfLines ending → IfSome (refusal_of ending) P
+of_lines (Run ending) P is = tt
+of_lines DiskFault P is = tt
+of_lines (Damaged damage) P is = absurd is
+of_lines Empty P is = absurd is
+of_lines Exists P is = absurd is
+of_lines (NewerFormat found) P is = absurd is
+
+pub none_waits : (a b : List ℕ) (h : History) → PairFor a b h → h.waiting ≡ []
+none_waits a b h (inl x) = x.0.none
+none_waits a b h (inr x) = x.0.none
+
+-- what was written before a fault falls short of the text
+pub first_short : (due piece : List ℕ) (taken : ℕ) → piece ≡ due → taken < length piece → FallsShort (take taken piece) due
+first_short due piece taken is fewer =
+    subst (λ text. FallsShort (take taken piece) text) is (
+      record { rest = drop taken piece; is = sym (take-append-drop taken piece) },
+      omega (arith, length-take-le taken piece (omega (arith, fewer))),
+    )

@@ -1,0 +1,291 @@
+-- Lemmas on the commands that open or make a ledger.
+use Rattle.std.proofs.Common.{◌≡◌, ℕ, ◌≤◌, ◌+◌, ◌⊎◌, inl, inr, Bool, true, List, [], ◌∷◌, take, refl, ap, sym, subst, ◌∙◌, arith}
+use Rattle.std.specs.Prelude.{⊤, IsTrue, IfSome, IsSomeAnd, codes, decimal}
+use Rattle.std.specs.Io.KnownBytes.{Appends}
+use Rattle.std.proofs.KnownBytes.{Appends-nil}
+use Rattle.batch_committer.specs.Opened.{kept_from, IsOpened}
+use Rattle.batch_committer.specs.World.{DiskState, Pair, Kept, World, world, Fits, HasRoom, Holds}
+use Rattle.batch_committer.proofs.Opening.{opened_held, opened_fits, opened_room, founded_held, founded_fits}
+use Rattle.journal_record.specs.Entry.{Entry}
+use Rattle.ledger_bytes.specs.Causes.{Rose}
+use Rattle.block_file.specs.File.{IsSettled}
+use Rattle.block_file.specs.Head.{IsShut, IsOpen}
+use Rattle.ledger_disk.specs.Disk.{State, MayLeave}
+use Rattle.ledger_io.specs.Outside.{SourceState, SinkState, MeetsNone, MeetsOne}
+use Rattle.ledger_io.specs.Runs.{FallsShort}
+use Rattle.ledger_io.specs.declared.ending.Ending.TheVariants as run
+use Rattle.ledger_model.specs.Genesis.{HasKeys, new_ledger}
+use Rattle.ledger_model.specs.History.{History, id}
+use Rattle.ledger_model.specs.Limits.{real_limits}
+use Rattle.ledger_model.specs.Scheme.{Scheme}
+use Rattle.ledger_model.specs.declared.genesis.Genesis.{Genesis}
+use Rattle.ledger_open.specs.Founding.{IsFounded, IsFoundedOrShut, IsOneOpen}
+use Rattle.ledger_open.specs.Opening.{Known, IsReopened, IsOpenErr, IsOutside, CountsTwoErr}
+use Rattle.ledger_open.specs.Standing.{PairFor}
+use Rattle.ledger_open.specs.declared.failure.OpenErr.{OpenErr}
+use Rattle.ledger_open.specs.declared.failure.OpenErr.TheVariants as open_err
+use Rattle.ledger_open.proofs.OpenLaws.{pair_opens, reopened_only}
+use Rattle.twin_file.specs.Images.{AreShut}
+use Rattle.ledger_cli.specs.Endings.{ending_of_opening, refusal_of, line_of}
+use Rattle.ledger_cli.specs.Runs.{Handed, handed, AreQuiet, StandFor, ReadAsBefore, FaultsBy, NoDiskFailed, IsRefused, IsUnstarted, IsOutsideEnding, RunsAgain, RunsNew, Makes, IsMaking, IsMade, ToldBy, ledger_line}
+use Rattle.ledger_cli.specs.Session.{IsOfLines, Runs}
+use Rattle.ledger_cli.specs.declared.ending.LedgerEnding.{LedgerEnding}
+use Rattle.ledger_cli.specs.declared.ending.LedgerEnding.TheVariants.{Run, DiskFault, Damaged, Empty, Exists, NewerFormat}
+use Rattle.ledger_bytes.specs.Digests.{digest}
+use Rattle.ledger_bytes.specs.declared.digest.Digest.{Digest}
+use Rattle.script_lines.specs.Words.{hex_of}
+use Rattle.ledger_io.specs.Writing.{WritesFirst}
+use Rattle.ledger_io.specs.declared.writer.WriteErr.{WriteErr}
+use Rattle.ledger_io.specs.declared.writer.WriteErr.TheVariants.{WriteFault}
+use Rattle.ledger_cli.proofs.CarryLaws.{first_short, serves_from, faults_from, serves_none, serves_fault, quiet_image, quiet_pair, of_lines, none_waits}
+
+-- ---- faults of opening
+
+module _ (source : SourceState) (sink : SinkState) (old now : Pair) where
+  pub counts_ended : (e : OpenErr) → CountsTwoErr e old.a.faults now.a.faults old.b.faults now.b.faults → FaultsBy (ending_of_opening e) (handed source sink old) (handed source sink now)
+  counts_ended open_err.DiskFault c = record { source_is = inl refl; sink_is = (refl, refl); disks_are = record { rose = c.0; later_a = c.1; later_b = c.2 } }
+  counts_ended open_err.NoMemory c = record { source_is = inl refl; sink_is = (refl, refl); disks_are = record { a = c.0; b = c.1 } }
+  counts_ended (open_err.Damaged damage) c = record { source_is = refl; sink_is = (refl, refl); disks_are = record { a = c.0; b = c.1 } }
+  counts_ended open_err.Empty c = record { source_is = refl; sink_is = (refl, refl); disks_are = record { a = c.0; b = c.1 } }
+  counts_ended open_err.Exists c = record { source_is = refl; sink_is = (refl, refl); disks_are = record { a = c.0; b = c.1 } }
+  counts_ended (open_err.NewerFormat found) c = record { source_is = refl; sink_is = (refl, refl); disks_are = record { a = c.0; b = c.1 } }
+
+-- ---- a ledger that is opened again
+
+module _ (scheme : Scheme) (tells : Bool) (source : SourceState) (sink : SinkState) (old now : Pair) where
+  -- it isn't opened
+  module _ (e : OpenErr) (err : IsTrue tells → IsOpenErr old.a.bytes.seen old.b.bytes.seen e)
+      (same : (IsOutside e → ⊥) → IsTrue tells → (now.a.bytes.seen ≡ old.a.bytes.seen) × (now.b.bytes.seen ≡ old.b.bytes.seen))
+      (images : IsTrue tells → IsSettled old.a.bytes → IsSettled old.b.bytes → (h : History) → PairFor old.a.bytes.seen old.b.bytes.seen h → (a b : List ℕ) → MayLeave now.a.bytes a → MayLeave now.b.bytes b → PairFor a b h)
+      (counts : CountsTwoErr e old.a.faults now.a.faults old.b.faults now.b.faults) where
+    refusal : (IsOutside e → ⊥) → IsTrue tells → IsRefused e (handed source sink old) (handed source sink now)
+    refusal not t = let left = same not t in record {
+      cause = err t;
+      unstarted = record { unread = refl; unwritten = refl };
+      left = record { a = left.0; b = left.1 };
+    }
+
+  pub not_opened : (e : OpenErr) → (IsTrue tells → IsOpenErr old.a.bytes.seen old.b.bytes.seen e)
+      → ((IsOutside e → ⊥) → IsTrue tells → (now.a.bytes.seen ≡ old.a.bytes.seen) × (now.b.bytes.seen ≡ old.b.bytes.seen))
+      → (IsTrue tells → IsSettled old.a.bytes → IsSettled old.b.bytes → (h : History) → PairFor old.a.bytes.seen old.b.bytes.seen h → (a b : List ℕ) → MayLeave now.a.bytes a → MayLeave now.b.bytes b → PairFor a b h)
+      → CountsTwoErr e old.a.faults now.a.faults old.b.faults now.b.faults → RunsAgain scheme tells (ending_of_opening e) (handed source sink old) (handed source sink now)
+  not_opened open_err.DiskFault err same images counts = record {
+    serves = λ t q h p. serves_fault scheme h source sink old now (images t q.a q.b h p);
+    refused = λ t. tt;
+    exact = λ t e cause not. inr tt;
+    faults = counts_ended source sink old now open_err.DiskFault counts;
+  }
+  not_opened open_err.NoMemory err same images counts = record {
+    serves = λ t q h p. serves_none scheme h source sink old now (images t q.a q.b h p);
+    refused = λ t. tt;
+    exact = λ t e cause not. inr tt;
+    faults = counts_ended source sink old now open_err.NoMemory counts;
+  }
+  not_opened (open_err.Damaged damage) err same images counts = record {
+    serves = λ t q h p. absurd (pair_opens old.a.bytes.seen old.b.bytes.seen h p (open_err.Damaged damage) (err t));
+    refused = refusal (open_err.Damaged damage) err same images counts (λ o. o);
+    exact = λ t e cause not. inl refl;
+    faults = counts_ended source sink old now (open_err.Damaged damage) counts;
+  }
+  not_opened open_err.Empty err same images counts = record {
+    serves = λ t q h p. absurd (pair_opens old.a.bytes.seen old.b.bytes.seen h p open_err.Empty (err t));
+    refused = refusal open_err.Empty err same images counts (λ o. o);
+    exact = λ t e cause not. inl refl;
+    faults = counts_ended source sink old now open_err.Empty counts;
+  }
+  not_opened open_err.Exists err same images counts = record {
+    serves = λ t q h p. absurd (err t);
+    refused = refusal open_err.Exists err same images counts (λ o. o);
+    exact = λ t e cause not. inl refl;
+    faults = counts_ended source sink old now open_err.Exists counts;
+  }
+  not_opened (open_err.NewerFormat found) err same images counts = record {
+    serves = λ t q h p. absurd (pair_opens old.a.bytes.seen old.b.bytes.seen h p (open_err.NewerFormat found) (err t));
+    refused = refusal (open_err.NewerFormat found) err same images counts (λ o. o);
+    exact = λ t e cause not. inl refl;
+    faults = counts_ended source sink old now (open_err.NewerFormat found) counts;
+  }
+
+  -- nothing was done for want of memory
+  pub again_unstarted : now ≡ old → RunsAgain scheme tells (Run run.NoMemory) (handed source sink old) (handed source sink now)
+  again_unstarted is =
+      subst (λ (d : Pair). RunsAgain scheme tells (Run run.NoMemory) (handed source sink old) (handed source sink d)) (sym is) (record {
+        serves = λ t q h p. serves_none scheme h source sink old old (quiet_pair old h q p);
+        refused = λ t. tt;
+        exact = λ t e cause not. inr tt;
+        faults = record { source_is = inl refl; sink_is = (refl, refl); disks_are = record { a = refl; b = refl } };
+      })
+
+  -- it is opened, and a committer begins with it
+  module _ (k : Known) (in_a : Bool) (blocks : List (List Entry)) (opened : IsOpened k in_a now blocks) (kept : Kept) (kept_is : kept ≡ kept_from k in_a) where
+    pub again_fits : (IsTrue tells → IsReopened in_a k.place blocks old.a.bytes old.b.bytes now.a.bytes now.b.bytes) → Fits tells (world kept now sink)
+    again_fits r = subst (λ (x : Kept). Fits tells (world x now sink)) (sym kept_is) (opened_fits tells k in_a blocks old.a.bytes old.b.bytes now sink opened r)
+
+    pub begins_room : HasRoom kept
+    begins_room = subst HasRoom (sym kept_is) (opened_room k in_a blocks now opened)
+
+    pub begins_none : kept.dues ≡ []
+    begins_none = ap (λ (x : Kept). x.dues) kept_is
+
+    pub ran_again : (limits : k.book.limits ≡ real_limits) (r : IsTrue tells → IsReopened in_a k.place blocks old.a.bytes old.b.bytes now.a.bytes now.b.bytes) (a : now.a.faults ≡ old.a.faults) (b : now.b.faults ≡ old.b.faults)
+        (ending : LedgerEnding) (last : Handed) → Runs scheme tells (world kept now sink) ending (handed source sink now) last → IsOfLines ending → RunsAgain scheme tells ending (handed source sink old) last
+    ran_again limits r a b ending last ran started = record {
+      serves = λ t q h p.
+          serves_from scheme h ending source sink now old last
+          (ran.serves h (subst (λ (x : Kept). Holds tells (world x now sink) h) (sym kept_is) (opened_held tells k in_a blocks old.a.bytes old.b.bytes now sink h opened limits t (r t) p)) (none_waits old.a.bytes.seen old.b.bytes.seen h p));
+      refused = λ t. of_lines ending _ started;
+      exact = λ t e cause not. absurd (not (reopened_only k in_a blocks old.a.bytes old.b.bytes now.a.bytes now.b.bytes e opened.knows (r t) cause));
+      faults = faults_from source sink now old last a b ending ran.faults;
+    }
+
+-- ---- a ledger that is made
+
+shut_open : (file : List ℕ) → IsShut file → IsOpen file → ⊥
+shut_open file (inl short) open_ = omega (arith, short, open_.long)
+shut_open file (inr gate) open_ = gate open_.gate
+
+-- two files that are shut aren't open
+none_open : (a b : State) → AreShut a b → IsOneOpen a.seen b.seen → ⊥
+none_open a b s (inl x) = shut_open a.seen s.shut_a x
+none_open a b s (inr x) = shut_open b.seen s.shut_b x
+
+module _ (genesis : Genesis) (tells : Bool) (source : SourceState) (sink : SinkState) (old now : Pair)
+    (left : IsTrue tells → IsOneOpen old.a.bytes.seen old.b.bytes.seen → (now.a.bytes.seen ≡ old.a.bytes.seen) × (now.b.bytes.seen ≡ old.b.bytes.seen))
+    (images : IsTrue tells → AreShut old.a.bytes old.b.bytes → (a b : List ℕ) → MayLeave now.a.bytes a → MayLeave now.b.bytes b → IsFoundedOrShut genesis a b) where
+  making : (ending : LedgerEnding) (later : SinkState) → (IsTrue tells → ending ≡ Exists → IsOneOpen old.a.bytes.seen old.b.bytes.seen) → IsMaking genesis tells ending (handed source sink old) (handed source later now)
+  making ending later exists = record {
+    exists = exists;
+    left = λ t o. let l = left t o in record { a = l.0; b = l.1 };
+    images = images;
+  }
+
+  -- it isn't made
+  pub not_made : (e : OpenErr) → IsOutside e ⊎ (e ≡ open_err.Exists) → (e ≡ open_err.Exists → IsTrue tells → IsOneOpen old.a.bytes.seen old.b.bytes.seen)
+      → CountsTwoErr e old.a.faults now.a.faults old.b.faults now.b.faults → Makes genesis tells (ending_of_opening e) (handed source sink old) (handed source sink now)
+  not_made open_err.DiskFault why exists counts = record {
+    written = [];
+    unread = refl;
+    appended = Appends-nil sink.held;
+    told = refl;
+    made = λ no. absurd no;
+    making = making DiskFault sink (λ t is. absurd (let no : ⊥ = cc is in no));
+    faults = counts_ended source sink old now open_err.DiskFault counts;
+  }
+  not_made open_err.NoMemory why exists counts = record {
+    written = [];
+    unread = refl;
+    appended = Appends-nil sink.held;
+    told = refl;
+    made = λ no. absurd no;
+    making = making (Run run.NoMemory) sink (λ t is. absurd (let no : ⊥ = cc is in no));
+    faults = counts_ended source sink old now open_err.NoMemory counts;
+  }
+  not_made open_err.Exists why exists counts = record {
+    written = [];
+    unread = refl;
+    appended = Appends-nil sink.held;
+    told = refl;
+    made = λ no. absurd no;
+    making = making Exists sink (λ t is. exists refl t);
+    faults = counts_ended source sink old now open_err.Exists counts;
+  }
+  not_made (open_err.Damaged damage) (inl why) exists counts = absurd why
+  not_made (open_err.Damaged damage) (inr is) exists counts = absurd (let no : ⊥ = cc is in no)
+  not_made open_err.Empty (inl why) exists counts = absurd why
+  not_made open_err.Empty (inr is) exists counts = absurd (let no : ⊥ = cc is in no)
+  not_made (open_err.NewerFormat found) (inl why) exists counts = absurd why
+  not_made (open_err.NewerFormat found) (inr is) exists counts = absurd (let no : ⊥ = cc is in no)
+
+  -- .. and no script is run
+  pub not_run : (scheme : Scheme) (e : OpenErr) → IsOutside e ⊎ (e ≡ open_err.Exists) → (e ≡ open_err.Exists → IsTrue tells → IsOneOpen old.a.bytes.seen old.b.bytes.seen)
+      → CountsTwoErr e old.a.faults now.a.faults old.b.faults now.b.faults → RunsNew scheme genesis tells (ending_of_opening e) (handed source sink old) (handed source sink now)
+  not_run scheme open_err.DiskFault why exists counts = record {
+    serves = λ t s. inr (tt, record { unread = refl; unwritten = refl });
+    exists = λ t is. absurd (let no : ⊥ = cc is in no);
+    faults = counts_ended source sink old now open_err.DiskFault counts;
+  }
+  not_run scheme open_err.NoMemory why exists counts = record {
+    serves = λ t s. inr (tt, record { unread = refl; unwritten = refl });
+    exists = λ t is. absurd (let no : ⊥ = cc is in no);
+    faults = counts_ended source sink old now open_err.NoMemory counts;
+  }
+  not_run scheme open_err.Exists why exists counts = record {
+    serves = λ t s. absurd (none_open old.a.bytes old.b.bytes s (exists refl t));
+    exists = λ t is. let o = exists refl t in let l = left t o in (o, record { unread = refl; unwritten = refl }, record { a = l.0; b = l.1 });
+    faults = counts_ended source sink old now open_err.Exists counts;
+  }
+  not_run scheme (open_err.Damaged damage) (inl why) exists counts = absurd why
+  not_run scheme (open_err.Damaged damage) (inr is) exists counts = absurd (let no : ⊥ = cc is in no)
+  not_run scheme open_err.Empty (inl why) exists counts = absurd why
+  not_run scheme open_err.Empty (inr is) exists counts = absurd (let no : ⊥ = cc is in no)
+  not_run scheme (open_err.NewerFormat found) (inl why) exists counts = absurd why
+  not_run scheme (open_err.NewerFormat found) (inr is) exists counts = absurd (let no : ⊥ = cc is in no)
+
+  -- it is made
+  module _ (a : now.a.faults ≡ old.a.faults) (b : now.b.faults ≡ old.b.faults) (founded : IsTrue tells → IsFounded genesis now.a.bytes now.b.bytes) where
+    pub made_unspelled : Makes genesis tells (Run run.NoMemory) (handed source sink old) (handed source sink now)
+    made_unspelled = record {
+      written = [];
+      unread = refl;
+      appended = Appends-nil sink.held;
+      told = refl;
+      made = λ no. absurd no;
+      making = making (Run run.NoMemory) sink (λ t is. absurd (let no : ⊥ = cc is in no));
+      faults = record { source_is = inl refl; sink_is = (refl, refl); disks_are = record { a = a; b = b } };
+    }
+
+    pub made_told : (later : SinkState) (written : List ℕ) → written ≡ ledger_line genesis → Appends sink.held later.held written → MeetsNone sink later → Makes genesis tells (Run run.Done) (handed source sink old) (handed source later now)
+    made_told later written is appended none = record {
+      written = written;
+      unread = refl;
+      appended = appended;
+      told = is;
+      made = λ yes. founded;
+      making = making (Run run.Done) later (λ t same. absurd (let no : ⊥ = cc same in no));
+      faults = record { source_is = refl; sink_is = none; disks_are = record { a = a; b = b } };
+    }
+
+    pub made_cut : (later : SinkState) (written : List ℕ) → FallsShort written (ledger_line genesis) → Appends sink.held later.held written → MeetsOne sink later → Makes genesis tells (Run run.WriteFault) (handed source sink old) (handed source later now)
+    made_cut later written short appended one = record {
+      written = written;
+      unread = refl;
+      appended = appended;
+      told = short;
+      made = λ yes. founded;
+      making = making (Run run.WriteFault) later (λ t same. absurd (let no : ⊥ = cc same in no));
+      faults = record { source_is = inl refl; sink_is = one; disks_are = record { a = a; b = b } };
+    }
+
+    pub made_failed : (later : SinkState) (error : WriteErr) (piece : List ℕ) → piece ≡ ledger_line genesis → WritesFirst sink.held later.held piece error → MeetsOne sink later → Makes genesis tells (Run run.WriteFault) (handed source sink old) (handed source later now)
+    made_failed later (WriteFault taken) piece is first one = made_cut later (take taken piece) (first_short (ledger_line genesis) piece taken is first.0) first.1 one
+
+    -- .. and a committer begins with it
+    module _ (k : Known) (keys : HasKeys genesis) (opened : IsOpened k true now (new_ledger genesis).closed) (in_a : Bool) (first : in_a ≡ true) (kept : Kept) (kept_is : kept ≡ kept_from k in_a) where
+      here : kept ≡ kept_from k true
+      here = kept_is ∙ ap (kept_from k) first
+
+      pub new_fits : Fits tells (world kept now sink)
+      new_fits = subst (λ (x : Kept). Fits tells (world x now sink)) (sym here) (founded_fits tells k genesis now sink keys opened founded)
+
+      pub new_room : HasRoom kept
+      new_room = subst HasRoom (sym here) (opened_room k true (new_ledger genesis).closed now opened)
+
+      pub new_none : kept.dues ≡ []
+      new_none = ap (λ (x : Kept). x.dues) here
+
+      pub ran_new : (scheme : Scheme) (limits : k.book.limits ≡ real_limits) (ending : LedgerEnding) (last : Handed) → Runs scheme tells (world kept now sink) ending (handed source sink now) last → (ending ≡ Exists → ⊥) → RunsNew scheme genesis tells ending (handed source sink old) last
+      ran_new scheme limits ending last ran not = record {
+        serves = λ t s.
+            inl (serves_from scheme (new_ledger genesis) ending source sink now old last
+            (ran.serves (new_ledger genesis) (subst (λ (x : Kept). Holds tells (world x now sink) (new_ledger genesis)) (sym here) (founded_held tells k genesis now sink keys opened limits t (founded t))) refl));
+        exists = λ t is. absurd (not is);
+        faults = faults_from source sink now old last a b ending ran.faults;
+      }
+
+-- a run over lines doesn't end because there is a ledger
+pub not_exists : (ending : LedgerEnding) → IsOfLines ending → ending ≡ Exists → ⊥
+not_exists ending started is = subst IsOfLines is started
+
+-- the line that tells a new ledger
+pub ledger_line_is : (genesis : Genesis) (id_now : Digest) → id_now.0 ≡ id (new_ledger genesis) → line_of (codes "ledger") (hex_of id_now ∷ decimal 1 ∷ hex_of id_now ∷ []) ≡ ledger_line genesis
+ledger_line_is genesis id_now is = ap (λ (d : List ℕ). line_of (codes "ledger") (hex_of (digest d) ∷ decimal 1 ∷ hex_of (digest d) ∷ [])) is

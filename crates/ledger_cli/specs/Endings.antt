@@ -1,0 +1,76 @@
+-- How a run of the program ends: its exit status and its last line.
+use Rattle.std.specs.Prelude.{⊤, ℕ, List, [], ◌∷◌, ◌++◌, codes, decimal, Option, Some, None}
+use Rattle.batch_committer.specs.declared.end.End.{End}
+use Rattle.batch_committer.specs.declared.end.End.TheVariants as end
+use Rattle.block_file.specs.declared.failure.Damage.{Damage}
+use Rattle.block_file.specs.declared.failure.Damage.TheVariants as damage
+use Rattle.ledger_io.specs.Endings as run
+use Rattle.ledger_io.specs.declared.ending.Ending.TheVariants as ending
+use Rattle.ledger_open.specs.declared.failure.OpenErr.{OpenErr}
+use Rattle.ledger_open.specs.declared.failure.OpenErr.TheVariants as open_err
+use Rattle.script_lines.specs.Words.{hex_of, spaced_words}
+use Rattle.ledger_cli.specs.declared.ending.LedgerEnding.{LedgerEnding}
+use Rattle.ledger_cli.specs.declared.ending.LedgerEnding.TheVariants.{Run, DiskFault, Damaged, Empty, Exists, NewerFormat}
+
+-- the exit status
+abbrev pub status_of : LedgerEnding → ℕ
+status_of (Run ending) = run.status_of ending
+status_of DiskFault = 4
+status_of (Damaged damage) = 5
+status_of Empty = 8
+status_of Exists = 8
+status_of (NewerFormat found) = 9
+
+-- a line of words, each behind a space, behind what stands in front
+abbrev pub line_of : List ℕ → List (List ℕ) → List ℕ
+line_of front words = front ++ (spaced_words words ++ 10 ∷ [])
+
+-- the line of a damage
+abbrev pub damage_line : Damage → List ℕ
+damage_line damage.Magic = line_of (codes "fail 5 magic") []
+damage_line (damage.BaseForm at) = line_of (codes "fail 5 baseform") (decimal at ∷ [])
+damage_line (damage.Base kept found) = line_of (codes "fail 5 base") (hex_of kept ∷ hex_of found ∷ [])
+damage_line (damage.Length at kept found) = line_of (codes "fail 5 length") (decimal at ∷ decimal kept ∷ decimal found ∷ [])
+damage_line (damage.Entry jsn) = line_of (codes "fail 5 entry") (decimal jsn ∷ [])
+damage_line (damage.Root block kept found) = line_of (codes "fail 5 root") (decimal block ∷ hex_of kept ∷ hex_of found ∷ [])
+damage_line (damage.Content jsn kept found) = line_of (codes "fail 5 content") (decimal jsn ∷ hex_of kept ∷ hex_of found ∷ [])
+
+-- the last line
+abbrev pub last_line : LedgerEnding → List ℕ
+last_line (Run ending) = run.last_line ending
+last_line DiskFault = codes "fail 4 disk\n"
+last_line (Damaged damage) = damage_line damage
+last_line Empty = codes "fail 8 empty\n"
+last_line Exists = codes "fail 8 exists\n"
+last_line (NewerFormat found) = line_of (codes "fail 9 format") (decimal found ∷ [])
+
+-- the ending that an error of making or opening a ledger brings
+abbrev pub ending_of_opening : OpenErr → LedgerEnding
+ending_of_opening open_err.DiskFault = DiskFault
+ending_of_opening (open_err.Damaged damage) = Damaged damage
+ending_of_opening open_err.Empty = Empty
+ending_of_opening open_err.Exists = Exists
+ending_of_opening (open_err.NewerFormat found) = NewerFormat found
+ending_of_opening open_err.NoMemory = Run ending.NoMemory
+
+-- the ending that an end of a committer brings
+abbrev pub ending_of_end : End → LedgerEnding
+ending_of_end end.DiskFault = DiskFault
+ending_of_end end.WriteFault = Run ending.WriteFault
+ending_of_end end.NoMemory = Run ending.NoMemory
+ending_of_end end.Closed = Run ending.NoMemory
+
+-- whether an ending's last line is made of words, for which memory is taken
+abbrev pub HasWords : LedgerEnding → Type 0
+HasWords (Damaged damage) = ⊤
+HasWords (NewerFormat found) = ⊤
+HasWords other = ⊥
+
+-- the refusal that an ending tells
+abbrev pub refusal_of : LedgerEnding → Option OpenErr
+refusal_of (Run ending) = None
+refusal_of DiskFault = None
+refusal_of (Damaged damage) = Some (open_err.Damaged damage)
+refusal_of Empty = Some open_err.Empty
+refusal_of Exists = Some open_err.Exists
+refusal_of (NewerFormat found) = Some (open_err.NewerFormat found)
