@@ -7,7 +7,7 @@ use Rattle.journal_record.specs.Header as headers
 use Rattle.tree_model.specs.Tree.{Hash, leaf}
 use Rattle.tree_model.specs.Path.{fold_bytes}
 use Rattle.tree_model.specs.Extension.{fold_proof_bytes}
-use Rattle.journal_record.specs.declared.mark.TimeMark.{TimeMark}
+use Rattle.ledger_bytes.specs.declared.mark.TimeMark.{TimeMark}
 use Rattle.proof_codec.specs.Proofs.{ShownLower, ShownUpper, Shown, is_bounded}
 use Rattle.proof_codec.specs.Claims.{lower_mark}
 use Rattle.audit_core.specs.declared.known.KnownLedger.{KnownLedger}

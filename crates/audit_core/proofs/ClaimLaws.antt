@@ -3,7 +3,7 @@ use Rattle.std.proofs.Common.{◌≡◌, ℕ, true, eqb, ◌&&◌, Option, Some,
 use Rattle.std.specs.Str.{bytes_eq}
 use Rattle.std.proofs.lemmas.Bool.{and_from, and_parts, eqb-true}
 use Rattle.ledger_bytes.specs.declared.digest.Digest.{Digest}
-use Rattle.journal_record.specs.declared.mark.TimeMark.{TimeMark}
+use Rattle.ledger_bytes.specs.declared.mark.TimeMark.{TimeMark}
 use Rattle.proof_codec.specs.declared.claim.Claim.{Claim}
 use Rattle.audit_core.specs.Acceptance.{same_bound, same_claim}
 use Rattle.audit_core.proofs.RootLaws.{same_digest, same_bytes}

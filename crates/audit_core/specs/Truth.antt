@@ -4,7 +4,7 @@ use Rattle.ledger_bytes.specs.declared.digest.Digest.{Digest}
 use Rattle.journal_record.specs.declared.header.Header.{Header}
 use Rattle.journal_record.specs.Header as headers
 use Rattle.tree_model.specs.Tree.{Hash, leaf, mth, cut}
-use Rattle.journal_record.specs.declared.mark.TimeMark.{TimeMark}
+use Rattle.ledger_bytes.specs.declared.mark.TimeMark.{TimeMark}
 use Rattle.time_peg.specs.Entries.{peg_string, entry_of}
 use Rattle.proof_codec.specs.declared.claim.Claim.{Claim}
 use Rattle.proof_codec.specs.Proofs.{IsTimeHeader}

@@ -5,7 +5,6 @@ mod approval;
 mod digests;
 mod filling;
 mod header;
-mod mark;
 mod member;
 mod reading;
 mod request;
@@ -16,7 +15,6 @@ mod tags;
 pub use approval::{Approval, WHO_LIMIT, who_bytes};
 pub use digests::{approval_digest, content_digest, who_digest};
 pub use header::{HEADER_LEN, Header, Kind};
-pub use mark::TimeMark;
 pub use member::Member;
 pub use reading::{is_inverse_of_encoding, take_header};
 pub use request::{

@@ -13,7 +13,7 @@ use Rattle.ledger_bytes.specs.Fields.{Left, left_from, ◌>>=◌, bytes_at, numb
 use Rattle.ledger_bytes.proofs.Fields.{byte_again, cut_told, trailing_told}
 use Rattle.journal_record.specs.Reading.{header_at}
 use Rattle.journal_record.proofs.Spelling.{length-spelling as length-header}
-use Rattle.journal_record.specs.declared.mark.TimeMark.{TimeMark}
+use Rattle.ledger_bytes.specs.declared.mark.TimeMark.{TimeMark}
 use Rattle.proof_codec.specs.Proofs.{ShownLower, ShownUpper, Shown, is_bounded, with_count, lower_text, mark_text, upper_text, text_if, notary_text, front_text, spelling, lower_len, upper_len, lower_place, upper_place, proof_len, HasLower, HasUpper, HasFields, IsProof}
 use Rattle.proof_codec.specs.Reading.{digests_at, flag_at, header_break, is_time, time_at, some_lower_at, lower_at, mark_at, some_upper_at, upper_at, size_if, path_if, front_at, proof_at, proof_of, IsBreak}
 use Rattle.proof_codec.proofs.Parts.{lower_is, lower_from_flag, upper_from_flag}

@@ -16,7 +16,7 @@ use Rattle.journal_record.specs.Header as headers
 use Rattle.journal_record.specs.Reading.{header_at}
 use Rattle.journal_record.proofs.ReadingSteps.{plain_takes, field_takes, field_text, answered, ended}
 use Rattle.journal_record.proofs.ReadingLaws.{header_is, header_back}
-use Rattle.journal_record.specs.declared.mark.TimeMark.{TimeMark}
+use Rattle.ledger_bytes.specs.declared.mark.TimeMark.{TimeMark}
 use Rattle.proof_codec.specs.Proofs.{ShownLower, ShownUpper, with_count, lower_text, mark_text, upper_text, text_if, IsDigests, IsTimeHeader, IsMark, HasLower, HasUpper, IsSizeIf, IsPathIf}
 use Rattle.proof_codec.specs.Reading.{digests_at, flag_at, header_break, is_time, time_at, some_lower_at, lower_at, mark_at, some_upper_at, upper_at, size_if, path_if}
 

@@ -1,7 +1,7 @@
 -- What a proof claims.
 use Rattle.std.specs.Prelude.{option_map}
 use Rattle.journal_record.specs.declared.header.Header.{Header}
-use Rattle.journal_record.specs.declared.mark.TimeMark.{TimeMark}
+use Rattle.ledger_bytes.specs.declared.mark.TimeMark.{TimeMark}
 use Rattle.proof_codec.specs.declared.claim.Claim.{Claim}
 use Rattle.proof_codec.specs.Proofs.{ShownLower, ShownUpper, Shown}
 

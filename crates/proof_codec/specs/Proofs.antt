@@ -7,7 +7,7 @@ use Rattle.journal_record.specs.declared.header.Header.{Header}
 use Rattle.journal_record.specs.declared.header.Kind.TheVariants.{Time}
 use Rattle.journal_record.specs.Header as headers
 use Rattle.journal_record.specs.Rules.{IsHeader}
-use Rattle.journal_record.specs.declared.mark.TimeMark.{TimeMark}
+use Rattle.ledger_bytes.specs.declared.mark.TimeMark.{TimeMark}
 
 -- ---- values; digests that stand one after the other are shown as their bytes
 

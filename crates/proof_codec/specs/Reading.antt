@@ -9,7 +9,7 @@ use Rattle.ledger_bytes.specs.Fields.{Left, left_from, ◌>>=◌, number_at, dig
 use Rattle.journal_record.specs.declared.header.Header.{Header}
 use Rattle.journal_record.specs.declared.header.Kind.{Kind}
 use Rattle.journal_record.specs.declared.header.Kind.TheVariants.{Time}
-use Rattle.journal_record.specs.declared.mark.TimeMark.{TimeMark}
+use Rattle.ledger_bytes.specs.declared.mark.TimeMark.{TimeMark}
 use Rattle.journal_record.specs.Reading.{header_at}
 use Rattle.proof_codec.specs.Proofs.{ShownLower, ShownUpper, Shown, is_bounded, lower_len}
 

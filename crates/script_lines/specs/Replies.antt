@@ -3,7 +3,7 @@ use Rattle.std.specs.Prelude.{ℕ, List, [], ◌∷◌, ◌++◌, codes, decimal
 use Rattle.ledger_bytes.specs.Codes.{refusal_code}
 use Rattle.ledger_bytes.specs.declared.refusal.Refusal.{Refusal}
 use Rattle.ledger_bytes.specs.declared.refusal.Refusal.TheVariants.{BadVerb, BadField, BadLane, Damaged, UnknownMember, WrongKey, MissingApproval, ApprovalOrder, MemberNumber, MembersFull, NoJournal, Purged, NotData, NotTime, AlreadyOcculted, LeafDiffers, RootDiffers, NotaryFault, NotaryFull, Full, BadSize, CluesFull}
-use Rattle.journal_record.specs.declared.mark.TimeMark.{TimeMark}
+use Rattle.ledger_bytes.specs.declared.mark.TimeMark.{TimeMark}
 use Rattle.script_lines.specs.declared.reply.Reply.{Reply}
 use Rattle.script_lines.specs.declared.reply.Reply.TheVariants.{Placed, Whole, Occulted, Proof, Extension, Clue, Head, Refused}
 use Rattle.script_lines.specs.Words.{hex_of, hex_or_dash, list_text, mark_text, spaced_words, which_text}

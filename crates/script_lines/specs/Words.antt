@@ -2,7 +2,7 @@
 use Rattle.std.specs.Prelude.{ℕ, List, [], ◌∷◌, ◌++◌, codes, decimal, Option, Some, None}
 use Rattle.hex.specs.Hex.{encode_lower}
 use Rattle.ledger_bytes.specs.declared.digest.Digest.{Digest}
-use Rattle.journal_record.specs.declared.mark.TimeMark.{TimeMark}
+use Rattle.ledger_bytes.specs.declared.mark.TimeMark.{TimeMark}
 use Rattle.script_lines.specs.declared.said.Which.{Which}
 use Rattle.script_lines.specs.declared.said.Which.TheVariants.{Ledger, Notary}
 use Rattle.script_lines.specs.declared.words.Word.{Word}

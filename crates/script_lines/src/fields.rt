@@ -10,8 +10,7 @@ use crate::spellings::{
 };
 use crate::splits::cut;
 use crate::stop::Stop;
-use journal_record::TimeMark;
-use ledger_bytes::{Bytes, Digest, Items, Refusal};
+use ledger_bytes::{Bytes, Digest, Items, Refusal, TimeMark};
 use std::alloc::Global;
 use std::marker::Model;
 
@@ -33,7 +32,10 @@ impl<'a> Model for Fields<'a> {
 
     ghost Value = { Left };
 
-    ghost view = { λ f. record { column = f.column; fields = parts_left 32 (option_map (λ t. t.now) f.left) } };
+    ghost view = { λ f. record {
+      column = f.column;
+      fields = parts_left 32 (option_map (λ t. t.now) f.left);
+    } };
 }
 
 impl<'a> Fields<'a> {

@@ -5,8 +5,7 @@ ghost use Rattle.script_lines.specs.Words.{hex_of, spaced_words, which_text};
 
 use crate::said::Which;
 use crate::words::{Word, put_no, put_number, put_words};
-use journal_record::TimeMark;
-use ledger_bytes::{Bytes, Digest, Items, NoMemory, Refusal};
+use ledger_bytes::{Bytes, Digest, Items, NoMemory, Refusal, TimeMark};
 use std::alloc::Global;
 
 /// The answer to a line of a script. Its text is a few words with a space between: numbers in decimal, digests as 64
@@ -222,7 +221,8 @@ fn put_placed(
 }
 
 fn put_stamp(out: &mut Vec<u8>, stamp: Option<(u64, u64)>) -> Result<(), NoMemory>
-    ensures ok { OnOk result (out.new.items ≡ out.old.items ++ spaced_words (spec.stamp_words stamp)) }
+    ensures ok { OnOk result (out.new.items
+        ≡ out.old.items ++ spaced_words (spec.stamp_words stamp)) }
     ensures err { OnErr result (Begins out.old.items out.new.items) }
 {
     match stamp {
@@ -238,7 +238,8 @@ fn put_whole<'a>(
     who: &'a Bytes,
 ) -> Result<(), NoMemory>
     ensures ok { OnOk result (out.new.items
-        ≡ out.old.items ++ spaced_words (spec.reply_words (Reply.Whole header.now content.now who.now))) }
+        ≡ out.old.items
+        ++ spaced_words (spec.reply_words (Reply.Whole header.now content.now who.now))) }
     ensures err { OnErr result (Begins out.old.items out.new.items) }
 {
     put_words(
@@ -280,7 +281,8 @@ fn put_proof(
     proof: &Bytes,
 ) -> Result<(), NoMemory>
     ensures ok { OnOk result (out.new.items
-        ≡ out.old.items ++ spaced_words (spec.reply_words (Reply.Proof n leaf.now lo hi proof.now))) }
+        ≡ out.old.items
+        ++ spaced_words (spec.reply_words (Reply.Proof n leaf.now lo hi proof.now))) }
     ensures err { OnErr result (Begins out.old.items out.new.items) }
 {
     put_words(

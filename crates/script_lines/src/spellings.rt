@@ -6,8 +6,9 @@ ghost use Rattle.script_lines.specs.Spellings.{is_decimal, number_of, bytes_of, 
 use crate::said::{SaidApproval, Which};
 use crate::splits::{cut, split_once};
 use hex::{FromHex, FromHexError};
-use journal_record::TimeMark;
-use ledger_bytes::{APPROVAL_LIMIT, Bytes, Digest, Items, NAME_LIMIT, NoMemory, PROOF_LIMIT};
+use ledger_bytes::{
+    APPROVAL_LIMIT, Bytes, Digest, Items, NAME_LIMIT, NoMemory, PROOF_LIMIT, TimeMark,
+};
 use std::alloc::Global;
 
 /// A decimal number without a leading zero, at most `most`; None where the text is no such number.

@@ -4,8 +4,7 @@ ghost use Rattle.ledger_bytes.specs.Begins.{Begins};
 ghost use Rattle.script_lines.specs.Words.{behind_commas, hex_or_dash, list_text, mark_text, spaced_words, word_text};
 
 use itoa::Buffer;
-use journal_record::TimeMark;
-use ledger_bytes::{Digest, NoMemory};
+use ledger_bytes::{Digest, NoMemory, TimeMark};
 
 /// How many bytes are turned to digits at a time.
 const CHUNK: usize = 512;
@@ -29,7 +28,8 @@ pub enum Word<'a> {
 
 /// Appends the words, each behind a space. Where memory is missing the buffer begins as it was.
 pub fn put_words(out: &mut Vec<u8>, words: &[Word]) -> Result<(), NoMemory>
-    ensures ok { OnOk result (out.new.items ≡ out.old.items ++ spaced_words (map word_text words.now)) }
+    ensures ok { OnOk result (out.new.items
+        ≡ out.old.items ++ spaced_words (map word_text words.now)) }
     ensures err { OnErr result (Begins out.old.items out.new.items) }
 {
     for word in words {

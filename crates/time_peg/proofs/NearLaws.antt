@@ -2,7 +2,7 @@
 use Rattle.std.proofs.Common.{◌≡◌, inl, inr, ℕ, ◌<◌, ◌≤◌, Bool, true, false, cond, List, [], ◌∷◌, refl, sym, subst, arith, Option, Some, None, nat_lt}
 use Rattle.std.specs.List.{AllByRecursion}
 use Rattle.std.proofs.lemmas.Bool.{ltb-true, ltb-false}
-use Rattle.journal_record.specs.declared.mark.TimeMark.{TimeMark}
+use Rattle.ledger_bytes.specs.declared.mark.TimeMark.{TimeMark}
 use Rattle.time_peg.specs.Times.{Rises, first_mark, last_mark, marks_before, marks_behind, lower_bound, upper_bound, IsOneOf, IsNearestBefore, IsNearestBehind}
 
 all_map : (P Q : TimeMark → Type 0) → ((m : TimeMark) → P m → Q m) → (ms : List TimeMark) → AllByRecursion P ms → AllByRecursion Q ms

@@ -1,7 +1,7 @@
 -- The time journals that are kept, and which of them bound a journal in time.
 use Rattle.std.specs.Prelude.{◌≡◌, ◌⊎◌, ℕ, ◌<◌, ◌≤◌, List, [], ◌∷◌, Option, Some, None, filter, nat_lt, nat_le, ⊤}
 use Rattle.std.specs.List.{AllByRecursion}
-use Rattle.journal_record.specs.declared.mark.TimeMark.{TimeMark}
+use Rattle.ledger_bytes.specs.declared.mark.TimeMark.{TimeMark}
 
 -- each number is below those behind it
 abbrev pub Rises : List TimeMark → Type 0

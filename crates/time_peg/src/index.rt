@@ -16,7 +16,7 @@ pub struct TimeIndex {
 impl Model for TimeIndex {
     ghost use Rattle.std.specs.Prelude.{List};
     ghost use Rattle.time_peg.specs.Times.{Rises};
-    ghost use Rattle.journal_record.specs.declared.mark.TimeMark.{TimeMark};
+    ghost use Rattle.ledger_bytes.specs.declared.mark.TimeMark.{TimeMark};
 
     ghost Value = { List TimeMark };
 

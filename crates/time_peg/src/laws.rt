@@ -2,7 +2,7 @@ ghost use Rattle.std.specs.Prelude.{◌≡◌, ◌<◌, ◌≤◌, ℕ, List, []
 ghost use Rattle.journal_record.specs.declared.rules.TheConstants.{NOTARY_LIMIT};
 ghost use Rattle.time_peg.specs.Entries.{IsList, last_time, time_in};
 ghost use Rattle.time_peg.specs.Times.{Rises, lower_bound, upper_bound, IsNearestBefore, IsNearestBehind};
-ghost use Rattle.journal_record.specs.declared.mark.TimeMark.{TimeMark};
+ghost use Rattle.ledger_bytes.specs.declared.mark.TimeMark.{TimeMark};
 
 /// The bounds of a journal are the nearest time journals on its two sides, and each is missing exactly where there is none
 /// on that side.

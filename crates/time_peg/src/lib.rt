@@ -9,8 +9,9 @@ mod notary;
 
 pub use entry::{ENTRY_LEN, entry_bytes, peg_of};
 pub use index::TimeIndex;
-pub use journal_record::{Stamp, TimeMark};
+pub use journal_record::Stamp;
 pub use laws::{bounds_are_nearest, lists_grow};
+pub use ledger_bytes::TimeMark;
 pub use notary::{Notary, NotaryErr};
 
 #[cfg(test)]

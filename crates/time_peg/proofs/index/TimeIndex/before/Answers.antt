@@ -4,7 +4,7 @@ use Rattle.std.proofs.lemmas.List.Sorted.{IsPartitionPoint-from_clause}
 use Rattle.std.proofs.lemmas.Bool.{lt-ltb, ltb-true}
 use Rattle.std.specs.List.Sorted.{IsPartitionPoint}
 use Rattle.time_peg.specs.Times.{lower_bound, marks_before}
-use Rattle.journal_record.specs.declared.mark.TimeMark.{TimeMark}
+use Rattle.ledger_bytes.specs.declared.mark.TimeMark.{TimeMark}
 use Rattle.time_peg.proofs.TimesLaws.{partitioned, in_front, last_is}
 use Rattle.time_peg.proofs.index.TimeIndex.before.Goals as goal
 

@@ -6,7 +6,7 @@ use Rattle.std.proofs.lemmas.List.Sorted.{IsPartitionPoint-from_clause}
 use Rattle.std.proofs.lemmas.Bool.{le-leb, leb-true, leb-false, lt-ltb, le-ltb}
 use Rattle.std.specs.List.Sorted.{IsPartitionPoint}
 use Rattle.time_peg.specs.Times.{upper_bound, marks_behind}
-use Rattle.journal_record.specs.declared.mark.TimeMark.{TimeMark}
+use Rattle.ledger_bytes.specs.declared.mark.TimeMark.{TimeMark}
 use Rattle.time_peg.proofs.TimesLaws.{partitioned, behind, first_is}
 use Rattle.time_peg.proofs.index.TimeIndex.behind.Goals as goal
 
