@@ -1,5 +1,5 @@
 -- Lemmas on judging: what a book looks at is what the history says.
-use Rattle.std.proofs.Common.{◌≡◌, ℕ, ◌+◌, ◌-◌, ◌<◌, ◌≤◌, ◌&&◌, ◌||◌, ◌==◌, Bool, true, false, cond, not, List, [], ◌∷◌, length, Option, Some, None, refl, ap, sym, ◌∙◌, arith, eq-eqb}
+use Rattle.std.proofs.Common.{◌≡◌, ◌≢◌, ℕ, ◌+◌, ◌-◌, ◌<◌, ◌≤◌, ◌&&◌, ◌||◌, ◌==◌, Bool, true, false, cond, not, List, [], ◌∷◌, length, Option, Some, None, refl, ap, sym, ◌∙◌, arith, eq-eqb}
 use Rattle.std.specs.Prelude.{nat_le, filter}
 use Rattle.std.proofs.lemmas.Bool.{le-leb, leb-true, lt-leb, lt-ltb, ne_eqb, and_left, and_right, and_from}
 use Rattle.ledger_bytes.specs.declared.digest.Digest.{Digest}
@@ -95,6 +95,15 @@ ordinal_some h clue n is told = told ∙ sym (ap (λ b. cond b 0 (length (jsns_w
 pub previous_some : (h : History) (clue : Digest) (n : ℕ) → is_no_clue clue ≡ false → n ≡ last_of (jsns_with h clue) → n ≡ last_journal h clue
 unfolding last_journal
 previous_some h clue n is told = told ∙ sym (ap (λ b. cond b 0 (last_of (jsns_with h clue))) is)
+
+-- a clue whose next journal isn't its first needs no room
+pub clue_old : (l : Limits) (h : History) (clue : Digest) (ordinal : ℕ) → ordinal ≡ next_ordinal h clue → ordinal ≢ 1 → clues_full l h clue ≡ None
+clue_old l h clue ordinal is other = by_clue (is_no_clue clue) refl where
+  by_clue : (b : Bool) → is_no_clue clue ≡ b → clues_full l h clue ≡ None
+  by_clue true none = sym (clue_none l h clue none)
+  by_clue false some =
+      let next : ordinal ≡ length (jsns_with h clue) + 1 = is ∙ sym (ordinal_some h clue (length (jsns_with h clue) + 1) some refl) in
+      sym (clue_known l h clue ordinal next (omega (arith, next, other)))
 
 -- the first of some judgements, one after the other
 pub first_then : (rest : List (Option Refusal)) (a got result : Option Refusal) → got ≡ a → got ≡ None → result ≡ first_refusal rest → result ≡ first_refusal (a ∷ rest)

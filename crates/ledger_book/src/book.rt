@@ -76,7 +76,8 @@ impl Model for Book {
       tree = b.tree;
     } };
 
-    ghost invariant = { λ b. (1 ≤ b.size) × (b.size < 2 ^ 32) × AreWithin b.limits × (b.blocks ≤ b.head.size) × (b.head.size ≤ b.size)
+    ghost invariant = { λ b. (1 ≤ b.size) × (b.size < 2 ^ 32) × AreWithin b.limits
+        × (b.blocks ≤ b.head.size) × (b.head.size ≤ b.size)
         × (b.head.size < b.size → vec_len b.ends < vec_capacity b.ends) × (b.tree.size ≡ b.size) };
 }
 

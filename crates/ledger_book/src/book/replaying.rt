@@ -121,6 +121,7 @@ impl Book {
         if header.clue_ord != place.ordinal || header.clue_prev != place.previous {
             return false;
         }
-        self.clue_refusal(&header.clue, Limits::real()).is_none()
+        // A clue that has a journal already needs no room, and neither does no clue.
+        place.ordinal != 1 || self.clue_refusal(&header.clue, Limits::real()).is_none()
     }
 }
