@@ -1,28 +1,25 @@
 -- What a block's end does to a history, to what is kept of it, and to what the disks may leave.
-use Rattle.std.specs.Prelude.{Bool, true, false, IsTrue, sum_by}
+use Rattle.std.specs.Prelude.{Bool, true, false, sum_by}
 use Rattle.std.specs.List.{list_any, list_all}
-use Rattle.std.proofs.Common.{◌≡◌, ◌⊎◌, inl, inr, ℕ, ◌+◌, ◌<◌, ◌≤◌, ◌==◌, ◌&&◌, ◌||◌, List, [], ◌∷◌, ◌++◌, length, map, take, refl, ap, sym, subst, ◌∙◌, arith, append_assoc, append-nil, length-append}
+use Rattle.std.proofs.Common.{◌≡◌, ◌⊎◌, inl, inr, ℕ, ◌+◌, ◌≤◌, ◌==◌, ◌&&◌, ◌||◌, List, [], ◌∷◌, ◌++◌, length, map, refl, ap, sym, subst, ◌∙◌, arith, append_assoc, append-nil}
 use Rattle.std.proofs.lemmas.Bool.{true≢false, and_parts}
-use Rattle.std.proofs.lemmas.List.{map-append, length-map, take_all, nil_from_length}
+use Rattle.std.proofs.lemmas.List.{map-append, length-map, take_all}
 use Rattle.std.proofs.lemmas.List.Sums.{sum_by-cons}
 use Rattle.sha2.specs.Sha256.{sha256}
 use Rattle.tree_model.specs.Tree.{mth}
 use Rattle.ledger_bytes.specs.declared.limits.TheConstants.{BLOCK_LIMIT}
-use Rattle.journal_record.specs.Blocks as record_
-use Rattle.journal_record.specs.Blocks.{record_bytes, body_of, block_bytes, leaves_of, written_blocks, AreFrom}
+use Rattle.journal_record.specs.Blocks.{body_of, block_bytes, leaves_of, written_blocks, AreFrom}
 use Rattle.journal_record.specs.Entry.{Entry}
 use Rattle.journal_record.specs.Header.{spelling}
-use Rattle.journal_record.specs.declared.header.Header.{Header}
 use Rattle.journal_record.specs.declared.header.Kind.{Kind}
 use Rattle.journal_record.specs.declared.header.Kind.TheVariants.{Genesis, Content, Member, Time, Occult, Purge}
 use Rattle.block_file.specs.Blocks.{record_at}
-use Rattle.block_file.specs.File.{Stands, tail_of, IsSettled, HasBlock}
+use Rattle.block_file.specs.File.{Stands, tail_of}
 use Rattle.block_file.specs.declared.block.RecordAt.{RecordAt}
 use Rattle.ledger_disk.proofs.Guarding.{settled_image}
 use Rattle.ledger_disk.specs.Disk.{State, MayLeave, settled_state}
 use Rattle.ledger_model.specs.History.{History, history, journals, journals_of, size, leaves, root, point, greatest_point, purge_point, is_purge, close, close_by}
-use Rattle.ledger_model.specs.Lawful as lawful
-use Rattle.ledger_model.specs.Lawful.{AreNext, AllGather, gathers, AreLawful}
+use Rattle.ledger_model.specs.Lawful.{AreNext, AllGather, gathers}
 use Rattle.ledger_model.specs.Outcomes.{hides, is_occult}
 use Rattle.ledger_model.proofs.GrowLaws.{close_none, size_closed}
 use Rattle.ledger_model.proofs.KeepLaws.{journals_close}
@@ -31,15 +28,15 @@ use Rattle.ledger_book.specs.Books.{sealed_size}
 use Rattle.twin_file.specs.Twin.{open_of, other_of}
 use Rattle.ledger_open.specs.Growing.{with_block, IsNextBlock}
 use Rattle.ledger_open.specs.Places.{record_len, records_at, places_at, after_at}
-use Rattle.ledger_open.specs.Standing.{ground, HasBlocks, StandsFor, IsErased, PairFor}
+use Rattle.ledger_open.specs.Standing.{ground, StandsFor, IsErased, PairFor}
 use Rattle.ledger_open.proofs.AgainLaws.{blocks_unique}
 use Rattle.ledger_open.proofs.GrowLaws.{erased_stands, grows, grows_erased}
 use Rattle.ledger_open.proofs.HidingLaws.{journals_push}
 use Rattle.ledger_open.proofs.NextLaws.{next_behind}
 use Rattle.ledger_open.proofs.OpenLaws.{tail_is}
-use Rattle.ledger_open.proofs.SizeLaws.{mth_size, block_size, body_size, record_size, readable}
+use Rattle.ledger_open.proofs.SizeLaws.{mth_size, block_size, body_size, readable}
 use Rattle.ledger_open.proofs.WholeLaws.{own_blocks}
-use Rattle.batch_committer.specs.Committed.{open_bytes, other_bytes, IsCommitted, IsUncommitted}
+use Rattle.batch_committer.specs.Committed.{IsCommitted, IsUncommitted}
 use Rattle.batch_committer.specs.World.{Kept, World, Pair, Located, Keeps, IsCleanFor, Holds, sealed_part}
 
 -- ---- the history

@@ -1,30 +1,25 @@
 -- The open block ends: it is committed, and then all that is due is written.
-use Rattle.std.specs.Prelude.{Bool, IsTrue}
+use Rattle.std.specs.Prelude.{Bool}
 use Rattle.std.specs.Int.{w32, w64, to_be_bytes}
 use Rattle.std.specs.Io.KnownBytes.{Appends}
-use Rattle.std.proofs.Common.{◌≡◌, ◌⊎◌, inl, inr, ℕ, ◌+◌, ◌-◌, ◌<◌, ◌≤◌, List, [], ◌∷◌, ◌++◌, length, take, drop, refl, ap, sym, subst, ◌∙◌, arith, append_assoc, append-nil, length-append, length-take, take-append-drop}
+use Rattle.std.proofs.Common.{◌≡◌, inl, inr, ℕ, ◌+◌, ◌<◌, ◌≤◌, List, [], ◌++◌, length, take, drop, refl, ap, sym, subst, ◌∙◌, arith, append_assoc, length-append, length-take, take-append-drop}
 use Rattle.std.proofs.KnownBytes.{Appends-nil}
 use Rattle.std.proofs.lemmas.List.{nil_from_length}
 use Rattle.sha2.specs.Sha256.{sha256}
 use Rattle.tree_model.specs.Tree.{mth}
-use Rattle.ledger_bytes.specs.Begins.{Begins}
 use Rattle.ledger_bytes.specs.declared.limits.TheConstants.{BLOCK_LIMIT}
 use Rattle.merkle_tree.specs.declared.head.Head.{Head}
 use Rattle.journal_record.specs.Blocks.{body_of, block_bytes, AreFrom}
-use Rattle.journal_record.specs.Entry.{Entry}
-use Rattle.block_file.specs.declared.block.RecordAt.{RecordAt}
-use Rattle.ledger_disk.specs.Disk.{MayLeave}
 use Rattle.ledger_io.specs.Outside.{SinkState, MeetsNone, MeetsOne}
 use Rattle.ledger_io.specs.Writing.{WritesFirst}
 use Rattle.ledger_io.specs.declared.writer.WriteErr.{WriteErr}
 use Rattle.ledger_io.specs.declared.writer.WriteErr.TheVariants as failed
 use Rattle.ledger_model.specs.Dues.{due_lines, AllWaiting, AllIn}
 use Rattle.ledger_model.specs.Growing.{Grows}
-use Rattle.ledger_model.specs.History.{History, history, journals_of, size, leaves, root, close}
+use Rattle.ledger_model.specs.History.{History, journals_of, leaves, root, close}
 use Rattle.ledger_model.specs.Lawful.{AllGather}
-use Rattle.ledger_model.specs.Limits.{real_limits}
 use Rattle.ledger_model.specs.declared.due.Due.{Due}
-use Rattle.ledger_model.proofs.GrowLaws.{grows_not, grows_close, close_none, close_settled, size_closed}
+use Rattle.ledger_model.proofs.GrowLaws.{grows_close, close_none, close_settled}
 use Rattle.ledger_model.proofs.WaitLaws.{begins_closed, lines_ended, all_in_ended}
 use Rattle.ledger_book.specs.Books as books
 use Rattle.ledger_book.specs.Books.{Stands, Serves, sealed_size}
@@ -35,11 +30,11 @@ use Rattle.ledger_open.specs.Places.{records_at, places_at}
 use Rattle.batch_committer.specs.Committed.{IsCommitted, IsUncommitted}
 use Rattle.batch_committer.specs.Spelled as spell
 use Rattle.batch_committer.specs.Steps.{settled_text}
-use Rattle.batch_committer.specs.World.{Kept, World, Pair, world, Reads, ServesSome, Fits, Located, Keeps, IsCleanFor, Holds, MeetsNoFault, Writes, Goes, Left, Says, Stops, EndsBy, Ended, sealed_part}
+use Rattle.batch_committer.specs.World.{Kept, World, Pair, world, Reads, Fits, Located, Keeps, IsCleanFor, Holds, Writes, Goes, Says, Stops, Ended, sealed_part}
 use Rattle.batch_committer.specs.declared.end.End.{End}
 use Rattle.batch_committer.specs.declared.end.End.TheVariants.{DiskFault, WriteFault, NoMemory}
-use Rattle.batch_committer.proofs.Closing.{next_bytes, close_is, closed_is, sealed_all, root_closed, clean_image, commit_clean, commit_left, located_close}
-use Rattle.batch_committer.proofs.WayLaws.{begins_not, no_fault}
+use Rattle.batch_committer.proofs.Closing.{next_bytes, sealed_all, root_closed, clean_image, commit_clean, commit_left, located_close}
+use Rattle.batch_committer.proofs.WayLaws.{begins_not}
 
 -- nothing was written yet, and the disks are what they were
 pub stops_before : (tells : Bool) (w : World) (h whole : History) (ds : List Due) (end : End) → Says end [] [] → Grows h whole → Holds tells w h → Stops h whole ds end [] w.disks
@@ -261,9 +256,6 @@ serves_closed old new h s stands same = record { stands = stands; seen = omega (
 -- how many journals wait
 pub count_of : (k : books.Kept) (h : History) (count : ℕ) → Serves k h → count ≡ length h.waiting → k.size ≡ k.sealed + count
 count_of k h count s is = omega (arith, is, s.stands.counts.size, s.stands.counts.sealed_is, length-append (journals_of h.closed) h.waiting)
-
-pub count_some : (k : books.Kept) (count : ℕ) → k.size ≡ k.sealed + count → k.sealed < k.size → 1 ≤ count
-count_some k count is waits = omega (arith, is, waits)
 
 pub count_few : (k : books.Kept) (count : ℕ) → k.size ≡ k.sealed + count → k.size ≤ k.sealed + BLOCK_LIMIT → count ≤ BLOCK_LIMIT
 count_few k count is few = omega (arith, is, few)

@@ -1,8 +1,8 @@
 -- A job was judged by the book, and its journal gathered.
-use Rattle.std.specs.Prelude.{Bool, true, false, IsTrue, ◌↔◌, Result, Ok, Err, OnOk, nat_le, ◌==◌, bytes_eq, slice_get, if◌then◌else◌, sum_by}
+use Rattle.std.specs.Prelude.{Bool, true, IsTrue, ◌↔◌, Result, Ok, Err, OnOk, nat_le, ◌==◌, bytes_eq, slice_get, if◌then◌else◌, sum_by}
 use Rattle.std.specs.Int.{w16, w32, to_be_bytes}
 use Rattle.std.specs.List.{list_all}
-use Rattle.std.proofs.Common.{◌≡◌, ℕ, zero, suc, ◌+◌, ◌<◌, ◌≤◌, ◌&&◌, cond, List, [], ◌∷◌, ◌++◌, length, map, Option, Some, None, refl, ap, sym, subst, ◌∙◌, arith, append_assoc, append-nil, length-append}
+use Rattle.std.proofs.Common.{◌≡◌, ℕ, zero, suc, ◌+◌, ◌≤◌, ◌&&◌, cond, List, [], ◌∷◌, ◌++◌, length, map, Option, Some, None, refl, ap, sym, subst, ◌∙◌, arith, append_assoc, append-nil, length-append}
 use Rattle.std.proofs.lemmas.Bool.{le-leb, leb-true, eqb-true, and_parts}
 use Rattle.std.proofs.lemmas.List.Concat.{flat_map-append}
 use Rattle.std.proofs.lemmas.Option.{none-some}
@@ -10,13 +10,12 @@ use Rattle.ledger_bytes.specs.declared.digest.Digest.{Digest}
 use Rattle.ledger_bytes.specs.declared.limits.TheConstants.{CONTENT_LIMIT, PROOF_LIMIT}
 use Rattle.ledger_bytes.specs.declared.refusal.Refusal.{Refusal}
 use Rattle.journal_record.specs.Approval.{who_of, approval_bytes}
-use Rattle.journal_record.specs.Blocks.{record_bytes, body_of, IsEntry, AreFrom}
+use Rattle.journal_record.specs.Blocks.{record_bytes, body_of, IsEntry}
 use Rattle.journal_record.specs.Entry.{Entry, content_digest_of}
 use Rattle.journal_record.specs.Header.{HasWidths}
 use Rattle.journal_record.specs.declared.approval.Approval.{Approval}
 use Rattle.journal_record.specs.declared.approval.TheConstants.{WHO_LIMIT}
 use Rattle.journal_record.specs.declared.header.Header.{Header}
-use Rattle.script_lines.specs.declared.reply.Reply.TheVariants as reply
 use Rattle.block_file.specs.Blocks.{record_at}
 use Rattle.block_file.specs.declared.block.RecordAt.{RecordAt}
 use Rattle.ledger_model.specs.Appends.{append_journal, member_journal, append_header, member_header}
@@ -28,9 +27,8 @@ use Rattle.ledger_model.specs.Limits.{real_limits}
 use Rattle.ledger_model.specs.Outcomes.{placed_journal, with_waiting, after_judgement, with_job, judged_outcome, accepted_outcome, outcome, AsksFor, query_of}
 use Rattle.ledger_model.specs.Rules.{closes_before}
 use Rattle.ledger_model.specs.Step.{Step}
-use Rattle.ledger_model.specs.Texts.{answer_for, told_reply}
+use Rattle.ledger_model.specs.Texts.{answer_for}
 use Rattle.ledger_model.specs.declared.answer.Answer.{Answer}
-use Rattle.ledger_model.specs.declared.answer.Answer.TheVariants.{Reply, Receipt}
 use Rattle.ledger_model.specs.declared.due.Due.{Due}
 use Rattle.ledger_model.specs.declared.job.Job.{Job}
 use Rattle.ledger_model.specs.declared.job.Job.TheVariants.{Refused, Append, NewMember, Get, Clue, Head}
@@ -45,8 +43,8 @@ use Rattle.ledger_open.proofs.AgainLaws.{entry_is}
 use Rattle.ledger_open.proofs.HidingLaws.{from_more}
 use Rattle.ledger_open.proofs.NextLaws.{next_behind}
 use Rattle.ledger_open.specs.Places.{record_len, records_at, places_at}
-use Rattle.batch_committer.specs.Steps.{HasParts, HasJournal, IsGathered, Gathers, Judged, KeepsRest}
-use Rattle.batch_committer.specs.World.{Kept, Located, Keeps}
+use Rattle.batch_committer.specs.Steps.{HasParts, HasJournal, IsGathered, Gathers, Judged}
+use Rattle.batch_committer.specs.World.{Kept, Keeps}
 use Rattle.batch_committer.proofs.Closing.{records_more, body_len}
 
 -- ---- what came of a job

@@ -1,5 +1,5 @@
 -- A job is taken: the open block may end before it and after it.
-use Rattle.std.specs.Prelude.{Bool, true, false, nat_le, Result, Ok, Err, IfErr, OnErr}
+use Rattle.std.specs.Prelude.{Bool, true, false, nat_le, Result, Ok, Err, IfErr}
 use Rattle.std.proofs.Common.{◌≡◌, ◌⊎◌, inl, inr, ℕ, ◌+◌, ◌<◌, ◌≤◌, cond, List, [], ◌∷◌, ◌++◌, length, Option, Some, None, refl, ap, sym, subst, ◌∙◌, arith, length-append}
 use Rattle.std.proofs.KnownBytes.{Appends-nil}
 use Rattle.std.proofs.lemmas.Bool.{le-leb, lt-leb}
@@ -200,9 +200,6 @@ judged_asked h job asked is so = sym (ap (λ v. cond v (close h) h) (sym is ∙ 
 
 judged_kept : (h : History) (job : Job) (asked : Bool) → asked ≡ closes_before job → asked ≡ false → h ≡ judged_at h job
 judged_kept h job asked is so = sym (ap (λ v. cond v (close h) h) (sym is ∙ so))
-
-pub before_goes : (tells : Bool) (w t : World) (job : Job) (asked : Bool) → asked ≡ closes_before job → asked ≡ true → Goes tells w close (λ h. []) t → Goes tells w (λ h. judged_at h job) (λ h. []) t
-before_goes tells w t job asked is so x = goes_as tells w t close (λ h. judged_at h job) (λ h. []) (λ h. []) (λ h p. judged_asked h job asked is so) (λ h p. refl) x
 
 pub before_ended : (tells : Bool) (w t : World) (job : Job) (asked : Bool) (end : End) → asked ≡ closes_before job → asked ≡ true → Ended tells w close (λ h. []) end t → Ended tells w (λ h. judged_at h job) (λ h. []) end t
 before_ended tells w t job asked end is so x = ended_as tells w t close (λ h. judged_at h job) (λ h. []) (λ h. []) end (λ h p. judged_asked h job asked is so) (λ h p. refl) x

@@ -1,15 +1,13 @@
 -- What is known of a ledger that was made or opened, and of one that is held.
 use Rattle.std.specs.Prelude.{Bool, true, false, IsTrue, IsSomeAnd}
-use Rattle.std.proofs.Common.{◌≡◌, inl, inr, ℕ, ◌+◌, ◌<◌, ◌≤◌, List, [], ◌∷◌, ◌++◌, length, take, refl, ap, sym, subst, ◌∙◌, arith, append-nil, length-append}
+use Rattle.std.proofs.Common.{◌≡◌, inl, inr, ℕ, ◌+◌, ◌≤◌, List, [], ◌∷◌, ◌++◌, length, take, refl, ap, sym, subst, ◌∙◌, arith, append-nil, length-append}
 use Rattle.std.proofs.lemmas.Bool.{true≢false}
 use Rattle.std.proofs.lemmas.List.{nil_from_length}
 use Rattle.block_file.proofs.WriteLaws.{tail_shut}
-use Rattle.block_file.specs.File.{Stands, IsSettled, IsShutAt, open_blocks, tail_of, whole_file}
-use Rattle.block_file.specs.Head.{front_of}
+use Rattle.block_file.specs.File.{IsSettled, IsShutAt, open_blocks}
 use Rattle.journal_record.specs.Blocks.{written_blocks}
 use Rattle.journal_record.specs.Entry.{Entry}
-use Rattle.ledger_bytes.specs.declared.limits.TheConstants.{BLOCK_LIMIT}
-use Rattle.ledger_disk.specs.Disk.{State, MayLeave, settled_state}
+use Rattle.ledger_disk.specs.Disk.{State, settled_state}
 use Rattle.ledger_io.specs.Outside.{SinkState}
 use Rattle.ledger_model.proofs.LawfulLaws.{later_seen, none_hidden, some_journal}
 use Rattle.ledger_model.specs.Genesis.{HasKeys, new_ledger}
@@ -20,12 +18,12 @@ use Rattle.ledger_model.specs.Outcomes.{is_hidden}
 use Rattle.ledger_model.specs.declared.genesis.Genesis.{Genesis}
 use Rattle.ledger_book.specs.Books as books
 use Rattle.ledger_book.specs.Books.{Serves}
-use Rattle.twin_file.specs.Twin.{choice, open_of, other_of, IsTaken}
+use Rattle.twin_file.specs.Twin.{open_of, IsTaken}
 use Rattle.ledger_open.specs.Founding.{IsFounded}
 use Rattle.ledger_open.specs.Growing.{new_file}
 use Rattle.ledger_open.specs.Opening.{Known, Knows, IsReopened, IsCleanAt}
 use Rattle.ledger_open.specs.Places.{places_at, after_at}
-use Rattle.ledger_open.specs.Standing.{ground, HasBlocks, StandsFor, IsErased, IsClean, IsCleanPair, PairFor, hidden_before}
+use Rattle.ledger_open.specs.Standing.{ground, StandsFor, IsErased, PairFor, hidden_before}
 use Rattle.ledger_open.proofs.AgainLaws.{blocks_unique}
 use Rattle.ledger_open.proofs.FoundingLaws.{founded_clean}
 use Rattle.ledger_open.proofs.GrowLaws.{stands_erased}
@@ -33,7 +31,7 @@ use Rattle.ledger_open.proofs.OpenLaws.{tail_is, stands_again, taken_pair, cut_h
 use Rattle.ledger_open.proofs.SizeLaws.{mth_size}
 use Rattle.ledger_open.proofs.WholeLaws.{own_blocks, history_is}
 use Rattle.batch_committer.specs.Opened.{kept_from, IsOpened, IsQuietFor}
-use Rattle.batch_committer.specs.World.{Kept, World, DiskState, Pair, world, Reads, Fits, HasRoom, IsCleanFor, Holds, sealed_part}
+use Rattle.batch_committer.specs.World.{World, DiskState, Pair, world, Fits, HasRoom, IsCleanFor, Holds}
 use Rattle.batch_committer.proofs.Closing.{clean_image, tail_at, sealed_same}
 
 -- ---- the history of some blocks

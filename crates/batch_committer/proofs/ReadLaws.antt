@@ -1,6 +1,6 @@
 -- Reading changes nothing that counts.
 use Rattle.std.specs.Prelude.{Bool, true, false, IsSomeAnd, Option, Some, None}
-use Rattle.std.proofs.Common.{◌≡◌, inl, inr, ℕ, ◌+◌, ◌≤◌, List, [], ◌++◌, refl, ap, sym, subst, ◌∙◌, append-nil}
+use Rattle.std.proofs.Common.{◌≡◌, ℕ, ◌+◌, ◌≤◌, List, [], ◌++◌, refl, ap, sym, subst, ◌∙◌, append-nil}
 use Rattle.std.proofs.KnownBytes.{Appends-nil}
 use Rattle.block_file.specs.File.{IsShutAt}
 use Rattle.journal_record.specs.Entry.{Entry}
@@ -14,8 +14,8 @@ use Rattle.ledger_book.specs.Books as books
 use Rattle.twin_file.specs.Twin.{open_of}
 use Rattle.ledger_open.specs.Places.{places_at, records_at, places_of}
 use Rattle.ledger_open.specs.Standing.{IsErased}
-use Rattle.batch_committer.specs.Read.{WasRead, ReadEnds, WereRead, NoneFailed, ReadingEnds}
-use Rattle.batch_committer.specs.World.{DiskState, Pair, pair, Kept, world, Reads, Fits, IsCleanFor, Holds, Goes, Says, EndsBy, Ended, sealed_part}
+use Rattle.batch_committer.specs.Read.{WasRead, WereRead, NoneFailed, ReadingEnds}
+use Rattle.batch_committer.specs.World.{DiskState, Pair, Kept, world, Reads, Fits, IsCleanFor, Holds, Goes, Says, EndsBy, Ended, sealed_part}
 use Rattle.batch_committer.specs.declared.end.End.{End}
 use Rattle.batch_committer.specs.declared.end.End.TheVariants.{DiskFault, WriteFault, NoMemory, Closed}
 use Rattle.batch_committer.proofs.Ending.{stops_before}

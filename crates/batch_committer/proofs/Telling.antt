@@ -1,5 +1,5 @@
 -- What is told of the ledger's head.
-use Rattle.std.proofs.Common.{◌≡◌, ℕ, [], refl, ap, sym, ◌∙◌}
+use Rattle.std.proofs.Common.{◌≡◌, ℕ, [], ap, sym, ◌∙◌}
 use Rattle.sha2.specs.Sha256.{sha256}
 use Rattle.tree_model.proofs.Levels.{root_none}
 use Rattle.ledger_bytes.specs.Digests.{digest}

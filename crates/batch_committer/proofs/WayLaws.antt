@@ -1,19 +1,18 @@
 -- How the ways of a committer are joined.
-use Rattle.std.proofs.Common.{◌≡◌, ℕ, ◌<◌, ◌⊎◌, inl, inr, Bool, List, [], ◌∷◌, ◌++◌, length, refl, ap, sym, subst, ◌∙◌, arith, append_assoc, append-nil, length-append}
+use Rattle.std.proofs.Common.{◌≡◌, ℕ, inl, inr, Bool, List, [], ◌++◌, refl, ap, sym, subst, ◌∙◌, arith, append_assoc, append-nil, length-append}
 use Rattle.std.specs.Prelude.{Result, Ok, Err, IsErrAnd, IfErr}
 use Rattle.std.proofs.KnownBytes.{Appends-nil, Appends-trans}
 use Rattle.ledger_bytes.specs.Begins.{Begins}
 use Rattle.ledger_bytes.specs.Causes.{Rose}
-use Rattle.journal_record.specs.Entry.{Entry}
 use Rattle.ledger_io.specs.Outside.{count_after}
-use Rattle.ledger_model.specs.Dues.{due_lines, AllIn}
+use Rattle.ledger_model.specs.Dues.{due_lines}
 use Rattle.ledger_model.specs.Growing.{Grows}
-use Rattle.ledger_model.specs.History.{History, close}
+use Rattle.ledger_model.specs.History.{History}
 use Rattle.ledger_model.specs.declared.due.Due.{Due}
 use Rattle.ledger_model.proofs.GrowLaws.{grows_not, grows_then}
 use Rattle.ledger_model.proofs.RunLaws.{due_lines-append}
 use Rattle.ledger_model.proofs.WaitLaws.{in-append, all_in_more, begins_closed}
-use Rattle.batch_committer.specs.World.{DiskState, Pair, World, Holds, MeetsNoFault, Writes, Goes, Left, Says, Stops, HasRisen, OneFailed, EndsBy, Ended}
+use Rattle.batch_committer.specs.World.{DiskState, Pair, World, Holds, MeetsNoFault, Writes, Goes, Says, Stops, HasRisen, OneFailed, EndsBy, Ended}
 use Rattle.batch_committer.specs.declared.end.End.{End}
 use Rattle.batch_committer.specs.declared.end.End.TheVariants.{DiskFault, WriteFault, NoMemory, Closed}
 
@@ -167,6 +166,10 @@ goes_same tells w = record {
 -- no call ends a run as one that an earlier call ended
 pub never_closed : (tells : Bool) (w t : World) (f : History → History) (d : History → List Due) (end : End) → end ≡ Closed → Ended tells w f d end t → ⊥
 never_closed tells w t f d end is x = subst (λ e. EndsBy e w t) is x.cause
+
+-- a result that isn't this error
+pub err_not : {T : Type 0} (IsSo : End → Type 0) (result : Result T End) (end : End) → (IsSo end → ⊥) → IfErr result IsSo → result ≡ Err end → ⊥
+err_not IsSo result end never so is = never (subst (λ r. IfErr r IsSo) is so)
 
 -- an error that is this one
 pub err_is : {T : Type 0} (IsSo : End → Type 0) (result : Result T End) (wanted : End) → IsErrAnd result (λ end. end ≡ wanted) → IsSo wanted → IfErr result IsSo

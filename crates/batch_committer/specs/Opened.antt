@@ -1,11 +1,11 @@
 -- A committer of a ledger that was made or opened just now.
-use Rattle.std.specs.Prelude.{ℕ, ◌+◌, ◌≤◌, Bool, IsTrue, IsSomeAnd, List}
+use Rattle.std.specs.Prelude.{ℕ, ◌+◌, ◌≤◌, Bool, IsSomeAnd, List}
 use Rattle.journal_record.specs.Entry.{Entry}
 use Rattle.block_file.specs.File.{IsSettled}
-use Rattle.ledger_disk.specs.Disk.{State, MayLeave}
+use Rattle.ledger_disk.specs.Disk.{MayLeave}
 use Rattle.ledger_model.specs.History.{History}
 use Rattle.twin_file.specs.Twin.{open_of}
-use Rattle.ledger_open.specs.Opening.{Known, Knows, IsReopened}
+use Rattle.ledger_open.specs.Opening.{Known, Knows}
 use Rattle.ledger_open.specs.Standing.{PairFor, IsCleanPair}
 use Rattle.batch_committer.specs.World.{Kept, Pair, first_kept}
 

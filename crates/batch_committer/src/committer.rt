@@ -48,6 +48,17 @@ impl Committer {
         }
     }
 
+    /// The ledger: its book and the places of its journals, also of those that wait for their block's end, and its files,
+    /// which don't have these yet.
+    pub fn opened(&self) -> &Opened
+        ensures book { result.now.book ≡ self.now.kept.book }
+        ensures places { result.now.places.list ≡ self.now.kept.places }
+        ensures place { place_of (file_of result.now.twin) ≡ self.now.kept.place }
+        ensures in_a { in_a_of result.now.twin ≡ self.now.kept.in_a }
+    {
+        self.inner.opened()
+    }
+
     /// The ledger's id.
     pub fn id(&self) -> Digest
         ensures { (h : History) → Keeps self.now.kept h → result.0 ≡ id h }
@@ -115,13 +126,9 @@ impl Committer {
         if self.ended {
             return Err(End::Closed);
         }
-        match self.inner.take(a, b, sink, &item) {
-            Ok(()) => Ok(()),
-            Err(end) => {
-                self.ended = true;
-                Err(end)
-            }
-        }
+        let result = self.inner.take(a, b, sink, &item);
+        self.ended = result.is_err();
+        result
     }
 
     /// Ends the open block, and writes all that is due.
@@ -165,13 +172,9 @@ impl Committer {
         if self.ended {
             Err(End::Closed)
         } else {
-            match self.inner.settle(a, b, sink) {
-                Ok(()) => Ok(()),
-                Err(end) => {
-                    self.ended = true;
-                    Err(end)
-                }
-            }
+            let result = self.inner.settle(a, b, sink);
+            self.ended = result.is_err();
+            result
         }
     }
 }

@@ -30,7 +30,8 @@ pub(crate) fn get<D: Disk>(
     ensures told { IfOk result (λ reply. IsTrue D.tells → (h : History) → Serves book.now h
         → places.now.list ≡ places_of h → IsErased (D.state file.old).seen h
         → reply ≡ spec.get_reply h n) }
-    ensures read { WasRead D.tells (disk (D.state file.old) (D.told_length file.old) (D.faults file.old))
+    ensures read { WasRead D.tells
+        (disk (D.state file.old) (D.told_length file.old) (D.faults file.old))
         (disk (D.state file.new) (D.told_length file.new) (D.faults file.new)) }
     ensures no_fault { OnOk result (D.faults file.new ≡ D.faults file.old) }
     ensures err { IfErr result (λ end. ReadEnds end (D.faults file.old) (D.faults file.new)) }
@@ -64,7 +65,8 @@ fn whole<D: Disk>(alloc: Global, file: &mut D, place: &RecordAt) -> Result<Reply
     ensures told { IfOk result (λ reply. IsTrue D.tells → reply ≡ spec.whole_reply place.now.header
         (entry_at (D.state file.old).seen place.now).content
         (entry_at (D.state file.old).seen place.now).who) }
-    ensures read { WasRead D.tells (disk (D.state file.old) (D.told_length file.old) (D.faults file.old))
+    ensures read { WasRead D.tells
+        (disk (D.state file.old) (D.told_length file.old) (D.faults file.old))
         (disk (D.state file.new) (D.told_length file.new) (D.faults file.new)) }
     ensures no_fault { OnOk result (D.faults file.new ≡ D.faults file.old) }
     ensures err { IfErr result (λ end. ReadEnds end (D.faults file.old) (D.faults file.new)) }
@@ -76,9 +78,11 @@ fn whole<D: Disk>(alloc: Global, file: &mut D, place: &RecordAt) -> Result<Reply
 
 // A journal with its who alone, which stands at this place.
 fn occulted<D: Disk>(alloc: Global, file: &mut D, place: &RecordAt) -> Result<Reply, End>
-    ensures told { IfOk result (λ reply. IsTrue D.tells → reply ≡ spec.occulted_reply place.now.header
+    ensures told { IfOk result (λ reply. IsTrue D.tells
+        → reply ≡ spec.occulted_reply place.now.header
         (entry_at (D.state file.old).seen place.now).who) }
-    ensures read { WasRead D.tells (disk (D.state file.old) (D.told_length file.old) (D.faults file.old))
+    ensures read { WasRead D.tells
+        (disk (D.state file.old) (D.told_length file.old) (D.faults file.old))
         (disk (D.state file.new) (D.told_length file.new) (D.faults file.new)) }
     ensures no_fault { OnOk result (D.faults file.new ≡ D.faults file.old) }
     ensures err { IfErr result (λ end. ReadEnds end (D.faults file.old) (D.faults file.new)) }
@@ -91,7 +95,8 @@ fn occulted<D: Disk>(alloc: Global, file: &mut D, place: &RecordAt) -> Result<Re
 fn read_piece<D: Disk>(alloc: Global, file: &mut D, at: u64, len: u32) -> Result<Vec<u8>, End>
     ensures bytes { IfOk result (λ piece. IsTrue D.tells
         → piece.items ≡ take len (drop at (D.state file.old).seen)) }
-    ensures read { WasRead D.tells (disk (D.state file.old) (D.told_length file.old) (D.faults file.old))
+    ensures read { WasRead D.tells
+        (disk (D.state file.old) (D.told_length file.old) (D.faults file.old))
         (disk (D.state file.new) (D.told_length file.new) (D.faults file.new)) }
     ensures no_fault { OnOk result (D.faults file.new ≡ D.faults file.old) }
     ensures err { IfErr result (λ end. ReadEnds end (D.faults file.old) (D.faults file.new)) }

@@ -29,16 +29,15 @@ use crate::dues::spell;
 use crate::queries::reply_to;
 use block_file::RecordAt;
 use journal_record::{Approval, Header};
-use ledger_book::{Book, Job, Outcome, Prepared, Query};
+use ledger_book::{Job, Outcome, Prepared, Query};
 use ledger_bytes::{BLOCK_LIMIT, Digest, NoMemory};
 use ledger_disk::Disk;
 use ledger_io::{Sink, write_all};
 use ledger_model::{Answer, Due};
-use ledger_open::{Opened, Places};
+use ledger_open::Opened;
 use script_lines::Reply;
 use std::alloc::Global;
 use std::marker::Model;
-use twin_file::Twin;
 
 /// How many bytes of a record stand before its content: the header, and the length of who placed the journal.
 const RECORD_HEAD_LEN: u64 = 178;
@@ -50,10 +49,8 @@ const BLOCK_HEAD_LEN: u64 = 45;
 #[derive(Drop)]
 pub(crate) struct Taking {
     alloc: Global,
-    book: Book,
-    twin: Twin,
-    /// Where each journal stands, or will stand.
-    places: Places,
+    /// The ledger with the journals that wait, and where they will stand.
+    opened: Opened,
     block: OpenBlock,
     /// What is due, and waits for the open block's end.
     dues: Vec<Due>,
@@ -69,11 +66,11 @@ impl Model for Taking {
     ghost Value = { Kept };
 
     ghost view = { λ t. record {
-      book = t.book;
-      place = place_of (file_of t.twin);
-      in_a = in_a_of t.twin;
+      book = t.opened.book;
+      place = place_of (file_of t.opened.twin);
+      in_a = in_a_of t.opened.twin;
       body = t.block.body;
-      places = t.places.list;
+      places = t.opened.places.list;
       dues = t.dues.items;
     } };
 }
@@ -85,27 +82,35 @@ impl Taking {
     {
         Taking {
             alloc,
-            book: opened.book,
-            twin: opened.twin,
-            places: opened.places,
+            opened,
             block: OpenBlock::new(alloc),
             dues: Vec::new(alloc),
             text: Vec::new(alloc),
         }
     }
 
+    /// The ledger, with the journals that wait.
+    pub(crate) fn opened(&self) -> &Opened
+        ensures book { result.now.book ≡ self.now.book }
+        ensures places { result.now.places.list ≡ self.now.places }
+        ensures place { place_of (file_of result.now.twin) ≡ self.now.place }
+        ensures in_a { in_a_of result.now.twin ≡ self.now.in_a }
+    {
+        &self.opened
+    }
+
     /// The ledger's id.
     pub(crate) fn id(&self) -> Digest
         ensures { (h : History) → Keeps self.now h → result.0 ≡ id h }
     {
-        self.book.id()
+        self.opened.book.id()
     }
 
     /// Whether no journal waits for its block's end.
     pub(crate) fn is_settled(&self) -> bool
         ensures { (h : History) → Keeps self.now h → IsTrue result ↔ (h.waiting ≡ []) }
     {
-        self.book.waiting_count() == 0
+        self.opened.book.waiting_count() == 0
     }
 
     /// Takes a job, which came from a line: ends the open block where the job asks for that, judges the job and gathers
@@ -156,7 +161,8 @@ impl Taking {
         self.end_full(a, b, sink)
     }
 
-    /// Ends the open block, where a journal waits in it, and writes all that is due.
+    /// Writes all that is due. Where a journal waits the open block ends before that: it is committed. All memory is
+    /// taken before the first call of a disk.
     pub(crate) fn settle<D: Disk, K: Sink>(
         &mut self,
         a: &mut D,
@@ -194,11 +200,18 @@ impl Taking {
             (disk (D.state b.new) (D.told_length b.new) (D.faults b.new)))
             (K.state sink.new))) }
     {
-        if self.book.waiting_count() == 0 {
-            self.write_dues(sink)
-        } else {
-            self.end_block(a, b, sink)
+        let count = self.opened.book.waiting_count() as u32;
+        if count == 0 {
+            return self.write_dues(sink);
         }
+        self.opened.book.seal();
+        spell(&mut self.text, &self.opened.book, self.dues.as_slice())?;
+        self.block.finish(count, &self.opened.book.head().root)?;
+        commit(&mut self.opened.twin, a, b, self.block.as_slice())?;
+        write_all(sink, self.text.as_slice())?;
+        self.block.clear();
+        self.dues.clear();
+        Ok(())
     }
 
     // Writes all that is due, where no journal waits for its block's end.
@@ -216,54 +229,8 @@ impl Taking {
             close (λ h. []) end
             (world self.new disks (K.state sink.new))) }
     {
-        spell(&mut self.text, &self.book, self.dues.as_slice())?;
+        spell(&mut self.text, &self.opened.book, self.dues.as_slice())?;
         write_all(sink, self.text.as_slice())?;
-        self.dues.clear();
-        Ok(())
-    }
-
-    // Ends the open block, in which a journal waits: commits it, and then writes all that is due. All memory is taken
-    // before the first call of a disk.
-    fn end_block<D: Disk, K: Sink>(&mut self, a: &mut D, b: &mut D, sink: &mut K) -> Result<(), End>
-        requires fits { Fits D.tells (world self.old
-            (pair (disk (D.state a.old) (D.told_length a.old) (D.faults a.old))
-            (disk (D.state b.old) (D.told_length b.old) (D.faults b.old)))
-            (K.state sink.old)) }
-        requires waits { self.old.book.sealed < self.old.book.size }
-        ensures ok { OnOk result (Goes D.tells
-            (world self.old
-            (pair (disk (D.state a.old) (D.told_length a.old) (D.faults a.old))
-            (disk (D.state b.old) (D.told_length b.old) (D.faults b.old)))
-            (K.state sink.old))
-            close (λ h. [])
-            (world self.new
-            (pair (disk (D.state a.new) (D.told_length a.new) (D.faults a.new))
-            (disk (D.state b.new) (D.told_length b.new) (D.faults b.new)))
-            (K.state sink.new))) }
-        ensures fits { OnOk result (Fits D.tells (world self.new
-            (pair (disk (D.state a.new) (D.told_length a.new) (D.faults a.new))
-            (disk (D.state b.new) (D.told_length b.new) (D.faults b.new)))
-            (K.state sink.new))) }
-        ensures empty { OnOk result ((self.new.book.size ≡ self.new.book.sealed)
-            × (self.new.dues ≡ [])) }
-        ensures err { IfErr result (λ end. Ended D.tells
-            (world self.old
-            (pair (disk (D.state a.old) (D.told_length a.old) (D.faults a.old))
-            (disk (D.state b.old) (D.told_length b.old) (D.faults b.old)))
-            (K.state sink.old))
-            close (λ h. []) end
-            (world self.new
-            (pair (disk (D.state a.new) (D.told_length a.new) (D.faults a.new))
-            (disk (D.state b.new) (D.told_length b.new) (D.faults b.new)))
-            (K.state sink.new))) }
-    {
-        let count = self.book.waiting_count() as u32;
-        self.book.seal();
-        spell(&mut self.text, &self.book, self.dues.as_slice())?;
-        self.block.finish(count, &self.book.head().root)?;
-        commit(&mut self.twin, a, b, self.block.as_slice())?;
-        write_all(sink, self.text.as_slice())?;
-        self.block.clear();
         self.dues.clear();
         Ok(())
     }
@@ -348,7 +315,7 @@ impl Taking {
             (disk (D.state b.new) (D.told_length b.new) (D.faults b.new)))
             (K.state sink.new))) }
     {
-        let waiting = self.book.waiting_count();
+        let waiting = self.opened.book.waiting_count();
         if waiting == 0 || waiting >= BLOCK_LIMIT {
             self.settle(a, b, sink)
         } else {
@@ -438,7 +405,7 @@ impl Taking {
             (pair (disk (D.state a.new) (D.told_length a.new) (D.faults a.new))
             (disk (D.state b.new) (D.told_length b.new) (D.faults b.new)))) }
     {
-        match self.book.apply(job, None)? {
+        match self.opened.book.apply(job, None)? {
             Outcome::Refused(refusal) => Ok(Answer::Reply(Reply::Refused(refusal))),
             Outcome::Placed { jsn, leaf } => {
                 self.gather_placed(job, jsn)?;
@@ -478,10 +445,10 @@ impl Taking {
             (pair (disk (D.state a.new) (D.told_length a.new) (D.faults a.new))
             (disk (D.state b.new) (D.told_length b.new) (D.faults b.new)))) }
     {
-        if self.twin.in_a() {
-            reply_to(self.alloc, &self.book, &self.places, a, query)
+        if self.opened.twin.in_a() {
+            reply_to(self.alloc, &self.opened.book, &self.opened.places, a, query)
         } else {
-            reply_to(self.alloc, &self.book, &self.places, b, query)
+            reply_to(self.alloc, &self.opened.book, &self.opened.places, b, query)
         }
     }
 
@@ -515,13 +482,13 @@ impl Taking {
         ensures book { self.new.book ≡ self.old.book }
         ensures rest { KeepsRest self.old self.new }
     {
-        let header = match self.book.header(jsn) {
+        let header = match self.opened.book.header(jsn) {
             Some(header) => *header,
             None => unreachable!(),
         };
-        let at = self.twin.file().tail() + BLOCK_HEAD_LEN + self.block.len();
-        self.places.reserve(1)?;
-        self.places.push(place_of_record(at, &header, by));
+        let at = self.opened.twin.file().tail() + BLOCK_HEAD_LEN + self.block.len();
+        self.opened.places.reserve(1)?;
+        self.opened.places.push(place_of_record(at, &header, by));
         self.block.put(&header, content, by)
     }
 }

@@ -1,8 +1,7 @@
 //! Jobs on disks in memory: what is written, and what the disks leave wherever they stop.
 
-ghost use Rattle.std.specs.Prelude.{◌≡◌, ◌≤◌, true, false, length, IfOk};
+ghost use Rattle.std.specs.Prelude.{◌≡◌, ◌≤◌, true, length, IfOk};
 ghost use Rattle.ledger_model.specs.Fitting.{fits_job};
-ghost use Rattle.batch_committer.specs.World.{disk, pair, world, Fits, HasRoom};
 
 use crate::{Committer, End};
 use hex::FromHex;
@@ -18,6 +17,7 @@ use ledger_open::{OpenErr, init, reopen};
 use member_book::tag_proof;
 use sha2::{Digest as Hasher, Sha256};
 use std::alloc::Global;
+use std::marker::Model;
 use std::test::Fail;
 
 // The keys of the operator, the regulator and a third member.
@@ -43,11 +43,7 @@ const BLOCK: [&str; 12] = [
     "790b17f79672513778ab540c22c6df",
 ];
 
-// What is written for 65 records of the operator without content: the last line, and the digest of all.
-const LAST_OF_65: &str =
-    "0.65 ok 65 d6dbaa4ef6b92e2442084b4b04763cefc77a53b7b550058ece0c30aabf1bf37e 2 66 \
-    5b018e6c02c6e3980c32206bae1c7d115727f4aa2dd6d0f8f0f9055a257f6c48\n";
-
+// The digest of what is written for 65 records of the operator without content.
 const DIGEST_OF_65: &str = "b4586317b4683210ebfa43a2832de90b54d01ef89b6c1ceba1b7abebc39c07ff";
 
 // What is written for one of these records and a line that asks for the head.
@@ -75,6 +71,9 @@ const OTHER_CONTENT: &str =
 const OTHER_WHO: &str =
     "0.1 no 13 c31de51580a8656b63f753ec142454bafa09b766de1b25b0ac75c128005d40cb \
     8b42cfa353ff6282c741c9714c91f5a5dd70c10ce5cdc7d7e70664f95a53d7a9\n";
+
+// .. and where there is no journal of that number.
+const NO_JOURNAL: &str = "0.1 no 20 3\n";
 
 // Where the content and the who of journal 2 stand in that file.
 const CONTENT_AT: usize = 822;
@@ -114,13 +113,6 @@ fn record(
     })
 }
 
-/// The job of the operator's record without content.
-fn empty_record(alloc: Global, id: &Digest) -> Result<Job, NoMemory>
-    ensures { IfOk result (λ job. fits_job job ≡ true) }
-{
-    record(alloc, id, 0, &OPERATOR, Digest::ZERO, b"")
-}
-
 /// The job of a new member, number 2.
 fn third_member(alloc: Global, id: &Digest) -> Result<Job, NoMemory>
     ensures { IfOk result (λ job. fits_job job ≡ true) }
@@ -138,16 +130,27 @@ fn third_member(alloc: Global, id: &Digest) -> Result<Job, NoMemory>
     })
 }
 
-/// Two disks with a new ledger.
-fn new_pair(alloc: Global) -> Result<(MemDisk, MemDisk), Fail> {
-    let mut a = MemDisk::new(alloc, AMPLE, Vec::new(alloc))?;
-    let mut b = MemDisk::new(alloc, AMPLE, Vec::new(alloc))?;
+/// A disk with nothing on it.
+fn empty_disk(alloc: Global) -> Result<MemDisk, NoMemory> {
+    MemDisk::new(alloc, AMPLE, Vec::new(alloc))
+}
+
+/// Makes a ledger on these disks.
+fn make<D: Disk>(alloc: Global, a: &mut D, b: &mut D) -> Result<(), Fail> {
     let genesis = Genesis {
         name: Bytes::copy_of(alloc, b"demo")?,
         operator: OPERATOR,
         regulator: REGULATOR,
     };
-    init(alloc, &mut a, &mut b, &genesis, Limits::real())?;
+    init(alloc, a, b, &genesis, Limits::real())?;
+    Ok(())
+}
+
+/// Two disks with a new ledger.
+fn new_pair(alloc: Global) -> Result<(MemDisk, MemDisk), Fail> {
+    let mut a = empty_disk(alloc)?;
+    let mut b = empty_disk(alloc)?;
+    make(alloc, &mut a, &mut b)?;
     Ok((a, b))
 }
 
@@ -164,110 +167,181 @@ fn worked_file(alloc: Global) -> Result<Vec<u8>, Fail> {
     Ok(file)
 }
 
-/// Puts another byte at this place, where there is one.
-fn set_byte(bytes: &mut [u8], at: usize, to: u8) {
-    if at < bytes.len() {
-        bytes[at] = to;
-    }
+/// What a line asks for.
+#[derive(Clone, Copy)]
+enum Ask {
+    /// A record of the operator without content.
+    Empty,
+    /// Member 2.
+    Member,
+    /// The record abc of member 2 with the clue inv.
+    Abc,
+    Head,
+    Get(u64),
 }
 
-/// What is written for a line that asks for journal `n` of the ledger in this file.
-fn told(alloc: Global, file: &[u8], n: u64) -> Result<MemSink, Fail> {
-    let mut a = MemDisk::new(alloc, AMPLE, Vec::new(alloc))?;
-    let mut b = MemDisk::new(alloc, AMPLE, Vec::new(alloc))?;
-    a.write(0, file)?;
-    let mut sink = sink_of(alloc, AMPLE)?;
-    let mut committer = committer_on(alloc, &mut a, &mut b, &sink)?;
-    offer(&mut committer, &mut a, &mut b, &mut sink, 1, Job::Get { n })?;
-    committer.flush(&mut a, &mut b, &mut sink)?;
-    Ok(sink)
-}
-
-/// A committer of the ledger on these disks.
-fn committer_on<D: Disk, K: Sink>(
-    alloc: Global,
-    a: &mut D,
-    b: &mut D,
-    sink: &K,
-) -> Result<Committer, OpenErr>
-    ensures open { IfOk result (λ committer. committer.ended ≡ false) }
-    ensures fits { IfOk result (λ committer. Fits D.tells (world committer.kept
-        (pair (disk (D.state a.new) (D.told_length a.new) (D.faults a.new))
-        (disk (D.state b.new) (D.told_length b.new) (D.faults b.new)))
-        (K.state sink.now))) }
-    ensures room { IfOk result (λ committer. HasRoom committer.kept) }
+fn job_of(alloc: Global, id: &Digest, ask: Ask) -> Result<Job, NoMemory>
+    ensures { IfOk result (λ job. fits_job job ≡ true) }
 {
-    let _sink = sink;
-    match reopen(alloc, a, b, Limits::real()) {
-        Ok(opened) => Ok(Committer::new(alloc, opened)),
-        Err(e) => Err(e),
+    match ask {
+        Ask::Empty => record(alloc, id, 0, &OPERATOR, Digest::ZERO, b""),
+        Ask::Member => third_member(alloc, id),
+        Ask::Abc => record(alloc, id, 2, &THIRD, clue_digest(b"inv"), b"abc"),
+        Ask::Head => Ok(Job::Head),
+        Ask::Get(n) => Ok(Job::Get { n }),
     }
+}
+
+/// A committer with its disks and its sink, which meet what the next call asks for.
+#[derive(Drop)]
+struct Bench<D: Disk + Drop, K: Sink + Drop> {
+    committer: Committer,
+    a: D,
+    b: D,
+    sink: K,
+}
+
+impl<D: Disk + Drop, K: Sink + Drop> Model for Bench<D, K> {
+    ghost use Rattle.std.specs.Prelude.{◌≡◌, false};
+    ghost use Rattle.batch_committer.specs.World.{disk, pair, world, Fits, HasRoom};
+
+    ghost Value = { Unit {0} };
+
+    ghost view = { λ _. tt };
+
+    ghost invariant = { λ t. t.committer.ended ≡ false
+        → Fits D.tells (world t.committer.kept
+        (pair (disk (D.state t.a) (D.told_length t.a) (D.faults t.a))
+        (disk (D.state t.b) (D.told_length t.b) (D.faults t.b)))
+        (K.state t.sink)) × HasRoom t.committer.kept };
+}
+
+impl<D: Disk + Drop, K: Sink + Drop> Bench<D, K> {
+    /// Opens the ledger on these disks.
+    fn open(alloc: Global, mut a: D, mut b: D, sink: K) -> Result<Self, OpenErr> {
+        match reopen(alloc, &mut a, &mut b, Limits::real()) {
+            Ok(opened) => Ok(Bench {
+                committer: Committer::new(alloc, opened),
+                a,
+                b,
+                sink,
+            }),
+            Err(e) => Err(e),
+        }
+    }
+
+    fn id(&self) -> Digest {
+        self.committer.id()
+    }
+
+    fn is_settled(&self) -> bool {
+        self.committer.is_settled()
+    }
+
+    /// The size of the ledger where its last block ended.
+    fn size(&self) -> u64 {
+        self.committer.opened().book.head().size
+    }
+
+    /// Offers a job of lane 0.
+    fn offer(&mut self, index: u64, job: Job) -> Result<(), End>
+        requires { fits_job job ≡ true }
+    {
+        let item = Prepared {
+            lane: 0,
+            index,
+            job,
+        };
+        self.committer
+            .offer(&mut self.a, &mut self.b, &mut self.sink, item)
+    }
+
+    fn flush(&mut self) -> Result<(), End> {
+        self.committer
+            .flush(&mut self.a, &mut self.b, &mut self.sink)
+    }
+
+    fn into_parts(self) -> (D, D, K) {
+        (self.a, self.b, self.sink)
+    }
+
+    /// Offers so many records of the operator without content.
+    fn offer_records(&mut self, alloc: Global, count: u64) -> Result<(), End> {
+        let id = self.id();
+        for index in 1..=count {
+            let job = job_of(alloc, &id, Ask::Empty)?;
+            self.offer(index, job)?;
+        }
+        Ok(())
+    }
+
+    /// Offers the jobs of lines with these numbers.
+    fn offer_lines(&mut self, alloc: Global, lines: &[(u64, Ask)]) -> Result<(), End> {
+        let id = self.id();
+        for (index, ask) in lines {
+            let job = job_of(alloc, &id, *ask)?;
+            self.offer(*index, job)?;
+        }
+        Ok(())
+    }
+}
+
+/// What came of some records and a flush, and what stood before the flush: whether no journal waited, the size where the
+/// last block ended, and how many lines were written.
+#[derive(Clone, Copy, Debug, PartialEq, Eq)]
+struct Run {
+    offered: Result<(), End>,
+    settled: bool,
+    size: u64,
+    lines: usize,
+    flushed: Result<(), End>,
+}
+
+/// Opens the ledger on these disks, offers so many records of the operator without content, and flushes.
+fn run_records<D: Disk + Drop>(
+    alloc: Global,
+    a: D,
+    b: D,
+    room: usize,
+    count: u64,
+) -> Result<(Run, MemSink, D, D), Fail> {
+    let mut bench = Bench::open(alloc, a, b, sink_of(alloc, room)?)?;
+    let offered = bench.offer_records(alloc, count);
+    let settled = bench.is_settled();
+    let size = bench.size();
+    let lines = lines_in(bench.sink.written_bytes());
+    let flushed = bench.flush();
+    let (a, b, sink) = bench.into_parts();
+    let run = Run {
+        offered,
+        settled,
+        size,
+        lines,
+        flushed,
+    };
+    Ok((run, sink, a, b))
+}
+
+/// What is written for these lines and a flush, and the first disk then.
+fn run_lines(
+    alloc: Global,
+    (a, b): (MemDisk, MemDisk),
+    lines: &[(u64, Ask)],
+) -> Result<(MemSink, MemDisk), Fail> {
+    let mut bench = Bench::open(alloc, a, b, sink_of(alloc, AMPLE)?)?;
+    bench.offer_lines(alloc, lines)?;
+    bench.flush()?;
+    let (a, _, sink) = bench.into_parts();
+    Ok((sink, a))
 }
 
 /// The size of the ledger on these disks.
-fn size_on<D: Disk>(alloc: Global, a: &mut D, b: &mut D) -> Result<u64, OpenErr> {
-    match reopen(alloc, a, b, Limits::real()) {
+fn size_on<D: Disk + Drop>(alloc: Global, a: D, b: D) -> Result<u64, OpenErr> {
+    let (mut a, mut b) = (a, b);
+    match reopen(alloc, &mut a, &mut b, Limits::real()) {
         Ok(opened) => Ok(opened.book.head().size),
         Err(e) => Err(e),
     }
-}
-
-/// Offers a job of lane 0.
-fn offer<D: Disk, K: Sink>(
-    committer: &mut Committer,
-    a: &mut D,
-    b: &mut D,
-    sink: &mut K,
-    index: u64,
-    job: Job,
-) -> Result<(), End>
-    requires job { fits_job job ≡ true }
-    requires fits { committer.old.ended ≡ false → Fits D.tells (world committer.old.kept
-        (pair (disk (D.state a.old) (D.told_length a.old) (D.faults a.old))
-        (disk (D.state b.old) (D.told_length b.old) (D.faults b.old)))
-        (K.state sink.old)) }
-    requires room { committer.old.ended ≡ false → HasRoom committer.old.kept }
-    ensures fits { committer.new.ended ≡ false → Fits D.tells (world committer.new.kept
-        (pair (disk (D.state a.new) (D.told_length a.new) (D.faults a.new))
-        (disk (D.state b.new) (D.told_length b.new) (D.faults b.new)))
-        (K.state sink.new)) }
-    ensures room { committer.new.ended ≡ false → HasRoom committer.new.kept }
-{
-    let item = Prepared {
-        lane: 0,
-        index,
-        job,
-    };
-    committer.offer(a, b, sink, item)
-}
-
-/// Offers so many records of the operator without content.
-fn offer_records<D: Disk, K: Sink>(
-    alloc: Global,
-    committer: &mut Committer,
-    a: &mut D,
-    b: &mut D,
-    sink: &mut K,
-    count: u64,
-) -> Result<(), End>
-    requires count { count ≤ 1000 }
-    requires fits { committer.old.ended ≡ false → Fits D.tells (world committer.old.kept
-        (pair (disk (D.state a.old) (D.told_length a.old) (D.faults a.old))
-        (disk (D.state b.old) (D.told_length b.old) (D.faults b.old)))
-        (K.state sink.old)) }
-    requires room { committer.old.ended ≡ false → HasRoom committer.old.kept }
-    ensures fits { committer.new.ended ≡ false → Fits D.tells (world committer.new.kept
-        (pair (disk (D.state a.new) (D.told_length a.new) (D.faults a.new))
-        (disk (D.state b.new) (D.told_length b.new) (D.faults b.new)))
-        (K.state sink.new)) }
-    ensures room { committer.new.ended ≡ false → HasRoom committer.new.kept }
-{
-    let id = committer.id();
-    for number in 0..count {
-        let job = empty_record(alloc, &id)?;
-        offer(committer, a, b, sink, number + 1, job)?;
-    }
-    Ok(())
 }
 
 /// How many lines these bytes have.
@@ -285,164 +359,62 @@ fn sink_of(alloc: Global, room: usize) -> Result<MemSink, NoMemory> {
     MemSink::new(alloc, room, Vec::new(alloc))
 }
 
-/// What came of some records and a flush.
-#[derive(Clone, Copy, Debug, PartialEq, Eq)]
-struct Run {
-    offered: Result<(), End>,
-    /// Whether no journal waited before the flush, and how many lines were written then.
-    settled: bool,
-    lines: usize,
-    flushed: Result<(), End>,
+/// Two disks of which the first has the worked file, with these first bytes of the content and the who of journal 2.
+fn pair_with(alloc: Global, content: u8, who: u8) -> Result<(MemDisk, MemDisk), Fail> {
+    let mut file = worked_file(alloc)?;
+    set_byte(file.as_mut_slice(), CONTENT_AT, content);
+    set_byte(file.as_mut_slice(), WHO_AT, who);
+    let mut a = empty_disk(alloc)?;
+    a.write(0, file.as_slice())?;
+    Ok((a, empty_disk(alloc)?))
 }
 
-/// Opens the ledger on these disks, offers so many records of the operator without content, and flushes.
-fn run_records<D: Disk>(
-    alloc: Global,
-    a: &mut D,
-    b: &mut D,
-    sink: &mut MemSink,
-    count: u64,
-) -> Result<Run, OpenErr>
-    requires { count ≤ 1000 }
-{
-    let mut committer = match committer_on(alloc, a, b, sink) {
-        Ok(committer) => committer,
-        Err(e) => return Err(e),
-    };
-    let offered = offer_records(alloc, &mut committer, a, b, sink, count);
-    let settled = committer.is_settled();
-    let lines = lines_in(sink.written_bytes());
-    let flushed = committer.flush(a, b, sink);
-    Ok(Run {
-        offered,
-        settled,
-        lines,
-        flushed,
-    })
-}
-
-/// Offers one such record, and then asks for the head.
-fn run_head<D: Disk, K: Sink>(
-    alloc: Global,
-    committer: &mut Committer,
-    a: &mut D,
-    b: &mut D,
-    sink: &mut K,
-) -> Result<(), End>
-    requires fits { committer.old.ended ≡ false → Fits D.tells (world committer.old.kept
-        (pair (disk (D.state a.old) (D.told_length a.old) (D.faults a.old))
-        (disk (D.state b.old) (D.told_length b.old) (D.faults b.old)))
-        (K.state sink.old)) }
-    requires room { committer.old.ended ≡ false → HasRoom committer.old.kept }
-{
-    offer_records(alloc, committer, a, b, sink, 1)?;
-    offer(committer, a, b, sink, 2, Job::Head)
-}
-
-/// Offers member 2 and its record, and flushes.
-fn run_third<D: Disk, K: Sink>(
-    alloc: Global,
-    committer: &mut Committer,
-    a: &mut D,
-    b: &mut D,
-    sink: &mut K,
-) -> Result<(), End>
-    requires fits { committer.old.ended ≡ false → Fits D.tells (world committer.old.kept
-        (pair (disk (D.state a.old) (D.told_length a.old) (D.faults a.old))
-        (disk (D.state b.old) (D.told_length b.old) (D.faults b.old)))
-        (K.state sink.old)) }
-    requires room { committer.old.ended ≡ false → HasRoom committer.old.kept }
-{
-    let id = committer.id();
-    let member = third_member(alloc, &id)?;
-    let record = record(alloc, &id, 2, &THIRD, clue_digest(b"inv"), b"abc")?;
-    offer(committer, a, b, sink, 1, member)?;
-    offer(committer, a, b, sink, 2, record)?;
-    committer.flush(a, b, sink)
-}
-
-/// Offers member 2 and its record, and then asks for the record.
-fn run_get<D: Disk, K: Sink>(
-    alloc: Global,
-    committer: &mut Committer,
-    a: &mut D,
-    b: &mut D,
-    sink: &mut K,
-) -> Result<(), End>
-    requires fits { committer.old.ended ≡ false → Fits D.tells (world committer.old.kept
-        (pair (disk (D.state a.old) (D.told_length a.old) (D.faults a.old))
-        (disk (D.state b.old) (D.told_length b.old) (D.faults b.old)))
-        (K.state sink.old)) }
-    requires room { committer.old.ended ≡ false → HasRoom committer.old.kept }
-{
-    let id = committer.id();
-    let member = third_member(alloc, &id)?;
-    let record = record(alloc, &id, 2, &THIRD, clue_digest(b"inv"), b"abc")?;
-    offer(committer, a, b, sink, 1, member)?;
-    offer(committer, a, b, sink, 2, record)?;
-    offer(committer, a, b, sink, 1, Job::Get { n: 2 })
+/// Puts another byte at this place, where there is one.
+fn set_byte(bytes: &mut [u8], at: usize, to: u8) {
+    if let Some(place) = bytes.get_mut(at) {
+        *place = to;
+    }
 }
 
 #[test]
 fn blocks_end_where_they_are_full_and_by_a_flush(rt: HostRuntime) -> Result<(), Fail> {
     let alloc = rt.alloc();
-    for (count, settled, lines) in [(63, false, 0), (64, true, 64), (65, false, 64)] {
-        let (mut a, mut b) = new_pair(alloc)?;
-        let mut sink = sink_of(alloc, AMPLE)?;
-        let run = run_records(alloc, &mut a, &mut b, &mut sink, count)?;
+    let rows = [(63, false, 1, 0), (64, true, 65, 64), (65, false, 65, 64)];
+    for (count, settled, size, lines) in rows {
+        let (a, b) = new_pair(alloc)?;
+        let (run, sink, a, b) = run_records(alloc, a, b, AMPLE, count)?;
         let want = Run {
             offered: Ok(()),
             settled,
+            size,
             lines,
             flushed: Ok(()),
         };
-        assert_eq!(rt; run, want);
         let text = sink.written_bytes();
-        assert_eq!(rt; lines_in(text) as u64, count);
-        assert_eq!(rt; size_on(alloc, &mut a, &mut b), Ok(count + 1));
+        assert_eq!(rt; (run, size_on(alloc, a, b)?), (want, count + 1));
         if count == 65 {
-            assert!(rt; text.ends_with(LAST_OF_65.as_bytes()));
             assert_eq!(rt; Sha256::digest(text), <[u8; 32]>::from_hex(DIGEST_OF_65)?);
         }
     }
     Ok(())
 }
 
-#[test]
-fn a_block_has_the_worked_bytes(rt: HostRuntime) -> Result<(), Fail> {
-    let alloc = rt.alloc();
-    let want = worked_file(alloc)?;
-    let (mut a, mut b) = new_pair(alloc)?;
-    let mut sink = sink_of(alloc, AMPLE)?;
-    let mut committer = committer_on(alloc, &mut a, &mut b, &sink)?;
-    let done = run_third(alloc, &mut committer, &mut a, &mut b, &mut sink);
-    assert_eq!(rt; done, Ok(()));
-    assert_eq!(rt; a.bytes()?.as_slice(), want.as_slice());
-    assert_eq!(rt; b.len(), Ok(0));
-    Ok(())
-}
-
-#[test]
-fn a_job_that_asks_ends_the_block_before_it(rt: HostRuntime) -> Result<(), Fail> {
-    let alloc = rt.alloc();
-    let (mut a, mut b) = new_pair(alloc)?;
-    let mut sink = sink_of(alloc, AMPLE)?;
-    let mut committer = committer_on(alloc, &mut a, &mut b, &sink)?;
-    let done = run_head(alloc, &mut committer, &mut a, &mut b, &mut sink);
-    assert_eq!(rt; done, Ok(()));
-    assert_eq!(rt; sink.written_bytes(), RECORD_AND_HEAD.as_bytes());
-    Ok(())
-}
-
 /// What came of a run of 64 records whose first disk stops after so many calls, and the disks that it leaves.
-fn stopped(alloc: Global, stop: u64) -> Result<(Run, usize, MemDisk, MemDisk), Fail> {
+fn run_until(alloc: Global, stop: u64) -> Result<(Run, MemSink, MemDisk, MemDisk), Fail> {
     let (a, b) = new_pair(alloc)?;
-    let mut a = FuseDisk::new(a, stop);
-    let mut b = FuseDisk::new(b, 9);
-    let mut sink = sink_of(alloc, AMPLE)?;
-    let run = run_records(alloc, &mut a, &mut b, &mut sink, 64)?;
-    let lines = lines_in(sink.written_bytes());
-    Ok((run, lines, a.into_inner(), b.into_inner()))
+    let (a, b) = (FuseDisk::new(a, stop), FuseDisk::new(b, 9));
+    let (run, sink, a, b) = run_records(alloc, a, b, AMPLE, 64)?;
+    Ok((run, sink, a.into_inner(), b.into_inner()))
+}
+
+/// The sizes of the ledger on what these disks leave: all that was written, nothing of it, and any bytes in its place.
+fn sizes_left(alloc: Global, a: &MemDisk, b: &MemDisk) -> Result<[u64; 3], Fail> {
+    let mut sizes = [0; 3];
+    let picks = [Pick::AllWritten, Pick::NoneWritten, Pick::Torn(1)];
+    for (size, pick) in sizes.iter_mut().zip(picks) {
+        *size = size_on(alloc, a.crash(pick)?, b.crash(pick)?)?;
+    }
+    Ok(sizes)
 }
 
 #[test]
@@ -450,21 +422,16 @@ fn every_written_receipt_is_kept_wherever_a_disk_stops(rt: HostRuntime) -> Resul
     let alloc = rt.alloc();
     // Opening takes two of the calls, and a commit five.
     for stop in 2..9 {
-        let whole = stop >= 7;
-        let (run, lines, a, b) = stopped(alloc, stop)?;
-        let want = if whole {
-            (Ok(()), Ok(()), 64)
-        } else {
-            (Err(End::DiskFault), Err(End::Closed), 0)
+        let (run, sink, a, b) = run_until(alloc, stop)?;
+        let lines = lines_in(sink.written_bytes());
+        let found = (run.offered, run.flushed, lines, sizes_left(alloc, &a, &b)?);
+        let (fault, closed) = (Err(End::DiskFault), Err(End::Closed));
+        let wanted = match stop {
+            2..6 => (fault, closed, 0, [1; 3]),
+            6 => (fault, closed, 0, [65, 1, 1]),
+            _ => (Ok(()), Ok(()), 64, [65; 3]),
         };
-        assert_eq!(rt; (run.offered, run.flushed, lines), want, "at {stop}");
-        for pick in [Pick::AllWritten, Pick::NoneWritten, Pick::Torn(1)] {
-            let mut left_a = a.crash(pick)?;
-            let mut left_b = b.crash(pick)?;
-            let opened = stop == 6 && pick == Pick::AllWritten;
-            let size = size_on(alloc, &mut left_a, &mut left_b);
-            assert_eq!(rt; size, Ok(if whole || opened { 65 } else { 1 }), "at {stop}");
-        }
+        assert_eq!(rt; found, wanted, "at {stop}");
     }
     Ok(())
 }
@@ -472,56 +439,51 @@ fn every_written_receipt_is_kept_wherever_a_disk_stops(rt: HostRuntime) -> Resul
 #[test]
 fn a_fault_of_the_sink_ends_the_run(rt: HostRuntime) -> Result<(), Fail> {
     let alloc = rt.alloc();
-    let (mut a, mut b) = new_pair(alloc)?;
-    let mut sink = sink_of(alloc, 100)?;
-    let run = run_records(alloc, &mut a, &mut b, &mut sink, 64)?;
-    assert_eq!(rt; run.offered, Err(End::WriteFault));
-    assert_eq!(rt; run.flushed, Err(End::Closed));
-    assert_eq!(rt; sink.written_bytes().len(), 100);
-    assert_eq!(rt; size_on(alloc, &mut a, &mut b), Ok(65));
+    let (a, b) = new_pair(alloc)?;
+    let (run, sink, a, b) = run_records(alloc, a, b, 100, 64)?;
+    let written = sink.written_bytes().len();
+    let found = (run.offered, run.flushed, written, size_on(alloc, a, b)?);
+    assert_eq!(rt; found, (Err(End::WriteFault), Err(End::Closed), 100, 65));
     Ok(())
 }
 
 #[test]
-fn a_journal_is_read_back(rt: HostRuntime) -> Result<(), Fail> {
+fn a_block_has_the_worked_bytes_and_is_read_back(rt: HostRuntime) -> Result<(), Fail> {
     let alloc = rt.alloc();
-    let file = worked_file(alloc)?;
-    for (n, wanted) in [
-        (2, WHOLE_2),
-        (3, "0.1 no 20 3\n"),
-        (u64::MAX, "0.1 no 20 3\n"),
-    ] {
-        let sink = told(alloc, file.as_slice(), n)?;
-        assert_eq!(rt; sink.written_bytes(), wanted.as_bytes(), "at {n}");
-    }
-    Ok(())
-}
-
-#[test]
-fn changed_bytes_of_a_journal_are_found(rt: HostRuntime) -> Result<(), Fail> {
-    let alloc = rt.alloc();
-    let mut file = worked_file(alloc)?;
-    for (at, to, wanted) in [
-        (WHO_AT, 1, OTHER_WHO),
-        (CONTENT_AT, 96, OTHER_CONTENT),
-        (WHO_AT, 0, OTHER_CONTENT),
-    ] {
-        set_byte(file.as_mut_slice(), at, to);
-        let sink = told(alloc, file.as_slice(), 2)?;
-        assert_eq!(rt; sink.written_bytes(), wanted.as_bytes(), "at {at}");
-    }
-    Ok(())
-}
-
-#[test]
-fn a_journal_of_the_open_block_is_read_once_that_has_ended(rt: HostRuntime) -> Result<(), Fail> {
-    let alloc = rt.alloc();
-    let (mut a, mut b) = new_pair(alloc)?;
-    let mut sink = sink_of(alloc, AMPLE)?;
-    let mut committer = committer_on(alloc, &mut a, &mut b, &sink)?;
-    let done = run_get(alloc, &mut committer, &mut a, &mut b, &mut sink);
-    assert_eq!(rt; done, Ok(()));
-    assert_eq!(rt; lines_in(sink.written_bytes()), 3);
+    let lines = [(1, Ask::Member), (2, Ask::Abc), (1, Ask::Get(2))];
+    let (sink, a) = run_lines(alloc, new_pair(alloc)?, &lines)?;
+    assert_eq!(rt; a.bytes()?.as_slice(), worked_file(alloc)?.as_slice());
     assert!(rt; sink.written_bytes().ends_with(WHOLE_2.as_bytes()));
+    Ok(())
+}
+
+#[test]
+fn a_job_that_asks_ends_the_block_before_it(rt: HostRuntime) -> Result<(), Fail> {
+    let alloc = rt.alloc();
+    let lines = [(1, Ask::Empty), (2, Ask::Head)];
+    let (sink, _) = run_lines(alloc, new_pair(alloc)?, &lines)?;
+    assert_eq!(rt; sink.written_bytes(), RECORD_AND_HEAD.as_bytes());
+    Ok(())
+}
+
+#[test]
+fn a_journal_is_read_back_and_changed_bytes_are_found(rt: HostRuntime) -> Result<(), Fail> {
+    let alloc = rt.alloc();
+    for (content, who, n, wanted) in [
+        (b'a', 0, 2, WHOLE_2),
+        (b'a', 0, 3, NO_JOURNAL),
+        (b'a', 0, u64::MAX, NO_JOURNAL),
+        (b'a', 1, 2, OTHER_WHO),
+        (96, 0, 2, OTHER_CONTENT),
+        (96, 1, 2, OTHER_CONTENT),
+    ] {
+        let pair = pair_with(alloc, content, who)?;
+        let (sink, _) = run_lines(alloc, pair, &[(1, Ask::Get(n))])?;
+        assert_eq!(rt;
+            sink.written_bytes(),
+            wanted.as_bytes(),
+            "{n}: {content}, {who}"
+        );
+    }
     Ok(())
 }

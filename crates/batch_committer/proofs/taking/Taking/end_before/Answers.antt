@@ -1,5 +1,4 @@
-use Rattle.std.proofs.Common.{sym}
-use Rattle.batch_committer.proofs.Offering.{before_goes, before_ended, before_kept, if_err_then}
+use Rattle.batch_committer.proofs.Offering.{before_ended, before_kept, if_err_then}
 use Rattle.batch_committer.proofs.taking.Taking.end_before.Goals as goal
 
 pub returns-then-closes_before-clause-err : goal.returns-then-closes_before-clause-err

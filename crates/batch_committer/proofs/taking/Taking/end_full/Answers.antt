@@ -1,6 +1,5 @@
-use Rattle.std.proofs.Common.{◌≡◌, length, sym, subst, arith}
+use Rattle.std.proofs.Common.{length, sym, subst, arith}
 use Rattle.ledger_book.specs.Books.{Serves}
-use Rattle.ledger_model.specs.History.{History}
 use Rattle.batch_committer.specs.World.{Kept}
 use Rattle.batch_committer.proofs.Judging.{on_ok_then}
 use Rattle.batch_committer.proofs.Offering.{due_count, due_goes, due_ended, room_goes, if_err_then}

@@ -1,10 +1,8 @@
-use Rattle.std.specs.Prelude.{option_copied, slice_get}
-use Rattle.std.proofs.Common.{◌≡◌, ℕ, ◌+◌, ◌≤◌, ◌++◌, ◌∷◌, [], length, Some, sym, ap, subst, ◌∙◌, arith}
+use Rattle.std.specs.Prelude.{option_copied}
+use Rattle.std.proofs.Common.{◌≡◌, ◌+◌, ◌≤◌, ◌++◌, ◌∷◌, [], length, sym, ap, subst, ◌∙◌, arith}
 use Rattle.block_file.specs.Blocks.{record_at}
 use Rattle.block_file.specs.Place.{place_of}
-use Rattle.journal_record.specs.Entry.{Entry}
 use Rattle.ledger_book.specs.Books.{Serves}
-use Rattle.ledger_model.specs.History.{History}
 use Rattle.batch_committer.specs.contracts.taking.Taking.{the_view}
 use Rattle.batch_committer.specs.World.{Kept}
 use Rattle.batch_committer.proofs.Judging.{header_is, gathered_by, gathered_at, on_ok_both}
@@ -16,8 +14,8 @@ returns-clause-gathered c =
     (λ body widths h journal serves there floor content_is who_is.
     let s = subst (λ (k : Kept). Serves k.book h) (sym c.self.view_is) serves in
     let low = subst (λ (k : Kept). k.book.floor ≤ c.args.jsn) (sym c.self.view_is) floor in
-    let is = header_is c.self.inside.book h c.args.jsn journal c.in-Some.header.now low there (ap option_copied (sym c.in-Some.is) ∙ c.header.ensures h s) in
-    let at : c.tail.result + 45 + c.len.result ≡ place_of c.self.inside.twin.file + 45 + length c.self.inside.block.body =
+    let is = header_is c.self.inside.opened.book h c.args.jsn journal c.in-Some.header.now low there (ap option_copied (sym c.in-Some.is) ∙ c.header.ensures h s) in
+    let at : c.tail.result + 45 + c.len.result ≡ place_of c.self.inside.opened.twin.file + 45 + length c.self.inside.block.body =
     omega (arith, c.tail.ensures, ap place_of c.file.ensures.value, c.len.ensures.len) in
     gathered_at (the_view c.self.inside) _ _ journal c.self.view_is
     (gathered_by (the_view c.self.inside) _ c.in-Some.header.now c.args.content.now c.args.by.now c.place_of_record.result journal is content_is who_is widths body

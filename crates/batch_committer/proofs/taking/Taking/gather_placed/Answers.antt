@@ -1,4 +1,4 @@
-use Rattle.std.proofs.Common.{◌≡◌, ◌∷◌, [], sym, ap, subst, ◌∙◌}
+use Rattle.std.proofs.Common.{◌∷◌, [], sym, ap, subst, ◌∙◌}
 use Rattle.journal_record.specs.Approval.{who_of}
 use Rattle.batch_committer.specs.Steps.{HasParts}
 use Rattle.batch_committer.proofs.Judging.{on_ok_then}

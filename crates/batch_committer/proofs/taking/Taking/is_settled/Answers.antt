@@ -1,5 +1,4 @@
-use Rattle.std.proofs.Common.{◌≡◌, length, sym, subst}
-use Rattle.ledger_book.specs.Books.{Serves}
+use Rattle.std.proofs.Common.{sym, subst}
 use Rattle.batch_committer.specs.World.{Kept, Keeps}
 use Rattle.batch_committer.proofs.Judging.{none_by}
 use Rattle.batch_committer.proofs.taking.Taking.is_settled.Goals as goal

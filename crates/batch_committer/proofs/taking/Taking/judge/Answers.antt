@@ -13,7 +13,7 @@ use Rattle.batch_committer.proofs.taking.Taking.judge.Goals as goal
 pub gather_placed-requires-clause-has : goal.gather_placed-requires-clause-has
 gather_placed-requires-clause-has g c =
     let s = subst (λ (k : Kept). ServesSome k.book) (sym c.self.view_is) c.requires.some in
-    has_placed c.self.inside.book c.apply.new.self s.0 c.args.job.now _ c.in-Placed.jsn c.in-Placed.leaf s.1 (c.in_ok-refusal.ensures.ok s.0 s.1) c.apply.ensures.same c.in-Placed.is
+    has_placed c.self.inside.opened.book c.apply.new.self s.0 c.args.job.now _ c.in-Placed.jsn c.in-Placed.leaf s.1 (c.in_ok-refusal.ensures.ok s.0 s.1) c.apply.ensures.same c.in-Placed.is
 
 pub returns-in-Refused-clause-judged : goal.returns-in-Refused-clause-judged
 returns-in-Refused-clause-judged g c = λ h x sink holds none.
@@ -26,8 +26,8 @@ returns-in_ok-gather_placed-in-Placed-clause-judged g c = λ h x sink holds none
     let p = subst (λ (k : Kept). Keeps k h) (sym c.self.view_is) holds.keeps in
     let e = c.in_ok-gather_placed-in-Placed.ensures in
     judged_placed _ _ c.gather_placed.new.self h (step_of x) c.args.job.now _ c.in-Placed.jsn c.in-Placed.leaf _ p c.requires.fits
-    (subst (λ b. Applies c.self.inside.book.limits None h c.args.job.now c.in_ok-refusal.field-0 b) (sym e.book) (c.in_ok-refusal.ensures.ok h p.serves))
-    (subst (IsSame c.self.inside.book) (sym e.book) c.apply.ensures.same) c.in-Placed.is
+    (subst (λ b. Applies c.self.inside.opened.book.limits None h c.args.job.now c.in_ok-refusal.field-0 b) (sym e.book) (c.in_ok-refusal.ensures.ok h p.serves))
+    (subst (IsSame c.self.inside.opened.book) (sym e.book) c.apply.ensures.same) c.in-Placed.is
     (λ f journal content by parts serves there floor. e.gathered f journal content by parts (subst (λ b. Serves b f) e.book serves) there (subst (λ (b : books.Kept). b.floor ≤ c.in-Placed.jsn) e.book floor))
     refl refl refl e.rest.place (sym (ap (answer_for h (step_of x)) c.in-Placed.is))
 
