@@ -1,14 +1,14 @@
 -- Lemmas on a run whose disks were opened or made first.
-use Rattle.std.proofs.Common.{◌≡◌, ℕ, ◌≤◌, ◌⊎◌, inl, inr, Bool, ◌<◌, List, [], ◌++◌, length, take, drop, refl, ap, sym, subst, ◌∙◌, arith}
-use Rattle.std.specs.Prelude.{⊤, IsTrue, IfSome}
+use Rattle.std.proofs.Common.{◌≡◌, ℕ, ◌⊎◌, inl, inr, ◌<◌, List, [], length, take, drop, refl, sym, subst, ◌∙◌, arith}
+use Rattle.std.specs.Prelude.{IfSome}
 use Rattle.std.proofs.KnownBytes.{Consumes-nil, Appends-nil}
 use Rattle.std.proofs.lemmas.List.{take-append-drop, length-take-le}
-use Rattle.batch_committer.specs.World.{DiskState, Pair}
+use Rattle.batch_committer.specs.World.{Pair}
 use Rattle.batch_committer.proofs.WayLaws.{begins_not}
 use Rattle.block_file.specs.File.{IsSettled}
 use Rattle.ledger_bytes.specs.Begins.{Begins}
 use Rattle.ledger_bytes.specs.Causes.{Rose}
-use Rattle.ledger_disk.specs.Disk.{State, MayLeave, settled_state}
+use Rattle.ledger_disk.specs.Disk.{State, MayLeave}
 use Rattle.ledger_disk.proofs.Guarding.{settled_image}
 use Rattle.ledger_io.specs.Lines.{lines_of}
 use Rattle.ledger_io.specs.Outside.{SourceState, SinkState}
@@ -22,7 +22,7 @@ use Rattle.ledger_model.proofs.WaitLaws.{begins_closed}
 use Rattle.ledger_open.specs.Standing.{PairFor}
 use Rattle.ledger_open.specs.declared.failure.OpenErr.{OpenErr}
 use Rattle.ledger_cli.specs.Endings.{refusal_of}
-use Rattle.ledger_cli.specs.Runs.{Handed, handed, AreQuiet, StandFor, Faults, NoDiskFailed, DiskFailed, FaultsBy, StopsOn, Serves}
+use Rattle.ledger_cli.specs.Runs.{Handed, handed, AreQuiet, StandFor, Faults, NoDiskFailed, FaultsBy, StopsOn, RunsOn}
 use Rattle.ledger_cli.specs.Session.{IsOfLines}
 use Rattle.ledger_cli.specs.declared.ending.LedgerEnding.{LedgerEnding}
 use Rattle.ledger_cli.specs.declared.ending.LedgerEnding.TheVariants.{Run, DiskFault, Damaged, Empty, Exists, NewerFormat}
@@ -30,7 +30,7 @@ use Rattle.ledger_cli.proofs.LineLaws.{steps_for, text_for, in_order}
 
 -- ---- what is told of a run is told of what it was handed before the disks were opened
 
-pub serves_from : (scheme : Scheme) (h : History) (ending : LedgerEnding) (source : SourceState) (sink : SinkState) (d e : Pair) (now : Handed) → Serves scheme h ending (handed source sink d) now → Serves scheme h ending (handed source sink e) now
+pub serves_from : (scheme : Scheme) (h : History) (ending : LedgerEnding) (source : SourceState) (sink : SinkState) (d e : Pair) (now : Handed) → RunsOn scheme h ending (handed source sink d) now → RunsOn scheme h ending (handed source sink e) now
 serves_from scheme h (Run run.Done) source sink d e now s = record { read = s.read; replies = s.replies; consumed = s.consumed; appended = s.appended; replied = s.replied }
 serves_from scheme h (Run run.Usage) source sink d e now s = absurd s.replied
 serves_from scheme h (Run run.ReadFault) source sink d e now s = record { read = s.read; replies = s.replies; consumed = s.consumed; appended = s.appended; replied = s.replied }
@@ -88,10 +88,10 @@ module _ (scheme : Scheme) (h : History) (source : SourceState) (sink : SinkStat
   some_first : SomeOfScript (StopsOn scheme h [] now) source source [] (Begins [])
   some_first = inl (refl, λ more. (text_for scheme h (lines_of more), stops_first (lines_of more), record { rest = text_for scheme h (lines_of more); is = refl }))
 
-  pub serves_none : Serves scheme h (Run run.NoMemory) (handed source sink old) (handed source sink now)
+  pub serves_none : RunsOn scheme h (Run run.NoMemory) (handed source sink old) (handed source sink now)
   serves_none = record { read = []; replies = []; consumed = Consumes-nil source.left; appended = Appends-nil sink.held; replied = (inl refl, some_first) }
 
-  pub serves_fault : Serves scheme h DiskFault (handed source sink old) (handed source sink now)
+  pub serves_fault : RunsOn scheme h DiskFault (handed source sink old) (handed source sink now)
   serves_fault = record { read = []; replies = []; consumed = Consumes-nil source.left; appended = Appends-nil sink.held; replied = (inl refl, some_first) }
 
 -- where nothing is pending each image is what is read

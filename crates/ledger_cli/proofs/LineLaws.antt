@@ -1,11 +1,11 @@
 -- Lemmas on the lines that a session takes: the history and what is due after them.
-use Rattle.std.proofs.Common.{◌≡◌, ℕ, ◌+◌, ◌^◌, ◌<◌, inl, inr, Bool, true, false, cond, List, [], ◌∷◌, ◌++◌, length, map, refl, ap, sym, subst, ◌∙◌, arith, append_assoc, append-nil, length-append}
+use Rattle.std.proofs.Common.{◌≡◌, ℕ, ◌^◌, ◌<◌, inl, inr, List, [], ◌∷◌, ◌++◌, length, map, refl, ap, sym, subst, ◌∙◌, append_assoc, append-nil}
 use Rattle.std.proofs.lemmas.List.{map-append}
-use Rattle.ledger_model.specs.Dues.{due_for, due_of, dues, all_dues, AllCounted, EachCounted}
+use Rattle.ledger_model.specs.Dues.{due_for, dues, all_dues, AllCounted, EachCounted}
 use Rattle.ledger_model.specs.Growing.{Grows}
-use Rattle.ledger_model.specs.History.{History, close, id}
+use Rattle.ledger_model.specs.History.{History, close}
 use Rattle.ledger_model.specs.InOrder.{step_of, steps_of}
-use Rattle.ledger_model.specs.Rules.{job_of, after_job, after_step, after_steps, after_window, after}
+use Rattle.ledger_model.specs.Rules.{after_step, after_steps, after_window, after}
 use Rattle.ledger_model.specs.Scheme.{Scheme}
 use Rattle.ledger_model.specs.Step.{Step}
 use Rattle.ledger_model.specs.Texts.{text}

@@ -1,13 +1,12 @@
 -- Lemmas on the commands that open or make a ledger.
-use Rattle.std.proofs.Common.{◌≡◌, ℕ, ◌≤◌, ◌+◌, ◌⊎◌, inl, inr, Bool, true, List, [], ◌∷◌, take, refl, ap, sym, subst, ◌∙◌, arith}
-use Rattle.std.specs.Prelude.{⊤, IsTrue, IfSome, IsSomeAnd, codes, decimal}
+use Rattle.std.proofs.Common.{◌≡◌, ℕ, ◌⊎◌, inl, inr, Bool, true, List, [], ◌∷◌, take, refl, ap, sym, subst, ◌∙◌, arith}
+use Rattle.std.specs.Prelude.{IsTrue, codes, decimal}
 use Rattle.std.specs.Io.KnownBytes.{Appends}
 use Rattle.std.proofs.KnownBytes.{Appends-nil}
 use Rattle.batch_committer.specs.Opened.{kept_from, IsOpened}
-use Rattle.batch_committer.specs.World.{DiskState, Pair, Kept, World, world, Fits, HasRoom, Holds}
+use Rattle.batch_committer.specs.World.{Pair, Kept, world, Fits, HasRoom, Holds}
 use Rattle.batch_committer.proofs.Opening.{opened_held, opened_fits, opened_room, founded_held, founded_fits}
 use Rattle.journal_record.specs.Entry.{Entry}
-use Rattle.ledger_bytes.specs.Causes.{Rose}
 use Rattle.block_file.specs.File.{IsSettled}
 use Rattle.block_file.specs.Head.{IsShut, IsOpen}
 use Rattle.ledger_disk.specs.Disk.{State, MayLeave}
@@ -26,18 +25,18 @@ use Rattle.ledger_open.specs.declared.failure.OpenErr.{OpenErr}
 use Rattle.ledger_open.specs.declared.failure.OpenErr.TheVariants as open_err
 use Rattle.ledger_open.proofs.OpenLaws.{pair_opens, reopened_only}
 use Rattle.twin_file.specs.Images.{AreShut}
-use Rattle.ledger_cli.specs.Endings.{ending_of_opening, refusal_of, line_of}
-use Rattle.ledger_cli.specs.Runs.{Handed, handed, AreQuiet, StandFor, ReadAsBefore, FaultsBy, NoDiskFailed, IsRefused, IsUnstarted, IsOutsideEnding, RunsAgain, RunsNew, Makes, IsMaking, IsMade, ToldBy, ledger_line}
+use Rattle.ledger_cli.specs.Endings.{ending_of_opening, line_of}
+use Rattle.ledger_cli.specs.Runs.{Handed, handed, FaultsBy, IsRefused, RunsAgain, RunsNew, Makes, IsMaking, ledger_line}
 use Rattle.ledger_cli.specs.Session.{IsOfLines, Runs}
 use Rattle.ledger_cli.specs.declared.ending.LedgerEnding.{LedgerEnding}
-use Rattle.ledger_cli.specs.declared.ending.LedgerEnding.TheVariants.{Run, DiskFault, Damaged, Empty, Exists, NewerFormat}
+use Rattle.ledger_cli.specs.declared.ending.LedgerEnding.TheVariants.{Run, DiskFault, Exists}
 use Rattle.ledger_bytes.specs.Digests.{digest}
 use Rattle.ledger_bytes.specs.declared.digest.Digest.{Digest}
 use Rattle.script_lines.specs.Words.{hex_of}
 use Rattle.ledger_io.specs.Writing.{WritesFirst}
 use Rattle.ledger_io.specs.declared.writer.WriteErr.{WriteErr}
 use Rattle.ledger_io.specs.declared.writer.WriteErr.TheVariants.{WriteFault}
-use Rattle.ledger_cli.proofs.CarryLaws.{first_short, serves_from, faults_from, serves_none, serves_fault, quiet_image, quiet_pair, of_lines, none_waits}
+use Rattle.ledger_cli.proofs.CarryLaws.{first_short, serves_from, faults_from, serves_none, serves_fault, quiet_pair, of_lines, none_waits}
 
 -- ---- faults of opening
 

@@ -1,18 +1,17 @@
 -- Lemmas on a session: how far it came, and how it ends.
-use Rattle.std.proofs.Common.{◌≡◌, ◌≢◌, ℕ, ◌+◌, ◌^◌, ◌<◌, ◌⊎◌, inl, inr, Bool, true, false, cond, List, [], ◌∷◌, ◌++◌, length, Option, None, Some, Ok, Err, refl, ap, sym, subst, ◌∙◌, arith, append-nil, length-append}
+use Rattle.std.proofs.Common.{◌≡◌, ◌≢◌, ℕ, ◌+◌, ◌^◌, ◌<◌, inl, inr, Bool, true, false, cond, List, [], ◌∷◌, ◌++◌, length, Option, None, Some, Err, refl, ap, sym, subst, ◌∙◌, arith, append-nil, length-append}
 use Rattle.std.specs.Prelude.{filter, ◌==◌, if◌then◌else◌}
 use Rattle.std.specs.Io.KnownBytes.{Consumes, Appends}
 use Rattle.script_lines.specs.Grammar.{spoken_line}
-use Rattle.batch_committer.specs.World.{World, Holds, HasRoom, MeetsNoFault, OneFailed, EndsBy, Goes, Ended}
+use Rattle.batch_committer.specs.World.{World, HasRoom, OneFailed, EndsBy, Goes, Ended}
 use Rattle.batch_committer.specs.declared.end.End.{End}
 use Rattle.batch_committer.specs.declared.end.End.TheVariants as end
 use Rattle.batch_committer.proofs.Ending.{no_memory}
 use Rattle.batch_committer.proofs.WayLaws.{goes_same, goes_then, goes_as, ended_then, ended_as}
 use Rattle.ledger_bytes.specs.Begins.{Begins}
-use Rattle.ledger_io.specs.Endings.{ending_of}
 use Rattle.ledger_io.specs.Outside.{SourceState, MeetsNone}
 use Rattle.ledger_io.specs.Reading.{Reading, Reads, GivesLine, GivesNone, Gives, faults_next}
-use Rattle.ledger_io.specs.Runs.{EndsReading, FallsShort, AreWhole, SomeAnswer, SomeOfScript, ending_after}
+use Rattle.ledger_io.specs.Runs.{EndsReading, FallsShort, SomeOfScript, ending_after}
 use Rattle.ledger_io.specs.declared.ending.Ending.TheVariants as run
 use Rattle.ledger_io.specs.declared.failure.LineErr.{LineErr}
 use Rattle.ledger_io.specs.declared.failure.LineErr.TheVariants.{ReadFault, LineTooLong, ScriptTooLong, NoMemory}
@@ -24,13 +23,12 @@ use Rattle.ledger_model.specs.InOrder.{step_of}
 use Rattle.ledger_model.specs.Rules.{after_step}
 use Rattle.ledger_model.specs.Scheme.{Scheme}
 use Rattle.ledger_model.specs.Windows.{Said, said_lines, numbered_line, count_of, bytes_of, fills_window}
-use Rattle.ledger_model.specs.declared.due.Due.{Due}
 use Rattle.ledger_model.proofs.GrowLaws.{grows_not}
 use Rattle.ledger_model.proofs.LaneLaws.{said_after-append}
 use Rattle.ledger_model.proofs.LineLaws.{spoken-lane}
 use Rattle.ledger_model.proofs.WindowLaws.{IsCut, cut_none, cut_more, cut_whole, bytes_of-push}
 use Rattle.ledger_cli.specs.Endings.{ending_of_end}
-use Rattle.ledger_cli.specs.Runs.{Handed, handed, DiskFailed, FailedAtMostOnce, FaultsBy, AnswersOn, StopsOn, Serves}
+use Rattle.ledger_cli.specs.Runs.{Handed, handed, DiskFailed, FailedAtMostOnce, FaultsBy, AnswersOn, StopsOn, RunsOn}
 use Rattle.ledger_cli.specs.Session.{after_line, Runs}
 use Rattle.ledger_cli.specs.declared.ending.LedgerEnding.TheVariants.{Run}
 use Rattle.ledger_cli.proofs.LineLaws.{reached, owed, step_on, due_on, window_on, dues_on}
@@ -163,7 +161,7 @@ faults_stop end.Closed w t before now once e = absurd e
 serve_stop : (scheme : Scheme) (h : History) (end : End) (w t : World) (before now : SourceState) (part read : List ℕ) → EndsBy end w t
     → Consumes before.left now.left read → Appends w.sink.held t.sink.held part → (some : List ℕ) → SaidOf end part some
     → ((IsSo : List ℕ → Type 0) → ((whole : List ℕ) → SaidOf end part whole → IsSo whole) → SomeOfScript (StopsOn scheme h part t.disks) before now read IsSo)
-    → Serves scheme h (ending_of_end end) (handed before w.sink w.disks) (handed now t.sink t.disks)
+    → RunsOn scheme h (ending_of_end end) (handed before w.sink w.disks) (handed now t.sink t.disks)
 serve_stop scheme h end.DiskFault w t before now part read cause consumed appended some said so = record { read = read; replies = part; consumed = consumed; appended = appended; replied = (said.0, so (Begins part) (λ whole s. s.1)) }
 serve_stop scheme h end.WriteFault w t before now part read cause consumed appended some said so = record { read = read; replies = part; consumed = consumed; appended = appended; replied = so (FallsShort part) (λ whole s. s) }
 serve_stop scheme h end.NoMemory w t before now part read cause consumed appended some said so = record { read = read; replies = part; consumed = consumed; appended = appended; replied = (said.0, so (Begins part) (λ whole s. s.1)) }
@@ -172,7 +170,7 @@ serve_stop scheme h end.Closed w t before now part read cause consumed appended 
 -- the lines that the end of reading leaves are answered
 serve_end : (scheme : Scheme) (h : History) (end : Option LineErr) (w t : World) (before now : SourceState) (replies read : List ℕ) (script : List (List ℕ)) → MeetsNone w.sink t.sink
     → Consumes before.left now.left read → Appends w.sink.held t.sink.held replies → EndsReading end before now read script → AnswersOn scheme h t.disks script replies
-    → Serves scheme h (Run (ending_after end)) (handed before w.sink w.disks) (handed now t.sink t.disks)
+    → RunsOn scheme h (Run (ending_after end)) (handed before w.sink w.disks) (handed now t.sink t.disks)
 serve_end scheme h None w t before now replies read script sink consumed appended e a = record { read = read; replies = replies; consumed = consumed; appended = appended; replied = record { lines = script; ended = e; answered = a; written = sink } }
 serve_end scheme h (Some ReadFault) w t before now replies read script sink consumed appended e a = record { read = read; replies = replies; consumed = consumed; appended = appended; replied = record { lines = script; ended = e; answered = a; written = sink } }
 serve_end scheme h (Some LineTooLong) w t before now replies read script sink consumed appended e a = record { read = read; replies = replies; consumed = consumed; appended = appended; replied = record { lines = script; ended = e; answered = a; written = sink } }

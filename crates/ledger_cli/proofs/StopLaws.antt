@@ -1,6 +1,6 @@
 -- Lemmas on what is left, and what was written, where a run was done or stopped.
-use Rattle.std.proofs.Common.{◌≡◌, ℕ, ◌+◌, ◌^◌, ◌<◌, inl, inr, Bool, List, [], ◌∷◌, ◌++◌, length, refl, ap, sym, subst, ◌∙◌, arith, append_assoc, append-nil, length-append}
-use Rattle.std.specs.Prelude.{⊤, IsTrue, decimal, codes}
+use Rattle.std.proofs.Common.{◌≡◌, ℕ, ◌^◌, ◌<◌, inl, inr, Bool, List, [], ◌∷◌, ◌++◌, length, refl, ap, sym, subst, ◌∙◌, arith, append_assoc, append-nil, length-append}
+use Rattle.std.specs.Prelude.{⊤, decimal, codes}
 use Rattle.batch_committer.specs.World.{World, Pair, Holds, HasRoom, Goes, Ended, Stops, Says, Writes}
 use Rattle.batch_committer.specs.Opened.{IsQuietFor}
 use Rattle.batch_committer.specs.declared.end.End.{End}
@@ -10,18 +10,18 @@ use Rattle.batch_committer.proofs.WayLaws.{begins_not, begins_then}
 use Rattle.ledger_bytes.specs.Begins.{Begins}
 use Rattle.ledger_io.specs.Runs.{FallsShort, AreWhole, SomeAnswer}
 use Rattle.ledger_io.proofs.RunLaws.{whole_append}
-use Rattle.ledger_model.specs.Dues.{all_dues, due_line, due_lines, due_replies, AllIn}
+use Rattle.ledger_model.specs.Dues.{due_line, due_lines, due_replies, AllIn}
 use Rattle.ledger_model.specs.Growing.{Grows}
 use Rattle.ledger_model.specs.History.{History, close}
 use Rattle.ledger_model.specs.InOrder.{steps_of}
 use Rattle.ledger_model.specs.Lawful.{IsLawful}
 use Rattle.ledger_model.specs.Rules.{after}
 use Rattle.ledger_model.specs.Scheme.{Scheme}
-use Rattle.ledger_model.specs.Texts.{reply_in, text}
+use Rattle.ledger_model.specs.Texts.{reply_in}
 use Rattle.ledger_model.specs.Windows.{Said, said_lines}
 use Rattle.ledger_model.specs.declared.due.Due.{Due}
 use Rattle.ledger_model.proofs.FitLaws.{fit-first, run_fits, underway_fits}
-use Rattle.ledger_model.proofs.GrowLaws.{close_none, grows_not}
+use Rattle.ledger_model.proofs.GrowLaws.{grows_not}
 use Rattle.ledger_model.proofs.KeepLaws.{run_lawful}
 use Rattle.ledger_model.proofs.CountLaws.{script_counted}
 use Rattle.ledger_model.proofs.RunLaws.{due_lines-append, run_lines}

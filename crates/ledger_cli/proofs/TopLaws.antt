@@ -1,10 +1,10 @@
 -- Lemmas on the whole of a run.
-use Rattle.std.proofs.Common.{◌≡◌, ℕ, ◌+◌, ◌<◌, ◌⊎◌, inl, inr, Bool, List, [], length, take, drop, Option, Some, None, refl, sym, subst, ap, ◌∙◌, arith}
-use Rattle.std.specs.Prelude.{IsTrue, IsSome}
+use Rattle.std.proofs.Common.{◌≡◌, ℕ, ◌⊎◌, inl, inr, Bool, List, [], take, Option, Some, None, refl, sym, subst, ap, ◌∙◌, arith}
+use Rattle.std.specs.Prelude.{IsSome}
 use Rattle.std.proofs.KnownBytes.{Appends-nil}
 use Rattle.batch_committer.specs.World.{Pair}
-use Rattle.ledger_io.specs.Outside.{SourceState, SinkState, MeetsNone, MeetsOne, Outside, outside, count_after}
-use Rattle.ledger_io.specs.Runs.{FallsShort, Wrote}
+use Rattle.ledger_io.specs.Outside.{SourceState, SinkState, MeetsNone, MeetsOne, outside, count_after}
+use Rattle.ledger_io.specs.Runs.{Wrote}
 use Rattle.ledger_io.specs.Writing.{WritesLast, WritesFirst}
 use Rattle.ledger_io.specs.declared.ending.Ending.{Ending}
 use Rattle.ledger_io.specs.declared.ending.Ending.TheVariants as run
@@ -16,7 +16,7 @@ use Rattle.ledger_open.specs.Founding.{IsFoundedOrShut}
 use Rattle.twin_file.specs.Images.{AreShut}
 use Rattle.ledger_disk.specs.Disk.{MayLeave}
 use Rattle.ledger_cli.specs.Endings.{status_of, last_line, HasWords}
-use Rattle.ledger_cli.specs.Runs.{Handed, handed, Faults, NoneFailed, FailedOnce, NoDiskFailed, DiskFailed, FaultsBy, NothingFailed, IsMaking, Makes, RunsNew, Signs, ServedBy, Finishes}
+use Rattle.ledger_cli.specs.Runs.{Handed, handed, DiskFailed, FaultsBy, NothingFailed, ServedBy, Finishes}
 use Rattle.ledger_cli.specs.declared.ending.LedgerEnding.{LedgerEnding}
 use Rattle.ledger_cli.specs.declared.ending.LedgerEnding.TheVariants.{Run, DiskFault, Damaged, Empty, Exists, NewerFormat}
 use Rattle.ledger_cli.specs.declared.words.Command.{Command}

@@ -2,7 +2,7 @@
 use Rattle.std.specs.Prelude.{◌≡◌, ⊤, ℕ, ◌≤◌, ◌⊎◌, Bool, IsTrue, List, [], ◌∷◌, codes, decimal, Option, None, Some, IsSome, IfSome}
 use Rattle.std.specs.List.{flat_map}
 use Rattle.std.specs.Io.KnownBytes.{Consumes, Appends}
-use Rattle.batch_committer.specs.World.{DiskState, Pair}
+use Rattle.batch_committer.specs.World.{Pair}
 use Rattle.block_file.specs.File.{IsSettled}
 use Rattle.ledger_bytes.specs.Begins.{Begins}
 use Rattle.ledger_bytes.specs.Causes.{Rose}
@@ -178,7 +178,7 @@ Replies scheme h Exists read replies before after_all = ⊥
 Replies scheme h (NewerFormat found) read replies before after_all = ⊥
 
 -- a script is run on the ledger with this history: everything but the last line
-pub record Serves (scheme : Scheme) (h : History) (ending : LedgerEnding) (before after_all : Handed) : Type 0 where
+pub record RunsOn (scheme : Scheme) (h : History) (ending : LedgerEnding) (before after_all : Handed) : Type 0 where
   -- the bytes that were read, and those that were written
   pub read : List ℕ
   pub replies : List ℕ
@@ -208,7 +208,7 @@ pub record IsRefused (e : OpenErr) (before after_all : Handed) : Type 0 where
 -- `run`: the ledger that is there is opened, and the script is run on it
 pub record RunsAgain (scheme : Scheme) (tells : Bool) (ending : LedgerEnding) (before after_all : Handed) : Type 0 where
   -- whatever history the pair stood for
-  pub serves : IsTrue tells → AreQuiet before.disks → (h : History) → StandFor before.disks h → Serves scheme h ending before after_all
+  pub serves : IsTrue tells → AreQuiet before.disks → (h : History) → StandFor before.disks h → RunsOn scheme h ending before after_all
   pub refused : IsTrue tells → IfSome (refusal_of ending) (λ e. IsRefused e before after_all)
   -- what shows damage, or is no ledger, isn't run
   pub exact : IsTrue tells → (e : OpenErr) → IsOpenErr before.disks.a.bytes.seen before.disks.b.bytes.seen e → (IsOutside e → ⊥)
@@ -253,7 +253,7 @@ pub record Makes (genesis : Genesis) (tells : Bool) (ending : LedgerEnding) (bef
 -- `dry`: a new ledger, and the script is run on it
 pub record RunsNew (scheme : Scheme) (genesis : Genesis) (tells : Bool) (ending : LedgerEnding) (before after_all : Handed) : Type 0 where
   pub serves : IsTrue tells → AreShut before.disks.a.bytes before.disks.b.bytes
-      → Serves scheme (new_ledger genesis) ending before after_all ⊎ (IsOutsideEnding ending × IsUnstarted before after_all)
+      → RunsOn scheme (new_ledger genesis) ending before after_all ⊎ (IsOutsideEnding ending × IsUnstarted before after_all)
   pub exists : IsTrue tells → ending ≡ Exists → IsOneOpen before.disks.a.bytes.seen before.disks.b.bytes.seen × IsUnstarted before after_all × ReadAsBefore before.disks after_all.disks
   pub faults : FaultsBy ending before after_all
 

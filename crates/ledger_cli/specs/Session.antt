@@ -1,5 +1,5 @@
 -- How a session takes lines, and what it came to.
-use Rattle.std.specs.Prelude.{◌≡◌, ⊤, ℕ, ◌+◌, Bool, if◌then◌else◌, List, [], length}
+use Rattle.std.specs.Prelude.{◌≡◌, ⊤, ℕ, ◌+◌, Bool, if◌then◌else◌, [], length}
 use Rattle.batch_committer.specs.World.{World, Holds}
 use Rattle.ledger_io.specs.declared.ending.Ending.TheVariants as run
 use Rattle.ledger_model.specs.History.{History, close}
@@ -7,7 +7,7 @@ use Rattle.ledger_model.specs.InOrder.{step_of}
 use Rattle.ledger_model.specs.Rules.{after_step}
 use Rattle.ledger_model.specs.Scheme.{Scheme}
 use Rattle.ledger_model.specs.Windows.{Said, fills_window}
-use Rattle.ledger_cli.specs.Runs.{Handed, FaultsBy, Serves}
+use Rattle.ledger_cli.specs.Runs.{Handed, FaultsBy, RunsOn}
 use Rattle.ledger_cli.specs.declared.ending.LedgerEnding.{LedgerEnding}
 use Rattle.ledger_cli.specs.declared.ending.LedgerEnding.TheVariants.{Run, DiskFault, Damaged, Empty, Exists, NewerFormat}
 
@@ -33,5 +33,5 @@ IsOfLines (NewerFormat found) = ⊥
 
 -- a script is run on the history that a committer and its disks have, where no journal waits
 pub record Runs (scheme : Scheme) (tells : Bool) (w : World) (ending : LedgerEnding) (before after_all : Handed) : Type 0 where
-  pub serves : (h : History) → Holds tells w h → h.waiting ≡ [] → Serves scheme h ending before after_all
+  pub serves : (h : History) → Holds tells w h → h.waiting ≡ [] → RunsOn scheme h ending before after_all
   pub faults : FaultsBy ending before after_all

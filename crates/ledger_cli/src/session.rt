@@ -154,7 +154,8 @@ fn take_in_window<K: Sink, D: Disk, V: Verifier>(
         (pair (disk (D.state a.old) (D.told_length a.old) (D.faults a.old))
         (disk (D.state b.old) (D.told_length b.old) (D.faults b.old)))
         (K.state sink.old))
-        (λ g. after_line (V.shows verifier.now) g window.old.lines window.old.bytes (numbered_line index line.now))
+        (λ g. after_line (V.shows verifier.now) g window.old.lines window.old.bytes
+        (numbered_line index line.now))
         (λ g. due_for (V.shows verifier.now) g (step_of (numbered_line index line.now)) ∷ [])
         (world committer.new.kept
         (pair (disk (D.state a.new) (D.told_length a.new) (D.faults a.new))
@@ -167,14 +168,17 @@ fn take_in_window<K: Sink, D: Disk, V: Verifier>(
         (K.state sink.new))) }
     ensures room { OnOk result (HasRoom committer.new.kept) }
     ensures lines { OnOk result (window.new.lines
-        ≡ (if fills_window (window.old.lines + 1) (window.old.bytes + length line.now) then 0 else window.old.lines + 1)) }
+        ≡ (if fills_window (window.old.lines + 1) (window.old.bytes + length line.now)
+        then 0 else window.old.lines + 1)) }
     ensures bytes { OnOk result (window.new.bytes
-        ≡ (if fills_window (window.old.lines + 1) (window.old.bytes + length line.now) then 0 else window.old.bytes + length line.now)) }
+        ≡ (if fills_window (window.old.lines + 1) (window.old.bytes + length line.now)
+        then 0 else window.old.bytes + length line.now)) }
     ensures err { IfErr result (λ end. Ended D.tells (world committer.old.kept
         (pair (disk (D.state a.old) (D.told_length a.old) (D.faults a.old))
         (disk (D.state b.old) (D.told_length b.old) (D.faults b.old)))
         (K.state sink.old))
-        (λ g. after_line (V.shows verifier.now) g window.old.lines window.old.bytes (numbered_line index line.now))
+        (λ g. after_line (V.shows verifier.now) g window.old.lines window.old.bytes
+        (numbered_line index line.now))
         (λ g. due_for (V.shows verifier.now) g (step_of (numbered_line index line.now)) ∷ [])
         end
         (world committer.new.kept

@@ -1,6 +1,6 @@
-use crate::{Command, ledger_top};
-use ledger_bytes::{Bytes, Digest, NoMemory};
-use ledger_disk::MemDisk;
+use crate::ledger_top;
+use ledger_bytes::{Bytes, Digest, NoMemory, Refusal};
+use ledger_disk::{Disk, MemDisk};
 use ledger_io::{MemSink, MemSource};
 use member_book::TagScheme;
 use plain::Plain;
@@ -12,6 +12,7 @@ mod book;
 mod files;
 mod plain;
 mod sign;
+mod stops;
 
 // The keys of the operator and the regulator of a ledger for trial: 32 bytes 1, and 32 bytes 2.
 const OPERATOR: &str = "0101010101010101010101010101010101010101010101010101010101010101";
@@ -41,6 +42,12 @@ const LONG_HEAD: &str = "head \
     1505210e0a0682c0035f80b18b8a9d80688039dbbf8f348f460ae341c4515a63 1 0 0 \
     e3b0c44298fc1c149afbf4c8996fb92427ae41e4649b934ca495991b7852b855\n";
 
+// Ill-formed lines and one that asks for a journal that isn't there.
+const ILL_FORMED: &str = "\n8 head\n0 hed\n0 get\n0 get 01\n0 get 0 1\n0 get 5";
+
+const ILL_FORMED_REPLIES: &str =
+    "0.1 no 12\n0.2 no 12\n0.3 no 10\n0.4 no 11 3\n0.5 no 11 3\n0.6 no 11 4\n0.7 no 20 1\n";
+
 const USAGE: &str = "fail 1 usage\n";
 
 // A record of the operator without content, and one of the regulator with the content abc.
@@ -65,6 +72,10 @@ const WITH_OPERATORS_KEY: &str =
     "0 append 1 - - 0101010101010101010101010101010101010101010101010101010101010101\
     6bef8878b17647cacb6623281198b4c3e52487546bda96128531c04640fb6fd4\n";
 
+// A record of the operator with a clue, and a proof for another.
+const OF_UNNAMED_CLUE: &str =
+    "0 append 0 inv - 0101010101010101010101010101010101010101010101010101010101010101d40c1519506ea6e27383842f2515fcc707458dfca42d12a0533262db09a3e339\n";
+
 // The operator's record with the last bit of its proof changed, and with the regulator's key.
 const LAST_BIT_CHANGED: &str =
     "0 append 0 - - 0101010101010101010101010101010101010101010101010101010101010101\
@@ -85,8 +96,8 @@ const HEAD_OF_TWO: &str = "head \
 
 const ROOT_OF_FIVE: &str = "38583702ccdc045d882059aef42fdd392dd14eff76ebc94f02e6901796c21867";
 
-// Member 2 with the key of 32 bytes 3, and that member's record abc with the clue inv: with the member's key, and with
-// another.
+// Member 2 with the key of 32 bytes 3, and that member's record abc with the clue inv: with the
+// member's key, and with another.
 const ADMIT_THE_THIRD: &str =
     "0 member 2 0303030303030303030303030303030303030303030303030303030303030303 \
     01010101010101010101010101010101010101010101010101010101010101016e2700604cd288e681c238fa71ae802ef173e93907477f0111a56a7be4890e8c\n";
@@ -101,8 +112,8 @@ const INVOICE_WITH_ANOTHER_KEY: &str =
 
 const ROOT_OF_THREE: &str = "45244e5bba01692ff6f59b826791827e96e891465f758d139d92d81a53b478c5\n";
 
-// More room than any of these runs writes, and a call that none of them makes.
-const AMPLE: usize = 65_536;
+// More room than any of these runs takes, and a call that none of them makes.
+const AMPLE: usize = 1_048_576;
 
 const NEVER: u64 = u64::MAX;
 
@@ -117,7 +128,7 @@ fn strings(alloc: Global, words: &[&str]) -> Result<Vec<String>, NoMemory> {
     Ok(strings)
 }
 
-fn joined(alloc: Global, pieces: &[&str]) -> Result<Vec<u8>, NoMemory> {
+fn bytes_of(alloc: Global, pieces: &[&str]) -> Result<Vec<u8>, NoMemory> {
     let mut bytes = Vec::new(alloc);
     for piece in pieces {
         bytes.extend_from_slice(piece.as_bytes())?;
@@ -125,23 +136,11 @@ fn joined(alloc: Global, pieces: &[&str]) -> Result<Vec<u8>, NoMemory> {
     Ok(bytes)
 }
 
-// These lines, each of them so many times. A line is given in pieces, with its newline.
-fn repeated(alloc: Global, lines: &[(usize, &[&str])]) -> Result<Vec<u8>, NoMemory> {
-    let mut script = Vec::new(alloc);
-    for (times, pieces) in lines {
-        let line = joined(alloc, pieces)?;
-        for _ in 0..*times {
-            script.extend_from_slice(line.as_slice())?;
-        }
-    }
-    Ok(script)
-}
+/// How often a line stands, its front, a filling of so many bytes, and its end.
+type FilledLine = (usize, &'static str, (usize, u8), &'static str);
 
 // These lines, each of them so many times: its front, a filling of so many bytes, and its end.
-fn fill_lines(
-    alloc: Global,
-    lines: &[(usize, &str, (usize, u8), &str)],
-) -> Result<Vec<u8>, NoMemory> {
+fn fill_lines(alloc: Global, lines: &[FilledLine]) -> Result<Vec<u8>, NoMemory> {
     let mut script = Vec::new(alloc);
     for (times, front, (count, byte), end) in lines {
         let mut filling = Vec::new(alloc);
@@ -155,7 +154,8 @@ fn fill_lines(
     Ok(script)
 }
 
-// What a run is to write: how many lines, the first and the last of them, and the SHA-256 of them all.
+// What a run is to write: how many lines, the first and the last of them, and the SHA-256 of them
+// all.
 #[derive(Clone, Copy, Debug)]
 struct Written {
     lines: usize,
@@ -164,31 +164,62 @@ struct Written {
     digest: &'static str,
 }
 
-// The status of a run and what it wrote, where the read and the write with these numbers fail.
+/// What of a run's reading and writing fails: the read and the write with these numbers, and a
+/// write that finds less than this room.
+#[derive(Clone, Copy, Debug)]
+struct Faults {
+    read: u64,
+    room: usize,
+    write: u64,
+}
+
+const NO_FAULTS: Faults = Faults {
+    read: NEVER,
+    room: AMPLE,
+    write: NEVER,
+};
+
+/// The status of a run on these disks, and what it wrote.
+fn run_on<D: Disk>(
+    alloc: Global,
+    words: &[&str],
+    script: &[u8],
+    faults: Faults,
+    a: &mut D,
+    b: &mut D,
+) -> Result<(u8, Vec<u8>), NoMemory> {
+    let words = strings(alloc, words)?;
+    let script = Bytes::copy_of(alloc, script)?;
+    let mut source = MemSource::new(script, [faults.read].to_vec(alloc)?);
+    let mut sink = MemSink::new(alloc, faults.room, [faults.write].to_vec(alloc)?)?;
+    let words = words.as_slice();
+    let status = ledger_top(alloc, words, &mut source, &mut sink, a, b, &TagScheme);
+    Ok((status, sink.written_bytes().to_vec(alloc)?))
+}
+
+/// The status of a run on two empty disks, and what it wrote.
 fn run(
     alloc: Global,
     words: &[&str],
-    script: Vec<u8>,
-    failing_read: u64,
-    room: usize,
-    failing_write: u64,
+    script: &[u8],
+    faults: Faults,
 ) -> Result<(u8, Vec<u8>), NoMemory> {
-    let words = strings(alloc, words)?;
-    let mut source = MemSource::new(Bytes::of(script), [failing_read].to_vec(alloc)?);
-    let mut sink = MemSink::new(alloc, room, [failing_write].to_vec(alloc)?)?;
     let mut a = MemDisk::new(alloc, DISK_ROOM, Vec::new(alloc))?;
     let mut b = MemDisk::new(alloc, DISK_ROOM, Vec::new(alloc))?;
-    let words = words.as_slice();
-    let status = ledger_top(
-        alloc,
-        words,
-        &mut source,
-        &mut sink,
-        &mut a,
-        &mut b,
-        &TagScheme,
-    );
-    Ok((status, sink.written_bytes().to_vec(alloc)?))
+    run_on(alloc, words, script, faults, &mut a, &mut b)
+}
+
+/// Whether a run on two empty disks ends with this status and writes this text.
+fn ends_with(
+    alloc: Global,
+    words: &[&str],
+    script: &[u8],
+    want_status: u8,
+    want: &[&str],
+) -> Result<bool, NoMemory> {
+    let (status, written) = run(alloc, words, script, NO_FAULTS)?;
+    let want = bytes_of(alloc, want)?;
+    Ok(status == want_status && written == want)
 }
 
 fn is_as_wanted(alloc: Global, written: &[u8], want: &Written) -> Result<bool, NoMemory> {
@@ -203,28 +234,19 @@ fn is_as_wanted(alloc: Global, written: &[u8], want: &Written) -> Result<bool, N
 }
 
 // Whether a run of such lines ends and writes as it is to.
-fn answers_to_filled(
-    alloc: Global,
-    lines: &[(usize, &str, (usize, u8), &str)],
-    want_status: u8,
-    want: &Written,
-) -> Result<bool, NoMemory> {
+fn answers_to_filled(alloc: Global, row: &Filled) -> Result<bool, NoMemory> {
+    let (lines, want_status, want) = *row;
     let script = fill_lines(alloc, lines)?;
-    let (status, written) = run(alloc, &DEMO, script, NEVER, AMPLE, NEVER)?;
-    Ok(status == want_status && is_as_wanted(alloc, written.as_slice(), want)?)
+    let (status, written) = run(alloc, &DEMO, script.as_slice(), NO_FAULTS)?;
+    let is_wanted = is_as_wanted(alloc, written.as_slice(), &want)?;
+    Ok(is_wanted && status == want_status)
 }
 
 #[test]
 fn answers_scripts(rt: HostRuntime) -> Result<(), Fail> {
     let rows: [(&[&str], &str, &[&str]); 7] = [
         (&DEMO, "", &[]),
-        (
-            &DEMO,
-            "\n8 head\n0 hed\n0 get\n0 get 01\n0 get 0 1\n0 get 5",
-            &[
-                "0.1 no 12\n0.2 no 12\n0.3 no 10\n0.4 no 11 3\n0.5 no 11 3\n0.6 no 11 4\n0.7 no 20 1\n",
-            ],
-        ),
+        (&DEMO, ILL_FORMED, &[ILL_FORMED_REPLIES]),
         (
             &DEMO,
             "0 clue inv\n0 clue\n0 member 2\n0 append 0 inv - -\n1 head",
@@ -253,241 +275,170 @@ fn answers_scripts(rt: HostRuntime) -> Result<(), Fail> {
         ),
     ];
     for (words, script, want) in rows {
-        let bytes = joined(rt.alloc(), &[script])?;
-        let (status, written) = run(rt.alloc(), words, bytes, NEVER, AMPLE, NEVER)?;
-        assert_eq!(rt; written, joined(rt.alloc(), want)?, "at {script:?}");
-        assert_eq!(rt; status, 0, "at {script:?}");
+        let is_so = ends_with(rt.alloc(), words, script.as_bytes(), 0, want)?;
+        assert!(rt; is_so, "at {script:?}");
     }
     Ok(())
 }
 
-// Blocks of one line and of several, refused lines between records, and a block that is full.
+// No filling.
+const NONE: (usize, u8) = (0, b' ');
+
+/// A script in filled lines, and how its run ends and what it writes.
+type Filled = (&'static [FilledLine], u8, Written);
+
+// A block that is full; refused lines between records; a content of 65,536 bytes; a window that ends by its bytes; a line
+// that is too long; and windows that end with their 4,096th line.
+const FILLED: [Filled; 7] = [
+    (
+        &[(65, EMPTY, NONE, "")],
+        0,
+        Written {
+            lines: 65,
+            first: "0.1 ok 1 e17cd0a38398533f50004ec57f5dd3837680b6b072223c6ffc9e2bfa0d0e723c 1 65 43eb65d072dd4a0f2802b3cc0a898b3fe1898eafef8a6742f4e2c579f77ba8f2\n",
+            last: "0.65 ok 65 d6dbaa4ef6b92e2442084b4b04763cefc77a53b7b550058ece0c30aabf1bf37e 2 66 5b018e6c02c6e3980c32206bae1c7d115727f4aa2dd6d0f8f0f9055a257f6c48\n",
+            digest: "b4586317b4683210ebfa43a2832de90b54d01ef89b6c1ceba1b7abebc39c07ff",
+        },
+    ),
+    (
+        &[
+            (1, "0 hed\n", NONE, EMPTY),
+            (1, "0 head\n\n", NONE, ABC),
+            (1, "1 head\n", NONE, EMPTY),
+            (1, "8 head\n", NONE, ABC),
+            (1, "0 head\n0 head 1\n", NONE, EMPTY),
+            (1, "0  head\n", NONE, ABC),
+            (1, "0 head \n", NONE, EMPTY),
+            (1, "0 head\n", NONE, OF_UNNAMED_CLUE),
+            (1, ABC, NONE, OF_NO_MEMBER),
+            (1, EMPTY, NONE, WITH_OPERATORS_KEY),
+            (1, ABC, NONE, "0 head\n0 append 0 - 78 -\n"),
+            (1, EMPTY, NONE, ""),
+            (1, "0 append 0 - - ", (8_194, b'0'), "\n"),
+            (1, ABC, NONE, ""),
+            (1, "0 append 0 - ", (131_074, b'0'), " -\n"),
+            (1, EMPTY, NONE, "0 head\n0 append 00 - - -\n"),
+            (1, ABC, NONE, "0 append 0 - -\n"),
+            (1, EMPTY, NONE, "0 append 0 - - - -\n"),
+            (1, ABC, NONE, "0 head\n0 append 4294967296 - - -\n"),
+            (1, EMPTY, NONE, "0 append 0 - 0 -\n"),
+            (1, ABC, NONE, "0 append 0 - GG -\n"),
+            (1, EMPTY, NONE, "0 head\n"),
+        ],
+        0,
+        Written {
+            lines: 45,
+            first: "0.1 no 10\n",
+            last: "0.45 head 64915354a6547b1f887e596e872fd13b2abdc860729da9fe31180a81726cf4a2 21 2f78a84c56c3f3389712624627b92e446fcff6ee6e2e2b48b2e4026ee174d44c 8 0 0 e3b0c44298fc1c149afbf4c8996fb92427ae41e4649b934ca495991b7852b855\n",
+            digest: "ceecb97ee0d5112aea764ce4b5925060ac2efd0c68d046b0f44e85851efe2185",
+        },
+    ),
+    (
+        &[
+            (1, "0 append 0 - ", (131_072, b'0'), PROOF_OF_ZEROS),
+            (1, "0 head\n", NONE, ""),
+        ],
+        0,
+        Written {
+            lines: 2,
+            first: "0.1 ok 1 fe24f0dba5ad1b56295d025fd18bf379ca24e7fe220bb1d0862438d493f95c1f 1 2 ef0127e3eff2a1445df2e5717e73b4d59a635617e4fa65efc52566bdab851a02\n",
+            last: "0.2 head 64915354a6547b1f887e596e872fd13b2abdc860729da9fe31180a81726cf4a2 2 ef0127e3eff2a1445df2e5717e73b4d59a635617e4fa65efc52566bdab851a02 2 0 0 e3b0c44298fc1c149afbf4c8996fb92427ae41e4649b934ca495991b7852b855\n",
+            digest: "075e8ecb3ef2492f1f58baca6c26824ffd666cb019564b471f3b00962410fe3f",
+        },
+    ),
+    (
+        &[
+            (3, "0 append 0 - ", (131_072, b'0'), PROOF_OF_ZEROS),
+            (4, "0 x", (4_194_301, b' '), "\n"),
+            (2, EMPTY, NONE, ""),
+            (1, "0 head\n", NONE, ""),
+        ],
+        0,
+        Written {
+            lines: 10,
+            first: "0.1 ok 1 fe24f0dba5ad1b56295d025fd18bf379ca24e7fe220bb1d0862438d493f95c1f 1 4 a1ae10ed46723b42cf81bd3580d317c0bd535892719b8d23b434b8674d187c11\n",
+            last: "0.10 head 64915354a6547b1f887e596e872fd13b2abdc860729da9fe31180a81726cf4a2 6 0a70211574ba172f520fe0523a2205d20f75c17d0b01356a76c6da494680052e 3 0 0 e3b0c44298fc1c149afbf4c8996fb92427ae41e4649b934ca495991b7852b855\n",
+            digest: "bec74279b4fd9f4be24c6ba49573f44974c564cb2fec5ed1d00d1fb8da5e9041",
+        },
+    ),
+    (
+        &[
+            (1, EMPTY, NONE, "0 head\n"),
+            (1, "0 x", (4_194_302, b' '), "\n"),
+            (1, "0 head\n", NONE, ""),
+        ],
+        7,
+        Written {
+            lines: 3,
+            first: "0.1 ok 1 e17cd0a38398533f50004ec57f5dd3837680b6b072223c6ffc9e2bfa0d0e723c 1 2 89713d47487c9be9875bd8f6a471f021f10440bea34709c459dce3a170313951\n",
+            last: "fail 7 line\n",
+            digest: "95f46da45dc1e203417e03a4cdb4c92a420292159f70c91b0a2721291b7d97ad",
+        },
+    ),
+    (
+        &[
+            (1, EMPTY, NONE, ""),
+            (4_095, "0 x\n", NONE, ""),
+            (1, EMPTY, NONE, "0 head\n"),
+        ],
+        0,
+        Written {
+            lines: 4098,
+            first: "0.1 ok 1 e17cd0a38398533f50004ec57f5dd3837680b6b072223c6ffc9e2bfa0d0e723c 1 2 89713d47487c9be9875bd8f6a471f021f10440bea34709c459dce3a170313951\n",
+            last: "0.4098 head 64915354a6547b1f887e596e872fd13b2abdc860729da9fe31180a81726cf4a2 3 14302faefd6f4edc916fd68e931bb3057b1556f5e9c479880d88983ddcbb4e35 3 0 0 e3b0c44298fc1c149afbf4c8996fb92427ae41e4649b934ca495991b7852b855\n",
+            digest: "abe085de543ef4fc177c5c65a13c4522c9cbcbf3d70b95d98e98dcdb62d4c81f",
+        },
+    ),
+    (
+        &[
+            (1, EMPTY, NONE, ""),
+            (4_094, "0 x\n", NONE, ""),
+            (1, EMPTY, NONE, "0 head\n"),
+        ],
+        0,
+        Written {
+            lines: 4097,
+            first: "0.1 ok 1 e17cd0a38398533f50004ec57f5dd3837680b6b072223c6ffc9e2bfa0d0e723c 1 3 14302faefd6f4edc916fd68e931bb3057b1556f5e9c479880d88983ddcbb4e35\n",
+            last: "0.4097 head 64915354a6547b1f887e596e872fd13b2abdc860729da9fe31180a81726cf4a2 3 14302faefd6f4edc916fd68e931bb3057b1556f5e9c479880d88983ddcbb4e35 2 0 0 e3b0c44298fc1c149afbf4c8996fb92427ae41e4649b934ca495991b7852b855\n",
+            digest: "80cfd89f4dad932b452170c3d951d7cd5bbc88a5e26d80c92bff91be5ae4048d",
+        },
+    ),
+];
+
 #[test]
-fn places_records(rt: HostRuntime) -> Result<(), Fail> {
-    let proof_too_long = "00".repeat(rt.alloc(), 4_097)?;
-    let content_too_long = "00".repeat(rt.alloc(), 65_537)?;
-    let rows: [(&[(usize, &[&str])], Written); 5] = [
-        (
-            &[(1, &[EMPTY])],
-            Written {
-                lines: 1,
-                first: "0.1 ok 1 e17cd0a38398533f50004ec57f5dd3837680b6b072223c6ffc9e2bfa0d0e723c 1 2 89713d47487c9be9875bd8f6a471f021f10440bea34709c459dce3a170313951\n",
-                last: "0.1 ok 1 e17cd0a38398533f50004ec57f5dd3837680b6b072223c6ffc9e2bfa0d0e723c 1 2 89713d47487c9be9875bd8f6a471f021f10440bea34709c459dce3a170313951\n",
-                digest: "e849a91856e65af9b279115919e0b4ac3d5aa3396ba148462a4cb2834c31a497",
-            },
-        ),
-        (
-            &[(65, &[EMPTY])],
-            Written {
-                lines: 65,
-                first: "0.1 ok 1 e17cd0a38398533f50004ec57f5dd3837680b6b072223c6ffc9e2bfa0d0e723c 1 65 43eb65d072dd4a0f2802b3cc0a898b3fe1898eafef8a6742f4e2c579f77ba8f2\n",
-                last: "0.65 ok 65 d6dbaa4ef6b92e2442084b4b04763cefc77a53b7b550058ece0c30aabf1bf37e 2 66 5b018e6c02c6e3980c32206bae1c7d115727f4aa2dd6d0f8f0f9055a257f6c48\n",
-                digest: "b4586317b4683210ebfa43a2832de90b54d01ef89b6c1ceba1b7abebc39c07ff",
-            },
-        ),
-        (
-            &[
-                (5, &["0 head\n"]),
-                (1, &["0 append 0 - - -\n0 hed\n\n0 head"]),
-            ],
-            Written {
-                lines: 9,
-                first: "0.1 head 64915354a6547b1f887e596e872fd13b2abdc860729da9fe31180a81726cf4a2 1 64915354a6547b1f887e596e872fd13b2abdc860729da9fe31180a81726cf4a2 1 0 0 e3b0c44298fc1c149afbf4c8996fb92427ae41e4649b934ca495991b7852b855\n",
-                last: "0.9 head 64915354a6547b1f887e596e872fd13b2abdc860729da9fe31180a81726cf4a2 1 64915354a6547b1f887e596e872fd13b2abdc860729da9fe31180a81726cf4a2 1 0 0 e3b0c44298fc1c149afbf4c8996fb92427ae41e4649b934ca495991b7852b855\n",
-                digest: "a136a36192c021a0f0b127cfb8d04a2e6e1392487ba17b0b35d370c019d683a7",
-            },
-        ),
-        (
-            &[(
-                15,
-                &[
-                    EMPTY, ABC, EMPTY, ABC, EMPTY, ABC, EMPTY, ABC, EMPTY, ABC, "0 head\n",
-                ],
-            )],
-            Written {
-                lines: 165,
-                first: "0.1 ok 1 e17cd0a38398533f50004ec57f5dd3837680b6b072223c6ffc9e2bfa0d0e723c 1 11 3bf696ce3121cf7bffe698a0806f169be91c09c28ea299eabf4678600fc7b7f7\n",
-                last: "0.165 head 64915354a6547b1f887e596e872fd13b2abdc860729da9fe31180a81726cf4a2 151 8ca733307d496b171aa1b96e2ec8fa187a0cbaa869f69aa8c3aa6061dbefc4e2 16 0 0 e3b0c44298fc1c149afbf4c8996fb92427ae41e4649b934ca495991b7852b855\n",
-                digest: "f5ccbedb6db0e97e1f196542512c64e450b5b3c65427a479bc556b03f671221d",
-            },
-        ),
-        (
-            &[(
-                1,
-                &[
-                    "0 hed\n",
-                    EMPTY,
-                    "0 head\n",
-                    "\n",
-                    ABC,
-                    "1 head\n",
-                    EMPTY,
-                    "8 head\n",
-                    ABC,
-                    "0 head\n",
-                    "0 head 1\n",
-                    EMPTY,
-                    "0  head\n",
-                    ABC,
-                    "0 head \n",
-                    EMPTY,
-                    "0 head\n",
-                    "0 append 0 inv - 0101010101010101010101010101010101010101010101010101010101010101d40c1519506ea6e27383842f2515fcc707458dfca42d12a0533262db09a3e339\n",
-                    ABC,
-                    OF_NO_MEMBER,
-                    EMPTY,
-                    WITH_OPERATORS_KEY,
-                    ABC,
-                    "0 head\n",
-                    "0 append 0 - 78 -\n",
-                    EMPTY,
-                    "0 append 0 - - ",
-                    proof_too_long.as_str(),
-                    "\n",
-                    ABC,
-                    "0 append 0 - ",
-                    content_too_long.as_str(),
-                    " -\n",
-                    EMPTY,
-                    "0 head\n",
-                    "0 append 00 - - -\n",
-                    ABC,
-                    "0 append 0 - -\n",
-                    EMPTY,
-                    "0 append 0 - - - -\n",
-                    ABC,
-                    "0 head\n",
-                    "0 append 4294967296 - - -\n",
-                    EMPTY,
-                    "0 append 0 - 0 -\n",
-                    ABC,
-                    "0 append 0 - GG -\n",
-                    EMPTY,
-                    "0 head\n",
-                ],
-            )],
-            Written {
-                lines: 45,
-                first: "0.1 no 10\n",
-                last: "0.45 head 64915354a6547b1f887e596e872fd13b2abdc860729da9fe31180a81726cf4a2 21 2f78a84c56c3f3389712624627b92e446fcff6ee6e2e2b48b2e4026ee174d44c 8 0 0 e3b0c44298fc1c149afbf4c8996fb92427ae41e4649b934ca495991b7852b855\n",
-                digest: "ceecb97ee0d5112aea764ce4b5925060ac2efd0c68d046b0f44e85851efe2185",
-            },
-        ),
-    ];
-    for (script, want) in rows {
-        let script = repeated(rt.alloc(), script)?;
-        let (status, written) = run(rt.alloc(), &DEMO, script, NEVER, AMPLE, NEVER)?;
-        assert_eq!(rt; status, 0, "at {want:?}");
-        assert!(rt;
-            is_as_wanted(rt.alloc(), written.as_slice(), &want)?,
-            "at {want:?}"
-        );
+fn bounds_blocks_lines_and_windows(rt: HostRuntime) -> Result<(), Fail> {
+    for row in &FILLED {
+        let is_so = answers_to_filled(rt.alloc(), row)?;
+        assert!(rt; is_so, "at {row:?}");
     }
     Ok(())
 }
 
-// A content of 65,536 bytes, a window that ends by its bytes, and a line that is too long.
-#[test]
-fn bounds_bytes(rt: HostRuntime) -> Result<(), Fail> {
-    let rows: [(&[(usize, &str, (usize, u8), &str)], u8, Written); 3] = [
-        (
-            &[
-                (1, "0 append 0 - ", (131_072, b'0'), PROOF_OF_ZEROS),
-                (1, "0 head\n", (0, b' '), ""),
-            ],
-            0,
-            Written {
-                lines: 2,
-                first: "0.1 ok 1 fe24f0dba5ad1b56295d025fd18bf379ca24e7fe220bb1d0862438d493f95c1f 1 2 ef0127e3eff2a1445df2e5717e73b4d59a635617e4fa65efc52566bdab851a02\n",
-                last: "0.2 head 64915354a6547b1f887e596e872fd13b2abdc860729da9fe31180a81726cf4a2 2 ef0127e3eff2a1445df2e5717e73b4d59a635617e4fa65efc52566bdab851a02 2 0 0 e3b0c44298fc1c149afbf4c8996fb92427ae41e4649b934ca495991b7852b855\n",
-                digest: "075e8ecb3ef2492f1f58baca6c26824ffd666cb019564b471f3b00962410fe3f",
-            },
-        ),
-        (
-            &[
-                (3, "0 append 0 - ", (131_072, b'0'), PROOF_OF_ZEROS),
-                (4, "0 x", (4_194_301, b' '), "\n"),
-                (2, EMPTY, (0, b' '), ""),
-                (1, "0 head\n", (0, b' '), ""),
-            ],
-            0,
-            Written {
-                lines: 10,
-                first: "0.1 ok 1 fe24f0dba5ad1b56295d025fd18bf379ca24e7fe220bb1d0862438d493f95c1f 1 4 a1ae10ed46723b42cf81bd3580d317c0bd535892719b8d23b434b8674d187c11\n",
-                last: "0.10 head 64915354a6547b1f887e596e872fd13b2abdc860729da9fe31180a81726cf4a2 6 0a70211574ba172f520fe0523a2205d20f75c17d0b01356a76c6da494680052e 3 0 0 e3b0c44298fc1c149afbf4c8996fb92427ae41e4649b934ca495991b7852b855\n",
-                digest: "bec74279b4fd9f4be24c6ba49573f44974c564cb2fec5ed1d00d1fb8da5e9041",
-            },
-        ),
-        (
-            &[
-                (1, EMPTY, (0, b' '), "0 head\n"),
-                (1, "0 x", (4_194_302, b' '), "\n"),
-                (1, "0 head\n", (0, b' '), ""),
-            ],
-            7,
-            Written {
-                lines: 3,
-                first: "0.1 ok 1 e17cd0a38398533f50004ec57f5dd3837680b6b072223c6ffc9e2bfa0d0e723c 1 2 89713d47487c9be9875bd8f6a471f021f10440bea34709c459dce3a170313951\n",
-                last: "fail 7 line\n",
-                digest: "95f46da45dc1e203417e03a4cdb4c92a420292159f70c91b0a2721291b7d97ad",
-            },
-        ),
-    ];
-    for (lines, want_status, want) in rows {
-        assert!(rt;
-            answers_to_filled(rt.alloc(), lines, want_status, &want)?,
-            "at {want:?}"
-        );
-    }
-    Ok(())
-}
+// What is written for fifteen times ten records and a head.
+const SMALL_BLOCKS: Written = Written {
+    lines: 165,
+    first: "0.1 ok 1 e17cd0a38398533f50004ec57f5dd3837680b6b072223c6ffc9e2bfa0d0e723c 1 11 3bf696ce3121cf7bffe698a0806f169be91c09c28ea299eabf4678600fc7b7f7\n",
+    last: "0.165 head 64915354a6547b1f887e596e872fd13b2abdc860729da9fe31180a81726cf4a2 151 8ca733307d496b171aa1b96e2ec8fa187a0cbaa869f69aa8c3aa6061dbefc4e2 16 0 0 e3b0c44298fc1c149afbf4c8996fb92427ae41e4649b934ca495991b7852b855\n",
+    digest: "f5ccbedb6db0e97e1f196542512c64e450b5b3c65427a479bc556b03f671221d",
+};
 
-// A window ends with its 4,096th line.
 #[test]
-fn bounds_windows(rt: HostRuntime) -> Result<(), Fail> {
-    let rows: [(&[(usize, &str, (usize, u8), &str)], u8, Written); 2] = [
-        (
-            &[
-                (1, EMPTY, (0, b' '), ""),
-                (4_095, "0 x\n", (0, b' '), ""),
-                (1, EMPTY, (0, b' '), "0 head\n"),
-            ],
-            0,
-            Written {
-                lines: 4098,
-                first: "0.1 ok 1 e17cd0a38398533f50004ec57f5dd3837680b6b072223c6ffc9e2bfa0d0e723c 1 2 89713d47487c9be9875bd8f6a471f021f10440bea34709c459dce3a170313951\n",
-                last: "0.4098 head 64915354a6547b1f887e596e872fd13b2abdc860729da9fe31180a81726cf4a2 3 14302faefd6f4edc916fd68e931bb3057b1556f5e9c479880d88983ddcbb4e35 3 0 0 e3b0c44298fc1c149afbf4c8996fb92427ae41e4649b934ca495991b7852b855\n",
-                digest: "abe085de543ef4fc177c5c65a13c4522c9cbcbf3d70b95d98e98dcdb62d4c81f",
-            },
-        ),
-        (
-            &[
-                (1, EMPTY, (0, b' '), ""),
-                (4_094, "0 x\n", (0, b' '), ""),
-                (1, EMPTY, (0, b' '), "0 head\n"),
-            ],
-            0,
-            Written {
-                lines: 4097,
-                first: "0.1 ok 1 e17cd0a38398533f50004ec57f5dd3837680b6b072223c6ffc9e2bfa0d0e723c 1 3 14302faefd6f4edc916fd68e931bb3057b1556f5e9c479880d88983ddcbb4e35\n",
-                last: "0.4097 head 64915354a6547b1f887e596e872fd13b2abdc860729da9fe31180a81726cf4a2 3 14302faefd6f4edc916fd68e931bb3057b1556f5e9c479880d88983ddcbb4e35 2 0 0 e3b0c44298fc1c149afbf4c8996fb92427ae41e4649b934ca495991b7852b855\n",
-                digest: "80cfd89f4dad932b452170c3d951d7cd5bbc88a5e26d80c92bff91be5ae4048d",
-            },
-        ),
+fn ends_small_blocks(rt: HostRuntime) -> Result<(), Fail> {
+    let five = [
+        EMPTY, ABC, EMPTY, ABC, EMPTY, ABC, EMPTY, ABC, EMPTY, ABC, "0 head\n",
     ];
-    for (lines, want_status, want) in rows {
-        assert!(rt;
-            answers_to_filled(rt.alloc(), lines, want_status, &want)?,
-            "at {want:?}"
-        );
-    }
+    let group = bytes_of(rt.alloc(), &five)?;
+    let script = group.as_slice().repeat(rt.alloc(), 15)?;
+    let (status, written) = run(rt.alloc(), &DEMO, script.as_slice(), NO_FAULTS)?;
+    assert!(rt; status == 0);
+    assert!(rt; is_as_wanted(rt.alloc(), written.as_slice(), &SMALL_BLOCKS)?);
     Ok(())
 }
 
 // A line that is refused places nothing and ends no block.
 #[test]
 fn refuses_records(rt: HostRuntime) -> Result<(), Fail> {
-    let script = joined(
+    let script = bytes_of(
         rt.alloc(),
         &[
             EMPTY,
@@ -503,8 +454,11 @@ fn refuses_records(rt: HostRuntime) -> Result<(), Fail> {
             "0 head\n",
         ],
     )?;
-    let want = joined(
+    let is_so = ends_with(
         rt.alloc(),
+        &DEMO,
+        script.as_slice(),
+        0,
         &[
             "0.1 ",
             RECEIPT,
@@ -523,14 +477,12 @@ fn refuses_records(rt: HostRuntime) -> Result<(), Fail> {
             " 3 0 0 e3b0c44298fc1c149afbf4c8996fb92427ae41e4649b934ca495991b7852b855\n",
         ],
     )?;
-    let (status, written) = run(rt.alloc(), &DEMO, script, NEVER, AMPLE, NEVER)?;
-    assert_eq!(rt; status, 0);
-    assert_eq!(rt; written, want);
+    assert!(rt; is_so);
     Ok(())
 }
 
-// A member is admitted and places a record with a clue. A wrong key, an unknown member and a number that is taken are
-// refused, and end no block; a line that asks for a clue does.
+// A member is admitted and places a record with a clue. A wrong key, an unknown member and a number
+// that is taken are refused, and end no block; a line that asks for a clue does.
 #[test]
 fn admits_members_and_finds_clues(rt: HostRuntime) -> Result<(), Fail> {
     let rows: [(&str, &str); 2] = [
@@ -538,7 +490,7 @@ fn admits_members_and_finds_clues(rt: HostRuntime) -> Result<(), Fail> {
         ("0 clue inv\n0 clue -\n", "0.5 clue 1 2\n0.6 clue 0 -\n"),
     ];
     for (line, reply) in rows {
-        let script = joined(
+        let script = bytes_of(
             rt.alloc(),
             &[
                 ADMIT_THE_THIRD,
@@ -548,8 +500,11 @@ fn admits_members_and_finds_clues(rt: HostRuntime) -> Result<(), Fail> {
                 line,
             ],
         )?;
-        let want = joined(
+        let is_so = ends_with(
             rt.alloc(),
+            &DEMO,
+            script.as_slice(),
+            0,
             &[
                 "0.1 ok 1 3b9b8378383890d298097d6f65884029554696de63fb03929518fcd45a4706cb 1 3 ",
                 ROOT_OF_THREE,
@@ -560,15 +515,13 @@ fn admits_members_and_finds_clues(rt: HostRuntime) -> Result<(), Fail> {
                 reply,
             ],
         )?;
-        let (status, written) = run(rt.alloc(), &DEMO, script, NEVER, AMPLE, NEVER)?;
-        assert_eq!(rt; written, want, "at {line:?}");
-        assert_eq!(rt; status, 0, "at {line:?}");
+        assert!(rt; is_so, "at {line:?}");
     }
     Ok(())
 }
 
-// Two hundred records of three members over forty clues, with a refused line within a block, are answered as a plain
-// list of journals says.
+// Two hundred records of three members over forty clues, with a refused line within a block, and as
+// many members as there may be, are answered as a plain list of journals says.
 #[test]
 fn answers_like_a_plain_list(rt: HostRuntime) -> Result<(), Fail> {
     let mut plain = Plain::new(rt.alloc())?;
@@ -577,48 +530,24 @@ fn answers_like_a_plain_list(rt: HostRuntime) -> Result<(), Fail> {
     }
     for n in 0..200_u8 {
         let clue = format!(in rt.alloc(); "clue{}", n % 40)?;
-        plain.append(2 + u32::from(n % 3), clue.as_str(), n)?;
+        plain.append(2 + u32::from(n % 3), clue.as_str(), &[n])?;
         match n {
-            100 => plain.admit_again(2, 5)?,
+            100 => plain.refuse_member(2, Refusal::MemberNumber { next: 5 })?,
             120 => plain.clue("clue7")?,
             150 => plain.head()?,
             _ => (),
         }
     }
     plain.clue("clue39")?;
+    for number in 5..256 {
+        plain.admit(number)?;
+    }
+    plain.refuse_member(256, Refusal::MembersFull)?;
     plain.head()?;
     let (script, want) = plain.end_run()?;
-    let (status, written) = run(rt.alloc(), &DEMO, script, NEVER, AMPLE, NEVER)?;
+    let (status, written) = run(rt.alloc(), &DEMO, script.as_slice(), NO_FAULTS)?;
     assert_eq!(rt; written, want);
     assert_eq!(rt; status, 0);
-    Ok(())
-}
-
-// The end of a script ends its last block, and so does a fault of reading; a fault of writing leaves no receipt.
-#[test]
-fn ends_the_last_block(rt: HostRuntime) -> Result<(), Fail> {
-    let rows: [(u64, u64, u8, &[&str]); 3] = [
-        (NEVER, NEVER, 0, &["0.1 ", RECEIPT, "0.2 no 10\n"]),
-        (1, NEVER, 2, &["0.1 ", RECEIPT, "fail 2 read\n"]),
-        (NEVER, 0, 3, &[]),
-    ];
-    for (failing_read, failing_write, want_status, want) in rows {
-        let script = joined(rt.alloc(), &[EMPTY, "0 he"])?;
-        let (status, written) = run(
-            rt.alloc(),
-            &DEMO,
-            script,
-            failing_read,
-            AMPLE,
-            failing_write,
-        )?;
-        assert_eq!(rt;
-            written,
-            joined(rt.alloc(), want)?,
-            "at {failing_read} {failing_write}"
-        );
-        assert_eq!(rt; status, want_status, "at {failing_read} {failing_write}");
-    }
     Ok(())
 }
 
@@ -661,73 +590,93 @@ fn refuses_words(rt: HostRuntime) -> Result<(), Fail> {
         &["init", "d", "n", OPERATOR, "0"],
     ];
     for words in rows {
-        let script = joined(rt.alloc(), &["0 head\n"])?;
-        let (status, written) = run(rt.alloc(), words, script, NEVER, AMPLE, NEVER)?;
-        assert_eq!(rt; written.as_slice(), USAGE.as_bytes(), "at {words:?}");
-        assert_eq!(rt; status, 1, "at {words:?}");
+        let is_so = ends_with(rt.alloc(), words, b"0 head\n", 1, &[USAGE])?;
+        assert!(rt; is_so, "at {words:?}");
     }
     Ok(())
 }
 
-// A line has at most 4,194,304 bytes.
-#[test]
-fn bounds_lines(rt: HostRuntime) -> Result<(), Fail> {
-    let rows: [(usize, u8, &[&str]); 2] = [
-        (4_194_304, 0, &["0.1 ", HEAD, "0.2 no 10\n0.3 ", HEAD]),
-        (4_194_305, 7, &["0.1 ", HEAD, "fail 7 line\n"]),
-    ];
-    for (len, want_status, want) in rows {
-        let mut script = joined(rt.alloc(), &["0 head\n0 "])?;
-        script.resize(len + 7, b'x')?;
-        script.extend_from_slice(b"\n0 head\n")?;
-        let (status, written) = run(rt.alloc(), &DEMO, script, NEVER, AMPLE, NEVER)?;
-        assert_eq!(rt; written, joined(rt.alloc(), want)?, "at {len}");
-        assert_eq!(rt; status, want_status, "at {len}");
-    }
-    Ok(())
+/// What is asked for, and what is written where no fault is met.
+#[derive(Clone, Copy, Debug)]
+struct Asked {
+    words: &'static [&'static str],
+    script: &'static [&'static str],
+    replies: &'static [&'static str],
 }
 
-// What was written before a fault stays, so many bytes of the replies and then a part of the last line. Each reply is
-// written by itself where no journal waits. A fault at the last line changes no status.
+const HEADS: Asked = Asked {
+    words: &DEMO,
+    script: &["0 head\n0 hed\n0 he"],
+    replies: &["0.1 ", HEAD, "0.2 no 10\n0.3 no 10\n"],
+};
+
+const RECORD: Asked = Asked {
+    words: &DEMO,
+    script: &[EMPTY, "0 he"],
+    replies: &["0.1 ", RECEIPT, "0.2 no 10\n"],
+};
+
+const TEXT: Asked = Asked {
+    words: &sign::APPEND,
+    script: &[],
+    replies: &[sign::APPEND_TEXT],
+};
+
+const LEDGER: Asked = Asked {
+    words: &files::INIT,
+    script: &[],
+    replies: &[files::TOLD],
+};
+
+/// What is asked for; the read that fails, the room of the sink and the write that fails; the
+/// status, how many bytes of the replies are written, and what of the last line.
+type Faulty = (Asked, (u64, usize, u64), u8, usize, &'static str);
+
+// What was written before a fault stays. Each reply is written by itself where no journal waits.
+// The end of a script ends its last block, and so does a fault of reading; a fault of writing
+// leaves no receipt. A fault at the last line changes no status. Where a text is signed or a ledger
+// is made nothing is read.
+const FAULTY: [Faulty; 22] = [
+    (HEADS, (NEVER, AMPLE, NEVER), 0, 232, ""),
+    (HEADS, (0, AMPLE, NEVER), 2, 0, "fail 2 read\n"),
+    (HEADS, (0, 6, NEVER), 2, 0, "fail 2"),
+    (HEADS, (0, AMPLE, 0), 2, 0, ""),
+    (HEADS, (1, AMPLE, NEVER), 2, 222, "fail 2 read\n"),
+    (HEADS, (NEVER, AMPLE, 0), 3, 0, ""),
+    (HEADS, (NEVER, AMPLE, 1), 3, 212, ""),
+    (HEADS, (NEVER, 20, 1), 3, 20, ""),
+    (HEADS, (NEVER, 0, NEVER), 3, 0, ""),
+    (HEADS, (NEVER, 20, NEVER), 3, 20, ""),
+    (HEADS, (NEVER, 217, NEVER), 3, 217, ""),
+    (RECORD, (NEVER, AMPLE, NEVER), 0, 153, ""),
+    (RECORD, (1, AMPLE, NEVER), 2, 143, "fail 2 read\n"),
+    (RECORD, (NEVER, AMPLE, 0), 3, 0, ""),
+    (TEXT, (0, AMPLE, NEVER), 0, 194, ""),
+    (TEXT, (NEVER, 194, NEVER), 0, 194, ""),
+    (TEXT, (NEVER, 193, NEVER), 3, 193, ""),
+    (TEXT, (NEVER, 70, 1), 3, 70, ""),
+    (TEXT, (NEVER, AMPLE, 0), 3, 0, ""),
+    (LEDGER, (0, AMPLE, NEVER), 0, 139, ""),
+    (LEDGER, (NEVER, 138, NEVER), 3, 138, ""),
+    (LEDGER, (NEVER, 0, NEVER), 3, 0, ""),
+];
+
+fn ends_so(alloc: Global, row: &Faulty) -> Result<bool, NoMemory> {
+    let (asked, (read, room, write), want_status, count, last) = *row;
+    let script = bytes_of(alloc, asked.script)?;
+    let faults = Faults { read, room, write };
+    let (status, written) = run(alloc, asked.words, script.as_slice(), faults)?;
+    let mut want = bytes_of(alloc, asked.replies)?;
+    want.truncate(count);
+    want.extend_from_slice(last.as_bytes())?;
+    Ok(status == want_status && written == want)
+}
+
 #[test]
 fn tells_faults(rt: HostRuntime) -> Result<(), Fail> {
-    let rows: [(u64, usize, u64, u8, usize, &str); 11] = [
-        (NEVER, AMPLE, NEVER, 0, 232, ""),
-        (0, AMPLE, NEVER, 2, 0, "fail 2 read\n"),
-        (0, 6, NEVER, 2, 0, "fail 2"),
-        (0, AMPLE, 0, 2, 0, ""),
-        (1, AMPLE, NEVER, 2, 222, "fail 2 read\n"),
-        (NEVER, AMPLE, 0, 3, 0, ""),
-        (NEVER, AMPLE, 1, 3, 212, ""),
-        (NEVER, 20, 1, 3, 20, ""),
-        (NEVER, 0, NEVER, 3, 0, ""),
-        (NEVER, 20, NEVER, 3, 20, ""),
-        (NEVER, 217, NEVER, 3, 217, ""),
-    ];
-    for (failing_read, room, failing_write, want_status, replied, last) in rows {
-        let script = joined(rt.alloc(), &["0 head\n0 hed\n0 he"])?;
-        let (status, written) = run(rt.alloc(), &DEMO, script, failing_read, room, failing_write)?;
-        let mut want = joined(rt.alloc(), &["0.1 ", HEAD, "0.2 no 10\n0.3 no 10\n"])?;
-        want.truncate(replied);
-        want.extend_from_slice(last.as_bytes())?;
-        assert_eq!(rt; written, want, "at {failing_read} {room} {failing_write}");
-        assert_eq!(rt;
-            status,
-            want_status,
-            "at {failing_read} {room} {failing_write}"
-        );
+    for row in &FAULTY {
+        let is_so = ends_so(rt.alloc(), row)?;
+        assert!(rt; is_so, "at {row:?}");
     }
-    Ok(())
-}
-
-#[test]
-fn reads_words(rt: HostRuntime) -> Result<(), Fail> {
-    let words = strings(rt.alloc(), &LONG)?;
-    let Some(Command::Dry(genesis)) = Command::read(rt.alloc(), words.as_slice())? else {
-        return Err("these words make a ledger".into());
-    };
-    assert_eq!(rt; genesis.name.as_slice(), LONG_NAME.as_bytes());
-    assert_eq!(rt; genesis.operator, Digest([0xab; 32]));
-    assert_eq!(rt; genesis.regulator, Digest([0xff; 32]));
     Ok(())
 }

@@ -1,14 +1,16 @@
-//! Runs on two disks: a ledger is made, run on and run on again, is damaged, and its disks fail or stop.
+//! Runs on two disks: a ledger is made, run on and run on again, is damaged, and its disks fail or
+//! stop.
 
 use super::*;
-use ledger_disk::{Disk, FuseDisk, Pick};
+use ledger_disk::Disk;
 
-const INIT: [&str; 5] = ["init", "d", "demo", OPERATOR, REGULATOR];
+pub(super) const INIT: [&str; 5] = ["init", "d", "demo", OPERATOR, REGULATOR];
 
-const RUN: [&str; 2] = ["run", "d"];
+pub(super) const RUN: [&str; 2] = ["run", "d"];
 
 // What is told of a new ledger, and its file.
-const TOLD: &str = "ledger 64915354a6547b1f887e596e872fd13b2abdc860729da9fe31180a81726cf4a2 1 \
+pub(super) const TOLD: &str =
+    "ledger 64915354a6547b1f887e596e872fd13b2abdc860729da9fe31180a81726cf4a2 1 \
     64915354a6547b1f887e596e872fd13b2abdc860729da9fe31180a81726cf4a2\n";
 
 const NEW: [&str; 8] = [
@@ -42,53 +44,48 @@ const WHOLE: &str = "\
     16263 00000002004003030303030303030303030303030303030303030303030303030303030303031c736561\
     60873b10becb5d4a75a046056d790b17f79672513778ab540c22c6df\n";
 
-// A script with two heads, and its replies. Its two blocks leave a ledger of 2 journals and one of 5.
-const TWO_BLOCKS: [&str; 6] = [EMPTY, "0 head\n", ABC, EMPTY, ABC, "0 head\n"];
+// Where that record's content stands in the file, and what is told of it and of the head where its
+// first byte is 60.
+const CONTENT_AT: usize = 822;
 
-const HEAD_OF_FIVE: &str =
-    "head 64915354a6547b1f887e596e872fd13b2abdc860729da9fe31180a81726cf4a2 5 \
-    38583702ccdc045d882059aef42fdd392dd14eff76ebc94f02e6901796c21867 3 0 0 \
-    e3b0c44298fc1c149afbf4c8996fb92427ae41e4649b934ca495991b7852b855\n";
-
-const TWO_BLOCKS_REPLIES: [&str; 12] = [
-    "0.1 ",
-    RECEIPT,
-    "0.2 ",
-    HEAD_OF_TWO,
-    "0.3 ok 2 5dce1e0facb27bca97c7d184057935f43b2543b91b68a535096e41bb10211ada 2 5 ",
-    ROOT_OF_FIVE,
-    "\n0.4 ok 3 90b37afd3bc4985eb41d6104df7f9474699d236bed797a53f64e5d43a12b8355 2 5 ",
-    ROOT_OF_FIVE,
-    "\n0.5 ok 4 acd9ad7bfe01f2a9a309a9c7f2398396ebd2654c7a7a95be64ba41cfe9c0a8e0 2 5 ",
-    ROOT_OF_FIVE,
-    "\n0.6 ",
-    HEAD_OF_FIVE,
+const CHANGED_CONTENT_REPLIES: [&str; 4] = [
+    "0.1 no 13 909ac45e439911193205994d09399c29fede977ab212605f29ead5250a812e73 \
+    895cb0a0e456cba430e14f813b551b6792de125c2494cf1c7b089eb2e6c2eeb5\n",
+    "0.2 head 64915354a6547b1f887e596e872fd13b2abdc860729da9fe31180a81726cf4a2 3 ",
+    "45244e5bba01692ff6f59b826791827e96e891465f758d139d92d81a53b478c5",
+    " 2 0 0 e3b0c44298fc1c149afbf4c8996fb92427ae41e4649b934ca495991b7852b855\n",
 ];
 
 const DISK_FAULT: &str = "fail 4 disk\n";
 
-/// The status of a run on these disks, and what it wrote.
-fn run_on<D: Disk>(
+/// Whether a run on these disks ends with this status and writes this text.
+fn ends_on(
     alloc: Global,
     words: &[&str],
     script: &[u8],
-    a: &mut D,
-    b: &mut D,
-) -> Result<(u8, Vec<u8>), NoMemory> {
-    let words = strings(alloc, words)?;
-    let mut source = MemSource::new(Bytes::copy_of(alloc, script)?, Vec::new(alloc));
-    let mut sink = MemSink::new(alloc, AMPLE, Vec::new(alloc))?;
-    let words = words.as_slice();
-    let status = ledger_top(alloc, words, &mut source, &mut sink, a, b, &TagScheme);
-    Ok((status, sink.written_bytes().to_vec(alloc)?))
+    want_status: u8,
+    want: &[&str],
+    a: &mut MemDisk,
+    b: &mut MemDisk,
+) -> Result<bool, NoMemory> {
+    let (status, written) = run_on(alloc, words, script, NO_FAULTS, a, b)?;
+    let want = bytes_of(alloc, want)?;
+    Ok(status == want_status && written == want)
 }
 
-fn decoded(alloc: Global, text: &[&str]) -> Result<Vec<u8>, Fail> {
+fn bytes_of_digits(alloc: Global, text: &[&str]) -> Result<Vec<u8>, Fail> {
     let mut bytes = Vec::new(alloc);
     for line in text {
         bytes.extend_from_slice(&hex::decode(alloc, line)?)?;
     }
     Ok(bytes)
+}
+
+/// Whether this is the file of a new ledger.
+fn is_new(alloc: Global, disk: &MemDisk) -> Result<bool, Fail> {
+    let file = disk.bytes()?;
+    let new = bytes_of_digits(alloc, &NEW)?;
+    Ok(file.as_slice() == new.as_slice())
 }
 
 /// A disk of so much room, of which the calls with these numbers fail.
@@ -105,7 +102,7 @@ fn disk_of(alloc: Global, bytes: &[u8]) -> Result<MemDisk, Fail> {
 }
 
 /// These bytes with others from a place on.
-fn changed(alloc: Global, bytes: &[u8], at: usize, to: &[u8]) -> Result<Vec<u8>, NoMemory> {
+fn with_bytes(alloc: Global, bytes: &[u8], at: usize, to: &[u8]) -> Result<Vec<u8>, NoMemory> {
     let mut bytes = bytes.to_vec(alloc)?;
     for (index, byte) in to.iter().enumerate() {
         if let Some(place) = bytes.get_mut(at.saturating_add(index)) {
@@ -129,52 +126,51 @@ fn makes_a_ledger_once(rt: HostRuntime) -> Result<(), Fail> {
         (&RUN, 0, &["0.1 ", HEAD]),
     ];
     for (words, want_status, want) in rows {
-        let (status, written) = run_on(alloc, words, b"0 head\n", &mut a, &mut b)?;
-        assert_eq!(rt; written, joined(alloc, want)?, "at {words:?}");
-        assert_eq!(rt; status, want_status, "at {words:?}");
-        if want_status == 0 {
-            assert_eq!(rt; a.bytes()?.as_slice(), decoded(alloc, &NEW)?.as_slice());
-            assert_eq!(rt; b.len(), Ok(0));
-        }
+        let is_so = ends_on(alloc, words, b"0 head\n", want_status, want, &mut a, &mut b)?;
+        assert!(rt; is_so, "at {words:?}");
     }
+    assert!(rt; is_new(alloc, &a)?);
+    assert_eq!(rt; b.len(), Ok(0));
     Ok(())
 }
 
-// The line that tells a new ledger may be cut off by a fault of the sink. The ledger is made by then.
-#[test]
-fn tells_faults_of_making(rt: HostRuntime) -> Result<(), Fail> {
-    let alloc = rt.alloc();
-    let words = strings(alloc, &INIT)?;
-    let words = words.as_slice();
-    for (room, want_status) in [(AMPLE, 0), (138, 3), (0, 3)] {
-        // Input that would fail is left unread.
-        let mut source = MemSource::new(Bytes::of(Vec::new(alloc)), [0].to_vec(alloc)?);
-        let mut sink = MemSink::new(alloc, room, Vec::new(alloc))?;
-        let mut a = disk_of(alloc, &[])?;
-        let mut b = disk_of(alloc, &[])?;
-        let status = ledger_top(
-            alloc,
-            words,
-            &mut source,
-            &mut sink,
-            &mut a,
-            &mut b,
-            &TagScheme,
-        );
-        let mut want = joined(alloc, &[TOLD])?;
-        want.truncate(room);
-        assert_eq!(rt; sink.written_bytes(), want.as_slice(), "at {room}");
-        assert_eq!(rt; status, want_status, "at {room}");
-        assert_eq!(rt; a.bytes()?.as_slice(), decoded(alloc, &NEW)?.as_slice());
+/// These bytes with the bytes of digits at each of these places.
+fn with_changes(
+    alloc: Global,
+    bytes: &[u8],
+    changes: &[(usize, &[&str])],
+) -> Result<Vec<u8>, Fail> {
+    let mut bytes = bytes.to_vec(alloc)?;
+    for (at, digits) in changes {
+        let to = bytes_of_digits(alloc, digits)?;
+        bytes = with_bytes(alloc, bytes.as_slice(), *at, to.as_slice())?;
     }
-    Ok(())
+    Ok(bytes)
+}
+
+/// Whether a run on this file ends with this status and writes this line, and leaves the file as it
+/// was.
+fn is_damage(alloc: Global, file: &[u8], want_status: u8, want: &str) -> Result<bool, Fail> {
+    let mut a = disk_of(alloc, file)?;
+    let mut b = disk_of(alloc, &[])?;
+    let is_told = ends_on(
+        alloc,
+        &RUN,
+        b"0 head\n",
+        want_status,
+        &[want],
+        &mut a,
+        &mut b,
+    )?;
+    let left = a.bytes()?;
+    Ok(is_told && left.as_slice() == file)
 }
 
 // Each kind of damage. Nothing is read, and the file stays as it was.
 #[test]
 fn tells_damages(rt: HostRuntime) -> Result<(), Fail> {
     let alloc = rt.alloc();
-    let new = decoded(alloc, &NEW)?;
+    let new = bytes_of_digits(alloc, &NEW)?;
     let rows: [(&[(usize, &[&str])], u8, &str); 10] = [
         (&[(1, &["00"])], 5, "fail 5 magic\n"),
         (&[(9, &["07"])], 9, "fail 9 format 7\n"),
@@ -216,40 +212,36 @@ fn tells_damages(rt: HostRuntime) -> Result<(), Fail> {
         ),
     ];
     for (changes, want_status, want) in rows {
-        let mut file = new.to_vec(alloc)?;
-        for (at, to) in changes {
-            file = changed(alloc, &file, *at, &decoded(alloc, to)?)?;
-        }
-        let mut a = disk_of(alloc, &file)?;
-        let mut b = disk_of(alloc, &[])?;
-        let (status, written) = run_on(alloc, &RUN, b"0 head\n", &mut a, &mut b)?;
-        assert_eq!(rt; written.as_slice(), want.as_bytes());
-        assert_eq!(rt; status, want_status, "at {want:?}");
-        assert_eq!(rt; a.bytes()?.as_slice(), file.as_slice(), "at {want:?}");
+        let file = with_changes(alloc, new.as_slice(), changes)?;
+        let is_so = is_damage(alloc, file.as_slice(), want_status, want)?;
+        assert!(rt; is_so, "at {want:?}");
     }
     Ok(())
+}
+
+/// The status with which a ledger is made on disks of so much room, of which the first fails at
+/// these calls. None where another line is told than that status has.
+fn status_of_making(alloc: Global, room: usize, fail_at: &[u64]) -> Result<Option<u8>, NoMemory> {
+    let mut a = disk_with(alloc, room, fail_at)?;
+    let mut b = disk_with(alloc, room, &[])?;
+    let (status, written) = run_on(alloc, &INIT, b"", NO_FAULTS, &mut a, &mut b)?;
+    let want = if status == 0 { TOLD } else { DISK_FAULT };
+    Ok(Some(status).filter(|_| written.as_slice() == want.as_bytes()))
 }
 
 // A new ledger takes 352 bytes. Where a call of a disk fails nothing is told of it.
 #[test]
 fn tells_faults_of_disks(rt: HostRuntime) -> Result<(), Fail> {
     let alloc = rt.alloc();
-    for (room, want_status, want) in [(0, 4, DISK_FAULT), (351, 4, DISK_FAULT), (352, 0, TOLD)] {
-        let mut a = disk_with(alloc, room, &[])?;
-        let mut b = disk_with(alloc, room, &[])?;
-        let (status, written) = run_on(alloc, &INIT, b"", &mut a, &mut b)?;
-        assert_eq!(rt; written.as_slice(), want.as_bytes(), "at {room}");
-        assert_eq!(rt; status, want_status, "at {room}");
+    for (room, want) in [(0, 4), (351, 4), (352, 0)] {
+        let status = status_of_making(alloc, room, &[])?;
+        assert!(rt; status == Some(want), "at {room}");
     }
     let mut failed = 0u32;
     for call in 0..30 {
-        let mut a = disk_with(alloc, AMPLE, &[call])?;
-        let mut b = disk_with(alloc, AMPLE, &[])?;
-        let (status, written) = run_on(alloc, &INIT, b"", &mut a, &mut b)?;
-        let want = if status == 4 { DISK_FAULT } else { TOLD };
-        assert_eq!(rt; written.as_slice(), want.as_bytes(), "at {call}");
-        assert!(rt; status == 4 || status == 0, "at {call}");
-        if status == 4 {
+        let status = status_of_making(alloc, AMPLE, &[call])?;
+        assert!(rt; status == Some(4) || status == Some(0), "at {call}");
+        if status == Some(4) {
             failed = failed.saturating_add(1);
         }
     }
@@ -257,146 +249,42 @@ fn tells_faults_of_disks(rt: HostRuntime) -> Result<(), Fail> {
     Ok(())
 }
 
-// What one run placed the next one finds, reads back and goes on from.
+// What one run placed the next one finds, reads back and goes on from, and a byte that was changed
+// between two runs is told. Ill-formed lines and words change nothing.
 #[test]
 fn reads_journals_back_in_the_next_run(rt: HostRuntime) -> Result<(), Fail> {
     let alloc = rt.alloc();
     let mut a = disk_of(alloc, &[])?;
     let mut b = disk_of(alloc, &[])?;
-    let rows: [(&[&str], &[&str], &[&str]); 3] = [
-        (&INIT, &[], &[TOLD]),
+    let rows: [(&[&str], u8, &[&str], &[&str]); 5] = [
+        (&INIT, 0, &[], &[TOLD]),
+        (&RUN, 0, &[ILL_FORMED], &[ILL_FORMED_REPLIES]),
+        (&["dry", "demo"], 1, &[], &[USAGE]),
         (
             &RUN,
+            0,
             &[ADMIT_THE_THIRD, INVOICE, "0 head"],
             &MEMBER_AND_INVOICE,
         ),
         (
             &RUN,
+            0,
             &["0 get 2\n0 get 3\n0 clue inv\n", ADMIT_THE_THIRD],
             &[WHOLE, "0.2 no 20 3\n0.3 clue 1 2\n0.4 no 18 3\n"],
         ),
     ];
-    for (words, script, want) in rows {
-        let script = joined(alloc, script)?;
-        let (status, written) = run_on(alloc, words, script.as_slice(), &mut a, &mut b)?;
-        assert_eq!(rt; written, joined(alloc, want)?);
-        assert_eq!(rt; status, 0);
+    for (words, want_status, script, want) in rows {
+        let script = bytes_of(alloc, script)?;
+        let script = script.as_slice();
+        let is_so = ends_on(alloc, words, script, want_status, want, &mut a, &mut b)?;
+        assert!(rt; is_so, "at {want:?}");
     }
-    Ok(())
-}
-
-// A hundred and twenty records in three runs are answered as a plain list of journals says.
-#[test]
-fn goes_on_like_a_plain_list(rt: HostRuntime) -> Result<(), Fail> {
-    let alloc = rt.alloc();
-    let mut plain = Plain::new(alloc)?;
-    let mut a = disk_of(alloc, &[])?;
-    let mut b = disk_of(alloc, &[])?;
-    let (status, _) = run_on(alloc, &INIT, b"", &mut a, &mut b)?;
-    assert_eq!(rt; status, 0);
-    for part in 0..3_u8 {
-        plain.admit(2 + u32::from(part))?;
-        for n in 0..40_u8 {
-            let clue = format!(in alloc; "clue{}", n % 20)?;
-            plain.append(2 + u32::from(part), clue.as_str(), n)?;
-        }
-        plain.clue("clue7")?;
-        plain.head()?;
-        plain.append(2, "last", part)?;
-        let (script, want) = plain.end_run()?;
-        let (status, written) = run_on(alloc, &RUN, script.as_slice(), &mut a, &mut b)?;
-        assert_eq!(rt; written, want, "at {part}");
-        assert_eq!(rt; status, 0, "at {part}");
-    }
-    Ok(())
-}
-
-/// The size of the ledger that a run finds on these disks; 0 where there is none.
-fn size_found(alloc: Global, mut a: MemDisk, mut b: MemDisk) -> Result<usize, Fail> {
-    let (status, written) = run_on(alloc, &RUN, b"0 head\n", &mut a, &mut b)?;
-    let rows: [(usize, u8, &[&str]); 4] = [
-        (0, 8, &["fail 8 empty\n"]),
-        (1, 0, &["0.1 ", HEAD]),
-        (2, 0, &["0.1 ", HEAD_OF_TWO]),
-        (5, 0, &["0.1 ", HEAD_OF_FIVE]),
-    ];
-    for (size, want_status, want) in rows {
-        if status == want_status && written == joined(alloc, want)? {
-            return Ok(size);
-        }
-    }
-    Err("no block ends there".into())
-}
-
-/// The replies that were written whole before a fault of a disk, or all of them.
-fn replies_of(status: u8, written: Vec<u8>) -> Vec<u8> {
-    let mut replies = written;
-    if status == 4 && replies.ends_with(DISK_FAULT.as_bytes()) {
-        replies.truncate(replies.len().saturating_sub(DISK_FAULT.len()));
-    }
-    replies
-}
-
-/// How many of these replies to the script of two blocks are receipts.
-fn receipts_in(replies: &[u8]) -> usize {
-    let lines = replies.iter().filter(|byte| **byte == b'\n').count();
-    [0, 1, 1, 2, 3, 4, 4]
-        .get(lines)
-        .copied()
-        .unwrap_or(usize::MAX)
-}
-
-/// What one of the disks leaves that stops after so many calls: whether the run was done, the receipts that were
-/// written, and the least size that is found on the images of both.
-fn stop(alloc: Global, calls_of_a: u64, calls_of_b: u64) -> Result<(bool, usize, usize), Fail> {
-    let mut a = FuseDisk::new(disk_with(alloc, AMPLE, &[])?, calls_of_a);
-    let mut b = FuseDisk::new(disk_with(alloc, AMPLE, &[])?, calls_of_b);
-    let script = joined(alloc, &TWO_BLOCKS)?;
-    let (status, written) = run_on(alloc, &DEMO, script.as_slice(), &mut a, &mut b)?;
-    let replies = replies_of(status, written);
-    let want = joined(alloc, &TWO_BLOCKS_REPLIES)?;
-    let is_done = status == 0 && replies == want;
-    if !is_done && !(status == 4 && want.starts_with(replies.as_slice())) {
-        return Err("these are no replies to that script".into());
-    }
-    let (a, b) = (a.into_inner(), b.into_inner());
-    let mut least = usize::MAX;
-    for of_a in [Pick::AllWritten, Pick::NoneWritten, Pick::Torn(1)] {
-        for of_b in [Pick::AllWritten, Pick::NoneWritten] {
-            let size = size_found(alloc, a.crash(of_a)?, b.crash(of_b)?)?;
-            if size < least {
-                least = size;
-            }
-        }
-    }
-    Ok((is_done, receipts_in(replies.as_slice()), least))
-}
-
-// The journal of each receipt that was written is in the ledger that is found after the disks stopped.
-#[test]
-fn keeps_receipts_wherever_a_disk_stops(rt: HostRuntime) -> Result<(), Fail> {
-    let alloc = rt.alloc();
-    for stops_a in [true, false] {
-        let mut stops = 0u32;
-        for calls in 0..40 {
-            let (of_a, of_b) = if stops_a {
-                (calls, NEVER)
-            } else {
-                (NEVER, calls)
-            };
-            let (is_done, receipts, size) = stop(alloc, of_a, of_b)?;
-            assert!(rt;
-                receipts < size || (receipts == 0 && size == 0),
-                "at {of_a} {of_b}"
-            );
-            if is_done {
-                assert_eq!(rt; size, 5, "at {of_a} {of_b}");
-                break;
-            }
-            stops = stops.saturating_add(1);
-        }
-        // The run is done before the calls come to an end, and not at once.
-        assert!(rt; stops < 40 && stops > if stops_a { 10 } else { 0 });
-    }
+    let file = a.bytes()?;
+    let file = with_bytes(alloc, file.as_slice(), CONTENT_AT, &[0x60])?;
+    let mut a = disk_of(alloc, &file)?;
+    let script = b"0 get 2\n0 head\n";
+    let want = &CHANGED_CONTENT_REPLIES;
+    let is_so = ends_on(alloc, &RUN, script, 0, want, &mut a, &mut b)?;
+    assert!(rt; is_so);
     Ok(())
 }

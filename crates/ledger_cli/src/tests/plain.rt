@@ -2,28 +2,42 @@ use journal_record::{
     Header, Kind, clue_digest, content_digest, member_request_digest, request_digest, tag_of,
     who_digest,
 };
-use ledger_bytes::{Digest, Items, NoMemory, Refusal, Sha, TreeHash};
+use ledger_bytes::{Bytes, Digest, Items, NoMemory, Refusal, Sha, TreeHash};
 use ledger_model::{Answer, Due};
 use script_lines::{Reply, put_reply};
 use std::alloc::Global;
 
-/// A ledger as the plain list of its headers, with a script and the replies to it. It has no index of clues, and makes
-/// each root anew over all leaves.
+/// A journal with its leaf, its content and the bytes of who placed it.
+#[derive(Drop)]
+struct Entry {
+    header: Header,
+    leaf: Digest,
+    content: Vec<u8>,
+    who: Vec<u8>,
+}
+
+/// A ledger as the plain list of its journals, with a script and the replies to it. It has no index
+/// of clues, and makes each root anew over all leaves.
 #[derive(Drop)]
 pub(super) struct Plain {
     alloc: Global,
     id: Digest,
-    headers: Vec<Header>,
-    ended: usize,
-    blocks: u64,
+    entries: Vec<Entry>,
+    // the size of the ledger where each block ends, and the root where the last of them does
+    ends: Vec<usize>,
+    root: Digest,
     index: u64,
+    // what the window at hand has already
+    lines: u64,
+    bytes: u64,
     dues: Vec<Due>,
     script: Vec<u8>,
     replies: Vec<u8>,
 }
 
 impl Plain {
-    /// A new ledger with the name demo, whose operator has the key of 32 bytes 1 and whose regulator that of 32 bytes 2.
+    /// A new ledger with the name demo, whose operator has the key of 32 bytes 1 and whose
+    /// regulator that of 32 bytes 2.
     pub(super) fn new(alloc: Global) -> Result<Self, NoMemory> {
         let mut keys = [1; 64];
         keys[32..].fill(2);
@@ -37,18 +51,27 @@ impl Plain {
             clue_prev: 0,
             a: 0,
             b: 0,
-            link: tagged(11, &[b"demo"]),
+            link: digest_of(11, &[b"demo"]),
             content_len: 64,
             content_digest: content_digest(&keys),
             who_digest: who_digest(b""),
         };
+        let id = leaf(&header);
+        let genesis = Entry {
+            header,
+            leaf: id,
+            content: keys.to_vec(alloc)?,
+            who: Vec::new(alloc),
+        };
         Ok(Plain {
             alloc,
-            id: leaf(&header),
-            headers: vec![in alloc; header]?,
-            ended: 1,
-            blocks: 1,
+            id,
+            entries: vec![in alloc; genesis]?,
+            ends: vec![in alloc; 1]?,
+            root: id,
             index: 0,
+            lines: 0,
+            bytes: 0,
             dues: Vec::new(alloc),
             script: Vec::new(alloc),
             replies: Vec::new(alloc),
@@ -67,21 +90,26 @@ impl Plain {
             content_digest: content_digest(b""),
             ..self.record(0, &clue_digest(b""), &proof)
         };
-        self.place(header)
+        self.place(header, b"", &proof)
     }
 
-    /// Asks for a member whose number isn't the next one.
-    pub(super) fn admit_again(&mut self, number: u32, next: u32) -> Result<(), NoMemory> {
+    /// Asks for a member, which is refused.
+    pub(super) fn refuse_member(&mut self, number: u32, refusal: Refusal) -> Result<(), NoMemory> {
         self.say_member(number, &key_of(number))?;
-        self.answer(Answer::Reply(Reply::Refused(Refusal::MemberNumber { next })))
+        self.answer(Answer::Reply(Reply::Refused(refusal)))
     }
 
-    /// Places a record of one byte with a clue.
-    pub(super) fn append(&mut self, member: u32, clue: &str, byte: u8) -> Result<(), NoMemory> {
+    /// Places a record with a clue.
+    pub(super) fn append(
+        &mut self,
+        member: u32,
+        clue: &str,
+        content: &[u8],
+    ) -> Result<(), NoMemory> {
         let named = clue_digest(clue.as_bytes());
-        let content = [byte];
-        let digest = content_digest(&content);
-        let request = request_digest(&self.id, member, &named, 1, &digest);
+        let len = content.len().min(65_536) as u32;
+        let digest = content_digest(content);
+        let request = request_digest(&self.id, member, &named, len, &digest);
         let proof = proof_of(member, &request);
         let member_text = member.to_string(self.alloc)?;
         let content_text = hex::encode(self.alloc, content)?;
@@ -91,11 +119,43 @@ impl Plain {
         )?;
         let header = Header {
             link: request,
-            content_len: 1,
+            content_len: len,
             content_digest: digest,
             ..self.record(member, &named, &proof)
         };
-        self.place(header)
+        self.place(header, content, &proof)
+    }
+
+    /// Says a line with an unknown verb.
+    pub(super) fn misspell(&mut self) -> Result<(), NoMemory> {
+        self.say(&["hed"], b"")?;
+        self.answer(Answer::Reply(Reply::Refused(Refusal::BadVerb)))
+    }
+
+    /// Says such lines until the window ends.
+    pub(super) fn fill_window(&mut self) -> Result<(), NoMemory> {
+        for _ in self.lines..4_096 {
+            self.misspell()?;
+        }
+        Ok(())
+    }
+
+    /// Asks for a journal.
+    pub(super) fn get(&mut self, n: usize) -> Result<(), NoMemory> {
+        let text = n.to_string(self.alloc)?;
+        self.say(&["get", text.as_str()], b"")?;
+        self.end_block()?;
+        let reply = match self.entries.get(n) {
+            Some(entry) => Reply::Whole {
+                header: entry.header.encode(),
+                content: Bytes::copy_of(self.alloc, &entry.content)?,
+                who: Bytes::copy_of(self.alloc, &entry.who)?,
+            },
+            None => Reply::Refused(Refusal::NoJournal {
+                size: self.entries.len() as u64,
+            }),
+        };
+        self.answer(Answer::Reply(reply))
     }
 
     /// Asks for a clue's journals.
@@ -105,10 +165,10 @@ impl Plain {
         let named = clue_digest(clue.as_bytes());
         let mut count = 0;
         let mut kept = Vec::new(self.alloc);
-        for header in &self.headers {
-            if header.clue == named {
-                count = header.clue_ord;
-                kept.push(header.jsn)?;
+        for entry in &self.entries {
+            if entry.header.clue == named {
+                count = entry.header.clue_ord;
+                kept.push(entry.header.jsn)?;
             }
         }
         self.answer(Answer::Reply(Reply::Clue {
@@ -123,9 +183,9 @@ impl Plain {
         self.end_block()?;
         let head = Reply::Head {
             id: self.id,
-            size: self.headers.len() as u64,
-            root: self.root()?,
-            blocks: self.blocks,
+            size: self.entries.len() as u64,
+            root: self.root,
+            blocks: self.ends.len() as u64,
             point: 0,
             notary_size: 0,
             notary_root: Sha::empty(),
@@ -133,12 +193,34 @@ impl Plain {
         self.answer(Answer::Reply(head))
     }
 
-    /// The script so far, and the replies to it once it has ended. What follows is the next script on the ledger.
+    /// How many journals there are, also in the open block.
+    pub(super) fn size(&self) -> usize {
+        self.entries.len()
+    }
+
+    /// The size of the ledger where each block ends.
+    pub(super) fn ends(&self) -> &[usize] {
+        self.ends.as_slice()
+    }
+
+    /// Takes back all journals from this size on, where a block ends.
+    pub(super) fn cut(&mut self, size: usize) -> Result<(), NoMemory> {
+        let blocks = self.ends.iter().filter(|end| **end <= size).count();
+        self.ends.truncate(blocks);
+        self.entries.truncate(size);
+        self.root = self.root_over()?;
+        Ok(())
+    }
+
+    /// The script so far, and the replies to it once it has ended. What follows is the next script
+    /// on the ledger.
     pub(super) fn end_run(&mut self) -> Result<(Vec<u8>, Vec<u8>), NoMemory> {
         self.end_block()?;
         let script = self.script.as_slice().to_vec(self.alloc)?;
         let replies = self.replies.as_slice().to_vec(self.alloc)?;
         self.index = 0;
+        self.lines = 0;
+        self.bytes = 0;
         self.script.clear();
         self.replies.clear();
         Ok((script, replies))
@@ -154,6 +236,7 @@ impl Plain {
 
     // A line of the script with these fields, and the proof as the last where there is one.
     fn say(&mut self, fields: &[&str], proof: &[u8]) -> Result<(), NoMemory> {
+        let before = self.script.len();
         self.index = self.index.saturating_add(1);
         self.script.extend_from_slice(b"0")?;
         for field in fields {
@@ -165,6 +248,9 @@ impl Plain {
             self.script.extend_from_slice(b" ")?;
             self.script.extend_from_slice(text.as_bytes())?;
         }
+        let len = self.script.len().saturating_sub(before);
+        self.lines = self.lines.saturating_add(1);
+        self.bytes = self.bytes.saturating_add(len as u64);
         self.script.extend_from_slice(b"\n")?;
         Ok(())
     }
@@ -172,10 +258,10 @@ impl Plain {
     // The next journal's header, but for its content and its link.
     fn record(&self, member: u32, clue: &Digest, proof: &[u8; 64]) -> Header {
         let (mut clue_ord, mut clue_prev) = (1, 0);
-        for header in &self.headers {
-            if header.clue == *clue {
-                clue_ord = header.clue_ord.saturating_add(1);
-                clue_prev = header.jsn;
+        for entry in &self.entries {
+            if entry.header.clue == *clue {
+                clue_ord = entry.header.clue_ord.saturating_add(1);
+                clue_prev = entry.header.jsn;
             }
         }
         if *clue == clue_digest(b"") {
@@ -185,7 +271,7 @@ impl Plain {
         Header {
             version: 1,
             kind: Kind::Content,
-            jsn: self.headers.len() as u64,
+            jsn: self.entries.len() as u64,
             member,
             clue: *clue,
             clue_ord,
@@ -195,57 +281,75 @@ impl Plain {
             link: Digest([0; 32]),
             content_len: 0,
             content_digest: Digest([0; 32]),
-            who_digest: tagged(10, &[&member.to_be_bytes(), &[0, 64], proof]),
+            who_digest: digest_of(10, &[&member.to_be_bytes(), &[0, 64], proof]),
         }
     }
 
-    fn place(&mut self, header: Header) -> Result<(), NoMemory> {
+    fn place(&mut self, header: Header, content: &[u8], proof: &[u8; 64]) -> Result<(), NoMemory> {
         let jsn = header.jsn;
         let leaf = leaf(&header);
-        self.headers.push(header)?;
+        let mut who = header.member.to_be_bytes().to_vec(self.alloc)?;
+        who.extend_from_slice(&[0, 64])?;
+        who.extend_from_slice(proof)?;
+        self.entries.push(Entry {
+            header,
+            leaf,
+            content: content.to_vec(self.alloc)?,
+            who,
+        })?;
         self.answer(Answer::Receipt {
             jsn,
             leaf,
             stamp: None,
         })?;
-        if self.headers.len().saturating_sub(self.ended) >= 64 {
+        if self.entries.len().saturating_sub(self.ended()) >= 64 {
             self.end_block()?;
         }
         Ok(())
     }
 
+    // The answer to the line at hand, which may be the last of its window.
     fn answer(&mut self, answer: Answer) -> Result<(), NoMemory> {
         self.dues.push(Due {
             lane: 0,
             index: self.index,
             answer,
         })?;
+        if self.lines >= 4_096 || self.bytes >= 16_777_216 {
+            self.lines = 0;
+            self.bytes = 0;
+            self.end_block()?;
+        }
         Ok(())
     }
 
+    // How many journals stand in blocks that have ended.
+    fn ended(&self) -> usize {
+        self.ends.last().copied().unwrap_or(0)
+    }
+
     fn end_block(&mut self) -> Result<(), NoMemory> {
-        let size = self.headers.len();
-        if self.ended < size {
-            self.ended = size;
-            self.blocks = self.blocks.saturating_add(1);
+        let size = self.entries.len();
+        if self.ended() < size {
+            self.ends.push(size)?;
+            self.root = self.root_over()?;
         }
-        let root = self.root()?;
-        let block = self.blocks.saturating_sub(1);
+        let block = self.ends.len().saturating_sub(1) as u64;
         for due in &self.dues {
-            put_due(&mut self.replies, due, block, size as u64, root)?;
+            put_due(&mut self.replies, due, block, size as u64, self.root)?;
         }
         self.dues.clear();
         Ok(())
     }
 
     // The root over all leaves, level by level; there are fewer than 1,024.
-    fn root(&self) -> Result<Digest, NoMemory> {
+    fn root_over(&self) -> Result<Digest, NoMemory> {
         let mut level = Vec::new(self.alloc);
-        for header in &self.headers {
-            level.push(leaf(header))?;
+        for entry in &self.entries {
+            level.push(entry.leaf)?;
         }
         for _ in 0..10 {
-            level = halved(self.alloc, level.as_slice())?;
+            level = nodes_over(self.alloc, level.as_slice())?;
         }
         Ok(level.first().copied().unwrap_or(Sha::empty()))
     }
@@ -274,24 +378,29 @@ fn put_due(
     }
 }
 
-// The nodes over each two of a level's digests. One without a second goes up as it is.
-fn halved(alloc: Global, level: &[Digest]) -> Result<Vec<Digest>, NoMemory> {
+// The nodes over each two of a level's digests.
+fn nodes_over(alloc: Global, level: &[Digest]) -> Result<Vec<Digest>, NoMemory> {
     let mut above = Vec::new(alloc);
     for pair in level.chunks(2) {
-        match pair {
-            [left, right] => above.push(tagged(1, &[&left.0, &right.0]))?,
-            [left] => above.push(*left)?,
-            _ => (),
-        }
+        above.push(node_over(pair))?;
     }
     Ok(above)
 }
 
-fn leaf(header: &Header) -> Digest {
-    tagged(0, &[&header.encode()])
+// The node over two digests. One without a second goes up as it is.
+fn node_over(pair: &[Digest]) -> Digest {
+    let left = pair.first().copied().unwrap_or(Sha::empty());
+    match pair.get(1) {
+        Some(right) => digest_of(1, &[&left.0, &right.0]),
+        None => left,
+    }
 }
 
-fn tagged(tag: u8, pieces: &[&[u8]]) -> Digest {
+fn leaf(header: &Header) -> Digest {
+    digest_of(0, &[&header.encode()])
+}
+
+fn digest_of(tag: u8, pieces: &[&[u8]]) -> Digest {
     let mut hasher = Sha::start(tag);
     for piece in pieces {
         hasher.add(piece);

@@ -1,5 +1,4 @@
 use super::*;
-use crate::{Request, Signing};
 
 // The identity of the ledger for trial, and the leaf of one of its journals.
 const ID: &str = "64915354a6547b1f887e596e872fd13b2abdc860729da9fe31180a81726cf4a2";
@@ -11,9 +10,10 @@ const THIRD: &str = "03030303030303030303030303030303030303030303030303030303030
 
 const FOURTH: &str = "0404040404040404040404040404040404040404040404040404040404040404";
 
-const APPEND: [&str; 7] = ["sign", ID, THIRD, "append", "2", "inv", "616263"];
+pub(super) const APPEND: [&str; 7] = ["sign", ID, THIRD, "append", "2", "inv", "616263"];
 
-const APPEND_TEXT: &str = "c91e8e640e57e2e878b7b2840e07636c07539496336fbcc57c40f1cc60c359fc\n\
+pub(super) const APPEND_TEXT: &str =
+    "c91e8e640e57e2e878b7b2840e07636c07539496336fbcc57c40f1cc60c359fc\n\
     0303030303030303030303030303030303030303030303030303030303030303\
     1c73656160873b10becb5d4a75a046056d790b17f79672513778ab540c22c6df\n";
 
@@ -48,42 +48,8 @@ fn signs_requests(rt: HostRuntime) -> Result<(), Fail> {
         ),
     ];
     for (words, want) in rows {
-        let script = joined(rt.alloc(), &["0 head\n"])?;
-        let (status, written) = run(rt.alloc(), words, script, NEVER, AMPLE, NEVER)?;
-        assert_eq!(rt; written.as_slice(), want.as_bytes(), "at {words:?}");
-        assert_eq!(rt; status, 0, "at {words:?}");
-    }
-    Ok(())
-}
-
-// Nothing is read: a source that would fail makes no difference. A fault of writing leaves a part.
-#[test]
-fn tells_faults_of_signing(rt: HostRuntime) -> Result<(), Fail> {
-    let rows: [(u64, usize, u64, u8, usize); 5] = [
-        (0, AMPLE, NEVER, 0, 194),
-        (NEVER, 194, NEVER, 0, 194),
-        (NEVER, 193, NEVER, 3, 193),
-        (NEVER, 70, 1, 3, 70),
-        (NEVER, AMPLE, 0, 3, 0),
-    ];
-    for (failing_read, room, failing_write, want_status, len) in rows {
-        let script = joined(rt.alloc(), &["0 head\n"])?;
-        let (status, written) = run(
-            rt.alloc(),
-            &APPEND,
-            script,
-            failing_read,
-            room,
-            failing_write,
-        )?;
-        let mut want = joined(rt.alloc(), &[APPEND_TEXT])?;
-        want.truncate(len);
-        assert_eq!(rt; written, want, "at {failing_read} {room} {failing_write}");
-        assert_eq!(rt;
-            status,
-            want_status,
-            "at {failing_read} {room} {failing_write}"
-        );
+        let is_so = ends_with(rt.alloc(), words, b"0 head\n", 0, &[want])?;
+        assert!(rt; is_so, "at {words:?}");
     }
     Ok(())
 }
@@ -113,33 +79,17 @@ fn refuses_words_to_sign(rt: HostRuntime) -> Result<(), Fail> {
         &["sign", ID, THIRD, "append", "2", "inv", "6g"],
     ];
     for words in rows {
-        let (status, written) = run(rt.alloc(), words, Vec::new(rt.alloc()), NEVER, AMPLE, NEVER)?;
-        assert_eq!(rt; written.as_slice(), USAGE.as_bytes(), "at {words:?}");
-        assert_eq!(rt; status, 1, "at {words:?}");
+        let is_so = ends_with(rt.alloc(), words, b"", 1, &[USAGE])?;
+        assert!(rt; is_so, "at {words:?}");
     }
     Ok(())
 }
 
 // The status and the length of the text, for a record with this clue and this content.
 fn sign_append(alloc: Global, clue: &str, content: &str) -> Result<(u8, usize), NoMemory> {
-    let mut words = strings(alloc, &["sign", ID, THIRD, "append", "4294967295"])?;
-    words.push(String::from_str(alloc, clue)?)?;
-    words.push(String::from_str(alloc, content)?)?;
-    let mut source = MemSource::new(Bytes::of(Vec::new(alloc)), Vec::new(alloc));
-    let mut sink = MemSink::new(alloc, AMPLE, Vec::new(alloc))?;
-    let mut a = MemDisk::new(alloc, 0, Vec::new(alloc))?;
-    let mut b = MemDisk::new(alloc, 0, Vec::new(alloc))?;
-    let words = words.as_slice();
-    let status = ledger_top(
-        alloc,
-        words,
-        &mut source,
-        &mut sink,
-        &mut a,
-        &mut b,
-        &TagScheme,
-    );
-    Ok((status, sink.written_bytes().len()))
+    let words = ["sign", ID, THIRD, "append", "4294967295", clue, content];
+    let (status, written) = run(alloc, &words, b"", NO_FAULTS)?;
+    Ok((status, written.len()))
 }
 
 // A clue's name has at most 64 bytes, a newline among them, and a content at most 65,536.
@@ -154,26 +104,5 @@ fn bounds_words_to_sign(rt: HostRuntime) -> Result<(), Fail> {
     assert_eq!(rt; sign_append(alloc, "-", content.as_str())?, (0, 194));
     let content = "00".repeat(alloc, 65_537)?;
     assert_eq!(rt; sign_append(alloc, "-", content.as_str())?, (1, 13));
-    Ok(())
-}
-
-#[test]
-fn reads_words_to_sign(rt: HostRuntime) -> Result<(), Fail> {
-    let words = strings(rt.alloc(), &["sign", ID, THIRD, "occult", "7", LONG[2]])?;
-    let Some(Command::Sign(signing)) = Command::read(rt.alloc(), words.as_slice())? else {
-        return Err("these words make a request".into());
-    };
-    let leaf = Digest([0xab; 32]);
-    assert_eq!(rt; signing.key, Digest([3; 32]));
-    assert_eq!(rt; signing.request, Request::Occult { target: 7, leaf });
-    let purge = Signing {
-        request: Request::Purge {
-            point: 7,
-            root: leaf,
-        },
-        ..signing
-    };
-    assert_ne!(rt; signing.message(), purge.message());
-    assert!(rt; signing.text() != purge.text());
     Ok(())
 }

@@ -1,7 +1,6 @@
-use Rattle.std.proofs.Common.{None, Some, length, ap, sym, ◌∙◌, arith}
+use Rattle.std.proofs.Common.{None, Some, length, ap, arith}
 use Rattle.ledger_io.specs.Reading.{Reading}
 use Rattle.ledger_io.proofs.ReadingLaws.{line_smaller, line_counted}
-use Rattle.ledger_cli.specs.Endings.{ending_of_end}
 use Rattle.ledger_cli.proofs.SessionLaws.{sofar_begins, sofar_more, ends_whole, ends_failed, ran_whole, ran_cut, ran_starved, ran_stopped}
 use Rattle.ledger_cli.proofs.TakeLaws.{ends_as, not_done, end_of_lines, error_of_lines}
 use Rattle.ledger_cli.proofs.session.answer_lines.Goals as goal

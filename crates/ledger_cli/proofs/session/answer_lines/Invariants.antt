@@ -1,5 +1,5 @@
 use Rattle.std.proofs.Common.{◌≡◌, ◌+◌, ◌-◌, ◌*◌, ◌≤◌, false, length}
-use Rattle.batch_committer.specs.World.{World, disk, pair, world, Fits, HasRoom}
+use Rattle.batch_committer.specs.World.{disk, pair, world, Fits, HasRoom}
 use Rattle.ledger_io.specs.Lines.{script_limit}
 use Rattle.ledger_cli.proofs.SessionLaws.{SoFar}
 use Rattle.ledger_cli.proofs.session.answer_lines.Given as goal

@@ -1,4 +1,4 @@
-use Rattle.std.proofs.Common.{refl, inr, sym, subst, None}
+use Rattle.std.proofs.Common.{refl, inr, subst}
 use Rattle.std.specs.Prelude.{IfNone}
 use Rattle.ledger_cli.specs.Endings.{HasWords}
 use Rattle.ledger_io.specs.declared.ending.Ending.TheVariants.{NoMemory}
