@@ -254,7 +254,8 @@ impl BlockFile {
 
         // After it every image has zeros there, and all else as before.
         ensures ok { OnOk result (IsTrue D.tells
-            → D.state disk.new ≡ settled_state (overlay at (replicate len 0) (D.state disk.old).seen)) }
+            → D.state disk.new
+            ≡ settled_state (overlay at (replicate len 0) (D.state disk.old).seen)) }
 
         // All else reads as before, and is so in each image where nothing was pending.
         ensures seen { IsTrue D.tells
@@ -296,7 +297,8 @@ impl BlockFile {
 
         // After it the file ends with its tail gate in every image.
         ensures ok { OnOk result (IsTrue D.tells
-            → D.state disk.new ≡ settled_state (take (place_of self.old + 1) (D.state disk.old).seen)) }
+            → D.state disk.new
+            ≡ settled_state (take (place_of self.old + 1) (D.state disk.old).seen)) }
 
         // An image has the same blocks.
         ensures images { IsTrue D.tells → IsSettled (D.state disk.old)

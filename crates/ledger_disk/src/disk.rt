@@ -72,7 +72,8 @@ pub trait Disk {
 
     /// Makes all that was written stand for good: afterwards a crash leaves what a read gives, and nothing else.
     fn sync(&mut self) -> Result<(), Failed>
-        ensures ok { OnOk result (IsTrue tells → state self.new ≡ settled_state (state self.old).seen) }
+        ensures ok { OnOk result (IsTrue tells
+            → state self.new ≡ settled_state (state self.old).seen) }
         ensures err { OnErr result (IsTrue tells → state self.new ≡ state self.old) }
         ensures told { OnOk result (IsSome (told_length self.new)) }
         ensures length { KeepsLength (told_length self.old) (told_length self.new) }

@@ -112,7 +112,8 @@ impl<D: Disk> Disk for FuseDisk<D> {
     fn write(&mut self, at: u64, piece: &[u8]) -> Result<(), Failed>
         requires { IfSome (D.told_length (inner_of self.old)) (λ n. at ≤ n) }
         ensures ok { OnOk result (IsTrue D.tells → D.state (inner_of self.new)
-            ≡ with_write at (length piece.now) (overlay at piece.now (D.state (inner_of self.old)).seen)
+            ≡ with_write at (length piece.now)
+            (overlay at piece.now (D.state (inner_of self.old)).seen)
             (D.state (inner_of self.old))) }
         ensures err { OnErr result (IsTrue D.tells → MayHaveWritten at (length piece.now)
             (D.state (inner_of self.old)) (D.state (inner_of self.new))) }

@@ -117,7 +117,8 @@ impl MemDisk {
     pub fn set_byte(&mut self, at: u64, to: u8)
         requires inside { at < length (memory_state self.old).seen }
         requires quiet { memory_state self.old ≡ settled_state (memory_state self.old).seen }
-        ensures state { memory_state self.new ≡ settled_state (set (memory_state self.old).seen at to) }
+        ensures state { memory_state self.new
+            ≡ settled_state (set (memory_state self.old).seen at to) }
         ensures plan { SamePlan self.old self.new }
     {
         self.bytes[at as usize] = to;
@@ -241,11 +242,13 @@ impl Disk for MemDisk {
             (overlay at piece.now (memory_state self.old).seen) (memory_state self.old)) }
         ensures err { OnErr result (MayHaveWritten at (length piece.now)
             (memory_state self.old) (memory_state self.new)) }
-        ensures told { OnOk result (IsSomeAnd (told_len self.new) (λ n. at + length piece.now ≤ n)) }
+        ensures told { OnOk result (IsSomeAnd (told_len self.new)
+            (λ n. at + length piece.now ≤ n)) }
         ensures fits { OnOk result (at + length piece.now ≤ 2 ^ 62) }
         ensures length { OnOk result (IfSome (told_len self.old)
             (λ n. told_len self.new ≡ Some (max n (at + length piece.now)))) }
-        ensures length_err { OnErr result (IfSome (told_len self.old) (λ n. IsSomeAnd (told_len self.new)
+        ensures length_err { OnErr result (IfSome (told_len self.old)
+            (λ n. IsSomeAnd (told_len self.new)
             (λ m. (n ≤ m) × (m ≤ max n (at + length piece.now))))) }
         ensures faults { CountsFault result (memory_faults self.old) (memory_faults self.new) }
 
@@ -291,7 +294,8 @@ impl Disk for MemDisk {
     }
 
     fn sync(&mut self) -> Result<(), Failed>
-        ensures ok { OnOk result (memory_state self.new ≡ settled_state (memory_state self.old).seen) }
+        ensures ok { OnOk result (memory_state self.new
+            ≡ settled_state (memory_state self.old).seen) }
         ensures err { OnErr result (memory_state self.new ≡ memory_state self.old) }
         ensures told { OnOk result (IsSome (told_len self.new)) }
         ensures length { KeepsLength (told_len self.old) (told_len self.new) }

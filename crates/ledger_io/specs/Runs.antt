@@ -106,9 +106,3 @@ pub record Wrote (text : List ℕ) (ending : Ending) (before after : Outside) : 
   pub unread : after.source ≡ before.source
   pub appended : Appends before.sink.held after.sink.held written
   pub output : Output text ending written before.sink after.sink
-
--- a run that writes one text and reads nothing, to the last line that is written
-pub record RanOnce (text : List ℕ) (ending : Ending) (before after : Outside) : Type 0 where
-  pub sink : SinkState
-  pub wrote : Wrote text ending before (outside after.source sink)
-  pub last : WritesLast (last_line ending) sink after.sink

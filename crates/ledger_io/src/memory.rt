@@ -92,7 +92,12 @@ impl Model for MemSink {
 
     ghost Value = { Store };
 
-    ghost view = { λ s. record { held = s.bytes.items; room = s.room; plan = s.calls; idles = s.idles } };
+    ghost view = { λ s. record {
+      held = s.bytes.items;
+      room = s.room;
+      plan = s.calls;
+      idles = s.idles;
+    } };
 
     ghost invariant = { λ s. (s.room ≤ vec_capacity s.bytes) × (length s.bytes.items ≤ s.room) };
 }

@@ -36,7 +36,12 @@ impl Model for Lines {
 
     ghost Value = { Reading };
 
-    ghost view = { λ l. record { held = l.buffer; total = l.total; ended = l.ended; failed = l.failed } };
+    ghost view = { λ l. record {
+      held = l.buffer;
+      total = l.total;
+      ended = l.ended;
+      failed = l.failed;
+    } };
 
     ghost invariant = { λ l. IsSound l.buffer l.looked l.total l.ended };
 }

@@ -59,10 +59,6 @@ pub grows_step : (scheme : Scheme) (k : History) (step : Step) → Grows k (afte
 unfolding after_step
 grows_step scheme k step = grows_moved k (after_job k step (job_of scheme (id k) step.line)) (moves_job k step (job_of scheme (id k) step.line))
 
-pub moves_step : (scheme : Scheme) (k : History) (step : Step) → Moves k (after_step scheme k step)
-unfolding after_step
-moves_step scheme k step = moves_job k step (job_of scheme (id k) step.line)
-
 pub grows_steps : (scheme : Scheme) (k : History) (steps : List Step) → Grows k (after_steps scheme k steps)
 grows_steps scheme k [] = grows_not k
 grows_steps scheme k (step ∷ steps) = grows_then k (after_step scheme k step) (after_steps scheme (after_step scheme k step) steps) (grows_step scheme k step) (grows_steps scheme (after_step scheme k step) steps)
@@ -126,14 +122,6 @@ pub after_steps-append : (scheme : Scheme) (k : History) (xs ys : List Step) →
 after_steps-append scheme k [] ys = refl
 after_steps-append scheme k (x ∷ xs) ys = after_steps-append scheme (after_step scheme k x) xs ys
 
--- where the blocks of the first steps have ended, their text can be written before the window's end
-pub window_split : (scheme : Scheme) (k : History) (xs ys : List Step) → (after_steps scheme k xs).waiting ≡ [] → window_text scheme k (xs ++ ys) ≡ steps_text scheme (after_steps scheme k xs) k xs ++ window_text scheme (after_steps scheme k xs) ys
-window_split scheme k xs ys none =
-    let g = after_steps scheme k xs in
-    let same : after_window scheme k (xs ++ ys) ≡ after_window scheme g ys = ap close (after_steps-append scheme k xs ys) in
-    ap (λ w. steps_text scheme w k (xs ++ ys)) same ∙ steps_text-append scheme (after_window scheme g ys) k xs ys
-    ∙ ap (λ front. front ++ window_text scheme g ys) (steps_kept scheme k g (after_window scheme g ys) (size k) xs none (grows_window scheme g ys) (dues_within scheme k xs))
-
 -- what a block that has ended makes of the answers that were due for it
 receipt_ended : (k g : History) (jsn : ℕ) (leaf : Digest) (stamp : Option Stamp) → k.waiting ≡ [] → (e : IsEnded k g) → size k ≤ jsn → jsn < size g → reply_in g (Receipt jsn leaf stamp) ≡ reply_at (length g.closed - 1) (size g) (root g (size g)) (Receipt jsn leaf stamp)
 receipt_ended k g jsn leaf stamp none e above below =
@@ -160,11 +148,6 @@ all_higher low high higher (due ∷ ds) h w = (within_wider low low high higher 
 no_more : (k g : History) → k.waiting ≡ [] → g.waiting ≡ [] → (g.closed ≡ k.closed) ⊎ IsEnded k g → (size g ≡ size k) ⊎ IsEnded k g
 no_more k g none ended b =
     elim b [ inl same ↦ inl (size_closed g ended ∙ ap (λ bs. length (journals_of bs)) same ∙ sym (size_closed k none)) | inr e ↦ inr e ]
-
--- the text of the steps of the block that has ended last is what is due for them
-pub block_text : (scheme : Scheme) (k g : History) (steps : List Step) → k.waiting ≡ [] → g.waiting ≡ [] → (g.closed ≡ k.closed) ⊎ IsEnded k g → size (after_steps scheme k steps) ≤ size g → steps_text scheme g k steps ≡ dues_text (length g.closed - 1) (size g) (root g (size g)) (dues scheme k steps)
-block_text scheme k g steps none ended b le =
-    dues_ended scheme k g k steps none (no_more k g none ended b) (all_higher (size k) (size (after_steps scheme k steps)) (size g) (dues scheme k steps) le (dues_within scheme k steps))
 
 -- what is due for steps and more
 pub dues-append : (scheme : Scheme) (k : History) (xs ys : List Step) → dues scheme k (xs ++ ys) ≡ dues scheme k xs ++ dues scheme (after_steps scheme k xs) ys

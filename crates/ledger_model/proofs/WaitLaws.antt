@@ -122,11 +122,6 @@ answer_waits h step (Get n) = get_no_receipt (λ jsn leaf. ⊥) h n
 answer_waits h step (Clue clue) = tt
 answer_waits h step Head = tt
 
--- .. in the history after the job, before its block ends
-pub due_waits : (h : History) (step : Step) (job : Job) → IsWaiting (with_job real_limits (stamp_of step) (judged_at h job) job) (due_of h step job).answer
-unfolding answer_to
-due_waits h step job = answer_waits (judged_at h job) step job
-
 -- journals in blocks
 
 pub in-append : (blocks : List (List Entry)) (xs ys : List Due) → AllIn blocks xs → AllIn blocks ys → AllIn blocks (xs ++ ys)

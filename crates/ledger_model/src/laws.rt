@@ -78,11 +78,11 @@ pub fn lawful_headers_obey_their_layout()
 /// A sound history is told as it is: a journal that is whole with its header, its content and its who, and one whose
 /// content is hidden with its header and its who. So no journal of it is told to be damaged.
 pub fn sound_histories_show_their_journals()
-    ensures whole { (h : History) (n : ℕ) (e : Entry) → IsSound h → slice_get (journals h) n ≡ Some e
-        → view h n ≡ views.Whole
+    ensures whole { (h : History) (n : ℕ) (e : Entry) → IsSound h
+        → slice_get (journals h) n ≡ Some e → view h n ≡ views.Whole
         → get_reply h n ≡ replies.Whole (spelling e.header) e.content e.who }
-    ensures occulted { (h : History) (n : ℕ) (e : Entry) → IsSound h → slice_get (journals h) n ≡ Some e
-        → view h n ≡ views.Occulted
+    ensures occulted { (h : History) (n : ℕ) (e : Entry) → IsSound h
+        → slice_get (journals h) n ≡ Some e → view h n ≡ views.Occulted
         → get_reply h n ≡ replies.Occulted (spelling e.header) e.who }
 {}
 

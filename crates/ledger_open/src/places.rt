@@ -18,7 +18,10 @@ impl Model for Places {
 
     ghost Value = { PlaceList };
 
-    ghost view = { λ p. record { list = p.kept.items; spare = vec_capacity p.kept - vec_len p.kept } };
+    ghost view = { λ p. record {
+      list = p.kept.items;
+      spare = vec_capacity p.kept - vec_len p.kept;
+    } };
 }
 
 impl Places {

@@ -57,7 +57,7 @@ const HEADERS: [u64; 4] = [109, 396, 644, 940];
 // The root of the first block, which is the ledger's id.
 const ID: &str = "64915354a6547b1f887e596e872fd13b2abdc860729da9fe31180a81726cf4a2";
 
-fn decoded(alloc: Global, text: &[&str]) -> Result<Vec<u8>, Fail> {
+fn bytes_of(alloc: Global, text: &[&str]) -> Result<Vec<u8>, Fail> {
     let mut bytes = Vec::new(alloc);
     for line in text {
         bytes.extend_from_slice(&hex::decode(alloc, line)?)?;
@@ -78,7 +78,7 @@ fn disk_of(alloc: Global, bytes: &[u8]) -> Result<MemDisk, Fail> {
 }
 
 /// These bytes with others from a place on.
-fn changed(alloc: Global, bytes: &[u8], at: usize, to: &[u8]) -> Result<Vec<u8>, Fail> {
+fn with_bytes(alloc: Global, bytes: &[u8], at: usize, to: &[u8]) -> Result<Vec<u8>, Fail> {
     let mut bytes = bytes.to_vec(alloc)?;
     for (index, byte) in to.iter().enumerate() {
         if let Some(place) = bytes.get_mut(at.saturating_add(index)) {
@@ -90,15 +90,15 @@ fn changed(alloc: Global, bytes: &[u8], at: usize, to: &[u8]) -> Result<Vec<u8>,
 
 /// A disk that holds these bytes with one of them changed.
 fn changed_disk(alloc: Global, bytes: &[u8], at: usize, to: u8) -> Result<MemDisk, Fail> {
-    disk_of(alloc, &changed(alloc, bytes, at, &[to])?)
+    disk_of(alloc, &with_bytes(alloc, bytes, at, &[to])?)
 }
 
 /// The file of a ledger of two blocks.
 fn two_blocks(alloc: Global) -> Result<Vec<u8>, Fail> {
-    let mut bytes = decoded(alloc, &NEW)?;
+    let mut bytes = bytes_of(alloc, &NEW)?;
     bytes.pop();
     bytes.push(1)?;
-    bytes.extend_from_slice(&decoded(alloc, &BLOCK)?)?;
+    bytes.extend_from_slice(&bytes_of(alloc, &BLOCK)?)?;
     bytes.push(0)?;
     Ok(bytes)
 }
@@ -108,7 +108,7 @@ fn three_blocks(alloc: Global) -> Result<Vec<u8>, Fail> {
     let mut bytes = two_blocks(alloc)?;
     bytes.pop();
     bytes.push(1)?;
-    bytes.extend_from_slice(&decoded(alloc, &MORE)?)?;
+    bytes.extend_from_slice(&bytes_of(alloc, &MORE)?)?;
     bytes.push(0)?;
     Ok(bytes)
 }
@@ -141,7 +141,7 @@ fn a_new_ledger_has_the_worked_bytes(rt: HostRuntime) -> Result<(), Fail> {
     let mut b = disk_of(alloc, &[1, 2, 3])?;
     let opened = init(alloc, &mut a, &mut b, &demo(alloc)?, Limits::real());
     assert_eq!(rt; size_of(opened), Ok(1));
-    assert_eq!(rt; a.bytes()?.as_slice(), decoded(alloc, &NEW)?.as_slice());
+    assert_eq!(rt; a.bytes()?.as_slice(), bytes_of(alloc, &NEW)?.as_slice());
     assert_eq!(rt; b.len(), Ok(0));
     let again = init(alloc, &mut a, &mut b, &demo(alloc)?, Limits::real());
     assert_eq!(rt; size_of(again), Err(OpenErr::Exists));
@@ -155,7 +155,7 @@ fn a_new_ledger_has_the_worked_bytes(rt: HostRuntime) -> Result<(), Fail> {
 #[test]
 fn a_cut_file_is_told(rt: HostRuntime) -> Result<(), Fail> {
     let alloc = rt.alloc();
-    let whole = decoded(alloc, &NEW)?;
+    let whole = bytes_of(alloc, &NEW)?;
     for len in 0..whole.len() {
         let mut a = disk_of(alloc, &whole[..len])?;
         let mut b = disk_of(alloc, &[])?;
@@ -182,7 +182,7 @@ fn a_cut_file_is_told(rt: HostRuntime) -> Result<(), Fail> {
 #[test]
 fn a_changed_byte_is_told(rt: HostRuntime) -> Result<(), Fail> {
     let alloc = rt.alloc();
-    let whole = decoded(alloc, &NEW)?;
+    let whole = bytes_of(alloc, &NEW)?;
     let kept = digest("65915354a6547b1f887e596e872fd13b2abdc860729da9fe31180a81726cf4a2")?;
     let content = digest("2c66600c9d6ab5196b84e5fb389401569af0f4ebcfdac5ce763f4ec34c4c435f")?;
     let other = digest("80ef562dc7b953ed28ea260807f8501be2b87a704a4a3aea1b868ee6e30d8eb1")?;
@@ -357,7 +357,7 @@ fn a_cut_file_of_three_blocks_is_told(rt: HostRuntime) -> Result<(), Fail> {
             Err(told_of_cut(len as u64)),
             "at {len}"
         );
-        let shut = changed(alloc, cut, len - 1, &[0])?;
+        let shut = with_bytes(alloc, cut, len - 1, &[0])?;
         assert_eq!(rt;
             told_of(alloc, &shut)?,
             told_of_shut_cut(len as u64),
@@ -376,7 +376,7 @@ fn a_plain_reader_tells_the_same_of_2000_changed_files(rt: HostRuntime) -> Resul
     for number in 0..2000usize {
         let at = number * 7 % 1194;
         let old = whole.get(at).copied().ok_or("too short")?;
-        let file = changed(alloc, &whole, at, &[old ^ ((number % 255) as u8 + 1)])?;
+        let file = with_bytes(alloc, &whole, at, &[old ^ ((number % 255) as u8 + 1)])?;
         let told = told_of(alloc, &file)?;
         assert_eq!(rt; told, plain_size(alloc, &file), "at {at}");
         if told.is_ok() {
@@ -391,33 +391,33 @@ fn a_plain_reader_tells_the_same_of_2000_changed_files(rt: HostRuntime) -> Resul
 fn a_base_is_told(rt: HostRuntime) -> Result<(), Fail> {
     let alloc = rt.alloc();
     // A base of one byte, which is in place of the gate of the first block.
-    let long = changed(alloc, &decoded(alloc, &NEW)?, 25, &[1])?;
-    let file = changed(alloc, &long, 64, &[9])?;
+    let long = with_bytes(alloc, &bytes_of(alloc, &NEW)?, 25, &[1])?;
+    let file = with_bytes(alloc, &long, 64, &[9])?;
     let kept = digest("ca358758f6d27e6cf45272937977a748fd88391db679ceda7dc7bf1f005ee879")?;
     let found = digest("13e645db6ab5483ac7a1529f1bf99d8a93a4319956e280262f4d663fc634ec45")?;
     let other = OpenErr::Damaged(Damage::Base { kept, found });
     assert_eq!(rt; told_of(alloc, &file)?, Err(other));
-    let file = changed(alloc, &file, 26, &found.0)?;
+    let file = with_bytes(alloc, &file, 26, &found.0)?;
     let broken = OpenErr::Damaged(Damage::BaseForm { at: 0 });
     assert_eq!(rt; told_of(alloc, &file)?, Err(broken));
     Ok(())
 }
 
 /// The three blocks, each with the root of its headers as they stand.
-fn mended(alloc: Global, file: &[u8]) -> Result<Vec<u8>, Fail> {
+fn with_new_roots(alloc: Global, file: &[u8]) -> Result<Vec<u8>, Fail> {
     let mut leaves = [Digest([0; 32]); 4];
     for index in 0..4 {
         leaves[index] = leaf_of::<Sha>(piece(file, HEADERS[index], 174));
     }
-    let file = changed(alloc, file, 364, &root_of::<Sha>(&leaves[..3]).0)?;
-    changed(alloc, &file, 908, &root_of::<Sha>(&leaves).0)
+    let file = with_bytes(alloc, file, 364, &root_of::<Sha>(&leaves[..3]).0)?;
+    with_bytes(alloc, &file, 908, &root_of::<Sha>(&leaves).0)
 }
 
 #[test]
 fn a_journal_that_is_not_next_is_told_before_the_root(rt: HostRuntime) -> Result<(), Fail> {
     let alloc = rt.alloc();
     let whole = three_blocks(alloc)?;
-    assert_eq!(rt; mended(alloc, &whole)?.as_slice(), whole.as_slice());
+    assert_eq!(rt; with_new_roots(alloc, &whole)?.as_slice(), whole.as_slice());
     // The number of the new member, a number, a member that isn't known, and a number, the number in the clue and the
     // one before it.
     let cases = [
@@ -429,10 +429,14 @@ fn a_journal_that_is_not_next_is_told_before_the_root(rt: HostRuntime) -> Result
         (997, 1, 3),
     ];
     for (at, to, jsn) in cases {
-        let file = changed(alloc, &whole, at, &[to])?;
+        let file = with_bytes(alloc, &whole, at, &[to])?;
         let want = Err(OpenErr::Damaged(Damage::Entry { jsn }));
         assert_eq!(rt; told_of(alloc, &file)?, want, "at {at}");
-        assert_eq!(rt; told_of(alloc, &mended(alloc, &file)?)?, want, "at {at}");
+        assert_eq!(rt;
+            told_of(alloc, &with_new_roots(alloc, &file)?)?,
+            want,
+            "at {at}"
+        );
     }
     Ok(())
 }
@@ -440,20 +444,20 @@ fn a_journal_that_is_not_next_is_told_before_the_root(rt: HostRuntime) -> Result
 #[test]
 fn a_second_journal_in_the_first_block_is_told(rt: HostRuntime) -> Result<(), Fail> {
     let alloc = rt.alloc();
-    let mut file = decoded(alloc, &NEW)?;
+    let mut file = bytes_of(alloc, &NEW)?;
     file.pop();
-    file.extend_from_slice(piece(&decoded(alloc, &BLOCK)?, 44, 248))?;
+    file.extend_from_slice(piece(&bytes_of(alloc, &BLOCK)?, 44, 248))?;
     file.push(0)?;
     let want = Err(OpenErr::Damaged(Damage::Entry { jsn: 1 }));
-    let file = changed(
+    let file = with_bytes(
         alloc,
         &file,
         65,
-        &decoded(alloc, &["0000000200000000000001ea"])?,
+        &bytes_of(alloc, &["0000000200000000000001ea"])?,
     )?;
     assert_eq!(rt; told_of(alloc, &file)?, want);
     let root = digest("5d0c93a2c3f5b439800c35082b570525c1c42d311dfab11205d0376c51f95cf9")?;
-    let file = changed(alloc, &file, 77, &root.0)?;
+    let file = with_bytes(alloc, &file, 77, &root.0)?;
     assert_eq!(rt; told_of(alloc, &file)?, want);
     Ok(())
 }

@@ -80,11 +80,7 @@ fn tag_proofs(rt: HostRuntime) -> Result<(), Fail> {
 }
 
 /// What the book of four answers to approvals of these members, by keys of these bytes.
-fn checked(
-    alloc: Global,
-    given: &[(u32, u8)],
-    needed: &[u32],
-) -> Result<Result<(), Refusal>, Fail> {
+fn check(alloc: Global, given: &[(u32, u8)], needed: &[u32]) -> Result<Result<(), Refusal>, Fail> {
     let book = book_of_four(alloc)?;
     let mut approvals = Vec::new(alloc);
     for (member, byte) in given {
@@ -100,15 +96,15 @@ fn checked(
 fn approvals_in_order(rt: HostRuntime) -> Result<(), Fail> {
     let alloc = rt.alloc();
     let ascending = [(0, 1), (1, 2), (2, 3)];
-    assert_eq!(rt; checked(alloc, &ascending, &[0, 1])?, Ok(()));
-    assert_eq!(rt; checked(alloc, &[], &[])?, Ok(()));
+    assert_eq!(rt; check(alloc, &ascending, &[0, 1])?, Ok(()));
+    assert_eq!(rt; check(alloc, &[], &[])?, Ok(()));
     for (given, at) in [
         (&[(1, 2), (0, 1), (9, 9)], 1),
         (&[(0, 1), (2, 3), (2, 3)], 2),
         (&[(0, 1), (9, 1), (1, 1)], 2),
     ] {
         assert_eq!(rt;
-            checked(alloc, given, &[3])?,
+            check(alloc, given, &[3])?,
             Err(Refusal::ApprovalOrder { at })
         );
     }
@@ -120,22 +116,22 @@ fn members_of_approvals(rt: HostRuntime) -> Result<(), Fail> {
     let alloc = rt.alloc();
     let unknown = [(0, 9), (4, 5), (5, 6)];
     assert_eq!(rt;
-        checked(alloc, &unknown, &[1])?,
+        check(alloc, &unknown, &[1])?,
         Err(Refusal::UnknownMember { member: 4 })
     );
     let wrong = [(0, 1), (2, 4), (3, 3)];
     assert_eq!(rt;
-        checked(alloc, &wrong, &[1])?,
+        check(alloc, &wrong, &[1])?,
         Err(Refusal::WrongKey { member: 2 })
     );
     let given = [(0, 1), (2, 3)];
-    assert_eq!(rt; checked(alloc, &given, &[2, 0])?, Ok(()));
+    assert_eq!(rt; check(alloc, &given, &[2, 0])?, Ok(()));
     assert_eq!(rt;
-        checked(alloc, &given, &[3, 0, 1])?,
+        check(alloc, &given, &[3, 0, 1])?,
         Err(Refusal::MissingApproval { member: 1 })
     );
     assert_eq!(rt;
-        checked(alloc, &given, &[2, 3])?,
+        check(alloc, &given, &[2, 3])?,
         Err(Refusal::MissingApproval { member: 3 })
     );
     Ok(())

@@ -131,7 +131,7 @@ fn toy_digest(last: u8) -> Digest {
 }
 
 // The digests of a word of the trees by the toy hash.
-fn spelled(alloc: Global, word: &str) -> Result<Vec<Digest>, Fail> {
+fn digests_of(alloc: Global, word: &str) -> Result<Vec<Digest>, Fail> {
     let mut digests = Vec::new(alloc);
     if word != "-" {
         for last in word.split('.') {
@@ -218,12 +218,12 @@ fn has_words(
     proofs: &str,
 ) -> Result<bool, Fail> {
     for (n, word) in (0..size).zip(paths.split(' ')) {
-        if !are_made(tree.path(n, size), &spelled(alloc, word)?) {
+        if !are_made(tree.path(n, size), &digests_of(alloc, word)?) {
             return Ok(false);
         }
     }
     for (m, word) in (1..=size).zip(proofs.split(' ')) {
-        if !are_made(tree.proof(m, size), &spelled(alloc, word)?) {
+        if !are_made(tree.proof(m, size), &digests_of(alloc, word)?) {
             return Ok(false);
         }
     }
@@ -245,7 +245,7 @@ fn trees_by_the_toy_hash(rt: HostRuntime) -> Result<(), Fail> {
     }
     assert_eq!(rt; tree.size(), 8);
     assert_eq!(rt; tree.leaf(4)?, toy_digest(5));
-    let peaks = spelled(rt.alloc(), "0d.0c.07")?;
+    let peaks = digests_of(rt.alloc(), "0d.0c.07")?;
     assert!(rt; are_made(tree.peaks_at(7), &peaks));
     Ok(())
 }

@@ -24,7 +24,12 @@ impl<'a> Model for Lower<'a> {
 
     ghost Value = { ShownLower };
 
-    ghost view = { λ l. record { header = l.header; path = l.path.now; root = l.root; ext = l.ext.now } };
+    ghost view = { λ l. record {
+      header = l.header;
+      path = l.path.now;
+      root = l.root;
+      ext = l.ext.now;
+    } };
 }
 
 impl<'a> Lower<'a> {

@@ -115,7 +115,7 @@ fn reads_each_part(rt: HostRuntime) -> Result<(), Fail> {
 }
 
 /// The small base with a number in four bytes at a place, and further bytes behind it.
-fn changed(
+fn error_of(
     rt: &impl Abort,
     alloc: Global,
     place: usize,
@@ -160,7 +160,7 @@ fn tells_the_first_break(rt: HostRuntime) -> Result<(), Fail> {
         (211, 1, AT_THE_POINT, Bad::BadFixedField { at: 251 }),
         (211, 2, TWICE, Bad::BadFixedField { at: 259 }),
     ] {
-        let told = changed(&rt, rt.alloc(), place, number, behind)?;
+        let told = error_of(&rt, rt.alloc(), place, number, behind)?;
         assert_eq!(rt; told, Some(BaseErr::Bad(bad)));
     }
     let mut bytes = hex::decode(rt.alloc(), SMALL)?;

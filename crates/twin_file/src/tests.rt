@@ -28,7 +28,7 @@ fn take_over<D: Disk>(
 }
 
 // Which file a crash leaves open, and its generation.
-fn opened(
+fn file_after(
     a: &MemDisk,
     b: &MemDisk,
     pick_a: Pick,
@@ -58,7 +58,7 @@ fn a_stop_leaves_the_old_file_or_the_new_one(rt: HostRuntime) -> Result<(), Fail
         let (a, b) = (a.into_inner(), b.into_inner());
         for pick_a in PICKS {
             for pick_b in PICKS {
-                let found = opened(&a, &b, pick_a, pick_b)?;
+                let found = file_after(&a, &b, pick_a, pick_b)?;
                 let is_old = found == Ok(Some((true, 1)));
                 let is_new = found == Ok(Some((false, 2)));
                 assert!(rt; is_old || (is_new && stop + 1 >= COPY_CALLS), "at {stop}");

@@ -1,4 +1,4 @@
-use super::paths::{SIDES, TOY_SIDES, spelled};
+use super::paths::{SIDES, TOY_SIDES, digests_of};
 use super::*;
 use ledger_bytes::{NoMemory, TreeHash};
 use std::alloc::Global;
@@ -79,7 +79,7 @@ fn proofs_by_sha(rt: HostRuntime) -> Result<(), Fail> {
         let root = digest(root)?;
         for (word, (m, (_, old))) in line.split(' ').zip((1..=20).zip(&TREES)) {
             let old = digest(old)?;
-            let (digests, mut flat) = spelled(rt.alloc(), &sides, word)?;
+            let (digests, mut flat) = digests_of(rt.alloc(), &sides, word)?;
             assert!(rt;
                 are_made::<Sha>(rt.alloc(), &leaves, m, &digests)?,
                 "from {m} at {word}"
@@ -106,7 +106,7 @@ fn proofs_by_the_toy_hash(rt: HostRuntime) -> Result<(), Fail> {
     for (line, (leaf, root)) in TOY_PROOFS.lines().zip((2..=8).zip(&TOY_ROOTS[1..])) {
         leaves.push(toy_digest(leaf))?;
         for (word, (m, old)) in line.split(' ').zip((1..=8).zip(&TOY_ROOTS)) {
-            let (digests, flat) = spelled(rt.alloc(), &sides, word)?;
+            let (digests, flat) = digests_of(rt.alloc(), &sides, word)?;
             assert!(rt;
                 are_made::<Toy>(rt.alloc(), &leaves, m, &digests)?,
                 "from {m} at {word}"
