@@ -2,9 +2,8 @@ ghost use Rattle.std.specs.Prelude.{◌≡◌};
 ghost use Rattle.proof_codec.specs.Claims.{lower_mark};
 
 use journal_record::Header;
-use ledger_bytes::Digest;
+use ledger_bytes::{Digest, TimeMark};
 use std::marker::Model;
-use time_peg::TimeMark;
 
 /// What a proof shows of the time journal in front of a journal.
 #[derive(Debug, Drop)]

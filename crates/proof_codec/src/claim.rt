@@ -1,5 +1,4 @@
-use ledger_bytes::Digest;
-use time_peg::TimeMark;
+use ledger_bytes::{Digest, TimeMark};
 
 /// What is claimed of a journal: that the ledger has it, and when it was placed.
 #[derive(Clone, Copy, Debug, PartialEq, Eq)]

@@ -9,7 +9,6 @@ use crate::{Claim, Lower, Upper};
 use ledger_bytes::{Bad, Bytes, Digest, NoMemory};
 use std::alloc::Global;
 use std::marker::Model;
-use time_peg::TimeMark;
 
 /// The greatest length of a proof in bytes.
 pub const PROOF_LIMIT: usize = 8192;

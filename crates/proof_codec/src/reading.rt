@@ -8,8 +8,7 @@ ghost use Rattle.proof_codec.specs.Reading as reading;
 use crate::proof::PROOF_LIMIT;
 use crate::{Lower, Proof, Upper};
 use journal_record::{Header, Kind, take_header};
-use ledger_bytes::{Bad, Digest, FieldReader, check_field};
-use time_peg::TimeMark;
+use ledger_bytes::{Bad, Digest, FieldReader, TimeMark, check_field};
 
 const VERSION: u8 = 1;
 

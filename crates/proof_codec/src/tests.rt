@@ -1,8 +1,7 @@
 use super::*;
 use hex::FromHex;
-use ledger_bytes::{Bad, Digest};
+use ledger_bytes::{Bad, Digest, TimeMark};
 use std::test::Fail;
-use time_peg::TimeMark;
 
 // The proof of journal 0 in a ledger of one journal.
 const FIRST: &str =

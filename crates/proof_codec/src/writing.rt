@@ -5,9 +5,8 @@ ghost use Rattle.proof_codec.specs.Proofs.{HasFields, HasLower, HasUpper, IsDige
 ghost use Rattle.proof_codec.specs.Proofs.{lower_text, mark_text, upper_text, front_text, notary_text};
 
 use crate::{Lower, Proof, Upper};
-use ledger_bytes::{Bytes, FieldWriter, NoMemory};
+use ledger_bytes::{Bytes, FieldWriter, NoMemory, TimeMark};
 use std::alloc::Global;
-use time_peg::TimeMark;
 
 const VERSION: u8 = 1;
 
