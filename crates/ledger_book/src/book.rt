@@ -78,7 +78,8 @@ impl Model for Book {
 
     ghost invariant = { λ b. (1 ≤ b.size) × (b.size < 2 ^ 32) × AreWithin b.limits
         × (b.blocks ≤ b.head.size) × (b.head.size ≤ b.size)
-        × (b.head.size < b.size → vec_len b.ends < vec_capacity b.ends) × (b.tree.size ≡ b.size) };
+        × (b.head.size < b.size → vec_len b.ends < vec_capacity b.ends) × (b.tree.size ≡ b.size)
+        × (b.tree.floor ≡ b.floor) };
 }
 
 impl Book {
@@ -215,9 +216,11 @@ impl Book {
         Ok((count, kept))
     }
 
-    /// The tree over all journals.
+    /// The tree over all journals, which keeps their leaves from the first kept header on.
     pub fn tree(&self) -> &Tree<Sha>
-        ensures { (h : History) → Stands self.now h → StandsFor sha256 result.now (leaf_digests h) }
+        ensures stands { (h : History) → Stands self.now h
+            → StandsFor sha256 result.now (leaf_digests h) }
+        ensures floor { result.now.floor ≡ self.now.floor }
     {
         &self.tree
     }
