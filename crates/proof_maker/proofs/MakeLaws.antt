@@ -1,0 +1,199 @@
+-- Lemmas on the proof of a journal.
+use Rattle.std.proofs.Common.{◌≡◌, ℕ, ◌+◌, ◌<◌, ◌≤◌, ◌^◌, ◌/◌, ◌%◌, cond, List, [], ◌∷◌, ◌++◌, length, map, take, get_or, Option, Some, None, Result, Ok, Err, refl, sym, ap, ◌∙◌, subst, arith, length-take-le, length-append, append-nil}
+use Rattle.std.specs.Prelude.{All, flat_map, IfOk, IfErr, nat_lt}
+use Rattle.std.specs.List.{concat}
+use Rattle.std.proofs.lemmas.Bool.{le-leb, lt-leb, lt-ltb, le-ltb}
+use Rattle.std.proofs.lemmas.List.{get_or-take, take-map, take_more, length-map}
+use Rattle.std.proofs.lemmas.List.Concat.{flat_map-append}
+use Rattle.std.proofs.lemmas.List.Elements.{All-map}
+use Rattle.sha2.specs.Sha256.{sha256}
+use Rattle.ledger_bytes.specs.Digests.{digest}
+use Rattle.ledger_bytes.specs.declared.digest.Digest.{Digest}
+use Rattle.ledger_bytes.specs.declared.refusal.Refusal.{Refusal}
+use Rattle.ledger_bytes.specs.declared.refusal.Refusal.TheVariants.{NoJournal, Purged}
+use Rattle.tree_model.specs.Tree as tree
+use Rattle.tree_model.specs.Path.{path, path_length, fold, fold_bytes}
+use Rattle.tree_model.proofs.Folds.{path_gives_root, fold_bytes-concat}
+use Rattle.tree_model.proofs.Paths.{path_length_below}
+use Rattle.tree_model.proofs.Pieces.{length-cut, cut-concat, concat-whole}
+use Rattle.merkle_batch.specs.Rows.{Levels, StandsFor}
+use Rattle.journal_record.specs.Entry.{Entry}
+use Rattle.journal_record.specs.Header.{spelling}
+use Rattle.proof_codec.specs.Proofs.{Shown, HasFields, IsProof}
+use Rattle.proof_codec.proofs.Breaks.{length-proof}
+use Rattle.ledger_model.specs.History as model
+use Rattle.ledger_model.specs.History.{History, journals, leaf_digest}
+use Rattle.ledger_book.specs.Books.{Kept, Stands, Serves, leaf_digests, sealed_size}
+use Rattle.ledger_book.proofs.StandsLaws.{point_is}
+use Rattle.audit_core.specs.Acceptance.{IsAccepted}
+use Rattle.audit_core.specs.Trust.{Trust, ledger_at}
+use Rattle.proof_maker.specs.Making.{shown_over, shown_of, refusal_of, IsMade, Answers, TrustsHead}
+use Rattle.proof_maker.specs.declared.made.Made.{Made}
+use Rattle.proof_maker.specs.declared.made.MakeErr.{MakeErr}
+use Rattle.proof_maker.specs.declared.made.MakeErr.TheVariants.{Refused, NoMemory}
+
+-- ---- digests one after the other
+
+flat_count : (ds : List (List ℕ)) → All (λ d. length d ≡ 32) ds → length (concat ds) / 32 ≡ length ds
+flat_count ds each = sym (length-cut 32 (concat ds)) ∙ ap length (cut-concat 32 (omega arith) ds each)
+
+flat_whole : (ds : List (List ℕ)) → All (λ d. length d ≡ 32) ds → length (concat ds) % 32 ≡ 0
+flat_whole ds each = concat-whole 32 (omega arith) ds each
+
+-- digests joined one by one are all their bytes
+pub row_is : (ds : List Digest) → flat_map (λ (d : Digest). d.0) ds ≡ concat (map (λ (d : Digest). d.0) ds)
+row_is [] = refl
+row_is (d ∷ ds) = ap (λ rest. d.0 ++ rest) (row_is ds)
+
+-- ---- a proof without bounds
+
+abbrev bare : ℕ → ℕ → Digest → List ℕ → Shown
+bare size n leaf flat =
+    record { size = size; n = n; leaf = leaf; path = flat; lo = None; hi = None; notary_size = 0; lo_path = []; hi_path = [] }
+
+bare_is_proof : (size n : ℕ) (leaf : Digest) (ds : List (List ℕ)) → size < 2 ^ 64 → n < 2 ^ 64 → length leaf.0 ≡ 32 → All (λ d. length d ≡ 32) ds → length ds ≤ 64
+    → IsProof (bare size n leaf (concat ds))
+bare_is_proof size n leaf ds size_fits n_fits width each few =
+    let count = flat_count ds each in
+    let whole = flat_whole ds each in
+    let fields : HasFields (bare size n leaf (concat ds)) = record {
+      size = size_fits;
+      n = n_fits;
+      leaf = width;
+      path = record { whole = whole; count = omega (arith, count, few) };
+      lower = tt;
+      upper = tt;
+      notary_size = refl;
+      lo_path = refl;
+      hi_path = refl;
+    } in
+    record { fields = fields; room = omega (arith, length-proof (bare size n leaf (concat ds)) fields, count, whole, few) }
+
+-- the bytes of one digest more
+pub flat_more : (digests : List Digest) (i : ℕ) (d : Digest) (bytes new : List ℕ) → i < length digests → bytes ≡ flat_map (λ (x : Digest). x.0) (take i digests) → new ≡ bytes ++ (get_or digests i d).0
+    → new ≡ flat_map (λ (x : Digest). x.0) (take (i + 1) digests)
+flat_more digests i d bytes new inside so_far more =
+    more ∙ ap (λ (l : List ℕ). l ++ (get_or digests i d).0) so_far ∙ ap (λ (l : List ℕ). flat_map (λ (x : Digest). x.0) (take i digests) ++ l) (sym (append-nil (get_or digests i d).0))
+    ∙ sym (flat_map-append (λ (x : Digest). x.0) (take i digests) (get_or digests i d ∷ [])) ∙ ap (flat_map (λ (x : Digest). x.0)) (sym (take_more digests i d inside))
+
+-- ---- the leaf leads to the root
+
+leaf_leads : (ds : List (List ℕ)) (size n : ℕ) → n < size → size ≤ length ds → All (λ d. length d ≡ 32) (path sha256 n (take size ds))
+    → fold_bytes sha256 (get_or ds n []) n size (concat (path sha256 n (take size ds))) ≡ Some (tree.root sha256 (take size ds))
+leaf_leads ds size n within there each =
+    let front = take size ds in
+    let sides = path sha256 n front in
+    let long : length front ≡ size = length-take-le size ds there in
+    let at : get_or front n [] ≡ get_or ds n [] = get_or-take size ds n [] within in
+    fold_bytes-concat sha256 (get_or ds n []) n size sides each ∙ ap (λ d. fold sha256 d n size sides) (sym at)
+    ∙ ap (λ k. fold sha256 (get_or front n []) n k sides) (sym long) ∙ path_gives_root sha256 n front (omega (arith, long, within))
+
+-- the bytes of a path's digests, in a slice
+module _ (size n : ℕ) (leaf : Digest) (digests given : List Digest) (bytes flat : List ℕ) (given_is : given ≡ digests) (bytes_are : bytes ≡ flat_map (λ (d : Digest). d.0) given) (flat_is : flat ≡ bytes)
+    (each : All (λ (d : Digest). length d.0 ≡ 32) given) where
+  sides : List (List ℕ)
+  sides = map (λ (d : Digest). d.0) digests
+
+  flat_same : flat ≡ concat sides
+  unfolding sides
+  flat_same = flat_is ∙ bytes_are ∙ ap (flat_map (λ (d : Digest). d.0)) given_is ∙ row_is digests
+
+  widths : All (λ (d : List ℕ). length d ≡ 32) sides
+  unfolding sides
+  widths = All-map (λ (d : List ℕ). length d ≡ 32) (λ (d : Digest). d.0) digests (subst (All (λ (d : Digest). length d.0 ≡ 32)) given_is each)
+
+  pub is_bare_proof : size < 2 ^ 64 → n < 2 ^ 64 → length leaf.0 ≡ 32 → length digests ≡ path_length n size → IsProof (bare size n leaf flat)
+  unfolding sides
+  is_bare_proof size_fits n_fits width count =
+      subst (λ (row : List ℕ). IsProof (bare size n leaf row)) (sym flat_same)
+      (bare_is_proof size n leaf sides size_fits n_fits width widths (omega (arith, count, length-map digests (λ (d : Digest). d.0), path_length_below 64 n size (omega (arith, size_fits)))))
+
+  pub bare_is_shown : (ds : List (List ℕ)) → leaf.0 ≡ get_or ds n [] → map (λ (d : Digest). d.0) digests ≡ path sha256 n (take size ds) → bare size n leaf flat ≡ shown_over ds size n
+  unfolding sides
+  bare_is_shown ds leaf_is path_is =
+      ap (λ (row : List ℕ). bare size n leaf row) (flat_same ∙ ap concat path_is) ∙ ap (λ (d : List ℕ). bare size n (digest d) (concat (path sha256 n (take size ds)))) leaf_is
+
+  -- the leaf leads to the root
+  pub path_leads : (ds : List (List ℕ)) → map (λ (d : Digest). d.0) digests ≡ path sha256 n (take size ds) → n < size → size ≤ length ds
+      → fold_bytes sha256 (get_or ds n []) n size (concat (path sha256 n (take size ds))) ≡ Some (tree.root sha256 (take size ds))
+  unfolding sides
+  path_leads ds path_is within there = leaf_leads ds size n within there (subst (All (λ (d : List ℕ). length d ≡ 32)) path_is widths)
+
+-- ---- the root
+
+digests_of : (js : List Entry) → map leaf_digest js ≡ map (tree.leaf sha256) (map (λ (j : Entry). spelling j.header) js)
+digests_of [] = refl
+digests_of (j ∷ js) = ap (λ rest. leaf_digest j ∷ rest) (digests_of js)
+
+-- the root over the first leaves is the history's
+pub root_at : (h : History) (m : ℕ) → tree.root sha256 (take m (leaf_digests h)) ≡ model.root h m
+unfolding model.root
+root_at h m =
+    ap (λ ds. tree.root sha256 (take m ds)) (digests_of (journals h))
+    ∙ ap (tree.root sha256) (take-map (tree.leaf sha256) m (map (λ (j : Entry). spelling j.header) (journals h)))
+
+-- ---- what is answered
+
+pub absent_answer : (h : History) (n size : ℕ) → size ≡ sealed_size h → size ≤ n → refusal_of h n ≡ Some (NoJournal size)
+absent_answer h n size is past = rw (le-leb (sealed_size h) n (omega (arith, is, past))) (ap (λ k. Some (NoJournal k)) (sym is))
+
+there_answer : (h : History) (n : ℕ) → n < sealed_size h → refusal_of h n ≡ cond (nat_lt n (model.point h)) (Some (Purged (model.point h))) None
+there_answer h n there = rw (lt-leb (sealed_size h) n there) refl
+
+pub purged_answer : (h : History) (n point : ℕ) → n < sealed_size h → point ≡ model.point h → n < point → refusal_of h n ≡ Some (Purged point)
+purged_answer h n point there is below =
+    there_answer h n there ∙ rw (lt-ltb n (model.point h) (omega (arith, is, below))) (ap (λ k. Some (Purged k)) (sym is))
+
+kept_answer : (h : History) (n : ℕ) → n < sealed_size h → model.point h ≤ n → refusal_of h n ≡ None
+kept_answer h n there kept = there_answer h n there ∙ rw (le-ltb n (model.point h) kept) refl
+
+answers_by : (refusal : Option Refusal) (r : Result Made MakeErr) → refusal ≡ None → IfErr r (λ e. e ≡ NoMemory) → Answers refusal r
+answers_by refusal (Ok made) none e = none
+answers_by refusal (Err (Refused why)) none e = absurd cc
+answers_by refusal (Err NoMemory) none e = none
+
+-- a leaf's proof was made of the tree of a book, for a journal that may be kept in a block that has ended
+module _ (k : Kept) (t : Levels) (size point n : ℕ) (r : Result Made MakeErr) (stands : (h : History) → Stands k h → StandsFor sha256 t (leaf_digests h)) (floor : t.floor ≡ k.floor)
+    (sized : (h : History) → Stands k h → size ≡ sealed_size h) (pointed : (h : History) → Serves k h → point ≡ model.point h) (there : n < size) (kept : point ≤ n) where
+  above : (h : History) → Serves k h → t.floor ≤ n
+  above h s = omega (arith, floor, s.seen, point_is k h s, pointed h s, kept)
+
+  within : (h : History) → Stands k h → size ≤ t.size
+  unfolding StandsFor
+  within h s =
+      omega (arith, sized h s, (stands h s).0, length-map (journals h) leaf_digest, length-append (model.journals_of h.closed) h.waiting)
+
+  pub answers_made : (t.floor ≤ n → n < size → size ≤ t.size → IfErr r (λ e. e ≡ NoMemory)) → (h : History) → Serves k h → Answers (refusal_of h n) r
+  answers_made err h s =
+      answers_by (refusal_of h n) r (kept_answer h n (omega (arith, sized h s.stands, there)) (omega (arith, pointed h s, kept))) (err (above h s) there (within h s.stands))
+
+  pub shown_made : IfOk r (λ made. (ds : List (List ℕ)) → StandsFor sha256 t ds → IsMade (shown_over ds size n) made) → IfOk r (λ made. (h : History) → Serves k h → IsMade (shown_of h n) made)
+  shown_made all = by r all where
+    by : (x : Result Made MakeErr) → IfOk x (λ made. (ds : List (List ℕ)) → StandsFor sha256 t ds → IsMade (shown_over ds size n) made) → IfOk x (λ made. (h : History) → Serves k h → IsMade (shown_of h n) made)
+    by (Ok made) is = λ h s. subst (λ m. IsMade (shown_over (leaf_digests h) m n) made) (sized h s.stands) (is (leaf_digests h) (stands h s.stands))
+    by (Err e) is = tt
+
+  pub accepted_made : IfOk r (λ made. (ds : List (List ℕ)) → StandsFor sha256 t ds → IsMade (shown_over ds size n) made)
+      → IfOk r (λ made. (ds : List (List ℕ)) → StandsFor sha256 t ds → n < size → size ≤ t.size → fold_bytes sha256 (get_or ds n []) n size (shown_over ds size n).path ≡ Some (tree.root sha256 (take size ds)))
+      → IfOk r (λ made. (h : History) (trust : Trust) → Serves k h → TrustsHead trust h → IsAccepted sha256 made.proof made.claim trust)
+  accepted_made all leads = by r all leads where
+    by : (x : Result Made MakeErr) → IfOk x (λ made. (ds : List (List ℕ)) → StandsFor sha256 t ds → IsMade (shown_over ds size n) made)
+        → IfOk x (λ made. (ds : List (List ℕ)) → StandsFor sha256 t ds → n < size → size ≤ t.size → fold_bytes sha256 (get_or ds n []) n size (shown_over ds size n).path ≡ Some (tree.root sha256 (take size ds)))
+        → IfOk x (λ made. (h : History) (trust : Trust) → Serves k h → TrustsHead trust h → IsAccepted sha256 made.proof made.claim trust)
+    by (Ok made) is lead = λ h trust s trusts.
+        let ds = leaf_digests h in
+        let st = stands h s.stands in
+        let m = is ds st in
+        let at = sized h s.stands in record {
+          proof = shown_over ds size n;
+          is_proof = m.is_proof;
+          text = m.proof_is;
+          claimed = sym m.claim_is;
+          ledger = record { id = digest (model.id h); root = digest (model.root h (sealed_size h)) };
+          trusted = ap (ledger_at trust) at ∙ trusts;
+          leads = lead ds st there (within h s.stands) ∙ ap Some (root_at h size ∙ ap (model.root h) at);
+          lower = tt;
+          upper = tt;
+          order = λ l u front behind. absurd cc;
+        }
+    by (Err e) is lead = tt

@@ -1,0 +1,68 @@
+//! The proof of a leaf of a tree.
+
+ghost use Rattle.std.specs.Prelude.{◌≡◌, ◌≤◌, ◌<◌, ◌++◌, ℕ, List, [], All, Some, flat_map, length, take, get_or, IfOk, IfErr, OnOk};
+ghost use Rattle.sha2.specs.Sha256.{sha256};
+ghost use Rattle.tree_model.specs.Tree.{root};
+ghost use Rattle.tree_model.specs.Path.{fold_bytes};
+ghost use Rattle.merkle_batch.specs.Rows.{StandsFor};
+ghost use Rattle.proof_maker.specs.Making.{IsMade, shown_over};
+ghost use Rattle.proof_maker.specs.declared.made.MakeErr.TheVariants as make_err;
+
+use crate::{Made, MakeErr};
+use ledger_bytes::{Digest, NoMemory, Sha};
+use merkle_batch::Tree;
+use proof_codec::Proof;
+use std::alloc::Global;
+
+/// The proof of leaf `n` under the tree over the first `size` leaves.
+pub(crate) fn make(alloc: Global, tree: &Tree<Sha>, size: u64, n: u64) -> Result<Made, MakeErr>
+    ensures made { IfOk result (λ made. (ds : List (List ℕ)) → StandsFor sha256 tree.now ds
+        → IsMade (shown_over ds size n) made) }
+    // The leaf leads along its path to the root.
+    ensures leads { IfOk result (λ _. (ds : List (List ℕ)) → StandsFor sha256 tree.now ds
+        → n < size → size ≤ tree.now.size
+        → fold_bytes sha256 (get_or ds n []) n size (shown_over ds size n).path
+        ≡ Some (root sha256 (take size ds))) }
+    ensures err { tree.now.floor ≤ n → n < size → size ≤ tree.now.size
+        → IfErr result (λ e. e ≡ make_err.NoMemory) }
+{
+    let leaf = tree.leaf(n)?;
+    let digests = tree.path(n, size)?;
+    let path = flat(alloc, digests.as_slice())?;
+    let proof = Proof {
+        size,
+        n,
+        leaf,
+        path: path.as_slice(),
+        lo: None,
+        hi: None,
+        notary_size: 0,
+        lo_path: &[],
+        hi_path: &[],
+    };
+    Ok(Made {
+        claim: proof.claim(),
+        proof: proof.encode(alloc)?,
+    })
+}
+
+// The bytes of digests, one after the other.
+fn flat(alloc: Global, digests: &[Digest]) -> Result<Vec<u8>, NoMemory>
+    ensures bytes { IfOk result (λ bytes. bytes.items ≡ flat_map (λ d. d.0) digests.now) }
+    ensures widths { IfOk result (λ _. All (λ d. length d.0 ≡ 32) digests.now) }
+{
+    let mut bytes = Vec::new(alloc);
+    for digest in digests {
+        add(&mut bytes, digest)?;
+    }
+    Ok(bytes)
+}
+
+// Adds the bytes of a digest.
+fn add(bytes: &mut Vec<u8>, digest: &Digest) -> Result<(), NoMemory>
+    ensures bytes { OnOk result (bytes.new.items ≡ bytes.old.items ++ digest.now.0) }
+    ensures width { length digest.now.0 ≡ 32 }
+{
+    bytes.extend_from_slice(&digest.0)?;
+    Ok(())
+}
