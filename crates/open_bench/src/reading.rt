@@ -1,6 +1,7 @@
-//! A file of blocks, read once for the headers alone.
+//! A file of blocks, read once, with each header hashed once: by its bytes alone, or as blocks are read when it's opened.
 
 use anyhow::{Context, Result};
+use block_file::BlockFile;
 use ledger_bytes::{Digest, Sha};
 use ledger_disk::Disk;
 use merkle_tree::leaf_of;
@@ -17,12 +18,46 @@ pub(crate) struct Seen {
     pub(crate) digest: Digest,
 }
 
-/// Reads a file block by block, in three pieces each: the gate, the head and the body. Each header is hashed once.
+impl Seen {
+    fn nothing() -> Self {
+        Seen {
+            headers: 0,
+            digest: Digest::ZERO,
+        }
+    }
+
+    fn add(&mut self, header: &[u8]) {
+        let leaf = leaf_of::<Sha>(header);
+        for index in 0..32 {
+            self.digest.0[index] ^= leaf.0[index];
+        }
+        self.headers = self.headers.saturating_add(1);
+    }
+}
+
+/// Reads a file's blocks as opening reads them, with each header decoded and its damages looked for.
+pub(crate) fn walk_all<D: Disk>(alloc: Global, disk: &mut D) -> Result<Seen> {
+    let mut seen = Seen::nothing();
+    let head = BlockFile::head(disk)?.context("the file is shut")?;
+    let mut file = BlockFile::resume(disk, &head)?;
+    for _ in 0..u64::MAX {
+        if seen.headers > u64::from(u32::MAX) {
+            break;
+        }
+        let Some(block) = file.next_block(alloc, disk, seen.headers)? else {
+            break;
+        };
+        for record in block.records.as_slice() {
+            seen.add(&record.header.encode());
+        }
+    }
+    Ok(seen)
+}
+
+/// Reads a file block by block, in three pieces each: the gate, the head and the body. A header is found by the lengths
+/// alone.
 pub(crate) fn read_all<D: Disk>(alloc: Global, disk: &mut D) -> Result<Seen> {
-    let mut seen = Seen {
-        headers: 0,
-        digest: Digest([0; 32]),
-    };
+    let mut seen = Seen::nothing();
     let mut body = Vec::new(alloc);
     let mut at = FIRST_GATE;
     for _ in 0..u64::MAX {
@@ -49,11 +84,7 @@ fn hash_records(body: &[u8], count: u32, seen: &mut Seen) -> Option<()> {
     for _ in 0..count {
         let content_len = number_at(rest, 106)?;
         let who_len = number_at(rest, 174)?;
-        let leaf = leaf_of::<Sha>(rest.get(..174)?);
-        for index in 0..32 {
-            seen.digest.0[index] ^= leaf.0[index];
-        }
-        seen.headers = seen.headers.saturating_add(1);
+        seen.add(rest.get(..174)?);
         let len = u64::from(content_len) + u64::from(who_len) + 178;
         rest = rest.get(len as usize..)?;
     }

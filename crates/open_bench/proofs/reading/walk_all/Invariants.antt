@@ -1,0 +1,7 @@
+use Rattle.std.proofs.Common.{◌+◌, ◌≤◌}
+use Rattle.std.specs.Prelude.{IsSomeAnd}
+use Rattle.block_file.specs.Place.{place_of}
+use Rattle.open_bench.proofs.reading.walk_all.Given as goal
+
+abbrev pub invariant-loop : goal.invariant-loop
+invariant-loop g l = IsSomeAnd (g.D.Disk.told_length l.disk) (λ n. place_of l.file + 1 ≤ n)
