@@ -13,9 +13,7 @@ use Rattle.journal_record.specs.Entry.{Entry}
 use Rattle.journal_record.specs.Header.{spelling}
 use Rattle.journal_record.specs.declared.header.Kind.{Kind}
 use Rattle.journal_record.specs.declared.header.Kind.TheVariants.{Genesis, Content, Member, Time, Occult, Purge}
-use Rattle.block_file.specs.Blocks.{record_at}
 use Rattle.block_file.specs.File.{Stands, tail_of}
-use Rattle.block_file.specs.declared.block.RecordAt.{RecordAt}
 use Rattle.ledger_disk.proofs.Guarding.{settled_image}
 use Rattle.ledger_disk.specs.Disk.{State, MayLeave, settled_state}
 use Rattle.ledger_model.specs.History.{History, history, journals, journals_of, size, leaves, root, point, greatest_point, purge_point, is_purge, close, close_by}
@@ -27,7 +25,8 @@ use Rattle.ledger_model.proofs.PlaceLaws.{point_same}
 use Rattle.ledger_book.specs.Books.{sealed_size}
 use Rattle.twin_file.specs.Twin.{open_of, other_of}
 use Rattle.ledger_open.specs.Growing.{with_block, IsNextBlock}
-use Rattle.ledger_open.specs.Places.{record_len, records_at, places_at, after_at}
+use Rattle.ledger_open.specs.Places.{record_len, place_at, places_in, places_at, after_at}
+use Rattle.ledger_open.specs.declared.places.PlaceAt.{PlaceAt}
 use Rattle.ledger_open.specs.Standing.{ground, StandsFor, IsErased, PairFor}
 use Rattle.ledger_open.proofs.AgainLaws.{blocks_unique}
 use Rattle.ledger_open.proofs.GrowLaws.{erased_stands, grows, grows_erased}
@@ -240,21 +239,21 @@ module _ (tells : Bool) (w : World) (h : History) (p : Holds tells w h) (some : 
 
 -- ---- places
 
-pub places_more : (at : ℕ) (bs : List (List Entry)) (b : List Entry) → places_at at (bs ++ b ∷ []) ≡ places_at at bs ++ records_at (after_at at bs + 45) b
-places_more at [] b = append-nil (records_at (at + 45) b)
+pub places_more : (at : ℕ) (bs : List (List Entry)) (b : List Entry) → places_at at (bs ++ b ∷ []) ≡ places_at at bs ++ places_in (after_at at bs + 45) b
+places_more at [] b = append-nil (places_in (at + 45) b)
 places_more at (x ∷ bs) b =
     let next = at + 45 + sum_by record_len x in
-    ap (λ (l : List RecordAt). records_at (at + 45) x ++ l) (places_more next bs b) ∙ sym (append_assoc (records_at (at + 45) x) (places_at next bs) (records_at (after_at next bs + 45) b))
+    ap (λ (l : List PlaceAt). places_in (at + 45) x ++ l) (places_more next bs b) ∙ sym (append_assoc (places_in (at + 45) x) (places_at next bs) (places_in (after_at next bs + 45) b))
 
 after_more : (at : ℕ) (bs : List (List Entry)) (b : List Entry) → after_at at (bs ++ b ∷ []) ≡ after_at at bs + 45 + sum_by record_len b
 after_more at [] b = refl
 after_more at (x ∷ bs) b = after_more (at + 45 + sum_by record_len x) bs b
 
-pub records_more : (at : ℕ) (es : List Entry) (e : Entry) → records_at at (es ++ e ∷ []) ≡ records_at at es ++ record_at (at + sum_by record_len es) e ∷ []
-records_more at [] e = ap (λ (n : ℕ). record_at n e ∷ []) (omega arith)
-records_more at (x ∷ es) e =
-    ap (λ (l : List RecordAt). record_at at x ∷ l)
-    (records_more (at + record_len x) es e ∙ ap (λ (n : ℕ). records_at (at + record_len x) es ++ record_at n e ∷ []) (omega (arith, sum_by-cons record_len x es)))
+pub places_in_more : (at : ℕ) (es : List Entry) (e : Entry) → places_in at (es ++ e ∷ []) ≡ places_in at es ++ place_at (at + sum_by record_len es) e ∷ []
+places_in_more at [] e = ap (λ (n : ℕ). place_at n e ∷ []) (omega arith)
+places_in_more at (x ∷ es) e =
+    ap (λ (l : List PlaceAt). place_at at x ∷ l)
+    (places_in_more (at + record_len x) es e ∙ ap (λ (n : ℕ). places_in (at + record_len x) es ++ place_at n e ∷ []) (omega (arith, sum_by-cons record_len x es)))
 
 -- the bytes of gathered journals are as many as their places say
 pub body_len : (n : ℕ) (es : List Entry) → AreFrom n es → length (body_of es) ≡ sum_by record_len es
@@ -267,7 +266,7 @@ bytes_len h a = block_size (mth sha256 (leaves h)) h.waiting (mth_size (leaves h
 pub located_close : (k new : Kept) (h : History) → 1 ≤ length h.waiting → new.places ≡ k.places → new.place ≡ k.place + 1 + length (next_bytes h) → AreFrom (sealed_size h) h.waiting → Located k h → Located new (close h)
 located_close k new h some places place from l =
     let closed = closed_is h some in record {
-      places = places ∙ l.places ∙ ap (λ (n : ℕ). places_at 64 h.closed ++ records_at (n + 45) h.waiting) l.tail ∙ sym (places_more 64 h.closed h.waiting) ∙ ap (places_at 64) (sym closed)
-          ∙ sym (append-nil (places_at 64 (close h).closed)) ∙ ap (λ (es : List Entry). places_at 64 (close h).closed ++ records_at (new.place + 45) es) (sym (close_none h));
+      places = places ∙ l.places ∙ ap (λ (n : ℕ). places_at 64 h.closed ++ places_in (n + 45) h.waiting) l.tail ∙ sym (places_more 64 h.closed h.waiting) ∙ ap (places_at 64) (sym closed)
+          ∙ sym (append-nil (places_at 64 (close h).closed)) ∙ ap (λ (es : List Entry). places_at 64 (close h).closed ++ places_in (new.place + 45) es) (sym (close_none h));
       tail = omega (arith, place, bytes_len h from, l.tail, after_more 64 h.closed h.waiting, ap (after_at 64) closed);
     }

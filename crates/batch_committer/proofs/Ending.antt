@@ -26,7 +26,7 @@ use Rattle.ledger_book.specs.Books.{Stands, Serves, sealed_size}
 use Rattle.ledger_book.specs.Seals as seals
 use Rattle.ledger_book.specs.Steps.{IsSame}
 use Rattle.twin_file.specs.Twin.{open_of}
-use Rattle.ledger_open.specs.Places.{records_at, places_at}
+use Rattle.ledger_open.specs.Places.{places_in, places_at}
 use Rattle.batch_committer.specs.Committed.{IsCommitted, IsUncommitted}
 use Rattle.batch_committer.specs.Spelled as spell
 use Rattle.batch_committer.specs.Steps.{settled_text}
@@ -173,7 +173,7 @@ module _ (tells : Bool) (w : World) (block text : List ℕ) (e : AtEnd tells w b
 -- the places, where nothing that counts has changed
 pub located_same : (old new : Kept) (h : History) → new.places ≡ old.places → new.place ≡ old.place → Located old h → Located new h
 located_same old new h places place l = record {
-  places = places ∙ l.places ∙ ap (λ (n : ℕ). places_at 64 h.closed ++ records_at (n + 45) h.waiting) (sym place);
+  places = places ∙ l.places ∙ ap (λ (n : ℕ). places_at 64 h.closed ++ places_in (n + 45) h.waiting) (sym place);
   tail = place ∙ l.tail;
 }
 

@@ -1,13 +1,13 @@
 -- What is told of a journal that was read is what the history says of it.
-use Rattle.std.specs.Prelude.{◌<◌, ◌≤◌, nat_le, nat_lt, slice_get, get_or}
+use Rattle.std.specs.Prelude.{◌<◌, ◌≤◌, if◌then◌else◌, nat_le, nat_lt, slice_get, get_or}
 use Rattle.std.proofs.Common.{◌≡◌, ◌⊎◌, inl, inr, ℕ, zero, suc, ◌+◌, Bool, true, false, cond, List, [], ◌∷◌, length, map, Option, Some, None, refl, sym, ◌∙◌, ap, subst, arith}
+use Rattle.std.proofs.lemmas.Bool.{le-leb}
 use Rattle.std.proofs.lemmas.Option.{none-some, slice_get_read, slice_get_past}
 use Rattle.ledger_bytes.specs.declared.refusal.Refusal.{Refusal}
 use Rattle.ledger_bytes.specs.declared.refusal.Refusal.TheVariants.{NoJournal, Purged as PurgedBelow}
 use Rattle.journal_record.specs.Entry.{Entry}
 use Rattle.journal_record.specs.Header.{spelling}
 use Rattle.journal_record.specs.declared.header.Header.{Header}
-use Rattle.block_file.specs.declared.block.RecordAt.{RecordAt}
 use Rattle.script_lines.specs.declared.reply.Reply.{Reply}
 use Rattle.script_lines.specs.declared.reply.Reply.TheVariants as reply
 use Rattle.ledger_model.specs.Getting.{content_damage, who_damage, reply_unless, whole_reply, occulted_reply, reply_on, shown_reply, get_reply}
@@ -17,9 +17,14 @@ use Rattle.ledger_model.specs.Outcomes.{is_hidden, view}
 use Rattle.ledger_model.specs.declared.view.View.{View}
 use Rattle.ledger_model.specs.declared.view.View.TheVariants.{Absent, Purged, Occulted, Whole}
 use Rattle.ledger_model.proofs.LawfulLaws.{AreFrom, lawful_from}
-use Rattle.ledger_open.specs.Places.{entry_at, places_of}
-use Rattle.ledger_open.specs.Standing.{IsKept, AllKept, IsErased}
+use Rattle.ledger_book.specs.Books as books
+use Rattle.ledger_book.specs.Books.{Serves, headers}
+use Rattle.ledger_open.specs.Places.{entry_at, AllAt, places_of}
+use Rattle.ledger_open.specs.Standing.{IsKept, IsErased}
+use Rattle.ledger_open.specs.declared.places.PlaceAt.{PlaceAt}
 use Rattle.ledger_open.proofs.PlaceLaws.{history_here}
+use Rattle.batch_committer.proofs.Judging.{header_is}
+use Rattle.batch_committer.proofs.Opening.{floor_none}
 
 -- ---- the parts of a journal, compared
 
@@ -46,26 +51,33 @@ found_in list xs n x is inside at = ap (λ l. slice_get l n) (sym is) ∙ slice_
 pub past_in : {A : Type 0} (list xs : List A) (n : ℕ) → xs ≡ list → length xs ≤ n → (let none : Option A = None in slice_get list n ≡ none)
 past_in list xs n is past = ap (λ l. slice_get l n) (sym is) ∙ slice_get_past xs n past
 
--- a journal of which this is kept
-record IsThere (hid gone : ℕ → Bool) (es : List Entry) (n : ℕ) (f : Entry) : Type 0 where
+-- a journal of which this is kept at a place
+record IsThere (hid gone : ℕ → Bool) (file : List ℕ) (es : List Entry) (n : ℕ) (p : PlaceAt) : Type 0 where
   e : Entry
   there : slice_get es n ≡ Some e
-  kept : IsKept hid gone e f
+  kept : IsKept hid gone e (entry_at file e.header p)
 
-there_at : (hid gone : ℕ → Bool) (file : List ℕ) (es : List Entry) (ps : List RecordAt) (n : ℕ) (p : RecordAt) → AllKept hid gone es (map (entry_at file) ps) → slice_get ps n ≡ Some p → IsThere hid gone es n (entry_at file p)
-there_at hid gone file es [] n p a is = absurd (none-some p is)
+there_at : (hid gone : ℕ → Bool) (file : List ℕ) (es : List Entry) (ps : List PlaceAt) (n : ℕ) (p : PlaceAt) → AllAt hid gone file es ps → slice_get ps n ≡ Some p → IsThere hid gone file es n p
+there_at hid gone file [] [] n p a is = absurd (none-some p is)
 there_at hid gone file [] (q ∷ ps) n p a is = absurd a
+there_at hid gone file (e ∷ es) [] n p a is = absurd a
 there_at hid gone file (e ∷ es) (q ∷ ps) zero p a is =
-    let same : q ≡ p = cc is in record { e = e; there = refl; kept = subst (λ (x : RecordAt). IsKept hid gone e (entry_at file x)) same a.0 }
+    let same : q ≡ p = cc is in record { e = e; there = refl; kept = subst (λ (x : PlaceAt). IsKept hid gone e (entry_at file e.header x)) same a.0 }
 there_at hid gone file (e ∷ es) (q ∷ ps) (suc n) p a is =
     let t = there_at hid gone file es ps n p a.1 is in record { e = t.e; there = t.there; kept = t.kept }
 
-none_at : (hid gone : ℕ → Bool) (file : List ℕ) (es : List Entry) (ps : List RecordAt) (n : ℕ) → AllKept hid gone es (map (entry_at file) ps) → slice_get ps n ≡ None → (let none : Option Entry = None in slice_get es n ≡ none)
+none_at : (hid gone : ℕ → Bool) (file : List ℕ) (es : List Entry) (ps : List PlaceAt) (n : ℕ) → AllAt hid gone file es ps → slice_get ps n ≡ None → (let none : Option Entry = None in slice_get es n ≡ none)
 none_at hid gone file [] [] n a is = refl
 none_at hid gone file (e ∷ es) [] n a is = absurd a
 none_at hid gone file [] (q ∷ ps) n a is = absurd a
 none_at hid gone file (e ∷ es) (q ∷ ps) zero a is = absurd (none-some q (sym is))
 none_at hid gone file (e ∷ es) (q ∷ ps) (suc n) a is = none_at hid gone file es ps n a.1 is
+
+-- where no header is told there is no journal
+no_header : (es : List Entry) (n : ℕ) → (let none : Option Header = None in slice_get (map (λ (e : Entry). e.header) es) n ≡ none) → (let none : Option Entry = None in slice_get es n ≡ none)
+no_header [] n is = refl
+no_header (e ∷ es) zero is = absurd (none-some e.header (sym is))
+no_header (e ∷ es) (suc n) is = no_header es n is
 
 -- each journal has the number of its place
 numbered : (m : ℕ) (es : List Entry) (n : ℕ) (e : Entry) → AreFrom m es → slice_get es n ≡ Some e → e.header.jsn ≡ m + n
@@ -95,38 +107,46 @@ told_absent h n r v absent shown is = by_view h n Absent r (sym absent ∙ shown
 pub told_purged : (h : History) (n p : ℕ) (v : View) → v ≡ Purged p → v ≡ view h n → reply.Refused (PurgedBelow p) ≡ get_reply h n
 told_purged h n p v purged shown = by_view h n (Purged p) (reply.Refused (PurgedBelow p)) (sym purged ∙ shown) refl
 
-module _ (image : List ℕ) (h : History) (n : ℕ) (stands : IsErased image h) (places : List RecordAt) (are : places ≡ places_of h) (v : View) (shown : v ≡ view h n) where
-  at_places : AllKept (is_hidden h) (is_hidden h) (journals h) (map (entry_at image) (places_of h))
+module _ (image : List ℕ) (h : History) (n : ℕ) (stands : IsErased image h) (book : books.Kept) (serves : Serves book h) (places : List PlaceAt) (are : places ≡ places_of h) (v : View) (shown : v ≡ view h n) where
+  at_places : AllAt (is_hidden h) (is_hidden h) image (journals h) (places_of h)
   at_places = history_here (is_hidden h) image h stands
 
-  there : (p : RecordAt) → slice_get places n ≡ Some p → IsThere (is_hidden h) (is_hidden h) (journals h) n (entry_at image p)
+  there : (p : PlaceAt) → slice_get places n ≡ Some p → IsThere (is_hidden h) (is_hidden h) image (journals h) n p
   there p found = there_at (is_hidden h) (is_hidden h) image (journals h) (places_of h) n p at_places (ap (λ ps. slice_get ps n) (sym are) ∙ found)
 
-  not_there : slice_get places n ≡ None → (let none : Option Entry = None in slice_get (journals h) n ≡ none)
-  not_there none = none_at (is_hidden h) (is_hidden h) image (journals h) (places_of h) n at_places (ap (λ ps. slice_get ps n) (sym are) ∙ none)
+  -- the book keeps each header
+  low : book.floor ≤ n
+  low = omega (arith, floor_none book h serves stands.floor)
+
+  abbrev told_header : Option Header
+  told_header = if nat_le book.floor n then slice_get (headers h) n else None
 
   -- what was read of a whole journal
-  pub told_whole : (p : RecordAt) → v ≡ Whole → slice_get places n ≡ Some p → whole_reply p.header (entry_at image p).content (entry_at image p).who ≡ get_reply h n
-  told_whole p whole found =
+  pub told_whole : (header : Header) (p : PlaceAt) → v ≡ Whole → Some header ≡ told_header → slice_get places n ≡ Some p → whole_reply header (entry_at image header p).content (entry_at image header p).who ≡ get_reply h n
+  told_whole header p whole is found =
       let t = there p found in
       let number : t.e.header.jsn ≡ n = omega (arith, numbered 0 (journals h) n t.e (lawful_from (journals h) stands.lawful.journals_are) t.there) in
-      let content : (entry_at image p).content ≡ t.e.content = t.kept.shown (ap (is_hidden h) number ∙ shown_at h n (sym whole ∙ shown)) in
-      by_view h n Whole (whole_reply p.header (entry_at image p).content (entry_at image p).who) (sym whole ∙ shown)
-      (ap (λ x. whole_reply x (entry_at image p).content (entry_at image p).who) t.kept.header
-      ∙ ap (λ x. whole_reply t.e.header x (entry_at image p).who) content
+      let content : (entry_at image header p).content ≡ t.e.content = t.kept.shown (ap (is_hidden h) number ∙ shown_at h n (sym whole ∙ shown)) in
+      by_view h n Whole (whole_reply header (entry_at image header p).content (entry_at image header p).who) (sym whole ∙ shown)
+      (ap (λ x. whole_reply x (entry_at image header p).content (entry_at image header p).who) (header_is book h n t.e header low t.there is)
+      ∙ ap (λ x. whole_reply t.e.header x (entry_at image header p).who) content
       ∙ ap (λ x. whole_reply t.e.header t.e.content x) t.kept.who
       ∙ ap (reply_on (size h) (λ (e : Entry). whole_reply e.header e.content e.who)) (sym t.there))
 
   -- .. and of one whose content is hidden
-  pub told_occulted : (p : RecordAt) → v ≡ Occulted → slice_get places n ≡ Some p → occulted_reply p.header (entry_at image p).who ≡ get_reply h n
-  told_occulted p occulted found =
+  pub told_occulted : (header : Header) (p : PlaceAt) → v ≡ Occulted → Some header ≡ told_header → slice_get places n ≡ Some p → occulted_reply header (entry_at image header p).who ≡ get_reply h n
+  told_occulted header p occulted is found =
       let t = there p found in
-      by_view h n Occulted (occulted_reply p.header (entry_at image p).who) (sym occulted ∙ shown)
-      (ap (λ x. occulted_reply x (entry_at image p).who) t.kept.header
+      by_view h n Occulted (occulted_reply header (entry_at image header p).who) (sym occulted ∙ shown)
+      (ap (λ x. occulted_reply x (entry_at image header p).who) (header_is book h n t.e header low t.there is)
       ∙ ap (occulted_reply t.e.header) t.kept.who
       ∙ ap (reply_on (size h) (λ (e : Entry). occulted_reply e.header e.who)) (sym t.there))
 
-  -- nothing is read of a journal that has no place, and there is none
-  pub told_none : (r : Reply) → (v ≡ Whole) ⊎ (v ≡ Occulted) → slice_get places n ≡ None → r ≡ reply.Refused (NoJournal (size h)) → r ≡ get_reply h n
+  not_there : (let none : Option Header = None in none ≡ told_header) ⊎ (slice_get places n ≡ None) → (let none : Option Entry = None in slice_get (journals h) n ≡ none)
+  not_there (inl none) = no_header (journals h) n (sym (none ∙ ap (λ b. cond b (slice_get (headers h) n) None) (le-leb book.floor n low)))
+  not_there (inr none) = none_at (is_hidden h) (is_hidden h) image (journals h) (places_of h) n at_places (ap (λ ps. slice_get ps n) (sym are) ∙ none)
+
+  -- nothing is read of a journal that has no header or no place, and there is none
+  pub told_none : (r : Reply) → (v ≡ Whole) ⊎ (v ≡ Occulted) → (let none : Option Header = None in none ≡ told_header) ⊎ (slice_get places n ≡ None) → r ≡ reply.Refused (NoJournal (size h)) → r ≡ get_reply h n
   told_none r (inl whole) none is = by_view h n Whole r (sym whole ∙ shown) (is ∙ ap (reply_on (size h) (λ (e : Entry). whole_reply e.header e.content e.who)) (sym (not_there none)))
   told_none r (inr occulted) none is = by_view h n Occulted r (sym occulted ∙ shown) (is ∙ ap (reply_on (size h) (λ (e : Entry). occulted_reply e.header e.who)) (sym (not_there none)))

@@ -16,8 +16,6 @@ use Rattle.journal_record.specs.Header.{HasWidths}
 use Rattle.journal_record.specs.declared.approval.Approval.{Approval}
 use Rattle.journal_record.specs.declared.approval.TheConstants.{WHO_LIMIT}
 use Rattle.journal_record.specs.declared.header.Header.{Header}
-use Rattle.block_file.specs.Blocks.{record_at}
-use Rattle.block_file.specs.declared.block.RecordAt.{RecordAt}
 use Rattle.ledger_model.specs.Appends.{append_journal, member_journal, append_header, member_header}
 use Rattle.ledger_model.specs.Fitting.{fits_approval, fits_job}
 use Rattle.ledger_model.specs.History.{History, history, journals, journals_of, size}
@@ -42,10 +40,11 @@ use Rattle.ledger_book.specs.Steps.{IsSame, PlacesNothing, Applies}
 use Rattle.ledger_open.proofs.AgainLaws.{entry_is}
 use Rattle.ledger_open.proofs.HidingLaws.{from_more}
 use Rattle.ledger_open.proofs.NextLaws.{next_behind}
-use Rattle.ledger_open.specs.Places.{record_len, records_at, places_at}
+use Rattle.ledger_open.specs.Places.{record_len, place_at, places_in, places_at}
+use Rattle.ledger_open.specs.declared.places.PlaceAt.{PlaceAt}
 use Rattle.batch_committer.specs.Steps.{HasParts, HasJournal, IsGathered, Gathers, Judged}
 use Rattle.batch_committer.specs.World.{Kept, Keeps}
-use Rattle.batch_committer.proofs.Closing.{records_more, body_len}
+use Rattle.batch_committer.proofs.Closing.{places_in_more, body_len}
 
 -- ---- what came of a job
 
@@ -174,8 +173,8 @@ header_is k h n journal header floor is got =
     cc same
 
 -- the journal was gathered
-pub gathered_by : (old new : Kept) (header : Header) (content : List ℕ) (by : Approval) (place : RecordAt) (journal : Entry) → header ≡ journal.header → journal.content ≡ content → journal.who ≡ who_of (by ∷ []) → HasWidths header
-    → new.body ≡ old.body ++ record_bytes (record { header = header; content = content; who = who_of (by ∷ []) }) → new.places ≡ old.places ++ place ∷ [] → place ≡ record_at (old.place + 45 + length old.body) journal → IsGathered old new journal
+pub gathered_by : (old new : Kept) (header : Header) (content : List ℕ) (by : Approval) (place : PlaceAt) (journal : Entry) → header ≡ journal.header → journal.content ≡ content → journal.who ≡ who_of (by ∷ []) → HasWidths header
+    → new.body ≡ old.body ++ record_bytes (record { header = header; content = content; who = who_of (by ∷ []) }) → new.places ≡ old.places ++ place ∷ [] → place ≡ place_at (old.place + 45 + length old.body) journal → IsGathered old new journal
 gathered_by old new header content by place journal header_is content_is who_is widths body places place_is = record {
   widths = subst HasWidths header_is widths;
   body = body ∙ ap (λ (e : Entry). old.body ++ record_bytes e) (entry_is (record { header = header; content = content; who = who_of (by ∷ []) }) journal header_is (sym content_is) (sym who_is));
@@ -199,7 +198,7 @@ gathers_same old new h book body places place g = record {
   body = body ∙ g.body;
   next = g.next;
   gathered = g.gathered;
-  located = record { places = places ∙ g.located.places ∙ ap (λ (n : ℕ). places_at 64 h.closed ++ records_at (n + 45) h.waiting) (sym place); tail = place ∙ g.located.tail };
+  located = record { places = places ∙ g.located.places ∙ ap (λ (n : ℕ). places_at 64 h.closed ++ places_in (n + 45) h.waiting) (sym place); tail = place ∙ g.located.tail };
 }
 
 gather_more : (es : List Entry) (e : Entry) → AllGather es → gathers e.header.kind ≡ true → AllGather (es ++ e ∷ [])
@@ -228,11 +227,11 @@ gathers_more old mid new h job journal p m serves same body places place new_pla
       next = from_more (sealed_size h) h.waiting (journal ∷ []) p.next (entry, tt);
       gathered = gather_more h.waiting journal p.gathered m.gathers_is;
       located = record {
-        places = g.places ∙ ap (λ (l : List RecordAt). l ++ record_at (mid.place + 45 + length mid.body) journal ∷ []) (places ∙ p.located.places)
-            ∙ ap (λ (n : ℕ). (places_at 64 h.closed ++ records_at (old.place + 45) h.waiting) ++ record_at n journal ∷ []) (omega (arith, place, ap length body, ap length p.body, body_len (sealed_size h) h.waiting p.next))
-            ∙ append_assoc (places_at 64 h.closed) (records_at (old.place + 45) h.waiting) (record_at (old.place + 45 + sum_by record_len h.waiting) journal ∷ [])
-            ∙ ap (λ (l : List RecordAt). places_at 64 h.closed ++ l) (sym (records_more (old.place + 45) h.waiting journal))
-            ∙ ap (λ (n : ℕ). places_at 64 h.closed ++ records_at (n + 45) (h.waiting ++ journal ∷ [])) (sym new_place);
+        places = g.places ∙ ap (λ (l : List PlaceAt). l ++ place_at (mid.place + 45 + length mid.body) journal ∷ []) (places ∙ p.located.places)
+            ∙ ap (λ (n : ℕ). (places_at 64 h.closed ++ places_in (old.place + 45) h.waiting) ++ place_at n journal ∷ []) (omega (arith, place, ap length body, ap length p.body, body_len (sealed_size h) h.waiting p.next))
+            ∙ append_assoc (places_at 64 h.closed) (places_in (old.place + 45) h.waiting) (place_at (old.place + 45 + sum_by record_len h.waiting) journal ∷ [])
+            ∙ ap (λ (l : List PlaceAt). places_at 64 h.closed ++ l) (sym (places_in_more (old.place + 45) h.waiting journal))
+            ∙ ap (λ (n : ℕ). places_at 64 h.closed ++ places_in (n + 45) (h.waiting ++ journal ∷ [])) (sym new_place);
         tail = new_place ∙ p.located.tail;
       };
     }

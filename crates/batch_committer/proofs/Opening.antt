@@ -37,7 +37,7 @@ use Rattle.batch_committer.proofs.Closing.{clean_image, tail_at, sealed_same}
 -- ---- the history of some blocks
 
 -- the book keeps all headers
-floor_none : (k : books.Kept) (h : History) → Serves k h → point h ≡ 0 → k.floor ≡ 0
+pub floor_none : (k : books.Kept) (h : History) → Serves k h → point h ≡ 0 → k.floor ≡ 0
 floor_none k h s none =
     let seen : k.floor ≤ k.point = s.seen in
     let all = later_seen h k.floor s.stands.lawful (omega (arith, seen, s.stands.counts.point)) in

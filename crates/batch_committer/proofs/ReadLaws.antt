@@ -12,7 +12,7 @@ use Rattle.ledger_model.specs.declared.due.Due.{Due}
 use Rattle.ledger_model.proofs.GrowLaws.{grows_not}
 use Rattle.ledger_book.specs.Books as books
 use Rattle.twin_file.specs.Twin.{open_of}
-use Rattle.ledger_open.specs.Places.{places_at, records_at, places_of}
+use Rattle.ledger_open.specs.Places.{places_at, places_in, places_of}
 use Rattle.ledger_open.specs.Standing.{IsErased}
 use Rattle.batch_committer.specs.Read.{WasRead, WereRead, NoneFailed, ReadingEnds}
 use Rattle.batch_committer.specs.World.{DiskState, Pair, Kept, world, Reads, Fits, IsCleanFor, Holds, Goes, Says, EndsBy, Ended, sealed_part}
@@ -98,7 +98,7 @@ holds_book tells k book disks sink h is p = subst (λ b. Holds tells (world (rec
 
 module _ (tells : Bool) (k : Kept) (disks : Pair) (sink : SinkState) (h : History) (p : Holds tells (world k disks sink) h) (none : h.waiting ≡ []) where
   pub places_held : k.places ≡ places_of h
-  places_held = p.keeps.located.places ∙ ap (λ (w : List Entry). places_at 64 h.closed ++ records_at (k.place + 45) w) none ∙ append-nil (places_at 64 h.closed)
+  places_held = p.keeps.located.places ∙ ap (λ (w : List Entry). places_at 64 h.closed ++ places_in (k.place + 45) w) none ∙ append-nil (places_at 64 h.closed)
 
   whole_held : sealed_part h ≡ h
   whole_held = ap (history h.closed) (sym none)

@@ -4,7 +4,6 @@ use Rattle.journal_record.specs.Blocks.{record_bytes, body_of, AreFrom}
 use Rattle.journal_record.specs.Entry.{Entry}
 use Rattle.journal_record.specs.Header.{HasWidths}
 use Rattle.journal_record.specs.declared.approval.Approval.{Approval}
-use Rattle.block_file.specs.Blocks.{record_at}
 use Rattle.ledger_model.specs.Dues.{dues_text}
 use Rattle.ledger_model.specs.History.{History, size, root}
 use Rattle.ledger_model.specs.InOrder.{step_of}
@@ -19,6 +18,7 @@ use Rattle.ledger_model.specs.declared.job.Job.{Job}
 use Rattle.ledger_model.specs.declared.job.Job.TheVariants.{Refused, Append, NewMember, Get, Clue, Head}
 use Rattle.ledger_book.specs.Books as books
 use Rattle.ledger_book.specs.Books.{Serves, sealed_size}
+use Rattle.ledger_open.specs.Places.{place_at}
 use Rattle.batch_committer.specs.World.{Kept, Located}
 
 -- the step of a line of a lane with this number there, where there is no notary
@@ -53,7 +53,7 @@ pub record HasJournal (book : books.Kept) (jsn : ℕ) : Type 0 where
 pub record IsGathered (old new : Kept) (journal : Entry) : Type 0 where
   pub widths : HasWidths journal.header
   pub body : new.body ≡ old.body ++ record_bytes journal
-  pub places : new.places ≡ old.places ++ record_at (old.place + 45 + length old.body) journal ∷ []
+  pub places : new.places ≡ old.places ++ place_at (old.place + 45 + length old.body) journal ∷ []
 
 -- but for what is due, what is kept is what this history says
 pub record Gathers (k : Kept) (h : History) : Type 0 where

@@ -6,7 +6,6 @@ use Rattle.ledger_bytes.specs.Causes.{Rose}
 use Rattle.ledger_bytes.specs.declared.limits.TheConstants.{BLOCK_LIMIT}
 use Rattle.journal_record.specs.Blocks.{body_of, AreFrom}
 use Rattle.block_file.specs.File.{IsSettled, IsShutAt}
-use Rattle.block_file.specs.declared.block.RecordAt.{RecordAt}
 use Rattle.ledger_disk.specs.Disk.{State, MayLeave, settled_state}
 use Rattle.ledger_io.specs.Outside.{SinkState, MeetsNone, MeetsOne}
 use Rattle.ledger_model.specs.Dues.{due_lines, AllWaiting, AllIn}
@@ -18,8 +17,9 @@ use Rattle.ledger_model.specs.declared.due.Due.{Due}
 use Rattle.ledger_book.specs.Books as books
 use Rattle.ledger_book.specs.Books.{Serves, sealed_size}
 use Rattle.twin_file.specs.Twin.{open_of, other_of}
-use Rattle.ledger_open.specs.Places.{records_at, places_at, after_at}
+use Rattle.ledger_open.specs.Places.{places_in, places_at, after_at}
 use Rattle.ledger_open.specs.Standing.{IsErased, PairFor}
+use Rattle.ledger_open.specs.declared.places.PlaceAt.{PlaceAt}
 use Rattle.batch_committer.specs.declared.end.End.{End}
 use Rattle.batch_committer.specs.declared.end.End.TheVariants.{DiskFault, WriteFault, NoMemory, Closed}
 
@@ -50,12 +50,12 @@ pub record Kept : Type 0 where
   -- the records of the open block
   pub body : List ℕ
   -- where each journal stands, or will stand
-  pub places : List RecordAt
+  pub places : List PlaceAt
   -- what is due, and waits for the open block's end
   pub dues : List Due
 
 -- what is kept of a ledger that was made or opened just now
-abbrev pub first_kept : books.Kept → List RecordAt → ℕ → Bool → Kept
+abbrev pub first_kept : books.Kept → List PlaceAt → ℕ → Bool → Kept
 first_kept book places place in_a = record { book = book; place = place; in_a = in_a; body = []; places = places; dues = [] }
 
 -- what a committer keeps, and whether a call has ended its run
@@ -101,7 +101,7 @@ sealed_part h = history h.closed []
 
 -- the places are those of this history's journals, and the tail gate stands behind its blocks
 pub record Located (k : Kept) (h : History) : Type 0 where
-  pub places : k.places ≡ places_at 64 h.closed ++ records_at (k.place + 45) h.waiting
+  pub places : k.places ≡ places_at 64 h.closed ++ places_in (k.place + 45) h.waiting
   pub tail : k.place ≡ after_at 64 h.closed
 
 -- the committer keeps what this history says

@@ -8,13 +8,12 @@ ghost use Rattle.batch_committer.specs.Read.{WasRead, ReadEnds};
 ghost use Rattle.batch_committer.specs.World.{disk};
 
 use crate::End;
-use block_file::RecordAt;
 use journal_record::{Header, content_digest, who_digest};
 use ledger_book::Book;
 use ledger_bytes::{Bytes, Digest, Refusal};
 use ledger_disk::Disk;
 use ledger_model::View;
-use ledger_open::Places;
+use ledger_open::{PlaceAt, Places};
 use script_lines::Reply;
 use std::alloc::Global;
 
@@ -36,17 +35,18 @@ pub(crate) fn get<D: Disk>(
     ensures no_fault { OnOk result (D.faults file.new ≡ D.faults file.old) }
     ensures err { IfErr result (λ end. ReadEnds end (D.faults file.old) (D.faults file.new)) }
 {
+    let header = book.header(n);
     let place = places.as_slice().get(n as usize);
     match book.view(n) {
         View::Absent => Ok(no_journal(book)),
         View::Purged { point } => Ok(Reply::Refused(Refusal::Purged { point })),
-        View::Occulted => match place {
-            Some(place) => occulted(alloc, file, place),
-            None => Ok(no_journal(book)),
+        View::Occulted => match (header, place) {
+            (Some(header), Some(place)) => occulted(alloc, file, header, place),
+            _ => Ok(no_journal(book)),
         },
-        View::Whole => match place {
-            Some(place) => whole(alloc, file, place),
-            None => Ok(no_journal(book)),
+        View::Whole => match (header, place) {
+            (Some(header), Some(place)) => whole(alloc, file, header, place),
+            _ => Ok(no_journal(book)),
         },
     }
 }
@@ -60,27 +60,36 @@ fn no_journal(book: &Book) -> Reply
     })
 }
 
-// A journal with its content and its who, which stand at this place.
-fn whole<D: Disk>(alloc: Global, file: &mut D, place: &RecordAt) -> Result<Reply, End>
-    ensures told { IfOk result (λ reply. IsTrue D.tells → reply ≡ spec.whole_reply place.now.header
-        (entry_at (D.state file.old).seen place.now).content
-        (entry_at (D.state file.old).seen place.now).who) }
+// A journal with this header, whose content and who stand at this place.
+fn whole<D: Disk>(
+    alloc: Global,
+    file: &mut D,
+    header: &Header,
+    place: &PlaceAt,
+) -> Result<Reply, End>
+    ensures told { IfOk result (λ reply. IsTrue D.tells → reply ≡ spec.whole_reply header.now
+        (entry_at (D.state file.old).seen header.now place.now).content
+        (entry_at (D.state file.old).seen header.now place.now).who) }
     ensures read { WasRead D.tells
         (disk (D.state file.old) (D.told_length file.old) (D.faults file.old))
         (disk (D.state file.new) (D.told_length file.new) (D.faults file.new)) }
     ensures no_fault { OnOk result (D.faults file.new ≡ D.faults file.old) }
     ensures err { IfErr result (λ end. ReadEnds end (D.faults file.old) (D.faults file.new)) }
 {
-    let content = read_piece(alloc, file, place.content_at, place.header.content_len)?;
+    let content = read_piece(alloc, file, place.content_at, place.content_len)?;
     let who = read_piece(alloc, file, place.who_at, place.who_len)?;
-    Ok(whole_reply(&place.header, content, who))
+    Ok(whole_reply(header, content, who))
 }
 
-// A journal with its who alone, which stands at this place.
-fn occulted<D: Disk>(alloc: Global, file: &mut D, place: &RecordAt) -> Result<Reply, End>
-    ensures told { IfOk result (λ reply. IsTrue D.tells
-        → reply ≡ spec.occulted_reply place.now.header
-        (entry_at (D.state file.old).seen place.now).who) }
+// A journal with this header and its who alone, which stands at this place.
+fn occulted<D: Disk>(
+    alloc: Global,
+    file: &mut D,
+    header: &Header,
+    place: &PlaceAt,
+) -> Result<Reply, End>
+    ensures told { IfOk result (λ reply. IsTrue D.tells → reply ≡ spec.occulted_reply header.now
+        (entry_at (D.state file.old).seen header.now place.now).who) }
     ensures read { WasRead D.tells
         (disk (D.state file.old) (D.told_length file.old) (D.faults file.old))
         (disk (D.state file.new) (D.told_length file.new) (D.faults file.new)) }
@@ -88,7 +97,7 @@ fn occulted<D: Disk>(alloc: Global, file: &mut D, place: &RecordAt) -> Result<Re
     ensures err { IfErr result (λ end. ReadEnds end (D.faults file.old) (D.faults file.new)) }
 {
     let who = read_piece(alloc, file, place.who_at, place.who_len)?;
-    Ok(occulted_reply(&place.header, who))
+    Ok(occulted_reply(header, who))
 }
 
 // A range of the file, as far as bytes stand there. A piece that is cut short has another digest than the whole one.

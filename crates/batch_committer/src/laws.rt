@@ -1,5 +1,4 @@
 ghost use Rattle.std.specs.Prelude.{◌≡◌, ◌≤◌, ◌+◌, ℕ, Bool, true, IsTrue, List, [], IsSomeAnd};
-ghost use Rattle.block_file.specs.declared.block.RecordAt.{RecordAt};
 ghost use Rattle.journal_record.specs.Entry.{Entry};
 ghost use Rattle.ledger_disk.specs.Disk.{State};
 ghost use Rattle.ledger_io.specs.Outside.{SinkState};

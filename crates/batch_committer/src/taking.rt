@@ -3,7 +3,6 @@ ghost use Rattle.journal_record.specs.Approval.{who_of};
 ghost use Rattle.journal_record.specs.Entry.{Entry};
 ghost use Rattle.journal_record.specs.declared.approval.Approval.{Approval as AnyApproval};
 ghost use Rattle.ledger_bytes.specs.declared.limits.TheConstants.{PROOF_LIMIT};
-ghost use Rattle.block_file.specs.Blocks.{record_at};
 ghost use Rattle.block_file.specs.Place.{place_of};
 ghost use Rattle.ledger_io.specs.Outside.{SinkState};
 ghost use Rattle.ledger_model.specs.Dues.{due_of};
@@ -18,6 +17,7 @@ ghost use Rattle.ledger_model.specs.Windows.{Said};
 ghost use Rattle.ledger_model.specs.declared.job.Job.{Job as AnyJob};
 ghost use Rattle.ledger_book.specs.Books.{Serves};
 ghost use Rattle.twin_file.specs.Which.{in_a_of, file_of};
+ghost use Rattle.ledger_open.specs.Places.{place_at};
 ghost use Rattle.batch_committer.specs.Read.{WereRead, NoneFailed, ReadingEnds};
 ghost use Rattle.batch_committer.specs.Steps.{step_at, due_by, HasParts, HasJournal, IsGathered, Judged, KeepsRest};
 ghost use Rattle.batch_committer.specs.World.{Pair, disk, pair, world, first_kept, Reads, ServesSome, Fits, HasRoom, Keeps, Holds, Goes, Ended};
@@ -27,14 +27,13 @@ use crate::block::{APPROVAL_LEN, OpenBlock};
 use crate::commit::commit;
 use crate::dues::spell;
 use crate::queries::reply_to;
-use block_file::RecordAt;
 use journal_record::{Approval, Header};
 use ledger_book::{Job, Outcome, Prepared, Query};
 use ledger_bytes::{BLOCK_LIMIT, Digest, NoMemory};
 use ledger_disk::Disk;
 use ledger_io::{Sink, write_all};
 use ledger_model::{Answer, Due};
-use ledger_open::Opened;
+use ledger_open::{Opened, PlaceAt};
 use script_lines::Reply;
 use std::alloc::Global;
 use std::marker::Model;
@@ -494,17 +493,17 @@ impl Taking {
 }
 
 // The place of a journal whose record begins at this offset.
-fn place_of_record(at: u64, header: &Header, by: &Approval) -> RecordAt
+fn place_of_record(at: u64, header: &Header, by: &Approval) -> PlaceAt
     requires room { at ≤ 2 ^ 63 + 2 ^ 62 + 45 }
     requires proof { length by.now.proof ≤ PROOF_LIMIT }
     ensures { (journal : Entry) → journal.header ≡ header.now → journal.who ≡ who_of (by.now ∷ [])
-        → result ≡ record_at at journal }
+        → result ≡ place_at at journal }
 {
     let content_at = at + RECORD_HEAD_LEN;
-    RecordAt {
-        header: *header,
+    PlaceAt {
         content_at,
         who_at: content_at + u64::from(header.content_len),
+        content_len: header.content_len,
         who_len: APPROVAL_LEN + by.proof.as_slice().len() as u32,
     }
 }

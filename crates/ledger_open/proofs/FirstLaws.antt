@@ -29,11 +29,12 @@ use Rattle.ledger_model.specs.Lawful as lawful
 use Rattle.ledger_model.specs.Lawful.{IsNext, AreNext, IsLawful}
 use Rattle.ledger_open.specs.Damages.{IsNotNext, IsOtherRoot, Begun, IsReadTo, IsNextHere, IsDamage}
 use Rattle.ledger_open.specs.Opening.{known_from, Knows, HasRead, IsPlain, IsReadErr, as_open}
-use Rattle.ledger_open.specs.Places.{entry_at}
+use Rattle.ledger_open.specs.Places.{place_at, place_of_record, places_in, entry_at}
 use Rattle.ledger_open.specs.Standing.{ground}
 use Rattle.ledger_open.specs.Taking.{Headed, IsBadBlock}
+use Rattle.ledger_open.specs.declared.places.PlaceAt.{PlaceAt}
 use Rattle.ledger_open.proofs.BegunLaws.{begun_none, begun_more}
-use Rattle.ledger_open.proofs.PlaceLaws.{open_here}
+use Rattle.ledger_open.proofs.PlaceLaws.{AreHere, open_here}
 use Rattle.ledger_open.proofs.SizeLaws.{record_size}
 
 -- ---- what was read of a block
@@ -184,8 +185,8 @@ keys_len e es b = eqb-true e.header.content_len 64 (subst (λ (k : Kind). IsTrue
 -- what is read at its place is its content
 content_here : (file root : List ℕ) (e : Entry) → AreBlock 0 (e ∷ []) → IsOpenBlock 64 root (e ∷ []) file → take 64 (drop 287 file) ≡ e.content
 content_here file root e b o =
-    let whole = open_here 64 root (e ∷ []) file o b.readable in
-    let one : entry_at file (record_at 109 e) ≡ e = ap (λ (l : List Entry). get_or l 0 e) whole in
+    let whole : AreHere file (e ∷ []) (places_in 109 (e ∷ [])) = open_here 64 root (e ∷ []) file o b.readable in
+    let one : entry_at file e.header (place_at 109 e) ≡ e = whole.0 in
     ap (λ (n : ℕ). take n (drop 287 file)) (sym (keys_len e [] b)) ∙ ap (λ (x : Entry). x.content) one
 
 pub other_content : (file : List ℕ) (block : BlockAt) (first : RecordAt) (found : Digest) → IsPlain file → (f : FirstHere file block) → block.records ≡ first ∷ [] → block.root.0 ≡ leaf sha256 (spelling first.header)
@@ -214,8 +215,8 @@ other_content file block first found plain f one root_is other is =
 abbrev with_content : List ℕ → Entry → Entry
 with_content content e = record { header = e.header; content = content; who = e.who }
 
-module _ (block : BlockAt) (first : RecordAt) (content : List ℕ) (book : Kept) (places : List RecordAt) (place : ℕ)
-    (one : block.records ≡ first ∷ []) (size : length content ≡ 64) (listed : places ≡ first ∷ []) (tail : place ≡ 65 + block.len)
+module _ (block : BlockAt) (first : RecordAt) (content : List ℕ) (book : Kept) (places : List PlaceAt) (place : ℕ)
+    (one : block.records ≡ first ∷ []) (size : length content ≡ 64) (listed : places ≡ place_of_record first ∷ []) (tail : place ≡ 65 + block.len)
     (serves : (j : Entry) → j.header ≡ first.header → j.content ≡ content → Serves book (begun_with j)) where
   first_known : (e : Entry) → AreBlock 0 (e ∷ []) → IsRead 64 (e ∷ []) block → first ≡ record_at 109 e → Knows (known_from book places place) ((with_content content e ∷ []) ∷ [])
   first_known e b r at =
@@ -227,7 +228,7 @@ module _ (block : BlockAt) (first : RecordAt) (content : List ℕ) (book : Kept)
           waiting_is = record { room = omega arith; gathered = refl };
         };
         serves = s;
-        places = listed ∙ ap (λ (x : RecordAt). x ∷ []) at;
+        places = listed ∙ ap (λ (x : RecordAt). place_of_record x ∷ []) at;
         tail = omega (arith, tail, r.len, record_size e b.readable.0, length-append (record_bytes e) []);
       }
 

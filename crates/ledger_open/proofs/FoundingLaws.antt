@@ -14,7 +14,6 @@ use Rattle.ledger_open.specs.Heads.{IsFront}
 use Rattle.std.specs.Int.{to_be_bytes, w32, w64}
 use Rattle.std.specs.Prelude.{sum_by, Option, Some, None, nat_le, slice_get}
 use Rattle.std.proofs.lemmas.List.Sums.{sum_by-cons}
-use Rattle.block_file.specs.declared.block.RecordAt.{RecordAt}
 use Rattle.journal_record.specs.Header.{spelling}
 use Rattle.journal_record.specs.Records.{AreReadable}
 use Rattle.journal_record.specs.declared.header.Header.{Header}
@@ -24,6 +23,7 @@ use Rattle.ledger_model.specs.History.{History}
 use Rattle.merkle_tree.specs.declared.head.Head.{Head}
 use Rattle.ledger_open.specs.Opening.{known_from, Knows}
 use Rattle.ledger_open.specs.Places.{record_len}
+use Rattle.ledger_open.specs.declared.places.PlaceAt.{PlaceAt}
 use Rattle.ledger_disk.specs.Disk.{State, settled_state}
 use Rattle.ledger_model.specs.Genesis.{HasKeys}
 use Rattle.twin_file.specs.Images.{AreShut, IsMadeOrShut}
@@ -142,14 +142,14 @@ module _ (genesis : Genesis) (operator : length genesis.operator.0 ≡ 32) (regu
   pub first_block_size : (root : List ℕ) → length root ≡ 32 → length (block_bytes root (genesis_journal genesis ∷ [])) ≡ 286
   first_block_size root size = block_size root (genesis_journal genesis ∷ []) size block_readable ∙ ap (λ (n : ℕ). 44 + n) len_is
 
-  pub first_knows : (book : Kept) (places : List RecordAt) (header : Header) → header ≡ genesis_header genesis → Serves book (new_ledger genesis) → places ≡ record { header = header; content_at = 287; who_at = 351; who_len = 0 } ∷ []
+  pub first_knows : (book : Kept) (places : List PlaceAt) → Serves book (new_ledger genesis) → places ≡ record { content_at = 287; who_at = 351; content_len = 64; who_len = 0 } ∷ []
       → Knows (known_from book places 351) (new_ledger genesis).closed
   unfolding genesis_header
-  first_knows book places header is serves listed = record {
+  first_knows book places serves listed = record {
     lawful = (record { some = omega arith; most = omega arith; entries = (entry_is, tt) }, tt);
     legal = founded_lawful genesis;
     serves = serves;
-    places = listed ∙ ap (λ (h : Header). record { header = h; content_at = 287; who_at = 351; who_len = 0 } ∷ []) is;
+    places = listed;
     tail = omega (arith, len_is);
   }
 

@@ -1,11 +1,10 @@
 -- A block more is read.
 use Rattle.std.specs.Prelude.{Bool, true, false, IsTrue, IfSome, IsSomeAnd, Option, Ok, Some, sum_by, ◌^◌, ◌==◌}
-use Rattle.std.proofs.Common.{◌≡◌, ◌≢◌, ◌⊎◌, ◌-◌, cond, inl, inr, ℕ, ◌+◌, ◌<◌, ◌≤◌, List, [], ◌∷◌, ◌++◌, length, get_or, take, drop, refl, sym, ◌∙◌, ap, subst, arith, append_assoc, append-nil, length-append}
+use Rattle.std.proofs.Common.{◌≡◌, ◌≢◌, ◌⊎◌, ◌-◌, cond, inl, inr, ℕ, ◌+◌, ◌<◌, ◌≤◌, List, [], ◌∷◌, ◌++◌, length, get_or, map, take, drop, refl, sym, ◌∙◌, ap, subst, arith, append_assoc, append-nil, length-append}
 use Rattle.std.proofs.lemmas.Bool.{true≢false, eq-eqb}
 use Rattle.std.proofs.lemmas.List.Elements.{All-push}
 use Rattle.block_file.specs.Blocks.{AreBlock, IsRead, IsOpenBlock, IsNextBlock, IsBlockErr}
 use Rattle.block_file.specs.declared.block.BlockAt.{BlockAt}
-use Rattle.block_file.specs.declared.block.RecordAt.{RecordAt}
 use Rattle.block_file.specs.declared.failure.Damage.{Damage}
 use Rattle.block_file.specs.declared.failure.FileErr.{FileErr}
 use Rattle.journal_record.specs.Blocks.{AreFrom, IsBlock}
@@ -19,9 +18,10 @@ use Rattle.ledger_model.specs.Lawful.{AreNext, IsLawful}
 use Rattle.merkle_tree.specs.declared.head.Head.{Head}
 use Rattle.ledger_open.specs.Damages.{Begun, IsReadTo, IsDamage}
 use Rattle.ledger_open.specs.Opening.{Known, known_from, Knows, HasRead, HasKnown, HasFile, IsHeadOf, IsPlain, IsReadErr, as_open}
-use Rattle.ledger_open.specs.Places.{record_len, records_at, places_at, after_at}
+use Rattle.ledger_open.specs.Places.{record_len, place_of_record, places_in, places_at, after_at}
 use Rattle.ledger_open.specs.Standing.{ground}
 use Rattle.ledger_open.specs.Taking.{Headed, TakesBlock, IsBadBlock}
+use Rattle.ledger_open.specs.declared.places.PlaceAt.{PlaceAt}
 use Rattle.block_file.specs.Head.{digest_of, number_at, IsBaseErr}
 use Rattle.block_file.specs.Place.{base_len_of, base_digest_of}
 use Rattle.block_file.specs.declared.file.BlockFile.{BlockFile}
@@ -30,7 +30,7 @@ use Rattle.block_file.specs.declared.failure.FileErr.TheVariants as files
 use Rattle.ledger_open.proofs.BegunLaws.{begun_more, begun_ends}
 use Rattle.ledger_open.proofs.FirstLaws.{headed_read, err_read, bad_read, some_of}
 use Rattle.ledger_open.proofs.GrowLaws.{blocks_more}
-use Rattle.ledger_open.proofs.PlaceLaws.{records_same}
+use Rattle.ledger_open.proofs.PlaceLaws.{places_same}
 use Rattle.ledger_open.proofs.SizeLaws.{body_size}
 
 -- ---- how many journals there are
@@ -87,17 +87,17 @@ from_next before (e ∷ es) n r = (
   subst (λ (m : ℕ). AreFrom m es) (length-append before (e ∷ [])) (from_next (before ++ e ∷ []) es n.1 r.1),
 )
 
-places_push : (at : ℕ) (bs : List (List Entry)) (b : List Entry) → places_at at (bs ++ b ∷ []) ≡ places_at at bs ++ records_at (after_at at bs + 45) b
-places_push at [] b = append-nil (records_at (at + 45) b)
+places_push : (at : ℕ) (bs : List (List Entry)) (b : List Entry) → places_at at (bs ++ b ∷ []) ≡ places_at at bs ++ places_in (after_at at bs + 45) b
+places_push at [] b = append-nil (places_in (at + 45) b)
 places_push at (c ∷ bs) b =
-    ap (λ (l : List RecordAt). records_at (at + 45) c ++ l) (places_push (at + 45 + sum_by record_len c) bs b)
-    ∙ sym (append_assoc (records_at (at + 45) c) (places_at (at + 45 + sum_by record_len c) bs) (records_at (after_at (at + 45 + sum_by record_len c) bs + 45) b))
+    ap (λ (l : List PlaceAt). places_in (at + 45) c ++ l) (places_push (at + 45 + sum_by record_len c) bs b)
+    ∙ sym (append_assoc (places_in (at + 45) c) (places_at (at + 45 + sum_by record_len c) bs) (places_in (after_at (at + 45 + sum_by record_len c) bs + 45) b))
 
 after_push : (at : ℕ) (bs : List (List Entry)) (b : List Entry) → after_at at (bs ++ b ∷ []) ≡ after_at at bs + 45 + sum_by record_len b
 after_push at [] b = refl
 after_push at (c ∷ bs) b = after_push (at + 45 + sum_by record_len c) bs b
 
-module _ (k : Known) (block : BlockAt) (book : Kept) (places : List RecordAt) (place first : ℕ) (listed : places ≡ k.places ++ block.records) (tail : place ≡ k.place + 1 + block.len)
+module _ (k : Known) (block : BlockAt) (book : Kept) (places : List PlaceAt) (place first : ℕ) (listed : places ≡ k.places ++ map place_of_record block.records) (tail : place ≡ k.place + 1 + block.len)
     (takes : (ks : List (List Entry)) (es : List Entry) → Headed es block.records → Serves k.book (history ks []) → TakesBlock book ks es block.root.0) where
   block_of : (ks : List (List Entry)) (es : List Entry) → AreBlock first es → TakesBlock book ks es block.root.0 → IsBlock (length (journals_of ks)) es
   block_of ks es b t = record { some = b.some; most = b.most; entries = from_next (journals_of ks) es t.next b.readable }
@@ -112,7 +112,8 @@ module _ (k : Known) (block : BlockAt) (book : Kept) (places : List RecordAt) (p
           waiting_is = n.legal.waiting_is;
         };
         serves = t.serves;
-        places = listed ∙ ap (λ (l : List RecordAt). l ++ block.records) n.places ∙ ap (λ (l : List RecordAt). places_at 64 ks ++ l) (r.records ∙ records_same (k.place + 45) es b.readable ∙ ap (λ (m : ℕ). records_at (m + 45) es) n.tail) ∙ sym (places_push 64 ks es);
+        places = listed ∙ ap (λ (l : List PlaceAt). l ++ map place_of_record block.records) n.places
+            ∙ ap (λ (l : List PlaceAt). places_at 64 ks ++ l) (ap (map place_of_record) r.records ∙ places_same (k.place + 45) es b.readable ∙ ap (λ (m : ℕ). places_in (m + 45) es) n.tail) ∙ sym (places_push 64 ks es);
         tail = omega (arith, tail, r.len, body_size es b.readable, n.tail, after_push 64 ks es);
       }
 

@@ -1,12 +1,11 @@
 -- What stands at the places of journals.
 use Rattle.std.specs.Int.{to_be_bytes, w32, w64}
-use Rattle.std.specs.Prelude.{Bool, sum_by}
+use Rattle.std.specs.Prelude.{Bool, sum_by, ⊤}
 use Rattle.std.proofs.Common.{◌≡◌, ℕ, ◌+◌, List, [], ◌∷◌, ◌++◌, length, map, take, drop, refl, sym, ◌∙◌, ap, subst, arith, append_assoc, length-append}
-use Rattle.std.proofs.lemmas.List.{take_at, drop_at, drop-drop, map-append}
+use Rattle.std.proofs.lemmas.List.{take_at, drop_at, drop-drop}
 use Rattle.std.proofs.lemmas.List.Sums.{sum_by-cons}
-use Rattle.block_file.specs.Blocks.{IsOpenBlock, record_at, records_from}
+use Rattle.block_file.specs.Blocks.{IsOpenBlock, records_from}
 use Rattle.block_file.specs.File.{open_blocks, tail_of}
-use Rattle.block_file.specs.declared.block.RecordAt.{RecordAt}
 use Rattle.journal_record.proofs.Spelling.{length-spelling}
 use Rattle.journal_record.specs.Blocks.{record_bytes, body_of, block_bytes, leaves_of, AreBlocks, written_blocks}
 use Rattle.journal_record.specs.Entry.{Entry}
@@ -15,18 +14,19 @@ use Rattle.journal_record.specs.Records.{IsReadable, AreReadable}
 use Rattle.journal_record.specs.declared.header.Header.{Header}
 use Rattle.ledger_model.specs.History.{History, journals_of, journals}
 use Rattle.ledger_model.specs.Outcomes.{is_hidden}
-use Rattle.ledger_open.specs.Places.{record_len, records_at, places_at, after_at, entry_at, places_of}
-use Rattle.ledger_open.specs.Standing.{Floor, ground, HasBlocks, AllKept, SameButHidden, StandsBy}
+use Rattle.ledger_open.specs.Places.{record_len, place_at, place_of_record, places_in, places_at, after_at, entry_at, AllAt, places_of}
+use Rattle.ledger_open.specs.Standing.{Floor, ground, HasBlocks, IsKept, AllKept, SameButHidden, StandsBy}
+use Rattle.ledger_open.specs.declared.places.PlaceAt.{PlaceAt}
 use Rattle.ledger_open.proofs.AgainLaws.{entry_is, flat}
 use Rattle.ledger_open.proofs.HidingLaws.{journals_closed}
 use Rattle.ledger_open.proofs.KeptLaws.{all_kept}
 use Rattle.ledger_open.proofs.SizeLaws.{GivesDigests, mth_size, record_size, body_size, block_size, readable}
 
 -- the places of a block's journals, by their headers and by their bytes
-pub records_same : (at : ℕ) (es : List Entry) → AreReadable es → records_from at es ≡ records_at at es
-records_same at [] r = refl
-records_same at (e ∷ es) r =
-    ap (λ (l : List RecordAt). record_at at e ∷ l) (ap (λ (n : ℕ). records_from (at + n) es) (record_size e r.0) ∙ records_same (at + record_len e) es r.1)
+pub places_same : (at : ℕ) (es : List Entry) → AreReadable es → map place_of_record (records_from at es) ≡ places_in at es
+places_same at [] r = refl
+places_same at (e ∷ es) r =
+    ap (λ (l : List PlaceAt). place_at at e ∷ l) (ap (λ (n : ℕ). map place_of_record (records_from (at + n) es)) (record_size e r.0) ∙ places_same (at + record_len e) es r.1)
 
 -- a block's body behind its gate and its head
 body_behind : (root : List ℕ) (b : List Entry) (rest : List ℕ) → length root ≡ 32 → drop 45 ((1 ∷ block_bytes root b) ++ rest) ≡ body_of b ++ rest
@@ -41,8 +41,20 @@ body_behind root b rest size =
 
 -- ---- a file, and what stands in it
 
+-- these journals stand in a file, each at its place
+abbrev pub AreHere : List ℕ → List Entry → List PlaceAt → Type 0
+AreHere file [] [] = ⊤
+AreHere file (e ∷ es) (p ∷ ps) = (entry_at file e.header p ≡ e) × AreHere file es ps
+AreHere file _ _ = ⊥
+
+here_both : (file : List ℕ) (es fs : List Entry) (ps qs : List PlaceAt) → AreHere file es ps → AreHere file fs qs → AreHere file (es ++ fs) (ps ++ qs)
+here_both file [] fs [] qs a b = b
+here_both file [] fs (p ∷ ps) qs a b = absurd a
+here_both file (e ∷ es) fs [] qs a b = absurd a
+here_both file (e ∷ es) fs (p ∷ ps) qs a b = (a.0, here_both file es fs ps qs a.1 b)
+
 module _ (file : List ℕ) where
-  record_here : (at : ℕ) (e : Entry) (rest : List ℕ) → IsReadable e → drop at file ≡ record_bytes e ++ rest → entry_at file (record_at at e) ≡ e
+  record_here : (at : ℕ) (e : Entry) (rest : List ℕ) → IsReadable e → drop at file ≡ record_bytes e ++ rest → entry_at file e.header (place_at at e) ≡ e
   record_here at e rest r is =
       let size : length (spelling e.header ++ to_be_bytes w32 (length e.who)) ≡ 178 =
       let four : length (to_be_bytes w32 (length e.who)) ≡ 4 = refl in
@@ -55,22 +67,21 @@ module _ (file : List ℕ) where
       sym (drop-drop 178 at file) ∙ ap (λ (l : List ℕ). drop 178 l) (is ∙ parts) ∙ drop_at (spelling e.header ++ to_be_bytes w32 (length e.who)) (e.content ++ (e.who ++ rest)) 178 size in
       let who : drop (at + 178 + e.header.content_len) file ≡ e.who ++ rest =
       sym (drop-drop e.header.content_len (at + 178) file) ∙ ap (λ (l : List ℕ). drop e.header.content_len l) content ∙ drop_at e.content (e.who ++ rest) e.header.content_len r.content in
-      entry_is (entry_at file (record_at at e)) e refl
+      entry_is (entry_at file e.header (place_at at e)) e refl
       (ap (λ (l : List ℕ). take e.header.content_len l) content ∙ take_at e.content (e.who ++ rest) e.header.content_len r.content)
       (ap (λ (l : List ℕ). take (length e.who) l) who ∙ take_at e.who rest (length e.who) refl)
 
-  records_here : (at : ℕ) (es : List Entry) (rest : List ℕ) → AreReadable es → drop at file ≡ body_of es ++ rest → map (entry_at file) (records_at at es) ≡ es
-  records_here at [] rest r is = refl
+  records_here : (at : ℕ) (es : List Entry) (rest : List ℕ) → AreReadable es → drop at file ≡ body_of es ++ rest → AreHere file es (places_in at es)
+  records_here at [] rest r is = tt
   records_here at (e ∷ es) rest r is =
       let first : drop at file ≡ record_bytes e ++ (body_of es ++ rest) = is ∙ append_assoc (record_bytes e) (body_of es) rest in
       let later : drop (at + record_len e) file ≡ body_of es ++ rest =
       sym (drop-drop (record_len e) at file) ∙ ap (λ (l : List ℕ). drop (record_len e) l) first ∙ drop_at (record_bytes e) (body_of es ++ rest) (record_len e) (record_size e r.0) in
-      ap (λ (x : Entry). x ∷ map (entry_at file) (records_at (at + record_len e) es)) (record_here at e (body_of es ++ rest) r.0 first)
-      ∙ ap (λ (l : List Entry). e ∷ l) (records_here (at + record_len e) es rest r.1 later)
+      (record_here at e (body_of es ++ rest) r.0 first, records_here (at + record_len e) es rest r.1 later)
 
   blocks_here : (root : List (List ℕ) → List ℕ) → GivesDigests root → (seen : List (List ℕ)) (n at : ℕ) (bs : List (List Entry)) (rest : List ℕ) → AreBlocks n bs
-      → drop at file ≡ open_blocks (written_blocks root seen bs) ++ rest → map (entry_at file) (places_at at bs) ≡ journals_of bs
-  blocks_here root digests seen n at [] rest a is = refl
+      → drop at file ≡ open_blocks (written_blocks root seen bs) ++ rest → AreHere file (journals_of bs) (places_at at bs)
+  blocks_here root digests seen n at [] rest a is = tt
   blocks_here root digests seen n at (b ∷ bs) rest a is =
       let r = readable n b a.0.entries in
       let later = open_blocks (written_blocks root (seen ++ leaves_of b) bs) ++ rest in
@@ -80,19 +91,18 @@ module _ (file : List ℕ) where
       sym (drop-drop 45 at file) ∙ ap (λ (l : List ℕ). drop 45 l) block ∙ body_behind (root (seen ++ leaves_of b)) b (open_blocks (written_blocks root (seen ++ leaves_of b) bs) ++ rest) (digests (seen ++ leaves_of b)) in
       let next : drop (at + 45 + sum_by record_len b) file ≡ open_blocks (written_blocks root (seen ++ leaves_of b) bs) ++ rest =
       sym (drop-drop (sum_by record_len b) (at + 45) file) ∙ ap (λ (l : List ℕ). drop (sum_by record_len b) l) body ∙ drop_at (body_of b) (open_blocks (written_blocks root (seen ++ leaves_of b) bs) ++ rest) (sum_by record_len b) (body_size b r) in
-      map-append (entry_at file) (records_at (at + 45) b) (places_at (at + 45 + sum_by record_len b) bs)
-      ∙ ap (λ (l : List Entry). l ++ map (entry_at file) (places_at (at + 45 + sum_by record_len b) bs)) (records_here (at + 45) b _ r body)
-      ∙ ap (λ (l : List Entry). b ++ l) (blocks_here root digests (seen ++ leaves_of b) (n + length b) (at + 45 + sum_by record_len b) bs rest a.1 next)
+      here_both file b (journals_of bs) (places_in (at + 45) b) (places_at (at + 45 + sum_by record_len b) bs) (records_here (at + 45) b _ r body)
+      (blocks_here root digests (seen ++ leaves_of b) (n + length b) (at + 45 + sum_by record_len b) bs rest a.1 next)
 
 -- the journals of an open block stand at its places
-pub open_here : (at : ℕ) (root : List ℕ) (es : List Entry) (file : List ℕ) → IsOpenBlock at root es file → AreReadable es → map (entry_at file) (records_at (at + 45) es) ≡ es
+pub open_here : (at : ℕ) (root : List ℕ) (es : List Entry) (file : List ℕ) → IsOpenBlock at root es file → AreReadable es → AreHere file es (places_in (at + 45) es)
 open_here at root es file o r =
     records_here file (at + 45) es (o.gate ∷ o.rest) r
     (sym (drop-drop 45 at file) ∙ ap (λ (l : List ℕ). drop 45 l) o.is ∙ body_behind root es (o.gate ∷ o.rest) o.digest)
 
 -- the journals of a file stand at its places
 pub file_here : (floor : Floor) → GivesDigests floor.root → (generation : ℕ) (bs : List (List Entry)) (image : List ℕ) → HasBlocks floor generation bs image
-    → map (entry_at image) (places_at (64 + length floor.base) bs) ≡ journals_of bs
+    → AreHere image (journals_of bs) (places_at (64 + length floor.base) bs)
 file_here floor digests generation bs image x =
     blocks_here image floor.root digests [] floor.first (64 + length floor.base) bs (x.stands.gate ∷ x.stands.rest) x.lawful
     (ap (λ (l : List ℕ). drop (64 + length floor.base) l) (flat x.front (written_blocks floor.root [] bs) image x.stands)
@@ -100,17 +110,17 @@ file_here floor digests generation bs image x =
 
 -- ---- the same places by what is kept
 
-records_kept : (hid gone : ℕ → Bool) (at : ℕ) (es fs : List Entry) → AllKept hid gone es fs → (records_at at es ≡ records_at at fs) × (sum_by record_len es ≡ sum_by record_len fs)
+records_kept : (hid gone : ℕ → Bool) (at : ℕ) (es fs : List Entry) → AllKept hid gone es fs → (places_in at es ≡ places_in at fs) × (sum_by record_len es ≡ sum_by record_len fs)
 records_kept hid gone at [] [] a = (refl, refl)
 records_kept hid gone at [] (f ∷ fs) a = absurd a
 records_kept hid gone at (e ∷ es) [] a = absurd a
 records_kept hid gone at (e ∷ es) (f ∷ fs) a =
-    let here : record_at at e ≡ record_at at f =
-    ap (λ (h : Header). record { header = h; content_at = at + 178; who_at = at + 178 + h.content_len; who_len = length e.who }) (sym a.0.header)
-    ∙ ap (λ (l : List ℕ). record { header = f.header; content_at = at + 178; who_at = at + 178 + f.header.content_len; who_len = length l }) (sym a.0.who) in
+    let here : place_at at e ≡ place_at at f =
+    ap (λ (h : Header). record { content_at = at + 178; who_at = at + 178 + h.content_len; content_len = h.content_len; who_len = length e.who }) (sym a.0.header)
+    ∙ ap (λ (l : List ℕ). record { content_at = at + 178; who_at = at + 178 + f.header.content_len; content_len = f.header.content_len; who_len = length l }) (sym a.0.who) in
     let size : record_len e ≡ record_len f = ap (λ (h : Header). 178 + h.content_len + length e.who) (sym a.0.header) ∙ ap (λ (l : List ℕ). 178 + f.header.content_len + length l) (sym a.0.who) in
     let later = records_kept hid gone (at + record_len f) es fs a.1 in (
-      ap (λ (r : RecordAt). r ∷ records_at (at + record_len e) es) here ∙ ap (λ (n : ℕ). record_at at f ∷ records_at (at + n) es) size ∙ ap (λ (l : List RecordAt). record_at at f ∷ l) later.0,
+      ap (λ (p : PlaceAt). p ∷ places_in (at + record_len e) es) here ∙ ap (λ (n : ℕ). place_at at f ∷ places_in (at + n) es) size ∙ ap (λ (l : List PlaceAt). place_at at f ∷ l) later.0,
       omega (arith, size, later.1, sum_by-cons record_len e es, sum_by-cons record_len f fs),
     )
 
@@ -120,17 +130,26 @@ places_kept hid gone at [] (c ∷ cs) s = absurd s
 places_kept hid gone at (b ∷ bs) [] s = absurd s
 places_kept hid gone at (b ∷ bs) (c ∷ cs) s =
     let one = records_kept hid gone (at + 45) b c s.0 in
-    ap (λ (l : List RecordAt). l ++ places_at (at + 45 + sum_by record_len b) bs) one.0
-    ∙ ap (λ (n : ℕ). records_at (at + 45) c ++ places_at (at + 45 + n) bs) one.1
-    ∙ ap (λ (l : List RecordAt). records_at (at + 45) c ++ l) (places_kept hid gone (at + 45 + sum_by record_len c) bs cs s.1)
+    ap (λ (l : List PlaceAt). l ++ places_at (at + 45 + sum_by record_len b) bs) one.0
+    ∙ ap (λ (n : ℕ). places_in (at + 45) c ++ places_at (at + 45 + n) bs) one.1
+    ∙ ap (λ (l : List PlaceAt). places_in (at + 45) c ++ l) (places_kept hid gone (at + 45 + sum_by record_len c) bs cs s.1)
+
+-- what is kept of journals stands at the places of the others
+kept_here : (hid gone : ℕ → Bool) (file : List ℕ) (es fs : List Entry) (ps : List PlaceAt) → AllKept hid gone es fs → AreHere file fs ps → AllAt hid gone file es ps
+kept_here hid gone file [] [] [] a h = tt
+kept_here hid gone file [] [] (p ∷ ps) a h = absurd h
+kept_here hid gone file [] (f ∷ fs) ps a h = absurd a
+kept_here hid gone file (e ∷ es) [] ps a h = absurd a
+kept_here hid gone file (e ∷ es) (f ∷ fs) [] a h = absurd h
+kept_here hid gone file (e ∷ es) (f ∷ fs) (p ∷ ps) a h =
+    (subst (λ (x : Header). IsKept hid gone e (entry_at file x p)) a.0.header (subst (IsKept hid gone e) (sym h.0) a.0), kept_here hid gone file es fs ps a.1 h.1)
 
 -- each journal of a history stands at its place, as far as it is kept
-pub history_here : (gone : ℕ → Bool) (image : List ℕ) (h : History) → StandsBy gone image h → AllKept (is_hidden h) gone (journals h) (map (entry_at image) (places_of h))
+pub history_here : (gone : ℕ → Bool) (image : List ℕ) (h : History) → StandsBy gone image h → AllAt (is_hidden h) gone image (journals h) (places_of h)
 history_here gone image h x =
-    let read : map (entry_at image) (places_of h) ≡ journals_of x.keeps.blocks =
-    ap (map (entry_at image)) (places_kept (is_hidden h) gone 64 h.closed x.keeps.blocks x.keeps.same) ∙ file_here ground mth_size x.generation x.keeps.blocks image x.keeps.file in
-    subst (AllKept (is_hidden h) gone (journals h)) (sym read)
+    kept_here (is_hidden h) gone image (journals h) (journals_of x.keeps.blocks) (places_of h)
     (subst (λ (l : List Entry). AllKept (is_hidden h) gone l (journals_of x.keeps.blocks)) (sym (journals_closed h x.none)) (all_kept (is_hidden h) gone h.closed x.keeps.blocks x.keeps.same))
+    (subst (AreHere image (journals_of x.keeps.blocks)) (sym (places_kept (is_hidden h) gone 64 h.closed x.keeps.blocks x.keeps.same)) (file_here ground mth_size x.generation x.keeps.blocks image x.keeps.file))
 
 -- ---- where blocks end
 

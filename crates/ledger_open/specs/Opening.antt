@@ -4,7 +4,6 @@ use Rattle.block_file.specs.File.{IsSettled}
 use Rattle.block_file.specs.Head.{IsShut, HasHead, number_at}
 use Rattle.block_file.specs.Place.{base_len_of, base_digest_of}
 use Rattle.block_file.specs.declared.file.BlockFile.{BlockFile}
-use Rattle.block_file.specs.declared.block.RecordAt.{RecordAt}
 use Rattle.block_file.specs.declared.failure.FileErr.{FileErr}
 use Rattle.block_file.specs.declared.failure.FileErr.TheVariants as files
 use Rattle.journal_record.specs.Blocks.{AreBlocks}
@@ -19,6 +18,7 @@ use Rattle.ledger_open.specs.Damages.{Begun, IsDamage}
 use Rattle.ledger_open.specs.Places.{places_at, after_at}
 use Rattle.ledger_open.specs.Standing.{ground, HasBlocks}
 use Rattle.ledger_open.specs.declared.failure.OpenErr.{OpenErr}
+use Rattle.ledger_open.specs.declared.places.PlaceAt.{PlaceAt}
 use Rattle.ledger_open.specs.declared.failure.OpenErr.TheVariants.{DiskFault, Damaged, Empty, Exists, NewerFormat, NoMemory}
 
 -- ---- what is known, whatever the disks tell
@@ -26,10 +26,10 @@ use Rattle.ledger_open.specs.declared.failure.OpenErr.TheVariants.{DiskFault, Da
 -- what a book keeps, the places of journals, and the place of the next gate
 pub record Known : Type 0 where
   pub book : Kept
-  pub places : List RecordAt
+  pub places : List PlaceAt
   pub place : ℕ
 
-abbrev pub known_from : Kept → List RecordAt → ℕ → Known
+abbrev pub known_from : Kept → List PlaceAt → ℕ → Known
 known_from book places place = record { book = book; places = places; place = place }
 
 -- They are those of these blocks, which may be a ledger's. No disk is in it.

@@ -1,46 +1,75 @@
 -- Where journals stand in a file.
-use Rattle.std.specs.Prelude.{ℕ, ◌+◌, Bool, sum_by, List, [], ◌∷◌, ◌++◌, length, map, take, drop}
-use Rattle.block_file.specs.Blocks.{record_at}
+use Rattle.std.specs.Prelude.{ℕ, ◌+◌, Bool, sum_by, List, [], ◌∷◌, ◌++◌, length, take, drop, ⊤}
 use Rattle.block_file.specs.declared.block.RecordAt.{RecordAt}
 use Rattle.journal_record.specs.Entry.{Entry}
+use Rattle.journal_record.specs.declared.header.Header.{Header}
 use Rattle.ledger_model.specs.History.{History, journals}
-use Rattle.ledger_open.specs.Standing.{AllKept, StandsBy}
+use Rattle.ledger_open.specs.Standing.{IsKept, StandsBy}
+use Rattle.ledger_open.specs.declared.places.PlaceAt.{PlaceAt}
 use Rattle.ledger_model.specs.Outcomes.{is_hidden}
 
 -- how many bytes a journal takes in its block, by its header: the same for a history and for what a file keeps of it
 abbrev pub record_len : Entry → ℕ
 record_len e = 178 + e.header.content_len + length e.who
 
--- where the journals of a block stand, whose records begin at this place
-abbrev pub records_at : ℕ → List Entry → List RecordAt
-records_at at [] = []
-records_at at (e ∷ es) = record_at at e ∷ records_at (at + record_len e) es
+-- the place of a journal whose record begins at this offset, by its header
+abbrev pub place_at : ℕ → Entry → PlaceAt
+place_at at e =
+    record {
+      content_at = at + 178;
+      who_at = at + 178 + e.header.content_len;
+      content_len = e.header.content_len;
+      who_len = length e.who;
+    }
 
--- where the journals of some blocks stand, where the first gate stands at this place
-abbrev pub places_at : ℕ → List (List Entry) → List RecordAt
+-- the place of a journal whose record was read
+abbrev pub place_of_record : RecordAt → PlaceAt
+place_of_record r =
+    record {
+      content_at = r.content_at;
+      who_at = r.who_at;
+      content_len = r.header.content_len;
+      who_len = r.who_len;
+    }
+
+-- the places of the journals of a block, whose records begin at this offset
+abbrev pub places_in : ℕ → List Entry → List PlaceAt
+places_in at [] = []
+places_in at (e ∷ es) = place_at at e ∷ places_in (at + record_len e) es
+
+-- the places of the journals of some blocks, where the first gate stands at this offset
+abbrev pub places_at : ℕ → List (List Entry) → List PlaceAt
 places_at at [] = []
-places_at at (b ∷ bs) = records_at (at + 45) b ++ places_at (at + 45 + sum_by record_len b) bs
+places_at at (b ∷ bs) = places_in (at + 45) b ++ places_at (at + 45 + sum_by record_len b) bs
 
 -- where the gate behind some blocks stands
 abbrev pub after_at : ℕ → List (List Entry) → ℕ
 after_at at [] = at
 after_at at (b ∷ bs) = after_at (at + 45 + sum_by record_len b) bs
 
--- what stands in a file at the place of a journal
-abbrev pub entry_at : List ℕ → RecordAt → Entry
-entry_at file place =
+-- the journal with this header, whose content and who are what stands in a file at this place
+abbrev pub entry_at : List ℕ → Header → PlaceAt → Entry
+entry_at file header place =
     record {
-      header = place.header;
-      content = take place.header.content_len (drop place.content_at file);
+      header = header;
+      content = take place.content_len (drop place.content_at file);
       who = take place.who_len (drop place.who_at file);
     }
 
--- where the journals of a history stand in a file that begins with journal 0
-abbrev pub places_of : History → List RecordAt
+-- At these places in a file stands what is kept of these journals, each at its own: its content, unless that is hidden, and
+-- its who; and zeros where the content is gone.
+abbrev pub AllAt : (ℕ → Bool) → (ℕ → Bool) → List ℕ → List Entry → List PlaceAt → Type 0
+AllAt hid gone file [] [] = ⊤
+AllAt hid gone file (e ∷ es) (p ∷ ps) =
+    IsKept hid gone e (entry_at file e.header p) × AllAt hid gone file es ps
+AllAt hid gone file _ _ = ⊥
+
+-- the places of the journals of a history in a file that begins with journal 0
+abbrev pub places_of : History → List PlaceAt
 places_of h = places_at 64 h.closed
 
 -- At its place stands each journal of the history, but for contents that are hidden, and zeros where they are gone.
 abbrev pub AreAtPlaces : Type 0
 AreAtPlaces =
     (gone : ℕ → Bool) (image : List ℕ) (h : History) → StandsBy gone image h
-    → AllKept (is_hidden h) gone (journals h) (map (entry_at image) (places_of h))
+    → AllAt (is_hidden h) gone image (journals h) (places_of h)

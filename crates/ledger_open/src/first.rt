@@ -17,6 +17,7 @@ ghost use Rattle.ledger_bytes.specs.declared.digest.Digest.{Digest};
 ghost use Rattle.ledger_disk.specs.Disk.{KeepsLength};
 ghost use Rattle.ledger_model.specs.Limits.{AreWithin};
 ghost use Rattle.ledger_open.specs.Opening.{HasRead, IsPlain, IsReadErr, CountsRead, known_from};
+ghost use Rattle.ledger_open.specs.Places.{place_of_record};
 ghost use Rattle.ledger_open.specs.Taking.{Headed, IsBadBlock};
 ghost use Rattle.ledger_open.specs.declared.failure.OpenErr.TheVariants as errors;
 
@@ -121,7 +122,7 @@ fn begin_book(
     requires layout { IsHeader first.now.header }
     requires digest { first.now.header.content_digest.0 ≡ content_digest_of content.now }
     requires limits { AreWithin limits }
-    ensures ok { IfOk result (λ read. (read.places.list ≡ first.now ∷ [])
+    ensures ok { IfOk result (λ read. (read.places.list ≡ place_of_record first.now ∷ [])
         × ((e : Entry) → e.header ≡ first.now.header → e.content ≡ content.now
         → Serves read.book (begun_with e))) }
     ensures limits { IfOk result (λ read. read.book.limits ≡ limits) }

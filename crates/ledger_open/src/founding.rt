@@ -15,8 +15,8 @@ ghost use Rattle.ledger_open.specs.Opening.{known_from, Knows, IsOutside, Counts
 ghost use Rattle.ledger_open.specs.Standing.{ground};
 ghost use Rattle.ledger_open.specs.declared.failure.OpenErr.TheVariants as errors;
 
-use crate::{OpenErr, Opened, Places};
-use block_file::{BlockFile, FileErr, RecordAt};
+use crate::{OpenErr, Opened, PlaceAt, Places};
+use block_file::{BlockFile, FileErr};
 use journal_record::Header;
 use ledger_book::Book;
 use ledger_bytes::{Digest, NoMemory, Sha};
@@ -95,15 +95,15 @@ fn prepare(alloc: Global, genesis: &Genesis, limits: Limits) -> Result<Made, NoM
     let Some(header) = book.header(0) else {
         return Err(NoMemory);
     };
-    let header = *header;
-    let block = first_block(alloc, genesis, &header, &book.head().root)?;
+    let block = first_block(alloc, genesis, header, &book.head().root)?;
     let mut places = Places::new(alloc);
-    places.add(&[RecordAt {
-        header,
+    places.reserve(1)?;
+    places.push(PlaceAt {
         content_at: 287,
         who_at: 351,
+        content_len: 64,
         who_len: 0,
-    }])?;
+    });
     Ok(Made {
         book,
         places,

@@ -20,7 +20,7 @@ pub use laws::{
     an_opened_pair_is_clean, journals_stand_at_their_places,
 };
 pub use opened::Opened;
-pub use places::Places;
+pub use places::{PlaceAt, Places};
 pub use reopening::reopen;
 
 #[cfg(test)]

@@ -1,15 +1,44 @@
-ghost use Rattle.std.specs.Prelude.{◌≡◌, ◌≤◌, ◌-◌, ◌+◌, ◌++◌, [], ◌∷◌, OnOk, OnErr, vec_len, vec_capacity};
+ghost use Rattle.std.specs.Prelude.{◌≡◌, ◌≤◌, ◌-◌, ◌+◌, ◌++◌, [], ◌∷◌, map, OnOk, OnErr, vec_len, vec_capacity};
+ghost use Rattle.ledger_open.specs.Places.{place_of_record};
 
 use block_file::RecordAt;
 use ledger_bytes::NoMemory;
 use std::alloc::Global;
 use std::marker::Model;
 
+/// Where that of a journal stands which isn't in its header. Offsets are in bytes, from the file's first.
+#[derive(Clone, Copy, Debug)]
+pub struct PlaceAt {
+    /// The offset of the content.
+    pub content_at: u64,
+    /// The offset of the bytes that show who placed the journal.
+    pub who_at: u64,
+    pub content_len: u32,
+    pub who_len: u32,
+}
+
+// A ledger has one for each of its journals: no byte stands between the fields.
+const _: () = prove!(size_of::<PlaceAt>() == 24);
+
+impl PlaceAt {
+    // That of a journal whose record was read.
+    fn of(journal: &RecordAt) -> Self
+        ensures { result ≡ place_of_record journal.now }
+    {
+        PlaceAt {
+            content_at: journal.content_at,
+            who_at: journal.who_at,
+            content_len: journal.header.content_len,
+            who_len: journal.who_len,
+        }
+    }
+}
+
 /// Where the journals of the open file stand, in their order. Beside the list a contract sees how many more there is
 /// room for.
 #[derive(Debug, Drop)]
 pub struct Places {
-    kept: Vec<RecordAt>,
+    kept: Vec<PlaceAt>,
 }
 
 impl Model for Places {
@@ -34,7 +63,7 @@ impl Places {
         }
     }
 
-    pub fn as_slice(&self) -> &[RecordAt]
+    pub fn as_slice(&self) -> &[PlaceAt]
         ensures { result.now ≡ self.now.list }
     {
         self.kept.as_slice()
@@ -50,7 +79,7 @@ impl Places {
     }
 
     /// Adds one, for which there is room.
-    pub fn push(&mut self, place: RecordAt)
+    pub fn push(&mut self, place: PlaceAt)
         requires { 1 ≤ self.old.spare }
         ensures list { self.new.list ≡ self.old.list ++ place ∷ [] }
         ensures room { self.old.spare - 1 ≤ self.new.spare }
@@ -58,11 +87,15 @@ impl Places {
         self.kept.push_reserved(place);
     }
 
-    /// Adds those of a block.
-    pub(crate) fn add(&mut self, places: &[RecordAt]) -> Result<(), NoMemory>
-        ensures ok { OnOk result (self.new.list ≡ self.old.list ++ places.now) }
+    /// Adds those of a block's journals, for which it makes room at once.
+    pub(crate) fn add(&mut self, records: &[RecordAt]) -> Result<(), NoMemory>
+        ensures ok { OnOk result (self.new.list ≡ self.old.list ++ map place_of_record records.now) }
+        ensures err { OnErr result (self.new.list ≡ self.old.list) }
     {
-        self.kept.extend_from_slice(places)?;
+        self.reserve(records.len())?;
+        for record in records {
+            self.push(PlaceAt::of(record));
+        }
         Ok(())
     }
 }

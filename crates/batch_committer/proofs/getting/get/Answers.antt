@@ -1,4 +1,5 @@
-use Rattle.std.proofs.Common.{inl, inr, ◌∙◌}
+use Rattle.std.specs.Prelude.{option_copied}
+use Rattle.std.proofs.Common.{inl, inr, sym, ap, ◌∙◌}
 use Rattle.std.proofs.lemmas.Result.{IfOk-weaker}
 use Rattle.batch_committer.proofs.GetLaws.{found_in, past_in, told_absent, told_purged, told_whole, told_occulted, told_none}
 use Rattle.batch_committer.proofs.getting.get.Goals as goal
@@ -11,24 +12,46 @@ pub returns-in-Purged-clause-told : goal.returns-in-Purged-clause-told
 returns-in-Purged-clause-told g c = λ tells h s are stands.
     told_purged h c.args.n c.in-Purged.point c.view.result c.in-Purged.is (c.view.ensures h s)
 
-pub returns-in-Some-clause-told : goal.returns-in-Some-clause-told
-returns-in-Some-clause-told g c =
+pub returns-in-Some-Some-clause-told : goal.returns-in-Some-Some-clause-told
+returns-in-Some-Some-clause-told g c =
+    let there = rw c.in-Some-Some.is-1 at c.get-place.ensures.lookup in
     IfOk-weaker c.occulted.result _ _
     (λ reply told tells h s are stands.
-    told tells ∙ told_occulted (g.D.Disk.state c.args.file.now).seen h c.args.n stands c.args.places.now.list are c.view.result (c.view.ensures h s) c.in-Some.place.now c.in-Occulted.is (let l = c.in-Some.ensures.lookup in found_in c.args.places.now.list c.as_slice.result.now c.args.n c.in-Some.place.now c.as_slice.ensures l.3.0 l.1))
+    told tells
+    ∙ told_occulted (g.D.Disk.state c.args.file.now).seen h c.args.n stands c.args.book.now s c.args.places.now.list are c.view.result (c.view.ensures h s) c.in-Some-Some.header.now c.in-Some-Some.place.now c.in-Occulted.is
+    (ap option_copied (sym c.in-Some-Some.is-0) ∙ c.header-header.ensures h s)
+    (found_in c.args.places.now.list c.as_slice.result.now c.args.n c.in-Some-Some.place.now c.as_slice.ensures there.3.0 there.1))
     c.occulted.ensures.told
 
-pub returns-in-None-clause-told : goal.returns-in-None-clause-told
-returns-in-None-clause-told g c = λ tells h s are stands.
-    told_none (g.D.Disk.state c.args.file.now).seen h c.args.n stands c.args.places.now.list are c.view.result (c.view.ensures h s) c.no_journal-in-None.result (inr c.in-Occulted.is) (past_in c.args.places.now.list c.as_slice.result.now c.args.n c.as_slice.ensures c.in-None.ensures.lookup.3) (c.no_journal-in-None.ensures h s stands.none)
+pub returns-in_default-clause-told : goal.returns-in_default-clause-told
+returns-in_default-clause-told g c = λ tells h s are stands.
+    let none = rw c.in_default.is-1 at c.get-place.ensures.lookup in
+    told_none (g.D.Disk.state c.args.file.now).seen h c.args.n stands c.args.book.now s c.args.places.now.list are c.view.result (c.view.ensures h s) c.no_journal-in_default.result (inr c.in-Occulted.is)
+    (inr (past_in c.args.places.now.list c.as_slice.result.now c.args.n c.as_slice.ensures none.3)) (c.no_journal-in_default.ensures h s stands.none)
 
-pub returns-in-Some-place-clause-told : goal.returns-in-Some-place-clause-told
-returns-in-Some-place-clause-told g c =
+pub returns-in_default-3-clause-told : goal.returns-in_default-3-clause-told
+returns-in_default-3-clause-told g c = λ tells h s are stands.
+    told_none (g.D.Disk.state c.args.file.now).seen h c.args.n stands c.args.book.now s c.args.places.now.list are c.view.result (c.view.ensures h s) c.no_journal-in_default.result (inr c.in-Occulted.is)
+    (inl (ap option_copied (sym c.in_default.is-0) ∙ c.header-header.ensures h s)) (c.no_journal-in_default.ensures h s stands.none)
+
+pub returns-in-Some-Some-2-clause-told : goal.returns-in-Some-Some-2-clause-told
+returns-in-Some-Some-2-clause-told g c =
+    let there = rw c.in-Some-Some-2.is-1 at c.get-place.ensures.lookup in
     IfOk-weaker c.whole.result _ _
     (λ reply told tells h s are stands.
-    told tells ∙ told_whole (g.D.Disk.state c.args.file.now).seen h c.args.n stands c.args.places.now.list are c.view.result (c.view.ensures h s) c.in-Some-place.place.now c.in-Whole.is (let l = c.in-Some-place.ensures.lookup in found_in c.args.places.now.list c.as_slice.result.now c.args.n c.in-Some-place.place.now c.as_slice.ensures l.3.0 l.1))
+    told tells
+    ∙ told_whole (g.D.Disk.state c.args.file.now).seen h c.args.n stands c.args.book.now s c.args.places.now.list are c.view.result (c.view.ensures h s) c.in-Some-Some-2.header.now c.in-Some-Some-2.place.now c.in-Whole.is
+    (ap option_copied (sym c.in-Some-Some-2.is-0) ∙ c.header-header.ensures h s)
+    (found_in c.args.places.now.list c.as_slice.result.now c.args.n c.in-Some-Some-2.place.now c.as_slice.ensures there.3.0 there.1))
     c.whole.ensures.told
 
-pub returns-in-None-place-clause-told : goal.returns-in-None-place-clause-told
-returns-in-None-place-clause-told g c = λ tells h s are stands.
-    told_none (g.D.Disk.state c.args.file.now).seen h c.args.n stands c.args.places.now.list are c.view.result (c.view.ensures h s) c.no_journal-in-None-place.result (inl c.in-Whole.is) (past_in c.args.places.now.list c.as_slice.result.now c.args.n c.as_slice.ensures c.in-None-place.ensures.lookup.3) (c.no_journal-in-None-place.ensures h s stands.none)
+pub returns-in_default-2-clause-told : goal.returns-in_default-2-clause-told
+returns-in_default-2-clause-told g c = λ tells h s are stands.
+    let none = rw c.in_default-2.is-1 at c.get-place.ensures.lookup in
+    told_none (g.D.Disk.state c.args.file.now).seen h c.args.n stands c.args.book.now s c.args.places.now.list are c.view.result (c.view.ensures h s) c.no_journal-in_default-2.result (inl c.in-Whole.is)
+    (inr (past_in c.args.places.now.list c.as_slice.result.now c.args.n c.as_slice.ensures none.3)) (c.no_journal-in_default-2.ensures h s stands.none)
+
+pub returns-in_default-2-2-clause-told : goal.returns-in_default-2-2-clause-told
+returns-in_default-2-2-clause-told g c = λ tells h s are stands.
+    told_none (g.D.Disk.state c.args.file.now).seen h c.args.n stands c.args.book.now s c.args.places.now.list are c.view.result (c.view.ensures h s) c.no_journal-in_default-2.result (inl c.in-Whole.is)
+    (inl (ap option_copied (sym c.in_default-2.is-0) ∙ c.header-header.ensures h s)) (c.no_journal-in_default-2.ensures h s stands.none)

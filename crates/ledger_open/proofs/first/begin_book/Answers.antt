@@ -1,11 +1,12 @@
 use Rattle.std.proofs.Common.{sym, ◌∙◌, ap, List}
-use Rattle.block_file.specs.declared.block.RecordAt.{RecordAt}
 use Rattle.journal_record.specs.Entry.{content_digest_of}
 use Rattle.std.proofs.Common.{◌++◌, ◌∷◌, [], ℕ, take, drop}
+use Rattle.ledger_open.specs.Places.{place_of_record}
+use Rattle.ledger_open.specs.declared.places.PlaceAt.{PlaceAt}
 use Rattle.ledger_open.proofs.first.begin_book.Goals as goal
 
 pub returns-clause-ok : goal.returns-clause-ok
 returns-clause-ok c = (
-  c.in-Ok-add.ensures.ok ∙ ap (λ (l : List RecordAt). l ++ c.args.first.now ∷ []) c.new-places.ensures,
+  c.in-Ok-add.ensures.ok ∙ ap (λ (l : List PlaceAt). l ++ place_of_record c.args.first.now ∷ []) c.new-places.ensures,
   λ e header content. c.in-Ok.ensures.serves e (record { header_is = header; operator_is = c.keys_of.ensures.0 ∙ ap (λ (l : List ℕ). take 32 l) (sym content); regulator_is = c.keys_of.ensures.1 ∙ ap (λ (l : List ℕ). drop 32 l) (sym content); digest_is = c.requires.digest ∙ ap content_digest_of (sym content) }),
 )

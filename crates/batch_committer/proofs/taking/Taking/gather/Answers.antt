@@ -1,8 +1,8 @@
 use Rattle.std.specs.Prelude.{option_copied}
 use Rattle.std.proofs.Common.{◌≡◌, ◌+◌, ◌≤◌, ◌++◌, ◌∷◌, [], length, sym, ap, subst, ◌∙◌, arith}
-use Rattle.block_file.specs.Blocks.{record_at}
 use Rattle.block_file.specs.Place.{place_of}
 use Rattle.ledger_book.specs.Books.{Serves}
+use Rattle.ledger_open.specs.Places.{place_at}
 use Rattle.batch_committer.specs.contracts.taking.Taking.{the_view}
 use Rattle.batch_committer.specs.World.{Kept}
 use Rattle.batch_committer.proofs.Judging.{header_is, gathered_by, gathered_at, on_ok_both}
@@ -20,5 +20,5 @@ returns-clause-gathered c =
     gathered_at (the_view c.self.inside) _ _ journal c.self.view_is
     (gathered_by (the_view c.self.inside) _ c.in-Some.header.now c.args.content.now c.args.by.now c.place_of_record.result journal is content_is who_is widths body
     (c.push.ensures.list ∙ ap (λ ps. ps ++ c.place_of_record.result ∷ []) c.in_ok-reserve.ensures.list)
-    (c.place_of_record.ensures journal (sym is) who_is ∙ ap (λ n. record_at n journal) at)))
+    (c.place_of_record.ensures journal (sym is) who_is ∙ ap (λ n. place_at n journal) at)))
     c.put.ensures.body c.put.ensures.widths
