@@ -1,5 +1,5 @@
 -- The file of a new ledger is clean for its history.
-use Rattle.std.proofs.Common.{◌≡◌, inl, inr, ℕ, ◌+◌, false, cond, List, [], ◌∷◌, ◌++◌, length, refl, sym, ◌∙◌, ap, subst, arith, length-append, append_assoc, append-nil}
+use Rattle.std.proofs.Common.{◌≡◌, inl, inr, ℕ, ◌+◌, false, List, [], ◌∷◌, ◌++◌, length, refl, sym, ◌∙◌, ap, subst, arith, length-append, append_assoc, append-nil}
 use Rattle.std.proofs.lemmas.Bool.{true≢false}
 use Rattle.sha2.proofs.Facts256.{length-sha256}
 use Rattle.journal_record.specs.Entry.{Entry}
@@ -12,12 +12,11 @@ use Rattle.block_file.specs.File.{whole_file}
 use Rattle.block_file.specs.Head.{front_of, digest_of}
 use Rattle.ledger_open.specs.Heads.{IsFront}
 use Rattle.std.specs.Int.{to_be_bytes, w32, w64}
-use Rattle.std.specs.Prelude.{sum_by, Option, Some, None, nat_le, slice_get}
+use Rattle.std.specs.Prelude.{sum_by}
 use Rattle.std.proofs.lemmas.List.Sums.{sum_by-cons}
 use Rattle.journal_record.specs.Header.{spelling}
 use Rattle.journal_record.specs.Records.{AreReadable}
-use Rattle.journal_record.specs.declared.header.Header.{Header}
-use Rattle.ledger_book.specs.Books.{Kept, Stands, Serves, headers}
+use Rattle.ledger_book.specs.Books.{Kept, Stands, Serves}
 use Rattle.ledger_book.specs.Seals.{head_of}
 use Rattle.ledger_model.specs.History.{History}
 use Rattle.merkle_tree.specs.declared.head.Head.{Head}
@@ -152,13 +151,6 @@ module _ (genesis : Genesis) (operator : length genesis.operator.0 ≡ 32) (regu
     places = listed;
     tail = omega (arith, len_is);
   }
-
--- the header that the book tells
-pub header_is : (floor : ℕ) (x : Header) (genesis : Genesis) → floor ≡ 0 → (let some : Option Header = Some x in some ≡ cond (nat_le floor 0) (slice_get (headers (new_ledger genesis)) 0) None) → x ≡ genesis_header genesis
-header_is floor x genesis none is =
-    some_same x (genesis_header genesis) (is ∙ ap (λ (n : ℕ). cond (nat_le n 0) (slice_get (headers (new_ledger genesis)) 0) None) none) where
-      some_same : (x y : Header) → (let a : Option Header = Some x in let b : Option Header = Some y in a ≡ b) → x ≡ y
-      some_same x y e = cc
 
 -- the root of block 0
 pub first_root_is : (book : Kept) (head : Head) (genesis : Genesis) → Serves book (new_ledger genesis) → ((h : History) → Stands book h → head ≡ head_of h) → head.root.0 ≡ (ground).root (leaves_of (genesis_journal genesis ∷ []))
