@@ -27,7 +27,7 @@ use crate::block::{APPROVAL_LEN, OpenBlock};
 use crate::commit::commit;
 use crate::dues::spell;
 use crate::queries::reply_to;
-use journal_record::{Approval, Header};
+use journal_record::Approval;
 use ledger_book::{Job, Outcome, Prepared, Query};
 use ledger_bytes::{BLOCK_LIMIT, Digest, NoMemory};
 use ledger_disk::Disk;
@@ -487,23 +487,25 @@ impl Taking {
         };
         let at = self.opened.twin.file().tail() + BLOCK_HEAD_LEN + self.block.len();
         self.opened.places.reserve(1)?;
-        self.opened.places.push(place_of_record(at, &header, by));
+        self.opened
+            .places
+            .push(place_of_record(at, header.content_len, by));
         self.block.put(&header, content, by)
     }
 }
 
-// The place of a journal whose record begins at this offset.
-fn place_of_record(at: u64, header: &Header, by: &Approval) -> PlaceAt
+// The place of a journal whose record begins at this offset, and whose content is so long.
+fn place_of_record(at: u64, content_len: u32, by: &Approval) -> PlaceAt
     requires room { at ≤ 2 ^ 63 + 2 ^ 62 + 45 }
     requires proof { length by.now.proof ≤ PROOF_LIMIT }
-    ensures { (journal : Entry) → journal.header ≡ header.now → journal.who ≡ who_of (by.now ∷ [])
-        → result ≡ place_at at journal }
+    ensures { (journal : Entry) → journal.header.content_len ≡ content_len
+        → journal.who ≡ who_of (by.now ∷ []) → result ≡ place_at at journal }
 {
     let content_at = at + RECORD_HEAD_LEN;
     PlaceAt {
         content_at,
-        who_at: content_at + u64::from(header.content_len),
-        content_len: header.content_len,
+        who_at: content_at + u64::from(content_len),
+        content_len,
         who_len: APPROVAL_LEN + by.proof.as_slice().len() as u32,
     }
 }

@@ -3,6 +3,7 @@ use Rattle.std.proofs.Common.{inl, inr, sym, ap, ◌∙◌}
 use Rattle.std.proofs.lemmas.Result.{IfOk-weaker}
 use Rattle.batch_committer.proofs.GetLaws.{found_in, past_in, told_absent, told_purged, told_whole, told_occulted, told_none}
 use Rattle.batch_committer.proofs.getting.get.Goals as goal
+use Rattle.batch_committer.proofs.getting.get.Goals.{in_default-via-in-Some+in_default, in_default-via-in_default, in_default-2-via-in-Some+in_default, in_default-2-via-in_default}
 
 pub returns-in-Absent-clause-told : goal.returns-in-Absent-clause-told
 returns-in-Absent-clause-told g c = λ tells h s are stands.
@@ -25,14 +26,12 @@ returns-in-Some-Some-clause-told g c =
 
 pub returns-in_default-clause-told : goal.returns-in_default-clause-told
 returns-in_default-clause-told g c = λ tells h s are stands.
-    let none = rw c.in_default.is-1 at c.get-place.ensures.lookup in
     told_none (g.D.Disk.state c.args.file.now).seen h c.args.n stands c.args.book.now s c.args.places.now.list are c.view.result (c.view.ensures h s) c.no_journal-in_default.result (inr c.in-Occulted.is)
-    (inr (past_in c.args.places.now.list c.as_slice.result.now c.args.n c.as_slice.ensures none.3)) (c.no_journal-in_default.ensures h s stands.none)
-
-pub returns-in_default-3-clause-told : goal.returns-in_default-3-clause-told
-returns-in_default-3-clause-told g c = λ tells h s are stands.
-    told_none (g.D.Disk.state c.args.file.now).seen h c.args.n stands c.args.book.now s c.args.places.now.list are c.view.result (c.view.ensures h s) c.no_journal-in_default.result (inr c.in-Occulted.is)
-    (inl (ap option_copied (sym c.in_default.is-0) ∙ c.header-header.ensures h s)) (c.no_journal-in_default.ensures h s stands.none)
+    (elim c.in_default.branch [
+      | in_default-via-in-Some+in_default w ↦ let none = rw w.in_default.is-1 at c.get-place.ensures.lookup in inr (past_in c.args.places.now.list c.as_slice.result.now c.args.n c.as_slice.ensures none.3)
+      | in_default-via-in_default w ↦ inl (ap option_copied (sym w.in_default.is-0) ∙ c.header-header.ensures h s)
+    ])
+    (c.no_journal-in_default.ensures h s stands.none)
 
 pub returns-in-Some-Some-2-clause-told : goal.returns-in-Some-Some-2-clause-told
 returns-in-Some-Some-2-clause-told g c =
@@ -47,11 +46,9 @@ returns-in-Some-Some-2-clause-told g c =
 
 pub returns-in_default-2-clause-told : goal.returns-in_default-2-clause-told
 returns-in_default-2-clause-told g c = λ tells h s are stands.
-    let none = rw c.in_default-2.is-1 at c.get-place.ensures.lookup in
     told_none (g.D.Disk.state c.args.file.now).seen h c.args.n stands c.args.book.now s c.args.places.now.list are c.view.result (c.view.ensures h s) c.no_journal-in_default-2.result (inl c.in-Whole.is)
-    (inr (past_in c.args.places.now.list c.as_slice.result.now c.args.n c.as_slice.ensures none.3)) (c.no_journal-in_default-2.ensures h s stands.none)
-
-pub returns-in_default-2-2-clause-told : goal.returns-in_default-2-2-clause-told
-returns-in_default-2-2-clause-told g c = λ tells h s are stands.
-    told_none (g.D.Disk.state c.args.file.now).seen h c.args.n stands c.args.book.now s c.args.places.now.list are c.view.result (c.view.ensures h s) c.no_journal-in_default-2.result (inl c.in-Whole.is)
-    (inl (ap option_copied (sym c.in_default-2.is-0) ∙ c.header-header.ensures h s)) (c.no_journal-in_default-2.ensures h s stands.none)
+    (elim c.in_default-2.branch [
+      | in_default-2-via-in-Some+in_default w ↦ let none = rw w.in_default-2.is-1 at c.get-place.ensures.lookup in inr (past_in c.args.places.now.list c.as_slice.result.now c.args.n c.as_slice.ensures none.3)
+      | in_default-2-via-in_default w ↦ inl (ap option_copied (sym w.in_default-2.is-0) ∙ c.header-header.ensures h s)
+    ])
+    (c.no_journal-in_default-2.ensures h s stands.none)

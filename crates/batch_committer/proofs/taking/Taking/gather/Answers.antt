@@ -1,6 +1,7 @@
 use Rattle.std.specs.Prelude.{option_copied}
 use Rattle.std.proofs.Common.{◌≡◌, ◌+◌, ◌≤◌, ◌++◌, ◌∷◌, [], length, sym, ap, subst, ◌∙◌, arith}
 use Rattle.block_file.specs.Place.{place_of}
+use Rattle.journal_record.specs.declared.header.Header.{Header}
 use Rattle.ledger_book.specs.Books.{Serves}
 use Rattle.ledger_open.specs.Places.{place_at}
 use Rattle.batch_committer.specs.contracts.taking.Taking.{the_view}
@@ -20,5 +21,5 @@ returns-clause-gathered c =
     gathered_at (the_view c.self.inside) _ _ journal c.self.view_is
     (gathered_by (the_view c.self.inside) _ c.in-Some.header.now c.args.content.now c.args.by.now c.place_of_record.result journal is content_is who_is widths body
     (c.push.ensures.list ∙ ap (λ ps. ps ++ c.place_of_record.result ∷ []) c.in_ok-reserve.ensures.list)
-    (c.place_of_record.ensures journal (sym is) who_is ∙ ap (λ n. place_at n journal) at)))
+    (c.place_of_record.ensures journal (ap (λ (x : Header). x.content_len) (sym is)) who_is ∙ ap (λ n. place_at n journal) at)))
     c.put.ensures.body c.put.ensures.widths
