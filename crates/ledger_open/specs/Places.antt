@@ -56,8 +56,8 @@ entry_at file header place =
       who = take place.who_len (drop place.who_at file);
     }
 
--- At these places in a file stands what is kept of these journals, each at its own: its content, unless that is hidden, and
--- its who; and zeros where the content is gone.
+-- At these places in a file stands what is kept of these journals, each at its own: its content, unless that is
+-- hidden, and its who; and zeros where the content is gone.
 abbrev pub AllAt : (ℕ → Bool) → (ℕ → Bool) → List ℕ → List Entry → List PlaceAt → Type 0
 AllAt hid gone file [] [] = ⊤
 AllAt hid gone file (e ∷ es) (p ∷ ps) =

@@ -2,7 +2,7 @@
 use Rattle.std.proofs.Common.{◌≡◌, ℕ, ◌+◌, ◌<◌, ◌≤◌, ◌^◌, ◌/◌, ◌%◌, cond, List, [], ◌∷◌, ◌++◌, length, map, take, get_or, Option, Some, None, Result, Ok, Err, refl, sym, ap, ◌∙◌, subst, arith, length-take-le, length-append, append-nil}
 use Rattle.std.specs.Prelude.{All, flat_map, IfOk, IfErr, nat_lt}
 use Rattle.std.specs.List.{concat}
-use Rattle.std.proofs.lemmas.Bool.{le-leb, lt-leb, lt-ltb, le-ltb}
+use Rattle.std.proofs.lemmas.Bool.{lt-leb, le-ltb}
 use Rattle.std.proofs.lemmas.List.{get_or-take, take-map, take_more, length-map}
 use Rattle.std.proofs.lemmas.List.Concat.{flat_map-append}
 use Rattle.std.proofs.lemmas.List.Elements.{All-map}
@@ -10,7 +10,7 @@ use Rattle.sha2.specs.Sha256.{sha256}
 use Rattle.ledger_bytes.specs.Digests.{digest}
 use Rattle.ledger_bytes.specs.declared.digest.Digest.{Digest}
 use Rattle.ledger_bytes.specs.declared.refusal.Refusal.{Refusal}
-use Rattle.ledger_bytes.specs.declared.refusal.Refusal.TheVariants.{NoJournal, Purged}
+use Rattle.ledger_bytes.specs.declared.refusal.Refusal.TheVariants.{Purged}
 use Rattle.tree_model.specs.Tree as tree
 use Rattle.tree_model.specs.Path.{path, path_length, fold, fold_bytes}
 use Rattle.tree_model.proofs.Folds.{path_gives_root, fold_bytes-concat}
@@ -134,15 +134,8 @@ root_at h m =
 
 -- ---- what is answered
 
-pub absent_answer : (h : History) (n size : ℕ) → size ≡ sealed_size h → size ≤ n → refusal_of h n ≡ Some (NoJournal size)
-absent_answer h n size is past = rw (le-leb (sealed_size h) n (omega (arith, is, past))) (ap (λ k. Some (NoJournal k)) (sym is))
-
 there_answer : (h : History) (n : ℕ) → n < sealed_size h → refusal_of h n ≡ cond (nat_lt n (model.point h)) (Some (Purged (model.point h))) None
 there_answer h n there = rw (lt-leb (sealed_size h) n there) refl
-
-pub purged_answer : (h : History) (n point : ℕ) → n < sealed_size h → point ≡ model.point h → n < point → refusal_of h n ≡ Some (Purged point)
-purged_answer h n point there is below =
-    there_answer h n there ∙ rw (lt-ltb n (model.point h) (omega (arith, is, below))) (ap (λ k. Some (Purged k)) (sym is))
 
 kept_answer : (h : History) (n : ℕ) → n < sealed_size h → model.point h ≤ n → refusal_of h n ≡ None
 kept_answer h n there kept = there_answer h n there ∙ rw (le-ltb n (model.point h) kept) refl
