@@ -1,1 +1,2 @@
 mod MakeLaws
+mod ExtendLaws

@@ -34,10 +34,10 @@ use Rattle.proof_maker.specs.declared.made.MakeErr.TheVariants.{Refused, NoMemor
 
 -- ---- digests one after the other
 
-flat_count : (ds : List (List ℕ)) → All (λ d. length d ≡ 32) ds → length (concat ds) / 32 ≡ length ds
+pub flat_count : (ds : List (List ℕ)) → All (λ d. length d ≡ 32) ds → length (concat ds) / 32 ≡ length ds
 flat_count ds each = sym (length-cut 32 (concat ds)) ∙ ap length (cut-concat 32 (omega arith) ds each)
 
-flat_whole : (ds : List (List ℕ)) → All (λ d. length d ≡ 32) ds → length (concat ds) % 32 ≡ 0
+pub flat_whole : (ds : List (List ℕ)) → All (λ d. length d ≡ 32) ds → length (concat ds) % 32 ≡ 0
 flat_whole ds each = concat-whole 32 (omega arith) ds each
 
 -- digests joined one by one are all their bytes
@@ -88,6 +88,13 @@ leaf_leads ds size n within there each =
     fold_bytes-concat sha256 (get_or ds n []) n size sides each ∙ ap (λ d. fold sha256 d n size sides) (sym at)
     ∙ ap (λ k. fold sha256 (get_or front n []) n k sides) (sym long) ∙ path_gives_root sha256 n front (omega (arith, long, within))
 
+-- the bytes of digests in a slice
+pub row_same : (digests given : List Digest) (bytes : List ℕ) → given ≡ digests → bytes ≡ flat_map (λ (d : Digest). d.0) given → bytes ≡ concat (map (λ (d : Digest). d.0) digests)
+row_same digests given bytes given_is bytes_are = bytes_are ∙ ap (flat_map (λ (d : Digest). d.0)) given_is ∙ row_is digests
+
+pub row_widths : (digests given : List Digest) → given ≡ digests → All (λ (d : Digest). length d.0 ≡ 32) given → All (λ (d : List ℕ). length d ≡ 32) (map (λ (d : Digest). d.0) digests)
+row_widths digests given given_is each = All-map (λ (d : List ℕ). length d ≡ 32) (λ (d : Digest). d.0) digests (subst (All (λ (d : Digest). length d.0 ≡ 32)) given_is each)
+
 -- the bytes of a path's digests, in a slice
 module _ (size n : ℕ) (leaf : Digest) (digests given : List Digest) (bytes flat : List ℕ) (given_is : given ≡ digests) (bytes_are : bytes ≡ flat_map (λ (d : Digest). d.0) given) (flat_is : flat ≡ bytes)
     (each : All (λ (d : Digest). length d.0 ≡ 32) given) where
@@ -96,11 +103,11 @@ module _ (size n : ℕ) (leaf : Digest) (digests given : List Digest) (bytes fla
 
   flat_same : flat ≡ concat sides
   unfolding sides
-  flat_same = flat_is ∙ bytes_are ∙ ap (flat_map (λ (d : Digest). d.0)) given_is ∙ row_is digests
+  flat_same = flat_is ∙ row_same digests given bytes given_is bytes_are
 
   widths : All (λ (d : List ℕ). length d ≡ 32) sides
   unfolding sides
-  widths = All-map (λ (d : List ℕ). length d ≡ 32) (λ (d : Digest). d.0) digests (subst (All (λ (d : Digest). length d.0 ≡ 32)) given_is each)
+  widths = row_widths digests given given_is each
 
   pub is_bare_proof : size < 2 ^ 64 → n < 2 ^ 64 → length leaf.0 ≡ 32 → length digests ≡ path_length n size → IsProof (bare size n leaf flat)
   unfolding sides
@@ -140,7 +147,7 @@ there_answer h n there = rw (lt-leb (sealed_size h) n there) refl
 kept_answer : (h : History) (n : ℕ) → n < sealed_size h → model.point h ≤ n → refusal_of h n ≡ None
 kept_answer h n there kept = there_answer h n there ∙ rw (le-ltb n (model.point h) kept) refl
 
-answers_by : (refusal : Option Refusal) (r : Result Made MakeErr) → refusal ≡ None → IfErr r (λ e. e ≡ NoMemory) → Answers refusal r
+pub answers_by : {A : Type 0} (refusal : Option Refusal) (r : Result A MakeErr) → refusal ≡ None → IfErr r (λ e. e ≡ NoMemory) → Answers refusal r
 answers_by refusal (Ok made) none e = none
 answers_by refusal (Err (Refused why)) none e = absurd cc
 answers_by refusal (Err NoMemory) none e = none

@@ -1,10 +1,12 @@
--- The proof of a journal, and why none is made.
-use Rattle.std.specs.Prelude.{◌≡◌, ℕ, nat_le, nat_lt, if◌then◌else◌, List, [], get_or, take, Option, Some, None, Result, Ok, Err}
+-- The proof of a journal, the proof that the ledger goes on from an earlier head, and why none is made.
+use Rattle.std.specs.Prelude.{◌≡◌, ℕ, ◌==◌, ◌||◌, nat_le, nat_lt, if◌then◌else◌, List, [], get_or, take, Option, Some, None, Result, Ok, Err}
 use Rattle.std.specs.List.{concat}
 use Rattle.sha2.specs.Sha256.{sha256}
 use Rattle.ledger_bytes.specs.Digests.{digest}
+use Rattle.ledger_bytes.specs.declared.digest.Digest.{Digest}
 use Rattle.ledger_bytes.specs.declared.refusal.Refusal.{Refusal}
-use Rattle.ledger_bytes.specs.declared.refusal.Refusal.TheVariants.{NoJournal, Purged}
+use Rattle.ledger_bytes.specs.declared.refusal.Refusal.TheVariants.{NoJournal, Purged, BadSize}
+use Rattle.tree_model.specs.Extension.{proof}
 use Rattle.tree_model.specs.Path.{path}
 use Rattle.merkle_batch.specs.declared.tree.TreeErr.{TreeErr}
 use Rattle.merkle_batch.specs.declared.tree.TreeErr.TheVariants as tree_err
@@ -12,8 +14,11 @@ use Rattle.proof_codec.specs.Claims.{claim_of}
 use Rattle.proof_codec.specs.Proofs.{Shown, IsProof, spelling}
 use Rattle.ledger_model.specs.History.{History, id, point, root}
 use Rattle.ledger_book.specs.Books.{leaf_digests, sealed_size}
-use Rattle.audit_core.specs.Trust.{Trust, ledger_at}
+use Rattle.ledger_book.specs.Seals.{head_of}
+use Rattle.script_lines.specs.declared.said.Which.TheVariants.{Ledger}
+use Rattle.audit_core.specs.Trust.{Trust, ledger_at, root_of}
 use Rattle.proof_maker.specs.declared.made.Made.{Made}
+use Rattle.proof_maker.specs.declared.made.MadeExtension.{MadeExtension}
 use Rattle.proof_maker.specs.declared.made.MakeErr.{MakeErr}
 use Rattle.proof_maker.specs.declared.made.MakeErr.TheVariants.{Refused, NoMemory}
 
@@ -50,8 +55,25 @@ pub record IsMade (shown : Shown) (made : Made) : Type 0 where
   pub claim_is : made.claim ≡ claim_of shown
   pub proof_is : made.proof ≡ spelling shown
 
+-- the digests of the proof that the tree over the first so many leaves goes on from that over the first m
+abbrev pub extension_over : List (List ℕ) → ℕ → ℕ → List ℕ
+extension_over leaves size m = concat (proof sha256 m (take size leaves))
+
+-- why there is no proof that the ledger goes on from its first m journals: they are none, or not so many stand in
+-- blocks that have ended, or more were purged
+abbrev pub extension_refusal : History → ℕ → Option Refusal
+extension_refusal h m =
+    if m == 0 || nat_lt (sealed_size h) m then Some (BadSize (sealed_size h))
+    else if nat_lt m (point h) then Some (Purged (point h))
+    else None
+
+-- this was made: the head at the last block's end, and the proof that it goes on from the first m journals
+pub record IsExtended (h : History) (m : ℕ) (made : MadeExtension) : Type 0 where
+  pub head_is : made.head ≡ head_of h
+  pub proof_is : made.proof ≡ extension_over (leaf_digests h) (sealed_size h) m
+
 -- what a call answers, where this stands against a proof or nothing does
-abbrev pub Answers : Option Refusal → Result Made MakeErr → Type 0
+abbrev pub Answers : {A : Type 0} → Option Refusal → Result A MakeErr → Type 0
 Answers refusal (Ok made) = refusal ≡ None
 Answers refusal (Err (Refused why)) = refusal ≡ Some why
 Answers refusal (Err NoMemory) = refusal ≡ None
@@ -60,6 +82,12 @@ Answers refusal (Err NoMemory) = refusal ≡ None
 abbrev pub TrustsHead : Trust → History → Type 0
 TrustsHead trust h =
     ledger_at trust (sealed_size h) ≡ Some (record { id = digest (id h); root = digest (root h (sealed_size h)) })
+
+-- an auditor trusts the ledger's root over its first m journals, and no other root than the ledger's at the last
+-- block's end
+pub record TrustsFirst (trust : Trust) (h : History) (m : ℕ) : Type 0 where
+  pub first : root_of Ledger trust m ≡ Some (digest (root h m))
+  pub agrees : (kept : Digest) → root_of Ledger trust (sealed_size h) ≡ Some kept → kept ≡ digest (root h (sealed_size h))
 
 -- the answer to what a tree answers
 abbrev pub of_tree : TreeErr → MakeErr

@@ -2,6 +2,7 @@ ghost use Rattle.std.specs.Prelude.{◌≡◌};
 
 use ledger_bytes::{Bytes, NoMemory, Refusal};
 use merkle_batch::TreeErr;
+use merkle_tree::Head;
 use proof_codec::Claim;
 use thiserror::Error;
 
@@ -14,10 +15,19 @@ pub struct Made {
     pub proof: Bytes,
 }
 
+/// A proof that a ledger goes on from an earlier head.
+#[derive(Debug, Drop)]
+pub struct MadeExtension {
+    /// The head that it leads to.
+    pub head: Head,
+    /// Its digests, one after the other (RFC 6962, section 2.1.2).
+    pub proof: Bytes,
+}
+
 /// Why no proof was made.
 #[derive(Clone, Copy, Debug, PartialEq, Eq, Error)]
 pub enum MakeErr {
-    #[error("the ledger has no such journal")]
+    #[error("the ledger has no such journal or size")]
     Refused(Refusal),
     #[error("not enough memory")]
     NoMemory,

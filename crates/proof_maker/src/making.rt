@@ -1,15 +1,16 @@
-//! The proof of a leaf of a tree.
+//! The proofs that a tree gives.
 
 ghost use Rattle.std.specs.Prelude.{◌≡◌, ◌≤◌, ◌<◌, ◌++◌, ℕ, List, [], All, Some, flat_map, length, take, get_or, IfOk, IfErr, OnOk};
 ghost use Rattle.sha2.specs.Sha256.{sha256};
 ghost use Rattle.tree_model.specs.Tree.{root};
 ghost use Rattle.tree_model.specs.Path.{fold_bytes};
+ghost use Rattle.tree_model.specs.Extension.{fold_proof_bytes};
 ghost use Rattle.merkle_batch.specs.Rows.{StandsFor};
-ghost use Rattle.proof_maker.specs.Making.{IsMade, shown_over};
+ghost use Rattle.proof_maker.specs.Making.{IsMade, shown_over, extension_over};
 ghost use Rattle.proof_maker.specs.declared.made.MakeErr.TheVariants as make_err;
 
 use crate::{Made, MakeErr};
-use ledger_bytes::{Digest, NoMemory, Sha};
+use ledger_bytes::{Bytes, Digest, NoMemory, Sha};
 use merkle_batch::Tree;
 use proof_codec::Proof;
 use std::alloc::Global;
@@ -44,6 +45,28 @@ pub(crate) fn make(alloc: Global, tree: &Tree<Sha>, size: u64, n: u64) -> Result
         claim: proof.claim(),
         proof: proof.encode(alloc)?,
     })
+}
+
+/// The digests of the proof that the tree over the first `size` leaves goes on from that over the first `m`.
+pub(crate) fn make_extension(
+    alloc: Global,
+    tree: &Tree<Sha>,
+    size: u64,
+    m: u64,
+) -> Result<Bytes, MakeErr>
+    ensures made { IfOk result (λ bytes. (ds : List (List ℕ)) → StandsFor sha256 tree.now ds
+        → m ≤ size → bytes ≡ extension_over ds size m) }
+    // The one root leads along them to the other.
+    ensures leads { IfOk result (λ bytes. (ds : List (List ℕ)) → StandsFor sha256 tree.now ds
+        → 0 < m → m ≤ size → size ≤ tree.now.size
+        → fold_proof_bytes sha256 m (root sha256 (take m ds)) size bytes
+        ≡ Some (root sha256 (take size ds))) }
+    ensures room { IfOk result (λ bytes. length bytes ≤ 8192) }
+    ensures err { tree.now.floor ≤ m → 0 < m → m ≤ size → size ≤ tree.now.size
+        → IfErr result (λ e. e ≡ make_err.NoMemory) }
+{
+    let digests = tree.proof(m, size)?;
+    Ok(Bytes::of(flat(alloc, digests.as_slice())?))
 }
 
 // The bytes of digests, one after the other.

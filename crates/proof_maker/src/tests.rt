@@ -1,15 +1,16 @@
-//! Proofs of a small ledger, byte by byte, and of a long one, each accepted.
+//! Proofs and extensions of a small ledger, byte by byte, and proofs of a long one, each accepted.
 
 ghost use Rattle.std.specs.Prelude.{◌≡◌, ◌≤◌, true, length, IfOk};
 ghost use Rattle.ledger_model.specs.Fitting.{fits_job};
 
 use super::*;
-use audit_core::{Heads, accept};
+use audit_core::{Heads, accept, check_extension};
 use hex::FromHex;
 use journal_record::{Approval, content_digest, request_digest};
 use ledger_book::{Book, Genesis, Job, Limits, Outcome};
 use ledger_bytes::{Bytes, Digest, NoMemory, Refusal, Sha};
 use merkle_tree::Head;
+use script_lines::Which;
 use std::alloc::Global;
 use std::process::Abort;
 use std::test::Fail;
@@ -120,6 +121,60 @@ fn proves_each_journal_of_a_small_ledger(rt: HostRuntime) -> Result<(), Fail> {
     book.seal();
     let both = [Ok(FIRST), Ok(SECOND), Err(Refusal::NoJournal { size: 2 })];
     assert!(rt; is_told(alloc, &book, &both)?);
+    Ok(())
+}
+
+/// The leaf of that record, which is the proof that the ledger with both journals goes on from the first.
+const LEAF: &str = "e17cd0a38398533f50004ec57f5dd3837680b6b072223c6ffc9e2bfa0d0e723c";
+
+/// The root over both journals.
+const BOTH: &str = "89713d47487c9be9875bd8f6a471f021f10440bea34709c459dce3a170313951";
+
+/// Whether that is made of the first sizes, in order: the digits of the proof to this head, or why there is none.
+fn is_extended(
+    alloc: Global,
+    book: &Book,
+    head: &Head,
+    wanted: &[Result<&str, Refusal>],
+) -> Result<bool, Fail> {
+    for (m, want) in wanted.iter().enumerate() {
+        let is_same = match (extend(alloc, book, m as u64), want) {
+            (Ok(made), Ok(digits)) => {
+                made.head == *head && hex::encode(alloc, made.proof.as_slice())?.as_str() == *digits
+            }
+            (Err(MakeErr::Refused(refusal)), Err(other)) => refusal == *other,
+            _ => false,
+        };
+        if !is_same {
+            return Ok(false);
+        }
+    }
+    Ok(true)
+}
+
+#[test]
+fn extends_each_head_of_a_small_ledger(rt: HostRuntime) -> Result<(), Fail> {
+    let alloc = rt.alloc();
+    let mut book = demo(alloc)?;
+    place_first(&rt, alloc, &mut book)?;
+    book.seal();
+    let head = Head {
+        size: 2,
+        root: Digest(<[u8; 32]>::from_hex(BOTH)?),
+    };
+    let none = Err(Refusal::BadSize { size: 2 });
+    assert!(rt; is_extended(alloc, &book, &head, &[none, Ok(LEAF), Ok(""), none])?);
+    let id = book.id();
+    let heads = trusting(alloc, &id, &Head { size: 1, root: id })?;
+    let made = extend(alloc, &book, 1)?;
+    let answer = check_extension::<Sha>(
+        Which::Ledger,
+        1,
+        &made.head,
+        made.proof.as_slice(),
+        &heads,
+    );
+    assert!(rt; answer.is_ok());
     Ok(())
 }
 
