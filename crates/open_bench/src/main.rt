@@ -10,10 +10,12 @@ mod making;
 mod reading;
 
 use anyhow::{Context, Result};
-use ledger_disk::FileDisk;
+use ledger_bytes::Digest;
+use ledger_disk::{Disk, FileDisk};
 use ledger_model::Limits;
 use ledger_open::reopen;
 use making::Plan;
+use std::alloc::Global;
 use std::env;
 use std::env::Args;
 
@@ -29,28 +31,43 @@ fn main(rt: HostRuntime) -> Result<()> {
     let mut a = FileDisk::at(&rt, alloc, &format!(in alloc; "{folder}/a")?)?;
     let mut b = FileDisk::at(&rt, alloc, &format!(in alloc; "{folder}/b")?)?;
     if work.has(Work::Make) {
-        let plan = Plan {
-            journals: number(&mut words)?,
-            clues: number(&mut words)?,
-        };
-        making::make(alloc, &mut a, &mut b, &plan)?;
+        make(alloc, &mut a, &mut b, &mut words)?;
     }
+    let text = told(alloc, &mut a, &mut b, work)?;
+    print!(rt; "{text}")?;
+    Ok(())
+}
+
+/// Makes a ledger as the words say.
+fn make<D: Disk>(alloc: Global, a: &mut D, b: &mut D, words: &mut Args) -> Result<()> {
+    let plan = Plan {
+        journals: number(words)?,
+        clues: number(words)?,
+    };
+    making::make(alloc, a, b, &plan)
+}
+
+/// A line for each part of the work that looks at the ledger.
+fn told<D: Disk>(alloc: Global, a: &mut D, b: &mut D, work: Work) -> Result<String> {
+    let mut text = String::new(alloc);
     if work.has(Work::Read) {
-        let seen = reading::read_all(alloc, &mut a)?;
-        let digest = hex::encode(alloc, seen.digest.0)?;
-        println!(rt; "read {} {digest}", seen.headers)?;
+        let seen = reading::read_all(alloc, a)?;
+        text.push_str(&line(alloc, "read", seen.headers, &seen.digest)?)?;
     }
     if work.has(Work::Walk) {
-        let seen = reading::walk_all(alloc, &mut a)?;
-        let digest = hex::encode(alloc, seen.digest.0)?;
-        println!(rt; "walk {} {digest}", seen.headers)?;
+        let seen = reading::walk_all(alloc, a)?;
+        text.push_str(&line(alloc, "walk", seen.headers, &seen.digest)?)?;
     }
     if work.has(Work::Open) {
-        let head = reopen(alloc, &mut a, &mut b, Limits::real())?.book.head();
-        let root = hex::encode(alloc, head.root.0)?;
-        println!(rt; "open {} {root}", head.size)?;
+        let head = reopen(alloc, a, b, Limits::real())?.book.head();
+        text.push_str(&line(alloc, "open", head.size, &head.root)?)?;
     }
-    Ok(())
+    Ok(text)
+}
+
+fn line(alloc: Global, word: &str, count: u64, digest: &Digest) -> Result<String> {
+    let digits = hex::encode(alloc, digest.0)?;
+    Ok(format!(in alloc; "{word} {count} {digits}\n")?)
 }
 
 /// What is done.
