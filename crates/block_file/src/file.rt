@@ -9,7 +9,7 @@ ghost use Rattle.block_file.specs.File.{Stands, HasBlock, IsSettled, IsShutAt, I
 
 use crate::copying::put_copy;
 use crate::head::{base_digest, check_form, read_fields};
-use crate::reading::{fill, read_block_head, read_byte, read_part};
+use crate::reading::{fill, read_block_head, read_byte, read_over, read_part};
 use crate::records::read_body;
 use crate::tail::{cut_for_good, open_gate, stage};
 use crate::veil::{add, add_head, open_for_good, put};
@@ -343,11 +343,13 @@ impl BlockFile {
     /// Reads the next block, whose first journal is to have this number, and stands behind it. None where its gate is
     /// shut, so that it is the tail gate: from then on blocks are committed. The damages are [`Damage::Length`], looked
     /// for in the order of the bytes, then [`Damage::Entry`] for the first header that doesn't decode, and at last for
-    /// the first journal where it has another number.
+    /// the first journal where it has another number. The body is read over what the buffer holds, so that calls with
+    /// the same buffer take memory for their longest body alone.
     pub fn next_block<D: Disk>(
         &mut self,
         alloc: Global,
         disk: &mut D,
+        buffer: &mut Vec<u8>,
         first: u64,
     ) -> Result<Option<BlockAt>, FileErr>
         requires told { IsSomeAnd (D.told_length disk.old) (λ n. place_of self.old + 1 ≤ n) }
@@ -380,7 +382,7 @@ impl BlockFile {
         ensures length { KeepsLength (D.told_length disk.old) (D.told_length disk.new) }
         ensures faults { Counts result (D.faults disk.old) (D.faults disk.new) }
     {
-        match read_block(alloc, disk, self.at, first) {
+        match read_block(alloc, disk, buffer, self.at, first) {
             Ok(Some(block)) => {
                 self.at = self.at + 1 + block.len;
                 Ok(Some(block))
@@ -439,6 +441,7 @@ impl BlockFile {
 fn read_block<D: Disk>(
     alloc: Global,
     disk: &mut D,
+    buffer: &mut Vec<u8>,
     at: u64,
     first: u64,
 ) -> Result<Option<BlockAt>, FileErr>
@@ -458,8 +461,8 @@ fn read_block<D: Disk>(
     let Some(head) = read_block_head(disk, at)? else {
         return Ok(None);
     };
-    let body = read_part(alloc, disk, at + 45, head.body_len)?;
-    match read_body(alloc, &body, head.count, at, first) {
+    read_over(disk, at + 45, head.body_len, buffer)?;
+    match read_body(alloc, buffer, head.count, at, first) {
         Ok(records) => Ok(Some(BlockAt {
             at,
             len: 44 + head.body_len,

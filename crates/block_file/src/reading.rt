@@ -79,9 +79,30 @@ pub(crate) fn read_part<D: Disk>(
     ensures faults { Counts result (D.faults disk.old) (D.faults disk.new) }
 {
     let mut part = Vec::new(alloc);
-    part.resize(len as usize, 0)?;
-    fill(disk, at, part.as_mut_slice())?;
+    read_over(disk, at, len, &mut part)?;
     Ok(part)
+}
+
+/// Reads a range that is there over what a buffer holds, which is then the range alone. After an error it holds
+/// anything.
+pub(crate) fn read_over<D: Disk>(
+    disk: &mut D,
+    at: u64,
+    len: u64,
+    buffer: &mut Vec<u8>,
+) -> Result<(), FileErr>
+    requires { IsSomeAnd (D.told_length disk.old) (λ n. at + len ≤ n) }
+    ensures bytes { OnOk result (IsTrue D.tells
+        → buffer.new.items ≡ take len (drop at (D.state disk.old).seen)) }
+    ensures size { OnOk result (length buffer.new.items ≡ len) }
+    ensures err { IfErr result (λ e. (e ≡ FileErr.DiskFault) ⊎ (e ≡ FileErr.NoMemory)) }
+    ensures state { IsTrue D.tells → D.state disk.new ≡ D.state disk.old }
+    ensures length { KeepsLength (D.told_length disk.old) (D.told_length disk.new) }
+    ensures faults { Counts result (D.faults disk.old) (D.faults disk.new) }
+{
+    buffer.resize(len as usize, 0)?;
+    fill(disk, at, buffer.as_mut_slice())?;
+    Ok(())
 }
 
 /// What the head of the block at a place tells, where there is room for its body. None where its gate is shut.

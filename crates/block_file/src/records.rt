@@ -147,7 +147,8 @@ fn read_records(
         let Ok(()) = records.push(record) else {
             return Err(FileErr::NoMemory);
         };
-        rest = behind(rest);
+        let (_, behind) = rest.split_at(len as usize);
+        rest = behind;
         place += len;
         left -= 1;
     }

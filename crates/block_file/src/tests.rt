@@ -105,7 +105,7 @@ fn first_block(alloc: Global, disk: &mut MemDisk, first: u64) -> Result<Option<B
     };
     let mut file = BlockFile::resume(disk, &head)?;
     file.base(alloc, disk)?;
-    file.next_block(alloc, disk, first)
+    file.next_block(alloc, disk, &mut Vec::new(alloc), first)
 }
 
 /// How many blocks a file has: the one of `NEW`, and then `BLOCK` or not.
@@ -113,14 +113,15 @@ fn count_blocks(alloc: Global, disk: &mut MemDisk) -> Result<u32, FileErr> {
     let Some(head) = BlockFile::head(disk)? else {
         return Ok(0);
     };
+    let mut buffer = Vec::new(alloc);
     let mut file = BlockFile::resume(disk, &head)?;
-    if file.next_block(alloc, disk, 0)?.is_none() {
+    if file.next_block(alloc, disk, &mut buffer, 0)?.is_none() {
         return Ok(0);
     }
-    if file.next_block(alloc, disk, 1)?.is_none() {
+    if file.next_block(alloc, disk, &mut buffer, 1)?.is_none() {
         return Ok(1);
     }
-    if file.next_block(alloc, disk, 3)?.is_none() {
+    if file.next_block(alloc, disk, &mut buffer, 3)?.is_none() {
         return Ok(2);
     }
     Ok(3)
@@ -180,9 +181,10 @@ fn a_commit_is_stopped_at_each_call(rt: HostRuntime) -> Result<(), Fail> {
         let Some(head) = BlockFile::head(&mut disk)? else {
             return Ok(assert!(rt; false));
         };
+        let mut buffer = Vec::new(alloc);
         let mut file = BlockFile::resume(&mut disk, &head)?;
-        assert!(rt; file.next_block(alloc, &mut disk, 0)?.is_some());
-        let None = file.next_block(alloc, &mut disk, 1)? else {
+        assert!(rt; file.next_block(alloc, &mut disk, &mut buffer, 0)?.is_some());
+        let None = file.next_block(alloc, &mut disk, &mut buffer, 1)? else {
             return Ok(assert!(rt; false));
         };
         let mut fuse = FuseDisk::new(disk, left);

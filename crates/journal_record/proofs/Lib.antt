@@ -2,3 +2,4 @@ pub mod Spelling
 pub mod TagLaws
 pub mod ReadingSteps
 pub mod ReadingLaws
+pub mod WholeLaws

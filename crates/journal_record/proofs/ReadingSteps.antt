@@ -56,7 +56,7 @@ ok_or_ok None d x e = absurd cc
 ok_or_ok (Some y) d x e = cc
 
 -- a number stands for one kind
-kind_code : (n : ℕ) (kind : Kind) → kind_of n ≡ Some kind → code_of kind ≡ n
+pub kind_code : (n : ℕ) (kind : Kind) → kind_of n ≡ Some kind → code_of kind ≡ n
 kind_code zero kind e = let is : Genesis ≡ kind = cc in ap code_of (sym is)
 kind_code (suc zero) kind e = let is : Content ≡ kind = cc in ap code_of (sym is)
 kind_code (suc (suc zero)) kind e = let is : Member ≡ kind = cc in ap code_of (sym is)

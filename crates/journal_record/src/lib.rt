@@ -11,6 +11,7 @@ mod request;
 mod rules;
 mod stamp;
 mod tags;
+mod whole;
 
 pub use approval::{Approval, WHO_LIMIT, who_bytes};
 pub use digests::{approval_digest, content_digest, who_digest};

@@ -9,6 +9,7 @@ ghost use Rattle.journal_record.specs.Reading as reading;
 use crate::rules::{
     a_ok, b_ok, clue_ok, clue_ord_ok, clue_prev_ok, content_len_ok, jsn_ok, member_ok, version_ok,
 };
+use crate::whole::{kind_of, read_whole};
 use crate::{Header, Kind};
 use ledger_bytes::{Bad, Digest, FieldReader, check_field};
 
@@ -46,8 +47,20 @@ struct Parts {
 }
 
 /// The header that all the bytes spell.
-#[tactic(auto, unfolding(crate::specs::Reading::header_of))]
 pub(crate) fn read(bytes: &[u8]) -> Result<Header, Bad>
+    ensures { result ≡ reading.header_of bytes.now }
+{
+    match read_whole(bytes) {
+        Some(header) => Ok(header),
+        None => read_by_fields(bytes),
+    }
+}
+
+/// The same, field by field, so that the first break is told.
+#[cold]
+#[inline(never)]
+#[tactic(auto, unfolding(crate::specs::Reading::header_of))]
+fn read_by_fields(bytes: &[u8]) -> Result<Header, Bad>
     ensures { result ≡ reading.header_of bytes.now }
 {
     let mut reader = FieldReader::new(bytes);
@@ -163,15 +176,7 @@ fn known_version(version: u8) -> Result<(), Bad>
 fn known_kind(code: u8) -> Result<Kind, Bad>
     ensures { result ≡ reading.known_kind code }
 {
-    match code {
-        0 => Ok(Kind::Genesis),
-        1 => Ok(Kind::Content),
-        2 => Ok(Kind::Member),
-        3 => Ok(Kind::Time),
-        4 => Ok(Kind::Occult),
-        5 => Ok(Kind::Purge),
-        found => Err(Bad::BadKind { found }),
-    }
+    kind_of(code).ok_or(Bad::BadKind { found: code })
 }
 
 /// Reading a header is the inverse of spelling it: one that keeps every rule is read from its bytes, whatever

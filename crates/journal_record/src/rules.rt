@@ -1,9 +1,9 @@
 //! What each field of a header may be, by the fields in front of it.
 
-ghost use Rattle.std.specs.Prelude.{◌≡◌};
+ghost use Rattle.std.specs.Prelude.{◌≡◌, ◌↔◌, IsTrue};
 ghost use Rattle.journal_record.specs.Rules as rule;
 
-use crate::Kind;
+use crate::{Header, Kind};
 use ledger_bytes::{CONTENT_LIMIT, Digest, MEMBER_LIMIT};
 
 const VERSION: u8 = 1;
@@ -107,4 +107,32 @@ pub(crate) fn content_len_ok(kind: Kind, content_len: u32) -> bool
         Kind::Content => content_len <= CONTENT_LIMIT,
         _ => content_len == 0,
     }
+}
+
+/// Whether every field keeps its rule.
+pub(crate) fn keeps_rules(header: &Header) -> bool
+    ensures { IsTrue result ↔ rule.IsHeader header.now }
+{
+    let Header {
+        version,
+        kind,
+        jsn,
+        member,
+        clue,
+        clue_ord,
+        clue_prev,
+        a,
+        b,
+        content_len,
+        ..
+    } = *header;
+    version_ok(version)
+        && jsn_ok(kind, jsn)
+        && member_ok(kind, member)
+        && clue_ok(kind, &clue)
+        && clue_ord_ok(&clue, clue_ord)
+        && clue_prev_ok(jsn, clue_ord, clue_prev)
+        && a_ok(kind, jsn, a)
+        && b_ok(kind, b)
+        && content_len_ok(kind, content_len)
 }

@@ -145,6 +145,7 @@ pub fn read_first<D: Disk>(
     alloc: Global,
     file: &mut BlockFile,
     disk: &mut D,
+    buffer: &mut Vec<u8>,
     limits: Limits,
 ) -> Result<Read, OpenErr>
     requires told { IsSomeAnd (D.told_length disk.old) (λ n. place_of file.old + 1 ≤ n) }
@@ -162,7 +163,7 @@ pub fn read_first<D: Disk>(
     ensures length { KeepsLength (D.told_length disk.old) (D.told_length disk.new) }
     ensures faults { CountsRead result (D.faults disk.old) (D.faults disk.new) }
 {
-    let block = match file.next_block(alloc, disk, 0) {
+    let block = match file.next_block(alloc, disk, buffer, 0) {
         Ok(Some(block)) => block,
         Ok(None) => return Err(OpenErr::Damaged(Damage::Entry { jsn: 0 })),
         Err(e) => return Err(OpenErr::from(e)),

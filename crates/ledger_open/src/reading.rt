@@ -30,6 +30,7 @@ fn read_more<D: Disk>(
     alloc: Global,
     file: &mut BlockFile,
     disk: &mut D,
+    buffer: &mut Vec<u8>,
     book: &mut Book,
     places: &mut Places,
 ) -> Result<bool, OpenErr>
@@ -53,7 +54,7 @@ fn read_more<D: Disk>(
     ensures faults { CountsRead result (D.faults disk.old) (D.faults disk.new) }
 {
     let head = book.head();
-    let block = match file.next_block(alloc, disk, head.size) {
+    let block = match file.next_block(alloc, disk, buffer, head.size) {
         Ok(Some(block)) => block,
         Ok(None) => return Ok(false),
         Err(e) => return Err(OpenErr::from(e)),
@@ -72,6 +73,7 @@ fn read_rest<D: Disk>(
     alloc: Global,
     file: &mut BlockFile,
     disk: &mut D,
+    buffer: &mut Vec<u8>,
     read: Read,
 ) -> Result<Read, OpenErr>
     requires told { IsSomeAnd (D.told_length disk.old) (λ n. place_of file.old + 1 ≤ n) }
@@ -95,7 +97,7 @@ fn read_rest<D: Disk>(
     } = read;
     let mut more = true;
     while more {
-        more = match read_more(alloc, file, disk, &mut book, &mut places) {
+        more = match read_more(alloc, file, disk, buffer, &mut book, &mut places) {
             Ok(more) => more,
             Err(e) => return Err(e),
         };
@@ -150,9 +152,10 @@ pub(crate) fn read_file<D: Disk>(
     if let Err(e) = check_base(alloc, file, disk) {
         return Err(e);
     }
-    let read = match read_first(alloc, file, disk, limits) {
+    let mut buffer = Vec::new(alloc);
+    let read = match read_first(alloc, file, disk, &mut buffer, limits) {
         Ok(read) => read,
         Err(e) => return Err(e),
     };
-    read_rest(alloc, file, disk, read)
+    read_rest(alloc, file, disk, &mut buffer, read)
 }

@@ -1,12 +1,10 @@
-ghost use Rattle.std.specs.Prelude.{◌≡◌, ◌+◌, ◌≤◌, ◌++◌, length, take, option_map, None};
+ghost use Rattle.std.specs.Prelude.{◌≡◌, option_map, None};
 ghost use Rattle.tree_model.specs.Clash.{node_bytes, or_below};
 ghost use Rattle.merkle_tree.specs.Strings.{bytes_of, pair_of};
 
 use crate::clash::{Clash, Pre};
-use ledger_bytes::{Digest, Tag};
-
-/// How many bytes are hashed to the digest of an inner node: a tag and two digests.
-const NODE_LEN: usize = 65;
+use crate::nodes::{NODE_LEN, node_bytes};
+use ledger_bytes::Digest;
 
 impl Pre {
     /// The bytes that are hashed.
@@ -44,20 +42,10 @@ fn node_pre(left: &Digest, right: &Digest) -> Pre
     ensures bytes { bytes_of result ≡ node_bytes left.now.0 right.now.0 }
 {
     let mut bytes = [0; 175];
-    bytes[0] = Tag::Node.byte();
-    put(&mut bytes, 1, &left.0);
-    put(&mut bytes, 33, &right.0);
+    let (front, _) = bytes.split_at_mut(NODE_LEN);
+    front.copy_from_slice(&node_bytes(left, right));
     Pre {
         len: NODE_LEN as u8,
         bytes,
     }
-}
-
-// Writes a piece behind the first `at` bytes.
-fn put(bytes: &mut [u8], at: usize, piece: &[u8])
-    requires { at + length piece.now ≤ length bytes.old }
-    ensures { take (at + length piece.now) bytes.new ≡ take at bytes.old ++ piece.now }
-{
-    let end = at + piece.len();
-    bytes[at..end].copy_from_slice(piece);
 }

@@ -38,13 +38,14 @@ impl Seen {
 /// Reads a file's blocks as opening reads them, with each header decoded and its damages looked for.
 pub(crate) fn walk_all<D: Disk>(alloc: Global, disk: &mut D) -> Result<Seen> {
     let mut seen = Seen::nothing();
+    let mut buffer = Vec::new(alloc);
     let head = BlockFile::head(disk)?.context("the file is shut")?;
     let mut file = BlockFile::resume(disk, &head)?;
     for _ in 0..u64::MAX {
         if seen.headers > u64::from(u32::MAX) {
             break;
         }
-        let Some(block) = file.next_block(alloc, disk, seen.headers)? else {
+        let Some(block) = file.next_block(alloc, disk, &mut buffer, seen.headers)? else {
             break;
         };
         for record in block.records.as_slice() {

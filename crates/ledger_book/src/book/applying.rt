@@ -81,7 +81,7 @@ impl Book {
             request,
             by,
         );
-        let leaf = self.place_record(header)?;
+        let leaf = self.place_record(&header)?;
         Ok(Outcome::Placed {
             jsn: place.jsn,
             leaf,
@@ -110,7 +110,7 @@ impl Book {
         }
         let jsn = self.size;
         let header = new_member_header(jsn, number, key, by);
-        let leaf = self.place_member(header)?;
+        let leaf = self.place_member(&header)?;
         Ok(Outcome::Placed { jsn, leaf })
     }
 }

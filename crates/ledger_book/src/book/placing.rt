@@ -45,13 +45,13 @@ impl Book {
     }
 
     /// Places a member's record in the open block, and answers its leaf digest.
-    pub(super) fn place_record(&mut self, header: Header) -> Result<Digest, NoMemory>
+    pub(super) fn place_record(&mut self, header: &Header) -> Result<Digest, NoMemory>
         requires { self.old.size < real_limits.size }
         ensures ok { OnOk result ((h : History) (journal : Entry) → Stands self.old h
-            → journal.header ≡ header
-            → header.kind ≡ kind.Content → MayPlace h header
+            → journal.header ≡ header.now
+            → header.now.kind ≡ kind.Content → MayPlace h header.now
             → Stands self.new (with_waiting (Some journal) h)) }
-        ensures leaf { IfOk result (IsLeafOf header) }
+        ensures leaf { IfOk result (IsLeafOf header.now) }
         ensures err { OnErr result (IsAsBefore self.old self.new) }
         ensures same { IsSame self.old self.new }
     {
@@ -59,22 +59,22 @@ impl Book {
         self.tree.reserve(1)?;
         self.ends.reserve(1)?;
         let leaf = leaf_of::<Sha>(&header.encode());
-        add_clue(&mut self.clues, &header)?;
+        add_clue(&mut self.clues, header)?;
         self.tree.add_leaves(&[leaf]);
-        self.headers.push_reserved(header);
+        self.headers.push_reserved(*header);
         self.size += 1;
         Ok(leaf)
     }
 
     /// Places a new member in the open block, and answers the leaf digest.
-    pub(super) fn place_member(&mut self, header: Header) -> Result<Digest, NoMemory>
+    pub(super) fn place_member(&mut self, header: &Header) -> Result<Digest, NoMemory>
         requires room { self.old.size < real_limits.size }
         requires few { length self.old.members < MEMBER_LIMIT }
         ensures ok { OnOk result ((h : History) (journal : Entry) → Stands self.old h
-            → journal.header ≡ header
-            → header.kind ≡ kind.Member → MayPlace h header
+            → journal.header ≡ header.now
+            → header.now.kind ≡ kind.Member → MayPlace h header.now
             → Stands self.new (with_waiting (Some journal) h)) }
-        ensures leaf { IfOk result (IsLeafOf header) }
+        ensures leaf { IfOk result (IsLeafOf header.now) }
         ensures err { OnErr result (IsAsBefore self.old self.new) }
         ensures same { IsSame self.old self.new }
     {
@@ -84,7 +84,7 @@ impl Book {
         let leaf = leaf_of::<Sha>(&header.encode());
         self.members.admit(&header.link, header.jsn)?;
         self.tree.add_leaves(&[leaf]);
-        self.headers.push_reserved(header);
+        self.headers.push_reserved(*header);
         self.size += 1;
         Ok(leaf)
     }

@@ -80,9 +80,9 @@ impl Book {
             return Ok(Err(Damage::Entry { jsn: self.size }));
         }
         if header.kind == Kind::Member {
-            self.place_member(*header)?;
+            self.place_member(header)?;
         } else {
-            self.place_record(*header)?;
+            self.place_record(header)?;
         }
         Ok(Ok(()))
     }

@@ -16,14 +16,14 @@ returns-in-Ok-clause-answer g c told =
     let es = c.in-Ok.ensures.ok.0 in
     let ok = c.in-Ok.ensures.ok in
     let seen : (g.D.Disk.state c.read_block_head.new.disk).seen ≡ file = ap (λ (s : State). s.seen) (c.read_block_head.ensures.state told) in
-    let body : body_at c.args.at file ≡ c.in_ok-body.body.items =
+    let body : body_at c.args.at file ≡ c.read_over.new.buffer.items =
     ap (λ (k : ℕ). take k (drop (c.args.at + 45) file)) (sym read.body_len)
     ∙ ap (λ (l : List ℕ). take head.body_len (drop (c.args.at + 45) l)) (sym seen)
-    ∙ sym (c.in_ok-body.ensures.bytes told) in
-    let same : c.deref.result.now ≡ c.in_ok-body.body.items = search rules in
+    ∙ sym (c.in_ok-read_over.ensures.bytes told) in
+    let same : c.deref.result.now ≡ c.read_over.new.buffer.items = search rules in
     let fills : body_at c.args.at file ≡ body_of es = body ∙ sym same ∙ ok.3 in (
       es,
       ok.1,
-      record { at_is = refl; len = omega (arith, c.in_ok-body.ensures.size, ap length same, ap length ok.3); records = search rules },
+      record { at_is = refl; len = omega (arith, c.in_ok-read_over.ensures.size, ap length same, ap length ok.3); records = search rules },
       open_block c.args.at file head es read ok.2 fills,
     )
