@@ -19,6 +19,7 @@ use sha2::{Digest as Hasher, Sha256};
 use std::alloc::Global;
 use std::marker::Model;
 use std::test::Fail;
+use std::thread::Threads;
 
 // The keys of the operator, the regulator and a third member.
 const OPERATOR: Digest = Digest([1; 32]);
@@ -218,8 +219,14 @@ impl<D: Disk + Drop, K: Sink + Drop> Model for Bench<D, K> {
 
 impl<D: Disk + Drop, K: Sink + Drop> Bench<D, K> {
     /// Opens the ledger on these disks.
-    fn open(alloc: Global, mut a: D, mut b: D, sink: K) -> Result<Self, OpenErr> {
-        match reopen(alloc, &mut a, &mut b, Limits::real()) {
+    fn open<R: Threads>(
+        rt: &R,
+        alloc: Global,
+        mut a: D,
+        mut b: D,
+        sink: K,
+    ) -> Result<Self, OpenErr> {
+        match reopen(rt, alloc, &mut a, &mut b, Limits::real()) {
             Ok(opened) => Ok(Bench {
                 committer: Committer::new(alloc, opened),
                 a,
@@ -298,14 +305,15 @@ struct Run {
 }
 
 /// Opens the ledger on these disks, offers so many records of the operator without content, and flushes.
-fn run_records<D: Disk + Drop>(
+fn run_records<R: Threads, D: Disk + Drop>(
+    rt: &R,
     alloc: Global,
     a: D,
     b: D,
     room: usize,
     count: u64,
 ) -> Result<(Run, MemSink, D, D), Fail> {
-    let mut bench = Bench::open(alloc, a, b, sink_of(alloc, room)?)?;
+    let mut bench = Bench::open(rt, alloc, a, b, sink_of(alloc, room)?)?;
     let offered = bench.offer_records(alloc, count);
     let settled = bench.is_settled();
     let size = bench.size();
@@ -323,12 +331,13 @@ fn run_records<D: Disk + Drop>(
 }
 
 /// What is written for these lines and a flush, and the first disk then.
-fn run_lines(
+fn run_lines<R: Threads>(
+    rt: &R,
     alloc: Global,
     (a, b): (MemDisk, MemDisk),
     lines: &[(u64, Ask)],
 ) -> Result<(MemSink, MemDisk), Fail> {
-    let mut bench = Bench::open(alloc, a, b, sink_of(alloc, AMPLE)?)?;
+    let mut bench = Bench::open(rt, alloc, a, b, sink_of(alloc, AMPLE)?)?;
     bench.offer_lines(alloc, lines)?;
     bench.flush()?;
     let (a, _, sink) = bench.into_parts();
@@ -336,9 +345,9 @@ fn run_lines(
 }
 
 /// The size of the ledger on these disks.
-fn size_on<D: Disk + Drop>(alloc: Global, a: D, b: D) -> Result<u64, OpenErr> {
+fn size_on<R: Threads, D: Disk + Drop>(rt: &R, alloc: Global, a: D, b: D) -> Result<u64, OpenErr> {
     let (mut a, mut b) = (a, b);
-    match reopen(alloc, &mut a, &mut b, Limits::real()) {
+    match reopen(rt, alloc, &mut a, &mut b, Limits::real()) {
         Ok(opened) => Ok(opened.book.head().size),
         Err(e) => Err(e),
     }
@@ -382,7 +391,7 @@ fn blocks_end_where_they_are_full_and_by_a_flush(rt: HostRuntime) -> Result<(), 
     let rows = [(63, false, 1, 0), (64, true, 65, 64), (65, false, 65, 64)];
     for (count, settled, size, lines) in rows {
         let (a, b) = new_pair(alloc)?;
-        let (run, sink, a, b) = run_records(alloc, a, b, AMPLE, count)?;
+        let (run, sink, a, b) = run_records(&rt, alloc, a, b, AMPLE, count)?;
         let want = Run {
             offered: Ok(()),
             settled,
@@ -391,7 +400,7 @@ fn blocks_end_where_they_are_full_and_by_a_flush(rt: HostRuntime) -> Result<(), 
             flushed: Ok(()),
         };
         let text = sink.written_bytes();
-        assert_eq!(rt; (run, size_on(alloc, a, b)?), (want, count + 1));
+        assert_eq!(rt; (run, size_on(&rt, alloc, a, b)?), (want, count + 1));
         if count == 65 {
             assert_eq!(rt; Sha256::digest(text), <[u8; 32]>::from_hex(DIGEST_OF_65)?);
         }
@@ -400,19 +409,28 @@ fn blocks_end_where_they_are_full_and_by_a_flush(rt: HostRuntime) -> Result<(), 
 }
 
 /// What came of a run of 64 records whose first disk stops after so many calls, and the disks that it leaves.
-fn run_until(alloc: Global, stop: u64) -> Result<(Run, MemSink, MemDisk, MemDisk), Fail> {
+fn run_until<R: Threads>(
+    rt: &R,
+    alloc: Global,
+    stop: u64,
+) -> Result<(Run, MemSink, MemDisk, MemDisk), Fail> {
     let (a, b) = new_pair(alloc)?;
     let (a, b) = (FuseDisk::new(a, stop), FuseDisk::new(b, 9));
-    let (run, sink, a, b) = run_records(alloc, a, b, AMPLE, 64)?;
+    let (run, sink, a, b) = run_records(rt, alloc, a, b, AMPLE, 64)?;
     Ok((run, sink, a.into_inner(), b.into_inner()))
 }
 
 /// The sizes of the ledger on what these disks leave: all that was written, nothing of it, and any bytes in its place.
-fn sizes_left(alloc: Global, a: &MemDisk, b: &MemDisk) -> Result<[u64; 3], Fail> {
+fn sizes_left<R: Threads>(
+    rt: &R,
+    alloc: Global,
+    a: &MemDisk,
+    b: &MemDisk,
+) -> Result<[u64; 3], Fail> {
     let mut sizes = [0; 3];
     let picks = [Pick::AllWritten, Pick::NoneWritten, Pick::Torn(1)];
     for (size, pick) in sizes.iter_mut().zip(picks) {
-        *size = size_on(alloc, a.crash(pick)?, b.crash(pick)?)?;
+        *size = size_on(rt, alloc, a.crash(pick)?, b.crash(pick)?)?;
     }
     Ok(sizes)
 }
@@ -422,9 +440,14 @@ fn every_written_receipt_is_kept_wherever_a_disk_stops(rt: HostRuntime) -> Resul
     let alloc = rt.alloc();
     // Opening takes two of the calls, and a commit five.
     for stop in 2..9 {
-        let (run, sink, a, b) = run_until(alloc, stop)?;
+        let (run, sink, a, b) = run_until(&rt, alloc, stop)?;
         let lines = lines_in(sink.written_bytes());
-        let found = (run.offered, run.flushed, lines, sizes_left(alloc, &a, &b)?);
+        let found = (
+            run.offered,
+            run.flushed,
+            lines,
+            sizes_left(&rt, alloc, &a, &b)?,
+        );
         let (fault, closed) = (Err(End::DiskFault), Err(End::Closed));
         let wanted = match stop {
             2..6 => (fault, closed, 0, [1; 3]),
@@ -440,9 +463,14 @@ fn every_written_receipt_is_kept_wherever_a_disk_stops(rt: HostRuntime) -> Resul
 fn a_fault_of_the_sink_ends_the_run(rt: HostRuntime) -> Result<(), Fail> {
     let alloc = rt.alloc();
     let (a, b) = new_pair(alloc)?;
-    let (run, sink, a, b) = run_records(alloc, a, b, 100, 64)?;
+    let (run, sink, a, b) = run_records(&rt, alloc, a, b, 100, 64)?;
     let written = sink.written_bytes().len();
-    let found = (run.offered, run.flushed, written, size_on(alloc, a, b)?);
+    let found = (
+        run.offered,
+        run.flushed,
+        written,
+        size_on(&rt, alloc, a, b)?,
+    );
     assert_eq!(rt; found, (Err(End::WriteFault), Err(End::Closed), 100, 65));
     Ok(())
 }
@@ -451,7 +479,7 @@ fn a_fault_of_the_sink_ends_the_run(rt: HostRuntime) -> Result<(), Fail> {
 fn a_block_has_the_worked_bytes_and_is_read_back(rt: HostRuntime) -> Result<(), Fail> {
     let alloc = rt.alloc();
     let lines = [(1, Ask::Member), (2, Ask::Abc), (1, Ask::Get(2))];
-    let (sink, a) = run_lines(alloc, new_pair(alloc)?, &lines)?;
+    let (sink, a) = run_lines(&rt, alloc, new_pair(alloc)?, &lines)?;
     assert_eq!(rt; a.bytes()?.as_slice(), worked_file(alloc)?.as_slice());
     assert!(rt; sink.written_bytes().ends_with(WHOLE_2.as_bytes()));
     Ok(())
@@ -461,7 +489,7 @@ fn a_block_has_the_worked_bytes_and_is_read_back(rt: HostRuntime) -> Result<(), 
 fn a_job_that_asks_ends_the_block_before_it(rt: HostRuntime) -> Result<(), Fail> {
     let alloc = rt.alloc();
     let lines = [(1, Ask::Empty), (2, Ask::Head)];
-    let (sink, _) = run_lines(alloc, new_pair(alloc)?, &lines)?;
+    let (sink, _) = run_lines(&rt, alloc, new_pair(alloc)?, &lines)?;
     assert_eq!(rt; sink.written_bytes(), RECORD_AND_HEAD.as_bytes());
     Ok(())
 }
@@ -478,7 +506,7 @@ fn a_journal_is_read_back_and_changed_bytes_are_found(rt: HostRuntime) -> Result
         (96, 1, 2, OTHER_CONTENT),
     ] {
         let pair = pair_with(alloc, content, who)?;
-        let (sink, _) = run_lines(alloc, pair, &[(1, Ask::Get(n))])?;
+        let (sink, _) = run_lines(&rt, alloc, pair, &[(1, Ask::Get(n))])?;
         assert_eq!(rt;
             sink.written_bytes(),
             wanted.as_bytes(),

@@ -5,6 +5,7 @@ use ledger_bytes::NoMemory;
 use ledger_disk::{FileDisk, MemDisk};
 use ledger_io::{Ending, Sink, Source, StdSink, StdSource, command_words, finish};
 use member_book::TagScheme;
+use std::thread::Threads;
 
 /// How many bytes each of the two disks in memory can hold on which `dry` runs.
 const DRY_ROOM: usize = 67_108_864;
@@ -12,8 +13,9 @@ const DRY_ROOM: usize = 67_108_864;
 /// Runs the program over standard input and standard output, by the words of its command line, and answers its exit
 /// status. `init` and `run` use the files `ledger.a` and `ledger.b` of their folder, which has to be there; `dry` uses two
 /// disks in memory of 67,108,864 bytes each. Proofs are those of the tag scheme. What [`ledger_top`] promises holds of
-/// it, but standard input and output and real files tell nothing of what they gave and took.
-pub fn ledger_standard(rt: &HostRuntime) -> u8
+/// it, but standard input and output and real files tell nothing of what they gave and took. `threads` is `rt` once more,
+/// by whose bound threads may be started.
+pub fn ledger_standard<R: Threads>(rt: &HostRuntime, threads: &R) -> u8
     ensures { result ≤ 9 }
 {
     let mut source = StdSource::new(rt.stdin());
@@ -23,8 +25,8 @@ pub fn ledger_standard(rt: &HostRuntime) -> u8
     };
     let words = words.as_slice();
     let status = match folder_of(words) {
-        Some(folder) => run_on_files(rt, folder, words, &mut source, &mut sink),
-        None => run_in_memory(rt, words, &mut source, &mut sink),
+        Some(folder) => run_on_files(rt, threads, folder, words, &mut source, &mut sink),
+        None => run_in_memory(rt, threads, words, &mut source, &mut sink),
     };
     match status {
         Ok(status) => status,
@@ -42,8 +44,9 @@ fn folder_of(words: &[String]) -> Option<&str> {
 }
 
 // Nothing is opened where the words turn out to be of no form.
-fn run_on_files<S: Source, K: Sink>(
+fn run_on_files<R: Threads, S: Source, K: Sink>(
     rt: &HostRuntime,
+    threads: &R,
     folder: &str,
     words: &[String],
     source: &mut S,
@@ -53,7 +56,10 @@ fn run_on_files<S: Source, K: Sink>(
 {
     let mut a = file_in(rt, folder, "/ledger.a")?;
     let mut b = file_in(rt, folder, "/ledger.b")?;
-    Ok(ledger_top(rt.alloc(), words, source, sink, &mut a, &mut b, &TagScheme))
+    let alloc = rt.alloc();
+    Ok(ledger_top(
+        threads, alloc, words, source, sink, &mut a, &mut b, &TagScheme,
+    ))
 }
 
 fn file_in<'a>(
@@ -66,8 +72,9 @@ fn file_in<'a>(
     FileDisk::at(rt, rt.alloc(), path.as_str())
 }
 
-fn run_in_memory<S: Source, K: Sink>(
+fn run_in_memory<R: Threads, S: Source, K: Sink>(
     rt: &HostRuntime,
+    threads: &R,
     words: &[String],
     source: &mut S,
     sink: &mut K,
@@ -80,5 +87,8 @@ fn run_in_memory<S: Source, K: Sink>(
     };
     let mut a = MemDisk::new(rt.alloc(), room, Vec::new(rt.alloc()))?;
     let mut b = MemDisk::new(rt.alloc(), room, Vec::new(rt.alloc()))?;
-    Ok(ledger_top(rt.alloc(), words, source, sink, &mut a, &mut b, &TagScheme))
+    let alloc = rt.alloc();
+    Ok(ledger_top(
+        threads, alloc, words, source, sink, &mut a, &mut b, &TagScheme,
+    ))
 }

@@ -7,6 +7,7 @@ use plain::Plain;
 use sha2::{Digest as Hasher, Sha256};
 use std::alloc::Global;
 use std::test::Fail;
+use std::thread::Threads;
 
 mod book;
 mod files;
@@ -180,7 +181,8 @@ const NO_FAULTS: Faults = Faults {
 };
 
 /// The status of a run on these disks, and what it wrote.
-fn run_on<D: Disk>(
+fn run_on<R: Threads, D: Disk>(
+    rt: &R,
     alloc: Global,
     words: &[&str],
     script: &[u8],
@@ -193,12 +195,13 @@ fn run_on<D: Disk>(
     let mut source = MemSource::new(script, [faults.read].to_vec(alloc)?);
     let mut sink = MemSink::new(alloc, faults.room, [faults.write].to_vec(alloc)?)?;
     let words = words.as_slice();
-    let status = ledger_top(alloc, words, &mut source, &mut sink, a, b, &TagScheme);
+    let status = ledger_top(rt, alloc, words, &mut source, &mut sink, a, b, &TagScheme);
     Ok((status, sink.written_bytes().to_vec(alloc)?))
 }
 
 /// The status of a run on two empty disks, and what it wrote.
-fn run(
+fn run<R: Threads>(
+    rt: &R,
     alloc: Global,
     words: &[&str],
     script: &[u8],
@@ -206,18 +209,19 @@ fn run(
 ) -> Result<(u8, Vec<u8>), NoMemory> {
     let mut a = MemDisk::new(alloc, DISK_ROOM, Vec::new(alloc))?;
     let mut b = MemDisk::new(alloc, DISK_ROOM, Vec::new(alloc))?;
-    run_on(alloc, words, script, faults, &mut a, &mut b)
+    run_on(rt, alloc, words, script, faults, &mut a, &mut b)
 }
 
 /// Whether a run on two empty disks ends with this status and writes this text.
-fn ends_with(
+fn ends_with<R: Threads>(
+    rt: &R,
     alloc: Global,
     words: &[&str],
     script: &[u8],
     want_status: u8,
     want: &[&str],
 ) -> Result<bool, NoMemory> {
-    let (status, written) = run(alloc, words, script, NO_FAULTS)?;
+    let (status, written) = run(rt, alloc, words, script, NO_FAULTS)?;
     let want = bytes_of(alloc, want)?;
     Ok(status == want_status && written == want)
 }
@@ -234,10 +238,10 @@ fn is_as_wanted(alloc: Global, written: &[u8], want: &Written) -> Result<bool, N
 }
 
 // Whether a run of such lines ends and writes as it is to.
-fn answers_to_filled(alloc: Global, row: &Filled) -> Result<bool, NoMemory> {
+fn answers_to_filled<R: Threads>(rt: &R, alloc: Global, row: &Filled) -> Result<bool, NoMemory> {
     let (lines, want_status, want) = *row;
     let script = fill_lines(alloc, lines)?;
-    let (status, written) = run(alloc, &DEMO, script.as_slice(), NO_FAULTS)?;
+    let (status, written) = run(rt, alloc, &DEMO, script.as_slice(), NO_FAULTS)?;
     let is_wanted = is_as_wanted(alloc, written.as_slice(), &want)?;
     Ok(is_wanted && status == want_status)
 }
@@ -275,7 +279,7 @@ fn answers_scripts(rt: HostRuntime) -> Result<(), Fail> {
         ),
     ];
     for (words, script, want) in rows {
-        let is_so = ends_with(rt.alloc(), words, script.as_bytes(), 0, want)?;
+        let is_so = ends_with(&rt, rt.alloc(), words, script.as_bytes(), 0, want)?;
         assert!(rt; is_so, "at {script:?}");
     }
     Ok(())
@@ -408,7 +412,7 @@ const FILLED: [Filled; 7] = [
 #[test]
 fn bounds_blocks_lines_and_windows(rt: HostRuntime) -> Result<(), Fail> {
     for row in &FILLED {
-        let is_so = answers_to_filled(rt.alloc(), row)?;
+        let is_so = answers_to_filled(&rt, rt.alloc(), row)?;
         assert!(rt; is_so, "at {row:?}");
     }
     Ok(())
@@ -429,7 +433,7 @@ fn ends_small_blocks(rt: HostRuntime) -> Result<(), Fail> {
     ];
     let group = bytes_of(rt.alloc(), &five)?;
     let script = group.as_slice().repeat(rt.alloc(), 15)?;
-    let (status, written) = run(rt.alloc(), &DEMO, script.as_slice(), NO_FAULTS)?;
+    let (status, written) = run(&rt, rt.alloc(), &DEMO, script.as_slice(), NO_FAULTS)?;
     assert!(rt; status == 0);
     assert!(rt; is_as_wanted(rt.alloc(), written.as_slice(), &SMALL_BLOCKS)?);
     Ok(())
@@ -455,6 +459,7 @@ fn refuses_records(rt: HostRuntime) -> Result<(), Fail> {
         ],
     )?;
     let is_so = ends_with(
+        &rt,
         rt.alloc(),
         &DEMO,
         script.as_slice(),
@@ -501,6 +506,7 @@ fn admits_members_and_finds_clues(rt: HostRuntime) -> Result<(), Fail> {
             ],
         )?;
         let is_so = ends_with(
+            &rt,
             rt.alloc(),
             &DEMO,
             script.as_slice(),
@@ -545,7 +551,7 @@ fn answers_like_a_plain_list(rt: HostRuntime) -> Result<(), Fail> {
     plain.refuse_member(256, Refusal::MembersFull)?;
     plain.head()?;
     let (script, want) = plain.end_run()?;
-    let (status, written) = run(rt.alloc(), &DEMO, script.as_slice(), NO_FAULTS)?;
+    let (status, written) = run(&rt, rt.alloc(), &DEMO, script.as_slice(), NO_FAULTS)?;
     assert_eq!(rt; written, want);
     assert_eq!(rt; status, 0);
     Ok(())
@@ -590,7 +596,7 @@ fn refuses_words(rt: HostRuntime) -> Result<(), Fail> {
         &["init", "d", "n", OPERATOR, "0"],
     ];
     for words in rows {
-        let is_so = ends_with(rt.alloc(), words, b"0 head\n", 1, &[USAGE])?;
+        let is_so = ends_with(&rt, rt.alloc(), words, b"0 head\n", 1, &[USAGE])?;
         assert!(rt; is_so, "at {words:?}");
     }
     Ok(())
@@ -661,11 +667,11 @@ const FAULTY: [Faulty; 22] = [
     (LEDGER, (NEVER, 0, NEVER), 3, 0, ""),
 ];
 
-fn ends_so(alloc: Global, row: &Faulty) -> Result<bool, NoMemory> {
+fn ends_so<R: Threads>(rt: &R, alloc: Global, row: &Faulty) -> Result<bool, NoMemory> {
     let (asked, (read, room, write), want_status, count, last) = *row;
     let script = bytes_of(alloc, asked.script)?;
     let faults = Faults { read, room, write };
-    let (status, written) = run(alloc, asked.words, script.as_slice(), faults)?;
+    let (status, written) = run(rt, alloc, asked.words, script.as_slice(), faults)?;
     let mut want = bytes_of(alloc, asked.replies)?;
     want.truncate(count);
     want.extend_from_slice(last.as_bytes())?;
@@ -675,7 +681,7 @@ fn ends_so(alloc: Global, row: &Faulty) -> Result<bool, NoMemory> {
 #[test]
 fn tells_faults(rt: HostRuntime) -> Result<(), Fail> {
     for row in &FAULTY {
-        let is_so = ends_so(rt.alloc(), row)?;
+        let is_so = ends_so(&rt, rt.alloc(), row)?;
         assert!(rt; is_so, "at {row:?}");
     }
     Ok(())

@@ -18,6 +18,7 @@ use ledger_open::{init, reopen};
 use member_book::Verifier;
 use script_lines::Word;
 use std::alloc::Global;
+use std::thread::Threads;
 
 /// The program: runs the command that the words after the program's name make. `init` makes a ledger of the two disks.
 /// `run` opens the ledger that is there, and runs the script that `source` gives on it; its replies are written to `sink`,
@@ -40,7 +41,8 @@ use std::alloc::Global;
 /// Of several, the first that happens is the status: a run that is done met no fault, and one that ends with a fault met
 /// that one. Lines that ended before a fault of reading are answered first. The last line is written by one attempt; a
 /// fault there doesn't change the status.
-pub fn ledger_top<S: Source, K: Sink, D: Disk, V: Verifier>(
+pub fn ledger_top<R: Threads, S: Source, K: Sink, D: Disk, V: Verifier>(
+    rt: &R,
     alloc: Global,
     words: &[String],
     source: &mut S,
@@ -74,7 +76,7 @@ pub fn ledger_top<S: Source, K: Sink, D: Disk, V: Verifier>(
         (pair (disk (D.state a.new) (D.told_length a.new) (D.faults a.new))
         (disk (D.state b.new) (D.told_length b.new) (D.faults b.new))) }
 {
-    let met = run_words(alloc, words, source, sink, a, b, verifier);
+    let met = run_words(rt, alloc, words, source, sink, a, b, verifier);
     finish_run(alloc, sink, met)
 }
 
@@ -97,7 +99,8 @@ fn finish_run<K: Sink>(alloc: Global, sink: &mut K, met: LedgerEnding) -> u8
 }
 
 // All but the last line.
-fn run_words<S: Source, K: Sink, D: Disk, V: Verifier>(
+fn run_words<R: Threads, S: Source, K: Sink, D: Disk, V: Verifier>(
+    rt: &R,
     alloc: Global,
     words: &[String],
     source: &mut S,
@@ -120,7 +123,7 @@ fn run_words<S: Source, K: Sink, D: Disk, V: Verifier>(
             run_new(alloc, &genesis, source, sink, a, b, verifier)
         }
         Ok(Some(Command::Init(genesis))) => make(alloc, &genesis, sink, a, b),
-        Ok(Some(Command::Run)) => run_again(alloc, source, sink, a, b, verifier),
+        Ok(Some(Command::Run)) => run_again(rt, alloc, source, sink, a, b, verifier),
         Ok(Some(Command::Sign(signing))) => sign(&signing, sink),
         Ok(None) => LedgerEnding::Run(Ending::Usage),
         Err(NoMemory) => LedgerEnding::Run(Ending::NoMemory),
@@ -128,7 +131,8 @@ fn run_words<S: Source, K: Sink, D: Disk, V: Verifier>(
 }
 
 // Opens the ledger of two disks, and runs a script on it.
-fn run_again<S: Source, K: Sink, D: Disk, V: Verifier>(
+fn run_again<R: Threads, S: Source, K: Sink, D: Disk, V: Verifier>(
+    rt: &R,
     alloc: Global,
     source: &mut S,
     sink: &mut K,
@@ -144,7 +148,7 @@ fn run_again<S: Source, K: Sink, D: Disk, V: Verifier>(
         (pair (disk (D.state a.new) (D.told_length a.new) (D.faults a.new))
         (disk (D.state b.new) (D.told_length b.new) (D.faults b.new)))) }
 {
-    match reopen(alloc, a, b, Limits::real()) {
+    match reopen(rt, alloc, a, b, Limits::real()) {
         Ok(opened) => {
             let mut committer = Committer::new(alloc, opened);
             run_script(alloc, verifier, &mut committer, a, b, source, sink)

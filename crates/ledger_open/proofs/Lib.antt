@@ -14,4 +14,5 @@ pub mod TakeLaws
 pub mod BegunLaws
 pub mod FirstLaws
 pub mod MoreLaws
+pub mod AheadLaws
 pub mod OpenLaws

@@ -3,7 +3,7 @@ use Rattle.std.specs.Prelude.{Bool, true, false, IsTrue, IfSome, IsSomeAnd, Opti
 use Rattle.std.proofs.Common.{◌≡◌, ◌≢◌, ◌⊎◌, ◌-◌, cond, inl, inr, ℕ, ◌+◌, ◌<◌, ◌≤◌, List, [], ◌∷◌, ◌++◌, length, get_or, map, take, drop, refl, sym, ◌∙◌, ap, subst, arith, append_assoc, append-nil, length-append}
 use Rattle.std.proofs.lemmas.Bool.{true≢false, eq-eqb}
 use Rattle.std.proofs.lemmas.List.Elements.{All-push}
-use Rattle.block_file.specs.Blocks.{AreBlock, IsRead, IsOpenBlock, IsNextBlock, IsBlockErr}
+use Rattle.block_file.specs.Blocks.{AreBlock, IsRead, IsOpenBlock, IsNextBlock}
 use Rattle.block_file.specs.declared.block.BlockAt.{BlockAt}
 use Rattle.block_file.specs.declared.failure.Damage.{Damage}
 use Rattle.block_file.specs.declared.failure.FileErr.{FileErr}
@@ -28,10 +28,12 @@ use Rattle.block_file.specs.declared.file.BlockFile.{BlockFile}
 use Rattle.block_file.specs.declared.failure.Damage.TheVariants as damages
 use Rattle.block_file.specs.declared.failure.FileErr.TheVariants as files
 use Rattle.ledger_open.proofs.BegunLaws.{begun_more, begun_ends}
-use Rattle.ledger_open.proofs.FirstLaws.{headed_read, err_read, bad_read, some_of}
+use Rattle.ledger_open.proofs.FirstLaws.{headed_read, bad_read, some_of}
 use Rattle.ledger_open.proofs.GrowLaws.{blocks_more}
+use Rattle.ledger_open.proofs.HidingLaws.{journals_push}
 use Rattle.ledger_open.proofs.PlaceLaws.{places_same}
 use Rattle.ledger_open.proofs.SizeLaws.{body_size}
+use Rattle.ledger_open.proofs.TakeLaws.{headed_size}
 
 -- ---- how many journals there are
 
@@ -41,7 +43,7 @@ few_from before (e ∷ es) n few =
     subst (λ (l : List Entry). length l ≤ 4_294_967_295) (append_assoc before (e ∷ []) es)
     (few_from (before ++ e ∷ []) es n.1 (omega (arith, n.0.jsn, n.0.below, length-append before (e ∷ []))))
 
-few : (ks : List (List Entry)) → IsLawful (history ks []) → length (journals_of ks) ≤ 4_294_967_295
+pub few : (ks : List (List Entry)) → IsLawful (history ks []) → length (journals_of ks) ≤ 4_294_967_295
 few ks l = omega (arith, few_from [] (journals_of ks ++ []) l.journals_are.next (omega arith), length-append (journals_of ks) [])
 
 -- the next journal's number, as the head tells it
@@ -55,9 +57,6 @@ first_below tells file k head r is = omega (arith, first_is tells file k head r 
 
 readto : (tells : Bool) (file : List ℕ) (k : Known) (r : HasRead tells file k) → IsTrue tells → IsPlain file → IsReadTo file r.blocks k.place
 readto tells file k r told plain = record { begun = r.begun told plain; lawful = λ some. r.knows.legal }
-
-pub more_err : (tells : Bool) (file : List ℕ) (k : Known) (head : Head) (e : FileErr) (r : HasRead tells file k) → ((h : History) → Stands k.book h → head ≡ head_of h) → IsTrue tells → IsPlain file → IsBlockErr k.place file head.size e → IsReadErr file (as_open e)
-more_err tells file k head e r is told plain why = err_read file r.blocks k.place e (readto tells file k r told plain) (subst (λ (n : ℕ). IsBlockErr k.place file n e) (first_is tells file k head r is) why)
 
 -- the block where it stands
 pub record MoreHere (file : List ℕ) (at first : ℕ) (block : BlockAt) : Type 0 where
@@ -130,6 +129,19 @@ module _ (k : Known) (block : BlockAt) (book : Kept) (places : List PlaceAt) (pl
         knows = n;
         begun = λ told plain. subst (Begun ground file (r.blocks ++ m.es ∷ [])) at (begun_more file r.blocks k.place block.root.0 m.es (r.begun told plain) m.stands t.root_is (block_of r.blocks m.es m.are t));
       }
+
+count_push : (ks : List (List Entry)) (es : List Entry) (block : BlockAt) → Headed es block.records → length (journals_of (ks ++ es ∷ [])) ≡ length (journals_of ks) + length block.records
+count_push ks es block h =
+    omega (arith, ap (λ (l : List Entry). length l) (journals_push ks es), length-append (journals_of (ks ++ es ∷ [])) [], length-append (journals_of ks) es, headed_size es block.records h)
+
+-- it has as many journals more as the block
+pub more_count : (k : Known) (block : BlockAt) (book : Kept) (places : List PlaceAt) (place first : ℕ) (listed : places ≡ k.places ++ map place_of_record block.records) (tail : place ≡ k.place + 1 + block.len)
+    (takes : (ks : List (List Entry)) (es : List Entry) → Headed es block.records → Serves k.book (history ks []) → TakesBlock book ks es block.root.0) (tells : Bool) (file : List ℕ) (r : HasRead tells file k)
+    (read : (es : List Entry) × AreBlock first es × IsRead k.place es block) (here : IsTrue tells → MoreHere file k.place first block)
+    → length (journals_of (more_read k block book places place first listed tail takes tells file r read here).blocks) ≡ length (journals_of r.blocks) + length block.records
+unfolding more_read
+more_count k block book places place first listed tail takes false file r read here = count_push r.blocks read.0 block (headed_read k.place read.0 block read.2)
+more_count k block book places place first listed tail takes true file r read here = count_push r.blocks (here refl).es block (headed_read k.place (here refl).es block (here refl).read)
 
 pub read_of : (o : Option BlockAt) (block : BlockAt) (at first : ℕ) → o ≡ Some block → IfSome o (λ b. (es : List Entry) × AreBlock first es × IsRead at es b) → (es : List Entry) × AreBlock first es × IsRead at es block
 read_of o block at first is r = some_of (λ (b : BlockAt). (es : List Entry) × AreBlock first es × IsRead at es b) o block is r

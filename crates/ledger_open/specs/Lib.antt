@@ -6,4 +6,5 @@ pub mod Damages
 pub mod Founding
 pub mod Growing
 pub mod Opening
+pub mod Ahead
 pub mod Taking

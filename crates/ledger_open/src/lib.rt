@@ -1,6 +1,7 @@
 //! A ledger on two files: what a pair of files stands for, a new ledger, and one that is opened again.
 #![tactic(auto)]
 
+mod ahead;
 mod failure;
 mod first;
 mod founding;

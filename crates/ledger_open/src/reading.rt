@@ -1,22 +1,27 @@
 //! The open file, read from its first block to its tail gate.
 
-ghost use Rattle.std.specs.Prelude.{◌≡◌, ◌≢◌, ◌+◌, ◌≤◌, if◌then◌else◌, false, get_or, IsTrue, IfOk, IfErr, IsSomeAnd, OnOk};
+ghost use Rattle.std.specs.Prelude.{◌≡◌, ◌≢◌, ◌⊎◌, ◌+◌, ◌≤◌, ℕ, Bool, List, get_or, IsTrue, IfOk, IfErr, IsSomeAnd, OnOk};
 ghost use Rattle.block_file.specs.Head.{HasHead, number_at};
 ghost use Rattle.block_file.specs.Place.{place_of, base_len_of, base_digest_of};
-ghost use Rattle.journal_record.specs.Entry.{Entry};
+ghost use Rattle.block_file.specs.declared.failure.Damage.{Damage};
 ghost use Rattle.ledger_disk.specs.Disk.{KeepsLength};
 ghost use Rattle.ledger_model.specs.Limits.{AreWithin};
+ghost use Rattle.ledger_open.specs.Ahead.{AreNextBlocks};
+ghost use Rattle.ledger_open.specs.Damages.{IsDamage};
 ghost use Rattle.ledger_open.specs.Opening.{HasRead, HasKnown, IsHeadOf, IsPlain, IsReadErr, CountsRead, known_from};
+ghost use Rattle.ledger_open.specs.declared.ahead.Stop.TheVariants as stops;
 ghost use Rattle.ledger_open.specs.declared.failure.OpenErr.TheVariants as errors;
 
+use crate::ahead::{Ahead, Stop, read_ahead};
 use crate::first::read_first;
-use crate::taking::take_block;
+use crate::taking::{take_all, take_beside};
 use crate::{OpenErr, Places};
 use block_file::{BlockFile, Damage};
 use ledger_book::Book;
 use ledger_disk::Disk;
 use ledger_model::Limits;
 use std::alloc::Global;
+use std::thread::Threads;
 
 /// What was read of a file.
 #[derive(Drop)]
@@ -25,25 +30,25 @@ pub struct Read {
     pub places: Places,
 }
 
-// Reads the next block behind those that were read, where one follows.
-fn read_more<D: Disk>(
+// Reads the next blocks behind those that are ahead of the book, which are taken meanwhile.
+fn read_more<R: Threads, D: Disk>(
+    rt: &R,
     alloc: Global,
     file: &mut BlockFile,
     disk: &mut D,
     buffer: &mut Vec<u8>,
-    book: &mut Book,
-    places: &mut Places,
-) -> Result<bool, OpenErr>
+    read: &mut Read,
+    ahead: &Ahead,
+) -> Result<Ahead, OpenErr>
     requires told { IsSomeAnd (D.told_length disk.old) (λ n. place_of file.old + 1 ≤ n) }
-    requires known { HasRead D.tells (D.state disk.old).seen
-        (known_from book.old places.old.list (place_of file.old)) }
-    ensures ok { OnOk result (HasRead D.tells (D.state disk.old).seen
-        (known_from book.new places.new.list (place_of file.new))) }
-    ensures limits { OnOk result (book.new.limits ≡ book.old.limits) }
-    ensures nearer { IfOk result (λ more. place_of file.old + (if more then 1 else 0)
-        ≤ place_of file.new) }
-    ensures shut { IfOk result (λ more. more ≡ false → IsTrue D.tells
-        → get_or (D.state disk.old).seen (place_of file.new) 0 ≢ 1) }
+    requires full { ahead.now.stop ≡ stops.Full }
+    requires ahead { AreNextBlocks D.tells (D.state disk.old).seen read.old.book
+        read.old.places.list ahead.now (place_of file.old) }
+    ensures ok { IfOk result (λ next. AreNextBlocks D.tells (D.state disk.old).seen
+        read.new.book read.new.places.list next (place_of file.new)) }
+    ensures limits { OnOk result (read.new.book.limits ≡ read.old.book.limits) }
+    ensures nearer { IfOk result (λ next. (next.stop ≡ stops.Full
+        → place_of file.old + 1 ≤ place_of file.new) × (place_of file.old ≤ place_of file.new)) }
     ensures err { IfErr result (λ e. IsTrue D.tells → IsPlain (D.state disk.old).seen
         → IsReadErr (D.state disk.old).seen e) }
     ensures only { IfErr result (λ e. (e ≢ errors.Empty) × (e ≢ errors.Exists)) }
@@ -53,23 +58,50 @@ fn read_more<D: Disk>(
     ensures length { KeepsLength (D.told_length disk.old) (D.told_length disk.new) }
     ensures faults { CountsRead result (D.faults disk.old) (D.faults disk.new) }
 {
-    let head = book.head();
-    let block = match file.next_block(alloc, disk, buffer, head.size) {
-        Ok(Some(block)) => block,
-        Ok(None) => return Ok(false),
-        Err(e) => return Err(OpenErr::from(e)),
+    let first = read.book.head().size + ahead.count;
+    let mut next = match read_ahead(alloc, file, disk, buffer, first) {
+        Ok(next) => next,
+        Err(e) => return Err(e),
     };
-    if let Err(e) = take_block(book, &block, head.size) {
+    let Read { book, places } = read;
+    match take_beside(rt, book, places, ahead.blocks.as_slice(), &mut next) {
+        Ok(()) => Ok(next),
+        Err(e) => Err(e),
+    }
+}
+
+// What is known once the last blocks are taken.
+fn read_last(read: Read, ahead: Ahead) -> Result<Read, OpenErr>
+    requires end { ahead.stop ≢ stops.Full }
+    requires ahead { (tells : Bool) × (file : List ℕ) × (place : ℕ)
+        × AreNextBlocks tells file read.book read.places.list ahead place }
+    ensures ok { IfOk result (λ known. (tells : Bool) (file : List ℕ) (place : ℕ)
+        → AreNextBlocks tells file read.book read.places.list ahead place
+        → HasRead tells file (known_from known.book known.places.list place)
+        × (IsTrue tells → get_or file place 0 ≢ 1)) }
+    ensures limits { IfOk result (λ known. known.book.limits ≡ read.book.limits) }
+    ensures err { IfErr result (λ e. (e ≡ errors.NoMemory) ⊎ ((damage : Damage)
+        × (e ≡ errors.Damaged damage) × ((tells : Bool) (file : List ℕ) (place : ℕ)
+        → AreNextBlocks tells file read.book read.places.list ahead place → IsTrue tells
+        → IsPlain file → IsDamage file damage))) }
+{
+    let Read {
+        mut book,
+        mut places,
+    } = read;
+    if let Err(e) = take_all(&mut book, &mut places, ahead.blocks.as_slice()) {
         return Err(e);
     }
-    match places.add(block.records.as_slice()) {
-        Ok(()) => Ok(true),
-        Err(_) => Err(OpenErr::NoMemory),
+    match ahead.stop {
+        Stop::Shut => Ok(Read { book, places }),
+        Stop::Damaged(damage) => Err(OpenErr::Damaged(damage)),
+        Stop::Full | Stop::TooLong => unreachable!(),
     }
 }
 
 // Reads the blocks behind the first, up to the tail gate.
-fn read_rest<D: Disk>(
+fn read_rest<R: Threads, D: Disk>(
+    rt: &R,
     alloc: Global,
     file: &mut BlockFile,
     disk: &mut D,
@@ -91,18 +123,20 @@ fn read_rest<D: Disk>(
     ensures length { KeepsLength (D.told_length disk.old) (D.told_length disk.new) }
     ensures faults { CountsRead result (D.faults disk.old) (D.faults disk.new) }
 {
-    let Read {
-        mut book,
-        mut places,
-    } = read;
-    let mut more = true;
-    while more {
-        more = match read_more(alloc, file, disk, buffer, &mut book, &mut places) {
-            Ok(more) => more,
+    let mut read = read;
+    let first = read.book.head().size;
+    let mut ahead = match read_ahead(alloc, file, disk, buffer, first) {
+        Ok(ahead) => ahead,
+        Err(e) => return Err(e),
+    };
+    ahead.hash();
+    while ahead.is_full() {
+        ahead = match read_more(rt, alloc, file, disk, buffer, &mut read, &ahead) {
+            Ok(ahead) => ahead,
             Err(e) => return Err(e),
         };
     }
-    Ok(Read { book, places })
+    read_last(read, ahead)
 }
 
 // Looks at the base: there is none so far, so each that has its digest breaks at its first byte.
@@ -126,9 +160,10 @@ fn check_base<D: Disk>(alloc: Global, file: &BlockFile, disk: &mut D) -> Result<
     Ok(())
 }
 
-/// Reads the open file, which stands at its first block: once, in order, with the bytes of one block in memory at a
-/// time.
-pub(crate) fn read_file<D: Disk>(
+/// Reads the open file, which stands at its first block: once, in order, with the bytes of one block and the headers of
+/// a few in memory at a time.
+pub(crate) fn read_file<R: Threads, D: Disk>(
+    rt: &R,
     alloc: Global,
     file: &mut BlockFile,
     disk: &mut D,
@@ -157,5 +192,5 @@ pub(crate) fn read_file<D: Disk>(
         Ok(read) => read,
         Err(e) => return Err(e),
     };
-    read_rest(alloc, file, disk, &mut buffer, read)
+    read_rest(rt, alloc, file, disk, &mut buffer, read)
 }

@@ -19,6 +19,7 @@ use crate::{OpenErr, Opened};
 use ledger_disk::Disk;
 use ledger_model::Limits;
 use std::alloc::Global;
+use std::thread::Threads;
 use twin_file::Twin;
 
 // Cuts a file that isn't empty to nothing, for good. An empty one isn't touched, so a clean pair opens without a write.
@@ -38,7 +39,8 @@ fn clear<D: Disk>(disk: &mut D) -> Result<(), OpenErr>
 }
 
 // Reads the file that was taken, cuts what stands behind its tail gate, and empties the other one.
-fn open_file<D: Disk>(
+fn open_file<R: Threads, D: Disk>(
+    rt: &R,
     alloc: Global,
     twin: Twin,
     taken: &mut D,
@@ -69,7 +71,7 @@ fn open_file<D: Disk>(
         (D.faults other.old) (D.faults other.new) }
 {
     let mut twin = twin;
-    let read = match read_file(alloc, twin.file(), taken, limits) {
+    let read = match read_file(rt, alloc, twin.file(), taken, limits) {
         Ok(read) => read,
         Err(e) => return Err(e),
     };
@@ -87,8 +89,10 @@ fn open_file<D: Disk>(
 }
 
 /// Opens a ledger from its two disks. Both are synced before they are looked at. The open file is read once, from its
-/// first block on; what stands behind its tail gate is cut off, and the other file is emptied where it isn't.
-pub fn reopen<D: Disk>(
+/// first block on, and the leaf digests of its journals are made in several threads; what stands behind its tail gate
+/// is cut off, and the other file is emptied where it isn't.
+pub fn reopen<R: Threads, D: Disk>(
+    rt: &R,
     alloc: Global,
     a: &mut D,
     b: &mut D,
@@ -124,9 +128,9 @@ pub fn reopen<D: Disk>(
     match Twin::reopen(a, b) {
         Ok(Some(twin)) => {
             if twin.in_a() {
-                open_file(alloc, twin, a, b, limits)
+                open_file(rt, alloc, twin, a, b, limits)
             } else {
-                open_file(alloc, twin, b, a, limits)
+                open_file(rt, alloc, twin, b, a, limits)
             }
         }
         Ok(None) => Err(OpenErr::Empty),

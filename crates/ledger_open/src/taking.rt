@@ -1,4 +1,4 @@
-ghost use Rattle.std.specs.Prelude.{◌≡◌, ◌⊎◌, ◌+◌, ◌^◌, ◌<◌, ◌≤◌, [], ℕ, All, List, length, take, IfErr, OnOk};
+ghost use Rattle.std.specs.Prelude.{◌≡◌, ◌⊎◌, ◌+◌, ◌^◌, ◌<◌, ◌≤◌, [], ◌∷◌, ℕ, All, List, length, take, IfErr, OnOk, vec_len};
 ghost use Rattle.block_file.specs.declared.failure.Damage.{Damage};
 ghost use Rattle.block_file.specs.declared.failure.Damage.TheVariants as damages;
 ghost use Rattle.journal_record.specs.Entry.{Entry};
@@ -6,14 +6,18 @@ ghost use Rattle.journal_record.specs.Rules.{IsHeader};
 ghost use Rattle.ledger_book.specs.Books.{Serves};
 ghost use Rattle.ledger_model.specs.History.{history, journals_of};
 ghost use Rattle.ledger_model.specs.Lawful as lawful;
+ghost use Rattle.ledger_open.specs.Ahead.{AreLeaves, HasAhead, IsBadAhead, TakesAll, blocks_in};
 ghost use Rattle.ledger_open.specs.Damages.{CanShare};
 ghost use Rattle.ledger_open.specs.Taking.{Headed, Goes, IsOther, TakesBlock, IsBadBlock};
 ghost use Rattle.ledger_open.specs.declared.failure.OpenErr.TheVariants as errors;
 
-use crate::OpenErr;
+use crate::ahead::{Ahead, Hashed};
+use crate::{OpenErr, Places};
 use block_file::{BlockAt, Damage, RecordAt};
 use journal_record::Kind;
 use ledger_book::Book;
+use ledger_bytes::Digest;
+use std::thread::{Threads, join_mut};
 
 // Whether journals of this kind gather in a block.
 fn gathers(kind: Kind) -> bool
@@ -25,8 +29,8 @@ fn gathers(kind: Kind) -> bool
     }
 }
 
-/// How many of a block's first journals can stand in one block. One alone always can, whatever its kind.
-pub(crate) fn share_len(records: &[RecordAt]) -> usize
+// How many of a block's first journals can stand in one block. One alone always can, whatever its kind.
+fn share_len(records: &[RecordAt]) -> usize
     requires { 1 ≤ length records.now }
     ensures some { 1 ≤ result }
     ensures most { result ≤ length records.now }
@@ -42,9 +46,10 @@ pub(crate) fn share_len(records: &[RecordAt]) -> usize
     records.len()
 }
 
-// Takes journals by their headers.
-fn replay_records(book: &mut Book, records: &[RecordAt]) -> Result<(), OpenErr>
-    requires { All (λ r. IsHeader r.header) records.now }
+// Takes journals by their headers and leaf digests.
+fn replay_records(book: &mut Book, records: &[RecordAt], leaves: &[Digest]) -> Result<(), OpenErr>
+    requires layout { All (λ r. IsHeader r.header) records.now }
+    requires leaves { AreLeaves records.now leaves.now }
     ensures ok { OnOk result ((blocks : List (List Entry)) (es : List Entry) → Headed es records.now
         → Serves book.old (history blocks []) → Goes book.new blocks es) }
     ensures limits { OnOk result (book.new.limits ≡ book.old.limits) }
@@ -53,8 +58,8 @@ fn replay_records(book: &mut Book, records: &[RecordAt]) -> Result<(), OpenErr>
         × ((blocks : List (List Entry)) (es : List Entry) → Headed es records.now
         → Serves book.old (history blocks []) → IsOther (journals_of blocks) es jsn))) }
 {
-    for record in records {
-        match book.replay(&record.header) {
+    for index in 0..records.len() {
+        match book.replay(&records[index].header, &leaves[index]) {
             Ok(Ok(())) => {}
             Ok(Err(damage)) => return Err(OpenErr::Damaged(damage)),
             Err(_) => return Err(OpenErr::NoMemory),
@@ -63,12 +68,18 @@ fn replay_records(book: &mut Book, records: &[RecordAt]) -> Result<(), OpenErr>
     Ok(())
 }
 
-/// Takes a block into the book, which has the journals before this number. Of the damages of its journals and its root
-/// the first is told.
-pub(crate) fn take_block(book: &mut Book, block: &BlockAt, first: u64) -> Result<(), OpenErr>
+// Takes a block into the book, which has the journals before this number. Of the damages of its journals and its root
+// the first is told.
+fn take_block(
+    book: &mut Book,
+    block: &BlockAt,
+    leaves: &[Digest],
+    first: u64,
+) -> Result<(), OpenErr>
     requires number { first < 2 ^ 32 }
     requires some { 1 ≤ length block.now.records }
     requires layout { All (λ r. IsHeader r.header) block.now.records }
+    requires leaves { AreLeaves block.now.records leaves.now }
     ensures ok { OnOk result ((blocks : List (List Entry)) (es : List Entry)
         → Headed es block.now.records
         → Serves book.old (history blocks []) → TakesBlock book.new blocks es block.now.root.0) }
@@ -82,7 +93,7 @@ pub(crate) fn take_block(book: &mut Book, block: &BlockAt, first: u64) -> Result
     let number = book.blocks();
     let records = block.records.as_slice();
     let share = share_len(records);
-    if let Err(e) = replay_records(book, &records[..share]) {
+    if let Err(e) = replay_records(book, &records[..share], &leaves[..share]) {
         return Err(e);
     }
     if share < records.len() {
@@ -100,4 +111,78 @@ pub(crate) fn take_block(book: &mut Book, block: &BlockAt, first: u64) -> Result
         }));
     }
     Ok(())
+}
+
+// Takes the next block behind those that were taken, and the places of its journals.
+fn take_next(book: &mut Book, places: &mut Places, next: &Hashed) -> Result<(), OpenErr>
+    requires ahead { HasAhead book.old places.old.list (next.now.block ∷ []) }
+    requires leaves { AreLeaves next.now.block.records next.now.leaves.items }
+    ensures ok { OnOk result
+        (TakesAll book.old places.old.list book.new places.new.list (next.now.block ∷ [])) }
+    ensures limits { OnOk result (book.new.limits ≡ book.old.limits) }
+    ensures err { IfErr result (λ e. (e ≡ errors.NoMemory) ⊎ ((damage : Damage)
+        × (e ≡ errors.Damaged damage)
+        × IsBadAhead book.old places.old.list (next.now.block ∷ []) damage)) }
+{
+    let first = book.head().size;
+    if let Err(e) = take_block(book, &next.block, next.leaves.as_slice(), first) {
+        return Err(e);
+    }
+    match places.add(next.block.records.as_slice()) {
+        Ok(()) => Ok(()),
+        Err(_) => Err(OpenErr::NoMemory),
+    }
+}
+
+/// Takes blocks that were read behind those that were taken, one after the other. The first damage is told.
+pub(crate) fn take_all(
+    book: &mut Book,
+    places: &mut Places,
+    blocks: &[Hashed],
+) -> Result<(), OpenErr>
+    requires ahead { HasAhead book.old places.old.list (blocks_in blocks.now) }
+    requires leaves { All (λ h. AreLeaves h.block.records h.leaves.items) blocks.now }
+    ensures ok { OnOk result
+        (TakesAll book.old places.old.list book.new places.new.list (blocks_in blocks.now)) }
+    ensures limits { OnOk result (book.new.limits ≡ book.old.limits) }
+    ensures err { IfErr result (λ e. (e ≡ errors.NoMemory) ⊎ ((damage : Damage)
+        × (e ≡ errors.Damaged damage)
+        × IsBadAhead book.old places.old.list (blocks_in blocks.now) damage)) }
+{
+    for block in blocks {
+        if let Err(e) = take_next(book, places, block) {
+            return Err(e);
+        }
+    }
+    Ok(())
+}
+
+/// Takes blocks as [`take_all`] does, while the leaf digests of the next ones are made in a thread beside.
+pub(crate) fn take_beside<R: Threads>(
+    rt: &R,
+    book: &mut Book,
+    places: &mut Places,
+    blocks: &[Hashed],
+    next: &mut Ahead,
+) -> Result<(), OpenErr>
+    requires ahead { HasAhead book.old places.old.list (blocks_in blocks.now) }
+    requires leaves { All (λ h. AreLeaves h.block.records h.leaves.items) blocks.now }
+    requires sizes { All (λ h. vec_len h.leaves ≡ length h.block.records) next.old.blocks.items }
+    ensures ok { OnOk result
+        (TakesAll book.old places.old.list book.new places.new.list (blocks_in blocks.now)) }
+    ensures limits { OnOk result (book.new.limits ≡ book.old.limits) }
+    ensures err { IfErr result (λ e. (e ≡ errors.NoMemory) ⊎ ((damage : Damage)
+        × (e ≡ errors.Damaged damage)
+        × IsBadAhead book.old places.old.list (blocks_in blocks.now) damage)) }
+    ensures blocks { blocks_in next.new.blocks.items ≡ blocks_in next.old.blocks.items }
+    ensures count { next.new.count ≡ next.old.count }
+    ensures stop { next.new.stop ≡ next.old.stop }
+    ensures hashed { All (λ h. AreLeaves h.block.records h.leaves.items) next.new.blocks.items }
+{
+    let (_, taken) = join_mut(
+        rt,
+        &mut || next.hash(),
+        &mut || take_all(book, places, blocks),
+    );
+    taken
 }

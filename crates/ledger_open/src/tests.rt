@@ -8,6 +8,7 @@ use ledger_model::{Genesis, Limits};
 use merkle_tree::{leaf_of, root_of};
 use std::alloc::Global;
 use std::test::Fail;
+use std::thread::Threads;
 
 // The file of a new ledger: no base, and one block of one journal with a content of 64 bytes.
 const NEW: [&str; 8] = [
@@ -130,8 +131,13 @@ fn size_of(opened: Result<Opened, OpenErr>) -> Result<u64, OpenErr> {
 }
 
 /// The size of the ledger on these disks.
-fn opened_size<D: Disk>(alloc: Global, a: &mut D, b: &mut D) -> Result<u64, OpenErr> {
-    size_of(reopen(alloc, a, b, Limits::real()))
+fn opened_size<R: Threads, D: Disk>(
+    rt: &R,
+    alloc: Global,
+    a: &mut D,
+    b: &mut D,
+) -> Result<u64, OpenErr> {
+    size_of(reopen(rt, alloc, a, b, Limits::real()))
 }
 
 #[test]
@@ -145,7 +151,7 @@ fn a_new_ledger_has_the_worked_bytes(rt: HostRuntime) -> Result<(), Fail> {
     assert_eq!(rt; b.len(), Ok(0));
     let again = init(alloc, &mut a, &mut b, &demo(alloc)?, Limits::real());
     assert_eq!(rt; size_of(again), Err(OpenErr::Exists));
-    let opened = reopen(alloc, &mut a, &mut b, Limits::real())?;
+    let opened = reopen(&rt, alloc, &mut a, &mut b, Limits::real())?;
     assert_eq!(rt; opened.book.id(), digest(ID)?);
     assert_eq!(rt; opened.book.blocks(), 1);
     assert_eq!(rt; opened.places.as_slice().len(), 1);
@@ -174,7 +180,11 @@ fn a_cut_file_is_told(rt: HostRuntime) -> Result<(), Fail> {
                 found: len as u64 - 110,
             })
         };
-        assert_eq!(rt; opened_size(alloc, &mut a, &mut b), Err(want), "at {len}");
+        assert_eq!(rt;
+            opened_size(&rt, alloc, &mut a, &mut b),
+            Err(want),
+            "at {len}"
+        );
     }
     Ok(())
 }
@@ -232,7 +242,11 @@ fn a_changed_byte_is_told(rt: HostRuntime) -> Result<(), Fail> {
     for (at, to, want) in cases {
         let mut a = changed_disk(alloc, &whole, at, to)?;
         let mut b = disk_of(alloc, &[])?;
-        assert_eq!(rt; opened_size(alloc, &mut a, &mut b), Err(want), "at {at}");
+        assert_eq!(rt;
+            opened_size(&rt, alloc, &mut a, &mut b),
+            Err(want),
+            "at {at}"
+        );
     }
     Ok(())
 }
@@ -248,7 +262,7 @@ fn a_longer_ledger_is_trimmed_and_the_other_file_emptied(rt: HostRuntime) -> Res
         let b = disk_of(alloc, &longer)?;
         let mut a = FuseDisk::new(a, stop);
         let mut b = FuseDisk::new(b, stop);
-        let opened = opened_size(alloc, &mut a, &mut b);
+        let opened = opened_size(&rt, alloc, &mut a, &mut b);
         assert_eq!(rt;
             opened,
             if stop < 3 {
@@ -263,7 +277,7 @@ fn a_longer_ledger_is_trimmed_and_the_other_file_emptied(rt: HostRuntime) -> Res
             let mut left_a = a.crash(pick)?;
             let mut left_b = b.crash(pick)?;
             assert_eq!(rt;
-                opened_size(alloc, &mut left_a, &mut left_b),
+                opened_size(&rt, alloc, &mut left_a, &mut left_b),
                 Ok(3),
                 "at {stop}"
             );
@@ -286,7 +300,7 @@ fn a_fault_is_told_wherever_it_comes(rt: HostRuntime) -> Result<(), Fail> {
         a.write(0, &whole)?;
         a.sync()?;
         let mut b = disk_of(alloc, &[])?;
-        match opened_size(alloc, &mut a, &mut b) {
+        match opened_size(&rt, alloc, &mut a, &mut b) {
             Ok(size) => assert_eq!(rt; size, 3),
             Err(e) => {
                 assert_eq!(rt; e, OpenErr::DiskFault, "at {call}");
@@ -299,10 +313,10 @@ fn a_fault_is_told_wherever_it_comes(rt: HostRuntime) -> Result<(), Fail> {
 }
 
 /// What is told of the ledger in this file, beside an empty one.
-fn told_of(alloc: Global, bytes: &[u8]) -> Result<Result<u64, OpenErr>, Fail> {
+fn told_of<R: Threads>(rt: &R, alloc: Global, bytes: &[u8]) -> Result<Result<u64, OpenErr>, Fail> {
     let mut a = disk_of(alloc, bytes)?;
     let mut b = disk_of(alloc, &[])?;
-    Ok(opened_size(alloc, &mut a, &mut b))
+    Ok(opened_size(rt, alloc, &mut a, &mut b))
 }
 
 /// What is told of the three blocks that are cut to this length: the last gate that is left has no whole block behind
@@ -349,17 +363,17 @@ fn a_cut_file_of_three_blocks_is_told(rt: HostRuntime) -> Result<(), Fail> {
     let alloc = rt.alloc();
     let whole = three_blocks(alloc)?;
     assert_eq!(rt; whole.len(), 1194);
-    assert_eq!(rt; told_of(alloc, &whole)?, Ok(4));
+    assert_eq!(rt; told_of(&rt, alloc, &whole)?, Ok(4));
     for len in 1..whole.len() {
         let cut = &whole[..len];
         assert_eq!(rt;
-            told_of(alloc, cut)?,
+            told_of(&rt, alloc, cut)?,
             Err(told_of_cut(len as u64)),
             "at {len}"
         );
         let shut = with_bytes(alloc, cut, len - 1, &[0])?;
         assert_eq!(rt;
-            told_of(alloc, &shut)?,
+            told_of(&rt, alloc, &shut)?,
             told_of_shut_cut(len as u64),
             "at {len}"
         );
@@ -377,7 +391,7 @@ fn a_plain_reader_tells_the_same_of_2000_changed_files(rt: HostRuntime) -> Resul
         let at = number * 7 % 1194;
         let old = whole.get(at).copied().ok_or("too short")?;
         let file = with_bytes(alloc, &whole, at, &[old ^ ((number % 255) as u8 + 1)])?;
-        let told = told_of(alloc, &file)?;
+        let told = told_of(&rt, alloc, &file)?;
         assert_eq!(rt; told, plain_size(alloc, &file), "at {at}");
         if told.is_ok() {
             read_on = read_on.saturating_add(1);
@@ -396,10 +410,10 @@ fn a_base_is_told(rt: HostRuntime) -> Result<(), Fail> {
     let kept = digest("ca358758f6d27e6cf45272937977a748fd88391db679ceda7dc7bf1f005ee879")?;
     let found = digest("13e645db6ab5483ac7a1529f1bf99d8a93a4319956e280262f4d663fc634ec45")?;
     let other = OpenErr::Damaged(Damage::Base { kept, found });
-    assert_eq!(rt; told_of(alloc, &file)?, Err(other));
+    assert_eq!(rt; told_of(&rt, alloc, &file)?, Err(other));
     let file = with_bytes(alloc, &file, 26, &found.0)?;
     let broken = OpenErr::Damaged(Damage::BaseForm { at: 0 });
-    assert_eq!(rt; told_of(alloc, &file)?, Err(broken));
+    assert_eq!(rt; told_of(&rt, alloc, &file)?, Err(broken));
     Ok(())
 }
 
@@ -431,12 +445,17 @@ fn a_journal_that_is_not_next_is_told_before_the_root(rt: HostRuntime) -> Result
     for (at, to, jsn) in cases {
         let file = with_bytes(alloc, &whole, at, &[to])?;
         let want = Err(OpenErr::Damaged(Damage::Entry { jsn }));
-        assert_eq!(rt; told_of(alloc, &file)?, want, "at {at}");
+        assert_eq!(rt; told_of(&rt, alloc, &file)?, want, "at {at}");
         assert_eq!(rt;
-            told_of(alloc, &with_new_roots(alloc, &file)?)?,
+            told_of(&rt, alloc, &with_new_roots(alloc, &file)?)?,
             want,
             "at {at}"
         );
+        // That the last block is cut isn't told where the damage is in the one before.
+        if jsn < 3 {
+            let cut = file[..1193].to_vec(alloc)?;
+            assert_eq!(rt; told_of(&rt, alloc, &cut)?, want, "at {at}");
+        }
     }
     Ok(())
 }
@@ -455,9 +474,9 @@ fn a_second_journal_in_the_first_block_is_told(rt: HostRuntime) -> Result<(), Fa
         65,
         &bytes_of(alloc, &["0000000200000000000001ea"])?,
     )?;
-    assert_eq!(rt; told_of(alloc, &file)?, want);
+    assert_eq!(rt; told_of(&rt, alloc, &file)?, want);
     let root = digest("5d0c93a2c3f5b439800c35082b570525c1c42d311dfab11205d0376c51f95cf9")?;
     let file = with_bytes(alloc, &file, 77, &root.0)?;
-    assert_eq!(rt; told_of(alloc, &file)?, want);
+    assert_eq!(rt; told_of(&rt, alloc, &file)?, want);
     Ok(())
 }

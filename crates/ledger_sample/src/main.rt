@@ -6,5 +6,5 @@ use ledger_cli::ledger_standard;
 use std::process::ExitCode;
 
 fn main(rt: HostRuntime) -> ExitCode {
-    ExitCode::from(ledger_standard(&rt))
+    ExitCode::from(ledger_standard(&rt, &rt))
 }

@@ -18,6 +18,7 @@ use making::Plan;
 use std::alloc::Global;
 use std::env;
 use std::env::Args;
+use std::thread::Threads;
 
 const USAGE: &str = "usage: open_bench make|read|walk|open|all DIR [JOURNALS CLUES]";
 
@@ -33,7 +34,7 @@ fn main(rt: HostRuntime) -> Result<()> {
     if work.has(Work::Make) {
         make(alloc, &mut a, &mut b, &mut words)?;
     }
-    let text = told(alloc, &mut a, &mut b, work)?;
+    let text = told(&rt, alloc, &mut a, &mut b, work)?;
     print!(rt; "{text}")?;
     Ok(())
 }
@@ -48,7 +49,13 @@ fn make<D: Disk>(alloc: Global, a: &mut D, b: &mut D, words: &mut Args) -> Resul
 }
 
 /// A line for each part of the work that looks at the ledger.
-fn told<D: Disk>(alloc: Global, a: &mut D, b: &mut D, work: Work) -> Result<String> {
+fn told<R: Threads, D: Disk>(
+    rt: &R,
+    alloc: Global,
+    a: &mut D,
+    b: &mut D,
+    work: Work,
+) -> Result<String> {
     let mut text = String::new(alloc);
     if work.has(Work::Read) {
         let seen = reading::read_all(alloc, a)?;
@@ -59,7 +66,7 @@ fn told<D: Disk>(alloc: Global, a: &mut D, b: &mut D, work: Work) -> Result<Stri
         text.push_str(&line(alloc, "walk", seen.headers, &seen.digest)?)?;
     }
     if work.has(Work::Open) {
-        let head = reopen(alloc, a, b, Limits::real())?.book.head();
+        let head = reopen(rt, alloc, a, b, Limits::real())?.book.head();
         text.push_str(&line(alloc, "open", head.size, &head.root)?)?;
     }
     Ok(text)

@@ -11,8 +11,9 @@ ghost use Rattle.ledger_book.specs.Steps.{IsSame, IsAsBefore, PlacesNothing, Nev
 use super::Book;
 use crate::headers::{new_member_header, record_header};
 use journal_record::{Approval, Stamp};
-use ledger_bytes::{Bytes, Digest, NoMemory};
+use ledger_bytes::{Bytes, Digest, NoMemory, Sha};
 use ledger_model::{Job, Outcome, Query};
+use merkle_tree::leaf_of;
 
 impl Book {
     /// Judges a job, and places its journal in the open block where it is accepted. A refusal changes nothing, and so
@@ -81,7 +82,8 @@ impl Book {
             request,
             by,
         );
-        let leaf = self.place_record(&header)?;
+        let leaf = leaf_of::<Sha>(&header.encode());
+        self.place_record(&header, leaf)?;
         Ok(Outcome::Placed {
             jsn: place.jsn,
             leaf,
@@ -110,7 +112,8 @@ impl Book {
         }
         let jsn = self.size;
         let header = new_member_header(jsn, number, key, by);
-        let leaf = self.place_member(&header)?;
+        let leaf = leaf_of::<Sha>(&header.encode());
+        self.place_member(&header, leaf)?;
         Ok(Outcome::Placed { jsn, leaf })
     }
 }

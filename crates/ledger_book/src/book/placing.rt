@@ -1,4 +1,4 @@
-ghost use Rattle.std.specs.Prelude.{◌≡◌, ◌<◌, ◌≤◌, [], ℕ, All, Some, length, IfOk, OnOk, OnErr};
+ghost use Rattle.std.specs.Prelude.{◌≡◌, ◌<◌, ◌≤◌, [], ℕ, All, Some, length, OnOk, OnErr};
 ghost use Rattle.ledger_bytes.specs.declared.limits.TheConstants.{MEMBER_LIMIT};
 ghost use Rattle.journal_record.specs.Entry.{Entry};
 ghost use Rattle.journal_record.specs.declared.header.Kind.TheVariants as kind;
@@ -15,8 +15,7 @@ use super::Book;
 use crate::headers::Place;
 use clue_index::ClueIndex;
 use journal_record::Header;
-use ledger_bytes::{Digest, NoMemory, Sha};
-use merkle_tree::leaf_of;
+use ledger_bytes::{Digest, NoMemory};
 
 impl Book {
     /// Where the next journal stands, which has this clue.
@@ -44,49 +43,47 @@ impl Book {
         }
     }
 
-    /// Places a member's record in the open block, and answers its leaf digest.
-    pub(super) fn place_record(&mut self, header: &Header) -> Result<Digest, NoMemory>
-        requires { self.old.size < real_limits.size }
+    /// Places a member's record, which has this leaf digest, in the open block.
+    pub(super) fn place_record(&mut self, header: &Header, leaf: Digest) -> Result<(), NoMemory>
+        requires room { self.old.size < real_limits.size }
+        requires leaf { IsLeafOf header.now leaf }
         ensures ok { OnOk result ((h : History) (journal : Entry) → Stands self.old h
             → journal.header ≡ header.now
             → header.now.kind ≡ kind.Content → MayPlace h header.now
             → Stands self.new (with_waiting (Some journal) h)) }
-        ensures leaf { IfOk result (IsLeafOf header.now) }
         ensures err { OnErr result (IsAsBefore self.old self.new) }
         ensures same { IsSame self.old self.new }
     {
         self.headers.reserve(1)?;
         self.tree.reserve(1)?;
         self.ends.reserve(1)?;
-        let leaf = leaf_of::<Sha>(&header.encode());
         add_clue(&mut self.clues, header)?;
         self.tree.add_leaves(&[leaf]);
         self.headers.push_reserved(*header);
         self.size += 1;
-        Ok(leaf)
+        Ok(())
     }
 
-    /// Places a new member in the open block, and answers the leaf digest.
-    pub(super) fn place_member(&mut self, header: &Header) -> Result<Digest, NoMemory>
+    /// Places a new member, whose journal has this leaf digest, in the open block.
+    pub(super) fn place_member(&mut self, header: &Header, leaf: Digest) -> Result<(), NoMemory>
         requires room { self.old.size < real_limits.size }
+        requires leaf { IsLeafOf header.now leaf }
         requires few { length self.old.members < MEMBER_LIMIT }
         ensures ok { OnOk result ((h : History) (journal : Entry) → Stands self.old h
             → journal.header ≡ header.now
             → header.now.kind ≡ kind.Member → MayPlace h header.now
             → Stands self.new (with_waiting (Some journal) h)) }
-        ensures leaf { IfOk result (IsLeafOf header.now) }
         ensures err { OnErr result (IsAsBefore self.old self.new) }
         ensures same { IsSame self.old self.new }
     {
         self.headers.reserve(1)?;
         self.tree.reserve(1)?;
         self.ends.reserve(1)?;
-        let leaf = leaf_of::<Sha>(&header.encode());
         self.members.admit(&header.link, header.jsn)?;
         self.tree.add_leaves(&[leaf]);
         self.headers.push_reserved(*header);
         self.size += 1;
-        Ok(leaf)
+        Ok(())
     }
 }
 

@@ -8,7 +8,7 @@ ghost use Rattle.ledger_model.specs.Lawful.{IsNextRecord};
 ghost use Rattle.ledger_model.specs.Limits.{AreWithin, real_limits};
 ghost use Rattle.ledger_book.specs.Books.{Stands, Serves};
 ghost use Rattle.ledger_book.specs.Replaying.{IsFirst, begun_with, Replays};
-ghost use Rattle.ledger_book.specs.Steps.{IsSame, IsAsBefore, MayPlace};
+ghost use Rattle.ledger_book.specs.Steps.{IsSame, IsAsBefore, MayPlace, IsLeafOf};
 
 use super::Book;
 use block_file::Damage;
@@ -66,12 +66,13 @@ impl Book {
         })
     }
 
-    /// Places the journal with this header in the open block, where it is the next one. Contents aren't looked at,
-    /// since they may be hidden. A header that isn't the next one has the damage [`Damage::Entry`] with the number
+    /// Places the journal with this header, whose leaf digest is known, in the open block, where it is the next one.
+    /// Contents aren't looked at, since they may be hidden. A header that isn't the next one has the damage [`Damage::Entry`] with the number
     /// that is next, and changes nothing; so does an `Err`. What no job places so far is never the next one: a
     /// journal of the kinds time, occult and purge.
-    pub fn replay(&mut self, header: &Header) -> Result<Result<(), Damage>, NoMemory>
+    pub fn replay(&mut self, header: &Header, leaf: &Digest) -> Result<Result<(), Damage>, NoMemory>
         requires layout { IsHeader header.now }
+        requires leaf { IsLeafOf header.now leaf.now }
         ensures ok { IfOk result (λ told. Replays self.old header.now told self.new) }
         ensures err { OnErr result (IsAsBefore self.old self.new) }
         ensures same { IsSame self.old self.new }
@@ -80,9 +81,9 @@ impl Book {
             return Ok(Err(Damage::Entry { jsn: self.size }));
         }
         if header.kind == Kind::Member {
-            self.place_member(header)?;
+            self.place_member(header, *leaf)?;
         } else {
-            self.place_record(header)?;
+            self.place_record(header, *leaf)?;
         }
         Ok(Ok(()))
     }

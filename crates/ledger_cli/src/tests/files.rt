@@ -59,7 +59,8 @@ const CHANGED_CONTENT_REPLIES: [&str; 4] = [
 const DISK_FAULT: &str = "fail 4 disk\n";
 
 /// Whether a run on these disks ends with this status and writes this text.
-fn ends_on(
+fn ends_on<R: Threads>(
+    rt: &R,
     alloc: Global,
     words: &[&str],
     script: &[u8],
@@ -68,7 +69,7 @@ fn ends_on(
     a: &mut MemDisk,
     b: &mut MemDisk,
 ) -> Result<bool, NoMemory> {
-    let (status, written) = run_on(alloc, words, script, NO_FAULTS, a, b)?;
+    let (status, written) = run_on(rt, alloc, words, script, NO_FAULTS, a, b)?;
     let want = bytes_of(alloc, want)?;
     Ok(status == want_status && written == want)
 }
@@ -126,7 +127,16 @@ fn makes_a_ledger_once(rt: HostRuntime) -> Result<(), Fail> {
         (&RUN, 0, &["0.1 ", HEAD]),
     ];
     for (words, want_status, want) in rows {
-        let is_so = ends_on(alloc, words, b"0 head\n", want_status, want, &mut a, &mut b)?;
+        let is_so = ends_on(
+            &rt,
+            alloc,
+            words,
+            b"0 head\n",
+            want_status,
+            want,
+            &mut a,
+            &mut b,
+        )?;
         assert!(rt; is_so, "at {words:?}");
     }
     assert!(rt; is_new(alloc, &a)?);
@@ -150,10 +160,17 @@ fn with_changes(
 
 /// Whether a run on this file ends with this status and writes this line, and leaves the file as it
 /// was.
-fn is_damage(alloc: Global, file: &[u8], want_status: u8, want: &str) -> Result<bool, Fail> {
+fn is_damage<R: Threads>(
+    rt: &R,
+    alloc: Global,
+    file: &[u8],
+    want_status: u8,
+    want: &str,
+) -> Result<bool, Fail> {
     let mut a = disk_of(alloc, file)?;
     let mut b = disk_of(alloc, &[])?;
     let is_told = ends_on(
+        rt,
         alloc,
         &RUN,
         b"0 head\n",
@@ -213,7 +230,7 @@ fn tells_damages(rt: HostRuntime) -> Result<(), Fail> {
     ];
     for (changes, want_status, want) in rows {
         let file = with_changes(alloc, new.as_slice(), changes)?;
-        let is_so = is_damage(alloc, file.as_slice(), want_status, want)?;
+        let is_so = is_damage(&rt, alloc, file.as_slice(), want_status, want)?;
         assert!(rt; is_so, "at {want:?}");
     }
     Ok(())
@@ -221,10 +238,15 @@ fn tells_damages(rt: HostRuntime) -> Result<(), Fail> {
 
 /// The status with which a ledger is made on disks of so much room, of which the first fails at
 /// these calls. None where another line is told than that status has.
-fn status_of_making(alloc: Global, room: usize, fail_at: &[u64]) -> Result<Option<u8>, NoMemory> {
+fn status_of_making<R: Threads>(
+    rt: &R,
+    alloc: Global,
+    room: usize,
+    fail_at: &[u64],
+) -> Result<Option<u8>, NoMemory> {
     let mut a = disk_with(alloc, room, fail_at)?;
     let mut b = disk_with(alloc, room, &[])?;
-    let (status, written) = run_on(alloc, &INIT, b"", NO_FAULTS, &mut a, &mut b)?;
+    let (status, written) = run_on(rt, alloc, &INIT, b"", NO_FAULTS, &mut a, &mut b)?;
     let want = if status == 0 { TOLD } else { DISK_FAULT };
     Ok(Some(status).filter(|_| written.as_slice() == want.as_bytes()))
 }
@@ -234,12 +256,12 @@ fn status_of_making(alloc: Global, room: usize, fail_at: &[u64]) -> Result<Optio
 fn tells_faults_of_disks(rt: HostRuntime) -> Result<(), Fail> {
     let alloc = rt.alloc();
     for (room, want) in [(0, 4), (351, 4), (352, 0)] {
-        let status = status_of_making(alloc, room, &[])?;
+        let status = status_of_making(&rt, alloc, room, &[])?;
         assert!(rt; status == Some(want), "at {room}");
     }
     let mut failed = 0u32;
     for call in 0..30 {
-        let status = status_of_making(alloc, AMPLE, &[call])?;
+        let status = status_of_making(&rt, alloc, AMPLE, &[call])?;
         assert!(rt; status == Some(4) || status == Some(0), "at {call}");
         if status == Some(4) {
             failed = failed.saturating_add(1);
@@ -276,7 +298,7 @@ fn reads_journals_back_in_the_next_run(rt: HostRuntime) -> Result<(), Fail> {
     for (words, want_status, script, want) in rows {
         let script = bytes_of(alloc, script)?;
         let script = script.as_slice();
-        let is_so = ends_on(alloc, words, script, want_status, want, &mut a, &mut b)?;
+        let is_so = ends_on(&rt, alloc, words, script, want_status, want, &mut a, &mut b)?;
         assert!(rt; is_so, "at {want:?}");
     }
     let file = a.bytes()?;
@@ -284,7 +306,7 @@ fn reads_journals_back_in_the_next_run(rt: HostRuntime) -> Result<(), Fail> {
     let mut a = disk_of(alloc, &file)?;
     let script = b"0 get 2\n0 head\n";
     let want = &CHANGED_CONTENT_REPLIES;
-    let is_so = ends_on(alloc, &RUN, script, 0, want, &mut a, &mut b)?;
+    let is_so = ends_on(&rt, alloc, &RUN, script, 0, want, &mut a, &mut b)?;
     assert!(rt; is_so);
     Ok(())
 }

@@ -48,7 +48,7 @@ fn signs_requests(rt: HostRuntime) -> Result<(), Fail> {
         ),
     ];
     for (words, want) in rows {
-        let is_so = ends_with(rt.alloc(), words, b"0 head\n", 0, &[want])?;
+        let is_so = ends_with(&rt, rt.alloc(), words, b"0 head\n", 0, &[want])?;
         assert!(rt; is_so, "at {words:?}");
     }
     Ok(())
@@ -79,16 +79,21 @@ fn refuses_words_to_sign(rt: HostRuntime) -> Result<(), Fail> {
         &["sign", ID, THIRD, "append", "2", "inv", "6g"],
     ];
     for words in rows {
-        let is_so = ends_with(rt.alloc(), words, b"", 1, &[USAGE])?;
+        let is_so = ends_with(&rt, rt.alloc(), words, b"", 1, &[USAGE])?;
         assert!(rt; is_so, "at {words:?}");
     }
     Ok(())
 }
 
 // The status and the length of the text, for a record with this clue and this content.
-fn sign_append(alloc: Global, clue: &str, content: &str) -> Result<(u8, usize), NoMemory> {
+fn sign_append<R: Threads>(
+    rt: &R,
+    alloc: Global,
+    clue: &str,
+    content: &str,
+) -> Result<(u8, usize), NoMemory> {
     let words = ["sign", ID, THIRD, "append", "4294967295", clue, content];
-    let (status, written) = run(alloc, &words, b"", NO_FAULTS)?;
+    let (status, written) = run(rt, alloc, &words, b"", NO_FAULTS)?;
     Ok((status, written.len()))
 }
 
@@ -96,13 +101,13 @@ fn sign_append(alloc: Global, clue: &str, content: &str) -> Result<(u8, usize), 
 #[test]
 fn bounds_words_to_sign(rt: HostRuntime) -> Result<(), Fail> {
     let alloc = rt.alloc();
-    assert_eq!(rt; sign_append(alloc, "in\nv", "-")?, (0, 194));
-    assert_eq!(rt; sign_append(alloc, LONG_NAME, "-")?, (0, 194));
+    assert_eq!(rt; sign_append(&rt, alloc, "in\nv", "-")?, (0, 194));
+    assert_eq!(rt; sign_append(&rt, alloc, LONG_NAME, "-")?, (0, 194));
     let name = "n".repeat(alloc, 65)?;
-    assert_eq!(rt; sign_append(alloc, name.as_str(), "-")?, (1, 13));
+    assert_eq!(rt; sign_append(&rt, alloc, name.as_str(), "-")?, (1, 13));
     let content = "00".repeat(alloc, 65_536)?;
-    assert_eq!(rt; sign_append(alloc, "-", content.as_str())?, (0, 194));
+    assert_eq!(rt; sign_append(&rt, alloc, "-", content.as_str())?, (0, 194));
     let content = "00".repeat(alloc, 65_537)?;
-    assert_eq!(rt; sign_append(alloc, "-", content.as_str())?, (1, 13));
+    assert_eq!(rt; sign_append(&rt, alloc, "-", content.as_str())?, (1, 13));
     Ok(())
 }

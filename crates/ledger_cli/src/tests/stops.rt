@@ -156,11 +156,17 @@ fn end_at(alloc: Global, plain: &mut Plain, size: usize, said: usize) -> Result<
 }
 
 /// Runs the script on a new ledger, one of whose disks stops after so many calls.
-fn stop(alloc: Global, history: &History, of_a: u64, of_b: u64) -> Result<Left, NoMemory> {
+fn stop<R: Threads>(
+    rt: &R,
+    alloc: Global,
+    history: &History,
+    of_a: u64,
+    of_b: u64,
+) -> Result<Left, NoMemory> {
     let mut a = FuseDisk::new(MemDisk::new(alloc, FILE_ROOM, Vec::new(alloc))?, of_a);
     let mut b = FuseDisk::new(MemDisk::new(alloc, FILE_ROOM, Vec::new(alloc))?, of_b);
     let script = history.script.as_slice();
-    let (status, written) = run_on(alloc, &DEMO, script, NO_FAULTS, &mut a, &mut b)?;
+    let (status, written) = run_on(rt, alloc, &DEMO, script, NO_FAULTS, &mut a, &mut b)?;
     Ok(Left {
         status,
         written,
@@ -202,43 +208,52 @@ fn is_unreceipted(alloc: Global, left: &Left, jsn: usize) -> Result<bool, NoMemo
 }
 
 /// Where the ledger in this image of both files ends, as a line that asks for its head tells.
-fn end_found<'a>(
+fn end_found<'a, R: Threads>(
+    rt: &R,
     alloc: Global,
     history: &'a History,
     left: &Left,
     image: (Pick, Pick),
 ) -> Result<Option<&'a End>, NoMemory> {
-    let (status, written) = run_image(alloc, &RUN, b"0 head\n", left, image)?;
+    let (status, written) = run_image(rt, alloc, &RUN, b"0 head\n", left, image)?;
     let found = history.ends.iter().find(|end| end.head == written);
     Ok(found.filter(|end| status == if end.size == 0 { 8 } else { 0 }))
 }
 
 /// The size of the ledger in this image of both files, where each journal of which a receipt was
 /// written is in it, and what goes on from there is answered by the plain ledger's replies.
-fn size_kept(
+fn size_kept<R: Threads>(
+    rt: &R,
     alloc: Global,
     history: &History,
     left: &Left,
     image: (Pick, Pick),
 ) -> Result<Option<usize>, NoMemory> {
-    let Some(end) = end_found(alloc, history, left, image)? else {
+    let Some(end) = end_found(rt, alloc, history, left, image)? else {
         return Ok(None);
     };
-    let goes_on = goes_on(alloc, end, left, image)?;
+    let goes_on = goes_on(rt, alloc, end, left, image)?;
     let is_kept = is_unreceipted(alloc, left, end.size.max(1))?;
     Ok(Some(end.size).filter(|_| goes_on && is_kept))
 }
 
 /// Whether what is asked from this end on is answered on this image of both files as the plain
 /// ledger answers it.
-fn goes_on(alloc: Global, end: &End, left: &Left, image: (Pick, Pick)) -> Result<bool, NoMemory> {
+fn goes_on<R: Threads>(
+    rt: &R,
+    alloc: Global,
+    end: &End,
+    left: &Left,
+    image: (Pick, Pick),
+) -> Result<bool, NoMemory> {
     let words: &[&str] = if end.size == 0 { &DEMO } else { &RUN };
-    let (status, written) = run_image(alloc, words, end.script.as_slice(), left, image)?;
+    let (status, written) = run_image(rt, alloc, words, end.script.as_slice(), left, image)?;
     Ok(status == 0 && written == end.replies)
 }
 
 /// The status of a run on this image of both files, and what it wrote.
-fn run_image(
+fn run_image<R: Threads>(
+    rt: &R,
     alloc: Global,
     words: &[&str],
     script: &[u8],
@@ -247,13 +262,13 @@ fn run_image(
 ) -> Result<(u8, Vec<u8>), NoMemory> {
     let mut a = left.a.crash(image.0)?;
     let mut b = left.b.crash(image.1)?;
-    run_on(alloc, words, script, NO_FAULTS, &mut a, &mut b)
+    run_on(rt, alloc, words, script, NO_FAULTS, &mut a, &mut b)
 }
 
 /// Stops one of the disks after each number of calls, and looks at what is left: how often the run
 /// met the stop, and the sizes of the ledgers that were found.
-fn sizes_kept(
-    rt: &impl Abort,
+fn sizes_kept<R: Abort + Threads>(
+    rt: &R,
     alloc: Global,
     history: &History,
     stops_a: bool,
@@ -265,10 +280,10 @@ fn sizes_kept(
         } else {
             (NEVER, calls)
         };
-        let left = stop(alloc, history, of_a, of_b)?;
+        let left = stop(rt, alloc, history, of_a, of_b)?;
         assert!(rt; is_answered(history, &left), "at {of_a} {of_b}");
         for image in IMAGES {
-            let size = size_kept(alloc, history, &left, image)?;
+            let size = size_kept(rt, alloc, history, &left, image)?;
             let Some(size) = size else {
                 panic!(rt; "at {of_a} {of_b} {image:?}");
             };

@@ -1,42 +1,82 @@
-use Rattle.std.proofs.Common.{sym, ◌∙◌, ap, subst, ◌≡◌, ◌+◌, ◌++◌, List, map, inl, inr}
+use Rattle.std.proofs.Common.{sym, ◌∙◌, ap, subst, ◌+◌, ◌++◌, ℕ, List, arith, inl, inr}
 use Rattle.block_file.specs.Place.{place_of}
 use Rattle.block_file.specs.declared.block.BlockAt.{BlockAt}
-use Rattle.block_file.specs.declared.block.RecordAt.{RecordAt}
+use Rattle.ledger_open.specs.Ahead.{blocks_in, number_behind, IsAhead, IsStop}
 use Rattle.ledger_open.specs.Opening.{IsReadErr, known_from}
-use Rattle.ledger_open.specs.Places.{place_of_record}
-use Rattle.ledger_open.proofs.FirstLaws.{layout_read, some_of}
-use Rattle.ledger_open.proofs.MoreLaws.{first_below, more_err, more_here, more_bad, more_read, read_of}
+use Rattle.ledger_open.proofs.AheadLaws.{ahead_both, next_blocks, number_below, place_grows}
 use Rattle.ledger_open.proofs.reading.read_more.Goals as goal
 
-pub next_block-requires-clause-number : goal.next_block-requires-clause-number
-next_block-requires-clause-number g c = first_below g.D.Disk.tells (g.D.Disk.state c.args.disk.now).seen (known_from c.args.book.now c.args.places.now.list (place_of c.args.file.now)) c.head-head.result c.requires.known c.head-head.ensures
+pub overflow_add-first : goal.overflow_add-first
+overflow_add-first g c =
+    let tells = g.D.Disk.tells in
+    let file = (g.D.Disk.state c.args.disk.now).seen in
+    let n = c.requires.ahead in
+    let k = known_from c.args.read.now.book c.args.read.now.places.list n.at in
+    let bs = blocks_in c.args.ahead.now.blocks.items in
+    let stop = c.args.ahead.now.stop in
+    omega (arith, number_below tells file k c.head.result c.args.ahead.now.count bs stop c.head.ensures n.count_is c.requires.full n.are)
 
-pub returns-in-Err-clause-err : goal.returns-in-Err-clause-err
-returns-in-Err-clause-err g c told plain =
-    subst (IsReadErr (g.D.Disk.state c.args.disk.now).seen) (sym c.from.ensures)
-    (more_err g.D.Disk.tells (g.D.Disk.state c.args.disk.now).seen (known_from c.args.book.now c.args.places.now.list (place_of c.args.file.now)) c.head-head.result c.in-Err.e c.requires.known c.head-head.ensures told plain (c.in-Err.ensures.answer told))
+pub read_ahead-requires-clause-number : goal.read_ahead-requires-clause-number
+read_ahead-requires-clause-number g c =
+    let tells = g.D.Disk.tells in
+    let file = (g.D.Disk.state c.args.disk.now).seen in
+    let n = c.requires.ahead in
+    let k = known_from c.args.read.now.book c.args.read.now.places.list n.at in
+    let bs = blocks_in c.args.ahead.now.blocks.items in
+    let stop = c.args.ahead.now.stop in
+    number_below tells file k c.head.result c.args.ahead.now.count bs stop c.head.ensures n.count_is c.requires.full n.are
 
-pub take_block-requires-clause-number : goal.take_block-requires-clause-number
-take_block-requires-clause-number g c = first_below g.D.Disk.tells (g.D.Disk.state c.args.disk.now).seen (known_from c.args.book.now c.args.places.now.list (place_of c.args.file.now)) c.head-head.result c.requires.known c.head-head.ensures
+pub take_beside-requires-clause-ahead : goal.take_beside-requires-clause-ahead
+take_beside-requires-clause-ahead g c =
+    let tells = g.D.Disk.tells in
+    let file = (g.D.Disk.state c.args.disk.now).seen in
+    let n = c.requires.ahead in
+    let k = known_from c.args.read.now.book c.args.read.now.places.list n.at in
+    let bs = blocks_in c.args.ahead.now.blocks.items in
+    let stop = c.args.ahead.now.stop in
+    let cs = blocks_in c.in-Ok.next.blocks.items in
+    let place = place_of c.args.file.now in
+    let end = subst (λ (p : ℕ). IsStop tells file p (number_behind (c.head.result.size + c.args.ahead.now.count) cs) c.in-Ok.next.stop) c.in-Ok.ensures.place c.in-Ok.ensures.stop in
+    let a = ahead_both tells file k c.head.result c.args.ahead.now.count place bs cs stop c.in-Ok.next.stop c.head.ensures n.count_is n.place_is n.are c.in-Ok.ensures.read end in
+    let b = subst (λ (l : List BlockAt). IsAhead tells file k (l ++ cs) c.in-Ok.next.stop) (ap blocks_in (sym c.as_slice.ensures.value)) a in
+    (tells, file, n.at, cs, c.in-Ok.next.stop, b)
 
-pub take_block-requires-clause-layout : goal.take_block-requires-clause-layout
-take_block-requires-clause-layout g c =
-    let r = read_of c.in-Ok-Some.field-0 c.in-Ok-Some.block (place_of c.args.file.now) c.head-head.result.size c.in-Ok-Some.field-0-is c.in-Ok-Some.ensures.read in
-    layout_read (place_of c.args.file.now) r.0 c.in-Ok-Some.block r.1.readable r.2
+pub returns-in-Ok-take_beside-clause-ok : goal.returns-in-Ok-take_beside-clause-ok
+returns-in-Ok-take_beside-clause-ok g c =
+    let tells = g.D.Disk.tells in
+    let file = (g.D.Disk.state c.args.disk.now).seen in
+    let n = c.requires.ahead in
+    let k = known_from c.args.read.now.book c.args.read.now.places.list n.at in
+    let bs = blocks_in c.args.ahead.now.blocks.items in
+    let stop = c.args.ahead.now.stop in
+    let cs = blocks_in c.in-Ok.next.blocks.items in
+    let place = place_of c.args.file.now in
+    let end = subst (λ (p : ℕ). IsStop tells file p (number_behind (c.head.result.size + c.args.ahead.now.count) cs) c.in-Ok.next.stop) c.in-Ok.ensures.place c.in-Ok.ensures.stop in
+    let a = ahead_both tells file k c.head.result c.args.ahead.now.count place bs cs stop c.in-Ok.next.stop c.head.ensures n.count_is n.place_is n.are c.in-Ok.ensures.read end in
+    let b = subst (λ (l : List BlockAt). IsAhead tells file k (l ++ cs) c.in-Ok.next.stop) (ap blocks_in (sym c.as_slice.ensures.value)) a in
+    let o = c.in-Ok-take_beside.ensures in
+    next_blocks tells file c.take_beside.new.book c.take_beside.new.places.list n.at place (place_of c.read_ahead.new.file) bs (blocks_in c.as_slice.result.now) c.in-Ok.next c.take_beside.new.next
+    (ap blocks_in c.as_slice.ensures.value) n.place_is c.in-Ok.ensures.place c.in-Ok.ensures.count o.blocks o.count o.stop o.hashed (o.ok.goes tells file n.at cs c.in-Ok.next.stop b)
 
-pub returns-in-Err-take_block-clause-err : goal.returns-in-Err-take_block-clause-err
-returns-in-Err-take_block-clause-err g c told plain = elim c.in-Err-take_block.ensures.err [
-  | inl none ↦ subst (IsReadErr (g.D.Disk.state c.args.disk.now).seen) (sym none) tt
-  | inr why ↦ subst (IsReadErr (g.D.Disk.state c.args.disk.now).seen) (sym why.1)
-      (more_bad g.D.Disk.tells (g.D.Disk.state c.args.disk.now).seen (known_from c.args.book.now c.args.places.now.list (place_of c.args.file.now)) c.head-head.result c.in-Ok-Some.block why.0 c.requires.known c.head-head.ensures told plain
-      (more_here (g.D.Disk.state c.args.disk.now).seen (place_of c.args.file.now) c.head-head.result.size c.in-Ok-Some.field-0 c.in-Ok-Some.block c.in-Ok-Some.field-0-is (c.in-Ok-Some.ensures.answer told)) why.2)
-]
+pub returns-in-Ok-take_beside-clause-nearer : goal.returns-in-Ok-take_beside-clause-nearer
+returns-in-Ok-take_beside-clause-nearer g c =
+    let grows = place_grows (place_of c.args.file.now) (place_of c.read_ahead.new.file) c.in-Ok.next.blocks.items c.in-Ok.ensures.place in
+    (λ full. omega (arith, grows, c.in-Ok.ensures.some (sym c.in-Ok-take_beside.ensures.stop ∙ full)), omega (arith, grows))
 
-pub returns-in-Ok-clause-ok : goal.returns-in-Ok-clause-ok
-returns-in-Ok-clause-ok g c =
-    more_read (known_from c.args.book.now c.args.places.now.list (place_of c.args.file.now)) c.in-Ok-Some.block c.take_block.new.book c.add.new.self.list (place_of c.next_block.new.self) c.head-head.result.size
-    (c.in-Ok.ensures.ok ∙ ap (λ (l : List RecordAt). c.args.places.now.list ++ map place_of_record l) c.as_slice.ensures)
-    (some_of (λ (b : BlockAt). place_of c.next_block.new.self ≡ place_of c.args.file.now + 1 + b.len) c.in-Ok-Some.field-0 c.in-Ok-Some.block c.in-Ok-Some.field-0-is c.in-Ok-Some.ensures.place)
-    c.in_default.ensures.ok g.D.Disk.tells (g.D.Disk.state c.args.disk.now).seen c.requires.known
-    (read_of c.in-Ok-Some.field-0 c.in-Ok-Some.block (place_of c.args.file.now) c.head-head.result.size c.in-Ok-Some.field-0-is c.in-Ok-Some.ensures.read)
-    (λ told. more_here (g.D.Disk.state c.args.disk.now).seen (place_of c.args.file.now) c.head-head.result.size c.in-Ok-Some.field-0 c.in-Ok-Some.block c.in-Ok-Some.field-0-is (c.in-Ok-Some.ensures.answer told))
+pub returns-in-Err-take_beside-clause-err : goal.returns-in-Err-take_beside-clause-err
+returns-in-Err-take_beside-clause-err g c told plain =
+    let tells = g.D.Disk.tells in
+    let file = (g.D.Disk.state c.args.disk.now).seen in
+    let n = c.requires.ahead in
+    let k = known_from c.args.read.now.book c.args.read.now.places.list n.at in
+    let bs = blocks_in c.args.ahead.now.blocks.items in
+    let stop = c.args.ahead.now.stop in
+    let cs = blocks_in c.in-Ok.next.blocks.items in
+    let place = place_of c.args.file.now in
+    let end = subst (λ (p : ℕ). IsStop tells file p (number_behind (c.head.result.size + c.args.ahead.now.count) cs) c.in-Ok.next.stop) c.in-Ok.ensures.place c.in-Ok.ensures.stop in
+    let a = ahead_both tells file k c.head.result c.args.ahead.now.count place bs cs stop c.in-Ok.next.stop c.head.ensures n.count_is n.place_is n.are c.in-Ok.ensures.read end in
+    let b = subst (λ (l : List BlockAt). IsAhead tells file k (l ++ cs) c.in-Ok.next.stop) (ap blocks_in (sym c.as_slice.ensures.value)) a in
+    elim c.in-Err-take_beside.ensures.err [
+      | inl none ↦ subst (IsReadErr file) (sym none) tt
+      | inr why ↦ subst (IsReadErr file) (sym why.1) (why.2.bad tells file n.at cs c.in-Ok.next.stop b told plain)
+    ]
