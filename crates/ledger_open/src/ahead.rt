@@ -14,8 +14,8 @@ use ledger_disk::Disk;
 use merkle_tree::leaf_of;
 use std::alloc::Global;
 
-// How many blocks are read ahead at a time.
-const BLOCKS: usize = 64;
+// How many blocks are read ahead at a time: so many that a thread beside works for some milliseconds.
+const BLOCKS: usize = 256;
 
 /// A block that was read, with room for the leaf digests of its journals.
 #[derive(Debug, Drop)]

@@ -161,7 +161,7 @@ fn check_base<D: Disk>(alloc: Global, file: &BlockFile, disk: &mut D) -> Result<
 }
 
 /// Reads the open file, which stands at its first block: once, in order, with the bytes of one block and the headers of
-/// a few in memory at a time.
+/// up to 512 in memory at a time.
 pub(crate) fn read_file<R: Threads, D: Disk>(
     rt: &R,
     alloc: Global,

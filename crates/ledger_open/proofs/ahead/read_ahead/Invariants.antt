@@ -23,4 +23,4 @@ invariant-loop-alloc g l =
     }
 
 abbrev pub decreases-loop-alloc : goal.decreases-loop-alloc
-decreases-loop-alloc g l = 64 - length l.blocks.items
+decreases-loop-alloc g l = 256 - length l.blocks.items
