@@ -1,16 +1,13 @@
 #!/usr/bin/env python3
 """Kills `ledgerctl run` with SIGKILL at random moments, and looks whether every receipt that it printed is kept.
 
-    examples/kill_runs.py PROGRAM [TIMES [SEED]]
-
-PROGRAM is ledgerctl. A ledger is made in a folder of its own, which is removed at the end. Then, TIMES times (100), a run is
-given records without end and killed at a random moment; the ledger is opened again, and each journal of which that run
+A ledger is made in a folder of its own, which is removed at the end. Then, TIMES times, a run is given records without
+end and killed, at a random moment after its first receipt; the ledger is opened again, and each journal of which that run
 printed a whole receipt is read back: its header has to have the leaf digest of the receipt. At the end it is looked
 whether the receipts of all runs are still there. Before that it is looked whether a line that asks is answered, and the
 receipts before it are written, while the run waits for its next line. Prints what it saw, and ends with 1 where a receipt
-is lost or no answer comes.
+is lost, no answer comes, or no run printed a receipt.
 """
-import hashlib
 import random
 import shutil
 import subprocess
@@ -19,40 +16,37 @@ import tempfile
 import threading
 import time
 
-OPERATOR = "01" * 32
-REGULATOR = "02" * 32
+from common import WRAPPER, made_ledger, missing, receipts_in, record, words_of
+
+# How long a run may take until its first receipt, in seconds.
+PATIENCE = 60
 
 
 def main():
-    program = sys.argv[1]
-    times = int(sys.argv[2]) if len(sys.argv) > 2 else 100
-    seed = int(sys.argv[3]) if len(sys.argv) > 3 else 1
-    chance = random.Random(seed)
+    parser = words_of(__doc__)
+    parser.add_argument("times", metavar="TIMES", nargs="?", type=int, default=100)
+    parser.add_argument("seed", metavar="SEED", nargs="?", type=int, default=1)
+    words = parser.parse_args()
+    program = words.program or WRAPPER
+    chance = random.Random(words.seed)
     folder = tempfile.mkdtemp(prefix="ledger-")
     try:
-        told = subprocess.run([program, "init", folder, "demo", OPERATOR, REGULATOR], capture_output=True, check=True)
-        line = record(program, told.stdout.split()[1].decode())
+        line = record(program, made_ledger(program, folder))
         answered = answers_at_once(program, folder, line)
         print("a head and the receipt before it", "came" if answered else "didn't come", "while the script went on")
-        receipts, lost, cut = {}, 0, 0
-        for turn in range(times):
-            printed = killed_run(program, folder, line, chance.uniform(0.005, 0.25))
-            cut += not printed.endswith(b"\n")
+        receipts, lost, cut, silent = {}, 0, 0, 0
+        for turn in range(words.times):
+            printed = killed_run(program, folder, line, chance.uniform(0, 0.25))
             new = receipts_in(printed)
+            cut += not printed.endswith(b"\n")
+            silent += not new
             lost += missing(program, folder, new)
             receipts.update(new)
         lost += missing(program, folder, receipts)
-        print(f"{times} runs killed, {cut} within a line; {len(receipts)} receipts, {lost} lost")
-        return 0 if answered and not lost else 1
+        print(f"{words.times} runs killed, {cut} within a line, {silent} without a receipt; {len(receipts)} receipts, {lost} lost")
+        return 0 if answered and receipts and not lost else 1
     finally:
         shutil.rmtree(folder)
-
-
-# A line that appends a record of the operator.
-def record(program, ledger):
-    words = [program, "sign", ledger, OPERATOR, "append", "0", "-", "6869"]
-    proof = subprocess.run(words, capture_output=True, check=True).stdout.split()[1].decode()
-    return f"0 append 0 - 6869 {proof}\n".encode()
 
 
 # Whether the receipt of a record and the head behind it come while the pipe stays open.
@@ -63,28 +57,37 @@ def answers_at_once(program, folder, line):
     replies = []
     reader = threading.Thread(target=lambda: replies.extend(run.stdout.readline() for _ in range(2)))
     reader.start()
-    reader.join(10)
-    came = [reply.split(b" ")[1] for reply in list(replies)]
+    reader.join(PATIENCE)
+    came = [reply.split(b" ")[1:2] for reply in list(replies)]
     run.stdin.close()
     run.wait()
     reader.join()
-    return came == [b"ok", b"head"]
+    return came == [[b"ok"], [b"head"]]
 
 
-# What a run prints that is given this line again and again, and killed after a time.
+# What a run prints that is given this line again and again, and killed some time after its first receipt.
 def killed_run(program, folder, line, seconds):
     run = subprocess.Popen([program, "run", folder], stdin=subprocess.PIPE, stdout=subprocess.PIPE)
-    printed = []
-    reader = threading.Thread(target=lambda: printed.append(run.stdout.read()))
+    printed, begun = [], threading.Event()
+    reader = threading.Thread(target=read_all, args=(run.stdout, printed, begun))
     feeder = threading.Thread(target=feed, args=(run.stdin, line * 64))
     reader.start()
     feeder.start()
+    begun.wait(PATIENCE)
     time.sleep(seconds)
     run.kill()
     run.wait()
     reader.join()
     feeder.join()
-    return printed[0]
+    return b"".join(printed)
+
+
+# Reads all that a run prints, and tells when the first of it has come.
+def read_all(pipe, printed, begun):
+    while piece := pipe.read1():
+        printed.append(piece)
+        begun.set()
+    begun.set()
 
 
 def feed(pipe, lines):
@@ -93,34 +96,6 @@ def feed(pipe, lines):
             pipe.write(lines)
     except OSError:
         pass
-
-
-# The leaf digests of the journals of whole receipts, by their numbers.
-def receipts_in(printed):
-    found = {}
-    for line in printed.split(b"\n")[:-1]:
-        words = line.split(b" ")
-        if words[1] == b"ok":
-            found[int(words[2])] = words[3].decode()
-    return found
-
-
-# How many of these journals aren't there, or have another leaf digest.
-def missing(program, folder, receipts):
-    numbers = sorted(receipts)
-    script = "".join(f"0 get {number}\n" for number in numbers)
-    run = subprocess.run([program, "run", folder], input=script.encode(), capture_output=True, check=True)
-    replies = run.stdout.split(b"\n")[:-1]
-    assert len(replies) == len(numbers), run.stdout[-200:]
-    return sum(leaf_of(reply) != receipts[number] for number, reply in zip(numbers, replies))
-
-
-# The leaf digest of the journal that a reply shows.
-def leaf_of(reply):
-    words = reply.split(b" ")
-    if words[1] != b"whole":
-        return None
-    return hashlib.sha256(b"\0" + bytes.fromhex(words[2].decode())).hexdigest()
 
 
 if __name__ == "__main__":

@@ -9,7 +9,7 @@ use Rattle.audit_core.specs.Acceptance.{acceptance}
 use Rattle.audit_core.specs.Trust.{Trust, trust_refusal, head_refusal, with_ledger, with_head}
 use Rattle.audit_core.specs.Extending.{extend_refusal}
 use Rattle.audit_core.specs.Truth.{lists_of}
-use Rattle.audit_core.specs.Judgement.{judgement}
+use Rattle.audit_core.specs.Judgement.{Judgement, refused, holds, shows, judgement}
 use Rattle.script_lines.specs.declared.said.Which.TheVariants.{Notary}
 use Rattle.audit_cli.specs.declared.line.Line.{Line}
 use Rattle.audit_cli.specs.declared.line.Line.TheVariants.{TrustLedger, TrustNotary, Extend, Check, Judge}
@@ -33,11 +33,11 @@ abbrev pub verdict : Result (Unit {0}) No → Reply
 verdict (Ok done) = reply.Yes
 verdict (Err why) = reply.No why
 
--- the reply to what is judged: a proof isn't accepted, or else its claim is true, or false and shows two strings
-abbrev pub judge_reply : Result (Option (List ℕ × List ℕ)) No → Reply
-judge_reply (Err why) = reply.Unaccepted why
-judge_reply (Ok None) = reply.True
-judge_reply (Ok (Some pair)) = reply.Clash pair.0 pair.1
+-- the reply to what is judged: a proof isn't accepted, or else its claim is true, or false and two strings are shown
+abbrev pub judge_reply : Judgement → Reply
+judge_reply (refused why) = reply.Unaccepted why
+judge_reply holds = reply.True
+judge_reply (shows pair) = reply.Clash pair.0 pair.1
 
 -- the reply to a line that was read, where this is trusted
 abbrev pub reply_to : Hash → Trust → Result Line Refusal → Reply

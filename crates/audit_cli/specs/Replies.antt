@@ -1,5 +1,6 @@
 -- The text of each reply.
-use Rattle.std.specs.Prelude.{ℕ, List, [], ◌∷◌, ◌++◌, codes, decimal}
+use Rattle.std.specs.Prelude.{◌≡◌, ℕ, List, [], ◌∷◌, ◌++◌, codes, decimal}
+use Rattle.ledger_io.specs.Lines.{IsUnbroken}
 use Rattle.script_lines.specs.Replies.{refusal_words}
 use Rattle.script_lines.specs.Words.{hex_of, hex_or_dash, spaced_words}
 use Rattle.audit_core.specs.declared.refusal.No.{No}
@@ -34,3 +35,9 @@ reply_words (reply.Refused refusal) = codes "no" ∷ refusal_words refusal
 -- the text that answers the line with this number
 abbrev pub reply_text : ℕ → Reply → List ℕ
 reply_text number reply = decimal number ++ spaced_words (reply_words reply) ++ codes "\n"
+
+-- a text is one line: it ends with a newline, and has no other
+pub record IsOneLine (text : List ℕ) : Type 0 where
+  pub front : List ℕ
+  pub is : text ≡ front ++ codes "\n"
+  pub unbroken : IsUnbroken front

@@ -1,6 +1,6 @@
 ghost use Rattle.std.specs.Prelude.{◌≡◌, Ok, IfOk, OnOk};
 ghost use Rattle.audit_core.specs.Acceptance.{acceptance};
-ghost use Rattle.audit_core.specs.Judgement.{said_by};
+ghost use Rattle.audit_core.specs.Judgement.{told_by};
 ghost use Rattle.audit_cli.specs.Grammar.{IsFit};
 ghost use Rattle.audit_cli.specs.Answers.{verdict, judge_reply, RepliesTo, reply_to, trust_behind};
 ghost use Rattle.audit_cli.specs.Answers.{answer_to, trust_after};
@@ -80,7 +80,7 @@ fn check<H: TreeHash>(heads: &Heads, claim: &Claim, proof: &[u8]) -> Reply
 
 /// The reply that tells a verdict. It has its own copies of the strings of a clash.
 fn reply_for(alloc: Global, verdict: Verdict) -> Result<Reply, NoMemory>
-    ensures { IfOk result (λ reply. reply ≡ judge_reply (said_by verdict)) }
+    ensures { IfOk result (λ reply. reply ≡ judge_reply (told_by verdict)) }
 {
     match verdict {
         Verdict::Unaccepted(why) => Ok(Reply::Unaccepted(why)),

@@ -3,18 +3,20 @@ ghost use Rattle.ledger_bytes.specs.declared.digest.Digest.{Digest as DigestReco
 ghost use Rattle.merkle_tree.specs.declared.head.Head.{Head as HeadRecord};
 ghost use Rattle.proof_codec.specs.declared.claim.Claim.{Claim as ClaimRecord};
 ghost use Rattle.script_lines.specs.declared.said.Which.{Which as Tree};
+ghost use Rattle.ledger_io.specs.Lines.{lines_of};
 ghost use Rattle.tree_model.specs.Tree.{Hash, mth};
 ghost use Rattle.tree_model.specs.Clash.{Clashes};
-ghost use Rattle.audit_core.specs.Trust.{root_of};
-ghost use Rattle.audit_core.specs.Truth.{Lists, IsTrueOf};
-ghost use Rattle.audit_core.specs.Judgement.{IsUnderHead, clash_of};
+ghost use Rattle.audit_core.specs.Trust.{Trust, root_of};
+ghost use Rattle.audit_core.specs.Truth.{Lists, lists_of, HasJournal, IsTrueOf};
+ghost use Rattle.audit_core.specs.Judgement.{IsAcceptedByOwn, IsUnderHead, leaf_clash, clash_of};
 ghost use Rattle.audit_core.specs.Chains.{BeginsWith, extension_clash};
-ghost use Rattle.audit_cli.specs.declared.line.Line.TheVariants.{Extend, Check};
+ghost use Rattle.audit_cli.specs.declared.line.Line.TheVariants.{Extend, Check, Judge};
 ghost use Rattle.audit_cli.specs.declared.reply.Reply.{Reply as ReplyRecord};
-ghost use Rattle.audit_cli.specs.declared.reply.Reply.TheVariants.{Yes};
+ghost use Rattle.audit_cli.specs.declared.reply.Reply.TheVariants.{Yes, True, Clash};
 ghost use Rattle.audit_cli.specs.Grammar.{line_of};
-ghost use Rattle.audit_cli.specs.Replies.{reply_text};
-ghost use Rattle.audit_cli.specs.Texts.{audit_text, text_from, trusted_behind, reply_behind};
+ghost use Rattle.audit_cli.specs.Replies.{reply_text, IsOneLine};
+ghost use Rattle.audit_cli.specs.Answers.{answer_to};
+ghost use Rattle.audit_cli.specs.Texts.{audit_text, text_from, trusted_behind, reply_behind, next_text};
 
 /// The text of a script tells the reply to each line in its place: behind the text of the lines in front of it, with its
 /// number, judged under what those lines made trusted. It reads `yes` there exactly where the reply is yes.
@@ -27,16 +29,52 @@ pub fn replies_stand_in_place()
         → (reply_text number reply ≡ reply_text number Yes) ↔ (reply ≡ Yes) }
 {}
 
-/// Where a line of a script asks to check a proof of a claim without bounds, and the reply is yes, the claim is true of
-/// each list of headers under the trusted head that the proof names, or the proof and the list show two different
-/// strings with one digest. This holds for every hash whose digests have 32 bytes, whatever the lines in front are.
+/// Each reply is one line: it has one newline, at its end, whatever is trusted and however long the line is. So the text
+/// of a script has as many lines as the script.
+pub fn replies_are_lines()
+    ensures reply { (hash : Hash) (trust : Trust) (number : ℕ) (line : List ℕ)
+        → IsOneLine (reply_text number (answer_to hash trust line)) }
+    ensures text { (hash : Hash) (lines : List (List ℕ))
+        → length (lines_of (audit_text hash lines)) ≡ length lines }
+{}
+
+/// Where a line of a script asks to check a proof of a claim, and the reply is yes, each list of headers under the trusted
+/// head that the proof names has the claim's journal, or the proof and the list show two different strings with one
+/// digest. This holds for every hash whose digests have 32 bytes, whatever the lines in front are.
 pub fn checked_claims_are_true()
-    ensures { (hash : Hash) (lines : List (List ℕ)) (line : List ℕ) (claim : ClaimRecord)
+    // With bounds or without: that a bound is true isn't said.
+    ensures journal { (hash : Hash) (lines : List (List ℕ)) (line : List ℕ) (claim : ClaimRecord)
+        (bytes : List ℕ) (lists : Lists) → ((message : List ℕ) → length (hash message) ≡ 32)
+        → line_of line ≡ Ok (Check claim bytes) → reply_behind hash lines line ≡ Yes
+        → (under : IsUnderHead hash (trusted_behind hash lines) bytes lists.headers)
+        → HasJournal hash lists claim.n claim.leaf
+        ⊎ Clashes hash (leaf_clash hash lists under.proof) }
+    // Without bounds the whole claim is true.
+    ensures unbounded { (hash : Hash) (lines : List (List ℕ)) (line : List ℕ) (claim : ClaimRecord)
         (bytes : List ℕ) (lists : Lists) → ((message : List ℕ) → length (hash message) ≡ 32)
         → line_of line ≡ Ok (Check claim bytes) → reply_behind hash lines line ≡ Yes
         → claim.lo ≡ None → claim.hi ≡ None
         → IsUnderHead hash (trusted_behind hash lines) bytes lists.headers
         → IsTrueOf hash lists claim ⊎ Clashes hash (clash_of hash lists bytes) }
+{}
+
+/// Where a line of a script asks to judge a proof of a claim by whole lists, the text of its reply reads `true` exactly
+/// where the proof is accepted under the lists' own heads and the claim is true of the lists, and `clash` with two strings
+/// exactly where it is accepted and the claim is false of them, whatever the lines in front are.
+pub fn judged_claims_are_told()
+    ensures holds { (hash : Hash) (lines : List (List ℕ)) (line : List ℕ) (id : DigestRecord)
+        (headers entries : List ℕ) (claim : ClaimRecord) (bytes : List ℕ)
+        → line_of line ≡ Ok (Judge id headers entries claim bytes)
+        → (next_text hash lines line ≡ reply_text (length lines + 1) True)
+        ↔ (IsAcceptedByOwn hash (lists_of id headers entries) bytes claim
+        × IsTrueOf hash (lists_of id headers entries) claim) }
+    ensures fails { (hash : Hash) (lines : List (List ℕ)) (line : List ℕ) (id : DigestRecord)
+        (headers entries : List ℕ) (claim : ClaimRecord) (bytes : List ℕ)
+        → line_of line ≡ Ok (Judge id headers entries claim bytes)
+        → ((told : List ℕ) × (truth : List ℕ)
+        × (next_text hash lines line ≡ reply_text (length lines + 1) (Clash told truth)))
+        ↔ (IsAcceptedByOwn hash (lists_of id headers entries) bytes claim
+        × (IsTrueOf hash (lists_of id headers entries) claim → ⊥)) }
 {}
 
 /// Where a line of a script asks to extend the trusted head of `m` items, and the reply is yes, there is such a head, and

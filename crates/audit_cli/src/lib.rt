@@ -10,7 +10,10 @@ mod session;
 mod top;
 mod words;
 
-pub use laws::{checked_claims_are_true, extended_heads_go_on, replies_stand_in_place};
+pub use laws::{
+    checked_claims_are_true, extended_heads_go_on, judged_claims_are_told, replies_are_lines,
+    replies_stand_in_place,
+};
 pub use top::{audit_run, audit_top};
 
 #[cfg(test)]

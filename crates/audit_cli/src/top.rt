@@ -1,6 +1,7 @@
 ghost use Rattle.std.specs.Prelude.{◌≡◌, ◌≢◌, ◌↔◌, Some, None, map, string_bytes};
 ghost use Rattle.sha2.specs.Sha256.{sha256};
-ghost use Rattle.ledger_io.specs.Outside.{outside, count_after, MeetsNone, MeetsOne};
+ghost use Rattle.ledger_bytes.specs.Causes.{count_after};
+ghost use Rattle.ledger_io.specs.Outside.{outside, MeetsNone, MeetsOne};
 ghost use Rattle.audit_cli.specs.Runs.{RanProgram};
 ghost use Rattle.audit_cli.specs.Words.{command_of};
 

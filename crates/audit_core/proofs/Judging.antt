@@ -1,5 +1,5 @@
 -- A proof that is accepted under the lists' own heads is of a claim that is true of them, or it clashes with them.
-use Rattle.std.proofs.Common.{◌≡◌, ◌≢◌, inl, inr, ℕ, ◌<◌, ltb, true, false, List, [], length, map, get_or, Option, Some, None, Result, Ok, Err, refl, sym, ap, ◌∙◌, subst, arith}
+use Rattle.std.proofs.Common.{◌≡◌, ◌≢◌, inl, inr, ℕ, ◌<◌, ltb, Bool, true, false, List, [], length, map, get_or, Option, Some, None, Result, Ok, Err, refl, sym, ap, ◌∙◌, subst, arith}
 use Rattle.std.specs.Prelude.{is_some, IsOk, option_map}
 use Rattle.std.specs.Str.{bytes_eq}
 use Rattle.std.proofs.lemmas.Bool.{cases_Bool, and_from, and_parts, ltb-true, lt-ltb, cases_eq, eq-eqb, ne_eqb, false≢true}
@@ -23,7 +23,7 @@ use Rattle.audit_core.specs.declared.verdict.Verdict.{Verdict}
 use Rattle.audit_core.specs.declared.verdict.Verdict.TheVariants.{Unaccepted, True, Clash as Clashing}
 use Rattle.audit_core.specs.Acceptance.{place_of, acceptance_of, acceptance_under, acceptance_by}
 use Rattle.audit_core.specs.Truth.{Lists, HasJournal, IsTrueOf}
-use Rattle.audit_core.specs.Judgement.{has_journal, said_by, judgement, own_root, own_ledger, own_notary, own_acceptance, IsAcceptedByOwn, clash_of, Judges, JudgesShown}
+use Rattle.audit_core.specs.Judgement.{Judgement, refused, holds, shows, shows_found, has_journal, judgement_by, judgement, told_by, own_root, own_ledger, own_notary, own_acceptance, IsAcceptedByOwn, clash_of, Judges, JudgesShown}
 use Rattle.audit_core.proofs.Accepting.{is_yes, under_leads, yes_found, yes_only}
 
 -- ---- a list's own root
@@ -119,43 +119,43 @@ module _ (hash : Hash) (lists : Lists) (bytes : List ℕ) (claim : Claim) (fits 
     accepted_is : ByOwn hash lists claim p → IsAcceptedByOwn hash lists bytes claim
     accepted_is accepted = yes_found hash bytes claim (own_ledger hash lists) (own_notary hash lists) (Ok tt) fits (sym accepted ∙ answer_is) refl
 
-    pub judged : (v : Verdict) → JudgesShown hash lists claim p v → Judges hash lists bytes claim v
+    pub judged : (j : Judgement) → JudgesShown hash lists claim p j → Judges hash lists bytes claim j
     unfolding clash_of
-    judged (Unaccepted why) it = sym answer_is ∙ it
-    judged True it =
+    judged (refused why) it = sym answer_is ∙ it
+    judged holds it =
         let claimed : claim_of p ≡ claim = (shown_leads hash lists claim p it.0).1 in
         let journal : HasJournal hash lists claim.n claim.leaf = subst (λ (c : Claim). HasJournal hash lists c.n c.leaf) claimed it.1 in
         (accepted_is it.0, unbounded_true hash lists claim lower upper journal)
-    judged (Clashing clash) it =
+    judged (shows pair) it =
         let claimed : claim_of p ≡ claim = (shown_leads hash lists claim p it.0).1 in
-        (accepted_is it.0, λ holds. it.1 (subst (λ (c : Claim). HasJournal hash lists c.n c.leaf) (sym claimed) holds.journal), rw (← read) it.2)
+        (accepted_is it.0, λ is_true. it.1 (subst (λ (c : Claim). HasJournal hash lists c.n c.leaf) (sym claimed) is_true.journal), rw (← read) it.2)
 
 -- ---- verdicts
 
 module _ (hash : Hash) (lists : Lists) (bytes : List ℕ) (claim : Claim) where
   -- what is refused isn't accepted
   refused_never : (why : No) → own_acceptance hash lists bytes claim ≡ Err why → IsAcceptedByOwn hash lists bytes claim → ⊥
-  refused_never why refused it =
+  refused_never why unaccepted it =
       let ok : IsOk (own_acceptance hash lists bytes claim) = yes_only hash bytes claim (own_ledger hash lists) (own_notary hash lists) (own_acceptance hash lists bytes claim) refl it in
       let answer : Result (Unit {0}) No = Err why in
-      let never : IsOk answer = subst IsOk refused ok in
+      let never : IsOk answer = subst IsOk unaccepted ok in
       absurd cc
 
-  pub verdict_refused : (v : Verdict) (why : No) → Judges hash lists bytes claim v → own_acceptance hash lists bytes claim ≡ Err why → v ≡ Unaccepted why
-  verdict_refused (Unaccepted other) why it refused =
+  pub verdict_refused : (v : Verdict) (why : No) → Judges hash lists bytes claim (told_by v) → own_acceptance hash lists bytes claim ≡ Err why → v ≡ Unaccepted why
+  verdict_refused (Unaccepted other) why it unaccepted =
       let told : Result (Unit {0}) No = Err other in
-      let both : told ≡ Err why = sym it ∙ refused in
+      let both : told ≡ Err why = sym it ∙ unaccepted in
       let same : other ≡ why = cc in
       ap Unaccepted same
-  verdict_refused True why it refused = absurd (refused_never why refused it.0)
-  verdict_refused (Clashing clash) why it refused = absurd (refused_never why refused it.0)
+  verdict_refused True why it unaccepted = absurd (refused_never why unaccepted it.0)
+  verdict_refused (Clashing clash) why it unaccepted = absurd (refused_never why unaccepted it.0)
 
-  pub verdict_true : (v : Verdict) → Judges hash lists bytes claim v → IsAcceptedByOwn hash lists bytes claim → IsTrueOf hash lists claim → v ≡ True
-  verdict_true (Unaccepted why) it accepted holds = absurd (refused_never why it accepted)
-  verdict_true True it accepted holds = refl
-  verdict_true (Clashing clash) it accepted holds = absurd (it.1 holds)
+  pub verdict_true : (v : Verdict) → Judges hash lists bytes claim (told_by v) → IsAcceptedByOwn hash lists bytes claim → IsTrueOf hash lists claim → v ≡ True
+  verdict_true (Unaccepted why) it accepted is_true = absurd (refused_never why it accepted)
+  verdict_true True it accepted is_true = refl
+  verdict_true (Clashing clash) it accepted is_true = absurd (it.1 is_true)
 
-  pub verdict_clash : (v : Verdict) → Judges hash lists bytes claim v → IsAcceptedByOwn hash lists bytes claim → (IsTrueOf hash lists claim → ⊥) → (clash : Clash) × (v ≡ Clashing clash)
+  pub verdict_clash : (v : Verdict) → Judges hash lists bytes claim (told_by v) → IsAcceptedByOwn hash lists bytes claim → (IsTrueOf hash lists claim → ⊥) → (clash : Clash) × (v ≡ Clashing clash)
   verdict_clash (Unaccepted why) it accepted other = absurd (refused_never why it accepted)
   verdict_clash True it accepted other = absurd (other it.1)
   verdict_clash (Clashing clash) it accepted other = (clash, refl)
@@ -172,13 +172,61 @@ module _ (hash : Hash) (lists : Lists) (n : ℕ) (digest : Digest) where
   has_of it = and_from (ltb n (length lists.headers)) (bytes_eq (leaf hash (get_or lists.headers n [])) digest.0) (lt-ltb _ _ it.within) ((bytes_eq-Decides (leaf hash (get_or lists.headers n [])) digest.0).1 it.leaf_is)
 
 module _ (hash : Hash) (lists : Lists) (bytes : List ℕ) (claim : Claim) (lower : claim.lo ≡ None) (upper : claim.hi ≡ None) where
-  accepted_ok : IsAcceptedByOwn hash lists bytes claim → own_acceptance hash lists bytes claim ≡ Ok tt
+  pub accepted_ok : IsAcceptedByOwn hash lists bytes claim → own_acceptance hash lists bytes claim ≡ Ok tt
   accepted_ok it = is_yes (own_acceptance hash lists bytes claim) (yes_only hash bytes claim (own_ledger hash lists) (own_notary hash lists) (own_acceptance hash lists bytes claim) refl it)
 
-  pub verdict_is : (v : Verdict) → Judges hash lists bytes claim v → said_by v ≡ judgement hash lists bytes claim
-  verdict_is (Unaccepted why) it = rw it refl
-  verdict_is True it = rw (accepted_ok it.0, has_of hash lists claim.n claim.leaf it.1.journal) refl
-  verdict_is (Clashing clash) it = elim (cases_Bool (has_journal hash lists claim.n claim.leaf)) [
+  -- a journal that isn't there is not the claim's truth
+  pub untrue : has_journal hash lists claim.n claim.leaf ≡ false → IsTrueOf hash lists claim → ⊥
+  untrue not it = false≢true (sym not ∙ has_of hash lists claim.n claim.leaf it.journal)
+
+  pub judgement_is : (j : Judgement) → Judges hash lists bytes claim j → j ≡ judgement hash lists bytes claim
+  judgement_is (refused why) it = rw it refl
+  judgement_is holds it = rw (accepted_ok it.0, has_of hash lists claim.n claim.leaf it.1.journal) refl
+  judgement_is (shows pair) it = elim (cases_Bool (has_journal hash lists claim.n claim.leaf)) [
     | inl has ↦ absurd (it.1 (unbounded_true hash lists claim lower upper (has_found hash lists claim.n claim.leaf has)))
     | inr not ↦ rw (accepted_ok it.0, not, it.2.found_is) refl
+  ]
+
+-- ---- judgements
+
+-- what holds is accepted, and its journal is there
+by_holds : (answer : Result (Unit {0}) No) (has : Bool) (found : Option (List ℕ × List ℕ)) → judgement_by answer has found ≡ holds → (answer ≡ Ok tt) × (has ≡ true)
+by_holds (Err why) has found e = absurd cc
+by_holds (Ok done) true found e = (refl, refl)
+by_holds (Ok done) false None e = absurd cc
+by_holds (Ok done) false (Some pair) e = absurd cc
+
+-- what shows strings is accepted, and its journal isn't there
+by_shows : (answer : Result (Unit {0}) No) (has : Bool) (found : Option (List ℕ × List ℕ)) (pair : List ℕ × List ℕ) → judgement_by answer has found ≡ shows pair → (answer ≡ Ok tt) × (has ≡ false)
+by_shows (Err why) has found pair e = absurd cc
+by_shows (Ok done) true found pair e = absurd cc
+by_shows (Ok done) false found pair e = (refl, refl)
+
+found_shown : (found : Option (List ℕ × List ℕ)) → (pair : List ℕ × List ℕ) × (shows_found found ≡ shows pair)
+found_shown None = (([], []), refl)
+found_shown (Some pair) = (pair, refl)
+
+module _ (hash : Hash) (lists : Lists) (bytes : List ℕ) (claim : Claim) (fits : IsBytes bytes) (lower : claim.lo ≡ None) (upper : claim.hi ≡ None) where
+  accepted_own : own_acceptance hash lists bytes claim ≡ Ok tt → IsAcceptedByOwn hash lists bytes claim
+  accepted_own e = yes_found hash bytes claim (own_ledger hash lists) (own_notary hash lists) (own_acceptance hash lists bytes claim) fits refl (subst IsOk (sym e) refl)
+
+  pub holds_means : judgement hash lists bytes claim ≡ holds → IsAcceptedByOwn hash lists bytes claim × IsTrueOf hash lists claim
+  holds_means e =
+      let it = by_holds (own_acceptance hash lists bytes claim) (has_journal hash lists claim.n claim.leaf) (clash_of hash lists bytes) e in
+      (accepted_own it.0, unbounded_true hash lists claim lower upper (has_found hash lists claim.n claim.leaf it.1))
+
+  pub holds_where : IsAcceptedByOwn hash lists bytes claim → IsTrueOf hash lists claim → judgement hash lists bytes claim ≡ holds
+  holds_where accepted is_true = sym (judgement_is hash lists bytes claim lower upper holds (accepted, is_true))
+
+  pub shows_means : (pair : List ℕ × List ℕ) → judgement hash lists bytes claim ≡ shows pair → IsAcceptedByOwn hash lists bytes claim × (IsTrueOf hash lists claim → ⊥)
+  shows_means pair e =
+      let it = by_shows (own_acceptance hash lists bytes claim) (has_journal hash lists claim.n claim.leaf) (clash_of hash lists bytes) pair e in
+      (accepted_own it.0, untrue hash lists bytes claim lower upper it.1)
+
+  pub shows_where : IsAcceptedByOwn hash lists bytes claim → (IsTrueOf hash lists claim → ⊥) → (pair : List ℕ × List ℕ) × (judgement hash lists bytes claim ≡ shows pair)
+  shows_where accepted other = elim (cases_Bool (has_journal hash lists claim.n claim.leaf)) [
+    | inl has ↦ absurd (other (unbounded_true hash lists claim lower upper (has_found hash lists claim.n claim.leaf has)))
+    | inr not ↦
+        let found = found_shown (clash_of hash lists bytes) in
+        (found.0, rw (accepted_ok hash lists bytes claim lower upper accepted, not) found.1)
   ]

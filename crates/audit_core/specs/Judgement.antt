@@ -8,7 +8,6 @@ use Rattle.proof_codec.specs.Proofs.{Shown}
 use Rattle.proof_codec.specs.Reading.{proof_of}
 use Rattle.tree_model.specs.Tree.{Hash, leaf, mth, cut}
 use Rattle.tree_model.specs.Clash.{IsClash, path_clash}
-use Rattle.merkle_tree.specs.declared.clash.Clash.{Clash}
 use Rattle.merkle_tree.specs.Strings.{pair_of}
 use Rattle.audit_core.specs.declared.known.KnownLedger.{KnownLedger}
 use Rattle.audit_core.specs.declared.refusal.No.{No}
@@ -67,50 +66,62 @@ clash_in hash lists (Err bad) = None
 unfoldable pub clash_of : Hash → Lists → List ℕ → Option (List ℕ × List ℕ)
 clash_of hash lists bytes = clash_in hash lists (proof_of bytes)
 
--- the two strings of a clash are these, the proof's first, and have one digest
-pub record IsClashOf (hash : Hash) (found : Option (List ℕ × List ℕ)) (clash : Clash) : Type 0 where
-  pub found_is : found ≡ Some (pair_of clash)
-  pub clashes : IsClash hash (pair_of clash).0 (pair_of clash).1
+-- the two strings that are shown are those that were found, the proof's first, and have one digest
+pub record IsClashOf (hash : Hash) (found : Option (List ℕ × List ℕ)) (shown : List ℕ × List ℕ) : Type 0 where
+  pub found_is : found ≡ Some shown
+  pub clashes : IsClash hash shown.0 shown.1
 
--- ---- verdicts
+-- ---- judgements
+
+-- what a proof of a claim is worth by the whole lists: it isn't accepted, and why; it is, and the claim holds; or it is, the
+-- claim doesn't hold, and these two strings are shown, the proof's first
+pub data Judgement : Type 0 where
+  refused : No → Judgement
+  holds : Judgement
+  shows : List ℕ × List ℕ → Judgement
+
+-- what is judged where the claim doesn't hold: it shows the strings that are found, and two empty ones where there are none
+abbrev pub shows_found : Option (List ℕ × List ℕ) → Judgement
+shows_found None = shows ([], [])
+shows_found (Some pair) = shows pair
 
 -- is it so that the ledger has a journal n, with this digest of its leaf?
 abbrev pub has_journal : Hash → Lists → ℕ → Digest → Bool
 has_journal hash lists n digest = nat_lt n (length lists.headers) && bytes_eq (leaf hash (get_or lists.headers n [])) digest.0
 
--- what is judged by an answer, where the claim is true or else these strings are shown: why it is refused, or the strings
--- if it is accepted and false
-abbrev pub judgement_by : Result (Unit {0}) No → Bool → Option (List ℕ × List ℕ) → Result (Option (List ℕ × List ℕ)) No
-judgement_by (Err why) holds found = Err why
-judgement_by (Ok done) true found = Ok None
-judgement_by (Ok done) false found = Ok found
+-- what is judged by an answer, by whether the claim holds, and by the strings that are found
+abbrev pub judgement_by : Result (Unit {0}) No → Bool → Option (List ℕ × List ℕ) → Judgement
+judgement_by (Err why) has found = refused why
+judgement_by (Ok done) true found = holds
+judgement_by (Ok done) false found = shows_found found
 
 -- how the bytes of a proof of a claim without bounds are judged by the lists
-abbrev pub judgement : Hash → Lists → List ℕ → Claim → Result (Option (List ℕ × List ℕ)) No
+abbrev pub judgement : Hash → Lists → List ℕ → Claim → Judgement
 judgement hash lists bytes claim =
     judgement_by (own_acceptance hash lists bytes claim) (has_journal hash lists claim.n claim.leaf) (clash_of hash lists bytes)
 
--- what a verdict says
-abbrev pub said_by : Verdict → Result (Option (List ℕ × List ℕ)) No
-said_by (verdict.Unaccepted why) = Err why
-said_by verdict.True = Ok None
-said_by (verdict.Clash clash) = Ok (Some (pair_of clash))
+-- the judgement that a verdict tells
+abbrev pub told_by : Verdict → Judgement
+told_by (verdict.Unaccepted why) = refused why
+told_by verdict.True = holds
+told_by (verdict.Clash clash) = shows (pair_of clash)
 
--- a proof of a claim isn't accepted; it is, and the claim is true; or it is and the claim is false, which shows a clash
-abbrev pub Judges : Hash → Lists → List ℕ → Claim → Verdict → Type 0
-Judges hash lists bytes claim (verdict.Unaccepted why) = own_acceptance hash lists bytes claim ≡ Err why
-Judges hash lists bytes claim verdict.True = IsAcceptedByOwn hash lists bytes claim × IsTrueOf hash lists claim
-Judges hash lists bytes claim (verdict.Clash clash) =
+-- what each judgement of a proof's bytes means: the proof isn't accepted; it is, and the claim is true; or it is and the
+-- claim is false, which shows a clash
+abbrev pub Judges : Hash → Lists → List ℕ → Claim → Judgement → Type 0
+Judges hash lists bytes claim (refused why) = own_acceptance hash lists bytes claim ≡ Err why
+Judges hash lists bytes claim holds = IsAcceptedByOwn hash lists bytes claim × IsTrueOf hash lists claim
+Judges hash lists bytes claim (shows pair) =
     IsAcceptedByOwn hash lists bytes claim × (IsTrueOf hash lists claim → ⊥)
-    × IsClashOf hash (clash_of hash lists bytes) clash
+    × IsClashOf hash (clash_of hash lists bytes) pair
 
 -- the same of a proof that was read, by its leaf alone
-abbrev pub JudgesShown : Hash → Lists → Claim → Shown → Verdict → Type 0
-JudgesShown hash lists claim p (verdict.Unaccepted why) =
+abbrev pub JudgesShown : Hash → Lists → Claim → Shown → Judgement → Type 0
+JudgesShown hash lists claim p (refused why) =
     acceptance_under hash claim p (own_ledger hash lists p.size) (own_notary hash lists p.notary_size) ≡ Err why
-JudgesShown hash lists claim p verdict.True =
+JudgesShown hash lists claim p holds =
     (acceptance_under hash claim p (own_ledger hash lists p.size) (own_notary hash lists p.notary_size) ≡ Ok tt)
     × HasJournal hash lists p.n p.leaf
-JudgesShown hash lists claim p (verdict.Clash clash) =
+JudgesShown hash lists claim p (shows pair) =
     (acceptance_under hash claim p (own_ledger hash lists p.size) (own_notary hash lists p.notary_size) ≡ Ok tt)
-    × (HasJournal hash lists p.n p.leaf → ⊥) × IsClashOf hash (leaf_clash hash lists p) clash
+    × (HasJournal hash lists p.n p.leaf → ⊥) × IsClashOf hash (leaf_clash hash lists p) pair

@@ -27,7 +27,8 @@ use script_lines::Which;
 /// It takes no memory, and its cost grows with the bytes and with the logarithm of the number of heads.
 pub fn accept<H: TreeHash>(proof: &[u8], claim: &Claim, heads: &Heads) -> Result<(), No>
     ensures exact { result ≡ acceptance H.of proof.now claim.now heads.now }
-    // Yes comes exactly where the bytes spell a proof of this claim, and its leaf and bounds lead to the trusted roots.
+    // Yes comes exactly where the bytes spell a proof of this very claim, its leaf and bounds lead to the trusted roots with
+    // the journal between the bounds, and their times don't cross.
     ensures yes { IsOk result ↔ IsAccepted H.of proof.now claim.now heads.now }
 {
     answer_of::<H>(proof, claim, heads)

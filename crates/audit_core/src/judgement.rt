@@ -2,9 +2,10 @@ ghost use Rattle.std.specs.Prelude.{◌≡◌, ◌↔◌, ℕ, ◌/◌, ◌%◌,
 ghost use Rattle.std.specs.Str.{bytes_eq};
 ghost use Rattle.tree_model.specs.Tree.{leaf, cut};
 ghost use Rattle.merkle_tree.specs.declared.clash.Clash.{Clash as ClashRecord};
+ghost use Rattle.merkle_tree.specs.Strings.{pair_of};
 ghost use Rattle.audit_core.specs.declared.refusal.No.{No as Refusal};
 ghost use Rattle.audit_core.specs.Truth.{lists_of, IsTrueOf};
-ghost use Rattle.audit_core.specs.Judgement.{own_root, own_ledger, own_acceptance, IsAcceptedByOwn, clash_of, IsClashOf, judgement, said_by, Judges, JudgesShown};
+ghost use Rattle.audit_core.specs.Judgement.{own_root, own_ledger, own_acceptance, IsAcceptedByOwn, clash_of, IsClashOf, judgement, told_by, Judges, JudgesShown};
 
 use crate::acceptance::{accept_under, place_of};
 use crate::known::KnownLedger;
@@ -29,7 +30,7 @@ pub fn judge<H: TreeHash>(
     requires notary { length entries.now % 72 ≡ 0 }
     requires lower { claim.now.lo ≡ None }
     requires upper { claim.now.hi ≡ None }
-    ensures exact { said_by result
+    ensures exact { told_by result
         ≡ judgement H.of (lists_of id.now headers.now entries.now) proof.now claim.now }
     // A proof that isn't accepted is refused, with what `accept` answers under these heads.
     ensures unaccepted { (why : Refusal) → (result ≡ Verdict.Unaccepted why)
@@ -43,7 +44,8 @@ pub fn judge<H: TreeHash>(
         ↔ (IsAcceptedByOwn H.of (lists_of id.now headers.now entries.now) proof.now claim.now
         × (IsTrueOf H.of (lists_of id.now headers.now entries.now) claim.now → ⊥)) }
     ensures strings { (found : ClashRecord) → result ≡ Verdict.Clash found
-        → IsClashOf H.of (clash_of H.of (lists_of id.now headers.now entries.now) proof.now) found }
+        → IsClashOf H.of (clash_of H.of (lists_of id.now headers.now entries.now) proof.now)
+        (pair_of found) }
 {
     verdict_of::<H>(id, headers, entries, proof, claim)
 }
@@ -59,7 +61,8 @@ fn verdict_of<H: TreeHash>(
     requires notary { length entries.now % 72 ≡ 0 }
     requires lower { claim.now.lo ≡ None }
     requires upper { claim.now.hi ≡ None }
-    ensures { Judges H.of (lists_of id.now headers.now entries.now) proof.now claim.now result }
+    ensures { Judges H.of (lists_of id.now headers.now entries.now) proof.now claim.now
+        (told_by result) }
 {
     match Proof::decode(proof) {
         Ok(shown) => judge_shown::<H>(id, headers, entries, &shown, claim),
@@ -78,7 +81,7 @@ fn judge_shown<H: TreeHash>(
     requires ledger { length headers.now % 174 ≡ 0 }
     requires notary { length entries.now % 72 ≡ 0 }
     ensures { JudgesShown H.of
-        (lists_of id.now headers.now entries.now) claim.now shown.now result }
+        (lists_of id.now headers.now entries.now) claim.now shown.now (told_by result) }
 {
     let ledger = ledger_at::<H>(id, headers, shown.size);
     let notary = root_at::<H>(entries, ENTRY_LEN, shown.notary_size);

@@ -33,7 +33,7 @@ use Rattle.batch_committer.specs.Steps.{settled_text}
 use Rattle.batch_committer.specs.World.{Kept, World, Pair, world, Reads, Fits, Located, Keeps, IsCleanFor, Holds, Writes, Goes, Says, Stops, Ended, sealed_part}
 use Rattle.batch_committer.specs.declared.end.End.{End}
 use Rattle.batch_committer.specs.declared.end.End.TheVariants.{DiskFault, WriteFault, NoMemory}
-use Rattle.batch_committer.proofs.Closing.{next_bytes, sealed_all, root_closed, clean_image, commit_clean, commit_left, located_close}
+use Rattle.batch_committer.proofs.Closing.{next_bytes, root_closed, clean_image, commit_clean, commit_left, located_close}
 use Rattle.batch_committer.proofs.WayLaws.{begins_not}
 
 -- nothing was written yet, and the disks are what they were
@@ -260,18 +260,13 @@ count_of k h count s is = omega (arith, is, s.stands.counts.size, s.stands.count
 pub count_few : (k : books.Kept) (count : ℕ) → k.size ≡ k.sealed + count → k.size ≤ k.sealed + BLOCK_LIMIT → count ≤ BLOCK_LIMIT
 count_few k count is few = omega (arith, is, few)
 
--- the book where nothing waits
-pub served_empty : (k : books.Kept) (g : History) → Serves k g → g.waiting ≡ [] → k.size ≡ k.sealed
-served_empty k g s none = s.stands.counts.size ∙ sym (sealed_all g none) ∙ sym s.stands.counts.sealed_is
-
 pub none_waits : (k : books.Kept) (h : History) → k.size ≡ k.sealed → Serves k h → h.waiting ≡ []
 none_waits k h same s = nil_from_length h.waiting (omega (arith, same, s.stands.counts.size, s.stands.counts.sealed_is, length-append (journals_of h.closed) h.waiting))
 
-pub fits_ended : (tells : Bool) (k : Kept) (old : Bool) (disks : Pair) (sink : SinkState) (g : History) (place : ℕ) → Serves k.book g → g.waiting ≡ [] → k.place ≡ place → Reads tells place (open_of old disks.a disks.b) → k.in_a ≡ old → Fits tells (world k disks sink)
-fits_ended tells k old disks sink g place s none at reads in_a = record {
-  some = (g, s);
+pub fits_ended : (tells : Bool) (k : Kept) (old : Bool) (disks : Pair) (sink : SinkState) (place : ℕ) → k.book.size ≡ k.book.sealed → k.place ≡ place → Reads tells place (open_of old disks.a disks.b) → k.in_a ≡ old → Fits tells (world k disks sink)
+fits_ended tells k old disks sink place none at reads in_a = record {
   reads = subst (λ v. Reads tells k.place (open_of v disks.a disks.b)) (sym in_a) (subst (λ n. Reads tells n (open_of old disks.a disks.b)) (sym at) reads);
-  few = omega (arith, served_empty k.book g s none);
+  few = omega (arith, none);
 }
 
 -- how far a fault of the sink let the lines be written

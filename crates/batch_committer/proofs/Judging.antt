@@ -36,7 +36,7 @@ use Rattle.ledger_model.specs.declared.outcome.Outcome.TheVariants as came
 use Rattle.ledger_model.specs.declared.outcome.Query.{Query}
 use Rattle.ledger_book.specs.Books as books
 use Rattle.ledger_book.specs.Books.{Serves, headers, sealed_size}
-use Rattle.ledger_book.specs.Steps.{IsSame, PlacesNothing, Applies}
+use Rattle.ledger_book.specs.Steps.{IsSame, PlacesNothing, Applies, HasNumber}
 use Rattle.ledger_open.proofs.AgainLaws.{entry_is}
 use Rattle.ledger_open.proofs.HidingLaws.{from_more}
 use Rattle.ledger_open.proofs.NextLaws.{next_behind}
@@ -149,14 +149,10 @@ last_next k h journal s =
     (next_behind [] (journals h) (journal ∷ []) (subst (AreNext []) (journals_more h journal) s.stands.lawful.next)).0
 
 -- the book has the journal that it placed for a job
-pub has_placed : (old new : books.Kept) (h : History) (job : Job) (o : Outcome) (jsn : ℕ) (leaf : Digest) → Serves old h → Applies old.limits None h job o new → IsSame old new → o ≡ came.Placed jsn leaf → HasJournal new jsn
-has_placed old new h job o jsn leaf s applies same is =
-    let w = was_placed old.limits h job jsn leaf (sym is ∙ applies.outcome_is) in record {
-      h = with_job old.limits None h job;
-      serves = applies.serves;
-      kept = omega (arith, same.floor, s.stands.counts.floor, w.jsn_is, length-append (journals_of h.closed) h.waiting);
-      below = omega (arith, w.jsn_is, ap size w.after, ap length (journals_more h w.journal), length-append (journals h) (w.journal ∷ []));
-    }
+pub has_placed : (old new : books.Kept) (o : Outcome) (jsn : ℕ) (leaf : Digest) → IsSame old new → HasNumber old new o → o ≡ came.Placed jsn leaf → HasJournal new jsn
+has_placed old new o jsn leaf same number is =
+    let n = subst (HasNumber old new) is number in
+    record { kept = omega (arith, same.floor, n.0); below = omega (arith, n.1, n.2) }
 
 -- the header that the book keeps of a journal
 get_header : (js : List Entry) (n : ℕ) (journal : Entry) → slice_get js n ≡ Some journal → slice_get (map (λ (j : Entry). j.header) js) n ≡ Some journal.header

@@ -1,31 +1,28 @@
 -- A job is taken: the open block may end before it and after it.
 use Rattle.std.specs.Prelude.{Bool, true, false, nat_le, Result, Ok, Err, IfErr}
-use Rattle.std.proofs.Common.{◌≡◌, ◌⊎◌, inl, inr, ℕ, ◌+◌, ◌<◌, ◌≤◌, cond, List, [], ◌∷◌, ◌++◌, length, Option, Some, None, refl, ap, sym, subst, ◌∙◌, arith, length-append}
+use Rattle.std.proofs.Common.{◌≡◌, ◌⊎◌, inl, inr, ℕ, ◌<◌, ◌≤◌, cond, List, [], ◌∷◌, ◌++◌, length, None, refl, ap, sym, subst, ◌∙◌, arith}
 use Rattle.std.proofs.KnownBytes.{Appends-nil}
 use Rattle.std.proofs.lemmas.Bool.{le-leb, lt-leb}
 use Rattle.std.proofs.lemmas.List.{nil_from_length}
 use Rattle.ledger_bytes.specs.declared.limits.TheConstants.{BLOCK_LIMIT}
-use Rattle.ledger_bytes.specs.declared.refusal.Refusal.{Refusal}
 use Rattle.journal_record.specs.Entry.{Entry}
 use Rattle.ledger_io.specs.Outside.{SinkState}
 use Rattle.ledger_model.specs.Dues.{due_of, AllWaiting, IsWaiting}
 use Rattle.ledger_model.specs.Growing.{Grows}
-use Rattle.ledger_model.specs.History.{History, history, journals_of, size, close}
-use Rattle.ledger_model.specs.Judgements.{own_refusal}
+use Rattle.ledger_model.specs.History.{History, history, close}
 use Rattle.ledger_model.specs.Limits.{real_limits}
-use Rattle.ledger_model.specs.Outcomes.{placed_journal, after_judgement, with_job}
+use Rattle.ledger_model.specs.Outcomes.{with_job}
 use Rattle.ledger_model.specs.Rules.{closes_before, judged_at, settled_history, after_job}
 use Rattle.ledger_model.specs.Step.{Step}
 use Rattle.ledger_model.specs.Texts.{answer_to}
 use Rattle.ledger_model.specs.declared.answer.Answer.{Answer}
 use Rattle.ledger_model.specs.declared.due.Due.{Due}
 use Rattle.ledger_model.specs.declared.job.Job.{Job}
-use Rattle.ledger_model.specs.declared.limits.Limits.{Limits}
 use Rattle.ledger_model.proofs.GrowLaws.{grows_not, grows_then, grows_close, close_settled, settled_none}
 use Rattle.ledger_model.proofs.WaitLaws.{waits_job, waits_closed, grows_waits, all_still_waiting, waiting-append, answer_waits}
 use Rattle.ledger_book.specs.Books.{Serves}
 use Rattle.twin_file.specs.Twin.{open_of}
-use Rattle.batch_committer.specs.Steps.{due_by, Judged}
+use Rattle.batch_committer.specs.Steps.{due_by, Judged, HasGrown}
 use Rattle.batch_committer.specs.Read.{WereRead, NoneFailed, ReadingEnds}
 use Rattle.batch_committer.specs.World.{Kept, World, Pair, world, Reads, Fits, HasRoom, IsCleanFor, Holds, Goes, Ended, sealed_part}
 use Rattle.batch_committer.specs.declared.end.End.{End}
@@ -155,43 +152,11 @@ unjudged_ended tells k t old new sink step job end read e =
 
 -- ---- sizes
 
-judged_size : (h : History) (refusal : Option Refusal) (journal : Option Entry) → size (after_judgement refusal journal h) ≤ size h + 1
-judged_size h (Some refusal) journal = omega arith
-judged_size h None None = omega arith
-judged_size h None (Some journal) = omega (arith, length-append (journals_of h.closed) (h.waiting ++ journal ∷ []), length-append h.waiting (journal ∷ []), length-append (journals_of h.closed) h.waiting)
-
-judged_closed : (h : History) (refusal : Option Refusal) (journal : Option Entry) → (after_judgement refusal journal h).closed ≡ h.closed
-judged_closed h (Some refusal) journal = refl
-judged_closed h None None = refl
-judged_closed h None (Some journal) = refl
-
-size_with : (limits : Limits) (h : History) (job : Job) → size (with_job limits None h job) ≤ size h + 1
-unfolding with_job
-size_with limits h job = judged_size h (own_refusal limits h job) (placed_journal h None job)
-
-closed_with : (limits : Limits) (h : History) (job : Job) → (with_job limits None h job).closed ≡ h.closed
-unfolding with_job
-closed_with limits h job = judged_closed h (own_refusal limits h job) (placed_journal h None job)
-
-pub fits_gathered : (tells : Bool) (old new : Kept) (disks : Pair) (sink : SinkState) (job : Job) → Fits tells (world old disks sink) → HasRoom old → ((h : History) → Serves old.book h → Serves new.book (with_job old.book.limits None h job))
-    → new.place ≡ old.place → new.in_a ≡ old.in_a → Fits tells (world new disks sink)
-fits_gathered tells old new disks sink job f room serves place in_a =
-    let h = f.some.0 in
-    let s = serves h f.some.1 in
-    record {
-      some = (with_job old.book.limits None h job, s);
-      reads = subst (λ v. Reads tells new.place (open_of v disks.a disks.b)) (sym in_a) (subst (λ at. Reads tells at (open_of old.in_a disks.a disks.b)) (sym place) f.reads);
-      few = omega (
-        arith,
-        room,
-        s.stands.counts.size,
-        s.stands.counts.sealed_is,
-        f.some.1.stands.counts.size,
-        f.some.1.stands.counts.sealed_is,
-        size_with old.book.limits h job,
-        ap (λ bs. length (journals_of bs)) (closed_with old.book.limits h job),
-      );
-    }
+pub fits_gathered : (tells : Bool) (old new : Kept) (disks : Pair) (sink : SinkState) → Fits tells (world old disks sink) → HasRoom old → HasGrown old new → new.place ≡ old.place → new.in_a ≡ old.in_a → Fits tells (world new disks sink)
+fits_gathered tells old new disks sink f room grown place in_a = record {
+  reads = subst (λ v. Reads tells new.place (open_of v disks.a disks.b)) (sym in_a) (subst (λ at. Reads tells at (open_of old.in_a disks.a disks.b)) (sym place) f.reads);
+  few = omega (arith, room, grown.0, grown.1);
+}
 
 -- ---- before a job
 

@@ -7,7 +7,7 @@ use Rattle.block_file.proofs.WriteLaws.{tail_shut}
 use Rattle.block_file.specs.File.{IsSettled, IsShutAt, open_blocks}
 use Rattle.journal_record.specs.Blocks.{written_blocks}
 use Rattle.journal_record.specs.Entry.{Entry}
-use Rattle.ledger_disk.specs.Disk.{State, settled_state}
+use Rattle.ledger_disk.specs.Disk.{DiskState, State, settled_state}
 use Rattle.ledger_io.specs.Outside.{SinkState}
 use Rattle.ledger_model.proofs.LawfulLaws.{later_seen, none_hidden, some_journal}
 use Rattle.ledger_model.specs.Genesis.{HasKeys, new_ledger}
@@ -21,17 +21,14 @@ use Rattle.ledger_book.specs.Books.{Serves}
 use Rattle.twin_file.specs.Twin.{open_of, IsTaken}
 use Rattle.ledger_open.specs.Founding.{IsFounded}
 use Rattle.ledger_open.specs.Growing.{new_file}
-use Rattle.ledger_open.specs.Opening.{Known, Knows, IsReopened, IsCleanAt}
+use Rattle.ledger_open.specs.Opening.{Known, Knows, IsReopened, IsTidyAt}
 use Rattle.ledger_open.specs.Places.{places_at, after_at}
 use Rattle.ledger_open.specs.Standing.{ground, StandsFor, IsErased, PairFor, hidden_before}
-use Rattle.ledger_open.proofs.AgainLaws.{blocks_unique}
+use Rattle.ledger_open.proofs.CleanLaws.{blocks_are, stands_open, opened_erased}
 use Rattle.ledger_open.proofs.FoundingLaws.{founded_clean}
-use Rattle.ledger_open.proofs.GrowLaws.{stands_erased}
-use Rattle.ledger_open.proofs.OpenLaws.{tail_is, stands_again, taken_pair, cut_has, reopened_clean}
-use Rattle.ledger_open.proofs.SizeLaws.{mth_size}
-use Rattle.ledger_open.proofs.WholeLaws.{own_blocks, history_is}
+use Rattle.ledger_open.proofs.OpenLaws.{tail_is, reopened_clean}
 use Rattle.batch_committer.specs.Opened.{kept_from, IsOpened, IsQuietFor}
-use Rattle.batch_committer.specs.World.{World, DiskState, Pair, world, Fits, HasRoom, IsCleanFor, Holds}
+use Rattle.batch_committer.specs.World.{World, Pair, world, Fits, HasRoom, IsCleanFor, Holds}
 use Rattle.batch_committer.proofs.Closing.{clean_image, tail_at, sealed_same}
 
 -- ---- the history of some blocks
@@ -62,46 +59,22 @@ held_blocks tells k in_a disks sink bs o limits told clean = record {
 
 -- ---- a ledger that was opened
 
--- a file that was cut behind its tail gate stands for what it stood for, and nothing is hidden in it
-cut_erased : (old : List ℕ) (place : ℕ) (bs : List (List Entry)) → place ≡ after_at 64 bs → StandsFor old (history bs []) → IsErased (take (place + 1) old) (history bs [])
-cut_erased old place bs at x =
-    let h = history bs [] in
-    let erased : IsErased old h = stands_erased old h x (λ n t. absurd (true≢false (sym t ∙ none_hidden h n x.lawful.journals_are))) in
-    let own = own_blocks (hidden_before h) old h x in
-    stands_again (is_hidden h) old (take (place + 1) old) h
-    (λ generation cs y.
-    let same : cs ≡ bs = (blocks_unique ground generation x.generation cs bs old mth_size y own).1 in
-    cut_has generation cs old y place (tail_is generation cs old y ∙ ap (after_at 64) same ∙ sym at)) erased
-
--- which blocks it has
-blocks_are : (k : Known) (in_a : Bool) (blocks : List (List Entry)) (a b new_a new_b : State) (h : History) → IsReopened in_a k.place blocks a b new_a new_b → StandsFor (open_of in_a a b).seen h → history blocks [] ≡ h
-blocks_are k in_a blocks a b new_a new_b h r x =
-    let own = own_blocks (hidden_before h) (open_of in_a a b).seen h x in
-    let same : blocks ≡ h.closed = (blocks_unique ground r.has.0 x.generation blocks h.closed (open_of in_a a b).seen mth_size r.has.1 own).1 in
-    ap (λ (bs : List (List Entry)). history bs []) same ∙ history_is h x.none
-
-stands_open : (in_a : Bool) (a b : State) (h : History) → IsTaken in_a a.seen b.seen → PairFor a.seen b.seen h → StandsFor (open_of in_a a b).seen h
-stands_open true a b h t p = (taken_pair true a.seen b.seen h t p).0
-stands_open false a b h t p = (taken_pair false a.seen b.seen h t p).0
-
 pub opened_held : (tells : Bool) (k : Known) (in_a : Bool) (blocks : List (List Entry)) (a b : State) (disks : Pair) (sink : SinkState) (h : History) → IsOpened k in_a disks blocks → k.book.limits ≡ real_limits → IsTrue tells
     → IsReopened in_a k.place blocks a b disks.a.bytes disks.b.bytes → PairFor a.seen b.seen h → Holds tells (world (kept_from k in_a) disks sink) h
 opened_held tells k in_a blocks a b disks sink h o limits told r p =
-    let x = stands_open in_a a b h r.taken p in
-    let is : history blocks [] ≡ h = blocks_are k in_a blocks a b disks.a.bytes disks.b.bytes h r x in
+    let is : history blocks [] ≡ h = blocks_are k in_a blocks a b disks.a.bytes disks.b.bytes h r (stands_open in_a a b h r.taken p) in
     let c = reopened_clean k in_a blocks a b disks.a.bytes disks.b.bytes o.knows r in
-    let now : (open_of in_a disks.a.bytes disks.b.bytes).seen ≡ take (k.place + 1) (open_of in_a a b).seen = ap (λ (s : State). s.seen) r.open_is in
     subst (Holds tells (world (kept_from k in_a) disks sink)) is
     (held_blocks tells k in_a disks sink blocks o limits told (record {
       quiet = c.quiet;
       empty = c.empty;
-      erased = subst (λ (l : List ℕ). IsErased l (history blocks [])) (sym now) (cut_erased (open_of in_a a b).seen k.place blocks o.knows.tail (subst (StandsFor (open_of in_a a b).seen) (sym is) x));
+      erased = subst (IsErased (open_of in_a disks.a.bytes disks.b.bytes).seen) (sym is) (opened_erased k in_a blocks a b disks.a.bytes disks.b.bytes h o.knows r p);
       ends = c.ends;
     }))
 
 -- ---- what a call asks for
 
-shut_of : (k : Known) (in_a : Bool) (blocks : List (List Entry)) (a b : State) → Knows k blocks → IsCleanAt in_a k.place blocks a b → IsShutAt k.place (open_of in_a a b).seen
+shut_of : (k : Known) (in_a : Bool) (blocks : List (List Entry)) (a b : State) → Knows k blocks → IsTidyAt in_a k.place blocks a b → IsShutAt k.place (open_of in_a a b).seen
 shut_of k in_a blocks a b knows c =
     let file = (open_of in_a a b).seen in
     let x = c.has.1 in
@@ -117,7 +90,6 @@ few_of book blocks s = omega (arith, s.stands.counts.size, s.stands.counts.seale
 fits_of : (tells : Bool) (k : Known) (in_a : Bool) (disks : Pair) (sink : SinkState) (blocks : List (List Entry)) → IsOpened k in_a disks blocks → (IsTrue tells → IsShutAt k.place (open_of in_a disks.a.bytes disks.b.bytes).seen)
     → Fits tells (world (kept_from k in_a) disks sink)
 fits_of tells k in_a disks sink blocks o shut = record {
-  some = (history blocks [], o.knows.serves);
   reads = record { told = o.told; shut = λ told. shut_at in_a k.place disks (shut told) };
   few = omega (arith, few_of k.book blocks o.knows.serves);
 }

@@ -4,7 +4,7 @@ use Rattle.std.proofs.Common.{◌≡◌, ℕ, ◌+◌, ◌≤◌, List, [], ◌+
 use Rattle.std.proofs.KnownBytes.{Appends-nil}
 use Rattle.block_file.specs.File.{IsShutAt}
 use Rattle.journal_record.specs.Entry.{Entry}
-use Rattle.ledger_disk.specs.Disk.{State, KeepsLength}
+use Rattle.ledger_disk.specs.Disk.{DiskState, State, KeepsLength}
 use Rattle.ledger_io.specs.Outside.{SinkState}
 use Rattle.ledger_model.specs.Growing.{Grows}
 use Rattle.ledger_model.specs.History.{History, history}
@@ -15,7 +15,7 @@ use Rattle.twin_file.specs.Twin.{open_of}
 use Rattle.ledger_open.specs.Places.{places_at, places_in, places_of}
 use Rattle.ledger_open.specs.Standing.{IsErased}
 use Rattle.batch_committer.specs.Read.{WasRead, WereRead, NoneFailed, ReadingEnds}
-use Rattle.batch_committer.specs.World.{DiskState, Pair, Kept, world, Reads, Fits, IsCleanFor, Holds, Goes, Says, EndsBy, Ended, sealed_part}
+use Rattle.batch_committer.specs.World.{Pair, Kept, world, Reads, Fits, IsCleanFor, Holds, Goes, Says, EndsBy, Ended, sealed_part}
 use Rattle.batch_committer.specs.declared.end.End.{End}
 use Rattle.batch_committer.specs.declared.end.End.TheVariants.{DiskFault, WriteFault, NoMemory, Closed}
 use Rattle.batch_committer.proofs.Ending.{stops_before}
@@ -55,7 +55,7 @@ module _ (tells : Bool) (old new : Pair) (read : WereRead tells old new) where
   reads_by false place s = reads_one place old.b new.b read.b s
 
   pub fits_read : (k : Kept) (sink : SinkState) → Fits tells (world k old sink) → Fits tells (world k new sink)
-  fits_read k sink f = record { some = f.some; reads = reads_by k.in_a k.place f.reads; few = f.few }
+  fits_read k sink f = record { reads = reads_by k.in_a k.place f.reads; few = f.few }
 
   -- reading leads to the same history, and nothing becomes due by it
   pub goes_read : (k : Kept) (sink : SinkState) → NoneFailed old new → Goes tells (world k old sink) (λ h. h) (λ h. []) (world k new sink)

@@ -3,8 +3,7 @@ use Rattle.std.proofs.Common.{◌≡◌, ℕ, inl, inr, Bool, List, [], ◌++◌
 use Rattle.std.specs.Prelude.{Result, Ok, Err, IsErrAnd, IfErr}
 use Rattle.std.proofs.KnownBytes.{Appends-nil, Appends-trans}
 use Rattle.ledger_bytes.specs.Begins.{Begins}
-use Rattle.ledger_bytes.specs.Causes.{Rose}
-use Rattle.ledger_io.specs.Outside.{count_after}
+use Rattle.ledger_bytes.specs.Causes.{count_after}
 use Rattle.ledger_model.specs.Dues.{due_lines}
 use Rattle.ledger_model.specs.Growing.{Grows}
 use Rattle.ledger_model.specs.History.{History}
@@ -12,7 +11,7 @@ use Rattle.ledger_model.specs.declared.due.Due.{Due}
 use Rattle.ledger_model.proofs.GrowLaws.{grows_not, grows_then}
 use Rattle.ledger_model.proofs.RunLaws.{due_lines-append}
 use Rattle.ledger_model.proofs.WaitLaws.{in-append, all_in_more, begins_closed}
-use Rattle.batch_committer.specs.World.{DiskState, Pair, World, Holds, MeetsNoFault, Writes, Goes, Says, Stops, HasRisen, OneFailed, EndsBy, Ended}
+use Rattle.batch_committer.specs.World.{Pair, World, Holds, MeetsNoFault, Writes, Goes, Says, Stops, OneFailed, EndsBy, Ended}
 use Rattle.batch_committer.specs.declared.end.End.{End}
 use Rattle.batch_committer.specs.declared.end.End.TheVariants.{DiskFault, WriteFault, NoMemory, Closed}
 
@@ -35,12 +34,9 @@ no_fault w = record { a = refl; b = refl; sink = (refl, refl) }
 pub no_fault_then : (w m t : World) → MeetsNoFault w m → MeetsNoFault m t → MeetsNoFault w t
 no_fault_then w m t x y = record { a = y.a ∙ x.a; b = y.b ∙ x.b; sink = (y.sink.0 ∙ x.sink.0, y.sink.1 ∙ x.sink.1) }
 
-risen_from : (x y z : DiskState) → y.faults ≡ x.faults → HasRisen y z → HasRisen x z
-risen_from x y z is r = record { rose = subst (λ n. Rose n z.faults) is r.rose; later = omega (arith, is, r.later) }
-
 failed_from : (x y z : Pair) → y.a.faults ≡ x.a.faults → y.b.faults ≡ x.b.faults → OneFailed y z → OneFailed x z
-failed_from x y z a b (inl f) = inl (risen_from x.a y.a z.a a f.0, f.1 ∙ b)
-failed_from x y z a b (inr f) = inr (risen_from x.b y.b z.b b f.0, f.1 ∙ a)
+failed_from x y z a b (inl f) = inl (f.0 ∙ ap count_after a, f.1 ∙ b)
+failed_from x y z a b (inr f) = inr (f.0 ∙ a, f.1 ∙ ap count_after b)
 
 pub ends_later : (end : End) (w m t : World) → MeetsNoFault w m → EndsBy end m t → EndsBy end w t
 ends_later DiskFault w m t x e = (failed_from w.disks m.disks t.disks x.a x.b e.0, (e.1.0 ∙ x.sink.0, e.1.1 ∙ x.sink.1))

@@ -1,8 +1,8 @@
 -- What reading a journal from the open file leaves.
-use Rattle.std.specs.Prelude.{◌≡◌, ℕ, ◌≤◌, Bool, IsTrue}
-use Rattle.ledger_bytes.specs.Causes.{Rose}
-use Rattle.ledger_disk.specs.Disk.{KeepsLength}
-use Rattle.batch_committer.specs.World.{DiskState, Pair, OneFailed}
+use Rattle.std.specs.Prelude.{◌≡◌, ℕ, Bool, IsTrue}
+use Rattle.ledger_bytes.specs.Causes.{count_after}
+use Rattle.ledger_disk.specs.Disk.{DiskState, KeepsLength}
+use Rattle.batch_committer.specs.World.{Pair, OneFailed}
 use Rattle.batch_committer.specs.declared.end.End.{End}
 use Rattle.batch_committer.specs.declared.end.End.TheVariants.{DiskFault, WriteFault, NoMemory, Closed}
 
@@ -11,9 +11,9 @@ pub record WasRead (tells : Bool) (old new : DiskState) : Type 0 where
   pub bytes : IsTrue tells → new.bytes ≡ old.bytes
   pub told : KeepsLength old.told new.told
 
--- why a reading ended the run: the disk failed, and its count of faults rose; or memory was short, and none did
+-- why a reading ended the run: the disk failed, which is counted; or memory was short, and none did
 abbrev pub ReadEnds : End → ℕ → ℕ → Type 0
-ReadEnds DiskFault old new = Rose old new × (old ≤ new)
+ReadEnds DiskFault old new = new ≡ count_after old
 ReadEnds WriteFault old new = ⊥
 ReadEnds NoMemory old new = new ≡ old
 ReadEnds Closed old new = ⊥

@@ -44,10 +44,8 @@ HasParts Head content by = ⊥
 
 -- the book has a journal with this number, whose header it keeps
 pub record HasJournal (book : books.Kept) (jsn : ℕ) : Type 0 where
-  pub h : History
-  pub serves : Serves book h
   pub kept : book.floor ≤ jsn
-  pub below : jsn < size h
+  pub below : jsn < book.size
 
 -- a journal was gathered behind those of the open block
 pub record IsGathered (old new : Kept) (journal : Entry) : Type 0 where
@@ -75,3 +73,7 @@ pub record KeepsRest (old new : Kept) : Type 0 where
   pub place : new.place ≡ old.place
   pub in_a : new.in_a ≡ old.in_a
   pub dues : new.dues ≡ old.dues
+
+-- at most one journal was placed, and no block ended
+abbrev pub HasGrown : Kept → Kept → Type 0
+HasGrown old new = (new.book.size ≤ old.book.size + 1) × (new.book.sealed ≡ old.book.sealed)

@@ -1,12 +1,11 @@
 -- What a committer, its disks and its sink tell, and how a call leads from one to the next.
-use Rattle.std.specs.Prelude.{◌≡◌, ℕ, ◌+◌, ◌<◌, ◌≤◌, ◌⊎◌, Bool, IsTrue, IsSomeAnd, List, [], ◌++◌, length, Option}
+use Rattle.std.specs.Prelude.{◌≡◌, ℕ, ◌+◌, ◌<◌, ◌≤◌, ◌⊎◌, Bool, IsTrue, IsSomeAnd, List, [], ◌++◌, length}
 use Rattle.std.specs.Io.KnownBytes.{Appends}
 use Rattle.ledger_bytes.specs.Begins.{Begins}
-use Rattle.ledger_bytes.specs.Causes.{Rose}
 use Rattle.ledger_bytes.specs.declared.limits.TheConstants.{BLOCK_LIMIT}
 use Rattle.journal_record.specs.Blocks.{body_of, AreFrom}
 use Rattle.block_file.specs.File.{IsSettled, IsShutAt}
-use Rattle.ledger_disk.specs.Disk.{State, MayLeave, settled_state}
+use Rattle.ledger_disk.specs.Disk.{DiskState, State, MayLeave, OneMore, settled_state}
 use Rattle.ledger_io.specs.Outside.{SinkState, MeetsNone, MeetsOne}
 use Rattle.ledger_model.specs.Dues.{due_lines, AllWaiting, AllIn}
 use Rattle.ledger_model.specs.Growing.{Grows}
@@ -24,15 +23,6 @@ use Rattle.batch_committer.specs.declared.end.End.{End}
 use Rattle.batch_committer.specs.declared.end.End.TheVariants.{DiskFault, WriteFault, NoMemory, Closed}
 
 -- ---- what is told
-
--- what a disk tells: its contents, its length, and how many of its calls failed
-pub record DiskState : Type 0 where
-  pub bytes : State
-  pub told : Option ℕ
-  pub faults : ℕ
-
-abbrev pub disk : State → Option ℕ → ℕ → DiskState
-disk bytes told faults = record { bytes = bytes; told = told; faults = faults }
 
 pub record Pair : Type 0 where
   pub a : DiskState
@@ -78,14 +68,9 @@ pub record Reads (tells : Bool) (place : ℕ) (d : DiskState) : Type 0 where
   pub told : IsSomeAnd d.told (λ n. place + 1 ≤ n)
   pub shut : IsTrue tells → IsShutAt place d.bytes.seen
 
--- some history has this book
-abbrev pub ServesSome : books.Kept → Type 0
-ServesSome book = (h : History) × Serves book h
-
--- What each call asks for, also where the disks tell nothing: the book is that of some history, the open file reads as the
--- calls left it, and the open block has no more journals than a block may have.
+-- What each call asks for, also where the disks tell nothing: the open file reads as the calls left it, and the open block has
+-- no more journals than a block may have.
 pub record Fits (tells : Bool) (w : World) : Type 0 where
-  pub some : ServesSome w.kept.book
   pub reads : Reads tells w.kept.place (open_of w.kept.in_a w.disks.a w.disks.b)
   pub few : w.kept.book.size ≤ w.kept.book.sealed + BLOCK_LIMIT
 
@@ -179,16 +164,9 @@ pub record Stops (h whole : History) (dues : List Due) (end : End) (part : List 
   pub said : (f : History) → Grows whole f → f.waiting ≡ [] → Says end part (due_lines f done)
   pub images : (a b : List ℕ) → MayLeave disks.a.bytes a → MayLeave disks.b.bytes b → Left h whole done a b
 
--- the count of faults rose
-pub record HasRisen (before after : DiskState) : Type 0 where
-  pub rose : Rose before.faults after.faults
-  pub later : before.faults ≤ after.faults
-
--- one of the two disks failed, and the other didn't
+-- one call of one of the two disks failed
 abbrev pub OneFailed : Pair → Pair → Type 0
-OneFailed before after =
-    (HasRisen before.a after.a × (after.b.faults ≡ before.b.faults))
-    ⊎ (HasRisen before.b after.b × (after.a.faults ≡ before.a.faults))
+OneFailed before after = OneMore before.a.faults after.a.faults before.b.faults after.b.faults
 
 -- each end has its cause, and no other fault was met
 abbrev pub EndsBy : End → World → World → Type 0

@@ -5,7 +5,7 @@ ghost use Rattle.ledger_model.specs.History.{History, id, close};
 ghost use Rattle.ledger_model.specs.Rules.{after_job};
 ghost use Rattle.twin_file.specs.Which.{in_a_of, file_of};
 ghost use Rattle.batch_committer.specs.Steps.{step_at};
-ghost use Rattle.batch_committer.specs.World.{disk, pair, world, first_kept, Fits, HasRoom, Keeps, Goes, Ended};
+ghost use Rattle.batch_committer.specs.World.{pair, world, first_kept, Fits, HasRoom, Keeps, Goes, Ended};
 
 use crate::End;
 use crate::taking::Taking;
@@ -83,39 +83,39 @@ impl Committer {
         item: Prepared,
     ) -> Result<(), End>
         requires fits { self.old.ended ≡ false → Fits D.tells (world self.old.kept
-            (pair (disk (D.state a.old) (D.told_length a.old) (D.faults a.old))
-            (disk (D.state b.old) (D.told_length b.old) (D.faults b.old)))
+            (pair (D.state a.old)
+            (D.state b.old))
             (K.state sink.old)) }
         requires room { self.old.ended ≡ false → HasRoom self.old.kept }
 
         // The line plays no part once its job is there.
         ensures ok { OnOk result ((line : List ℕ) → Goes D.tells
             (world self.old.kept
-            (pair (disk (D.state a.old) (D.told_length a.old) (D.faults a.old))
-            (disk (D.state b.old) (D.told_length b.old) (D.faults b.old)))
+            (pair (D.state a.old)
+            (D.state b.old))
             (K.state sink.old))
             (λ h. after_job h (step_at item.lane item.index line) item.job)
             (λ h. due_of h (step_at item.lane item.index line) item.job ∷ [])
             (world self.new.kept
-            (pair (disk (D.state a.new) (D.told_length a.new) (D.faults a.new))
-            (disk (D.state b.new) (D.told_length b.new) (D.faults b.new)))
+            (pair (D.state a.new)
+            (D.state b.new))
             (K.state sink.new))) }
         ensures fits { OnOk result (Fits D.tells (world self.new.kept
-            (pair (disk (D.state a.new) (D.told_length a.new) (D.faults a.new))
-            (disk (D.state b.new) (D.told_length b.new) (D.faults b.new)))
+            (pair (D.state a.new)
+            (D.state b.new))
             (K.state sink.new))) }
         ensures room { OnOk result (HasRoom self.new.kept) }
         ensures err { IfErr result (λ end. self.old.ended ≡ false → (line : List ℕ) → Ended D.tells
             (world self.old.kept
-            (pair (disk (D.state a.old) (D.told_length a.old) (D.faults a.old))
-            (disk (D.state b.old) (D.told_length b.old) (D.faults b.old)))
+            (pair (D.state a.old)
+            (D.state b.old))
             (K.state sink.old))
             (λ h. after_job h (step_at item.lane item.index line) item.job)
             (λ h. due_of h (step_at item.lane item.index line) item.job ∷ [])
             end
             (world self.new.kept
-            (pair (disk (D.state a.new) (D.told_length a.new) (D.faults a.new))
-            (disk (D.state b.new) (D.told_length b.new) (D.faults b.new)))
+            (pair (D.state a.new)
+            (D.state b.new))
             (K.state sink.new))) }
         ensures closed { (result ≡ Err End.Closed) ↔ (self.old.ended ≡ true) }
         ensures ended { self.new.ended ≡ is_err result }
@@ -134,34 +134,34 @@ impl Committer {
     /// Ends the open block, and writes all that is due.
     pub fn flush<D: Disk, K: Sink>(&mut self, a: &mut D, b: &mut D, sink: &mut K) -> Result<(), End>
         requires { self.old.ended ≡ false → Fits D.tells (world self.old.kept
-            (pair (disk (D.state a.old) (D.told_length a.old) (D.faults a.old))
-            (disk (D.state b.old) (D.told_length b.old) (D.faults b.old)))
+            (pair (D.state a.old)
+            (D.state b.old))
             (K.state sink.old)) }
         ensures ok { OnOk result (Goes D.tells
             (world self.old.kept
-            (pair (disk (D.state a.old) (D.told_length a.old) (D.faults a.old))
-            (disk (D.state b.old) (D.told_length b.old) (D.faults b.old)))
+            (pair (D.state a.old)
+            (D.state b.old))
             (K.state sink.old))
             close (λ h. [])
             (world self.new.kept
-            (pair (disk (D.state a.new) (D.told_length a.new) (D.faults a.new))
-            (disk (D.state b.new) (D.told_length b.new) (D.faults b.new)))
+            (pair (D.state a.new)
+            (D.state b.new))
             (K.state sink.new))) }
         ensures fits { OnOk result (Fits D.tells (world self.new.kept
-            (pair (disk (D.state a.new) (D.told_length a.new) (D.faults a.new))
-            (disk (D.state b.new) (D.told_length b.new) (D.faults b.new)))
+            (pair (D.state a.new)
+            (D.state b.new))
             (K.state sink.new))) }
         ensures room { OnOk result (HasRoom self.new.kept) }
         ensures dues { OnOk result (self.new.kept.dues ≡ []) }
         ensures err { IfErr result (λ end. self.old.ended ≡ false → Ended D.tells
             (world self.old.kept
-            (pair (disk (D.state a.old) (D.told_length a.old) (D.faults a.old))
-            (disk (D.state b.old) (D.told_length b.old) (D.faults b.old)))
+            (pair (D.state a.old)
+            (D.state b.old))
             (K.state sink.old))
             close (λ h. []) end
             (world self.new.kept
-            (pair (disk (D.state a.new) (D.told_length a.new) (D.faults a.new))
-            (disk (D.state b.new) (D.told_length b.new) (D.faults b.new)))
+            (pair (D.state a.new)
+            (D.state b.new))
             (K.state sink.new))) }
         ensures closed { (result ≡ Err End.Closed) ↔ (self.old.ended ≡ true) }
         ensures ended { self.new.ended ≡ is_err result }

@@ -5,7 +5,6 @@ ghost use Rattle.ledger_model.specs.History.{History, size};
 ghost use Rattle.ledger_open.specs.Places.{entry_at, places_of};
 ghost use Rattle.ledger_open.specs.Standing.{IsErased};
 ghost use Rattle.batch_committer.specs.Read.{WasRead, ReadEnds};
-ghost use Rattle.batch_committer.specs.World.{disk};
 
 use crate::End;
 use journal_record::{Header, content_digest, who_digest};
@@ -27,13 +26,13 @@ pub(crate) fn get<D: Disk>(
     n: u64,
 ) -> Result<Reply, End>
     ensures told { IfOk result (λ reply. IsTrue D.tells → (h : History) → Serves book.now h
-        → places.now.list ≡ places_of h → IsErased (D.state file.old).seen h
+        → places.now.list ≡ places_of h → IsErased (D.state file.old).bytes.seen h
         → reply ≡ spec.get_reply h n) }
     ensures read { WasRead D.tells
-        (disk (D.state file.old) (D.told_length file.old) (D.faults file.old))
-        (disk (D.state file.new) (D.told_length file.new) (D.faults file.new)) }
-    ensures no_fault { OnOk result (D.faults file.new ≡ D.faults file.old) }
-    ensures err { IfErr result (λ end. ReadEnds end (D.faults file.old) (D.faults file.new)) }
+        (D.state file.old)
+        (D.state file.new) }
+    ensures no_fault { OnOk result ((D.state file.new).faults ≡ (D.state file.old).faults) }
+    ensures err { IfErr result (λ end. ReadEnds end (D.state file.old).faults (D.state file.new).faults) }
 {
     let header = book.header(n);
     let place = places.as_slice().get(n as usize);
@@ -68,13 +67,13 @@ fn whole<D: Disk>(
     place: &PlaceAt,
 ) -> Result<Reply, End>
     ensures told { IfOk result (λ reply. IsTrue D.tells → reply ≡ spec.whole_reply header.now
-        (entry_at (D.state file.old).seen header.now place.now).content
-        (entry_at (D.state file.old).seen header.now place.now).who) }
+        (entry_at (D.state file.old).bytes.seen header.now place.now).content
+        (entry_at (D.state file.old).bytes.seen header.now place.now).who) }
     ensures read { WasRead D.tells
-        (disk (D.state file.old) (D.told_length file.old) (D.faults file.old))
-        (disk (D.state file.new) (D.told_length file.new) (D.faults file.new)) }
-    ensures no_fault { OnOk result (D.faults file.new ≡ D.faults file.old) }
-    ensures err { IfErr result (λ end. ReadEnds end (D.faults file.old) (D.faults file.new)) }
+        (D.state file.old)
+        (D.state file.new) }
+    ensures no_fault { OnOk result ((D.state file.new).faults ≡ (D.state file.old).faults) }
+    ensures err { IfErr result (λ end. ReadEnds end (D.state file.old).faults (D.state file.new).faults) }
 {
     let content = read_piece(alloc, file, place.content_at, place.content_len)?;
     let who = read_piece(alloc, file, place.who_at, place.who_len)?;
@@ -89,12 +88,12 @@ fn occulted<D: Disk>(
     place: &PlaceAt,
 ) -> Result<Reply, End>
     ensures told { IfOk result (λ reply. IsTrue D.tells → reply ≡ spec.occulted_reply header.now
-        (entry_at (D.state file.old).seen header.now place.now).who) }
+        (entry_at (D.state file.old).bytes.seen header.now place.now).who) }
     ensures read { WasRead D.tells
-        (disk (D.state file.old) (D.told_length file.old) (D.faults file.old))
-        (disk (D.state file.new) (D.told_length file.new) (D.faults file.new)) }
-    ensures no_fault { OnOk result (D.faults file.new ≡ D.faults file.old) }
-    ensures err { IfErr result (λ end. ReadEnds end (D.faults file.old) (D.faults file.new)) }
+        (D.state file.old)
+        (D.state file.new) }
+    ensures no_fault { OnOk result ((D.state file.new).faults ≡ (D.state file.old).faults) }
+    ensures err { IfErr result (λ end. ReadEnds end (D.state file.old).faults (D.state file.new).faults) }
 {
     let who = read_piece(alloc, file, place.who_at, place.who_len)?;
     Ok(occulted_reply(header, who))
@@ -103,12 +102,12 @@ fn occulted<D: Disk>(
 // A range of the file, as far as bytes stand there. A piece that is cut short has another digest than the whole one.
 fn read_piece<D: Disk>(alloc: Global, file: &mut D, at: u64, len: u32) -> Result<Vec<u8>, End>
     ensures bytes { IfOk result (λ piece. IsTrue D.tells
-        → piece.items ≡ take len (drop at (D.state file.old).seen)) }
+        → piece.items ≡ take len (drop at (D.state file.old).bytes.seen)) }
     ensures read { WasRead D.tells
-        (disk (D.state file.old) (D.told_length file.old) (D.faults file.old))
-        (disk (D.state file.new) (D.told_length file.new) (D.faults file.new)) }
-    ensures no_fault { OnOk result (D.faults file.new ≡ D.faults file.old) }
-    ensures err { IfErr result (λ end. ReadEnds end (D.faults file.old) (D.faults file.new)) }
+        (D.state file.old)
+        (D.state file.new) }
+    ensures no_fault { OnOk result ((D.state file.new).faults ≡ (D.state file.old).faults) }
+    ensures err { IfErr result (λ end. ReadEnds end (D.state file.old).faults (D.state file.new).faults) }
 {
     let mut piece = Vec::new(alloc);
     let Ok(()) = piece.resize(len as usize, 0) else {

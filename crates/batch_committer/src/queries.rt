@@ -8,7 +8,6 @@ ghost use Rattle.ledger_book.specs.Books.{Serves};
 ghost use Rattle.ledger_open.specs.Places.{places_of};
 ghost use Rattle.ledger_open.specs.Standing.{IsErased};
 ghost use Rattle.batch_committer.specs.Read.{WasRead, ReadEnds};
-ghost use Rattle.batch_committer.specs.World.{disk};
 
 use crate::End;
 use crate::getting::get;
@@ -28,13 +27,13 @@ pub(crate) fn reply_to<D: Disk>(
     query: &Query,
 ) -> Result<Reply, End>
     ensures told { IfOk result (λ reply. IsTrue D.tells → (h : History) (x : Said)
-        → Serves book.now h → places.now.list ≡ places_of h → IsErased (D.state file.old).seen h
+        → Serves book.now h → places.now.list ≡ places_of h → IsErased (D.state file.old).bytes.seen h
         → reply ≡ told_reply h (step_of x) query.now) }
     ensures read { WasRead D.tells
-        (disk (D.state file.old) (D.told_length file.old) (D.faults file.old))
-        (disk (D.state file.new) (D.told_length file.new) (D.faults file.new)) }
-    ensures no_fault { OnOk result (D.faults file.new ≡ D.faults file.old) }
-    ensures err { IfErr result (λ end. ReadEnds end (D.faults file.old) (D.faults file.new)) }
+        (D.state file.old)
+        (D.state file.new) }
+    ensures no_fault { OnOk result ((D.state file.new).faults ≡ (D.state file.old).faults) }
+    ensures err { IfErr result (λ end. ReadEnds end (D.state file.old).faults (D.state file.new).faults) }
 {
     match query {
         Query::Get { n } => get(alloc, book, places, file, *n),

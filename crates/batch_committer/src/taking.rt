@@ -19,8 +19,8 @@ ghost use Rattle.ledger_book.specs.Books.{Serves};
 ghost use Rattle.twin_file.specs.Which.{in_a_of, file_of};
 ghost use Rattle.ledger_open.specs.Places.{place_at};
 ghost use Rattle.batch_committer.specs.Read.{WereRead, NoneFailed, ReadingEnds};
-ghost use Rattle.batch_committer.specs.Steps.{step_at, due_by, HasParts, HasJournal, IsGathered, Judged, KeepsRest};
-ghost use Rattle.batch_committer.specs.World.{Pair, disk, pair, world, first_kept, Reads, ServesSome, Fits, HasRoom, Keeps, Holds, Goes, Ended};
+ghost use Rattle.batch_committer.specs.Steps.{step_at, due_by, HasParts, HasJournal, IsGathered, Judged, KeepsRest, HasGrown};
+ghost use Rattle.batch_committer.specs.World.{Pair, pair, world, first_kept, Reads, Fits, HasRoom, Keeps, Holds, Goes, Ended};
 
 use crate::End;
 use crate::block::{APPROVAL_LEN, OpenBlock};
@@ -122,37 +122,37 @@ impl Taking {
         item: &Prepared,
     ) -> Result<(), End>
         requires fits { Fits D.tells (world self.old
-            (pair (disk (D.state a.old) (D.told_length a.old) (D.faults a.old))
-            (disk (D.state b.old) (D.told_length b.old) (D.faults b.old)))
+            (pair (D.state a.old)
+            (D.state b.old))
             (K.state sink.old)) }
         requires room { HasRoom self.old }
         ensures ok { OnOk result ((line : List ℕ) → Goes D.tells
             (world self.old
-            (pair (disk (D.state a.old) (D.told_length a.old) (D.faults a.old))
-            (disk (D.state b.old) (D.told_length b.old) (D.faults b.old)))
+            (pair (D.state a.old)
+            (D.state b.old))
             (K.state sink.old))
             (λ h. after_job h (step_at item.now.lane item.now.index line) item.now.job)
             (λ h. due_of h (step_at item.now.lane item.now.index line) item.now.job ∷ [])
             (world self.new
-            (pair (disk (D.state a.new) (D.told_length a.new) (D.faults a.new))
-            (disk (D.state b.new) (D.told_length b.new) (D.faults b.new)))
+            (pair (D.state a.new)
+            (D.state b.new))
             (K.state sink.new))) }
         ensures fits { OnOk result (Fits D.tells (world self.new
-            (pair (disk (D.state a.new) (D.told_length a.new) (D.faults a.new))
-            (disk (D.state b.new) (D.told_length b.new) (D.faults b.new)))
+            (pair (D.state a.new)
+            (D.state b.new))
             (K.state sink.new))) }
         ensures room { OnOk result (HasRoom self.new) }
         ensures err { IfErr result (λ end. (line : List ℕ) → Ended D.tells
             (world self.old
-            (pair (disk (D.state a.old) (D.told_length a.old) (D.faults a.old))
-            (disk (D.state b.old) (D.told_length b.old) (D.faults b.old)))
+            (pair (D.state a.old)
+            (D.state b.old))
             (K.state sink.old))
             (λ h. after_job h (step_at item.now.lane item.now.index line) item.now.job)
             (λ h. due_of h (step_at item.now.lane item.now.index line) item.now.job ∷ [])
             end
             (world self.new
-            (pair (disk (D.state a.new) (D.told_length a.new) (D.faults a.new))
-            (disk (D.state b.new) (D.told_length b.new) (D.faults b.new)))
+            (pair (D.state a.new)
+            (D.state b.new))
             (K.state sink.new))) }
     {
         self.end_before(a, b, sink, &item.job)?;
@@ -169,34 +169,34 @@ impl Taking {
         sink: &mut K,
     ) -> Result<(), End>
         requires fits { Fits D.tells (world self.old
-            (pair (disk (D.state a.old) (D.told_length a.old) (D.faults a.old))
-            (disk (D.state b.old) (D.told_length b.old) (D.faults b.old)))
+            (pair (D.state a.old)
+            (D.state b.old))
             (K.state sink.old)) }
         ensures ok { OnOk result (Goes D.tells
             (world self.old
-            (pair (disk (D.state a.old) (D.told_length a.old) (D.faults a.old))
-            (disk (D.state b.old) (D.told_length b.old) (D.faults b.old)))
+            (pair (D.state a.old)
+            (D.state b.old))
             (K.state sink.old))
             close (λ h. [])
             (world self.new
-            (pair (disk (D.state a.new) (D.told_length a.new) (D.faults a.new))
-            (disk (D.state b.new) (D.told_length b.new) (D.faults b.new)))
+            (pair (D.state a.new)
+            (D.state b.new))
             (K.state sink.new))) }
         ensures fits { OnOk result (Fits D.tells (world self.new
-            (pair (disk (D.state a.new) (D.told_length a.new) (D.faults a.new))
-            (disk (D.state b.new) (D.told_length b.new) (D.faults b.new)))
+            (pair (D.state a.new)
+            (D.state b.new))
             (K.state sink.new))) }
         ensures empty { OnOk result ((self.new.book.size ≡ self.new.book.sealed)
             × (self.new.dues ≡ [])) }
         ensures err { IfErr result (λ end. Ended D.tells
             (world self.old
-            (pair (disk (D.state a.old) (D.told_length a.old) (D.faults a.old))
-            (disk (D.state b.old) (D.told_length b.old) (D.faults b.old)))
+            (pair (D.state a.old)
+            (D.state b.old))
             (K.state sink.old))
             close (λ h. []) end
             (world self.new
-            (pair (disk (D.state a.new) (D.told_length a.new) (D.faults a.new))
-            (disk (D.state b.new) (D.told_length b.new) (D.faults b.new)))
+            (pair (D.state a.new)
+            (D.state b.new))
             (K.state sink.new))) }
     {
         let count = self.opened.book.waiting_count() as u32;
@@ -243,36 +243,36 @@ impl Taking {
         job: &Job,
     ) -> Result<(), End>
         requires fits { Fits D.tells (world self.old
-            (pair (disk (D.state a.old) (D.told_length a.old) (D.faults a.old))
-            (disk (D.state b.old) (D.told_length b.old) (D.faults b.old)))
+            (pair (D.state a.old)
+            (D.state b.old))
             (K.state sink.old)) }
         requires room { HasRoom self.old }
         ensures ok { OnOk result (Goes D.tells
             (world self.old
-            (pair (disk (D.state a.old) (D.told_length a.old) (D.faults a.old))
-            (disk (D.state b.old) (D.told_length b.old) (D.faults b.old)))
+            (pair (D.state a.old)
+            (D.state b.old))
             (K.state sink.old))
             (λ h. judged_at h job.now) (λ h. [])
             (world self.new
-            (pair (disk (D.state a.new) (D.told_length a.new) (D.faults a.new))
-            (disk (D.state b.new) (D.told_length b.new) (D.faults b.new)))
+            (pair (D.state a.new)
+            (D.state b.new))
             (K.state sink.new))) }
         ensures fits { OnOk result (Fits D.tells (world self.new
-            (pair (disk (D.state a.new) (D.told_length a.new) (D.faults a.new))
-            (disk (D.state b.new) (D.told_length b.new) (D.faults b.new)))
+            (pair (D.state a.new)
+            (D.state b.new))
             (K.state sink.new))) }
         ensures room { OnOk result (HasRoom self.new) }
         ensures settled { OnOk result (closes_before job.now ≡ true
             → (h : History) → Serves self.new.book h → h.waiting ≡ []) }
         ensures err { IfErr result (λ end. Ended D.tells
             (world self.old
-            (pair (disk (D.state a.old) (D.told_length a.old) (D.faults a.old))
-            (disk (D.state b.old) (D.told_length b.old) (D.faults b.old)))
+            (pair (D.state a.old)
+            (D.state b.old))
             (K.state sink.old))
             (λ h. judged_at h job.now) (λ h. []) end
             (world self.new
-            (pair (disk (D.state a.new) (D.told_length a.new) (D.faults a.new))
-            (disk (D.state b.new) (D.told_length b.new) (D.faults b.new)))
+            (pair (D.state a.new)
+            (D.state b.new))
             (K.state sink.new))) }
     {
         if job.closes_before() {
@@ -285,33 +285,33 @@ impl Taking {
     // Ends the open block where it is full, and writes all that is due where no journal waits.
     fn end_full<D: Disk, K: Sink>(&mut self, a: &mut D, b: &mut D, sink: &mut K) -> Result<(), End>
         requires { Fits D.tells (world self.old
-            (pair (disk (D.state a.old) (D.told_length a.old) (D.faults a.old))
-            (disk (D.state b.old) (D.told_length b.old) (D.faults b.old)))
+            (pair (D.state a.old)
+            (D.state b.old))
             (K.state sink.old)) }
         ensures ok { OnOk result ((job : AnyJob) → Goes D.tells
             (world self.old
-            (pair (disk (D.state a.old) (D.told_length a.old) (D.faults a.old))
-            (disk (D.state b.old) (D.told_length b.old) (D.faults b.old)))
+            (pair (D.state a.old)
+            (D.state b.old))
             (K.state sink.old))
             (settled_history job) (λ h. [])
             (world self.new
-            (pair (disk (D.state a.new) (D.told_length a.new) (D.faults a.new))
-            (disk (D.state b.new) (D.told_length b.new) (D.faults b.new)))
+            (pair (D.state a.new)
+            (D.state b.new))
             (K.state sink.new))) }
         ensures fits { OnOk result (Fits D.tells (world self.new
-            (pair (disk (D.state a.new) (D.told_length a.new) (D.faults a.new))
-            (disk (D.state b.new) (D.told_length b.new) (D.faults b.new)))
+            (pair (D.state a.new)
+            (D.state b.new))
             (K.state sink.new))) }
         ensures room { OnOk result (HasRoom self.new) }
         ensures err { IfErr result (λ end. (job : AnyJob) → Ended D.tells
             (world self.old
-            (pair (disk (D.state a.old) (D.told_length a.old) (D.faults a.old))
-            (disk (D.state b.old) (D.told_length b.old) (D.faults b.old)))
+            (pair (D.state a.old)
+            (D.state b.old))
             (K.state sink.old))
             (settled_history job) (λ h. []) end
             (world self.new
-            (pair (disk (D.state a.new) (D.told_length a.new) (D.faults a.new))
-            (disk (D.state b.new) (D.told_length b.new) (D.faults b.new)))
+            (pair (D.state a.new)
+            (D.state b.new))
             (K.state sink.new))) }
     {
         let waiting = self.opened.book.waiting_count();
@@ -324,39 +324,37 @@ impl Taking {
 
     // Judges a job and gathers what it places, and keeps what is due for it with the rest.
     fn take_in<D: Disk>(&mut self, a: &mut D, b: &mut D, item: &Prepared) -> Result<(), End>
-        requires some { ServesSome self.old.book }
         requires settled { closes_before item.now.job ≡ true
             → (h : History) → Serves self.old.book h → h.waiting ≡ [] }
         ensures ok { OnOk result ((line : List ℕ) (sink : SinkState) → Goes D.tells
             (world self.old
-            (pair (disk (D.state a.old) (D.told_length a.old) (D.faults a.old))
-            (disk (D.state b.old) (D.told_length b.old) (D.faults b.old)))
+            (pair (D.state a.old)
+            (D.state b.old))
             sink)
             (λ g. with_job real_limits None g item.now.job)
             (λ g. due_by g (step_at item.now.lane item.now.index line) item.now.job ∷ [])
             (world self.new
-            (pair (disk (D.state a.new) (D.told_length a.new) (D.faults a.new))
-            (disk (D.state b.new) (D.told_length b.new) (D.faults b.new)))
+            (pair (D.state a.new)
+            (D.state b.new))
             sink)) }
         ensures err { IfErr result (λ end. (line : List ℕ) (sink : SinkState) → Ended D.tells
             (world self.old
-            (pair (disk (D.state a.old) (D.told_length a.old) (D.faults a.old))
-            (disk (D.state b.old) (D.told_length b.old) (D.faults b.old)))
+            (pair (D.state a.old)
+            (D.state b.old))
             sink)
             (λ g. with_job real_limits None g item.now.job)
             (λ g. due_by g (step_at item.now.lane item.now.index line) item.now.job ∷ [])
             end
             (world self.new
-            (pair (disk (D.state a.new) (D.told_length a.new) (D.faults a.new))
-            (disk (D.state b.new) (D.told_length b.new) (D.faults b.new)))
+            (pair (D.state a.new)
+            (D.state b.new))
             sink)) }
         ensures read { WereRead D.tells
-            (pair (disk (D.state a.old) (D.told_length a.old) (D.faults a.old))
-            (disk (D.state b.old) (D.told_length b.old) (D.faults b.old)))
-            (pair (disk (D.state a.new) (D.told_length a.new) (D.faults a.new))
-            (disk (D.state b.new) (D.told_length b.new) (D.faults b.new))) }
-        ensures serves { OnOk result ((h : History) → Serves self.old.book h
-            → Serves self.new.book (with_job self.old.book.limits None h item.now.job)) }
+            (pair (D.state a.old)
+            (D.state b.old))
+            (pair (D.state a.new)
+            (D.state b.new)) }
+        ensures grown { OnOk result (HasGrown self.old self.new) }
         ensures place { self.new.place ≡ self.old.place }
         ensures in_a { self.new.in_a ≡ self.old.in_a }
     {
@@ -375,34 +373,32 @@ impl Taking {
     // Judges a job, gathers what it places, and answers what is due for it.
     fn judge<D: Disk>(&mut self, a: &mut D, b: &mut D, job: &Job) -> Result<Answer, End>
         requires fits { fits_job job.now ≡ true }
-        requires some { ServesSome self.old.book }
         ensures judged { IfOk result (λ answer. (h : History) (x : Said) (sink : SinkState)
             → Holds D.tells
             (world self.old
-            (pair (disk (D.state a.old) (D.told_length a.old) (D.faults a.old))
-            (disk (D.state b.old) (D.told_length b.old) (D.faults b.old)))
+            (pair (D.state a.old)
+            (D.state b.old))
             sink)
             h
             → (closes_before job.now ≡ true → h.waiting ≡ [])
             → Judged self.new h (step_of x) job.now answer) }
-        ensures serves { OnOk result ((h : History) → Serves self.old.book h
-            → Serves self.new.book (with_job self.old.book.limits None h job.now)) }
+        ensures grown { OnOk result (HasGrown self.old self.new) }
         ensures rest { KeepsRest self.old self.new }
         ensures read { WereRead D.tells
-            (pair (disk (D.state a.old) (D.told_length a.old) (D.faults a.old))
-            (disk (D.state b.old) (D.told_length b.old) (D.faults b.old)))
-            (pair (disk (D.state a.new) (D.told_length a.new) (D.faults a.new))
-            (disk (D.state b.new) (D.told_length b.new) (D.faults b.new))) }
+            (pair (D.state a.old)
+            (D.state b.old))
+            (pair (D.state a.new)
+            (D.state b.new)) }
         ensures no_fault { OnOk result (NoneFailed
-            (pair (disk (D.state a.old) (D.told_length a.old) (D.faults a.old))
-            (disk (D.state b.old) (D.told_length b.old) (D.faults b.old)))
-            (pair (disk (D.state a.new) (D.told_length a.new) (D.faults a.new))
-            (disk (D.state b.new) (D.told_length b.new) (D.faults b.new)))) }
+            (pair (D.state a.old)
+            (D.state b.old))
+            (pair (D.state a.new)
+            (D.state b.new))) }
         ensures err { IfErr result (λ end. ReadingEnds end
-            (pair (disk (D.state a.old) (D.told_length a.old) (D.faults a.old))
-            (disk (D.state b.old) (D.told_length b.old) (D.faults b.old)))
-            (pair (disk (D.state a.new) (D.told_length a.new) (D.faults a.new))
-            (disk (D.state b.new) (D.told_length b.new) (D.faults b.new)))) }
+            (pair (D.state a.old)
+            (D.state b.old))
+            (pair (D.state a.new)
+            (D.state b.new))) }
     {
         match self.opened.book.apply(job, None)? {
             Outcome::Refused(refusal) => Ok(Answer::Reply(Reply::Refused(refusal))),
@@ -423,26 +419,26 @@ impl Taking {
         ensures told { IfOk result (λ reply. (h : History) (x : Said) (sink : SinkState)
             → Holds D.tells
             (world self.now
-            (pair (disk (D.state a.old) (D.told_length a.old) (D.faults a.old))
-            (disk (D.state b.old) (D.told_length b.old) (D.faults b.old)))
+            (pair (D.state a.old)
+            (D.state b.old))
             sink)
             h
             → h.waiting ≡ [] → reply ≡ told_reply h (step_of x) query.now) }
         ensures read { WereRead D.tells
-            (pair (disk (D.state a.old) (D.told_length a.old) (D.faults a.old))
-            (disk (D.state b.old) (D.told_length b.old) (D.faults b.old)))
-            (pair (disk (D.state a.new) (D.told_length a.new) (D.faults a.new))
-            (disk (D.state b.new) (D.told_length b.new) (D.faults b.new))) }
+            (pair (D.state a.old)
+            (D.state b.old))
+            (pair (D.state a.new)
+            (D.state b.new)) }
         ensures no_fault { OnOk result (NoneFailed
-            (pair (disk (D.state a.old) (D.told_length a.old) (D.faults a.old))
-            (disk (D.state b.old) (D.told_length b.old) (D.faults b.old)))
-            (pair (disk (D.state a.new) (D.told_length a.new) (D.faults a.new))
-            (disk (D.state b.new) (D.told_length b.new) (D.faults b.new)))) }
+            (pair (D.state a.old)
+            (D.state b.old))
+            (pair (D.state a.new)
+            (D.state b.new))) }
         ensures err { IfErr result (λ end. ReadingEnds end
-            (pair (disk (D.state a.old) (D.told_length a.old) (D.faults a.old))
-            (disk (D.state b.old) (D.told_length b.old) (D.faults b.old)))
-            (pair (disk (D.state a.new) (D.told_length a.new) (D.faults a.new))
-            (disk (D.state b.new) (D.told_length b.new) (D.faults b.new)))) }
+            (pair (D.state a.old)
+            (D.state b.old))
+            (pair (D.state a.new)
+            (D.state b.new))) }
     {
         if self.opened.twin.in_a() {
             reply_to(self.alloc, &self.opened.book, &self.opened.places, a, query)

@@ -204,7 +204,7 @@ struct Bench<D: Disk + Drop, K: Sink + Drop> {
 
 impl<D: Disk + Drop, K: Sink + Drop> Model for Bench<D, K> {
     ghost use Rattle.std.specs.Prelude.{◌≡◌, false};
-    ghost use Rattle.batch_committer.specs.World.{disk, pair, world, Fits, HasRoom};
+    ghost use Rattle.batch_committer.specs.World.{pair, world, Fits, HasRoom};
 
     ghost Value = { Unit {0} };
 
@@ -212,8 +212,8 @@ impl<D: Disk + Drop, K: Sink + Drop> Model for Bench<D, K> {
 
     ghost invariant = { λ t. t.committer.ended ≡ false
         → Fits D.tells (world t.committer.kept
-        (pair (disk (D.state t.a) (D.told_length t.a) (D.faults t.a))
-        (disk (D.state t.b) (D.told_length t.b) (D.faults t.b)))
+        (pair (D.state t.a)
+        (D.state t.b))
         (K.state t.sink)) × HasRoom t.committer.kept };
 }
 

@@ -1,6 +1,7 @@
 pub mod ChangeLaws
 pub mod CopyLaws
 pub mod HeadLaws
+pub mod OnceLaws
 pub mod ParseLaws
 pub mod RecordLaws
 pub mod UniqueLaws

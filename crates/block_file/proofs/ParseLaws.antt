@@ -1,7 +1,7 @@
 -- A block that stands in a file is the one that is read.
 use Rattle.std.specs.Int.{from_be_bytes, to_be_bytes, w32, w64}
 use Rattle.std.specs.Prelude.{Result, Option, Ok, Err, Some, None, not, nat_lt, ◌&&◌, ◌||◌}
-use Rattle.std.proofs.Common.{◌≡◌, inl, inr, ℕ, ◌+◌, ◌*◌, ◌<◌, ◌≤◌, Bool, true, false, cond, List, [], ◌∷◌, ◌++◌, length, get_or, take, drop, refl, sym, ◌∙◌, ap, subst, arith, append_assoc, length-append, length-drop}
+use Rattle.std.proofs.Common.{◌≡◌, inl, inr, ℕ, ◌+◌, ◌*◌, ◌<◌, ◌≤◌, Bool, true, false, cond, List, [], ◌∷◌, ◌++◌, length, get_or, take, drop, refl, sym, ◌∙◌, ap, subst, arith, append_assoc, append-nil, length-append, length-drop}
 use Rattle.std.proofs.lemmas.Bool.{true≢false, le-ltb}
 use Rattle.std.proofs.lemmas.List.{take_at, drop_at, drop-drop, get_or-drop}
 use Rattle.std.proofs.lemmas.List.Concat.{flat_map-append}
@@ -127,13 +127,13 @@ fills_whole (e ∷ es) r =
     ∙ fills_whole es r.1
 
 -- each of their headers is read
-none_breaks : (bs es : List Entry) (rest : List ℕ) (bad : Bad) → AreReadable bs → AreReadable es → body_of bs ≡ body_of es ++ rest → length es < length bs → header_of (take 174 rest) ≡ Err bad → ⊥
-none_breaks [] es rest bad bb ee is fewer undecoded = omega (arith, fewer)
-none_breaks (b ∷ bs) [] rest bad bb ee is fewer undecoded =
-    ok_err b.header bad (sym (header_read b (body_of bs) bb.0) ∙ ap (λ (l : List ℕ). header_of (take 174 l)) is ∙ undecoded)
-none_breaks (b ∷ bs) (e ∷ es) rest bad bb ee is fewer undecoded =
-    let one = record_same b e (body_of bs) (body_of es ++ rest) bb.0 ee.0 (is ∙ append_assoc (record_bytes e) (body_of es) rest) in
-    none_breaks bs es rest bad bb.1 ee.1 one.1 (omega (arith, fewer)) undecoded
+pub none_breaks : (bs es : List Entry) (tail rest : List ℕ) (bad : Bad) → AreReadable bs → AreReadable es → body_of bs ++ tail ≡ body_of es ++ rest → length es < length bs → header_of (take 174 rest) ≡ Err bad → ⊥
+none_breaks [] es tail rest bad bb ee is fewer undecoded = omega (arith, fewer)
+none_breaks (b ∷ bs) [] tail rest bad bb ee is fewer undecoded =
+    ok_err b.header bad (sym (header_read b (body_of bs ++ tail) bb.0) ∙ ap (λ (l : List ℕ). header_of (take 174 l)) (sym (append_assoc (record_bytes b) (body_of bs) tail) ∙ is) ∙ undecoded)
+none_breaks (b ∷ bs) (e ∷ es) tail rest bad bb ee is fewer undecoded =
+    let one = record_same b e (body_of bs ++ tail) (body_of es ++ rest) bb.0 ee.0 (sym (append_assoc (record_bytes b) (body_of bs) tail) ∙ is ∙ append_assoc (record_bytes e) (body_of es) rest) in
+    none_breaks bs es tail rest bad bb.1 ee.1 one.1 (omega (arith, fewer)) undecoded
 
 body_most : (es : List Entry) → AreReadable es → length (body_of es) ≤ length es * 4_296_017_586
 body_most [] r = omega arith
@@ -230,7 +230,7 @@ module _ (at first : ℕ) (file root : List ℕ) (es : List Entry) (block : IsOp
   no_other : (jsn : ℕ) → IsNoEntry (count_in (head_at at file)) (body_at at file) first jsn → ⊥
   no_other jsn found =
       elim found.why [
-        | inl broken ↦ let b = broken.2 in none_breaks es b.es b.rest b.bad are.readable b.readable (sym body_is ∙ b.is) (omega (arith, b.number, b.fewer, count_is)) b.undecoded
+        | inl broken ↦ let b = broken.2 in none_breaks es b.es [] b.rest b.bad are.readable b.readable (append-nil (body_of es) ∙ sym body_is ∙ b.is) (omega (arith, b.number, b.fewer, count_is)) b.undecoded
         | inr other ↦ let o = other.1 in o.other (subst (BeginsAt first) (sym (same_journals o.es o.body_is)) are.begins)
       ]
 

@@ -4,7 +4,8 @@ use Rattle.std.specs.Int.{from_be_bytes, to_be_bytes, w64}
 use Rattle.sha2.specs.Sha256.{sha256}
 use Rattle.ledger_bytes.specs.Tags.{byte_of}
 use Rattle.ledger_bytes.specs.declared.tag.Tag.TheVariants as tag
-use Rattle.ledger_bytes.specs.Causes.{Rose}
+use Rattle.ledger_bytes.specs.Causes.{count_after}
+use Rattle.ledger_disk.specs.Disk.{OneMore}
 use Rattle.block_file.specs.declared.head.FileHead.{FileHead}
 use Rattle.block_file.specs.declared.failure.Damage.TheVariants.{Magic, BaseForm, Base, Length, Entry, Root, Content}
 use Rattle.block_file.specs.declared.failure.FileErr.{FileErr}
@@ -12,7 +13,7 @@ use Rattle.block_file.specs.declared.failure.FileErr.TheVariants.{DiskFault, Dam
 
 -- The count rises exactly where a fault is answered.
 abbrev pub CountsAt : FileErr → ℕ → ℕ → Type 0
-CountsAt DiskFault old new = Rose old new × (old ≤ new)
+CountsAt DiskFault old new = new ≡ count_after old
 CountsAt (Damaged damage) old new = new ≡ old
 CountsAt (NewerFormat found) old new = new ≡ old
 CountsAt NoMemory old new = new ≡ old
@@ -22,10 +23,10 @@ Counts result old new = MatchResult result (λ _. new ≡ old) (λ e. CountsAt e
 
 -- A call on two disks: a fault was counted by one of them.
 abbrev pub CountsOneFault : {T E : Type 0} → Result T E → ℕ → ℕ → ℕ → ℕ → Type 0
-CountsOneFault result x1 x2 y1 y2 = MatchResult result (λ _. (x2 ≡ x1) × (y2 ≡ y1)) (λ _. (Rose x1 x2 ⊎ Rose y1 y2) × (x1 ≤ x2) × (y1 ≤ y2))
+CountsOneFault result x1 x2 y1 y2 = MatchResult result (λ _. (x2 ≡ x1) × (y2 ≡ y1)) (λ _. OneMore x1 x2 y1 y2)
 
 abbrev pub CountsTwoAt : FileErr → ℕ → ℕ → ℕ → ℕ → Type 0
-CountsTwoAt DiskFault x1 x2 y1 y2 = (Rose x1 x2 ⊎ Rose y1 y2) × (x1 ≤ x2) × (y1 ≤ y2)
+CountsTwoAt DiskFault x1 x2 y1 y2 = OneMore x1 x2 y1 y2
 CountsTwoAt (Damaged damage) x1 x2 y1 y2 = (x2 ≡ x1) × (y2 ≡ y1)
 CountsTwoAt (NewerFormat found) x1 x2 y1 y2 = (x2 ≡ x1) × (y2 ≡ y1)
 CountsTwoAt NoMemory x1 x2 y1 y2 = (x2 ≡ x1) × (y2 ≡ y1)
@@ -36,10 +37,10 @@ CountsTwo result x1 x2 y1 y2 = MatchResult result (λ _. (x2 ≡ x1) × (y2 ≡ 
 
 -- Nothing but a fault is answered, and then the count rose.
 abbrev pub CountsAlone : {T : Type 0} → Result T FileErr → ℕ → ℕ → Type 0
-CountsAlone result old new = MatchResult result (λ _. new ≡ old) (λ e. (e ≡ DiskFault) × Rose old new × (old ≤ new))
+CountsAlone result old new = MatchResult result (λ _. new ≡ old) (λ e. (e ≡ DiskFault) × (new ≡ count_after old))
 
 abbrev pub CountsTwoAlone : {T : Type 0} → Result T FileErr → ℕ → ℕ → ℕ → ℕ → Type 0
-CountsTwoAlone result x1 x2 y1 y2 = MatchResult result (λ _. (x2 ≡ x1) × (y2 ≡ y1)) (λ e. (e ≡ DiskFault) × (Rose x1 x2 ⊎ Rose y1 y2) × (x1 ≤ x2) × (y1 ≤ y2))
+CountsTwoAlone result x1 x2 y1 y2 = MatchResult result (λ _. (x2 ≡ x1) × (y2 ≡ y1)) (λ e. (e ≡ DiskFault) × OneMore x1 x2 y1 y2)
 
 -- "LEDGERDB"
 abbrev pub magic : List ℕ

@@ -38,13 +38,13 @@ impl BlockFile {
     /// What the head of a file tells, and None where the file is shut. Of an open file the magic is looked at first,
     /// then the version.
     pub fn head<D: Disk>(disk: &mut D) -> Result<Option<FileHead>, FileErr>
-        ensures answer { IsTrue D.tells → IsHead (D.state disk.old).seen result }
+        ensures answer { IsTrue D.tells → IsHead (D.state disk.old).bytes.seen result }
         ensures only { IfErr result (λ e. e ≢ FileErr.NoMemory) }
         ensures told { IfOk result (λ found. IfSome found
-            (λ _. IsSomeAnd (D.told_length disk.new) (λ n. 65 ≤ n))) }
-        ensures state { IsTrue D.tells → D.state disk.new ≡ D.state disk.old }
-        ensures length { KeepsLength (D.told_length disk.old) (D.told_length disk.new) }
-        ensures faults { Counts result (D.faults disk.old) (D.faults disk.new) }
+            (λ _. IsSomeAnd (D.state disk.new).told (λ n. 65 ≤ n))) }
+        ensures state { IsTrue D.tells → (D.state disk.new).bytes ≡ (D.state disk.old).bytes }
+        ensures length { KeepsLength (D.state disk.old).told (D.state disk.new).told }
+        ensures faults { Counts result (D.state disk.old).faults (D.state disk.new).faults }
     {
         if disk.len()? < 65 {
             return Ok(None);
@@ -59,14 +59,14 @@ impl BlockFile {
 
     /// Begins a file: cuts what is there, and leaves one shut gate.
     pub fn start<D: Disk>(disk: &mut D) -> Result<(), FileErr>
-        ensures ok { OnOk result (IsTrue D.tells → D.state disk.new ≡ settled_state (0 ∷ [])) }
+        ensures ok { OnOk result (IsTrue D.tells → (D.state disk.new).bytes ≡ settled_state (0 ∷ [])) }
 
         // A crash leaves a front of what was there, or at most one byte.
-        ensures err { OnErr result (IsTrue D.tells → IsSettled (D.state disk.old)
-            → (image : List ℕ) → MayLeave (D.state disk.new) image
-            → IsScrapOf (D.state disk.old).seen image) }
-        ensures told { OnOk result (D.told_length disk.new ≡ Some 1) }
-        ensures faults { CountsAlone result (D.faults disk.old) (D.faults disk.new) }
+        ensures err { OnErr result (IsTrue D.tells → IsSettled (D.state disk.old).bytes
+            → (image : List ℕ) → MayLeave (D.state disk.new).bytes image
+            → IsScrapOf (D.state disk.old).bytes.seen image) }
+        ensures told { OnOk result ((D.state disk.new).told ≡ Some 1) }
+        ensures faults { CountsAlone result (D.state disk.old).faults (D.state disk.new).faults }
     {
         disk.cut(0)?;
         disk.sync()?;
@@ -79,21 +79,21 @@ impl BlockFile {
     /// the file stands for good once [`BlockFile::unveil`] has answered.
     #[tactic(auto, using(crate::proofs::VeilLaws::veiled_shut))]
     pub fn create<D: Disk>(disk: &mut D, generation: u64, base: &[u8]) -> Result<BlockFile, FileErr>
-        requires length { IsSomeAnd (D.told_length disk.old) (λ n. 1 ≤ n) }
-        requires started { IsTrue D.tells → D.state disk.old ≡ settled_state (0 ∷ []) }
+        requires length { IsSomeAnd (D.state disk.old).told (λ n. 1 ≤ n) }
+        requires started { IsTrue D.tells → (D.state disk.old).bytes ≡ settled_state (0 ∷ []) }
         ensures seen { OnOk result (IsTrue D.tells
-            → (D.state disk.new).seen ≡ whole_file (front_of 0 generation base.now) []) }
-        ensures veiled { IsTrue D.tells → IsVeiled (D.state disk.new) }
+            → (D.state disk.new).bytes.seen ≡ whole_file (front_of 0 generation base.now) []) }
+        ensures veiled { IsTrue D.tells → IsVeiled (D.state disk.new).bytes }
 
         // A crash leaves it shut.
         ensures images { IsTrue D.tells → (image : List ℕ)
-            → MayLeave (D.state disk.new) image → IsShut image }
+            → MayLeave (D.state disk.new).bytes image → IsShut image }
         ensures place { IfOk result (λ file. place_of file ≡ 64 + length base.now) }
         ensures base_len { IfOk result (λ file. base_len_of file ≡ length base.now) }
         ensures base_digest { IfOk result (λ file. base_digest_of file ≡ digest_of base.now) }
-        ensures told { IfOk result (λ file. IsSomeAnd (D.told_length disk.new)
+        ensures told { IfOk result (λ file. IsSomeAnd (D.state disk.new).told
             (λ n. place_of file + 1 ≤ n)) }
-        ensures faults { CountsAlone result (D.faults disk.old) (D.faults disk.new) }
+        ensures faults { CountsAlone result (D.state disk.old).faults (D.state disk.new).faults }
     {
         add_head(disk, generation, base)?;
         add(disk, 64, base)?;
@@ -109,23 +109,23 @@ impl BlockFile {
     /// Adds a block, given without its gate, to a file that [`BlockFile::create`] made and that is still shut.
     #[tactic(auto, using(crate::proofs::VeilLaws::veiled_shut))]
     pub fn put_block<D: Disk>(&mut self, disk: &mut D, block: &[u8]) -> Result<(), FileErr>
-        requires length { IsSomeAnd (D.told_length disk.old) (λ n. place_of self.old + 1 ≤ n) }
+        requires length { IsSomeAnd (D.state disk.old).told (λ n. place_of self.old + 1 ≤ n) }
         ensures seen { OnOk result (IsTrue D.tells → (front : List ℕ) (blocks : List (List ℕ))
-            → (D.state disk.old).seen ≡ whole_file front blocks
+            → (D.state disk.old).bytes.seen ≡ whole_file front blocks
             → tail_of front blocks ≡ place_of self.old
-            → (D.state disk.new).seen ≡ whole_file front (blocks ++ block.now ∷ [])) }
-        ensures veiled { IsTrue D.tells → IsVeiled (D.state disk.old)
-            → IsVeiled (D.state disk.new) }
+            → (D.state disk.new).bytes.seen ≡ whole_file front (blocks ++ block.now ∷ [])) }
+        ensures veiled { IsTrue D.tells → IsVeiled (D.state disk.old).bytes
+            → IsVeiled (D.state disk.new).bytes }
 
         // A crash leaves it shut.
-        ensures images { IsTrue D.tells → IsVeiled (D.state disk.old) → (image : List ℕ)
-            → MayLeave (D.state disk.new) image → IsShut image }
+        ensures images { IsTrue D.tells → IsVeiled (D.state disk.old).bytes → (image : List ℕ)
+            → MayLeave (D.state disk.new).bytes image → IsShut image }
         ensures place { OnOk result (place_of self.new ≡ place_of self.old + 1 + length block.now) }
         ensures stays { OnErr result (self.new ≡ self.old) }
         ensures base { KeepsBase self.old self.new }
-        ensures told { OnOk result (IsSomeAnd (D.told_length disk.new)
+        ensures told { OnOk result (IsSomeAnd (D.state disk.new).told
             (λ n. place_of self.new + 1 ≤ n)) }
-        ensures faults { CountsAlone result (D.faults disk.old) (D.faults disk.new) }
+        ensures faults { CountsAlone result (D.state disk.old).faults (D.state disk.new).faults }
     {
         let next = put(disk, self.at, block)?;
         self.at = next;
@@ -142,29 +142,29 @@ impl BlockFile {
         at: u64,
         len: u64,
     ) -> Result<(), FileErr>
-        requires from { IsSomeAnd (D.told_length from.old) (λ n. at + len ≤ n) }
-        requires length { IsSomeAnd (D.told_length disk.old) (λ n. place_of self.old + 1 ≤ n) }
+        requires from { IsSomeAnd (D.state from.old).told (λ n. at + len ≤ n) }
+        requires length { IsSomeAnd (D.state disk.old).told (λ n. place_of self.old + 1 ≤ n) }
         ensures seen { OnOk result (IsTrue D.tells
             → (front : List ℕ) (blocks more : List (List ℕ))
-            → (D.state disk.old).seen ≡ whole_file front blocks
+            → (D.state disk.old).bytes.seen ≡ whole_file front blocks
             → tail_of front blocks ≡ place_of self.old
-            → take len (drop at (D.state from.old).seen) ≡ open_blocks more
-            → (D.state disk.new).seen ≡ whole_file front (blocks ++ more)) }
-        ensures veiled { IsTrue D.tells → IsVeiled (D.state disk.old)
-            → IsVeiled (D.state disk.new) }
+            → take len (drop at (D.state from.old).bytes.seen) ≡ open_blocks more
+            → (D.state disk.new).bytes.seen ≡ whole_file front (blocks ++ more)) }
+        ensures veiled { IsTrue D.tells → IsVeiled (D.state disk.old).bytes
+            → IsVeiled (D.state disk.new).bytes }
 
         // A crash leaves it shut.
-        ensures images { IsTrue D.tells → IsVeiled (D.state disk.old) → (image : List ℕ)
-            → MayLeave (D.state disk.new) image → IsShut image }
-        ensures same { IsTrue D.tells → D.state from.new ≡ D.state from.old }
-        ensures from { KeepsLength (D.told_length from.old) (D.told_length from.new) }
+        ensures images { IsTrue D.tells → IsVeiled (D.state disk.old).bytes → (image : List ℕ)
+            → MayLeave (D.state disk.new).bytes image → IsShut image }
+        ensures same { IsTrue D.tells → (D.state from.new).bytes ≡ (D.state from.old).bytes }
+        ensures from { KeepsLength (D.state from.old).told (D.state from.new).told }
         ensures place { OnOk result (place_of self.new ≡ place_of self.old + len) }
         ensures stays { OnErr result (self.new ≡ self.old) }
         ensures base { KeepsBase self.old self.new }
-        ensures told { OnOk result (IsSomeAnd (D.told_length disk.new)
+        ensures told { OnOk result (IsSomeAnd (D.state disk.new).told
             (λ n. place_of self.new + 1 ≤ n)) }
-        ensures faults { CountsTwoAlone result (D.faults from.old) (D.faults from.new)
-            (D.faults disk.old) (D.faults disk.new) }
+        ensures faults { CountsTwoAlone result (D.state from.old).faults (D.state from.new).faults
+            (D.state disk.old).faults (D.state disk.new).faults }
     {
         let next = put_copy(disk, from, at, len, self.at)?;
         self.at = next;
@@ -173,18 +173,18 @@ impl BlockFile {
 
     /// Opens a file that [`BlockFile::create`] made, for good: syncs, opens the file's gate, and syncs.
     pub fn unveil<D: Disk>(&mut self, disk: &mut D) -> Result<(), FileErr>
-        requires length { IsSomeAnd (D.told_length disk.old) (λ n. place_of self.old + 1 ≤ n) }
+        requires length { IsSomeAnd (D.state disk.old).told (λ n. place_of self.old + 1 ≤ n) }
         ensures ok { OnOk result (IsTrue D.tells
-            → D.state disk.new ≡ settled_state (1 ∷ drop 1 (D.state disk.old).seen)) }
+            → (D.state disk.new).bytes ≡ settled_state (1 ∷ drop 1 (D.state disk.old).bytes.seen)) }
 
         // A crash leaves it shut, or whole and open.
-        ensures err { OnErr result (IsTrue D.tells → IsVeiled (D.state disk.old)
-            → (image : List ℕ) → MayLeave (D.state disk.new) image
-            → (get_or image 0 0 ≢ 1) ⊎ (image ≡ 1 ∷ drop 1 (D.state disk.old).seen)) }
+        ensures err { OnErr result (IsTrue D.tells → IsVeiled (D.state disk.old).bytes
+            → (image : List ℕ) → MayLeave (D.state disk.new).bytes image
+            → (get_or image 0 0 ≢ 1) ⊎ (image ≡ 1 ∷ drop 1 (D.state disk.old).bytes.seen)) }
         ensures same { self.new ≡ self.old }
-        ensures told { OnOk result (IsSomeAnd (D.told_length disk.new)
+        ensures told { OnOk result (IsSomeAnd (D.state disk.new).told
             (λ n. place_of self.new + 1 ≤ n)) }
-        ensures faults { CountsAlone result (D.faults disk.old) (D.faults disk.new) }
+        ensures faults { CountsAlone result (D.state disk.old).faults (D.state disk.new).faults }
     {
         open_for_good(disk)?;
         Ok(())
@@ -193,19 +193,19 @@ impl BlockFile {
     /// Stands at the first block of an open file with this head. The damage is a base that reaches past the file's end
     /// less one byte.
     pub fn resume<D: Disk>(disk: &mut D, head: &FileHead) -> Result<BlockFile, FileErr>
-        requires length { IsSomeAnd (D.told_length disk.old) (λ n. 65 ≤ n) }
+        requires length { IsSomeAnd (D.state disk.old).told (λ n. 65 ≤ n) }
         ensures err { IfErr result (λ e. IsTrue D.tells
-            → IsResumeErr (D.state disk.old).seen head.now.base_len e) }
+            → IsResumeErr (D.state disk.old).bytes.seen head.now.base_len e) }
         ensures only { IfErr result (λ e. (e ≢ FileErr.NoMemory)
             × ((found : ℕ) → e ≢ FileErr.NewerFormat found)) }
         ensures place { IfOk result (λ file. place_of file ≡ 64 + head.now.base_len) }
         ensures base_len { IfOk result (λ file. base_len_of file ≡ head.now.base_len) }
         ensures base_digest { IfOk result (λ file. base_digest_of file ≡ head.now.base_digest.0) }
-        ensures told { IfOk result (λ file. IsSomeAnd (D.told_length disk.new)
+        ensures told { IfOk result (λ file. IsSomeAnd (D.state disk.new).told
             (λ n. place_of file + 1 ≤ n)) }
-        ensures state { IsTrue D.tells → D.state disk.new ≡ D.state disk.old }
-        ensures length { KeepsLength (D.told_length disk.old) (D.told_length disk.new) }
-        ensures faults { Counts result (D.faults disk.old) (D.faults disk.new) }
+        ensures state { IsTrue D.tells → (D.state disk.new).bytes ≡ (D.state disk.old).bytes }
+        ensures length { KeepsLength (D.state disk.old).told (D.state disk.new).told }
+        ensures faults { Counts result (D.state disk.old).faults (D.state disk.new).faults }
     {
         let room = disk.len()?.saturating_sub(65);
         if head.base_len > room {
@@ -224,18 +224,18 @@ impl BlockFile {
 
     /// The base. The damage is another digest than the head names, which isn't looked at where there is no base.
     pub fn base<D: Disk>(&self, alloc: Global, disk: &mut D) -> Result<Bytes, FileErr>
-        requires length { IsSomeAnd (D.told_length disk.old) (λ n. 64 + base_len_of self.now ≤ n) }
+        requires length { IsSomeAnd (D.state disk.old).told (λ n. 64 + base_len_of self.now ≤ n) }
         ensures bytes { IfOk result (λ base. IsTrue D.tells
-            → base ≡ take (base_len_of self.now) (drop 64 (D.state disk.old).seen)) }
+            → base ≡ take (base_len_of self.now) (drop 64 (D.state disk.old).bytes.seen)) }
         ensures digest { IfOk result (λ base. (length base ≡ base_len_of self.now)
             × ((base_len_of self.now ≡ 0) ⊎ (base_digest_of self.now ≡ digest_of base))) }
         ensures err { IfErr result (λ e. IsTrue D.tells
-            → IsBaseErr (take (base_len_of self.now) (drop 64 (D.state disk.old).seen))
+            → IsBaseErr (take (base_len_of self.now) (drop 64 (D.state disk.old).bytes.seen))
             (base_digest_of self.now) e) }
         ensures only { IfErr result (λ e. (found : ℕ) → e ≢ FileErr.NewerFormat found) }
-        ensures state { IsTrue D.tells → D.state disk.new ≡ D.state disk.old }
-        ensures length { KeepsLength (D.told_length disk.old) (D.told_length disk.new) }
-        ensures faults { Counts result (D.faults disk.old) (D.faults disk.new) }
+        ensures state { IsTrue D.tells → (D.state disk.new).bytes ≡ (D.state disk.old).bytes }
+        ensures length { KeepsLength (D.state disk.old).told (D.state disk.new).told }
+        ensures faults { Counts result (D.state disk.old).faults (D.state disk.new).faults }
     {
         let base = read_part(alloc, disk, 64, self.base_len)?;
         let found = base_digest(&base);
@@ -250,42 +250,42 @@ impl BlockFile {
 
     /// Writes zeros over a range of the blocks, where they don't stand already, and syncs.
     pub fn zero_range<D: Disk>(&mut self, disk: &mut D, at: u64, len: u64) -> Result<(), FileErr>
-        requires { IsSomeAnd (D.told_length disk.old) (λ n. at + len ≤ n) }
+        requires { IsSomeAnd (D.state disk.old).told (λ n. at + len ≤ n) }
 
         // After it every image has zeros there, and all else as before.
         ensures ok { OnOk result (IsTrue D.tells
-            → D.state disk.new
-            ≡ settled_state (overlay at (replicate len 0) (D.state disk.old).seen)) }
+            → (D.state disk.new).bytes
+            ≡ settled_state (overlay at (replicate len 0) (D.state disk.old).bytes.seen)) }
 
         // All else reads as before, and is so in each image where nothing was pending.
         ensures seen { IsTrue D.tells
-            → Outside at len (D.state disk.old).seen (D.state disk.new).seen }
-        ensures images { IsTrue D.tells → IsSettled (D.state disk.old) → (image : List ℕ)
-            → MayLeave (D.state disk.new) image → Outside at len (D.state disk.old).seen image }
+            → Outside at len (D.state disk.old).bytes.seen (D.state disk.new).bytes.seen }
+        ensures images { IsTrue D.tells → IsSettled (D.state disk.old).bytes → (image : List ℕ)
+            → MayLeave (D.state disk.new).bytes image → Outside at len (D.state disk.old).bytes.seen image }
 
         // Where the range is a content in a block, that content is zeros, and all else stands.
         ensures zeroed { OnOk result (IsTrue D.tells
             → (front : List ℕ) (before after : List (List ℕ)) (head rest content : List ℕ)
-            → Stands front (with_content before after head rest content) (D.state disk.old).seen
+            → Stands front (with_content before after head rest content) (D.state disk.old).bytes.seen
             → tail_of front before + 1 + length head ≡ at → length content ≡ len
             → Stands front (with_content before after head rest (replicate len 0))
-            (D.state disk.new).seen) }
+            (D.state disk.new).bytes.seen) }
 
         // A crash leaves the same blocks, but for that content.
-        ensures kept { IsTrue D.tells → IsSettled (D.state disk.old)
+        ensures kept { IsTrue D.tells → IsSettled (D.state disk.old).bytes
             → (front : List ℕ) (before after : List (List ℕ)) (head rest content : List ℕ)
-            → Stands front (with_content before after head rest content) (D.state disk.old).seen
+            → Stands front (with_content before after head rest content) (D.state disk.old).bytes.seen
             → tail_of front before + 1 + length head ≡ at → length content ≡ len
-            → (image : List ℕ) → MayLeave (D.state disk.new) image
+            → (image : List ℕ) → MayLeave (D.state disk.new).bytes image
             → (other : List ℕ) × (length other ≡ len)
             × Stands front (with_content before after head rest other) image }
 
         // Where zeros stand there, nothing is written.
-        ensures idle { OnErr result (IsTrue D.tells → IsZeros at len (D.state disk.old).seen
-            → D.state disk.new ≡ D.state disk.old) }
+        ensures idle { OnErr result (IsTrue D.tells → IsZeros at len (D.state disk.old).bytes.seen
+            → (D.state disk.new).bytes ≡ (D.state disk.old).bytes) }
         ensures same { self.new ≡ self.old }
-        ensures length { KeepsLength (D.told_length disk.old) (D.told_length disk.new) }
-        ensures faults { CountsAlone result (D.faults disk.old) (D.faults disk.new) }
+        ensures length { KeepsLength (D.state disk.old).told (D.state disk.new).told }
+        ensures faults { CountsAlone result (D.state disk.old).faults (D.state disk.new).faults }
     {
         zero(disk, at, len)?;
         Ok(())
@@ -293,28 +293,28 @@ impl BlockFile {
 
     /// Cuts off what stands behind the tail gate, which is the next gate, and syncs.
     pub fn trim<D: Disk>(&mut self, disk: &mut D) -> Result<(), FileErr>
-        requires length { IsSomeAnd (D.told_length disk.old) (λ n. place_of self.old + 1 ≤ n) }
+        requires length { IsSomeAnd (D.state disk.old).told (λ n. place_of self.old + 1 ≤ n) }
 
         // After it the file ends with its tail gate in every image.
         ensures ok { OnOk result (IsTrue D.tells
-            → D.state disk.new
-            ≡ settled_state (take (place_of self.old + 1) (D.state disk.old).seen)) }
+            → (D.state disk.new).bytes
+            ≡ settled_state (take (place_of self.old + 1) (D.state disk.old).bytes.seen)) }
 
         // An image has the same blocks.
-        ensures images { IsTrue D.tells → IsSettled (D.state disk.old)
+        ensures images { IsTrue D.tells → IsSettled (D.state disk.old).bytes
             → (front : List ℕ) (blocks : List (List ℕ))
-            → Stands front blocks (D.state disk.old).seen
+            → Stands front blocks (D.state disk.old).bytes.seen
             → tail_of front blocks ≡ place_of self.old → (image : List ℕ)
-            → MayLeave (D.state disk.new) image → Stands front blocks image }
+            → MayLeave (D.state disk.new).bytes image → Stands front blocks image }
 
         // Where it ends there already, nothing is cut.
         ensures idle { OnErr result (IsTrue D.tells
-            → length (D.state disk.old).seen ≡ place_of self.old + 1
-            → D.state disk.new ≡ D.state disk.old) }
+            → length (D.state disk.old).bytes.seen ≡ place_of self.old + 1
+            → (D.state disk.new).bytes ≡ (D.state disk.old).bytes) }
         ensures same { self.new ≡ self.old }
-        ensures told { OnOk result (IsSomeAnd (D.told_length disk.new) (λ n. n
+        ensures told { OnOk result (IsSomeAnd (D.state disk.new).told (λ n. n
             ≡ place_of self.old + 1)) }
-        ensures faults { CountsAlone result (D.faults disk.old) (D.faults disk.new) }
+        ensures faults { CountsAlone result (D.state disk.old).faults (D.state disk.new).faults }
     {
         cut_for_good(disk, self.at + 1)?;
         Ok(())
@@ -322,12 +322,12 @@ impl BlockFile {
 
     /// Fills a piece from a range of the file. After an error the piece holds anything.
     pub fn read_range<D: Disk>(&self, disk: &mut D, at: u64, into: &mut [u8]) -> Result<(), FileErr>
-        requires { IsSomeAnd (D.told_length disk.old) (λ n. at + length into.old ≤ n) }
+        requires { IsSomeAnd (D.state disk.old).told (λ n. at + length into.old ≤ n) }
         ensures bytes { OnOk result (IsTrue D.tells
-            → into.new ≡ take (length into.old) (drop at (D.state disk.old).seen)) }
-        ensures state { IsTrue D.tells → D.state disk.new ≡ D.state disk.old }
-        ensures length { KeepsLength (D.told_length disk.old) (D.told_length disk.new) }
-        ensures faults { CountsAlone result (D.faults disk.old) (D.faults disk.new) }
+            → into.new ≡ take (length into.old) (drop at (D.state disk.old).bytes.seen)) }
+        ensures state { IsTrue D.tells → (D.state disk.new).bytes ≡ (D.state disk.old).bytes }
+        ensures length { KeepsLength (D.state disk.old).told (D.state disk.new).told }
+        ensures faults { CountsAlone result (D.state disk.old).faults (D.state disk.new).faults }
     {
         fill(disk, at, into)?;
         Ok(())
@@ -352,19 +352,19 @@ impl BlockFile {
         buffer: &mut Vec<u8>,
         first: u64,
     ) -> Result<Option<BlockAt>, FileErr>
-        requires told { IsSomeAnd (D.told_length disk.old) (λ n. place_of self.old + 1 ≤ n) }
+        requires told { IsSomeAnd (D.state disk.old).told (λ n. place_of self.old + 1 ≤ n) }
         requires number { first < 2 ^ 32 }
         ensures answer { IsTrue D.tells → IsNextBlock (place_of self.old)
-            (D.state disk.old).seen first result }
+            (D.state disk.old).bytes.seen first result }
 
         // The block that stands there is the one that is read, and none is where the blocks end.
         ensures parse { IsTrue D.tells
             → (front : List ℕ) (before after : List (List ℕ)) (root : List ℕ) (es : List Entry)
-            → Stands front (before ++ block_bytes root es ∷ after) (D.state disk.old).seen
+            → Stands front (before ++ block_bytes root es ∷ after) (D.state disk.old).bytes.seen
             → tail_of front before ≡ place_of self.old → length root ≡ 32 → AreBlock first es
             → GivesBlock (place_of self.old) root es result }
         ensures ends { IsTrue D.tells → (front : List ℕ) (blocks : List (List ℕ))
-            → Stands front blocks (D.state disk.old).seen → tail_of front blocks ≡ place_of self.old
+            → Stands front blocks (D.state disk.old).bytes.seen → tail_of front blocks ≡ place_of self.old
             → GivesEnd result }
 
         // Also where the disk doesn't tell what it holds.
@@ -376,11 +376,11 @@ impl BlockFile {
         ensures stays { OnErr result (self.new ≡ self.old) }
         ensures ended { IfOk result (λ found. IfNone found (self.new ≡ self.old)) }
         ensures base { KeepsBase self.old self.new }
-        ensures told { OnOk result (IsSomeAnd (D.told_length disk.new)
+        ensures told { OnOk result (IsSomeAnd (D.state disk.new).told
             (λ n. place_of self.new + 1 ≤ n)) }
-        ensures state { IsTrue D.tells → D.state disk.new ≡ D.state disk.old }
-        ensures length { KeepsLength (D.told_length disk.old) (D.told_length disk.new) }
-        ensures faults { Counts result (D.faults disk.old) (D.faults disk.new) }
+        ensures state { IsTrue D.tells → (D.state disk.new).bytes ≡ (D.state disk.old).bytes }
+        ensures length { KeepsLength (D.state disk.old).told (D.state disk.new).told }
+        ensures faults { Counts result (D.state disk.old).faults (D.state disk.new).faults }
     {
         match read_block(alloc, disk, buffer, self.at, first) {
             Ok(Some(block)) => {
@@ -395,40 +395,40 @@ impl BlockFile {
     /// Commits a block, given without its gate. It is written behind the tail gate, by one write, with a new tail gate
     /// behind it; then the disk is synced, the gate is opened by a write of its own, and the disk is synced again.
     pub fn commit_block<D: Disk>(&mut self, disk: &mut D, block: &[u8]) -> Result<(), FileErr>
-        requires length { IfSome (D.told_length disk.old) (λ n. place_of self.old + 1 ≤ n) }
-        requires gate { IsTrue D.tells → IsShutAt (place_of self.old) (D.state disk.old).seen }
+        requires length { IfSome (D.state disk.old).told (λ n. place_of self.old + 1 ≤ n) }
+        requires gate { IsTrue D.tells → IsShutAt (place_of self.old) (D.state disk.old).bytes.seen }
 
         // Each image has it from then on.
         ensures ok { OnOk result (IsTrue D.tells → (front : List ℕ) (blocks : List (List ℕ))
-            → Stands front blocks (D.state disk.old).seen
+            → Stands front blocks (D.state disk.old).bytes.seen
             → tail_of front blocks ≡ place_of self.old
-            → HasBlock front blocks block.now (D.state disk.new)) }
+            → HasBlock front blocks block.now (D.state disk.new).bytes) }
 
         ensures images { OnOk result (IsTrue D.tells → (front : List ℕ) (blocks : List (List ℕ))
-            → Stands front blocks (D.state disk.old).seen → tail_of front blocks ≡ place_of self.old
-            → (image : List ℕ) → MayLeave (D.state disk.new) image
+            → Stands front blocks (D.state disk.old).bytes.seen → tail_of front blocks ≡ place_of self.old
+            → (image : List ℕ) → MayLeave (D.state disk.new).bytes image
             → Stands front (blocks ++ block.now ∷ []) image) }
 
         // An image has it whole or not at all.
-        ensures err { OnErr result (IsTrue D.tells → IsSettled (D.state disk.old)
+        ensures err { OnErr result (IsTrue D.tells → IsSettled (D.state disk.old).bytes
             → (front : List ℕ) (blocks : List (List ℕ))
-            → Stands front blocks (D.state disk.old).seen
+            → Stands front blocks (D.state disk.old).bytes.seen
             → tail_of front blocks ≡ place_of self.old → (image : List ℕ)
-            → MayLeave (D.state disk.new) image → Stands front blocks image
+            → MayLeave (D.state disk.new).bytes image → Stands front blocks image
             ⊎ Stands front (blocks ++ block.now ∷ []) image) }
         ensures place { OnOk result (place_of self.new ≡ place_of self.old + 1 + length block.now) }
         ensures stays { OnErr result (self.new ≡ self.old) }
         ensures base { KeepsBase self.old self.new }
         ensures gate { OnOk result (IsTrue D.tells
-            → IsShutAt (place_of self.new) (D.state disk.new).seen) }
+            → IsShutAt (place_of self.new) (D.state disk.new).bytes.seen) }
 
         // A file that ended with its tail gate ends with its new one.
         ensures ends { OnOk result (IsTrue D.tells
-            → length (D.state disk.old).seen ≡ place_of self.old + 1
-            → length (D.state disk.new).seen ≡ place_of self.new + 1) }
-        ensures length { OnOk result (IsSomeAnd (D.told_length disk.new)
+            → length (D.state disk.old).bytes.seen ≡ place_of self.old + 1
+            → length (D.state disk.new).bytes.seen ≡ place_of self.new + 1) }
+        ensures length { OnOk result (IsSomeAnd (D.state disk.new).told
             (λ n. place_of self.new + 1 ≤ n)) }
-        ensures faults { CountsAlone result (D.faults disk.old) (D.faults disk.new) }
+        ensures faults { CountsAlone result (D.state disk.old).faults (D.state disk.new).faults }
     {
         stage(disk, self.at, block)?;
         open_gate(disk, self.at)?;
@@ -445,18 +445,18 @@ fn read_block<D: Disk>(
     at: u64,
     first: u64,
 ) -> Result<Option<BlockAt>, FileErr>
-    requires told { IsSomeAnd (D.told_length disk.old) (λ n. at + 1 ≤ n) }
+    requires told { IsSomeAnd (D.state disk.old).told (λ n. at + 1 ≤ n) }
     requires number { first < 2 ^ 32 }
-    ensures answer { IsTrue D.tells → IsNextBlock at (D.state disk.old).seen first result }
+    ensures answer { IsTrue D.tells → IsNextBlock at (D.state disk.old).bytes.seen first result }
     ensures read { IfOk result (λ found. IfSome found (λ block. (es : List Entry)
         × AreBlock first es × IsRead at es block)) }
     ensures only { IfErr result (λ e. (found : ℕ) → e ≢ FileErr.NewerFormat found) }
     ensures told { IfOk result (λ found. IfSome found (λ block.
-        IsSomeAnd (D.told_length disk.new) (λ n. at + 1 + block.len + 1 ≤ n)
+        IsSomeAnd (D.state disk.new).told (λ n. at + 1 + block.len + 1 ≤ n)
         × (at + 1 + block.len + 1 ≤ 2 ^ 62))) }
-    ensures state { IsTrue D.tells → D.state disk.new ≡ D.state disk.old }
-    ensures length { KeepsLength (D.told_length disk.old) (D.told_length disk.new) }
-    ensures faults { Counts result (D.faults disk.old) (D.faults disk.new) }
+    ensures state { IsTrue D.tells → (D.state disk.new).bytes ≡ (D.state disk.old).bytes }
+    ensures length { KeepsLength (D.state disk.old).told (D.state disk.new).told }
+    ensures faults { Counts result (D.state disk.old).faults (D.state disk.new).faults }
 {
     let Some(head) = read_block_head(disk, at)? else {
         return Ok(None);

@@ -28,15 +28,15 @@ pub(crate) fn base_digest(base: &[u8]) -> Digest
 
 /// Looks at the magic and the version of an open file.
 pub(crate) fn check_form<D: Disk>(disk: &mut D) -> Result<(), FileErr>
-    requires { IsSomeAnd (D.told_length disk.old) (λ n. 65 ≤ n) }
-    ensures ok { OnOk result (IsTrue D.tells → (take 8 (drop 1 (D.state disk.old).seen) ≡ magic)
-        × (get_or (D.state disk.old).seen 9 0 ≡ 1)) }
-    ensures err { IfErr result (λ e. IsTrue D.tells → IsOpen (D.state disk.old).seen
-        → IsHeadErr (D.state disk.old).seen e) }
+    requires { IsSomeAnd (D.state disk.old).told (λ n. 65 ≤ n) }
+    ensures ok { OnOk result (IsTrue D.tells → (take 8 (drop 1 (D.state disk.old).bytes.seen) ≡ magic)
+        × (get_or (D.state disk.old).bytes.seen 9 0 ≡ 1)) }
+    ensures err { IfErr result (λ e. IsTrue D.tells → IsOpen (D.state disk.old).bytes.seen
+        → IsHeadErr (D.state disk.old).bytes.seen e) }
     ensures only { IfErr result (λ e. e ≢ FileErr.NoMemory) }
-    ensures state { IsTrue D.tells → D.state disk.new ≡ D.state disk.old }
-    ensures length { KeepsLength (D.told_length disk.old) (D.told_length disk.new) }
-    ensures faults { Counts result (D.faults disk.old) (D.faults disk.new) }
+    ensures state { IsTrue D.tells → (D.state disk.new).bytes ≡ (D.state disk.old).bytes }
+    ensures length { KeepsLength (D.state disk.old).told (D.state disk.new).told }
+    ensures faults { Counts result (D.state disk.old).faults (D.state disk.new).faults }
 {
     let mut magic = [0; 8];
     fill(disk, 1, &mut magic)?;
@@ -52,16 +52,16 @@ pub(crate) fn check_form<D: Disk>(disk: &mut D) -> Result<(), FileErr>
 
 /// Reads the fields of a head.
 pub(crate) fn read_fields<D: Disk>(disk: &mut D) -> Result<FileHead, Failed>
-    requires { IsSomeAnd (D.told_length disk.old) (λ n. 65 ≤ n) }
+    requires { IsSomeAnd (D.state disk.old).told (λ n. 65 ≤ n) }
     ensures generation { IfOk result (λ head. IsTrue D.tells
-        → head.generation ≡ number_at 10 (D.state disk.old).seen) }
+        → head.generation ≡ number_at 10 (D.state disk.old).bytes.seen) }
     ensures base_len { IfOk result (λ head. IsTrue D.tells
-        → head.base_len ≡ number_at 18 (D.state disk.old).seen) }
+        → head.base_len ≡ number_at 18 (D.state disk.old).bytes.seen) }
     ensures base_digest { IfOk result (λ head. IsTrue D.tells
-        → head.base_digest.0 ≡ take 32 (drop 26 (D.state disk.old).seen)) }
-    ensures state { IsTrue D.tells → D.state disk.new ≡ D.state disk.old }
-    ensures length { KeepsLength (D.told_length disk.old) (D.told_length disk.new) }
-    ensures faults { CountsFault result (D.faults disk.old) (D.faults disk.new) }
+        → head.base_digest.0 ≡ take 32 (drop 26 (D.state disk.old).bytes.seen)) }
+    ensures state { IsTrue D.tells → (D.state disk.new).bytes ≡ (D.state disk.old).bytes }
+    ensures length { KeepsLength (D.state disk.old).told (D.state disk.new).told }
+    ensures faults { CountsFault result (D.state disk.old).faults (D.state disk.new).faults }
 {
     Ok(FileHead {
         generation: read_number(disk, 10)?,

@@ -12,24 +12,24 @@ use std::alloc::Global;
 
 /// Fills a piece from a range that is there.
 pub(crate) fn fill<D: Disk>(disk: &mut D, at: u64, into: &mut [u8]) -> Result<(), Failed>
-    requires { IsSomeAnd (D.told_length disk.old) (λ n. at + length into.old ≤ n) }
+    requires { IsSomeAnd (D.state disk.old).told (λ n. at + length into.old ≤ n) }
     ensures bytes { OnOk result (IsTrue D.tells
-        → into.new ≡ take (length into.old) (drop at (D.state disk.old).seen)) }
-    ensures state { IsTrue D.tells → D.state disk.new ≡ D.state disk.old }
-    ensures length { KeepsLength (D.told_length disk.old) (D.told_length disk.new) }
-    ensures faults { CountsFault result (D.faults disk.old) (D.faults disk.new) }
+        → into.new ≡ take (length into.old) (drop at (D.state disk.old).bytes.seen)) }
+    ensures state { IsTrue D.tells → (D.state disk.new).bytes ≡ (D.state disk.old).bytes }
+    ensures length { KeepsLength (D.state disk.old).told (D.state disk.new).told }
+    ensures faults { CountsFault result (D.state disk.old).faults (D.state disk.new).faults }
 {
     disk.read(at, into)?;
     Ok(())
 }
 
 pub(crate) fn read_byte<D: Disk>(disk: &mut D, at: u64) -> Result<u8, Failed>
-    requires { IsSomeAnd (D.told_length disk.old) (λ n. at + 1 ≤ n) }
+    requires { IsSomeAnd (D.state disk.old).told (λ n. at + 1 ≤ n) }
     ensures value { IfOk result (λ byte. IsTrue D.tells
-        → byte ≡ get_or (D.state disk.old).seen at 0) }
-    ensures state { IsTrue D.tells → D.state disk.new ≡ D.state disk.old }
-    ensures length { KeepsLength (D.told_length disk.old) (D.told_length disk.new) }
-    ensures faults { CountsFault result (D.faults disk.old) (D.faults disk.new) }
+        → byte ≡ get_or (D.state disk.old).bytes.seen at 0) }
+    ensures state { IsTrue D.tells → (D.state disk.new).bytes ≡ (D.state disk.old).bytes }
+    ensures length { KeepsLength (D.state disk.old).told (D.state disk.new).told }
+    ensures faults { CountsFault result (D.state disk.old).faults (D.state disk.new).faults }
 {
     let mut byte = [0];
     fill(disk, at, &mut byte)?;
@@ -37,12 +37,12 @@ pub(crate) fn read_byte<D: Disk>(disk: &mut D, at: u64) -> Result<u8, Failed>
 }
 
 pub(crate) fn read_number<D: Disk>(disk: &mut D, at: u64) -> Result<u64, Failed>
-    requires { IsSomeAnd (D.told_length disk.old) (λ n. at + 8 ≤ n) }
+    requires { IsSomeAnd (D.state disk.old).told (λ n. at + 8 ≤ n) }
     ensures value { IfOk result (λ number. IsTrue D.tells
-        → number ≡ number_at at (D.state disk.old).seen) }
-    ensures state { IsTrue D.tells → D.state disk.new ≡ D.state disk.old }
-    ensures length { KeepsLength (D.told_length disk.old) (D.told_length disk.new) }
-    ensures faults { CountsFault result (D.faults disk.old) (D.faults disk.new) }
+        → number ≡ number_at at (D.state disk.old).bytes.seen) }
+    ensures state { IsTrue D.tells → (D.state disk.new).bytes ≡ (D.state disk.old).bytes }
+    ensures length { KeepsLength (D.state disk.old).told (D.state disk.new).told }
+    ensures faults { CountsFault result (D.state disk.old).faults (D.state disk.new).faults }
 {
     let mut number = [0; 8];
     fill(disk, at, &mut number)?;
@@ -50,12 +50,12 @@ pub(crate) fn read_number<D: Disk>(disk: &mut D, at: u64) -> Result<u64, Failed>
 }
 
 pub(crate) fn read_digest<D: Disk>(disk: &mut D, at: u64) -> Result<Digest, Failed>
-    requires { IsSomeAnd (D.told_length disk.old) (λ n. at + 32 ≤ n) }
+    requires { IsSomeAnd (D.state disk.old).told (λ n. at + 32 ≤ n) }
     ensures value { IfOk result (λ digest. IsTrue D.tells
-        → digest.0 ≡ take 32 (drop at (D.state disk.old).seen)) }
-    ensures state { IsTrue D.tells → D.state disk.new ≡ D.state disk.old }
-    ensures length { KeepsLength (D.told_length disk.old) (D.told_length disk.new) }
-    ensures faults { CountsFault result (D.faults disk.old) (D.faults disk.new) }
+        → digest.0 ≡ take 32 (drop at (D.state disk.old).bytes.seen)) }
+    ensures state { IsTrue D.tells → (D.state disk.new).bytes ≡ (D.state disk.old).bytes }
+    ensures length { KeepsLength (D.state disk.old).told (D.state disk.new).told }
+    ensures faults { CountsFault result (D.state disk.old).faults (D.state disk.new).faults }
 {
     let mut digest = [0; 32];
     fill(disk, at, &mut digest)?;
@@ -69,14 +69,14 @@ pub(crate) fn read_part<D: Disk>(
     at: u64,
     len: u64,
 ) -> Result<Vec<u8>, FileErr>
-    requires { IsSomeAnd (D.told_length disk.old) (λ n. at + len ≤ n) }
+    requires { IsSomeAnd (D.state disk.old).told (λ n. at + len ≤ n) }
     ensures bytes { IfOk result (λ part. IsTrue D.tells
-        → part.items ≡ take len (drop at (D.state disk.old).seen)) }
+        → part.items ≡ take len (drop at (D.state disk.old).bytes.seen)) }
     ensures size { IfOk result (λ part. length part.items ≡ len) }
     ensures err { IfErr result (λ e. (e ≡ FileErr.DiskFault) ⊎ (e ≡ FileErr.NoMemory)) }
-    ensures state { IsTrue D.tells → D.state disk.new ≡ D.state disk.old }
-    ensures length { KeepsLength (D.told_length disk.old) (D.told_length disk.new) }
-    ensures faults { Counts result (D.faults disk.old) (D.faults disk.new) }
+    ensures state { IsTrue D.tells → (D.state disk.new).bytes ≡ (D.state disk.old).bytes }
+    ensures length { KeepsLength (D.state disk.old).told (D.state disk.new).told }
+    ensures faults { Counts result (D.state disk.old).faults (D.state disk.new).faults }
 {
     let mut part = Vec::new(alloc);
     read_over(disk, at, len, &mut part)?;
@@ -91,14 +91,14 @@ pub(crate) fn read_over<D: Disk>(
     len: u64,
     buffer: &mut Vec<u8>,
 ) -> Result<(), FileErr>
-    requires { IsSomeAnd (D.told_length disk.old) (λ n. at + len ≤ n) }
+    requires { IsSomeAnd (D.state disk.old).told (λ n. at + len ≤ n) }
     ensures bytes { OnOk result (IsTrue D.tells
-        → buffer.new.items ≡ take len (drop at (D.state disk.old).seen)) }
+        → buffer.new.items ≡ take len (drop at (D.state disk.old).bytes.seen)) }
     ensures size { OnOk result (length buffer.new.items ≡ len) }
     ensures err { IfErr result (λ e. (e ≡ FileErr.DiskFault) ⊎ (e ≡ FileErr.NoMemory)) }
-    ensures state { IsTrue D.tells → D.state disk.new ≡ D.state disk.old }
-    ensures length { KeepsLength (D.told_length disk.old) (D.told_length disk.new) }
-    ensures faults { Counts result (D.faults disk.old) (D.faults disk.new) }
+    ensures state { IsTrue D.tells → (D.state disk.new).bytes ≡ (D.state disk.old).bytes }
+    ensures length { KeepsLength (D.state disk.old).told (D.state disk.new).told }
+    ensures faults { Counts result (D.state disk.old).faults (D.state disk.new).faults }
 {
     buffer.resize(len as usize, 0)?;
     fill(disk, at, buffer.as_mut_slice())?;
@@ -107,22 +107,22 @@ pub(crate) fn read_over<D: Disk>(
 
 /// What the head of the block at a place tells, where there is room for its body. None where its gate is shut.
 pub(crate) fn read_block_head<D: Disk>(disk: &mut D, at: u64) -> Result<Option<BlockHead>, FileErr>
-    requires { IsSomeAnd (D.told_length disk.old) (λ n. at + 1 ≤ n) }
+    requires { IsSomeAnd (D.state disk.old).told (λ n. at + 1 ≤ n) }
     ensures shut { IfOk result (λ found. IfNone found (IsTrue D.tells
-        → get_or (D.state disk.old).seen at 0 ≢ 1)) }
+        → get_or (D.state disk.old).bytes.seen at 0 ≢ 1)) }
     ensures head { IfOk result (λ found. IfSome found (λ head. IsTrue D.tells
-        → IsHeadRead at (D.state disk.old).seen head)) }
+        → IsHeadRead at (D.state disk.old).bytes.seen head)) }
     ensures count { IfOk result (λ found. IfSome found
         (λ head. (1 ≤ head.count) × (head.count ≤ BLOCK_LIMIT))) }
-    ensures err { IfErr result (λ e. IsTrue D.tells → IsBlockHeadErr at (D.state disk.old).seen e) }
+    ensures err { IfErr result (λ e. IsTrue D.tells → IsBlockHeadErr at (D.state disk.old).bytes.seen e) }
     ensures only { IfErr result (λ e. (e ≢ FileErr.NoMemory)
         × ((found : ℕ) → e ≢ FileErr.NewerFormat found)) }
     ensures told { IfOk result (λ found. IfSome found (λ head.
-        IsSomeAnd (D.told_length disk.new) (λ n. at + 45 + head.body_len + 1 ≤ n)
+        IsSomeAnd (D.state disk.new).told (λ n. at + 45 + head.body_len + 1 ≤ n)
         × (at + 45 + head.body_len + 1 ≤ 2 ^ 62))) }
-    ensures state { IsTrue D.tells → D.state disk.new ≡ D.state disk.old }
-    ensures length { KeepsLength (D.told_length disk.old) (D.told_length disk.new) }
-    ensures faults { Counts result (D.faults disk.old) (D.faults disk.new) }
+    ensures state { IsTrue D.tells → (D.state disk.new).bytes ≡ (D.state disk.old).bytes }
+    ensures length { KeepsLength (D.state disk.old).told (D.state disk.new).told }
+    ensures faults { Counts result (D.state disk.old).faults (D.state disk.new).faults }
 {
     if read_byte(disk, at)? != 1 {
         return Ok(None);

@@ -170,11 +170,17 @@ module _ (p : ℕ) (a : Added) where
         (cases_Bool (list_any (tie q) (clues_of a))))
 
     -- the journals of a clue in an index that begins at p are its journals as they are seen from p
-    trail_begun : trail_of (from_point p a) q ≡ seen_from p (trail_of a q)
+    pub trail_begun : trail_of (from_point p a) q ≡ seen_from p (trail_of a q)
     trail_begun =
         let state = state_told in
         let jsns = jsns_kept q p a.marks in
         λ i. record { count = (state i).count; last = (state i).last; jsns = jsns i }
+
+    -- the clues that it was given are the same
+    pub listed_begun : list_any (tie q) (clues_of (from_point p a)) ≡ list_any (tie q) (clues_of a)
+    listed_begun =
+        given_counted (from_point p a) q (counted_states (map at (different_clues a)))
+        ∙ (ap (nat_lt 0) (ap count_of trail_begun ∙ count_seen p (trail_of a q)) ∙ sym (given_counted a q counted))
 
     alike_begun : Ascends (map (λ m. m.jsn) a.marks) → option_map (seen_from p) (get (table_of (from_point p a)) q) ≡ option_map (seen_from p) (get (table_of a) q)
     alike_begun rises =

@@ -2,6 +2,7 @@ ghost use Rattle.std.specs.Prelude.{◌≡◌, ◌≢◌, [], ◌+◌, ◌-◌, 
 ghost use Rattle.clue_index.specs.Added.{Added, Mark, added_at_first, with_mark, with_floor, no_clue, trail_of, different_clues, states_at};
 ghost use Rattle.clue_index.specs.Index.{Stands};
 ghost use Rattle.clue_index.specs.Trail.{count_of, last_of, kept_from, Ascends};
+ghost use Rattle.clue_index.specs.declared.index.TheConstants.{CLUE_ROOM};
 
 use crate::ClueState;
 use crate::slot::Slot;
@@ -9,6 +10,9 @@ use ledger_bytes::{Digest, NoMemory};
 use std::alloc::Global;
 use std::collections::BTreeMap;
 use std::marker::Model;
+
+/// How many different clues an index has room for: as many as a ledger may have.
+pub const CLUE_ROOM: usize = 1_048_576;
 
 /// The journals of each clue. A contract sees the record of what is kept; `Stands` says what was added for it to keep
 /// that.
@@ -21,11 +25,16 @@ pub struct ClueIndex {
 }
 
 impl Model for ClueIndex {
+    ghost use Rattle.std.specs.Prelude.{◌≤◌};
+    ghost use Rattle.std.specs.BTreeMap.{btree_map_len};
     ghost use Rattle.clue_index.specs.Index.{Kept};
+    ghost use Rattle.clue_index.specs.declared.index.TheConstants.{CLUE_ROOM};
 
     ghost Value = { Kept };
 
     ghost view = { λ x. record { trails = x.slots.entries; floor = x.floor } };
+
+    ghost invariant = { λ x. btree_map_len x.slots ≤ CLUE_ROOM };
 }
 
 impl ClueIndex {
@@ -42,6 +51,7 @@ impl ClueIndex {
 
     /// The index of a ledger that begins with these states, of clues that aren't zero. No journal is kept.
     pub fn from_states(alloc: Global, states: &[ClueState]) -> Result<Self, NoMemory>
+        requires { length states.now ≤ CLUE_ROOM }
         ensures { IfOk result (λ index. All (λ s. s.clue.0 ≢ no_clue) states.now
             → Stands index (added_at_first states.now)) }
     {
@@ -86,9 +96,14 @@ impl ClueIndex {
             → Stands self.new (with_mark clue.now.0 jsn a)) }
         ensures err { OnErr result (self.new ≡ self.old) }
     {
+        let room = self.slots.len() < CLUE_ROOM;
         match self.slots.get_mut(&clue.0) {
             Some(slot) => slot.grow(jsn),
             None => {
+                // Never met by a ledger, whose limits are no greater.
+                if !room {
+                    return Err(NoMemory);
+                }
                 let slot = Slot::first(self.alloc, jsn)?;
                 self.slots.insert(clue.0, slot)?;
                 Ok(())
@@ -118,9 +133,10 @@ impl ClueIndex {
     /// The states of all clues when the journals below `p` had been placed, ascending by clue; a clue without a journal
     /// by then isn't among them. `p` isn't below the first journal that is kept, and each count is a `u32`.
     pub fn state_at(&self, p: u64) -> Result<Vec<ClueState>, NoMemory>
-        ensures { IfOk result (λ states. (a : Added) → Stands self.now a → a.floor ≤ p
+        ensures states { IfOk result (λ states. (a : Added) → Stands self.now a → a.floor ≤ p
             → ((clue : List ℕ) → count_of (trail_of a clue) < 2 ^ 32)
             → states.items ≡ states_at p a) }
+        ensures few { IfOk result (λ states. length states.items ≤ CLUE_ROOM) }
     {
         let mut states = Vec::new(self.alloc);
         for (clue, slot) in self.slots.iter() {

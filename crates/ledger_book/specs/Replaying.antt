@@ -7,7 +7,7 @@ use Rattle.journal_record.specs.Entry.{Entry, content_digest_of}
 use Rattle.journal_record.specs.declared.header.Header.{Header}
 use Rattle.ledger_model.specs.History.{History, history}
 use Rattle.ledger_model.specs.Outcomes.{with_waiting}
-use Rattle.ledger_book.specs.Books.{Kept, Serves}
+use Rattle.ledger_book.specs.Books.{Kept, Stands}
 use Rattle.ledger_book.specs.Steps.{MayPlace}
 
 -- a first journal with this header: the halves of its content are the two keys, and it has the digest that the header names
@@ -24,9 +24,9 @@ begun_with journal = history ((journal ∷ []) ∷ []) []
 -- the header is the next one, and the book keeps each history that has a journal of it behind those that were there
 pub record IsPlaced (old : Kept) (header : Header) (new : Kept) (h : History) : Type 0 where
   pub next : MayPlace h header
-  pub serves : (journal : Entry) → journal.header ≡ header → Serves new (with_waiting (Some journal) h)
+  pub stands : (journal : Entry) → journal.header ≡ header → Stands new (with_waiting (Some journal) h)
 
 -- what replaying a header tells: it was placed, or it isn't the next one and nothing has changed
 abbrev pub Replays : Kept → Header → Result Unit Damage → Kept → Type 0
-Replays old header (Ok done) new = (h : History) → Serves old h → IsPlaced old header new h
-Replays old header (Err told) new = (told ≡ damage.Entry old.size) × ((h : History) → Serves old h → MayPlace h header → ⊥) × (new ≡ old)
+Replays old header (Ok done) new = (h : History) → Stands old h → IsPlaced old header new h
+Replays old header (Err told) new = (told ≡ damage.Entry old.size) × ((h : History) → Stands old h → MayPlace h header → ⊥) × (new ≡ old)

@@ -1,4 +1,4 @@
-ghost use Rattle.std.specs.Prelude.{◌≡◌, ◌↔◌, ◌≤◌, IsTrue, IfOk, IfNone, length, nat_le, slice_get, option_copied, Option, None, true, if◌then◌else◌};
+ghost use Rattle.std.specs.Prelude.{◌≡◌, ◌+◌, ◌↔◌, ◌≤◌, IsTrue, IfOk, IfNone, IsSome, ◌<◌, length, nat_le, slice_get, option_copied, Option, None, true, if◌then◌else◌};
 ghost use Rattle.sha2.specs.Sha256.{sha256};
 ghost use Rattle.merkle_batch.specs.Rows.{StandsFor};
 ghost use Rattle.ledger_model.specs.Clues.{jsns_with};
@@ -54,7 +54,7 @@ pub struct Book {
 }
 
 impl Model for Book {
-    ghost use Rattle.std.specs.Prelude.{◌≡◌, ◌^◌, ◌<◌, ◌≤◌, vec_len, vec_capacity};
+    ghost use Rattle.std.specs.Prelude.{◌≡◌, ◌^◌, ◌+◌, ◌<◌, ◌≤◌, vec_len, vec_capacity};
     ghost use Rattle.ledger_model.specs.Limits.{AreWithin};
     ghost use Rattle.ledger_book.specs.Books.{Kept};
 
@@ -79,7 +79,7 @@ impl Model for Book {
     ghost invariant = { λ b. (1 ≤ b.size) × (b.size < 2 ^ 32) × AreWithin b.limits
         × (b.blocks ≤ b.head.size) × (b.head.size ≤ b.size)
         × (b.head.size < b.size → vec_len b.ends < vec_capacity b.ends) × (b.tree.size ≡ b.size)
-        × (b.tree.floor ≡ b.floor) };
+        × (b.tree.floor ≡ b.floor) × (b.floor + vec_len b.headers ≡ b.size) };
 }
 
 impl Book {
@@ -107,6 +107,7 @@ impl Book {
         ensures sealed { (h : History) → Stands self.old h → result ≡ seal_of h }
         ensures none { IfNone result (self.new ≡ self.old) }
         ensures same { IsSame self.old self.new }
+        ensures ended { (self.new.size ≡ self.old.size) × (self.new.sealed ≡ self.old.size) }
     {
         if self.head.size == self.size {
             return None;
@@ -141,7 +142,8 @@ impl Book {
 
     /// The header of journal `n`, where it is kept.
     pub fn header(&self, n: u64) -> Option<&Header>
-        ensures { (h : History) → Serves self.now h
+        ensures some { self.now.floor ≤ n → n < self.now.size → IsSome result }
+        ensures header { (h : History) → Serves self.now h
             → option_copied result
             ≡ (if nat_le self.now.floor n then slice_get (headers h) n else None) }
     {
@@ -181,7 +183,8 @@ impl Book {
 
     /// How many journals wait in the open block.
     pub fn waiting_count(&self) -> u64
-        ensures { (h : History) → Stands self.now h → result ≡ length h.waiting }
+        ensures count { (h : History) → Stands self.now h → result ≡ length h.waiting }
+        ensures number { self.now.sealed + result ≡ self.now.size }
     {
         self.size - self.head.size
     }

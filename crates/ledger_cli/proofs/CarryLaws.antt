@@ -1,16 +1,17 @@
 -- Lemmas on a run whose disks were opened or made first.
-use Rattle.std.proofs.Common.{◌≡◌, ℕ, ◌⊎◌, inl, inr, ◌<◌, List, [], length, take, drop, refl, sym, subst, ◌∙◌, arith}
-use Rattle.std.specs.Prelude.{IfSome}
+use Rattle.std.proofs.Common.{◌≡◌, ℕ, ◌⊎◌, inl, inr, ◌<◌, List, [], length, take, drop, refl, ap, sym, subst, ◌∙◌, arith}
+use Rattle.std.specs.Prelude.{IfSome, IsSome}
 use Rattle.std.proofs.KnownBytes.{Consumes-nil, Appends-nil}
 use Rattle.std.proofs.lemmas.List.{take-append-drop, length-take-le}
 use Rattle.batch_committer.specs.World.{Pair}
 use Rattle.batch_committer.proofs.WayLaws.{begins_not}
 use Rattle.block_file.specs.File.{IsSettled}
 use Rattle.ledger_bytes.specs.Begins.{Begins}
-use Rattle.ledger_bytes.specs.Causes.{Rose}
+use Rattle.ledger_bytes.specs.Causes.{count_after}
 use Rattle.ledger_disk.specs.Disk.{State, MayLeave}
 use Rattle.ledger_disk.proofs.Guarding.{settled_image}
-use Rattle.ledger_io.specs.Lines.{lines_of}
+use Rattle.std.proofs.lemmas.List.Elements.{All-nil}
+use Rattle.ledger_io.specs.Lines.{lines_of, IsLine}
 use Rattle.ledger_io.specs.Outside.{SourceState, SinkState}
 use Rattle.ledger_io.specs.Runs.{FallsShort, SomeOfScript}
 use Rattle.ledger_io.specs.declared.ending.Ending.TheVariants as run
@@ -22,7 +23,7 @@ use Rattle.ledger_model.proofs.WaitLaws.{begins_closed}
 use Rattle.ledger_open.specs.Standing.{PairFor}
 use Rattle.ledger_open.specs.declared.failure.OpenErr.{OpenErr}
 use Rattle.ledger_cli.specs.Endings.{refusal_of}
-use Rattle.ledger_cli.specs.Runs.{Handed, handed, AreQuiet, StandFor, Faults, NoDiskFailed, FaultsBy, StopsOn, RunsOn}
+use Rattle.ledger_cli.specs.Runs.{Handed, handed, AreQuiet, StandFor, Faults, NoDiskFailed, DiskFailed, FaultsBy, StopsOn, RunsOn}
 use Rattle.ledger_cli.specs.Session.{IsOfLines}
 use Rattle.ledger_cli.specs.declared.ending.LedgerEnding.{LedgerEnding}
 use Rattle.ledger_cli.specs.declared.ending.LedgerEnding.TheVariants.{Run, DiskFault, Damaged, Empty, Exists, NewerFormat}
@@ -48,9 +49,9 @@ module _ (source : SourceState) (sink : SinkState) (d e : Pair) (now : Handed) (
   none_from : (S : ℕ → ℕ → Type 0) (K : SinkState → SinkState → Type 0) → Faults S K NoDiskFailed (handed source sink d) now → Faults S K NoDiskFailed (handed source sink e) now
   none_from S K f = record { source_is = f.source_is; sink_is = f.sink_is; disks_are = record { a = f.disks_are.a ∙ a; b = f.disks_are.b ∙ b } }
 
-  rose_from : Rose d.a.faults now.disks.a.faults ⊎ Rose d.b.faults now.disks.b.faults → Rose e.a.faults now.disks.a.faults ⊎ Rose e.b.faults now.disks.b.faults
-  rose_from (inl r) = inl (subst (λ n. Rose n now.disks.a.faults) a r)
-  rose_from (inr r) = inr (subst (λ n. Rose n now.disks.b.faults) b r)
+  one_from : DiskFailed d now.disks → DiskFailed e now.disks
+  one_from (inl f) = inl (f.0 ∙ ap count_after a, f.1 ∙ b)
+  one_from (inr f) = inr (f.0 ∙ a, f.1 ∙ ap count_after b)
 
   pub faults_from : (ending : LedgerEnding) → FaultsBy ending (handed source sink d) now → FaultsBy ending (handed source sink e) now
   faults_from (Run run.Done) f = none_from _ _ f
@@ -63,7 +64,7 @@ module _ (source : SourceState) (sink : SinkState) (d e : Pair) (now : Handed) (
   faults_from DiskFault f = record {
     source_is = f.source_is;
     sink_is = f.sink_is;
-    disks_are = record { rose = rose_from f.disks_are.rose; later_a = omega (arith, a, f.disks_are.later_a); later_b = omega (arith, b, f.disks_are.later_b) };
+    disks_are = one_from f.disks_are;
   }
   faults_from (Damaged damage) f = none_from _ _ f
   faults_from Empty f = none_from _ _ f
@@ -86,7 +87,7 @@ module _ (scheme : Scheme) (h : History) (source : SourceState) (sink : SinkStat
   }
 
   some_first : SomeOfScript (StopsOn scheme h [] now) source source [] (Begins [])
-  some_first = inl (refl, λ more. (text_for scheme h (lines_of more), stops_first (lines_of more), record { rest = text_for scheme h (lines_of more); is = refl }))
+  some_first = inl (refl, ([], [], record { is = refl; each = All-nil IsLine }, λ lines. (text_for scheme h lines, stops_first lines, record { rest = text_for scheme h lines; is = refl })))
 
   pub serves_none : RunsOn scheme h (Run run.NoMemory) (handed source sink old) (handed source sink now)
   serves_none = record { read = []; replies = []; consumed = Consumes-nil source.left; appended = Appends-nil sink.held; replied = (inl refl, some_first) }
@@ -110,6 +111,14 @@ of_lines (Damaged damage) P is = absurd is
 of_lines Empty P is = absurd is
 of_lines Exists P is = absurd is
 of_lines (NewerFormat found) P is = absurd is
+
+pub no_refusal : (ending : LedgerEnding) → IsOfLines ending → IsSome (refusal_of ending) → ⊥
+no_refusal (Run ending) is some = let no : ⊥ = cc some in no
+no_refusal DiskFault is some = let no : ⊥ = cc some in no
+no_refusal (Damaged damage) is some = absurd is
+no_refusal Empty is some = absurd is
+no_refusal Exists is some = absurd is
+no_refusal (NewerFormat found) is some = absurd is
 
 pub none_waits : (a b : List ℕ) (h : History) → PairFor a b h → h.waiting ≡ []
 none_waits a b h (inl x) = x.0.none

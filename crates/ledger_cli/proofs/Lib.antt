@@ -1,9 +1,12 @@
 pub mod CarryLaws
-pub mod JobLaws
 pub mod LineLaws
 pub mod OpeningLaws
-pub mod RequestLaws
 pub mod SessionLaws
 pub mod StopLaws
 pub mod TakeLaws
 pub mod TopLaws
+pub mod PieceLaws
+pub mod MergeLaws
+pub mod OrderLaws
+pub mod HaltLaws
+pub mod RunsLaws

@@ -40,7 +40,7 @@ pub after-append : (scheme : Scheme) (h : History) (xs ys : List (List Step)) �
 after-append scheme h [] ys = refl
 after-append scheme h (x ∷ xs) ys = after-append scheme (after_window scheme h x) xs ys
 
-all_dues-append : (scheme : Scheme) (h : History) (xs ys : List (List Step)) → all_dues scheme h (xs ++ ys) ≡ all_dues scheme h xs ++ all_dues scheme (after scheme h xs) ys
+pub all_dues-append : (scheme : Scheme) (h : History) (xs ys : List (List Step)) → all_dues scheme h (xs ++ ys) ≡ all_dues scheme h xs ++ all_dues scheme (after scheme h xs) ys
 all_dues-append scheme h [] ys = refl
 all_dues-append scheme h (x ∷ xs) ys =
     let g = after_window scheme h x in
@@ -98,7 +98,7 @@ module _ (scheme : Scheme) (h : History) where
       owes (x ∷ xs) = dues_on done (x ∷ xs) ∙ append-nil (all_dues scheme h (steps_of (done ++ (x ∷ xs) ∷ [])))
 
   -- a script that goes on
-  on_windows : (done : List (List Said)) (current : List Said) (rest : List Step) (more : List (List Step)) → GoesOn scheme done current h (steps_of done ++ (map step_of current ++ rest) ∷ more)
+  pub on_windows : (done : List (List Said)) (current : List Said) (rest : List Step) (more : List (List Step)) → GoesOn scheme done current h (steps_of done ++ (map step_of current ++ rest) ∷ more)
   on_windows done current rest more =
       let g = after scheme h (steps_of done) in
       let now = map step_of current in
@@ -118,7 +118,7 @@ module _ (scheme : Scheme) (h : History) where
             ∙ sym (append_assoc ds (dues scheme g now) (dues scheme k rest ++ later));
       }
 
-  on_stays : (done : List (List Said)) → GoesOn scheme done [] h (steps_of done)
+  pub on_stays : (done : List (List Said)) → GoesOn scheme done [] h (steps_of done)
   on_stays done = let ds = all_dues scheme h (steps_of done) in record {
     grows = grows_not (after scheme h (steps_of done));
     rest = [];
@@ -141,7 +141,7 @@ pub record Counted (done : List (List Said)) (current : List Said) : Type 0 wher
   pub windows_are : EachCounted (steps_of done)
   pub steps_are : AllCounted (map step_of current)
 
-counted_split : (front : List (List Step)) (last : List Step) → EachCounted (front ++ last ∷ []) → EachCounted front × AllCounted last
+pub counted_split : (front : List (List Step)) (last : List Step) → EachCounted (front ++ last ∷ []) → EachCounted front × AllCounted last
 counted_split [] last c = (tt, c.0)
 counted_split (x ∷ xs) last c = let rest = counted_split xs last c.1 in ((c.0, rest.0), rest.1)
 

@@ -1,5 +1,5 @@
 -- Lemmas on the commands that open or make a ledger.
-use Rattle.std.proofs.Common.{◌≡◌, ℕ, ◌⊎◌, inl, inr, Bool, true, List, [], ◌∷◌, take, refl, ap, sym, subst, ◌∙◌, arith}
+use Rattle.std.proofs.Common.{◌≡◌, ◌≢◌, ℕ, ◌⊎◌, inl, inr, Bool, true, List, [], ◌∷◌, take, refl, ap, sym, subst, ◌∙◌, arith}
 use Rattle.std.specs.Prelude.{IsTrue, codes, decimal}
 use Rattle.std.specs.Io.KnownBytes.{Appends}
 use Rattle.std.proofs.KnownBytes.{Appends-nil}
@@ -9,7 +9,7 @@ use Rattle.batch_committer.proofs.Opening.{opened_held, opened_fits, opened_room
 use Rattle.journal_record.specs.Entry.{Entry}
 use Rattle.block_file.specs.File.{IsSettled}
 use Rattle.block_file.specs.Head.{IsShut, IsOpen}
-use Rattle.ledger_disk.specs.Disk.{State, MayLeave}
+use Rattle.ledger_disk.specs.Disk.{State, MayLeave, settled_state}
 use Rattle.ledger_io.specs.Outside.{SourceState, SinkState, MeetsNone, MeetsOne}
 use Rattle.ledger_io.specs.Runs.{FallsShort}
 use Rattle.ledger_io.specs.declared.ending.Ending.TheVariants as run
@@ -19,30 +19,30 @@ use Rattle.ledger_model.specs.Limits.{real_limits}
 use Rattle.ledger_model.specs.Scheme.{Scheme}
 use Rattle.ledger_model.specs.declared.genesis.Genesis.{Genesis}
 use Rattle.ledger_open.specs.Founding.{IsFounded, IsFoundedOrShut, IsOneOpen}
-use Rattle.ledger_open.specs.Opening.{Known, IsReopened, IsOpenErr, IsOutside, CountsTwoErr}
+use Rattle.ledger_open.specs.Opening.{Known, IsReopened, IsOpenErr, IsOutside, StandsAsRead, CountsTwoErr}
 use Rattle.ledger_open.specs.Standing.{PairFor}
 use Rattle.ledger_open.specs.declared.failure.OpenErr.{OpenErr}
 use Rattle.ledger_open.specs.declared.failure.OpenErr.TheVariants as open_err
 use Rattle.ledger_open.proofs.OpenLaws.{pair_opens, reopened_only}
 use Rattle.twin_file.specs.Images.{AreShut}
 use Rattle.ledger_cli.specs.Endings.{ending_of_opening, line_of}
-use Rattle.ledger_cli.specs.Runs.{Handed, handed, FaultsBy, IsRefused, RunsAgain, RunsNew, Makes, IsMaking, ledger_line}
+use Rattle.ledger_cli.specs.Runs.{Handed, handed, FaultsBy, SettledAsRead, StayAsRead, IsUnstarted, IsRefused, IsMadeOf, RunsAgain, RunsNew, Makes, ledger_line}
 use Rattle.ledger_cli.specs.Session.{IsOfLines, Runs}
 use Rattle.ledger_cli.specs.declared.ending.LedgerEnding.{LedgerEnding}
-use Rattle.ledger_cli.specs.declared.ending.LedgerEnding.TheVariants.{Run, DiskFault, Exists}
+use Rattle.ledger_cli.specs.declared.ending.LedgerEnding.TheVariants.{Run}
 use Rattle.ledger_bytes.specs.Digests.{digest}
 use Rattle.ledger_bytes.specs.declared.digest.Digest.{Digest}
 use Rattle.script_lines.specs.Words.{hex_of}
 use Rattle.ledger_io.specs.Writing.{WritesFirst}
 use Rattle.ledger_io.specs.declared.writer.WriteErr.{WriteErr}
 use Rattle.ledger_io.specs.declared.writer.WriteErr.TheVariants.{WriteFault}
-use Rattle.ledger_cli.proofs.CarryLaws.{first_short, serves_from, faults_from, serves_none, serves_fault, quiet_pair, of_lines, none_waits}
+use Rattle.ledger_cli.proofs.CarryLaws.{first_short, serves_from, faults_from, serves_none, serves_fault, quiet_pair, of_lines, no_refusal, none_waits}
 
 -- ---- faults of opening
 
 module _ (source : SourceState) (sink : SinkState) (old now : Pair) where
   pub counts_ended : (e : OpenErr) → CountsTwoErr e old.a.faults now.a.faults old.b.faults now.b.faults → FaultsBy (ending_of_opening e) (handed source sink old) (handed source sink now)
-  counts_ended open_err.DiskFault c = record { source_is = inl refl; sink_is = (refl, refl); disks_are = record { rose = c.0; later_a = c.1; later_b = c.2 } }
+  counts_ended open_err.DiskFault c = record { source_is = inl refl; sink_is = (refl, refl); disks_are = c }
   counts_ended open_err.NoMemory c = record { source_is = inl refl; sink_is = (refl, refl); disks_are = record { a = c.0; b = c.1 } }
   counts_ended (open_err.Damaged damage) c = record { source_is = refl; sink_is = (refl, refl); disks_are = record { a = c.0; b = c.1 } }
   counts_ended open_err.Empty c = record { source_is = refl; sink_is = (refl, refl); disks_are = record { a = c.0; b = c.1 } }
@@ -52,56 +52,66 @@ module _ (source : SourceState) (sink : SinkState) (old now : Pair) where
 -- ---- a ledger that is opened again
 
 module _ (scheme : Scheme) (tells : Bool) (source : SourceState) (sink : SinkState) (old now : Pair) where
+  -- nothing was read or written
+  unstarted : IsUnstarted (handed source sink old) (handed source sink now)
+  unstarted = record { unread = refl; unwritten = refl }
+
   -- it isn't opened
-  module _ (e : OpenErr) (err : IsTrue tells → IsOpenErr old.a.bytes.seen old.b.bytes.seen e)
-      (same : (IsOutside e → ⊥) → IsTrue tells → (now.a.bytes.seen ≡ old.a.bytes.seen) × (now.b.bytes.seen ≡ old.b.bytes.seen))
-      (images : IsTrue tells → IsSettled old.a.bytes → IsSettled old.b.bytes → (h : History) → PairFor old.a.bytes.seen old.b.bytes.seen h → (a b : List ℕ) → MayLeave now.a.bytes a → MayLeave now.b.bytes b → PairFor a b h)
-      (counts : CountsTwoErr e old.a.faults now.a.faults old.b.faults now.b.faults) where
-    refusal : (IsOutside e → ⊥) → IsTrue tells → IsRefused e (handed source sink old) (handed source sink now)
-    refusal not t = let left = same not t in record {
-      cause = err t;
-      unstarted = record { unread = refl; unwritten = refl };
-      left = record { a = left.0; b = left.1 };
-    }
+  module _ (same : IsTrue tells → (now.a.bytes ≡ settled_state old.a.bytes.seen) × (now.b.bytes ≡ settled_state old.b.bytes.seen)) where
+    settled : IsTrue tells → SettledAsRead old now
+    settled t = record { a = (same t).0; b = (same t).1 }
+
+    refusal : (e : OpenErr) → (IsTrue tells → IsOpenErr old.a.bytes.seen old.b.bytes.seen e) → IsTrue tells → IsRefused e old now
+    refusal e err t = record { cause = err t; left = settled t }
+
+  stay : StandsAsRead old.a.bytes now.a.bytes × StandsAsRead old.b.bytes now.b.bytes → StayAsRead old now
+  stay both = record { a = both.0; b = both.1 }
 
   pub not_opened : (e : OpenErr) → (IsTrue tells → IsOpenErr old.a.bytes.seen old.b.bytes.seen e)
-      → ((IsOutside e → ⊥) → IsTrue tells → (now.a.bytes.seen ≡ old.a.bytes.seen) × (now.b.bytes.seen ≡ old.b.bytes.seen))
+      → (e ≢ open_err.DiskFault → IsTrue tells → (now.a.bytes ≡ settled_state old.a.bytes.seen) × (now.b.bytes ≡ settled_state old.b.bytes.seen))
+      → (IsTrue tells → (f : OpenErr) → (IsOutside f → ⊥) → IsOpenErr old.a.bytes.seen old.b.bytes.seen f → StandsAsRead old.a.bytes now.a.bytes × StandsAsRead old.b.bytes now.b.bytes)
       → (IsTrue tells → IsSettled old.a.bytes → IsSettled old.b.bytes → (h : History) → PairFor old.a.bytes.seen old.b.bytes.seen h → (a b : List ℕ) → MayLeave now.a.bytes a → MayLeave now.b.bytes b → PairFor a b h)
       → CountsTwoErr e old.a.faults now.a.faults old.b.faults now.b.faults → RunsAgain scheme tells (ending_of_opening e) (handed source sink old) (handed source sink now)
-  not_opened open_err.DiskFault err same images counts = record {
-    serves = λ t q h p. serves_fault scheme h source sink old now (images t q.a q.b h p);
+  not_opened open_err.DiskFault err same kept images counts = record {
+    serves = λ t h p q. serves_fault scheme h source sink old now (images t (q tt).a (q tt).b h p);
+    unstarted = λ some. unstarted;
     refused = λ t. tt;
-    exact = λ t e cause not. inr tt;
+    exact = λ t f cause not. (unstarted, stay (kept t f not cause));
     faults = counts_ended source sink old now open_err.DiskFault counts;
   }
-  not_opened open_err.NoMemory err same images counts = record {
-    serves = λ t q h p. serves_none scheme h source sink old now (images t q.a q.b h p);
+  not_opened open_err.NoMemory err same kept images counts = record {
+    serves = λ t h p q. serves_none scheme h source sink old now (images t (q tt).a (q tt).b h p);
+    unstarted = λ some. unstarted;
     refused = λ t. tt;
-    exact = λ t e cause not. inr tt;
+    exact = λ t f cause not. (unstarted, stay (kept t f not cause));
     faults = counts_ended source sink old now open_err.NoMemory counts;
   }
-  not_opened (open_err.Damaged damage) err same images counts = record {
-    serves = λ t q h p. absurd (pair_opens old.a.bytes.seen old.b.bytes.seen h p (open_err.Damaged damage) (err t));
-    refused = refusal (open_err.Damaged damage) err same images counts (λ o. o);
-    exact = λ t e cause not. inl refl;
+  not_opened (open_err.Damaged damage) err same kept images counts = record {
+    serves = λ t h p q. absurd (pair_opens old.a.bytes.seen old.b.bytes.seen h p (open_err.Damaged damage) (err t));
+    unstarted = λ some. unstarted;
+    refused = refusal (same (λ is. let no : ⊥ = cc is in no)) (open_err.Damaged damage) err;
+    exact = λ t f cause not. (unstarted, settled (same (λ is. let no : ⊥ = cc is in no)) t);
     faults = counts_ended source sink old now (open_err.Damaged damage) counts;
   }
-  not_opened open_err.Empty err same images counts = record {
-    serves = λ t q h p. absurd (pair_opens old.a.bytes.seen old.b.bytes.seen h p open_err.Empty (err t));
-    refused = refusal open_err.Empty err same images counts (λ o. o);
-    exact = λ t e cause not. inl refl;
+  not_opened open_err.Empty err same kept images counts = record {
+    serves = λ t h p q. absurd (pair_opens old.a.bytes.seen old.b.bytes.seen h p open_err.Empty (err t));
+    unstarted = λ some. unstarted;
+    refused = refusal (same (λ is. let no : ⊥ = cc is in no)) open_err.Empty err;
+    exact = λ t f cause not. (unstarted, settled (same (λ is. let no : ⊥ = cc is in no)) t);
     faults = counts_ended source sink old now open_err.Empty counts;
   }
-  not_opened open_err.Exists err same images counts = record {
-    serves = λ t q h p. absurd (err t);
-    refused = refusal open_err.Exists err same images counts (λ o. o);
-    exact = λ t e cause not. inl refl;
+  not_opened open_err.Exists err same kept images counts = record {
+    serves = λ t h p q. absurd (err t);
+    unstarted = λ some. unstarted;
+    refused = refusal (same (λ is. let no : ⊥ = cc is in no)) open_err.Exists err;
+    exact = λ t f cause not. absurd (err t);
     faults = counts_ended source sink old now open_err.Exists counts;
   }
-  not_opened (open_err.NewerFormat found) err same images counts = record {
-    serves = λ t q h p. absurd (pair_opens old.a.bytes.seen old.b.bytes.seen h p (open_err.NewerFormat found) (err t));
-    refused = refusal (open_err.NewerFormat found) err same images counts (λ o. o);
-    exact = λ t e cause not. inl refl;
+  not_opened (open_err.NewerFormat found) err same kept images counts = record {
+    serves = λ t h p q. absurd (pair_opens old.a.bytes.seen old.b.bytes.seen h p (open_err.NewerFormat found) (err t));
+    unstarted = λ some. unstarted;
+    refused = refusal (same (λ is. let no : ⊥ = cc is in no)) (open_err.NewerFormat found) err;
+    exact = λ t f cause not. (unstarted, settled (same (λ is. let no : ⊥ = cc is in no)) t);
     faults = counts_ended source sink old now (open_err.NewerFormat found) counts;
   }
 
@@ -109,9 +119,10 @@ module _ (scheme : Scheme) (tells : Bool) (source : SourceState) (sink : SinkSta
   pub again_unstarted : now ≡ old → RunsAgain scheme tells (Run run.NoMemory) (handed source sink old) (handed source sink now)
   again_unstarted is =
       subst (λ (d : Pair). RunsAgain scheme tells (Run run.NoMemory) (handed source sink old) (handed source sink d)) (sym is) (record {
-        serves = λ t q h p. serves_none scheme h source sink old old (quiet_pair old h q p);
+        serves = λ t h p q. serves_none scheme h source sink old old (quiet_pair old h (q tt) p);
+        unstarted = λ some. record { unread = refl; unwritten = refl };
         refused = λ t. tt;
-        exact = λ t e cause not. inr tt;
+        exact = λ t f cause not. (record { unread = refl; unwritten = refl }, record { a = inl refl; b = inl refl });
         faults = record { source_is = inl refl; sink_is = (refl, refl); disks_are = record { a = refl; b = refl } };
       })
 
@@ -129,9 +140,10 @@ module _ (scheme : Scheme) (tells : Bool) (source : SourceState) (sink : SinkSta
     pub ran_again : (limits : k.book.limits ≡ real_limits) (r : IsTrue tells → IsReopened in_a k.place blocks old.a.bytes old.b.bytes now.a.bytes now.b.bytes) (a : now.a.faults ≡ old.a.faults) (b : now.b.faults ≡ old.b.faults)
         (ending : LedgerEnding) (last : Handed) → Runs scheme tells (world kept now sink) ending (handed source sink now) last → IsOfLines ending → RunsAgain scheme tells ending (handed source sink old) last
     ran_again limits r a b ending last ran started = record {
-      serves = λ t q h p.
+      serves = λ t h p q.
           serves_from scheme h ending source sink now old last
           (ran.serves h (subst (λ (x : Kept). Holds tells (world x now sink) h) (sym kept_is) (opened_held tells k in_a blocks old.a.bytes old.b.bytes now sink h opened limits t (r t) p)) (none_waits old.a.bytes.seen old.b.bytes.seen h p));
+      unstarted = λ some. absurd (no_refusal ending started some);
       refused = λ t. of_lines ending _ started;
       exact = λ t e cause not. absurd (not (reopened_only k in_a blocks old.a.bytes old.b.bytes now.a.bytes now.b.bytes e opened.knows (r t) cause));
       faults = faults_from source sink now old last a b ending ran.faults;
@@ -144,92 +156,106 @@ shut_open file (inl short) open_ = omega (arith, short, open_.long)
 shut_open file (inr gate) open_ = gate open_.gate
 
 -- two files that are shut aren't open
-none_open : (a b : State) → AreShut a b → IsOneOpen a.seen b.seen → ⊥
-none_open a b s (inl x) = shut_open a.seen s.shut_a x
-none_open a b s (inr x) = shut_open b.seen s.shut_b x
+none_open : (a b : State) → IsShut a.seen → IsShut b.seen → IsOneOpen a.seen b.seen → ⊥
+none_open a b i j (inl x) = shut_open a.seen i x
+none_open a b i j (inr x) = shut_open b.seen j x
 
 module _ (genesis : Genesis) (tells : Bool) (source : SourceState) (sink : SinkState) (old now : Pair)
-    (left : IsTrue tells → IsOneOpen old.a.bytes.seen old.b.bytes.seen → (now.a.bytes.seen ≡ old.a.bytes.seen) × (now.b.bytes.seen ≡ old.b.bytes.seen))
+    (left : IsTrue tells → IsOneOpen old.a.bytes.seen old.b.bytes.seen → StandsAsRead old.a.bytes now.a.bytes × StandsAsRead old.b.bytes now.b.bytes)
     (images : IsTrue tells → AreShut old.a.bytes old.b.bytes → (a b : List ℕ) → MayLeave now.a.bytes a → MayLeave now.b.bytes b → IsFoundedOrShut genesis a b) where
-  making : (ending : LedgerEnding) (later : SinkState) → (IsTrue tells → ending ≡ Exists → IsOneOpen old.a.bytes.seen old.b.bytes.seen) → IsMaking genesis tells ending (handed source sink old) (handed source later now)
-  making ending later exists = record {
-    exists = exists;
-    left = λ t o. let l = left t o in record { a = l.0; b = l.1 };
-    images = images;
-  }
+  stayed : IsTrue tells → IsOneOpen old.a.bytes.seen old.b.bytes.seen → StayAsRead old now
+  stayed t o = let l = left t o in record { a = l.0; b = l.1 }
+
+  module _ (same : IsTrue tells → (now.a.bytes ≡ settled_state old.a.bytes.seen) × (now.b.bytes ≡ settled_state old.b.bytes.seen)) where
+    settled_now : IsTrue tells → SettledAsRead old now
+    settled_now t = record { a = (same t).0; b = (same t).1 }
+
+    stayed_now : IsTrue tells → StayAsRead old now
+    stayed_now t = record { a = inr (same t).0; b = inr (same t).1 }
 
   -- it isn't made
   pub not_made : (e : OpenErr) → IsOutside e ⊎ (e ≡ open_err.Exists) → (e ≡ open_err.Exists → IsTrue tells → IsOneOpen old.a.bytes.seen old.b.bytes.seen)
+      → (e ≢ open_err.DiskFault → IsTrue tells → (now.a.bytes ≡ settled_state old.a.bytes.seen) × (now.b.bytes ≡ settled_state old.b.bytes.seen))
       → CountsTwoErr e old.a.faults now.a.faults old.b.faults now.b.faults → Makes genesis tells (ending_of_opening e) (handed source sink old) (handed source sink now)
-  not_made open_err.DiskFault why exists counts = record {
+  not_made open_err.DiskFault why exists same counts = record {
     written = [];
     unread = refl;
     appended = Appends-nil sink.held;
     told = refl;
-    made = λ no. absurd no;
-    making = making DiskFault sink (λ t is. absurd (let no : ⊥ = cc is in no));
+    left = stayed;
+    images = images;
     faults = counts_ended source sink old now open_err.DiskFault counts;
   }
-  not_made open_err.NoMemory why exists counts = record {
+  not_made open_err.NoMemory why exists same counts = record {
     written = [];
     unread = refl;
     appended = Appends-nil sink.held;
     told = refl;
-    made = λ no. absurd no;
-    making = making (Run run.NoMemory) sink (λ t is. absurd (let no : ⊥ = cc is in no));
+    left = λ t. inl (stayed_now (same (λ is. let no : ⊥ = cc is in no)) t);
+    images = images;
     faults = counts_ended source sink old now open_err.NoMemory counts;
   }
-  not_made open_err.Exists why exists counts = record {
+  not_made open_err.Exists why exists same counts = record {
     written = [];
     unread = refl;
     appended = Appends-nil sink.held;
     told = refl;
-    made = λ no. absurd no;
-    making = making Exists sink (λ t is. exists refl t);
+    left = λ t. (exists refl t, settled_now (same (λ is. let no : ⊥ = cc is in no)) t);
+    images = images;
     faults = counts_ended source sink old now open_err.Exists counts;
   }
-  not_made (open_err.Damaged damage) (inl why) exists counts = absurd why
-  not_made (open_err.Damaged damage) (inr is) exists counts = absurd (let no : ⊥ = cc is in no)
-  not_made open_err.Empty (inl why) exists counts = absurd why
-  not_made open_err.Empty (inr is) exists counts = absurd (let no : ⊥ = cc is in no)
-  not_made (open_err.NewerFormat found) (inl why) exists counts = absurd why
-  not_made (open_err.NewerFormat found) (inr is) exists counts = absurd (let no : ⊥ = cc is in no)
+  not_made (open_err.Damaged damage) (inl why) exists same counts = absurd why
+  not_made (open_err.Damaged damage) (inr is) exists same counts = absurd (let no : ⊥ = cc is in no)
+  not_made open_err.Empty (inl why) exists same counts = absurd why
+  not_made open_err.Empty (inr is) exists same counts = absurd (let no : ⊥ = cc is in no)
+  not_made (open_err.NewerFormat found) (inl why) exists same counts = absurd why
+  not_made (open_err.NewerFormat found) (inr is) exists same counts = absurd (let no : ⊥ = cc is in no)
 
   -- .. and no script is run
   pub not_run : (scheme : Scheme) (e : OpenErr) → IsOutside e ⊎ (e ≡ open_err.Exists) → (e ≡ open_err.Exists → IsTrue tells → IsOneOpen old.a.bytes.seen old.b.bytes.seen)
+      → (e ≢ open_err.DiskFault → IsTrue tells → (now.a.bytes ≡ settled_state old.a.bytes.seen) × (now.b.bytes ≡ settled_state old.b.bytes.seen))
       → CountsTwoErr e old.a.faults now.a.faults old.b.faults now.b.faults → RunsNew scheme genesis tells (ending_of_opening e) (handed source sink old) (handed source sink now)
-  not_run scheme open_err.DiskFault why exists counts = record {
-    serves = λ t s. inr (tt, record { unread = refl; unwritten = refl });
-    exists = λ t is. absurd (let no : ⊥ = cc is in no);
+  not_run scheme open_err.DiskFault why exists same counts = record {
+    serves = λ t none. inr (record { outside = tt; unstarted = unstarted scheme tells source sink old now; images = images t });
+    unstarted = λ some. unstarted scheme tells source sink old now;
+    left = λ t o. (unstarted scheme tells source sink old now, stayed t o);
     faults = counts_ended source sink old now open_err.DiskFault counts;
   }
-  not_run scheme open_err.NoMemory why exists counts = record {
-    serves = λ t s. inr (tt, record { unread = refl; unwritten = refl });
-    exists = λ t is. absurd (let no : ⊥ = cc is in no);
+  not_run scheme open_err.NoMemory why exists same counts = record {
+    serves = λ t none. inr (record { outside = tt; unstarted = unstarted scheme tells source sink old now; images = images t });
+    unstarted = λ some. unstarted scheme tells source sink old now;
+    left = λ t o. (unstarted scheme tells source sink old now, stayed t o);
     faults = counts_ended source sink old now open_err.NoMemory counts;
   }
-  not_run scheme open_err.Exists why exists counts = record {
-    serves = λ t s. absurd (none_open old.a.bytes old.b.bytes s (exists refl t));
-    exists = λ t is. let o = exists refl t in let l = left t o in (o, record { unread = refl; unwritten = refl }, record { a = l.0; b = l.1 });
+  not_run scheme open_err.Exists why exists same counts = record {
+    serves = λ t none. absurd (none_open old.a.bytes old.b.bytes none.0 none.1 (exists refl t));
+    unstarted = λ some. unstarted scheme tells source sink old now;
+    left = λ t o. (unstarted scheme tells source sink old now, settled_now (same (λ is. let no : ⊥ = cc is in no)) t);
     faults = counts_ended source sink old now open_err.Exists counts;
   }
-  not_run scheme (open_err.Damaged damage) (inl why) exists counts = absurd why
-  not_run scheme (open_err.Damaged damage) (inr is) exists counts = absurd (let no : ⊥ = cc is in no)
-  not_run scheme open_err.Empty (inl why) exists counts = absurd why
-  not_run scheme open_err.Empty (inr is) exists counts = absurd (let no : ⊥ = cc is in no)
-  not_run scheme (open_err.NewerFormat found) (inl why) exists counts = absurd why
-  not_run scheme (open_err.NewerFormat found) (inr is) exists counts = absurd (let no : ⊥ = cc is in no)
+  not_run scheme (open_err.Damaged damage) (inl why) exists same counts = absurd why
+  not_run scheme (open_err.Damaged damage) (inr is) exists same counts = absurd (let no : ⊥ = cc is in no)
+  not_run scheme open_err.Empty (inl why) exists same counts = absurd why
+  not_run scheme open_err.Empty (inr is) exists same counts = absurd (let no : ⊥ = cc is in no)
+  not_run scheme (open_err.NewerFormat found) (inl why) exists same counts = absurd why
+  not_run scheme (open_err.NewerFormat found) (inr is) exists same counts = absurd (let no : ⊥ = cc is in no)
 
   -- it is made
-  module _ (a : now.a.faults ≡ old.a.faults) (b : now.b.faults ≡ old.b.faults) (founded : IsTrue tells → IsFounded genesis now.a.bytes now.b.bytes) where
+  module _ (a : now.a.faults ≡ old.a.faults) (b : now.b.faults ≡ old.b.faults) (founded : IsTrue tells → IsFounded genesis now.a.bytes now.b.bytes) (shut : IsTrue tells → IsShut old.a.bytes.seen × IsShut old.b.bytes.seen) where
+    never : {A : Type 0} → IsTrue tells → IsOneOpen old.a.bytes.seen old.b.bytes.seen → A
+    never t o = absurd (none_open old.a.bytes old.b.bytes (shut t).0 (shut t).1 o)
+
+    made_now : IsTrue tells → IsMadeOf genesis old now
+    made_now t = (shut t, founded t)
+
     pub made_unspelled : Makes genesis tells (Run run.NoMemory) (handed source sink old) (handed source sink now)
     made_unspelled = record {
       written = [];
       unread = refl;
       appended = Appends-nil sink.held;
       told = refl;
-      made = λ no. absurd no;
-      making = making (Run run.NoMemory) sink (λ t is. absurd (let no : ⊥ = cc is in no));
+      left = λ t. inr (made_now t);
+      images = images;
       faults = record { source_is = inl refl; sink_is = (refl, refl); disks_are = record { a = a; b = b } };
     }
 
@@ -239,8 +265,8 @@ module _ (genesis : Genesis) (tells : Bool) (source : SourceState) (sink : SinkS
       unread = refl;
       appended = appended;
       told = is;
-      made = λ yes. founded;
-      making = making (Run run.Done) later (λ t same. absurd (let no : ⊥ = cc same in no));
+      left = made_now;
+      images = images;
       faults = record { source_is = refl; sink_is = none; disks_are = record { a = a; b = b } };
     }
 
@@ -250,8 +276,8 @@ module _ (genesis : Genesis) (tells : Bool) (source : SourceState) (sink : SinkS
       unread = refl;
       appended = appended;
       told = short;
-      made = λ yes. founded;
-      making = making (Run run.WriteFault) later (λ t same. absurd (let no : ⊥ = cc same in no));
+      left = made_now;
+      images = images;
       faults = record { source_is = inl refl; sink_is = one; disks_are = record { a = a; b = b } };
     }
 
@@ -272,18 +298,15 @@ module _ (genesis : Genesis) (tells : Bool) (source : SourceState) (sink : SinkS
       pub new_none : kept.dues ≡ []
       new_none = ap (λ (x : Kept). x.dues) here
 
-      pub ran_new : (scheme : Scheme) (limits : k.book.limits ≡ real_limits) (ending : LedgerEnding) (last : Handed) → Runs scheme tells (world kept now sink) ending (handed source sink now) last → (ending ≡ Exists → ⊥) → RunsNew scheme genesis tells ending (handed source sink old) last
-      ran_new scheme limits ending last ran not = record {
-        serves = λ t s.
+      pub ran_new : (scheme : Scheme) (limits : k.book.limits ≡ real_limits) (ending : LedgerEnding) (last : Handed) → Runs scheme tells (world kept now sink) ending (handed source sink now) last → IsOfLines ending → RunsNew scheme genesis tells ending (handed source sink old) last
+      ran_new scheme limits ending last ran started = record {
+        serves = λ t none.
             inl (serves_from scheme (new_ledger genesis) ending source sink now old last
             (ran.serves (new_ledger genesis) (subst (λ (x : Kept). Holds tells (world x now sink) (new_ledger genesis)) (sym here) (founded_held tells k genesis now sink keys opened limits t (founded t))) refl));
-        exists = λ t is. absurd (not is);
+        unstarted = λ some. absurd (no_refusal ending started some);
+        left = λ t o. never t o;
         faults = faults_from source sink now old last a b ending ran.faults;
       }
-
--- a run over lines doesn't end because there is a ledger
-pub not_exists : (ending : LedgerEnding) → IsOfLines ending → ending ≡ Exists → ⊥
-not_exists ending started is = subst IsOfLines is started
 
 -- the line that tells a new ledger
 pub ledger_line_is : (genesis : Genesis) (id_now : Digest) → id_now.0 ≡ id (new_ledger genesis) → line_of (codes "ledger") (hex_of id_now ∷ decimal 1 ∷ hex_of id_now ∷ []) ≡ ledger_line genesis

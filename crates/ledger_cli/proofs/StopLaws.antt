@@ -56,7 +56,7 @@ whole_lines f part whole done rest s is = (
   record { rest = due_lines f rest; is = sym is ∙ due_lines-append f done rest ∙ ap (λ l. l ++ due_lines f rest) (sym s) },
 )
 
-said_of : (end : End) (f : History) (part whole : List ℕ) (done rest : List Due) → Says end part (due_lines f done) → due_lines f (done ++ rest) ≡ whole → SaidOf end part whole
+pub said_of : (end : End) (f : History) (part whole : List ℕ) (done rest : List Due) → Says end part (due_lines f done) → due_lines f (done ++ rest) ≡ whole → SaidOf end part whole
 said_of DiskFault f part whole done rest s is = whole_lines f part whole done rest s is
 said_of WriteFault f part whole done rest s is =
     let split : whole ≡ due_lines f done ++ due_lines f rest = sym is ∙ due_lines-append f done rest in (
@@ -75,7 +75,7 @@ begins_said Closed part lines s = record { rest = []; is = sym s ∙ sym (append
 -- ---- what is left
 
 -- where a call stopped the run, all images stand for a beginning of each later history
-stop_stands : (h whole f : History) (ds : List Due) (end : End) (part : List ℕ) (disks : Pair) → Stops h whole ds end part disks → Grows whole f → f.waiting ≡ [] → AllFit (due_replies f ds) → AllStand h f part disks
+pub stop_stands : (h whole f : History) (ds : List Due) (end : End) (part : List ℕ) (disks : Pair) → Stops h whole ds end part disks → Grows whole f → f.waiting ≡ [] → AllFit (due_replies f ds) → AllStand h f part disks
 stop_stands h whole f ds end part disks s g none fit = λ a b x y.
     let l = s.images a b x y in
     let begun = begins_said end part (due_lines f s.done) (s.said f g none) in record {

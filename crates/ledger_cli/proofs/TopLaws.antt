@@ -3,7 +3,8 @@ use Rattle.std.proofs.Common.{◌≡◌, ℕ, ◌⊎◌, inl, inr, Bool, List, [
 use Rattle.std.specs.Prelude.{IsSome}
 use Rattle.std.proofs.KnownBytes.{Appends-nil}
 use Rattle.batch_committer.specs.World.{Pair}
-use Rattle.ledger_io.specs.Outside.{SourceState, SinkState, MeetsNone, MeetsOne, outside, count_after}
+use Rattle.ledger_bytes.specs.Causes.{count_after}
+use Rattle.ledger_io.specs.Outside.{SourceState, SinkState, MeetsNone, MeetsOne, outside}
 use Rattle.ledger_io.specs.Runs.{Wrote}
 use Rattle.ledger_io.specs.Writing.{WritesLast, WritesFirst}
 use Rattle.ledger_io.specs.declared.ending.Ending.{Ending}
@@ -48,8 +49,9 @@ nothing x = record { source_is = inl refl; sink_is = (refl, refl); disks_are = r
 pub unstarted_by : (scheme : Scheme) (tells : Bool) (words : Option Command) (x : Handed) → IsSome words → ServedBy scheme tells words (Run run.NoMemory) x x
 unstarted_by scheme tells None x some = absurd (let no : ⊥ = cc some in no)
 unstarted_by scheme tells (Some (command.Dry genesis)) x some = record {
-  serves = λ t s. inr (tt, record { unread = refl; unwritten = refl });
-  exists = λ t is. absurd (let no : ⊥ = cc is in no);
+  serves = λ t none. inr (record { outside = tt; unstarted = record { unread = refl; unwritten = refl }; images = images_stay genesis x.disks });
+  unstarted = λ some. record { unread = refl; unwritten = refl };
+  left = λ t o. (record { unread = refl; unwritten = refl }, record { a = inl refl; b = inl refl });
   faults = nothing x;
 }
 unstarted_by scheme tells (Some (command.Init genesis)) x some = record {
@@ -57,12 +59,8 @@ unstarted_by scheme tells (Some (command.Init genesis)) x some = record {
   unread = refl;
   appended = Appends-nil x.sink.held;
   told = refl;
-  made = λ no. absurd no;
-  making = record {
-    exists = λ t is. absurd (let no : ⊥ = cc is in no);
-    left = λ t o. record { a = refl; b = refl };
-    images = λ t s. images_stay genesis x.disks s;
-  };
+  left = λ t. inl (record { a = inl refl; b = inl refl });
+  images = λ t s. images_stay genesis x.disks s;
   faults = nothing x;
 }
 unstarted_by scheme tells (Some command.Run) x some = again_unstarted scheme tells x.source x.sink x.disks x.disks refl

@@ -3,3 +3,4 @@ pub mod Words
 pub mod Endings
 pub mod Runs
 pub mod Session
+pub mod Pieces

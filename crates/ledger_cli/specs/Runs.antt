@@ -4,10 +4,11 @@ use Rattle.std.specs.List.{flat_map}
 use Rattle.std.specs.Io.KnownBytes.{Consumes, Appends}
 use Rattle.batch_committer.specs.World.{Pair}
 use Rattle.block_file.specs.File.{IsSettled}
+use Rattle.block_file.specs.Head.{IsShut}
 use Rattle.ledger_bytes.specs.Begins.{Begins}
-use Rattle.ledger_bytes.specs.Causes.{Rose}
-use Rattle.ledger_disk.specs.Disk.{MayLeave}
-use Rattle.ledger_io.specs.Outside.{SourceState, SinkState, Outside, outside, count_after, MeetsNone, MeetsOne}
+use Rattle.ledger_bytes.specs.Causes.{count_after}
+use Rattle.ledger_disk.specs.Disk.{MayLeave, OneMore, settled_state}
+use Rattle.ledger_io.specs.Outside.{SourceState, SinkState, Outside, outside, MeetsNone, MeetsOne}
 use Rattle.ledger_io.specs.Runs.{Answered, SomeOfScript, FallsShort, AreWhole, Wrote}
 use Rattle.ledger_io.specs.Writing.{WritesLast}
 use Rattle.ledger_io.specs.declared.ending.Ending.{Ending}
@@ -28,7 +29,7 @@ use Rattle.ledger_model.specs.Texts.{text}
 use Rattle.ledger_model.specs.Windows.{said_lines, windows}
 use Rattle.ledger_model.specs.declared.genesis.Genesis.{Genesis}
 use Rattle.ledger_open.specs.Founding.{IsFounded, IsFoundedOrShut, IsOneOpen}
-use Rattle.ledger_open.specs.Opening.{IsOpenErr, IsOutside}
+use Rattle.ledger_open.specs.Opening.{IsOpenErr, IsOutside, StandsAsRead}
 use Rattle.ledger_open.specs.Standing.{PairFor, IsCleanPair}
 use Rattle.ledger_open.specs.declared.failure.OpenErr.{OpenErr}
 use Rattle.twin_file.specs.Images.{AreShut}
@@ -64,10 +65,22 @@ pub record AreQuiet (disks : Pair) : Type 0 where
 abbrev pub StandFor : Pair → History → Type 0
 StandFor disks h = PairFor disks.a.bytes.seen disks.b.bytes.seen h
 
--- both read as before
-pub record ReadAsBefore (before after_all : Pair) : Type 0 where
-  pub a : after_all.a.bytes.seen ≡ before.a.bytes.seen
-  pub b : after_all.b.bytes.seen ≡ before.b.bytes.seen
+-- both read as before, and nothing is pending
+pub record SettledAsRead (before after_all : Pair) : Type 0 where
+  pub a : after_all.a.bytes ≡ settled_state before.a.bytes.seen
+  pub b : after_all.b.bytes ≡ settled_state before.b.bytes.seen
+
+-- both read as before, and what was pending on one is so still, or stands for good
+pub record StayAsRead (before after_all : Pair) : Type 0 where
+  pub a : StandsAsRead before.a.bytes after_all.a.bytes
+  pub b : StandsAsRead before.b.bytes after_all.b.bytes
+
+-- one of the two files is open; both are shut
+abbrev pub HasOpen : Pair → Type 0
+HasOpen disks = IsOneOpen disks.a.bytes.seen disks.b.bytes.seen
+
+abbrev pub HasNone : Pair → Type 0
+HasNone disks = IsShut disks.a.bytes.seen × IsShut disks.b.bytes.seen
 
 -- ---- which faults were met
 
@@ -76,15 +89,16 @@ pub record NoDiskFailed (before after_all : Pair) : Type 0 where
   pub a : after_all.a.faults ≡ before.a.faults
   pub b : after_all.b.faults ≡ before.b.faults
 
--- a call of a disk failed
-pub record DiskFailed (before after_all : Pair) : Type 0 where
-  pub rose : Rose before.a.faults after_all.a.faults ⊎ Rose before.b.faults after_all.b.faults
-  pub later_a : before.a.faults ≤ after_all.a.faults
-  pub later_b : before.b.faults ≤ after_all.b.faults
+-- one call of one of the two disks failed, and no other
+abbrev pub DiskFailed : Pair → Pair → Type 0
+DiskFailed before after_all = OneMore before.a.faults after_all.a.faults before.b.faults after_all.b.faults
+
+abbrev pub FailedOnce : ℕ → ℕ → Type 0
+FailedOnce before now = now ≡ count_after before
 
 -- the source failed at most once: lines that were whole before that are answered, which may meet a fault of its own
 abbrev pub FailedAtMostOnce : ℕ → ℕ → Type 0
-FailedAtMostOnce before now = (now ≡ before) ⊎ (now ≡ count_after before)
+FailedAtMostOnce before now = (now ≡ before) ⊎ FailedOnce before now
 
 -- the fault that an ending tells is the only one of its object, and beside it only reading may have failed before
 pub record Faults (source : ℕ → ℕ → Type 0) (sink : SinkState → SinkState → Type 0) (disks : Pair → Pair → Type 0) (before after_all : Handed) : Type 0 where
@@ -94,9 +108,6 @@ pub record Faults (source : ℕ → ℕ → Type 0) (sink : SinkState → SinkSt
 
 abbrev pub NoneFailed : ℕ → ℕ → Type 0
 NoneFailed before now = now ≡ before
-
-abbrev pub FailedOnce : ℕ → ℕ → Type 0
-FailedOnce before now = now ≡ count_after before
 
 -- no fault was met
 abbrev pub NothingFailed : Handed → Handed → Type 0
@@ -195,24 +206,49 @@ pub record IsUnstarted (before after_all : Handed) : Type 0 where
 
 -- a disk failed, or memory was missing
 abbrev pub IsOutsideEnding : LedgerEnding → Type 0
+IsOutsideEnding (Run run.Done) = ⊥
+IsOutsideEnding (Run run.Usage) = ⊥
+IsOutsideEnding (Run run.ReadFault) = ⊥
+IsOutsideEnding (Run run.WriteFault) = ⊥
 IsOutsideEnding (Run run.NoMemory) = ⊤
+IsOutsideEnding (Run run.LineTooLong) = ⊥
+IsOutsideEnding (Run run.ScriptTooLong) = ⊥
 IsOutsideEnding DiskFault = ⊤
-IsOutsideEnding other = ⊥
+IsOutsideEnding (Damaged damage) = ⊥
+IsOutsideEnding Empty = ⊥
+IsOutsideEnding Exists = ⊥
+IsOutsideEnding (NewerFormat found) = ⊥
 
--- a refusal has its cause in what stands in the files; nothing is read or written, and the files read as before
-pub record IsRefused (e : OpenErr) (before after_all : Handed) : Type 0 where
-  pub cause : IsOpenErr before.disks.a.bytes.seen before.disks.b.bytes.seen e
-  pub unstarted : IsUnstarted before after_all
-  pub left : ReadAsBefore before.disks after_all.disks
+-- a refusal has its cause in what stands in the files; they read as before, and nothing is pending
+pub record IsRefused (e : OpenErr) (before after_all : Pair) : Type 0 where
+  pub cause : IsOpenErr before.a.bytes.seen before.b.bytes.seen e
+  pub left : SettledAsRead before after_all
+
+-- how a ledger that isn't opened is left: nothing is read or written, and the files read as before
+abbrev pub LeftUnopened : LedgerEnding → Handed → Handed → Type 0
+LeftUnopened (Run run.Done) before after_all = ⊥
+LeftUnopened (Run run.Usage) before after_all = ⊥
+LeftUnopened (Run run.ReadFault) before after_all = ⊥
+LeftUnopened (Run run.WriteFault) before after_all = ⊥
+LeftUnopened (Run run.NoMemory) before after_all = IsUnstarted before after_all × StayAsRead before.disks after_all.disks
+LeftUnopened (Run run.LineTooLong) before after_all = ⊥
+LeftUnopened (Run run.ScriptTooLong) before after_all = ⊥
+LeftUnopened DiskFault before after_all = IsUnstarted before after_all × StayAsRead before.disks after_all.disks
+LeftUnopened (Damaged damage) before after_all = IsUnstarted before after_all × SettledAsRead before.disks after_all.disks
+LeftUnopened Empty before after_all = IsUnstarted before after_all × SettledAsRead before.disks after_all.disks
+LeftUnopened Exists before after_all = ⊥
+LeftUnopened (NewerFormat found) before after_all = IsUnstarted before after_all × SettledAsRead before.disks after_all.disks
 
 -- `run`: the ledger that is there is opened, and the script is run on it
 pub record RunsAgain (scheme : Scheme) (tells : Bool) (ending : LedgerEnding) (before after_all : Handed) : Type 0 where
   -- whatever history the pair stood for
-  pub serves : IsTrue tells → AreQuiet before.disks → (h : History) → StandFor before.disks h → RunsOn scheme h ending before after_all
-  pub refused : IsTrue tells → IfSome (refusal_of ending) (λ e. IsRefused e before after_all)
+  pub serves : IsTrue tells → (h : History) → StandFor before.disks h → (IsOutsideEnding ending → AreQuiet before.disks) → RunsOn scheme h ending before after_all
+  -- a refusal reads and writes nothing, whatever the disks tell
+  pub unstarted : IsSome (refusal_of ending) → IsUnstarted before after_all
+  pub refused : IsTrue tells → IfSome (refusal_of ending) (λ e. IsRefused e before.disks after_all.disks)
   -- what shows damage, or is no ledger, isn't run
   pub exact : IsTrue tells → (e : OpenErr) → IsOpenErr before.disks.a.bytes.seen before.disks.b.bytes.seen e → (IsOutside e → ⊥)
-      → IsSome (refusal_of ending) ⊎ IsOutsideEnding ending
+      → LeftUnopened ending before after_all
   pub faults : FaultsBy ending before after_all
 
 -- what is told of a new ledger: its id, its size and its root
@@ -223,22 +259,36 @@ ledger_line genesis =
 -- how far the line of a new ledger was written, by the ending
 abbrev pub ToldBy : List ℕ → LedgerEnding → List ℕ → Type 0
 ToldBy line (Run run.Done) written = written ≡ line
+ToldBy line (Run run.Usage) written = ⊥
+ToldBy line (Run run.ReadFault) written = ⊥
 ToldBy line (Run run.WriteFault) written = FallsShort written line
-ToldBy line ending written = written ≡ []
+ToldBy line (Run run.NoMemory) written = written ≡ []
+ToldBy line (Run run.LineTooLong) written = ⊥
+ToldBy line (Run run.ScriptTooLong) written = ⊥
+ToldBy line DiskFault written = written ≡ []
+ToldBy line (Damaged damage) written = ⊥
+ToldBy line Empty written = ⊥
+ToldBy line Exists written = written ≡ []
+ToldBy line (NewerFormat found) written = ⊥
 
--- whether an ending comes behind the making of the ledger
-abbrev pub IsMade : LedgerEnding → Type 0
-IsMade (Run run.Done) = ⊤
-IsMade (Run run.WriteFault) = ⊤
-IsMade ending = ⊥
+-- two files that were shut are those of the new ledger, and nothing is pending
+abbrev pub IsMadeOf : Genesis → Pair → Pair → Type 0
+IsMadeOf genesis before after_all = HasNone before × IsFounded genesis after_all.a.bytes after_all.b.bytes
 
--- a ledger is made of two files that are shut, or there is one already
-pub record IsMaking (genesis : Genesis) (tells : Bool) (ending : LedgerEnding) (before after_all : Handed) : Type 0 where
-  pub exists : IsTrue tells → ending ≡ Exists → IsOneOpen before.disks.a.bytes.seen before.disks.b.bytes.seen
-  pub left : IsTrue tells → IsOneOpen before.disks.a.bytes.seen before.disks.b.bytes.seen → ReadAsBefore before.disks after_all.disks
-  -- a crash at any time leaves both shut, or the new ledger
-  pub images : IsTrue tells → AreShut before.disks.a.bytes before.disks.b.bytes → (a b : List ℕ)
-      → MayLeave after_all.disks.a.bytes a → MayLeave after_all.disks.b.bytes b → IsFoundedOrShut genesis a b
+-- What `init` leaves, by the ending. Where memory is missing the ledger isn't made, or it is and only its line isn't spelled.
+abbrev pub LeftByInit : Genesis → LedgerEnding → Pair → Pair → Type 0
+LeftByInit genesis (Run run.Done) before after_all = IsMadeOf genesis before after_all
+LeftByInit genesis (Run run.Usage) before after_all = ⊥
+LeftByInit genesis (Run run.ReadFault) before after_all = ⊥
+LeftByInit genesis (Run run.WriteFault) before after_all = IsMadeOf genesis before after_all
+LeftByInit genesis (Run run.NoMemory) before after_all = StayAsRead before after_all ⊎ IsMadeOf genesis before after_all
+LeftByInit genesis (Run run.LineTooLong) before after_all = ⊥
+LeftByInit genesis (Run run.ScriptTooLong) before after_all = ⊥
+LeftByInit genesis DiskFault before after_all = HasOpen before → StayAsRead before after_all
+LeftByInit genesis (Damaged damage) before after_all = ⊥
+LeftByInit genesis Empty before after_all = ⊥
+LeftByInit genesis Exists before after_all = HasOpen before × SettledAsRead before after_all
+LeftByInit genesis (NewerFormat found) before after_all = ⊥
 
 -- `init`: a new ledger, and one line that tells it
 pub record Makes (genesis : Genesis) (tells : Bool) (ending : LedgerEnding) (before after_all : Handed) : Type 0 where
@@ -246,15 +296,40 @@ pub record Makes (genesis : Genesis) (tells : Bool) (ending : LedgerEnding) (bef
   pub unread : after_all.source ≡ before.source
   pub appended : Appends before.sink.held after_all.sink.held written
   pub told : ToldBy (ledger_line genesis) ending written
-  pub made : IsMade ending → IsTrue tells → IsFounded genesis after_all.disks.a.bytes after_all.disks.b.bytes
-  pub making : IsMaking genesis tells ending before after_all
+  pub left : IsTrue tells → LeftByInit genesis ending before.disks after_all.disks
+  -- a crash at any time leaves both shut, or the new ledger
+  pub images : IsTrue tells → AreShut before.disks.a.bytes before.disks.b.bytes → (a b : List ℕ)
+      → MayLeave after_all.disks.a.bytes a → MayLeave after_all.disks.b.bytes b → IsFoundedOrShut genesis a b
   pub faults : FaultsBy ending before after_all
+
+-- no script was run: a crash at any time leaves both files shut, or the new ledger
+pub record IsNotMade (genesis : Genesis) (ending : LedgerEnding) (before after_all : Handed) : Type 0 where
+  pub outside : IsOutsideEnding ending
+  pub unstarted : IsUnstarted before after_all
+  pub images : AreShut before.disks.a.bytes before.disks.b.bytes → (a b : List ℕ)
+      → MayLeave after_all.disks.a.bytes a → MayLeave after_all.disks.b.bytes b → IsFoundedOrShut genesis a b
+
+-- how `dry` leaves a ledger that is there: nothing is read or written, and the files read as before
+abbrev pub LeftThere : LedgerEnding → Handed → Handed → Type 0
+LeftThere (Run run.Done) before after_all = ⊥
+LeftThere (Run run.Usage) before after_all = ⊥
+LeftThere (Run run.ReadFault) before after_all = ⊥
+LeftThere (Run run.WriteFault) before after_all = ⊥
+LeftThere (Run run.NoMemory) before after_all = IsUnstarted before after_all × StayAsRead before.disks after_all.disks
+LeftThere (Run run.LineTooLong) before after_all = ⊥
+LeftThere (Run run.ScriptTooLong) before after_all = ⊥
+LeftThere DiskFault before after_all = IsUnstarted before after_all × StayAsRead before.disks after_all.disks
+LeftThere (Damaged damage) before after_all = ⊥
+LeftThere Empty before after_all = ⊥
+LeftThere Exists before after_all = IsUnstarted before after_all × SettledAsRead before.disks after_all.disks
+LeftThere (NewerFormat found) before after_all = ⊥
 
 -- `dry`: a new ledger, and the script is run on it
 pub record RunsNew (scheme : Scheme) (genesis : Genesis) (tells : Bool) (ending : LedgerEnding) (before after_all : Handed) : Type 0 where
-  pub serves : IsTrue tells → AreShut before.disks.a.bytes before.disks.b.bytes
-      → RunsOn scheme (new_ledger genesis) ending before after_all ⊎ (IsOutsideEnding ending × IsUnstarted before after_all)
-  pub exists : IsTrue tells → ending ≡ Exists → IsOneOpen before.disks.a.bytes.seen before.disks.b.bytes.seen × IsUnstarted before after_all × ReadAsBefore before.disks after_all.disks
+  pub serves : IsTrue tells → HasNone before.disks → RunsOn scheme (new_ledger genesis) ending before after_all ⊎ IsNotMade genesis ending before after_all
+  -- a refusal reads and writes nothing, whatever the disks tell
+  pub unstarted : IsSome (refusal_of ending) → IsUnstarted before after_all
+  pub left : IsTrue tells → HasOpen before.disks → LeftThere ending before after_all
   pub faults : FaultsBy ending before after_all
 
 -- `sign`: one text is written

@@ -2,9 +2,10 @@
 //! are written, the files that are left and the exit status.
 #![tactic(auto)]
 
+mod desk;
 mod ending;
-mod prepare;
-mod requests;
+mod laws;
+mod piece;
 mod session;
 mod signing;
 mod standard;
@@ -13,6 +14,8 @@ mod window;
 mod words;
 
 pub use ending::LedgerEnding;
+pub use laws::lines_of_one_lane_are_answered_in_order;
+pub use session::run_session;
 pub use signing::{Request, Signing};
 pub use standard::ledger_standard;
 pub use top::ledger_top;

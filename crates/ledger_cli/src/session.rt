@@ -1,30 +1,150 @@
-ghost use Rattle.std.specs.Prelude.{◌≡◌, ◌+◌, ◌≤◌, [], ◌∷◌, false, if◌then◌else◌, length, OnOk, IfErr};
-ghost use Rattle.batch_committer.specs.World.{disk, pair, world, Fits, HasRoom, Goes, Ended};
-ghost use Rattle.ledger_io.specs.Lines.{line_limit};
+ghost use Rattle.std.specs.Prelude.{◌≡◌, ◌+◌, ◌^◌, ◌<◌, ◌≤◌, ℕ, [], false, length, slice_index, vec_len, OnOk, IfErr};
+ghost use Rattle.batch_committer.specs.World.{pair, world, Fits, HasRoom};
+ghost use Rattle.lane_work.specs.Making.{lines_of};
 ghost use Rattle.ledger_io.specs.declared.ending.Ending.TheVariants as run;
-ghost use Rattle.ledger_model.specs.Dues.{due_for};
-ghost use Rattle.ledger_model.specs.InOrder.{step_of};
-ghost use Rattle.ledger_model.specs.Rules.{after_step};
-ghost use Rattle.ledger_model.specs.Windows.{numbered_line, fills_window};
+ghost use Rattle.ledger_cli.specs.Pieces.{at, IsOpen, PieceTaken, PieceBroken, WindowTaken, WindowBroken};
 ghost use Rattle.ledger_cli.specs.Runs.{handed};
-ghost use Rattle.ledger_cli.specs.Session.{after_line, IsOfLines, Runs};
+ghost use Rattle.ledger_cli.specs.Session.{IsOfLines, Runs};
 ghost use Rattle.ledger_cli.specs.declared.ending.LedgerEnding.TheVariants as ending;
 
+use crate::desk::run_piece;
 use crate::ending::LedgerEnding;
-use crate::prepare::prepare;
+use crate::piece::Piece;
 use crate::window::Window;
 use batch_committer::{Committer, End};
+use lane_work::Gate;
 use ledger_disk::Disk;
 use ledger_io::{Ending, LineErr, Lines, Sink, Source};
 use member_book::Verifier;
 use std::alloc::Global;
+use std::sync::Wait;
+use std::thread::Threads;
+
+// Takes the lines of a piece. The next piece then begins.
+fn take_piece<R: Threads + Wait + Sync, K: Sink, D: Disk, V: Verifier, G: Gate>(
+    rt: &R,
+    alloc: Global,
+    verifier: &V,
+    gate: &G,
+    committer: &mut Committer,
+    a: &mut D,
+    b: &mut D,
+    sink: &mut K,
+    piece: &mut Piece,
+) -> Result<(), End>
+    requires open { IsOpen D.tells (at committer.old
+        (pair (D.state a.old)
+        (D.state b.old))
+        (K.state sink.old)) }
+    requires few { vec_len piece.old.lines ≤ 4096 }
+    requires numbers { (k : ℕ) → k < 8
+        → slice_index piece.old.first k + length (lines_of k piece.old.lines.items) < 2 ^ 64 }
+    ensures ok { OnOk result (PieceTaken (V.shows verifier.now) D.tells piece.old.first
+        piece.old.lines.items
+        (at committer.old
+        (pair (D.state a.old)
+        (D.state b.old))
+        (K.state sink.old))
+        (at committer.new
+        (pair (D.state a.new)
+        (D.state b.new))
+        (K.state sink.new))) }
+    ensures open { OnOk result (IsOpen D.tells (at committer.new
+        (pair (D.state a.new)
+        (D.state b.new))
+        (K.state sink.new))) }
+    ensures err { IfErr result (λ end. PieceBroken (V.shows verifier.now) D.tells piece.old.first
+        piece.old.lines.items end
+        (at committer.old
+        (pair (D.state a.old)
+        (D.state b.old))
+        (K.state sink.old))
+        (at committer.new
+        (pair (D.state a.new)
+        (D.state b.new))
+        (K.state sink.new))) }
+    ensures none { piece.new.lines.items ≡ [] }
+    ensures first { piece.new.first ≡ piece.old.next }
+    ensures next { piece.new.next ≡ piece.old.next }
+{
+    let (lines, first) = piece.take();
+    if lines.as_slice().is_empty() {
+        return Ok(());
+    }
+    match run_piece(
+        rt, alloc, committer, a, b, sink, lines, &first, verifier, gate,
+    ) {
+        None => Ok(()),
+        Some(end) => Err(end),
+    }
+}
+
+// Takes the lines of a piece, with which its window ends, and ends the open block.
+fn end_window<R: Threads + Wait + Sync, K: Sink, D: Disk, V: Verifier, G: Gate>(
+    rt: &R,
+    alloc: Global,
+    verifier: &V,
+    gate: &G,
+    committer: &mut Committer,
+    a: &mut D,
+    b: &mut D,
+    sink: &mut K,
+    piece: &mut Piece,
+) -> Result<(), End>
+    requires open { IsOpen D.tells (at committer.old
+        (pair (D.state a.old)
+        (D.state b.old))
+        (K.state sink.old)) }
+    requires few { vec_len piece.old.lines ≤ 4096 }
+    requires numbers { (k : ℕ) → k < 8
+        → slice_index piece.old.first k + length (lines_of k piece.old.lines.items) < 2 ^ 64 }
+    ensures ok { OnOk result (WindowTaken (V.shows verifier.now) D.tells piece.old.first
+        piece.old.lines.items
+        (at committer.old
+        (pair (D.state a.old)
+        (D.state b.old))
+        (K.state sink.old))
+        (at committer.new
+        (pair (D.state a.new)
+        (D.state b.new))
+        (K.state sink.new))) }
+    ensures open { OnOk result (IsOpen D.tells (at committer.new
+        (pair (D.state a.new)
+        (D.state b.new))
+        (K.state sink.new))) }
+    ensures dues { OnOk result (committer.new.kept.dues ≡ []) }
+    ensures err { IfErr result (λ end. WindowBroken (V.shows verifier.now) D.tells piece.old.first
+        piece.old.lines.items end
+        (at committer.old
+        (pair (D.state a.old)
+        (D.state b.old))
+        (K.state sink.old))
+        (at committer.new
+        (pair (D.state a.new)
+        (D.state b.new))
+        (K.state sink.new))) }
+    ensures none { piece.new.lines.items ≡ [] }
+    ensures first { piece.new.first ≡ piece.old.next }
+    ensures next { piece.new.next ≡ piece.old.next }
+{
+    if let Err(end) = take_piece(rt, alloc, verifier, gate, committer, a, b, sink, piece) {
+        return Err(end);
+    }
+    match committer.flush(a, b, sink) {
+        Ok(()) => Ok(()),
+        Err(end) => Err(end),
+    }
+}
 
 /// Answers the lines of a script on a ledger, one after the other, until it ends or a fault ends it. Journals gather in
 /// blocks, and a receipt is written once its block is on the disk for good; other replies are written with it, in the
-/// order of the lines. Each line is taken as it comes: none waits for a later one.
-pub(crate) fn run_script<S: Source, K: Sink, D: Disk, V: Verifier>(
+/// order in which the lines are taken: each lane's lines in theirs. Lines that the source has given are taken together,
+/// each lane's prepared in a thread of its own; none waits for one that the source hasn't given.
+pub fn run_session<R: Threads + Wait + Sync, S: Source, K: Sink, D: Disk, V: Verifier, G: Gate>(
+    rt: &R,
     alloc: Global,
     verifier: &V,
+    gate: &G,
     committer: &mut Committer,
     a: &mut D,
     b: &mut D,
@@ -33,24 +153,24 @@ pub(crate) fn run_script<S: Source, K: Sink, D: Disk, V: Verifier>(
 ) -> LedgerEnding
     requires open { committer.old.ended ≡ false }
     requires fits { Fits D.tells (world committer.old.kept
-        (pair (disk (D.state a.old) (D.told_length a.old) (D.faults a.old))
-        (disk (D.state b.old) (D.told_length b.old) (D.faults b.old)))
+        (pair (D.state a.old)
+        (D.state b.old))
         (K.state sink.old)) }
     requires room { HasRoom committer.old.kept }
     requires none { committer.old.kept.dues ≡ [] }
     ensures ran { Runs (V.shows verifier.now) D.tells (world committer.old.kept
-        (pair (disk (D.state a.old) (D.told_length a.old) (D.faults a.old))
-        (disk (D.state b.old) (D.told_length b.old) (D.faults b.old)))
+        (pair (D.state a.old)
+        (D.state b.old))
         (K.state sink.old)) result
         (handed (S.state source.old) (K.state sink.old)
-        (pair (disk (D.state a.old) (D.told_length a.old) (D.faults a.old))
-        (disk (D.state b.old) (D.told_length b.old) (D.faults b.old))))
+        (pair (D.state a.old)
+        (D.state b.old)))
         (handed (S.state source.new) (K.state sink.new)
-        (pair (disk (D.state a.new) (D.told_length a.new) (D.faults a.new))
-        (disk (D.state b.new) (D.told_length b.new) (D.faults b.new)))) }
+        (pair (D.state a.new)
+        (D.state b.new))) }
     ensures started { IsOfLines result }
 {
-    match answer_lines(alloc, verifier, committer, a, b, source, sink) {
+    match answer_lines(rt, alloc, verifier, gate, committer, a, b, source, sink) {
         Ok(()) => LedgerEnding::Run(Ending::Done),
         Err(ending) => ending,
     }
@@ -58,9 +178,11 @@ pub(crate) fn run_script<S: Source, K: Sink, D: Disk, V: Verifier>(
 
 // An error is the ending that it brings. Lines that were whole before a fault of reading are answered, as the last
 // window; where memory is missing nothing more is.
-fn answer_lines<S: Source, K: Sink, D: Disk, V: Verifier>(
+fn answer_lines<R: Threads + Wait + Sync, S: Source, K: Sink, D: Disk, V: Verifier, G: Gate>(
+    rt: &R,
     alloc: Global,
     verifier: &V,
+    gate: &G,
     committer: &mut Committer,
     a: &mut D,
     b: &mut D,
@@ -69,182 +191,60 @@ fn answer_lines<S: Source, K: Sink, D: Disk, V: Verifier>(
 ) -> Result<(), LedgerEnding>
     requires open { committer.old.ended ≡ false }
     requires fits { Fits D.tells (world committer.old.kept
-        (pair (disk (D.state a.old) (D.told_length a.old) (D.faults a.old))
-        (disk (D.state b.old) (D.told_length b.old) (D.faults b.old)))
+        (pair (D.state a.old)
+        (D.state b.old))
         (K.state sink.old)) }
     requires room { HasRoom committer.old.kept }
     requires none { committer.old.kept.dues ≡ [] }
     ensures done { OnOk result (Runs (V.shows verifier.now) D.tells (world committer.old.kept
-        (pair (disk (D.state a.old) (D.told_length a.old) (D.faults a.old))
-        (disk (D.state b.old) (D.told_length b.old) (D.faults b.old)))
+        (pair (D.state a.old)
+        (D.state b.old))
         (K.state sink.old))
         (ending.Run run.Done)
         (handed (S.state source.old) (K.state sink.old)
-        (pair (disk (D.state a.old) (D.told_length a.old) (D.faults a.old))
-        (disk (D.state b.old) (D.told_length b.old) (D.faults b.old))))
+        (pair (D.state a.old)
+        (D.state b.old)))
         (handed (S.state source.new) (K.state sink.new)
-        (pair (disk (D.state a.new) (D.told_length a.new) (D.faults a.new))
-        (disk (D.state b.new) (D.told_length b.new) (D.faults b.new))))) }
+        (pair (D.state a.new)
+        (D.state b.new)))) }
     ensures ended { IfErr result (λ e. Runs (V.shows verifier.now) D.tells (world committer.old.kept
-        (pair (disk (D.state a.old) (D.told_length a.old) (D.faults a.old))
-        (disk (D.state b.old) (D.told_length b.old) (D.faults b.old)))
+        (pair (D.state a.old)
+        (D.state b.old))
         (K.state sink.old)) e
         (handed (S.state source.old) (K.state sink.old)
-        (pair (disk (D.state a.old) (D.told_length a.old) (D.faults a.old))
-        (disk (D.state b.old) (D.told_length b.old) (D.faults b.old))))
+        (pair (D.state a.old)
+        (D.state b.old)))
         (handed (S.state source.new) (K.state sink.new)
-        (pair (disk (D.state a.new) (D.told_length a.new) (D.faults a.new))
-        (disk (D.state b.new) (D.told_length b.new) (D.faults b.new))))) }
+        (pair (D.state a.new)
+        (D.state b.new)))) }
     ensures started { IfErr result (λ e. IsOfLines e) }
 {
     let mut lines = Lines::new(alloc);
     let mut window = Window::new();
-    let mut index = 0;
+    let mut piece = Piece::new(alloc);
     loop {
         let line = match lines.next(source) {
             Ok(Some(line)) => line,
             Ok(None) => {
-                committer.flush(a, b, sink)?;
+                end_window(rt, alloc, verifier, gate, committer, a, b, sink, &mut piece)?;
                 return Ok(());
             }
             Err(error) => {
                 if let LineErr::NoMemory = error {
                     return Err(LedgerEnding::Run(Ending::NoMemory));
                 }
-                committer.flush(a, b, sink)?;
+                end_window(rt, alloc, verifier, gate, committer, a, b, sink, &mut piece)?;
                 return Err(LedgerEnding::Run(Ending::from(error)));
             }
         };
-        index += 1;
-        let line = line.as_slice();
-        take_in_window(
-            alloc,
-            verifier,
-            committer,
-            a,
-            b,
-            sink,
-            &mut window,
-            index,
-            line,
-        )?;
-    }
-}
-
-// Takes a line, and ends the open block where that ends the window.
-fn take_in_window<K: Sink, D: Disk, V: Verifier>(
-    alloc: Global,
-    verifier: &V,
-    committer: &mut Committer,
-    a: &mut D,
-    b: &mut D,
-    sink: &mut K,
-    window: &mut Window,
-    index: u64,
-    line: &[u8],
-) -> Result<(), End>
-    requires open { committer.old.ended ≡ false }
-    requires fits { Fits D.tells (world committer.old.kept
-        (pair (disk (D.state a.old) (D.told_length a.old) (D.faults a.old))
-        (disk (D.state b.old) (D.told_length b.old) (D.faults b.old)))
-        (K.state sink.old)) }
-    requires room { HasRoom committer.old.kept }
-    requires length { length line.now ≤ line_limit }
-    ensures ok { OnOk result (Goes D.tells (world committer.old.kept
-        (pair (disk (D.state a.old) (D.told_length a.old) (D.faults a.old))
-        (disk (D.state b.old) (D.told_length b.old) (D.faults b.old)))
-        (K.state sink.old))
-        (λ g. after_line (V.shows verifier.now) g window.old.lines window.old.bytes
-        (numbered_line index line.now))
-        (λ g. due_for (V.shows verifier.now) g (step_of (numbered_line index line.now)) ∷ [])
-        (world committer.new.kept
-        (pair (disk (D.state a.new) (D.told_length a.new) (D.faults a.new))
-        (disk (D.state b.new) (D.told_length b.new) (D.faults b.new)))
-        (K.state sink.new))) }
-    ensures open { OnOk result (committer.new.ended ≡ false) }
-    ensures fits { OnOk result (Fits D.tells (world committer.new.kept
-        (pair (disk (D.state a.new) (D.told_length a.new) (D.faults a.new))
-        (disk (D.state b.new) (D.told_length b.new) (D.faults b.new)))
-        (K.state sink.new))) }
-    ensures room { OnOk result (HasRoom committer.new.kept) }
-    ensures lines { OnOk result (window.new.lines
-        ≡ (if fills_window (window.old.lines + 1) (window.old.bytes + length line.now)
-        then 0 else window.old.lines + 1)) }
-    ensures bytes { OnOk result (window.new.bytes
-        ≡ (if fills_window (window.old.lines + 1) (window.old.bytes + length line.now)
-        then 0 else window.old.bytes + length line.now)) }
-    ensures err { IfErr result (λ end. Ended D.tells (world committer.old.kept
-        (pair (disk (D.state a.old) (D.told_length a.old) (D.faults a.old))
-        (disk (D.state b.old) (D.told_length b.old) (D.faults b.old)))
-        (K.state sink.old))
-        (λ g. after_line (V.shows verifier.now) g window.old.lines window.old.bytes
-        (numbered_line index line.now))
-        (λ g. due_for (V.shows verifier.now) g (step_of (numbered_line index line.now)) ∷ [])
-        end
-        (world committer.new.kept
-        (pair (disk (D.state a.new) (D.told_length a.new) (D.faults a.new))
-        (disk (D.state b.new) (D.told_length b.new) (D.faults b.new)))
-        (K.state sink.new))) }
-{
-    take(alloc, verifier, committer, a, b, sink, index, line)?;
-    if window.add(line.len()) {
-        match committer.flush(a, b, sink) {
-            Ok(()) => Ok(()),
-            Err(end) => Err(end),
+        let full = window.add(line.as_slice().len());
+        let Ok(()) = piece.add(line) else {
+            return Err(LedgerEnding::Run(Ending::NoMemory));
+        };
+        if full {
+            end_window(rt, alloc, verifier, gate, committer, a, b, sink, &mut piece)?;
+        } else if !lines.holds_line() {
+            take_piece(rt, alloc, verifier, gate, committer, a, b, sink, &mut piece)?;
         }
-    } else {
-        Ok(())
-    }
-}
-
-// Takes a line: what it asks for is offered to the committer.
-fn take<K: Sink, D: Disk, V: Verifier>(
-    alloc: Global,
-    verifier: &V,
-    committer: &mut Committer,
-    a: &mut D,
-    b: &mut D,
-    sink: &mut K,
-    index: u64,
-    line: &[u8],
-) -> Result<(), End>
-    requires open { committer.old.ended ≡ false }
-    requires fits { Fits D.tells (world committer.old.kept
-        (pair (disk (D.state a.old) (D.told_length a.old) (D.faults a.old))
-        (disk (D.state b.old) (D.told_length b.old) (D.faults b.old)))
-        (K.state sink.old)) }
-    requires room { HasRoom committer.old.kept }
-    ensures ok { OnOk result (Goes D.tells (world committer.old.kept
-        (pair (disk (D.state a.old) (D.told_length a.old) (D.faults a.old))
-        (disk (D.state b.old) (D.told_length b.old) (D.faults b.old)))
-        (K.state sink.old))
-        (λ g. after_step (V.shows verifier.now) g (step_of (numbered_line index line.now)))
-        (λ g. due_for (V.shows verifier.now) g (step_of (numbered_line index line.now)) ∷ [])
-        (world committer.new.kept
-        (pair (disk (D.state a.new) (D.told_length a.new) (D.faults a.new))
-        (disk (D.state b.new) (D.told_length b.new) (D.faults b.new)))
-        (K.state sink.new))) }
-    ensures open { OnOk result (committer.new.ended ≡ false) }
-    ensures fits { OnOk result (Fits D.tells (world committer.new.kept
-        (pair (disk (D.state a.new) (D.told_length a.new) (D.faults a.new))
-        (disk (D.state b.new) (D.told_length b.new) (D.faults b.new)))
-        (K.state sink.new))) }
-    ensures room { OnOk result (HasRoom committer.new.kept) }
-    ensures err { IfErr result (λ end. Ended D.tells (world committer.old.kept
-        (pair (disk (D.state a.old) (D.told_length a.old) (D.faults a.old))
-        (disk (D.state b.old) (D.told_length b.old) (D.faults b.old)))
-        (K.state sink.old))
-        (λ g. after_step (V.shows verifier.now) g (step_of (numbered_line index line.now)))
-        (λ g. due_for (V.shows verifier.now) g (step_of (numbered_line index line.now)) ∷ [])
-        end
-        (world committer.new.kept
-        (pair (disk (D.state a.new) (D.told_length a.new) (D.faults a.new))
-        (disk (D.state b.new) (D.told_length b.new) (D.faults b.new)))
-        (K.state sink.new))) }
-{
-    let item = prepare(alloc, verifier, &committer.id(), index, line)?;
-    match committer.offer(a, b, sink, item) {
-        Ok(()) => Ok(()),
-        Err(end) => Err(end),
     }
 }

@@ -1,10 +1,12 @@
 ghost use Rattle.std.specs.Prelude.{◌≤◌, IfOk};
 
 use crate::ledger_top;
+use lane_work::OpenGate;
 use ledger_bytes::NoMemory;
 use ledger_disk::{FileDisk, MemDisk};
 use ledger_io::{Ending, Sink, Source, StdSink, StdSource, command_words, finish};
 use member_book::TagScheme;
+use std::sync::Wait;
 use std::thread::Threads;
 
 /// How many bytes each of the two disks in memory can hold on which `dry` runs.
@@ -15,7 +17,7 @@ const DRY_ROOM: usize = 67_108_864;
 /// disks in memory of 67,108,864 bytes each. Proofs are those of the tag scheme. What [`ledger_top`] promises holds of
 /// it, but standard input and output and real files tell nothing of what they gave and took. `threads` is `rt` once more,
 /// by whose bound threads may be started.
-pub fn ledger_standard<R: Threads>(rt: &HostRuntime, threads: &R) -> u8
+pub fn ledger_standard<R: Threads + Wait + Sync>(rt: &HostRuntime, threads: &R) -> u8
     ensures { result ≤ 9 }
 {
     let mut source = StdSource::new(rt.stdin());
@@ -44,7 +46,7 @@ fn folder_of(words: &[String]) -> Option<&str> {
 }
 
 // Nothing is opened where the words turn out to be of no form.
-fn run_on_files<R: Threads, S: Source, K: Sink>(
+fn run_on_files<R: Threads + Wait + Sync, S: Source, K: Sink>(
     rt: &HostRuntime,
     threads: &R,
     folder: &str,
@@ -58,7 +60,7 @@ fn run_on_files<R: Threads, S: Source, K: Sink>(
     let mut b = file_in(rt, folder, "/ledger.b")?;
     let alloc = rt.alloc();
     Ok(ledger_top(
-        threads, alloc, words, source, sink, &mut a, &mut b, &TagScheme,
+        threads, alloc, words, source, sink, &mut a, &mut b, &TagScheme, &OpenGate,
     ))
 }
 
@@ -72,7 +74,7 @@ fn file_in<'a>(
     FileDisk::at(rt, rt.alloc(), path.as_str())
 }
 
-fn run_in_memory<R: Threads, S: Source, K: Sink>(
+fn run_in_memory<R: Threads + Wait + Sync, S: Source, K: Sink>(
     rt: &HostRuntime,
     threads: &R,
     words: &[String],
@@ -89,6 +91,6 @@ fn run_in_memory<R: Threads, S: Source, K: Sink>(
     let mut b = MemDisk::new(rt.alloc(), room, Vec::new(rt.alloc()))?;
     let alloc = rt.alloc();
     Ok(ledger_top(
-        threads, alloc, words, source, sink, &mut a, &mut b, &TagScheme,
+        threads, alloc, words, source, sink, &mut a, &mut b, &TagScheme, &OpenGate,
     ))
 }

@@ -1,15 +1,17 @@
 ghost use Rattle.std.specs.Prelude.{◌≡◌, ◌↔◌, None, map, string_bytes};
-ghost use Rattle.batch_committer.specs.World.{Pair, disk, pair};
-ghost use Rattle.ledger_io.specs.Outside.{SourceState, count_after, MeetsOne};
+ghost use Rattle.batch_committer.specs.World.{Pair, pair};
+ghost use Rattle.ledger_bytes.specs.Causes.{count_after};
+ghost use Rattle.ledger_io.specs.Outside.{SourceState, MeetsOne};
 ghost use Rattle.ledger_cli.specs.Runs.{handed, DiskFailed, Finishes, Makes, NothingFailed, RanProgram, RunsAgain, RunsNew, ServedBy, Signs};
 ghost use Rattle.ledger_cli.specs.Signing.{signed_text};
 ghost use Rattle.ledger_cli.specs.Words.{command_of};
 
 use crate::Command;
 use crate::ending::{LedgerEnding, put_line};
-use crate::session::run_script;
+use crate::session::run_session;
 use crate::signing::Signing;
 use batch_committer::Committer;
+use lane_work::Gate;
 use ledger_bytes::NoMemory;
 use ledger_disk::Disk;
 use ledger_io::{Ending, Sink, Source, finish, write_all, write_last};
@@ -18,6 +20,7 @@ use ledger_open::{init, reopen};
 use member_book::Verifier;
 use script_lines::Word;
 use std::alloc::Global;
+use std::sync::Wait;
 use std::thread::Threads;
 
 /// The program: runs the command that the words after the program's name make. `init` makes a ledger of the two disks.
@@ -41,7 +44,7 @@ use std::thread::Threads;
 /// Of several, the first that happens is the status: a run that is done met no fault, and one that ends with a fault met
 /// that one. Lines that ended before a fault of reading are answered first. The last line is written by one attempt; a
 /// fault there doesn't change the status.
-pub fn ledger_top<R: Threads, S: Source, K: Sink, D: Disk, V: Verifier>(
+pub fn ledger_top<R: Threads + Wait + Sync, S: Source, K: Sink, D: Disk, V: Verifier, G: Gate>(
     rt: &R,
     alloc: Global,
     words: &[String],
@@ -50,33 +53,34 @@ pub fn ledger_top<R: Threads, S: Source, K: Sink, D: Disk, V: Verifier>(
     a: &mut D,
     b: &mut D,
     verifier: &V,
+    gate: &G,
 ) -> u8
     ensures ran { RanProgram (V.shows verifier.now) D.tells
         (command_of (map string_bytes words.now)) result
         (handed (S.state source.old) (K.state sink.old)
-        (pair (disk (D.state a.old) (D.told_length a.old) (D.faults a.old))
-        (disk (D.state b.old) (D.told_length b.old) (D.faults b.old))))
+        (pair (D.state a.old)
+        (D.state b.old)))
         (handed (S.state source.new) (K.state sink.new)
-        (pair (disk (D.state a.new) (D.told_length a.new) (D.faults a.new))
-        (disk (D.state b.new) (D.told_length b.new) (D.faults b.new)))) }
+        (pair (D.state a.new)
+        (D.state b.new))) }
     ensures usage { (result ≡ 1) ↔ (command_of (map string_bytes words.now) ≡ None) }
     ensures done { result ≡ 0 → NothingFailed
         (handed (S.state source.old) (K.state sink.old)
-        (pair (disk (D.state a.old) (D.told_length a.old) (D.faults a.old))
-        (disk (D.state b.old) (D.told_length b.old) (D.faults b.old))))
+        (pair (D.state a.old)
+        (D.state b.old)))
         (handed (S.state source.new) (K.state sink.new)
-        (pair (disk (D.state a.new) (D.told_length a.new) (D.faults a.new))
-        (disk (D.state b.new) (D.told_length b.new) (D.faults b.new)))) }
+        (pair (D.state a.new)
+        (D.state b.new))) }
     ensures read_fault { result ≡ 2
         → (S.state source.new).faults ≡ count_after (S.state source.old).faults }
     ensures write_fault { result ≡ 3 → MeetsOne (K.state sink.old) (K.state sink.new) }
     ensures disk_fault { result ≡ 4 → DiskFailed
-        (pair (disk (D.state a.old) (D.told_length a.old) (D.faults a.old))
-        (disk (D.state b.old) (D.told_length b.old) (D.faults b.old)))
-        (pair (disk (D.state a.new) (D.told_length a.new) (D.faults a.new))
-        (disk (D.state b.new) (D.told_length b.new) (D.faults b.new))) }
+        (pair (D.state a.old)
+        (D.state b.old))
+        (pair (D.state a.new)
+        (D.state b.new)) }
 {
-    let met = run_words(rt, alloc, words, source, sink, a, b, verifier);
+    let met = run_words(rt, alloc, words, source, sink, a, b, verifier, gate);
     finish_run(alloc, sink, met)
 }
 
@@ -99,7 +103,7 @@ fn finish_run<K: Sink>(alloc: Global, sink: &mut K, met: LedgerEnding) -> u8
 }
 
 // All but the last line.
-fn run_words<R: Threads, S: Source, K: Sink, D: Disk, V: Verifier>(
+fn run_words<R: Threads + Wait + Sync, S: Source, K: Sink, D: Disk, V: Verifier, G: Gate>(
     rt: &R,
     alloc: Global,
     words: &[String],
@@ -108,22 +112,23 @@ fn run_words<R: Threads, S: Source, K: Sink, D: Disk, V: Verifier>(
     a: &mut D,
     b: &mut D,
     verifier: &V,
+    gate: &G,
 ) -> LedgerEnding
     ensures { ServedBy (V.shows verifier.now) D.tells
         (command_of (map string_bytes words.now)) result
         (handed (S.state source.old) (K.state sink.old)
-        (pair (disk (D.state a.old) (D.told_length a.old) (D.faults a.old))
-        (disk (D.state b.old) (D.told_length b.old) (D.faults b.old))))
+        (pair (D.state a.old)
+        (D.state b.old)))
         (handed (S.state source.new) (K.state sink.new)
-        (pair (disk (D.state a.new) (D.told_length a.new) (D.faults a.new))
-        (disk (D.state b.new) (D.told_length b.new) (D.faults b.new)))) }
+        (pair (D.state a.new)
+        (D.state b.new))) }
 {
     match Command::read(alloc, words) {
         Ok(Some(Command::Dry(genesis))) => {
-            run_new(alloc, &genesis, source, sink, a, b, verifier)
+            run_new(rt, alloc, &genesis, source, sink, a, b, verifier, gate)
         }
         Ok(Some(Command::Init(genesis))) => make(alloc, &genesis, sink, a, b),
-        Ok(Some(Command::Run)) => run_again(rt, alloc, source, sink, a, b, verifier),
+        Ok(Some(Command::Run)) => run_again(rt, alloc, source, sink, a, b, verifier, gate),
         Ok(Some(Command::Sign(signing))) => sign(&signing, sink),
         Ok(None) => LedgerEnding::Run(Ending::Usage),
         Err(NoMemory) => LedgerEnding::Run(Ending::NoMemory),
@@ -131,7 +136,7 @@ fn run_words<R: Threads, S: Source, K: Sink, D: Disk, V: Verifier>(
 }
 
 // Opens the ledger of two disks, and runs a script on it.
-fn run_again<R: Threads, S: Source, K: Sink, D: Disk, V: Verifier>(
+fn run_again<R: Threads + Wait + Sync, S: Source, K: Sink, D: Disk, V: Verifier, G: Gate>(
     rt: &R,
     alloc: Global,
     source: &mut S,
@@ -139,26 +144,38 @@ fn run_again<R: Threads, S: Source, K: Sink, D: Disk, V: Verifier>(
     a: &mut D,
     b: &mut D,
     verifier: &V,
+    gate: &G,
 ) -> LedgerEnding
     ensures { RunsAgain (V.shows verifier.now) D.tells result
         (handed (S.state source.old) (K.state sink.old)
-        (pair (disk (D.state a.old) (D.told_length a.old) (D.faults a.old))
-        (disk (D.state b.old) (D.told_length b.old) (D.faults b.old))))
+        (pair (D.state a.old)
+        (D.state b.old)))
         (handed (S.state source.new) (K.state sink.new)
-        (pair (disk (D.state a.new) (D.told_length a.new) (D.faults a.new))
-        (disk (D.state b.new) (D.told_length b.new) (D.faults b.new)))) }
+        (pair (D.state a.new)
+        (D.state b.new))) }
 {
     match reopen(rt, alloc, a, b, Limits::real()) {
         Ok(opened) => {
             let mut committer = Committer::new(alloc, opened);
-            run_script(alloc, verifier, &mut committer, a, b, source, sink)
+            run_session(
+                rt,
+                alloc,
+                verifier,
+                gate,
+                &mut committer,
+                a,
+                b,
+                source,
+                sink,
+            )
         }
         Err(e) => LedgerEnding::from(e),
     }
 }
 
 // Makes a ledger of two disks, and runs a script on it.
-fn run_new<S: Source, K: Sink, D: Disk, V: Verifier>(
+fn run_new<R: Threads + Wait + Sync, S: Source, K: Sink, D: Disk, V: Verifier, G: Gate>(
+    rt: &R,
     alloc: Global,
     genesis: &Genesis,
     source: &mut S,
@@ -166,21 +183,32 @@ fn run_new<S: Source, K: Sink, D: Disk, V: Verifier>(
     a: &mut D,
     b: &mut D,
     verifier: &V,
+    gate: &G,
 ) -> LedgerEnding
     ensures { RunsNew (V.shows verifier.now) genesis.now D.tells result
         (handed (S.state source.old) (K.state sink.old)
-        (pair (disk (D.state a.old) (D.told_length a.old) (D.faults a.old))
-        (disk (D.state b.old) (D.told_length b.old) (D.faults b.old))))
+        (pair (D.state a.old)
+        (D.state b.old)))
         (handed (S.state source.new) (K.state sink.new)
-        (pair (disk (D.state a.new) (D.told_length a.new) (D.faults a.new))
-        (disk (D.state b.new) (D.told_length b.new) (D.faults b.new)))) }
+        (pair (D.state a.new)
+        (D.state b.new))) }
 {
     match init(alloc, a, b, genesis, Limits::real()) {
         Ok(opened) => {
             let mut committer = Committer::new(alloc, opened);
-            run_script(alloc, verifier, &mut committer, a, b, source, sink)
+            run_session(
+                rt,
+                alloc,
+                verifier,
+                gate,
+                &mut committer,
+                a,
+                b,
+                source,
+                sink,
+            )
         }
-        Err(e) => LedgerEnding::from(e),
+        Err(refusal) => LedgerEnding::from(refusal),
     }
 }
 
@@ -194,11 +222,11 @@ fn make<K: Sink, D: Disk>(
 ) -> LedgerEnding
     ensures { (source : SourceState) → Makes genesis.now D.tells result
         (handed source (K.state sink.old)
-        (pair (disk (D.state a.old) (D.told_length a.old) (D.faults a.old))
-        (disk (D.state b.old) (D.told_length b.old) (D.faults b.old))))
+        (pair (D.state a.old)
+        (D.state b.old)))
         (handed source (K.state sink.new)
-        (pair (disk (D.state a.new) (D.told_length a.new) (D.faults a.new))
-        (disk (D.state b.new) (D.told_length b.new) (D.faults b.new)))) }
+        (pair (D.state a.new)
+        (D.state b.new))) }
 {
     let id = match init(alloc, a, b, genesis, Limits::real()) {
         Ok(opened) => opened.book.id(),

@@ -1,5 +1,5 @@
 -- What a disk tells of itself, and what a crash may leave of it.
-use Rattle.ledger_bytes.specs.Causes.{Rose}
+use Rattle.ledger_bytes.specs.Causes.{count_after}
 use Rattle.std.specs.Prelude.{◌≡◌, ◌⊎◌, ℕ, ◌+◌, ◌<◌, ◌≤◌, min, max, List, [], ◌∷◌, ◌++◌, length, get_or, take, drop, Option, Some, IfSome, Result, MatchResult}
 
 pub record State : Type 0 where
@@ -12,6 +12,12 @@ pub record State : Type 0 where
   -- the least and the greatest length since
   pub least : ℕ
   pub greatest : ℕ
+
+-- what a disk tells: its contents, its length where it told one already, and how many of its calls failed
+pub record DiskState : Type 0 where
+  pub bytes : State
+  pub told : Option ℕ
+  pub faults : ℕ
 
 -- none of these ranges has this place
 abbrev pub IsUntouched : ℕ → List (ℕ × ℕ) → Type 0
@@ -57,9 +63,13 @@ MayHaveWritten at n old new = (new ≡ old) ⊎ ((file : List ℕ) × Torn at n 
 abbrev pub MayHaveCut : ℕ → State → State → Type 0
 MayHaveCut n old new = (new ≡ old) ⊎ ((m : ℕ) × (n ≤ m) × (m ≤ length old.seen) × (new ≡ cut_to m old))
 
--- the count stays at `Ok` and rises at `Err`
+-- the count stays at `Ok`, and is one more at `Err`
 abbrev pub CountsFault : {T E : Type 0} → Result T E → ℕ → ℕ → Type 0
-CountsFault result old new = MatchResult result (λ _. new ≡ old) (λ _. Rose old new × (old ≤ new))
+CountsFault result old new = MatchResult result (λ _. new ≡ old) (λ _. new ≡ count_after old)
+
+-- one call of one of two disks failed
+abbrev pub OneMore : ℕ → ℕ → ℕ → ℕ → Type 0
+OneMore x1 x2 y1 y2 = ((x2 ≡ count_after x1) × (y2 ≡ y1)) ⊎ ((x2 ≡ x1) × (y2 ≡ count_after y1))
 
 -- a length that is told stays
 abbrev pub KeepsLength : Option ℕ → Option ℕ → Type 0

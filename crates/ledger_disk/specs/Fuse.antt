@@ -1,5 +1,6 @@
 -- What a `FuseDisk` shows.
 use Rattle.std.specs.Prelude.{◌≡◌, ℕ, ◌+◌, ◌-◌, ◌^◌, ◌≤◌, min, Result, IsErr}
+use Rattle.ledger_disk.specs.Disk.{DiskState}
 use Rattle.ledger_disk.specs.declared.fuse.FuseDisk.{FuseDisk}
 
 -- the disk that it passes calls on to
@@ -15,8 +16,12 @@ abbrev pub refused_of : {D : Type 0} → FuseDisk D → ℕ
 refused_of f = f.refused
 
 -- how many calls failed: those that its disk counted, and those that it refused
-abbrev pub fuse_faults : {D : Type 0} → (D → ℕ) → FuseDisk D → ℕ
-fuse_faults faults f = min (faults (inner_of f) + refused_of f) (2 ^ 64 - 1)
+abbrev pub fuse_faults : {D : Type 0} → (D → DiskState) → FuseDisk D → ℕ
+fuse_faults state f = min ((state (inner_of f)).faults + refused_of f) (2 ^ 64 - 1)
+
+-- what it tells: what its disk does, but for the calls that it refused
+abbrev pub fuse_state : {D : Type 0} → (D → DiskState) → FuseDisk D → DiskState
+fuse_state state f = record { bytes = (state (inner_of f)).bytes; told = (state (inner_of f)).told; faults = fuse_faults state f }
 
 -- A call is refused where none was left, and then doesn't reach the disk. Else it isn't refused.
 pub record IsPassedOn {D T E : Type 0} (result : Result T E) (old new : FuseDisk D) : Type 0 where

@@ -1,6 +1,6 @@
 ghost use Rattle.std.specs.Prelude.{◌≡◌, ◌+◌, ◌-◌, ◌^◌, ◌≤◌, false, None, Some, min, IfOk};
 ghost use Rattle.std.specs.String.{string_bytes};
-ghost use Rattle.ledger_bytes.specs.Causes.{Rose};
+ghost use Rattle.ledger_bytes.specs.Causes.{count_after};
 ghost use Rattle.ledger_disk.specs.Adapter.{told_of};
 ghost use Rattle.ledger_disk.specs.Disk.{CountsFault, KeepsLength};
 
@@ -9,6 +9,7 @@ use ledger_bytes::{Failed, NoMemory};
 use std::alloc::Global;
 use std::fs::{File, OpenOptions};
 use std::io;
+use std::os::fd::AsRawFd;
 use std::os::unix::fs::FileExt;
 use std::path::Path;
 use std::rt::Files;
@@ -16,9 +17,14 @@ use std::rt::Files;
 // The most bytes that a disk has.
 const MOST_BYTES: u64 = 1 << 62;
 
-/// A disk over a real file, which it opens or makes at its first call. It syncs the file's folder then, so that the
-/// file's name stands for good from that call's Ok on. It keeps the length from then on: where the file gives fewer
-/// bytes than that, the read fails. It tells nothing of what the file holds.
+// The first descriptor that is no standard stream.
+const FIRST_FREE: i32 = 3;
+
+/// A disk over a real file, which it opens or makes at its first call. It then locks the file (`flock`) until the disk is
+/// dropped, and syncs the file's folder, so that the file's name stands for good from that call's Ok on. The call fails
+/// where another program holds the lock, where the file system has no locks, and where the file would have the
+/// descriptor of a standard stream, since one was closed. The disk keeps the length from then on: where the file gives
+/// fewer bytes than that, the read fails. It tells nothing of what the file holds.
 #[derive(Drop)]
 pub struct FileDisk<R: Files<File = File> + Drop> {
     files: R,
@@ -70,8 +76,7 @@ impl<R: Files<File = File> + Drop> FileDisk<R> {
     fn fail(&mut self) -> Failed
         ensures same { told_of self.new.file self.new.length
             ≡ told_of self.old.file self.old.length }
-        ensures faults { Rose self.old.faults self.new.faults }
-        ensures later { self.old.faults ≤ self.new.faults }
+        ensures faults { self.new.faults ≡ count_after self.old.faults }
     {
         self.faults = self.faults.saturating_add(1);
         Failed
@@ -88,6 +93,11 @@ fn open<R: Files<File = File>>(files: &R, path: &str) -> io::Result<(File, u64)>
         .write(true)
         .create(true)
         .open(files, path)?;
+    // A descriptor below 3 is that of a standard stream which was closed: what is written there would land in the file.
+    if file.as_raw_fd() < FIRST_FREE {
+        return Err(io::ErrorKind::InvalidData.into());
+    }
+    file.try_lock()?;
     let length = file.metadata()?.len();
     if length > MOST_BYTES {
         return Err(io::ErrorKind::InvalidData.into());
@@ -160,11 +170,7 @@ impl<R: Files<File = File> + Drop> Disk for FileDisk<R> {
 
     ghost tells = { false };
 
-    ghost state = { λ _. untold_state };
-
-    ghost told_length = { λ d. told_of d.file d.length };
-
-    ghost faults = { λ d. d.faults };
+    ghost state = { λ d. record { bytes = untold_state; told = told_of d.file d.length; faults = d.faults } };
 
     ghost bounded = { λ d n is. told_bounded d.file d.length n is d.bounded };
 

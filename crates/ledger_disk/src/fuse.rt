@@ -61,15 +61,11 @@ fn check(left: u64, refused: &mut u64) -> Result<(), Failed>
 }
 
 impl<D: Disk> Disk for FuseDisk<D> {
-    ghost use Rattle.ledger_disk.specs.Fuse.{inner_of, left_of, refused_of, fuse_faults, IsPassedOn};
+    ghost use Rattle.ledger_disk.specs.Fuse.{inner_of, left_of, refused_of, fuse_state, fuse_faults, IsPassedOn};
 
     ghost tells = { D.Disk.tells };
 
-    ghost state = { λ f. D.Disk.state f.inner };
-
-    ghost told_length = { λ f. D.Disk.told_length f.inner };
-
-    ghost faults = { λ f. fuse_faults D.Disk.faults f };
+    ghost state = { λ f. fuse_state D.Disk.state f };
 
     ghost bounded = { λ f. D.Disk.bounded f.inner };
 
@@ -78,12 +74,12 @@ impl<D: Disk> Disk for FuseDisk<D> {
     ghost seen_may_be_left = { λ f. D.Disk.seen_may_be_left f.inner };
 
     fn len(&mut self) -> Result<u64, Failed>
-        ensures value { IfOk result (λ n. D.told_length (inner_of self.new) ≡ Some n) }
-        ensures state { IsTrue D.tells → D.state (inner_of self.new) ≡ D.state (inner_of self.old) }
+        ensures value { IfOk result (λ n. (D.state (inner_of self.new)).told ≡ Some n) }
+        ensures state { IsTrue D.tells → (D.state (inner_of self.new)).bytes ≡ (D.state (inner_of self.old)).bytes }
         ensures length { KeepsLength
-            (D.told_length (inner_of self.old)) (D.told_length (inner_of self.new)) }
+            (D.state (inner_of self.old)).told (D.state (inner_of self.new)).told }
         ensures faults { CountsFault result
-            (fuse_faults D.faults self.old) (fuse_faults D.faults self.new) }
+            (fuse_faults D.state self.old) (fuse_faults D.state self.new) }
         ensures left { left_of self.new ≡ left_of self.old }
         ensures passed { IsPassedOn result self.old self.new }
     {
@@ -92,16 +88,16 @@ impl<D: Disk> Disk for FuseDisk<D> {
     }
 
     fn read(&mut self, at: u64, into: &mut [u8]) -> Result<usize, Failed>
-        ensures told { OnOk result (IsSome (D.told_length (inner_of self.new))) }
-        ensures count { IfOk result (λ n. IfSome (D.told_length (inner_of self.new))
+        ensures told { OnOk result (IsSome (D.state (inner_of self.new)).told) }
+        ensures count { IfOk result (λ n. IfSome (D.state (inner_of self.new)).told
             (λ len. n ≡ min (length into.old) (len - at))) }
         ensures bytes { IfOk result (λ n. IsTrue D.tells
-            → into.new ≡ take n (drop at (D.state (inner_of self.old)).seen) ++ drop n into.old) }
-        ensures state { IsTrue D.tells → D.state (inner_of self.new) ≡ D.state (inner_of self.old) }
+            → into.new ≡ take n (drop at (D.state (inner_of self.old)).bytes.seen) ++ drop n into.old) }
+        ensures state { IsTrue D.tells → (D.state (inner_of self.new)).bytes ≡ (D.state (inner_of self.old)).bytes }
         ensures length { KeepsLength
-            (D.told_length (inner_of self.old)) (D.told_length (inner_of self.new)) }
+            (D.state (inner_of self.old)).told (D.state (inner_of self.new)).told }
         ensures faults { CountsFault result
-            (fuse_faults D.faults self.old) (fuse_faults D.faults self.new) }
+            (fuse_faults D.state self.old) (fuse_faults D.state self.new) }
         ensures left { left_of self.new ≡ left_of self.old }
         ensures passed { IsPassedOn result self.old self.new }
     {
@@ -110,23 +106,23 @@ impl<D: Disk> Disk for FuseDisk<D> {
     }
 
     fn write(&mut self, at: u64, piece: &[u8]) -> Result<(), Failed>
-        requires { IfSome (D.told_length (inner_of self.old)) (λ n. at ≤ n) }
-        ensures ok { OnOk result (IsTrue D.tells → D.state (inner_of self.new)
+        requires { IfSome (D.state (inner_of self.old)).told (λ n. at ≤ n) }
+        ensures ok { OnOk result (IsTrue D.tells → (D.state (inner_of self.new)).bytes
             ≡ with_write at (length piece.now)
-            (overlay at piece.now (D.state (inner_of self.old)).seen)
-            (D.state (inner_of self.old))) }
+            (overlay at piece.now (D.state (inner_of self.old)).bytes.seen)
+            (D.state (inner_of self.old)).bytes) }
         ensures err { OnErr result (IsTrue D.tells → MayHaveWritten at (length piece.now)
-            (D.state (inner_of self.old)) (D.state (inner_of self.new))) }
-        ensures told { OnOk result (IsSomeAnd (D.told_length (inner_of self.new))
+            (D.state (inner_of self.old)).bytes (D.state (inner_of self.new)).bytes) }
+        ensures told { OnOk result (IsSomeAnd (D.state (inner_of self.new)).told
             (λ n. at + length piece.now ≤ n)) }
         ensures fits { OnOk result (at + length piece.now ≤ 2 ^ 62) }
-        ensures length { OnOk result (IfSome (D.told_length (inner_of self.old))
-            (λ n. D.told_length (inner_of self.new) ≡ Some (max n (at + length piece.now)))) }
-        ensures length_err { OnErr result (IfSome (D.told_length (inner_of self.old))
-            (λ n. IsSomeAnd (D.told_length (inner_of self.new))
+        ensures length { OnOk result (IfSome (D.state (inner_of self.old)).told
+            (λ n. (D.state (inner_of self.new)).told ≡ Some (max n (at + length piece.now)))) }
+        ensures length_err { OnErr result (IfSome (D.state (inner_of self.old)).told
+            (λ n. IsSomeAnd (D.state (inner_of self.new)).told
             (λ m. (n ≤ m) × (m ≤ max n (at + length piece.now))))) }
         ensures faults { CountsFault result
-            (fuse_faults D.faults self.old) (fuse_faults D.faults self.new) }
+            (fuse_faults D.state self.old) (fuse_faults D.state self.new) }
         ensures left { left_of self.new ≡ left_of self.old - 1 }
         ensures passed { IsPassedOn result self.old self.new }
     {
@@ -135,17 +131,17 @@ impl<D: Disk> Disk for FuseDisk<D> {
     }
 
     fn cut(&mut self, to: u64) -> Result<(), Failed>
-        requires { IfSome (D.told_length (inner_of self.old)) (λ n. to ≤ n) }
+        requires { IfSome (D.state (inner_of self.old)).told (λ n. to ≤ n) }
         ensures ok { OnOk result (IsTrue D.tells
-            → D.state (inner_of self.new) ≡ cut_to to (D.state (inner_of self.old))) }
+            → (D.state (inner_of self.new)).bytes ≡ cut_to to (D.state (inner_of self.old)).bytes) }
         ensures err { OnErr result (IsTrue D.tells
-            → MayHaveCut to (D.state (inner_of self.old)) (D.state (inner_of self.new))) }
-        ensures told { OnOk result (IsSome (D.told_length (inner_of self.new))) }
-        ensures length { OnOk result (D.told_length (inner_of self.new) ≡ Some to) }
-        ensures length_err { OnErr result (IfSome (D.told_length (inner_of self.old))
-            (λ n. IsSomeAnd (D.told_length (inner_of self.new)) (λ m. (to ≤ m) × (m ≤ n)))) }
+            → MayHaveCut to (D.state (inner_of self.old)).bytes (D.state (inner_of self.new)).bytes) }
+        ensures told { OnOk result (IsSome (D.state (inner_of self.new)).told) }
+        ensures length { OnOk result ((D.state (inner_of self.new)).told ≡ Some to) }
+        ensures length_err { OnErr result (IfSome (D.state (inner_of self.old)).told
+            (λ n. IsSomeAnd (D.state (inner_of self.new)).told (λ m. (to ≤ m) × (m ≤ n)))) }
         ensures faults { CountsFault result
-            (fuse_faults D.faults self.old) (fuse_faults D.faults self.new) }
+            (fuse_faults D.state self.old) (fuse_faults D.state self.new) }
         ensures left { left_of self.new ≡ left_of self.old - 1 }
         ensures passed { IsPassedOn result self.old self.new }
     {
@@ -155,14 +151,14 @@ impl<D: Disk> Disk for FuseDisk<D> {
 
     fn sync(&mut self) -> Result<(), Failed>
         ensures ok { OnOk result (IsTrue D.tells
-            → D.state (inner_of self.new) ≡ settled_state (D.state (inner_of self.old)).seen) }
+            → (D.state (inner_of self.new)).bytes ≡ settled_state (D.state (inner_of self.old)).bytes.seen) }
         ensures err { OnErr result (IsTrue D.tells
-            → D.state (inner_of self.new) ≡ D.state (inner_of self.old)) }
-        ensures told { OnOk result (IsSome (D.told_length (inner_of self.new))) }
+            → (D.state (inner_of self.new)).bytes ≡ (D.state (inner_of self.old)).bytes) }
+        ensures told { OnOk result (IsSome (D.state (inner_of self.new)).told) }
         ensures length { KeepsLength
-            (D.told_length (inner_of self.old)) (D.told_length (inner_of self.new)) }
+            (D.state (inner_of self.old)).told (D.state (inner_of self.new)).told }
         ensures faults { CountsFault result
-            (fuse_faults D.faults self.old) (fuse_faults D.faults self.new) }
+            (fuse_faults D.state self.old) (fuse_faults D.state self.new) }
         ensures left { left_of self.new ≡ left_of self.old - 1 }
         ensures passed { IsPassedOn result self.old self.new }
     {
@@ -171,7 +167,7 @@ impl<D: Disk> Disk for FuseDisk<D> {
     }
 
     fn faults(&self) -> u64
-        ensures { result ≡ fuse_faults D.faults self.now }
+        ensures { result ≡ fuse_faults D.state self.now }
     {
         self.inner.faults().saturating_add(self.refused)
     }

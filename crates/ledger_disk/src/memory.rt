@@ -1,5 +1,5 @@
 ghost use Rattle.std.specs.Prelude.{◌≡◌, ◌+◌, ◌-◌, ◌^◌, ◌<◌, ◌≤◌, ◌++◌, [], true, set, length, take, drop, Some, max, min, IfOk, OnOk, OnErr, IsSome, IfSome, IsSomeAnd, vec_capacity};
-ghost use Rattle.ledger_bytes.specs.Causes.{Rose};
+ghost use Rattle.ledger_bytes.specs.Causes.{count_after};
 ghost use Rattle.ledger_disk.specs.Disk.{MayLeave, settled_state, overlay, with_write, cut_to, CountsFault, KeepsLength, MayHaveWritten, MayHaveCut};
 ghost use Rattle.ledger_disk.specs.Parts.{state_of};
 ghost use Rattle.ledger_disk.specs.Picks.{IsPicked};
@@ -144,8 +144,7 @@ impl MemDisk {
     fn fail(&mut self) -> Failed
         ensures same { self.new
             ≡ record self.old { faults = min (self.old.faults + 1) (2 ^ 64 - 1) } }
-        ensures rose { Rose (memory_faults self.old) (memory_faults self.new) }
-        ensures later { memory_faults self.old ≤ memory_faults self.new }
+        ensures rose { memory_faults self.new ≡ count_after (memory_faults self.old) }
     {
         self.faults = self.faults.saturating_add(1);
         Failed
@@ -194,11 +193,7 @@ impl Disk for MemDisk {
 
     ghost tells = { true };
 
-    ghost state = { λ m. state_of m.bytes.items m.stable.items m.ranges.items m.least m.greatest };
-
-    ghost told_length = { λ m. Some (length m.bytes.items) };
-
-    ghost faults = { λ m. m.faults };
+    ghost state = { λ m. record { bytes = memory_state m; told = told_len m; faults = memory_faults m } };
 
     ghost bounded = { λ m n is. some_bounded (length m.bytes.items) m.greatest n is
         m.consistent.no_longer m.bounded };

@@ -134,12 +134,15 @@ fn a_file_is_a_disk(rt: HostRuntime) -> Result<(), Fail> {
     disk.sync()?;
     assert_eq!(rt; fs::read(&rt, PATH)?.as_slice(), b"abc".as_slice());
 
-    // A file that gives fewer bytes than it had.
+    // The file is locked.
     let mut other = FileDisk::at(&rt, rt.alloc(), PATH)?;
-    assert_eq!(rt; other.len(), Ok(3));
-    disk.cut(1)?;
-    assert_eq!(rt; other.read(0, &mut piece), Err(Failed));
+    assert_eq!(rt; other.len(), Err(Failed));
     assert_eq!(rt; other.faults(), 1);
+
+    // A file that gives fewer bytes than it had.
+    fs::write(&rt, PATH, b"a")?;
+    assert_eq!(rt; disk.read(0, &mut piece), Err(Failed));
+    assert_eq!(rt; disk.faults(), 1);
 
     let mut nowhere = FileDisk::at(&rt, rt.alloc(), "ledger_disk_test/none/file")?;
     assert_eq!(rt; nowhere.sync(), Err(Failed));

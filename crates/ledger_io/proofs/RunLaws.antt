@@ -2,9 +2,11 @@
 use Rattle.std.proofs.Common.{◌≡◌, ℕ, ◌<◌, inl, inr, true, false, List, [], ◌∷◌, ◌++◌, length, Option, Some, None, Result, Ok, Err, refl, ap, sym, subst, ◌∙◌, arith, append_assoc, append-nil, length-append}
 use Rattle.std.specs.Io.KnownBytes.{Consumes, Appends}
 use Rattle.std.proofs.KnownBytes.{Consumes-nil, Appends-nil}
+use Rattle.std.proofs.lemmas.List.Elements.{All-nil}
 use Rattle.ledger_bytes.specs.Begins.{Begins}
 use Rattle.ledger_io.specs.Lines.{lines_of, script_limit, IsLine, BeginsTooLong}
-use Rattle.ledger_io.specs.Outside.{SourceState, SinkState, Outside, outside, count_after, MeetsNone}
+use Rattle.ledger_bytes.specs.Causes.{count_after}
+use Rattle.ledger_io.specs.Outside.{SourceState, SinkState, Outside, outside, MeetsNone}
 use Rattle.ledger_io.specs.Reading.{Reading, Reads, GivesNone, Fails, faults_next}
 use Rattle.ledger_io.specs.Runs.{EndsBehind, EndsReading, ending_after, SomeAnswer, SomeOfScript, AreWhole, Served}
 use Rattle.std.specs.Prelude.{IfErr}
@@ -23,11 +25,6 @@ whole_append front back whole more =
       | inl none ↦ subst AreWhole (sym (append-nil front) ∙ ap (λ x. front ++ x) (sym none)) whole
       | inr last ↦ inr (front ++ last.0, ap (λ x. front ++ x) last.1 ∙ sym (append_assoc front last.0 (10 ∷ [])))
     ]
-
--- the lines that were given are the first of the script, whatever follows
-lines_on : (before now : SourceState) (reading : Reading) (lines : List (List ℕ)) (more : List ℕ) (h : HasGiven before now reading lines) → reading.ended ≡ false
-    → lines_of (h.read ++ more) ≡ lines ++ lines_of (reading.held ++ more)
-lines_on before now reading lines more h e = ap lines_of (read_on before now reading lines more h e) ∙ lines_of-broken lines (reading.held ++ more) (unbroken lines h.each)
 
 module _ (before mid after : SourceState) (old new : Reading) (bytes : List ℕ) (lines : List (List ℕ)) (h : HasGiven before mid old lines) (r : Reads mid after old new bytes) where
   -- at the end of the source all lines are answered
@@ -54,11 +51,7 @@ module _ (before mid after : SourceState) (old new : Reading) (bytes : List ℕ)
   -- for want of memory nothing more is answered
   pub some_at_failure : (answers : List (List ℕ) → List ℕ → Type 0) (IsSo : List ℕ → Type 0) → after.faults ≡ mid.faults → Fails mid after old new bytes NoMemory
       → ((tail : List (List ℕ)) → SomeAnswer answers (lines ++ tail) IsSo) → SomeOfScript answers before after (h.read ++ bytes) IsSo
-  some_at_failure answers IsSo k f ahead = inl (
-    k ∙ h.faults,
-    λ more. subst (λ all. SomeAnswer answers all IsSo)
-        (sym (ap lines_of (append_assoc h.read bytes more) ∙ lines_on before mid old lines (bytes ++ more) h f.unended)) (ahead (lines_of (old.held ++ (bytes ++ more)))),
-  )
+  some_at_failure answers IsSo k f ahead = inl (k ∙ h.faults, (lines, new.held, given_split before mid after old new bytes lines h r NoMemory f, ahead))
 
 -- some text of the script is so, where some is of the lines that were given, whatever lines follow them
 pub some_of_given : (answers : List (List ℕ) → List ℕ → Type 0) (before now : SourceState) (reading : Reading) (lines : List (List ℕ)) (h : HasGiven before now reading lines) (IsSo : List ℕ → Type 0)
@@ -66,7 +59,7 @@ pub some_of_given : (answers : List (List ℕ) → List ℕ → Type 0) (before 
 some_of_given answers before now reading lines h IsSo ahead =
     elim reading.ended as (λ e. reading.ended ≡ e → SomeOfScript answers before now h.read IsSo) [
       | true ↦ λ e. inr (None, lines, (h.faults, h.at_end e, h.short e, sym (h.ended e), h.each), subst (λ all. SomeAnswer answers all IsSo) (append-nil lines) (ahead []))
-      | false ↦ λ e. inl (h.faults, λ more. subst (λ all. SomeAnswer answers all IsSo) (sym (lines_on before now reading lines more h e)) (ahead (lines_of (reading.held ++ more))))
+      | false ↦ λ e. inl (h.faults, (lines, reading.held, record { is = h.unended e; each = h.each }, ahead))
     ] refl
 
 module _ (answers : List (List ℕ) → List ℕ → Type 0) (before : Outside) where
@@ -91,7 +84,7 @@ module _ (answers : List (List ℕ) → List ℕ → Type 0) (before : Outside) 
     replies = [];
     consumed = Consumes-nil before.source.left;
     appended = Appends-nil before.sink.held;
-    replied = ((refl, refl), inl refl, inl (refl, λ more. some (lines_of more)));
+    replied = ((refl, refl), inl refl, inl (refl, ([], [], record { is = refl; each = All-nil IsLine }, λ further. some further)));
   }
 
 -- an error is the ending that it brings

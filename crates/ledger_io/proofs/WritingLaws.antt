@@ -4,7 +4,8 @@ use Rattle.std.specs.Prelude.{◌&&◌, nat_lt, OnOk, IfErr}
 use Rattle.std.specs.Io.KnownBytes.{Appends}
 use Rattle.std.proofs.lemmas.Bool.Decides.{eqb_tells}
 use Rattle.std.proofs.lemmas.List.{take-append-drop, length-take-le}
-use Rattle.ledger_io.specs.Outside.{SinkState, MeetsOne, count_after, idles_after}
+use Rattle.ledger_bytes.specs.Causes.{count_after}
+use Rattle.ledger_io.specs.Outside.{SinkState, MeetsOne, idles_after}
 use Rattle.ledger_io.specs.Writing.{WritesFirst, MeetsAtMostOne, WritesLast}
 use Rattle.ledger_io.specs.declared.writer.WriteErr.{WriteErr}
 use Rattle.ledger_io.specs.declared.writer.WriteErr.TheVariants as write_err

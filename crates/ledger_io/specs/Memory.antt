@@ -1,6 +1,7 @@
 -- What clauses see of a source and a sink in memory.
 use Rattle.std.specs.Prelude.{◌≡◌, ℕ, ◌-◌, Bool, true, false, if◌then◌else◌, List, ◌++◌, length, take, drop, min, Result, Ok, Err, Some}
-use Rattle.ledger_io.specs.Outside.{SourceState, SinkState, count_after, is_idle}
+use Rattle.ledger_bytes.specs.Causes.{count_after}
+use Rattle.ledger_io.specs.Outside.{SourceState, SinkState, is_idle}
 
 -- the calls of an object: the number of the next, the numbers of those that fail, and how many failed
 pub record Plan : Type 0 where

@@ -1,6 +1,6 @@
 -- What clauses know of the objects outside: what a source has left to read, what a sink holds, and how often calls failed.
 use Rattle.std.specs.Prelude.{◌≡◌, ℕ, ◌+◌, ◌-◌, ◌^◌, ◌≤◌, ◌⊎◌, Bool, ◌==◌, ◌&&◌, nat_lt, if◌then◌else◌, List, length, min, Option, Result, Ok, Err}
-use Rattle.ledger_bytes.specs.Causes.{Rose}
+use Rattle.ledger_bytes.specs.Causes.{Rose, count_after}
 
 -- a source: the bytes that are left to read, where it tells them, and how many of its calls failed
 pub record SourceState : Type 0 where
@@ -12,10 +12,6 @@ pub record SinkState : Type 0 where
   pub held : Option (List ℕ)
   pub faults : ℕ
   pub idles : ℕ
-
--- one more, in a count that stays at the end of its type
-abbrev pub count_after : ℕ → ℕ
-count_after n = min (n + 1) (2 ^ 64 - 1)
 
 -- the count of failed calls after a call: one more exactly where it failed
 abbrev pub faults_after : {T E : Type 0} → ℕ → Result T E → ℕ

@@ -1,7 +1,8 @@
 -- What a reader of lines reads and answers.
 use Rattle.std.specs.Prelude.{◌≡◌, ◌≢◌, ℕ, ◌+◌, ◌<◌, ◌≤◌, Bool, true, false, ◌⊎◌, List, [], ◌∷◌, ◌++◌, length, Option, Some, None, Result, Ok, Err, ⊤}
 use Rattle.std.specs.Io.KnownBytes.{Consumes, IsAtEnd}
-use Rattle.ledger_io.specs.Outside.{SourceState, count_after}
+use Rattle.ledger_bytes.specs.Causes.{count_after}
+use Rattle.ledger_io.specs.Outside.{SourceState}
 use Rattle.ledger_io.specs.Lines.{script_limit, IsLine, BeginsTooLong}
 use Rattle.ledger_io.specs.declared.failure.LineErr.{LineErr}
 use Rattle.ledger_io.specs.declared.failure.LineErr.TheVariants.{ReadFault, LineTooLong, ScriptTooLong, NoMemory}

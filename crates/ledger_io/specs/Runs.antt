@@ -5,7 +5,8 @@ use Rattle.std.specs.Io.KnownBytes.{Consumes, Appends, IsAtEnd}
 use Rattle.ledger_bytes.specs.Begins.{Begins}
 use Rattle.ledger_io.specs.Endings.{ending_of, last_line}
 use Rattle.ledger_io.specs.Lines.{lines_of, script_limit, IsLine, BeginsTooLong, Splits}
-use Rattle.ledger_io.specs.Outside.{SourceState, SinkState, Outside, outside, count_after, MeetsNone, MeetsOne}
+use Rattle.ledger_bytes.specs.Causes.{count_after}
+use Rattle.ledger_io.specs.Outside.{SourceState, SinkState, Outside, outside, MeetsNone, MeetsOne}
 use Rattle.ledger_io.specs.Writing.{WritesLast}
 use Rattle.ledger_io.specs.declared.ending.Ending.{Ending}
 use Rattle.ledger_io.specs.declared.ending.Ending.TheVariants.{Done, Usage, ReadFault, WriteFault, NoMemory, LineTooLong, ScriptTooLong}
@@ -41,11 +42,12 @@ ending_after (Some error) = ending_of error
 abbrev pub SomeAnswer : (List (List ℕ) → List ℕ → Type 0) → List (List ℕ) → (List ℕ → Type 0) → Type 0
 SomeAnswer answers lines IsSo = (text : List ℕ) × answers lines text × IsSo text
 
--- some text that answers the script is so, whatever bytes follow those that were read; or, where reading ended, some text
--- that answers the lines that are answered then
+-- Some text that answers the script is so: of the bytes that were read, some first lines, each with its newline, were taken, and
+-- it is so whatever lines follow these; or, where reading ended, some text that answers the lines that are answered then is so.
 abbrev pub SomeOfScript : (List (List ℕ) → List ℕ → Type 0) → SourceState → SourceState → List ℕ → (List ℕ → Type 0) → Type 0
 SomeOfScript answers before after read IsSo =
-    ((after.faults ≡ before.faults) × ((more : List ℕ) → SomeAnswer answers (lines_of (read ++ more)) IsSo))
+    ((after.faults ≡ before.faults) × ((lines : List (List ℕ)) × (rest : List ℕ) × Splits read lines rest
+    × ((further : List (List ℕ)) → SomeAnswer answers (lines ++ further) IsSo)))
     ⊎ ((end : Option LineErr) × (lines : List (List ℕ)) × EndsReading end before after read lines × SomeAnswer answers lines IsSo)
 
 -- what is written begins the text, and not all of the text is written

@@ -1,7 +1,8 @@
 -- The steps of a reader of lines.
 use Rattle.std.specs.Prelude.{◌≡◌, ◌≢◌, ℕ, ◌+◌, ◌<◌, ◌≤◌, Bool, true, List, [], ◌∷◌, ◌++◌, length, take, Option, Some, None, Result, Ok, Err}
 use Rattle.std.specs.Io.KnownBytes.{Consumes, IsAtEnd}
-use Rattle.ledger_io.specs.Outside.{SourceState, count_after}
+use Rattle.ledger_bytes.specs.Causes.{count_after}
+use Rattle.ledger_io.specs.Outside.{SourceState}
 use Rattle.ledger_io.specs.Lines.{script_limit, IsUnbroken, IsLine, BeginsTooLong}
 use Rattle.ledger_io.specs.Reading.{Reading}
 use Rattle.ledger_io.specs.declared.failure.LineErr.{LineErr}

@@ -17,9 +17,9 @@ pub const LINE_LIMIT: usize = 4_194_304;
 pub const SCRIPT_LIMIT: u64 = 1_099_511_627_776;
 
 // The most bytes of one read.
-const PIECE: u64 = 65_536;
+const PIECE: u64 = 1_048_576;
 
-/// Reads lines. It keeps what it read and didn't give yet, which is at most a line and a piece of 64 KiB.
+/// Reads lines. It keeps what it read and didn't give yet, which is at most a line and a piece of 1 MiB.
 #[derive(Drop)]
 pub struct Lines {
     alloc: Global,
@@ -82,6 +82,11 @@ impl Lines {
             self.failed = Some(*error);
         }
         result
+    }
+
+    /// Whether a whole line was read already, which the next call gives without reading more.
+    pub fn holds_line(&self) -> bool {
+        newline_in(self.buffer.as_slice()).is_some()
     }
 
     // Reads until a newline or the end. What it answers stands once its error is noted.

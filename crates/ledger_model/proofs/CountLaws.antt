@@ -7,7 +7,7 @@ use Rattle.ledger_model.specs.Dues.{AllCounted, EachCounted}
 use Rattle.ledger_model.specs.InOrder.{step_of, steps_of}
 use Rattle.ledger_model.specs.Step.{Step}
 use Rattle.ledger_model.specs.Windows.{Said, said_after, said_lines, fills_window, onto_first, windows_after, windows}
-use Rattle.ledger_model.proofs.LineLaws.{spoken-lane}
+use Rattle.ledger_model.proofs.LineLaws.{spoken-low}
 
 abbrev SaidFits : Said → Type 0
 SaidFits x = Fits x.lane × Fits x.index
@@ -28,7 +28,7 @@ filter_few p (x ∷ xs) = elim (p x) as (λ v. length (cond v (x ∷ filter p xs
 said_fits : (earlier lines : List (List ℕ)) → length earlier + length lines < 2 ^ 64 → AllSaid (said_after earlier lines)
 said_fits earlier [] few = tt
 said_fits earlier (line ∷ lines) few = (
-  (omega (arith, spoken-lane line), omega (arith, few, filter_few (λ other. (spoken_line other).0 == (spoken_line line).0) earlier)),
+  ((let low = spoken-low line in omega (arith, low)), omega (arith, few, filter_few (λ other. (spoken_line other).0 == (spoken_line line).0) earlier)),
   said_fits (earlier ++ line ∷ []) lines (omega (arith, few, length-append earlier (line ∷ []))),
 )
 

@@ -22,7 +22,7 @@ use Rattle.ledger_open.proofs.FollowLaws.{IsBehind, behind, behind_none, behind_
 use Rattle.ledger_open.proofs.NextLaws.{next_behind, next_front, next_index, share_take}
 use Rattle.ledger_open.proofs.SizeLaws.{mth_size}
 
-gate_open : (at : ℕ) (file root : List ℕ) (es : List Entry) → IsOpenBlock at root es file → get_or file at 0 ≡ 1
+pub gate_open : (at : ℕ) (file root : List ℕ) (es : List Entry) → IsOpenBlock at root es file → get_or file at 0 ≡ 1
 gate_open at file root es o =
     let e : at ≡ at + 0 = omega arith in
     ap (λ (k : ℕ). get_or file k 0) e ∙ sym (get_or-drop at file 0 0) ∙ ap (λ (l : List ℕ). get_or l 0 0) o.is
@@ -32,7 +32,7 @@ block_here : (file : List ℕ) (ks cs : List (List Entry)) (at : ℕ) (x : IsBeh
 block_here file ks cs at x b bs is = are_block (length (journals_of ks)) b (subst (λ (n : ℕ). IsBlock n b) (omega arith) (behind_block ground mth_size file ks cs at x b bs is))
 
 -- one of some journals
-some_entry : (es : List Entry) (i : ℕ) → i < length es → Entry
+pub some_entry : (es : List Entry) (i : ℕ) → i < length es → Entry
 some_entry [] i lt = absurd (omega (arith, lt))
 some_entry (e ∷ es) i lt = e
 
@@ -117,7 +117,7 @@ module _ (file : List ℕ) (generation : ℕ) (cs : List (List Entry)) (x : HasB
   none_damaged (BaseForm place) d = d.1 (no_base generation cs file x)
   none_damaged (Base kept found) d =
       let none : length (take (number_at 18 file) (drop 64 file)) ≡ 0 = ap (λ (n : ℕ). length (take n (drop 64 file))) (no_base generation cs file x) in
-      omega (arith, d.0, none)
+      omega (arith, d.0.0, none)
   none_damaged (Length place kept found) d = no_block d.0 d.1 (Length place kept found) d.2
   none_damaged (Entries jsn) (inl d) = by_more (back [] 64 d.1).more refl where
     by_more : (more : List (List Entry)) → (back [] 64 d.1).more ≡ more → ⊥

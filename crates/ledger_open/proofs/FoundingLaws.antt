@@ -9,7 +9,7 @@ use Rattle.ledger_model.specs.Outcomes.{is_hidden}
 use Rattle.ledger_model.specs.declared.genesis.Genesis.{Genesis}
 use Rattle.journal_record.specs.Blocks.{IsEntry, written_blocks, body_of, block_bytes, leaves_of}
 use Rattle.block_file.specs.File.{whole_file}
-use Rattle.block_file.specs.Head.{front_of, digest_of}
+use Rattle.block_file.specs.Head.{IsShut, front_of, digest_of}
 use Rattle.ledger_open.specs.Heads.{IsFront}
 use Rattle.std.specs.Int.{to_be_bytes, w32, w64}
 use Rattle.std.specs.Prelude.{sum_by}
@@ -163,12 +163,11 @@ made_images genesis block image_a image_b keys is (shut, inr made) =
     let new : image_a ≡ new_file genesis = made.0 ∙ ap (λ (l : List ℕ). whole_file (front_of 1 1 []) (l ∷ [])) is in
     inr (inl (subst (λ (l : List ℕ). StandsFor l (new_ledger genesis)) (sym new) (erased_stands (new_file genesis) (new_ledger genesis) (founded_clean genesis keys.operator keys.regulator).erased), ap length made.1))
 
--- the states at the call
-pub shut_now : (a b a_now b_now : State) → a_now ≡ settled_state a.seen → b_now ≡ settled_state b.seen → AreShut a b → AreShut a_now b_now
-shut_now a b a_now b_now same_a same_b shut =
-    let one : a_now ≡ a = same_a ∙ sym shut.quiet_a in
-    let two : b_now ≡ b = same_b ∙ sym shut.quiet_b in
-    subst (λ (s : State). AreShut s b_now) (sym one) (subst (λ (s : State). AreShut a s) (sym two) shut)
+-- the states when the ledger is made, behind both syncs
+pub shut_now : (a b a_now b_now : State) → a_now ≡ settled_state a.seen → b_now ≡ settled_state b.seen → IsShut a.seen → IsShut b.seen → AreShut a_now b_now
+shut_now a b a_now b_now same_a same_b shut_a shut_b =
+    subst (λ (s : State). AreShut s b_now) (sym same_a)
+    (subst (λ (s : State). AreShut (settled_state a.seen) s) (sym same_b) (record { quiet_a = refl; quiet_b = refl; shut_a = shut_a; shut_b = shut_b }))
 
 -- the place of the tail gate
 pub first_place : (genesis : Genesis) (block : List ℕ) (place : ℕ) → HasKeys genesis → block ≡ block_bytes ((ground).root (leaves_of (genesis_journal genesis ∷ []))) (genesis_journal genesis ∷ []) → place ≡ 65 + length block → place ≡ 351

@@ -12,6 +12,8 @@ pub mod WholeLaws
 pub mod PairLaws
 pub mod TakeLaws
 pub mod BegunLaws
+pub mod CauseLaws
+pub mod CleanLaws
 pub mod FirstLaws
 pub mod MoreLaws
 pub mod AheadLaws

@@ -16,7 +16,7 @@ use Rattle.ledger_model.specs.History.{History, history, journals_of}
 use Rattle.ledger_model.specs.Lawful as lawful
 use Rattle.ledger_model.specs.Lawful.{AreNext, IsLawful}
 use Rattle.merkle_tree.specs.declared.head.Head.{Head}
-use Rattle.ledger_open.specs.Damages.{Begun, IsReadTo, IsDamage}
+use Rattle.ledger_open.specs.Damages.{Begun, IsReadTo, IsDamage, HasBase}
 use Rattle.ledger_open.specs.Opening.{Known, known_from, Knows, HasRead, HasKnown, HasFile, IsHeadOf, IsPlain, IsReadErr, as_open}
 use Rattle.ledger_open.specs.Places.{record_len, place_of_record, places_in, places_at, after_at}
 use Rattle.ledger_open.specs.Standing.{ground}
@@ -158,8 +158,11 @@ told_inside told at n is inside = subst (λ (o : Option ℕ). IsSomeAnd o (λ m.
 
 -- ---- the base
 
-pub base_err : (file : List ℕ) (taken : BlockFile) (e : FileErr) → IsHeadOf file taken → IsBaseErr (take (base_len_of taken) (drop 64 file)) (base_digest_of taken) e → IsReadErr file (as_open e)
-base_err file taken e h why =
+pub fits_base : (file : List ℕ) (taken : BlockFile) → IsHeadOf file taken → 64 + base_len_of taken + 1 ≤ length file → HasBase file
+fits_base file taken h room = omega (arith, h.base_len, room)
+
+pub base_err : (file : List ℕ) (taken : BlockFile) (e : FileErr) → HasBase file → IsHeadOf file taken → IsBaseErr (take (base_len_of taken) (drop 64 file)) (base_digest_of taken) e → IsReadErr file (as_open e)
+base_err file taken e fits h why =
     by_err e (subst (λ (d : List ℕ). IsBaseErr (take (number_at 18 file) (drop 64 file)) d e) h.base_digest (subst (λ (n : ℕ). IsBaseErr (take n (drop 64 file)) (base_digest_of taken) e) h.base_len why)) where
       by_err : (e : FileErr) → IsBaseErr (take (number_at 18 file) (drop 64 file)) (take 32 (drop 26 file)) e → IsReadErr file (as_open e)
       by_err files.DiskFault why = tt
@@ -167,17 +170,17 @@ base_err file taken e h why =
       by_err (files.NewerFormat found) why = absurd why
       by_err (files.Damaged damages.Magic) why = absurd why
       by_err (files.Damaged (damages.BaseForm place)) why = absurd why
-      by_err (files.Damaged (damages.Base kept found)) why = why
+      by_err (files.Damaged (damages.Base kept found)) why = (why, fits)
       by_err (files.Damaged (damages.Length place kept found)) why = absurd why
       by_err (files.Damaged (damages.Entry jsn)) why = absurd why
       by_err (files.Damaged (damages.Root block kept found)) why = absurd why
       by_err (files.Damaged (damages.Content jsn kept found)) why = absurd why
 
-pub base_form : (file base : List ℕ) (taken : BlockFile) → IsHeadOf file taken → length base ≢ 0 → (length base ≡ base_len_of taken) × ((base_len_of taken ≡ 0) ⊎ (base_digest_of taken ≡ digest_of base)) → base ≡ take (base_len_of taken) (drop 64 file)
+pub base_form : (file base : List ℕ) (taken : BlockFile) → HasBase file → IsHeadOf file taken → length base ≢ 0 → (length base ≡ base_len_of taken) × ((base_len_of taken ≡ 0) ⊎ (base_digest_of taken ≡ digest_of base)) → base ≡ take (base_len_of taken) (drop 64 file)
     → IsDamage file (damages.BaseForm 0)
-base_form file base taken h some (size, inl none) is = absurd (some (size ∙ none))
-base_form file base taken h some (size, inr digest) is =
-    (refl, λ none. some (size ∙ h.base_len ∙ none), sym h.base_digest ∙ digest ∙ ap digest_of (is ∙ ap (λ (n : ℕ). take n (drop 64 file)) h.base_len))
+base_form file base taken fits h some (size, inl none) is = absurd (some (size ∙ none))
+base_form file base taken fits h some (size, inr digest) is =
+    (refl, λ none. some (size ∙ h.base_len ∙ none), sym h.base_digest ∙ digest ∙ ap digest_of (is ∙ ap (λ (n : ℕ). take n (drop 64 file)) h.base_len), fits)
 
 -- ---- the whole file
 

@@ -1,10 +1,10 @@
 -- A pair of files when it is opened.
-use Rattle.std.specs.Prelude.{Bool, true, false, IsTrue, Option, Some, option_map}
-use Rattle.std.proofs.Common.{◌≡◌, ◌≢◌, ◌⊎◌, inl, inr, refl, ℕ, ◌+◌, ◌≤◌, ◌<◌, List, [], ◌∷◌, ◌++◌, length, get_or, take, drop, sym, ◌∙◌, ap, subst, arith, append_assoc, length-append, length-drop}
+use Rattle.std.specs.Prelude.{Bool, true, false, IsTrue, Option, Some, option_map, Result, Ok, Err, IsErrAnd, IfOk, sum_by}
+use Rattle.std.proofs.Common.{◌≡◌, ◌≢◌, ◌⊎◌, inl, inr, refl, ℕ, ◌+◌, ◌≤◌, ◌<◌, List, [], ◌∷◌, ◌++◌, length, get_or, take, drop, sym, ◌∙◌, ap, subst, arith, append_assoc, length-append, length-drop, length-take, take-append-drop}
 use Rattle.std.proofs.lemmas.Bool.{true≢false}
 use Rattle.std.proofs.lemmas.List.{nil_from_length, take-append-le, drop-append-le, get_or_append_left, take_at, take_all}
 use Rattle.block_file.specs.File.{IsSettled, Stands, open_blocks, tail_of}
-use Rattle.block_file.specs.Head.{IsShut, IsOpen, HasHead, IsHeadErr, IsResumeErr, number_at}
+use Rattle.block_file.specs.Head.{IsShut, IsOpen, HasHead, IsHeadErr, IsResumeErr, generation_of, number_at}
 use Rattle.block_file.specs.declared.failure.Damage.{Damage}
 use Rattle.block_file.specs.declared.failure.Damage.TheVariants as damages
 use Rattle.block_file.specs.declared.failure.FileErr.{FileErr}
@@ -19,14 +19,14 @@ use Rattle.twin_file.proofs.TakeLaws.{taken_once, reopen_err}
 use Rattle.ledger_open.specs.Damages.{IsDamage}
 use Rattle.twin_file.specs.Picking.{IsReopened as IsLooked}
 use Rattle.twin_file.specs.Twin.{choice, IsTaken, IsReopenErr}
-use Rattle.twin_file.specs.Which.{in_a_of, file_of, view_of}
+use Rattle.twin_file.specs.Which.{in_a_of, generation_in, file_of, view_of}
 use Rattle.twin_file.specs.declared.twin.Twin.{Twin}
-use Rattle.ledger_open.specs.Opening.{Known, Knows, HasFile, IsHeadOf, IsOutside, IsOpenErr, IsOpenedAs, IsReopened, IsCleanAt, KeepsBlocks, as_open}
-use Rattle.ledger_open.specs.Places.{after_at}
+use Rattle.ledger_open.specs.Opening.{Known, Knows, HasLawfulBlocks, HasFile, IsHeadOf, IsOutside, IsOpenErr, IsOpenedAs, IsReopened, IsTidyAt, KeepsBlocks, as_open}
+use Rattle.ledger_open.specs.Places.{after_at, record_len}
 use Rattle.ledger_open.specs.Standing.{ground, HasBlocks, StandsBy, StandsFor, PairFor, IsClean, hidden_before}
 use Rattle.ledger_open.specs.declared.failure.OpenErr.{OpenErr}
 use Rattle.ledger_open.specs.declared.failure.OpenErr.TheVariants as errors
-use Rattle.ledger_open.proofs.AgainLaws.{flat, blocks_unique}
+use Rattle.ledger_open.proofs.AgainLaws.{flat, number_front, blocks_unique}
 use Rattle.ledger_open.proofs.DamageLaws.{no_base, none_damaged}
 use Rattle.ledger_open.proofs.PlaceLaws.{tail_place}
 use Rattle.ledger_book.specs.Books.{Serves}
@@ -108,6 +108,11 @@ taken_pair true a b h t (inr p) = empty_no a p.1 t.head
 taken_pair false a b h t (inl p) = empty_no b p.1 t.head
 taken_pair false a b h t (inr p) = p
 
+-- the error that a failed call of a disk brings
+pub fault_is : {T : Type 0} (r : Result T OpenErr) → IsErrAnd r (λ e. e ≡ errors.DiskFault) → r ≡ Err errors.DiskFault
+fault_is (Ok value) is = absurd is
+fault_is (Err error) is = ap Err is
+
 -- nothing is written: each image is what was read
 pub same_pair : (h : History) (a b na nb : State) → na ≡ a → nb ≡ b → IsSettled a → IsSettled b → PairFor a.seen b.seen h
     → (image_a image_b : List ℕ) → MayLeave na image_a → MayLeave nb image_b → PairFor image_a image_b h
@@ -115,6 +120,11 @@ same_pair h a b na nb ea eb qa qb p image_a image_b la lb =
     let one : image_a ≡ a.seen = settled_image a.seen image_a (subst (λ (s : State). MayLeave s image_a) (ea ∙ qa) la) in
     let two : image_b ≡ b.seen = settled_image b.seen image_b (subst (λ (s : State). MayLeave s image_b) (eb ∙ qb) lb) in
     subst (λ (x : List ℕ). PairFor x image_b h) (sym one) (subst (λ (x : List ℕ). PairFor a.seen x h) (sym two) p)
+
+-- the same where both were synced
+pub settled_pair : (h : History) (a b na nb : State) → na ≡ settled_state a.seen → nb ≡ settled_state b.seen → PairFor a.seen b.seen h
+    → (image_a image_b : List ℕ) → MayLeave na image_a → MayLeave nb image_b → PairFor image_a image_b h
+settled_pair h a b na nb ea eb p = same_pair h (settled_state a.seen) (settled_state b.seen) na nb ea eb refl refl p
 
 -- both were synced
 pub synced : (s m : State) → m ≡ settled_state s.seen → IsSettled m
@@ -135,16 +145,46 @@ module _ (h : History) (open_ other new_open new_other : State) (quiet : IsSettl
 
 pub record IsTakenAs (a b : List ℕ) (x : Bool) (twin : Twin) : Type 0 where
   pub taken : IsTaken x a b
+  pub generation : generation_in twin ≡ generation_of (choice x a b)
   pub head : IsHeadOf (choice x a b) (file_of twin)
 
 pub taken_as : (a b : List ℕ) (found : Option Twin) (twin : Twin) (x : Bool) → found ≡ Some twin → IsLooked a b (option_map view_of found) → in_a_of twin ≡ x → IsTakenAs a b x twin
 taken_as a b found twin x is looked which =
     let l = subst (λ (o : Option Twin). IsLooked a b (option_map view_of o)) is looked in
-    subst (λ (y : Bool). IsTakenAs a b y twin) which (record { taken = l.0; head = record { head = l.0.head; base_len = l.3; base_digest = l.4 } })
+    subst (λ (y : Bool). IsTakenAs a b y twin) which (record { taken = l.0; generation = l.1; head = record { head = l.0.head; base_len = l.3; base_digest = l.4 } })
 
 pub taken_at : (a b a_now b_now : State) (x : Bool) (twin : Twin) → a_now ≡ a → b_now ≡ b → IsTakenAs a.seen b.seen x twin → IsTaken x a_now.seen b_now.seen
 taken_at a b a_now b_now x twin same_a same_b t =
     subst (λ (s : State). IsTaken x s.seen b_now.seen) (sym same_a) (subst (λ (s : State). IsTaken x a.seen s.seen) (sym same_b) t.taken)
+
+-- a file that is cut behind its tail gate keeps its generation
+cut_generation : (file : List ℕ) (n : ℕ) → 65 ≤ length file → 64 ≤ n → generation_of (take (n + 1) file) ≡ generation_of file
+cut_generation file n long least = sym (number_front 10 (take (n + 1) file) (drop (n + 1) file) (omega (arith, long, least, length-take (n + 1) file))) ∙ ap (number_at 10) (take-append-drop (n + 1) file)
+
+after_least : (at : ℕ) (bs : List (List Entry)) → at ≤ after_at at bs
+after_least at [] = omega arith
+after_least at (b ∷ bs) = omega (arith, after_least (at + 45 + sum_by record_len b) bs)
+
+opened_generation : (tells : Bool) (k : Known) (now other new other_new : State) → HasHead now.seen → IsOpenedAs tells k now other new other_new → IsTrue tells → generation_of now.seen ≡ generation_of new.seen
+opened_generation tells k now other new other_new head o told =
+    sym (cut_generation now.seen k.place head.is_open.long (omega (arith, o.knows.tail, after_least 64 o.blocks))) ∙ ap (λ (s : State). generation_of s.seen) (sym (o.open_is told))
+
+pub generation_a : (tells y : Bool) (k : Known) (s a_now b_now a_new b_new : State) (g h : ℕ) → y ≡ true → a_now ≡ s → HasHead s.seen → h ≡ generation_of s.seen → g ≡ h → IsOpenedAs tells k a_now b_now a_new b_new → IsTrue tells
+    → g ≡ generation_of (choice y a_new b_new).seen
+generation_a tells true k s a_now b_now a_new b_new g h is same head first then_ o told =
+    then_ ∙ first ∙ ap (λ (s : State). generation_of s.seen) (sym same) ∙ opened_generation tells k a_now b_now a_new b_new (subst (λ (s : State). HasHead s.seen) (sym same) head) o told
+generation_a tells false k s a_now b_now a_new b_new g h is same head first then_ o told = absurd (true≢false (sym is))
+
+pub generation_b : (tells y : Bool) (k : Known) (s a_now b_now a_new b_new : State) (g h : ℕ) → y ≡ false → b_now ≡ s → HasHead s.seen → h ≡ generation_of s.seen → g ≡ h → IsOpenedAs tells k b_now a_now b_new a_new → IsTrue tells
+    → g ≡ generation_of (choice y a_new b_new).seen
+generation_b tells false k s a_now b_now a_new b_new g h is same head first then_ o told =
+    then_ ∙ first ∙ ap (λ (s : State). generation_of s.seen) (sym same) ∙ opened_generation tells k b_now a_now b_new a_new (subst (λ (s : State). HasHead s.seen) (sym same) head) o told
+generation_b tells true k s a_now b_now a_new b_new g h is same head first then_ o told = absurd (true≢false is)
+
+-- two facts of a value that was answered
+pub if_both : {T E : Type 0} (r : Result T E) (P Q R : T → Type 0) → ((x : T) → P x → Q x → R x) → IfOk r P → IfOk r Q → IfOk r R
+if_both (Ok x) P Q R f p q = f x p q
+if_both (Err e) P Q R f p q = tt
 
 -- the first is the open file
 pub reopened_a : (tells x : Bool) (k : Known) (a b a_now b_now a_new b_new : State) → x ≡ true → (IsTrue tells → IsTaken true a_now.seen b_now.seen) → (IsTrue tells → a_now ≡ settled_state a.seen) → (IsTrue tells → b_now ≡ settled_state b.seen)
@@ -306,6 +346,11 @@ pair_served k x ks a b a_new b_new h knows r p =
       stands_in true a b h t p = (taken_pair true a.seen b.seen h t p).0
       stands_in false a b h t p = (taken_pair false a.seen b.seen h t p).0
 
+-- a pair whose open file is whole has no other cause of refusal than a fault or want of memory
+pub whole_opens : (x : Bool) (a b na nb : List ℕ) → na ≡ a → nb ≡ b → IsTaken x na nb → HasLawfulBlocks (choice x na nb) → (e : OpenErr) → IsOpenErr a b e → IsOutside e
+whole_opens x a b na nb ea eb t w e why =
+    opened_only x na nb t w.0 w.1 w.2 w.3 e (subst (λ (l : List ℕ). IsOpenErr l nb e) (sym ea) (subst (λ (l : List ℕ). IsOpenErr a l e) (sym eb) why))
+
 -- ---- a file that was cut behind its tail gate
 
 module _ (generation : ℕ) (bs : List (List Entry)) (file : List ℕ) (x : HasBlocks ground generation bs file) (at : ℕ) (ends : tail_of x.front (written_blocks (ground).root [] bs) ≡ at) where
@@ -321,7 +366,7 @@ module _ (generation : ℕ) (bs : List (List Entry)) (file : List ℕ) (x : HasB
   cut_length = ap length cut_is ∙ omega (arith, ends, length-append (x.front ++ open_blocks (written_blocks (ground).root [] bs)) (x.stands.gate ∷ []))
 
 -- what was opened is clean
-pub reopened_clean : (k : Known) (x : Bool) (ks : List (List Entry)) (a b a_new b_new : State) → Knows k ks → IsReopened x k.place ks a b a_new b_new → IsCleanAt x k.place ks a_new b_new
+pub reopened_clean : (k : Known) (x : Bool) (ks : List (List Entry)) (a b a_new b_new : State) → Knows k ks → IsReopened x k.place ks a b a_new b_new → IsTidyAt x k.place ks a_new b_new
 reopened_clean k x ks a b a_new b_new knows r =
     let f = r.has in
     let ends = tail_is f.0 ks _ f.1 ∙ sym knows.tail in

@@ -140,21 +140,21 @@ pub record Went (old now : Kept) (rs : List RecordAt) (i : ℕ) : Type 0 where
   pub goes : (blocks : List (List Entry)) (es : List Entry) → Headed es rs → Serves old (history blocks []) → Goes now blocks (take i es)
 
 pub went_more : (old now next : Kept) (rs : List RecordAt) (i : ℕ) (r : RecordAt) → i < length rs → get_or rs i r ≡ r → Went old now rs i
-    → ((k : History) → Serves now k → IsPlaced now r.header next k)
+    → IsSame now next → ((k : History) → Stands now k → IsPlaced now r.header next k)
     → Went old next rs (i + 1)
-went_more old now next rs i r lt is w step = record {
+went_more old now next rs i r lt is w same step = record {
   goes = λ blocks es h s.
       let f = here es rs i r h lt is in
       let g = w.goes blocks es h s in
-      let both = step (history blocks (take i es)) g.serves in
+      let both = step (history blocks (take i es)) g.serves.stands in
       record {
-        serves = subst (λ (l : List Entry). Serves next (history blocks l)) (sym f.more) (both.serves f.entry f.header);
+        serves = subst (λ (l : List Entry). Serves next (history blocks l)) (sym f.more) (record { stands = both.stands f.entry f.header; seen = omega (arith, g.serves.seen, same.floor, same.point) });
         next = subst (λ (l : List Entry). AreNext (journals_of blocks) l) (sym f.more) (next_more (journals_of blocks) (take i es) (f.entry ∷ []) g.next (subst (λ (x : Header). IsNext (history [] (journals_of blocks ++ take i es)) x) (sym f.header) both.next, tt));
       };
 }
 
 pub went_other : (old now : Kept) (rs : List RecordAt) (i n : ℕ) (r : RecordAt) → i < length rs → get_or rs i r ≡ r → Went old now rs i
-    → ((k : History) → Serves now k → IsNext (history [] (journals k)) r.header → ⊥) → n ≡ now.size
+    → ((k : History) → Stands now k → IsNext (history [] (journals k)) r.header → ⊥) → n ≡ now.size
     → (blocks : List (List Entry)) (es : List Entry) → Headed es rs → Serves old (history blocks []) → IsOther (journals_of blocks) es n
 went_other old now rs i n r lt is w refused count blocks es h s =
     let f = here es rs i r h lt is in
@@ -165,7 +165,7 @@ went_other old now rs i n r lt is w refused count blocks es h s =
       inside = f.inside;
       number = count ∙ g.serves.stands.counts.size ∙ length-append (journals_of blocks) (take i es) ∙ ap (λ (k : ℕ). length (journals_of blocks) + k) (take_size i es (omega (arith, size, lt)));
       next = g.next;
-      other = λ e y. refused (history blocks (take i es)) g.serves (subst (λ (x : Header). IsNext (history [] (journals_of blocks ++ take i es)) x) (ap (λ (x : Entry). x.header) (f.is e) ∙ f.header) y);
+      other = λ e y. refused (history blocks (take i es)) g.serves.stands (subst (λ (x : Header). IsNext (history [] (journals_of blocks ++ take i es)) x) (ap (λ (x : Entry). x.header) (f.is e) ∙ f.header) y);
     }
 
 pub went_all : (old now : Kept) (rs : List RecordAt) (i : ℕ) → i ≡ length rs → Went old now rs i → (blocks : List (List Entry)) (es : List Entry) → Headed es rs → Serves old (history blocks []) → Goes now blocks es
@@ -268,11 +268,11 @@ pub other_bytes : (a b : List ℕ) → not (bytes_eq a b) ≡ true → a ≢ b
 other_bytes a b e same = true≢false (sym ((bytes_eq-Decides a b).1 same) ∙ not_true (bytes_eq a b) e)
 
 -- what replaying told
-pub replayed : (old new : Kept) (header : Header) (told : Result Unit Damage) (done : Unit) → told ≡ Ok done → Replays old header told new → (h : History) → Serves old h → IsPlaced old header new h
+pub replayed : (old new : Kept) (header : Header) (told : Result Unit Damage) (done : Unit) → told ≡ Ok done → Replays old header told new → (h : History) → Stands old h → IsPlaced old header new h
 replayed old new header told done is r = subst (λ (t : Result Unit Damage). Replays old header t new) is r
 
 pub refused : (old new : Kept) (header : Header) (told : Result Unit Damage) (damage : Damage) → told ≡ Err damage → Replays old header told new
-    → (damage ≡ damages.Entry old.size) × ((h : History) → Serves old h → IsNext (history [] (journals h)) header → ⊥)
+    → (damage ≡ damages.Entry old.size) × ((h : History) → Stands old h → IsNext (history [] (journals h)) header → ⊥)
 refused old new header told damage is r = let e = subst (λ (t : Result Unit Damage). Replays old header t new) is r in (e.0, e.1)
 
 pub headed_by : (es : List Entry) (rs ss : List RecordAt) → ss ≡ rs → Headed es rs → Headed es ss

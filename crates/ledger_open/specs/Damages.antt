@@ -1,5 +1,5 @@
 -- When a file is read no further, and which damage that is.
-use Rattle.std.specs.Prelude.{◌≡◌, ◌≢◌, ◌⊎◌, ℕ, ◌+◌, ◌<◌, List, [], ◌∷◌, ◌++◌, length, take, drop, get_or}
+use Rattle.std.specs.Prelude.{◌≡◌, ◌≢◌, ◌⊎◌, ℕ, ◌+◌, ◌-◌, ◌<◌, ◌≤◌, List, [], ◌∷◌, ◌++◌, length, take, drop, get_or}
 use Rattle.block_file.specs.Blocks.{AreBlock, IsOpenBlock, IsBlockErr}
 use Rattle.block_file.specs.File.{open_blocks, tail_of}
 use Rattle.block_file.specs.Head.{digest_of, number_at, IsBaseErr}
@@ -75,14 +75,18 @@ pub record IsBlockDamage (file : List ℕ) (blocks : List (List Entry)) (at : �
 abbrev pub base_in : List ℕ → List ℕ
 base_in file = take (number_at 18 file) (drop 64 file)
 
+-- the base that an open file's head names is there, and a byte behind it
+abbrev pub HasBase : List ℕ → Type 0
+HasBase file = number_at 18 file ≤ length file - 65
+
 -- What is wrong with an open file behind its head. Its base comes first, of which there is none so far: each one that has
 -- its digest breaks at its first byte. Then blocks are read one after the other, and for each these come in this order:
 -- its length, its journals from the first on, and its root; and for the first block the content of journal 0.
 abbrev pub IsDamage : List ℕ → Damage → Type 0
 IsDamage file Magic = ⊥
 IsDamage file (BaseForm place) =
-    (place ≡ 0) × (number_at 18 file ≢ 0) × (take 32 (drop 26 file) ≡ digest_of (base_in file))
-IsDamage file (Base kept found) = IsBaseErr (base_in file) (take 32 (drop 26 file)) (Damaged (Base kept found))
+    (place ≡ 0) × (number_at 18 file ≢ 0) × (take 32 (drop 26 file) ≡ digest_of (base_in file)) × HasBase file
+IsDamage file (Base kept found) = IsBaseErr (base_in file) (take 32 (drop 26 file)) (Damaged (Base kept found)) × HasBase file
 IsDamage file (Length place kept found) =
     (blocks : List (List Entry)) × (at : ℕ) × IsBlockDamage file blocks at (Length place kept found)
 IsDamage file (Entries jsn) =

@@ -9,8 +9,8 @@ use Rattle.block_file.specs.declared.failure.FileErr.TheVariants as files
 use Rattle.journal_record.specs.Blocks.{AreBlocks}
 use Rattle.journal_record.specs.Entry.{Entry}
 use Rattle.ledger_book.specs.Books.{Kept, Serves}
-use Rattle.ledger_bytes.specs.Causes.{Rose}
-use Rattle.ledger_disk.specs.Disk.{State, MayLeave, settled_state}
+use Rattle.ledger_bytes.specs.Causes.{count_after}
+use Rattle.ledger_disk.specs.Disk.{State, MayLeave, OneMore, settled_state}
 use Rattle.ledger_model.specs.History.{history}
 use Rattle.ledger_model.specs.Lawful.{IsLawful}
 use Rattle.twin_file.specs.Twin.{open_of, other_of, IsTaken, IsReopenErr}
@@ -52,6 +52,10 @@ pub record HasRead (tells : Bool) (file : List ℕ) (k : Known) : Type 0 where
   pub blocks : List (List Entry)
   pub knows : Knows k blocks
   pub begun : IsTrue tells → IsPlain file → Begun ground file blocks k.place
+
+-- an open file has lawful blocks, of some generation, and so no damage
+abbrev pub HasLawfulBlocks : List ℕ → Type 0
+HasLawfulBlocks file = (generation : ℕ) × (blocks : List (List Entry)) × HasBlocks ground generation blocks file × IsLawful (history blocks [])
 
 -- an open file has these blocks, of some generation
 abbrev pub HasFile : List (List Entry) → List ℕ → Type 0
@@ -96,9 +100,9 @@ IsReadErr file Empty = ⊥
 IsReadErr file Exists = ⊥
 IsReadErr file (NewerFormat found) = ⊥
 
--- a fault is answered where a count rose; by every other answer none did
+-- A fault is answered where one call failed; by every other answer none did.
 abbrev pub CountsErr : OpenErr → ℕ → ℕ → Type 0
-CountsErr DiskFault old new = Rose old new × (old ≤ new)
+CountsErr DiskFault old new = new ≡ count_after old
 CountsErr NoMemory old new = new ≡ old
 CountsErr (Damaged damage) old new = new ≡ old
 CountsErr Empty old new = new ≡ old
@@ -108,9 +112,9 @@ CountsErr (NewerFormat found) old new = new ≡ old
 abbrev pub CountsRead : {T : Type 0} → Result T OpenErr → ℕ → ℕ → Type 0
 CountsRead result old new = MatchResult result (λ _. new ≡ old) (λ e. CountsErr e old new)
 
--- a call on two disks: a fault is answered where the count of one rose
+-- a call on two disks: a fault is answered where one call of one of them failed
 abbrev pub CountsTwoErr : OpenErr → ℕ → ℕ → ℕ → ℕ → Type 0
-CountsTwoErr DiskFault x1 x2 y1 y2 = (Rose x1 x2 ⊎ Rose y1 y2) × (x1 ≤ x2) × (y1 ≤ y2)
+CountsTwoErr DiskFault x1 x2 y1 y2 = OneMore x1 x2 y1 y2
 CountsTwoErr NoMemory x1 x2 y1 y2 = (x2 ≡ x1) × (y2 ≡ y1)
 CountsTwoErr (Damaged damage) x1 x2 y1 y2 = (x2 ≡ x1) × (y2 ≡ y1)
 CountsTwoErr Empty x1 x2 y1 y2 = (x2 ≡ x1) × (y2 ≡ y1)
@@ -134,6 +138,10 @@ IsOpenErr a b (Damaged damage) =
 
 -- ---- what opening leaves
 
+-- a file reads as before, and what was pending is so still, or stands for good
+abbrev pub StandsAsRead : State → State → Type 0
+StandsAsRead old new = (new ≡ old) ⊎ (new ≡ settled_state old.seen)
+
 -- every image has the blocks that the file had
 abbrev pub KeepsBlocks : State → State → Type 0
 KeepsBlocks old new =
@@ -155,9 +163,9 @@ pub record IsReopened (in_a : Bool) (place : ℕ) (blocks : List (List Entry)) (
   pub open_is : open_of in_a a_new b_new ≡ settled_state (take (place + 1) (open_of in_a a b).seen)
   pub other_is : other_of in_a a_new b_new ≡ settled_state []
 
--- The pair is clean for these blocks: nothing is pending, the open file has them and ends with its tail gate, which stands
--- at this place, and the other file is empty.
-pub record IsCleanAt (in_a : Bool) (place : ℕ) (blocks : List (List Entry)) (a b : State) : Type 0 where
+-- Nothing is pending, the open file has these blocks and ends with its tail gate, which stands at this place, and the other
+-- file is empty.
+pub record IsTidyAt (in_a : Bool) (place : ℕ) (blocks : List (List Entry)) (a b : State) : Type 0 where
   pub quiet : IsSettled (open_of in_a a b)
   pub empty : other_of in_a a b ≡ settled_state []
   pub has : HasFile blocks (open_of in_a a b).seen

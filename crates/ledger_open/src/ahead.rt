@@ -128,13 +128,13 @@ pub(crate) fn read_ahead<D: Disk>(
     buffer: &mut Vec<u8>,
     first: u64,
 ) -> Result<Ahead, OpenErr>
-    requires told { IsSomeAnd (D.told_length disk.old) (λ n. place_of file.old + 1 ≤ n) }
+    requires told { IsSomeAnd (D.state disk.old).told (λ n. place_of file.old + 1 ≤ n) }
     requires number { first < 2 ^ 32 }
-    ensures read { IfOk result (λ ahead. WereRead D.tells (D.state disk.old).seen
+    ensures read { IfOk result (λ ahead. WereRead D.tells (D.state disk.old).bytes.seen
         (place_of file.old) first (blocks_in ahead.blocks.items)) }
     ensures place { IfOk result (λ ahead. place_of file.new
         ≡ place_behind (place_of file.old) (blocks_in ahead.blocks.items)) }
-    ensures stop { IfOk result (λ ahead. IsStop D.tells (D.state disk.old).seen
+    ensures stop { IfOk result (λ ahead. IsStop D.tells (D.state disk.old).bytes.seen
         (place_of file.new) (number_behind first (blocks_in ahead.blocks.items)) ahead.stop) }
     ensures count { IfOk result (λ ahead. ahead.count
         ≡ journals_in (blocks_in ahead.blocks.items)) }
@@ -143,11 +143,11 @@ pub(crate) fn read_ahead<D: Disk>(
     ensures sizes { IfOk result (λ ahead. All (λ h. vec_len h.leaves ≡ length h.block.records)
         ahead.blocks.items) }
     ensures err { IfErr result IsOutside }
-    ensures told { OnOk result (IsSomeAnd (D.told_length disk.new)
+    ensures told { OnOk result (IsSomeAnd (D.state disk.new).told
         (λ n. place_of file.new + 1 ≤ n)) }
-    ensures state { IsTrue D.tells → D.state disk.new ≡ D.state disk.old }
-    ensures length { KeepsLength (D.told_length disk.old) (D.told_length disk.new) }
-    ensures faults { CountsRead result (D.faults disk.old) (D.faults disk.new) }
+    ensures state { IsTrue D.tells → (D.state disk.new).bytes ≡ (D.state disk.old).bytes }
+    ensures length { KeepsLength (D.state disk.old).told (D.state disk.new).told }
+    ensures faults { CountsRead result (D.state disk.old).faults (D.state disk.new).faults }
 {
     let Ok(mut blocks) = Vec::with_capacity(alloc, BLOCKS) else {
         return Err(OpenErr::NoMemory);

@@ -81,20 +81,20 @@ fn read_keys<D: Disk>(
     disk: &mut D,
     first: &RecordAt,
 ) -> Result<[u8; KEYS_LEN], OpenErr>
-    requires { IsSomeAnd (D.told_length disk.old) (λ n. first.now.content_at + 64 ≤ n) }
+    requires { IsSomeAnd (D.state disk.old).told (λ n. first.now.content_at + 64 ≤ n) }
     ensures size { IfOk result (λ content. length content ≡ 64) }
     ensures digest { IfOk result (λ content. first.now.header.content_digest.0
         ≡ content_digest_of content) }
     ensures content { IfOk result (λ content. IsTrue D.tells
-        → content ≡ take 64 (drop first.now.content_at (D.state disk.old).seen)) }
+        → content ≡ take 64 (drop first.now.content_at (D.state disk.old).bytes.seen)) }
     ensures err { IfErr result (λ e. (e ≡ errors.DiskFault) ⊎ ((found : Digest)
         × (e ≡ errors.Damaged (damages.Content 0 first.now.header.content_digest found))
         × (found.0 ≢ first.now.header.content_digest.0)
         × (IsTrue D.tells → found.0 ≡ content_digest_of (take 64 (drop first.now.content_at
-        (D.state disk.old).seen))))) }
-    ensures state { IsTrue D.tells → D.state disk.new ≡ D.state disk.old }
-    ensures length { KeepsLength (D.told_length disk.old) (D.told_length disk.new) }
-    ensures faults { CountsRead result (D.faults disk.old) (D.faults disk.new) }
+        (D.state disk.old).bytes.seen))))) }
+    ensures state { IsTrue D.tells → (D.state disk.new).bytes ≡ (D.state disk.old).bytes }
+    ensures length { KeepsLength (D.state disk.old).told (D.state disk.new).told }
+    ensures faults { CountsRead result (D.state disk.old).faults (D.state disk.new).faults }
 {
     let mut content = [0; KEYS_LEN];
     if let Err(e) = file.read_range(disk, first.content_at, &mut content) {
@@ -148,20 +148,20 @@ pub fn read_first<D: Disk>(
     buffer: &mut Vec<u8>,
     limits: Limits,
 ) -> Result<Read, OpenErr>
-    requires told { IsSomeAnd (D.told_length disk.old) (λ n. place_of file.old + 1 ≤ n) }
+    requires told { IsSomeAnd (D.state disk.old).told (λ n. place_of file.old + 1 ≤ n) }
     requires place { place_of file.old ≡ 64 }
     requires limits { AreWithin limits }
-    ensures ok { IfOk result (λ read. HasRead D.tells (D.state disk.old).seen
+    ensures ok { IfOk result (λ read. HasRead D.tells (D.state disk.old).bytes.seen
         (known_from read.book read.places.list (place_of file.new))) }
     ensures limits { IfOk result (λ read. read.book.limits ≡ limits) }
-    ensures err { IfErr result (λ e. IsTrue D.tells → IsPlain (D.state disk.old).seen
-        → IsReadErr (D.state disk.old).seen e) }
+    ensures err { IfErr result (λ e. IsTrue D.tells → IsPlain (D.state disk.old).bytes.seen
+        → IsReadErr (D.state disk.old).bytes.seen e) }
     ensures only { IfErr result (λ e. (e ≢ errors.Empty) × (e ≢ errors.Exists)) }
-    ensures told { OnOk result (IsSomeAnd (D.told_length disk.new)
+    ensures told { OnOk result (IsSomeAnd (D.state disk.new).told
         (λ n. place_of file.new + 1 ≤ n)) }
-    ensures state { IsTrue D.tells → D.state disk.new ≡ D.state disk.old }
-    ensures length { KeepsLength (D.told_length disk.old) (D.told_length disk.new) }
-    ensures faults { CountsRead result (D.faults disk.old) (D.faults disk.new) }
+    ensures state { IsTrue D.tells → (D.state disk.new).bytes ≡ (D.state disk.old).bytes }
+    ensures length { KeepsLength (D.state disk.old).told (D.state disk.new).told }
+    ensures faults { CountsRead result (D.state disk.old).faults (D.state disk.new).faults }
 {
     let block = match file.next_block(alloc, disk, buffer, 0) {
         Ok(Some(block)) => block,

@@ -1,17 +1,17 @@
 //! A new ledger.
 
-ghost use Rattle.std.specs.Prelude.{◌≡◌, ◌≢◌, ◌⊎◌, ◌+◌, ◌≤◌, [], ◌∷◌, ℕ, List, Bool, true, false, length, IsTrue, IfOk, IfErr, IsSomeAnd, OnOk};
+ghost use Rattle.std.specs.Prelude.{◌≡◌, ◌≢◌, ◌⊎◌, ◌+◌, ◌≤◌, [], ◌∷◌, ℕ, List, Bool, true, false, length, IsTrue, IfOk, IfErr, IsSomeAnd, OnOk, Err, None};
+ghost use Rattle.block_file.specs.File.{IsSettled};
 ghost use Rattle.block_file.specs.Head.{IsShut, IsOpen};
 ghost use Rattle.block_file.specs.Place.{place_of};
 ghost use Rattle.journal_record.specs.Blocks.{block_bytes, leaves_of};
-ghost use Rattle.ledger_disk.specs.Disk.{MayLeave, KeepsLength};
+ghost use Rattle.ledger_disk.specs.Disk.{MayLeave, KeepsLength, settled_state};
 ghost use Rattle.ledger_model.specs.Genesis.{HasKeys, new_ledger, genesis_journal, genesis_header, founders_content};
 ghost use Rattle.ledger_model.specs.Limits.{AreWithin};
-ghost use Rattle.twin_file.specs.Images.{AreShut};
 ghost use Rattle.twin_file.specs.Places.{HasTail};
-ghost use Rattle.twin_file.specs.Which.{in_a_of, file_of, generation_in};
+ghost use Rattle.twin_file.specs.Which.{in_a_of, generation_in, file_of, copy_of};
 ghost use Rattle.ledger_open.specs.Founding.{IsOneOpen, IsFounded, IsFoundedOrShut};
-ghost use Rattle.ledger_open.specs.Opening.{known_from, Knows, IsOutside, CountsRead, CountsOpen};
+ghost use Rattle.ledger_open.specs.Opening.{known_from, Knows, IsOutside, StandsAsRead, CountsRead, CountsOpen};
 ghost use Rattle.ledger_open.specs.Standing.{ground};
 ghost use Rattle.ledger_open.specs.declared.failure.OpenErr.TheVariants as errors;
 
@@ -29,13 +29,13 @@ use twin_file::Twin;
 // Whether a file is open, whatever its head says else: over a damaged ledger none is made.
 fn is_open<D: Disk>(disk: &mut D) -> Result<bool, OpenErr>
     ensures open { IfOk result (λ open_now. IsTrue D.tells → open_now ≡ true
-        → IsOpen (D.state disk.old).seen) }
+        → IsOpen (D.state disk.old).bytes.seen) }
     ensures shut { IfOk result (λ open_now. IsTrue D.tells → open_now ≡ false
-        → IsShut (D.state disk.old).seen) }
+        → IsShut (D.state disk.old).bytes.seen) }
     ensures err { IfErr result (λ e. e ≡ errors.DiskFault) }
-    ensures state { IsTrue D.tells → D.state disk.new ≡ D.state disk.old }
-    ensures length { KeepsLength (D.told_length disk.old) (D.told_length disk.new) }
-    ensures faults { CountsRead result (D.faults disk.old) (D.faults disk.new) }
+    ensures state { IsTrue D.tells → (D.state disk.new).bytes ≡ (D.state disk.old).bytes }
+    ensures length { KeepsLength (D.state disk.old).told (D.state disk.new).told }
+    ensures faults { CountsRead result (D.state disk.old).faults (D.state disk.new).faults }
 {
     match BlockFile::head(disk) {
         Ok(None) => Ok(false),
@@ -127,25 +127,35 @@ pub fn init<D: Disk>(
     ensures limits { IfOk result (λ opened. opened.book.limits ≡ limits) }
     ensures keys { OnOk result (HasKeys genesis.now) }
     ensures founded { OnOk result (IsTrue D.tells
-        → IsFounded genesis.now (D.state a.new) (D.state b.new)) }
+        → IsFounded genesis.now (D.state a.new).bytes (D.state b.new).bytes) }
     ensures shut { OnOk result (IsTrue D.tells
-        → IsShut (D.state a.old).seen × IsShut (D.state b.old).seen) }
-    ensures told { IfOk result (λ opened. HasTail (D.told_length a.new) (file_of opened.twin)) }
+        → IsShut (D.state a.old).bytes.seen × IsShut (D.state b.old).bytes.seen) }
+    ensures told { IfOk result (λ opened. HasTail (D.state a.new).told (file_of opened.twin)) }
+    ensures twin { IfOk result (λ opened. (generation_in opened.twin ≡ 1)
+        × (copy_of opened.twin ≡ None)) }
     ensures err { IfErr result (λ e. IsOutside e ⊎ (e ≡ errors.Exists)) }
     ensures exists { IfErr result (λ e. e ≡ errors.Exists → IsTrue D.tells
-        → IsOneOpen (D.state a.old).seen (D.state b.old).seen) }
+        → IsOneOpen (D.state a.old).bytes.seen (D.state b.old).bytes.seen) }
 
     // Where a file is open, both read as before, whatever is answered.
-    ensures left { IsTrue D.tells → IsOneOpen (D.state a.old).seen (D.state b.old).seen
-        → ((D.state a.new).seen ≡ (D.state a.old).seen)
-        × ((D.state b.new).seen ≡ (D.state b.old).seen) }
+    ensures left { IsTrue D.tells → IsOneOpen (D.state a.old).bytes.seen (D.state b.old).bytes.seen
+        → StandsAsRead (D.state a.old).bytes (D.state a.new).bytes
+        × StandsAsRead (D.state b.old).bytes (D.state b.new).bytes }
 
-    // A crash at any time leaves both shut, or a pair that stands for the new ledger.
-    ensures images { IsTrue D.tells → AreShut (D.state a.old) (D.state b.old)
-        → (image_a image_b : List ℕ) → MayLeave (D.state a.new) image_a
-        → MayLeave (D.state b.new) image_b → IsFoundedOrShut genesis.now image_a image_b }
-    ensures faults { CountsOpen result (D.faults a.old) (D.faults a.new)
-        (D.faults b.old) (D.faults b.new) }
+    // An error that isn't a fault leaves both as they read, and nothing pending.
+    ensures same { IfErr result (λ e. e ≢ errors.DiskFault → IsTrue D.tells
+        → ((D.state a.new).bytes ≡ settled_state (D.state a.old).bytes.seen)
+        × ((D.state b.new).bytes ≡ settled_state (D.state b.old).bytes.seen)) }
+
+    // A crash at any time leaves both shut, or a pair that stands for the new ledger. What was pending matters only where
+    // a disk failed, since both syncs succeeded otherwise.
+    ensures images { IsTrue D.tells → IsShut (D.state a.old).bytes.seen → IsShut (D.state b.old).bytes.seen
+        → (result ≡ Err errors.DiskFault
+        → IsSettled (D.state a.old).bytes × IsSettled (D.state b.old).bytes)
+        → (image_a image_b : List ℕ) → MayLeave (D.state a.new).bytes image_a
+        → MayLeave (D.state b.new).bytes image_b → IsFoundedOrShut genesis.now image_a image_b }
+    ensures faults { CountsOpen result (D.state a.old).faults (D.state a.new).faults
+        (D.state b.old).faults (D.state b.new).faults }
 {
     a.sync()?;
     b.sync()?;

@@ -7,7 +7,7 @@ ghost use Rattle.ledger_open.specs.Damages.{IsDamage};
 ghost use Rattle.ledger_open.specs.Founding.{IsFounded};
 ghost use Rattle.ledger_open.specs.Growing.{Grows, GrowsErased, IsNewClean};
 ghost use Rattle.ledger_open.specs.Places.{AreAtPlaces};
-ghost use Rattle.ledger_open.specs.Opening.{Known, Knows, IsOpenErr, IsOutside, IsReopened, IsCleanAt};
+ghost use Rattle.ledger_open.specs.Opening.{Known, Knows, IsOpenErr, IsOutside, IsReopened, IsTidyAt};
 ghost use Rattle.ledger_open.specs.Standing.{IsOneHistory, IsOnePair, StandsFor, PairFor, IsClean, IsCleanPair};
 ghost use Rattle.ledger_open.specs.declared.failure.OpenErr.{OpenErr};
 ghost use Rattle.ledger_open.specs.declared.failure.OpenErr.TheVariants as errors;
@@ -59,13 +59,17 @@ pub fn an_opened_book_stands_for_the_history()
         → PairFor a.seen b.seen h → Serves k.book h }
 {}
 
-/// A pair that was opened is clean: the open file ends with its tail gate, and the other is empty. Of one that was clean
-/// no byte has changed.
+/// A pair that was opened is clean for each history that it stood for: the open file ends with its tail gate, and the other
+/// is empty. Of one that was clean no byte has changed.
 pub fn an_opened_pair_is_clean()
-    ensures clean { (k : Known) (in_a : Bool) (blocks : List (List Entry))
+    ensures history { (k : Known) (in_a : Bool) (blocks : List (List Entry))
+        (a b a_new b_new : State) (h : History) → Knows k blocks
+        → IsReopened in_a k.place blocks a b a_new b_new → PairFor a.seen b.seen h
+        → IsCleanPair a_new.seen b_new.seen h }
+    ensures tidy { (k : Known) (in_a : Bool) (blocks : List (List Entry))
         (a b a_new b_new : State) → Knows k blocks
         → IsReopened in_a k.place blocks a b a_new b_new
-        → IsCleanAt in_a k.place blocks a_new b_new }
+        → IsTidyAt in_a k.place blocks a_new b_new }
     ensures left { (k : Known) (in_a : Bool) (blocks : List (List Entry))
         (a b a_new b_new : State) (h : History) → Knows k blocks
         → IsReopened in_a k.place blocks a b a_new b_new → IsClean (open_of in_a a b).seen h
@@ -89,4 +93,11 @@ pub fn an_opened_pair_has_no_damage()
 pub fn a_shut_pair_is_empty()
     ensures { (a b : List ℕ) → IsShut a → IsShut b → (e : OpenErr) → IsOpenErr a b e
         → IsOutside e ⊎ (e ≡ errors.Empty) }
+{}
+
+/// A pair has one cause of refusal at most: what [`reopen`](crate::reopen) answers but for a fault or want of memory is
+/// determined by the bytes of the two files.
+pub fn a_pair_has_one_cause_of_refusal()
+    ensures { (a b : List ℕ) (e f : OpenErr) → (IsOutside e → ⊥) → (IsOutside f → ⊥)
+        → IsOpenErr a b e → IsOpenErr a b f → e ≡ f }
 {}

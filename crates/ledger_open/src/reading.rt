@@ -40,23 +40,23 @@ fn read_more<R: Threads, D: Disk>(
     read: &mut Read,
     ahead: &Ahead,
 ) -> Result<Ahead, OpenErr>
-    requires told { IsSomeAnd (D.told_length disk.old) (λ n. place_of file.old + 1 ≤ n) }
+    requires told { IsSomeAnd (D.state disk.old).told (λ n. place_of file.old + 1 ≤ n) }
     requires full { ahead.now.stop ≡ stops.Full }
-    requires ahead { AreNextBlocks D.tells (D.state disk.old).seen read.old.book
+    requires ahead { AreNextBlocks D.tells (D.state disk.old).bytes.seen read.old.book
         read.old.places.list ahead.now (place_of file.old) }
-    ensures ok { IfOk result (λ next. AreNextBlocks D.tells (D.state disk.old).seen
+    ensures ok { IfOk result (λ next. AreNextBlocks D.tells (D.state disk.old).bytes.seen
         read.new.book read.new.places.list next (place_of file.new)) }
     ensures limits { OnOk result (read.new.book.limits ≡ read.old.book.limits) }
     ensures nearer { IfOk result (λ next. (next.stop ≡ stops.Full
         → place_of file.old + 1 ≤ place_of file.new) × (place_of file.old ≤ place_of file.new)) }
-    ensures err { IfErr result (λ e. IsTrue D.tells → IsPlain (D.state disk.old).seen
-        → IsReadErr (D.state disk.old).seen e) }
+    ensures err { IfErr result (λ e. IsTrue D.tells → IsPlain (D.state disk.old).bytes.seen
+        → IsReadErr (D.state disk.old).bytes.seen e) }
     ensures only { IfErr result (λ e. (e ≢ errors.Empty) × (e ≢ errors.Exists)) }
-    ensures told { OnOk result (IsSomeAnd (D.told_length disk.new)
+    ensures told { OnOk result (IsSomeAnd (D.state disk.new).told
         (λ n. place_of file.new + 1 ≤ n)) }
-    ensures state { IsTrue D.tells → D.state disk.new ≡ D.state disk.old }
-    ensures length { KeepsLength (D.told_length disk.old) (D.told_length disk.new) }
-    ensures faults { CountsRead result (D.faults disk.old) (D.faults disk.new) }
+    ensures state { IsTrue D.tells → (D.state disk.new).bytes ≡ (D.state disk.old).bytes }
+    ensures length { KeepsLength (D.state disk.old).told (D.state disk.new).told }
+    ensures faults { CountsRead result (D.state disk.old).faults (D.state disk.new).faults }
 {
     let first = read.book.head().size + ahead.count;
     let mut next = match read_ahead(alloc, file, disk, buffer, first) {
@@ -108,20 +108,20 @@ fn read_rest<R: Threads, D: Disk>(
     buffer: &mut Vec<u8>,
     read: Read,
 ) -> Result<Read, OpenErr>
-    requires told { IsSomeAnd (D.told_length disk.old) (λ n. place_of file.old + 1 ≤ n) }
-    requires plain { IsTrue D.tells → IsPlain (D.state disk.old).seen }
-    requires known { HasRead D.tells (D.state disk.old).seen
+    requires told { IsSomeAnd (D.state disk.old).told (λ n. place_of file.old + 1 ≤ n) }
+    requires plain { IsTrue D.tells → IsPlain (D.state disk.old).bytes.seen }
+    requires known { HasRead D.tells (D.state disk.old).bytes.seen
         (known_from read.book read.places.list (place_of file.old)) }
-    ensures ok { IfOk result (λ read. HasKnown D.tells (D.state disk.old).seen
+    ensures ok { IfOk result (λ read. HasKnown D.tells (D.state disk.old).bytes.seen
         (known_from read.book read.places.list (place_of file.new))) }
     ensures limits { IfOk result (λ found. found.book.limits ≡ read.book.limits) }
-    ensures err { IfErr result (λ e. IsTrue D.tells → IsReadErr (D.state disk.old).seen e) }
+    ensures err { IfErr result (λ e. IsTrue D.tells → IsReadErr (D.state disk.old).bytes.seen e) }
     ensures only { IfErr result (λ e. (e ≢ errors.Empty) × (e ≢ errors.Exists)) }
-    ensures told { OnOk result (IsSomeAnd (D.told_length disk.new)
+    ensures told { OnOk result (IsSomeAnd (D.state disk.new).told
         (λ n. place_of file.new + 1 ≤ n)) }
-    ensures state { IsTrue D.tells → D.state disk.new ≡ D.state disk.old }
-    ensures length { KeepsLength (D.told_length disk.old) (D.told_length disk.new) }
-    ensures faults { CountsRead result (D.faults disk.old) (D.faults disk.new) }
+    ensures state { IsTrue D.tells → (D.state disk.new).bytes ≡ (D.state disk.old).bytes }
+    ensures length { KeepsLength (D.state disk.old).told (D.state disk.new).told }
+    ensures faults { CountsRead result (D.state disk.old).faults (D.state disk.new).faults }
 {
     let mut read = read;
     let first = read.book.head().size;
@@ -141,14 +141,15 @@ fn read_rest<R: Threads, D: Disk>(
 
 // Looks at the base: there is none so far, so each that has its digest breaks at its first byte.
 fn check_base<D: Disk>(alloc: Global, file: &BlockFile, disk: &mut D) -> Result<(), OpenErr>
-    requires told { IsSomeAnd (D.told_length disk.old) (λ n. 64 + base_len_of file.now ≤ n) }
-    requires head { IsTrue D.tells → IsHeadOf (D.state disk.old).seen file.now }
+    requires told { IsSomeAnd (D.state disk.old).told (λ n. 64 + base_len_of file.now ≤ n) }
+    requires room { IsSomeAnd (D.state disk.old).told (λ n. 64 + base_len_of file.now + 1 ≤ n) }
+    requires head { IsTrue D.tells → IsHeadOf (D.state disk.old).bytes.seen file.now }
     ensures ok { OnOk result (base_len_of file.now ≡ 0) }
-    ensures err { IfErr result (λ e. IsTrue D.tells → IsReadErr (D.state disk.old).seen e) }
+    ensures err { IfErr result (λ e. IsTrue D.tells → IsReadErr (D.state disk.old).bytes.seen e) }
     ensures only { IfErr result (λ e. (e ≢ errors.Empty) × (e ≢ errors.Exists)) }
-    ensures state { IsTrue D.tells → D.state disk.new ≡ D.state disk.old }
-    ensures length { KeepsLength (D.told_length disk.old) (D.told_length disk.new) }
-    ensures faults { CountsRead result (D.faults disk.old) (D.faults disk.new) }
+    ensures state { IsTrue D.tells → (D.state disk.new).bytes ≡ (D.state disk.old).bytes }
+    ensures length { KeepsLength (D.state disk.old).told (D.state disk.new).told }
+    ensures faults { CountsRead result (D.state disk.old).faults (D.state disk.new).faults }
 {
     let base = match file.base(alloc, disk) {
         Ok(base) => base,
@@ -169,20 +170,20 @@ pub(crate) fn read_file<R: Threads, D: Disk>(
     disk: &mut D,
     limits: Limits,
 ) -> Result<Read, OpenErr>
-    requires told { IsSomeAnd (D.told_length disk.old) (λ n. place_of file.old + 1 ≤ n) }
+    requires told { IsSomeAnd (D.state disk.old).told (λ n. place_of file.old + 1 ≤ n) }
     requires place { place_of file.old ≡ 64 + base_len_of file.old }
-    requires head { IsTrue D.tells → IsHeadOf (D.state disk.old).seen file.old }
+    requires head { IsTrue D.tells → IsHeadOf (D.state disk.old).bytes.seen file.old }
     requires limits { AreWithin limits }
-    ensures ok { IfOk result (λ read. HasKnown D.tells (D.state disk.old).seen
+    ensures ok { IfOk result (λ read. HasKnown D.tells (D.state disk.old).bytes.seen
         (known_from read.book read.places.list (place_of file.new))) }
     ensures limits { IfOk result (λ read. read.book.limits ≡ limits) }
-    ensures err { IfErr result (λ e. IsTrue D.tells → IsReadErr (D.state disk.old).seen e) }
+    ensures err { IfErr result (λ e. IsTrue D.tells → IsReadErr (D.state disk.old).bytes.seen e) }
     ensures only { IfErr result (λ e. (e ≢ errors.Empty) × (e ≢ errors.Exists)) }
-    ensures told { OnOk result (IsSomeAnd (D.told_length disk.new)
+    ensures told { OnOk result (IsSomeAnd (D.state disk.new).told
         (λ n. place_of file.new + 1 ≤ n)) }
-    ensures state { IsTrue D.tells → D.state disk.new ≡ D.state disk.old }
-    ensures length { KeepsLength (D.told_length disk.old) (D.told_length disk.new) }
-    ensures faults { CountsRead result (D.faults disk.old) (D.faults disk.new) }
+    ensures state { IsTrue D.tells → (D.state disk.new).bytes ≡ (D.state disk.old).bytes }
+    ensures length { KeepsLength (D.state disk.old).told (D.state disk.new).told }
+    ensures faults { CountsRead result (D.state disk.old).faults (D.state disk.new).faults }
 {
     if let Err(e) = check_base(alloc, file, disk) {
         return Err(e);

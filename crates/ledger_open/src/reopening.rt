@@ -1,7 +1,8 @@
 //! A ledger that was made before is opened again.
 
-ghost use Rattle.std.specs.Prelude.{◌≡◌, ◌≢◌, ◌+◌, ◌≤◌, [], ℕ, List, take, IsTrue, IfOk, IfErr, IsSomeAnd, OnOk};
+ghost use Rattle.std.specs.Prelude.{◌≡◌, ◌≢◌, ◌⊎◌, ◌+◌, ◌≤◌, [], ℕ, List, take, None, Err, IsTrue, IfOk, IfErr, IsSomeAnd, OnOk};
 ghost use Rattle.block_file.specs.File.{IsSettled};
+ghost use Rattle.block_file.specs.Head.{generation_of};
 ghost use Rattle.block_file.specs.Place.{place_of, base_len_of};
 ghost use Rattle.journal_record.specs.Entry.{Entry};
 ghost use Rattle.ledger_disk.specs.Disk.{MayLeave, settled_state, CountsFault};
@@ -9,9 +10,10 @@ ghost use Rattle.ledger_model.specs.History.{History};
 ghost use Rattle.ledger_model.specs.Limits.{AreWithin};
 ghost use Rattle.twin_file.specs.Places.{HasTail};
 ghost use Rattle.twin_file.specs.Twin.{open_of};
-ghost use Rattle.twin_file.specs.Which.{in_a_of, file_of};
-ghost use Rattle.ledger_open.specs.Opening.{known_from, Knows, IsHeadOf, IsOpenedAs, IsOutside, IsReadErr, IsOpenErr, IsReopened, KeepsBlocks, CountsOpen};
+ghost use Rattle.twin_file.specs.Which.{in_a_of, generation_in, file_of, copy_of};
+ghost use Rattle.ledger_open.specs.Opening.{known_from, Knows, IsHeadOf, HasLawfulBlocks, IsOpenedAs, IsOutside, IsReadErr, IsOpenErr, IsReopened, StandsAsRead, KeepsBlocks, CountsOpen};
 ghost use Rattle.ledger_open.specs.Standing.{PairFor};
+ghost use Rattle.ledger_open.specs.declared.failure.OpenErr.{OpenErr as OpenErrRecord};
 ghost use Rattle.ledger_open.specs.declared.failure.OpenErr.TheVariants as errors;
 
 use crate::reading::read_file;
@@ -24,12 +26,12 @@ use twin_file::Twin;
 
 // Cuts a file that isn't empty to nothing, for good. An empty one isn't touched, so a clean pair opens without a write.
 fn clear<D: Disk>(disk: &mut D) -> Result<(), OpenErr>
-    ensures ok { OnOk result (IsTrue D.tells → IsSettled (D.state disk.old)
-        → D.state disk.new ≡ settled_state []) }
-    ensures idle { IsTrue D.tells → (D.state disk.old).seen ≡ []
-        → D.state disk.new ≡ D.state disk.old }
+    ensures ok { OnOk result (IsTrue D.tells → IsSettled (D.state disk.old).bytes
+        → (D.state disk.new).bytes ≡ settled_state []) }
+    ensures idle { IsTrue D.tells → (D.state disk.old).bytes.seen ≡ []
+        → (D.state disk.new).bytes ≡ (D.state disk.old).bytes }
     ensures err { IfErr result (λ e. e ≡ errors.DiskFault) }
-    ensures faults { CountsFault result (D.faults disk.old) (D.faults disk.new) }
+    ensures faults { CountsFault result (D.state disk.old).faults (D.state disk.new).faults }
 {
     if disk.len()? > 0 {
         disk.cut(0)?;
@@ -47,28 +49,36 @@ fn open_file<R: Threads, D: Disk>(
     other: &mut D,
     limits: Limits,
 ) -> Result<Opened, OpenErr>
-    requires told { HasTail (D.told_length taken.old) (file_of twin) }
+    requires told { HasTail (D.state taken.old).told (file_of twin) }
     requires place { place_of (file_of twin) ≡ 64 + base_len_of (file_of twin) }
-    requires head { IsTrue D.tells → IsHeadOf (D.state taken.old).seen (file_of twin) }
+    requires head { IsTrue D.tells → IsHeadOf (D.state taken.old).bytes.seen (file_of twin) }
     requires limits { AreWithin limits }
     ensures ok { IfOk result (λ opened. (in_a_of opened.twin ≡ in_a_of twin) × IsOpenedAs D.tells
         (known_from opened.book opened.places.list (place_of (file_of opened.twin)))
-        (D.state taken.old) (D.state other.old) (D.state taken.new) (D.state other.new)) }
+        (D.state taken.old).bytes (D.state other.old).bytes (D.state taken.new).bytes (D.state other.new).bytes) }
     ensures limits { IfOk result (λ opened. opened.book.limits ≡ limits) }
-    ensures told { IfOk result (λ opened. HasTail (D.told_length taken.new)
+    ensures told { IfOk result (λ opened. HasTail (D.state taken.new).told
         (file_of opened.twin)) }
-    ensures err { IfErr result (λ e. IsTrue D.tells → IsReadErr (D.state taken.old).seen e) }
+    ensures err { IfErr result (λ e. IsTrue D.tells → IsReadErr (D.state taken.old).bytes.seen e) }
     ensures only { IfErr result (λ e. (e ≢ errors.Empty) × (e ≢ errors.Exists)) }
-    ensures same { IfErr result (λ e. (IsOutside e → ⊥) → IsTrue D.tells
-        → (D.state taken.new ≡ D.state taken.old) × (D.state other.new ≡ D.state other.old)) }
+    ensures same { IfErr result (λ e. e ≢ errors.DiskFault → IsTrue D.tells
+        → ((D.state taken.new).bytes ≡ (D.state taken.old).bytes)
+        × ((D.state other.new).bytes ≡ (D.state other.old).bytes)) }
+
+    // So it is whatever is answered, unless the file that is taken is whole.
+    ensures kept { IsTrue D.tells → HasLawfulBlocks (D.state taken.old).bytes.seen
+        ⊎ (((D.state taken.new).bytes ≡ (D.state taken.old).bytes)
+        × ((D.state other.new).bytes ≡ (D.state other.old).bytes)) }
+    ensures which { IfOk result (λ opened. (generation_in opened.twin ≡ generation_in twin)
+        × (copy_of opened.twin ≡ copy_of twin)) }
 
     // At every exit each image of the open file has its blocks, and an empty other file is left alone.
-    ensures images { IsTrue D.tells → IsSettled (D.state taken.old)
-        → KeepsBlocks (D.state taken.old) (D.state taken.new) }
-    ensures idle { IsTrue D.tells → (D.state other.old).seen ≡ []
-        → D.state other.new ≡ D.state other.old }
-    ensures faults { CountsOpen result (D.faults taken.old) (D.faults taken.new)
-        (D.faults other.old) (D.faults other.new) }
+    ensures images { IsTrue D.tells → IsSettled (D.state taken.old).bytes
+        → KeepsBlocks (D.state taken.old).bytes (D.state taken.new).bytes }
+    ensures idle { IsTrue D.tells → (D.state other.old).bytes.seen ≡ []
+        → (D.state other.new).bytes ≡ (D.state other.old).bytes }
+    ensures faults { CountsOpen result (D.state taken.old).faults (D.state taken.new).faults
+        (D.state other.old).faults (D.state other.new).faults }
 {
     let mut twin = twin;
     let read = match read_file(rt, alloc, twin.file(), taken, limits) {
@@ -89,7 +99,7 @@ fn open_file<R: Threads, D: Disk>(
 }
 
 /// Opens a ledger from its two disks. Both are synced before they are looked at. The open file is read once, from its
-/// first block on, and the leaf digests of its journals are made in several threads; what stands behind its tail gate
+/// first block on, and the leaf digests of a long ledger's journals are made in a thread beside; what stands behind its tail gate
 /// is cut off, and the other file is emptied where it isn't.
 pub fn reopen<R: Threads, D: Disk>(
     rt: &R,
@@ -102,26 +112,41 @@ pub fn reopen<R: Threads, D: Disk>(
     ensures ok { IfOk result (λ opened. (blocks : List (List Entry))
         × Knows (known_from opened.book opened.places.list (place_of (file_of opened.twin))) blocks
         × (IsTrue D.tells → IsReopened (in_a_of opened.twin) (place_of (file_of opened.twin)) blocks
-        (D.state a.old) (D.state b.old) (D.state a.new) (D.state b.new))) }
+        (D.state a.old).bytes (D.state b.old).bytes (D.state a.new).bytes (D.state b.new).bytes)) }
     ensures limits { IfOk result (λ opened. opened.book.limits ≡ limits) }
     ensures told { IfOk result (λ opened. HasTail
-        (open_of (in_a_of opened.twin) (D.told_length a.new) (D.told_length b.new))
+        (open_of (in_a_of opened.twin) (D.state a.new).told (D.state b.new).told)
         (file_of opened.twin)) }
+
+    // The generation that is kept is the open file's, and no copy is begun.
+    ensures generation { IfOk result (λ opened. IsTrue D.tells → generation_in opened.twin
+        ≡ generation_of (open_of (in_a_of opened.twin)
+        (D.state a.new).bytes (D.state b.new).bytes).seen) }
+    ensures copy { IfOk result (λ opened. copy_of opened.twin ≡ None) }
     ensures err { IfErr result (λ e. IsTrue D.tells
-        → IsOpenErr (D.state a.old).seen (D.state b.old).seen e) }
+        → IsOpenErr (D.state a.old).bytes.seen (D.state b.old).bytes.seen e) }
 
-    // A refusal that isn't a fault or want of memory leaves both as they read.
-    ensures same { IfErr result (λ e. (IsOutside e → ⊥) → IsTrue D.tells
-        → ((D.state a.new).seen ≡ (D.state a.old).seen)
-        × ((D.state b.new).seen ≡ (D.state b.old).seen)) }
+    // An error that isn't a fault leaves both as they read, and nothing pending.
+    ensures same { IfErr result (λ e. e ≢ errors.DiskFault → IsTrue D.tells
+        → ((D.state a.new).bytes ≡ settled_state (D.state a.old).bytes.seen)
+        × ((D.state b.new).bytes ≡ settled_state (D.state b.old).bytes.seen)) }
 
-    // A crash at any time, and so each answer, leaves a pair that stands for what it stood for.
-    ensures images { IsTrue D.tells → IsSettled (D.state a.old) → IsSettled (D.state b.old)
-        → (h : History) → PairFor (D.state a.old).seen (D.state b.old).seen h
-        → (image_a image_b : List ℕ) → MayLeave (D.state a.new) image_a
-        → MayLeave (D.state b.new) image_b → PairFor image_a image_b h }
-    ensures faults { CountsOpen result (D.faults a.old) (D.faults a.new)
-        (D.faults b.old) (D.faults b.new) }
+    // A pair that its bytes keep from being opened reads as before, whatever is answered.
+    ensures refused { IsTrue D.tells → (e : OpenErrRecord) → (IsOutside e → ⊥)
+        → IsOpenErr (D.state a.old).bytes.seen (D.state b.old).bytes.seen e
+        → StandsAsRead (D.state a.old).bytes (D.state a.new).bytes
+        × StandsAsRead (D.state b.old).bytes (D.state b.new).bytes }
+
+    // A crash at any time, and so each answer, leaves a pair that stands for what it stood for. What was pending matters
+    // only where a disk failed, since both syncs succeeded otherwise.
+    ensures images { IsTrue D.tells
+        → (result ≡ Err errors.DiskFault
+        → IsSettled (D.state a.old).bytes × IsSettled (D.state b.old).bytes)
+        → (h : History) → PairFor (D.state a.old).bytes.seen (D.state b.old).bytes.seen h
+        → (image_a image_b : List ℕ) → MayLeave (D.state a.new).bytes image_a
+        → MayLeave (D.state b.new).bytes image_b → PairFor image_a image_b h }
+    ensures faults { CountsOpen result (D.state a.old).faults (D.state a.new).faults
+        (D.state b.old).faults (D.state b.new).faults }
 {
     a.sync()?;
     b.sync()?;

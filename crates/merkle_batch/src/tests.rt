@@ -2,39 +2,10 @@ ghost use Rattle.std.specs.Prelude.{◌<◌};
 
 use crate::{Tree, TreeErr};
 use hex::{FromHex, FromHexError};
-use ledger_bytes::{Digest, NoMemory, Sha, Toy, TreeHash};
+use ledger_bytes::{Digest, NoMemory, Sha};
 use merkle_tree::{leaf_of, path, proof, root_of};
 use std::alloc::Global;
 use std::test::Fail;
-
-// By the toy hash, over leaf digests that end in 01, 02, and so on: the root of each tree, and for each leaf its path
-// and for each number of first leaves its proof, a word for each, for each digest its last byte.
-const TOY_TREES: [(u8, &str, &str); 8] = [
-    (0x01, "-", "-"),
-    (0x04, "02 01", "02 -"),
-    (0x08, "02.03 01.03 04", "02.03 03 -"),
-    (0x0d, "02.08 01.08 04.04 03.04", "02.08 08 03.04.04 -"),
-    (
-        0x13,
-        "02.08.05 01.08.05 04.04.05 03.04.05 0d",
-        "02.08.05 08.05 03.04.04.05 05 -",
-    ),
-    (
-        0x1a,
-        "02.08.0c 01.08.0c 04.04.0c 03.04.0c 06.0d 05.0d",
-        "02.08.0c 08.0c 03.04.04.0c 0c 05.06.0d -",
-    ),
-    (
-        0x22,
-        "02.08.14 01.08.14 04.04.14 03.04.14 06.07.0d 05.07.0d 0c.0d",
-        "02.08.14 08.14 03.04.04.14 14 05.06.07.0d 0c.07.0d -",
-    ),
-    (
-        0x2b,
-        "02.08.1d 01.08.1d 04.04.1d 03.04.1d 06.10.0d 05.10.0d 08.0c.0d 07.0c.0d",
-        "02.08.1d 08.1d 03.04.04.1d 1d 05.06.10.0d 0c.10.0d 07.08.0c.0d -",
-    ),
-];
 
 // By SHA-256, over leaves that are the one byte 0, the one byte 1, and so on: the root over each leaf and those before
 // it.
@@ -124,23 +95,6 @@ fn digest(text: &str) -> Result<Digest, FromHexError> {
     Ok(Digest(<[u8; 32] as FromHex>::from_hex(text)?))
 }
 
-fn toy_digest(last: u8) -> Digest {
-    let mut bytes = [0; 32];
-    bytes[31] = last;
-    Digest(bytes)
-}
-
-// The digests of a word of the trees by the toy hash.
-fn digests_of(alloc: Global, word: &str) -> Result<Vec<Digest>, Fail> {
-    let mut digests = Vec::new(alloc);
-    if word != "-" {
-        for last in word.split('.') {
-            digests.push(toy_digest(u8::from_str_radix(last, 16)?))?;
-        }
-    }
-    Ok(digests)
-}
-
 // The digests of some lines.
 fn lines(alloc: Global, text: &str) -> Result<Vec<Digest>, Fail> {
     let mut digests = Vec::new(alloc);
@@ -151,7 +105,7 @@ fn lines(alloc: Global, text: &str) -> Result<Vec<Digest>, Fail> {
 }
 
 // Adds some leaves.
-fn add<H: TreeHash>(tree: &mut Tree<H>, leaves: &[Digest]) -> Result<(), NoMemory> {
+fn add(tree: &mut Tree<Sha>, leaves: &[Digest]) -> Result<(), NoMemory> {
     if tree.size() > 100 || leaves.len() > 100 {
         return Err(NoMemory);
     }
@@ -207,57 +161,6 @@ fn are_made(made: Result<Vec<Digest>, TreeErr>, digests: &[Digest]) -> bool {
         Ok(made) => made.as_slice() == digests,
         Err(_) => false,
     }
-}
-
-// Are these the paths and the proofs of a tree by the toy hash?
-fn has_words(
-    alloc: Global,
-    tree: &Tree<Toy>,
-    size: u64,
-    paths: &str,
-    proofs: &str,
-) -> Result<bool, Fail> {
-    for (n, word) in (0..size).zip(paths.split(' ')) {
-        if !are_made(tree.path(n, size), &digests_of(alloc, word)?) {
-            return Ok(false);
-        }
-    }
-    for (m, word) in (1..=size).zip(proofs.split(' ')) {
-        if !are_made(tree.proof(m, size), &digests_of(alloc, word)?) {
-            return Ok(false);
-        }
-    }
-    Ok(true)
-}
-
-#[test]
-fn trees_by_the_toy_hash(rt: HostRuntime) -> Result<(), Fail> {
-    let mut tree: Tree<Toy> = Tree::new(rt.alloc());
-    assert_eq!(rt; tree.root(), toy_digest(0));
-    for (leaf, (root, paths, proofs)) in (1..=8).zip(&TOY_TREES) {
-        add(&mut tree, &[toy_digest(leaf)])?;
-        assert_eq!(rt; tree.root(), toy_digest(*root));
-        let size = tree.size();
-        assert!(rt;
-            has_words(rt.alloc(), &tree, size, paths, proofs)?,
-            "{size} leaves"
-        );
-    }
-    assert_eq!(rt; tree.size(), 8);
-    assert_eq!(rt; tree.leaf(4)?, toy_digest(5));
-    let peaks = digests_of(rt.alloc(), "0d.0c.07")?;
-    assert!(rt; are_made(tree.peaks_at(7), &peaks));
-    Ok(())
-}
-
-#[test]
-fn tree_from_peaks(rt: HostRuntime) -> Result<(), Fail> {
-    let mut tree: Tree<Toy> = Tree::from_peaks(rt.alloc(), 2, &[toy_digest(4)])?;
-    add(&mut tree, &[toy_digest(3)])?;
-    assert_eq!(rt; tree.root(), toy_digest(8));
-    assert!(rt; are_made(tree.path(2, 3), &[toy_digest(4)]));
-    assert!(rt; matches!(tree.path(1, 3), Err(TreeErr::Below { p: 2 })));
-    Ok(())
 }
 
 // Over peaks of six leaves that no list has.
@@ -346,8 +249,8 @@ fn answers_above_each_floor(alloc: Global, list: &[Digest], batch: usize) -> Res
 
 #[test]
 fn trees_above_each_floor(rt: HostRuntime) -> Result<(), Fail> {
-    let leaves = leaves(rt.alloc(), 40)?;
-    for batch in [1, 3, 8, 40] {
+    let leaves = leaves(rt.alloc(), 16)?;
+    for batch in [3, 16] {
         for size in 1..=leaves.len() {
             assert!(rt;
                 answers_above_each_floor(rt.alloc(), &leaves[..size], batch)?,
@@ -355,28 +258,6 @@ fn trees_above_each_floor(rt: HostRuntime) -> Result<(), Fail> {
             );
         }
     }
-    Ok(())
-}
-
-// A tree that forgets as it grows answers for each smaller size as well, from its floor on.
-#[test]
-fn tree_that_forgets_as_it_grows(rt: HostRuntime) -> Result<(), Fail> {
-    let leaves = leaves(rt.alloc(), 40)?;
-    let mut tree: Tree<Sha> = Tree::new(rt.alloc());
-    for some in leaves.chunks(7) {
-        add(&mut tree, some)?;
-        if tree.size() >= 10 {
-            tree.forget_below(tree.size() - 10)?;
-        }
-        for size in tree.floor()..=tree.size() {
-            assert!(rt;
-                answers_as(rt.alloc(), &tree, &leaves, size as usize)?,
-                "{size} leaves"
-            );
-        }
-    }
-    assert_eq!(rt; tree.floor(), 30);
-    assert!(rt; matches!(tree.leaf(29), Err(TreeErr::Below { p: 30 })));
     Ok(())
 }
 

@@ -1,10 +1,10 @@
-//! Proofs and extensions of a small ledger, byte by byte, and proofs of a long one, each accepted.
+//! Proofs and extensions of a small ledger, byte by byte.
 
 ghost use Rattle.std.specs.Prelude.{◌≡◌, ◌≤◌, true, length, IfOk};
 ghost use Rattle.ledger_model.specs.Fitting.{fits_job};
 
 use super::*;
-use audit_core::{Heads, accept, check_extension};
+use audit_core::{Heads, check_extension};
 use hex::FromHex;
 use journal_record::{Approval, content_digest, request_digest};
 use ledger_book::{Book, Genesis, Job, Limits, Outcome};
@@ -36,9 +36,6 @@ const SECOND: &str = "\
     0100000000000000020000000000000001e17cd0a38398533f50004ec57f5dd3837680b6b072223c6ffc9e2bfa0d\
     0e723c0164915354a6547b1f887e596e872fd13b2abdc860729da9fe31180a81726cf4a20000";
 
-/// The root over the first journal and 262,144 records, each with a clue of its own.
-const ROOT: &str = "81cd2fa21f33f9b8809f4f15dfaa5d919c13707f1d0a89ffa1632da6db4adeb2";
-
 /// The ledger `demo` when it's new.
 fn demo(alloc: Global) -> Result<Book, NoMemory> {
     let genesis = Genesis {
@@ -49,17 +46,17 @@ fn demo(alloc: Global) -> Result<Book, NoMemory> {
     Book::new(alloc, &genesis, Limits::real())
 }
 
-/// The job of an empty record of the operator.
-fn record(alloc: Global, id: &Digest, clue: Digest, proof: &[u8]) -> Result<Job, NoMemory>
+/// The job of the operator's record without clue and content.
+fn record(alloc: Global, id: &Digest, proof: &[u8]) -> Result<Job, NoMemory>
     requires { length proof.now ≤ 64 }
     ensures { IfOk result (λ job. fits_job job ≡ true) }
 {
     let content = Bytes::copy_of(alloc, b"")?;
     let digest = content_digest(content.as_slice());
-    let request = request_digest(id, 0, &clue, 0, &digest);
+    let request = request_digest(id, 0, &Digest::ZERO, 0, &digest);
     Ok(Job::Append {
         member: 0,
-        clue,
+        clue: Digest::ZERO,
         content,
         content_digest: digest,
         request,
@@ -103,7 +100,7 @@ fn is_told(alloc: Global, book: &Book, wanted: &[Result<&str, Refusal>]) -> Resu
 /// Places the record of the operator without clue and content.
 fn place_first(rt: &impl Abort, alloc: Global, book: &mut Book) -> Result<(), Fail> {
     let tag = <[u8; 64]>::from_hex(TAG)?;
-    let job = record(alloc, &book.id(), Digest::ZERO, &tag)?;
+    let job = record(alloc, &book.id(), &tag)?;
     let outcome = book.apply(&job, None)?;
     assert!(rt; is_placed(&outcome));
     Ok(())
@@ -178,51 +175,6 @@ fn extends_each_head_of_a_small_ledger(rt: HostRuntime) -> Result<(), Fail> {
     Ok(())
 }
 
-/// The clue whose bytes are this number.
-fn clue_of(number: u64) -> Digest {
-    let mut bytes = [0; 32];
-    bytes[24..].copy_from_slice(&number.to_be_bytes());
-    Digest(bytes)
-}
-
-/// Places the record with this number, and ends each block of 64.
-fn place(rt: &impl Abort, alloc: Global, book: &mut Book, number: u64) -> Result<(), NoMemory> {
-    let job = record(alloc, &book.id(), clue_of(number), b"")?;
-    let outcome = book.apply(&job, None)?;
-    assert!(rt; is_placed(&outcome));
-    if book.is_block_full() {
-        book.seal();
-    }
-    Ok(())
-}
-
-/// The ledger `demo` with 262,144 records.
-fn long_ledger(rt: &impl Abort, alloc: Global) -> Result<Book, NoMemory> {
-    let mut book = demo(alloc)?;
-    for number in 1..262_145_u64 {
-        place(rt, alloc, &mut book, number)?;
-    }
-    Ok(book)
-}
-
-/// Each record has a clue of its own.
-fn look_at_clues(rt: &impl Abort, book: &Book) -> Result<(), NoMemory> {
-    for number in 1..262_145_u64 {
-        let (count, jsns) = book.clue(&clue_of(number))?;
-        assert!(rt; count == 1 && jsns.as_slice() == [number].as_slice());
-    }
-    Ok(())
-}
-
-/// Whether the proof of a journal has no bound and 660 bytes, and is accepted.
-fn is_accepted(alloc: Global, book: &Book, heads: &Heads, n: u64) -> Result<bool, MakeErr> {
-    let made = prove(alloc, book, n)?;
-    let bare = made.claim.lo.is_none() && made.claim.hi.is_none();
-    let proof = made.proof.as_slice();
-    let answer = accept::<Sha>(proof, &made.claim, heads);
-    Ok(bare && made.claim.n == n && proof.len() == 660 && answer.is_ok())
-}
-
 /// What an auditor trusts who has this head alone.
 fn trusting(alloc: Global, id: &Digest, head: &Head) -> Result<Heads, Fail> {
     let mut heads = Heads::new(alloc);
@@ -230,21 +182,4 @@ fn trusting(alloc: Global, id: &Digest, head: &Head) -> Result<Heads, Fail> {
         Ok(()) => Ok(heads),
         Err(_) => Err("no trust".into()),
     }
-}
-
-#[test]
-fn proofs_of_a_long_ledger_are_accepted(rt: HostRuntime) -> Result<(), Fail> {
-    let alloc = rt.alloc();
-    let book = long_ledger(&rt, alloc)?;
-    let head = Head {
-        size: 262_145,
-        root: Digest(<[u8; 32]>::from_hex(ROOT)?),
-    };
-    assert!(rt; book.head() == head && book.blocks() == 4_097);
-    look_at_clues(&rt, &book)?;
-    let heads = trusting(alloc, &book.id(), &head)?;
-    for n in 1..4_097_u64 {
-        assert!(rt; is_accepted(alloc, &book, &heads, n)?);
-    }
-    Ok(())
 }

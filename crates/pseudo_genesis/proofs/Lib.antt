@@ -1,5 +1,5 @@
 mod Many
 mod Loops
 mod Pieces
-mod Wholes
+pub mod Wholes
 mod Breaks

@@ -71,7 +71,7 @@ asked_by (Err refusal) = Err BadVerb
 
 -- how many lanes are served, from 0 on
 abbrev pub lanes : ℕ
-lanes = 1
+lanes = 8
 
 -- the lane that the first field names as one digit, where that lane is served
 abbrev pub lane_of : List ℕ → Option ℕ

@@ -21,5 +21,5 @@ pub use said::{SaidApproval, Which};
 pub use spellings::{is_bytes, read_bytes, read_clue, read_digest, read_name, read_number};
 pub use spoken::Spoken;
 pub use stop::Stop;
-pub use verbs::read_line;
+pub use verbs::{lane_of_line, read_line};
 pub use words::{Word, put_no, put_number, put_words};

@@ -12,7 +12,7 @@ use ledger_bytes::{CONTENT_LIMIT, NoMemory, PROOF_LIMIT, Refusal};
 use std::alloc::Global;
 
 /// How many lanes are served, from 0 on.
-const LANES: u8 = 1;
+const LANES: u8 = 8;
 
 /// Reads a line, without its newline. Fields stand around single spaces. The first is the lane, then comes the verb, and
 /// then the verb's fields. A number is decimal digits without a leading zero; bytes are `-` for none or two hexadecimal
@@ -42,6 +42,22 @@ pub fn read_line(alloc: Global, line: &[u8]) -> Result<Spoken, NoMemory>
             what: Err(refusal),
         }),
         Err(Stop::NoMemory) => Err(NoMemory),
+    }
+}
+
+/// The lane that a line belongs to, 0 to 7.
+#[tactic(auto, unfolding(crate::specs::Grammar::spoken_line))]
+pub fn lane_of_line(line: &[u8]) -> u8
+    ensures lane { result ≡ (spoken_line line.now).0 }
+    ensures in_range { result ≤ 7 }
+{
+    let mut fields = Fields::of(line);
+    let Ok(text) = fields.text() else {
+        return 0;
+    };
+    match read_lane(text) {
+        Some(lane) => lane,
+        None => 0,
     }
 }
 

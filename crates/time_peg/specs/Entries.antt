@@ -2,6 +2,7 @@
 use Rattle.std.specs.Prelude.{◌≡◌, ℕ, ◌+◌, ◌-◌, ◌<◌, ◌≤◌, ◌^◌, ◌⊎◌, min, List, [], ◌∷◌, ◌++◌, length, take, Result, Ok, Err, ⊤}
 use Rattle.std.specs.List.{AllByRecursion}
 use Rattle.std.specs.Int.{w64, to_be_bytes, from_be_bytes}
+use Rattle.ledger_bytes.specs.Causes.{count_after}
 use Rattle.ledger_bytes.specs.Tags.{byte_of}
 use Rattle.ledger_bytes.specs.declared.tag.Tag.TheVariants as tag
 use Rattle.journal_record.specs.declared.rules.TheConstants.{NOTARY_LIMIT}
@@ -37,6 +38,11 @@ pub record IsList (es : List (List ℕ)) : Type 0 where
   pub widths : AllByRecursion (λ e. length e ≡ 72) es
   pub times : NeverFalls 0 es
 
+-- what clauses know of a notary: its entries, and how many of its calls failed
+pub record NotaryState : Type 0 where
+  pub entries : List (List ℕ)
+  pub faults : ℕ
+
 -- a list has one entry more, with this peg
 abbrev pub HasOneMore : List ℕ → List (List ℕ) → List (List ℕ) → Type 0
 HasOneMore peg old new = (time : ℕ) × (salt : List ℕ) × (time < 2 ^ 64) × (new ≡ old ++ entry_of time peg salt ∷ [])
@@ -44,7 +50,7 @@ HasOneMore peg old new = (time : ℕ) × (salt : List ℕ) × (time < 2 ^ 64) ×
 -- what a stamp with this peg does to the list, and what it answers: an entry more, whose place, time and salt are told;
 -- after a failure perhaps one of which nothing is told
 abbrev pub IsStamped : List ℕ → List (List ℕ) → List (List ℕ) → Result Stamp NotaryErr → Type 0
-IsStamped peg old new (Ok s) = (s.index ≡ length old) × (new ≡ old ++ entry_of s.time peg s.salt.0 ∷ [])
+IsStamped peg old new (Ok s) = (s.index ≡ length old) × (s.time < 2 ^ 64) × (new ≡ old ++ entry_of s.time peg s.salt.0 ∷ [])
 IsStamped peg old new (Err Failed) = (new ≡ old) ⊎ HasOneMore peg old new
 IsStamped peg old new (Err Full) = (new ≡ old) × (length old ≡ NOTARY_LIMIT)
 IsStamped peg old new (Err NoMemory) = new ≡ old
@@ -52,6 +58,6 @@ IsStamped peg old new (Err NoMemory) = new ≡ old
 -- the count of failed calls rises by one exactly where a failure is answered; at the end of its type it stays
 abbrev pub Counts : {T : Type 0} → Result T NotaryErr → ℕ → ℕ → Type 0
 Counts (Ok x) before now = now ≡ before
-Counts (Err Failed) before now = now ≡ min (before + 1) (2 ^ 64 - 1)
+Counts (Err Failed) before now = now ≡ count_after before
 Counts (Err Full) before now = now ≡ before
 Counts (Err NoMemory) before now = now ≡ before

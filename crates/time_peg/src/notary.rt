@@ -1,10 +1,10 @@
-ghost use Rattle.std.specs.Prelude.{◌≡◌, ◌≢◌, ◌<◌, ◌≤◌, ℕ, List, Err, length, map, slice_get, Some, IfOk, IfErr};
+ghost use Rattle.std.specs.Prelude.{◌≡◌, ◌≢◌, ◌<◌, ◌≤◌, ℕ, Err, length, map, slice_get, Some, IfOk, IfErr};
 ghost use Rattle.sha2.specs.Sha256.{sha256};
 ghost use Rattle.tree_model.specs.Tree.{mth, leaf};
 ghost use Rattle.tree_model.specs.Path as paths;
 ghost use Rattle.tree_model.specs.Extension as extensions;
 ghost use Rattle.journal_record.specs.declared.rules.TheConstants.{NOTARY_LIMIT};
-ghost use Rattle.time_peg.specs.Entries.{IsList, IsStamped, Counts};
+ghost use Rattle.time_peg.specs.Entries.{NotaryState, IsList, IsStamped, Counts};
 
 use crate::ENTRY_LEN;
 use journal_record::Stamp;
@@ -29,57 +29,54 @@ pub enum NotaryErr {
 /// A notary keeps a list of at most 16,777,216 entries, whose times never fall. An entry has 72 bytes, which are laid out
 /// as [`entry_bytes`](crate::entry_bytes) says. The list has the tree of RFC 6962 over its entries, under SHA-256.
 pub trait Notary {
-    /// The list.
-    ghost entries: { Self → List (List ℕ) };
-
-    /// How many calls failed.
-    ghost faults: { Self → ℕ };
+    /// The list, and how many calls failed.
+    ghost state: { Self → NotaryState };
 
     /// Appends an entry with this peg. It takes its memory before it appends anything. After `Failed` the list is as
     /// before, or one such entry longer.
     fn stamp(&mut self, alloc: Global, peg: &Digest) -> Result<Stamp, NotaryErr>
-        ensures list { IsStamped peg.now.0 (entries self.old) (entries self.new) result }
-        ensures full { length (entries self.old) ≡ NOTARY_LIMIT → result ≡ Err NotaryErr.Full }
-        ensures lawful { IsList (entries self.new) }
-        ensures faults { Counts result (faults self.old) (faults self.new) };
+        ensures list { IsStamped peg.now.0 (state self.old).entries (state self.new).entries result }
+        ensures full { length (state self.old).entries ≡ NOTARY_LIMIT → result ≡ Err NotaryErr.Full }
+        ensures lawful { IsList (state self.new).entries }
+        ensures faults { Counts result (state self.old).faults (state self.new).faults };
 
     /// The number of entries, and the root over them.
     fn head(&mut self) -> Result<Head, NotaryErr>
-        ensures size { IfOk result (λ head. head.size ≡ length (entries self.old)) }
-        ensures root { IfOk result (λ head. head.root.0 ≡ mth sha256 (entries self.old)) }
+        ensures size { IfOk result (λ head. head.size ≡ length (state self.old).entries) }
+        ensures root { IfOk result (λ head. head.root.0 ≡ mth sha256 (state self.old).entries) }
         ensures err { IfErr result (λ e. e ≡ NotaryErr.Failed) }
-        ensures same { entries self.new ≡ entries self.old }
-        ensures lawful { IsList (entries self.new) }
-        ensures faults { Counts result (faults self.old) (faults self.new) };
+        ensures same { (state self.new).entries ≡ (state self.old).entries }
+        ensures lawful { IsList (state self.new).entries }
+        ensures faults { Counts result (state self.old).faults (state self.new).faults };
 
     /// Entry k.
     fn entry(&mut self, k: u64) -> Result<[u8; ENTRY_LEN], NotaryErr>
-        requires { k < length (entries self.old) }
-        ensures entry { IfOk result (λ entry. slice_get (entries self.old) k ≡ Some entry) }
+        requires { k < length (state self.old).entries }
+        ensures entry { IfOk result (λ entry. slice_get (state self.old).entries k ≡ Some entry) }
         ensures err { IfErr result (λ e. e ≡ NotaryErr.Failed) }
-        ensures same { entries self.new ≡ entries self.old }
-        ensures faults { Counts result (faults self.old) (faults self.new) };
+        ensures same { (state self.new).entries ≡ (state self.old).entries }
+        ensures faults { Counts result (state self.old).faults (state self.new).faults };
 
     /// The path of entry k in the tree over all entries.
     fn path(&mut self, alloc: Global, k: u64) -> Result<Vec<Digest>, NotaryErr>
-        requires { k < length (entries self.old) }
+        requires { k < length (state self.old).entries }
         ensures path { IfOk result (λ digests. map (λ d. d.0) digests.items
-            ≡ paths.path sha256 k (map (leaf sha256) (entries self.old))) }
+            ≡ paths.path sha256 k (map (leaf sha256) (state self.old).entries)) }
         ensures err { IfErr result (λ e. e ≢ NotaryErr.Full) }
-        ensures same { entries self.new ≡ entries self.old }
-        ensures faults { Counts result (faults self.old) (faults self.new) };
+        ensures same { (state self.new).entries ≡ (state self.old).entries }
+        ensures faults { Counts result (state self.old).faults (state self.new).faults };
 
     /// The proof that the tree over all entries goes on from the tree over the first m.
     fn proof(&mut self, alloc: Global, m: u64) -> Result<Vec<Digest>, NotaryErr>
         requires some { 0 < m }
-        requires within { m ≤ length (entries self.old) }
+        requires within { m ≤ length (state self.old).entries }
         ensures proof { IfOk result (λ digests. map (λ d. d.0) digests.items
-            ≡ extensions.proof sha256 m (map (leaf sha256) (entries self.old))) }
+            ≡ extensions.proof sha256 m (map (leaf sha256) (state self.old).entries)) }
         ensures err { IfErr result (λ e. e ≢ NotaryErr.Full) }
-        ensures same { entries self.new ≡ entries self.old }
-        ensures faults { Counts result (faults self.old) (faults self.new) };
+        ensures same { (state self.new).entries ≡ (state self.old).entries }
+        ensures faults { Counts result (state self.old).faults (state self.new).faults };
 
     /// How many calls failed. The count stays at 2^64 - 1 once it is there.
     fn faults(&self) -> u64
-        ensures { result ≡ faults self.now };
+        ensures { result ≡ (state self.now).faults };
 }

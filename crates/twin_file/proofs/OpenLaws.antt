@@ -75,17 +75,26 @@ pub opens_in_a : (in_a : Bool) → in_a ≡ false → (a b a_new : State) → Ke
 opens_in_a false is a b a_new keeps quiet image_a image_b left_a left_b = pair_false b image_a image_b quiet.quiet_b quiet.taken.head left_b (keeps quiet.quiet_a false (generation_of b.seen) quiet.taken.other image_a left_a)
 opens_in_a true is a b a_new keeps quiet image_a image_b left_a left_b = absurd (cc is)
 
+-- what is passed over stays so
+pub passed_in_b : (in_a : Bool) → in_a ≡ true → (a b b_new : State) → KeepsPassed b b_new → KeepsPassed (choice in_a b a) (choice in_a b_new a)
+passed_in_b true is a b b_new keeps = keeps
+passed_in_b false is a b b_new keeps = absurd (cc is)
+
+pub passed_in_a : (in_a : Bool) → in_a ≡ false → (a b a_new : State) → KeepsPassed a a_new → KeepsPassed (choice in_a b a) (choice in_a b a_new)
+passed_in_a false is a b a_new keeps = keeps
+passed_in_a true is a b a_new keeps = absurd (cc is)
+
 -- while the copy is opened
 either_true : (a : State) (new image_a image_b : List ℕ) → IsSettled a → HasHead a.seen → HasHead new → generation_of a.seen < generation_of new → MayLeave a image_a → (get_or image_b 0 0 ≢ 1) ⊎ (image_b ≡ new)
-    → OpensTo true a.seen image_a image_b ⊎ OpensTo false new image_a image_b
-either_true a new image_a image_b quiet has has_new less left (inl shut) = inl (pair_true a image_a image_b quiet has left (inl (inr shut)))
+    → (OpensTo true a.seen image_a image_b × IsShut image_b) ⊎ OpensTo false new image_a image_b
+either_true a new image_a image_b quiet has has_new less left (inl shut) = inl (pair_true a image_a image_b quiet has left (inl (inr shut)), inr shut)
 either_true a new image_a image_b quiet has has_new less left (inr is) =
     let is_a : image_a ≡ a.seen = settled_image a.seen image_a (subst (λ (s : State). MayLeave s image_a) quiet left) in
     inr (new_false new image_a image_b is (subst HasHead (sym is_a) has) has_new (omega (arith, less, ap generation_of is_a)))
 
 either_false : (b : State) (new image_a image_b : List ℕ) → IsSettled b → HasHead b.seen → HasHead new → generation_of b.seen < generation_of new → MayLeave b image_b → (get_or image_a 0 0 ≢ 1) ⊎ (image_a ≡ new)
-    → OpensTo false b.seen image_a image_b ⊎ OpensTo true new image_a image_b
-either_false b new image_a image_b quiet has has_new less left (inl shut) = inl (pair_false b image_a image_b quiet has left (inl (inr shut)))
+    → (OpensTo false b.seen image_a image_b × IsShut image_a) ⊎ OpensTo true new image_a image_b
+either_false b new image_a image_b quiet has has_new less left (inl shut) = inl (pair_false b image_a image_b quiet has left (inl (inr shut)), inr shut)
 either_false b new image_a image_b quiet has has_new less left (inr is) =
     let is_b : image_b ≡ b.seen = settled_image b.seen image_b (subst (λ (s : State). MayLeave s image_b) quiet left) in
     inr (new_true new image_a image_b is (subst HasHead (sym is_b) has) has_new (omega (arith, less, ap generation_of is_b)))

@@ -41,7 +41,7 @@ reopened_takes a b None is x file opens = none_taken a b x is.0 is.1 opens.taken
 reopened_takes a b (Some twin) is x file opens = taken_once a b (in_a_of twin) x is.0 opens.taken
 
 -- a file that is shut, or has a head that is known, has no damage in its head
-head_err : (file : List ℕ) (e : FileErr) → (IsShut file ⊎ HasHead file) → IsHeadErr file e → e ≡ DiskFault
+pub head_err : (file : List ℕ) (e : FileErr) → (IsShut file ⊎ HasHead file) → IsHeadErr file e → e ≡ DiskFault
 head_err file DiskFault side err = refl
 head_err file NoMemory side err = absurd err
 head_err file (NewerFormat found) (inl shut) err = shut_open file shut err.0
@@ -59,11 +59,11 @@ side_of : (in_a : Bool) (most : ℕ) (file : List ℕ) → IsPassed in_a most fi
 side_of in_a most file (inl shut) = inl shut
 side_of in_a most file (inr has) = inr has.0
 
-side_a : (a b : List ℕ) (x : Bool) → IsTaken x a b → IsShut a ⊎ HasHead a
+pub side_a : (a b : List ℕ) (x : Bool) → IsTaken x a b → IsShut a ⊎ HasHead a
 side_a a b true taken = inr taken.head
 side_a a b false taken = side_of false (generation_of b) a taken.other
 
-side_b : (a b : List ℕ) (x : Bool) → IsTaken x a b → IsShut b ⊎ HasHead b
+pub side_b : (a b : List ℕ) (x : Bool) → IsTaken x a b → IsShut b ⊎ HasHead b
 side_b a b true taken = side_of true (generation_of a) b taken.other
 side_b a b false taken = inr taken.head
 

@@ -10,11 +10,11 @@ abbrev pub AllOpenTo : Bool → List ℕ → State → State → Type 0
 AllOpenTo in_a file a b =
     (image_a image_b : List ℕ) → MayLeave a image_a → MayLeave b image_b → OpensTo in_a file image_a image_b
 
--- each pair of images opens to the first of these files as before, or to the second in the other place
+-- each pair of images opens to the first of these files as before, beside one that is shut, or to the second in the other place
 abbrev pub AllOpenToEither : Bool → List ℕ → List ℕ → State → State → Type 0
 AllOpenToEither in_a old new a b =
     (image_a image_b : List ℕ) → MayLeave a image_a → MayLeave b image_b
-    → OpensTo in_a old image_a image_b ⊎ OpensTo (not in_a) new image_a image_b
+    → (OpensTo in_a old image_a image_b × IsShut (other_of in_a image_a image_b)) ⊎ OpensTo (not in_a) new image_a image_b
 
 -- each image of this disk is shut
 abbrev pub AllShut : State → Type 0

@@ -20,21 +20,21 @@ pub fn extend<D: Disk>(
     at: u64,
     len: u64,
 ) -> Result<(), FileErr>
-    requires from { IsSomeAnd (D.told_length from.old) (λ n. at + len ≤ n) }
-    requires begun { HasCopy (D.told_length to.old) copy.old }
+    requires from { IsSomeAnd (D.state from.old).told (λ n. at + len ≤ n) }
+    requires begun { HasCopy (D.state to.old).told copy.old }
     ensures seen { OnOk result (IsTrue D.tells → (front : List ℕ) (blocks more : List (List ℕ))
-        → IsBuiltCopy front blocks (D.state to.old).seen copy.old
-        → take len (drop at (D.state from.old).seen) ≡ open_blocks more
-        → IsBuiltCopy front (blocks ++ more) (D.state to.new).seen copy.new) }
-    ensures veiled { IsTrue D.tells → IsVeiled (D.state to.old) → IsVeiled (D.state to.new) }
-    ensures same { IsTrue D.tells → D.state from.new ≡ D.state from.old }
-    ensures from { KeepsLength (D.told_length from.old) (D.told_length from.new) }
-    ensures begun { OnOk result (HasCopy (D.told_length to.new) copy.new) }
+        → IsBuiltCopy front blocks (D.state to.old).bytes.seen copy.old
+        → take len (drop at (D.state from.old).bytes.seen) ≡ open_blocks more
+        → IsBuiltCopy front (blocks ++ more) (D.state to.new).bytes.seen copy.new) }
+    ensures veiled { IsTrue D.tells → IsVeiled (D.state to.old).bytes → IsVeiled (D.state to.new).bytes }
+    ensures same { IsTrue D.tells → (D.state from.new).bytes ≡ (D.state from.old).bytes }
+    ensures from { KeepsLength (D.state from.old).told (D.state from.new).told }
+    ensures begun { OnOk result (HasCopy (D.state to.new).told copy.new) }
     ensures stays { OnErr result (copy.new ≡ copy.old) }
     ensures moved { OnOk result (IsSomeAnd copy.new
         (λ file. IsSomeAnd copy.old (λ old. place_of file ≡ place_of old + len))) }
     ensures faults { CountsTwoAlone result
-        (D.faults from.old) (D.faults from.new) (D.faults to.old) (D.faults to.new) }
+        (D.state from.old).faults (D.state from.new).faults (D.state to.old).faults (D.state to.new).faults }
 {
     match copy {
         Some(file) => file.put_range(to, from, at, len),
@@ -44,15 +44,15 @@ pub fn extend<D: Disk>(
 
 // Opens the copy that was begun, on its disk. Callers come with one: without it there is nothing to do.
 fn unveil<D: Disk>(copy: &mut Option<BlockFile>, disk: &mut D) -> Result<(), FileErr>
-    requires begun { HasCopy (D.told_length disk.old) copy.old }
+    requires begun { HasCopy (D.state disk.old).told copy.old }
     ensures ok { OnOk result (IsTrue D.tells
-        → D.state disk.new ≡ settled_state (1 ∷ drop 1 (D.state disk.old).seen)) }
-    ensures err { OnErr result (IsTrue D.tells → IsVeiled (D.state disk.old) → (image : List ℕ)
-        → MayLeave (D.state disk.new) image
-        → (get_or image 0 0 ≢ 1) ⊎ (image ≡ 1 ∷ drop 1 (D.state disk.old).seen)) }
+        → (D.state disk.new).bytes ≡ settled_state (1 ∷ drop 1 (D.state disk.old).bytes.seen)) }
+    ensures err { OnErr result (IsTrue D.tells → IsVeiled (D.state disk.old).bytes → (image : List ℕ)
+        → MayLeave (D.state disk.new).bytes image
+        → (get_or image 0 0 ≢ 1) ⊎ (image ≡ 1 ∷ drop 1 (D.state disk.old).bytes.seen)) }
     ensures same { copy.new ≡ copy.old }
-    ensures told { OnOk result (HasCopy (D.told_length disk.new) copy.new) }
-    ensures faults { CountsAlone result (D.faults disk.old) (D.faults disk.new) }
+    ensures told { OnOk result (HasCopy (D.state disk.new).told copy.new) }
+    ensures faults { CountsAlone result (D.state disk.old).faults (D.state disk.new).faults }
 {
     match copy {
         Some(file) => file.unveil(disk),
@@ -67,35 +67,35 @@ pub fn unveil_other<D: Disk>(
     a: &mut D,
     b: &mut D,
 ) -> Result<(), FileErr>
-    requires begun { HasCopy (other_of in_a (D.told_length a.old) (D.told_length b.old)) copy.old }
-    ensures ok { OnOk result (IsTrue D.tells → other_of in_a (D.state a.new) (D.state b.new)
-        ≡ settled_state (1 ∷ drop 1 (other_of in_a (D.state a.old) (D.state b.old)).seen)) }
+    requires begun { HasCopy (other_of in_a (D.state a.old).told (D.state b.old).told) copy.old }
+    ensures ok { OnOk result (IsTrue D.tells → other_of in_a (D.state a.new).bytes (D.state b.new).bytes
+        ≡ settled_state (1 ∷ drop 1 (other_of in_a (D.state a.old).bytes (D.state b.old).bytes).seen)) }
 
     // The file that this leaves, where it has a head of a greater generation.
     ensures images { OnOk result (IsTrue D.tells
-        → IsCopying in_a (D.state a.old) (D.state b.old)
-        → (new : List ℕ) → 1 ∷ drop 1 (other_of in_a (D.state a.old) (D.state b.old)).seen ≡ new
+        → IsCopying in_a (D.state a.old).bytes (D.state b.old).bytes
+        → (new : List ℕ) → 1 ∷ drop 1 (other_of in_a (D.state a.old).bytes (D.state b.old).bytes).seen ≡ new
         → HasHead new
-        → generation_of (open_of in_a (D.state a.old) (D.state b.old)).seen < generation_of new
-        → AllOpenTo (not in_a) new (D.state a.new) (D.state b.new)) }
+        → generation_of (open_of in_a (D.state a.old).bytes (D.state b.old).bytes).seen < generation_of new
+        → AllOpenTo (not in_a) new (D.state a.new).bytes (D.state b.new).bytes) }
     ensures images_err { OnErr result (IsTrue D.tells
-        → IsCopying in_a (D.state a.old) (D.state b.old)
-        → (new : List ℕ) → 1 ∷ drop 1 (other_of in_a (D.state a.old) (D.state b.old)).seen ≡ new
+        → IsCopying in_a (D.state a.old).bytes (D.state b.old).bytes
+        → (new : List ℕ) → 1 ∷ drop 1 (other_of in_a (D.state a.old).bytes (D.state b.old).bytes).seen ≡ new
         → HasHead new
-        → generation_of (open_of in_a (D.state a.old) (D.state b.old)).seen < generation_of new
-        → AllOpenToEither in_a (open_of in_a (D.state a.old) (D.state b.old)).seen new
-        (D.state a.new) (D.state b.new)) }
+        → generation_of (open_of in_a (D.state a.old).bytes (D.state b.old).bytes).seen < generation_of new
+        → AllOpenToEither in_a (open_of in_a (D.state a.old).bytes (D.state b.old).bytes).seen new
+        (D.state a.new).bytes (D.state b.new).bytes) }
 
-    ensures other { IsTrue D.tells → open_of in_a (D.state a.new) (D.state b.new)
-        ≡ open_of in_a (D.state a.old) (D.state b.old) }
+    ensures other { IsTrue D.tells → open_of in_a (D.state a.new).bytes (D.state b.new).bytes
+        ≡ open_of in_a (D.state a.old).bytes (D.state b.old).bytes }
     ensures same { copy.new ≡ copy.old }
     ensures told { OnOk result (HasCopy
-        (other_of in_a (D.told_length a.new) (D.told_length b.new)) copy.new) }
+        (other_of in_a (D.state a.new).told (D.state b.new).told) copy.new) }
     ensures from { KeepsLength
-        (open_of in_a (D.told_length a.old) (D.told_length b.old))
-        (open_of in_a (D.told_length a.new) (D.told_length b.new)) }
+        (open_of in_a (D.state a.old).told (D.state b.old).told)
+        (open_of in_a (D.state a.new).told (D.state b.new).told) }
     ensures faults { CountsTwoAlone result
-        (D.faults a.old) (D.faults a.new) (D.faults b.old) (D.faults b.new) }
+        (D.state a.old).faults (D.state a.new).faults (D.state b.old).faults (D.state b.new).faults }
 {
     if in_a {
         unveil(copy, b)?;

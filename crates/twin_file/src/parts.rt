@@ -14,12 +14,12 @@ use ledger_disk::Disk;
 /// Begins a file of this generation behind a shut gate.
 pub fn begin<D: Disk>(disk: &mut D, generation: u64, base: &[u8]) -> Result<BlockFile, FileErr>
     ensures seen { OnOk result (IsTrue D.tells
-        → (D.state disk.new).seen ≡ whole_file (front_of 0 generation base.now) []) }
-    ensures veiled { OnOk result (IsTrue D.tells → IsVeiled (D.state disk.new)) }
-    ensures images { IsTrue D.tells → KeepsPassed (D.state disk.old) (D.state disk.new) }
+        → (D.state disk.new).bytes.seen ≡ whole_file (front_of 0 generation base.now) []) }
+    ensures veiled { OnOk result (IsTrue D.tells → IsVeiled (D.state disk.new).bytes) }
+    ensures images { IsTrue D.tells → KeepsPassed (D.state disk.old).bytes (D.state disk.new).bytes }
     ensures place { IfOk result (λ file. place_of file ≡ 64 + length base.now) }
-    ensures told { IfOk result (HasTail (D.told_length disk.new)) }
-    ensures faults { CountsAlone result (D.faults disk.old) (D.faults disk.new) }
+    ensures told { IfOk result (HasTail (D.state disk.new).told) }
+    ensures faults { CountsAlone result (D.state disk.old).faults (D.state disk.new).faults }
 {
     BlockFile::start(disk)?;
     BlockFile::create(disk, generation, base)
@@ -27,10 +27,10 @@ pub fn begin<D: Disk>(disk: &mut D, generation: u64, base: &[u8]) -> Result<Bloc
 
 /// Cuts a file to nothing, for good.
 pub fn wipe_file<D: Disk>(disk: &mut D) -> Result<(), FileErr>
-    ensures ok { OnOk result (IsTrue D.tells → D.state disk.new ≡ settled_state []) }
-    ensures images { IsTrue D.tells → KeepsPassed (D.state disk.old) (D.state disk.new) }
-    ensures told { OnOk result (D.told_length disk.new ≡ Some 0) }
-    ensures faults { CountsAlone result (D.faults disk.old) (D.faults disk.new) }
+    ensures ok { OnOk result (IsTrue D.tells → (D.state disk.new).bytes ≡ settled_state []) }
+    ensures images { IsTrue D.tells → KeepsPassed (D.state disk.old).bytes (D.state disk.new).bytes }
+    ensures told { OnOk result ((D.state disk.new).told ≡ Some 0) }
+    ensures faults { CountsAlone result (D.state disk.old).faults (D.state disk.new).faults }
 {
     disk.cut(0)?;
     disk.sync()?;
@@ -39,10 +39,10 @@ pub fn wipe_file<D: Disk>(disk: &mut D) -> Result<(), FileErr>
 
 /// Cuts a file that isn't empty to nothing, for good.
 pub fn clear<D: Disk>(disk: &mut D) -> Result<(), FileErr>
-    ensures ok { OnOk result (IsTrue D.tells → IsSettled (D.state disk.old)
-        → D.state disk.new ≡ settled_state []) }
-    ensures images { IsTrue D.tells → KeepsPassed (D.state disk.old) (D.state disk.new) }
-    ensures faults { CountsAlone result (D.faults disk.old) (D.faults disk.new) }
+    ensures ok { OnOk result (IsTrue D.tells → IsSettled (D.state disk.old).bytes
+        → (D.state disk.new).bytes ≡ settled_state []) }
+    ensures images { IsTrue D.tells → KeepsPassed (D.state disk.old).bytes (D.state disk.new).bytes }
+    ensures faults { CountsAlone result (D.state disk.old).faults (D.state disk.new).faults }
 {
     if disk.len()? > 0 {
         wipe_file(disk)?;
@@ -53,13 +53,13 @@ pub fn clear<D: Disk>(disk: &mut D) -> Result<(), FileErr>
 /// Makes a file of generation 1 that has one block.
 pub fn make_first<D: Disk>(disk: &mut D, block: &[u8]) -> Result<BlockFile, FileErr>
     ensures ok { OnOk result (IsTrue D.tells
-        → D.state disk.new ≡ settled_state (whole_file (front_of 1 1 []) (block.now ∷ []))) }
-    ensures images { IsTrue D.tells → IsSettled (D.state disk.old) → IsShut (D.state disk.old).seen
-        → (image : List ℕ) → MayLeave (D.state disk.new) image
+        → (D.state disk.new).bytes ≡ settled_state (whole_file (front_of 1 1 []) (block.now ∷ []))) }
+    ensures images { IsTrue D.tells → IsSettled (D.state disk.old).bytes → IsShut (D.state disk.old).bytes.seen
+        → (image : List ℕ) → MayLeave (D.state disk.new).bytes image
         → IsShut image ⊎ (image ≡ whole_file (front_of 1 1 []) (block.now ∷ [])) }
     ensures place { IfOk result (λ file. place_of file ≡ 65 + length block.now) }
-    ensures told { IfOk result (HasTail (D.told_length disk.new)) }
-    ensures faults { CountsAlone result (D.faults disk.old) (D.faults disk.new) }
+    ensures told { IfOk result (HasTail (D.state disk.new).told) }
+    ensures faults { CountsAlone result (D.state disk.old).faults (D.state disk.new).faults }
 {
     let mut file = begin(disk, 1, &[])?;
     file.put_block(disk, block)?;

@@ -18,7 +18,7 @@ fn take_over<D: Disk>(
     at: u64,
     len: u64,
 ) -> Result<(), FileErr>
-    requires { IsSomeAnd (open_of (in_a_of twin.old) (D.told_length a.old) (D.told_length b.old))
+    requires { IsSomeAnd (open_of (in_a_of twin.old) (D.state a.old).told (D.state b.old).told)
         (λ n. at + len ≤ n) }
 {
     twin.begin_copy(a, b, base)?;

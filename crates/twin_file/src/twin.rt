@@ -3,7 +3,7 @@ ghost use Rattle.block_file.specs.File.{IsSettled, whole_file, open_blocks};
 ghost use Rattle.block_file.specs.Head.{Counts, CountsTwo, CountsTwoAlone, IsResumeErr, front_of, number_at};
 ghost use Rattle.block_file.specs.Place.{place_of, base_len_of};
 ghost use Rattle.ledger_disk.specs.Disk.{MayLeave, settled_state, KeepsLength};
-ghost use Rattle.twin_file.specs.Images.{AllOpenTo, AllOpenToEither, AllShut, AreShut, IsCopied, IsCopying, IsMadeOrShut, IsQuiet, StaysOpen};
+ghost use Rattle.twin_file.specs.Images.{AllOpenTo, AllOpenToEither, AllShut, AreShut, IsCopied, IsCopying, IsMadeOrShut, IsQuiet, StaysOpen, KeepsPassed};
 ghost use Rattle.twin_file.specs.Picking.{IsReopened, view};
 ghost use Rattle.twin_file.specs.Places.{HasCopy, HasTail, IsBuilt, IsBuiltCopy};
 ghost use Rattle.twin_file.specs.Twin.{open_of, other_of, OpensTo, IsReopenErr, next_generation};
@@ -35,30 +35,31 @@ impl Twin {
     /// is taken.
     pub fn reopen<D: Disk>(a: &mut D, b: &mut D) -> Result<Option<Twin>, FileErr>
         ensures answer { IfOk result (λ found. IsTrue D.tells
-            → IsReopened (D.state a.old).seen (D.state b.old).seen (option_map view_of found)) }
+            → IsReopened (D.state a.old).bytes.seen (D.state b.old).bytes.seen (option_map view_of found)) }
         ensures err { IfErr result (λ e. IsTrue D.tells
-            → IsReopenErr (D.state a.old).seen (D.state b.old).seen e) }
+            → IsReopenErr (D.state a.old).bytes.seen (D.state b.old).bytes.seen e) }
         ensures only { IfErr result (λ e. e ≢ FileErr.NoMemory) }
 
         // A pair that opens to a file is taken so, and nothing else is answered but a fault or a base that reaches
         // too far.
         ensures takes { IfOk result (λ found. IsTrue D.tells → (in_a : Bool) (file : List ℕ)
-            → OpensTo in_a file (D.state a.old).seen (D.state b.old).seen
+            → OpensTo in_a file (D.state a.old).bytes.seen (D.state b.old).bytes.seen
             → IsSomeAnd found (λ twin. in_a_of twin ≡ in_a)) }
         ensures takes_err { IfErr result (λ e. IsTrue D.tells → (in_a : Bool) (file : List ℕ)
-            → OpensTo in_a file (D.state a.old).seen (D.state b.old).seen
+            → OpensTo in_a file (D.state a.old).bytes.seen (D.state b.old).bytes.seen
             → (e ≡ FileErr.DiskFault) ⊎ IsResumeErr file (number_at 18 file) e) }
 
         ensures begins { IfOk result (λ found. IfSome found (λ twin.
             place_of (file_of twin) ≡ 64 + base_len_of (file_of twin))) }
+        ensures copy { IfOk result (λ found. IfSome found (λ twin. copy_of twin ≡ None)) }
         ensures told { IfOk result (λ found. IfSome found (λ twin. HasTail
-            (open_of (in_a_of twin) (D.told_length a.new) (D.told_length b.new)) (file_of twin))) }
-        ensures state_a { IsTrue D.tells → D.state a.new ≡ D.state a.old }
-        ensures state_b { IsTrue D.tells → D.state b.new ≡ D.state b.old }
-        ensures length_a { KeepsLength (D.told_length a.old) (D.told_length a.new) }
-        ensures length_b { KeepsLength (D.told_length b.old) (D.told_length b.new) }
+            (open_of (in_a_of twin) (D.state a.new).told (D.state b.new).told) (file_of twin))) }
+        ensures state_a { IsTrue D.tells → (D.state a.new).bytes ≡ (D.state a.old).bytes }
+        ensures state_b { IsTrue D.tells → (D.state b.new).bytes ≡ (D.state b.old).bytes }
+        ensures length_a { KeepsLength (D.state a.old).told (D.state a.new).told }
+        ensures length_b { KeepsLength (D.state b.old).told (D.state b.new).told }
         ensures faults { CountsTwo result
-            (D.faults a.old) (D.faults a.new) (D.faults b.old) (D.faults b.new) }
+            (D.state a.old).faults (D.state a.new).faults (D.state b.old).faults (D.state b.new).faults }
     {
         look(a, b)
     }
@@ -67,26 +68,26 @@ impl Twin {
     /// where it isn't empty. The block is without its gate. Both files must be shut.
     pub fn make<D: Disk>(a: &mut D, b: &mut D, block: &[u8]) -> Result<Twin, FileErr>
         ensures first { OnOk result (IsTrue D.tells
-            → D.state a.new ≡ settled_state (whole_file (front_of 1 1 []) (block.now ∷ []))) }
-        ensures second { OnOk result (IsTrue D.tells → IsSettled (D.state b.old)
-            → D.state b.new ≡ settled_state []) }
+            → (D.state a.new).bytes ≡ settled_state (whole_file (front_of 1 1 []) (block.now ∷ []))) }
+        ensures second { OnOk result (IsTrue D.tells → IsSettled (D.state b.old).bytes
+            → (D.state b.new).bytes ≡ settled_state []) }
 
         // A crash at any time leaves both shut, or the first with that block alone.
-        ensures images { IsTrue D.tells → AreShut (D.state a.old) (D.state b.old)
-            → (image_a image_b : List ℕ) → MayLeave (D.state a.new) image_a
-            → MayLeave (D.state b.new) image_b → IsMadeOrShut block.now image_a image_b }
+        ensures images { IsTrue D.tells → AreShut (D.state a.old).bytes (D.state b.old).bytes
+            → (image_a image_b : List ℕ) → MayLeave (D.state a.new).bytes image_a
+            → MayLeave (D.state b.new).bytes image_b → IsMadeOrShut block.now image_a image_b }
 
         // After it nothing is pending.
-        ensures quiet { OnOk result (IsTrue D.tells → AreShut (D.state a.old) (D.state b.old)
-            → IsQuiet true (D.state a.new) (D.state b.new)) }
+        ensures quiet { OnOk result (IsTrue D.tells → AreShut (D.state a.old).bytes (D.state b.old).bytes
+            → IsQuiet true (D.state a.new).bytes (D.state b.new).bytes) }
 
         ensures twin { IfOk result (λ twin. (in_a_of twin ≡ true) × (generation_in twin ≡ 1)
             × (place_of (file_of twin) ≡ 65 + length block.now) × (copy_of twin ≡ None)) }
         ensures built { IfOk result (λ twin. IsTrue D.tells
-            → IsBuilt (front_of 1 1 []) (block.now ∷ []) (D.state a.new).seen (file_of twin)) }
-        ensures told { IfOk result (λ twin. HasTail (D.told_length a.new) (file_of twin)) }
+            → IsBuilt (front_of 1 1 []) (block.now ∷ []) (D.state a.new).bytes.seen (file_of twin)) }
+        ensures told { IfOk result (λ twin. HasTail (D.state a.new).told (file_of twin)) }
         ensures faults { CountsTwoAlone result
-            (D.faults a.old) (D.faults a.new) (D.faults b.old) (D.faults b.new) }
+            (D.state a.old).faults (D.state a.new).faults (D.state b.old).faults (D.state b.new).faults }
     {
         clear(b)?;
         let file = make_first(a, block)?;
@@ -126,32 +127,35 @@ impl Twin {
     pub fn begin_copy<D: Disk>(&mut self, a: &mut D, b: &mut D, base: &[u8]) -> Result<(), FileErr>
         // A crash at any time leaves the open file as it was, and a file that is passed over.
         ensures images { IsTrue D.tells → StaysOpen (in_a_of self.old)
-            (D.state a.old) (D.state b.old) (D.state a.new) (D.state b.new) }
+            (D.state a.old).bytes (D.state b.old).bytes (D.state a.new).bytes (D.state b.new).bytes }
+        ensures passed { IsTrue D.tells → KeepsPassed
+            (other_of (in_a_of self.old) (D.state a.old).bytes (D.state b.old).bytes)
+            (other_of (in_a_of self.old) (D.state a.new).bytes (D.state b.new).bytes) }
 
         // From then on the copy is shut in every image.
         ensures shut { OnOk result (IsTrue D.tells
-            → AllShut (other_of (in_a_of self.old) (D.state a.new) (D.state b.new))) }
+            → AllShut (other_of (in_a_of self.old) (D.state a.new).bytes (D.state b.new).bytes)) }
         ensures copying { OnOk result (IsTrue D.tells
-            → IsQuiet (in_a_of self.old) (D.state a.old) (D.state b.old)
-            → IsCopying (in_a_of self.old) (D.state a.new) (D.state b.new)) }
+            → IsQuiet (in_a_of self.old) (D.state a.old).bytes (D.state b.old).bytes
+            → IsCopying (in_a_of self.old) (D.state a.new).bytes (D.state b.new).bytes) }
         ensures seen { OnOk result (IsTrue D.tells
             → IsBuiltCopy (front_of 0 (next_generation (generation_in self.old)) base.now) []
-            (other_of (in_a_of self.old) (D.state a.new) (D.state b.new)).seen
+            (other_of (in_a_of self.old) (D.state a.new).bytes (D.state b.new).bytes).seen
             (copy_of self.new)) }
 
         ensures begun { OnOk result (IsSomeAnd (copy_of self.new)
             (λ copy. (place_of copy ≡ 64 + length base.now)
-            × HasTail (other_of (in_a_of self.old) (D.told_length a.new) (D.told_length b.new))
+            × HasTail (other_of (in_a_of self.old) (D.state a.new).told (D.state b.new).told)
             copy)) }
         ensures given_up { OnErr result (copy_of self.new ≡ None) }
         ensures which { SameOpen self.old self.new }
-        ensures same { IsTrue D.tells → open_of (in_a_of self.old) (D.state a.new) (D.state b.new)
-            ≡ open_of (in_a_of self.old) (D.state a.old) (D.state b.old) }
+        ensures same { IsTrue D.tells → open_of (in_a_of self.old) (D.state a.new).bytes (D.state b.new).bytes
+            ≡ open_of (in_a_of self.old) (D.state a.old).bytes (D.state b.old).bytes }
         ensures from { KeepsLength
-            (open_of (in_a_of self.old) (D.told_length a.old) (D.told_length b.old))
-            (open_of (in_a_of self.old) (D.told_length a.new) (D.told_length b.new)) }
+            (open_of (in_a_of self.old) (D.state a.old).told (D.state b.old).told)
+            (open_of (in_a_of self.old) (D.state a.new).told (D.state b.new).told) }
         ensures faults { CountsTwoAlone result
-            (D.faults a.old) (D.faults a.new) (D.faults b.old) (D.faults b.new) }
+            (D.state a.old).faults (D.state a.new).faults (D.state b.old).faults (D.state b.new).faults }
     {
         let generation = self.generation.saturating_add(1);
         self.copy = None;
@@ -173,48 +177,48 @@ impl Twin {
         len: u64,
     ) -> Result<(), FileErr>
         requires from { IsSomeAnd
-            (open_of (in_a_of self.old) (D.told_length a.old) (D.told_length b.old))
+            (open_of (in_a_of self.old) (D.state a.old).told (D.state b.old).told)
             (λ n. at + len ≤ n) }
         requires begun { HasCopy
-            (other_of (in_a_of self.old) (D.told_length a.old) (D.told_length b.old))
+            (other_of (in_a_of self.old) (D.state a.old).told (D.state b.old).told)
             (copy_of self.old) }
         ensures seen { OnOk result (IsTrue D.tells → (front : List ℕ) (blocks more : List (List ℕ))
             → IsBuiltCopy front blocks
-            (other_of (in_a_of self.old) (D.state a.old) (D.state b.old)).seen
+            (other_of (in_a_of self.old) (D.state a.old).bytes (D.state b.old).bytes).seen
             (copy_of self.old)
-            → take len (drop at (open_of (in_a_of self.old) (D.state a.old) (D.state b.old)).seen)
+            → take len (drop at (open_of (in_a_of self.old) (D.state a.old).bytes (D.state b.old).bytes).seen)
             ≡ open_blocks more
             → IsBuiltCopy front (blocks ++ more)
-            (other_of (in_a_of self.old) (D.state a.new) (D.state b.new)).seen
+            (other_of (in_a_of self.old) (D.state a.new).bytes (D.state b.new).bytes).seen
             (copy_of self.new)) }
 
         // The copy stays shut in every image, however much of it was written.
         ensures shut { IsTrue D.tells
-            → IsCopying (in_a_of self.old) (D.state a.old) (D.state b.old)
-            → AllShut (other_of (in_a_of self.old) (D.state a.new) (D.state b.new)) }
+            → IsCopying (in_a_of self.old) (D.state a.old).bytes (D.state b.old).bytes
+            → AllShut (other_of (in_a_of self.old) (D.state a.new).bytes (D.state b.new).bytes) }
         ensures copying { IsTrue D.tells
-            → IsCopying (in_a_of self.old) (D.state a.old) (D.state b.old)
-            → IsCopying (in_a_of self.old) (D.state a.new) (D.state b.new) }
+            → IsCopying (in_a_of self.old) (D.state a.old).bytes (D.state b.old).bytes
+            → IsCopying (in_a_of self.old) (D.state a.new).bytes (D.state b.new).bytes }
         ensures images { IsTrue D.tells
-            → IsCopying (in_a_of self.old) (D.state a.old) (D.state b.old)
+            → IsCopying (in_a_of self.old) (D.state a.old).bytes (D.state b.old).bytes
             → AllOpenTo (in_a_of self.old)
-            (open_of (in_a_of self.old) (D.state a.old) (D.state b.old)).seen
-            (D.state a.new) (D.state b.new) }
+            (open_of (in_a_of self.old) (D.state a.old).bytes (D.state b.old).bytes).seen
+            (D.state a.new).bytes (D.state b.new).bytes }
 
         ensures begun { OnOk result (HasCopy
-            (other_of (in_a_of self.old) (D.told_length a.new) (D.told_length b.new))
+            (other_of (in_a_of self.old) (D.state a.new).told (D.state b.new).told)
             (copy_of self.new)) }
         ensures moved { OnOk result (IsSomeAnd (copy_of self.new)
             (λ copy. IsSomeAnd (copy_of self.old) (λ old. place_of copy ≡ place_of old + len))) }
         ensures stays { OnErr result (self.new ≡ self.old) }
         ensures which { SameOpen self.old self.new }
-        ensures same { IsTrue D.tells → open_of (in_a_of self.old) (D.state a.new) (D.state b.new)
-            ≡ open_of (in_a_of self.old) (D.state a.old) (D.state b.old) }
+        ensures same { IsTrue D.tells → open_of (in_a_of self.old) (D.state a.new).bytes (D.state b.new).bytes
+            ≡ open_of (in_a_of self.old) (D.state a.old).bytes (D.state b.old).bytes }
         ensures from { KeepsLength
-            (open_of (in_a_of self.old) (D.told_length a.old) (D.told_length b.old))
-            (open_of (in_a_of self.old) (D.told_length a.new) (D.told_length b.new)) }
+            (open_of (in_a_of self.old) (D.state a.old).told (D.state b.old).told)
+            (open_of (in_a_of self.old) (D.state a.new).told (D.state b.new).told) }
         ensures faults { CountsTwoAlone result
-            (D.faults a.old) (D.faults a.new) (D.faults b.old) (D.faults b.new) }
+            (D.state a.old).faults (D.state a.new).faults (D.state b.old).faults (D.state b.new).faults }
     {
         if self.in_a {
             extend(&mut self.copy, b, a, at, len)?;
@@ -227,32 +231,32 @@ impl Twin {
     /// Opens the copy, which becomes the open file.
     pub fn switch<D: Disk>(&mut self, a: &mut D, b: &mut D) -> Result<(), FileErr>
         requires begun { HasCopy
-            (other_of (in_a_of self.old) (D.told_length a.old) (D.told_length b.old))
+            (other_of (in_a_of self.old) (D.state a.old).told (D.state b.old).told)
             (copy_of self.old) }
         ensures ok { OnOk result (IsTrue D.tells
-            → other_of (in_a_of self.old) (D.state a.new) (D.state b.new)
+            → other_of (in_a_of self.old) (D.state a.new).bytes (D.state b.new).bytes
             ≡ settled_state (1 ∷ drop 1
-            (other_of (in_a_of self.old) (D.state a.old) (D.state b.old)).seen)) }
+            (other_of (in_a_of self.old) (D.state a.old).bytes (D.state b.old).bytes).seen)) }
 
         // After it every image opens to the new file. A crash in it leaves a pair that opens to the old file or to
         // the new one.
         ensures images { OnOk result (IsTrue D.tells
             → (generation : ℕ) (base : List ℕ) (blocks : List (List ℕ))
-            → IsCopied (in_a_of self.old) generation base blocks (D.state a.old) (D.state b.old)
+            → IsCopied (in_a_of self.old) generation base blocks (D.state a.old).bytes (D.state b.old).bytes
             → AllOpenTo (not (in_a_of self.old)) (whole_file (front_of 1 generation base) blocks)
-            (D.state a.new) (D.state b.new)) }
+            (D.state a.new).bytes (D.state b.new).bytes) }
         ensures images_err { OnErr result (IsTrue D.tells
             → (generation : ℕ) (base : List ℕ) (blocks : List (List ℕ))
-            → IsCopied (in_a_of self.old) generation base blocks (D.state a.old) (D.state b.old)
+            → IsCopied (in_a_of self.old) generation base blocks (D.state a.old).bytes (D.state b.old).bytes
             → AllOpenToEither (in_a_of self.old)
-            (open_of (in_a_of self.old) (D.state a.old) (D.state b.old)).seen
-            (whole_file (front_of 1 generation base) blocks) (D.state a.new) (D.state b.new)) }
+            (open_of (in_a_of self.old) (D.state a.old).bytes (D.state b.old).bytes).seen
+            (whole_file (front_of 1 generation base) blocks) (D.state a.new).bytes (D.state b.new).bytes) }
 
         // After it nothing is pending.
         ensures quiet { OnOk result (IsTrue D.tells
             → (generation : ℕ) (base : List ℕ) (blocks : List (List ℕ))
-            → IsCopied (in_a_of self.old) generation base blocks (D.state a.old) (D.state b.old)
-            → IsQuiet (not (in_a_of self.old)) (D.state a.new) (D.state b.new)) }
+            → IsCopied (in_a_of self.old) generation base blocks (D.state a.old).bytes (D.state b.old).bytes
+            → IsQuiet (not (in_a_of self.old)) (D.state a.new).bytes (D.state b.new).bytes) }
 
         ensures which { OnOk result ((in_a_of self.new ≡ not (in_a_of self.old))
             × (generation_in self.new ≡ next_generation (generation_in self.old))
@@ -261,22 +265,22 @@ impl Twin {
         ensures built { OnOk result (IsTrue D.tells
             → (generation : ℕ) (base : List ℕ) (blocks : List (List ℕ))
             → IsBuiltCopy (front_of 0 generation base) blocks
-            (other_of (in_a_of self.old) (D.state a.old) (D.state b.old)).seen
+            (other_of (in_a_of self.old) (D.state a.old).bytes (D.state b.old).bytes).seen
             (copy_of self.old)
             → IsBuilt (front_of 1 generation base) blocks
-            (other_of (in_a_of self.old) (D.state a.new) (D.state b.new)).seen
+            (other_of (in_a_of self.old) (D.state a.new).bytes (D.state b.new).bytes).seen
             (file_of self.new)) }
         ensures stays { OnErr result (self.new ≡ self.old) }
         ensures told { OnOk result (HasTail
-            (other_of (in_a_of self.old) (D.told_length a.new) (D.told_length b.new))
+            (other_of (in_a_of self.old) (D.state a.new).told (D.state b.new).told)
             (file_of self.new)) }
-        ensures same { IsTrue D.tells → open_of (in_a_of self.old) (D.state a.new) (D.state b.new)
-            ≡ open_of (in_a_of self.old) (D.state a.old) (D.state b.old) }
+        ensures same { IsTrue D.tells → open_of (in_a_of self.old) (D.state a.new).bytes (D.state b.new).bytes
+            ≡ open_of (in_a_of self.old) (D.state a.old).bytes (D.state b.old).bytes }
         ensures from { KeepsLength
-            (open_of (in_a_of self.old) (D.told_length a.old) (D.told_length b.old))
-            (open_of (in_a_of self.old) (D.told_length a.new) (D.told_length b.new)) }
+            (open_of (in_a_of self.old) (D.state a.old).told (D.state b.old).told)
+            (open_of (in_a_of self.old) (D.state a.new).told (D.state b.new).told) }
         ensures faults { CountsTwoAlone result
-            (D.faults a.old) (D.faults a.new) (D.faults b.old) (D.faults b.new) }
+            (D.state a.old).faults (D.state a.new).faults (D.state b.old).faults (D.state b.new).faults }
     {
         unveil_other(self.in_a, &mut self.copy, a, b)?;
         self.take_over();
@@ -301,26 +305,29 @@ impl Twin {
     /// Cuts the other file to nothing, for good. A copy that was begun is given up.
     pub fn wipe<D: Disk>(&mut self, a: &mut D, b: &mut D) -> Result<(), FileErr>
         ensures ok { OnOk result (IsTrue D.tells
-            → other_of (in_a_of self.old) (D.state a.new) (D.state b.new) ≡ settled_state []) }
+            → other_of (in_a_of self.old) (D.state a.new).bytes (D.state b.new).bytes ≡ settled_state []) }
 
         // A crash at any time leaves the open file as it was, and a file that is passed over.
         ensures images { IsTrue D.tells → StaysOpen (in_a_of self.old)
-            (D.state a.old) (D.state b.old) (D.state a.new) (D.state b.new) }
+            (D.state a.old).bytes (D.state b.old).bytes (D.state a.new).bytes (D.state b.new).bytes }
+        ensures passed { IsTrue D.tells → KeepsPassed
+            (other_of (in_a_of self.old) (D.state a.old).bytes (D.state b.old).bytes)
+            (other_of (in_a_of self.old) (D.state a.new).bytes (D.state b.new).bytes) }
 
         // After it nothing is pending.
         ensures quiet { OnOk result (IsTrue D.tells
-            → IsQuiet (in_a_of self.old) (D.state a.old) (D.state b.old)
-            → IsQuiet (in_a_of self.old) (D.state a.new) (D.state b.new)) }
+            → IsQuiet (in_a_of self.old) (D.state a.old).bytes (D.state b.old).bytes
+            → IsQuiet (in_a_of self.old) (D.state a.new).bytes (D.state b.new).bytes) }
 
         ensures which { SameOpen self.old self.new }
         ensures given_up { copy_of self.new ≡ None }
-        ensures same { IsTrue D.tells → open_of (in_a_of self.old) (D.state a.new) (D.state b.new)
-            ≡ open_of (in_a_of self.old) (D.state a.old) (D.state b.old) }
+        ensures same { IsTrue D.tells → open_of (in_a_of self.old) (D.state a.new).bytes (D.state b.new).bytes
+            ≡ open_of (in_a_of self.old) (D.state a.old).bytes (D.state b.old).bytes }
         ensures from { KeepsLength
-            (open_of (in_a_of self.old) (D.told_length a.old) (D.told_length b.old))
-            (open_of (in_a_of self.old) (D.told_length a.new) (D.told_length b.new)) }
+            (open_of (in_a_of self.old) (D.state a.old).told (D.state b.old).told)
+            (open_of (in_a_of self.old) (D.state a.new).told (D.state b.new).told) }
         ensures faults { CountsTwoAlone result
-            (D.faults a.old) (D.faults a.new) (D.faults b.old) (D.faults b.new) }
+            (D.state a.old).faults (D.state a.new).faults (D.state b.old).faults (D.state b.new).faults }
     {
         self.copy = None;
         if self.in_a {
@@ -335,20 +342,21 @@ impl Twin {
 // Looks at the heads of both files and takes one.
 fn look<D: Disk>(a: &mut D, b: &mut D) -> Result<Option<Twin>, FileErr>
     ensures answer { IfOk result (λ found. IsTrue D.tells
-        → IsReopened (D.state a.old).seen (D.state b.old).seen (option_map view_of found)) }
+        → IsReopened (D.state a.old).bytes.seen (D.state b.old).bytes.seen (option_map view_of found)) }
     ensures err { IfErr result (λ e. IsTrue D.tells
-        → IsReopenErr (D.state a.old).seen (D.state b.old).seen e) }
+        → IsReopenErr (D.state a.old).bytes.seen (D.state b.old).bytes.seen e) }
     ensures only { IfErr result (λ e. e ≢ FileErr.NoMemory) }
     ensures begins { IfOk result (λ found. IfSome found (λ twin.
         place_of (file_of twin) ≡ 64 + base_len_of (file_of twin))) }
+    ensures copy { IfOk result (λ found. IfSome found (λ twin. copy_of twin ≡ None)) }
     ensures told { IfOk result (λ found. IfSome found (λ twin. HasTail
-        (open_of (in_a_of twin) (D.told_length a.new) (D.told_length b.new)) (file_of twin))) }
-    ensures state_a { IsTrue D.tells → D.state a.new ≡ D.state a.old }
-    ensures state_b { IsTrue D.tells → D.state b.new ≡ D.state b.old }
-    ensures length_a { KeepsLength (D.told_length a.old) (D.told_length a.new) }
-    ensures length_b { KeepsLength (D.told_length b.old) (D.told_length b.new) }
+        (open_of (in_a_of twin) (D.state a.new).told (D.state b.new).told) (file_of twin))) }
+    ensures state_a { IsTrue D.tells → (D.state a.new).bytes ≡ (D.state a.old).bytes }
+    ensures state_b { IsTrue D.tells → (D.state b.new).bytes ≡ (D.state b.old).bytes }
+    ensures length_a { KeepsLength (D.state a.old).told (D.state a.new).told }
+    ensures length_b { KeepsLength (D.state b.old).told (D.state b.new).told }
     ensures faults { CountsTwo result
-        (D.faults a.old) (D.faults a.new) (D.faults b.old) (D.faults b.new) }
+        (D.state a.old).faults (D.state a.new).faults (D.state b.old).faults (D.state b.new).faults }
 {
     let first = BlockFile::head(a)?;
     let second = BlockFile::head(b)?;
@@ -366,20 +374,21 @@ fn look<D: Disk>(a: &mut D, b: &mut D) -> Result<Option<Twin>, FileErr>
 
 // The file that is taken, at its first block.
 fn resume<D: Disk>(disk: &mut D, head: &FileHead, in_a: bool) -> Result<Option<Twin>, FileErr>
-    requires { IsSomeAnd (D.told_length disk.old) (λ n. 65 ≤ n) }
+    requires { IsSomeAnd (D.state disk.old).told (λ n. 65 ≤ n) }
     ensures twin { IfOk result (λ found. IsSomeAnd found
         (λ twin. view_of twin ≡ view in_a head.now.generation (64 + head.now.base_len)
         head.now.base_len head.now.base_digest.0)) }
     ensures begins { IfOk result (λ found. IfSome found (λ twin.
         place_of (file_of twin) ≡ 64 + base_len_of (file_of twin))) }
+    ensures copy { IfOk result (λ found. IfSome found (λ twin. copy_of twin ≡ None)) }
     ensures err { IfErr result (λ e. IsTrue D.tells
-        → IsResumeErr (D.state disk.old).seen head.now.base_len e) }
+        → IsResumeErr (D.state disk.old).bytes.seen head.now.base_len e) }
     ensures only { IfErr result (λ e. e ≢ FileErr.NoMemory) }
     ensures told { IfOk result (λ found. IsSomeAnd found
-        (λ twin. HasTail (D.told_length disk.new) (file_of twin))) }
-    ensures state { IsTrue D.tells → D.state disk.new ≡ D.state disk.old }
-    ensures length { KeepsLength (D.told_length disk.old) (D.told_length disk.new) }
-    ensures faults { Counts result (D.faults disk.old) (D.faults disk.new) }
+        (λ twin. HasTail (D.state disk.new).told (file_of twin))) }
+    ensures state { IsTrue D.tells → (D.state disk.new).bytes ≡ (D.state disk.old).bytes }
+    ensures length { KeepsLength (D.state disk.old).told (D.state disk.new).told }
+    ensures faults { Counts result (D.state disk.old).faults (D.state disk.new).faults }
 {
     let file = BlockFile::resume(disk, head)?;
     Ok(Some(Twin {

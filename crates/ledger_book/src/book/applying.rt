@@ -6,7 +6,7 @@ ghost use Rattle.ledger_model.specs.History.{History};
 ghost use Rattle.ledger_model.specs.Outcomes.{AsksFor};
 ghost use Rattle.ledger_model.specs.declared.job.Job.TheVariants as asked;
 ghost use Rattle.ledger_book.specs.Books.{Serves};
-ghost use Rattle.ledger_book.specs.Steps.{IsSame, IsAsBefore, PlacesNothing, NeverReads, Applies};
+ghost use Rattle.ledger_book.specs.Steps.{IsSame, IsAsBefore, HasNumber, PlacesNothing, NeverReads, Applies};
 
 use super::Book;
 use crate::headers::{new_member_header, record_header};
@@ -23,6 +23,7 @@ impl Book {
         requires { fits_job job.now ≡ true }
         ensures ok { IfOk result (λ outcome. (h : History) → Serves self.old h
             → Applies self.old.limits (option_copied stamp.entry) h job.now outcome self.new) }
+        ensures number { IfOk result (HasNumber self.old self.new) }
         ensures err { OnErr result (IsAsBefore self.old self.new) }
         ensures same { IsSame self.old self.new }
         ensures unchanged { IfOk result (λ outcome. PlacesNothing outcome → self.new ≡ self.old) }
@@ -63,6 +64,7 @@ impl Book {
             → Applies self.old.limits stamp h
             (asked.Append member clue.now content.now content_digest.now request.now by.now) outcome
             self.new) }
+        ensures number { IfOk result (HasNumber self.old self.new) }
         ensures err { OnErr result (IsAsBefore self.old self.new) }
         ensures same { IsSame self.old self.new }
         ensures unchanged { IfOk result (λ outcome. PlacesNothing outcome → self.new ≡ self.old) }
@@ -102,6 +104,7 @@ impl Book {
             → Serves self.old h
             → Applies self.old.limits stamp h
             (asked.NewMember number key.now by.now) outcome self.new) }
+        ensures number { IfOk result (HasNumber self.old self.new) }
         ensures err { OnErr result (IsAsBefore self.old self.new) }
         ensures same { IsSame self.old self.new }
         ensures unchanged { IfOk result (λ outcome. PlacesNothing outcome → self.new ≡ self.old) }

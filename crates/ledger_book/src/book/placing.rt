@@ -1,4 +1,4 @@
-ghost use Rattle.std.specs.Prelude.{◌≡◌, ◌<◌, ◌≤◌, [], ℕ, All, Some, length, OnOk, OnErr};
+ghost use Rattle.std.specs.Prelude.{◌≡◌, ◌+◌, ◌<◌, ◌≤◌, [], ℕ, All, Some, length, OnOk, OnErr};
 ghost use Rattle.ledger_bytes.specs.declared.limits.TheConstants.{MEMBER_LIMIT};
 ghost use Rattle.journal_record.specs.Entry.{Entry};
 ghost use Rattle.journal_record.specs.declared.header.Kind.TheVariants as kind;
@@ -22,6 +22,7 @@ impl Book {
     pub(super) fn place_of(&self, clue: &Digest) -> Place
         requires { self.now.size < real_limits.size }
         ensures jsn { result.jsn ≡ self.now.size }
+        ensures above { self.now.floor ≤ result.jsn }
         ensures ordinal { (h : History) → Stands self.now h
             → result.ordinal ≡ next_ordinal h clue.now }
         ensures previous { (h : History) → Stands self.now h
@@ -51,6 +52,8 @@ impl Book {
             → journal.header ≡ header.now
             → header.now.kind ≡ kind.Content → MayPlace h header.now
             → Stands self.new (with_waiting (Some journal) h)) }
+        ensures size { OnOk result (self.new.size ≡ self.old.size + 1) }
+        ensures sealed { self.new.sealed ≡ self.old.sealed }
         ensures err { OnErr result (IsAsBefore self.old self.new) }
         ensures same { IsSame self.old self.new }
     {
@@ -73,6 +76,8 @@ impl Book {
             → journal.header ≡ header.now
             → header.now.kind ≡ kind.Member → MayPlace h header.now
             → Stands self.new (with_waiting (Some journal) h)) }
+        ensures size { OnOk result (self.new.size ≡ self.old.size + 1) }
+        ensures sealed { self.new.sealed ≡ self.old.sealed }
         ensures err { OnErr result (IsAsBefore self.old self.new) }
         ensures same { IsSame self.old self.new }
     {

@@ -91,7 +91,7 @@ impl Book {
     // Whether a header is the next one, by the limits of each ledger but those for trial.
     fn is_next(&self, header: &Header) -> bool
         requires layout { IsHeader header.now }
-        ensures next { (h : History) → Serves self.now h → IsTrue result ↔ MayPlace h header.now }
+        ensures next { (h : History) → Stands self.now h → IsTrue result ↔ MayPlace h header.now }
         ensures room { IsTrue result → self.now.size < real_limits.size }
         ensures kinds { IsTrue result → (header.now.kind ≡ kind.Content)
             ⊎ (header.now.kind ≡ kind.Member) }

@@ -1,4 +1,4 @@
-use super::paths::{SIDES, TOY_SIDES, digests_of};
+use super::paths::{SIDES, digests_of};
 use super::*;
 use ledger_bytes::{NoMemory, TreeHash};
 use std::alloc::Global;
@@ -24,15 +24,6 @@ AEMgk EMgk CFDMgk Mgk GJNHgk INHgk LOIHgk gk PSWhQk RWhQk UXRhQk VhQk ZciVQk biV
 AEMgm EMgm CFDMgm Mgm GJNHgm INHgm LOIHgm gm PSWhQm RWhQm UXRhQm VhQm ZciVQm biVQm fjbVQm m knl -
 AEMgo EMgo CFDMgo Mgo GJNHgo INHgo LOIHgo go PSWhQo RWhQo UXRhQo VhQo ZciVQo biVQo fjbVQo o knpl mpl -
 AEMgq EMgq CFDMgq Mgq GJNHgq INHgq LOIHgq gq PSWhQq RWhQq UXRhQq VhQq ZciVQq biVQq fjbVQq q knrl mrl psml -";
-
-// The same by the toy hash.
-const TOY_PROOFS: &str = "A -
-AC C -
-AE E CDD -
-AEF EF CDDF F -
-AEH EH CDDH H FIG -
-AEJ EJ CDDJ J FIKG HKG -
-AEL EL CDDL L FIMG HMG KEHG -";
 
 // Are these the digests of the proof that is made from the first `m` leaves to all?
 fn are_made<H: TreeHash>(
@@ -95,26 +86,5 @@ fn proofs_by_sha(rt: HostRuntime) -> Result<(), Fail> {
         }
     }
     assert_eq!(rt; leaves.len(), 20);
-    Ok(())
-}
-
-#[test]
-fn proofs_by_the_toy_hash(rt: HostRuntime) -> Result<(), Fail> {
-    let sides = TOY_SIDES.map(toy_digest);
-    let mut leaves = Vec::new(rt.alloc());
-    leaves.push(toy_digest(1))?;
-    for (line, (leaf, root)) in TOY_PROOFS.lines().zip((2..=8).zip(&TOY_ROOTS[1..])) {
-        leaves.push(toy_digest(leaf))?;
-        for (word, (m, old)) in line.split(' ').zip((1..=8).zip(&TOY_ROOTS)) {
-            let (digests, flat) = digests_of(rt.alloc(), &sides, word)?;
-            assert!(rt;
-                are_made::<Toy>(rt.alloc(), &leaves, m, &digests)?,
-                "from {m} at {word}"
-            );
-            let folded = fold_proof::<Toy>(m as u64, &toy_digest(*old), leaves.len() as u64, &flat);
-            assert_eq!(rt; folded, Some(toy_digest(*root)), "from {m} at {word}");
-        }
-    }
-    assert_eq!(rt; leaves.len(), 8);
     Ok(())
 }

@@ -1,25 +1,25 @@
 use Rattle.std.proofs.Common.{subst}
 use Rattle.audit_core.specs.declared.verdict.Verdict.{Verdict}
 use Rattle.audit_core.specs.Truth.{Lists, lists_of}
-use Rattle.audit_core.specs.Judgement.{Judges}
-use Rattle.audit_core.proofs.Judging.{verdict_is, verdict_refused, verdict_true, verdict_clash}
+use Rattle.audit_core.specs.Judgement.{Judges, told_by}
+use Rattle.audit_core.proofs.Judging.{judgement_is, verdict_refused, verdict_true, verdict_clash}
 use Rattle.audit_core.proofs.judgement.judge.Goals as goal
 
 pub returns-clause-exact : goal.returns-clause-exact
 returns-clause-exact g c =
-    verdict_is g.H.TreeHash.of (lists_of c.args.id.now c.args.headers.now c.args.entries.now) c.args.proof.now c.args.claim.now c.requires.lower c.requires.upper c.verdict_of.result c.verdict_of.ensures
+    judgement_is g.H.TreeHash.of (lists_of c.args.id.now c.args.headers.now c.args.entries.now) c.args.proof.now c.args.claim.now c.requires.lower c.requires.upper (told_by c.verdict_of.result) c.verdict_of.ensures
 
 pub returns-clause-unaccepted : goal.returns-clause-unaccepted
 returns-clause-unaccepted g c why =
     let lists : Lists = lists_of c.args.id.now c.args.headers.now c.args.entries.now in (
-      λ is. subst (λ (v : Verdict). Judges g.H.TreeHash.of lists c.args.proof.now c.args.claim.now v) is c.verdict_of.ensures,
+      λ is. subst (λ (v : Verdict). Judges g.H.TreeHash.of lists c.args.proof.now c.args.claim.now (told_by v)) is c.verdict_of.ensures,
       λ refused. verdict_refused g.H.TreeHash.of lists c.args.proof.now c.args.claim.now c.verdict_of.result why c.verdict_of.ensures refused,
     )
 
 pub returns-clause-holds : goal.returns-clause-holds
 returns-clause-holds g c =
     let lists : Lists = lists_of c.args.id.now c.args.headers.now c.args.entries.now in (
-      λ is. subst (λ (v : Verdict). Judges g.H.TreeHash.of lists c.args.proof.now c.args.claim.now v) is c.verdict_of.ensures,
+      λ is. subst (λ (v : Verdict). Judges g.H.TreeHash.of lists c.args.proof.now c.args.claim.now (told_by v)) is c.verdict_of.ensures,
       λ both. verdict_true g.H.TreeHash.of lists c.args.proof.now c.args.claim.now c.verdict_of.result c.verdict_of.ensures both.0 both.1,
     )
 
@@ -27,7 +27,7 @@ pub returns-clause-clash : goal.returns-clause-clash
 returns-clause-clash g c =
     let lists : Lists = lists_of c.args.id.now c.args.headers.now c.args.entries.now in (
       λ found.
-          let it = subst (λ (v : Verdict). Judges g.H.TreeHash.of lists c.args.proof.now c.args.claim.now v) found.1 c.verdict_of.ensures in
+          let it = subst (λ (v : Verdict). Judges g.H.TreeHash.of lists c.args.proof.now c.args.claim.now (told_by v)) found.1 c.verdict_of.ensures in
           (it.0, it.1),
       λ both. verdict_clash g.H.TreeHash.of lists c.args.proof.now c.args.claim.now c.verdict_of.result c.verdict_of.ensures both.0 both.1,
     )
@@ -35,4 +35,4 @@ returns-clause-clash g c =
 pub returns-clause-strings : goal.returns-clause-strings
 returns-clause-strings g c found is =
     let lists : Lists = lists_of c.args.id.now c.args.headers.now c.args.entries.now in
-    (subst (λ (v : Verdict). Judges g.H.TreeHash.of lists c.args.proof.now c.args.claim.now v) is c.verdict_of.ensures).2
+    (subst (λ (v : Verdict). Judges g.H.TreeHash.of lists c.args.proof.now c.args.claim.now (told_by v)) is c.verdict_of.ensures).2

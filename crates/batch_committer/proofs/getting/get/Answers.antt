@@ -19,17 +19,17 @@ returns-in-Some-Some-clause-told g c =
     IfOk-weaker c.occulted.result _ _
     (λ reply told tells h s are stands.
     told tells
-    ∙ told_occulted (g.D.Disk.state c.args.file.now).seen h c.args.n stands c.args.book.now s c.args.places.now.list are c.view.result (c.view.ensures h s) c.in-Some-Some.header.now c.in-Some-Some.place.now c.in-Occulted.is
-    (ap option_copied (sym c.in-Some-Some.is-0) ∙ c.header-header.ensures h s)
+    ∙ told_occulted (g.D.Disk.state c.args.file.now).bytes.seen h c.args.n stands c.args.book.now s c.args.places.now.list are c.view.result (c.view.ensures h s) c.in-Some-Some.header.now c.in-Some-Some.place.now c.in-Occulted.is
+    (ap option_copied (sym c.in-Some-Some.is-0) ∙ c.header-header.ensures.header h s)
     (found_in c.args.places.now.list c.as_slice.result.now c.args.n c.in-Some-Some.place.now c.as_slice.ensures there.3.0 there.1))
     c.occulted.ensures.told
 
 pub returns-in_default-clause-told : goal.returns-in_default-clause-told
 returns-in_default-clause-told g c = λ tells h s are stands.
-    told_none (g.D.Disk.state c.args.file.now).seen h c.args.n stands c.args.book.now s c.args.places.now.list are c.view.result (c.view.ensures h s) c.no_journal-in_default.result (inr c.in-Occulted.is)
+    told_none (g.D.Disk.state c.args.file.now).bytes.seen h c.args.n stands c.args.book.now s c.args.places.now.list are c.view.result (c.view.ensures h s) c.no_journal-in_default.result (inr c.in-Occulted.is)
     (elim c.in_default.branch [
       | in_default-via-in-Some+in_default w ↦ let none = rw w.in_default.is-1 at c.get-place.ensures.lookup in inr (past_in c.args.places.now.list c.as_slice.result.now c.args.n c.as_slice.ensures none.3)
-      | in_default-via-in_default w ↦ inl (ap option_copied (sym w.in_default.is-0) ∙ c.header-header.ensures h s)
+      | in_default-via-in_default w ↦ inl (ap option_copied (sym w.in_default.is-0) ∙ c.header-header.ensures.header h s)
     ])
     (c.no_journal-in_default.ensures h s stands.none)
 
@@ -39,16 +39,16 @@ returns-in-Some-Some-2-clause-told g c =
     IfOk-weaker c.whole.result _ _
     (λ reply told tells h s are stands.
     told tells
-    ∙ told_whole (g.D.Disk.state c.args.file.now).seen h c.args.n stands c.args.book.now s c.args.places.now.list are c.view.result (c.view.ensures h s) c.in-Some-Some-2.header.now c.in-Some-Some-2.place.now c.in-Whole.is
-    (ap option_copied (sym c.in-Some-Some-2.is-0) ∙ c.header-header.ensures h s)
+    ∙ told_whole (g.D.Disk.state c.args.file.now).bytes.seen h c.args.n stands c.args.book.now s c.args.places.now.list are c.view.result (c.view.ensures h s) c.in-Some-Some-2.header.now c.in-Some-Some-2.place.now c.in-Whole.is
+    (ap option_copied (sym c.in-Some-Some-2.is-0) ∙ c.header-header.ensures.header h s)
     (found_in c.args.places.now.list c.as_slice.result.now c.args.n c.in-Some-Some-2.place.now c.as_slice.ensures there.3.0 there.1))
     c.whole.ensures.told
 
 pub returns-in_default-2-clause-told : goal.returns-in_default-2-clause-told
 returns-in_default-2-clause-told g c = λ tells h s are stands.
-    told_none (g.D.Disk.state c.args.file.now).seen h c.args.n stands c.args.book.now s c.args.places.now.list are c.view.result (c.view.ensures h s) c.no_journal-in_default-2.result (inl c.in-Whole.is)
+    told_none (g.D.Disk.state c.args.file.now).bytes.seen h c.args.n stands c.args.book.now s c.args.places.now.list are c.view.result (c.view.ensures h s) c.no_journal-in_default-2.result (inl c.in-Whole.is)
     (elim c.in_default-2.branch [
       | in_default-2-via-in-Some+in_default w ↦ let none = rw w.in_default-2.is-1 at c.get-place.ensures.lookup in inr (past_in c.args.places.now.list c.as_slice.result.now c.args.n c.as_slice.ensures none.3)
-      | in_default-2-via-in_default w ↦ inl (ap option_copied (sym w.in_default-2.is-0) ∙ c.header-header.ensures h s)
+      | in_default-2-via-in_default w ↦ inl (ap option_copied (sym w.in_default-2.is-0) ∙ c.header-header.ensures.header h s)
     ])
     (c.no_journal-in_default-2.ensures h s stands.none)

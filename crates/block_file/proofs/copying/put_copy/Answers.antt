@@ -15,8 +15,8 @@ returns-clause-veiled g c told veiled = c.end_copy.ensures.veiled told (c.copy_r
 
 pub returns-clause-seen : goal.returns-clause-seen
 returns-clause-seen g c told size =
-    let from = (g.D.Disk.state c.args.from.now).seen in
-    let file = (g.D.Disk.state c.args.to.now).seen in
+    let from = (g.D.Disk.state c.args.from.now).bytes.seen in
+    let file = (g.D.Disk.state c.args.to.now).bytes.seen in
     let long : c.args.at + c.args.len ≤ length from = told_within_some _ (length from) (c.args.at + c.args.len) (g.met.D.Disk.length_is c.args.from.now told) c.requires.from in
     let piece = take c.args.len (drop c.args.at from) in
     let len : length piece ≡ c.args.len = omega (arith, length-take c.args.len (drop c.args.at from), length-drop c.args.at from) in

@@ -10,19 +10,19 @@ use Rattle.block_file.proofs.zeroing.zero_pieces.Goals as goal
 
 pub returns-in_err-clear_piece-clause-outside : goal.returns-in_err-clear_piece-clause-outside
 returns-in_err-clear_piece-clause-outside g c told =
-    let seen = (g.D.Disk.state c.args.disk.now).seen in
+    let seen = (g.D.Disk.state c.args.disk.now).bytes.seen in
     let within : c.args.at + c.args.len ≤ length seen = told_within_some _ (length seen) (c.args.at + c.args.len) (g.met.D.Disk.length_is c.args.disk.now told) c.requires.length in
-    outside_may c.args.at c.args.len (c.args.at + c.loop-done.done) c.min-n.result seen (g.D.Disk.state c.loop-done.disk) (g.D.Disk.state c.clear_piece.new.disk) (c.loop-done.invariant.outside told) (omega arith) (omega (arith, c.min-n.ensures, c.loop-done-test.true)) within (c.clear_piece.ensures.state told)
+    outside_may c.args.at c.args.len (c.args.at + c.loop-done.done) c.min-n.result seen (g.D.Disk.state c.loop-done.disk).bytes (g.D.Disk.state c.clear_piece.new.disk).bytes (c.loop-done.invariant.outside told) (omega arith) (omega (arith, c.min-n.ensures, c.loop-done-test.true)) within (c.clear_piece.ensures.state told)
 
 pub returns-in_err-clear_piece-clause-confined : goal.returns-in_err-clear_piece-clause-confined
 returns-in_err-clear_piece-clause-confined g c told quiet =
-    let seen = (g.D.Disk.state c.args.disk.now).seen in
+    let seen = (g.D.Disk.state c.args.disk.now).bytes.seen in
     let within : c.args.at + c.args.len ≤ length seen = told_within_some _ (length seen) (c.args.at + c.args.len) (g.met.D.Disk.length_is c.args.disk.now told) c.requires.length in
-    confined_may c.args.at c.args.len (c.args.at + c.loop-done.done) c.min-n.result seen (g.D.Disk.state c.loop-done.disk) (g.D.Disk.state c.clear_piece.new.disk) (c.loop-done.invariant.confined told quiet) (omega arith) (omega (arith, c.min-n.ensures, c.loop-done-test.true)) within (c.clear_piece.ensures.state told)
+    confined_may c.args.at c.args.len (c.args.at + c.loop-done.done) c.min-n.result seen (g.D.Disk.state c.loop-done.disk).bytes (g.D.Disk.state c.clear_piece.new.disk).bytes (c.loop-done.invariant.confined told quiet) (omega arith) (omega (arith, c.min-n.ensures, c.loop-done-test.true)) within (c.clear_piece.ensures.state told)
 
 pub returns-in_err-clear_piece-clause-idle : goal.returns-in_err-clear_piece-clause-idle
 returns-in_err-clear_piece-clause-idle g c told zeros =
-    let seen = (g.D.Disk.state c.args.disk.now).seen in
+    let seen = (g.D.Disk.state c.args.disk.now).bytes.seen in
     let so_far = c.loop-done.invariant.idle told zeros in
     let part = zeros_part c.args.at c.args.len c.loop-done.done c.min-n.result seen zeros (omega (arith, c.min-n.ensures, c.loop-done-test.true)) in
     c.clear_piece.ensures.idle told (subst (λ (s : State). IsZeros (c.args.at + c.loop-done.done) c.min-n.result s.seen) (sym so_far) part) ∙ so_far
@@ -32,9 +32,9 @@ loop-done-preserved g c =
     let at = c.args.at in
     let n = c.min-n.result in
     let done = c.loop-done.done in
-    let seen = (g.D.Disk.state c.args.disk.now).seen in
-    let before = g.D.Disk.state c.loop-done.disk in
-    let after = g.D.Disk.state c.clear_piece.new.disk in
+    let seen = (g.D.Disk.state c.args.disk.now).bytes.seen in
+    let before = (g.D.Disk.state c.loop-done.disk).bytes in
+    let after = (g.D.Disk.state c.clear_piece.new.disk).bytes in
     let high : at + done + n ≤ at + c.args.len = omega (arith, c.min-n.ensures, c.loop-done-test.true) in
     record {
       within = omega (arith, high);

@@ -10,12 +10,12 @@ invariant-loop-done g l =
     let state = g.D.Disk.state in
     record {
       within : l.done ≤ l.len;
-      length : KeepsLength (g.D.Disk.told_length l.fn.disk) (g.D.Disk.told_length l.disk);
-      seen : IsTrue g.D.Disk.tells → (state l.disk).seen ≡ overlay l.at (replicate l.done 0) (state l.fn.disk).seen;
-      outside : IsTrue g.D.Disk.tells → Outside l.at l.len (state l.fn.disk).seen (state l.disk).seen;
-      confined : IsTrue g.D.Disk.tells → IsSettled (state l.fn.disk) → Confined l.at l.len (state l.fn.disk).seen (state l.disk);
-      idle : IsTrue g.D.Disk.tells → IsZeros l.at l.len (state l.fn.disk).seen → state l.disk ≡ state l.fn.disk;
-      faults : g.D.Disk.faults l.disk ≡ g.D.Disk.faults l.fn.disk;
+      length : KeepsLength (g.D.Disk.state l.fn.disk).told (g.D.Disk.state l.disk).told;
+      seen : IsTrue g.D.Disk.tells → (state l.disk).bytes.seen ≡ overlay l.at (replicate l.done 0) (state l.fn.disk).bytes.seen;
+      outside : IsTrue g.D.Disk.tells → Outside l.at l.len (state l.fn.disk).bytes.seen (state l.disk).bytes.seen;
+      confined : IsTrue g.D.Disk.tells → IsSettled (state l.fn.disk).bytes → Confined l.at l.len (state l.fn.disk).bytes.seen (state l.disk).bytes;
+      idle : IsTrue g.D.Disk.tells → IsZeros l.at l.len (state l.fn.disk).bytes.seen → (state l.disk).bytes ≡ (state l.fn.disk).bytes;
+      faults : (g.D.Disk.state l.disk).faults ≡ (g.D.Disk.state l.fn.disk).faults;
     }
 
 abbrev pub decreases-loop-done : goal.decreases-loop-done

@@ -1,17 +1,17 @@
 use Rattle.std.proofs.Common.{◌∙◌}
 use Rattle.batch_committer.proofs.Opening.{told_at}
-use Rattle.batch_committer.specs.World.{pair, disk}
+use Rattle.batch_committer.specs.World.{pair}
 use Rattle.block_file.specs.Place.{place_of}
 use Rattle.ledger_open.specs.Opening.{known_from}
 use Rattle.twin_file.specs.Which.{in_a_of, file_of}
 use Rattle.ledger_cli.proofs.OpeningLaws.{not_opened, again_fits, ran_again}
 use Rattle.ledger_cli.proofs.top.run_again.Goals as goal
 
-pub run_script-requires-clause-fits : goal.run_script-requires-clause-fits
-run_script-requires-clause-fits g c κs within =
+pub run_session-requires-clause-fits : goal.run_session-requires-clause-fits
+run_session-requires-clause-fits g c κs within =
     let o = c.in-Ok.opened in
     let r = c.in-Ok.ensures.ok in
-    again_fits (g.V.Verifier.shows c.args.verifier.now) g.D.Disk.tells (g.S.Source.state c.args.source.now) _ (pair (disk (g.D.Disk.state c.args.a.now) (g.D.Disk.told_length c.args.a.now) (g.D.Disk.faults c.args.a.now)) (disk (g.D.Disk.state c.args.b.now) (g.D.Disk.told_length c.args.b.now) (g.D.Disk.faults c.args.b.now))) _ (known_from o.book o.places.list (place_of (file_of o.twin))) (in_a_of o.twin) r.0 (record { knows = r.1; told = told_at (in_a_of o.twin) _ _ _ c.in-Ok.ensures.told }) _ c.new-committer.ensures.kept r.2
+    again_fits (g.V.Verifier.shows c.args.verifier.now) g.D.Disk.tells (g.S.Source.state c.args.source.now) _ (pair (g.D.Disk.state c.args.a.now) (g.D.Disk.state c.args.b.now)) _ (known_from o.book o.places.list (place_of (file_of o.twin))) (in_a_of o.twin) r.0 (record { knows = r.1; told = told_at (in_a_of o.twin) _ _ _ c.in-Ok.ensures.told }) _ c.new-committer.ensures.kept r.2
 
 pub returns-in-Ok : goal.returns-in-Ok
 returns-in-Ok g c =
@@ -19,8 +19,8 @@ returns-in-Ok g c =
     let r = c.in-Ok.ensures.ok in
     let counts = c.in-Ok.ensures.faults in
     ran_again _ g.D.Disk.tells _ _ _ _ (known_from o.book o.places.list (place_of (file_of o.twin))) (in_a_of o.twin) r.0 (record { knows = r.1; told = told_at (in_a_of o.twin) _ _ _ c.in-Ok.ensures.told }) _ c.new-committer.ensures.kept
-    (c.in-Ok.ensures.limits ∙ c.real.ensures) r.2 counts.0 counts.1 c.run_script.result _ c.run_script.ensures.ran c.run_script.ensures.started
+    (c.in-Ok.ensures.limits ∙ c.real.ensures) r.2 counts.0 counts.1 c.run_session.result _ c.run_session.ensures.ran c.run_session.ensures.started
 
 pub returns-in-Err : goal.returns-in-Err
 returns-in-Err g c =
-    rw c.from.ensures (not_opened _ g.D.Disk.tells _ _ _ _ c.in-Err.e c.in-Err.ensures.err c.in-Err.ensures.same c.in-Err.ensures.images c.in-Err.ensures.faults)
+    rw c.from.ensures (not_opened _ g.D.Disk.tells _ _ _ _ c.in-Err.e c.in-Err.ensures.err c.in-Err.ensures.same c.in-Err.ensures.refused (λ t qa qb. c.in-Err.ensures.images t (λ is. (qa, qb))) c.in-Err.ensures.faults)

@@ -1,18 +1,18 @@
 use Rattle.std.proofs.Common.{◌∙◌}
-use Rattle.batch_committer.specs.World.{pair, disk}
+use Rattle.batch_committer.specs.World.{pair}
 use Rattle.block_file.specs.Place.{place_of}
 use Rattle.ledger_open.specs.Opening.{known_from}
 use Rattle.twin_file.specs.Which.{in_a_of, file_of}
-use Rattle.ledger_cli.proofs.OpeningLaws.{new_fits, ran_new, not_run, not_exists}
+use Rattle.ledger_cli.proofs.OpeningLaws.{new_fits, ran_new, not_run}
 use Rattle.ledger_cli.proofs.top.run_new.Goals as goal
 
-pub run_script-requires-clause-fits : goal.run_script-requires-clause-fits
-run_script-requires-clause-fits g c κs within =
+pub run_session-requires-clause-fits : goal.run_session-requires-clause-fits
+run_session-requires-clause-fits g c κs within =
     let o = c.in-Ok.opened in
     let e = c.in-Ok.ensures in
     let r = e.ok in
     let counts = e.faults in
-    new_fits _ g.D.Disk.tells (g.S.Source.state c.args.source.now) _ (pair (disk (g.D.Disk.state c.args.a.now) (g.D.Disk.told_length c.args.a.now) (g.D.Disk.faults c.args.a.now)) (disk (g.D.Disk.state c.args.b.now) (g.D.Disk.told_length c.args.b.now) (g.D.Disk.faults c.args.b.now))) _ e.left e.images counts.0 counts.1 e.founded (known_from o.book o.places.list (place_of (file_of o.twin))) e.keys (record { knows = r.0; told = e.told }) (in_a_of o.twin) r.1 _ c.new-committer.ensures.kept
+    new_fits _ g.D.Disk.tells (g.S.Source.state c.args.source.now) _ (pair (g.D.Disk.state c.args.a.now) (g.D.Disk.state c.args.b.now)) _ e.left (λ t s. e.images t s.shut_a s.shut_b (λ is. (s.quiet_a, s.quiet_b))) counts.0 counts.1 e.founded e.shut (known_from o.book o.places.list (place_of (file_of o.twin))) e.keys (record { knows = r.0; told = e.told }) (in_a_of o.twin) r.1 _ c.new-committer.ensures.kept
 
 pub returns-in-Ok : goal.returns-in-Ok
 returns-in-Ok g c =
@@ -20,10 +20,10 @@ returns-in-Ok g c =
     let e = c.in-Ok.ensures in
     let r = e.ok in
     let counts = e.faults in
-    ran_new _ g.D.Disk.tells _ _ _ _ e.left e.images counts.0 counts.1 e.founded (known_from o.book o.places.list (place_of (file_of o.twin))) e.keys (record { knows = r.0; told = e.told }) (in_a_of o.twin) r.1 _ c.new-committer.ensures.kept
-    _ (e.limits ∙ c.real.ensures) c.run_script.result _ c.run_script.ensures.ran (not_exists c.run_script.result c.run_script.ensures.started)
+    ran_new _ g.D.Disk.tells _ _ _ _ e.left (λ t s. e.images t s.shut_a s.shut_b (λ is. (s.quiet_a, s.quiet_b))) counts.0 counts.1 e.founded e.shut (known_from o.book o.places.list (place_of (file_of o.twin))) e.keys (record { knows = r.0; told = e.told }) (in_a_of o.twin) r.1 _ c.new-committer.ensures.kept
+    _ (e.limits ∙ c.real.ensures) c.run_session.result _ c.run_session.ensures.ran c.run_session.ensures.started
 
 pub returns-in-Err : goal.returns-in-Err
 returns-in-Err g c =
     let e = c.in-Err.ensures in
-    rw c.from.ensures (not_run _ g.D.Disk.tells _ _ _ _ e.left e.images _ c.in-Err.e e.err e.exists e.faults)
+    rw c.from.ensures (not_run _ g.D.Disk.tells _ _ _ _ e.left (λ t s. e.images t s.shut_a s.shut_b (λ is. (s.quiet_a, s.quiet_b))) _ c.in-Err.refusal e.err e.exists e.same e.faults)

@@ -10,16 +10,16 @@ abbrev pub invariant-loop-alloc : goal.invariant-loop-alloc
 invariant-loop-alloc g l =
     let state = g.D.Disk.state in
     record {
-      read : WereRead g.D.Disk.tells (state l.fn.disk).seen (place_of l.fn.file) l.fn.first (blocks_in l.blocks.items);
+      read : WereRead g.D.Disk.tells (state l.fn.disk).bytes.seen (place_of l.fn.file) l.fn.first (blocks_in l.blocks.items);
       place : place_of l.file ≡ place_behind (place_of l.fn.file) (blocks_in l.blocks.items);
       counted : l.count ≡ journals_in (blocks_in l.blocks.items);
       some : length l.blocks.items ≡ 0 → l.count ≡ 0;
       room : l.count < 2 ^ 33;
       sizes : All (λ (h : Hashed). vec_len h.leaves ≡ length h.block.records) l.blocks.items;
-      told : IsSomeAnd (g.D.Disk.told_length l.disk) (λ n. place_of l.file + 1 ≤ n);
-      keeps : KeepsLength (g.D.Disk.told_length l.fn.disk) (g.D.Disk.told_length l.disk);
-      same : IsTrue g.D.Disk.tells → state l.disk ≡ state l.fn.disk;
-      faults : g.D.Disk.faults l.disk ≡ g.D.Disk.faults l.fn.disk;
+      told : IsSomeAnd (g.D.Disk.state l.disk).told (λ n. place_of l.file + 1 ≤ n);
+      keeps : KeepsLength (g.D.Disk.state l.fn.disk).told (g.D.Disk.state l.disk).told;
+      same : IsTrue g.D.Disk.tells → (state l.disk).bytes ≡ (state l.fn.disk).bytes;
+      faults : (g.D.Disk.state l.disk).faults ≡ (g.D.Disk.state l.fn.disk).faults;
     }
 
 abbrev pub decreases-loop-alloc : goal.decreases-loop-alloc

@@ -12,13 +12,13 @@ returns-in-Ok-clause-ok g c =
     (subst (λ (n : ℕ). Knows (known_from c.in_ok-made.made.book c.in_ok-made.made.places.list n) (new_ledger c.args.genesis.now).closed) (sym place) c.in_ok-made.ensures.known, c.in-Ok.ensures.twin.0)
 
 pub returns-in-Ok-clause-images : goal.returns-in-Ok-clause-images
-returns-in-Ok-clause-images g c told shut image_a image_b left_a left_b =
+returns-in-Ok-clause-images g c told shut_a shut_b quiet image_a image_b left_a left_b =
     made_images c.args.genesis.now c.as_slice.result.now image_a image_b c.in_ok-made.ensures.keys (c.as_slice.ensures.value ∙ c.in_ok-made.ensures.block)
     (c.in-Ok.ensures.images told
-    (shut_now (g.D.Disk.state c.args.a.now) (g.D.Disk.state c.args.b.now) (g.D.Disk.state c.is_open.new.disk) (g.D.Disk.state c.is_open-2.new.disk) (c.in_ok-is_open.ensures.state told ∙ c.in_ok-sync.ensures.ok told) (c.in_ok-is_open-2.ensures.state told ∙ c.in_ok-sync-2.ensures.ok told) shut) image_a image_b left_a left_b)
+    (shut_now (g.D.Disk.state c.args.a.now).bytes (g.D.Disk.state c.args.b.now).bytes (g.D.Disk.state c.is_open.new.disk).bytes (g.D.Disk.state c.is_open-2.new.disk).bytes (c.in_ok-is_open.ensures.state told ∙ c.in_ok-sync.ensures.ok told) (c.in_ok-is_open-2.ensures.state told ∙ c.in_ok-sync-2.ensures.ok told) shut_a shut_b) image_a image_b left_a left_b)
 
 pub returns-in-Err-clause-images : goal.returns-in-Err-clause-images
-returns-in-Err-clause-images g c told shut image_a image_b left_a left_b =
+returns-in-Err-clause-images g c told shut_a shut_b quiet image_a image_b left_a left_b =
     made_images c.args.genesis.now c.as_slice.result.now image_a image_b c.in_ok-made.ensures.keys (c.as_slice.ensures.value ∙ c.in_ok-made.ensures.block)
     (c.in-Err.ensures.images told
-    (shut_now (g.D.Disk.state c.args.a.now) (g.D.Disk.state c.args.b.now) (g.D.Disk.state c.is_open.new.disk) (g.D.Disk.state c.is_open-2.new.disk) (c.in_ok-is_open.ensures.state told ∙ c.in_ok-sync.ensures.ok told) (c.in_ok-is_open-2.ensures.state told ∙ c.in_ok-sync-2.ensures.ok told) shut) image_a image_b left_a left_b)
+    (shut_now (g.D.Disk.state c.args.a.now).bytes (g.D.Disk.state c.args.b.now).bytes (g.D.Disk.state c.is_open.new.disk).bytes (g.D.Disk.state c.is_open-2.new.disk).bytes (c.in_ok-is_open.ensures.state told ∙ c.in_ok-sync.ensures.ok told) (c.in_ok-is_open-2.ensures.state told ∙ c.in_ok-sync-2.ensures.ok told) shut_a shut_b) image_a image_b left_a left_b)

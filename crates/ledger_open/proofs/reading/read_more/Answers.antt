@@ -9,7 +9,7 @@ use Rattle.ledger_open.proofs.reading.read_more.Goals as goal
 pub overflow_add-first : goal.overflow_add-first
 overflow_add-first g c =
     let tells = g.D.Disk.tells in
-    let file = (g.D.Disk.state c.args.disk.now).seen in
+    let file = (g.D.Disk.state c.args.disk.now).bytes.seen in
     let n = c.requires.ahead in
     let k = known_from c.args.read.now.book c.args.read.now.places.list n.at in
     let bs = blocks_in c.args.ahead.now.blocks.items in
@@ -19,7 +19,7 @@ overflow_add-first g c =
 pub read_ahead-requires-clause-number : goal.read_ahead-requires-clause-number
 read_ahead-requires-clause-number g c =
     let tells = g.D.Disk.tells in
-    let file = (g.D.Disk.state c.args.disk.now).seen in
+    let file = (g.D.Disk.state c.args.disk.now).bytes.seen in
     let n = c.requires.ahead in
     let k = known_from c.args.read.now.book c.args.read.now.places.list n.at in
     let bs = blocks_in c.args.ahead.now.blocks.items in
@@ -29,7 +29,7 @@ read_ahead-requires-clause-number g c =
 pub take_beside-requires-clause-ahead : goal.take_beside-requires-clause-ahead
 take_beside-requires-clause-ahead g c =
     let tells = g.D.Disk.tells in
-    let file = (g.D.Disk.state c.args.disk.now).seen in
+    let file = (g.D.Disk.state c.args.disk.now).bytes.seen in
     let n = c.requires.ahead in
     let k = known_from c.args.read.now.book c.args.read.now.places.list n.at in
     let bs = blocks_in c.args.ahead.now.blocks.items in
@@ -44,7 +44,7 @@ take_beside-requires-clause-ahead g c =
 pub returns-in-Ok-take_beside-clause-ok : goal.returns-in-Ok-take_beside-clause-ok
 returns-in-Ok-take_beside-clause-ok g c =
     let tells = g.D.Disk.tells in
-    let file = (g.D.Disk.state c.args.disk.now).seen in
+    let file = (g.D.Disk.state c.args.disk.now).bytes.seen in
     let n = c.requires.ahead in
     let k = known_from c.args.read.now.book c.args.read.now.places.list n.at in
     let bs = blocks_in c.args.ahead.now.blocks.items in
@@ -66,7 +66,7 @@ returns-in-Ok-take_beside-clause-nearer g c =
 pub returns-in-Err-take_beside-clause-err : goal.returns-in-Err-take_beside-clause-err
 returns-in-Err-take_beside-clause-err g c told plain =
     let tells = g.D.Disk.tells in
-    let file = (g.D.Disk.state c.args.disk.now).seen in
+    let file = (g.D.Disk.state c.args.disk.now).bytes.seen in
     let n = c.requires.ahead in
     let k = known_from c.args.read.now.book c.args.read.now.places.list n.at in
     let bs = blocks_in c.args.ahead.now.blocks.items in

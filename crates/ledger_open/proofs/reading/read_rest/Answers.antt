@@ -11,7 +11,7 @@ use Rattle.ledger_open.proofs.reading.read_rest.Goals as goal
 pub loop-alloc-init : goal.loop-alloc-init
 loop-alloc-init g c =
     let tells = g.D.Disk.tells in
-    let file = (g.D.Disk.state c.args.disk.now).seen in
+    let file = (g.D.Disk.state c.args.disk.now).bytes.seen in
     let at = place_of c.args.file.now in
     let k = known_from c.args.read.book c.args.read.places.list at in
     let o = c.in-Ok.ensures in
@@ -30,7 +30,7 @@ loop-alloc-init g c =
 pub read_more-requires-clause-ahead : goal.read_more-requires-clause-ahead
 read_more-requires-clause-ahead g c =
     let i = c.loop-alloc.invariant in
-    next_again g.D.Disk.tells (g.D.Disk.state c.args.disk.now).seen (g.D.Disk.state c.loop-alloc.disk).seen c.loop-alloc.read.book c.loop-alloc.read.places.list c.loop-alloc.ahead (place_of c.loop-alloc.file)
+    next_again g.D.Disk.tells (g.D.Disk.state c.args.disk.now).bytes.seen (g.D.Disk.state c.loop-alloc.disk).bytes.seen c.loop-alloc.read.book c.loop-alloc.read.places.list c.loop-alloc.ahead (place_of c.loop-alloc.file)
     (λ told. sym (ap (λ (s : State). s.seen) (i.same told))) i.ahead
 
 pub loop-alloc-preserved : goal.loop-alloc-preserved
@@ -38,7 +38,7 @@ loop-alloc-preserved g c =
     let i = c.loop-alloc.invariant in
     let o = c.in-Ok-read_more.ensures in
     record {
-      ahead = next_again g.D.Disk.tells (g.D.Disk.state c.loop-alloc.disk).seen (g.D.Disk.state c.args.disk.now).seen c.read_more.new.read.book c.read_more.new.read.places.list c.in-Ok-read_more.ahead (place_of c.read_more.new.file)
+      ahead = next_again g.D.Disk.tells (g.D.Disk.state c.loop-alloc.disk).bytes.seen (g.D.Disk.state c.args.disk.now).bytes.seen c.read_more.new.read.book c.read_more.new.read.places.list c.in-Ok-read_more.ahead (place_of c.read_more.new.file)
           (λ told. ap (λ (s : State). s.seen) (i.same told)) o.ok;
       limits = o.limits ∙ i.limits;
       told = search rules;
@@ -50,7 +50,7 @@ loop-alloc-preserved g c =
 pub returns-clause-ok : goal.returns-clause-ok
 returns-clause-ok g c =
     let tells = g.D.Disk.tells in
-    let file = (g.D.Disk.state c.args.disk.now).seen in
+    let file = (g.D.Disk.state c.args.disk.now).bytes.seen in
     let i = c.loop-alloc.invariant in
     let place = place_of c.loop-alloc.file in
     IfOk-weaker c.read_last.result _ _ (λ read has.
@@ -61,7 +61,7 @@ returns-clause-ok g c =
 
 pub returns-clause-err : goal.returns-clause-err
 returns-clause-err g c =
-    let file = (g.D.Disk.state c.args.disk.now).seen in
+    let file = (g.D.Disk.state c.args.disk.now).bytes.seen in
     IfErr-weaker c.read_last.result _ _ (λ e why told. elim why [
       | inl none ↦ subst (IsReadErr file) (sym none) tt
       | inr bad ↦ subst (IsReadErr file) (sym bad.1) (bad.2 g.D.Disk.tells file (place_of c.loop-alloc.file) c.loop-alloc.invariant.ahead told (c.requires.plain told))

@@ -10,12 +10,12 @@ abbrev pub invariant-loop-alloc : goal.invariant-loop-alloc
 invariant-loop-alloc g l =
     let state = g.D.Disk.state in
     record {
-      ahead : AreNextBlocks g.D.Disk.tells (state l.fn.disk).seen l.read.book l.read.places.list l.ahead (place_of l.file);
+      ahead : AreNextBlocks g.D.Disk.tells (state l.fn.disk).bytes.seen l.read.book l.read.places.list l.ahead (place_of l.file);
       limits : l.read.book.limits ≡ l.fn.read.book.limits;
-      told : IsSomeAnd (g.D.Disk.told_length l.disk) (λ n. place_of l.file + 1 ≤ n);
-      keeps : KeepsLength (g.D.Disk.told_length l.fn.disk) (g.D.Disk.told_length l.disk);
-      same : IsTrue g.D.Disk.tells → state l.disk ≡ state l.fn.disk;
-      faults : g.D.Disk.faults l.disk ≡ g.D.Disk.faults l.fn.disk;
+      told : IsSomeAnd (g.D.Disk.state l.disk).told (λ n. place_of l.file + 1 ≤ n);
+      keeps : KeepsLength (g.D.Disk.state l.fn.disk).told (g.D.Disk.state l.disk).told;
+      same : IsTrue g.D.Disk.tells → (state l.disk).bytes ≡ (state l.fn.disk).bytes;
+      faults : (g.D.Disk.state l.disk).faults ≡ (g.D.Disk.state l.fn.disk).faults;
     }
 
 abbrev pub decreases-loop-alloc : goal.decreases-loop-alloc

@@ -12,7 +12,7 @@ pub loop-index-preserved : goal.loop-index-preserved
 loop-index-preserved c = record {
   went =
       went_more _ _ _ _ _ (get_or c.args.records.now c.loop-index.index _) c.loop-index-test.true (at_any _ _ _ _ c.loop-index-test.true) c.loop-index.invariant.went
-      (replayed _ _ _ c.in-Ok-Ok.field-0 c.in-Ok-Ok.field-0-0 c.in-Ok-Ok.field-0-is c.in-Ok-Ok.ensures.ok);
+      c.in-Ok-Ok.ensures.same (replayed _ _ _ c.in-Ok-Ok.field-0 c.in-Ok-Ok.field-0-0 c.in-Ok-Ok.field-0-is c.in-Ok-Ok.ensures.ok);
   limits = c.in-Ok-Ok.ensures.same.limits ∙ c.loop-index.invariant.limits;
 }
 

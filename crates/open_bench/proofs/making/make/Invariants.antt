@@ -4,4 +4,4 @@ use Rattle.block_file.specs.Place.{place_of}
 use Rattle.open_bench.proofs.making.make.Given as goal
 
 abbrev pub invariant-loop : goal.invariant-loop
-invariant-loop g l = IsSomeAnd (g.D.Disk.told_length l.a) (λ n. place_of l.file + 1 ≤ n)
+invariant-loop g l = IsSomeAnd (g.D.Disk.state l.a).told (λ n. place_of l.file + 1 ≤ n)

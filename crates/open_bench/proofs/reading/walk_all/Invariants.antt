@@ -4,4 +4,4 @@ use Rattle.block_file.specs.Place.{place_of}
 use Rattle.open_bench.proofs.reading.walk_all.Given as goal
 
 abbrev pub invariant-loop : goal.invariant-loop
-invariant-loop g l = IsSomeAnd (g.D.Disk.told_length l.disk) (λ n. place_of l.file + 1 ≤ n)
+invariant-loop g l = IsSomeAnd (g.D.Disk.state l.disk).told (λ n. place_of l.file + 1 ≤ n)

@@ -7,4 +7,4 @@ pub returns-in_err-start-clause-images : goal.returns-in_err-start-clause-images
 returns-in_err-start-clause-images g c told quiet in_a taken passed image left = scrap_passed in_a taken _ image passed (c.in_err-start.ensures.err told quiet image left)
 
 pub returns-clause-images : goal.returns-clause-images
-returns-clause-images g c told quiet in_a taken passed image left = inl (inr (veiled_gate (g.D.Disk.state c.create.new.disk) image (c.create.ensures.veiled told) left))
+returns-clause-images g c told quiet in_a taken passed image left = inl (inr (veiled_gate (g.D.Disk.state c.create.new.disk).bytes image (c.create.ensures.veiled told) left))

@@ -9,10 +9,10 @@ use Rattle.twin_file.proofs.HeadLaws.{tail_size}
 use Rattle.twin_file.proofs.parts.make_first.Goals as goal
 
 pub returns-in_err-file-clause-images : goal.returns-in_err-file-clause-images
-returns-in_err-file-clause-images g c told quiet shut image left = inl (shut_kept (g.D.Disk.state c.args.disk.now) (g.D.Disk.state c.begin.new.disk) image (c.begin.ensures.images told) quiet shut left)
+returns-in_err-file-clause-images g c told quiet shut image left = inl (shut_kept (g.D.Disk.state c.args.disk.now).bytes (g.D.Disk.state c.begin.new.disk).bytes image (c.begin.ensures.images told) quiet shut left)
 
 pub returns-in_err-put_block-clause-images : goal.returns-in_err-put_block-clause-images
-returns-in_err-put_block-clause-images g c told quiet shut image left = inl (inr (veiled_gate (g.D.Disk.state c.put_block.new.disk) image (c.put_block.ensures.veiled told (c.in_ok-file.ensures.veiled told)) left))
+returns-in_err-put_block-clause-images g c told quiet shut image left = inl (inr (veiled_gate (g.D.Disk.state c.put_block.new.disk).bytes image (c.put_block.ensures.veiled told (c.in_ok-file.ensures.veiled told)) left))
 
 pub returns-in_err-unveil-clause-images : goal.returns-in_err-unveil-clause-images
 returns-in_err-unveil-clause-images g c told quiet shut image left =

@@ -15,7 +15,7 @@ returns-clause-gathered c =
     (λ body widths h journal serves there floor content_is who_is.
     let s = subst (λ (k : Kept). Serves k.book h) (sym c.self.view_is) serves in
     let low = subst (λ (k : Kept). k.book.floor ≤ c.args.jsn) (sym c.self.view_is) floor in
-    let is = header_is c.self.inside.opened.book h c.args.jsn journal c.in-Some.header.now low there (ap option_copied (sym c.in-Some.is) ∙ c.header.ensures h s) in
+    let is = header_is c.self.inside.opened.book h c.args.jsn journal c.in-Some.header.now low there (ap option_copied (sym c.in-Some.is) ∙ c.header.ensures.header h s) in
     let at : c.tail.result + 45 + c.len.result ≡ place_of c.self.inside.opened.twin.file + 45 + length c.self.inside.block.body =
     omega (arith, c.tail.ensures, ap place_of c.file.ensures.value, c.len.ensures.len) in
     gathered_at (the_view c.self.inside) _ _ journal c.self.view_is

@@ -5,15 +5,14 @@ use Rattle.ledger_book.specs.Steps.{IsSame, PlacesNothing, Applies}
 use Rattle.ledger_model.specs.InOrder.{step_of}
 use Rattle.ledger_model.specs.Texts.{answer_for}
 use Rattle.ledger_model.specs.declared.answer.Answer.TheVariants.{Reply}
-use Rattle.batch_committer.specs.World.{Kept, ServesSome, Keeps, Holds, world, pair, disk}
+use Rattle.batch_committer.specs.World.{Kept, Keeps, Holds, world, pair}
 use Rattle.batch_committer.proofs.Judging.{has_placed, judged_same_kept, judged_placed, asked_settled}
 use Rattle.batch_committer.proofs.ReadLaws.{holds_book}
 use Rattle.batch_committer.proofs.taking.Taking.judge.Goals as goal
 
 pub gather_placed-requires-clause-has : goal.gather_placed-requires-clause-has
 gather_placed-requires-clause-has g c =
-    let s = subst (λ (k : Kept). ServesSome k.book) (sym c.self.view_is) c.requires.some in
-    has_placed c.self.inside.opened.book c.apply.new.self s.0 c.args.job.now _ c.in-Placed.jsn c.in-Placed.leaf s.1 (c.in_ok-refusal.ensures.ok s.0 s.1) c.apply.ensures.same c.in-Placed.is
+    has_placed c.self.inside.opened.book c.apply.new.self _ c.in-Placed.jsn c.in-Placed.leaf c.apply.ensures.same c.in_ok-refusal.ensures.number c.in-Placed.is
 
 pub returns-in-Refused-clause-judged : goal.returns-in-Refused-clause-judged
 returns-in-Refused-clause-judged g c = λ h x sink holds none.
@@ -33,7 +32,7 @@ returns-in_ok-gather_placed-in-Placed-clause-judged g c = λ h x sink holds none
 
 pub returns-in_ok-tell-in-Reading-clause-judged : goal.returns-in_ok-tell-in-Reading-clause-judged
 returns-in_ok-tell-in-Reading-clause-judged g c = λ h x sink holds none.
-    let disks = pair (disk (g.D.Disk.state c.args.a.now) (g.D.Disk.told_length c.args.a.now) (g.D.Disk.faults c.args.a.now)) (disk (g.D.Disk.state c.args.b.now) (g.D.Disk.told_length c.args.b.now) (g.D.Disk.faults c.args.b.now)) in
+    let disks = pair (g.D.Disk.state c.args.a.now) (g.D.Disk.state c.args.b.now) in
     let p = subst (λ (k : Kept). Holds g.D.Disk.tells (world k disks sink) h) (sym c.self.view_is) holds in
     let settled = asked_settled h c.args.job.now _ c.in-Reading.query c.in_ok-refusal.ensures.asked c.in-Reading.is none in
     let nothing : PlacesNothing c.in_ok-refusal.field-0 = subst PlacesNothing (sym c.in-Reading.is) tt in

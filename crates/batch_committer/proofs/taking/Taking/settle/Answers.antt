@@ -1,10 +1,8 @@
-use Rattle.std.proofs.Common.{[], ◌++◌, length, sym, ap, subst, refl, ◌∙◌, arith}
+use Rattle.std.proofs.Common.{[], ◌++◌, length, sym, ap, refl, ◌∙◌, arith}
 use Rattle.ledger_model.specs.History.{close}
-use Rattle.ledger_model.proofs.GrowLaws.{close_none}
 use Rattle.batch_committer.specs.Spelled.{head_of}
 use Rattle.batch_committer.specs.Steps.{settled_text}
-use Rattle.batch_committer.specs.World.{Kept, ServesSome}
-use Rattle.batch_committer.proofs.Ending.{end_unspelled, at_end, end_goes, end_uncommitted, end_unwritten, serves_closed, count_of, count_few, served_empty, fits_ended, fits_at, goes_at, ended_at, first_of_text}
+use Rattle.batch_committer.proofs.Ending.{end_unspelled, at_end, end_goes, end_uncommitted, end_unwritten, serves_closed, count_few, fits_ended, fits_at, goes_at, ended_at, first_of_text}
 use Rattle.batch_committer.proofs.WayLaws.{err_is, ended_by}
 use Rattle.batch_committer.proofs.taking.Taking.settle.Goals as goal
 
@@ -17,7 +15,7 @@ returns-in_err-finish-clause-err g c = err_is _ c.from_residual-in_err-finish.re
 pub returns-in_err-commit-clause-err : goal.returns-in_err-commit-clause-err
 returns-in_err-commit-clause-err g c =
     let f = fits_at g.D.Disk.tells _ _ c.self.view_is _ _ c.requires.fits in
-    let is = count_of c.self.inside.opened.book f.some.0 c.waiting_count-count.result f.some.1 (c.waiting_count-count.ensures f.some.0 f.some.1.stands) in
+    let is = sym c.waiting_count-count.ensures.number in
     let e = c.in_err-commit.ensures in
     err_is _ c.from_residual-in_err-commit.result _ c.from_residual-in_err-commit.ensures.1
     (ended_by g.D.Disk.tells _ _ close (λ h. []) _ _ e.only
@@ -25,7 +23,7 @@ returns-in_err-commit-clause-err g c =
     (end_uncommitted g.D.Disk.tells _ c.as_slice-2.result.now c.spell.new.text.items
     (at_end g.D.Disk.tells _ c.seal.new.self c.waiting_count-count.result c.head.result _ _
     (λ h s. serves_closed c.self.inside.opened.book c.seal.new.self h s (c.seal.ensures.stands h s.stands) c.seal.ensures.same)
-    (λ h s. c.waiting_count-count.ensures h s.stands) (λ h s. c.head.ensures h s.stands)
+    (λ h s. c.waiting_count-count.ensures.count h s.stands) (λ h s. c.head.ensures h s.stands)
     (c.as_slice-2.ensures ∙ ap (λ l. l ++ c.finish.new.self.body) c.in_ok-finish.ensures.head ∙ ap (λ l. head_of c.waiting_count-count.result (length c.self.inside.block.body) c.head.result.root.0 ++ l) c.in_ok-finish.ensures.body)
     (λ h s none. c.in_ok-spell.ensures h s none ∙ ap (settled_text h) c.as_slice.ensures.value)
     (omega (arith, c.if-count-eq0.false)) (count_few c.self.inside.opened.book c.waiting_count-count.result is f.few))
@@ -34,7 +32,7 @@ returns-in_err-commit-clause-err g c =
 pub returns-in_err-write_all-clause-err : goal.returns-in_err-write_all-clause-err
 returns-in_err-write_all-clause-err g c =
     let f = fits_at g.D.Disk.tells _ _ c.self.view_is _ _ c.requires.fits in
-    let is = count_of c.self.inside.opened.book f.some.0 c.waiting_count-count.result f.some.1 (c.waiting_count-count.ensures f.some.0 f.some.1.stands) in
+    let is = sym c.waiting_count-count.ensures.number in
     let e = c.in_ok-commit.ensures in
     let o = c.in_err-write_all.ensures in
     let t = first_of_text (g.K.Sink.state c.args.sink.now) (g.K.Sink.state c.write_all.new.sink) c.as_slice-3.result.now c.in_err-write_all.field-0.0 o.taken in
@@ -43,7 +41,7 @@ returns-in_err-write_all-clause-err g c =
     (end_unwritten g.D.Disk.tells _ c.as_slice-2.result.now c.as_slice-3.result.now
     (at_end g.D.Disk.tells _ c.seal.new.self c.waiting_count-count.result c.head.result _ _
     (λ h s. serves_closed c.self.inside.opened.book c.seal.new.self h s (c.seal.ensures.stands h s.stands) c.seal.ensures.same)
-    (λ h s. c.waiting_count-count.ensures h s.stands) (λ h s. c.head.ensures h s.stands)
+    (λ h s. c.waiting_count-count.ensures.count h s.stands) (λ h s. c.head.ensures h s.stands)
     (c.as_slice-2.ensures ∙ ap (λ l. l ++ c.finish.new.self.body) c.in_ok-finish.ensures.head ∙ ap (λ l. head_of c.waiting_count-count.result (length c.self.inside.block.body) c.head.result.root.0 ++ l) c.in_ok-finish.ensures.body)
     (λ h s none. c.as_slice-3.ensures.value ∙ c.in_ok-spell.ensures h s none ∙ ap (settled_text h) c.as_slice.ensures.value)
     (omega (arith, c.if-count-eq0.false)) (count_few c.self.inside.opened.book c.waiting_count-count.result is f.few))
@@ -52,14 +50,14 @@ returns-in_err-write_all-clause-err g c =
 pub returns-clause-ok : goal.returns-clause-ok
 returns-clause-ok g c =
     let f = fits_at g.D.Disk.tells _ _ c.self.view_is _ _ c.requires.fits in
-    let is = count_of c.self.inside.opened.book f.some.0 c.waiting_count-count.result f.some.1 (c.waiting_count-count.ensures f.some.0 f.some.1.stands) in
+    let is = sym c.waiting_count-count.ensures.number in
     let e = c.in_ok-commit.ensures in
     let o = c.in_ok-write_all.ensures in
     goes_at g.D.Disk.tells _ _ c.self.view_is _ _ _ close (λ h. [])
     (end_goes g.D.Disk.tells _ c.as_slice-2.result.now c.as_slice-3.result.now
     (at_end g.D.Disk.tells _ c.seal.new.self c.waiting_count-count.result c.head.result _ _
     (λ h s. serves_closed c.self.inside.opened.book c.seal.new.self h s (c.seal.ensures.stands h s.stands) c.seal.ensures.same)
-    (λ h s. c.waiting_count-count.ensures h s.stands) (λ h s. c.head.ensures h s.stands)
+    (λ h s. c.waiting_count-count.ensures.count h s.stands) (λ h s. c.head.ensures h s.stands)
     (c.as_slice-2.ensures ∙ ap (λ l. l ++ c.finish.new.self.body) c.in_ok-finish.ensures.head ∙ ap (λ l. head_of c.waiting_count-count.result (length c.self.inside.block.body) c.head.result.root.0 ++ l) c.in_ok-finish.ensures.body)
     (λ h s none. c.as_slice-3.ensures.value ∙ c.in_ok-spell.ensures h s none ∙ ap (settled_text h) c.as_slice.ensures.value)
     (omega (arith, c.if-count-eq0.false)) (count_few c.self.inside.opened.book c.waiting_count-count.result is f.few))
@@ -68,12 +66,8 @@ returns-clause-ok g c =
 
 pub returns-clause-fits : goal.returns-clause-fits
 returns-clause-fits g c =
-    let f = fits_at g.D.Disk.tells _ _ c.self.view_is _ _ c.requires.fits in
     let e = c.in_ok-commit.ensures in
-    let h = f.some.0 in
-    fits_ended g.D.Disk.tells _ _ _ _ (close h) _ (serves_closed c.self.inside.opened.book c.seal.new.self h f.some.1 (c.seal.ensures.stands h f.some.1.stands) c.seal.ensures.same) (close_none h) e.place e.ok.reads e.in_a
+    fits_ended g.D.Disk.tells _ _ _ _ _ (c.seal.ensures.ended.0 ∙ sym c.seal.ensures.ended.1) e.place e.ok.reads e.in_a
 
 pub returns-clause-empty : goal.returns-clause-empty
-returns-clause-empty g c =
-    let s = subst (λ (k : Kept). ServesSome k.book) (sym c.self.view_is) c.requires.fits.some in
-    (served_empty c.seal.new.self (close s.0) (serves_closed c.self.inside.opened.book c.seal.new.self s.0 s.1 (c.seal.ensures.stands s.0 s.1.stands) c.seal.ensures.same) (close_none s.0), c.clear-2.ensures.items)
+returns-clause-empty g c = (c.seal.ensures.ended.0 ∙ sym c.seal.ensures.ended.1, c.clear-2.ensures.items)

@@ -1,7 +1,7 @@
 use Rattle.std.proofs.Common.{◌++◌, ◌∷◌, [], ap, ◌∙◌}
 use Rattle.ledger_model.specs.declared.due.Due.{Due}
 use Rattle.batch_committer.specs.Steps.{step_at}
-use Rattle.batch_committer.specs.World.{Kept, world, pair, disk}
+use Rattle.batch_committer.specs.World.{Kept, world, pair}
 use Rattle.batch_committer.specs.declared.end.End.TheVariants.{NoMemory}
 use Rattle.batch_committer.proofs.Offering.{judged_goes, judged_read, unjudged_ended}
 use Rattle.batch_committer.proofs.Judging.{judged_dues}
@@ -22,7 +22,7 @@ returns-clause-ok g c = λ line sink.
     let step = step_at c.args.item.now.lane c.args.item.now.index line in
     let due : Due = record { lane = c.args.item.now.lane; index = c.args.item.now.index; answer = c.in_ok-answer.answer } in
     let e = c.in_ok-answer.ensures in
-    let old = pair (disk (g.D.Disk.state c.args.a.now) (g.D.Disk.told_length c.args.a.now) (g.D.Disk.faults c.args.a.now)) (disk (g.D.Disk.state c.args.b.now) (g.D.Disk.told_length c.args.b.now) (g.D.Disk.faults c.args.b.now)) in
+    let old = pair (g.D.Disk.state c.args.a.now) (g.D.Disk.state c.args.b.now) in
     judged_read g.D.Disk.tells _ _ old _ sink step c.args.item.now.job e.read e.no_fault
     (judged_goes g.D.Disk.tells (world c.args.self.now old sink) _ step c.args.item.now.job c.in_ok-answer.answer
     (ap (λ (k : Kept). k.place) c.self.view_is ∙ e.rest.place) (ap (λ (k : Kept). k.in_a) c.self.view_is ∙ e.rest.in_a)

@@ -1,12 +1,12 @@
 use Rattle.std.proofs.Common.{true, false, sym, subst, ◌∙◌}
 use Rattle.std.proofs.lemmas.Result.{IfOk-weaker}
-use Rattle.batch_committer.specs.World.{Kept, Holds, world, pair, disk}
+use Rattle.batch_committer.specs.World.{Kept, Holds, world, pair}
 use Rattle.batch_committer.proofs.ReadLaws.{places_held, erased_held}
 use Rattle.batch_committer.proofs.taking.Taking.tell.Goals as goal
 
 pub returns-then-in_a-clause-told : goal.returns-then-in_a-clause-told
 returns-then-in_a-clause-told g c =
-    let disks = pair (disk (g.D.Disk.state c.args.a.now) (g.D.Disk.told_length c.args.a.now) (g.D.Disk.faults c.args.a.now)) (disk (g.D.Disk.state c.args.b.now) (g.D.Disk.told_length c.args.b.now) (g.D.Disk.faults c.args.b.now)) in
+    let disks = pair (g.D.Disk.state c.args.a.now) (g.D.Disk.state c.args.b.now) in
     IfOk-weaker c.reply_to.result _ _
     (λ reply told h x sink holds none.
     let p = subst (λ (k : Kept). Holds g.D.Disk.tells (world k disks sink) h) (sym c.self.view_is) holds in
@@ -15,7 +15,7 @@ returns-then-in_a-clause-told g c =
 
 pub returns-else-in_a-clause-told : goal.returns-else-in_a-clause-told
 returns-else-in_a-clause-told g c =
-    let disks = pair (disk (g.D.Disk.state c.args.a.now) (g.D.Disk.told_length c.args.a.now) (g.D.Disk.faults c.args.a.now)) (disk (g.D.Disk.state c.args.b.now) (g.D.Disk.told_length c.args.b.now) (g.D.Disk.faults c.args.b.now)) in
+    let disks = pair (g.D.Disk.state c.args.a.now) (g.D.Disk.state c.args.b.now) in
     IfOk-weaker c.reply_to-else-in_a.result _ _
     (λ reply told h x sink holds none.
     let p = subst (λ (k : Kept). Holds g.D.Disk.tells (world k disks sink) h) (sym c.self.view_is) holds in

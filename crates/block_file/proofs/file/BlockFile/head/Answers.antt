@@ -9,11 +9,11 @@ some_same n m is = cc
 
 pub returns-clause-answer : goal.returns-clause-answer
 returns-clause-answer g c told =
-    let seen = (g.D.Disk.state c.args.disk.now).seen in
-    let first : (g.D.Disk.state c.len.new.self).seen ≡ seen = ap (λ (s : State). s.seen) (c.len.ensures.state told) in
-    let second : (g.D.Disk.state c.read_byte.new.disk).seen ≡ seen = ap (λ (s : State). s.seen) (c.read_byte.ensures.state told) ∙ first in
-    let third : (g.D.Disk.state c.check_form.new.disk).seen ≡ seen = ap (λ (s : State). s.seen) (c.check_form.ensures.state told) ∙ second in
-    let size : c.in_ok-len.field-0 ≡ length (g.D.Disk.state c.len.new.self).seen = some_same _ _ (sym c.in_ok-len.ensures.value ∙ g.met.D.Disk.length_is c.len.new.self told) in
+    let seen = (g.D.Disk.state c.args.disk.now).bytes.seen in
+    let first : (g.D.Disk.state c.len.new.self).bytes.seen ≡ seen = ap (λ (s : State). s.seen) (c.len.ensures.state told) in
+    let second : (g.D.Disk.state c.read_byte.new.disk).bytes.seen ≡ seen = ap (λ (s : State). s.seen) (c.read_byte.ensures.state told) ∙ first in
+    let third : (g.D.Disk.state c.check_form.new.disk).bytes.seen ≡ seen = ap (λ (s : State). s.seen) (c.check_form.ensures.state told) ∙ second in
+    let size : c.in_ok-len.field-0 ≡ length (g.D.Disk.state c.len.new.self).bytes.seen = some_same _ _ (sym c.in_ok-len.ensures.value ∙ g.met.D.Disk.length_is c.len.new.self told) in
     let form = c.in_ok-check_form.ensures.ok told in
     record {
       has = record {

@@ -7,9 +7,9 @@ use Rattle.ledger_book.proofs.book.Book.is_next.Goals as goal
 pub returns-in-Content-clause-next : goal.returns-in-Content-clause-next
 returns-in-Content-clause-next c = λ h s.
     let size = ap (λ (k : Kept). k.size) c.self.view_is in
-    record_is_next c.args.self.now h c.args.header.now s.stands c.requires.layout (c.if-header-self.false ∙ size) (omega (arith, size, c.if-self-most.false, ap (λ (l : Limits). l.size) c.real-most.ensures)) c.is_next_record.result c.in-Content.is (c.is_next_record.ensures h s.stands)
+    record_is_next c.args.self.now h c.args.header.now s c.requires.layout (c.if-header-self.false ∙ size) (omega (arith, size, c.if-self-most.false, ap (λ (l : Limits). l.size) c.real-most.ensures)) c.is_next_record.result c.in-Content.is (c.is_next_record.ensures h s)
 
 pub returns-in-Member-clause-next : goal.returns-in-Member-clause-next
 returns-in-Member-clause-next c = λ h s.
     let size = ap (λ (k : Kept). k.size) c.self.view_is in
-    member_is_next c.args.self.now h c.args.header.now s.stands c.requires.layout (c.if-header-self.false ∙ size) (omega (arith, size, c.if-self-most.false, ap (λ (l : Limits). l.size) c.real-most.ensures)) c.from.result c.in-Member.is (c.from.ensures ∙ c.count.ensures.count ∙ ap (λ (k : Kept). length k.members) c.self.view_is)
+    member_is_next c.args.self.now h c.args.header.now s c.requires.layout (c.if-header-self.false ∙ size) (omega (arith, size, c.if-self-most.false, ap (λ (l : Limits). l.size) c.real-most.ensures)) c.from.result c.in-Member.is (c.from.ensures ∙ c.count.ensures.count ∙ ap (λ (k : Kept). length k.members) c.self.view_is)

@@ -27,5 +27,5 @@ returns-clause-quiet g c told generation base blocks copied =
     let new = whole_file (front_of 1 generation base) blocks in
     let opens = c.in_ok-unveil_other.ensures.images told copied.copying new (ap (λ (l : List ℕ). 1 ∷ drop 1 l) copied.seen) (has_head generation base blocks)
     (less_is _ generation _ copied.newer (generation_is generation base blocks copied.fits))
-    (state a).seen (state b).seen (g.met.D.Disk.seen_may_be_left a told) (g.met.D.Disk.seen_may_be_left b told) in
-    quiet_new c.args.self.now.in_a (state c.args.a.now) (state c.args.b.now) (state a) (state b) _ new (c.in_ok-unveil_other.ensures.ok told) (c.unveil_other.ensures.other told) copied.copying.quiet opens
+    (state a).bytes.seen (state b).bytes.seen (g.met.D.Disk.seen_may_be_left a told) (g.met.D.Disk.seen_may_be_left b told) in
+    quiet_new c.args.self.now.in_a (state c.args.a.now).bytes (state c.args.b.now).bytes (state a).bytes (state b).bytes _ new (c.in_ok-unveil_other.ensures.ok told) (c.unveil_other.ensures.other told) copied.copying.quiet opens

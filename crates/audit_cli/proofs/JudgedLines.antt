@@ -1,0 +1,159 @@
+-- A line that asks to judge a proof gives the bytes of a proof and a claim without bounds.
+use Rattle.std.proofs.Common.{◌≡◌, ℕ, ◌*◌, ◌-◌, ◌^◌, ◌&&◌, nat_le, if◌then◌else◌, Bool, true, false, cond, List, [], ◌∷◌, length, get_or, codes, Option, Some, None, Result, Ok, Err, refl, ap, subst, arith}
+use Rattle.std.specs.Prelude.{⊤}
+use Rattle.std.specs.Result.{result_ok}
+use Rattle.std.specs.Str.{bytes_eq}
+use Rattle.hex.specs.Hex.{decode_of}
+use Rattle.hex.specs.declared.error.FromHexError.{FromHexError}
+use Rattle.hex.proofs.HexLemmas.{decode_of-ok}
+use Rattle.ledger_bytes.specs.Fields.{IsBytes}
+use Rattle.ledger_bytes.specs.declared.digest.Digest.{Digest}
+use Rattle.ledger_bytes.specs.declared.refusal.Refusal.{Refusal}
+use Rattle.ledger_io.specs.Lines.{line_limit}
+use Rattle.proof_codec.specs.declared.claim.Claim.{Claim}
+use Rattle.script_lines.specs.Fields.{Left, fields_of, read_or_bad, field_from, field_at, end_from, end_at}
+use Rattle.script_lines.specs.Grammar.{◌>>=◌}
+use Rattle.script_lines.specs.Spellings.{text_of, word_of, number_of, bytes_of, digest_of, which_of, mark_of, is_dash}
+use Rattle.script_lines.specs.declared.said.Which.{Which}
+use Rattle.script_lines.specs.declared.said.Which.TheVariants.{Ledger, Notary}
+use Rattle.audit_cli.specs.declared.line.Line.{Line}
+use Rattle.audit_cli.specs.declared.line.Line.TheVariants.{TrustLedger, TrustNotary, Extend, Check, Judge}
+use Rattle.audit_cli.specs.Grammar.{trust_ledger_at, trust_notary_at, trust_of, trust_at, extend_at, check_at, pieces_of, judge_at, verb_at, line_at, line_of}
+
+-- these bytes and this claim can be judged
+pub record Judgeable (proof : List ℕ) (claim : Claim) : Type 0 where
+  pub bytes : IsBytes proof
+  pub lower : claim.lo ≡ None
+  pub upper : claim.hi ≡ None
+
+-- what is read, where it asks to judge, can be
+abbrev Gives : Result Line Refusal → Type 0
+Gives (Ok (TrustLedger id head)) = ⊤
+Gives (Ok (TrustNotary head)) = ⊤
+Gives (Ok (Extend which m head proof)) = ⊤
+Gives (Ok (Check claim proof)) = ⊤
+Gives (Ok (Judge id headers entries claim proof)) = Judgeable proof claim
+Gives (Err refusal) = ⊤
+
+-- what a field reads as keeps to a rule
+abbrev Reads : {A : Type 0} → (A → Type 0) → Result (A × Left) Refusal → Type 0
+Reads P (Ok read) = P read.0
+Reads P (Err refusal) = ⊤
+
+reads_or : {A : Type 0} (P : A → Type 0) (column : ℕ) (read : Option A) (rest : Left) → ((x : A) → read ≡ Some x → P x) → Reads P (read_or_bad column read rest)
+reads_or P column None rest keeps = tt
+reads_or P column (Some x) rest keeps = keeps x refl
+
+field_reads : {A : Type 0} (P : A → Type 0) (read : List ℕ → Option A) (left : Left) → ((text : List ℕ) (x : A) → read text ≡ Some x → P x) → Reads P (field_at read left)
+field_reads P read left keeps = by left.fields where
+  by : (fields : List (List ℕ)) → Reads P (field_from read left.column fields)
+  by [] = tt
+  by (field ∷ fields) = reads_or P left.column (read field) _ (keeps field)
+
+-- the rest of a line behind a field
+then_gives : {A : Type 0} (P : A → Type 0) (first : Result (A × Left) Refusal) (second : A × Left → Result Line Refusal)
+    → Reads P first → ((x : A × Left) → P x.0 → Gives (second x)) → Gives (first >>= second)
+then_gives P (Ok x) second first_reads gives = gives x first_reads
+then_gives P (Err refusal) second first_reads gives = tt
+
+-- .. of which nothing is asked
+any_gives : {A : Type 0} (read : List ℕ → Option A) (left : Left) (second : A × Left → Result Line Refusal) → ((x : A × Left) → Gives (second x)) → Gives (field_at read left >>= second)
+any_gives read left second gives = then_gives (λ x. ⊤) (field_at read left) second (field_reads (λ x. ⊤) read left (λ text x is. tt)) (λ x any. gives x)
+
+-- .. and its end
+end_gives : (left : Left) (line : Line) → Gives (Ok line) → Gives (end_at left >>= (λ end. Ok line))
+end_gives left line gives = by left.fields where
+  by : (fields : List (List ℕ)) → Gives (end_from left.column fields >>= (λ end. Ok line))
+  by [] = gives
+  by (field ∷ fields) = tt
+
+-- what is there is what was found
+found : (read : Result (List ℕ) FromHexError) (bytes : List ℕ) → result_ok read ≡ Some bytes → read ≡ Ok bytes
+found (Ok x) bytes is = let same : x ≡ bytes = cc in ap Ok same
+found (Err e) bytes is = absurd cc
+
+-- what digits stand for is bytes
+bytes_are : (most : ℕ) (text bytes : List ℕ) → bytes_of most text ≡ Some bytes → IsBytes bytes
+bytes_are most text bytes is =
+    elim (is_dash text) as (λ dash. cond dash (Some []) (cond (nat_le 2 (length text) && nat_le (length text) (2 * most)) (result_ok (decode_of text)) None) ≡ Some bytes → IsBytes bytes) [
+      | true ↦ λ none. let same : [] ≡ bytes = cc in subst IsBytes same (λ i. omega arith)
+      | false ↦ λ some.
+          elim (nat_le 2 (length text) && nat_le (length text) (2 * most)) as (λ fits. cond fits (result_ok (decode_of text)) None ≡ Some bytes → IsBytes bytes) [
+            | true ↦ λ read. (decode_of-ok text bytes (found (decode_of text) bytes read)).3
+            | false ↦ λ read. absurd cc
+          ] some
+    ] is
+
+judge_gives : (fields : Left) → Gives (judge_at fields)
+unfolding judge_at
+judge_gives fields =
+    any_gives digest_of fields _ (λ id.
+    any_gives (pieces_of 174) id.1 _ (λ headers.
+    any_gives (pieces_of 72) headers.1 _ (λ entries.
+    any_gives (number_of (2 ^ 64 - 1)) entries.1 _ (λ n.
+    any_gives digest_of n.1 _ (λ leaf.
+    any_gives (word_of (codes "-")) leaf.1 _ (λ lo.
+    any_gives (word_of (codes "-")) lo.1 _ (λ hi.
+    then_gives IsBytes _ _ (field_reads IsBytes (bytes_of line_limit) hi.1 (bytes_are line_limit)) (λ proof are.
+    end_gives proof.1 (Judge id.0 headers.0 entries.0 (record { n = n.0; leaf = leaf.0; lo = None; hi = None }) proof.0)
+    (record { bytes = are; lower = refl; upper = refl })))))))))
+
+trust_ledger_gives : (fields : Left) → Gives (trust_ledger_at fields)
+unfolding trust_ledger_at
+trust_ledger_gives fields =
+    any_gives digest_of fields _ (λ id.
+    any_gives (number_of (2 ^ 64 - 1)) id.1 _ (λ size.
+    any_gives digest_of size.1 _ (λ root. end_gives root.1 (TrustLedger id.0 (record { size = size.0; root = root.0 })) tt)))
+
+trust_notary_gives : (fields : Left) → Gives (trust_notary_at fields)
+unfolding trust_notary_at
+trust_notary_gives fields =
+    any_gives (number_of (2 ^ 64 - 1)) fields _ (λ size.
+    any_gives digest_of size.1 _ (λ root. end_gives root.1 (TrustNotary (record { size = size.0; root = root.0 })) tt))
+
+trust_of_gives : (which : Which) (fields : Left) → Gives (trust_of which fields)
+trust_of_gives Ledger fields = trust_ledger_gives fields
+trust_of_gives Notary fields = trust_notary_gives fields
+
+trust_gives : (fields : Left) → Gives (trust_at fields)
+unfolding trust_at
+trust_gives fields = any_gives which_of fields _ (λ which. trust_of_gives which.0 which.1)
+
+extend_gives : (fields : Left) → Gives (extend_at fields)
+unfolding extend_at
+extend_gives fields =
+    any_gives which_of fields _ (λ which.
+    any_gives (number_of (2 ^ 64 - 1)) which.1 _ (λ m.
+    any_gives (number_of (2 ^ 64 - 1)) m.1 _ (λ size.
+    any_gives digest_of size.1 _ (λ root.
+    any_gives (bytes_of line_limit) root.1 _ (λ proof.
+    end_gives proof.1 (Extend which.0 m.0 (record { size = size.0; root = root.0 }) proof.0) tt)))))
+
+check_gives : (fields : Left) → Gives (check_at fields)
+unfolding check_at
+check_gives fields =
+    any_gives (number_of (2 ^ 64 - 1)) fields _ (λ n.
+    any_gives digest_of n.1 _ (λ leaf.
+    any_gives mark_of leaf.1 _ (λ lo.
+    any_gives mark_of lo.1 _ (λ hi.
+    any_gives (bytes_of line_limit) hi.1 _ (λ proof.
+    end_gives proof.1 (Check (record { n = n.0; leaf = leaf.0; lo = lo.0; hi = hi.0 }) proof.0) tt)))))
+
+-- one of two
+either_gives : (b : Bool) (x y : Result Line Refusal) → Gives x → Gives y → Gives (if b then x else y)
+either_gives true x y first second = first
+either_gives false x y first second = second
+
+verb_gives : (verb : List ℕ) (fields : Left) → Gives (verb_at verb fields)
+verb_gives verb fields =
+    either_gives (bytes_eq verb (codes "trust")) _ _ (trust_gives fields)
+    (either_gives (bytes_eq verb (codes "extend")) _ _ (extend_gives fields)
+    (either_gives (bytes_eq verb (codes "check")) _ _ (check_gives fields)
+    (either_gives (bytes_eq verb (codes "judge")) _ _ (judge_gives fields) tt)))
+
+line_gives : (fields : Left) → Gives (line_at fields)
+unfolding line_at
+line_gives fields = any_gives text_of fields _ (λ verb. verb_gives verb.0 verb.1)
+
+pub judged_line : (line : List ℕ) (id : Digest) (headers entries : List ℕ) (claim : Claim) (bytes : List ℕ) → line_of line ≡ Ok (Judge id headers entries claim bytes) → Judgeable bytes claim
+judged_line line id headers entries claim bytes read = subst Gives read (line_gives (fields_of line))

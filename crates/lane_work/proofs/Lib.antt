@@ -1,0 +1,9 @@
+pub mod Chains
+pub mod Makings
+pub mod Paired
+pub mod Lines
+pub mod Merging
+pub mod Setting
+pub mod Ordering
+pub mod JobLaws
+pub mod RequestLaws

@@ -1,0 +1,7 @@
+pub mod Flows
+pub mod Making
+pub mod Orders
+pub mod Offering
+pub mod Handing
+pub mod Working
+pub mod Windows

@@ -1,0 +1,55 @@
+//! Lines of one lane, which need no worker.
+ghost use Rattle.std.specs.Prelude.{◌≡◌, ◌+◌, ◌^◌, ◌<◌, All, IfSome, OnErr, OnOk, vec_len};
+ghost use Rattle.lane_work.specs.Offering.{OffersLine, RanAlone, LackedAlone};
+
+use crate::gate::Gate;
+use crate::kinds::LaneLine;
+use crate::preparing::prepare;
+use crate::taker::{Flow, Taker};
+use ledger_bytes::{Digest, NoMemory};
+use member_book::Verifier;
+use std::alloc::Global;
+
+/// The lane of all lines, where they belong to one.
+pub(crate) fn only_lane(lines: &[LaneLine]) -> Option<u8>
+    ensures low { IfSome result (λ lane. lane < 8) }
+    ensures all { IfSome result (λ lane. All (λ l. l.lane ≡ lane) lines.now) }
+{
+    let first = lines.first()?;
+    for line in lines {
+        if line.lane != first.lane {
+            return None;
+        }
+    }
+    Some(first.lane)
+}
+
+/// Prepares lines of one lane and offers them, one after the other. `start` is the first one's number.
+pub(crate) fn run_alone<V: Verifier, G: Gate, T: Taker>(
+    alloc: Global,
+    lines: Vec<LaneLine>,
+    start: u64,
+    id: &Digest,
+    verifier: &V,
+    gate: &G,
+    taker: &mut T,
+) -> Result<(), NoMemory>
+    requires numbers { start + vec_len lines < 2 ^ 64 }
+    requires ready { T.ready taker.old }
+    ensures ok { OnOk result (RanAlone (OffersLine (V.shows verifier.now) id.now.0 T.offers) start lines.items taker.old taker.new) }
+    ensures err { OnErr result (LackedAlone (OffersLine (V.shows verifier.now) id.now.0 T.offers) start lines.items taker.old taker.new) }
+{
+    let mut index = start;
+    for said in lines {
+        let Ok(item) = prepare(alloc, verifier, id, index, said.line.as_slice()) else {
+            return Err(NoMemory);
+        };
+        gate.pass(said.lane, index);
+        match taker.offer(item) {
+            Flow::GoOn => {}
+            Flow::Stop => return Ok(()),
+        }
+        index += 1;
+    }
+    Ok(())
+}

@@ -1,0 +1,63 @@
+ghost use Rattle.std.specs.Prelude.{◌≡◌, true, Ok, IfOk};
+ghost use Rattle.script_lines.specs.Grammar.{spoken_line};
+ghost use Rattle.script_lines.specs.Limits.{fits_line};
+ghost use Rattle.ledger_model.specs.Fitting.{fits_job};
+ghost use Rattle.ledger_model.specs.Rules.{job_for, job_of};
+
+use crate::requests::{member_job, record_job};
+use journal_record::clue_digest;
+use ledger_book::{Job, Prepared};
+use ledger_bytes::{Digest, NoMemory};
+use member_book::Verifier;
+use script_lines::{Line, Spoken, read_line};
+use std::alloc::Global;
+
+/// What a line asks for on the ledger with this id, with all digests that the line alone defines, and with the key that
+/// its proof shows to the verifier.
+pub fn prepare<V: Verifier>(
+    alloc: Global,
+    verifier: &V,
+    id: &Digest,
+    index: u64,
+    line: &[u8],
+) -> Result<Prepared, NoMemory>
+    ensures lane { IfOk result (λ item. item.lane ≡ (spoken_line line.now).0) }
+    ensures index { IfOk result (λ item. item.index ≡ index) }
+    ensures job { IfOk result (λ item. item.job ≡ job_of (V.shows verifier.now) id.now.0 line.now) }
+{
+    let Spoken { lane, what } = read_line(alloc, line)?;
+    let job = match what {
+        Ok(line) => prepare_line(verifier, id, line),
+        Err(refusal) => Job::Refused(refusal),
+    };
+    Ok(Prepared { lane, index, job })
+}
+
+// The job of a line that has a right form.
+fn prepare_line<V: Verifier>(verifier: &V, id: &Digest, line: Line) -> Job
+    requires { fits_line line ≡ true }
+    ensures job { result ≡ job_for (V.shows verifier.now) id.now.0 (Ok line) }
+    ensures fits { fits_job result ≡ true }
+{
+    match line {
+        Line::Append {
+            member,
+            clue,
+            content,
+            proof,
+        } => record_job(
+            verifier,
+            id,
+            member,
+            clue_digest(clue.as_slice()),
+            content,
+            proof,
+        ),
+        Line::NewMember { number, key, proof } => member_job(verifier, id, number, key, proof),
+        Line::Get { n } => Job::Get { n },
+        Line::Clue { name } => Job::Clue {
+            clue: clue_digest(name.as_slice()),
+        },
+        Line::Head => Job::Head,
+    }
+}

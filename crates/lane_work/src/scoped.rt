@@ -1,0 +1,128 @@
+//! The workers and the taker, side by side.
+ghost use Rattle.std.specs.Prelude.{◌≡◌, ◌≤◌, [], length, All, vec_len, vec_capacity};
+ghost use Rattle.intake_queue.specs.Lanes.{taker as of_taker};
+ghost use Rattle.intake_queue.specs.Passes.{taker_view, IsTakerOf};
+ghost use Rattle.lane_work.specs.Working.{IsReady, Pairs, WorksOf};
+
+use crate::gate::Gate;
+use crate::hands::{Hand, LaneJob};
+use crate::kinds::Made;
+use crate::starting::{finish_all, start_all};
+use crate::taker::Taker;
+use crate::taking::{State, take_all};
+use intake_queue::{Intake, LanePass, TakerPass};
+use ledger_bytes::Digest;
+use member_book::Verifier;
+use std::alloc::Global;
+use std::sync::Wait;
+use std::thread;
+use std::thread::Threads;
+
+// What takes and offers. A scope tells nothing of a `&mut` that its closure holds, so the closure holds a value of a type
+// parameter, which gives the reference back.
+pub(crate) trait Offering: Sized {
+    ghost use Rattle.std.specs.Prelude.{◌≡◌, List, [], length};
+    ghost use Rattle.intake_queue.specs.Lanes.{taker as of_taker};
+    ghost use Rattle.intake_queue.specs.Passes.{taker_view, IsTakerOf};
+    ghost use Rattle.lane_work.specs.declared.kinds.Made.{Made};
+    ghost use Rattle.lane_work.specs.declared.taking.State.{State};
+
+    type Back;
+
+    ghost can: { Self → Type 0 };
+
+    ghost gives: { Self → State → List Made → Self.Back → Type 0 };
+
+    fn run<R: Wait>(
+        self,
+        rt: &R,
+        intake: &Intake<Made>,
+        pass: TakerPass<Made>,
+        count: usize,
+    ) -> (Self::Back, TakerPass<Made>, State)
+        requires can { can self }
+        requires pass { IsTakerOf intake.now pass × (taker_view pass ≡ of_taker (taker_view pass).plan [] (taker_view pass).lent (taker_view pass).back) }
+        ensures pass { IsTakerOf intake.now result.1 × (taker_view result.1 ≡ of_taker (taker_view pass).plan (taker_view result.1).got (taker_view pass).lent (taker_view pass).back) }
+        ensures count { length (taker_view result.1).got ≡ count }
+        ensures gives { gives self result.2 (taker_view result.1).got result.0 };
+}
+
+/// A taker that is given back.
+#[derive(Drop)]
+pub(crate) struct Lent<'a, T> {
+    pub taker: &'a mut T,
+}
+
+impl<'a, T: Taker> Offering for Lent<'a, T> {
+    ghost use Rattle.std.specs.Prelude.{◌≡◌};
+    ghost use Rattle.lane_work.specs.Offering.{Comes};
+
+    type Back = &'a mut T;
+
+    ghost can = { λ h. T.ready h.taker.now };
+
+    ghost gives = { λ h state got r. (r.ghost_name ≡ h.taker.ghost_name) × Comes T.offers state h.taker.now got r.now };
+
+    fn run<R: Wait>(
+        self,
+        rt: &R,
+        intake: &Intake<Made>,
+        pass: TakerPass<Made>,
+        count: usize,
+    ) -> (&'a mut T, TakerPass<Made>, State) {
+        let Lent { taker } = self;
+        let (pass, state) = take_all(rt, intake, pass, count, taker);
+        (taker, pass, state)
+    }
+}
+
+/// Starts the workers, lets the offering take so many items meanwhile, and waits for the workers.
+pub(crate) fn side_by_side<
+    R: Threads + Wait + Sync,
+    V: Verifier,
+    G: Gate,
+    H: Offering<Back = B> + Drop,
+    B,
+>(
+    rt: &R,
+    alloc: Global,
+    intake: &Intake<Made>,
+    jobs: Vec<LaneJob>,
+    hands: Vec<Hand<V>>,
+    done: Vec<LanePass<Made>>,
+    id: &Digest,
+    verifier: &V,
+    gate: &G,
+    offering: H,
+    pass: TakerPass<Made>,
+    count: usize,
+) -> (B, TakerPass<Made>, State, Vec<LanePass<Made>>)
+    requires ready { All (IsReady intake.now) jobs.items }
+    requires room { (hands.items ≡ []) × (vec_len jobs ≤ vec_capacity hands) × (done.items ≡ []) × (vec_len jobs ≤ vec_capacity done) }
+    requires can { H.can offering }
+    requires pass { IsTakerOf intake.now pass × (taker_view pass ≡ of_taker (taker_view pass).plan [] (taker_view pass).lent (taker_view pass).back) }
+    ensures pass { IsTakerOf intake.now result.1 × (taker_view result.1 ≡ of_taker (taker_view pass).plan (taker_view result.1).got (taker_view pass).lent (taker_view pass).back) }
+    ensures count { length (taker_view result.1).got ≡ count }
+    ensures gives { H.gives offering result.2 (taker_view result.1).got result.0 }
+    ensures lanes { Pairs (WorksOf (V.shows verifier.now) id.now.0) jobs.items result.3.items }
+{
+    thread::scope(
+        thread::scope_env(),
+        rt,
+        move |scope| -> (B, TakerPass<Made>, State, Vec<LanePass<Made>>)
+            requires ready { All (IsReady intake.now) jobs.items }
+            requires room { (hands.items ≡ []) × (vec_len jobs ≤ vec_capacity hands) × (done.items ≡ []) × (vec_len jobs ≤ vec_capacity done) }
+            requires can { H.can offering }
+            requires pass { IsTakerOf intake.now pass × (taker_view pass ≡ of_taker (taker_view pass).plan [] (taker_view pass).lent (taker_view pass).back) }
+            ensures pass { IsTakerOf intake.entry.now result.1 × (taker_view result.1 ≡ of_taker (taker_view pass).plan (taker_view result.1).got (taker_view pass).lent (taker_view pass).back) }
+            ensures count { length (taker_view result.1).got ≡ count }
+            ensures gives { H.gives offering result.2 (taker_view result.1).got result.0 }
+            ensures lanes { Pairs (WorksOf (V.shows verifier.entry.now) id.entry.now.0) jobs.items result.3.items }
+        {
+            let hands = start_all(scope, rt, alloc, intake, jobs, hands, id, verifier, gate);
+            let (back, pass, state) = offering.run(rt, intake, pass, count);
+            let lanes = finish_all(rt, hands, done);
+            (back, pass, state, lanes)
+        },
+    )
+}

@@ -1,0 +1,505 @@
+-- Lemmas on a session that takes its lines in pieces: how far it came, and how it ends.
+use Rattle.std.proofs.Common.{◌≡◌, ◌≢◌, ℕ, ◌+◌, ◌^◌, ◌<◌, ◌≤◌, ◌==◌, ◌⊎◌, inl, inr, Bool, true, false, cond, List, [], ◌∷◌, ◌++◌, length, map, filter, Option, None, Some, Err, refl, ap, sym, subst, ◌∙◌, arith, append_assoc, append-nil, length-append, eq-eqb, ne_eqb}
+use Rattle.std.specs.Prelude.{if◌then◌else◌, slice_index}
+use Rattle.std.proofs.lemmas.List.{map-append}
+use Rattle.std.proofs.lemmas.List.Elements.{filter-append}
+use Rattle.std.specs.Io.KnownBytes.{Consumes, Appends}
+use mathlib.Core.Logic.{dite}
+use native.Mathlib.Decide.{ℕ_discrete}
+use Rattle.script_lines.specs.Grammar.{spoken_line}
+use Rattle.batch_committer.specs.World.{World, HasRoom, Goes, Ended}
+use Rattle.batch_committer.specs.declared.end.End.{End}
+use Rattle.batch_committer.specs.declared.end.End.TheVariants as end
+use Rattle.batch_committer.proofs.Ending.{no_memory}
+use Rattle.batch_committer.proofs.WayLaws.{goes_same, goes_then, goes_as, ended_then, ended_as}
+use Rattle.lane_work.specs.Making.{lines_of}
+use Rattle.lane_work.specs.Orders.{numbered, IsOrderOf}
+use Rattle.lane_work.specs.declared.kinds.LaneLine.{LaneLine}
+use Rattle.ledger_io.specs.Outside.{SourceState}
+use Rattle.ledger_io.specs.Reading.{Reading, Reads, GivesLine, GivesNone, Gives, faults_next}
+use Rattle.ledger_io.specs.Runs.{EndsReading, SomeAnswer, ending_after}
+use Rattle.ledger_io.specs.declared.ending.Ending.TheVariants as run
+use Rattle.ledger_io.specs.declared.failure.LineErr.{LineErr}
+use Rattle.ledger_io.specs.declared.failure.LineErr.TheVariants.{NoMemory}
+use Rattle.ledger_io.proofs.ReadingLaws.{HasGiven, read_none, read_more, given_consumed}
+use Rattle.ledger_io.proofs.RunLaws.{ended_whole, ended_failed, some_at_failure, some_of_given}
+use Rattle.ledger_model.specs.Dues.{dues, all_dues}
+use Rattle.ledger_model.specs.History.{History, close}
+use Rattle.ledger_model.specs.InOrder.{step_of, steps_of}
+use Rattle.ledger_model.specs.Merge.{lines_of_lane}
+use Rattle.ledger_model.specs.Rules.{after, after_steps}
+use Rattle.ledger_model.specs.Scheme.{Scheme}
+use Rattle.ledger_model.specs.Windows.{Said, said_lines, windows, numbered_line, count_of, bytes_of, fills_window}
+use Rattle.ledger_model.specs.declared.due.Due.{Due}
+use Rattle.ledger_model.proofs.DueLaws.{after_steps-append, dues-append}
+use Rattle.ledger_model.proofs.GrowLaws.{grows_not}
+use Rattle.ledger_model.proofs.LaneLaws.{said_after-append}
+use Rattle.ledger_model.proofs.WindowLaws.{IsCut, cut_none, cut_more, cut_whole, bytes_of-push}
+use Rattle.ledger_cli.specs.Endings.{ending_of_end}
+use Rattle.ledger_cli.specs.Pieces.{At, at, world_at, PieceTaken, PieceBroken, WindowTaken, FlushBroken, WindowBroken}
+use Rattle.ledger_cli.specs.Runs.{handed, FaultsBy, StopsOn, RunsOn}
+use Rattle.ledger_cli.specs.Session.{Runs}
+use Rattle.ledger_cli.specs.declared.ending.LedgerEnding.TheVariants.{Run}
+use Rattle.ledger_cli.proofs.HaltLaws.{stopped, stopped_last, answered}
+use Rattle.ledger_cli.proofs.LineLaws.{reached, owed, window_on, dues_on}
+use Rattle.ledger_cli.proofs.MergeLaws.{IsOrder, AreOrders, order_append, orders_append, order_same, count_more}
+use Rattle.ledger_cli.proofs.OrderLaws.{CanGoOn, part_open, part_whole, last_orders}
+use Rattle.ledger_cli.proofs.StopLaws.{SaidOf}
+use Rattle.ledger_cli.proofs.SessionLaws.{few_lines, faults_end, faults_stop, at_most_once, serve_stop, serve_end}
+
+-- ---- the lines that wait to be taken
+
+-- each lane's first and next numbers, the lines of a piece, and these lines as they are numbered in a script
+pub record AreLate (first next : List ℕ) (piece : List LaneLine) (script : List (List ℕ)) (late : List Said) : Type 0 where
+  pub order : IsOrderOf first piece late
+  pub from : (k : ℕ) → k < 8 → slice_index next k ≡ slice_index first k + length (lines_of k piece)
+  pub counts : (k : ℕ) → k < 8 → slice_index next k ≡ count_of k script + 1
+
+numbered-push : (n : ℕ) (ls : List LaneLine) (l : LaneLine) → numbered n (ls ++ l ∷ []) ≡ numbered n ls ++ record { lane = l.lane; index = n + length ls; line = l.line } ∷ []
+unfolding numbered
+numbered-push n [] l = ap (λ (m : ℕ). record { lane = l.lane; index = m; line = l.line } ∷ []) (omega arith)
+numbered-push n (m ∷ ls) l =
+    let head : Said = record { lane = m.lane; index = n; line = m.line } in
+    ap (λ (xs : List Said). head ∷ xs) (numbered-push (n + 1) ls l ∙ ap (λ (i : ℕ). numbered (n + 1) ls ++ record { lane = l.lane; index = i; line = l.line } ∷ []) (omega arith))
+
+late_more : (first next new : List ℕ) (piece : List LaneLine) (script : List (List ℕ)) (late : List Said) (l : LaneLine) (line : List ℕ) → l.line ≡ line → AreLate first next piece script late
+    → ((k : ℕ) → k < 8 → slice_index new k ≡ (if (spoken_line line).0 == k then slice_index next k + 1 else slice_index next k))
+    → AreLate first new (piece ++ l ∷ []) (script ++ line ∷ []) (late ++ numbered_line (count_of (spoken_line line).0 script + 1) line ∷ [])
+late_more first next new piece script late l line is a new_is =
+    let lane : l.lane ≡ (spoken_line line).0 = l.is_lane ∙ ap (λ (x : List ℕ). (spoken_line x).0) is in
+    let low : l.lane < 8 = (let small = l.low in omega (arith, small)) in
+    let x : Said = numbered_line (count_of (spoken_line line).0 script + 1) line in
+    let x_is : x ≡ record { lane = l.lane; index = slice_index first l.lane + length (lines_of l.lane piece); line = l.line } =
+    λ i. record { lane = sym lane i; index = (ap (λ (k : ℕ). count_of k script + 1) (sym lane) ∙ sym (a.counts l.lane low) ∙ a.from l.lane low) i; line = sym is i } in
+    let said_at : (k : ℕ) → lines_of_lane k (late ++ x ∷ []) ≡ lines_of_lane k late ++ cond (x.lane == k) (x ∷ []) [] = λ k. filter-append (λ (y : Said). y.lane == k) late (x ∷ []) in
+    let lines_at : (k : ℕ) → lines_of k (piece ++ l ∷ []) ≡ lines_of k piece ++ cond (l.lane == k) (l ∷ []) [] = λ k. filter-append (λ (y : LaneLine). y.lane == k) piece (l ∷ []) in record {
+      order = λ k. dite (ℕ_discrete l.lane k)
+          (λ (e : l.lane ≡ k).
+          said_at k ∙ ap (λ (b : Bool). lines_of_lane k late ++ cond b (x ∷ []) []) (eq-eqb x.lane k (sym lane ∙ e))
+          ∙ ap (λ (ys : List Said). ys ++ x ∷ []) (a.order k)
+          ∙ ap (λ (y : Said). numbered (slice_index first k) (lines_of k piece) ++ y ∷ []) x_is
+          ∙ ap (λ (j : ℕ). numbered (slice_index first k) (lines_of k piece) ++ record { lane = l.lane; index = slice_index first j + length (lines_of j piece); line = l.line } ∷ []) e
+          ∙ sym (numbered-push (slice_index first k) (lines_of k piece) l)
+          ∙ sym (ap (numbered (slice_index first k)) (lines_at k ∙ ap (λ (b : Bool). lines_of k piece ++ cond b (l ∷ []) []) (eq-eqb l.lane k e))))
+          (λ (e : l.lane ≢ k).
+          said_at k ∙ ap (λ (b : Bool). lines_of_lane k late ++ cond b (x ∷ []) []) (ne_eqb x.lane k (λ q. e (lane ∙ q))) ∙ append-nil (lines_of_lane k late)
+          ∙ a.order k
+          ∙ sym (ap (numbered (slice_index first k)) (lines_at k ∙ ap (λ (b : Bool). lines_of k piece ++ cond b (l ∷ []) []) (ne_eqb l.lane k e) ∙ append-nil (lines_of k piece))));
+      from = λ k less. dite (ℕ_discrete l.lane k)
+          (λ (e : l.lane ≡ k).
+          let n = new_is k less ∙ ap (λ (b : Bool). if b then slice_index next k + 1 else slice_index next k) (eq-eqb (spoken_line line).0 k (sym lane ∙ e)) in
+          let m = ap length (lines_at k ∙ ap (λ (b : Bool). lines_of k piece ++ cond b (l ∷ []) []) (eq-eqb l.lane k e)) in
+          let was = a.from k less in let len = length-append (lines_of k piece) (l ∷ []) in omega (arith, n, m, was, len))
+          (λ (e : l.lane ≢ k).
+          let n = new_is k less ∙ ap (λ (b : Bool). if b then slice_index next k + 1 else slice_index next k) (ne_eqb (spoken_line line).0 k (λ q. e (lane ∙ q))) in
+          let m = ap length (lines_at k ∙ ap (λ (b : Bool). lines_of k piece ++ cond b (l ∷ []) []) (ne_eqb l.lane k e) ∙ append-nil (lines_of k piece)) in
+          let was = a.from k less in omega (arith, n, m, was));
+      counts = λ k less.
+          new_is k less ∙ by k ((spoken_line line).0 == k) (a.counts k less) ∙ ap (λ (n : ℕ). n + 1) (sym (count_more k script line));
+    }
+  where
+    by : (k : ℕ) (b : Bool) → slice_index next k ≡ count_of k script + 1 → (if b then slice_index next k + 1 else slice_index next k) ≡ cond b (count_of k script + 1) (count_of k script) + 1
+    by k true e = ap (λ (n : ℕ). n + 1) e
+    by k false e = e
+
+late_none : (first next : List ℕ) (piece : List LaneLine) (script : List (List ℕ)) → piece ≡ [] → first ≡ next → ((k : ℕ) → k < 8 → slice_index next k ≡ count_of k script + 1) → AreLate first next piece script []
+unfolding numbered
+late_none first next piece script none same counts = record {
+  order = λ k. sym (ap (λ (ls : List LaneLine). numbered (slice_index first k) (lines_of k ls)) none);
+  from = λ k less. let e = ap (λ (l : List ℕ). slice_index l k) same in let n = ap (λ (ls : List LaneLine). length (lines_of k ls)) none in omega (arith, e, n);
+  counts = counts;
+}
+
+-- an order in which they are taken
+late_taken : (first next : List ℕ) (piece : List LaneLine) (script : List (List ℕ)) (late order : List Said) → AreLate first next piece script late → IsOrderOf first piece order → IsOrder late order
+late_taken first next piece script late order a o k = o k ∙ sym (a.order k)
+
+count_few : (j : ℕ) (ls : List (List ℕ)) → count_of j ls ≤ length ls
+count_few j [] = omega arith
+count_few j (l ∷ ls) =
+    elim ((spoken_line l).0 == j) as (λ b. length (cond b (l ∷ filter (λ (x : List ℕ). (spoken_line x).0 == j) ls) (filter (λ (x : List ℕ). (spoken_line x).0 == j) ls)) ≤ length (l ∷ ls)) [
+      | true ↦ (let r = count_few j ls in omega (arith, r))
+      | false ↦ (let r = count_few j ls in omega (arith, r))
+    ]
+
+-- ---- how far a session came
+
+-- These lines were given. Whole windows were taken, of the window at hand some lines, each in some order, and the others wait.
+pub record SoFar (scheme : Scheme) (tells : Bool) (first_w w : World) (before now : SourceState) (reading : Reading) (first next : List ℕ) (piece : List LaneLine) (lines bytes : ℕ) : Type 0 where
+  pub script : List (List ℕ)
+  pub input : HasGiven before now reading script
+  pub windows_are : List (List Said)
+  pub front : List Said
+  pub cut : IsCut (said_lines script) windows_are front
+  pub done : List (List Said)
+  pub current : List Said
+  pub late : List Said
+  pub orders : AreOrders windows_are done
+  pub order : IsOrder front (current ++ late)
+  pub are_late : AreLate first next piece script late
+  pub lines_are : lines ≡ length front
+  pub bytes_are : bytes ≡ bytes_of front
+  pub few : length piece ≤ lines
+  pub goes : Goes tells first_w (reached scheme done current) (owed scheme done current) w
+
+pub sofar_begins : (scheme : Scheme) (tells : Bool) (w : World) (before : SourceState) (reading : Reading) (first next : List ℕ) (piece : List LaneLine) (lines bytes : ℕ)
+    → reading ≡ record { held = []; total = 0; ended = false; failed = None } → piece ≡ [] → ((k : ℕ) → k < 8 → slice_index first k ≡ 1) → ((k : ℕ) → k < 8 → slice_index next k ≡ 1) → lines ≡ 0 → bytes ≡ 0
+    → SoFar scheme tells w w before before reading first next piece lines bytes
+unfolding numbered
+sofar_begins scheme tells w before reading first next piece lines bytes is none f n lines_are bytes_are = record {
+  script = [];
+  input = read_none before reading is;
+  windows_are = [];
+  front = [];
+  cut = cut_none;
+  done = [];
+  current = [];
+  late = [];
+  orders = tt;
+  order = order_same [];
+  are_late = record {
+    order = λ k. sym (ap (λ (ls : List LaneLine). numbered (slice_index first k) (lines_of k ls)) none);
+    from = λ k less. let a = f k less in let b = n k less in let e = ap (λ (ls : List LaneLine). length (lines_of k ls)) none in omega (arith, a, b, e);
+    counts = n;
+  };
+  lines_are = lines_are;
+  bytes_are = bytes_are;
+  few = let e = ap length none in omega (arith, e);
+  goes = goes_same tells w;
+}
+
+-- ---- lines that are taken, and ends
+
+module _ (scheme : Scheme) where
+  reach_on : (done : List (List Said)) (current order : List Said) (h : History) → after_steps scheme (reached scheme done current h) (map step_of order) ≡ reached scheme done (current ++ order) h
+  reach_on done current order h =
+      let g = after scheme h (steps_of done) in
+      sym (ap (after_steps scheme g) (map-append step_of current order) ∙ after_steps-append scheme g (map step_of current) (map step_of order))
+
+  owe_on : (done : List (List Said)) (current order : List Said) (h : History) → owed scheme done current h ++ dues scheme (reached scheme done current h) (map step_of order) ≡ owed scheme done (current ++ order) h
+  owe_on done current order h =
+      let g = after scheme h (steps_of done) in
+      let all = all_of h in
+      append_assoc all (dues scheme g (map step_of current)) (dues scheme (reached scheme done current h) (map step_of order))
+      ∙ ap (λ l. all ++ l) (sym (ap (dues scheme g) (map-append step_of current order) ∙ dues-append scheme g (map step_of current) (map step_of order)))
+    where
+      all_of : History → List Due
+      all_of k = all_dues scheme k (steps_of done)
+
+  module _ (tells : Bool) (first_w w t : World) (done : List (List Said)) (current order : List Said) (g : Goes tells first_w (reached scheme done current) (owed scheme done current) w) where
+    go_on : Goes tells w (λ h. after_steps scheme h (map step_of order)) (λ h. dues scheme h (map step_of order)) t → Goes tells first_w (reached scheme done (current ++ order)) (owed scheme done (current ++ order)) t
+    go_on x =
+        goes_as tells first_w t (λ h. after_steps scheme (reached scheme done current h) (map step_of order)) (reached scheme done (current ++ order))
+        (λ h. owed scheme done current h ++ dues scheme (reached scheme done current h) (map step_of order)) (owed scheme done (current ++ order))
+        (λ h p. reach_on done current order h) (λ h p. owe_on done current order h)
+        (goes_then tells first_w w t (reached scheme done current) (λ h. after_steps scheme h (map step_of order)) (owed scheme done current) (λ h. dues scheme h (map step_of order)) g x)
+
+    break_on : (why : End) → Ended tells w (λ h. after_steps scheme h (map step_of order)) (λ h. dues scheme h (map step_of order)) why t → Ended tells first_w (reached scheme done (current ++ order)) (owed scheme done (current ++ order)) why t
+    break_on why x =
+        ended_as tells first_w t (λ h. after_steps scheme (reached scheme done current h) (map step_of order)) (reached scheme done (current ++ order))
+        (λ h. owed scheme done current h ++ dues scheme (reached scheme done current h) (map step_of order)) (owed scheme done (current ++ order)) why
+        (λ h p. reach_on done current order h) (λ h p. owe_on done current order h)
+        (ended_then tells first_w w t (reached scheme done current) (λ h. after_steps scheme h (map step_of order)) (owed scheme done current) (λ h. dues scheme h (map step_of order)) why g x)
+
+    -- with the end of the window
+    close_on : (h : History) → close (after_steps scheme (reached scheme done current h) (map step_of order)) ≡ reached scheme (done ++ (current ++ order) ∷ []) [] h
+    close_on h = ap close (reach_on done current order h) ∙ window_on scheme h done (current ++ order)
+
+    due_on : (h : History) → owed scheme done current h ++ dues scheme (reached scheme done current h) (map step_of order) ≡ owed scheme (done ++ (current ++ order) ∷ []) [] h
+    due_on h = owe_on done current order h ∙ dues_on scheme h done (current ++ order)
+
+    end_on : Goes tells w (λ h. close (after_steps scheme h (map step_of order))) (λ h. dues scheme h (map step_of order)) t → Goes tells first_w (reached scheme (done ++ (current ++ order) ∷ []) []) (owed scheme (done ++ (current ++ order) ∷ []) []) t
+    end_on x =
+        goes_as tells first_w t (λ h. close (after_steps scheme (reached scheme done current h) (map step_of order))) (reached scheme (done ++ (current ++ order) ∷ []) [])
+        (λ h. owed scheme done current h ++ dues scheme (reached scheme done current h) (map step_of order)) (owed scheme (done ++ (current ++ order) ∷ []) [])
+        (λ h p. close_on h) (λ h p. due_on h)
+        (goes_then tells first_w w t (reached scheme done current) (λ h. close (after_steps scheme h (map step_of order))) (owed scheme done current) (λ h. dues scheme h (map step_of order)) g x)
+
+    unend_on : (why : End) → Ended tells w (λ h. close (after_steps scheme h (map step_of order))) (λ h. dues scheme h (map step_of order)) why t → Ended tells first_w (reached scheme (done ++ (current ++ order) ∷ []) []) (owed scheme (done ++ (current ++ order) ∷ []) []) why t
+    unend_on why x =
+        ended_as tells first_w t (λ h. close (after_steps scheme (reached scheme done current h) (map step_of order))) (reached scheme (done ++ (current ++ order) ∷ []) [])
+        (λ h. owed scheme done current h ++ dues scheme (reached scheme done current h) (map step_of order)) (owed scheme (done ++ (current ++ order) ∷ []) []) why
+        (λ h p. close_on h) (λ h p. due_on h)
+        (ended_then tells first_w w t (reached scheme done current) (λ h. close (after_steps scheme h (map step_of order))) (owed scheme done current) (λ h. dues scheme h (map step_of order)) why g x)
+
+-- a part of an order that was taken, with the rest of it
+with_rest : (front current late order part rest : List Said) → IsOrder front (current ++ late) → IsOrder late order → order ≡ part ++ rest → IsOrder front ((current ++ part) ++ rest)
+with_rest front current late order part rest o p split k =
+    ap (lines_of_lane k) (append_assoc current part rest ∙ ap (λ (l : List Said). current ++ l) (sym split))
+    ∙ filter-append (λ (l : Said). l.lane == k) current order ∙ ap (λ (l : List Said). lines_of_lane k current ++ l) (p k) ∙ sym (filter-append (λ (l : Said). l.lane == k) current late) ∙ o k
+
+with_order : (front current late order : List Said) → IsOrder front (current ++ late) → IsOrder late order → IsOrder front (current ++ order)
+with_order front current late order o p k =
+    filter-append (λ (l : Said). l.lane == k) current order ∙ ap (λ (l : List Said). lines_of_lane k current ++ l) (p k) ∙ sym (filter-append (λ (l : Said). l.lane == k) current late) ∙ o k
+
+-- ---- a stop within the script
+
+halt : (scheme : Scheme) (tells : Bool) (first_w : World) (before now : SourceState) (reading : Reading) (script : List (List ℕ)) (input : HasGiven before now reading script) (done : List (List Said)) (current : List Said) → CanGoOn script done current
+    → HasRoom first_w.kept → first_w.kept.dues ≡ [] → (why : End) (t : World) → Ended tells first_w (reached scheme done current) (owed scheme done current) why t
+    → Runs scheme tells first_w (ending_of_end why) (handed before first_w.sink first_w.disks) (handed now t.sink t.disks)
+halt scheme tells first_w before now reading script input done current can room no_dues why t all = record {
+  serves = λ h p none.
+      let stop = stopped scheme tells first_w h p room none no_dues script (few_lines before now reading script input) done current can why t all in
+      let here = stop [] in
+      serve_stop scheme h why first_w t before now all.part input.read all.cause input.consumed all.appended here.0 here.2
+      (λ IsSo so. some_of_given (StopsOn scheme h all.part t.disks) before now reading script input IsSo (λ tail. let a = stop tail in (a.0, a.1, so a.0 a.2)));
+  faults = faults_stop why first_w t before now (inl input.faults) all.cause;
+}
+
+-- the script with a line that isn't taken
+can_later : (script : List (List ℕ)) (line : List ℕ) (done : List (List Said)) (current : List Said) → CanGoOn script done current → CanGoOn (script ++ line ∷ []) done current
+can_later script line done current can tail =
+    let g = can (line ∷ tail) in record {
+      all = g.all;
+      orders = subst (λ l. AreOrders (windows (said_lines l)) g.all) (sym (append_assoc script (line ∷ []) tail)) g.orders;
+      begun = g.begun;
+    }
+
+-- nothing more is done for want of memory
+lacking : (scheme : Scheme) (tells : Bool) (first_w w : World) (done : List (List Said)) (current : List Said) → Goes tells first_w (reached scheme done current) (owed scheme done current) w → Ended tells first_w (reached scheme done current) (owed scheme done current) end.NoMemory w
+lacking scheme tells first_w w done current g =
+    ended_as tells first_w w (reached scheme done current) (reached scheme done current) (λ h. owed scheme done current h ++ []) (owed scheme done current) end.NoMemory (λ h p. refl) (λ h p. append-nil (owed scheme done current h))
+    (ended_then tells first_w w w (reached scheme done current) (λ h. h) (owed scheme done current) (λ h. []) end.NoMemory g (no_memory tells w w.kept (λ h. h) (λ h. []) (λ h p. grows_not h)))
+
+module _ (scheme : Scheme) (tells : Bool) (first_w w : World) (before now : SourceState) (reading : Reading) (first next : List ℕ) (piece : List LaneLine) (lines window_bytes : ℕ)
+    (room : HasRoom first_w.kept) (no_dues : first_w.kept.dues ≡ []) (s : SoFar scheme tells first_w w before now reading first next piece lines window_bytes) where
+  can_here : CanGoOn s.script s.done s.current
+  can_here = part_open s.script s.windows_are s.front s.done s.current s.late s.cut s.orders s.order
+
+  -- ---- a piece
+
+  -- its lines were taken
+  pub sofar_taken : (held : At) (t : At) (new_first new_next : List ℕ) (new_piece : List LaneLine) → world_at held ≡ w → PieceTaken scheme tells first piece held t → new_piece ≡ [] → new_first ≡ next → new_next ≡ next
+      → SoFar scheme tells first_w (world_at t) before now reading new_first new_next new_piece lines window_bytes
+  sofar_taken held t new_first new_next new_piece same x none f n = record {
+    script = s.script;
+    input = s.input;
+    windows_are = s.windows_are;
+    front = s.front;
+    cut = s.cut;
+    done = s.done;
+    current = s.current ++ x.order;
+    late = [];
+    orders = s.orders;
+    order = subst (IsOrder s.front) (sym (append-nil (s.current ++ x.order))) (with_order s.front s.current s.late x.order s.order (late_taken first next piece s.script s.late x.order s.are_late x.is_order));
+    are_late = late_none new_first new_next new_piece s.script none (f ∙ sym n) (λ k less. ap (λ (l : List ℕ). slice_index l k) n ∙ s.are_late.counts k less);
+    lines_are = s.lines_are;
+    bytes_are = s.bytes_are;
+    few = let e = ap length none in omega (arith, e);
+    goes = go_on scheme tells first_w (world_at held) (world_at t) s.done s.current x.order (subst (Goes tells first_w (reached scheme s.done s.current) (owed scheme s.done s.current)) (sym same) s.goes) x.goes;
+  }
+
+  -- .. or the run ended on the way
+  pub ran_broken : (held t : At) (why : End) → world_at held ≡ w → PieceBroken scheme tells first piece why held t
+      → Runs scheme tells first_w (ending_of_end why) (handed before first_w.sink first_w.disks) (handed now t.sink t.disks)
+  ran_broken held t why same x =
+      let taken = late_taken first next piece s.script s.late x.order s.are_late x.is_order in
+      halt scheme tells first_w before now reading s.script s.input s.done (s.current ++ x.front)
+      (part_open s.script s.windows_are s.front s.done (s.current ++ x.front) x.rest s.cut s.orders (with_rest s.front s.current s.late x.order x.front x.rest s.order taken x.split))
+      room no_dues why (world_at t)
+      (break_on scheme tells first_w (world_at held) (world_at t) s.done s.current x.front (subst (Goes tells first_w (reached scheme s.done s.current) (owed scheme s.done s.current)) (sym same) s.goes) why x.ended)
+
+  -- the numbers of lanes fit
+  pub few_numbers : (k : ℕ) → k < 8 → (slice_index first k + length (lines_of k piece) < 2 ^ 64) × (slice_index next k + 1 < 2 ^ 64)
+  few_numbers k less =
+      let a = s.are_late.from k less in
+      let b = s.are_late.counts k less in
+      let c = count_few k s.script in
+      let i = s.input in
+      let e = i.few in let f = i.total in let g = i.bounded in
+      (omega (arith, a, b, c, e, f, g), omega (arith, a, b, c, e, f, g))
+
+  module _ (after_read : SourceState) (new : Reading) (bytes : List ℕ) (r : Reads now after_read reading new bytes) where
+    abbrev read : List ℕ
+    read = s.input.read ++ bytes
+
+    consumed : Consumes before.left after_read.left read
+    consumed = given_consumed before now after_read reading new bytes s.script s.input r
+
+    few_here : length s.script < 2 ^ 64
+    few_here = few_lines before now reading s.script s.input
+
+    -- ---- reading ended
+
+    module _ (end : Option LineErr) (e : EndsReading end before after_read read s.script) (held : At) (same : world_at held ≡ w) where
+      here : Goes tells first_w (reached scheme s.done s.current) (owed scheme s.done s.current) (world_at held)
+      here = subst (Goes tells first_w (reached scheme s.done s.current) (owed scheme s.done s.current)) (sym same) s.goes
+
+      -- .. and the last lines were taken, and the last block ended
+      pub ran_whole : (t : At) → WindowTaken scheme tells first piece held t → t.held.kept.dues ≡ [] → Runs scheme tells first_w (Run (ending_after end)) (handed before first_w.sink first_w.disks) (handed after_read t.sink t.disks)
+      ran_whole t x no_more =
+          let order = with_order s.front s.current s.late x.order s.order (late_taken first next piece s.script s.late x.order s.are_late x.is_order) in
+          let now_taken = s.current ++ x.order in
+          let all = whole_end t x in record {
+            serves = λ h p none.
+                serve_end scheme h end first_w (world_at t) before after_read all.sofar read s.script all.no_fault.sink consumed all.appended e
+                (answered scheme tells first_w h p room none no_dues s.script few_here s.done now_taken (last_orders s.script s.windows_are s.front s.done now_taken s.cut s.orders order) (world_at t) all no_more);
+            faults = faults_end end (handed before first_w.sink first_w.disks) (handed after_read t.sink t.disks) read s.script e all.no_fault.a all.no_fault.b all.no_fault.sink;
+          }
+        where
+          whole_end : (t : At) (x : WindowTaken scheme tells first piece held t) → Goes tells first_w (λ k. close (reached scheme s.done (s.current ++ x.order) k)) (λ k. owed scheme s.done (s.current ++ x.order) k ++ []) (world_at t)
+          whole_end t x =
+              goes_as tells first_w (world_at t) (λ h. close (after_steps scheme (reached scheme s.done s.current h) (map step_of x.order))) (λ k. close (reached scheme s.done (s.current ++ x.order) k))
+              (λ h. owed scheme s.done s.current h ++ dues scheme (reached scheme s.done s.current h) (map step_of x.order)) (λ k. owed scheme s.done (s.current ++ x.order) k ++ [])
+              (λ h p. ap close (reach_on scheme s.done s.current x.order h)) (λ h p. owe_on scheme s.done s.current x.order h ∙ sym (append-nil (owed scheme s.done (s.current ++ x.order) h)))
+              (goes_then tells first_w (world_at held) (world_at t) (reached scheme s.done s.current) (λ h. close (after_steps scheme h (map step_of x.order))) (owed scheme s.done s.current) (λ h. dues scheme h (map step_of x.order)) here x.goes)
+
+      -- .. or they weren't
+      pub ran_cut : (t : At) (why : End) → WindowBroken scheme tells first piece why held t → Runs scheme tells first_w (ending_of_end why) (handed before first_w.sink first_w.disks) (handed after_read t.sink t.disks)
+      ran_cut t why (inl x) =
+          let taken = late_taken first next piece s.script s.late x.order s.are_late x.is_order in
+          let all = break_on scheme tells first_w (world_at held) (world_at t) s.done s.current x.front here why x.ended in
+          let can = part_open s.script s.windows_are s.front s.done (s.current ++ x.front) x.rest s.cut s.orders (with_rest s.front s.current s.late x.order x.front x.rest s.order taken x.split) in record {
+            serves = λ h p none.
+                let stop = subst (λ l. SomeAnswer (StopsOn scheme h all.part t.disks) l (SaidOf why all.part)) (append-nil s.script)
+                (stopped scheme tells first_w h p room none no_dues s.script few_here s.done (s.current ++ x.front) can why (world_at t) all []) in
+                serve_stop scheme h why first_w (world_at t) before after_read all.part read all.cause consumed all.appended stop.0 stop.2
+                (λ IsSo so. inr (end, s.script, e, (stop.0, stop.1, so stop.0 stop.2)));
+            faults = faults_stop why first_w (world_at t) before after_read (at_most_once end before after_read read s.script e) all.cause;
+          }
+      ran_cut t why (inr x) =
+          let order = with_order s.front s.current s.late x.order s.order (late_taken first next piece s.script s.late x.order s.are_late x.is_order) in
+          let now_taken = s.current ++ x.order in
+          let all =
+          ended_as tells first_w (world_at t) (λ h. close (after_steps scheme (reached scheme s.done s.current h) (map step_of x.order))) (λ k. close (reached scheme s.done (s.current ++ x.order) k))
+          (λ h. owed scheme s.done s.current h ++ dues scheme (reached scheme s.done s.current h) (map step_of x.order)) (λ k. owed scheme s.done (s.current ++ x.order) k ++ []) why
+          (λ h p. ap close (reach_on scheme s.done s.current x.order h)) (λ h p. owe_on scheme s.done s.current x.order h ∙ sym (append-nil (owed scheme s.done (s.current ++ x.order) h)))
+          (ended_then tells first_w (world_at held) (world_at t) (reached scheme s.done s.current) (λ h. close (after_steps scheme h (map step_of x.order))) (owed scheme s.done s.current) (λ h. dues scheme h (map step_of x.order)) why here x.ended) in record {
+            serves = λ h p none.
+                let stop = stopped_last scheme tells first_w h p room none no_dues s.script few_here s.done now_taken (last_orders s.script s.windows_are s.front s.done now_taken s.cut s.orders order) why (world_at t) all in
+                serve_stop scheme h why first_w (world_at t) before after_read all.part read all.cause consumed all.appended stop.0 stop.2
+                (λ IsSo so. inr (end, s.script, e, (stop.0, stop.1, so stop.0 stop.2)));
+            faults = faults_stop why first_w (world_at t) before after_read (at_most_once end before after_read read s.script e) all.cause;
+          }
+
+    pub ends_whole : after_read.faults ≡ now.faults → GivesNone now after_read reading new bytes → EndsReading None before after_read read s.script
+    ends_whole k g = ended_whole before now after_read reading new bytes s.script s.input r k g
+
+    pub ends_failed : (error : LineErr) → error ≢ NoMemory → after_read.faults ≡ faults_next {T = Option (List ℕ)} (Err error) reading.failed now.faults → Gives now after_read reading new bytes (Err error) → EndsReading (Some error) before after_read read s.script
+    ends_failed error other k g =
+        elim g [
+          | inl again ↦ absurd (let no : ⊥ = cc (again.0, s.input.sound) in no)
+          | inr f ↦ ended_failed before now after_read reading new bytes s.script s.input r error other k f
+        ]
+
+    -- a line can't be read for want of memory
+    pub ran_starved : after_read.faults ≡ now.faults → Gives now after_read reading new bytes (Err NoMemory) → Runs scheme tells first_w (Run run.NoMemory) (handed before first_w.sink first_w.disks) (handed after_read w.sink w.disks)
+    ran_starved k g =
+        elim g [
+          | inl again ↦ absurd (let no : ⊥ = cc (again.0, s.input.sound) in no)
+          | inr f ↦
+              let all = lacking scheme tells first_w w s.done s.current s.goes in record {
+                serves = λ h p none.
+                    let stop = stopped scheme tells first_w h p room none no_dues s.script few_here s.done s.current can_here end.NoMemory w all in
+                    let here = stop [] in
+                    serve_stop scheme h end.NoMemory first_w w before after_read all.part read all.cause consumed all.appended here.0 here.2
+                    (λ IsSo so. some_at_failure before now after_read reading new bytes s.script s.input r (StopsOn scheme h all.part w.disks) IsSo k f (λ tail. let a = stop tail in (a.0, a.1, so a.0 a.2)));
+                faults = faults_stop end.NoMemory first_w w before after_read (inl (k ∙ s.input.faults)) all.cause;
+              }
+        ]
+
+    -- ---- a line was given
+
+    module _ (line : List ℕ) (k : after_read.faults ≡ now.faults) (g : GivesLine after_read reading new bytes line) where
+      abbrev script_now : List (List ℕ)
+      script_now = s.script ++ line ∷ []
+
+      more : HasGiven before after_read new script_now
+      more = read_more before now after_read reading new bytes line s.script s.input r k g
+
+      abbrev x : Said
+      x = numbered_line (count_of (spoken_line line).0 s.script + 1) line
+
+      said_now : said_lines script_now ≡ said_lines s.script ++ x ∷ []
+      said_now = said_after-append [] s.script (line ∷ [])
+
+      -- .. for which there is no memory
+      pub ran_lacking : Runs scheme tells first_w (Run run.NoMemory) (handed before first_w.sink first_w.disks) (handed after_read w.sink w.disks)
+      ran_lacking = halt scheme tells first_w before after_read new script_now more s.done s.current (can_later s.script line s.done s.current can_here) room no_dues end.NoMemory w (lacking scheme tells first_w w s.done s.current s.goes)
+
+      order_now : IsOrder (s.front ++ x ∷ []) (s.current ++ (s.late ++ x ∷ []))
+      order_now = subst (IsOrder (s.front ++ x ∷ [])) (append_assoc s.current s.late (x ∷ [])) (order_append s.front (x ∷ []) (s.current ++ s.late) (x ∷ []) s.order (order_same (x ∷ [])))
+
+      full_is : (value : Bool) → fills_window (lines + 1) (window_bytes + length line) ≡ value → fills_window (length s.front + 1) (bytes_of s.front + length line) ≡ value
+      full_is value e = ap (λ n. fills_window (n + 1) (bytes_of s.front + length line)) (sym s.lines_are) ∙ ap (λ n. fills_window (lines + 1) (n + length line)) (sym s.bytes_are) ∙ e
+
+      module _ (l : LaneLine) (is : l.line ≡ line) (new_next : List ℕ) (next_is : (k : ℕ) → k < 8 → slice_index new_next k ≡ (if (spoken_line line).0 == k then slice_index next k + 1 else slice_index next k)) where
+        late_now : AreLate first new_next (piece ++ l ∷ []) script_now (s.late ++ x ∷ [])
+        late_now = late_more first next new_next piece s.script s.late l line is s.are_late next_is
+
+        -- .. and waits
+        pub sofar_added : (new_first : List ℕ) (new_piece : List LaneLine) (new_lines new_bytes : ℕ) → new_first ≡ first → new_piece ≡ piece ++ l ∷ [] → fills_window (lines + 1) (window_bytes + length line) ≡ false
+            → new_lines ≡ lines + 1 → new_bytes ≡ window_bytes + length line → SoFar scheme tells first_w w before after_read new new_first new_next new_piece new_lines new_bytes
+        sofar_added new_first new_piece new_lines new_bytes f p e lines_now bytes_now = record {
+          script = script_now;
+          input = more;
+          windows_are = s.windows_are;
+          front = s.front ++ x ∷ [];
+          cut = subst (λ xs. IsCut xs s.windows_are (s.front ++ x ∷ [])) (sym said_now) (cut_more (said_lines s.script) s.windows_are s.front x s.cut (full_is false e));
+          done = s.done;
+          current = s.current;
+          late = s.late ++ x ∷ [];
+          orders = s.orders;
+          order = order_now;
+          are_late = subst (λ (y : List ℕ × List LaneLine). AreLate y.0 new_next y.1 script_now (s.late ++ x ∷ [])) (λ i. (sym f i, sym p i)) late_now;
+          lines_are = (let a = s.lines_are in let b = length-append s.front (x ∷ []) in omega (arith, a, b, lines_now));
+          bytes_are = bytes_now ∙ ap (λ n. n + length line) s.bytes_are ∙ sym (bytes_of-push s.front x);
+          few = (let a = ap length p in let b = length-append piece (l ∷ []) in let c = s.few in omega (arith, a, b, c, lines_now));
+          goes = s.goes;
+        }
+
+        -- the numbers of lanes fit with it
+        pub numbers_now : (new_first : List ℕ) (new_piece : List LaneLine) → new_first ≡ first → new_piece ≡ piece ++ l ∷ [] → (j : ℕ) → j < 8 → slice_index new_first j + length (lines_of j new_piece) < 2 ^ 64
+        numbers_now new_first new_piece f p j less =
+            let a = subst (λ (y : List ℕ × List LaneLine). slice_index new_next j ≡ slice_index y.0 j + length (lines_of j y.1)) (λ i. (sym f i, sym p i)) (late_now.from j less) in
+            let b = late_now.counts j less in
+            let d = count_few j script_now in
+            let m = more in
+            let u = m.few in let v = m.total in let w = m.bounded in
+            omega (arith, a, b, d, u, v, w)
+
+        -- .. and makes the window whole
+        module _ (e : fills_window (lines + 1) (window_bytes + length line) ≡ true) (held : At) (same : world_at held ≡ w) (new_piece : List LaneLine) (p : new_piece ≡ piece ++ l ∷ []) where
+          cut_now : IsCut (said_lines script_now) (s.windows_are ++ (s.front ++ x ∷ []) ∷ []) []
+          cut_now = subst (λ xs. IsCut xs (s.windows_are ++ (s.front ++ x ∷ []) ∷ []) []) (sym said_now) (cut_whole (said_lines s.script) s.windows_are s.front x s.cut (full_is true e))
+
+          goes_here : Goes tells first_w (reached scheme s.done s.current) (owed scheme s.done s.current) (world_at held)
+          goes_here = subst (Goes tells first_w (reached scheme s.done s.current) (owed scheme s.done s.current)) (sym same) s.goes
+
+          taken_now : (order : List Said) → IsOrderOf first new_piece order → IsOrder (s.late ++ x ∷ []) order
+          taken_now order o = late_taken first new_next new_piece script_now (s.late ++ x ∷ []) order (subst (λ y. AreLate first new_next y script_now (s.late ++ x ∷ [])) (sym p) late_now) o
+
+          orders_now : (order : List Said) → IsOrderOf first new_piece order → AreOrders (s.windows_are ++ (s.front ++ x ∷ []) ∷ []) (s.done ++ (s.current ++ order) ∷ [])
+          orders_now order o = orders_append s.windows_are ((s.front ++ x ∷ []) ∷ []) s.done ((s.current ++ order) ∷ []) s.orders (with_order (s.front ++ x ∷ []) s.current (s.late ++ x ∷ []) order order_now (taken_now order o), tt)
+
+          pub sofar_window : (t : At) (last_first last_next : List ℕ) (last_piece : List LaneLine) (new_lines new_bytes : ℕ) → WindowTaken scheme tells first new_piece held t → last_piece ≡ [] → last_first ≡ new_next → last_next ≡ new_next → new_lines ≡ 0 → new_bytes ≡ 0
+              → SoFar scheme tells first_w (world_at t) before after_read new last_first last_next last_piece new_lines new_bytes
+          sofar_window t last_first last_next last_piece new_lines new_bytes y none f n lines_now bytes_now = record {
+            script = script_now;
+            input = more;
+            windows_are = s.windows_are ++ (s.front ++ x ∷ []) ∷ [];
+            front = [];
+            cut = cut_now;
+            done = s.done ++ (s.current ++ y.order) ∷ [];
+            current = [];
+            late = [];
+            orders = orders_now y.order y.is_order;
+            order = order_same [];
+            are_late = late_none last_first last_next last_piece script_now none (f ∙ sym n) (λ k less. ap (λ (l : List ℕ). slice_index l k) n ∙ late_now.counts k less);
+            lines_are = lines_now;
+            bytes_are = bytes_now;
+            few = let d = ap length none in omega (arith, d);
+            goes = end_on scheme tells first_w (world_at held) (world_at t) s.done s.current y.order goes_here y.goes;
+          }
+
+          pub ran_unended : (t : At) (why : End) → WindowBroken scheme tells first new_piece why held t → Runs scheme tells first_w (ending_of_end why) (handed before first_w.sink first_w.disks) (handed after_read t.sink t.disks)
+          ran_unended t why (inl y) =
+              halt scheme tells first_w before after_read new script_now more s.done (s.current ++ y.front)
+              (part_whole script_now s.windows_are (s.front ++ x ∷ []) s.done (s.current ++ y.front) y.rest cut_now s.orders (with_rest (s.front ++ x ∷ []) s.current (s.late ++ x ∷ []) y.order y.front y.rest order_now (taken_now y.order y.is_order) y.split))
+              room no_dues why (world_at t)
+              (break_on scheme tells first_w (world_at held) (world_at t) s.done s.current y.front goes_here why y.ended)
+          ran_unended t why (inr y) =
+              halt scheme tells first_w before after_read new script_now more (s.done ++ (s.current ++ y.order) ∷ []) []
+              (part_open script_now (s.windows_are ++ (s.front ++ x ∷ []) ∷ []) [] (s.done ++ (s.current ++ y.order) ∷ []) [] [] cut_now (orders_now y.order y.is_order) (order_same []))
+              room no_dues why (world_at t)
+              (unend_on scheme tells first_w (world_at held) (world_at t) s.done s.current y.order goes_here why y.ended)

@@ -1,0 +1,63 @@
+//! A row's run on disks in memory.
+
+use crate::row::{Found, Program, Row};
+use anyhow::Result;
+use audit_cli::{audit_run, audit_top};
+use lane_work::OpenGate;
+use ledger_bytes::{Bytes, Toy};
+use ledger_cli::ledger_top;
+use ledger_disk::{Disk, MemDisk};
+use ledger_io::{MemSink, MemSource};
+use member_book::TagScheme;
+use std::alloc::Global;
+use std::sync::Wait;
+use std::thread::Threads;
+
+// How many bytes each of the two disks can hold, and how many are written at most.
+const DISK_ROOM: usize = 16_777_216;
+
+const OUTPUT_ROOM: usize = 1_048_576;
+
+/// Runs a row's program.
+pub(crate) fn run<R: Threads + Wait + Sync>(rt: &R, alloc: Global, row: &Row) -> Result<Found> {
+    let [before_a, before_b] = &row.before;
+    let mut a = disk_of(alloc, before_a)?;
+    let mut b = disk_of(alloc, before_b)?;
+    let script = Bytes::copy_of(alloc, &row.script)?;
+    let mut source = MemSource::new(script, Vec::new(alloc));
+    let mut sink = MemSink::new(alloc, OUTPUT_ROOM, Vec::new(alloc))?;
+    let words = row.words.as_slice();
+    let status = match row.program {
+        Program::Ledger => ledger_top(
+            rt,
+            alloc,
+            words,
+            &mut source,
+            &mut sink,
+            &mut a,
+            &mut b,
+            &TagScheme,
+            &OpenGate,
+        ),
+        Program::Auditor => audit_top(alloc, words, &mut source, &mut sink, &TagScheme),
+        Program::ToyAuditor => audit_run::<Toy, MemSource, MemSink, TagScheme>(
+            alloc,
+            &mut source,
+            &mut sink,
+            &TagScheme,
+        ),
+    };
+    Ok(Found {
+        status,
+        output: sink.written_bytes().to_vec(alloc)?,
+        disks: [a.bytes()?, b.bytes()?],
+    })
+}
+
+// A disk that holds these bytes for good.
+fn disk_of(alloc: Global, bytes: &[u8]) -> Result<MemDisk> {
+    let mut disk = MemDisk::new(alloc, DISK_ROOM, Vec::new(alloc))?;
+    disk.write(0, bytes)?;
+    disk.sync()?;
+    Ok(disk)
+}

@@ -1,0 +1,73 @@
+"""What the scripts of this folder share: which program is tried, lines that append, and a look for receipts by `get`."""
+import argparse
+import hashlib
+import os
+import subprocess
+
+BIN = os.path.join(os.path.dirname(os.path.dirname(os.path.realpath(__file__))), "bin")
+WRAPPER = os.path.join(BIN, "ledgerctl")
+OPERATOR = "01" * 32
+REGULATOR = "02" * 32
+
+
+# A parser of a script's words, with the text of its help and the word that names a program.
+def words_of(text):
+    parser = argparse.ArgumentParser(description=text, formatter_class=argparse.RawDescriptionHelpFormatter)
+    parser.add_argument("--program", metavar="PATH", help="ledgerctl as it was built (otherwise that of bin/ledgerctl)")
+    return parser
+
+
+# The program itself. Where none was named, it is the one that bin/ledgerctl keeps, which is proved and built first.
+def built_program(named):
+    if named:
+        return os.path.realpath(named)
+    subprocess.run([WRAPPER], stdin=subprocess.DEVNULL, stdout=subprocess.DEVNULL)
+    return os.path.join(BIN, ".built", "ledgerctl")
+
+
+# Makes a ledger, and answers its id.
+def made_ledger(program, folder):
+    told = subprocess.run([program, "init", folder, "demo", OPERATOR, REGULATOR], capture_output=True, check=True)
+    return told.stdout.split()[1].decode()
+
+
+# A line that appends a record of the operator.
+def record(program, ledger, content="6869"):
+    words = [program, "sign", ledger, OPERATOR, "append", "0", "-", content]
+    proof = subprocess.run(words, capture_output=True, check=True).stdout.split()[1].decode()
+    return f"0 append 0 - {content} {proof}\n".encode()
+
+
+# Runs a script on a ledger, and answers what was printed, with the status.
+def run_script(program, folder, script):
+    return subprocess.run([program, "run", folder], input=script, capture_output=True)
+
+
+# The leaf digests of the journals of whole receipts, by their numbers.
+def receipts_in(printed):
+    found = {}
+    for line in printed.split(b"\n")[:-1]:
+        words = line.split(b" ")
+        if len(words) > 3 and words[1] == b"ok":
+            found[int(words[2])] = words[3].decode()
+    return found
+
+
+# How many of these journals aren't there, or have another leaf digest; all where the ledger doesn't open.
+def missing(program, folder, receipts):
+    numbers = sorted(receipts)
+    script = "".join(f"0 get {number}\n" for number in numbers)
+    ran = run_script(program, folder, script.encode())
+    replies = ran.stdout.split(b"\n")[:-1]
+    if ran.returncode != 0 or len(replies) != len(numbers):
+        print(f"the ledger doesn't open: status {ran.returncode}, {ran.stdout[-100:]}")
+        return max(1, len(numbers))
+    return sum(leaf_of(reply) != receipts[number] for number, reply in zip(numbers, replies))
+
+
+# The leaf digest of the journal that a reply shows.
+def leaf_of(reply):
+    words = reply.split(b" ")
+    if len(words) < 3 or words[1] != b"whole":
+        return None
+    return hashlib.sha256(b"\0" + bytes.fromhex(words[2].decode())).hexdigest()
