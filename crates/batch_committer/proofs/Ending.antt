@@ -1,12 +1,13 @@
 -- The open block ends: it is committed, and then all that is due is written.
-use Rattle.std.specs.Prelude.{Bool}
-use Rattle.std.specs.Int.{w32, w64, to_be_bytes}
+use Rattle.std.specs.Prelude.{Bool, true, false, IsTrue, None}
+use Rattle.std.specs.Int.{w32, w64, to_be_bytes, from_be_bytes}
 use Rattle.std.specs.Io.KnownBytes.{Appends}
 use Rattle.std.proofs.Common.{◌≡◌, inl, inr, ℕ, ◌+◌, ◌<◌, ◌≤◌, List, [], ◌++◌, length, take, drop, refl, ap, sym, subst, ◌∙◌, arith, append_assoc, length-append, length-take, take-append-drop}
 use Rattle.std.proofs.KnownBytes.{Appends-nil}
-use Rattle.std.proofs.lemmas.List.{nil_from_length}
+use Rattle.std.proofs.lemmas.List.{nil_from_length, drop-take, take-take}
 use Rattle.sha2.specs.Sha256.{sha256}
 use Rattle.tree_model.specs.Tree.{mth}
+use Rattle.block_file.specs.Head.{generation_of}
 use Rattle.ledger_bytes.specs.declared.limits.TheConstants.{BLOCK_LIMIT}
 use Rattle.merkle_tree.specs.declared.head.Head.{Head}
 use Rattle.journal_record.specs.Blocks.{body_of, block_bytes, AreFrom}
@@ -27,7 +28,7 @@ use Rattle.ledger_book.specs.Seals as seals
 use Rattle.ledger_book.specs.Steps.{IsSame}
 use Rattle.twin_file.specs.Twin.{open_of}
 use Rattle.ledger_open.specs.Places.{places_in, places_at}
-use Rattle.batch_committer.specs.Committed.{IsCommitted, IsUncommitted}
+use Rattle.batch_committer.specs.Committed.{IsCommitted, IsUncommitted, open_bytes}
 use Rattle.batch_committer.specs.Spelled as spell
 use Rattle.batch_committer.specs.Steps.{settled_text}
 use Rattle.batch_committer.specs.World.{Kept, World, Pair, world, Reads, Fits, Located, Keeps, IsCleanFor, Holds, Writes, Goes, Says, Stops, Ended, sealed_part}
@@ -263,9 +264,27 @@ count_few k count is few = omega (arith, is, few)
 pub none_waits : (k : books.Kept) (h : History) → k.size ≡ k.sealed → Serves k h → h.waiting ≡ []
 none_waits k h same s = nil_from_length h.waiting (omega (arith, same, s.stands.counts.size, s.stands.counts.sealed_is, length-append (journals_of h.closed) h.waiting))
 
-pub fits_ended : (tells : Bool) (k : Kept) (old : Bool) (disks : Pair) (sink : SinkState) (place : ℕ) → k.book.size ≡ k.book.sealed → k.place ≡ place → Reads tells place (open_of old disks.a disks.b) → k.in_a ≡ old → Fits tells (world k disks sink)
-fits_ended tells k old disks sink place none at reads in_a = record {
+-- a commit leaves the open file's generation
+pub generation_stays : (tells : Bool) (in_a : Bool) (place : ℕ) (block : List ℕ) (before after : Pair) → IsCommitted tells in_a place block before after → IsTrue tells
+    → generation_of (open_of in_a after.a after.b).bytes.seen ≡ generation_of (open_of in_a before.a before.b).bytes.seen
+generation_stays tells in_a place block before after c told = by in_a (c.head told) where
+  part : (file : List ℕ) → take 8 (drop 10 (take 64 file)) ≡ take 8 (drop 10 file)
+  part file = ap (λ (l : List ℕ). take 8 l) (drop-take 10 54 file) ∙ take-take 8 54 (drop 10 file) (omega arith)
+
+  -- it stands in the first 64 bytes
+  by_head : (new old : List ℕ) → take 64 new ≡ take 64 old → generation_of new ≡ generation_of old
+  by_head new old is = ap (λ (l : List ℕ). from_be_bytes w64 l) (sym (part new) ∙ ap (λ (l : List ℕ). take 8 (drop 10 l)) is ∙ part old)
+
+  by : (v : Bool) → take 64 (open_bytes v after).seen ≡ take 64 (open_bytes v before).seen → generation_of (open_of v after.a after.b).bytes.seen ≡ generation_of (open_of v before.a before.b).bytes.seen
+  by true is = by_head after.a.bytes.seen before.a.bytes.seen is
+  by false is = by_head after.b.bytes.seen before.b.bytes.seen is
+
+pub fits_ended : (tells : Bool) (k : Kept) (old : Bool) (disks : Pair) (sink : SinkState) (place : ℕ) → k.book.size ≡ k.book.sealed → k.place ≡ place → Reads tells place (open_of old disks.a disks.b) → k.in_a ≡ old
+    → (IsTrue tells → k.generation ≡ generation_of (open_of old disks.a disks.b).bytes.seen) → k.copy ≡ None → Fits tells (world k disks sink)
+fits_ended tells k old disks sink place none at reads in_a generation copy = record {
   reads = subst (λ v. Reads tells k.place (open_of v disks.a disks.b)) (sym in_a) (subst (λ n. Reads tells n (open_of old disks.a disks.b)) (sym at) reads);
+  generation = λ told. generation told ∙ sym (ap (λ v. generation_of (open_of v disks.a disks.b).bytes.seen) in_a);
+  copy = copy;
   few = omega (arith, none);
 }
 

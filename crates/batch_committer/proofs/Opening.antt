@@ -5,6 +5,7 @@ use Rattle.std.proofs.lemmas.Bool.{true≢false}
 use Rattle.std.proofs.lemmas.List.{nil_from_length}
 use Rattle.block_file.proofs.WriteLaws.{tail_shut}
 use Rattle.block_file.specs.File.{IsSettled, IsShutAt, open_blocks}
+use Rattle.block_file.specs.Head.{generation_of}
 use Rattle.journal_record.specs.Blocks.{written_blocks}
 use Rattle.journal_record.specs.Entry.{Entry}
 use Rattle.ledger_disk.specs.Disk.{DiskState, State, settled_state}
@@ -18,6 +19,7 @@ use Rattle.ledger_model.specs.Outcomes.{is_hidden}
 use Rattle.ledger_model.specs.declared.genesis.Genesis.{Genesis}
 use Rattle.ledger_book.specs.Books as books
 use Rattle.ledger_book.specs.Books.{Serves}
+use Rattle.twin_file.proofs.HeadLaws.{generation_is}
 use Rattle.twin_file.specs.Twin.{open_of, IsTaken}
 use Rattle.ledger_open.specs.Founding.{IsFounded}
 use Rattle.ledger_open.specs.Growing.{new_file}
@@ -40,9 +42,9 @@ floor_none k h s none =
     let all = later_seen h k.floor s.stands.lawful (omega (arith, seen, s.stands.counts.point)) in
     omega (arith, seen, s.stands.counts.point, all, none)
 
-held_blocks : (tells : Bool) (k : Known) (in_a : Bool) (disks : Pair) (sink : SinkState) (bs : List (List Entry)) → IsOpened k in_a disks bs → k.book.limits ≡ real_limits → IsTrue tells → IsCleanFor in_a k.place (history bs []) disks.a.bytes disks.b.bytes
-    → Holds tells (world (kept_from k in_a) disks sink) (history bs [])
-held_blocks tells k in_a disks sink bs o limits told clean = record {
+held_blocks : (tells : Bool) (k : Known) (in_a : Bool) (generation : ℕ) (disks : Pair) (sink : SinkState) (bs : List (List Entry)) → IsOpened k in_a disks bs → k.book.limits ≡ real_limits → IsTrue tells → IsCleanFor in_a k.place (history bs []) disks.a.bytes disks.b.bytes
+    → Holds tells (world (kept_from k in_a generation) disks sink) (history bs [])
+held_blocks tells k in_a generation disks sink bs o limits told clean = record {
   told = told;
   keeps = record {
     serves = o.knows.serves;
@@ -59,13 +61,13 @@ held_blocks tells k in_a disks sink bs o limits told clean = record {
 
 -- ---- a ledger that was opened
 
-pub opened_held : (tells : Bool) (k : Known) (in_a : Bool) (blocks : List (List Entry)) (a b : State) (disks : Pair) (sink : SinkState) (h : History) → IsOpened k in_a disks blocks → k.book.limits ≡ real_limits → IsTrue tells
-    → IsReopened in_a k.place blocks a b disks.a.bytes disks.b.bytes → PairFor a.seen b.seen h → Holds tells (world (kept_from k in_a) disks sink) h
-opened_held tells k in_a blocks a b disks sink h o limits told r p =
+pub opened_held : (tells : Bool) (k : Known) (in_a : Bool) (generation : ℕ) (blocks : List (List Entry)) (a b : State) (disks : Pair) (sink : SinkState) (h : History) → IsOpened k in_a disks blocks → k.book.limits ≡ real_limits → IsTrue tells
+    → IsReopened in_a k.place blocks a b disks.a.bytes disks.b.bytes → PairFor a.seen b.seen h → Holds tells (world (kept_from k in_a generation) disks sink) h
+opened_held tells k in_a generation blocks a b disks sink h o limits told r p =
     let is : history blocks [] ≡ h = blocks_are k in_a blocks a b disks.a.bytes disks.b.bytes h r (stands_open in_a a b h r.taken p) in
     let c = reopened_clean k in_a blocks a b disks.a.bytes disks.b.bytes o.knows r in
-    subst (Holds tells (world (kept_from k in_a) disks sink)) is
-    (held_blocks tells k in_a disks sink blocks o limits told (record {
+    subst (Holds tells (world (kept_from k in_a generation) disks sink)) is
+    (held_blocks tells k in_a generation disks sink blocks o limits told (record {
       quiet = c.quiet;
       empty = c.empty;
       erased = subst (IsErased (open_of in_a disks.a.bytes disks.b.bytes).seen) (sym is) (opened_erased k in_a blocks a b disks.a.bytes disks.b.bytes h o.knows r p);
@@ -84,23 +86,30 @@ shut_at : (in_a : Bool) (place : ℕ) (disks : Pair) → IsShutAt place (open_of
 shut_at true place disks s = s
 shut_at false place disks s = s
 
+generation_at : (in_a : Bool) (generation : ℕ) (disks : Pair) → generation ≡ generation_of (open_of in_a disks.a.bytes disks.b.bytes).seen → generation ≡ generation_of (open_of in_a disks.a disks.b).bytes.seen
+generation_at true generation disks is = is
+generation_at false generation disks is = is
+
 few_of : (book : books.Kept) (blocks : List (List Entry)) → Serves book (history blocks []) → book.size ≡ book.sealed
 few_of book blocks s = omega (arith, s.stands.counts.size, s.stands.counts.sealed_is, ap length (append-nil (journals_of blocks)))
 
-fits_of : (tells : Bool) (k : Known) (in_a : Bool) (disks : Pair) (sink : SinkState) (blocks : List (List Entry)) → IsOpened k in_a disks blocks → (IsTrue tells → IsShutAt k.place (open_of in_a disks.a.bytes disks.b.bytes).seen)
-    → Fits tells (world (kept_from k in_a) disks sink)
-fits_of tells k in_a disks sink blocks o shut = record {
+fits_of : (tells : Bool) (k : Known) (in_a : Bool) (generation : ℕ) (disks : Pair) (sink : SinkState) (blocks : List (List Entry)) → IsOpened k in_a disks blocks → (IsTrue tells → IsShutAt k.place (open_of in_a disks.a.bytes disks.b.bytes).seen)
+    → (IsTrue tells → generation ≡ generation_of (open_of in_a disks.a.bytes disks.b.bytes).seen)
+    → Fits tells (world (kept_from k in_a generation) disks sink)
+fits_of tells k in_a generation disks sink blocks o shut is = record {
   reads = record { told = o.told; shut = λ told. shut_at in_a k.place disks (shut told) };
+  generation = λ told. generation_at in_a generation disks (is told);
+  copy = refl;
   few = omega (arith, few_of k.book blocks o.knows.serves);
 }
 
-pub opened_fits : (tells : Bool) (k : Known) (in_a : Bool) (blocks : List (List Entry)) (a b : State) (disks : Pair) (sink : SinkState) → IsOpened k in_a disks blocks
-    → (IsTrue tells → IsReopened in_a k.place blocks a b disks.a.bytes disks.b.bytes) → Fits tells (world (kept_from k in_a) disks sink)
-opened_fits tells k in_a blocks a b disks sink o r =
-    fits_of tells k in_a disks sink blocks o (λ told. shut_of k in_a blocks disks.a.bytes disks.b.bytes o.knows (reopened_clean k in_a blocks a b disks.a.bytes disks.b.bytes o.knows (r told)))
+pub opened_fits : (tells : Bool) (k : Known) (in_a : Bool) (generation : ℕ) (blocks : List (List Entry)) (a b : State) (disks : Pair) (sink : SinkState) → IsOpened k in_a disks blocks
+    → (IsTrue tells → IsReopened in_a k.place blocks a b disks.a.bytes disks.b.bytes) → (IsTrue tells → generation ≡ generation_of (open_of in_a disks.a.bytes disks.b.bytes).seen) → Fits tells (world (kept_from k in_a generation) disks sink)
+opened_fits tells k in_a generation blocks a b disks sink o r is =
+    fits_of tells k in_a generation disks sink blocks o (λ told. shut_of k in_a blocks disks.a.bytes disks.b.bytes o.knows (reopened_clean k in_a blocks a b disks.a.bytes disks.b.bytes o.knows (r told))) is
 
-pub opened_room : (k : Known) (in_a : Bool) (blocks : List (List Entry)) (disks : Pair) → IsOpened k in_a disks blocks → HasRoom (kept_from k in_a)
-opened_room k in_a blocks disks o = omega (arith, few_of k.book blocks o.knows.serves)
+pub opened_room : (k : Known) (in_a : Bool) (generation : ℕ) (blocks : List (List Entry)) (disks : Pair) → IsOpened k in_a disks blocks → HasRoom (kept_from k in_a generation)
+opened_room k in_a generation blocks disks o = omega (arith, few_of k.book blocks o.knows.serves)
 
 -- ---- a ledger that was made
 
@@ -131,6 +140,9 @@ module _ (k : Known) (genesis : Genesis) (disks : Pair) (keys : HasKeys genesis)
         ends = ap length seen_is ∙ clean_length (new_file genesis) (new_ledger genesis) k.place c.erased c.ends knows.tail;
       }
 
+  founded_generation : 1 ≡ generation_of disks.a.bytes.seen
+  founded_generation = sym (ap generation_of seen_is ∙ generation_is 1 [] (written_blocks (ground).root [] (new_ledger genesis).closed) (omega arith))
+
   founded_shut : IsShutAt k.place disks.a.bytes.seen
   founded_shut =
       let x = (founded_for).erased in
@@ -138,12 +150,13 @@ module _ (k : Known) (genesis : Genesis) (disks : Pair) (keys : HasKeys genesis)
       (tail_shut x.keeps.file.front (written_blocks (ground).root [] x.keeps.blocks) disks.a.bytes.seen x.keeps.file.stands)
 
 pub founded_held : (tells : Bool) (k : Known) (genesis : Genesis) (disks : Pair) (sink : SinkState) → HasKeys genesis → IsOpened k true disks (new_ledger genesis).closed → k.book.limits ≡ real_limits → IsTrue tells → IsFounded genesis disks.a.bytes disks.b.bytes
-    → Holds tells (world (kept_from k true) disks sink) (new_ledger genesis)
-founded_held tells k genesis disks sink keys o limits told f = held_blocks tells k true disks sink (new_ledger genesis).closed o limits told (founded_for k genesis disks keys o.knows f)
+    → Holds tells (world (kept_from k true 1) disks sink) (new_ledger genesis)
+founded_held tells k genesis disks sink keys o limits told f = held_blocks tells k true 1 disks sink (new_ledger genesis).closed o limits told (founded_for k genesis disks keys o.knows f)
 
 pub founded_fits : (tells : Bool) (k : Known) (genesis : Genesis) (disks : Pair) (sink : SinkState) → HasKeys genesis → IsOpened k true disks (new_ledger genesis).closed → (IsTrue tells → IsFounded genesis disks.a.bytes disks.b.bytes)
-    → Fits tells (world (kept_from k true) disks sink)
-founded_fits tells k genesis disks sink keys o f = fits_of tells k true disks sink (new_ledger genesis).closed o (λ told. founded_shut k genesis disks keys o.knows (f told))
+    → Fits tells (world (kept_from k true 1) disks sink)
+founded_fits tells k genesis disks sink keys o f =
+    fits_of tells k true 1 disks sink (new_ledger genesis).closed o (λ told. founded_shut k genesis disks keys o.knows (f told)) (λ told. founded_generation k genesis disks keys o.knows (f told))
 
 -- ---- a ledger that is held
 

@@ -1,8 +1,9 @@
 -- Reading changes nothing that counts.
-use Rattle.std.specs.Prelude.{Bool, true, false, IsSomeAnd, Option, Some, None}
+use Rattle.std.specs.Prelude.{Bool, true, false, IsTrue, IsSomeAnd, Option, Some, None}
 use Rattle.std.proofs.Common.{◌≡◌, ℕ, ◌+◌, ◌≤◌, List, [], ◌++◌, refl, ap, sym, subst, ◌∙◌, append-nil}
 use Rattle.std.proofs.KnownBytes.{Appends-nil}
 use Rattle.block_file.specs.File.{IsShutAt}
+use Rattle.block_file.specs.Head.{generation_of}
 use Rattle.journal_record.specs.Entry.{Entry}
 use Rattle.ledger_disk.specs.Disk.{DiskState, State, KeepsLength}
 use Rattle.ledger_io.specs.Outside.{SinkState}
@@ -54,8 +55,12 @@ module _ (tells : Bool) (old new : Pair) (read : WereRead tells old new) where
   reads_by true place s = reads_one place old.a new.a read.a s
   reads_by false place s = reads_one place old.b new.b read.b s
 
+  generation_by : (in_a : Bool) → IsTrue tells → generation_of (open_of in_a new.a new.b).bytes.seen ≡ generation_of (open_of in_a old.a old.b).bytes.seen
+  generation_by true t = ap (λ (b : State). generation_of b.seen) (read.a.bytes t)
+  generation_by false t = ap (λ (b : State). generation_of b.seen) (read.b.bytes t)
+
   pub fits_read : (k : Kept) (sink : SinkState) → Fits tells (world k old sink) → Fits tells (world k new sink)
-  fits_read k sink f = record { reads = reads_by k.in_a k.place f.reads; few = f.few }
+  fits_read k sink f = record { reads = reads_by k.in_a k.place f.reads; generation = λ t. f.generation t ∙ sym (generation_by k.in_a t); copy = f.copy; few = f.few }
 
   -- reading leads to the same history, and nothing becomes due by it
   pub goes_read : (k : Kept) (sink : SinkState) → NoneFailed old new → Goes tells (world k old sink) (λ h. h) (λ h. []) (world k new sink)

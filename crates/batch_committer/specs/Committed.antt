@@ -1,5 +1,5 @@
 -- What committing a block does to the two disks.
-use Rattle.std.specs.Prelude.{◌≡◌, ◌⊎◌, ℕ, ◌+◌, Bool, IsTrue, List, [], ◌∷◌, ◌++◌, length}
+use Rattle.std.specs.Prelude.{◌≡◌, ◌⊎◌, ℕ, ◌+◌, Bool, IsTrue, List, [], ◌∷◌, ◌++◌, length, take}
 use Rattle.block_file.specs.File.{Stands, tail_of, IsSettled, HasBlock}
 use Rattle.ledger_disk.specs.Disk.{State, MayLeave}
 use Rattle.twin_file.specs.Twin.{open_of, other_of}
@@ -19,6 +19,7 @@ pub record IsCommitted (tells : Bool) (in_a : Bool) (place : ℕ) (block : List 
   pub ends : IsTrue tells → length (open_bytes in_a before).seen ≡ place + 1
       → length (open_bytes in_a after).seen ≡ place + 1 + length block + 1
   pub reads : Reads tells (place + 1 + length block) (open_of in_a after.a after.b)
+  pub head : IsTrue tells → take 64 (open_bytes in_a after).seen ≡ take 64 (open_bytes in_a before).seen
   pub other : other_bytes in_a after ≡ other_bytes in_a before
   pub faults_a : after.a.faults ≡ before.a.faults
   pub faults_b : after.b.faults ≡ before.b.faults

@@ -1,5 +1,5 @@
 -- A committer of a ledger that was made or opened just now.
-use Rattle.std.specs.Prelude.{ℕ, ◌+◌, ◌≤◌, Bool, IsSomeAnd, List}
+use Rattle.std.specs.Prelude.{ℕ, ◌+◌, ◌≤◌, Bool, IsSomeAnd, List, None}
 use Rattle.journal_record.specs.Entry.{Entry}
 use Rattle.block_file.specs.File.{IsSettled}
 use Rattle.ledger_disk.specs.Disk.{MayLeave}
@@ -10,8 +10,8 @@ use Rattle.ledger_open.specs.Standing.{PairFor, IsCleanPair}
 use Rattle.batch_committer.specs.World.{Kept, Pair, first_kept}
 
 -- what is kept of a ledger of which this is known
-abbrev pub kept_from : Known → Bool → Kept
-kept_from known in_a = first_kept known.book known.places known.place in_a
+abbrev pub kept_from : Known → Bool → ℕ → Kept
+kept_from known in_a generation = first_kept known.book known.places known.place in_a generation None
 
 -- the ledger was made or opened: these are its blocks, and the length of its open file is told
 pub record IsOpened (known : Known) (in_a : Bool) (disks : Pair) (blocks : List (List Entry)) : Type 0 where

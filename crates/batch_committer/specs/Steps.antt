@@ -68,10 +68,16 @@ pub record Judged (new : Kept) (g : History) (step : Step) (job : Job) (answer :
   pub answer_is : answer ≡ answer_for g step (outcome real_limits None g job)
   pub gathers : Gathers new (with_job real_limits None g job)
 
--- where the open file's tail gate stands, which file that is, and what is due are as before
-pub record KeepsRest (old new : Kept) : Type 0 where
+-- the open file is as before, and its tail gate stands where it stood
+pub record KeepsFile (old new : Kept) : Type 0 where
   pub place : new.place ≡ old.place
   pub in_a : new.in_a ≡ old.in_a
+  pub generation : new.generation ≡ old.generation
+  pub copy : new.copy ≡ old.copy
+
+-- the open file and what is due are as before
+pub record KeepsRest (old new : Kept) : Type 0 where
+  pub file : KeepsFile old new
   pub dues : new.dues ≡ old.dues
 
 -- at most one journal was placed, and no block ended

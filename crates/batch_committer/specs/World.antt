@@ -1,10 +1,12 @@
 -- What a committer, its disks and its sink tell, and how a call leads from one to the next.
-use Rattle.std.specs.Prelude.{◌≡◌, ℕ, ◌+◌, ◌<◌, ◌≤◌, ◌⊎◌, Bool, IsTrue, IsSomeAnd, List, [], ◌++◌, length}
+use Rattle.std.specs.Prelude.{◌≡◌, ℕ, ◌+◌, ◌<◌, ◌≤◌, ◌⊎◌, Bool, IsTrue, IsSomeAnd, List, [], ◌++◌, length, Option, None}
 use Rattle.std.specs.Io.KnownBytes.{Appends}
 use Rattle.ledger_bytes.specs.Begins.{Begins}
 use Rattle.ledger_bytes.specs.declared.limits.TheConstants.{BLOCK_LIMIT}
 use Rattle.journal_record.specs.Blocks.{body_of, AreFrom}
 use Rattle.block_file.specs.File.{IsSettled, IsShutAt}
+use Rattle.block_file.specs.Head.{generation_of}
+use Rattle.block_file.specs.declared.file.BlockFile.{BlockFile}
 use Rattle.ledger_disk.specs.Disk.{DiskState, State, MayLeave, OneMore, settled_state}
 use Rattle.ledger_io.specs.Outside.{SinkState, MeetsNone, MeetsOne}
 use Rattle.ledger_model.specs.Dues.{due_lines, AllWaiting, AllIn}
@@ -34,9 +36,12 @@ pair a b = record { a = a; b = b }
 -- what a committer keeps
 pub record Kept : Type 0 where
   pub book : books.Kept
-  -- where the open file's tail gate stands, and whether that file is the first
+  -- where the open file's tail gate stands, whether that file is the first, which generation it is, and the copy of it that
+  -- was begun
   pub place : ℕ
   pub in_a : Bool
+  pub generation : ℕ
+  pub copy : Option BlockFile
   -- the records of the open block
   pub body : List ℕ
   -- where each journal stands, or will stand
@@ -45,8 +50,17 @@ pub record Kept : Type 0 where
   pub dues : List Due
 
 -- what is kept of a ledger that was made or opened just now
-abbrev pub first_kept : books.Kept → List PlaceAt → ℕ → Bool → Kept
-first_kept book places place in_a = record { book = book; place = place; in_a = in_a; body = []; places = places; dues = [] }
+abbrev pub first_kept : books.Kept → List PlaceAt → ℕ → Bool → ℕ → Option BlockFile → Kept
+first_kept book places place in_a generation copy = record {
+  book = book;
+  place = place;
+  in_a = in_a;
+  generation = generation;
+  copy = copy;
+  body = [];
+  places = places;
+  dues = [];
+}
 
 -- what a committer keeps, and whether a call has ended its run
 pub record Held : Type 0 where
@@ -68,10 +82,12 @@ pub record Reads (tells : Bool) (place : ℕ) (d : DiskState) : Type 0 where
   pub told : IsSomeAnd d.told (λ n. place + 1 ≤ n)
   pub shut : IsTrue tells → IsShutAt place d.bytes.seen
 
--- What each call asks for, also where the disks tell nothing: the open file reads as the calls left it, and the open block has
--- no more journals than a block may have.
+-- What each call asks for, also where the disks tell nothing: the open file reads as the calls left it, the generation that
+-- is kept is its own, no copy of it was begun, and the open block has no more journals than a block may have.
 pub record Fits (tells : Bool) (w : World) : Type 0 where
   pub reads : Reads tells w.kept.place (open_of w.kept.in_a w.disks.a w.disks.b)
+  pub generation : IsTrue tells → w.kept.generation ≡ generation_of (open_of w.kept.in_a w.disks.a w.disks.b).bytes.seen
+  pub copy : w.kept.copy ≡ None
   pub few : w.kept.book.size ≤ w.kept.book.sealed + BLOCK_LIMIT
 
 -- a journal more has room in the open block

@@ -3,7 +3,7 @@ ghost use Rattle.block_file.specs.Place.{place_of};
 ghost use Rattle.ledger_model.specs.Dues.{due_of};
 ghost use Rattle.ledger_model.specs.History.{History, id, close};
 ghost use Rattle.ledger_model.specs.Rules.{after_job};
-ghost use Rattle.twin_file.specs.Which.{in_a_of, file_of};
+ghost use Rattle.twin_file.specs.Which.{in_a_of, generation_in, file_of, copy_of};
 ghost use Rattle.batch_committer.specs.Steps.{step_at};
 ghost use Rattle.batch_committer.specs.World.{pair, world, first_kept, Fits, HasRoom, Keeps, Goes, Ended};
 
@@ -39,7 +39,8 @@ impl Committer {
     /// A committer of a ledger that was made or opened. It takes no memory.
     pub fn new(alloc: Global, opened: Opened) -> Self
         ensures kept { result.kept ≡ first_kept opened.book opened.places.list
-            (place_of (file_of opened.twin)) (in_a_of opened.twin) }
+            (place_of (file_of opened.twin)) (in_a_of opened.twin)
+            (generation_in opened.twin) (copy_of opened.twin) }
         ensures ended { result.ended ≡ false }
     {
         Committer {
@@ -55,6 +56,8 @@ impl Committer {
         ensures places { result.now.places.list ≡ self.now.kept.places }
         ensures place { place_of (file_of result.now.twin) ≡ self.now.kept.place }
         ensures in_a { in_a_of result.now.twin ≡ self.now.kept.in_a }
+        ensures generation { generation_in result.now.twin ≡ self.now.kept.generation }
+        ensures copy { copy_of result.now.twin ≡ self.now.kept.copy }
     {
         self.inner.opened()
     }

@@ -16,10 +16,10 @@ ghost use Rattle.ledger_model.specs.Texts.{told_reply};
 ghost use Rattle.ledger_model.specs.Windows.{Said};
 ghost use Rattle.ledger_model.specs.declared.job.Job.{Job as AnyJob};
 ghost use Rattle.ledger_book.specs.Books.{Serves};
-ghost use Rattle.twin_file.specs.Which.{in_a_of, file_of};
+ghost use Rattle.twin_file.specs.Which.{in_a_of, generation_in, file_of, copy_of};
 ghost use Rattle.ledger_open.specs.Places.{place_at};
 ghost use Rattle.batch_committer.specs.Read.{WereRead, NoneFailed, ReadingEnds};
-ghost use Rattle.batch_committer.specs.Steps.{step_at, due_by, HasParts, HasJournal, IsGathered, Judged, KeepsRest, HasGrown};
+ghost use Rattle.batch_committer.specs.Steps.{step_at, due_by, HasParts, HasJournal, IsGathered, Judged, KeepsFile, KeepsRest, HasGrown};
 ghost use Rattle.batch_committer.specs.World.{Pair, pair, world, first_kept, Reads, Fits, HasRoom, Keeps, Holds, Goes, Ended};
 
 use crate::End;
@@ -59,7 +59,7 @@ pub(crate) struct Taking {
 
 impl Model for Taking {
     ghost use Rattle.block_file.specs.Place.{place_of};
-    ghost use Rattle.twin_file.specs.Which.{in_a_of, file_of};
+    ghost use Rattle.twin_file.specs.Which.{in_a_of, generation_in, file_of, copy_of};
     ghost use Rattle.batch_committer.specs.World.{Kept};
 
     ghost Value = { Kept };
@@ -68,6 +68,8 @@ impl Model for Taking {
       book = t.opened.book;
       place = place_of (file_of t.opened.twin);
       in_a = in_a_of t.opened.twin;
+      generation = generation_in t.opened.twin;
+      copy = copy_of t.opened.twin;
       body = t.block.body;
       places = t.opened.places.list;
       dues = t.dues.items;
@@ -77,7 +79,8 @@ impl Model for Taking {
 impl Taking {
     pub(crate) fn new(alloc: Global, opened: Opened) -> Self
         ensures { result ≡ first_kept opened.book opened.places.list
-            (place_of (file_of opened.twin)) (in_a_of opened.twin) }
+            (place_of (file_of opened.twin)) (in_a_of opened.twin)
+            (generation_in opened.twin) (copy_of opened.twin) }
     {
         Taking {
             alloc,
@@ -94,6 +97,8 @@ impl Taking {
         ensures places { result.now.places.list ≡ self.now.places }
         ensures place { place_of (file_of result.now.twin) ≡ self.now.place }
         ensures in_a { in_a_of result.now.twin ≡ self.now.in_a }
+        ensures generation { generation_in result.now.twin ≡ self.now.generation }
+        ensures copy { copy_of result.now.twin ≡ self.now.copy }
     {
         &self.opened
     }
@@ -221,8 +226,7 @@ impl Taking {
             close (λ h. [])
             (world self.new disks (K.state sink.new))) }
         ensures same { OnOk result ((self.new.book ≡ self.old.book)
-            × (self.new.place ≡ self.old.place) × (self.new.in_a ≡ self.old.in_a)
-            × (self.new.dues ≡ [])) }
+            × KeepsFile self.old self.new × (self.new.dues ≡ [])) }
         ensures err { IfErr result (λ end. (tells : Bool) (disks : Pair) → Ended tells
             (world self.old disks (K.state sink.old))
             close (λ h. []) end
@@ -355,8 +359,7 @@ impl Taking {
             (pair (D.state a.new)
             (D.state b.new)) }
         ensures grown { OnOk result (HasGrown self.old self.new) }
-        ensures place { self.new.place ≡ self.old.place }
-        ensures in_a { self.new.in_a ≡ self.old.in_a }
+        ensures file { KeepsFile self.old self.new }
     {
         let answer = self.judge(a, b, &item.job)?;
         let due = Due {

@@ -2,7 +2,7 @@
 use Rattle.std.specs.Prelude.{Result, Ok, Err, OnErr, Option, Some, None, IfSome, IsSomeAnd}
 use Rattle.std.proofs.Common.{◌≡◌, ◌⊎◌, inl, inr, ℕ, ◌+◌, ◌≤◌, List, [], ◌∷◌, ◌++◌, length, get_or, take, drop, refl, sym, ◌∙◌, ap, subst, arith, append_assoc, length-append, length-take, length-drop}
 use Rattle.std.proofs.lemmas.Bool.{cases_eq}
-use Rattle.std.proofs.lemmas.List.{take_at, drop_at, take-append-drop, flat_map_more, get_or_at, drop_more, append-nil}
+use Rattle.std.proofs.lemmas.List.{take_at, drop_at, take-append-drop, take-append-le, take-take, flat_map_more, get_or_at, drop_more, append-nil}
 use Rattle.ledger_disk.specs.Disk.{State, MayLeave, settled_state, overlay}
 use Rattle.ledger_disk.specs.Guards.{Guards}
 use Rattle.ledger_disk.proofs.Guarding.{guards_settled, guards_image}
@@ -125,6 +125,20 @@ ends_after at block file new ends is =
       length-take at (staged_file at block file),
       length-drop (at + 1) (staged_file at block file),
     )
+
+-- what stands before the gate stays
+pub front_stays : (n at : ℕ) (block file new : List ℕ) → n ≤ at → IsShutAt at file → new ≡ take at (staged_file at block file) ++ 1 ∷ drop (at + 1) (staged_file at block file) → take n new ≡ take n file
+front_stays n at block file new before shut is =
+    let staged = staged_file at block file in
+    let behind = 0 ∷ drop (at + 2 + length block) file in
+    let kept : at + 1 ≤ length (take (at + 1) file) = omega (arith, shut.0, length-take (at + 1) file) in
+    let long : at + 1 ≤ length staged = omega (arith, kept, length-append (take (at + 1) file ++ block) behind, length-append (take (at + 1) file) block) in
+    ap (λ (l : List ℕ). take n l) is
+    ∙ take-append-le n (take at staged) (1 ∷ drop (at + 1) staged) (omega (arith, before, long, length-take at staged))
+    ∙ take-take n at staged (omega (arith, before))
+    ∙ take-append-le n (take (at + 1) file ++ block) behind (omega (arith, before, kept, length-append (take (at + 1) file) block))
+    ∙ take-append-le n (take (at + 1) file) block (omega (arith, before, kept))
+    ∙ take-take n (at + 1) file (omega (arith, before))
 
 -- one byte over another, by the parts
 pub gate_over : (at : ℕ) (file : List ℕ) → overlay at (1 ∷ []) file ≡ take at file ++ 1 ∷ drop (at + 1) file

@@ -422,6 +422,10 @@ impl BlockFile {
         ensures gate { OnOk result (IsTrue D.tells
             → IsShutAt (place_of self.new) (D.state disk.new).bytes.seen) }
 
+        // The file's head stays.
+        ensures head { OnOk result (IsTrue D.tells
+            → take 64 (D.state disk.new).bytes.seen ≡ take 64 (D.state disk.old).bytes.seen) }
+
         // A file that ended with its tail gate ends with its new one.
         ensures ends { OnOk result (IsTrue D.tells
             → length (D.state disk.old).bytes.seen ≡ place_of self.old + 1

@@ -6,9 +6,7 @@ use ledger_bytes::{Bytes, Digest, NoMemory};
 use member_book::TagScheme;
 use std::alloc::Global;
 use std::sync::Wait;
-use std::sync::atomic::{AtomicBool, Ordering};
 use std::test::Fail;
-use std::thread;
 use std::thread::Threads;
 
 /// A taker that keeps the lane and the number of each line, and wants so many.
@@ -88,93 +86,20 @@ fn rounds(alloc: Global, lanes: &[&str], times: usize) -> Result<Vec<LaneLine>, 
     Ok(lines)
 }
 
-/// The numbers of a lane's lines, in the order in which they were offered.
-fn numbers_of(alloc: Global, offered: &[(u8, u64)], lane: u8) -> Result<Vec<u64>, NoMemory> {
-    let mut numbers = Vec::new(alloc);
-    for (of, number) in offered {
-        if *of == lane {
-            numbers.push(*number)?;
-        }
-    }
-    Ok(numbers)
-}
-
-/// What a gate has seen of one lane: its first line came, and the other lane's came while it was held.
-#[derive(Drop)]
-struct Seen {
-    came: AtomicBool,
-    met: AtomicBool,
-}
-
-impl Seen {
-    fn nothing() -> Self {
-        Seen {
-            came: AtomicBool::new(false),
-            met: AtomicBool::new(false),
-        }
-    }
-}
-
-/// A gate that holds the first line of each of two lanes until that of the other has come. A body that prepares one
-/// lane behind the other doesn't let both meet.
-#[derive(Drop)]
-struct Meeting {
-    zero: Seen,
-    one: Seen,
-}
-
-impl Gate for Meeting {
-    fn pass(&self, lane: u8, index: u64) {
-        if index != 1 {
-            return;
-        }
-        let (mine, other) = if lane == 0 {
-            (&self.zero, &self.one)
-        } else {
-            (&self.one, &self.zero)
-        };
-        mine.came.store(true, Ordering::SeqCst);
-        for _ in 0..10_000_000u32 {
-            if other.came.load(Ordering::SeqCst) {
-                mine.met.store(true, Ordering::SeqCst);
-                return;
-            }
-            thread::yield_now();
-        }
-    }
-}
-
+// Lines of one lane and of several: all are offered, and nothing behind a stop.
 #[test]
-fn prepares_lanes_side_by_side(rt: HostRuntime) -> Result<(), Fail> {
+fn offers_what_is_wanted(rt: HostRuntime) -> Result<(), Fail> {
     let alloc = rt.alloc();
-    let gate = Meeting {
-        zero: Seen::nothing(),
-        one: Seen::nothing(),
-    };
-    let lines = rounds(alloc, &["0 head", "1 head"], 10)?;
-    let offered = offered(&rt, alloc, lines, 100, &gate)?;
-    assert!(rt; gate.zero.met.load(Ordering::SeqCst));
-    assert!(rt; gate.one.met.load(Ordering::SeqCst));
-    assert_eq!(rt; offered.len(), 20);
-    for lane in 0..2 {
-        let numbers = numbers_of(alloc, offered.as_slice(), lane)?;
-        assert_eq!(rt;
-            numbers.as_slice(),
-            [1, 2, 3, 4, 5, 6, 7, 8, 9, 10].as_slice()
-        );
-    }
-    Ok(())
-}
-
-// Lines of one lane and of several: nothing is offered behind a stop.
-#[test]
-fn offers_no_more_than_is_wanted(rt: HostRuntime) -> Result<(), Fail> {
-    let alloc = rt.alloc();
-    let rows: [&[&str]; 2] = [&["3 head"], &["3 head", "7 x"]];
-    for lanes in rows {
+    let rows: [(&[&str], usize, usize); 4] = [
+        (&["3 head"], 100, 10),
+        (&["3 head"], 3, 3),
+        (&["3 head", "7 x"], 100, 20),
+        (&["3 head", "7 x"], 3, 3),
+    ];
+    for (lanes, wanted, count) in rows {
         let lines = rounds(alloc, lanes, 10)?;
-        let offered = offered(&rt, alloc, lines, 3, &OpenGate)?;
-        assert_eq!(rt; offered.len(), 3, "at {lanes:?}");
+        let offered = offered(&rt, alloc, lines, wanted, &OpenGate)?;
+        assert_eq!(rt; offered.len(), count, "at {lanes:?}");
     }
     Ok(())
 }

@@ -8,7 +8,7 @@ use Rattle.batch_committer.specs.World.{Pair, Kept, world, Fits, HasRoom, Holds}
 use Rattle.batch_committer.proofs.Opening.{opened_held, opened_fits, opened_room, founded_held, founded_fits}
 use Rattle.journal_record.specs.Entry.{Entry}
 use Rattle.block_file.specs.File.{IsSettled}
-use Rattle.block_file.specs.Head.{IsShut, IsOpen}
+use Rattle.block_file.specs.Head.{IsShut, IsOpen, generation_of}
 use Rattle.ledger_disk.specs.Disk.{State, MayLeave, settled_state}
 use Rattle.ledger_io.specs.Outside.{SourceState, SinkState, MeetsNone, MeetsOne}
 use Rattle.ledger_io.specs.Runs.{FallsShort}
@@ -25,6 +25,7 @@ use Rattle.ledger_open.specs.declared.failure.OpenErr.{OpenErr}
 use Rattle.ledger_open.specs.declared.failure.OpenErr.TheVariants as open_err
 use Rattle.ledger_open.proofs.OpenLaws.{pair_opens, reopened_only}
 use Rattle.twin_file.specs.Images.{AreShut}
+use Rattle.twin_file.specs.Twin.{open_of}
 use Rattle.ledger_cli.specs.Endings.{ending_of_opening, line_of}
 use Rattle.ledger_cli.specs.Runs.{Handed, handed, FaultsBy, SettledAsRead, StayAsRead, IsUnstarted, IsRefused, IsMadeOf, RunsAgain, RunsNew, Makes, ledger_line}
 use Rattle.ledger_cli.specs.Session.{IsOfLines, Runs}
@@ -127,12 +128,12 @@ module _ (scheme : Scheme) (tells : Bool) (source : SourceState) (sink : SinkSta
       })
 
   -- it is opened, and a committer begins with it
-  module _ (k : Known) (in_a : Bool) (blocks : List (List Entry)) (opened : IsOpened k in_a now blocks) (kept : Kept) (kept_is : kept ≡ kept_from k in_a) where
-    pub again_fits : (IsTrue tells → IsReopened in_a k.place blocks old.a.bytes old.b.bytes now.a.bytes now.b.bytes) → Fits tells (world kept now sink)
-    again_fits r = subst (λ (x : Kept). Fits tells (world x now sink)) (sym kept_is) (opened_fits tells k in_a blocks old.a.bytes old.b.bytes now sink opened r)
+  module _ (k : Known) (in_a : Bool) (generation : ℕ) (blocks : List (List Entry)) (opened : IsOpened k in_a now blocks) (kept : Kept) (kept_is : kept ≡ kept_from k in_a generation) where
+    pub again_fits : (IsTrue tells → IsReopened in_a k.place blocks old.a.bytes old.b.bytes now.a.bytes now.b.bytes) → (IsTrue tells → generation ≡ generation_of (open_of in_a now.a.bytes now.b.bytes).seen) → Fits tells (world kept now sink)
+    again_fits r is = subst (λ (x : Kept). Fits tells (world x now sink)) (sym kept_is) (opened_fits tells k in_a generation blocks old.a.bytes old.b.bytes now sink opened r is)
 
     pub begins_room : HasRoom kept
-    begins_room = subst HasRoom (sym kept_is) (opened_room k in_a blocks now opened)
+    begins_room = subst HasRoom (sym kept_is) (opened_room k in_a generation blocks now opened)
 
     pub begins_none : kept.dues ≡ []
     begins_none = ap (λ (x : Kept). x.dues) kept_is
@@ -142,7 +143,7 @@ module _ (scheme : Scheme) (tells : Bool) (source : SourceState) (sink : SinkSta
     ran_again limits r a b ending last ran started = record {
       serves = λ t h p q.
           serves_from scheme h ending source sink now old last
-          (ran.serves h (subst (λ (x : Kept). Holds tells (world x now sink) h) (sym kept_is) (opened_held tells k in_a blocks old.a.bytes old.b.bytes now sink h opened limits t (r t) p)) (none_waits old.a.bytes.seen old.b.bytes.seen h p));
+          (ran.serves h (subst (λ (x : Kept). Holds tells (world x now sink) h) (sym kept_is) (opened_held tells k in_a generation blocks old.a.bytes old.b.bytes now sink h opened limits t (r t) p)) (none_waits old.a.bytes.seen old.b.bytes.seen h p));
       unstarted = λ some. absurd (no_refusal ending started some);
       refused = λ t. of_lines ending _ started;
       exact = λ t e cause not. absurd (not (reopened_only k in_a blocks old.a.bytes old.b.bytes now.a.bytes now.b.bytes e opened.knows (r t) cause));
@@ -285,15 +286,15 @@ module _ (genesis : Genesis) (tells : Bool) (source : SourceState) (sink : SinkS
     made_failed later (WriteFault taken) piece is first one = made_cut later (take taken piece) (first_short (ledger_line genesis) piece taken is first.0) first.1 one
 
     -- .. and a committer begins with it
-    module _ (k : Known) (keys : HasKeys genesis) (opened : IsOpened k true now (new_ledger genesis).closed) (in_a : Bool) (first : in_a ≡ true) (kept : Kept) (kept_is : kept ≡ kept_from k in_a) where
-      here : kept ≡ kept_from k true
-      here = kept_is ∙ ap (kept_from k) first
+    module _ (k : Known) (keys : HasKeys genesis) (opened : IsOpened k true now (new_ledger genesis).closed) (in_a : Bool) (first : in_a ≡ true) (generation : ℕ) (one : generation ≡ 1) (kept : Kept) (kept_is : kept ≡ kept_from k in_a generation) where
+      here : kept ≡ kept_from k true 1
+      here = kept_is ∙ ap (λ v. kept_from k v generation) first ∙ ap (kept_from k true) one
 
       pub new_fits : Fits tells (world kept now sink)
       new_fits = subst (λ (x : Kept). Fits tells (world x now sink)) (sym here) (founded_fits tells k genesis now sink keys opened founded)
 
       pub new_room : HasRoom kept
-      new_room = subst HasRoom (sym here) (opened_room k true (new_ledger genesis).closed now opened)
+      new_room = subst HasRoom (sym here) (opened_room k true 1 (new_ledger genesis).closed now opened)
 
       pub new_none : kept.dues ≡ []
       new_none = ap (λ (x : Kept). x.dues) here

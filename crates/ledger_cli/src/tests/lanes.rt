@@ -1,11 +1,16 @@
 //! Lines of several lanes. Which lane's line is taken first is the schedule's, so what is compared is what each order has.
 
+ghost use Rattle.std.specs.Prelude.{None};
+ghost use Rattle.ledger_io.specs.Memory.{sink_state};
+
 use super::*;
 use lane_work::{Gate, OpenGate};
+use ledger_bytes::Failed;
 use ledger_io::{Sink, Source};
 use sha2::{Digest as Hasher, Sha256};
 use std::sync::Wait;
-use std::sync::atomic::{AtomicBool, Ordering};
+use std::sync::atomic::{AtomicBool, AtomicU64, Ordering};
+use std::sync::Arc;
 use std::thread;
 
 /// The status of a run on a new ledger for trial.
@@ -169,5 +174,80 @@ fn answers_each_lane_in_order(rt: HostRuntime) -> Result<(), Fail> {
     }
     let text = written_by(&rt, alloc, script, &OpenGate)?.unwrap_or_else(|| String::new(alloc));
     assert_eq!(rt; count_replies(text.as_str()), Some([1_100; 8]));
+    Ok(())
+}
+
+/// The line that is given again and again.
+const ASKS: &[u8] = b"0 head\n";
+
+/// A source that gives a line at a time, and the next one once the last is answered. It ends at the first line that isn't.
+#[derive(Drop)]
+struct Patient {
+    answered: Arc<AtomicU64>,
+    given: u64,
+    most: u64,
+}
+
+impl Source for Patient {
+    ghost state = { λ s. record { left = None; faults = 0 } };
+
+    fn read(&mut self, into: &mut [u8]) -> Result<usize, Failed> {
+        if self.given == self.most || self.answered.load(Ordering::SeqCst) != self.given {
+            return Ok(0);
+        }
+        let Some(front) = into.get_mut(..ASKS.len()) else {
+            return Ok(0);
+        };
+        front.copy_from_slice(ASKS);
+        self.given = self.given.saturating_add(1);
+        Ok(ASKS.len())
+    }
+
+    fn faults(&self) -> u64 {
+        0
+    }
+}
+
+/// A sink that tells how many lines it has taken.
+#[derive(Drop)]
+struct Telling {
+    inner: MemSink,
+    answered: Arc<AtomicU64>,
+}
+
+impl Sink for Telling {
+    ghost state = { λ s. sink_state s.inner };
+
+    fn write(&mut self, piece: &[u8]) -> Result<usize, Failed> {
+        let count = self.inner.write(piece)?;
+        for byte in piece.iter().take(count) {
+            if *byte == b'\n' {
+                self.answered.fetch_add(1, Ordering::SeqCst);
+            }
+        }
+        Ok(count)
+    }
+
+    fn faults(&self) -> u64 {
+        self.inner.faults()
+    }
+}
+
+#[test]
+fn answers_a_line_before_the_next_is_given(rt: HostRuntime) -> Result<(), Fail> {
+    let alloc = rt.alloc();
+    let answered = Arc::new(alloc, AtomicU64::new(0))?;
+    let mut source = Patient {
+        answered: answered.clone()?,
+        given: 0,
+        most: 20,
+    };
+    let mut sink = Telling {
+        inner: MemSink::new(alloc, AMPLE, Vec::new(alloc))?,
+        answered,
+    };
+    assert_eq!(rt; run_demo(&rt, alloc, &mut source, &mut sink, &OpenGate)?, 0);
+    assert_eq!(rt; source.given, 20);
+    assert_eq!(rt; sink.answered.load(Ordering::SeqCst), 20);
     Ok(())
 }

@@ -1,9 +1,9 @@
-use Rattle.std.proofs.Common.{◌∙◌}
+use Rattle.std.proofs.Common.{ap, ◌∙◌}
 use Rattle.batch_committer.proofs.Opening.{told_at}
-use Rattle.batch_committer.specs.World.{pair}
+use Rattle.batch_committer.specs.World.{pair, first_kept}
 use Rattle.block_file.specs.Place.{place_of}
 use Rattle.ledger_open.specs.Opening.{known_from}
-use Rattle.twin_file.specs.Which.{in_a_of, file_of}
+use Rattle.twin_file.specs.Which.{in_a_of, generation_in, file_of}
 use Rattle.ledger_cli.proofs.OpeningLaws.{not_opened, again_fits, ran_again}
 use Rattle.ledger_cli.proofs.top.run_again.Goals as goal
 
@@ -11,14 +11,14 @@ pub run_session-requires-clause-fits : goal.run_session-requires-clause-fits
 run_session-requires-clause-fits g c κs within =
     let o = c.in-Ok.opened in
     let r = c.in-Ok.ensures.ok in
-    again_fits (g.V.Verifier.shows c.args.verifier.now) g.D.Disk.tells (g.S.Source.state c.args.source.now) _ (pair (g.D.Disk.state c.args.a.now) (g.D.Disk.state c.args.b.now)) _ (known_from o.book o.places.list (place_of (file_of o.twin))) (in_a_of o.twin) r.0 (record { knows = r.1; told = told_at (in_a_of o.twin) _ _ _ c.in-Ok.ensures.told }) _ c.new-committer.ensures.kept r.2
+    again_fits (g.V.Verifier.shows c.args.verifier.now) g.D.Disk.tells (g.S.Source.state c.args.source.now) _ (pair (g.D.Disk.state c.args.a.now) (g.D.Disk.state c.args.b.now)) _ (known_from o.book o.places.list (place_of (file_of o.twin))) (in_a_of o.twin) (generation_in o.twin) r.0 (record { knows = r.1; told = told_at (in_a_of o.twin) _ _ _ c.in-Ok.ensures.told }) _ (c.new-committer.ensures.kept ∙ ap (first_kept o.book o.places.list (place_of (file_of o.twin)) (in_a_of o.twin) (generation_in o.twin)) c.in-Ok.ensures.copy) r.2 c.in-Ok.ensures.generation
 
 pub returns-in-Ok : goal.returns-in-Ok
 returns-in-Ok g c =
     let o = c.in-Ok.opened in
     let r = c.in-Ok.ensures.ok in
     let counts = c.in-Ok.ensures.faults in
-    ran_again _ g.D.Disk.tells _ _ _ _ (known_from o.book o.places.list (place_of (file_of o.twin))) (in_a_of o.twin) r.0 (record { knows = r.1; told = told_at (in_a_of o.twin) _ _ _ c.in-Ok.ensures.told }) _ c.new-committer.ensures.kept
+    ran_again _ g.D.Disk.tells _ _ _ _ (known_from o.book o.places.list (place_of (file_of o.twin))) (in_a_of o.twin) (generation_in o.twin) r.0 (record { knows = r.1; told = told_at (in_a_of o.twin) _ _ _ c.in-Ok.ensures.told }) _ (c.new-committer.ensures.kept ∙ ap (first_kept o.book o.places.list (place_of (file_of o.twin)) (in_a_of o.twin) (generation_in o.twin)) c.in-Ok.ensures.copy)
     (c.in-Ok.ensures.limits ∙ c.real.ensures) r.2 counts.0 counts.1 c.run_session.result _ c.run_session.ensures.ran c.run_session.ensures.started
 
 pub returns-in-Err : goal.returns-in-Err

@@ -28,7 +28,7 @@ returns-in_ok-gather_placed-in-Placed-clause-judged g c = λ h x sink holds none
     (subst (λ b. Applies c.self.inside.opened.book.limits None h c.args.job.now c.in_ok-refusal.field-0 b) (sym e.book) (c.in_ok-refusal.ensures.ok h p.serves))
     (subst (IsSame c.self.inside.opened.book) (sym e.book) c.apply.ensures.same) c.in-Placed.is
     (λ f journal content by parts serves there floor. e.gathered f journal content by parts (subst (λ b. Serves b f) e.book serves) there (subst (λ (b : books.Kept). b.floor ≤ c.in-Placed.jsn) e.book floor))
-    refl refl refl e.rest.place (sym (ap (answer_for h (step_of x)) c.in-Placed.is))
+    refl refl refl e.rest.file.place (sym (ap (answer_for h (step_of x)) c.in-Placed.is))
 
 pub returns-in_ok-tell-in-Reading-clause-judged : goal.returns-in_ok-tell-in-Reading-clause-judged
 returns-in_ok-tell-in-Reading-clause-judged g c = λ h x sink holds none.

@@ -2,7 +2,7 @@ use Rattle.std.proofs.Common.{[], ◌++◌, length, sym, ap, refl, ◌∙◌, ar
 use Rattle.ledger_model.specs.History.{close}
 use Rattle.batch_committer.specs.Spelled.{head_of}
 use Rattle.batch_committer.specs.Steps.{settled_text}
-use Rattle.batch_committer.proofs.Ending.{end_unspelled, at_end, end_goes, end_uncommitted, end_unwritten, serves_closed, count_few, fits_ended, fits_at, goes_at, ended_at, first_of_text}
+use Rattle.batch_committer.proofs.Ending.{end_unspelled, at_end, end_goes, end_uncommitted, end_unwritten, serves_closed, count_few, fits_ended, generation_stays, fits_at, goes_at, ended_at, first_of_text}
 use Rattle.batch_committer.proofs.WayLaws.{err_is, ended_by}
 use Rattle.batch_committer.proofs.taking.Taking.settle.Goals as goal
 
@@ -66,8 +66,10 @@ returns-clause-ok g c =
 
 pub returns-clause-fits : goal.returns-clause-fits
 returns-clause-fits g c =
+    let f = fits_at g.D.Disk.tells _ _ c.self.view_is _ _ c.requires.fits in
     let e = c.in_ok-commit.ensures in
     fits_ended g.D.Disk.tells _ _ _ _ _ (c.seal.ensures.ended.0 ∙ sym c.seal.ensures.ended.1) e.place e.ok.reads e.in_a
+    (λ told. e.generation ∙ f.generation told ∙ sym (generation_stays g.D.Disk.tells _ _ _ _ _ e.ok told)) (e.copy ∙ f.copy)
 
 pub returns-clause-empty : goal.returns-clause-empty
 returns-clause-empty g c = (c.seal.ensures.ended.0 ∙ sym c.seal.ensures.ended.1, c.clear-2.ensures.items)

@@ -24,7 +24,7 @@ pub end_full-requires : goal.end_full-requires
 end_full-requires g c =
     let e = c.in_ok-take_in.ensures in
     fits_read g.D.Disk.tells _ _ e.read c.take_in.new.self (g.K.Sink.state c.end_before.new.sink)
-    (fits_gathered g.D.Disk.tells c.end_before.new.self c.take_in.new.self _ _ c.in_ok-end_before.ensures.fits c.in_ok-end_before.ensures.room e.grown e.place e.in_a)
+    (fits_gathered g.D.Disk.tells c.end_before.new.self c.take_in.new.self _ _ c.in_ok-end_before.ensures.fits c.in_ok-end_before.ensures.room e.grown e.file)
 
 pub returns-clause-ok : goal.returns-clause-ok
 returns-clause-ok g c =

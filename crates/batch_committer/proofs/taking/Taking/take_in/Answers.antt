@@ -25,7 +25,7 @@ returns-clause-ok g c = λ line sink.
     let old = pair (g.D.Disk.state c.args.a.now) (g.D.Disk.state c.args.b.now) in
     judged_read g.D.Disk.tells _ _ old _ sink step c.args.item.now.job e.read e.no_fault
     (judged_goes g.D.Disk.tells (world c.args.self.now old sink) _ step c.args.item.now.job c.in_ok-answer.answer
-    (ap (λ (k : Kept). k.place) c.self.view_is ∙ e.rest.place) (ap (λ (k : Kept). k.in_a) c.self.view_is ∙ e.rest.in_a)
+    (ap (λ (k : Kept). k.place) c.self.view_is ∙ e.rest.file.place) (ap (λ (k : Kept). k.in_a) c.self.view_is ∙ e.rest.file.in_a)
     (c.in-Ok.ensures.items ∙ ap (λ (k : Kept). k.dues ++ due ∷ []) c.self.view_is ∙ ap (λ ds. ds ++ due ∷ []) e.rest.dues)
     c.requires.settled
     (λ h holds none. judged_dues c.judge.new.self _ c.push.new.self.items h step c.args.item.now.job c.in_ok-answer.answer c.self.view_is (e.judged h (record { lane = c.args.item.now.lane; index = c.args.item.now.index; line = line }) sink holds none)))

@@ -1,8 +1,8 @@
-use Rattle.std.proofs.Common.{sym, subst, ap, refl, ◌∙◌, inl, take, drop, ◌≡◌, ◌+◌, ◌∷◌, ◌++◌, []}
+use Rattle.std.proofs.Common.{sym, subst, ap, refl, ◌∙◌, inl, take, drop, ◌≡◌, ◌+◌, ◌∷◌, ◌++◌, [], arith}
 use Rattle.ledger_disk.specs.Disk.{State, MayLeave, settled_state, overlay}
 use Rattle.ledger_disk.proofs.Guarding.{settled_image}
 use Rattle.block_file.specs.File.{IsSettled, staged_file}
-use Rattle.block_file.proofs.WriteLaws.{on_err, kept_image, either, with_block, shut_after, ends_after, gate_over}
+use Rattle.block_file.proofs.WriteLaws.{on_err, kept_image, either, with_block, shut_after, ends_after, front_stays, gate_over}
 use Rattle.block_file.proofs.file.BlockFile.commit_block.Goals as goal
 
 pub returns-in_err-stage-clause-err : goal.returns-in_err-stage-clause-err
@@ -54,3 +54,12 @@ returns-clause-ends g c told ends =
     let seen : (g.D.Disk.state c.open_gate.new.disk).bytes.seen ≡ take at (staged_file at c.args.block.now (g.D.Disk.state c.args.disk.now).bytes.seen) ++ 1 ∷ drop (at + 1) (staged_file at c.args.block.now (g.D.Disk.state c.args.disk.now).bytes.seen) =
     ap (λ (s : State). s.seen) last ∙ ap (λ (s : State). overlay at (1 ∷ []) s.seen) is ∙ gate_over at _ in
     ends_after at c.args.block.now _ _ ends seen
+
+pub returns-clause-head : goal.returns-clause-head
+returns-clause-head g c told =
+    let at = c.args.self.now.at in
+    let is = c.in_ok-stage.ensures.ok told in
+    let last = c.in_ok-open_gate.ensures.ok told in
+    let seen : (g.D.Disk.state c.open_gate.new.disk).bytes.seen ≡ take at (staged_file at c.args.block.now (g.D.Disk.state c.args.disk.now).bytes.seen) ++ 1 ∷ drop (at + 1) (staged_file at c.args.block.now (g.D.Disk.state c.args.disk.now).bytes.seen) =
+    ap (λ (s : State). s.seen) last ∙ ap (λ (s : State). overlay at (1 ∷ []) s.seen) is ∙ gate_over at _ in
+    front_stays 64 at c.args.block.now _ _ (omega (arith, c.args.self.now.behind)) (c.requires.gate told) seen
