@@ -27,7 +27,7 @@ text_for scheme h script = text scheme h (steps_for script)
 
 -- lines are answered in the order of their script
 abbrev pub in_order : (scheme : Scheme) (h : History) (script : List (List ℕ)) → Answers scheme h script (text_for scheme h script)
-in_order scheme h script = record { steps = steps_for script; merge = merges (windows (said_lines script)); attended = unattended (windows (said_lines script)); replies_are = refl }
+in_order scheme h script = record { steps = steps_for script; merge = merges (windows (said_lines script)); attended = unattended scheme h (windows (said_lines script)); replies_are = refl }
 
 -- the history after whole windows and some lines of the window at hand, and what is due for these
 abbrev pub reached : Scheme → List (List Said) → List Said → History → History

@@ -9,12 +9,15 @@ use native.Mathlib.Decide.{ℕ_discrete}
 use Rattle.script_lines.specs.Grammar.{spoken_line}
 use Rattle.script_lines.specs.Receipts.{Fits}
 use Rattle.ledger_model.specs.Dues.{IsCounted, AllCounted, EachCounted}
+use Rattle.ledger_model.specs.History.{History}
 use Rattle.ledger_model.specs.InOrder.{step_of, steps_of}
 use Rattle.ledger_model.specs.Merge.{said_by, picked_lines, lines_of_lane, IsMergeOf, IsMerge}
-use Rattle.ledger_model.specs.Notary.{Linked, failures, IsAttended}
+use Rattle.ledger_model.specs.Notary.{Linked, LinkedAll, failures, IsAttended}
+use Rattle.ledger_model.specs.Rules.{after_step, after_window}
+use Rattle.ledger_model.specs.Scheme.{Scheme}
 use Rattle.ledger_model.specs.Step.{Step}
 use Rattle.ledger_model.specs.Windows.{Said, said_after, said_lines, windows, count_of, numbered_line}
-use Rattle.ledger_model.proofs.LaneLaws.{merges_window}
+use Rattle.ledger_model.proofs.LaneLaws.{merges_window, list_stays}
 use Rattle.ledger_model.proofs.WindowLaws.{joined}
 
 -- ---- orders of lines
@@ -153,32 +156,39 @@ unfailed step steps none = by step.failed refl
     by true e = let one : failures (step ∷ steps) ≡ suc (failures steps) = ap (λ (b : Bool). length (cond b (step ∷ filter (λ (s : Step). s.failed) steps) (filter (λ (s : Step). s.failed) steps))) e in absurd (let no : ⊥ = omega (arith, one, none) in no)
     by false e = (e, sym (ap (λ (b : Bool). length (cond b (step ∷ filter (λ (s : Step). s.failed) steps) (filter (λ (s : Step). s.failed) steps))) e) ∙ none)
 
-pub steps_plain : (steps rest : List Step) → Linked [] (steps ++ rest) [] → failures (steps ++ rest) ≡ 0 → (steps ≡ map step_of (map said_by steps)) × Linked [] rest [] × (failures rest ≡ 0)
-steps_plain [] rest l f = (refl, l, f)
-steps_plain (step ∷ steps) rest l f =
-    let u = unfailed step (steps ++ rest) f in
+pub steps_plain : (scheme : Scheme) (h : History) (steps : List Step) (last : List (List ℕ)) → Linked scheme h [] steps last → failures steps ≡ 0 → (steps ≡ map step_of (map said_by steps)) × (last ≡ [])
+steps_plain scheme h [] last l f = (refl, l)
+steps_plain scheme h (step ∷ steps) last l f =
+    let u = unfailed step steps f in
+    let g = after_step scheme h step in
     let before : step.before ≡ [] = l.0 in
-    let after : step.after ≡ [] = l.1.0 ∙ l.0 in
-    let more = steps_plain steps rest (subst (λ (first : List (List ℕ)). Linked first (steps ++ rest) []) after l.1.1) u.1 in
+    let after : step.after ≡ [] = list_stays scheme h step l.1 ∙ before in
+    let more = steps_plain scheme g steps last (subst (λ (first : List (List ℕ)). Linked scheme g first steps last) after l.2) u.1 in
     let one : step ≡ step_of (said_by step) = λ i. record { lane = step.lane; index = step.index; line = step.line; failed = u.0 i; before = before i; after = after i } in (
       ap (λ (s : Step). s ∷ steps) one ∙ ap (λ (l : List Step). step_of (said_by step) ∷ l) more.0,
       more.1,
-      more.2,
     )
+
+failures_append : (xs ys : List Step) → failures (xs ++ ys) ≡ failures xs + failures ys
+failures_append xs ys =
+    ap length (filter-append (λ (s : Step). s.failed) xs ys) ∙ length-append (filter (λ (s : Step). s.failed) xs) (filter (λ (s : Step). s.failed) ys)
 
 pub EachOf : ℕ → List (List Said) → Type 0
 EachOf k [] = ⊤
 EachOf k (window ∷ windows) = AllSaid (IsOf k) window × EachOf k windows
 
-pub windows_alone : (k : ℕ) (windows : List (List Said)) (steps : List (List Step)) → EachOf k windows → IsMerge windows steps → Linked [] (flat_map (λ w. w) steps) [] → failures (flat_map (λ w. w) steps) ≡ 0 → steps ≡ steps_of windows
+pub windows_alone : (scheme : Scheme) (h : History) (k : ℕ) (windows : List (List Said)) (steps : List (List Step)) → EachOf k windows → IsMerge windows steps → LinkedAll scheme h [] steps [] → failures (flat_map (λ w. w) steps) ≡ 0 → steps ≡ steps_of windows
 unfolding EachOf
-windows_alone k [] [] e m l f = refl
-windows_alone k [] (part ∷ parts) e m l f = absurd m
-windows_alone k (window ∷ windows) [] e m l f = absurd m
-windows_alone k (window ∷ windows) (part ∷ parts) e m l f =
-    let plain = steps_plain part (flat_map (λ w. w) parts) l f in
+windows_alone scheme h k [] [] e m l f = refl
+windows_alone scheme h k [] (part ∷ parts) e m l f = absurd m
+windows_alone scheme h k (window ∷ windows) [] e m l f = absurd m
+windows_alone scheme h k (window ∷ windows) (part ∷ parts) e m l f =
+    let g = after_window scheme h part in
+    let both = failures_append part (flat_map (λ w. w) parts) in
+    let plain = steps_plain scheme h part l.0 l.1 (omega (arith, both, f)) in
+    let rest = subst (λ (first : List (List ℕ)). LinkedAll scheme g first parts []) plain.1 l.2 in
     ap (λ (p : List Step). p ∷ parts) (plain.0 ∙ ap (map step_of) (order_alone k window (map said_by part) e.0 (merge_order window part m.0)))
-    ∙ ap (λ (ps : List (List Step)). map step_of window ∷ ps) (windows_alone k windows parts e.1 m.1 plain.1 plain.2)
+    ∙ ap (λ (ps : List (List Step)). map step_of window ∷ ps) (windows_alone scheme g k windows parts e.1 m.1 rest (omega (arith, both, f)))
 
 -- ---- the lines of a script that belong to one lane
 
@@ -201,9 +211,9 @@ each_of k [] a = tt
 each_of k (window ∷ windows) a = let r = said_split (IsOf k) window (flat_map (λ w. w) windows) a in (r.0, each_of k windows r.1)
 
 -- .. are taken in their order
-pub alone : (k : ℕ) (lines : List (List ℕ)) (steps : List (List Step)) → AllLines k lines → IsMerge (windows (said_lines lines)) steps → IsAttended [] [] 0 (flat_map (λ w. w) steps) → steps ≡ steps_of (windows (said_lines lines))
-alone k lines steps a m t =
-    windows_alone k (windows (said_lines lines)) steps
+pub alone : (scheme : Scheme) (h : History) (k : ℕ) (lines : List (List ℕ)) (steps : List (List Step)) → AllLines k lines → IsMerge (windows (said_lines lines)) steps → IsAttended scheme h [] [] 0 steps → steps ≡ steps_of (windows (said_lines lines))
+alone scheme h k lines steps a m t =
+    windows_alone scheme h k (windows (said_lines lines)) steps
     (each_of k (windows (said_lines lines)) (subst (AllSaid (IsOf k)) (sym (joined 0 0 (said_lines lines))) (lines_said k [] lines a)))
     m t.linked (omega (arith, t.few))
 

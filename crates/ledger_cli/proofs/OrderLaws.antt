@@ -19,7 +19,7 @@ use Rattle.ledger_cli.proofs.MergeLaws.{IsOrder, AreOrders, order_append, orders
 
 -- lines taken in an order that is a merge answer the script
 abbrev pub in_orders : (scheme : Scheme) (h : History) (script : List (List ℕ)) (all : List (List Said)) → AreOrders (windows (said_lines script)) all → Answers scheme h script (text scheme h (steps_of all))
-in_orders scheme h script all o = record { steps = steps_of all; merge = orders_merge (windows (said_lines script)) all o; attended = unattended all; replies_are = refl }
+in_orders scheme h script all o = record { steps = steps_of all; merge = orders_merge (windows (said_lines script)) all o; attended = unattended scheme h all; replies_are = refl }
 
 -- ---- a run that goes on
 

@@ -1,6 +1,5 @@
 -- What a run of the program did, from the bytes that came in to the bytes that went out and the files that are left.
 use Rattle.std.specs.Prelude.{◌≡◌, ⊤, ℕ, ◌≤◌, ◌⊎◌, Bool, IsTrue, List, [], ◌∷◌, codes, decimal, Option, None, Some, IsSome, IfSome}
-use Rattle.std.specs.List.{flat_map}
 use Rattle.std.specs.Io.KnownBytes.{Consumes, Appends}
 use Rattle.batch_committer.specs.World.{Pair}
 use Rattle.block_file.specs.File.{IsSettled}
@@ -134,7 +133,7 @@ FaultsBy (NewerFormat found) before after_all = Faults NoneFailed MeetsNone NoDi
 pub record Answers (scheme : Scheme) (h : History) (lines : List (List ℕ)) (replies : List ℕ) : Type 0 where
   pub steps : List (List Step)
   pub merge : IsMerge (windows (said_lines lines)) steps
-  pub attended : IsAttended [] [] 0 (flat_map (λ window. window) steps)
+  pub attended : IsAttended scheme h [] [] 0 steps
   pub replies_are : replies ≡ text scheme h steps
 
 -- Two images stand for a history that goes on from h and ends at a block's end of the whole history, or is h. Each receipt that was

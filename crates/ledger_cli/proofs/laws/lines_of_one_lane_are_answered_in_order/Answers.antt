@@ -4,4 +4,4 @@ use Rattle.ledger_cli.proofs.MergeLaws.{alone}
 use Rattle.ledger_cli.proofs.laws.lines_of_one_lane_are_answered_in_order.Goals as goal
 
 pub returns : goal.returns
-returns c scheme h k lines replies all a = a.replies_are ∙ ap (text scheme h) (alone k lines a.steps all a.merge a.attended)
+returns c scheme h k lines replies all a = a.replies_are ∙ ap (text scheme h) (alone scheme h k lines a.steps all a.merge a.attended)
