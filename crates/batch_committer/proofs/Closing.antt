@@ -91,11 +91,11 @@ kind_hides Time a n g = refl
 kind_hides Occult a n g = absurd (true≢false (sym g))
 kind_hides Purge a n g = refl
 
-pub gathered_hides : (n : ℕ) (es : List Entry) → AllGather es → list_any (hides n) es ≡ false
-gathered_hides n [] g = refl
-gathered_hides n (e ∷ es) g =
+pub gathered_hides : (target : Entry) (es : List Entry) → AllGather es → list_any (hides target) es ≡ false
+gathered_hides target [] g = refl
+gathered_hides target (e ∷ es) g =
     let both = and_parts (gathers e.header.kind) (list_all (λ (x : Entry). gathers x.header.kind) es) g in
-    ap (λ (v : Bool). v || list_any (hides n) es) (kind_hides e.header.kind e.header.a n both.0) ∙ gathered_hides n es both.1
+    ap (λ (v : Bool). v || list_any (hides target) es) (kind_hides e.header.kind e.header.a target.header.jsn both.0) ∙ gathered_hides target es both.1
 
 kind_purges : (k : Kind) → gathers k ≡ true → is_purge k ≡ false
 kind_purges Genesis g = refl

@@ -1,5 +1,5 @@
 -- What a job does to a history by itself: what comes of it, and what it places in the open block.
-use Rattle.std.specs.Prelude.{◌≡◌, ℕ, ◌==◌, ◌&&◌, Bool, true, false, if◌then◌else◌, [], ◌∷◌, ◌++◌, Option, Some, None, nat_le, nat_lt, ⊤}
+use Rattle.std.specs.Prelude.{◌≡◌, ℕ, ◌==◌, ◌&&◌, Bool, true, false, if◌then◌else◌, List, [], ◌∷◌, ◌++◌, Option, Some, None, nat_le, nat_lt, slice_get, ⊤}
 use Rattle.std.specs.List.{list_any}
 use Rattle.ledger_bytes.specs.Digests.{digest}
 use Rattle.ledger_bytes.specs.declared.refusal.Refusal.{Refusal}
@@ -83,12 +83,18 @@ abbrev pub is_occult : Kind → Bool
 is_occult kind.Occult = true
 is_occult other = false
 
--- whether a journal hides the content of journal n
-abbrev pub hides : ℕ → Entry → Bool
-hides n journal = is_occult journal.header.kind && journal.header.a == n
+-- whether a journal hides the content of another: of the one whose number it names
+abbrev pub hides : Entry → Entry → Bool
+hides target journal = is_occult journal.header.kind && journal.header.a == target.header.jsn
 
+-- whether one of some journals hides the content of a journal, where that one is there
+abbrev pub is_hidden_by : List Entry → Option Entry → Bool
+is_hidden_by journals None = false
+is_hidden_by journals (Some target) = list_any (hides target) journals
+
+-- whether the content of journal n is hidden
 abbrev pub is_hidden : History → ℕ → Bool
-is_hidden h n = list_any (hides n) (journals h)
+is_hidden h n = is_hidden_by (journals h) (slice_get (journals h) n)
 
 -- what of journal n can be shown
 unfoldable pub view : History → ℕ → View

@@ -1,5 +1,5 @@
 -- The file of a new ledger is clean for its history.
-use Rattle.std.proofs.Common.{◌≡◌, inl, inr, ℕ, ◌+◌, false, List, [], ◌∷◌, ◌++◌, length, refl, sym, ◌∙◌, ap, subst, arith, length-append, append_assoc, append-nil}
+use Rattle.std.proofs.Common.{◌≡◌, inl, inr, ℕ, zero, suc, ◌+◌, false, List, [], ◌∷◌, ◌++◌, length, refl, sym, ◌∙◌, ap, subst, arith, length-append, append_assoc, append-nil}
 use Rattle.std.proofs.lemmas.Bool.{true≢false}
 use Rattle.sha2.proofs.Facts256.{length-sha256}
 use Rattle.journal_record.specs.Entry.{Entry}
@@ -79,7 +79,8 @@ module _ (genesis : Genesis) (operator : length genesis.operator.0 ≡ 32) (regu
 
   shown_all : (n : ℕ) → is_hidden (new_ledger genesis) n ≡ false
   unfolding genesis_header
-  shown_all n = refl
+  shown_all zero = refl
+  shown_all (suc n) = refl
 
   floor_is : point (new_ledger genesis) ≡ 0
   unfolding point genesis_header

@@ -1,9 +1,10 @@
 -- What a file stands for, when it is read, when a block is added, and when a hidden content is given up.
 use Rattle.std.specs.List.{list_any, list_all}
-use Rattle.std.specs.Prelude.{◌==◌}
-use Rattle.std.proofs.Common.{◌≡◌, ◌≢◌, ℕ, zero, suc, ◌+◌, ◌-◌, ◌≤◌, Bool, true, false, ◌&&◌, ◌||◌, List, [], ◌∷◌, ◌++◌, length, map, take, refl, sym, ◌∙◌, ap, subst, arith, append_assoc, append-nil, length-append}
+use Rattle.std.specs.Prelude.{◌==◌, slice_get}
+use Rattle.std.proofs.Common.{◌≡◌, ◌≢◌, ℕ, zero, suc, ◌+◌, ◌-◌, ◌≤◌, Bool, true, false, ◌&&◌, ◌||◌, List, [], ◌∷◌, ◌++◌, length, map, take, Option, Some, refl, sym, ◌∙◌, ap, subst, arith, append_assoc, append-nil, length-append}
 use Rattle.std.proofs.lemmas.Bool.{eqb-true, eq-eqb, true≢false, and_parts}
 use Rattle.std.proofs.lemmas.List.Elements.{All-push}
+use Rattle.std.proofs.lemmas.Option.{slice_get_past}
 use Rattle.journal_record.specs.declared.header.Kind.{Kind}
 use Rattle.journal_record.specs.declared.header.Kind.TheVariants.{Genesis, Content, Member, Time, Occult, Purge}
 use Rattle.ledger_model.specs.Lawful as lawful
@@ -13,14 +14,15 @@ use Rattle.journal_record.specs.Entry.{Entry}
 use Rattle.journal_record.specs.Header.{spelling}
 use Rattle.journal_record.specs.declared.header.Header.{Header}
 use Rattle.ledger_model.specs.History.{History, history, journals_of, journals, size, point}
-use Rattle.ledger_model.specs.Outcomes.{is_occult, hides, is_hidden}
+use Rattle.ledger_model.proofs.LawfulLaws.{hide_none}
+use Rattle.ledger_model.specs.Outcomes.{is_occult, hides, is_hidden_by, is_hidden}
 use Rattle.journal_record.specs.Blocks.{block_bytes, leaves_of, AreFrom, IsBlock, AreBlocks, written_blocks}
 use Rattle.block_file.specs.File.{Stands}
 use Rattle.ledger_open.specs.Standing.{Floor, ground, HasBlocks, AllKept, SameButHidden, hidden_before, StandsFor, IsErased, Alike, StandsBy, Reads}
 use Rattle.ledger_open.proofs.SizeLaws.{mth_size}
 use Rattle.ledger_open.proofs.AgainLaws.{blocks_unique}
 use Rattle.ledger_open.proofs.KeptLaws.{all_kept, same_more, same_weaker, header_map_same, same_alike}
-use Rattle.ledger_open.proofs.HidingLaws.{from_blocks, none_above, journals_closed, journals_push, hidden_by, hidden_push, before_push, before_hidden}
+use Rattle.ledger_open.proofs.HidingLaws.{from_blocks, none_above, hidden_among, kept_hide, journals_closed, journals_push, hidden_by, hidden_push, before_push, before_hidden}
 
 -- Histories that one image has agree but for hidden contents.
 pub one_history : (gone gone′ : ℕ → Bool) (image : List ℕ) (h k : History) → StandsBy gone image h → StandsBy gone′ image k → Alike h k
@@ -123,18 +125,18 @@ gathers_shows Time a n g = refl
 gathers_shows Occult a n g = absurd (true≢false (sym g))
 gathers_shows Purge a n g = refl
 
-all_shows : (n k : ℕ) (es : List Entry) → list_all (λ e. gathers e.header.kind) es ≡ true → list_any (hides n) (take k es) ≡ false
-all_shows n zero es g = refl
-all_shows n (suc k) [] g = refl
-all_shows n (suc k) (e ∷ es) g =
+all_shows : (target : Entry) (k : ℕ) (es : List Entry) → list_all (λ e. gathers e.header.kind) es ≡ true → list_any (hides target) (take k es) ≡ false
+all_shows target zero es g = refl
+all_shows target (suc k) [] g = refl
+all_shows target (suc k) (e ∷ es) g =
     let both = and_parts (gathers e.header.kind) (list_all (λ (e : Entry). gathers e.header.kind) es) g in
-    ap (λ (v : Bool). v || list_any (hides n) (take k es)) (gathers_shows e.header.kind e.header.a n both.0) ∙ all_shows n k es both.1
+    ap (λ (v : Bool). v || list_any (hides target) (take k es)) (gathers_shows e.header.kind e.header.a target.header.jsn both.0) ∙ all_shows target k es both.1
 
 -- no journal of a block but its last hides another
-hides_last : (n : ℕ) (b : List Entry) → (length b ≢ 1 → AllGather b) → list_any (hides n) (take (length b - 1) b) ≡ false
-hides_last n b alone = elim (length b == 1) as (λ v. (length b == 1) ≡ v → list_any (hides n) (take (length b - 1) b) ≡ false) [
-  | true ↦ λ is. let one : length b - 1 ≡ 0 = omega (arith, eqb-true (length b) 1 is) in ap (λ (k : ℕ). list_any (hides n) (take k b)) one
-  | false ↦ λ is. all_shows n (length b - 1) b (alone (λ one. let no : ⊥ = true≢false (sym (eq-eqb (length b) 1 one) ∙ is) in no))
+hides_last : (target : Entry) (b : List Entry) → (length b ≢ 1 → AllGather b) → list_any (hides target) (take (length b - 1) b) ≡ false
+hides_last target b alone = elim (length b == 1) as (λ v. (length b == 1) ≡ v → list_any (hides target) (take (length b - 1) b) ≡ false) [
+  | true ↦ λ is. let one : length b - 1 ≡ 0 = omega (arith, eqb-true (length b) 1 is) in ap (λ (k : ℕ). list_any (hides target) (take k b)) one
+  | false ↦ λ is. all_shows target (length b - 1) b (alone (λ one. let no : ⊥ = true≢false (sym (eq-eqb (length b) 1 one) ∙ is) in no))
 ] refl
 
 founded_more : (es fs : List Entry) → IsFounded es → IsFounded (es ++ fs)
@@ -146,8 +148,8 @@ next_more before [] fs a b = subst (λ (l : List Entry). AreNext l fs) (append-n
 next_more before (e ∷ es) fs a b = (a.0, next_more (before ++ e ∷ []) es fs a.1 (subst (λ (l : List Entry). AreNext l fs) (sym (append_assoc before (e ∷ []) es)) b))
 
 module _ (image new : List ℕ) (h : History) (b : List Entry) (x : IsErased image h) (bb : IsBlock (size h) b) (alone : lawful.IsBlock b) (next : AreNext (journals h) b) (floor : point (history (h.closed ++ b ∷ []) []) ≡ 0) where
-  rule : (n : ℕ) → list_any (hides n) (take (length b - 1) b) ≡ false
-  rule n = hides_last n b alone.gathered
+  rule : (target : Option Entry) → is_hidden_by (take (length b - 1) b) target ≡ false
+  rule target = hide_none (take (length b - 1) b) target (λ t. hides_last t b alone.gathered)
 
   lawful_then : IsLawful (history (h.closed ++ b ∷ []) [])
   lawful_then = record {
@@ -167,23 +169,33 @@ module _ (image new : List ℕ) (h : History) (b : List Entry) (x : IsErased ima
     length-map : (es : List Entry) → length (map (λ (e : Entry). e.header.jsn) es) ≡ length es
     length-map es = Rattle.std.proofs.lemmas.List.length-map es (λ (e : Entry). e.header.jsn)
 
-  old : (n : ℕ) → list_any (hides n) (journals_of h.closed) ≡ is_hidden h n
-  old n = ap (list_any (hides n)) (sym (journals_closed h x.none))
+  abbrev target : ℕ → Option Entry
+  target n = slice_get (journals_of h.closed ++ b) n
+
+  none_later : (t : Entry) → size h ≤ t.header.jsn → list_any (hides t) (journals_of h.closed) ≡ false
+  none_later t le =
+      kept_hide (is_hidden h) (is_hidden h) (Some t) (journals_of h.closed) (journals_of x.keeps.blocks) (all_kept (is_hidden h) (is_hidden h) h.closed x.keeps.blocks x.keeps.same)
+      ∙ none_above 0 t (journals_of x.keeps.blocks) (from_blocks 0 x.keeps.blocks x.keeps.file.lawful) (omega (arith, le, count))
+
+  old : (n : ℕ) → is_hidden_by (journals_of h.closed) (target n) ≡ is_hidden h n
+  old n =
+      hidden_among (journals_of h.closed) (size h) none_later n (journals_of h.closed) b bb.entries
+      ∙ ap (λ (l : List Entry). is_hidden_by l (slice_get l n)) (sym (journals_closed h x.none))
 
   new_before : (n : ℕ) → hidden_before more n ≡ is_hidden h n
-  new_before n = before_push h.closed b n bb.some ∙ ap (λ (v : Bool). list_any (hides n) (journals_of h.closed) || v) (rule n) ∙ or_false (list_any (hides n) (journals_of h.closed)) ∙ old n where
+  new_before n = before_push h.closed b n bb.some ∙ ap (λ (v : Bool). is_hidden_by (journals_of h.closed) (target n) || v) (rule (target n)) ∙ or_false (is_hidden_by (journals_of h.closed) (target n)) ∙ old n where
     or_false : (v : Bool) → (v || false) ≡ v
     or_false true = refl
     or_false false = refl
 
   new_hidden : (n : ℕ) → is_hidden more n ≡ false → is_hidden h n ≡ false
-  new_hidden n s = sym (old n) ∙ left_of (list_any (hides n) (journals_of h.closed)) (list_any (hides n) b) (sym (hidden_push h.closed b n) ∙ s) where
+  new_hidden n s = sym (old n) ∙ left_of (is_hidden_by (journals_of h.closed) (target n)) (is_hidden_by b (target n)) (sym (hidden_push h.closed b n) ∙ s) where
     left_of : (v w : Bool) → (v || w) ≡ false → v ≡ false
     left_of true w e = e
     left_of false w e = refl
 
   none_new : (n : ℕ) → size h ≤ n → is_hidden h n ≡ false
-  none_new n le = hidden_by (is_hidden h) (is_hidden h) h x.keeps.blocks n x.none x.keeps.same ∙ none_above 0 n (journals_of x.keeps.blocks) (from_blocks 0 x.keeps.blocks x.keeps.file.lawful) (omega (arith, le, count))
+  none_new n le = ap (is_hidden_by (journals h)) (slice_get_past (journals h) n le)
 
   same_then : SameButHidden (is_hidden more) (hidden_before more) (h.closed ++ b ∷ []) (x.keeps.blocks ++ b ∷ [])
   same_then =
@@ -207,10 +219,10 @@ module _ (image new : List ℕ) (h : History) (b : List Entry) (x : IsErased ima
   }
 
   -- .. and it is clean, where no journal of the block hides another
-  pub grows_erased : ((n : ℕ) → list_any (hides n) b ≡ false) → StandsFor new more → IsErased new more
+  pub grows_erased : ((target : Entry) → list_any (hides target) b ≡ false) → StandsFor new more → IsErased new more
   grows_erased none y = stands_erased new more y (λ n t. new_before n ∙ shown n t) where
     shown : (n : ℕ) → is_hidden more n ≡ true → is_hidden h n ≡ true
-    shown n t = sym (old n) ∙ right_none (list_any (hides n) (journals_of h.closed)) (list_any (hides n) b) (none n) (sym (hidden_push h.closed b n) ∙ t) where
+    shown n t = sym (old n) ∙ right_none (is_hidden_by (journals_of h.closed) (target n)) (is_hidden_by b (target n)) (hide_none b (target n) none) (sym (hidden_push h.closed b n) ∙ t) where
       right_none : (v w : Bool) → w ≡ false → (v || w) ≡ true → v ≡ true
       right_none true w e t = refl
       right_none false w e t = sym e ∙ t

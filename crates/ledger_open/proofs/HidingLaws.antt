@@ -1,7 +1,7 @@
 -- What hides a content, as a history grows.
 use Rattle.std.specs.List.{list_any}
-use Rattle.std.specs.Prelude.{IsTrue, ◌==◌}
-use Rattle.std.proofs.Common.{◌≡◌, ℕ, suc, ◌+◌, ◌-◌, ◌≤◌, Bool, true, false, ◌&&◌, ◌||◌, List, [], ◌∷◌, ◌++◌, length, take, drop, refl, sym, ◌∙◌, ap, subst, arith, append-nil, length-append, take-append-drop}
+use Rattle.std.specs.Prelude.{IsTrue, ◌==◌, slice_get}
+use Rattle.std.proofs.Common.{◌≡◌, ℕ, zero, suc, ◌+◌, ◌-◌, ◌≤◌, Bool, true, false, ◌&&◌, ◌||◌, List, [], ◌∷◌, ◌++◌, length, take, drop, Option, None, Some, refl, sym, ◌∙◌, ap, subst, arith, append-nil, length-append, take-append-drop}
 use Rattle.std.proofs.lemmas.Bool.{eqb-true, ltb-true, false_from_ne_true}
 use Rattle.std.proofs.lemmas.List.Concat.{flat_map-append}
 use Rattle.std.proofs.lemmas.List.Folds.{list_any-append}
@@ -11,9 +11,9 @@ use Rattle.journal_record.specs.declared.header.Header.{Header}
 use Rattle.journal_record.specs.declared.header.Kind.{Kind}
 use Rattle.journal_record.specs.declared.header.Kind.TheVariants.{Genesis, Content, Member, Time, Occult, Purge}
 use Rattle.ledger_model.specs.History.{History, history, journals_of, journals, size}
-use Rattle.ledger_model.specs.Outcomes.{is_occult, hides, is_hidden}
+use Rattle.ledger_model.specs.Outcomes.{is_occult, hides, is_hidden_by, is_hidden}
 use Rattle.journal_record.specs.Blocks.{AreFrom, AreBlocks}
-use Rattle.ledger_open.specs.Standing.{SameButHidden, hidden_before}
+use Rattle.ledger_open.specs.Standing.{AllKept, SameButHidden, hidden_before}
 use Rattle.ledger_open.proofs.KeptLaws.{all_kept, header_any_same}
 
 pub from_more : (m : ℕ) (es fs : List Entry) → AreFrom m es → AreFrom (m + length es) fs → AreFrom m (es ++ fs)
@@ -33,11 +33,23 @@ hides_below Time jsn a n ok le = refl
 hides_below Occult jsn a n ok le = false_from_ne_true (a == n) (λ is. omega (arith, eqb-true a n is, ltb-true a jsn ok, le))
 hides_below Purge jsn a n ok le = refl
 
-pub none_above : (m n : ℕ) (es : List Entry) → AreFrom m es → m + length es ≤ n → list_any (hides n) es ≡ false
-none_above m n [] a le = refl
-none_above m n (e ∷ es) a le =
-    ap (λ (v : Bool). v || list_any (hides n) es) (hides_below e.header.kind e.header.jsn e.header.a n a.0.rules.a (omega (arith, a.0.jsn, le)))
-    ∙ none_above (m + 1) n es a.1 (omega (arith, le))
+pub none_above : (m : ℕ) (target : Entry) (es : List Entry) → AreFrom m es → m + length es ≤ target.header.jsn → list_any (hides target) es ≡ false
+none_above m target [] a le = refl
+none_above m target (e ∷ es) a le =
+    ap (λ (v : Bool). v || list_any (hides target) es) (hides_below e.header.kind e.header.jsn e.header.a target.header.jsn a.0.rules.a (omega (arith, a.0.jsn, le)))
+    ∙ none_above (m + 1) target es a.1 (omega (arith, le))
+
+-- journals that hide none from this number on hide as much among more journals as among those below it
+module _ (hiders : List Entry) (low : ℕ) (none : (t : Entry) → low ≤ t.header.jsn → list_any (hides t) hiders ≡ false) where
+  none_behind : (m n : ℕ) (fs : List Entry) → low ≤ m → AreFrom m fs → is_hidden_by hiders (slice_get fs n) ≡ false
+  none_behind m n [] le a = refl
+  none_behind m zero (f ∷ fs) le a = none f (omega (arith, le, a.0.jsn))
+  none_behind m (suc n) (f ∷ fs) le a = none_behind (m + 1) n fs (omega (arith, le)) a.1
+
+  pub hidden_among : (n : ℕ) (es fs : List Entry) → AreFrom low fs → is_hidden_by hiders (slice_get (es ++ fs) n) ≡ is_hidden_by hiders (slice_get es n)
+  hidden_among n [] fs a = none_behind low n fs (omega arith) a
+  hidden_among zero (e ∷ es) fs a = refl
+  hidden_among (suc n) (e ∷ es) fs a = hidden_among n es fs a
 
 -- a history whose blocks have all ended
 pub journals_closed : (h : History) → h.waiting ≡ [] → journals h ≡ journals_of h.closed
@@ -46,25 +58,46 @@ journals_closed h none = ap (λ (l : List Entry). journals_of h.closed ++ l) non
 pub journals_push : (bs : List (List Entry)) (b : List Entry) → journals (history (bs ++ b ∷ []) []) ≡ journals_of bs ++ b
 journals_push bs b = append-nil (journals_of (bs ++ b ∷ [])) ∙ flat_map-append (λ (x : List Entry). x) bs (b ∷ []) ∙ ap (λ (l : List Entry). journals_of bs ++ l) (append-nil b)
 
--- the same is hidden by what the file has
-pub hidden_by : (hid gone : ℕ → Bool) (h : History) (cs : List (List Entry)) (n : ℕ) → h.waiting ≡ [] → SameButHidden hid gone h.closed cs → is_hidden h n ≡ list_any (hides n) (journals_of cs)
+-- the same is hidden by what is kept, and of what is kept
+pub kept_hide : (hid gone : ℕ → Bool) (target : Option Entry) (es fs : List Entry) → AllKept hid gone es fs → is_hidden_by es target ≡ is_hidden_by fs target
+kept_hide hid gone None es fs a = refl
+kept_hide hid gone (Some t) es fs a = header_any_same hid gone (λ (x : Header). is_occult x.kind && x.a == t.header.jsn) es fs a
+
+kept_hidden : (hid gone : ℕ → Bool) (hiders es fs : List Entry) (n : ℕ) → AllKept hid gone es fs → is_hidden_by hiders (slice_get es n) ≡ is_hidden_by hiders (slice_get fs n)
+kept_hidden hid gone hiders [] [] n a = refl
+kept_hidden hid gone hiders [] (f ∷ fs) n a = absurd a
+kept_hidden hid gone hiders (e ∷ es) [] n a = absurd a
+kept_hidden hid gone hiders (e ∷ es) (f ∷ fs) zero a = ap (λ (x : Header). list_any (λ (j : Entry). is_occult j.header.kind && j.header.a == x.jsn) hiders) (sym a.0.header)
+kept_hidden hid gone hiders (e ∷ es) (f ∷ fs) (suc n) a = kept_hidden hid gone hiders es fs n a.1
+
+-- .. by what the file has
+pub hidden_by : (hid gone : ℕ → Bool) (h : History) (cs : List (List Entry)) (n : ℕ) → h.waiting ≡ [] → SameButHidden hid gone h.closed cs → is_hidden h n ≡ is_hidden_by (journals_of cs) (slice_get (journals_of cs) n)
 hidden_by hid gone h cs n none s =
-    ap (list_any (hides n)) (journals_closed h none) ∙ header_any_same hid gone (λ (x : Header). is_occult x.kind && x.a == n) (journals_of h.closed) (journals_of cs) (all_kept hid gone h.closed cs s)
+    let kept = all_kept hid gone h.closed cs s in
+    ap (λ (l : List Entry). is_hidden_by l (slice_get l n)) (journals_closed h none)
+    ∙ kept_hide hid gone (slice_get (journals_of h.closed) n) (journals_of h.closed) (journals_of cs) kept
+    ∙ kept_hidden hid gone (journals_of cs) (journals_of h.closed) (journals_of cs) n kept
+
+-- by more journals
+hidden_more : (target : Option Entry) (xs ys : List Entry) → is_hidden_by (xs ++ ys) target ≡ (is_hidden_by xs target || is_hidden_by ys target)
+hidden_more None xs ys = refl
+hidden_more (Some t) xs ys = list_any-append (hides t) xs ys
 
 -- a block more
-pub hidden_push : (bs : List (List Entry)) (b : List Entry) (n : ℕ) → is_hidden (history (bs ++ b ∷ []) []) n ≡ (list_any (hides n) (journals_of bs) || list_any (hides n) b)
-hidden_push bs b n = ap (list_any (hides n)) (journals_push bs b) ∙ list_any-append (hides n) (journals_of bs) b
+pub hidden_push : (bs : List (List Entry)) (b : List Entry) (n : ℕ) → is_hidden (history (bs ++ b ∷ []) []) n ≡ (is_hidden_by (journals_of bs) (slice_get (journals_of bs ++ b) n) || is_hidden_by b (slice_get (journals_of bs ++ b) n))
+hidden_push bs b n = ap (λ (l : List Entry). is_hidden_by l (slice_get l n)) (journals_push bs b) ∙ hidden_more (slice_get (journals_of bs ++ b) n) (journals_of bs) b
 
 take_over : (xs ys : List Entry) (k : ℕ) → take (length xs + k) (xs ++ ys) ≡ xs ++ take k ys
 take_over [] ys k = let e : 0 + k ≡ k = omega arith in ap (λ (n : ℕ). take n ys) e
 take_over (x ∷ xs) ys k = let e : length (x ∷ xs) + k ≡ suc (length xs + k) = omega arith in ap (λ (n : ℕ). take n (x ∷ (xs ++ ys))) e ∙ ap (λ (l : List Entry). x ∷ l) (take_over xs ys k)
 
-pub before_push : (bs : List (List Entry)) (b : List Entry) (n : ℕ) → 1 ≤ length b → hidden_before (history (bs ++ b ∷ []) []) n ≡ (list_any (hides n) (journals_of bs) || list_any (hides n) (take (length b - 1) b))
+pub before_push : (bs : List (List Entry)) (b : List Entry) (n : ℕ) → 1 ≤ length b → hidden_before (history (bs ++ b ∷ []) []) n ≡ (is_hidden_by (journals_of bs) (slice_get (journals_of bs ++ b) n) || is_hidden_by (take (length b - 1) b) (slice_get (journals_of bs ++ b) n))
 before_push bs b n some =
-    ap (λ (l : List Entry). list_any (hides n) (take (length l - 1) l)) (journals_push bs b)
-    ∙ ap (λ (k : ℕ). list_any (hides n) (take k (journals_of bs ++ b))) less
-    ∙ ap (list_any (hides n)) (take_over (journals_of bs) b (length b - 1))
-    ∙ list_any-append (hides n) (journals_of bs) (take (length b - 1) b) where
+    let target = slice_get (journals_of bs ++ b) n in
+    ap (λ (l : List Entry). is_hidden_by (take (length l - 1) l) (slice_get l n)) (journals_push bs b)
+    ∙ ap (λ (k : ℕ). is_hidden_by (take k (journals_of bs ++ b)) target) less
+    ∙ ap (λ (l : List Entry). is_hidden_by l target) (take_over (journals_of bs) b (length b - 1))
+    ∙ hidden_more target (journals_of bs) (take (length b - 1) b) where
       less : length (journals_of bs ++ b) - 1 ≡ length (journals_of bs) + (length b - 1)
       less = omega (arith, some, length-append (journals_of bs) b)
 
@@ -78,4 +111,7 @@ any_take p k es t = by_parts (list_any p (drop k es)) (list_any p (take k es)) t
   by_parts v w t is = is ∙ ap (λ (x : Bool). x || v) t
 
 pub before_hidden : (h : History) (n : ℕ) → hidden_before h n ≡ true → is_hidden h n ≡ true
-before_hidden h n t = any_take (hides n) (size h - 1) (journals h) t
+before_hidden h n t = of_target (slice_get (journals h) n) t where
+  of_target : (target : Option Entry) → is_hidden_by (take (size h - 1) (journals h)) target ≡ true → is_hidden_by (journals h) target ≡ true
+  of_target None t = t
+  of_target (Some e) t = any_take (hides e) (size h - 1) (journals h) t

@@ -37,7 +37,8 @@ Grows =
 abbrev pub GrowsErased : Type 0
 GrowsErased =
     (image new : List ℕ) (h : History) (block : List Entry) → IsErased image h → IsNextBlock h block
-    → ((n : ℕ) → list_any (hides n) block ≡ false) → StandsFor new (with_block block h) → IsErased new (with_block block h)
+    → ((target : Entry) → list_any (hides target) block ≡ false)
+    → StandsFor new (with_block block h) → IsErased new (with_block block h)
 
 -- the file of a new ledger: a head of generation 1 without a base, block 0 and a tail gate
 abbrev pub new_file : Genesis → List ℕ

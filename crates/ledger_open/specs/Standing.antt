@@ -1,6 +1,5 @@
 -- What a pair of files stands for: a history, of which hidden contents aren't kept.
-use Rattle.std.specs.Prelude.{◌≡◌, ◌⊎◌, ℕ, ◌-◌, ◌≤◌, Bool, true, false, List, [], ◌∷◌, length, take, replicate, ⊤}
-use Rattle.std.specs.List.{list_any}
+use Rattle.std.specs.Prelude.{◌≡◌, ◌⊎◌, ℕ, ◌-◌, ◌≤◌, Bool, true, false, List, [], ◌∷◌, length, take, slice_get, replicate, ⊤}
 use Rattle.sha2.specs.Sha256.{sha256}
 use Rattle.tree_model.specs.Tree.{mth}
 use Rattle.block_file.specs.File.{Stands}
@@ -8,7 +7,7 @@ use Rattle.journal_record.specs.Blocks.{AreBlocks, written_blocks}
 use Rattle.journal_record.specs.Entry.{Entry}
 use Rattle.ledger_model.specs.History.{History, journals, size, point}
 use Rattle.ledger_model.specs.Lawful.{IsLawful}
-use Rattle.ledger_model.specs.Outcomes.{hides, is_hidden}
+use Rattle.ledger_model.specs.Outcomes.{is_hidden_by, is_hidden}
 use Rattle.ledger_open.specs.Heads.{IsFront}
 
 -- ---- the blocks of a file
@@ -66,7 +65,7 @@ pub record Keeps (floor : Floor) (generation : ℕ) (hid gone : ℕ → Bool) (b
 
 -- whether a journal before the last hides the content of journal n
 abbrev pub hidden_before : History → ℕ → Bool
-hidden_before h n = list_any (hides n) (take (size h - 1) (journals h))
+hidden_before h n = is_hidden_by (take (size h - 1) (journals h)) (slice_get (journals h) n)
 
 -- The image has this history, where these contents are zeros, and those that are hidden beside them may be any bytes.
 -- No purge has a point above 0, and each file begins with journal 0.
