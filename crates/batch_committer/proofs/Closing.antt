@@ -136,7 +136,7 @@ module _ (k : Kept) (h : History) (p : Keeps k h) where
 
 -- the file keeps the blocks of the history
 same_blocks : (image : List ℕ) (h : History) (x : IsErased image h) → x.keeps.blocks ≡ h.closed
-same_blocks image h x = (blocks_unique ground x.generation x.generation x.keeps.blocks h.closed image mth_size x.keeps.file (own_blocks _ image h x)).1
+same_blocks image h x = (blocks_unique ground x.generation x.generation x.keeps.blocks h.closed image mth_size x.keeps.file (own_blocks _ _ image h x x.unpurged)).1
 
 pub tail_at : (image : List ℕ) (h : History) (x : IsErased image h) → tail_of x.keeps.file.front (written_blocks (ground).root [] x.keeps.blocks) ≡ after_at 64 h.closed
 tail_at image h x = tail_is x.generation x.keeps.blocks image x.keeps.file ∙ ap (after_at 64) (same_blocks image h x)
@@ -145,6 +145,8 @@ tail_at image h x = tail_is x.generation x.keeps.blocks image x.keeps.file ∙ a
 pub stands_by : (image new : List ℕ) (h : History) (x : IsErased image h) → Stands x.keeps.file.front (written_blocks (ground).root [] x.keeps.blocks) new → IsErased new h
 stands_by image new h x stands = record {
   generation = x.generation;
+  parts = x.parts;
+  unpurged = x.unpurged;
   keeps = record {
     blocks = x.keeps.blocks;
     file = record { front = x.keeps.file.front; head = x.keeps.file.head; lawful = x.keeps.file.lawful; stands = stands };
@@ -152,7 +154,6 @@ stands_by image new h x stands = record {
   };
   early = x.early;
   none = x.none;
-  floor = x.floor;
   lawful = x.lawful;
 }
 
@@ -168,12 +169,12 @@ bytes_behind image h x =
 module _ (k : Kept) (h : History) (p : Keeps k h) (some : 1 ≤ length h.waiting) (most : length h.waiting ≤ BLOCK_LIMIT) (image new : List ℕ) (x : IsErased image (sealed_part h))
     (stands : Stands x.keeps.file.front (written_blocks (ground).root [] x.keeps.blocks ++ next_bytes h ∷ []) new) where
   n : IsNextBlock (sealed_part h) h.waiting
-  n = next_block_is k h p some most x.floor
+  n = next_block_is k h p some most x.unpurged
 
   -- the image stands for the history with the open block ended
   more_stands : StandsFor new (with_block h.waiting (sealed_part h))
   more_stands =
-      let n = next_block_is k h p some most x.floor in
+      let n = next_block_is k h p some most x.unpurged in
       grows image new (sealed_part h) h.waiting x n.entries n.shape n.next n.floor
       (subst (λ (b : List ℕ). Stands x.keeps.file.front (written_blocks (ground).root [] x.keeps.blocks ++ b ∷ []) new) (bytes_behind image h x) stands)
 
@@ -182,7 +183,7 @@ module _ (k : Kept) (h : History) (p : Keeps k h) (some : 1 ≤ length h.waiting
 
   pub block_erased : IsErased new (sealed_part (close h))
   block_erased =
-      let n = next_block_is k h p some most x.floor in
+      let n = next_block_is k h p some most x.unpurged in
       subst (IsErased new) (sealed_close h some)
       (grows_erased image new (sealed_part h) h.waiting x n.entries n.shape n.next n.floor (λ m. gathered_hides m h.waiting p.gathered) more_stands)
 
@@ -193,8 +194,8 @@ empty_image : (s : State) (image : List ℕ) → s ≡ settled_state [] → MayL
 empty_image s image is left = ap length (settled_image [] image (subst (λ (t : State). MayLeave t image) is left))
 
 pair_of : (in_a : Bool) (a b : State) (i j : List ℕ) (h : History) → other_of in_a a b ≡ settled_state [] → MayLeave a i → MayLeave b j → StandsFor (open_of in_a i j) h → PairFor i j h
-pair_of true a b i j h empty left_a left_b x = inl (x, empty_image b j empty left_b)
-pair_of false a b i j h empty left_a left_b x = inr (x, empty_image a i empty left_a)
+pair_of true a b i j h empty left_a left_b x = record { in_a = true; stands = x; beside = inl (empty_image b j empty left_b) }
+pair_of false a b i j h empty left_a left_b x = record { in_a = false; stands = x; beside = inl (empty_image a i empty left_a) }
 
 open_left : (in_a : Bool) (a b : State) (i j : List ℕ) → MayLeave a i → MayLeave b j → MayLeave (open_of in_a a b) (open_of in_a i j)
 open_left true a b i j left_a left_b = left_a

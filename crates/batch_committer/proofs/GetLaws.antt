@@ -116,7 +116,7 @@ module _ (image : List ℕ) (h : History) (n : ℕ) (stands : IsErased image h) 
 
   -- the book keeps each header
   low : book.floor ≤ n
-  low = omega (arith, floor_none book h serves stands.floor)
+  low = omega (arith, floor_none book h serves stands.unpurged)
 
   abbrev told_header : Option Header
   told_header = if nat_le book.floor n then slice_get (headers h) n else None

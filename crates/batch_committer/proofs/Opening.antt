@@ -1,6 +1,6 @@
 -- What is known of a ledger that was made or opened, and of one that is held.
 use Rattle.std.specs.Prelude.{Bool, true, false, IsTrue, IsSomeAnd}
-use Rattle.std.proofs.Common.{◌≡◌, inl, inr, ℕ, ◌+◌, ◌≤◌, List, [], ◌∷◌, ◌++◌, length, take, refl, ap, sym, subst, ◌∙◌, arith, append-nil, length-append}
+use Rattle.std.proofs.Common.{◌≡◌, ℕ, ◌+◌, ◌≤◌, List, [], ◌∷◌, ◌++◌, length, take, refl, ap, sym, subst, ◌∙◌, arith, append-nil, length-append}
 use Rattle.std.proofs.lemmas.Bool.{true≢false}
 use Rattle.std.proofs.lemmas.List.{nil_from_length}
 use Rattle.block_file.proofs.WriteLaws.{tail_shut}
@@ -49,7 +49,7 @@ held_blocks tells k in_a generation disks sink bs o limits told clean = record {
   keeps = record {
     serves = o.knows.serves;
     limits = limits;
-    floor = floor_none k.book (history bs []) o.knows.serves clean.erased.floor;
+    floor = floor_none k.book (history bs []) o.knows.serves clean.erased.unpurged;
     dues = tt;
     body = refl;
     next = tt;
@@ -76,7 +76,7 @@ opened_held tells k in_a generation blocks a b disks sink h o limits told r p =
 
 -- ---- what a call asks for
 
-shut_of : (k : Known) (in_a : Bool) (blocks : List (List Entry)) (a b : State) → Knows k blocks → IsTidyAt in_a k.place blocks a b → IsShutAt k.place (open_of in_a a b).seen
+shut_of : (k : Known) (in_a : Bool) (blocks : List (List Entry)) (a b : State) → Knows k ground blocks → IsTidyAt in_a k.place blocks a b → IsShutAt k.place (open_of in_a a b).seen
 shut_of k in_a blocks a b knows c =
     let file = (open_of in_a a b).seen in
     let x = c.has.1 in
@@ -127,7 +127,7 @@ length_clean image h place x long at =
     let written = written_blocks (ground).root [] x.keeps.blocks in
     nil_from_length f.stands.rest (omega (arith, at, tail_at image h x, long, ap length f.stands.is, length-append (f.front ++ open_blocks written) (f.stands.gate ∷ f.stands.rest)))
 
-module _ (k : Known) (genesis : Genesis) (disks : Pair) (keys : HasKeys genesis) (knows : Knows k (new_ledger genesis).closed) (f : IsFounded genesis disks.a.bytes disks.b.bytes) where
+module _ (k : Known) (genesis : Genesis) (disks : Pair) (keys : HasKeys genesis) (knows : Knows k ground (new_ledger genesis).closed) (f : IsFounded genesis disks.a.bytes disks.b.bytes) where
   seen_is : disks.a.bytes.seen ≡ new_file genesis
   seen_is = ap (λ (s : State). s.seen) f.first
 
@@ -167,13 +167,13 @@ quiet_for : (in_a : Bool) (place : ℕ) (disks : Pair) (h : History) → place �
 quiet_for true place disks h at x = record {
   a = x.quiet;
   b = settled_by disks.b.bytes x.empty;
-  clean = inl (record { erased = x.erased; ends = length_clean disks.a.bytes.seen h place x.erased x.ends at }, ap (λ (s : State). length s.seen) x.empty);
+  clean = record { in_a = true; clean = record { erased = x.erased; ends = length_clean disks.a.bytes.seen h place x.erased x.ends at }; empty = ap (λ (s : State). length s.seen) x.empty };
   images = λ i j left_a left_b. clean_image true place h disks.a.bytes disks.b.bytes i j x left_a left_b;
 }
 quiet_for false place disks h at x = record {
   a = settled_by disks.a.bytes x.empty;
   b = x.quiet;
-  clean = inr (record { erased = x.erased; ends = length_clean disks.b.bytes.seen h place x.erased x.ends at }, ap (λ (s : State). length s.seen) x.empty);
+  clean = record { in_a = false; clean = record { erased = x.erased; ends = length_clean disks.b.bytes.seen h place x.erased x.ends at }; empty = ap (λ (s : State). length s.seen) x.empty };
   images = λ i j left_a left_b. clean_image false place h disks.a.bytes disks.b.bytes i j x left_a left_b;
 }
 

@@ -6,7 +6,7 @@ use Rattle.ledger_disk.specs.Disk.{MayLeave}
 use Rattle.ledger_model.specs.History.{History}
 use Rattle.twin_file.specs.Twin.{open_of}
 use Rattle.ledger_open.specs.Opening.{Known, Knows}
-use Rattle.ledger_open.specs.Standing.{PairFor, IsCleanPair}
+use Rattle.ledger_open.specs.Standing.{ground, PairFor, IsCleanPair}
 use Rattle.batch_committer.specs.World.{Kept, Pair, first_kept}
 
 -- what is kept of a ledger of which this is known
@@ -15,7 +15,7 @@ kept_from known in_a generation = first_kept known.book known.places known.place
 
 -- the ledger was made or opened: these are its blocks, and the length of its open file is told
 pub record IsOpened (known : Known) (in_a : Bool) (disks : Pair) (blocks : List (List Entry)) : Type 0 where
-  pub knows : Knows known blocks
+  pub knows : Knows known ground blocks
   pub told : IsSomeAnd (open_of in_a disks.a disks.b).told (λ n. known.place + 1 ≤ n)
 
 -- nothing is pending, the pair is clean for this history, and so is each pair of images

@@ -218,7 +218,7 @@ with_content content e = record { header = e.header; content = content; who = e.
 module _ (block : BlockAt) (first : RecordAt) (content : List ℕ) (book : Kept) (places : List PlaceAt) (place : ℕ)
     (one : block.records ≡ first ∷ []) (size : length content ≡ 64) (listed : places ≡ place_of_record first ∷ []) (tail : place ≡ 65 + block.len)
     (serves : (j : Entry) → j.header ≡ first.header → j.content ≡ content → Serves book (begun_with j)) where
-  first_known : (e : Entry) → AreBlock 0 (e ∷ []) → IsRead 64 (e ∷ []) block → first ≡ record_at 109 e → Knows (known_from book places place) ((with_content content e ∷ []) ∷ [])
+  first_known : (e : Entry) → AreBlock 0 (e ∷ []) → IsRead 64 (e ∷ []) block → first ≡ record_at 109 e → Knows (known_from book places place) ground ((with_content content e ∷ []) ∷ [])
   first_known e b r at =
       let s = serves (with_content content e) (ap (λ (x : RecordAt). x.header) (sym at)) refl in record {
         lawful = (record { some = omega arith; most = omega arith; entries = (record { jsn = b.begins; rules = b.readable.0.rules; widths = b.readable.0.widths; content = size ∙ sym (keys_len e [] b); who = b.readable.0.who }, tt) }, tt);

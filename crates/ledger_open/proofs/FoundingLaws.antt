@@ -1,10 +1,10 @@
 -- The file of a new ledger is clean for its history.
-use Rattle.std.proofs.Common.{◌≡◌, inl, inr, ℕ, zero, suc, ◌+◌, false, List, [], ◌∷◌, ◌++◌, length, refl, sym, ◌∙◌, ap, subst, arith, length-append, append_assoc, append-nil}
+use Rattle.std.proofs.Common.{◌≡◌, inl, inr, ℕ, zero, suc, ◌+◌, true, false, List, [], ◌∷◌, ◌++◌, length, refl, sym, ◌∙◌, ap, subst, arith, length-append, append_assoc, append-nil}
 use Rattle.std.proofs.lemmas.Bool.{true≢false}
 use Rattle.sha2.proofs.Facts256.{length-sha256}
 use Rattle.journal_record.specs.Entry.{Entry}
 use Rattle.ledger_model.specs.Genesis.{genesis_header, genesis_journal, new_ledger}
-use Rattle.ledger_model.specs.History.{point}
+use Rattle.ledger_model.specs.History.{point, size}
 use Rattle.ledger_model.specs.Outcomes.{is_hidden}
 use Rattle.ledger_model.specs.declared.genesis.Genesis.{Genesis}
 use Rattle.journal_record.specs.Blocks.{IsEntry, written_blocks, body_of, block_bytes, leaves_of}
@@ -29,6 +29,7 @@ use Rattle.twin_file.specs.Images.{AreShut, IsMadeOrShut}
 use Rattle.ledger_open.specs.Founding.{IsFounded, IsFoundedOrShut}
 use Rattle.ledger_open.specs.Growing.{new_file}
 use Rattle.ledger_open.proofs.GrowLaws.{erased_stands}
+use Rattle.ledger_open.proofs.PartLaws.{early_at, sides_pair}
 use Rattle.ledger_open.proofs.SizeLaws.{body_size, block_size, mth_size}
 use Rattle.ledger_open.proofs.TakeLaws.{root_is}
 use Rattle.twin_file.proofs.HeadLaws.{tail_size}
@@ -94,6 +95,8 @@ module _ (genesis : Genesis) (operator : length genesis.operator.0 ≡ 32) (regu
   founded_clean = record {
     erased = record {
       generation = 1;
+      parts = record { gone = []; kept = (new_ledger genesis).closed; are = refl; at = sym floor_is };
+      unpurged = floor_is;
       keeps = record {
         blocks = blocks;
         file = record {
@@ -104,9 +107,8 @@ module _ (genesis : Genesis) (operator : length genesis.operator.0 ≡ 32) (regu
         };
         same = ((kept_is, tt), tt);
       };
-      early = omega arith;
+      early = early_at (point (new_ledger genesis)) (point (new_ledger genesis)) 1 (size (new_ledger genesis)) refl (omega arith);
       none = refl;
-      floor = floor_is;
       lawful = founded_lawful genesis;
     };
     ends = refl;
@@ -143,7 +145,7 @@ module _ (genesis : Genesis) (operator : length genesis.operator.0 ≡ 32) (regu
   first_block_size root size = block_size root (genesis_journal genesis ∷ []) size block_readable ∙ ap (λ (n : ℕ). 44 + n) len_is
 
   pub first_knows : (book : Kept) (places : List PlaceAt) → Serves book (new_ledger genesis) → places ≡ record { content_at = 287; who_at = 351; content_len = 64; who_len = 0 } ∷ []
-      → Knows (known_from book places 351) (new_ledger genesis).closed
+      → Knows (known_from book places 351) ground (new_ledger genesis).closed
   unfolding genesis_header
   first_knows book places serves listed = record {
     lawful = (record { some = omega arith; most = omega arith; entries = (entry_is, tt) }, tt);
@@ -162,7 +164,7 @@ pub made_images : (genesis : Genesis) (block image_a image_b : List ℕ) → Has
 made_images genesis block image_a image_b keys is (shut, inl both) = inl (both, shut)
 made_images genesis block image_a image_b keys is (shut, inr made) =
     let new : image_a ≡ new_file genesis = made.0 ∙ ap (λ (l : List ℕ). whole_file (front_of 1 1 []) (l ∷ [])) is in
-    inr (inl (subst (λ (l : List ℕ). StandsFor l (new_ledger genesis)) (sym new) (erased_stands (new_file genesis) (new_ledger genesis) (founded_clean genesis keys.operator keys.regulator).erased), ap length made.1))
+    inr (sides_pair image_a image_b (new_ledger genesis) (inl (subst (λ (l : List ℕ). StandsFor l (new_ledger genesis)) (sym new) (erased_stands (new_file genesis) (new_ledger genesis) (founded_clean genesis keys.operator keys.regulator).erased), ap length made.1)))
 
 -- the states when the ledger is made, behind both syncs
 pub shut_now : (a b a_now b_now : State) → a_now ≡ settled_state a.seen → b_now ≡ settled_state b.seen → IsShut a.seen → IsShut b.seen → AreShut a_now b_now
@@ -178,4 +180,8 @@ first_place genesis block place keys is at =
 -- a pair of a new ledger is clean
 pub founded_pair : (genesis : Genesis) (a b : State) → HasKeys genesis → IsFounded genesis a b → IsCleanPair a.seen b.seen (new_ledger genesis)
 founded_pair genesis a b keys f =
-    inl (subst (λ (l : List ℕ). IsClean l (new_ledger genesis)) (sym (ap (λ (s : State). s.seen) f.first)) (founded_clean genesis keys.operator keys.regulator), ap (λ (s : State). length s.seen) f.second)
+    record {
+      in_a = true;
+      clean = subst (λ (l : List ℕ). IsClean l (new_ledger genesis)) (sym (ap (λ (s : State). s.seen) f.first)) (founded_clean genesis keys.operator keys.regulator);
+      empty = ap (λ (s : State). length s.seen) f.second;
+    }

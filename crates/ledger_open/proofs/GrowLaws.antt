@@ -1,7 +1,7 @@
 -- What a file stands for, when it is read, when a block is added, and when a hidden content is given up.
 use Rattle.std.specs.List.{list_any, list_all}
 use Rattle.std.specs.Prelude.{◌==◌, slice_get}
-use Rattle.std.proofs.Common.{◌≡◌, ◌≢◌, ℕ, zero, suc, ◌+◌, ◌-◌, ◌≤◌, Bool, true, false, ◌&&◌, ◌||◌, List, [], ◌∷◌, ◌++◌, length, map, take, Option, Some, refl, sym, ◌∙◌, ap, subst, arith, append_assoc, append-nil, length-append}
+use Rattle.std.proofs.Common.{◌≡◌, ◌≢◌, inl, ℕ, zero, suc, ◌+◌, ◌-◌, ◌≤◌, Bool, true, false, ◌&&◌, ◌||◌, List, [], ◌∷◌, ◌++◌, length, map, take, Option, Some, refl, sym, ◌∙◌, ap, subst, arith, append_assoc, append-nil, length-append}
 use Rattle.std.proofs.lemmas.Bool.{eqb-true, eq-eqb, true≢false, and_parts}
 use Rattle.std.proofs.lemmas.List.Elements.{All-push}
 use Rattle.std.proofs.lemmas.Option.{slice_get_past}
@@ -22,64 +22,48 @@ use Rattle.ledger_open.specs.Standing.{Floor, ground, HasBlocks, AllKept, SameBu
 use Rattle.ledger_open.proofs.SizeLaws.{mth_size}
 use Rattle.ledger_open.proofs.AgainLaws.{blocks_unique}
 use Rattle.ledger_open.proofs.KeptLaws.{all_kept, same_more, same_weaker, header_map_same, same_alike}
+use Rattle.ledger_open.proofs.PartLaws.{same_all, stands_first, stands_whole, early_at, early_most}
 use Rattle.ledger_open.proofs.HidingLaws.{from_blocks, none_above, hidden_among, kept_hide, journals_closed, journals_push, hidden_by, hidden_push, before_push, before_hidden}
 
 -- Histories that one image has agree but for hidden contents.
-pub one_history : (gone gone′ : ℕ → Bool) (image : List ℕ) (h k : History) → StandsBy gone image h → StandsBy gone′ image k → Alike h k
-one_history gone gone′ image h k x y =
+one_history : (floor floor′ : ℕ) (gone gone′ : ℕ → Bool) (image : List ℕ) (h k : History) → StandsBy floor gone image h → StandsBy floor′ gone′ image k → floor ≡ 0 → floor′ ≡ 0 → Alike h k
+one_history floor floor′ gone gone′ image h k x y at at′ =
+    let kept = same_all floor gone image h x at in
     let same = (blocks_unique ground x.generation y.generation x.keeps.blocks y.keeps.blocks image mth_size x.keeps.file y.keeps.file).1 in
-    let there : SameButHidden (is_hidden k) gone′ k.closed x.keeps.blocks = subst (λ (bs : List (List Entry)). SameButHidden (is_hidden k) gone′ k.closed bs) (sym same) y.keeps.same in
-    let hide : (n : ℕ) → is_hidden h n ≡ is_hidden k n = λ n. hidden_by (is_hidden h) gone h x.keeps.blocks n x.none x.keeps.same ∙ sym (hidden_by (is_hidden k) gone′ k x.keeps.blocks n y.none there) in
-    same_alike (is_hidden h) gone gone′ h.closed k.closed x.keeps.blocks x.keeps.same
+    let there : SameButHidden (is_hidden k) gone′ k.closed x.keeps.blocks = subst (λ (bs : List (List Entry)). SameButHidden (is_hidden k) gone′ k.closed bs) (sym same) (same_all floor′ gone′ image k y at′) in
+    let hide : (n : ℕ) → is_hidden h n ≡ is_hidden k n = λ n. hidden_by (is_hidden h) gone h x.keeps.blocks n x.none kept ∙ sym (hidden_by (is_hidden k) gone′ k x.keeps.blocks n y.none there) in
+    same_alike (is_hidden h) gone gone′ h.closed k.closed x.keeps.blocks kept
     (same_weaker (is_hidden k) gone′ (is_hidden h) gone′ (λ n s. sym (hide n) ∙ s) (λ n z. z) k.closed x.keeps.blocks there)
 
+pub one_image : (image : List ℕ) (h k : History) → StandsFor image h → StandsFor image k → Alike h k
+one_image image h k s t = one_history s.floor t.floor (hidden_before h) (hidden_before k) image h k s.file t.file (stands_first image h s) (stands_first image k t)
+
 -- an image that has a history with more zeros has it with fewer
-pub stands_weaker : (gone gone′ : ℕ → Bool) (image : List ℕ) (h : History) → ((n : ℕ) → gone′ n ≡ true → gone n ≡ true) → StandsBy gone image h → StandsBy gone′ image h
-stands_weaker gone gone′ image h fewer x = record {
+pub stands_weaker : (floor : ℕ) (gone gone′ : ℕ → Bool) (image : List ℕ) (h : History) → ((n : ℕ) → gone′ n ≡ true → gone n ≡ true) → StandsBy floor gone image h → StandsBy floor gone′ image h
+stands_weaker floor gone gone′ image h fewer x = record {
   generation = x.generation;
+  parts = x.parts;
+  unpurged = x.unpurged;
   keeps = record {
     blocks = x.keeps.blocks;
     file = x.keeps.file;
-    same = same_weaker (is_hidden h) gone (is_hidden h) gone′ (λ n s. s) fewer h.closed x.keeps.blocks x.keeps.same;
+    same = same_weaker (is_hidden h) gone (is_hidden h) gone′ (λ n s. s) fewer x.parts.kept x.keeps.blocks x.keeps.same;
   };
   early = x.early;
   none = x.none;
-  floor = x.floor;
   lawful = x.lawful;
 }
 
-pub reads : (gone : ℕ → Bool) (image : List ℕ) (h : History) → StandsBy gone image h → Reads image h
-reads gone image h x = stands_weaker gone (λ n. false) image h (λ n z. let no : ⊥ = true≢false (sym z) in absurd no) x
+pub reads : (gone : ℕ → Bool) (image : List ℕ) (h : History) → StandsBy (point h) gone image h → Reads image h
+reads gone image h x = stands_weaker (point h) gone (λ n. false) image h (λ n z. let no : ⊥ = true≢false (sym z) in absurd no) x
 
 -- a clean image stands for its history
 pub erased_stands : (image : List ℕ) (h : History) → IsErased image h → StandsFor image h
-erased_stands image h x = record {
-  generation = x.generation;
-  keeps = record {
-    blocks = x.keeps.blocks;
-    file = x.keeps.file;
-    same = same_weaker (is_hidden h) (is_hidden h) (is_hidden h) (hidden_before h) (λ n s. s) (λ n z. before_hidden h n z) h.closed x.keeps.blocks x.keeps.same;
-  };
-  early = x.early;
-  none = x.none;
-  floor = x.floor;
-  lawful = x.lawful;
-}
+erased_stands image h x = record { floor = point h; begins = inl refl; file = stands_weaker (point h) (is_hidden h) (hidden_before h) image h (λ n z. before_hidden h n z) x }
 
 -- an image is clean where the last journal hides nothing new
 pub stands_erased : (image : List ℕ) (h : History) → StandsFor image h → ((n : ℕ) → is_hidden h n ≡ true → hidden_before h n ≡ true) → IsErased image h
-stands_erased image h x old = record {
-  generation = x.generation;
-  keeps = record {
-    blocks = x.keeps.blocks;
-    file = x.keeps.file;
-    same = same_weaker (is_hidden h) (hidden_before h) (is_hidden h) (is_hidden h) (λ n s. s) old h.closed x.keeps.blocks x.keeps.same;
-  };
-  early = x.early;
-  none = x.none;
-  floor = x.floor;
-  lawful = x.lawful;
-}
+stands_erased image h x old = stands_weaker (point h) (hidden_before h) (is_hidden h) image h old (stands_whole image h x)
 
 -- the leaves of more blocks
 leaves_from : (seen : List (List ℕ)) (b : List Entry) (bs : List (List Entry)) → (seen ++ leaves_of b) ++ leaves_of (journals_of bs) ≡ seen ++ leaves_of (journals_of (b ∷ bs))
@@ -164,8 +148,11 @@ module _ (image new : List ℕ) (h : History) (b : List Entry) (x : IsErased ima
   abbrev more : History
   more = history (h.closed ++ b ∷ []) []
 
+  all_same : SameButHidden (is_hidden h) (is_hidden h) h.closed x.keeps.blocks
+  all_same = same_all (point h) (is_hidden h) image h x x.unpurged
+
   count : size h ≡ length (journals_of x.keeps.blocks)
-  count = ap length (journals_closed h x.none) ∙ sym (length-map (journals_of h.closed)) ∙ ap length (header_map_same (is_hidden h) (is_hidden h) (λ (y : Header). y.jsn) (journals_of h.closed) (journals_of x.keeps.blocks) (all_kept (is_hidden h) (is_hidden h) h.closed x.keeps.blocks x.keeps.same)) ∙ length-map (journals_of x.keeps.blocks) where
+  count = ap length (journals_closed h x.none) ∙ sym (length-map (journals_of h.closed)) ∙ ap length (header_map_same (is_hidden h) (is_hidden h) (λ (y : Header). y.jsn) (journals_of h.closed) (journals_of x.keeps.blocks) (all_kept (is_hidden h) (is_hidden h) h.closed x.keeps.blocks all_same)) ∙ length-map (journals_of x.keeps.blocks) where
     length-map : (es : List Entry) → length (map (λ (e : Entry). e.header.jsn) es) ≡ length es
     length-map es = Rattle.std.proofs.lemmas.List.length-map es (λ (e : Entry). e.header.jsn)
 
@@ -197,25 +184,36 @@ module _ (image new : List ℕ) (h : History) (b : List Entry) (x : IsErased ima
   none_new : (n : ℕ) → size h ≤ n → is_hidden h n ≡ false
   none_new n le = ap (is_hidden_by (journals h)) (slice_get_past (journals h) n le)
 
-  same_then : SameButHidden (is_hidden more) (hidden_before more) (h.closed ++ b ∷ []) (x.keeps.blocks ++ b ∷ [])
+  same_then : SameButHidden (is_hidden more) (hidden_before more) (x.parts.kept ++ b ∷ []) (x.keeps.blocks ++ b ∷ [])
   same_then =
-      same_more (is_hidden more) (hidden_before more) h.closed x.keeps.blocks b b
-      (same_weaker (is_hidden h) (is_hidden h) (is_hidden more) (hidden_before more) new_hidden (λ n z. sym (new_before n) ∙ z) h.closed x.keeps.blocks x.keeps.same)
+      same_more (is_hidden more) (hidden_before more) x.parts.kept x.keeps.blocks b b
+      (same_weaker (is_hidden h) (is_hidden h) (is_hidden more) (hidden_before more) new_hidden (λ n z. sym (new_before n) ∙ z) x.parts.kept x.keeps.blocks x.keeps.same)
       (all_self (is_hidden more) (hidden_before more) (size h) b bb.entries (λ n le. new_before n ∙ none_new n le))
 
   -- A block more behind a clean file: the image stands for the history with the block, where at most its last journal hides another.
   pub grows : Stands x.keeps.file.front (written_blocks (ground).root [] x.keeps.blocks ++ block_bytes ((ground).root (leaves_of (journals_of x.keeps.blocks) ++ leaves_of b)) b ∷ []) new → StandsFor new more
   grows stands = record {
-    generation = x.generation;
-    keeps = record {
-      blocks = x.keeps.blocks ++ b ∷ [];
-      file = file_more ground x.generation x.keeps.blocks b image new x.keeps.file (subst (λ (m : ℕ). IsBlock m b) (omega (arith, count)) bb) stands;
-      same = same_then;
+    floor = point more;
+    begins = inl refl;
+    file = record {
+      generation = x.generation;
+      parts = record {
+        gone = x.parts.gone;
+        kept = x.parts.kept ++ b ∷ [];
+        are = ap (λ (bs : List (List Entry)). bs ++ b ∷ []) x.parts.are ∙ append_assoc x.parts.gone x.parts.kept (b ∷ []);
+        at = x.parts.at ∙ x.unpurged ∙ sym floor;
+      };
+      unpurged = floor;
+      keeps = record {
+        blocks = x.keeps.blocks ++ b ∷ [];
+        file = file_more ground x.generation x.keeps.blocks b image new x.keeps.file (subst (λ (m : ℕ). IsBlock m b) (omega (arith, count)) bb) stands;
+        same = same_then;
+      };
+      early = early_at (point more) (point more) x.generation (size more) refl
+          (omega (arith, early_most (point h == point h) x.generation (size h) x.early, ap length (journals_push h.closed b), ap length (journals_closed h x.none), length-append (journals_of h.closed) b));
+      none = refl;
+      lawful = lawful_then;
     };
-    early = omega (arith, x.early, ap length (journals_push h.closed b), ap length (journals_closed h x.none), length-append (journals_of h.closed) b);
-    none = refl;
-    floor = floor;
-    lawful = lawful_then;
   }
 
   -- .. and it is clean, where no journal of the block hides another

@@ -2,6 +2,7 @@ pub mod SizeLaws
 pub mod AgainLaws
 pub mod KeptLaws
 pub mod HidingLaws
+pub mod PartLaws
 pub mod GrowLaws
 pub mod FoundingLaws
 pub mod FollowLaws

@@ -101,7 +101,7 @@ module _ (k : Known) (block : BlockAt) (book : Kept) (places : List PlaceAt) (pl
   block_of : (ks : List (List Entry)) (es : List Entry) → AreBlock first es → TakesBlock book ks es block.root.0 → IsBlock (length (journals_of ks)) es
   block_of ks es b t = record { some = b.some; most = b.most; entries = from_next (journals_of ks) es t.next b.readable }
 
-  more_known : (ks : List (List Entry)) (es : List Entry) → Knows k ks → AreBlock first es → IsRead k.place es block → Knows (known_from book places place) (ks ++ es ∷ [])
+  more_known : (ks : List (List Entry)) (es : List Entry) → Knows k ground ks → AreBlock first es → IsRead k.place es block → Knows (known_from book places place) ground (ks ++ es ∷ [])
   more_known ks es n b r =
       let t = takes ks es (headed_read k.place es block r) n.serves in record {
         lawful = blocks_more 0 ks es n.lawful (subst (λ (m : ℕ). IsBlock m es) (omega arith) (block_of ks es b t));

@@ -28,6 +28,7 @@ use Rattle.ledger_open.specs.declared.failure.OpenErr.{OpenErr}
 use Rattle.ledger_open.specs.declared.failure.OpenErr.TheVariants as errors
 use Rattle.ledger_open.proofs.AgainLaws.{flat, number_front, blocks_unique}
 use Rattle.ledger_open.proofs.DamageLaws.{no_base, none_damaged}
+use Rattle.ledger_open.proofs.PartLaws.{pair_sides}
 use Rattle.ledger_open.proofs.PlaceLaws.{tail_place}
 use Rattle.ledger_book.specs.Books.{Serves}
 use Rattle.ledger_open.proofs.SizeLaws.{mth_size}
@@ -70,7 +71,7 @@ pub same_keeps : (old new : State) → new ≡ old → IsSettled old → KeepsBl
 same_keeps old new same quiet generation bs x image left =
     subst (λ (l : List ℕ). HasBlocks ground generation bs l) (sym (settled_image old.seen image (subst (λ (s : State). MayLeave s image) (same ∙ quiet) left))) x
 
-pub trim_keeps : (old mid new : State) (k : Known) (ks : List (List Entry)) → mid ≡ old → Knows k ks → HasFile ks old.seen
+pub trim_keeps : (old mid new : State) (k : Known) (ks : List (List Entry)) → mid ≡ old → Knows k ground ks → HasFile ks old.seen
     → (IsSettled mid → (front : List ℕ) (blocks : List (List ℕ)) → Stands front blocks mid.seen → tail_of front blocks ≡ k.place → (image : List ℕ) → MayLeave new image → Stands front blocks image)
     → IsSettled old → KeepsBlocks old new
 trim_keeps old mid new k ks same knows has images quiet generation bs x image left =
@@ -84,29 +85,32 @@ trim_keeps old mid new k ks same knows has images quiet generation bs x image le
     }
 
 -- an image with the blocks of another stands for what that one stands for
-pub stands_again : (gone : ℕ → Bool) (old new : List ℕ) (h : History) → ((generation : ℕ) (bs : List (List Entry)) → HasBlocks ground generation bs old → HasBlocks ground generation bs new) → StandsBy gone old h → StandsBy gone new h
-stands_again gone old new h keeps x = record {
+pub stands_again : (floor : ℕ) (gone : ℕ → Bool) (old new : List ℕ) (h : History) → ((generation : ℕ) (bs : List (List Entry)) → HasBlocks ground generation bs old → HasBlocks ground generation bs new) → StandsBy floor gone old h → StandsBy floor gone new h
+stands_again floor gone old new h keeps x = record {
   generation = x.generation;
+  parts = x.parts;
+  unpurged = x.unpurged;
   keeps = record { blocks = x.keeps.blocks; file = keeps x.generation x.keeps.blocks x.keeps.file; same = x.keeps.same };
   early = x.early;
   none = x.none;
-  floor = x.floor;
   lawful = x.lawful;
 }
 
 -- ---- which file is taken
 
 pub head_of : (file : List ℕ) (h : History) → StandsFor file h → HasHead file
-head_of file h x = has_head x.generation x.keeps.blocks file x.keeps.file
+head_of file h x = has_head x.file.generation x.file.keeps.blocks file x.file.keeps.file
 
 empty_no : {P : Type 0} (file : List ℕ) → length file ≡ 0 → HasHead file → P
 empty_no file none head = absurd (omega (arith, none, head.is_open.long))
 
 pub taken_pair : (x : Bool) (a b : List ℕ) (h : History) → IsTaken x a b → PairFor a b h → StandsFor (choice x a b) h × (length (choice x b a) ≡ 0)
-taken_pair true a b h t (inl p) = p
-taken_pair true a b h t (inr p) = empty_no a p.1 t.head
-taken_pair false a b h t (inl p) = empty_no b p.1 t.head
-taken_pair false a b h t (inr p) = p
+taken_pair x a b h t p = by_sides x t (pair_sides a b h p) where
+  by_sides : (x : Bool) → IsTaken x a b → (StandsFor a h × (length b ≡ 0)) ⊎ (StandsFor b h × (length a ≡ 0)) → StandsFor (choice x a b) h × (length (choice x b a) ≡ 0)
+  by_sides true t (inl p) = p
+  by_sides true t (inr p) = empty_no a p.1 t.head
+  by_sides false t (inl p) = empty_no b p.1 t.head
+  by_sides false t (inr p) = p
 
 -- the error that a failed call of a disk brings
 pub fault_is : {T : Type 0} (r : Result T OpenErr) → IsErrAnd r (λ e. e ≡ errors.DiskFault) → r ≡ Err errors.DiskFault
@@ -139,7 +143,7 @@ module _ (h : History) (open_ other new_open new_other : State) (quiet : IsSettl
   images_open image image′ l l′ =
       let none : other.seen ≡ [] = nil_from_length other.seen p.1 in
       let is : image′ ≡ other.seen = settled_image other.seen image′ (subst (λ (s : State). MayLeave s image′) (idle none ∙ quiet) l′) in
-      (stands_again (hidden_before h) open_.seen image h (λ g bs x. keeps g bs x image l) p.0, ap length is ∙ p.1)
+      (record { floor = p.0.floor; begins = p.0.begins; file = stands_again p.0.floor (hidden_before h) open_.seen image h (λ g bs x. keeps g bs x image l) p.0.file }, ap length is ∙ p.1)
 
 -- ---- the file that is taken
 
@@ -188,7 +192,7 @@ if_both (Err e) P Q R f p q = tt
 
 -- the first is the open file
 pub reopened_a : (tells x : Bool) (k : Known) (a b a_now b_now a_new b_new : State) → x ≡ true → (IsTrue tells → IsTaken true a_now.seen b_now.seen) → (IsTrue tells → a_now ≡ settled_state a.seen) → (IsTrue tells → b_now ≡ settled_state b.seen)
-    → IsOpenedAs tells k a_now b_now a_new b_new → (blocks : List (List Entry)) × Knows k blocks × (IsTrue tells → IsReopened x k.place blocks a b a_new b_new)
+    → IsOpenedAs tells k a_now b_now a_new b_new → (blocks : List (List Entry)) × Knows k ground blocks × (IsTrue tells → IsReopened x k.place blocks a b a_new b_new)
 reopened_a tells true k a b a_now b_now a_new b_new is taken same_a same_b o = (
   o.blocks,
   o.knows,
@@ -206,7 +210,7 @@ reopened_a tells false k a b a_now b_now a_new b_new is taken same_a same_b o = 
 
 -- the second is
 pub reopened_b : (tells x : Bool) (k : Known) (a b a_now b_now a_new b_new : State) → x ≡ false → (IsTrue tells → IsTaken false a_now.seen b_now.seen) → (IsTrue tells → a_now ≡ settled_state a.seen) → (IsTrue tells → b_now ≡ settled_state b.seen)
-    → IsOpenedAs tells k b_now a_now b_new a_new → (blocks : List (List Entry)) × Knows k blocks × (IsTrue tells → IsReopened x k.place blocks a b a_new b_new)
+    → IsOpenedAs tells k b_now a_now b_new a_new → (blocks : List (List Entry)) × Knows k ground blocks × (IsTrue tells → IsReopened x k.place blocks a b a_new b_new)
 reopened_b tells false k a b a_now b_now a_new b_new is taken same_a same_b o = (
   o.blocks,
   o.knows,
@@ -273,13 +277,13 @@ module _ (a b : List ℕ) (h : History) (p : PairFor a b h) where
   newer_no file found (inr none) e = empty_open file none e.0
 
   side_a : HasHead a ⊎ (length a ≡ 0)
-  side_a = elim p [ inl x ↦ inl (head_of a h x.0) | inr x ↦ inr x.1 ]
+  side_a = elim (pair_sides a b h p) [ inl x ↦ inl (head_of a h x.0) | inr x ↦ inr x.1 ]
 
   side_b : HasHead b ⊎ (length b ≡ 0)
-  side_b = elim p [ inl x ↦ inr x.1 | inr x ↦ inl (head_of b h x.0) ]
+  side_b = elim (pair_sides a b h p) [ inl x ↦ inr x.1 | inr x ↦ inl (head_of b h x.0) ]
 
   base_none : (file : List ℕ) → StandsFor file h → number_at 18 file ≡ 0
-  base_none file x = no_base x.generation x.keeps.blocks file x.keeps.file
+  base_none file x = no_base x.file.generation x.file.keeps.blocks file x.file.keeps.file
 
   damaged_no : (damage : Damage) → IsReopenErr a b (files.Damaged damage) → ⊥
   damaged_no damage (inl e) = head_err_no a damage side_a e
@@ -292,7 +296,7 @@ module _ (a b : List ℕ) (h : History) (p : PairFor a b h) where
   newer_none found (inr (inr e)) = e.2
 
   none_shut : IsShut a × IsShut b → ⊥
-  none_shut s = elim p [ inl x ↦ shut_open a s.0 (head_of a h x.0).is_open | inr x ↦ shut_open b s.1 (head_of b h x.0).is_open ]
+  none_shut s = elim (pair_sides a b h p) [ inl x ↦ shut_open a s.0 (head_of a h x.0).is_open | inr x ↦ shut_open b s.1 (head_of b h x.0).is_open ]
 
   -- nothing but a fault or want of memory keeps it from being opened
   pub pair_opens : (e : OpenErr) → IsOpenErr a b e → IsOutside e
@@ -320,7 +324,7 @@ module _ (x : Bool) (a b : List ℕ) (t : IsTaken x a b) (generation : ℕ) (ks 
   opened_only (errors.Damaged damage) (inr why) =
       none_damaged (choice x a b) generation ks has legal damage (subst (λ (y : Bool). IsDamage (choice y a b) damage) (taken_once a b why.0 x why.1 t) why.2)
 
-pub reopened_only : (k : Known) (x : Bool) (ks : List (List Entry)) (a b a_new b_new : State) (e : OpenErr) → Knows k ks → IsReopened x k.place ks a b a_new b_new → IsOpenErr a.seen b.seen e → IsOutside e
+pub reopened_only : (k : Known) (x : Bool) (ks : List (List Entry)) (a b a_new b_new : State) (e : OpenErr) → Knows k ground ks → IsReopened x k.place ks a b a_new b_new → IsOpenErr a.seen b.seen e → IsOutside e
 reopened_only k true ks a b a_new b_new e knows r why = opened_only true a.seen b.seen r.taken r.has.0 ks r.has.1 knows.legal e why
 reopened_only k false ks a b a_new b_new e knows r why = opened_only false a.seen b.seen r.taken r.has.0 ks r.has.1 knows.legal e why
 
@@ -339,9 +343,9 @@ shut_empty a b sa sb (errors.Damaged damage) (inl (inr (inr (x, taken, why)))) =
 shut_empty a b sa sb (errors.Damaged damage) (inr (x, taken, why)) = absurd (shut_open (choice x a b) (shut_of a b x sa sb) taken.head.is_open)
 
 -- what was opened serves each history that the pair stands for
-pub pair_served : (k : Known) (x : Bool) (ks : List (List Entry)) (a b a_new b_new : State) (h : History) → Knows k ks → IsReopened x k.place ks a b a_new b_new → PairFor a.seen b.seen h → Serves k.book h
+pub pair_served : (k : Known) (x : Bool) (ks : List (List Entry)) (a b a_new b_new : State) (h : History) → Knows k ground ks → IsReopened x k.place ks a b a_new b_new → PairFor a.seen b.seen h → Serves k.book h
 pair_served k x ks a b a_new b_new h knows r p =
-    serves_each (hidden_before h) (choice x a b).seen h r.has.0 ks k.book (stands_in x a b h r.taken p) r.has.1 knows.serves where
+    serves_each (choice x a b).seen h r.has.0 ks k.book (stands_in x a b h r.taken p) r.has.1 knows.serves where
       stands_in : (x : Bool) (a b : State) (h : History) → IsTaken x a.seen b.seen → PairFor a.seen b.seen h → StandsFor (choice x a b).seen h
       stands_in true a b h t p = (taken_pair true a.seen b.seen h t p).0
       stands_in false a b h t p = (taken_pair false a.seen b.seen h t p).0
@@ -366,7 +370,7 @@ module _ (generation : ℕ) (bs : List (List Entry)) (file : List ℕ) (x : HasB
   cut_length = ap length cut_is ∙ omega (arith, ends, length-append (x.front ++ open_blocks (written_blocks (ground).root [] bs)) (x.stands.gate ∷ []))
 
 -- what was opened is clean
-pub reopened_clean : (k : Known) (x : Bool) (ks : List (List Entry)) (a b a_new b_new : State) → Knows k ks → IsReopened x k.place ks a b a_new b_new → IsTidyAt x k.place ks a_new b_new
+pub reopened_clean : (k : Known) (x : Bool) (ks : List (List Entry)) (a b a_new b_new : State) → Knows k ground ks → IsReopened x k.place ks a b a_new b_new → IsTidyAt x k.place ks a_new b_new
 reopened_clean k x ks a b a_new b_new knows r =
     let f = r.has in
     let ends = tail_is f.0 ks _ f.1 ∙ sym knows.tail in
@@ -379,7 +383,7 @@ reopened_clean k x ks a b a_new b_new knows r =
     }
 
 -- .. and has the bytes that it had, where it was clean
-pub left_clean : (k : Known) (x : Bool) (ks : List (List Entry)) (a b a_new b_new : State) (h : History) → Knows k ks → IsReopened x k.place ks a b a_new b_new → IsClean (choice x a b).seen h → choice x a_new b_new ≡ settled_state (choice x a b).seen
+pub left_clean : (k : Known) (x : Bool) (ks : List (List Entry)) (a b a_new b_new : State) (h : History) → Knows k ground ks → IsReopened x k.place ks a b a_new b_new → IsClean (choice x a b).seen h → choice x a_new b_new ≡ settled_state (choice x a b).seen
 left_clean k x ks a b a_new b_new h knows r c =
     let e = c.erased in
     let f = e.keeps.file in

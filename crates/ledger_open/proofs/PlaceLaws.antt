@@ -12,7 +12,7 @@ use Rattle.journal_record.specs.Entry.{Entry}
 use Rattle.journal_record.specs.Header.{spelling}
 use Rattle.journal_record.specs.Records.{IsReadable, AreReadable}
 use Rattle.journal_record.specs.declared.header.Header.{Header}
-use Rattle.ledger_model.specs.History.{History, journals_of, journals}
+use Rattle.ledger_model.specs.History.{History, journals_of, journals, point}
 use Rattle.ledger_model.specs.Outcomes.{is_hidden}
 use Rattle.ledger_open.specs.Places.{record_len, place_at, place_of_record, places_in, places_at, after_at, entry_at, AllAt, places_of}
 use Rattle.ledger_open.specs.Standing.{Floor, ground, HasBlocks, IsKept, AllKept, SameButHidden, StandsBy}
@@ -20,6 +20,7 @@ use Rattle.ledger_open.specs.declared.places.PlaceAt.{PlaceAt}
 use Rattle.ledger_open.proofs.AgainLaws.{entry_is, flat}
 use Rattle.ledger_open.proofs.HidingLaws.{journals_closed}
 use Rattle.ledger_open.proofs.KeptLaws.{all_kept}
+use Rattle.ledger_open.proofs.PartLaws.{all_there}
 use Rattle.ledger_open.proofs.SizeLaws.{GivesDigests, mth_size, record_size, body_size, block_size, readable}
 
 -- the places of a block's journals, by their headers and by their bytes
@@ -144,12 +145,18 @@ kept_here hid gone file (e ∷ es) (f ∷ fs) [] a h = absurd h
 kept_here hid gone file (e ∷ es) (f ∷ fs) (p ∷ ps) a h =
     (subst (λ (x : Header). IsKept hid gone e (entry_at file x p)) a.0.header (subst (IsKept hid gone e) (sym h.0) a.0), kept_here hid gone file es fs ps a.1 h.1)
 
--- each journal of a history stands at its place, as far as it is kept
-pub history_here : (gone : ℕ → Bool) (image : List ℕ) (h : History) → StandsBy gone image h → AllAt (is_hidden h) gone image (journals h) (places_of h)
+-- each journal that a file has stands at its place, as far as it is kept
+pub kept_at : (floor : ℕ) (gone : ℕ → Bool) (image : List ℕ) (h : History) (x : StandsBy floor gone image h) → AllAt (is_hidden h) gone image (journals_of x.parts.kept) (places_at 64 x.parts.kept)
+kept_at floor gone image h x =
+    kept_here (is_hidden h) gone image (journals_of x.parts.kept) (journals_of x.keeps.blocks) (places_at 64 x.parts.kept)
+    (all_kept (is_hidden h) gone x.parts.kept x.keeps.blocks x.keeps.same)
+    (subst (AreHere image (journals_of x.keeps.blocks)) (sym (places_kept (is_hidden h) gone 64 x.parts.kept x.keeps.blocks x.keeps.same)) (file_here ground mth_size x.generation x.keeps.blocks image x.keeps.file))
+
+-- .. and so does each of the history
+pub history_here : (gone : ℕ → Bool) (image : List ℕ) (h : History) → StandsBy (point h) gone image h → AllAt (is_hidden h) gone image (journals h) (places_of h)
 history_here gone image h x =
-    kept_here (is_hidden h) gone image (journals h) (journals_of x.keeps.blocks) (places_of h)
-    (subst (λ (l : List Entry). AllKept (is_hidden h) gone l (journals_of x.keeps.blocks)) (sym (journals_closed h x.none)) (all_kept (is_hidden h) gone h.closed x.keeps.blocks x.keeps.same))
-    (subst (AreHere image (journals_of x.keeps.blocks)) (sym (places_kept (is_hidden h) gone 64 h.closed x.keeps.blocks x.keeps.same)) (file_here ground mth_size x.generation x.keeps.blocks image x.keeps.file))
+    subst (λ (l : List Entry). AllAt (is_hidden h) gone image l (places_of h)) (sym (journals_closed h x.none))
+    (subst (λ (bs : List (List Entry)). AllAt (is_hidden h) gone image (journals_of bs) (places_at 64 bs)) (all_there (point h) h x.lawful.blocks_are x.unpurged x.parts) (kept_at (point h) gone image h x))
 
 -- ---- where blocks end
 

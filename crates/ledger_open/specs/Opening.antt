@@ -1,5 +1,5 @@
 -- What is known of a ledger that was made or opened, and what making and opening leave.
-use Rattle.std.specs.Prelude.{◌≡◌, ◌⊎◌, ℕ, ◌+◌, ◌≤◌, Bool, IsTrue, List, [], length, take, drop, Result, MatchResult}
+use Rattle.std.specs.Prelude.{◌≡◌, ◌⊎◌, ℕ, ◌+◌, Bool, IsTrue, List, [], length, take, drop, Result, MatchResult}
 use Rattle.block_file.specs.File.{IsSettled}
 use Rattle.block_file.specs.Head.{IsShut, HasHead, number_at}
 use Rattle.block_file.specs.Place.{base_len_of, base_digest_of}
@@ -16,7 +16,7 @@ use Rattle.ledger_model.specs.Lawful.{IsLawful}
 use Rattle.twin_file.specs.Twin.{open_of, other_of, IsTaken, IsReopenErr}
 use Rattle.ledger_open.specs.Damages.{Begun, IsDamage}
 use Rattle.ledger_open.specs.Places.{places_at, after_at}
-use Rattle.ledger_open.specs.Standing.{ground, HasBlocks}
+use Rattle.ledger_open.specs.Standing.{Floor, ground, HasBlocks}
 use Rattle.ledger_open.specs.declared.failure.OpenErr.{OpenErr}
 use Rattle.ledger_open.specs.declared.places.PlaceAt.{PlaceAt}
 use Rattle.ledger_open.specs.declared.failure.OpenErr.TheVariants.{DiskFault, Damaged, Empty, Exists, NewerFormat, NoMemory}
@@ -32,13 +32,14 @@ pub record Known : Type 0 where
 abbrev pub known_from : Kept → List PlaceAt → ℕ → Known
 known_from book places place = record { book = book; places = places; place = place }
 
--- They are those of these blocks, which may be a ledger's. No disk is in it.
-pub record Knows (k : Known) (blocks : List (List Entry)) : Type 0 where
-  pub lawful : AreBlocks 0 blocks
+-- They are those of these blocks from this floor on, which may be a ledger's. No disk is in it. Each file begins with journal
+-- 0 so far, and so the blocks are the whole history.
+pub record Knows (k : Known) (floor : Floor) (blocks : List (List Entry)) : Type 0 where
+  pub lawful : AreBlocks floor.first blocks
   pub legal : IsLawful (history blocks [])
   pub serves : Serves k.book (history blocks [])
-  pub places : k.places ≡ places_at 64 blocks
-  pub tail : k.place ≡ after_at 64 blocks
+  pub places : k.places ≡ places_at (64 + length floor.base) blocks
+  pub tail : k.place ≡ after_at (64 + length floor.base) blocks
 
 -- ---- what was read
 
@@ -50,7 +51,7 @@ pub record IsPlain (file : List ℕ) : Type 0 where
 -- some blocks are known; and where the disk tells its bytes, the file begins with them
 pub record HasRead (tells : Bool) (file : List ℕ) (k : Known) : Type 0 where
   pub blocks : List (List Entry)
-  pub knows : Knows k blocks
+  pub knows : Knows k ground blocks
   pub begun : IsTrue tells → IsPlain file → Begun ground file blocks k.place
 
 -- an open file has lawful blocks, of some generation, and so no damage
@@ -64,7 +65,7 @@ HasFile blocks file = (generation : ℕ) × HasBlocks ground generation blocks f
 -- some blocks are known; and where the disk tells its bytes, the file has them
 pub record HasKnown (tells : Bool) (file : List ℕ) (k : Known) : Type 0 where
   pub blocks : List (List Entry)
-  pub knows : Knows k blocks
+  pub knows : Knows k ground blocks
   pub has : IsTrue tells → HasFile blocks file
 
 -- what a `BlockFile` tells of the head of this file, which is open and known
@@ -151,7 +152,7 @@ KeepsBlocks old new =
 -- what is known of the open file, which is cut behind its tail gate, and of the other one, which is emptied
 pub record IsOpenedAs (tells : Bool) (k : Known) (open_old other_old open_new other_new : State) : Type 0 where
   pub blocks : List (List Entry)
-  pub knows : Knows k blocks
+  pub knows : Knows k ground blocks
   pub has : IsTrue tells → HasFile blocks open_old.seen
   pub open_is : IsTrue tells → open_new ≡ settled_state (take (k.place + 1) open_old.seen)
   pub other_is : IsTrue tells → IsSettled other_old → other_new ≡ settled_state []

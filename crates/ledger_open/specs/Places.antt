@@ -1,10 +1,10 @@
 -- Where journals stand in a file.
-use Rattle.std.specs.Prelude.{ℕ, ◌+◌, Bool, sum_by, List, [], ◌∷◌, ◌++◌, length, take, drop, ⊤}
+use Rattle.std.specs.Prelude.{◌≡◌, ◌⊎◌, ℕ, ◌+◌, Bool, sum_by, List, [], ◌∷◌, ◌++◌, length, take, drop, ⊤}
 use Rattle.block_file.specs.declared.block.RecordAt.{RecordAt}
 use Rattle.journal_record.specs.Entry.{Entry}
 use Rattle.journal_record.specs.declared.header.Header.{Header}
-use Rattle.ledger_model.specs.History.{History, journals}
-use Rattle.ledger_open.specs.Standing.{IsKept, StandsBy}
+use Rattle.ledger_model.specs.History.{History, journals_of, point}
+use Rattle.ledger_open.specs.Standing.{IsKept, StandsBy, point_before}
 use Rattle.ledger_open.specs.declared.places.PlaceAt.{PlaceAt}
 use Rattle.ledger_model.specs.Outcomes.{is_hidden}
 
@@ -68,8 +68,15 @@ AllAt hid gone file _ _ = ⊥
 abbrev pub places_of : History → List PlaceAt
 places_of h = places_at 64 h.closed
 
--- At its place stands each journal of the history, but for contents that are hidden, and zeros where they are gone.
+-- At its place stands each journal that a file has of a history, but for contents that are hidden, and zeros where they are
+-- gone.
 abbrev pub AreAtPlaces : Type 0
 AreAtPlaces =
-    (gone : ℕ → Bool) (image : List ℕ) (h : History) → StandsBy gone image h
-    → AllAt (is_hidden h) gone image (journals h) (places_of h)
+    (floor : ℕ) (gone : ℕ → Bool) (image : List ℕ) (h : History) (x : StandsBy floor gone image h)
+    → AllAt (is_hidden h) gone image (journals_of x.parts.kept) (places_at 64 x.parts.kept)
+
+-- the blocks that a file has of a history are all of them, since no purge has a point above 0 so far
+abbrev pub AreAllThere : Type 0
+AreAllThere =
+    (floor : ℕ) (gone : ℕ → Bool) (image : List ℕ) (h : History) (x : StandsBy floor gone image h)
+    → (floor ≡ point h) ⊎ (floor ≡ point_before h) → x.parts.kept ≡ h.closed

@@ -1,13 +1,14 @@
--- What a pair of files stands for: a history, of which hidden contents aren't kept.
-use Rattle.std.specs.Prelude.{◌≡◌, ◌⊎◌, ℕ, ◌-◌, ◌≤◌, Bool, true, false, List, [], ◌∷◌, length, take, slice_get, replicate, ⊤}
+-- What a pair of files stands for: a history, of which hidden contents aren't kept, nor blocks before a file's floor.
+use Rattle.std.specs.Prelude.{◌≡◌, ◌≢◌, ◌⊎◌, ℕ, ◌+◌, ◌-◌, ◌≤◌, ◌==◌, Bool, true, false, if◌then◌else◌, List, [], ◌∷◌, ◌++◌, length, take, slice_get, replicate, ⊤}
 use Rattle.sha2.specs.Sha256.{sha256}
 use Rattle.tree_model.specs.Tree.{mth}
 use Rattle.block_file.specs.File.{Stands}
 use Rattle.journal_record.specs.Blocks.{AreBlocks, written_blocks}
 use Rattle.journal_record.specs.Entry.{Entry}
-use Rattle.ledger_model.specs.History.{History, journals, size, point}
+use Rattle.ledger_model.specs.History.{History, journals, journals_of, size, point, greatest_point}
 use Rattle.ledger_model.specs.Lawful.{IsLawful}
 use Rattle.ledger_model.specs.Outcomes.{is_hidden_by, is_hidden}
+use Rattle.twin_file.specs.Twin.{open_of, other_of, IsPassed}
 use Rattle.ledger_open.specs.Heads.{IsFront}
 
 -- ---- the blocks of a file
@@ -67,42 +68,67 @@ pub record Keeps (floor : Floor) (generation : ℕ) (hid gone : ℕ → Bool) (b
 abbrev pub hidden_before : History → ℕ → Bool
 hidden_before h n = is_hidden_by (take (size h - 1) (journals h)) (slice_get (journals h) n)
 
--- The image has this history, where these contents are zeros, and those that are hidden beside them may be any bytes.
--- No purge has a point above 0, and each file begins with journal 0.
-pub record StandsBy (gone : ℕ → Bool) (image : List ℕ) (h : History) : Type 0 where
+-- the point before the last journal
+abbrev pub point_before : History → ℕ
+point_before h = greatest_point (take (size h - 1) (journals h))
+
+-- The blocks of a history in two parts: those that a file doesn't have, which are all that end before this journal, and those
+-- that it has.
+pub record Parts (floor : ℕ) (h : History) : Type 0 where
+  pub gone : List (List Entry)
+  pub kept : List (List Entry)
+  pub are : h.closed ≡ gone ++ kept
+  pub at : length (journals_of gone) ≡ floor
+
+-- The image has this history from this journal on, where these contents are zeros, and those that are hidden beside them
+-- may be any bytes. Its generation is at most the size, and less where it doesn't begin at the point.
+pub record StandsBy (floor : ℕ) (gone : ℕ → Bool) (image : List ℕ) (h : History) : Type 0 where
   pub generation : ℕ
-  pub keeps : Keeps ground generation (is_hidden h) gone h.closed image
-  pub early : generation ≤ size h
+  pub parts : Parts floor h
+  -- No purge has a point above 0 so far, so each file begins with journal 0, and no block is gone.
+  pub unpurged : point h ≡ 0
+  pub keeps : Keeps ground generation (is_hidden h) gone parts.kept image
+  pub early : generation + (if floor == point h then 0 else 1) ≤ size h
   pub none : h.waiting ≡ []
-  pub floor : point h ≡ 0
   pub lawful : IsLawful h
 
--- the image stands for this history: a content that only the last journal hides may be any bytes
-abbrev pub StandsFor : List ℕ → History → Type 0
-StandsFor image h = StandsBy (hidden_before h) image h
+-- The image stands for this history: a content that only the last journal hides may be any bytes, and where the last
+-- journal is a purge, the file may still begin at the point before it.
+pub record StandsFor (image : List ℕ) (h : History) : Type 0 where
+  pub floor : ℕ
+  pub begins : (floor ≡ point h) ⊎ (floor ≡ point_before h)
+  pub file : StandsBy floor (hidden_before h) image h
 
--- .. and each hidden content is gone
+-- .. and what was purged and each hidden content is gone
 abbrev pub IsErased : List ℕ → History → Type 0
-IsErased image h = StandsBy (is_hidden h) image h
+IsErased image h = StandsBy (point h) (is_hidden h) image h
 
 -- the image is read as this history, whatever stands where contents are hidden
 abbrev pub Reads : List ℕ → History → Type 0
-Reads image h = StandsBy (λ n. false) image h
+Reads image h = StandsBy (point h) (λ n. false) image h
 
 -- it stands for this history with each hidden content gone, and ends with its tail gate
 pub record IsClean (image : List ℕ) (h : History) : Type 0 where
   pub erased : IsErased image h
   pub ends : erased.keeps.file.stands.rest ≡ []
 
--- a pair of files stands for a history: one of them does, and the other is empty
-abbrev pub PairFor : List ℕ → List ℕ → History → Type 0
-PairFor a b h = (StandsFor a h × (length b ≡ 0)) ⊎ (StandsFor b h × (length a ≡ 0))
+-- The file beside an open one of this generation is empty; or it is passed over, where the last journal is a purge.
+abbrev pub IsBeside : History → ℕ → List ℕ → Type 0
+IsBeside h generation other = (length other ≡ 0) ⊎ ((point_before h ≢ point h) × IsPassed false generation other)
 
--- .. and it is clean
-abbrev pub IsCleanPair : List ℕ → List ℕ → History → Type 0
-IsCleanPair a b h = (IsClean a h × (length b ≡ 0)) ⊎ (IsClean b h × (length a ≡ 0))
+-- a pair of files stands for a history: one of them does, and the other may be beside it
+pub record PairFor (a b : List ℕ) (h : History) : Type 0 where
+  pub in_a : Bool
+  pub stands : StandsFor (open_of in_a a b) h
+  pub beside : IsBeside h stands.file.generation (other_of in_a a b)
 
--- the same blocks in two histories, but for contents that are hidden in both
+-- .. and it is clean, and the other is empty
+pub record IsCleanPair (a b : List ℕ) (h : History) : Type 0 where
+  pub in_a : Bool
+  pub clean : IsClean (open_of in_a a b) h
+  pub empty : length (other_of in_a a b) ≡ 0
+
+-- The same blocks in two histories, but for contents that are hidden in both: all blocks, since no file is without some.
 abbrev pub Alike : History → History → Type 0
 Alike h k = SameButHidden (is_hidden h) (λ n. false) h.closed k.closed
 
@@ -113,3 +139,7 @@ IsOneHistory = (image : List ℕ) (h k : History) → StandsFor image h → Stan
 -- a pair of files stands for one history at most, but for what is hidden
 abbrev pub IsOnePair : Type 0
 IsOnePair = (a b : List ℕ) (h k : History) → PairFor a b h → PairFor a b k → Alike h k
+
+-- the other file of a pair is empty, since no purge has a point above 0 so far
+abbrev pub IsAlone : Type 0
+IsAlone = (a b : List ℕ) (h : History) (p : PairFor a b h) → length (other_of p.in_a a b) ≡ 0

@@ -6,9 +6,9 @@ ghost use Rattle.ledger_model.specs.declared.genesis.Genesis.{Genesis};
 ghost use Rattle.ledger_open.specs.Damages.{IsDamage};
 ghost use Rattle.ledger_open.specs.Founding.{IsFounded};
 ghost use Rattle.ledger_open.specs.Growing.{Grows, GrowsErased, IsNewClean};
-ghost use Rattle.ledger_open.specs.Places.{AreAtPlaces};
+ghost use Rattle.ledger_open.specs.Places.{AreAtPlaces, AreAllThere};
 ghost use Rattle.ledger_open.specs.Opening.{Known, Knows, IsOpenErr, IsOutside, IsReopened, IsTidyAt};
-ghost use Rattle.ledger_open.specs.Standing.{IsOneHistory, IsOnePair, StandsFor, PairFor, IsClean, IsCleanPair};
+ghost use Rattle.ledger_open.specs.Standing.{ground, IsOneHistory, IsOnePair, IsAlone, StandsFor, PairFor, IsClean, IsCleanPair};
 ghost use Rattle.ledger_open.specs.declared.failure.OpenErr.{OpenErr};
 ghost use Rattle.ledger_open.specs.declared.failure.OpenErr.TheVariants as errors;
 ghost use Rattle.block_file.specs.Head.{IsShut};
@@ -17,10 +17,11 @@ ghost use Rattle.ledger_disk.specs.Disk.{State, settled_state};
 ghost use Rattle.journal_record.specs.Entry.{Entry};
 ghost use Rattle.twin_file.specs.Twin.{open_of};
 
-/// Histories that one image stands for agree but for hidden contents, and so do those of a pair.
+/// Histories that one image stands for agree but for hidden contents, and so do those of a pair, whose other file is empty.
 pub fn a_pair_stands_for_one_history()
     ensures image { IsOneHistory }
     ensures pair { IsOnePair }
+    ensures alone { IsAlone }
 {}
 
 /// A file that stands for a history is read without any damage.
@@ -29,9 +30,10 @@ pub fn a_standing_file_has_no_damage()
         → IsDamage image damage → ⊥ }
 {}
 
-/// Each journal of a history stands at its place in the file, as far as it is kept.
+/// Each journal of a history that a file has stands at its place there, as far as it is kept, and no journal is missing.
 pub fn journals_stand_at_their_places()
-    ensures { AreAtPlaces }
+    ensures kept { AreAtPlaces }
+    ensures all { AreAllThere }
 {}
 
 /// A block more behind a file whose hidden contents are gone: the file stands for the history with the block, and its
@@ -55,7 +57,7 @@ pub fn a_standing_pair_opens()
 /// The book of a ledger that was opened stands for each history that the pair stands for.
 pub fn an_opened_book_stands_for_the_history()
     ensures { (k : Known) (in_a : Bool) (blocks : List (List Entry)) (a b a_new b_new : State)
-        (h : History) → Knows k blocks → IsReopened in_a k.place blocks a b a_new b_new
+        (h : History) → Knows k ground blocks → IsReopened in_a k.place blocks a b a_new b_new
         → PairFor a.seen b.seen h → Serves k.book h }
 {}
 
@@ -63,15 +65,15 @@ pub fn an_opened_book_stands_for_the_history()
 /// is empty. Of one that was clean no byte has changed.
 pub fn an_opened_pair_is_clean()
     ensures history { (k : Known) (in_a : Bool) (blocks : List (List Entry))
-        (a b a_new b_new : State) (h : History) → Knows k blocks
+        (a b a_new b_new : State) (h : History) → Knows k ground blocks
         → IsReopened in_a k.place blocks a b a_new b_new → PairFor a.seen b.seen h
         → IsCleanPair a_new.seen b_new.seen h }
     ensures tidy { (k : Known) (in_a : Bool) (blocks : List (List Entry))
-        (a b a_new b_new : State) → Knows k blocks
+        (a b a_new b_new : State) → Knows k ground blocks
         → IsReopened in_a k.place blocks a b a_new b_new
         → IsTidyAt in_a k.place blocks a_new b_new }
     ensures left { (k : Known) (in_a : Bool) (blocks : List (List Entry))
-        (a b a_new b_new : State) (h : History) → Knows k blocks
+        (a b a_new b_new : State) (h : History) → Knows k ground blocks
         → IsReopened in_a k.place blocks a b a_new b_new → IsClean (open_of in_a a b).seen h
         → open_of in_a a_new b_new ≡ settled_state (open_of in_a a b).seen }
 {}
@@ -85,7 +87,7 @@ pub fn a_new_pair_is_clean()
 /// Where a pair was opened, it has no damage, and is neither empty nor of another version.
 pub fn an_opened_pair_has_no_damage()
     ensures { (k : Known) (in_a : Bool) (blocks : List (List Entry)) (a b a_new b_new : State)
-        (e : OpenErr) → Knows k blocks → IsReopened in_a k.place blocks a b a_new b_new
+        (e : OpenErr) → Knows k ground blocks → IsReopened in_a k.place blocks a b a_new b_new
         → IsOpenErr a.seen b.seen e → IsOutside e }
 {}
 

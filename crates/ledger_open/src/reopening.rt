@@ -12,7 +12,7 @@ ghost use Rattle.twin_file.specs.Places.{HasTail};
 ghost use Rattle.twin_file.specs.Twin.{open_of};
 ghost use Rattle.twin_file.specs.Which.{in_a_of, generation_in, file_of, copy_of};
 ghost use Rattle.ledger_open.specs.Opening.{known_from, Knows, IsHeadOf, HasLawfulBlocks, IsOpenedAs, IsOutside, IsReadErr, IsOpenErr, IsReopened, StandsAsRead, KeepsBlocks, CountsOpen};
-ghost use Rattle.ledger_open.specs.Standing.{PairFor};
+ghost use Rattle.ledger_open.specs.Standing.{ground, PairFor};
 ghost use Rattle.ledger_open.specs.declared.failure.OpenErr.{OpenErr as OpenErrRecord};
 ghost use Rattle.ledger_open.specs.declared.failure.OpenErr.TheVariants as errors;
 
@@ -110,7 +110,8 @@ pub fn reopen<R: Threads, D: Disk>(
 ) -> Result<Opened, OpenErr>
     requires { AreWithin limits }
     ensures ok { IfOk result (λ opened. (blocks : List (List Entry))
-        × Knows (known_from opened.book opened.places.list (place_of (file_of opened.twin))) blocks
+        × Knows (known_from opened.book opened.places.list (place_of (file_of opened.twin)))
+        ground blocks
         × (IsTrue D.tells → IsReopened (in_a_of opened.twin) (place_of (file_of opened.twin)) blocks
         (D.state a.old).bytes (D.state b.old).bytes (D.state a.new).bytes (D.state b.new).bytes)) }
     ensures limits { IfOk result (λ opened. opened.book.limits ≡ limits) }

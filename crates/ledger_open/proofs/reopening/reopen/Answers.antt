@@ -6,6 +6,7 @@ use Rattle.ledger_disk.specs.Disk.{State}
 use Rattle.twin_file.specs.Which.{in_a_of, generation_in, file_of}
 use Rattle.ledger_open.specs.Opening.{IsOpenErr, known_from}
 use Rattle.ledger_open.proofs.OpenLaws.{fault_is, same_pair, settled_pair, synced, pair_synced, images_open, taken_pair, taken_as, taken_at, reopened_a, reopened_b, look_err, whole_opens, generation_a, generation_b, if_both}
+use Rattle.ledger_open.proofs.PartLaws.{sides_pair}
 use Rattle.ledger_open.proofs.reopening.reopen.Goals as goal
 
 pub returns-in_err-sync-clause-images : goal.returns-in_err-sync-clause-images
@@ -49,8 +50,8 @@ returns-then-in_a-clause-images g c told quiet h p image_a image_b la lb =
     let t = taken_at (g.D.Disk.state c.sync.new.self).bytes (g.D.Disk.state c.sync-2.new.self).bytes (g.D.Disk.state c.reopen.new.a).bytes (g.D.Disk.state c.reopen.new.b).bytes true c.in-Ok-Some.twin (c.reopen.ensures.state_a told) (c.reopen.ensures.state_b told)
     (taken_as _ _ c.in-Ok-Some.field-0 c.in-Ok-Some.twin true c.in-Ok-Some.field-0-is (c.in-Ok-Some.ensures.answer told) (sym c.in_a.ensures ∙ c.if-in_a.true)) in
     let p2 = pair_synced h (g.D.Disk.state c.args.a.now).bytes (g.D.Disk.state c.args.b.now).bytes (g.D.Disk.state c.reopen.new.a).bytes (g.D.Disk.state c.reopen.new.b).bytes (ap (λ (s : State). s.seen) ea) (ap (λ (s : State). s.seen) eb) p in
-    inl (images_open h (g.D.Disk.state c.reopen.new.a).bytes (g.D.Disk.state c.reopen.new.b).bytes (g.D.Disk.state c.open_file.new.taken).bytes (g.D.Disk.state c.open_file.new.other).bytes (synced (g.D.Disk.state c.args.b.now).bytes _ eb) (c.open_file.ensures.images told (synced (g.D.Disk.state c.args.a.now).bytes _ ea)) (c.open_file.ensures.idle told)
-    (taken_pair true (g.D.Disk.state c.reopen.new.a).bytes.seen (g.D.Disk.state c.reopen.new.b).bytes.seen h t p2) image_a image_b la lb)
+    sides_pair image_a image_b h (inl (images_open h (g.D.Disk.state c.reopen.new.a).bytes (g.D.Disk.state c.reopen.new.b).bytes (g.D.Disk.state c.open_file.new.taken).bytes (g.D.Disk.state c.open_file.new.other).bytes (synced (g.D.Disk.state c.args.b.now).bytes _ eb) (c.open_file.ensures.images told (synced (g.D.Disk.state c.args.a.now).bytes _ ea)) (c.open_file.ensures.idle told)
+    (taken_pair true (g.D.Disk.state c.reopen.new.a).bytes.seen (g.D.Disk.state c.reopen.new.b).bytes.seen h t p2) image_a image_b la lb))
 
 pub returns-else-in_a-clause-images : goal.returns-else-in_a-clause-images
 returns-else-in_a-clause-images g c told quiet h p image_a image_b la lb =
@@ -59,8 +60,8 @@ returns-else-in_a-clause-images g c told quiet h p image_a image_b la lb =
     let t = taken_at (g.D.Disk.state c.sync.new.self).bytes (g.D.Disk.state c.sync-2.new.self).bytes (g.D.Disk.state c.reopen.new.a).bytes (g.D.Disk.state c.reopen.new.b).bytes false c.in-Ok-Some.twin (c.reopen.ensures.state_a told) (c.reopen.ensures.state_b told)
     (taken_as _ _ c.in-Ok-Some.field-0 c.in-Ok-Some.twin false c.in-Ok-Some.field-0-is (c.in-Ok-Some.ensures.answer told) (sym c.in_a.ensures ∙ c.if-in_a.false)) in
     let p2 = pair_synced h (g.D.Disk.state c.args.a.now).bytes (g.D.Disk.state c.args.b.now).bytes (g.D.Disk.state c.reopen.new.a).bytes (g.D.Disk.state c.reopen.new.b).bytes (ap (λ (s : State). s.seen) ea) (ap (λ (s : State). s.seen) eb) p in
-    inr (images_open h (g.D.Disk.state c.reopen.new.b).bytes (g.D.Disk.state c.reopen.new.a).bytes (g.D.Disk.state c.open_file-else-in_a.new.taken).bytes (g.D.Disk.state c.open_file-else-in_a.new.other).bytes (synced (g.D.Disk.state c.args.a.now).bytes _ ea) (c.open_file-else-in_a.ensures.images told (synced (g.D.Disk.state c.args.b.now).bytes _ eb)) (c.open_file-else-in_a.ensures.idle told)
-    (taken_pair false (g.D.Disk.state c.reopen.new.a).bytes.seen (g.D.Disk.state c.reopen.new.b).bytes.seen h t p2) image_b image_a lb la)
+    sides_pair image_a image_b h (inr (images_open h (g.D.Disk.state c.reopen.new.b).bytes (g.D.Disk.state c.reopen.new.a).bytes (g.D.Disk.state c.open_file-else-in_a.new.taken).bytes (g.D.Disk.state c.open_file-else-in_a.new.other).bytes (synced (g.D.Disk.state c.args.a.now).bytes _ ea) (c.open_file-else-in_a.ensures.images told (synced (g.D.Disk.state c.args.b.now).bytes _ eb)) (c.open_file-else-in_a.ensures.idle told)
+    (taken_pair false (g.D.Disk.state c.reopen.new.a).bytes.seen (g.D.Disk.state c.reopen.new.b).bytes.seen h t p2) image_b image_a lb la))
 
 pub returns-then-in_a-clause-refused : goal.returns-then-in_a-clause-refused
 returns-then-in_a-clause-refused g c told e inside why =
