@@ -121,8 +121,7 @@ no_refusal Exists is some = absurd is
 no_refusal (NewerFormat found) is some = absurd is
 
 pub none_waits : (a b : List ℕ) (h : History) → PairFor a b h → h.waiting ≡ []
-none_waits a b h (inl x) = x.0.none
-none_waits a b h (inr x) = x.0.none
+none_waits a b h p = p.stands.file.none
 
 -- what was written before a fault falls short of the text
 pub first_short : (due piece : List ℕ) (taken : ℕ) → piece ≡ due → taken < length piece → FallsShort (take taken piece) due
