@@ -32,8 +32,8 @@ pub record Known : Type 0 where
 abbrev pub known_from : Kept → List PlaceAt → ℕ → Known
 known_from book places place = record { book = book; places = places; place = place }
 
--- They are those of these blocks from this floor on, which may be a ledger's. No disk is in it. Each file begins with journal
--- 0 so far, and so the blocks are the whole history.
+-- They are those of these blocks from this floor on, which may be a ledger's. No disk is in it. Each file begins with
+-- journal 0 so far, and so the blocks are the whole history.
 pub record Knows (k : Known) (floor : Floor) (blocks : List (List Entry)) : Type 0 where
   pub lawful : AreBlocks floor.first blocks
   pub legal : IsLawful (history blocks [])

@@ -68,15 +68,15 @@ AllAt hid gone file _ _ = ⊥
 abbrev pub places_of : History → List PlaceAt
 places_of h = places_at 64 h.closed
 
--- At its place stands each journal that a file has of a history, but for contents that are hidden, and zeros where they are
--- gone.
+-- At its place stands each journal that a file has of a history, but for contents that are hidden, and zeros where they
+-- are gone.
 abbrev pub AreAtPlaces : Type 0
 AreAtPlaces =
-    (floor : ℕ) (gone : ℕ → Bool) (image : List ℕ) (h : History) (x : StandsBy floor gone image h)
-    → AllAt (is_hidden h) gone image (journals_of x.parts.kept) (places_at 64 x.parts.kept)
+    (floor : ℕ) (zeros : ℕ → Bool) (image : List ℕ) (h : History) (x : StandsBy floor zeros image h)
+    → AllAt (is_hidden h) zeros image (journals_of x.parts.kept) (places_at 64 x.parts.kept)
 
 -- the blocks that a file has of a history are all of them, since no purge has a point above 0 so far
 abbrev pub AreAllThere : Type 0
 AreAllThere =
-    (floor : ℕ) (gone : ℕ → Bool) (image : List ℕ) (h : History) (x : StandsBy floor gone image h)
+    (floor : ℕ) (zeros : ℕ → Bool) (image : List ℕ) (h : History) (x : StandsBy floor zeros image h)
     → (floor ≡ point h) ⊎ (floor ≡ point_before h) → x.parts.kept ≡ h.closed

@@ -72,8 +72,8 @@ hidden_before h n = is_hidden_by (take (size h - 1) (journals h)) (slice_get (jo
 abbrev pub point_before : History → ℕ
 point_before h = greatest_point (take (size h - 1) (journals h))
 
--- The blocks of a history in two parts: those that a file doesn't have, which are all that end before this journal, and those
--- that it has.
+-- The blocks of a history in two parts: those that a file which begins with this journal doesn't have, and those that it
+-- has.
 pub record Parts (floor : ℕ) (h : History) : Type 0 where
   pub gone : List (List Entry)
   pub kept : List (List Entry)
@@ -82,12 +82,12 @@ pub record Parts (floor : ℕ) (h : History) : Type 0 where
 
 -- The image has this history from this journal on, where these contents are zeros, and those that are hidden beside them
 -- may be any bytes. Its generation is at most the size, and less where it doesn't begin at the point.
-pub record StandsBy (floor : ℕ) (gone : ℕ → Bool) (image : List ℕ) (h : History) : Type 0 where
+pub record StandsBy (floor : ℕ) (zeros : ℕ → Bool) (image : List ℕ) (h : History) : Type 0 where
   pub generation : ℕ
   pub parts : Parts floor h
   -- No purge has a point above 0 so far, so each file begins with journal 0, and no block is gone.
   pub unpurged : point h ≡ 0
-  pub keeps : Keeps ground generation (is_hidden h) gone parts.kept image
+  pub keeps : Keeps ground generation (is_hidden h) zeros parts.kept image
   pub early : generation + (if floor == point h then 0 else 1) ≤ size h
   pub none : h.waiting ≡ []
   pub lawful : IsLawful h
@@ -128,7 +128,8 @@ pub record IsCleanPair (a b : List ℕ) (h : History) : Type 0 where
   pub clean : IsClean (open_of in_a a b) h
   pub empty : length (other_of in_a a b) ≡ 0
 
--- The same blocks in two histories, but for contents that are hidden in both: all blocks, since no file is without some.
+-- The same blocks in two histories, but for contents that are hidden in both. They are all blocks, since none is gone
+-- so far.
 abbrev pub Alike : History → History → Type 0
 Alike h k = SameButHidden (is_hidden h) (λ n. false) h.closed k.closed
 

@@ -17,7 +17,8 @@ ghost use Rattle.ledger_disk.specs.Disk.{State, settled_state};
 ghost use Rattle.journal_record.specs.Entry.{Entry};
 ghost use Rattle.twin_file.specs.Twin.{open_of};
 
-/// Histories that one image stands for agree but for hidden contents, and so do those of a pair, whose other file is empty.
+/// Histories that one image stands for agree but for hidden contents, and so do those of a pair. The other file of a pair
+/// is empty.
 pub fn a_pair_stands_for_one_history()
     ensures image { IsOneHistory }
     ensures pair { IsOnePair }
@@ -30,7 +31,7 @@ pub fn a_standing_file_has_no_damage()
         → IsDamage image damage → ⊥ }
 {}
 
-/// Each journal of a history that a file has stands at its place there, as far as it is kept, and no journal is missing.
+/// Each journal of a history that a file has stands at its place there, as far as it is kept, and none is missing.
 pub fn journals_stand_at_their_places()
     ensures kept { AreAtPlaces }
     ensures all { AreAllThere }
