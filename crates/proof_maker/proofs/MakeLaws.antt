@@ -19,7 +19,7 @@ use Rattle.tree_model.proofs.Pieces.{length-cut, cut-concat, concat-whole}
 use Rattle.merkle_batch.specs.Rows.{Levels, StandsFor}
 use Rattle.journal_record.specs.Entry.{Entry}
 use Rattle.journal_record.specs.Header.{spelling}
-use Rattle.proof_codec.specs.Proofs.{Shown, HasFields, IsProof}
+use Rattle.proof_codec.specs.Proofs.{Shown, HasFields, IsDigests, IsProof}
 use Rattle.proof_codec.proofs.Breaks.{length-proof}
 use Rattle.ledger_model.specs.History as model
 use Rattle.ledger_model.specs.History.{History, journals, leaf_digest}
@@ -27,7 +27,8 @@ use Rattle.ledger_book.specs.Books.{Kept, Stands, Serves, leaf_digests, sealed_s
 use Rattle.ledger_book.proofs.StandsLaws.{point_is}
 use Rattle.audit_core.specs.Acceptance.{IsAccepted}
 use Rattle.audit_core.specs.Trust.{Trust, ledger_at}
-use Rattle.proof_maker.specs.Making.{shown_over, shown_of, refusal_of, IsMade, Answers, TrustsHead}
+use Rattle.proof_maker.specs.Making.{IsLeaf, unbounded, shown_by, shown_over, shown_of, refusal_of, IsMade, Answers, TrustsHead}
+use Rattle.proof_maker.specs.declared.making.Leaf.{Leaf}
 use Rattle.proof_maker.specs.declared.made.Made.{Made}
 use Rattle.proof_maker.specs.declared.made.MakeErr.{MakeErr}
 use Rattle.proof_maker.specs.declared.made.MakeErr.TheVariants.{Refused, NoMemory}
@@ -47,27 +48,21 @@ row_is (d ∷ ds) = ap (λ rest. d.0 ++ rest) (row_is ds)
 
 -- ---- a proof without bounds
 
-abbrev bare : ℕ → ℕ → Digest → List ℕ → Shown
-bare size n leaf flat =
-    record { size = size; n = n; leaf = leaf; path = flat; lo = None; hi = None; notary_size = 0; lo_path = []; hi_path = [] }
-
-bare_is_proof : (size n : ℕ) (leaf : Digest) (ds : List (List ℕ)) → size < 2 ^ 64 → n < 2 ^ 64 → length leaf.0 ≡ 32 → All (λ d. length d ≡ 32) ds → length ds ≤ 64
-    → IsProof (bare size n leaf (concat ds))
-bare_is_proof size n leaf ds size_fits n_fits width each few =
-    let count = flat_count ds each in
-    let whole = flat_whole ds each in
-    let fields : HasFields (bare size n leaf (concat ds)) = record {
+pub is_bare_proof : (size n : ℕ) (leaf : Digest) (path given : List ℕ) → given ≡ path → size < 2 ^ 64 → n < 2 ^ 64 → length leaf.0 ≡ 32 → IsDigests path → length path ≤ 2048
+    → IsProof (unbounded size n leaf given)
+is_bare_proof size n leaf path given given_is size_fits n_fits width digests short =
+    let fields : HasFields (unbounded size n leaf path) = record {
       size = size_fits;
       n = n_fits;
       leaf = width;
-      path = record { whole = whole; count = omega (arith, count, few) };
+      path = digests;
       lower = tt;
       upper = tt;
       notary_size = refl;
       lo_path = refl;
       hi_path = refl;
     } in
-    record { fields = fields; room = omega (arith, length-proof (bare size n leaf (concat ds)) fields, count, whole, few) }
+    subst (λ (row : List ℕ). IsProof (unbounded size n leaf row)) (sym given_is) (record { fields = fields; room = omega (arith, length-proof (unbounded size n leaf path) fields, short) })
 
 -- the bytes of one digest more
 pub flat_more : (digests : List Digest) (i : ℕ) (d : Digest) (bytes new : List ℕ) → i < length digests → bytes ≡ flat_map (λ (x : Digest). x.0) (take i digests) → new ≡ bytes ++ (get_or digests i d).0
@@ -96,35 +91,52 @@ pub row_widths : (digests given : List Digest) → given ≡ digests → All (λ
 row_widths digests given given_is each = All-map (λ (d : List ℕ). length d ≡ 32) (λ (d : Digest). d.0) digests (subst (All (λ (d : Digest). length d.0 ≡ 32)) given_is each)
 
 -- the bytes of a path's digests, in a slice
-module _ (size n : ℕ) (leaf : Digest) (digests given : List Digest) (bytes flat : List ℕ) (given_is : given ≡ digests) (bytes_are : bytes ≡ flat_map (λ (d : Digest). d.0) given) (flat_is : flat ≡ bytes)
-    (each : All (λ (d : Digest). length d.0 ≡ 32) given) where
+module _ (size n : ℕ) (digests given : List Digest) (bytes : List ℕ) (given_is : given ≡ digests) (bytes_are : bytes ≡ flat_map (λ (d : Digest). d.0) given) (each : All (λ (d : Digest). length d.0 ≡ 32) given) where
   sides : List (List ℕ)
   sides = map (λ (d : Digest). d.0) digests
 
-  flat_same : flat ≡ concat sides
+  same : bytes ≡ concat sides
   unfolding sides
-  flat_same = flat_is ∙ row_same digests given bytes given_is bytes_are
+  same = row_same digests given bytes given_is bytes_are
 
   widths : All (λ (d : List ℕ). length d ≡ 32) sides
   unfolding sides
   widths = row_widths digests given given_is each
 
-  pub is_bare_proof : size < 2 ^ 64 → n < 2 ^ 64 → length leaf.0 ≡ 32 → length digests ≡ path_length n size → IsProof (bare size n leaf flat)
+  few : size < 2 ^ 64 → length digests ≡ path_length n size → length sides ≤ 64
   unfolding sides
-  is_bare_proof size_fits n_fits width count =
-      subst (λ (row : List ℕ). IsProof (bare size n leaf row)) (sym flat_same)
-      (bare_is_proof size n leaf sides size_fits n_fits width widths (omega (arith, count, length-map digests (λ (d : Digest). d.0), path_length_below 64 n size (omega (arith, size_fits)))))
+  few fits count = omega (arith, count, length-map digests (λ (d : Digest). d.0), path_length_below 64 n size (omega (arith, fits)))
 
-  pub bare_is_shown : (ds : List (List ℕ)) → leaf.0 ≡ get_or ds n [] → map (λ (d : Digest). d.0) digests ≡ path sha256 n (take size ds) → bare size n leaf flat ≡ shown_over ds size n
-  unfolding sides
-  bare_is_shown ds leaf_is path_is =
-      ap (λ (row : List ℕ). bare size n leaf row) (flat_same ∙ ap concat path_is) ∙ ap (λ (d : List ℕ). bare size n (digest d) (concat (path sha256 n (take size ds)))) leaf_is
+  pub path_is_digests : size < 2 ^ 64 → length digests ≡ path_length n size → IsDigests bytes
+  path_is_digests fits count =
+      record { whole = ap (λ (row : List ℕ). length row % 32) same ∙ flat_whole sides widths; count = omega (arith, ap length same, flat_count sides widths, few fits count) }
 
-  -- the leaf leads to the root
-  pub path_leads : (ds : List (List ℕ)) → map (λ (d : Digest). d.0) digests ≡ path sha256 n (take size ds) → n < size → size ≤ length ds
-      → fold_bytes sha256 (get_or ds n []) n size (concat (path sha256 n (take size ds))) ≡ Some (tree.root sha256 (take size ds))
-  unfolding sides
-  path_leads ds path_is within there = leaf_leads ds size n within there (subst (All (λ (d : List ℕ). length d ≡ 32)) path_is widths)
+  pub path_is_short : size < 2 ^ 64 → length digests ≡ path_length n size → length bytes ≤ 2048
+  path_is_short fits count = omega (arith, ap length same, flat_count sides widths, flat_whole sides widths, few fits count)
+
+  module _ (ds : List (List ℕ)) (leaf : Digest) (leaf_is : leaf.0 ≡ get_or ds n []) (told : map (λ (d : Digest). d.0) digests ≡ path sha256 n (take size ds)) where
+    pub path_bytes : bytes ≡ concat (path sha256 n (take size ds))
+    unfolding sides
+    path_bytes = same ∙ ap concat told
+
+    -- the leaf leads to the root
+    pub path_leads : n < size → size ≤ length ds → fold_bytes sha256 leaf.0 n size bytes ≡ Some (tree.root sha256 (take size ds))
+    unfolding sides
+    path_leads within there =
+        ap (λ (d : List ℕ). fold_bytes sha256 d n size bytes) leaf_is ∙ ap (fold_bytes sha256 (get_or ds n []) n size) path_bytes
+        ∙ leaf_leads ds size n within there (subst (All (λ (d : List ℕ). length d ≡ 32)) told widths)
+
+-- ---- what is shown of a leaf with its path
+
+module _ (ds : List (List ℕ)) (size n : ℕ) (leaf : Leaf) (is : IsLeaf ds size n leaf) where
+  pub shown_same : shown_by leaf size n ≡ shown_over ds size n
+  shown_same = ap (λ (d : Digest). unbounded size n d leaf.path.items) is.digest_is ∙ ap (unbounded size n (digest (get_or ds n []))) is.path_is
+
+  pub leaf_made : (made : Made) → IsMade (shown_by leaf size n) made → IsMade (shown_over ds size n) made
+  leaf_made made = subst (λ (shown : Shown). IsMade shown made) shown_same
+
+  pub shown_leads : (root : Option (List ℕ)) → fold_bytes sha256 leaf.digest.0 n size leaf.path.items ≡ root → fold_bytes sha256 (get_or ds n []) n size (shown_over ds size n).path ≡ root
+  shown_leads root leads = sym (ap (λ (s : Shown). fold_bytes sha256 s.leaf.0 n size s.path) shown_same) ∙ leads
 
 -- ---- the root
 

@@ -17,25 +17,39 @@ use Rattle.ledger_book.specs.Books.{leaf_digests, sealed_size}
 use Rattle.ledger_book.specs.Seals.{head_of}
 use Rattle.script_lines.specs.declared.said.Which.TheVariants.{Ledger}
 use Rattle.audit_core.specs.Trust.{Trust, ledger_at, root_of}
+use Rattle.proof_maker.specs.declared.making.Leaf.{Leaf}
 use Rattle.proof_maker.specs.declared.made.Made.{Made}
 use Rattle.proof_maker.specs.declared.made.MadeExtension.{MadeExtension}
 use Rattle.proof_maker.specs.declared.made.MakeErr.{MakeErr}
 use Rattle.proof_maker.specs.declared.made.MakeErr.TheVariants.{Refused, NoMemory}
 
--- what the proof of leaf n shows under the tree over the first so many leaves
-abbrev pub shown_over : List (List ℕ) → ℕ → ℕ → Shown
-shown_over leaves size n =
+-- this is leaf n, with its path under the tree over the first so many leaves
+pub record IsLeaf (leaves : List (List ℕ)) (size n : ℕ) (leaf : Leaf) : Type 0 where
+  pub digest_is : leaf.digest ≡ digest (get_or leaves n [])
+  pub path_is : leaf.path.items ≡ concat (path sha256 n (take size leaves))
+
+-- what a proof without bounds shows
+abbrev pub unbounded : ℕ → ℕ → Digest → List ℕ → Shown
+unbounded size n leaf path =
     record {
       size = size;
       n = n;
-      leaf = digest (get_or leaves n []);
-      path = concat (path sha256 n (take size leaves));
+      leaf = leaf;
+      path = path;
       lo = None;
       hi = None;
       notary_size = 0;
       lo_path = [];
       hi_path = [];
     }
+
+-- what the proof of leaf n shows under the tree over so many leaves, where this is the leaf with its path
+abbrev pub shown_by : Leaf → ℕ → ℕ → Shown
+shown_by leaf size n = unbounded size n leaf.digest leaf.path.items
+
+-- what the proof of leaf n shows under the tree over the first so many leaves
+abbrev pub shown_over : List (List ℕ) → ℕ → ℕ → Shown
+shown_over leaves size n = unbounded size n (digest (get_or leaves n [])) (concat (path sha256 n (take size leaves)))
 
 -- what the proof of journal n shows: its leaf and its path under the head at the last block's end. No journal of a
 -- ledger tells a time so far, so there is no bound.

@@ -6,7 +6,8 @@ ghost use Rattle.tree_model.specs.Tree.{root};
 ghost use Rattle.tree_model.specs.Path.{fold_bytes};
 ghost use Rattle.tree_model.specs.Extension.{fold_proof_bytes};
 ghost use Rattle.merkle_batch.specs.Rows.{StandsFor};
-ghost use Rattle.proof_maker.specs.Making.{IsMade, shown_over, extension_over};
+ghost use Rattle.proof_codec.specs.Proofs.{IsDigests};
+ghost use Rattle.proof_maker.specs.Making.{IsLeaf, IsMade, shown_by, shown_over, extension_over};
 ghost use Rattle.proof_maker.specs.declared.made.MakeErr.TheVariants as make_err;
 
 use crate::{Made, MakeErr};
@@ -14,6 +15,36 @@ use ledger_bytes::{Bytes, Digest, NoMemory, Sha};
 use merkle_batch::Tree;
 use proof_codec::Proof;
 use std::alloc::Global;
+
+/// A leaf of a tree, and its path.
+#[derive(Drop)]
+struct Leaf {
+    digest: Digest,
+    /// The path's digests from the leaf up, one after the other (RFC 6962, section 2.1.1).
+    path: Vec<u8>,
+}
+
+impl Leaf {
+    /// Leaf `n` and its path to the root over the first `size` leaves.
+    fn of(alloc: Global, tree: &Tree<Sha>, size: u64, n: u64) -> Result<Self, MakeErr>
+        ensures leaf { IfOk result (λ leaf. (ds : List (List ℕ)) → StandsFor sha256 tree.now ds
+            → IsLeaf ds size n leaf) }
+        // The leaf leads along its path to the root.
+        ensures leads { IfOk result (λ leaf. (ds : List (List ℕ)) → StandsFor sha256 tree.now ds
+            → n < size → size ≤ tree.now.size
+            → fold_bytes sha256 leaf.digest.0 n size leaf.path.items
+            ≡ Some (root sha256 (take size ds))) }
+        ensures digests { IfOk result (λ leaf. IsDigests leaf.path.items) }
+        ensures room { IfOk result (λ leaf. length leaf.path.items ≤ 2048) }
+        ensures err { tree.now.floor ≤ n → n < size → size ≤ tree.now.size
+            → IfErr result (λ e. e ≡ make_err.NoMemory) }
+    {
+        let digest = tree.leaf(n)?;
+        let digests = tree.path(n, size)?;
+        let path = flat(alloc, digests.as_slice())?;
+        Ok(Leaf { digest, path })
+    }
+}
 
 /// The proof of leaf `n` under the tree over the first `size` leaves.
 pub(crate) fn make(alloc: Global, tree: &Tree<Sha>, size: u64, n: u64) -> Result<Made, MakeErr>
@@ -27,14 +58,21 @@ pub(crate) fn make(alloc: Global, tree: &Tree<Sha>, size: u64, n: u64) -> Result
     ensures err { tree.now.floor ≤ n → n < size → size ≤ tree.now.size
         → IfErr result (λ e. e ≡ make_err.NoMemory) }
 {
-    let leaf = tree.leaf(n)?;
-    let digests = tree.path(n, size)?;
-    let path = flat(alloc, digests.as_slice())?;
+    let leaf = Leaf::of(alloc, tree, size, n)?;
+    Ok(spell(alloc, size, n, &leaf)?)
+}
+
+// The proof of leaf `n` under the tree over the first `size` leaves, where this is the leaf with its path.
+fn spell(alloc: Global, size: u64, n: u64, leaf: &Leaf) -> Result<Made, NoMemory>
+    requires digests { IsDigests leaf.now.path.items }
+    requires room { length leaf.now.path.items ≤ 2048 }
+    ensures { IfOk result (λ made. IsMade (shown_by leaf.now size n) made) }
+{
     let proof = Proof {
         size,
         n,
-        leaf,
-        path: path.as_slice(),
+        leaf: leaf.digest,
+        path: leaf.path.as_slice(),
         lo: None,
         hi: None,
         notary_size: 0,
