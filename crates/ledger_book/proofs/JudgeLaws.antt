@@ -1,7 +1,8 @@
 -- Lemmas on judging: what a book looks at is what the history says.
-use Rattle.std.proofs.Common.{◌≡◌, ◌≢◌, ℕ, ◌+◌, ◌-◌, ◌<◌, ◌≤◌, ◌&&◌, ◌||◌, ◌==◌, Bool, true, false, cond, not, List, [], ◌∷◌, length, Option, Some, None, refl, ap, sym, ◌∙◌, arith, eq-eqb}
-use Rattle.std.specs.Prelude.{nat_le, filter}
+use Rattle.std.proofs.Common.{◌≡◌, ◌≢◌, ℕ, ◌+◌, ◌-◌, ◌<◌, ◌≤◌, ◌&&◌, ◌||◌, ◌==◌, Bool, true, false, cond, not, List, [], ◌∷◌, length, Option, Some, None, refl, ap, sym, ◌∙◌, subst, arith, eq-eqb}
+use Rattle.std.specs.Prelude.{◌++◌, nat_le, filter, MatchOption}
 use Rattle.std.proofs.lemmas.Bool.{le-leb, leb-true, lt-leb, lt-ltb, ne_eqb, and_left, and_right, and_from}
+use Rattle.std.proofs.lemmas.List.{length-map}
 use Rattle.ledger_bytes.specs.declared.digest.Digest.{Digest}
 use Rattle.ledger_bytes.specs.declared.refusal.Refusal.{Refusal}
 use Rattle.ledger_bytes.specs.declared.refusal.Refusal.TheVariants.{Full, UnknownMember, CluesFull}
@@ -9,11 +10,15 @@ use Rattle.clue_index.specs.Added.{Added, different_clues, trail_of}
 use Rattle.clue_index.specs.Index as index
 use Rattle.clue_index.specs.Trail.{kept_from}
 use Rattle.journal_record.specs.Rules.{is_no_clue}
+use Rattle.journal_record.specs.declared.member.Member.{Member}
 use Rattle.ledger_model.specs.Clues.{jsns_with, clue_count, last_of, next_ordinal, last_journal}
-use Rattle.ledger_model.specs.History.{History, size}
+use Rattle.ledger_model.specs.History.{History, journals, size}
 use Rattle.ledger_model.specs.Judgements.{kept_count, is_full, fullness, clues_full, first_refusal, unknown_in}
+use Rattle.ledger_model.specs.Lawful.{AreLawful}
+use Rattle.ledger_model.specs.Members.{members, keys}
 use Rattle.ledger_model.specs.Texts.{kept_with}
 use Rattle.ledger_model.specs.declared.limits.Limits.{Limits}
+use Rattle.ledger_model.proofs.LawfulLaws.{lawful_members}
 use Rattle.ledger_book.specs.Books.{Kept, Stands, Serves}
 use Rattle.ledger_book.proofs.ClueLaws.{told_clues, told_kept}
 use Rattle.ledger_book.proofs.StandsLaws.{point_is}
@@ -105,34 +110,30 @@ clue_old l h clue ordinal is other = by_clue (is_no_clue clue) refl where
       let next : ordinal ≡ length (jsns_with h clue) + 1 = is ∙ sym (ordinal_some h clue (length (jsns_with h clue) + 1) some refl) in
       sym (clue_known l h clue ordinal next (omega (arith, next, other)))
 
--- the first of some judgements, one after the other
-pub first_then : (rest : List (Option Refusal)) (a got result : Option Refusal) → got ≡ a → got ≡ None → result ≡ first_refusal rest → result ≡ first_refusal (a ∷ rest)
-first_then rest a got result is none then = then ∙ ap (λ x. first_refusal (x ∷ rest)) (sym none ∙ is)
+-- the first of some judgements, and where there is none the first of those behind them
+first_then : (front behind : List (Option Refusal)) (result : Option Refusal) {P : Type 0} → (P → result ≡ first_refusal behind) → MatchOption (first_refusal front) P (λ refusal. result ≡ Some refusal) → result ≡ first_refusal (front ++ behind)
+first_then [] behind result told is = told is
+first_then (Some refusal ∷ front) behind result told is = is
+first_then (None ∷ front) behind result told is = first_then front behind result told is
 
-two_some : (rest : List (Option Refusal)) (u w : Option Refusal) (refusal : Refusal) → first_refusal (u ∷ w ∷ []) ≡ Some refusal → Some refusal ≡ first_refusal (u ∷ w ∷ rest)
-two_some rest (Some r) w refusal is = sym is
-two_some rest None (Some r) refusal is = sym is
-two_some rest None None refusal is = cc
-
-two_none : (rest : List (Option Refusal)) (u w : Option Refusal) → first_refusal (u ∷ w ∷ []) ≡ None → first_refusal rest ≡ first_refusal (u ∷ w ∷ rest)
-two_none rest (Some r) w is = cc
-two_none rest None (Some r) is = cc
-two_none rest None None is = refl
-
-pub first_of_two_then : (rest : List (Option Refusal)) (u w got : Option Refusal) (refusal : Refusal) → got ≡ first_refusal (u ∷ w ∷ []) → got ≡ Some refusal → Some refusal ≡ first_refusal (u ∷ w ∷ rest)
-first_of_two_then rest u w got refusal is some = two_some rest u w refusal (sym is ∙ some)
-
-pub then_of_two : (rest : List (Option Refusal)) (u w got result : Option Refusal) → got ≡ first_refusal (u ∷ w ∷ []) → got ≡ None → result ≡ first_refusal rest → result ≡ first_refusal (u ∷ w ∷ rest)
-then_of_two rest u w got result is none then = then ∙ two_none rest u w (sym is ∙ none)
+pub or_else_then : (front behind : List (Option Refusal)) (got result : Option Refusal) {P : Type 0} → got ≡ first_refusal front → (P → result ≡ first_refusal behind) → MatchOption got P (λ refusal. result ≡ Some refusal) → result ≡ first_refusal (front ++ behind)
+or_else_then front behind got result {P} first told is = first_then front behind result told (subst (λ (o : Option Refusal). MatchOption o P (λ refusal. result ≡ Some refusal)) first is)
 
 pub first_one : (c : Option Refusal) → c ≡ first_refusal (c ∷ [])
 first_one (Some r) = refl
 first_one None = refl
 
 -- member 0 is known
-pub operator_known : (known : List (List ℕ)) (w : Option Refusal) → 2 ≤ length known → first_refusal (unknown_in known 0 ∷ w ∷ []) ≡ first_refusal (w ∷ [])
-operator_known [] w some = absurd (omega (arith, some))
-operator_known (key ∷ known) w some = ap (λ b. first_refusal (cond b None (Some (UnknownMember 0)) ∷ w ∷ [])) (lt-ltb 0 (length (key ∷ known)) (omega arith))
+one_known : (known : List (List ℕ)) (w : Option Refusal) → 2 ≤ length known → first_refusal (unknown_in known 0 ∷ w ∷ []) ≡ first_refusal (w ∷ [])
+one_known [] w some = absurd (omega (arith, some))
+one_known (key ∷ known) w some = ap (λ b. first_refusal (cond b None (Some (UnknownMember 0)) ∷ w ∷ [])) (lt-ltb 0 (length (key ∷ known)) (omega arith))
+
+two_members : (h : History) → AreLawful (journals h) → 2 ≤ length (keys h)
+unfolding members
+two_members h lawful = omega (arith, (lawful_members (journals h) lawful).0, length-map (members h) (λ (m : Member). m.key.0))
+
+pub operator_known : (h : History) (w : Option Refusal) → AreLawful (journals h) → first_refusal (unknown_in (keys h) 0 ∷ w ∷ []) ≡ first_refusal (w ∷ [])
+operator_known h w lawful = one_known (keys h) w (two_members h lawful)
 
 -- numbers from the point on, among those from the floor on
 above : (floor point : ℕ) (ns : List ℕ) → floor ≤ point → filter (λ n. nat_le point n) (filter (λ n. nat_le floor n) ns) ≡ filter (λ n. nat_le point n) ns

@@ -25,13 +25,9 @@ impl Book {
         ensures room { IfNone result (self.now.size < real_limits.size) }
         ensures within { AreWithin self.now.limits }
     {
-        if let Some(refusal) = self.full_refusal() {
-            return Some(refusal);
-        }
-        if let Some(refusal) = self.key_refusal(member, &by.key) {
-            return Some(refusal);
-        }
-        self.clue_refusal(clue, self.limits)
+        self.full_refusal()
+            .or_else(|| self.key_refusal(member, &by.key))
+            .or_else(|| self.clue_refusal(clue, self.limits))
     }
 
     /// Why a new member with this number is refused, where it is.
@@ -42,13 +38,9 @@ impl Book {
         ensures next { IfNone result (length self.now.members < MEMBER_LIMIT) }
         ensures within { AreWithin self.now.limits }
     {
-        if let Some(refusal) = self.full_refusal() {
-            return Some(refusal);
-        }
-        if let Some(refusal) = self.members.number_refusal(number) {
-            return Some(refusal);
-        }
-        self.key_refusal(0, &by.key)
+        self.full_refusal()
+            .or_else(|| self.members.number_refusal(number))
+            .or_else(|| self.key_refusal(0, &by.key))
     }
 
     // Whether there is no room for a member's journal.
