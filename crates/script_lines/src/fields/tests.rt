@@ -4,46 +4,6 @@ use std::test::Fail;
 const LEAF: &str = "e17cd0a38398533f50004ec57f5dd3837680b6b072223c6ffc9e2bfa0d0e723C";
 
 #[test]
-fn reads_numbers(rt: HostRuntime) {
-    for (text, most, wanted) in [
-        ("0", 0, Some(0)),
-        ("18446744073709551615", u64::MAX, Some(u64::MAX)),
-        ("18446744073709551616", u64::MAX, None),
-        ("99999999999999999999999", u64::MAX, None),
-        ("10", 9, None),
-        ("00", u64::MAX, None),
-        ("+1", u64::MAX, None),
-        ("0x1", u64::MAX, None),
-        ("", u64::MAX, None),
-    ] {
-        let mut fields = Fields::of(text.as_bytes());
-        let number = fields.number(most);
-        assert_eq!(rt; number, wanted.ok_or(bad_field(1)), "at {text}");
-        assert_eq!(rt; fields.column(), 2);
-    }
-}
-
-#[test]
-fn reads_marks(rt: HostRuntime) {
-    for (text, wanted) in [
-        ("-", Some(None)),
-        ("2:0:1000", Some(Some((2, 0, 1000)))),
-        ("0:18446744073709551615:7", Some(Some((0, u64::MAX, 7)))),
-        ("0:18446744073709551616:7", None),
-        ("2:0", None),
-        ("2:0:1000:", None),
-        ("2:0:01000", None),
-        ("2::1000", None),
-        ("--", None),
-        ("", None),
-    ] {
-        let mark = Fields::of(text.as_bytes()).mark();
-        let numbers = mark.map(|mark| mark.map(|mark| (mark.jsn, mark.index, mark.time)));
-        assert_eq!(rt; numbers, wanted.ok_or(bad_field(1)), "at {text}");
-    }
-}
-
-#[test]
 fn reads_a_line_of_fields(rt: HostRuntime) -> Result<(), Fail> {
     let mut line = b"trust notary ".to_vec(rt.alloc())?;
     line.extend_from_slice(LEAF.as_bytes())?;

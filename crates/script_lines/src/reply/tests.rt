@@ -5,26 +5,14 @@ use std::test::Fail;
 
 const ID: &str = "64915354a6547b1f887e596e872fd13b2abdc860729da9fe31180a81726cf4a2";
 
-const NOTARY_ROOT: &str = "e3b0c44298fc1c149afbf4c8996fb92427ae41e4649b934ca495991b7852b855";
-
-const LEAF: &str = "e17cd0a38398533f50004ec57f5dd3837680b6b072223c6ffc9e2bfa0d0e723c";
-
-const ROOT: &str = "89713d47487c9be9875bd8f6a471f021f10440bea34709c459dce3a170313951";
-
 const PROOF: &str =
     "010000000000000003000000000000000064915354a6547b1f887e596e872fd13b2abdc860729da9fe31180a81726cf4a202e17cd0a38398533f50004ec57f5dd3837680b6b072223c6ffc9e2bfa0d0e723cc346a4840bce4f8de12d73b3fda6bb93c7f113f7a07ee5b4951f1393dcc51ed500010000000000000002000000000000000000000000000003e88b3b30a051bca9ec8bacbfaf3a351389842d99f1769a4959994077e9ec8d875789713d47487c9be9875bd8f6a471f021f10440bea34709c459dce3a17031395101c346a4840bce4f8de12d73b3fda6bb93c7f113f7a07ee5b4951f1393dcc51ed5000000000000000100";
 
 const EXTENSION: &str =
     "817aa9248d10780808af00a473b7890eae59c8604ea4d237ff2dfac7b43e8e751ceb3d0b84048f750baf678356fb8989ae04df1236712eb09480365eb2b8edcc5d0c93a2c3f5b439800c35082b570525c1c42d311dfab11205d0376c51f95cf9f908e25e5dd26af47c1139634183bd63ce1462998b3974bdc137830b569a8541";
 
-const WHOLE: &str =
-    "01010000000000000006000000021deeaa67eb730cd3d5ed76c94d0a5635e7fd7bf9480e33eeaf0b55deef791e6c000000040000000000000004000000000000000000000000000000008a4058501344009e3c6f6d0354929f25db0d75a4a32e9179a7451c182b19404100000003906a58972dca57143e6b720177473bf813d038c3147e945441e87fbbdf542994a6f6319fd1645ffa9a1c5d2abcde6115b298448ae3b2c35925463c7f72e89300";
-
 const WHO: &str =
     "00000002004003030303030303030303030303030303030303030303030303030303030303031c73656160873b10becb5d4a75a046056d790b17f79672513778ab540c22c6df";
-
-const WHO_OF_WHOLE: &str =
-    "0000000200400303030303030303030303030303030303030303030303030303030303030303670bc87de87a4d2dc823d029fec29573459c8a94361e427a8df50ceffa0c5f65";
 
 const ROOT_OF_SIX: &str = "af7eba02c88f58f4f622d4ff7d85dca0bc0485cd3f1f429831c6e29fd5a2c55e";
 
@@ -62,24 +50,7 @@ fn check(
 }
 
 #[test]
-fn writes_receipts_and_heads(rt: HostRuntime) -> Result<(), Fail> {
-    let head = Reply::Head {
-        id: digest(ID)?,
-        size: 1,
-        root: digest(ID)?,
-        blocks: 1,
-        point: 0,
-        notary_size: 0,
-        notary_root: digest(NOTARY_ROOT)?,
-    };
-    let placed = Reply::Placed {
-        jsn: 1,
-        leaf: digest(LEAF)?,
-        block: 1,
-        size: 2,
-        root: digest(ROOT)?,
-        stamp: None,
-    };
+fn writes_stamps_and_occulted_journals(rt: HostRuntime) -> Result<(), Fail> {
     let stamped = Reply::Placed {
         jsn: 2,
         leaf: digest("5e709f58ad3426700677d797d0267ed38e8c242bbe75ce422c050fc1a0185f6a")?,
@@ -91,51 +62,13 @@ fn writes_receipts_and_heads(rt: HostRuntime) -> Result<(), Fail> {
     check(
         &rt,
         rt.alloc(),
-        1,
-        &head,
-        &[
-            "0.1 head 64915354a6547b1f887e596e872fd13b2abdc860729da9fe31180a81726cf4a2 1 64915354a6547b1f887e596e872fd13b2abdc860729da9fe31180a81726cf4a2 1 0 0 e3b0c44298fc1c149afbf4c8996fb92427ae41e4649b934ca495991b7852b855\n",
-        ],
-    )?;
-    check(
-        &rt,
-        rt.alloc(),
-        1,
-        &placed,
-        &[
-            "0.1 ok 1 e17cd0a38398533f50004ec57f5dd3837680b6b072223c6ffc9e2bfa0d0e723c 1 2 89713d47487c9be9875bd8f6a471f021f10440bea34709c459dce3a170313951\n",
-        ],
-    )?;
-    check(
-        &rt,
-        rt.alloc(),
-        2,
+        u64::MAX,
         &stamped,
         &[
-            "0.2 ok 2 5e709f58ad3426700677d797d0267ed38e8c242bbe75ce422c050fc1a0185f6a 2 3 c7faadd5cd3f0039410d655fff2dce12e16ec35f850c863542f14ff18c33c7fb 1 2000\n",
+            "0.18446744073709551615 ok 2 5e709f58ad3426700677d797d0267ed38e8c242bbe75ce422c050fc1a0185f6a 2 3 c7faadd5cd3f0039410d655fff2dce12e16ec35f850c863542f14ff18c33c7fb 1 2000\n",
         ],
-    )
-}
-
-#[test]
-fn writes_whole_journals(rt: HostRuntime) -> Result<(), Fail> {
-    let reply = Reply::Whole {
-        header: <[u8; 174]>::from_hex(WHOLE)?,
-        content: bytes_of(rt.alloc(), "78797a")?,
-        who: bytes_of(rt.alloc(), WHO_OF_WHOLE)?,
-    };
-    check(
-        &rt,
-        rt.alloc(),
-        10,
-        &reply,
-        &["0.10 whole ", WHOLE, " 78797a ", WHO_OF_WHOLE, "\n"],
-    )
-}
-
-#[test]
-fn writes_occulted_journals(rt: HostRuntime) -> Result<(), Fail> {
-    let reply = Reply::Occulted {
+    )?;
+    let occulted = Reply::Occulted {
         header: <[u8; 174]>::from_hex(OCCULTED)?,
         who: bytes_of(rt.alloc(), WHO)?,
     };
@@ -143,14 +76,14 @@ fn writes_occulted_journals(rt: HostRuntime) -> Result<(), Fail> {
         &rt,
         rt.alloc(),
         4,
-        &reply,
+        &occulted,
         &["0.4 occulted ", OCCULTED, " ", WHO, "\n"],
     )
 }
 
 #[test]
-fn writes_proofs(rt: HostRuntime) -> Result<(), Fail> {
-    let reply = Reply::Proof {
+fn writes_proofs_and_extensions(rt: HostRuntime) -> Result<(), Fail> {
+    let proof = Reply::Proof {
         n: 0,
         leaf: digest(ID)?,
         lo: None,
@@ -161,14 +94,10 @@ fn writes_proofs(rt: HostRuntime) -> Result<(), Fail> {
         &rt,
         rt.alloc(),
         3,
-        &reply,
+        &proof,
         &["0.3 proof 0 ", ID, " - 2:0:1000 ", PROOF, "\n"],
-    )
-}
-
-#[test]
-fn writes_extensions(rt: HostRuntime) -> Result<(), Fail> {
-    let reply = Reply::Extension {
+    )?;
+    let extension = Reply::Extension {
         which: Which::Ledger,
         m: 3,
         size: 6,
@@ -179,7 +108,7 @@ fn writes_extensions(rt: HostRuntime) -> Result<(), Fail> {
         &rt,
         rt.alloc(),
         11,
-        &reply,
+        &extension,
         &[
             "0.11 extension ledger 3 6 ",
             ROOT_OF_SIX,
@@ -202,49 +131,4 @@ fn writes_extensions(rt: HostRuntime) -> Result<(), Fail> {
         &none,
         &["0.12 extension ledger 6 6 ", ROOT_OF_SIX, " -\n"],
     )
-}
-
-#[test]
-fn writes_lists_and_refusals(rt: HostRuntime) -> Result<(), Fail> {
-    let kept = Items::of([133, 174].to_vec(rt.alloc())?);
-    check(
-        &rt,
-        rt.alloc(),
-        211,
-        &Reply::Clue { count: 5, kept },
-        &["0.211 clue 5 133,174\n"],
-    )?;
-    let kept = Items::of([2].to_vec(rt.alloc())?);
-    check(
-        &rt,
-        rt.alloc(),
-        5,
-        &Reply::Clue { count: 1, kept },
-        &["0.5 clue 1 2\n"],
-    )?;
-    let kept = Items::of(Vec::new(rt.alloc()));
-    check(
-        &rt,
-        rt.alloc(),
-        6,
-        &Reply::Clue { count: 0, kept },
-        &["0.6 clue 0 -\n"],
-    )?;
-    for (refusal, line) in [
-        (Refusal::BadVerb, "0.4 no 10\n"),
-        (Refusal::BadField { column: 3 }, "0.4 no 11 3\n"),
-        (
-            Refusal::UnknownMember { member: u32::MAX },
-            "0.4 no 14 4294967295\n",
-        ),
-        (Refusal::WrongKey { member: 2 }, "0.4 no 15 2\n"),
-    ] {
-        check(&rt, rt.alloc(), 4, &Reply::Refused(refusal), &[line])?;
-    }
-    let last = reply_text(rt.alloc(), 7, u64::MAX, &Reply::Refused(Refusal::BadLane))?;
-    assert_eq!(rt;
-        last.as_slice(),
-        b"7.18446744073709551615 no 12\n".as_slice()
-    );
-    Ok(())
 }
