@@ -1,9 +1,7 @@
-ghost use Rattle.std.specs.Prelude.{◌<◌};
-
 use crate::{Tree, TreeErr};
 use hex::{FromHex, FromHexError};
 use ledger_bytes::{Digest, NoMemory, Sha};
-use merkle_tree::{leaf_of, path, proof, root_of};
+use merkle_tree::leaf_of;
 use std::alloc::Global;
 use std::test::Fail;
 
@@ -114,45 +112,12 @@ fn add(tree: &mut Tree<Sha>, leaves: &[Digest]) -> Result<(), NoMemory> {
     Ok(())
 }
 
-// Is this what the tree over the first `size` leaves of a list gives from a floor on?
-fn answers_as(
-    alloc: Global,
-    tree: &Tree<Sha>,
-    leaves: &[Digest],
-    size: usize,
-) -> Result<bool, NoMemory> {
-    let Some(list) = leaves.get(..size) else {
-        return Ok(false);
-    };
-    for m in tree.floor() as usize..size {
-        if tree.leaf(m as u64) != Ok(list[m])
-            || tree.root_at(m as u64) != Ok(root_of::<Sha>(&list[..m]))
-            || !are_made(
-                tree.path(m as u64, size as u64),
-                &path::<Sha>(alloc, list, m)?,
-            )
-        {
-            return Ok(false);
-        }
-        if m > 0
-            && !are_made(
-                tree.proof(m as u64, size as u64),
-                &proof::<Sha>(alloc, list, m)?,
-            )
-        {
-            return Ok(false);
-        }
+// Adds the leaves of these bytes, one each.
+fn add_bytes(tree: &mut Tree<Sha>, from: u8, to: u8) -> Result<(), NoMemory> {
+    for byte in from..to {
+        add(tree, &[leaf_of::<Sha>(&[byte])])?;
     }
-    Ok(tree.root_at(size as u64) == Ok(root_of::<Sha>(list)))
-}
-
-// The digests of so many leaves of one byte.
-fn leaves(alloc: Global, count: u8) -> Result<Vec<Digest>, NoMemory> {
-    let mut digests = Vec::new(alloc);
-    for byte in 0..count {
-        digests.push(leaf_of::<Sha>(&[byte]))?;
-    }
-    Ok(digests)
+    Ok(())
 }
 
 // Are these the digests that were made?
@@ -196,9 +161,6 @@ fn trees_by_sha(rt: HostRuntime) -> Result<(), Fail> {
         add(&mut tree, &[leaf_of::<Sha>(&[byte])])?;
         assert_eq!(rt; tree.root(), digest(root)?);
     }
-    for (size, root) in (1..=20).zip(&ROOTS) {
-        assert_eq!(rt; tree.root_at(size)?, digest(root)?);
-    }
     for (n, text) in &PATHS {
         assert!(rt; are_made(tree.path(*n, 20), &lines(rt.alloc(), text)?));
     }
@@ -208,73 +170,26 @@ fn trees_by_sha(rt: HostRuntime) -> Result<(), Fail> {
     Ok(())
 }
 
-// The tree over the first `floor` of some leaves by their peaks, and the others behind it, `batch` at a time.
-fn over_peaks(
-    alloc: Global,
-    tree: &Tree<Sha>,
-    floor: usize,
-    behind: &[Digest],
-    batch: usize,
-) -> Result<Tree<Sha>, TreeErr>
-    requires { 0 < batch }
-{
-    let peaks = tree.peaks_at(floor as u64)?;
-    let mut other = Tree::from_peaks(alloc, floor as u64, &peaks)?;
-    for some in behind.chunks(batch) {
-        add(&mut other, some)?;
-    }
-    Ok(other)
-}
-
-// Does the tree over a list, made a batch at a time, answer as the list above each floor, whether what is below was
-// forgotten or was known by its peaks alone?
-fn answers_above_each_floor(alloc: Global, list: &[Digest], batch: usize) -> Result<bool, TreeErr>
-    requires { 0 < batch }
-{
-    let mut tree: Tree<Sha> = Tree::new(alloc);
-    for some in list.chunks(batch) {
-        add(&mut tree, some)?;
-    }
-    for floor in 0..=list.len() {
-        let other = over_peaks(alloc, &tree, floor, &list[floor..], batch)?;
-        tree.forget_below(floor as u64)?;
-        if !answers_as(alloc, &tree, list, list.len())?
-            || !answers_as(alloc, &other, list, list.len())?
-        {
-            return Ok(false);
-        }
-    }
-    Ok(true)
-}
-
-#[test]
-fn trees_above_each_floor(rt: HostRuntime) -> Result<(), Fail> {
-    let leaves = leaves(rt.alloc(), 16)?;
-    for batch in [3, 16] {
-        for size in 1..=leaves.len() {
-            assert!(rt;
-                answers_above_each_floor(rt.alloc(), &leaves[..size], batch)?,
-                "{size} leaves, {batch} at a time"
-            );
-        }
-    }
-    Ok(())
-}
-
-// Memory for so many leaves is refused, and the tree is as it was.
+// Leaves are forgotten, and memory for too many is refused: the tree is as it was.
 #[test]
 fn growth_that_is_refused(rt: HostRuntime) -> Result<(), Fail> {
-    let leaves = leaves(rt.alloc(), 40)?;
-    assert_eq!(rt; leaves.len(), 40);
     let mut tree: Tree<Sha> = Tree::new(rt.alloc());
-    add(&mut tree, &leaves[..13])?;
+    add_bytes(&mut tree, 0, 13)?;
+    let peaks = tree.peaks_at(13)?;
+    let mut other: Tree<Sha> = Tree::from_peaks(rt.alloc(), 13, &peaks)?;
     tree.forget_below(5)?;
     for more in [1 << 60, usize::MAX] {
         assert!(rt; matches!(tree.reserve(more), Err(NoMemory)));
         assert_eq!(rt; (tree.floor(), tree.size()), (5, 13));
-        assert!(rt; answers_as(rt.alloc(), &tree, &leaves, 13)?);
+        assert_eq!(rt; tree.root(), digest(ROOTS[12])?);
     }
-    add(&mut tree, &leaves[13..])?;
-    assert!(rt; answers_as(rt.alloc(), &tree, &leaves, 40)?);
+    add_bytes(&mut tree, 13, 20)?;
+    add_bytes(&mut other, 13, 20)?;
+    assert_eq!(rt; tree.root(), digest(ROOTS[19])?);
+    assert_eq!(rt; other.root(), digest(ROOTS[19])?);
+    assert_eq!(rt; tree.leaf(5)?, leaf_of::<Sha>(&[5]));
+    assert_eq!(rt; tree.leaf(4), Err(TreeErr::Below { p: 5 }));
+    let (n, text) = PATHS[1];
+    assert!(rt; are_made(tree.path(n, 20), &lines(rt.alloc(), text)?));
     Ok(())
 }
