@@ -1,5 +1,4 @@
 use super::*;
-use crate::{content_digest, who_digest};
 use hex::FromHex;
 use std::test::Fail;
 
@@ -21,42 +20,6 @@ struct Row {
     who_digest: &'static str,
     bytes: &'static str,
 }
-
-// What is refused: the row whose bytes are changed, the place of the change, the bytes that are put there, how many
-// bytes of the row and a zero byte behind it are read, and what breaks.
-const REFUSED: [(usize, usize, &[u8], usize, Bad); 31] = [
-    (2, 0, &[], 173, Bad::Short { at: 173 }),
-    (2, 0, &[], 1, Bad::Short { at: 1 }),
-    (0, 0, &[], 0, Bad::Short { at: 0 }),
-    (2, 0, &[], 175, Bad::Trailing { at: 174 }),
-    (2, 0, &[0], 174, Bad::NewerFormat { found: 0 }),
-    (2, 0, &[2], 174, Bad::NewerFormat { found: 2 }),
-    (2, 0, &[7], 175, Bad::NewerFormat { found: 7 }),
-    (2, 0, &[7], 1, Bad::NewerFormat { found: 7 }),
-    (2, 1, &[6], 174, Bad::BadKind { found: 6 }),
-    (2, 1, &[6], 2, Bad::BadKind { found: 6 }),
-    (2, 9, &[0], 174, Bad::BadFixedField { at: 2 }),
-    (2, 12, &[1, 0], 174, Bad::BadFixedField { at: 10 }),
-    (2, 49, &[0], 174, Bad::BadFixedField { at: 46 }),
-    (2, 14, &[0; 32], 174, Bad::BadFixedField { at: 46 }),
-    (2, 57, &[1], 174, Bad::BadFixedField { at: 50 }),
-    (2, 49, &[2], 174, Bad::BadFixedField { at: 50 }),
-    (5, 57, &[5], 174, Bad::BadFixedField { at: 50 }),
-    (2, 65, &[1], 174, Bad::BadFixedField { at: 58 }),
-    (2, 73, &[1], 174, Bad::BadFixedField { at: 66 }),
-    (2, 107, &[1, 0, 1], 174, Bad::BadFixedField { at: 106 }),
-    (3, 62, &[1], 174, Bad::BadFixedField { at: 58 }),
-    (3, 14, &[1], 174, Bad::BadFixedField { at: 14 }),
-    (3, 13, &[1], 174, Bad::BadFixedField { at: 10 }),
-    (1, 64, &[1, 0], 174, Bad::BadFixedField { at: 58 }),
-    (1, 65, &[1], 174, Bad::BadFixedField { at: 58 }),
-    (6, 65, &[6], 174, Bad::BadFixedField { at: 58 }),
-    (7, 65, &[0], 174, Bad::BadFixedField { at: 58 }),
-    (7, 65, &[7], 174, Bad::BadFixedField { at: 58 }),
-    (0, 109, &[63], 174, Bad::BadFixedField { at: 106 }),
-    (0, 9, &[1], 174, Bad::BadFixedField { at: 2 }),
-    (0, 109, &[63], 109, Bad::Short { at: 109 }),
-];
 
 const NO_CLUE: &str = "0000000000000000000000000000000000000000000000000000000000000000";
 
@@ -258,41 +221,5 @@ fn encodes_and_decodes_each_kind(rt: HostRuntime) -> Result<(), Fail> {
             row.jsn
         );
     }
-    Ok(())
-}
-
-#[test]
-fn tells_the_first_break(rt: HostRuntime) -> Result<(), Fail> {
-    for (row, place, patch, len, bad) in REFUSED {
-        assert!(rt; row < ROWS.len());
-        let mut bytes = hex::decode(rt.alloc(), ROWS[row].bytes)?;
-        bytes.push(0)?;
-        for (byte, changed) in bytes.iter_mut().skip(place).zip(patch) {
-            *byte = *changed;
-        }
-        assert!(rt; len <= bytes.len());
-        assert_eq!(rt;
-            Header::decode(&bytes[..len]),
-            Err(bad),
-            "row {row} at {place}"
-        );
-    }
-    Ok(())
-}
-
-#[test]
-fn digests_of_parts(rt: HostRuntime) -> Result<(), Fail> {
-    assert_eq!(rt;
-        content_digest(b""),
-        digest("dbc1b4c900ffe48d575b5da5c638040125f65db0fe3e24494b76ea986457d986")?
-    );
-    assert_eq!(rt;
-        content_digest(b"abc"),
-        digest("909ac45e439911193205994d09399c29fede977ab212605f29ead5250a812e73")?
-    );
-    assert_eq!(rt;
-        who_digest(b""),
-        digest("01ba4719c80b6fe911b091a7c05124b64eeece964e09c058ef8f9805daca546b")?
-    );
     Ok(())
 }
