@@ -208,65 +208,6 @@ fn a_commit_is_stopped_at_each_call(rt: HostRuntime) -> Result<(), Fail> {
     Ok(())
 }
 
-// A file cut to each length: first it is shut, then a head or a body isn't whole.
-#[test]
-fn a_cut_file_is_told(rt: HostRuntime) -> Result<(), Fail> {
-    let alloc = rt.alloc();
-    let new = decode_lines(alloc, &NEW)?;
-    for size in 0..352_u64 {
-        let mut disk = disk_of(alloc, new.get(..size as usize).unwrap_or(b""))?;
-        let told = match first_block(alloc, &mut disk, 0) {
-            Ok(read) => {
-                assert!(rt; read.is_none());
-                None
-            }
-            Err(e) => Some(e),
-        };
-        let want = match size {
-            0..65 => None,
-            65..110 => Some((65, 44, size.saturating_sub(66))),
-            _ => Some((69, 242, size.saturating_sub(110))),
-        };
-        let want = want.map(|(at, kept, found)| FileErr::Damaged(Damage::Length {
-            at,
-            kept,
-            found,
-        }));
-        assert_eq!(rt; told, want, "at {size}");
-    }
-    Ok(())
-}
-
-// What is told of a new file with some bytes changed. Where two things are wrong, the first in the file is told.
-#[test]
-fn a_changed_file_is_told(rt: HostRuntime) -> Result<(), Fail> {
-    let alloc = rt.alloc();
-    let new = decode_lines(alloc, &NEW)?;
-    let length = |at, kept, found| FileErr::Damaged(Damage::Length { at, kept, found });
-    let rows: [(&[(usize, u8)], u64, FileErr); 13] = [
-        (&[(1, 0), (9, 7)], 0, FileErr::Damaged(Damage::Magic)),
-        (&[(9, 7), (18, 1)], 0, FileErr::NewerFormat { found: 7 }),
-        (&[(24, 1), (25, 32)], 0, length(18, 288, 287)),
-        (&[(68, 0)], 0, length(65, 0, 64)),
-        (&[(68, 65)], 0, length(65, 65, 64)),
-        (&[(68, 0), (69, 1)], 0, length(65, 0, 64)),
-        (&[(68, 2)], 0, length(69, 242, 242 + 178)),
-        (&[(76, 241)], 0, length(69, 241, 242)),
-        (&[(76, 243)], 0, length(69, 243, 242)),
-        (&[(286, 1), (109, 9)], 0, length(69, 242, 243)),
-        (&[(283, 1)], 0, length(69, 242, 242 + 16_777_216)),
-        (&[(109, 9)], 0, FileErr::Damaged(Damage::Entry { jsn: 0 })),
-        (&[], 1, FileErr::Damaged(Damage::Entry { jsn: 1 })),
-    ];
-    for (changes, first, want) in rows {
-        let mut disk = changed_disk(alloc, &new, changes)?;
-        let told = first_block(alloc, &mut disk, first).err();
-        assert_eq!(rt; told, Some(want), "{changes:?}");
-        assert_eq!(rt; disk.faults(), 0);
-    }
-    Ok(())
-}
-
 // A base is read, blocks are copied, a content is cleared and what stands behind the tail gate is cut off, each of the
 // last two by a sync alone the second time.
 #[test]
