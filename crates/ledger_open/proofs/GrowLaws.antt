@@ -161,7 +161,7 @@ module _ (image new : List ℕ) (h : History) (b : List Entry) (x : IsErased ima
 
   none_later : (t : Entry) → size h ≤ t.header.jsn → list_any (hides t) (journals_of h.closed) ≡ false
   none_later t le =
-      kept_hide (is_hidden h) (is_hidden h) (Some t) (journals_of h.closed) (journals_of x.keeps.blocks) (all_kept (is_hidden h) (is_hidden h) h.closed x.keeps.blocks x.keeps.same)
+      kept_hide (is_hidden h) (is_hidden h) (Some t) (journals_of h.closed) (journals_of x.keeps.blocks) (all_kept (is_hidden h) (is_hidden h) h.closed x.keeps.blocks all_same)
       ∙ none_above 0 t (journals_of x.keeps.blocks) (from_blocks 0 x.keeps.blocks x.keeps.file.lawful) (omega (arith, le, count))
 
   old : (n : ℕ) → is_hidden_by (journals_of h.closed) (target n) ≡ is_hidden h n
