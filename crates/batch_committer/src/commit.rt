@@ -24,22 +24,16 @@ pub(crate) fn commit<D: Disk>(
         (D.state a.old)
         (D.state b.old)) }
     ensures ok { OnOk result (IsCommitted D.tells (in_a_of twin.old)
-        (place_of (file_of twin.old)) block.now
-        (pair (D.state a.old)
-        (D.state b.old))
-        (pair (D.state a.new)
-        (D.state b.new))) }
+        (place_of (file_of twin.old)) block.now (pair (D.state a.old) (D.state b.old))
+        (pair (D.state a.new) (D.state b.new))) }
     ensures place { OnOk result (place_of (file_of twin.new)
         ≡ place_of (file_of twin.old) + 1 + length block.now) }
     ensures in_a { in_a_of twin.new ≡ in_a_of twin.old }
     ensures generation { generation_in twin.new ≡ generation_in twin.old }
     ensures copy { copy_of twin.new ≡ copy_of twin.old }
     ensures err { OnErr result (IsUncommitted D.tells (in_a_of twin.old)
-        (place_of (file_of twin.old)) block.now
-        (pair (D.state a.old)
-        (D.state b.old))
-        (pair (D.state a.new)
-        (D.state b.new))) }
+        (place_of (file_of twin.old)) block.now (pair (D.state a.old) (D.state b.old))
+        (pair (D.state a.new) (D.state b.new))) }
     ensures only { IfErr result (λ end. end ≡ ends.DiskFault) }
 {
     if twin.in_a() {

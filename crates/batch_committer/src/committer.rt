@@ -86,40 +86,24 @@ impl Committer {
         item: Prepared,
     ) -> Result<(), End>
         requires fits { self.old.ended ≡ false → Fits D.tells (world self.old.kept
-            (pair (D.state a.old)
-            (D.state b.old))
-            (K.state sink.old)) }
+            (pair (D.state a.old) (D.state b.old)) (K.state sink.old)) }
         requires room { self.old.ended ≡ false → HasRoom self.old.kept }
 
         // The line plays no part once its job is there.
         ensures ok { OnOk result ((line : List ℕ) → Goes D.tells
-            (world self.old.kept
-            (pair (D.state a.old)
-            (D.state b.old))
-            (K.state sink.old))
+            (world self.old.kept (pair (D.state a.old) (D.state b.old)) (K.state sink.old))
             (λ h. after_job h (step_at item.lane item.index line) item.job)
             (λ h. due_of h (step_at item.lane item.index line) item.job ∷ [])
-            (world self.new.kept
-            (pair (D.state a.new)
-            (D.state b.new))
-            (K.state sink.new))) }
+            (world self.new.kept (pair (D.state a.new) (D.state b.new)) (K.state sink.new))) }
         ensures fits { OnOk result (Fits D.tells (world self.new.kept
-            (pair (D.state a.new)
-            (D.state b.new))
-            (K.state sink.new))) }
+            (pair (D.state a.new) (D.state b.new)) (K.state sink.new))) }
         ensures room { OnOk result (HasRoom self.new.kept) }
         ensures err { IfErr result (λ end. self.old.ended ≡ false → (line : List ℕ) → Ended D.tells
-            (world self.old.kept
-            (pair (D.state a.old)
-            (D.state b.old))
-            (K.state sink.old))
+            (world self.old.kept (pair (D.state a.old) (D.state b.old)) (K.state sink.old))
             (λ h. after_job h (step_at item.lane item.index line) item.job)
             (λ h. due_of h (step_at item.lane item.index line) item.job ∷ [])
             end
-            (world self.new.kept
-            (pair (D.state a.new)
-            (D.state b.new))
-            (K.state sink.new))) }
+            (world self.new.kept (pair (D.state a.new) (D.state b.new)) (K.state sink.new))) }
         ensures closed { (result ≡ Err End.Closed) ↔ (self.old.ended ≡ true) }
         ensures ended { self.new.ended ≡ is_err result }
         ensures same { self.old.ended ≡ true → self.new ≡ self.old }
@@ -137,35 +121,19 @@ impl Committer {
     /// Ends the open block, and writes all that is due.
     pub fn flush<D: Disk, K: Sink>(&mut self, a: &mut D, b: &mut D, sink: &mut K) -> Result<(), End>
         requires { self.old.ended ≡ false → Fits D.tells (world self.old.kept
-            (pair (D.state a.old)
-            (D.state b.old))
-            (K.state sink.old)) }
+            (pair (D.state a.old) (D.state b.old)) (K.state sink.old)) }
         ensures ok { OnOk result (Goes D.tells
-            (world self.old.kept
-            (pair (D.state a.old)
-            (D.state b.old))
-            (K.state sink.old))
+            (world self.old.kept (pair (D.state a.old) (D.state b.old)) (K.state sink.old))
             close (λ h. [])
-            (world self.new.kept
-            (pair (D.state a.new)
-            (D.state b.new))
-            (K.state sink.new))) }
+            (world self.new.kept (pair (D.state a.new) (D.state b.new)) (K.state sink.new))) }
         ensures fits { OnOk result (Fits D.tells (world self.new.kept
-            (pair (D.state a.new)
-            (D.state b.new))
-            (K.state sink.new))) }
+            (pair (D.state a.new) (D.state b.new)) (K.state sink.new))) }
         ensures room { OnOk result (HasRoom self.new.kept) }
         ensures dues { OnOk result (self.new.kept.dues ≡ []) }
         ensures err { IfErr result (λ end. self.old.ended ≡ false → Ended D.tells
-            (world self.old.kept
-            (pair (D.state a.old)
-            (D.state b.old))
-            (K.state sink.old))
+            (world self.old.kept (pair (D.state a.old) (D.state b.old)) (K.state sink.old))
             close (λ h. []) end
-            (world self.new.kept
-            (pair (D.state a.new)
-            (D.state b.new))
-            (K.state sink.new))) }
+            (world self.new.kept (pair (D.state a.new) (D.state b.new)) (K.state sink.new))) }
         ensures closed { (result ≡ Err End.Closed) ↔ (self.old.ended ≡ true) }
         ensures ended { self.new.ended ≡ is_err result }
         ensures same { self.old.ended ≡ true → self.new ≡ self.old }

@@ -126,39 +126,23 @@ impl Taking {
         sink: &mut K,
         item: &Prepared,
     ) -> Result<(), End>
-        requires fits { Fits D.tells (world self.old
-            (pair (D.state a.old)
-            (D.state b.old))
+        requires fits { Fits D.tells (world self.old (pair (D.state a.old) (D.state b.old))
             (K.state sink.old)) }
         requires room { HasRoom self.old }
         ensures ok { OnOk result ((line : List ℕ) → Goes D.tells
-            (world self.old
-            (pair (D.state a.old)
-            (D.state b.old))
-            (K.state sink.old))
+            (world self.old (pair (D.state a.old) (D.state b.old)) (K.state sink.old))
             (λ h. after_job h (step_at item.now.lane item.now.index line) item.now.job)
             (λ h. due_of h (step_at item.now.lane item.now.index line) item.now.job ∷ [])
-            (world self.new
-            (pair (D.state a.new)
-            (D.state b.new))
-            (K.state sink.new))) }
+            (world self.new (pair (D.state a.new) (D.state b.new)) (K.state sink.new))) }
         ensures fits { OnOk result (Fits D.tells (world self.new
-            (pair (D.state a.new)
-            (D.state b.new))
-            (K.state sink.new))) }
+            (pair (D.state a.new) (D.state b.new)) (K.state sink.new))) }
         ensures room { OnOk result (HasRoom self.new) }
         ensures err { IfErr result (λ end. (line : List ℕ) → Ended D.tells
-            (world self.old
-            (pair (D.state a.old)
-            (D.state b.old))
-            (K.state sink.old))
+            (world self.old (pair (D.state a.old) (D.state b.old)) (K.state sink.old))
             (λ h. after_job h (step_at item.now.lane item.now.index line) item.now.job)
             (λ h. due_of h (step_at item.now.lane item.now.index line) item.now.job ∷ [])
             end
-            (world self.new
-            (pair (D.state a.new)
-            (D.state b.new))
-            (K.state sink.new))) }
+            (world self.new (pair (D.state a.new) (D.state b.new)) (K.state sink.new))) }
     {
         self.end_before(a, b, sink, &item.job)?;
         self.take_in(a, b, item)?;
@@ -173,36 +157,20 @@ impl Taking {
         b: &mut D,
         sink: &mut K,
     ) -> Result<(), End>
-        requires fits { Fits D.tells (world self.old
-            (pair (D.state a.old)
-            (D.state b.old))
+        requires fits { Fits D.tells (world self.old (pair (D.state a.old) (D.state b.old))
             (K.state sink.old)) }
         ensures ok { OnOk result (Goes D.tells
-            (world self.old
-            (pair (D.state a.old)
-            (D.state b.old))
-            (K.state sink.old))
+            (world self.old (pair (D.state a.old) (D.state b.old)) (K.state sink.old))
             close (λ h. [])
-            (world self.new
-            (pair (D.state a.new)
-            (D.state b.new))
-            (K.state sink.new))) }
+            (world self.new (pair (D.state a.new) (D.state b.new)) (K.state sink.new))) }
         ensures fits { OnOk result (Fits D.tells (world self.new
-            (pair (D.state a.new)
-            (D.state b.new))
-            (K.state sink.new))) }
+            (pair (D.state a.new) (D.state b.new)) (K.state sink.new))) }
         ensures empty { OnOk result ((self.new.book.size ≡ self.new.book.sealed)
             × (self.new.dues ≡ [])) }
         ensures err { IfErr result (λ end. Ended D.tells
-            (world self.old
-            (pair (D.state a.old)
-            (D.state b.old))
-            (K.state sink.old))
+            (world self.old (pair (D.state a.old) (D.state b.old)) (K.state sink.old))
             close (λ h. []) end
-            (world self.new
-            (pair (D.state a.new)
-            (D.state b.new))
-            (K.state sink.new))) }
+            (world self.new (pair (D.state a.new) (D.state b.new)) (K.state sink.new))) }
     {
         let count = self.opened.book.waiting_count() as u32;
         if count == 0 {
@@ -246,38 +214,22 @@ impl Taking {
         sink: &mut K,
         job: &Job,
     ) -> Result<(), End>
-        requires fits { Fits D.tells (world self.old
-            (pair (D.state a.old)
-            (D.state b.old))
+        requires fits { Fits D.tells (world self.old (pair (D.state a.old) (D.state b.old))
             (K.state sink.old)) }
         requires room { HasRoom self.old }
         ensures ok { OnOk result (Goes D.tells
-            (world self.old
-            (pair (D.state a.old)
-            (D.state b.old))
-            (K.state sink.old))
+            (world self.old (pair (D.state a.old) (D.state b.old)) (K.state sink.old))
             (λ h. judged_at h job.now) (λ h. [])
-            (world self.new
-            (pair (D.state a.new)
-            (D.state b.new))
-            (K.state sink.new))) }
+            (world self.new (pair (D.state a.new) (D.state b.new)) (K.state sink.new))) }
         ensures fits { OnOk result (Fits D.tells (world self.new
-            (pair (D.state a.new)
-            (D.state b.new))
-            (K.state sink.new))) }
+            (pair (D.state a.new) (D.state b.new)) (K.state sink.new))) }
         ensures room { OnOk result (HasRoom self.new) }
         ensures settled { OnOk result (closes_before job.now ≡ true
             → (h : History) → Serves self.new.book h → h.waiting ≡ []) }
         ensures err { IfErr result (λ end. Ended D.tells
-            (world self.old
-            (pair (D.state a.old)
-            (D.state b.old))
-            (K.state sink.old))
+            (world self.old (pair (D.state a.old) (D.state b.old)) (K.state sink.old))
             (λ h. judged_at h job.now) (λ h. []) end
-            (world self.new
-            (pair (D.state a.new)
-            (D.state b.new))
-            (K.state sink.new))) }
+            (world self.new (pair (D.state a.new) (D.state b.new)) (K.state sink.new))) }
     {
         if job.closes_before() {
             self.settle(a, b, sink)
@@ -288,35 +240,19 @@ impl Taking {
 
     // Ends the open block where it is full, and writes all that is due where no journal waits.
     fn end_full<D: Disk, K: Sink>(&mut self, a: &mut D, b: &mut D, sink: &mut K) -> Result<(), End>
-        requires { Fits D.tells (world self.old
-            (pair (D.state a.old)
-            (D.state b.old))
+        requires { Fits D.tells (world self.old (pair (D.state a.old) (D.state b.old))
             (K.state sink.old)) }
         ensures ok { OnOk result ((job : AnyJob) → Goes D.tells
-            (world self.old
-            (pair (D.state a.old)
-            (D.state b.old))
-            (K.state sink.old))
+            (world self.old (pair (D.state a.old) (D.state b.old)) (K.state sink.old))
             (settled_history job) (λ h. [])
-            (world self.new
-            (pair (D.state a.new)
-            (D.state b.new))
-            (K.state sink.new))) }
+            (world self.new (pair (D.state a.new) (D.state b.new)) (K.state sink.new))) }
         ensures fits { OnOk result (Fits D.tells (world self.new
-            (pair (D.state a.new)
-            (D.state b.new))
-            (K.state sink.new))) }
+            (pair (D.state a.new) (D.state b.new)) (K.state sink.new))) }
         ensures room { OnOk result (HasRoom self.new) }
         ensures err { IfErr result (λ end. (job : AnyJob) → Ended D.tells
-            (world self.old
-            (pair (D.state a.old)
-            (D.state b.old))
-            (K.state sink.old))
+            (world self.old (pair (D.state a.old) (D.state b.old)) (K.state sink.old))
             (settled_history job) (λ h. []) end
-            (world self.new
-            (pair (D.state a.new)
-            (D.state b.new))
-            (K.state sink.new))) }
+            (world self.new (pair (D.state a.new) (D.state b.new)) (K.state sink.new))) }
     {
         let waiting = self.opened.book.waiting_count();
         if waiting == 0 || waiting >= BLOCK_LIMIT {
@@ -331,33 +267,22 @@ impl Taking {
         requires settled { closes_before item.now.job ≡ true
             → (h : History) → Serves self.old.book h → h.waiting ≡ [] }
         ensures ok { OnOk result ((line : List ℕ) (sink : SinkState) → Goes D.tells
-            (world self.old
-            (pair (D.state a.old)
-            (D.state b.old))
+            (world self.old (pair (D.state a.old) (D.state b.old))
             sink)
             (λ g. with_job real_limits None g item.now.job)
             (λ g. due_by g (step_at item.now.lane item.now.index line) item.now.job ∷ [])
-            (world self.new
-            (pair (D.state a.new)
-            (D.state b.new))
+            (world self.new (pair (D.state a.new) (D.state b.new))
             sink)) }
         ensures err { IfErr result (λ end. (line : List ℕ) (sink : SinkState) → Ended D.tells
-            (world self.old
-            (pair (D.state a.old)
-            (D.state b.old))
+            (world self.old (pair (D.state a.old) (D.state b.old))
             sink)
             (λ g. with_job real_limits None g item.now.job)
             (λ g. due_by g (step_at item.now.lane item.now.index line) item.now.job ∷ [])
             end
-            (world self.new
-            (pair (D.state a.new)
-            (D.state b.new))
+            (world self.new (pair (D.state a.new) (D.state b.new))
             sink)) }
         ensures read { WereRead D.tells
-            (pair (D.state a.old)
-            (D.state b.old))
-            (pair (D.state a.new)
-            (D.state b.new)) }
+            (pair (D.state a.old) (D.state b.old)) (pair (D.state a.new) (D.state b.new)) }
         ensures grown { OnOk result (HasGrown self.old self.new) }
         ensures file { KeepsFile self.old self.new }
     {
@@ -378,9 +303,7 @@ impl Taking {
         requires fits { fits_job job.now ≡ true }
         ensures judged { IfOk result (λ answer. (h : History) (x : Said) (sink : SinkState)
             → Holds D.tells
-            (world self.old
-            (pair (D.state a.old)
-            (D.state b.old))
+            (world self.old (pair (D.state a.old) (D.state b.old))
             sink)
             h
             → (closes_before job.now ≡ true → h.waiting ≡ [])
@@ -388,20 +311,11 @@ impl Taking {
         ensures grown { OnOk result (HasGrown self.old self.new) }
         ensures rest { KeepsRest self.old self.new }
         ensures read { WereRead D.tells
-            (pair (D.state a.old)
-            (D.state b.old))
-            (pair (D.state a.new)
-            (D.state b.new)) }
+            (pair (D.state a.old) (D.state b.old)) (pair (D.state a.new) (D.state b.new)) }
         ensures no_fault { OnOk result (NoneFailed
-            (pair (D.state a.old)
-            (D.state b.old))
-            (pair (D.state a.new)
-            (D.state b.new))) }
+            (pair (D.state a.old) (D.state b.old)) (pair (D.state a.new) (D.state b.new))) }
         ensures err { IfErr result (λ end. ReadingEnds end
-            (pair (D.state a.old)
-            (D.state b.old))
-            (pair (D.state a.new)
-            (D.state b.new))) }
+            (pair (D.state a.old) (D.state b.old)) (pair (D.state a.new) (D.state b.new))) }
     {
         match self.opened.book.apply(job, None)? {
             Outcome::Refused(refusal) => Ok(Answer::Reply(Reply::Refused(refusal))),
@@ -421,27 +335,16 @@ impl Taking {
     fn tell<D: Disk>(&self, a: &mut D, b: &mut D, query: &Query) -> Result<Reply, End>
         ensures told { IfOk result (λ reply. (h : History) (x : Said) (sink : SinkState)
             → Holds D.tells
-            (world self.now
-            (pair (D.state a.old)
-            (D.state b.old))
+            (world self.now (pair (D.state a.old) (D.state b.old))
             sink)
             h
             → h.waiting ≡ [] → reply ≡ told_reply h (step_of x) query.now) }
         ensures read { WereRead D.tells
-            (pair (D.state a.old)
-            (D.state b.old))
-            (pair (D.state a.new)
-            (D.state b.new)) }
+            (pair (D.state a.old) (D.state b.old)) (pair (D.state a.new) (D.state b.new)) }
         ensures no_fault { OnOk result (NoneFailed
-            (pair (D.state a.old)
-            (D.state b.old))
-            (pair (D.state a.new)
-            (D.state b.new))) }
+            (pair (D.state a.old) (D.state b.old)) (pair (D.state a.new) (D.state b.new))) }
         ensures err { IfErr result (λ end. ReadingEnds end
-            (pair (D.state a.old)
-            (D.state b.old))
-            (pair (D.state a.new)
-            (D.state b.new))) }
+            (pair (D.state a.old) (D.state b.old)) (pair (D.state a.new) (D.state b.new))) }
     {
         if self.opened.twin.in_a() {
             reply_to(self.alloc, &self.opened.book, &self.opened.places, a, query)

@@ -211,9 +211,7 @@ impl<D: Disk + Drop, K: Sink + Drop> Model for Bench<D, K> {
     ghost view = { λ _. tt };
 
     ghost invariant = { λ t. t.committer.ended ≡ false
-        → Fits D.tells (world t.committer.kept
-        (pair (D.state t.a)
-        (D.state t.b))
+        → Fits D.tells (world t.committer.kept (pair (D.state t.a) (D.state t.b))
         (K.state t.sink)) × HasRoom t.committer.kept };
 }
 

@@ -36,8 +36,10 @@ pub(crate) fn run_alone<V: Verifier, G: Gate, T: Taker>(
 ) -> Result<(), NoMemory>
     requires numbers { start + vec_len lines < 2 ^ 64 }
     requires ready { T.ready taker.old }
-    ensures ok { OnOk result (RanAlone (OffersLine (V.shows verifier.now) id.now.0 T.offers) start lines.items taker.old taker.new) }
-    ensures err { OnErr result (LackedAlone (OffersLine (V.shows verifier.now) id.now.0 T.offers) start lines.items taker.old taker.new) }
+    ensures ok { OnOk result (RanAlone
+        (OffersLine (V.shows verifier.now) id.now.0 T.offers) start lines.items taker.old taker.new) }
+    ensures err { OnErr result (LackedAlone
+        (OffersLine (V.shows verifier.now) id.now.0 T.offers) start lines.items taker.old taker.new) }
 {
     let mut index = start;
     for said in lines {

@@ -22,7 +22,8 @@ fn empty_lanes(alloc: Global) -> Result<Vec<Vec<LaneLine>>, AllocError>
 /// The lines of each lane, in their order.
 pub(crate) fn divide(alloc: Global, window: Vec<LaneLine>) -> Result<Vec<Vec<LaneLine>>, AllocError>
     ensures len { IfOk result (λ v. vec_len v ≡ 8) }
-    ensures each { IfOk result (λ v. (k : ℕ) (d : _) → k < 8 → (get_or v.items k d).items ≡ lines_of k window.items) }
+    ensures each { IfOk result (λ v. (k : ℕ) (d : _) → k < 8 → (get_or v.items k d).items
+        ≡ lines_of k window.items) }
 {
     let mut lanes = empty_lanes(alloc)?;
     for said in window {
@@ -36,7 +37,8 @@ pub(crate) fn divide(alloc: Global, window: Vec<LaneLine>) -> Result<Vec<Vec<Lan
 pub(crate) fn counts(alloc: Global, lanes: &[Vec<LaneLine>]) -> Result<Vec<u32>, AllocError>
     requires { (k : ℕ) (d : _) → k < length lanes.now → vec_len (get_or lanes.now k d) ≤ 4096 }
     ensures len { IfOk result (λ v. vec_len v ≡ length lanes.now) }
-    ensures each { IfOk result (λ v. (k : ℕ) (d : _) → k < length lanes.now → slice_index v.items k ≡ vec_len (get_or lanes.now k d)) }
+    ensures each { IfOk result (λ v. (k : ℕ) (d : _) → k < length lanes.now → slice_index v.items k
+        ≡ vec_len (get_or lanes.now k d)) }
 {
     let mut all = Vec::new(alloc);
     for lane in lanes {

@@ -71,9 +71,12 @@ fn beside<R: Threads + Wait + Sync, V: Verifier, G: Gate, T: Taker>(
 ) -> (TakerPass<Made>, State, Vec<LanePass<Made>>)
     requires ready { T.ready taker.old }
     requires jobs { All (IsReady intake.now) jobs.items × (vec_len jobs ≡ 8) }
-    requires room { (hands.items ≡ []) × (8 ≤ vec_capacity hands) × (done.items ≡ []) × (8 ≤ vec_capacity done) }
-    requires pass { IsTakerOf intake.now pass × (taker_view pass ≡ of_taker (taker_view pass).plan [] (taker_view pass).lent (taker_view pass).back) }
-    ensures pass { IsTakerOf intake.now result.0 × (taker_view result.0 ≡ of_taker (taker_view pass).plan (taker_view result.0).got (taker_view pass).lent (taker_view pass).back) }
+    requires room { (hands.items ≡ []) × (8 ≤ vec_capacity hands) × (done.items ≡ [])
+        × (8 ≤ vec_capacity done) }
+    requires pass { IsTakerOf intake.now pass × (taker_view pass
+        ≡ of_taker (taker_view pass).plan [] (taker_view pass).lent (taker_view pass).back) }
+    ensures pass { IsTakerOf intake.now result.0 × (taker_view result.0
+        ≡ of_taker (taker_view pass).plan (taker_view result.0).got (taker_view pass).lent (taker_view pass).back) }
     ensures count { length (taker_view result.0).got ≡ count }
     ensures comes { Comes T.offers result.1 taker.old (taker_view result.0).got taker.new }
     ensures lanes { Pairs (WorksOf (V.shows verifier.now) id.now.0) jobs.items result.2.items }
@@ -103,9 +106,12 @@ fn drive<R: Threads + Wait + Sync, V: Verifier, G: Gate, T: Taker>(
 ) -> State
     requires ready { T.ready taker.old }
     requires jobs { All (IsReady intake) jobs.items × AreNewJobs (taker_view pass).plan jobs.items }
-    requires room { (hands.items ≡ []) × (8 ≤ vec_capacity hands) × (done.items ≡ []) × (8 ≤ vec_capacity done) }
-    requires pass { IsTakerOf intake pass × (taker_view pass ≡ of_taker (taker_view pass).plan [] (taker_view pass).lent []) }
-    ensures { (first : List ℕ) (window : List LaneLine) → AreWindow first window jobs.items → count ≡ length window
+    requires room { (hands.items ≡ []) × (8 ≤ vec_capacity hands) × (done.items ≡ [])
+        × (8 ≤ vec_capacity done) }
+    requires pass { IsTakerOf intake pass × (taker_view pass
+        ≡ of_taker (taker_view pass).plan [] (taker_view pass).lent []) }
+    ensures { (first : List ℕ) (window : List LaneLine) → AreWindow first window jobs.items → count
+        ≡ length window
         → Came (OffersLine (V.shows verifier.now) id.now.0 T.offers) result first window taker.old taker.new }
 {
     let (pass, state, lanes) = beside(
@@ -127,10 +133,13 @@ struct SetUp {
 fn set_up(alloc: Global, window: Vec<LaneLine>, first: &[u64; 8]) -> Result<SetUp, NoMemory>
     requires window { (0 < vec_len window) × (vec_len window ≤ 4096) }
     requires low { All (λ l. l.lane < 8) window.items }
-    requires numbers { (k : ℕ) → k < 8 → slice_index first.now k + length (lines_of k window.items) < 2 ^ 64 }
-    ensures jobs { IfOk result (λ s. All (IsReady s.intake) s.jobs.items × AreNewJobs (taker_view s.pass).plan s.jobs.items) }
+    requires numbers { (k : ℕ) → k < 8
+        → slice_index first.now k + length (lines_of k window.items) < 2 ^ 64 }
+    ensures jobs { IfOk result (λ s. All (IsReady s.intake) s.jobs.items
+        × AreNewJobs (taker_view s.pass).plan s.jobs.items) }
     ensures window { IfOk result (λ s. AreWindow first.now window.items s.jobs.items) }
-    ensures pass { IfOk result (λ s. IsTakerOf s.intake s.pass × (taker_view s.pass ≡ of_taker (taker_view s.pass).plan [] (taker_view s.pass).lent [])) }
+    ensures pass { IfOk result (λ s. IsTakerOf s.intake s.pass × (taker_view s.pass
+        ≡ of_taker (taker_view s.pass).plan [] (taker_view s.pass).lent [])) }
 {
     let lanes = divide(alloc, window)?;
     let quotas = counts(alloc, lanes.as_slice())?;
@@ -155,10 +164,13 @@ pub fn run_lanes<R: Threads + Wait + Sync, V: Verifier, G: Gate, T: Taker>(
     taker: &mut T,
 ) -> Result<(), NoMemory>
     requires window { (0 < vec_len window) × (vec_len window ≤ 4096) }
-    requires numbers { (k : ℕ) → k < 8 → slice_index first.now k + length (lines_of k window.items) < 2 ^ 64 }
+    requires numbers { (k : ℕ) → k < 8
+        → slice_index first.now k + length (lines_of k window.items) < 2 ^ 64 }
     requires ready { T.ready taker.old }
-    ensures ok { OnOk result (RunsAll (OffersLine (V.shows verifier.now) id.now.0 T.offers) first.now window.items taker.old taker.new) }
-    ensures err { OnErr result (RunsSome (OffersLine (V.shows verifier.now) id.now.0 T.offers) first.now window.items taker.old taker.new) }
+    ensures ok { OnOk result (RunsAll
+        (OffersLine (V.shows verifier.now) id.now.0 T.offers) first.now window.items taker.old taker.new) }
+    ensures err { OnErr result (RunsSome
+        (OffersLine (V.shows verifier.now) id.now.0 T.offers) first.now window.items taker.old taker.new) }
 {
     if let Some(lane) = only_lane(window.as_slice()) {
         return run_alone(

@@ -41,8 +41,10 @@ pub(crate) trait Offering: Sized {
         count: usize,
     ) -> (Self::Back, TakerPass<Made>, State)
         requires can { can self }
-        requires pass { IsTakerOf intake.now pass × (taker_view pass ≡ of_taker (taker_view pass).plan [] (taker_view pass).lent (taker_view pass).back) }
-        ensures pass { IsTakerOf intake.now result.1 × (taker_view result.1 ≡ of_taker (taker_view pass).plan (taker_view result.1).got (taker_view pass).lent (taker_view pass).back) }
+        requires pass { IsTakerOf intake.now pass × (taker_view pass
+            ≡ of_taker (taker_view pass).plan [] (taker_view pass).lent (taker_view pass).back) }
+        ensures pass { IsTakerOf intake.now result.1 × (taker_view result.1
+            ≡ of_taker (taker_view pass).plan (taker_view result.1).got (taker_view pass).lent (taker_view pass).back) }
         ensures count { length (taker_view result.1).got ≡ count }
         ensures gives { gives self result.2 (taker_view result.1).got result.0 };
 }
@@ -98,10 +100,13 @@ pub(crate) fn side_by_side<
     count: usize,
 ) -> (B, TakerPass<Made>, State, Vec<LanePass<Made>>)
     requires ready { All (IsReady intake.now) jobs.items }
-    requires room { (hands.items ≡ []) × (vec_len jobs ≤ vec_capacity hands) × (done.items ≡ []) × (vec_len jobs ≤ vec_capacity done) }
+    requires room { (hands.items ≡ []) × (vec_len jobs ≤ vec_capacity hands) × (done.items ≡ [])
+        × (vec_len jobs ≤ vec_capacity done) }
     requires can { H.can offering }
-    requires pass { IsTakerOf intake.now pass × (taker_view pass ≡ of_taker (taker_view pass).plan [] (taker_view pass).lent (taker_view pass).back) }
-    ensures pass { IsTakerOf intake.now result.1 × (taker_view result.1 ≡ of_taker (taker_view pass).plan (taker_view result.1).got (taker_view pass).lent (taker_view pass).back) }
+    requires pass { IsTakerOf intake.now pass × (taker_view pass
+        ≡ of_taker (taker_view pass).plan [] (taker_view pass).lent (taker_view pass).back) }
+    ensures pass { IsTakerOf intake.now result.1 × (taker_view result.1
+        ≡ of_taker (taker_view pass).plan (taker_view result.1).got (taker_view pass).lent (taker_view pass).back) }
     ensures count { length (taker_view result.1).got ≡ count }
     ensures gives { H.gives offering result.2 (taker_view result.1).got result.0 }
     ensures lanes { Pairs (WorksOf (V.shows verifier.now) id.now.0) jobs.items result.3.items }
@@ -111,10 +116,13 @@ pub(crate) fn side_by_side<
         rt,
         move |scope| -> (B, TakerPass<Made>, State, Vec<LanePass<Made>>)
             requires ready { All (IsReady intake.now) jobs.items }
-            requires room { (hands.items ≡ []) × (vec_len jobs ≤ vec_capacity hands) × (done.items ≡ []) × (vec_len jobs ≤ vec_capacity done) }
+            requires room { (hands.items ≡ []) × (vec_len jobs ≤ vec_capacity hands) × (done.items
+                ≡ []) × (vec_len jobs ≤ vec_capacity done) }
             requires can { H.can offering }
-            requires pass { IsTakerOf intake.now pass × (taker_view pass ≡ of_taker (taker_view pass).plan [] (taker_view pass).lent (taker_view pass).back) }
-            ensures pass { IsTakerOf intake.entry.now result.1 × (taker_view result.1 ≡ of_taker (taker_view pass).plan (taker_view result.1).got (taker_view pass).lent (taker_view pass).back) }
+            requires pass { IsTakerOf intake.now pass × (taker_view pass
+                ≡ of_taker (taker_view pass).plan [] (taker_view pass).lent (taker_view pass).back) }
+            ensures pass { IsTakerOf intake.entry.now result.1 × (taker_view result.1
+                ≡ of_taker (taker_view pass).plan (taker_view result.1).got (taker_view pass).lent (taker_view pass).back) }
             ensures count { length (taker_view result.1).got ≡ count }
             ensures gives { H.gives offering result.2 (taker_view result.1).got result.0 }
             ensures lanes { Pairs (WorksOf (V.shows verifier.entry.now) id.entry.now.0) jobs.items result.3.items }

@@ -56,7 +56,8 @@ fn start<'s, 'e: 's, R: Threads + Wait + Sync, V: Verifier, G: Gate>(
 impl<V: Verifier> Hand<V> {
     // The pass, once its worker has ended.
     fn finish<R: Threads>(self, rt: &R) -> LanePass<Made>
-        ensures { (scheme : Scheme) (id : List ℕ) (j : LaneJob) → Promised V.shows scheme id j self → WorksOf scheme id j result }
+        ensures { (scheme : Scheme) (id : List ℕ) (j : LaneJob) → Promised V.shows scheme id j self
+            → WorksOf scheme id j result }
     {
         match self {
             Hand::Here(pass) => pass,
@@ -96,7 +97,9 @@ pub(crate) fn finish_all<R: Threads, V: Verifier>(
     mut done: Vec<LanePass<Made>>,
 ) -> Vec<LanePass<Made>>
     requires room { (done.items ≡ []) × (vec_len hands ≤ vec_capacity done) }
-    ensures { (scheme : Scheme) (id : List ℕ) (jobs : List LaneJob) → Pairs (Promised V.shows scheme id) jobs hands.items → Pairs (WorksOf scheme id) jobs result.items }
+    ensures { (scheme : Scheme) (id : List ℕ) (jobs : List LaneJob)
+        → Pairs (Promised V.shows scheme id) jobs hands.items
+        → Pairs (WorksOf scheme id) jobs result.items }
 {
     for hand in hands {
         let pass = hand.finish(rt);

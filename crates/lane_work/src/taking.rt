@@ -52,9 +52,11 @@ pub(crate) fn take_all<R: Wait, T: Taker>(
     count: usize,
     taker: &mut T,
 ) -> (TakerPass<Made>, State)
-    requires pass { IsTakerOf intake.now pass × (taker_view pass ≡ of_taker (taker_view pass).plan [] (taker_view pass).lent (taker_view pass).back) }
+    requires pass { IsTakerOf intake.now pass × (taker_view pass
+        ≡ of_taker (taker_view pass).plan [] (taker_view pass).lent (taker_view pass).back) }
     requires ready { T.ready taker.old }
-    ensures pass { IsTakerOf intake.now result.0 × (taker_view result.0 ≡ of_taker (taker_view pass).plan (taker_view result.0).got (taker_view pass).lent (taker_view pass).back) }
+    ensures pass { IsTakerOf intake.now result.0 × (taker_view result.0
+        ≡ of_taker (taker_view pass).plan (taker_view result.0).got (taker_view pass).lent (taker_view pass).back) }
     ensures count { length (taker_view result.0).got ≡ count }
     ensures comes { Comes T.offers result.1 taker.old (taker_view result.0).got taker.new }
 {

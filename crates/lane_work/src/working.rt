@@ -41,11 +41,14 @@ pub(crate) fn work<R: Wait, V: Verifier, G: Gate>(
     verifier: &V,
     gate: &G,
 ) -> LanePass<Made>
-    requires pass { IsLaneOf intake.now pass × (lane_view pass ≡ sender (lane_view pass).plan (lane_view pass).lane []) }
-    requires quota { (quota_in (lane_view pass).plan (lane_view pass).lane ≡ vec_len lines) × (first_in (lane_view pass).plan (lane_view pass).lane ≡ start) }
+    requires pass { IsLaneOf intake.now pass × (lane_view pass
+        ≡ sender (lane_view pass).plan (lane_view pass).lane []) }
+    requires quota { (quota_in (lane_view pass).plan (lane_view pass).lane ≡ vec_len lines)
+        × (first_in (lane_view pass).plan (lane_view pass).lane ≡ start) }
     requires numbers { start + vec_len lines < 2 ^ 64 }
     requires lines { All (λ l. l.lane ≡ (lane_view pass).lane) lines.items }
-    ensures pass { IsLaneOf intake.now result × (lane_view result ≡ sender (lane_view pass).plan (lane_view pass).lane (sent_by result)) }
+    ensures pass { IsLaneOf intake.now result × (lane_view result
+        ≡ sender (lane_view pass).plan (lane_view pass).lane (sent_by result)) }
     ensures sent { AllMade (V.shows verifier.now) id.now.0 start lines.items (sent_by result) }
 {
     let mut index = start;

@@ -48,23 +48,15 @@ impl<'c, 'a, 'b, 's, D: Disk, K: Sink> Taker for Desk<'c, 'a, 'b, 's, D, K> {
     ghost use Rattle.ledger_cli.specs.Pieces.{at, told, IsOpen, Answered};
 
     ghost ready = { λ s. IsOpen D.tells (at s.committer.now
-        (pair (D.state s.a.now)
-        (D.state s.b.now))
-        (K.state s.sink.now)) };
+        (pair (D.state s.a.now) (D.state s.b.now)) (K.state s.sink.now)) };
 
     // A step from what all told to what they tell; the references stay those that were handed in.
     ghost offers = { λ s item flow t. Answered D.tells
         (told (s.committer.ghost_name ∷ s.a.ghost_name ∷ s.b.ghost_name ∷ s.sink.ghost_name ∷ []) s.end
-        (at s.committer.now
-        (pair (D.state s.a.now)
-        (D.state s.b.now))
-        (K.state s.sink.now)))
+        (at s.committer.now (pair (D.state s.a.now) (D.state s.b.now)) (K.state s.sink.now)))
         item flow
         (told (t.committer.ghost_name ∷ t.a.ghost_name ∷ t.b.ghost_name ∷ t.sink.ghost_name ∷ []) t.end
-        (at t.committer.now
-        (pair (D.state t.a.now)
-        (D.state t.b.now))
-        (K.state t.sink.now))) };
+        (at t.committer.now (pair (D.state t.a.now) (D.state t.b.now)) (K.state t.sink.now))) };
 
     fn offer(&mut self, item: Prepared) -> Flow {
         match self.committer.offer(self.a, self.b, self.sink, item) {
@@ -90,9 +82,7 @@ impl<'c, 'a, 'b, 's, D: Disk, K: Sink> Desk<'c, 'a, 'b, 's, D, K> {
     )
         requires fresh { self.old.end ≡ None }
         requires open { IsOpen D.tells (at self.old.committer.now
-            (pair (D.state self.old.a.now)
-            (D.state self.old.b.now))
-            (K.state self.old.sink.now)) }
+            (pair (D.state self.old.a.now) (D.state self.old.b.now)) (K.state self.old.sink.now)) }
         requires some { (0 < vec_len lines) × (vec_len lines ≤ 4096) }
         requires numbers { (k : ℕ) → k < 8
             → slice_index first.now k + length (lines_of k lines.items) < 2 ^ 64 }
@@ -101,13 +91,9 @@ impl<'c, 'a, 'b, 's, D: Disk, K: Sink> Desk<'c, 'a, 'b, 's, D, K> {
         ensures same_b { self.new.b.ghost_name ≡ self.old.b.ghost_name }
         ensures same_sink { self.new.sink.ghost_name ≡ self.old.sink.ghost_name }
         ensures takes { TakesPiece (V.shows verifier.now) D.tells first.now lines.items self.new.end
-            (at self.old.committer.now
-            (pair (D.state self.old.a.now)
-            (D.state self.old.b.now))
+            (at self.old.committer.now (pair (D.state self.old.a.now) (D.state self.old.b.now))
             (K.state self.old.sink.now))
-            (at self.new.committer.now
-            (pair (D.state self.new.a.now)
-            (D.state self.new.b.now))
+            (at self.new.committer.now (pair (D.state self.new.a.now) (D.state self.new.b.now))
             (K.state self.new.sink.now)) }
     {
         let id = self.committer.id();
@@ -132,22 +118,14 @@ pub(crate) fn run_piece<R: Threads + Wait + Sync, D: Disk, K: Sink, V: Verifier,
     verifier: &V,
     gate: &G,
 ) -> Option<End>
-    requires open { IsOpen D.tells (at committer.old
-        (pair (D.state a.old)
-        (D.state b.old))
+    requires open { IsOpen D.tells (at committer.old (pair (D.state a.old) (D.state b.old))
         (K.state sink.old)) }
     requires some { (0 < vec_len lines) × (vec_len lines ≤ 4096) }
     requires numbers { (k : ℕ) → k < 8
         → slice_index first.now k + length (lines_of k lines.items) < 2 ^ 64 }
     ensures { TakesPiece (V.shows verifier.now) D.tells first.now lines.items result
-        (at committer.old
-        (pair (D.state a.old)
-        (D.state b.old))
-        (K.state sink.old))
-        (at committer.new
-        (pair (D.state a.new)
-        (D.state b.new))
-        (K.state sink.new)) }
+        (at committer.old (pair (D.state a.old) (D.state b.old)) (K.state sink.old))
+        (at committer.new (pair (D.state a.new) (D.state b.new)) (K.state sink.new)) }
 {
     let mut desk = Desk {
         committer,

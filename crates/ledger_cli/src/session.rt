@@ -32,37 +32,21 @@ fn take_piece<R: Threads + Wait + Sync, K: Sink, D: Disk, V: Verifier, G: Gate>(
     sink: &mut K,
     piece: &mut Piece,
 ) -> Result<(), End>
-    requires open { IsOpen D.tells (at committer.old
-        (pair (D.state a.old)
-        (D.state b.old))
+    requires open { IsOpen D.tells (at committer.old (pair (D.state a.old) (D.state b.old))
         (K.state sink.old)) }
     requires few { vec_len piece.old.lines ≤ 4096 }
     requires numbers { (k : ℕ) → k < 8
         → slice_index piece.old.first k + length (lines_of k piece.old.lines.items) < 2 ^ 64 }
     ensures ok { OnOk result (PieceTaken (V.shows verifier.now) D.tells piece.old.first
         piece.old.lines.items
-        (at committer.old
-        (pair (D.state a.old)
-        (D.state b.old))
-        (K.state sink.old))
-        (at committer.new
-        (pair (D.state a.new)
-        (D.state b.new))
-        (K.state sink.new))) }
+        (at committer.old (pair (D.state a.old) (D.state b.old)) (K.state sink.old))
+        (at committer.new (pair (D.state a.new) (D.state b.new)) (K.state sink.new))) }
     ensures open { OnOk result (IsOpen D.tells (at committer.new
-        (pair (D.state a.new)
-        (D.state b.new))
-        (K.state sink.new))) }
+        (pair (D.state a.new) (D.state b.new)) (K.state sink.new))) }
     ensures err { IfErr result (λ end. PieceBroken (V.shows verifier.now) D.tells piece.old.first
         piece.old.lines.items end
-        (at committer.old
-        (pair (D.state a.old)
-        (D.state b.old))
-        (K.state sink.old))
-        (at committer.new
-        (pair (D.state a.new)
-        (D.state b.new))
-        (K.state sink.new))) }
+        (at committer.old (pair (D.state a.old) (D.state b.old)) (K.state sink.old))
+        (at committer.new (pair (D.state a.new) (D.state b.new)) (K.state sink.new))) }
     ensures none { piece.new.lines.items ≡ [] }
     ensures first { piece.new.first ≡ piece.old.next }
     ensures next { piece.new.next ≡ piece.old.next }
@@ -91,38 +75,22 @@ fn end_window<R: Threads + Wait + Sync, K: Sink, D: Disk, V: Verifier, G: Gate>(
     sink: &mut K,
     piece: &mut Piece,
 ) -> Result<(), End>
-    requires open { IsOpen D.tells (at committer.old
-        (pair (D.state a.old)
-        (D.state b.old))
+    requires open { IsOpen D.tells (at committer.old (pair (D.state a.old) (D.state b.old))
         (K.state sink.old)) }
     requires few { vec_len piece.old.lines ≤ 4096 }
     requires numbers { (k : ℕ) → k < 8
         → slice_index piece.old.first k + length (lines_of k piece.old.lines.items) < 2 ^ 64 }
     ensures ok { OnOk result (WindowTaken (V.shows verifier.now) D.tells piece.old.first
         piece.old.lines.items
-        (at committer.old
-        (pair (D.state a.old)
-        (D.state b.old))
-        (K.state sink.old))
-        (at committer.new
-        (pair (D.state a.new)
-        (D.state b.new))
-        (K.state sink.new))) }
+        (at committer.old (pair (D.state a.old) (D.state b.old)) (K.state sink.old))
+        (at committer.new (pair (D.state a.new) (D.state b.new)) (K.state sink.new))) }
     ensures open { OnOk result (IsOpen D.tells (at committer.new
-        (pair (D.state a.new)
-        (D.state b.new))
-        (K.state sink.new))) }
+        (pair (D.state a.new) (D.state b.new)) (K.state sink.new))) }
     ensures dues { OnOk result (committer.new.kept.dues ≡ []) }
     ensures err { IfErr result (λ end. WindowBroken (V.shows verifier.now) D.tells piece.old.first
         piece.old.lines.items end
-        (at committer.old
-        (pair (D.state a.old)
-        (D.state b.old))
-        (K.state sink.old))
-        (at committer.new
-        (pair (D.state a.new)
-        (D.state b.new))
-        (K.state sink.new))) }
+        (at committer.old (pair (D.state a.old) (D.state b.old)) (K.state sink.old))
+        (at committer.new (pair (D.state a.new) (D.state b.new)) (K.state sink.new))) }
     ensures none { piece.new.lines.items ≡ [] }
     ensures first { piece.new.first ≡ piece.old.next }
     ensures next { piece.new.next ≡ piece.old.next }
@@ -152,22 +120,14 @@ pub fn run_session<R: Threads + Wait + Sync, S: Source, K: Sink, D: Disk, V: Ver
     sink: &mut K,
 ) -> LedgerEnding
     requires open { committer.old.ended ≡ false }
-    requires fits { Fits D.tells (world committer.old.kept
-        (pair (D.state a.old)
-        (D.state b.old))
+    requires fits { Fits D.tells (world committer.old.kept (pair (D.state a.old) (D.state b.old))
         (K.state sink.old)) }
     requires room { HasRoom committer.old.kept }
     requires none { committer.old.kept.dues ≡ [] }
     ensures ran { Runs (V.shows verifier.now) D.tells (world committer.old.kept
-        (pair (D.state a.old)
-        (D.state b.old))
-        (K.state sink.old)) result
-        (handed (S.state source.old) (K.state sink.old)
-        (pair (D.state a.old)
-        (D.state b.old)))
-        (handed (S.state source.new) (K.state sink.new)
-        (pair (D.state a.new)
-        (D.state b.new))) }
+        (pair (D.state a.old) (D.state b.old)) (K.state sink.old)) result
+        (handed (S.state source.old) (K.state sink.old) (pair (D.state a.old) (D.state b.old)))
+        (handed (S.state source.new) (K.state sink.new) (pair (D.state a.new) (D.state b.new))) }
     ensures started { IsOfLines result }
 {
     match answer_lines(rt, alloc, verifier, gate, committer, a, b, source, sink) {
@@ -190,33 +150,19 @@ fn answer_lines<R: Threads + Wait + Sync, S: Source, K: Sink, D: Disk, V: Verifi
     sink: &mut K,
 ) -> Result<(), LedgerEnding>
     requires open { committer.old.ended ≡ false }
-    requires fits { Fits D.tells (world committer.old.kept
-        (pair (D.state a.old)
-        (D.state b.old))
+    requires fits { Fits D.tells (world committer.old.kept (pair (D.state a.old) (D.state b.old))
         (K.state sink.old)) }
     requires room { HasRoom committer.old.kept }
     requires none { committer.old.kept.dues ≡ [] }
     ensures done { OnOk result (Runs (V.shows verifier.now) D.tells (world committer.old.kept
-        (pair (D.state a.old)
-        (D.state b.old))
-        (K.state sink.old))
+        (pair (D.state a.old) (D.state b.old)) (K.state sink.old))
         (ending.Run run.Done)
-        (handed (S.state source.old) (K.state sink.old)
-        (pair (D.state a.old)
-        (D.state b.old)))
-        (handed (S.state source.new) (K.state sink.new)
-        (pair (D.state a.new)
-        (D.state b.new)))) }
+        (handed (S.state source.old) (K.state sink.old) (pair (D.state a.old) (D.state b.old)))
+        (handed (S.state source.new) (K.state sink.new) (pair (D.state a.new) (D.state b.new)))) }
     ensures ended { IfErr result (λ e. Runs (V.shows verifier.now) D.tells (world committer.old.kept
-        (pair (D.state a.old)
-        (D.state b.old))
-        (K.state sink.old)) e
-        (handed (S.state source.old) (K.state sink.old)
-        (pair (D.state a.old)
-        (D.state b.old)))
-        (handed (S.state source.new) (K.state sink.new)
-        (pair (D.state a.new)
-        (D.state b.new)))) }
+        (pair (D.state a.old) (D.state b.old)) (K.state sink.old)) e
+        (handed (S.state source.old) (K.state sink.old) (pair (D.state a.old) (D.state b.old)))
+        (handed (S.state source.new) (K.state sink.new) (pair (D.state a.new) (D.state b.new)))) }
     ensures started { IfErr result (λ e. IsOfLines e) }
 {
     let mut lines = Lines::new(alloc);

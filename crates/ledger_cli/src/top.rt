@@ -57,28 +57,17 @@ pub fn ledger_top<R: Threads + Wait + Sync, S: Source, K: Sink, D: Disk, V: Veri
 ) -> u8
     ensures ran { RanProgram (V.shows verifier.now) D.tells
         (command_of (map string_bytes words.now)) result
-        (handed (S.state source.old) (K.state sink.old)
-        (pair (D.state a.old)
-        (D.state b.old)))
-        (handed (S.state source.new) (K.state sink.new)
-        (pair (D.state a.new)
-        (D.state b.new))) }
+        (handed (S.state source.old) (K.state sink.old) (pair (D.state a.old) (D.state b.old)))
+        (handed (S.state source.new) (K.state sink.new) (pair (D.state a.new) (D.state b.new))) }
     ensures usage { (result ≡ 1) ↔ (command_of (map string_bytes words.now) ≡ None) }
     ensures done { result ≡ 0 → NothingFailed
-        (handed (S.state source.old) (K.state sink.old)
-        (pair (D.state a.old)
-        (D.state b.old)))
-        (handed (S.state source.new) (K.state sink.new)
-        (pair (D.state a.new)
-        (D.state b.new))) }
+        (handed (S.state source.old) (K.state sink.old) (pair (D.state a.old) (D.state b.old)))
+        (handed (S.state source.new) (K.state sink.new) (pair (D.state a.new) (D.state b.new))) }
     ensures read_fault { result ≡ 2
         → (S.state source.new).faults ≡ count_after (S.state source.old).faults }
     ensures write_fault { result ≡ 3 → MeetsOne (K.state sink.old) (K.state sink.new) }
     ensures disk_fault { result ≡ 4 → DiskFailed
-        (pair (D.state a.old)
-        (D.state b.old))
-        (pair (D.state a.new)
-        (D.state b.new)) }
+        (pair (D.state a.old) (D.state b.old)) (pair (D.state a.new) (D.state b.new)) }
 {
     let met = run_words(rt, alloc, words, source, sink, a, b, verifier, gate);
     finish_run(alloc, sink, met)
@@ -116,12 +105,8 @@ fn run_words<R: Threads + Wait + Sync, S: Source, K: Sink, D: Disk, V: Verifier,
 ) -> LedgerEnding
     ensures { ServedBy (V.shows verifier.now) D.tells
         (command_of (map string_bytes words.now)) result
-        (handed (S.state source.old) (K.state sink.old)
-        (pair (D.state a.old)
-        (D.state b.old)))
-        (handed (S.state source.new) (K.state sink.new)
-        (pair (D.state a.new)
-        (D.state b.new))) }
+        (handed (S.state source.old) (K.state sink.old) (pair (D.state a.old) (D.state b.old)))
+        (handed (S.state source.new) (K.state sink.new) (pair (D.state a.new) (D.state b.new))) }
 {
     match Command::read(alloc, words) {
         Ok(Some(Command::Dry(genesis))) => {
@@ -147,12 +132,8 @@ fn run_again<R: Threads + Wait + Sync, S: Source, K: Sink, D: Disk, V: Verifier,
     gate: &G,
 ) -> LedgerEnding
     ensures { RunsAgain (V.shows verifier.now) D.tells result
-        (handed (S.state source.old) (K.state sink.old)
-        (pair (D.state a.old)
-        (D.state b.old)))
-        (handed (S.state source.new) (K.state sink.new)
-        (pair (D.state a.new)
-        (D.state b.new))) }
+        (handed (S.state source.old) (K.state sink.old) (pair (D.state a.old) (D.state b.old)))
+        (handed (S.state source.new) (K.state sink.new) (pair (D.state a.new) (D.state b.new))) }
 {
     match reopen(rt, alloc, a, b, Limits::real()) {
         Ok(opened) => {
@@ -186,12 +167,8 @@ fn run_new<R: Threads + Wait + Sync, S: Source, K: Sink, D: Disk, V: Verifier, G
     gate: &G,
 ) -> LedgerEnding
     ensures { RunsNew (V.shows verifier.now) genesis.now D.tells result
-        (handed (S.state source.old) (K.state sink.old)
-        (pair (D.state a.old)
-        (D.state b.old)))
-        (handed (S.state source.new) (K.state sink.new)
-        (pair (D.state a.new)
-        (D.state b.new))) }
+        (handed (S.state source.old) (K.state sink.old) (pair (D.state a.old) (D.state b.old)))
+        (handed (S.state source.new) (K.state sink.new) (pair (D.state a.new) (D.state b.new))) }
 {
     match init(alloc, a, b, genesis, Limits::real()) {
         Ok(opened) => {
@@ -221,12 +198,8 @@ fn make<K: Sink, D: Disk>(
     b: &mut D,
 ) -> LedgerEnding
     ensures { (source : SourceState) → Makes genesis.now D.tells result
-        (handed source (K.state sink.old)
-        (pair (D.state a.old)
-        (D.state b.old)))
-        (handed source (K.state sink.new)
-        (pair (D.state a.new)
-        (D.state b.new))) }
+        (handed source (K.state sink.old) (pair (D.state a.old) (D.state b.old)))
+        (handed source (K.state sink.new) (pair (D.state a.new) (D.state b.new))) }
 {
     let id = match init(alloc, a, b, genesis, Limits::real()) {
         Ok(opened) => opened.book.id(),

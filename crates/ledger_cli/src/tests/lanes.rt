@@ -8,9 +8,8 @@ use lane_work::{Gate, OpenGate};
 use ledger_bytes::Failed;
 use ledger_io::{Sink, Source};
 use sha2::{Digest as Hasher, Sha256};
-use std::sync::Wait;
 use std::sync::atomic::{AtomicBool, AtomicU64, Ordering};
-use std::sync::Arc;
+use std::sync::{Arc, Wait};
 use std::thread;
 
 /// The status of a run on a new ledger for trial.
