@@ -15,6 +15,3 @@ pub use laws::{
     replies_stand_in_place,
 };
 pub use top::{audit_run, audit_top};
-
-#[cfg(test)]
-mod tests;

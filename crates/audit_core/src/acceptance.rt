@@ -107,6 +107,3 @@ fn is_unnoted(proof: &Proof, notary: Option<Digest>) -> bool
 {
     notary.is_none() && (proof.lo.is_some() || proof.hi.is_some())
 }
-
-#[cfg(test)]
-mod tests;

@@ -137,6 +137,3 @@ fn header_at(headers: &[u8], n: u64) -> &[u8]
     let at = n as usize * HEADER_LEN;
     &headers[at..at + HEADER_LEN]
 }
-
-#[cfg(test)]
-mod tests;

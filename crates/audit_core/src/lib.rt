@@ -19,6 +19,3 @@ pub use judgement::judge;
 pub use laws::{extension_is_true, extensions_are_true, yes_is_true, yes_stays_true};
 pub use refusal::{No, TrustErr};
 pub use verdict::Verdict;
-
-#[cfg(test)]
-mod tests;

@@ -19,6 +19,3 @@ pub use laws::{
     a_held_history_is_lawful, a_held_ledger_is_clean, a_new_ledger_is_held,
     an_opened_ledger_is_held,
 };
-
-#[cfg(test)]
-mod tests;

@@ -36,6 +36,3 @@ pub use block::{BlockAt, RecordAt, a_file_has_one_list_of_blocks};
 pub use failure::{Damage, FileErr};
 pub use file::BlockFile;
 pub use head::FileHead;
-
-#[cfg(test)]
-mod tests;

@@ -9,6 +9,3 @@ mod state;
 pub use index::ClueIndex;
 pub use laws::{states_are_in_order, states_carry_on};
 pub use state::ClueState;
-
-#[cfg(test)]
-mod tests;

@@ -8,8 +8,6 @@
 mod intake;
 mod piece;
 mod rule;
-#[cfg(test)]
-mod tests;
 mod view;
 
 pub use intake::{Intake, LanePass, TakerPass};

@@ -136,6 +136,3 @@ impl Header {
         filling.finish()
     }
 }
-
-#[cfg(test)]
-mod tests;

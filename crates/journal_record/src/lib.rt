@@ -25,6 +25,3 @@ pub use request::{
 pub use rules::NOTARY_LIMIT;
 pub use stamp::Stamp;
 pub use tags::{tag_key, tag_of};
-
-#[cfg(test)]
-mod tests;

@@ -18,8 +18,6 @@ mod scoped;
 mod starting;
 mod taker;
 mod taking;
-#[cfg(test)]
-mod tests;
 mod working;
 
 pub use gate::{Gate, OpenGate};

@@ -1,4 +1,4 @@
-ghost use Rattle.std.specs.Prelude.{◌≡◌, ◌+◌, ◌↔◌, ◌≤◌, IsTrue, IfOk, IfNone, IsSome, ◌<◌, length, nat_le, slice_get, option_copied, Option, None, true, if◌then◌else◌};
+ghost use Rattle.std.specs.Prelude.{◌≡◌, ◌+◌, ◌≤◌, IfOk, IfNone, IsSome, ◌<◌, length, nat_le, slice_get, option_copied, Option, None, true, if◌then◌else◌};
 ghost use Rattle.sha2.specs.Sha256.{sha256};
 ghost use Rattle.merkle_batch.specs.Rows.{StandsFor};
 ghost use Rattle.ledger_model.specs.Clues.{jsns_with};
@@ -22,7 +22,7 @@ use crate::Sealed;
 use crate::headers::first_header;
 use clue_index::ClueIndex;
 use journal_record::Header;
-use ledger_bytes::{BLOCK_LIMIT, Digest, NoMemory, Sha};
+use ledger_bytes::{Digest, NoMemory, Sha};
 use ledger_model::{Genesis, Limits, View};
 use member_book::MemberBook;
 use merkle_batch::Tree;
@@ -187,14 +187,6 @@ impl Book {
         ensures number { self.now.sealed + result ≡ self.now.size }
     {
         self.size - self.head.size
-    }
-
-    /// Whether the open block has as many journals as a block may have. It is to be ended then.
-    pub fn is_block_full(&self) -> bool
-        ensures { (h : History) → Stands self.now h → IsTrue result
-            ↔ (BLOCK_LIMIT ≤ length h.waiting) }
-    {
-        self.waiting_count() >= BLOCK_LIMIT
     }
 
     /// Whether there is no room for a journal of the operator.

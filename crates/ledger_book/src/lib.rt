@@ -13,6 +13,3 @@ pub use laws::room_changes_nothing;
 pub use ledger_model::{Genesis, Job, Limits, Outcome, Query, View};
 pub use prepared::Prepared;
 pub use sealed::Sealed;
-
-#[cfg(test)]
-mod tests;

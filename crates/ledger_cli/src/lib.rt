@@ -20,6 +20,3 @@ pub use signing::{Request, Signing};
 pub use standard::ledger_standard;
 pub use top::ledger_top;
 pub use words::Command;
-
-#[cfg(test)]
-mod tests;

@@ -7,11 +7,17 @@ use ledger_bytes::{Bytes, NoMemory};
 use std::alloc::Global;
 use std::mem;
 
+// So many lines of one lane are taken without waiting for lines of another.
+const ALONE_LINES: usize = 32;
+
 /// The lines of a piece, which weren't taken so far, and the numbers of the lanes' lines.
 #[derive(Drop)]
 pub(crate) struct Piece {
     alloc: Global,
     lines: Vec<LaneLine>,
+    // Whether these lines, and those of the piece before, are of several lanes.
+    mixed: bool,
+    mixed_before: bool,
     // Each lane's number of its first line in the piece, and of its next line.
     first: [u64; 8],
     next: [u64; 8],
@@ -26,6 +32,8 @@ impl Piece {
         Piece {
             alloc,
             lines: Vec::new(alloc),
+            mixed: false,
+            mixed_before: false,
             first: [1; 8],
             next: [1; 8],
         }
@@ -42,11 +50,27 @@ impl Piece {
     {
         let said = LaneLine::of(line);
         let lane = usize::from(said.lane);
+        let mixed = self.is_mixed_with(said.lane);
         let Ok(()) = self.lines.push(said) else {
             return Err(NoMemory);
         };
+        self.mixed = mixed;
         self.next[lane] += 1;
         Ok(())
+    }
+
+    // Whether the lines and one of this lane are of several lanes.
+    fn is_mixed_with(&self, lane: u8) -> bool {
+        match self.lines.last() {
+            Some(last) => self.mixed || last.lane != lane,
+            None => false,
+        }
+    }
+
+    /// Whether no other lane seems to bring lines, so that no worker could begin beside: enough lines of one lane came, and
+    /// those before were of one lane too.
+    pub(crate) fn is_of_one_lane(&self) -> bool {
+        !self.mixed && !self.mixed_before && self.lines.len() >= ALONE_LINES
     }
 
     /// The lines with their lanes' first numbers. The next piece then begins.
@@ -60,6 +84,8 @@ impl Piece {
         let lines = mem::replace(&mut self.lines, Vec::new(self.alloc));
         let first = self.first;
         self.first = self.next;
+        self.mixed_before = self.mixed;
+        self.mixed = false;
         (lines, first)
     }
 }

@@ -63,6 +63,11 @@ fn take_piece<R: Threads + Wait + Sync, K: Sink, D: Disk, V: Verifier, G: Gate>(
     }
 }
 
+// Whether a piece is taken before its window ends: no further line was read, or none of another lane is waited for.
+fn is_due(piece: &Piece, lines: &Lines) -> bool {
+    piece.is_of_one_lane() || !lines.holds_line()
+}
+
 // Takes the lines of a piece, with which its window ends, and ends the open block.
 fn end_window<R: Threads + Wait + Sync, K: Sink, D: Disk, V: Verifier, G: Gate>(
     rt: &R,
@@ -189,7 +194,7 @@ fn answer_lines<R: Threads + Wait + Sync, S: Source, K: Sink, D: Disk, V: Verifi
         };
         if full {
             end_window(rt, alloc, verifier, gate, committer, a, b, sink, &mut piece)?;
-        } else if !lines.holds_line() {
+        } else if is_due(&piece, &lines) {
             take_piece(rt, alloc, verifier, gate, committer, a, b, sink, &mut piece)?;
         }
     }

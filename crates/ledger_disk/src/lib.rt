@@ -16,6 +16,3 @@ pub use file::FileDisk;
 pub use fuse::FuseDisk;
 pub use images::{is_confining, is_crash_model, is_guarding};
 pub use memory::{MemDisk, Pick};
-
-#[cfg(test)]
-mod tests;

@@ -22,6 +22,3 @@ pub use memory::{MemSink, MemSource};
 pub use outside::{Sink, Source};
 pub use reader::{LINE_LIMIT, Lines, SCRIPT_LIMIT};
 pub use writer::{WriteErr, finish, write_all, write_last};
-
-#[cfg(test)]
-mod tests;

@@ -23,6 +23,3 @@ pub use laws::{
 pub use opened::Opened;
 pub use places::{PlaceAt, Places};
 pub use reopening::reopen;
-
-#[cfg(test)]
-mod tests;

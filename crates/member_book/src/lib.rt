@@ -8,6 +8,3 @@ mod verifier;
 pub use book::{AddErr, MemberBook};
 pub use journal_record::{Approval, Member, who_bytes};
 pub use verifier::{TagScheme, Verifier, tag_proof};
-
-#[cfg(test)]
-mod tests;

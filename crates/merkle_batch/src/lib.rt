@@ -7,8 +7,6 @@
 mod meaning;
 mod row;
 mod rows;
-#[cfg(test)]
-mod tests;
 mod tree;
 
 pub use meaning::lists_of_a_tree;

@@ -12,8 +12,6 @@ mod pres;
 mod proofs;
 mod roots;
 mod splits;
-#[cfg(test)]
-mod tests;
 
 pub use clash::{Clash, Pre};
 pub use clashes::{clash_path, clash_proof};

@@ -10,7 +10,7 @@ use ledger_book::{Book, Job, Outcome};
 use ledger_bytes::{Bytes, Digest, NoMemory};
 use ledger_disk::Disk;
 use ledger_model::{Genesis, Limits};
-use std::alloc::Global;
+use std::alloc::{AllocError, Global};
 
 const OPERATOR: Digest = Digest([1; 32]);
 
@@ -54,7 +54,7 @@ fn first_block(alloc: Global, book: &Book) -> Result<Vec<u8>> {
     body.extend_from_slice(&0u32.to_be_bytes())?;
     body.extend_from_slice(&OPERATOR.0)?;
     body.extend_from_slice(&REGULATOR.0)?;
-    block_of(alloc, 1, &book.head().root, &body)
+    Ok(block_of(alloc, 1, &book.head().root, &body)?)
 }
 
 // The bytes of the next block, which is placed in the book: 64 records, or as many as are left.
@@ -72,11 +72,11 @@ fn next_block(alloc: Global, book: &mut Book, plan: &Plan) -> Result<Vec<u8>> {
         )?;
     }
     let sealed = book.seal().context("no record")?;
-    block_of(alloc, count, &sealed.head.root, &body)
+    Ok(block_of(alloc, count, &sealed.head.root, &body)?)
 }
 
 // The bytes of a block with this head, without its gate.
-fn block_of(alloc: Global, count: u32, root: &Digest, body: &[u8]) -> Result<Vec<u8>> {
+fn block_of(alloc: Global, count: u32, root: &Digest, body: &[u8]) -> Result<Vec<u8>, AllocError> {
     let mut block = Vec::new(alloc);
     block.extend_from_slice(&count.to_be_bytes())?;
     block.extend_from_slice(&(body.len() as u64).to_be_bytes())?;

@@ -12,6 +12,3 @@ pub use bound::{Lower, Upper};
 pub use claim::Claim;
 pub use laws::proofs_have_room;
 pub use proof::{PROOF_LIMIT, Proof};
-
-#[cfg(test)]
-mod tests;

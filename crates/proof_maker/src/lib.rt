@@ -10,6 +10,3 @@ mod proving;
 pub use extending::extend;
 pub use made::{Made, MadeExtension, MakeErr};
 pub use proving::prove;
-
-#[cfg(test)]
-mod tests;

@@ -6,6 +6,3 @@ mod reading;
 mod writing;
 
 pub use base::{Base, BaseErr, CLUE_LIMIT, POINT_LIMIT, base_digest};
-
-#[cfg(test)]
-mod tests;

@@ -191,6 +191,3 @@ fn bad_field(column: u32) -> Refusal
 {
     Refusal::BadField { column }
 }
-
-#[cfg(test)]
-mod tests;

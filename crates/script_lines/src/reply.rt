@@ -396,6 +396,3 @@ pub fn put_refusal(out: &mut Vec<u8>, refusal: &Refusal) -> Result<(), NoMemory>
         }
     }
 }
-
-#[cfg(test)]
-mod tests;

@@ -190,6 +190,3 @@ pub(crate) fn read_mark(text: &[u8]) -> Option<Option<TimeMark>>
         time: read_number(time, u64::MAX)?,
     }))
 }
-
-#[cfg(test)]
-mod tests;

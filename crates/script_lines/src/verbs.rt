@@ -155,6 +155,3 @@ fn read_head(fields: Fields) -> Result<Line, Stop>
     fields.end()?;
     Ok(Line::Head)
 }
-
-#[cfg(test)]
-mod tests;

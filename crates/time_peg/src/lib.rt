@@ -13,6 +13,3 @@ pub use journal_record::Stamp;
 pub use laws::{bounds_are_nearest, lists_grow};
 pub use ledger_bytes::TimeMark;
 pub use notary::{Notary, NotaryErr};
-
-#[cfg(test)]
-mod tests;

@@ -8,6 +8,3 @@ mod picking;
 mod twin;
 
 pub use twin::Twin;
-
-#[cfg(test)]
-mod tests;

@@ -1,0 +1,176 @@
+//! A long ledger, and its headers replayed.
+
+ghost use Rattle.std.specs.Prelude.{◌≡◌, true, IfOk};
+ghost use Rattle.journal_record.specs.Rules.{IsHeader};
+ghost use Rattle.ledger_model.specs.Fitting.{fits_job};
+
+use block_file::Damage;
+use hex::FromHex;
+use journal_record::{Approval, Header, Kind, content_digest, request_digest};
+use ledger_book::{Book, Genesis, Job, Limits, Outcome};
+use ledger_bytes::{BLOCK_LIMIT, Bytes, Digest, NoMemory, Sha};
+use merkle_tree::{Head, leaf_of};
+use std::alloc::Global;
+use std::process::Abort;
+use std::test::Fail;
+
+const OPERATOR: Digest = Digest([1; 32]);
+
+const REGULATOR: Digest = Digest([2; 32]);
+
+/// The root over the first journal and 262,144 records, each with a clue of its own.
+const ROOT: &str = "81cd2fa21f33f9b8809f4f15dfaa5d919c13707f1d0a89ffa1632da6db4adeb2";
+
+/// The clue whose bytes are this number.
+fn clue_of(number: u64) -> Digest {
+    let mut bytes = [0; 32];
+    bytes[24..].copy_from_slice(&number.to_be_bytes());
+    Digest(bytes)
+}
+
+/// The job of an empty record of the operator.
+fn record(alloc: Global, id: &Digest, number: u64) -> Result<Job, NoMemory>
+    ensures { IfOk result (λ job. fits_job job ≡ true) }
+{
+    let clue = clue_of(number);
+    let content = Bytes::copy_of(alloc, b"")?;
+    let digest = content_digest(content.as_slice());
+    let request = request_digest(id, 0, &clue, 0, &digest);
+    let proof = Bytes::copy_of(alloc, b"")?;
+    Ok(Job::Append {
+        member: 0,
+        clue,
+        content,
+        content_digest: digest,
+        request,
+        by: Approval {
+            member: 0,
+            key: Some(OPERATOR),
+            proof,
+        },
+    })
+}
+
+/// Whether a journal was placed.
+fn is_placed(outcome: &Outcome) -> bool {
+    matches!(outcome, Outcome::Placed { .. })
+}
+
+/// Ends the open block where it is full.
+fn end_full(book: &mut Book) {
+    if book.waiting_count() >= BLOCK_LIMIT {
+        book.seal();
+    }
+}
+
+/// Places the record with this number.
+fn place(rt: &impl Abort, alloc: Global, book: &mut Book, number: u64) -> Result<(), NoMemory> {
+    let job = record(alloc, &book.id(), number)?;
+    let outcome = book.apply(&job, None)?;
+    assert!(rt; is_placed(&outcome));
+    end_full(book);
+    Ok(())
+}
+
+/// The ledger `demo` with that many records, in blocks of 64.
+fn ledger_of(rt: &impl Abort, alloc: Global, records: u64) -> Result<Book, NoMemory> {
+    let genesis = Genesis {
+        name: Bytes::copy_of(alloc, b"demo")?,
+        operator: OPERATOR,
+        regulator: REGULATOR,
+    };
+    let mut book = Book::new(alloc, &genesis, Limits::real())?;
+    for number in 1..=records {
+        place(rt, alloc, &mut book, number)?;
+    }
+    Ok(book)
+}
+
+/// The header with these bytes.
+fn read_again(header: &Header) -> Result<Header, Fail>
+    ensures { IfOk result IsHeader }
+{
+    Ok(Header::decode(&header.encode()).map_err(|_| "not read")?)
+}
+
+/// The book of the first header.
+fn begun(alloc: Global, header: &Header) -> Result<Book, Fail> {
+    let header = read_again(header)?;
+    match header.kind {
+        Kind::Genesis => Ok(Book::from_first(
+            alloc,
+            &header,
+            &OPERATOR,
+            &REGULATOR,
+            Limits::real(),
+        )?),
+        _ => Err("no genesis".into()),
+    }
+}
+
+/// Replays a header.
+fn take(book: &mut Book, header: &Header) -> Result<Result<(), Damage>, Fail> {
+    let header = read_again(header)?;
+    Ok(book.replay(&header, &leaf_of::<Sha>(&header.encode()))?)
+}
+
+/// Looks at the clue of record `number`, and replays its header.
+fn replay(
+    rt: &impl Abort,
+    book: &Book,
+    again: &mut Book,
+    number: u64,
+) -> Result<Result<(), Damage>, Fail> {
+    let (count, jsns) = book.clue(&clue_of(number))?;
+    assert!(rt; count == 1 && jsns.as_slice() == [number].as_slice());
+    let header = book.header(number).ok_or("no header")?;
+    let told = take(again, header)?;
+    end_full(again);
+    Ok(told)
+}
+
+#[test]
+fn a_long_ledger_is_replayed(rt: HostRuntime) -> Result<(), Fail> {
+    let book = ledger_of(&rt, rt.alloc(), 262_144)?;
+    let head = Head {
+        size: 262_145,
+        root: Digest(<[u8; 32]>::from_hex(ROOT)?),
+    };
+    assert!(rt; book.head() == head && book.blocks() == 4_097);
+    let first = book.header(0).ok_or("no header")?;
+    let mut again = begun(rt.alloc(), first)?;
+    for number in 1..262_145_u64 {
+        assert!(rt; replay(&rt, &book, &mut again, number)? == Ok(()));
+    }
+    assert!(rt; again.head() == head && again.blocks() == 4_097);
+    assert!(rt; again.id() == book.id());
+    Ok(())
+}
+
+#[test]
+fn what_is_not_next_is_refused(rt: HostRuntime) -> Result<(), Fail> {
+    let book = ledger_of(&rt, rt.alloc(), 3)?;
+    let first = book.header(0).ok_or("no header")?;
+    let mut again = begun(rt.alloc(), first)?;
+    for (number, told) in [
+        (0, Err(Damage::Entry { jsn: 1 })),
+        (2, Err(Damage::Entry { jsn: 1 })),
+        (1, Ok(())),
+        (1, Err(Damage::Entry { jsn: 2 })),
+        (2, Ok(())),
+    ] {
+        let header = book.header(number).ok_or("no header")?;
+        assert!(rt; take(&mut again, header)? == told);
+    }
+    let header = book.header(3).ok_or("no header")?;
+    let twice = Header {
+        clue_ord: 2,
+        clue_prev: 1,
+        ..*header
+    };
+    let told = take(&mut again, &twice)?;
+    assert!(rt; told == Err(Damage::Entry { jsn: 3 }));
+    assert!(rt; take(&mut again, header)? == Ok(()));
+    assert!(rt; again.waiting_count() == 3);
+    Ok(())
+}

@@ -1,0 +1,515 @@
+//! Jobs on disks in memory: what is written, and what the disks leave wherever they stop.
+
+ghost use Rattle.std.specs.Prelude.{◌≡◌, ◌≤◌, true, length, IfOk};
+ghost use Rattle.ledger_model.specs.Fitting.{fits_job};
+
+use batch_committer::{Committer, End};
+use hex::FromHex;
+use journal_record::{
+    Approval, clue_digest, content_digest, member_request_digest, request_digest,
+};
+use ledger_book::{Job, Prepared};
+use ledger_bytes::{Bytes, Digest, NoMemory};
+use ledger_disk::{Disk, FuseDisk, MemDisk, Pick};
+use ledger_io::{MemSink, Sink};
+use ledger_model::{Genesis, Limits};
+use ledger_open::{OpenErr, init, reopen};
+use member_book::tag_proof;
+use sha2::{Digest as Hasher, Sha256};
+use std::alloc::Global;
+use std::marker::Model;
+use std::test::Fail;
+use std::thread::Threads;
+
+// The keys of the operator, the regulator and a third member.
+const OPERATOR: Digest = Digest([1; 32]);
+
+const REGULATOR: Digest = Digest([2; 32]);
+
+const THIRD: Digest = Digest([3; 32]);
+
+// The block of member 2 and its record abc with the clue inv, without its gate.
+const BLOCK: [&str; 12] = [
+    "0000000200000000000001f345244e5bba01692ff6f59b826791827e96e891465f758d139d92d81a53b478c501020000",
+    "000000000001000000000000000000000000000000000000000000000000000000000000000000000000000000000000",
+    "000000000000000000000000000200000000000000000303030303030303030303030303030303030303030303030303",
+    "03030303030300000000dbc1b4c900ffe48d575b5da5c638040125f65db0fe3e24494b76ea986457d9869a1d89c119e6",
+    "8e87a795259b07ebe8642015c93186b59ef124834ac79be9693d00000046000000000040010101010101010101010101",
+    "01010101010101010101010101010101010101016e2700604cd288e681c238fa71ae802ef173e93907477f0111a56a7b",
+    "e4890e8c01010000000000000002000000023536d837609504a8406dcb211cb403cb9290736cc3a94b2fa0601b2cd543",
+    "e6da00000001000000000000000000000000000000000000000000000000c91e8e640e57e2e878b7b2840e07636c0753",
+    "9496336fbcc57c40f1cc60c359fc00000003909ac45e439911193205994d09399c29fede977ab212605f29ead5250a81",
+    "2e73c31de51580a8656b63f753ec142454bafa09b766de1b25b0ac75c128005d40cb0000004661626300000002004003",
+    "030303030303030303030303030303030303030303030303030303030303031c73656160873b10becb5d4a75a046056d",
+    "790b17f79672513778ab540c22c6df",
+];
+
+// The digest of what is written for 65 records of the operator without content.
+const DIGEST_OF_65: &str = "b4586317b4683210ebfa43a2832de90b54d01ef89b6c1ceba1b7abebc39c07ff";
+
+// What is written for one of these records and a line that asks for the head.
+const RECORD_AND_HEAD: &str =
+    "0.1 ok 1 e17cd0a38398533f50004ec57f5dd3837680b6b072223c6ffc9e2bfa0d0e723c 1 2 \
+    89713d47487c9be9875bd8f6a471f021f10440bea34709c459dce3a170313951\n0.2 head \
+    64915354a6547b1f887e596e872fd13b2abdc860729da9fe31180a81726cf4a2 2 \
+    89713d47487c9be9875bd8f6a471f021f10440bea34709c459dce3a170313951 2 0 0 \
+    e3b0c44298fc1c149afbf4c8996fb92427ae41e4649b934ca495991b7852b855\n";
+
+// What is told of journal 2 where that block stands behind journal 0.
+const WHOLE_2: &str = "\
+    0.1 whole 01010000000000000002000000023536d837609504a8406dcb211cb403cb9290736cc3a94b2fa060\
+    1b2cd543e6da00000001000000000000000000000000000000000000000000000000c91e8e640e57e2e878b7b2\
+    840e07636c07539496336fbcc57c40f1cc60c359fc00000003909ac45e439911193205994d09399c29fede977a\
+    b212605f29ead5250a812e73c31de51580a8656b63f753ec142454bafa09b766de1b25b0ac75c128005d40cb 6\
+    16263 00000002004003030303030303030303030303030303030303030303030303030303030303031c736561\
+    60873b10becb5d4a75a046056d790b17f79672513778ab540c22c6df\n";
+
+// .. where the first byte of its content is 60, and where the first byte of its who is 01.
+const OTHER_CONTENT: &str =
+    "0.1 no 13 909ac45e439911193205994d09399c29fede977ab212605f29ead5250a812e73 \
+    895cb0a0e456cba430e14f813b551b6792de125c2494cf1c7b089eb2e6c2eeb5\n";
+
+const OTHER_WHO: &str =
+    "0.1 no 13 c31de51580a8656b63f753ec142454bafa09b766de1b25b0ac75c128005d40cb \
+    8b42cfa353ff6282c741c9714c91f5a5dd70c10ce5cdc7d7e70664f95a53d7a9\n";
+
+// .. and where there is no journal of that number.
+const NO_JOURNAL: &str = "0.1 no 20 3\n";
+
+// Where the content and the who of journal 2 stand in that file.
+const CONTENT_AT: usize = 822;
+
+const WHO_AT: usize = 825;
+
+// More room than any of these runs takes.
+const AMPLE: usize = 65_536;
+
+/// The job of a record of a member.
+fn record(
+    alloc: Global,
+    id: &Digest,
+    member: u32,
+    key: &Digest,
+    clue: Digest,
+    content: &[u8],
+) -> Result<Job, NoMemory>
+    requires { length content.now ≤ 64 }
+    ensures { IfOk result (λ job. fits_job job ≡ true) }
+{
+    let content = Bytes::copy_of(alloc, content)?;
+    let digest = content_digest(content.as_slice());
+    let request = request_digest(id, member, &clue, content.as_slice().len() as u32, &digest);
+    let proof = Bytes::copy_of(alloc, &tag_proof(key, &request))?;
+    Ok(Job::Append {
+        member,
+        clue,
+        content,
+        content_digest: digest,
+        request,
+        by: Approval {
+            member,
+            key: Some(*key),
+            proof,
+        },
+    })
+}
+
+/// The job of a new member, number 2.
+fn third_member(alloc: Global, id: &Digest) -> Result<Job, NoMemory>
+    ensures { IfOk result (λ job. fits_job job ≡ true) }
+{
+    let request = member_request_digest(id, 2, &THIRD);
+    let proof = Bytes::copy_of(alloc, &tag_proof(&OPERATOR, &request))?;
+    Ok(Job::NewMember {
+        number: 2,
+        key: THIRD,
+        by: Approval {
+            member: 0,
+            key: Some(OPERATOR),
+            proof,
+        },
+    })
+}
+
+/// A disk with nothing on it.
+fn empty_disk(alloc: Global) -> Result<MemDisk, NoMemory> {
+    MemDisk::new(alloc, AMPLE, Vec::new(alloc))
+}
+
+/// Makes a ledger on these disks.
+fn make<D: Disk>(alloc: Global, a: &mut D, b: &mut D) -> Result<(), Fail> {
+    let genesis = Genesis {
+        name: Bytes::copy_of(alloc, b"demo")?,
+        operator: OPERATOR,
+        regulator: REGULATOR,
+    };
+    init(alloc, a, b, &genesis, Limits::real())?;
+    Ok(())
+}
+
+/// Two disks with a new ledger.
+fn new_pair(alloc: Global) -> Result<(MemDisk, MemDisk), Fail> {
+    let mut a = empty_disk(alloc)?;
+    let mut b = empty_disk(alloc)?;
+    make(alloc, &mut a, &mut b)?;
+    Ok((a, b))
+}
+
+/// The file of a new ledger behind whose journal 0 stands that block.
+fn worked_file(alloc: Global) -> Result<Vec<u8>, Fail> {
+    let (a, _) = new_pair(alloc)?;
+    let mut file = a.bytes()?.as_slice().to_vec(alloc)?;
+    file.pop();
+    file.push(1)?;
+    for line in BLOCK {
+        file.extend_from_slice(&hex::decode(alloc, line)?)?;
+    }
+    file.push(0)?;
+    Ok(file)
+}
+
+/// What a line asks for.
+#[derive(Clone, Copy)]
+enum Ask {
+    /// A record of the operator without content.
+    Empty,
+    /// Member 2.
+    Member,
+    /// The record abc of member 2 with the clue inv.
+    Abc,
+    Head,
+    Get(u64),
+}
+
+fn job_of(alloc: Global, id: &Digest, ask: Ask) -> Result<Job, NoMemory>
+    ensures { IfOk result (λ job. fits_job job ≡ true) }
+{
+    match ask {
+        Ask::Empty => record(alloc, id, 0, &OPERATOR, Digest::ZERO, b""),
+        Ask::Member => third_member(alloc, id),
+        Ask::Abc => record(alloc, id, 2, &THIRD, clue_digest(b"inv"), b"abc"),
+        Ask::Head => Ok(Job::Head),
+        Ask::Get(n) => Ok(Job::Get { n }),
+    }
+}
+
+/// A committer with its disks and its sink, which meet what the next call asks for.
+#[derive(Drop)]
+struct Bench<D: Disk + Drop, K: Sink + Drop> {
+    committer: Committer,
+    a: D,
+    b: D,
+    sink: K,
+}
+
+impl<D: Disk + Drop, K: Sink + Drop> Model for Bench<D, K> {
+    ghost use Rattle.std.specs.Prelude.{◌≡◌, false};
+    ghost use Rattle.batch_committer.specs.World.{pair, world, Fits, HasRoom};
+
+    ghost Value = { Unit {0} };
+
+    ghost view = { λ _. tt };
+
+    ghost invariant = { λ t. t.committer.ended ≡ false
+        → Fits D.tells (world t.committer.kept (pair (D.state t.a) (D.state t.b))
+        (K.state t.sink)) × HasRoom t.committer.kept };
+}
+
+impl<D: Disk + Drop, K: Sink + Drop> Bench<D, K> {
+    /// Opens the ledger on these disks.
+    fn open<R: Threads>(
+        rt: &R,
+        alloc: Global,
+        mut a: D,
+        mut b: D,
+        sink: K,
+    ) -> Result<Self, OpenErr> {
+        match reopen(rt, alloc, &mut a, &mut b, Limits::real()) {
+            Ok(opened) => Ok(Bench {
+                committer: Committer::new(alloc, opened),
+                a,
+                b,
+                sink,
+            }),
+            Err(e) => Err(e),
+        }
+    }
+
+    fn id(&self) -> Digest {
+        self.committer.id()
+    }
+
+    fn is_settled(&self) -> bool {
+        self.committer.is_settled()
+    }
+
+    /// The size of the ledger where its last block ended.
+    fn size(&self) -> u64 {
+        self.committer.opened().book.head().size
+    }
+
+    /// Offers a job of lane 0.
+    fn offer(&mut self, index: u64, job: Job) -> Result<(), End>
+        requires { fits_job job ≡ true }
+    {
+        let item = Prepared {
+            lane: 0,
+            index,
+            job,
+        };
+        self.committer
+            .offer(&mut self.a, &mut self.b, &mut self.sink, item)
+    }
+
+    fn flush(&mut self) -> Result<(), End> {
+        self.committer
+            .flush(&mut self.a, &mut self.b, &mut self.sink)
+    }
+
+    fn into_parts(self) -> (D, D, K) {
+        (self.a, self.b, self.sink)
+    }
+
+    /// Offers so many records of the operator without content.
+    fn offer_records(&mut self, alloc: Global, count: u64) -> Result<(), End> {
+        let id = self.id();
+        for index in 1..=count {
+            let job = job_of(alloc, &id, Ask::Empty)?;
+            self.offer(index, job)?;
+        }
+        Ok(())
+    }
+
+    /// Offers the jobs of lines with these numbers.
+    fn offer_lines(&mut self, alloc: Global, lines: &[(u64, Ask)]) -> Result<(), End> {
+        let id = self.id();
+        for (index, ask) in lines {
+            let job = job_of(alloc, &id, *ask)?;
+            self.offer(*index, job)?;
+        }
+        Ok(())
+    }
+}
+
+/// What came of some records and a flush, and what stood before the flush: whether no journal waited, the size where the
+/// last block ended, and how many lines were written.
+#[derive(Clone, Copy, Debug, PartialEq, Eq)]
+struct Run {
+    offered: Result<(), End>,
+    settled: bool,
+    size: u64,
+    lines: usize,
+    flushed: Result<(), End>,
+}
+
+/// Opens the ledger on these disks, offers so many records of the operator without content, and flushes.
+fn run_records<R: Threads, D: Disk + Drop>(
+    rt: &R,
+    alloc: Global,
+    a: D,
+    b: D,
+    room: usize,
+    count: u64,
+) -> Result<(Run, MemSink, D, D), Fail> {
+    let mut bench = Bench::open(rt, alloc, a, b, sink_of(alloc, room)?)?;
+    let offered = bench.offer_records(alloc, count);
+    let settled = bench.is_settled();
+    let size = bench.size();
+    let lines = lines_in(bench.sink.written_bytes());
+    let flushed = bench.flush();
+    let (a, b, sink) = bench.into_parts();
+    let run = Run {
+        offered,
+        settled,
+        size,
+        lines,
+        flushed,
+    };
+    Ok((run, sink, a, b))
+}
+
+/// What is written for these lines and a flush, and the first disk then.
+fn run_lines<R: Threads>(
+    rt: &R,
+    alloc: Global,
+    (a, b): (MemDisk, MemDisk),
+    lines: &[(u64, Ask)],
+) -> Result<(MemSink, MemDisk), Fail> {
+    let mut bench = Bench::open(rt, alloc, a, b, sink_of(alloc, AMPLE)?)?;
+    bench.offer_lines(alloc, lines)?;
+    bench.flush()?;
+    let (a, _, sink) = bench.into_parts();
+    Ok((sink, a))
+}
+
+/// The size of the ledger on these disks.
+fn size_on<R: Threads, D: Disk + Drop>(rt: &R, alloc: Global, a: D, b: D) -> Result<u64, OpenErr> {
+    let (mut a, mut b) = (a, b);
+    match reopen(rt, alloc, &mut a, &mut b, Limits::real()) {
+        Ok(opened) => Ok(opened.book.head().size),
+        Err(e) => Err(e),
+    }
+}
+
+/// How many lines these bytes have.
+fn lines_in(bytes: &[u8]) -> usize {
+    let mut lines = 0usize;
+    for byte in bytes {
+        if *byte == b'\n' {
+            lines = lines.saturating_add(1);
+        }
+    }
+    lines
+}
+
+fn sink_of(alloc: Global, room: usize) -> Result<MemSink, NoMemory> {
+    MemSink::new(alloc, room, Vec::new(alloc))
+}
+
+/// Two disks of which the first has the worked file, with these first bytes of the content and the who of journal 2.
+fn pair_with(alloc: Global, content: u8, who: u8) -> Result<(MemDisk, MemDisk), Fail> {
+    let mut file = worked_file(alloc)?;
+    set_byte(file.as_mut_slice(), CONTENT_AT, content);
+    set_byte(file.as_mut_slice(), WHO_AT, who);
+    let mut a = empty_disk(alloc)?;
+    a.write(0, file.as_slice())?;
+    Ok((a, empty_disk(alloc)?))
+}
+
+/// Puts another byte at this place, where there is one.
+fn set_byte(bytes: &mut [u8], at: usize, to: u8) {
+    if let Some(place) = bytes.get_mut(at) {
+        *place = to;
+    }
+}
+
+#[test]
+fn blocks_end_where_they_are_full_and_by_a_flush(rt: HostRuntime) -> Result<(), Fail> {
+    let alloc = rt.alloc();
+    let rows = [(63, false, 1, 0), (64, true, 65, 64), (65, false, 65, 64)];
+    for (count, settled, size, lines) in rows {
+        let (a, b) = new_pair(alloc)?;
+        let (run, sink, a, b) = run_records(&rt, alloc, a, b, AMPLE, count)?;
+        let want = Run {
+            offered: Ok(()),
+            settled,
+            size,
+            lines,
+            flushed: Ok(()),
+        };
+        let text = sink.written_bytes();
+        assert_eq!(rt; (run, size_on(&rt, alloc, a, b)?), (want, count + 1));
+        if count == 65 {
+            assert_eq!(rt; Sha256::digest(text), <[u8; 32]>::from_hex(DIGEST_OF_65)?);
+        }
+    }
+    Ok(())
+}
+
+/// What came of a run of 64 records whose first disk stops after so many calls, and the disks that it leaves.
+fn run_until<R: Threads>(
+    rt: &R,
+    alloc: Global,
+    stop: u64,
+) -> Result<(Run, MemSink, MemDisk, MemDisk), Fail> {
+    let (a, b) = new_pair(alloc)?;
+    let (a, b) = (FuseDisk::new(a, stop), FuseDisk::new(b, 9));
+    let (run, sink, a, b) = run_records(rt, alloc, a, b, AMPLE, 64)?;
+    Ok((run, sink, a.into_inner(), b.into_inner()))
+}
+
+/// The sizes of the ledger on what these disks leave: all that was written, nothing of it, and any bytes in its place.
+fn sizes_left<R: Threads>(
+    rt: &R,
+    alloc: Global,
+    a: &MemDisk,
+    b: &MemDisk,
+) -> Result<[u64; 3], Fail> {
+    let mut sizes = [0; 3];
+    let picks = [Pick::AllWritten, Pick::NoneWritten, Pick::Torn(1)];
+    for (size, pick) in sizes.iter_mut().zip(picks) {
+        *size = size_on(rt, alloc, a.crash(pick)?, b.crash(pick)?)?;
+    }
+    Ok(sizes)
+}
+
+#[test]
+fn every_written_receipt_is_kept_wherever_a_disk_stops(rt: HostRuntime) -> Result<(), Fail> {
+    let alloc = rt.alloc();
+    // Opening takes two of the calls, and a commit five.
+    for stop in 2..9 {
+        let (run, sink, a, b) = run_until(&rt, alloc, stop)?;
+        let lines = lines_in(sink.written_bytes());
+        let found = (
+            run.offered,
+            run.flushed,
+            lines,
+            sizes_left(&rt, alloc, &a, &b)?,
+        );
+        let (fault, closed) = (Err(End::DiskFault), Err(End::Closed));
+        let wanted = match stop {
+            2..6 => (fault, closed, 0, [1; 3]),
+            6 => (fault, closed, 0, [65, 1, 1]),
+            _ => (Ok(()), Ok(()), 64, [65; 3]),
+        };
+        assert_eq!(rt; found, wanted, "at {stop}");
+    }
+    Ok(())
+}
+
+#[test]
+fn a_fault_of_the_sink_ends_the_run(rt: HostRuntime) -> Result<(), Fail> {
+    let alloc = rt.alloc();
+    let (a, b) = new_pair(alloc)?;
+    let (run, sink, a, b) = run_records(&rt, alloc, a, b, 100, 64)?;
+    let written = sink.written_bytes().len();
+    let found = (
+        run.offered,
+        run.flushed,
+        written,
+        size_on(&rt, alloc, a, b)?,
+    );
+    assert_eq!(rt; found, (Err(End::WriteFault), Err(End::Closed), 100, 65));
+    Ok(())
+}
+
+#[test]
+fn a_block_has_the_worked_bytes_and_is_read_back(rt: HostRuntime) -> Result<(), Fail> {
+    let alloc = rt.alloc();
+    let lines = [(1, Ask::Member), (2, Ask::Abc), (1, Ask::Get(2))];
+    let (sink, a) = run_lines(&rt, alloc, new_pair(alloc)?, &lines)?;
+    assert_eq!(rt; a.bytes()?.as_slice(), worked_file(alloc)?.as_slice());
+    assert!(rt; sink.written_bytes().ends_with(WHOLE_2.as_bytes()));
+    Ok(())
+}
+
+#[test]
+fn a_job_that_asks_ends_the_block_before_it(rt: HostRuntime) -> Result<(), Fail> {
+    let alloc = rt.alloc();
+    let lines = [(1, Ask::Empty), (2, Ask::Head)];
+    let (sink, _) = run_lines(&rt, alloc, new_pair(alloc)?, &lines)?;
+    assert_eq!(rt; sink.written_bytes(), RECORD_AND_HEAD.as_bytes());
+    Ok(())
+}
+
+#[test]
+fn a_journal_is_read_back_and_changed_bytes_are_found(rt: HostRuntime) -> Result<(), Fail> {
+    let alloc = rt.alloc();
+    for (content, who, n, wanted) in [
+        (b'a', 0, 2, WHOLE_2),
+        (b'a', 0, 3, NO_JOURNAL),
+        (b'a', 0, u64::MAX, NO_JOURNAL),
+        (b'a', 1, 2, OTHER_WHO),
+        (96, 0, 2, OTHER_CONTENT),
+        (96, 1, 2, OTHER_CONTENT),
+    ] {
+        let pair = pair_with(alloc, content, who)?;
+        let (sink, _) = run_lines(&rt, alloc, pair, &[(1, Ask::Get(n))])?;
+        assert_eq!(rt;
+            sink.written_bytes(),
+            wanted.as_bytes(),
+            "{n}: {content}, {who}"
+        );
+    }
+    Ok(())
+}

@@ -1,0 +1,91 @@
+use ledger_bytes::{Bytes, NoMemory, Refusal};
+use script_lines::{Line, Spoken, read_line};
+use std::test::Fail;
+
+/// What a line is.
+#[derive(Clone, Copy, Debug, PartialEq, Eq)]
+enum Form {
+    /// The member, and the lengths of clue, content and proof.
+    Append(u32, usize, usize, usize),
+    Other,
+    No(Refusal),
+}
+
+/// A member with the bytes of an append: clue, content and proof.
+fn append_of(line: Line) -> Option<(u32, Bytes, Bytes, Bytes)> {
+    match line {
+        Line::Append {
+            member,
+            clue,
+            content,
+            proof,
+        } => Some((member, clue, content, proof)),
+        _ => None,
+    }
+}
+
+fn form_of(rt: &HostRuntime, line: &[u8]) -> Result<Form, NoMemory> {
+    let Spoken { lane: _, what } = read_line(rt.alloc(), line)?;
+    let form = match what {
+        Ok(line) => match append_of(line) {
+            Some((member, clue, content, proof)) => Form::Append(
+                member,
+                clue.as_slice().len(),
+                content.as_slice().len(),
+                proof.as_slice().len(),
+            ),
+            None => Form::Other,
+        },
+        Err(refusal) => Form::No(refusal),
+    };
+    Ok(form)
+}
+
+fn at(column: u32) -> Form {
+    Form::No(Refusal::BadField { column })
+}
+
+#[test]
+fn keeps_to_limits(rt: HostRuntime) -> Result<(), Fail> {
+    for (content, proof, wanted) in [
+        (65_536, 4_096, Form::Append(3, 0, 65_536, 4_096)),
+        (65_537, 4_097, at(5)),
+        (1, 4_097, at(6)),
+    ] {
+        let mut line = b"0 append 3 - ".to_vec(rt.alloc())?;
+        for _ in 0..content {
+            line.extend_from_slice(b"6f")?;
+        }
+        line.push(b' ')?;
+        for _ in 0..proof {
+            line.extend_from_slice(b"A0")?;
+        }
+        assert_eq!(rt;
+            form_of(&rt, line.as_slice())?,
+            wanted,
+            "at {content} and {proof}"
+        );
+    }
+    // The longest line that a script may have.
+    for (line, wanted) in [("0 x", Form::No(Refusal::BadVerb)), ("0 head", at(3))] {
+        let mut line = line.as_bytes().to_vec(rt.alloc())?;
+        line.resize(4_194_304, b' ')?;
+        assert_eq!(rt; form_of(&rt, line.as_slice())?, wanted);
+    }
+    Ok(())
+}
+
+#[test]
+fn keeps_what_a_line_says(rt: HostRuntime) -> Result<(), Fail> {
+    let Spoken { lane, what } = read_line(rt.alloc(), b"0 append 2 inv 616263 031C")?;
+    assert_eq!(rt; lane, 0);
+    let Ok(line) = what else {
+        return Err("not a line".into());
+    };
+    let (member, clue, content, proof) = append_of(line).ok_or("not an append")?;
+    assert_eq!(rt; member, 2);
+    assert_eq!(rt; clue.as_slice(), b"inv".as_slice());
+    assert_eq!(rt; content.as_slice(), b"abc".as_slice());
+    assert_eq!(rt; proof.as_slice(), [0x03, 0x1c].as_slice());
+    Ok(())
+}
