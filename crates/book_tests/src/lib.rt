@@ -20,5 +20,3 @@ mod opening;
 mod replies;
 #[cfg(test)]
 mod verbs;
-#[cfg(test)]
-mod words;
