@@ -15,7 +15,7 @@ use ledger_disk::Disk;
 use std::alloc::Global;
 use time_peg::ENTRY_LEN;
 
-/// The list of a disk. Afterwards nothing is pending there, and the tail gate is shut.
+/// The list of a disk. Afterwards it stands there for good, and the tail gate behind it is shut for good.
 pub(crate) fn load<D: Disk>(alloc: Global, disk: &mut D) -> Result<Entries, FileErr>
     ensures lists { IfOk result (λ list. IsTrue D.tells
         → Lists list.entries (D.state disk.old).bytes.seen) }

@@ -30,23 +30,32 @@ fn stamped_time<N: Notary>(alloc: Global, notary: &mut N) -> Result<u64, NotaryE
     Ok(notary.stamp(alloc, &PEG)?.time)
 }
 
+fn stamped_times<N: Notary>(alloc: Global, notary: &mut N) -> Result<[u64; 3], NotaryErr> {
+    Ok([
+        stamped_time(alloc, notary)?,
+        stamped_time(alloc, notary)?,
+        stamped_time(alloc, notary)?,
+    ])
+}
+
+// The head of a notary that stopped, and was opened again.
+fn head_after_a_crash(
+    alloc: Global,
+    notary: LocalNotary<MemDisk, ListClock>,
+) -> Result<Head, Fail> {
+    let disk = notary.into_disk().crash(Pick::NoneWritten)?;
+    Ok(reopened(alloc, disk, Vec::new(alloc))?.head()?)
+}
+
 #[test]
 fn times_never_fall(rt: HostRuntime) -> Result<(), Fail> {
     let alloc = rt.alloc();
+    let root = digest("57ae8eeb95c71f024b6fc9f88f7b81d08e6a19df4ab9f34c71868883b7e8e0d0")?;
     let disk = MemDisk::new(alloc, 300, Vec::new(alloc))?;
     let mut notary = reopened(alloc, disk, [5000, 4000, 7000].to_vec(alloc)?)?;
-    let times = [
-        stamped_time(alloc, &mut notary)?,
-        stamped_time(alloc, &mut notary)?,
-        stamped_time(alloc, &mut notary)?,
-    ];
-    let disk = notary.into_disk().crash(Pick::NoneWritten)?;
-    let mut again = reopened(alloc, disk, Vec::new(alloc))?;
-    let root = digest("57ae8eeb95c71f024b6fc9f88f7b81d08e6a19df4ab9f34c71868883b7e8e0d0")?;
-    assert_eq!(rt;
-        (times, again.head()?),
-        ([5000, 5000, 7000], Head { size: 3, root })
-    );
+    let times = stamped_times(alloc, &mut notary)?;
+    let head = head_after_a_crash(alloc, notary)?;
+    assert_eq!(rt; (times, head), ([5000, 5000, 7000], Head { size: 3, root }));
     Ok(())
 }
 
