@@ -1,6 +1,6 @@
 -- What reopening reads.
 use Rattle.std.specs.Prelude.{Option, Some, None}
-use Rattle.std.proofs.Common.{◌≡◌, ◌≢◌, inl, inr, ℕ, zero, suc, ◌+◌, ◌*◌, ◌<◌, ◌≤◌, max, List, [], ◌∷◌, ◌++◌, length, get_or, take, drop, refl, sym, ◌∙◌, ap, subst, arith, append_assoc, length-append, length-drop}
+use Rattle.std.proofs.Common.{◌≡◌, inl, inr, ℕ, zero, suc, ◌+◌, ◌*◌, ◌<◌, ◌≤◌, max, List, [], ◌∷◌, ◌++◌, length, get_or, take, drop, refl, sym, ◌∙◌, ap, subst, arith, append_assoc, length-append, length-drop}
 use Rattle.std.proofs.lemmas.List.{take_at, drop_at, take-append-drop, drop_more, drop-drop, get_or-drop}
 use Rattle.ledger_disk.specs.Disk.{settled_state, overlay}
 use Rattle.ledger_disk.specs.Guards.{Outside}
@@ -40,14 +40,7 @@ tail_shut es file at place lists =
     let before : take at file ≡ opened es = ap (take at) lists.is ∙ take_at (opened es) lists.rest at place in
     shut_settled es 0 (drop (at + 1) file) _ (λ is. cc) (ap (λ (l : List ℕ). l ++ 0 ∷ [] ++ drop (at + 1) file) before ∙ append_assoc (opened es) (0 ∷ []) (drop (at + 1) file))
 
--- .. or was
-pub tail_is_shut : (es : List (List ℕ)) (file : List ℕ) (at : ℕ) → tail_of es ≡ at → Lists es file → at + 1 ≤ length file → get_or file at 0 ≢ 1 → Shut es (settled_state file)
-tail_is_shut es file at place lists long shut =
-    let before : take at file ≡ opened es = ap (take at) lists.is ∙ take_at (opened es) lists.rest at place in
-    shut_settled es (get_or file at 0) (drop (at + 1) file) file shut
-    (sym (take-append-drop at file) ∙ ap (λ (l : List ℕ). l ++ drop at file) before ∙ ap (λ (l : List ℕ). opened es ++ l) (drop_more file at 0 (omega arith)))
-
--- .. and so they are where there are as many as there may be
+-- slots that are as many as there may be are the list
 pub lists_full : (es : List (List ℕ)) (file : List ℕ) → IsList es → file ≡ opened es ++ drop (73 * length es) file → length es ≡ 16_777_216 → 73 * length es + 1 ≤ max 1 (length file) → Lists es file
 lists_full es file list is full long = record {
   rest = drop (73 * length es) file;

@@ -9,7 +9,7 @@ use Rattle.ledger_disk.proofs.Guarding.{guards_settled, guards_image}
 use Rattle.ledger_disk.proofs.Confining.{confined_image, confined_wrote}
 use Rattle.ledger_disk.proofs.Ranges.{overlaid_torn}
 use Rattle.time_peg.specs.Entries.{IsList}
-use Rattle.notary_ledger.specs.Slots.{opened, tail_of, Lists, Shut, Half, OnDisk, MayList, staged_at}
+use Rattle.notary_ledger.specs.Slots.{opened, tail_of, Lists, Shut, OnDisk, MayList, staged_at}
 
 pub on_err : {T E : Type 0} (r : Result T E) (P : Type 0) → P → OnErr r P
 on_err (Ok x) P p = tt
@@ -46,14 +46,6 @@ pub opens : (es : List (List ℕ)) (e : List ℕ) (gate : ℕ) (rest : List ℕ)
 opens es e gate rest at place =
     shut_settled (es ++ e ∷ []) 0 rest _ (λ is. cc) (gate_over (opened es) gate 1 (e ++ (0 ∷ rest)) at place ∙ opened_more es e (0 ∷ rest))
 
--- the gate of an entry whose stamp failed is shut again
-pub shuts : (es : List (List ℕ)) (e : List ℕ) (s : State) (at : ℕ) → tail_of es ≡ at → Half es e s → Shut es (settled_state (overlay at (0 ∷ []) s.seen))
-shuts es e s at place half =
-    let file : List ℕ = opened es ++ (half.gate ∷ (e ++ (0 ∷ half.rest))) in
-    let before : take at s.seen ≡ opened es = ap (λ (n : ℕ). take n s.seen) (sym place) ∙ half.confined.seen.before ∙ take_at (opened es) (half.gate ∷ (e ++ (0 ∷ half.rest))) (tail_of es) refl in
-    shut_settled es 0 (drop (at + 1) s.seen) _ (λ is. cc)
-    (ap (λ (l : List ℕ). l ++ 0 ∷ [] ++ drop (at + 1) s.seen) before ∙ append_assoc (opened es) (0 ∷ []) (drop (at + 1) s.seen))
-
 -- what a file with a shut gate begins with
 begins : (es : List (List ℕ)) (s : State) (image : List ℕ) (shut : Shut es s) → MayLeave s image → take (tail_of es + 1) image ≡ opened es ++ shut.gate ∷ []
 begins es s image shut left =
@@ -68,10 +60,6 @@ stages es e s at place left shut =
     ap (λ (l : List ℕ). l ++ e ++ 0 ∷ rest) first
     ∙ append_assoc (opened es ++ shut.gate ∷ []) e (0 ∷ rest)
     ∙ append_assoc (opened es) (shut.gate ∷ []) (e ++ (0 ∷ rest))
-
-pub stays_shut : (es : List (List ℕ)) (old new : State) (at : ℕ) → tail_of es ≡ at → ((front : List ℕ) → Guards old front → length front ≤ at + 1 → Guards new front) → Shut es old → Shut es new
-stays_shut es old new at place keeps shut =
-    record { gate = shut.gate; shut = shut.shut; guards = keeps _ shut.guards (omega (arith, place, length-append (opened es) (shut.gate ∷ []))) }
 
 -- a file whose slots end with a shut gate
 lists_shut : (es : List (List ℕ)) (gate : ℕ) (rest image : List ℕ) → IsList es → gate ≢ 1 → image ≡ opened es ++ gate ∷ rest → Lists es image
