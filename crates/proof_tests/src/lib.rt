@@ -1,4 +1,4 @@
-//! What no contract says of the crates of trees and proofs: worked digests, and a call of each on its happy path.
+//! What no contract says of the crates of trees, proofs and notaries: worked digests, and a call of each on its happy path.
 #![tactic(auto)]
 
 #[cfg(test)]
@@ -7,6 +7,8 @@ mod extensions;
 mod growing;
 #[cfg(test)]
 mod making;
+#[cfg(test)]
+mod notaries;
 #[cfg(test)]
 mod pegs;
 #[cfg(test)]

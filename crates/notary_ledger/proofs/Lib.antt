@@ -1,0 +1,5 @@
+pub mod SlotLaws
+pub mod ListLaws
+pub mod LocalLaws
+pub mod OpenLaws
+pub mod UniqueLaws

@@ -1,0 +1,6 @@
+pub mod Clocks
+pub mod Listing
+pub mod Notaries
+pub mod Opening
+pub mod Salts
+pub mod Slots
