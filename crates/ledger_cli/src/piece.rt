@@ -7,17 +7,15 @@ use ledger_bytes::{Bytes, NoMemory};
 use std::alloc::Global;
 use std::mem;
 
-// So many lines of one lane are taken without waiting for lines of another.
-const ALONE_LINES: usize = 32;
-
 /// The lines of a piece, which weren't taken so far, and the numbers of the lanes' lines.
 #[derive(Drop)]
 pub(crate) struct Piece {
     alloc: Global,
     lines: Vec<LaneLine>,
-    // Whether these lines, and those of the piece before, are of several lanes.
+    // Whether these lines are of several lanes.
     mixed: bool,
-    mixed_before: bool,
+    // The lane of all lines of the piece before, where they were of one.
+    before: Option<u8>,
     // Each lane's number of its first line in the piece, and of its next line.
     first: [u64; 8],
     next: [u64; 8],
@@ -33,7 +31,7 @@ impl Piece {
             alloc,
             lines: Vec::new(alloc),
             mixed: false,
-            mixed_before: false,
+            before: None,
             first: [1; 8],
             next: [1; 8],
         }
@@ -67,10 +65,20 @@ impl Piece {
         }
     }
 
-    /// Whether no other lane seems to bring lines, so that no worker could begin beside: enough lines of one lane came, and
-    /// those before were of one lane too.
-    pub(crate) fn is_of_one_lane(&self) -> bool {
-        !self.mixed && !self.mixed_before && self.lines.len() >= ALONE_LINES
+    /// Whether this is one line, of the lane that alone brought lines before: there is no other to be prepared beside.
+    pub(crate) fn is_alone(&self) -> bool {
+        match (self.before, self.lines.as_slice()) {
+            (Some(lane), [line]) => line.lane == lane,
+            _ => false,
+        }
+    }
+
+    // The lane of all lines, where they are of one.
+    fn only_lane(&self) -> Option<u8> {
+        if self.mixed {
+            return None;
+        }
+        self.lines.last().map(|last| last.lane)
     }
 
     /// The lines with their lanes' first numbers. The next piece then begins.
@@ -81,11 +89,11 @@ impl Piece {
         ensures first_now { self.new.first ≡ self.old.next }
         ensures next { self.new.next ≡ self.old.next }
     {
+        self.before = self.only_lane();
+        self.mixed = false;
         let lines = mem::replace(&mut self.lines, Vec::new(self.alloc));
         let first = self.first;
         self.first = self.next;
-        self.mixed_before = self.mixed;
-        self.mixed = false;
         (lines, first)
     }
 }

@@ -63,9 +63,9 @@ fn take_piece<R: Threads + Wait + Sync, K: Sink, D: Disk, V: Verifier, G: Gate>(
     }
 }
 
-// Whether a piece is taken before its window ends: no further line was read, or none of another lane is waited for.
+// Whether a piece is taken before its window ends: its line has no other beside it, or no further line was read.
 fn is_due(piece: &Piece, lines: &Lines) -> bool {
-    piece.is_of_one_lane() || !lines.holds_line()
+    piece.is_alone() || !lines.holds_line()
 }
 
 // Takes the lines of a piece, with which its window ends, and ends the open block.
