@@ -9,11 +9,11 @@ use Rattle.hex.proofs.HexLemmas.{decode_of-ok}
 use Rattle.ledger_bytes.specs.declared.limits.TheConstants.{CONTENT_LIMIT, NAME_LIMIT, PROOF_LIMIT}
 use Rattle.ledger_bytes.specs.declared.refusal.Refusal.{Refusal}
 use Rattle.script_lines.specs.Fields.{Left, fields_of, read_or_bad, field_from, field_at, end_from, end_at}
-use Rattle.script_lines.specs.Grammar.{◌>>=◌, append_at, member_at, get_at, clue_at, head_at, verb_at, asked_by, lane_of, spoken_by, spoken_at, spoken_line}
+use Rattle.script_lines.specs.Grammar.{◌>>=◌, append_at, member_at, anchor_at, get_at, clue_at, head_at, verb_at, asked_by, lane_of, spoken_by, spoken_at, spoken_line}
 use Rattle.script_lines.specs.Limits.{fits_line, is_of_form, fits_what}
 use Rattle.script_lines.specs.Spellings.{text_of, number_of, bytes_of, digest_of, clue_of, name_of, is_dash}
 use Rattle.script_lines.specs.declared.line.Line.{Line}
-use Rattle.script_lines.specs.declared.line.Line.TheVariants.{Append, NewMember, Get, Clue, Head}
+use Rattle.script_lines.specs.declared.line.Line.TheVariants.{Append, NewMember, Anchor, Get, Clue, Head}
 
 -- what a field reads as keeps to a rule, or the refusal is one of a line's form
 abbrev Gives : {A : Type 0} → (A → Type 0) → Result (A × Left) Refusal → Type 0
@@ -98,6 +98,10 @@ member_fits fields =
     then_fits (λ proof. length proof ≤ PROOF_LIMIT) _ _ (field_gives (λ proof. length proof ≤ PROOF_LIMIT) (bytes_of PROOF_LIMIT) key.1 (bytes_short PROOF_LIMIT)) (λ proof p.
     end_fits proof.1 (NewMember number.0 key.0 proof.0) (le-leb (length proof.0) PROOF_LIMIT p))))
 
+anchor_fits : (fields : Left) → fits_what (anchor_at fields) ≡ true
+unfolding anchor_at
+anchor_fits fields = end_fits fields Anchor refl
+
 get_fits : (fields : Left) → fits_what (get_at fields) ≡ true
 unfolding get_at
 get_fits fields =
@@ -123,9 +127,10 @@ verb_fits : (verb : List ℕ) (fields : Left) → fits_what (verb_at verb fields
 verb_fits verb fields =
     either_fits (bytes_eq verb (codes "append")) _ _ (append_fits fields)
     (either_fits (bytes_eq verb (codes "member")) _ _ (member_fits fields)
+    (either_fits (bytes_eq verb (codes "anchor")) _ _ (anchor_fits fields)
     (either_fits (bytes_eq verb (codes "get")) _ _ (get_fits fields)
     (either_fits (bytes_eq verb (codes "clue")) _ _ (clue_fits fields)
-    (either_fits (bytes_eq verb (codes "head")) _ _ (head_fits fields) refl))))
+    (either_fits (bytes_eq verb (codes "head")) _ _ (head_fits fields) refl)))))
 
 asked_fits : (verb : Result (List ℕ × Left) Refusal) → fits_what (asked_by verb) ≡ true
 asked_fits (Ok verb) = verb_fits verb.0 verb.1

@@ -17,13 +17,13 @@ use Rattle.ledger_bytes.specs.Digests.{digest}
 use Rattle.ledger_bytes.specs.declared.digest.Digest.{Digest}
 use Rattle.ledger_bytes.specs.declared.refusal.Refusal.{Refusal}
 use Rattle.script_lines.specs.Fields.{field_at}
-use Rattle.script_lines.specs.Grammar.{append_at, member_at, get_at, clue_at, head_at, spoken_line, spoken_at}
+use Rattle.script_lines.specs.Grammar.{append_at, member_at, anchor_at, get_at, clue_at, head_at, spoken_line, spoken_at}
 use Rattle.script_lines.specs.Parts.{parts}
 use Rattle.script_lines.specs.Sayings.{clue_text, line_words, line_text, IsOneField, IsName, IsClue, IsShort, IsSayable}
 use Rattle.script_lines.specs.Spellings.{text_of, number_of, bytes_of, digest_of, clue_of, name_of, is_dash}
 use Rattle.script_lines.specs.Words.{hex_of, hex_or_dash, spaced_words}
 use Rattle.script_lines.specs.declared.line.Line.{Line}
-use Rattle.script_lines.specs.declared.line.Line.TheVariants.{Append, NewMember, Get, Clue, Head}
+use Rattle.script_lines.specs.declared.line.Line.TheVariants.{Append, NewMember, Anchor, Get, Clue, Head}
 use Rattle.script_lines.proofs.Numbers.{number_of-decimal, numerals}
 
 -- no space stands in any of some words
@@ -127,6 +127,10 @@ member_at-words number key proof is =
     let p = bytes_of-hex 4096 proof is.3 in
     rw (n, k, p) refl
 
+anchor_at-words : anchor_at (record { column = 3; fields = [] }) ≡ Ok Anchor
+unfolding anchor_at
+anchor_at-words = refl
+
 get_at-words : (n : ℕ) → n < 2 ^ 64 → get_at (record { column = 3; fields = decimal n ∷ [] }) ≡ Ok (Get n)
 unfolding get_at
 get_at-words n small = rw (number_of-decimal (2 ^ 64 - 1) n (lit< tt) (omega arith)) refl
@@ -152,6 +156,7 @@ words-whole (Append member clue content proof) is =
     (literal-whole (codes "append") refl, (decimal-whole member (omega arith), (clue-whole clue is.1, (hex-whole content is.2.1, (hex-whole proof is.3.1, tt)))))
 words-whole (NewMember number key proof) is =
     (literal-whole (codes "member") refl, (decimal-whole number (omega arith), (digits-whole key.0 is.2, (hex-whole proof is.3.1, tt))))
+words-whole Anchor is = (literal-whole (codes "anchor") refl, tt)
 words-whole (Get n) is = (literal-whole (codes "get") refl, (decimal-whole n is, tt))
 words-whole (Clue name) is = (literal-whole (codes "clue") refl, (clue-whole name is, tt))
 words-whole Head is = (literal-whole (codes "head") refl, tt)
@@ -163,6 +168,7 @@ said_by fields = spoken_at (field_at text_of (record { column = 1; fields = fiel
 said_by-words : (line : Line) → IsSayable line → (let said : ℕ × Result Line Refusal = (0, Ok line) in said_by (codes "0" ∷ line_words line) ≡ said)
 said_by-words (Append member clue content proof) is = ap (λ (read : Result Line Refusal). (0, read)) (append_at-words member clue content proof is)
 said_by-words (NewMember number key proof) is = ap (λ (read : Result Line Refusal). (0, read)) (member_at-words number key proof is)
+said_by-words Anchor is = ap (λ (read : Result Line Refusal). (0, read)) anchor_at-words
 said_by-words (Get n) is = ap (λ (read : Result Line Refusal). (0, read)) (get_at-words n is)
 said_by-words (Clue name) is = ap (λ (read : Result Line Refusal). (0, read)) (clue_at-words name is)
 said_by-words Head is = ap (λ (read : Result Line Refusal). (0, read)) head_at-words

@@ -6,16 +6,17 @@ use Rattle.std.proofs.lemmas.Bool.{and_parts, leb-true}
 use Rattle.ledger_bytes.specs.declared.limits.TheConstants.{CONTENT_LIMIT, PROOF_LIMIT}
 use Rattle.ledger_bytes.specs.declared.refusal.Refusal.{Refusal}
 use Rattle.script_lines.specs.Fields.{Left, fields_of, next_column, read_or_bad, field_from, field_at, end_from, end_at}
-use Rattle.script_lines.specs.Grammar.{◌>>=◌, append_at, member_at, get_at, clue_at, head_at, verb_at, asked_by, lane_of, spoken_by, spoken_at, spoken_line}
+use Rattle.script_lines.specs.Grammar.{◌>>=◌, append_at, member_at, anchor_at, get_at, clue_at, head_at, verb_at, asked_by, lane_of, spoken_by, spoken_at, spoken_line}
 use Rattle.script_lines.specs.Receipts.{Fits, RefusalFits}
 use Rattle.script_lines.specs.Spellings.{text_of, number_of, bytes_of, digest_of, clue_of, is_decimal, value_behind}
 use Rattle.script_lines.specs.declared.line.Line.{Line}
-use Rattle.script_lines.specs.declared.line.Line.TheVariants.{Append, NewMember, Get, Clue, Head}
+use Rattle.script_lines.specs.declared.line.Line.TheVariants.{Append, NewMember, Anchor, Get, Clue, Head}
 
 -- the numbers that a refusal of the line may tell
 abbrev pub LineFits : Line → Type 0
 LineFits (Append member clue content proof) = Fits member
 LineFits (NewMember number key proof) = ⊤
+LineFits Anchor = ⊤
 LineFits (Get n) = ⊤
 LineFits (Clue name) = ⊤
 LineFits Head = ⊤
@@ -82,6 +83,10 @@ member_fits fields here =
     then_fits Any _ _ (field_gives Any (bytes_of PROOF_LIMIT) key.1 b (λ text x is. tt)) (λ proof p c.
     end_fits proof.1 (NewMember number.0 key.0 proof.0) c tt)))
 
+anchor_fits : (fields : Left) → Fits fields.column → WhatFits (anchor_at fields)
+unfolding anchor_at
+anchor_fits fields here = end_fits fields Anchor here tt
+
 get_fits : (fields : Left) → Fits fields.column → WhatFits (get_at fields)
 unfolding get_at
 get_fits fields here =
@@ -106,9 +111,10 @@ verb_fits : (verb : List ℕ) (fields : Left) → Fits fields.column → WhatFit
 verb_fits verb fields here =
     either_fits (bytes_eq verb (codes "append")) _ _ (append_fits fields here)
     (either_fits (bytes_eq verb (codes "member")) _ _ (member_fits fields here)
+    (either_fits (bytes_eq verb (codes "anchor")) _ _ (anchor_fits fields here)
     (either_fits (bytes_eq verb (codes "get")) _ _ (get_fits fields here)
     (either_fits (bytes_eq verb (codes "clue")) _ _ (clue_fits fields here)
-    (either_fits (bytes_eq verb (codes "head")) _ _ (head_fits fields here) tt))))
+    (either_fits (bytes_eq verb (codes "head")) _ _ (head_fits fields here) tt)))))
 
 asked_fits : (verb : Result (List ℕ × Left) Refusal) → Gives Any verb → WhatFits (asked_by verb)
 asked_fits (Ok verb) g = verb_fits verb.0 verb.1 g.1

@@ -7,7 +7,7 @@ use Rattle.ledger_bytes.specs.declared.refusal.Refusal.TheVariants.{BadVerb, Bad
 use Rattle.script_lines.specs.Fields.{Left, fields_of, field_at, end_at}
 use Rattle.script_lines.specs.Spellings.{text_of, number_of, bytes_of, digest_of, clue_of}
 use Rattle.script_lines.specs.declared.line.Line.{Line}
-use Rattle.script_lines.specs.declared.line.Line.TheVariants.{Append, NewMember, Get, Clue, Head}
+use Rattle.script_lines.specs.declared.line.Line.TheVariants.{Append, NewMember, Anchor, Get, Clue, Head}
 
 -- the second step, with what the first gave
 infixl 10 ◌>>=◌
@@ -34,6 +34,12 @@ member_at fields = do
   end ← end_at proof.1
   Ok (NewMember number.0 key.0 proof.0)
 
+-- `anchor`
+unfoldable pub anchor_at : Left → Result Line Refusal
+anchor_at fields = do
+  end ← end_at fields
+  Ok Anchor
+
 -- `get N`
 unfoldable pub get_at : Left → Result Line Refusal
 get_at fields = do
@@ -59,6 +65,7 @@ abbrev pub verb_at : List ℕ → Left → Result Line Refusal
 verb_at verb fields =
     if bytes_eq verb (codes "append") then append_at fields
     else if bytes_eq verb (codes "member") then member_at fields
+    else if bytes_eq verb (codes "anchor") then anchor_at fields
     else if bytes_eq verb (codes "get") then get_at fields
     else if bytes_eq verb (codes "clue") then clue_at fields
     else if bytes_eq verb (codes "head") then head_at fields

@@ -4,13 +4,14 @@ use Rattle.ledger_bytes.specs.declared.limits.TheConstants.{CONTENT_LIMIT, NAME_
 use Rattle.ledger_bytes.specs.declared.refusal.Refusal.{Refusal}
 use Rattle.ledger_bytes.specs.declared.refusal.Refusal.TheVariants.{BadVerb, BadField, BadLane}
 use Rattle.script_lines.specs.declared.line.Line.{Line}
-use Rattle.script_lines.specs.declared.line.Line.TheVariants.{Append, NewMember, Get, Clue, Head}
+use Rattle.script_lines.specs.declared.line.Line.TheVariants.{Append, NewMember, Anchor, Get, Clue, Head}
 
 -- nothing in the line is longer than a line may give
 abbrev pub fits_line : Line → Bool
 fits_line (Append member clue content proof) =
     nat_le (length clue) NAME_LIMIT && nat_le (length content) CONTENT_LIMIT && nat_le (length proof) PROOF_LIMIT
 fits_line (NewMember number key proof) = nat_le (length proof) PROOF_LIMIT
+fits_line Anchor = true
 fits_line (Get n) = true
 fits_line (Clue name) = nat_le (length name) NAME_LIMIT
 fits_line Head = true

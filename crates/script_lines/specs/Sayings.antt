@@ -4,7 +4,7 @@ use Rattle.hex.specs.Hex.{IsBytes}
 use Rattle.ledger_bytes.specs.declared.limits.TheConstants.{CONTENT_LIMIT, NAME_LIMIT, PROOF_LIMIT}
 use Rattle.script_lines.specs.Words.{hex_of, hex_or_dash, spaced_words}
 use Rattle.script_lines.specs.declared.line.Line.{Line}
-use Rattle.script_lines.specs.declared.line.Line.TheVariants.{Append, NewMember, Get, Clue, Head}
+use Rattle.script_lines.specs.declared.line.Line.TheVariants.{Append, NewMember, Anchor, Get, Clue, Head}
 
 -- a clue's name, or `-` for no clue
 abbrev pub clue_text : List ℕ → List ℕ
@@ -16,6 +16,7 @@ abbrev pub line_words : Line → List (List ℕ)
 line_words (Append member clue content proof) =
     codes "append" ∷ decimal member ∷ clue_text clue ∷ hex_or_dash content ∷ hex_or_dash proof ∷ []
 line_words (NewMember number key proof) = codes "member" ∷ decimal number ∷ hex_of key ∷ hex_or_dash proof ∷ []
+line_words Anchor = codes "anchor" ∷ []
 line_words (Get n) = codes "get" ∷ decimal n ∷ []
 line_words (Clue name) = codes "clue" ∷ clue_text name ∷ []
 line_words Head = codes "head" ∷ []
@@ -48,6 +49,7 @@ abbrev pub IsSayable : Line → Type 0
 IsSayable (Append member clue content proof) =
     (member < 2 ^ 32) × IsClue clue × IsShort CONTENT_LIMIT content × IsShort PROOF_LIMIT proof
 IsSayable (NewMember number key proof) = (number < 2 ^ 32) × (length key.0 ≡ 32) × IsBytes key.0 × IsShort PROOF_LIMIT proof
+IsSayable Anchor = ⊤
 IsSayable (Get n) = n < 2 ^ 64
 IsSayable (Clue name) = IsClue name
 IsSayable Head = ⊤

@@ -23,6 +23,8 @@ pub enum Line {
         /// The proof of member 0, up to 4,096 bytes.
         proof: Bytes,
     },
+    /// A time journal is to be added, with a notary's stamp: `anchor`.
+    Anchor,
     /// A journal is asked for: `get N`.
     Get {
         /// The journal's number.

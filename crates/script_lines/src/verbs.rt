@@ -1,5 +1,5 @@
 ghost use Rattle.std.specs.Prelude.{◌≡◌, ◌≤◌, true, IfOk, IfSome};
-ghost use Rattle.script_lines.specs.Grammar.{append_at, member_at, get_at, clue_at, head_at, asked_by, lane_of, spoken_line};
+ghost use Rattle.script_lines.specs.Grammar.{append_at, member_at, anchor_at, get_at, clue_at, head_at, asked_by, lane_of, spoken_line};
 ghost use Rattle.script_lines.specs.Fields.{field_at};
 ghost use Rattle.script_lines.specs.Reading.{Reads, fits_read};
 ghost use Rattle.script_lines.specs.Spellings.{text_of};
@@ -82,6 +82,8 @@ fn read_asked(alloc: Global, mut fields: Fields) -> Result<Line, Stop>
         read_append(alloc, fields)
     } else if verb == b"member".as_slice() {
         read_member(alloc, fields)
+    } else if verb == b"anchor".as_slice() {
+        read_anchor(fields)
     } else if verb == b"get".as_slice() {
         read_get(fields)
     } else if verb == b"clue".as_slice() {
@@ -125,6 +127,15 @@ fn read_member(alloc: Global, mut fields: Fields) -> Result<Line, Stop>
         key,
         proof,
     })
+}
+
+#[tactic(auto, unfolding(crate::specs::Grammar::anchor_at))]
+fn read_anchor(fields: Fields) -> Result<Line, Stop>
+    ensures reads { Reads result (anchor_at fields.entry) }
+    ensures fits { fits_read result ≡ true }
+{
+    fields.end()?;
+    Ok(Line::Anchor)
 }
 
 #[tactic(auto, unfolding(crate::specs::Grammar::get_at))]
