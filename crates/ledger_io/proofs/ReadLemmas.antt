@@ -6,7 +6,7 @@ use Rattle.std.proofs.lemmas.List.Elements.{All-same}
 use Rattle.std.specs.Io.KnownBytes.{IsAtEnd}
 use Rattle.std.proofs.KnownBytes.{Consumes-trans}
 use Rattle.ledger_io.specs.Outside.{SourceState}
-use Rattle.ledger_io.specs.Lines.{script_limit, IsUnbroken, IsLine}
+use Rattle.ledger_io.specs.Lines.{script_limit, IsUnbroken, IsLine, BreaksAt}
 use Rattle.ledger_io.specs.Reading.{Reading, Reads, Gives}
 use Rattle.ledger_io.specs.Steps.{reading_after, HasRead, Fetched, TakesLine, TakesRest, IsSound}
 use Rattle.ledger_io.specs.declared.failure.LineErr.{LineErr}
@@ -17,6 +17,16 @@ pub IsSound-all : (held : List ℕ) (looked n total : ℕ) (ended : Bool) → Is
 IsSound-all held looked n total ended s e h = record {
   within = omega arith;
   unbroken = All-same (λ b. b ≢ 10) (take n held) held (take_all n held (omega arith)) h;
+  bounded = s.bounded;
+  none_held = s.none_held;
+  short = s.short;
+}
+
+-- the bytes before the first newline were searched
+pub IsSound-before : (held : List ℕ) (looked n total : ℕ) (ended : Bool) → IsSound held looked total ended → BreaksAt held n → IsSound held n total ended
+IsSound-before held looked n total ended s b = record {
+  within = let inside = b.within in omega arith;
+  unbroken = b.unbroken;
   bounded = s.bounded;
   none_held = s.none_held;
   short = s.short;

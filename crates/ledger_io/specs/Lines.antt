@@ -1,5 +1,5 @@
 -- The lines of bytes. A newline is the byte 10.
-use Rattle.std.specs.Prelude.{◌≡◌, ◌≢◌, ℕ, ◌+◌, ◌<◌, ◌≤◌, ◌==◌, if◌then◌else◌, List, [], ◌∷◌, ◌++◌, length, take, drop, All}
+use Rattle.std.specs.Prelude.{◌≡◌, ◌≢◌, ℕ, ◌+◌, ◌<◌, ◌≤◌, ◌==◌, if◌then◌else◌, Bool, true, false, List, [], ◌∷◌, ◌++◌, length, take, drop, All}
 
 -- the most bytes that a line has, without its newline
 abbrev pub line_limit : ℕ
@@ -47,6 +47,11 @@ pub record BreaksAt (bytes : List ℕ) (i : ℕ) : Type 0 where
   pub unbroken : IsUnbroken (take i bytes)
   pub within : i < length bytes
   pub newline : drop i bytes ≡ 10 ∷ drop (i + 1) bytes
+
+-- whether a newline stands in the bytes
+abbrev pub HoldsLine : List ℕ → Bool → Type 0
+HoldsLine bytes true = (i : ℕ) × BreaksAt bytes i
+HoldsLine bytes false = IsUnbroken bytes
 
 -- the bytes are these lines, each with its newline, and then a rest
 pub record Splits (bytes : List ℕ) (lines : List (List ℕ)) (rest : List ℕ) : Type 0 where

@@ -1,5 +1,5 @@
 ghost use Rattle.std.specs.Prelude.{◌≡◌, ◌≢◌, ℕ, ◌<◌, ◌≤◌, List, [], false, None, length, IsTrue, ◌↔◌, MatchOption};
-ghost use Rattle.ledger_io.specs.Lines.{line_limit, script_limit, IsUnbroken, IsLine, BreaksAt};
+ghost use Rattle.ledger_io.specs.Lines.{line_limit, script_limit, IsUnbroken, IsLine, BreaksAt, HoldsLine};
 ghost use Rattle.ledger_io.specs.Reading.{Reads, Gives, faults_next};
 ghost use Rattle.ledger_io.specs.Steps.{reading_after, HasRead, Fetched, TakesLine, TakesRest};
 
@@ -16,18 +16,23 @@ pub const LINE_LIMIT: usize = 4_194_304;
 /// A script has fewer bytes than this.
 pub const SCRIPT_LIMIT: u64 = 1_099_511_627_776;
 
-// The most bytes of one read.
-const PIECE: u64 = 1_048_576;
+// The most bytes of one read, and of one where more is wanted.
+const PIECE: u64 = 65_536;
 
-/// Reads lines. It keeps what it read and didn't give yet, which is at most a line and a piece of 1 MiB.
+const WIDE_PIECE: u64 = 1_048_576;
+
+/// Reads lines. It keeps what it read and didn't give yet, which is at most a line and a piece of 64 KiB, or of 1 MiB.
 #[derive(Drop)]
 pub struct Lines {
     alloc: Global,
     buffer: Buffer,
     looked: usize,
+    /// The most bytes of the next read.
+    piece: u64,
     total: u64,
     ended: bool,
     failed: Option<LineErr>,
+    ghost some: { 0 < piece },
 }
 
 impl Model for Lines {
@@ -54,10 +59,18 @@ impl Lines {
             alloc,
             buffer: Buffer::new(alloc),
             looked: 0,
+            piece: PIECE,
             total: 0,
             ended: false,
             failed: None,
         }
+    }
+
+    /// Reads up to 1 MiB at once from now on, and not 64 KiB: for lines that are taken together.
+    pub fn widen(&mut self)
+        ensures { self.new ≡ self.old }
+    {
+        self.piece = WIDE_PIECE;
     }
 
     /// The next line, without its newline, or the rest after the last newline where that isn't empty. A carriage
@@ -84,9 +97,13 @@ impl Lines {
         result
     }
 
-    /// Whether a whole line was read already, which the next call gives without reading more.
-    pub fn holds_line(&self) -> bool {
-        newline_in(self.buffer.as_slice()).is_some()
+    /// Whether a whole line was read already, which the next call gives without reading more. What it searched for a
+    /// newline isn't searched again.
+    pub fn holds_line(&mut self) -> bool
+        ensures held { HoldsLine self.old.held result }
+        ensures same { self.new ≡ self.old }
+    {
+        self.find_newline().is_some()
     }
 
     // Reads until a newline or the end. What it answers stands once its error is noted.
@@ -124,15 +141,31 @@ impl Lines {
         self.total == SCRIPT_LIMIT
     }
 
-    fn take_line(&mut self) -> Result<Option<Bytes>, LineErr>
-        ensures { TakesLine self.old self.new result }
+    // Where the first newline of the held bytes is.
+    fn find_newline(&mut self) -> Option<usize>
+        ensures found { MatchOption result (IsUnbroken self.old.held) (BreaksAt self.old.held) }
+        ensures same { self.new ≡ self.old }
     {
         let looked = self.looked;
         match newline_in(self.buffer.as_slice().split_at(looked).1) {
-            Some(at) => self.cut_line(looked + at),
+            Some(at) => {
+                self.looked = looked + at;
+                Some(looked + at)
+            }
             None => {
                 self.looked = self.buffer.as_slice().len();
-                if self.looked > LINE_LIMIT {
+                None
+            }
+        }
+    }
+
+    fn take_line(&mut self) -> Result<Option<Bytes>, LineErr>
+        ensures { TakesLine self.old self.new result }
+    {
+        match self.find_newline() {
+            Some(at) => self.cut_line(at),
+            None => {
+                if self.buffer.as_slice().len() > LINE_LIMIT {
                     return Err(LineErr::LineTooLong);
                 }
                 Ok(None)
@@ -164,7 +197,7 @@ impl Lines {
         ensures counts { (S.state source.new).faults
             ≡ faults_next result None (S.state source.old).faults }
     {
-        let most = PIECE.min(SCRIPT_LIMIT - self.total) as usize;
+        let most = self.piece.min(SCRIPT_LIMIT - self.total) as usize;
         let count = self.buffer.fetch(source, most)?;
         self.total += count as u64;
         Ok(count)
