@@ -1,6 +1,6 @@
 -- An accepted job places the next journal, and its parts have their digests.
 use Rattle.std.specs.Prelude.{IsTrue, nat_lt, nat_le, bytes_eq, ◌==◌}
-use Rattle.std.proofs.Common.{◌≡◌, ℕ, ◌+◌, ◌<◌, ◌≤◌, ◌&&◌, ◌||◌, Bool, true, false, cond, not, List, [], ◌∷◌, length, Option, Some, None, refl, ◌∙◌, ap, arith}
+use Rattle.std.proofs.Common.{◌≡◌, ℕ, ◌+◌, ◌<◌, ◌≤◌, ◌&&◌, ◌||◌, Bool, true, false, cond, not, List, [], ◌∷◌, length, drop, Option, Some, None, refl, sym, ◌∙◌, ap, arith}
 use Rattle.std.proofs.lemmas.Bool.{eqb-true, le-leb, lt-leb, lt-ltb, leb-false, ltb-true, and_from}
 use Rattle.std.proofs.lemmas.List.{length-map}
 use Rattle.std.proofs.lemmas.Slice.Eq.{bytes_eq-Decides}
@@ -13,10 +13,14 @@ use Rattle.journal_record.specs.Members.{is_known, number_refusal}
 use Rattle.journal_record.specs.Rules.{IsHeader, is_no_clue, clue_ord_ok, clue_prev_ok}
 use Rattle.journal_record.specs.declared.approval.Approval.{Approval}
 use Rattle.journal_record.specs.declared.member.Member.{Member}
+use Rattle.journal_record.specs.declared.rules.TheConstants.{NOTARY_LIMIT}
+use Rattle.journal_record.specs.declared.stamp.Stamp.{Stamp}
+use Rattle.ledger_model.specs.Anchors.{time_header, time_journal, stamp_from, stamp_of}
+use Rattle.ledger_model.specs.Step.{Step}
 use Rattle.ledger_model.specs.Appends.{append_header, append_journal, member_header, member_journal}
 use Rattle.ledger_model.specs.Clues.{jsns_with, clue_count, last_of, next_ordinal, last_journal}
 use Rattle.ledger_model.specs.History.{History, history, journals, size}
-use Rattle.ledger_model.specs.Judgements.{kept_count, is_full, fullness, unknown_in, wrong_key_in, clues_full, append_judgements, member_judgements, first_refusal}
+use Rattle.ledger_model.specs.Judgements.{kept_count, is_full, fullness, hard_fullness, unknown_in, wrong_key_in, clues_full, append_judgements, member_judgements, first_refusal}
 use Rattle.ledger_model.specs.Lawful.{IsNext, AreLawful, IsWhole}
 use Rattle.ledger_model.specs.Limits.{real_limits, AreWithin}
 use Rattle.ledger_model.specs.Members.{members, keys}
@@ -126,6 +130,54 @@ module _ (limits : Limits) (within : AreWithin limits) (h : History) (member : �
     below = room;
     own = record { member = known; clue_ord = refl; clue_prev = refl; room = clue_room };
   }
+
+-- an anchor that is accepted
+hard_room : (limits : Limits) (h : History) → IsNone (hard_fullness limits h) → size h < limits.size
+unfolding hard_fullness
+hard_room limits h is = leb-false limits.size (size h) (right_of (nat_le limits.hard (kept_count h)) (nat_le limits.size (size h)) (if_none (is_full limits.hard limits h) _ is)) where
+  right_of : (v w : Bool) → (v || w) ≡ false → w ≡ false
+  right_of true w e = absurd cc
+  right_of false w e = e
+
+module _ (limits : Limits) (within : AreWithin limits) (h : History) (stamp : Stamp) (judged : IsNone (first_refusal (hard_fullness limits h ∷ []))) where
+  pub time_next : AreLawful (journals h) → stamp.index < NOTARY_LIMIT → IsNext (history [] (journals h)) (time_journal (size h) stamp).header
+  unfolding time_header
+  time_next lawful few = record {
+    layout = record {
+      version = refl;
+      jsn = lt-ltb 0 (size h) (omega (arith, some_journal (journals h) lawful));
+      member = refl;
+      clue = refl;
+      clue_ord = refl;
+      clue_prev = refl;
+      a = lt-ltb stamp.index NOTARY_LIMIT few;
+      b = refl;
+      content_len = refl;
+    };
+    jsn = refl;
+    below = let less = hard_room limits h (none_first (hard_fullness limits h) [] judged).0 in omega (arith, less, within.size);
+    own = tt;
+  }
+
+pub time_whole : (jsn : ℕ) (stamp : Stamp) → IsWhole (time_journal jsn stamp)
+unfolding time_header
+time_whole jsn stamp = record { length_is = refl; content_is = refl; who_is = refl }
+
+-- the index of a stamp of a step
+first_index : (index : ℕ) (es : List (List ℕ)) (stamp : Stamp) → stamp_from index es ≡ Some stamp → stamp.index ≡ index
+first_index index [] stamp is = absurd cc
+first_index index (e ∷ es) stamp is = ap (λ (o : Option Stamp). index_in o) (sym is) where
+  index_in : Option Stamp → ℕ
+  index_in None = index
+  index_in (Some s) = s.index
+
+pub stamp_few : (step : Step) (stamp : Stamp) → stamp_of step ≡ Some stamp → stamp.index < NOTARY_LIMIT
+unfolding stamp_of
+stamp_few step stamp = by_full (nat_le NOTARY_LIMIT (length step.before)) refl step.failed where
+  by_full : (full : Bool) → nat_le NOTARY_LIMIT (length step.before) ≡ full → (failed : Bool) → cond (failed || full) None (stamp_from (length step.before) (drop (length step.before) step.after)) ≡ Some stamp → stamp.index < NOTARY_LIMIT
+  by_full full e true is = absurd cc
+  by_full true e false is = absurd cc
+  by_full false e false is = omega (arith, leb-false NOTARY_LIMIT (length step.before) e, first_index (length step.before) (drop (length step.before) step.after) stamp is)
 
 -- .. and its parts have their digests
 pub record_whole : (h : History) (member : ℕ) (clue : Digest) (content : List ℕ) (content_digest request : Digest) (by : Approval)

@@ -3,7 +3,8 @@ use Rattle.std.specs.Prelude.{⊤, filter}
 use Rattle.std.proofs.Common.{ℕ, ◌+◌, ◌^◌, ◌<◌, ◌≤◌, ◌==◌, Bool, true, false, cond, List, [], ◌∷◌, ◌++◌, length, map, arith, length-append}
 use Rattle.script_lines.specs.Grammar.{spoken_line}
 use Rattle.script_lines.specs.Receipts.{Fits}
-use Rattle.ledger_model.specs.Dues.{AllCounted, EachCounted}
+use Rattle.ledger_model.specs.Anchors.{stamp_of}
+use Rattle.ledger_model.specs.Dues.{IsCounted, AllCounted, EachCounted}
 use Rattle.ledger_model.specs.InOrder.{step_of, steps_of}
 use Rattle.ledger_model.specs.Step.{Step}
 use Rattle.ledger_model.specs.Windows.{Said, said_after, said_lines, fills_window, onto_first, windows_after, windows}
@@ -45,9 +46,13 @@ after_fits lines bytes (x ∷ xs) a =
       | false ↦ onto_fits x (windows_after (lines + 1) (bytes + length x.line) xs) a.0 (after_fits (lines + 1) (bytes + length x.line) xs a.1)
     ]
 
+step_counted : (x : Said) → SaidFits x → IsCounted (step_of x)
+unfolding stamp_of
+step_counted x a = record { lane = a.0; index = a.1; entries = omega arith; stamp = tt }
+
 all_counted : (xs : List Said) → AllSaid xs → AllCounted (map step_of xs)
 all_counted [] a = tt
-all_counted (x ∷ xs) a = (record { lane = a.0.0; index = a.0.1; entries = omega arith }, all_counted xs a.1)
+all_counted (x ∷ xs) a = (step_counted x a.0, all_counted xs a.1)
 
 each_counted : (windows : List (List Said)) → EachSaid windows → EachCounted (steps_of windows)
 each_counted [] e = tt

@@ -1,5 +1,5 @@
 -- Lemmas on what is due: when a block has ended, the lines that are due for it are the text of its steps.
-use Rattle.std.proofs.Common.{◌≡◌, ℕ, ◌-◌, ◌<◌, ◌≤◌, ◌⊎◌, inl, inr, List, [], ◌∷◌, ◌++◌, length, Option, Some, None, refl, ap, sym, ◌∙◌, arith, append_assoc, length-append}
+use Rattle.std.proofs.Common.{◌≡◌, ℕ, ◌+◌, ◌-◌, ◌<◌, ◌≤◌, ◌⊎◌, inl, inr, List, [], ◌∷◌, ◌++◌, length, Option, Some, None, refl, ap, sym, subst, ◌∙◌, arith, append_assoc, length-append}
 use Rattle.std.specs.Prelude.{⊤}
 use Rattle.ledger_bytes.specs.Digests.{digest}
 use Rattle.ledger_bytes.specs.declared.digest.Digest.{Digest}
@@ -8,13 +8,15 @@ use Rattle.journal_record.specs.Entry.{Entry}
 use Rattle.journal_record.specs.declared.stamp.Stamp.{Stamp}
 use Rattle.script_lines.specs.Replies.{reply_text}
 use Rattle.script_lines.specs.declared.reply.Reply.TheVariants as reply
+use Rattle.std.specs.Option.{option_map}
+use Rattle.ledger_model.specs.Anchors.{stamp_of, time_journal}
 use Rattle.ledger_model.specs.Appends.{append_journal, member_journal}
 use Rattle.ledger_model.specs.Dues.{due_for, dues, reply_at, dues_text, IsWithin}
 use Rattle.ledger_model.specs.Growing.{Grows}
-use Rattle.ledger_model.specs.History.{History, id, journals, journals_of, size, root, close, block_of, end_of}
+use Rattle.ledger_model.specs.History.{History, id, journals_of, size, root, close, block_of, end_of}
 use Rattle.ledger_model.specs.Judgements.{own_refusal}
 use Rattle.ledger_model.specs.Limits.{real_limits}
-use Rattle.ledger_model.specs.Outcomes.{after_judgement, with_job, placed_as, judged_outcome, outcome}
+use Rattle.ledger_model.specs.Outcomes.{with_waiting, anchor_outcome, after_judgement, with_job, placed_as, judged_outcome, outcome}
 use Rattle.ledger_model.specs.Rules.{settled_history, job_of, after_job, after_step, after_steps, after_window, after}
 use Rattle.ledger_model.specs.Scheme.{Scheme}
 use Rattle.ledger_model.specs.Step.{Step}
@@ -23,8 +25,8 @@ use Rattle.ledger_model.specs.declared.answer.Answer.{Answer}
 use Rattle.ledger_model.specs.declared.answer.Answer.TheVariants.{Reply, Receipt}
 use Rattle.ledger_model.specs.declared.due.Due.{Due}
 use Rattle.ledger_model.specs.declared.job.Job.{Job}
-use Rattle.ledger_model.specs.declared.job.Job.TheVariants.{Refused, Append, NewMember, Get, Clue, Head}
-use Rattle.ledger_model.proofs.GrowLaws.{IsEnded, Moves, is_placed, moves_job, moves_close, grows_not, grows_moved, grows_then, grows_size, size_closed, root_kept, block_of-grows, end_of-grows, end_of-le, block_of-ended, end_of-ended}
+use Rattle.ledger_model.specs.declared.job.Job.TheVariants.{Refused, Append, NewMember, Anchor, Get, Clue, Head}
+use Rattle.ledger_model.proofs.GrowLaws.{IsEnded, moves_close, grows_not, grows_moved, grows_job, grows_settled, size_close, grows_then, grows_size, size_closed, root_kept, block_of-grows, end_of-grows, end_of-le, block_of-ended, end_of-ended}
 
 -- each receipt's journal has a number of this range
 abbrev pub AllWithin : ℕ → ℕ → List Due → Type 0
@@ -36,7 +38,23 @@ within_judged : (k : History) (step : Step) (job : Job) (refusal : Option Refusa
     → IsWithin (size k) (size (settled_history job (after_judgement refusal (Some journal) k))) (answer_for k step (judged_outcome refusal (placed_as (size k) journal)))
 within_judged k step job (Some refusal) journal = tt
 within_judged k step job None journal =
-    let p = is_placed k job journal in (omega arith, omega (arith, ap length p.journals_are, length-append (journals k) (journal ∷ [])))
+    let g = with_waiting (Some journal) k in
+    let placed : size k + 1 ≤ size g = omega (arith, length-append (journals_of k.closed) (k.waiting ++ journal ∷ []), length-append k.waiting (journal ∷ []), length-append (journals_of k.closed) k.waiting) in
+    (omega arith, omega (arith, placed, grows_size g (settled_history job g) (grows_settled job g)))
+
+-- a time journal has the next number
+within_anchor : (k : History) (step : Step) (refusal : Option Refusal) (stamp : Option Stamp)
+    → IsWithin (size k) (size (settled_history Anchor (after_judgement refusal (option_map (time_journal (size k)) stamp) k))) (answer_for k step (judged_outcome refusal (anchor_outcome k stamp)))
+within_anchor k step (Some refusal) stamp = tt
+within_anchor k step None None = tt
+within_anchor k step None (Some stamp) = within_judged k step Anchor None (time_journal (size k) stamp)
+
+-- the end of the open block adds none
+within_closed : (k : History) (step : Step) → IsWithin (size k) (size (after_job k step Anchor)) (answer_to k step Anchor)
+unfolding after_job answer_to with_job outcome
+within_closed k step =
+    subst (λ n. IsWithin n (size (after_job k step Anchor)) (answer_to k step Anchor)) (size_close k)
+    (within_anchor (close k) step (own_refusal real_limits (close k) Anchor) (stamp_of step))
 
 -- a receipt's journal is the one that the job places
 pub within_job : (k : History) (step : Step) (job : Job) → IsWithin (size k) (size (after_job k step job)) (answer_to k step job)
@@ -47,6 +65,7 @@ within_job k step (Append member clue content content_digest request by) =
     within_judged k step job (own_refusal real_limits k job) (append_journal k member clue content content_digest request by)
 within_job k step (NewMember number key by) =
     let job = NewMember number key by in within_judged k step job (own_refusal real_limits k job) (member_journal (size k) number key by)
+within_job k step Anchor = within_closed k step
 within_job k step (Get n) = tt
 within_job k step (Clue clue) = tt
 within_job k step Head = tt
@@ -57,7 +76,7 @@ within_step scheme k step = within_job k step (job_of scheme (id k) step.line)
 
 pub grows_step : (scheme : Scheme) (k : History) (step : Step) → Grows k (after_step scheme k step)
 unfolding after_step
-grows_step scheme k step = grows_moved k (after_job k step (job_of scheme (id k) step.line)) (moves_job k step (job_of scheme (id k) step.line))
+grows_step scheme k step = grows_job k step (job_of scheme (id k) step.line)
 
 pub grows_steps : (scheme : Scheme) (k : History) (steps : List Step) → Grows k (after_steps scheme k steps)
 grows_steps scheme k [] = grows_not k

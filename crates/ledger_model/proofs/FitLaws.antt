@@ -19,21 +19,28 @@ use Rattle.ledger_model.specs.Appends.{append_with, member_job, append_journal, 
 use Rattle.ledger_model.specs.Clues.{numbers_of, jsns_with, clue_count}
 use Rattle.ledger_model.specs.Dues.{IsWithin, due_for, dues, all_dues, due_reply, due_replies, IsCounted, AllCounted, EachCounted}
 use Rattle.ledger_model.specs.Growing.{Grows}
-use Rattle.ledger_model.specs.History.{History, id, journals, journals_of, size, point, block_from, end_from, block_of, end_of, close}
-use Rattle.ledger_model.specs.Judgements.{kept_count, is_full, fullness, unknown_in, wrong_key_in, clues_full, first_refusal, own_refusal}
+use Rattle.ledger_model.specs.History.{History, id, journals, journals_of, size, root, blocks, point, block_from, end_from, block_of, end_of, close}
+use Rattle.ledger_model.specs.Judgements.{kept_count, is_full, fullness, hard_fullness, unknown_in, wrong_key_in, clues_full, first_refusal, own_refusal}
 use Rattle.ledger_model.specs.Lawful.{AreNext, IsBlock, IsLawful}
 use Rattle.ledger_model.specs.Limits.{real_limits}
 use Rattle.ledger_model.specs.Members.{members, keys}
-use Rattle.ledger_model.specs.Outcomes.{placed_as, judged_outcome, outcome}
-use Rattle.ledger_model.specs.Rules.{job_for, job_of, closes_before, judged_at, stamp_of, after_step, after_steps, after_window, after}
+use Rattle.ledger_model.specs.Outcomes.{placed_as, anchor_outcome, judged_outcome, outcome}
+use Rattle.ledger_model.specs.Anchors.{stamp_of, time_journal, no_stamp, is_full_list}
+use Rattle.ledger_model.specs.Rules.{job_for, job_of, closes_before, judged_at, after_step, after_steps, after_window, after}
 use Rattle.ledger_model.specs.Scheme.{Scheme}
 use Rattle.ledger_model.specs.Step.{Step}
-use Rattle.ledger_model.specs.Texts.{kept_with, answer_for, answer_to, told_stamp, reply_in}
+use Rattle.ledger_model.specs.Texts.{kept_with, told_reply, answer_for, answer_to, told_stamp, reply_in}
 use Rattle.ledger_model.specs.declared.answer.Answer.{Answer}
 use Rattle.ledger_model.specs.declared.answer.Answer.TheVariants.{Reply, Receipt}
 use Rattle.ledger_model.specs.declared.due.Due.{Due}
+use Rattle.ledger_model.specs.declared.outcome.Query.TheVariants as query
+use Rattle.script_lines.specs.declared.reply.Reply.TheVariants as reply
+use Rattle.journal_record.specs.declared.stamp.Stamp.{Stamp}
+use Rattle.ledger_bytes.specs.Digests.{digest}
+use Rattle.sha2.specs.Sha256.{sha256}
+use Rattle.tree_model.specs.Tree.{mth}
 use Rattle.ledger_model.specs.declared.job.Job.{Job}
-use Rattle.ledger_model.specs.declared.job.Job.TheVariants.{Refused, Append, NewMember, Get, Clue, Head}
+use Rattle.ledger_model.specs.declared.job.Job.TheVariants.{Refused, Append, NewMember, Anchor, Get, Clue, Head}
 use Rattle.ledger_model.proofs.ByteLaws.{leaf_bytes}
 use Rattle.ledger_model.proofs.DueLaws.{grows_steps, AllWithin, all_wider, all_higher, dues_within, grows_windows}
 use Rattle.ledger_model.proofs.GetLaws.{get_fits}
@@ -122,6 +129,11 @@ unfolding fullness
 full_fits h l =
     elim (is_full real_limits.soft real_limits h) as (λ v. MayFit (cond v (Some (refusals.Full (kept_count h) (size h))) None)) [ true ↦ (omega (arith, size_few h l), omega (arith, size_few h l)) | false ↦ tt ]
 
+hard_fits : (h : History) → IsLawful h → MayFit (hard_fullness real_limits h)
+unfolding hard_fullness
+hard_fits h l =
+    elim (is_full real_limits.hard real_limits h) as (λ v. MayFit (cond v (Some (refusals.Full (kept_count h) (size h))) None)) [ true ↦ (omega (arith, size_few h l), omega (arith, size_few h l)) | false ↦ tt ]
+
 unknown_fits : (known : List (List ℕ)) (member : ℕ) → Fits member → MayFit (unknown_in known member)
 unknown_fits known member f = elim (is_known known member) as (λ v. MayFit (cond v None (Some (refusals.UnknownMember member)))) [ true ↦ tt | false ↦ f ]
 
@@ -146,6 +158,7 @@ abbrev pub JobFits : Job → Type 0
 JobFits (Refused refusal) = RefusalFits refusal
 JobFits (Append member clue content content_digest request by) = Fits member
 JobFits (NewMember number key by) = ⊤
+JobFits Anchor = ⊤
 JobFits (Get n) = ⊤
 JobFits (Clue clue) = ⊤
 JobFits Head = ⊤
@@ -158,6 +171,7 @@ own_fits h (Append member clue content content_digest request by) l f =
 own_fits h (NewMember number key by) l f =
     first_fits (fullness real_limits h ∷ number_refusal (members h) number ∷ wrong_key_in (keys h) 0 by.key ∷ [])
     (full_fits h l, (number_fits (members h) number (omega (arith, members_few h l)), (wrong_fits (keys h) 0 by.key (omega arith), tt)))
+own_fits h Anchor l f = first_fits (hard_fullness real_limits h ∷ []) (hard_fits h l, tt)
 own_fits h (Get n) l f = tt
 own_fits h (Clue clue) l f = tt
 own_fits h Head l f = tt
@@ -169,6 +183,7 @@ for_fits scheme id (Ok (line.Append member clue content proof)) f = f
 for_fits scheme id (Ok (line.NewMember number key proof)) f = tt
 for_fits scheme id (Ok (line.Get n)) f = tt
 for_fits scheme id (Ok (line.Clue name)) f = tt
+for_fits scheme id (Ok line.Anchor) f = tt
 for_fits scheme id (Ok line.Head) f = tt
 
 pub job_counts : (scheme : Scheme) (id text : List ℕ) → JobFits (job_of scheme id text)
@@ -181,22 +196,36 @@ abbrev AnswerFits : Answer → Type 0
 AnswerFits (Reply reply) = ReplyFits reply
 AnswerFits (Receipt jsn leaf stamp) = IsBytes leaf.0 × StampFits (told_stamp stamp)
 
-placed_fits : (h : History) (step : Step) (refusal : Option Refusal) (journal : Entry) → MayFit refusal → AnswerFits (answer_for h step (judged_outcome refusal (placed_as (size h) journal)))
-placed_fits h step (Some refusal) journal f = f
-placed_fits h step None journal f = (leaf_bytes journal, tt)
+placed_fits : (h : History) (step : Step) (refusal : Option Refusal) (journal : Entry) → IsCounted step → MayFit refusal → AnswerFits (answer_for h step (judged_outcome refusal (placed_as (size h) journal)))
+placed_fits h step (Some refusal) journal c f = f
+placed_fits h step None journal c f = (leaf_bytes journal, c.stamp)
+
+no_stamp_fits : (step : Step) → AnswerFits (Reply (reply.Refused (no_stamp step)))
+no_stamp_fits step = elim (is_full_list step.before) as (λ v. AnswerFits (Reply (reply.Refused (cond v refusals.NotaryFull refusals.NotaryFault)))) [ true ↦ tt | false ↦ tt ]
+
+anchor_fits : (h : History) (step : Step) (refusal : Option Refusal) (stamp : Option Stamp) → IsCounted step → MayFit refusal → AnswerFits (answer_for h step (judged_outcome refusal (anchor_outcome h stamp)))
+anchor_fits h step (Some refusal) stamp c f = f
+anchor_fits h step None None c f = no_stamp_fits step
+anchor_fits h step None (Some stamp) c f = (leaf_bytes (time_journal (size h) stamp), c.stamp)
+
+head_fits : (h : History) (step : Step) → IsLawful h → IsCounted step → AnswerFits (Reply (told_reply h step query.Head))
+head_fits h step l c = elim step.failed as (λ v. AnswerFits (Reply (cond v (reply.Refused refusals.NotaryFault) (reply.Head (digest (id h)) (size h) (digest (root h (size h))) (blocks h) (point h) (length step.after) (digest (mth sha256 step.after)))))) [
+  | true ↦ tt
+  | false ↦ (omega (arith, size_few h l), omega (arith, closed_few h l, size_few h l), omega (arith, point_few h l, size_few h l), c.entries)
+]
 
 outcome_fits : (h : History) (step : Step) (job : Job) → IsLawful h → IsCounted step → JobFits job → AnswerFits (answer_for h step (outcome real_limits (stamp_of step) h job))
 unfolding outcome
 outcome_fits h step (Refused refusal) l c f = f
 outcome_fits h step (Append member clue content content_digest request by) l c f =
     let job = Append member clue content content_digest request by in
-    placed_fits h step (own_refusal real_limits h job) (append_journal h member clue content content_digest request by) (own_fits h job l f)
+    placed_fits h step (own_refusal real_limits h job) (append_journal h member clue content content_digest request by) c (own_fits h job l f)
 outcome_fits h step (NewMember number key by) l c f =
-    let job = NewMember number key by in placed_fits h step (own_refusal real_limits h job) (member_journal (size h) number key by) (own_fits h job l f)
+    let job = NewMember number key by in placed_fits h step (own_refusal real_limits h job) (member_journal (size h) number key by) c (own_fits h job l f)
+outcome_fits h step Anchor l c f = anchor_fits h step (own_refusal real_limits h Anchor) (stamp_of step) c (own_fits h Anchor l f)
 outcome_fits h step (Get n) l c f = get_fits h n (omega (arith, size_few h l)) (omega (arith, point_few h l, size_few h l))
 outcome_fits h step (Clue clue) l c f = (count_fits h clue l, kept_fit h clue l)
-outcome_fits h step Head l c f =
-    (omega (arith, size_few h l), omega (arith, closed_few h l, size_few h l), omega (arith, point_few h l, size_few h l), c.entries)
+outcome_fits h step Head l c f = head_fits h step l c
 
 judged_lawful : (h : History) (b : Bool) → IsLawful h → IsLawful (cond b (close h) h)
 judged_lawful h true l = close_lawful h l

@@ -1,5 +1,6 @@
 -- Lemmas on how a history grows, and on what stays true of the part that was there.
-use Rattle.std.proofs.Common.{◌≡◌, ℕ, ◌+◌, ◌-◌, ◌<◌, ◌≤◌, ◌⊎◌, inl, inr, true, false, cond, nat_lt, nat_le, List, [], ◌∷◌, ◌++◌, length, map, take, Option, Some, None, refl, ap, sym, subst, ◌∙◌, arith, append_assoc, append-nil, length-append}
+use Rattle.std.specs.Prelude.{Bool, ◌||◌}
+use Rattle.std.proofs.Common.{◌≡◌, ℕ, ◌+◌, ◌-◌, ◌<◌, ◌≤◌, ◌⊎◌, inl, inr, true, false, cond, nat_lt, nat_le, List, [], ◌∷◌, ◌++◌, length, map, take, Option, Some, None, refl, ap, sym, ◌∙◌, arith, append_assoc, append-nil, length-append}
 use Rattle.std.proofs.lemmas.Bool.{lt-ltb, le-ltb, ltb-false}
 use Rattle.std.proofs.lemmas.List.{map-append, length-map, take-append-le}
 use Rattle.std.proofs.lemmas.List.Concat.{flat_map-append}
@@ -8,16 +9,18 @@ use Rattle.tree_model.specs.Tree.{mth}
 use Rattle.ledger_bytes.specs.declared.limits.TheConstants.{BLOCK_LIMIT}
 use Rattle.ledger_bytes.specs.declared.refusal.Refusal.{Refusal}
 use Rattle.journal_record.specs.Entry.{Entry}
+use Rattle.journal_record.specs.declared.stamp.Stamp.{Stamp}
+use Rattle.ledger_model.specs.declared.limits.Limits.{Limits}
 use Rattle.journal_record.specs.Header.{spelling}
 use Rattle.ledger_model.specs.Growing.{Grows}
 use Rattle.ledger_model.specs.History.{History, history, journals_of, journals, size, leaves, root, close_by, close, block_from, end_from, block_of, end_of}
 use Rattle.ledger_model.specs.Judgements.{own_refusal}
 use Rattle.ledger_model.specs.Limits.{real_limits}
-use Rattle.ledger_model.specs.Outcomes.{placed_journal, with_waiting, after_judgement, with_job}
-use Rattle.ledger_model.specs.Rules.{settled_history, stamp_of, after_job}
+use Rattle.ledger_model.specs.Outcomes.{placed_journal, after_judgement, with_job}
+use Rattle.ledger_model.specs.Anchors.{stamp_of}
+use Rattle.ledger_model.specs.Rules.{closes_before, closes_after, judged_at, settled_history, after_job}
 use Rattle.ledger_model.specs.Step.{Step}
 use Rattle.ledger_model.specs.declared.job.Job.{Job}
-use Rattle.ledger_model.specs.declared.job.Job.TheVariants.{Refused, Append, NewMember, Get, Clue, Head}
 
 -- a block more has ended, and nothing waits
 pub record IsEnded (k g : History) : Type 0 where
@@ -52,47 +55,6 @@ pub moves_close : (k : History) → Moves k (close k)
 unfolding close
 moves_close k = moves_close_by k.closed k.waiting
 
--- what a journal more does: it waits, or it fills the block
-pub record IsPlaced (k g : History) (journal : Entry) : Type 0 where
-  pub journals_are : journals g ≡ journals k ++ journal ∷ []
-  pub blocks_are : (g.closed ≡ k.closed) ⊎ IsEnded k g
-
-placed_waiting : (k : History) (journal : Entry) → IsPlaced k (history k.closed (k.waiting ++ journal ∷ [])) journal
-placed_waiting k journal = record {
-  journals_are = sym (append_assoc (journals_of k.closed) k.waiting (journal ∷ []));
-  blocks_are = inl refl;
-}
-
-placed_filled : (k : History) (journal : Entry) (block : List Entry) → k.waiting ++ journal ∷ [] ≡ block → IsPlaced k (history (k.closed ++ block ∷ []) []) journal
-placed_filled k journal block is = record {
-  journals_are = journals_of-push k.closed block ∙ ap (λ b. journals_of k.closed ++ b) (sym is) ∙ sym (append_assoc (journals_of k.closed) k.waiting (journal ∷ []));
-  blocks_are = inr (record { block = block; closed_are = refl; none = refl });
-}
-
--- the end of a block that has a journal
-ended_by : (blocks : List (List Entry)) (waiting : List Entry) (journal : Entry) → close_by blocks (waiting ++ journal ∷ []) ≡ history (blocks ++ (waiting ++ journal ∷ []) ∷ []) []
-ended_by blocks [] journal = refl
-ended_by blocks (x ∷ xs) journal = refl
-
--- a journal more in the open block, which ends where that fills it
-pub is_placed : (k : History) (job : Job) (journal : Entry) → IsPlaced k (settled_history job (with_waiting (Some journal) k)) journal
-unfolding close
-is_placed k job journal =
-    elim (nat_le BLOCK_LIMIT (length (k.waiting ++ journal ∷ []))) as (λ full. IsPlaced k (cond full (close_by k.closed (k.waiting ++ journal ∷ [])) (history k.closed (k.waiting ++ journal ∷ []))) journal) [
-      | true ↦ subst (λ g. IsPlaced k g journal) (sym (ended_by k.closed k.waiting journal)) (placed_filled k journal (k.waiting ++ journal ∷ []) refl)
-      | false ↦ placed_waiting k journal
-    ]
-
--- no journal more
-moves_settled : (k : History) (job : Job) → Moves k (settled_history job k)
-moves_settled k job = elim (nat_le BLOCK_LIMIT (length k.waiting)) as (λ full. Moves k (cond full (close k) k)) [ true ↦ moves_close k | false ↦ moves_not k ]
-
--- a job that is judged at once
-moves_judged : (k : History) (job : Job) (refusal : Option Refusal) (journal : Option Entry) → Moves k (settled_history job (after_judgement refusal journal k))
-moves_judged k job (Some refusal) journal = moves_settled k job
-moves_judged k job None None = moves_settled k job
-moves_judged k job None (Some journal) = let p = is_placed k job journal in record { more = journal ∷ []; journals_are = p.journals_are; blocks_are = p.blocks_are }
-
 close_by_none : (blocks : List (List Entry)) (waiting : List Entry) → (close_by blocks waiting).waiting ≡ []
 close_by_none blocks [] = refl
 close_by_none blocks (journal ∷ rest) = refl
@@ -101,25 +63,6 @@ close_by_none blocks (journal ∷ rest) = refl
 pub close_none : (k : History) → (close k).waiting ≡ []
 unfolding close
 close_none k = close_by_none k.closed k.waiting
-
--- where nothing waits, nothing ends behind a job
-pub settled_none : (k : History) (job : Job) → k.waiting ≡ [] → k ≡ settled_history job k
-settled_none k job none = sym (ap (λ (w : List Entry). cond (nat_le BLOCK_LIMIT (length w)) (close k) k) none)
-
--- a job that is judged once the open block has ended, and places nothing
-pub moves_asking : (k : History) (job : Job) → Moves k (settled_history job (close k))
-moves_asking k job = subst (Moves k) (settled_none (close k) job (close_none k)) (moves_close k)
-
--- a job
-pub moves_job : (k : History) (step : Step) (job : Job) → Moves k (after_job k step job)
-unfolding after_job with_job
-moves_job k step (Refused refusal) = moves_settled k (Refused refusal)
-moves_job k step (Append member clue content content_digest request by) =
-    let job = Append member clue content content_digest request by in moves_judged k job (own_refusal real_limits k job) (placed_journal k (stamp_of step) job)
-moves_job k step (NewMember number key by) = let job = NewMember number key by in moves_judged k job (own_refusal real_limits k job) (placed_journal k (stamp_of step) job)
-moves_job k step (Get n) = moves_asking k (Get n)
-moves_job k step (Clue clue) = moves_asking k (Clue clue)
-moves_job k step Head = moves_asking k Head
 
 -- later journals change no root over the first
 pub root_kept : (k g : History) (more : List Entry) (m : ℕ) → journals g ≡ journals k ++ more → m ≤ size k → root g m ≡ root k m
@@ -195,8 +138,36 @@ grows_then k g h a b = record {
 pub grows_close : (h : History) → Grows h (close h)
 grows_close h = grows_moved h (close h) (moves_close h)
 
+-- .. that the job wants
+grows_if : (h : History) (b : Bool) → Grows h (cond b (close h) h)
+grows_if h true = grows_close h
+grows_if h false = grows_not h
+
+pub grows_asked : (h : History) (job : Job) → Grows h (judged_at h job)
+grows_asked h job = grows_if h (closes_before job)
+
+pub grows_settled : (job : Job) (h : History) → Grows h (settled_history job h)
+grows_settled job h = grows_if h (closes_after job || nat_le BLOCK_LIMIT (length h.waiting))
+
+-- a journal that waits
+grows_judged : (h : History) (refusal : Option Refusal) (journal : Option Entry) → Grows h (after_judgement refusal journal h)
+grows_judged h (Some refusal) journal = grows_not h
+grows_judged h None None = grows_not h
+grows_judged h None (Some journal) = record { more = journal ∷ []; journals_are = sym (append_assoc (journals_of h.closed) h.waiting (journal ∷ [])); blocks = []; closed_are = sym (append-nil h.closed) }
+
+pub grows_with : (limits : Limits) (stamp : Option Stamp) (h : History) (job : Job) → Grows h (with_job limits stamp h job)
+unfolding with_job
+grows_with limits stamp h job = grows_judged h (own_refusal limits h job) (placed_journal h stamp job)
+
+pub grows_after : (h : History) (step : Step) (job : Job) → Grows (judged_at h job) (after_job h step job)
+unfolding after_job
+grows_after h step job =
+    let g = judged_at h job in
+    let k = with_job real_limits (stamp_of step) g job in
+    grows_then g k (settled_history job k) (grows_with real_limits (stamp_of step) g job) (grows_settled job k)
+
 pub grows_job : (h : History) (step : Step) (job : Job) → Grows h (after_job h step job)
-grows_job h step job = grows_moved h (after_job h step job) (moves_job h step job)
+grows_job h step job = grows_then h (judged_at h job) (after_job h step job) (grows_asked h job) (grows_after h step job)
 
 pub grows_size : (k g : History) → Grows k g → size k ≤ size g
 grows_size k g a = omega (arith, ap length a.journals_are, length-append (journals k) a.more)
@@ -204,6 +175,14 @@ grows_size k g a = omega (arith, ap length a.journals_are, length-append (journa
 -- where nothing waits, all journals stand in blocks that have ended
 pub size_closed : (k : History) → k.waiting ≡ [] → size k ≡ length (journals_of k.closed)
 size_closed k none = ap (λ w. length (journals_of k.closed ++ w)) none ∙ ap length (append-nil (journals_of k.closed))
+
+-- the end of the open block adds no journal
+pub size_close : (k : History) → size (close k) ≡ size k
+unfolding close
+size_close k = by_waiting k.closed k.waiting where
+  by_waiting : (blocks : List (List Entry)) (waiting : List Entry) → length (journals (close_by blocks waiting)) ≡ length (journals_of blocks ++ waiting)
+  by_waiting blocks [] = refl
+  by_waiting blocks (journal ∷ rest) = ap length (journals_of-push blocks (journal ∷ rest))
 
 -- what a receipt says doesn't change when the history goes on
 pub block_of-grows : (k g : History) (jsn : ℕ) → k.waiting ≡ [] → Grows k g → jsn < size k → block_of g jsn ≡ block_of k jsn
@@ -243,6 +222,13 @@ end_of-ended k g jsn none e above below =
 pub close_settled : (k : History) → k.waiting ≡ [] → k ≡ close k
 unfolding close
 close_settled k none = sym (ap (close_by k.closed) none ∙ ap (history k.closed) (sym none))
+
+-- where nothing waits, nothing ends behind a job
+pub settled_none : (k : History) (job : Job) → k.waiting ≡ [] → k ≡ settled_history job k
+settled_none k job none = by_cases (closes_after job || nat_le BLOCK_LIMIT (length k.waiting)) where
+  by_cases : (b : Bool) → k ≡ cond b (close k) k
+  by_cases true = close_settled k none
+  by_cases false = refl
 
 close_some : (blocks closed : List (List Entry)) (waiting : List Entry) → 0 < length waiting → closed ≡ blocks ++ waiting ∷ [] → history closed [] ≡ close_by blocks waiting
 close_some blocks closed [] some is = absurd (omega (arith, some))

@@ -1,6 +1,10 @@
 -- Lawful histories stay lawful and sound ones sound, whatever is run.
 use Rattle.std.specs.Prelude.{All, nat_le, bytes_eq}
-use Rattle.std.proofs.Common.{◌≡◌, ℕ, ◌≤◌, ◌&&◌, true, false, cond, List, [], ◌∷◌, ◌++◌, length, Option, Some, None, Result, Ok, Err, refl, sym, ap, subst, arith, eq-eqb, append_assoc, length-append}
+use Rattle.std.specs.Option.{option_map}
+use Rattle.journal_record.specs.declared.rules.TheConstants.{NOTARY_LIMIT}
+use Rattle.journal_record.specs.declared.stamp.Stamp.{Stamp}
+use Rattle.ledger_model.specs.Anchors.{stamp_of, time_journal}
+use Rattle.std.proofs.Common.{Bool, ◌≢◌, ◌||◌, ◌<◌, ap, ◌≡◌, ℕ, ◌≤◌, ◌&&◌, true, false, cond, List, [], ◌∷◌, ◌++◌, length, Option, Some, None, Result, Ok, Err, refl, sym, ap, subst, arith, eq-eqb, append_assoc, length-append}
 use Rattle.std.specs.List.{list_all}
 use Rattle.std.proofs.lemmas.Bool.{le-leb, leb-true, leb-false, and_from, and_parts}
 use Rattle.std.proofs.lemmas.List.Elements.{All-nil, All-cons, All-push}
@@ -17,19 +21,19 @@ use Rattle.script_lines.proofs.Fitting.{spoken_fits}
 use Rattle.ledger_model.specs.Appends.{append_with, member_job, append_header, append_journal, member_header, member_journal}
 use Rattle.ledger_model.specs.Fitting.{fits_approval, fits_job}
 use Rattle.ledger_model.specs.Genesis.{HasKeys, genesis_header, genesis_journal, new_ledger}
-use Rattle.ledger_model.specs.History.{History, history, journals, journals_of, id, close_by, close}
+use Rattle.ledger_model.specs.History.{History, history, journals, journals_of, size, id, close_by, close}
 use Rattle.ledger_model.specs.Judgements.{own_refusal}
 use Rattle.ledger_model.specs.Lawful.{AreLawful, gathers, AllGather, IsBlock, IsOpenBlock, IsLawful, IsWhole, IsSound}
 use Rattle.ledger_model.specs.Limits.{real_limits, AreWithin}
 use Rattle.ledger_model.specs.Outcomes.{after_judgement, with_job}
-use Rattle.ledger_model.specs.Rules.{job_for, job_of, settled_history, after_job, after_step, after_steps, after_window, after}
+use Rattle.ledger_model.specs.Rules.{job_for, job_of, closes_after, settled_history, after_job, after_step, after_steps, after_window, after}
 use Rattle.ledger_model.specs.Scheme.{Scheme}
 use Rattle.ledger_model.specs.Step.{Step}
 use Rattle.ledger_model.specs.declared.genesis.Genesis.{Genesis}
 use Rattle.ledger_model.specs.declared.job.Job.{Job}
-use Rattle.ledger_model.specs.declared.job.Job.TheVariants.{Refused, Append, NewMember, Get, Clue, Head}
-use Rattle.ledger_model.proofs.AcceptedLaws.{record_next, record_whole, member_next, member_whole}
-use Rattle.ledger_model.proofs.GrowLaws.{journals_of-push}
+use Rattle.ledger_model.specs.declared.job.Job.TheVariants.{Refused, Append, NewMember, Anchor, Get, Clue, Head}
+use Rattle.ledger_model.proofs.AcceptedLaws.{record_next, record_whole, member_next, member_whole, time_next, time_whole, stamp_few}
+use Rattle.ledger_model.proofs.GrowLaws.{journals_of-push, close_none}
 use Rattle.ledger_model.proofs.LawfulLaws.{lawful_more}
 
 -- the end of the open block adds no journal
@@ -51,26 +55,26 @@ no_block : IsOpenBlock []
 no_block = record { room = omega arith; gathered = refl }
 
 -- a block's end, where the open block may be one
-close_keeps : (h : History) → AreLawful (journals h) → All IsBlock h.closed → length h.waiting ≤ BLOCK_LIMIT → AllGather h.waiting → IsLawful (close h)
+close_keeps : (h : History) → AreLawful (journals h) → All IsBlock h.closed → length h.waiting ≤ BLOCK_LIMIT → (length h.waiting ≢ 1 → AllGather h.waiting) → IsLawful (close h)
 unfolding close
 close_keeps h lawful blocks most gathered = by_waiting h.closed h.waiting lawful blocks most gathered where
-  by_waiting : (closed : List (List Entry)) (waiting : List Entry) → AreLawful (journals_of closed ++ waiting) → All IsBlock closed → length waiting ≤ BLOCK_LIMIT → AllGather waiting → IsLawful (close_by closed waiting)
+  by_waiting : (closed : List (List Entry)) (waiting : List Entry) → AreLawful (journals_of closed ++ waiting) → All IsBlock closed → length waiting ≤ BLOCK_LIMIT → (length waiting ≢ 1 → AllGather waiting) → IsLawful (close_by closed waiting)
   by_waiting closed [] lawful blocks most gathered = record { journals_are = lawful; blocks_are = blocks; waiting_is = no_block }
   by_waiting closed (j ∷ js) lawful blocks most gathered = record {
     journals_are = subst AreLawful (sym (journals_of-push closed (j ∷ js))) lawful;
-    blocks_are = All-push IsBlock closed (j ∷ js) blocks (record { some = omega arith; most = most; gathered = λ more. gathered });
+    blocks_are = All-push IsBlock closed (j ∷ js) blocks (record { some = omega arith; most = most; gathered = gathered });
     waiting_is = no_block;
   }
 
 pub close_lawful : (h : History) → IsLawful h → IsLawful (close h)
-close_lawful h l = close_keeps h l.journals_are l.blocks_are (omega (arith, l.waiting_is.room)) l.waiting_is.gathered
+close_lawful h l = close_keeps h l.journals_are l.blocks_are (omega (arith, l.waiting_is.room)) (λ more. l.waiting_is.gathered)
 
 settled_keeps : (h : History) (job : Job) → AreLawful (journals h) → All IsBlock h.closed → length h.waiting ≤ BLOCK_LIMIT → AllGather h.waiting → IsLawful (settled_history job h)
-settled_keeps h job lawful blocks most gathered =
-    elim (nat_le BLOCK_LIMIT (length h.waiting)) as (λ full. nat_le BLOCK_LIMIT (length h.waiting) ≡ full → IsLawful (cond full (close h) h)) [
-      | true ↦ λ e. close_keeps h lawful blocks most gathered
-      | false ↦ λ e. record { journals_are = lawful; blocks_are = blocks; waiting_is = record { room = leb-false BLOCK_LIMIT (length h.waiting) e; gathered = gathered } }
-    ] refl
+settled_keeps h job lawful blocks most gathered = by_cases (closes_after job) (nat_le BLOCK_LIMIT (length h.waiting)) refl where
+  by_cases : (alone full : Bool) → nat_le BLOCK_LIMIT (length h.waiting) ≡ full → IsLawful (cond (alone || full) (close h) h)
+  by_cases true full e = close_keeps h lawful blocks most (λ more. gathered)
+  by_cases false true e = close_keeps h lawful blocks most (λ more. gathered)
+  by_cases false false e = record { journals_are = lawful; blocks_are = blocks; waiting_is = record { room = leb-false BLOCK_LIMIT (length h.waiting) e; gathered = gathered } }
 
 settled_lawful : (h : History) (job : Job) → IsLawful h → IsLawful (settled_history job h)
 settled_lawful h job l = settled_keeps h job l.journals_are l.blocks_are (omega (arith, l.waiting_is.room)) l.waiting_is.gathered
@@ -96,6 +100,18 @@ content_short member clue content content_digest request by fits =
     let front = and_parts (nat_le (length content) CONTENT_LIMIT) (bytes_eq content_digest.0 (content_digest_of content)) parts.0 in
     (leb-true (length content) CONTENT_LIMIT front.0, front.1)
 
+-- an anchor, where nothing waits
+anchor_lawful : (h : History) (refusal : Option Refusal) (stamp : Option Stamp) → IsLawful h → h.waiting ≡ [] → refusal ≡ own_refusal real_limits h Anchor → ((s : Stamp) → stamp ≡ Some s → s.index < NOTARY_LIMIT)
+    → IsLawful (close (after_judgement refusal (option_map (time_journal (size h)) stamp) h))
+anchor_lawful h (Some refusal) stamp l none is few = close_lawful h l
+anchor_lawful h None None l none is few = close_lawful h l
+anchor_lawful h None (Some stamp) l none is few =
+    let j = time_journal (size h) stamp in
+    let one : length (h.waiting ++ j ∷ []) ≡ 1 = ap (λ es. length (es ++ j ∷ [])) none in
+    close_keeps (wider h j)
+    (subst AreLawful (sym (journals_wider h j)) (lawful_more (journals h) j l.journals_are (time_next real_limits real_within h stamp (sym is) l.journals_are (few stamp refl))))
+    l.blocks_are (omega (arith, one)) (λ more. absurd (more one))
+
 pub job_lawful : (h : History) (step : Step) (job : Job) → fits_job job ≡ true → IsLawful h → IsLawful (after_job h step job)
 unfolding after_job with_job append_header member_header
 job_lawful h step (Refused refusal) fits l = settled_lawful h (Refused refusal) l
@@ -107,6 +123,7 @@ job_lawful h step (NewMember number key by) fits l =
     let job = NewMember number key by in
     placed_lawful h job (own_refusal real_limits h job) (member_journal _ number key by) l refl
     (λ none. lawful_more (journals h) _ l.journals_are (member_next real_limits real_within h number key by none l.journals_are))
+job_lawful h step Anchor fits l = anchor_lawful (close h) (own_refusal real_limits (close h) Anchor) (stamp_of step) (close_lawful h l) (close_none h) refl (stamp_few step)
 job_lawful h step (Get n) fits l = settled_lawful (close h) (Get n) (close_lawful h l)
 job_lawful h step (Clue clue) fits l = settled_lawful (close h) (Clue clue) (close_lawful h l)
 job_lawful h step Head fits l = settled_lawful (close h) Head (close_lawful h l)
@@ -115,11 +132,16 @@ close_sound : (h : History) → IsSound h → IsSound (close h)
 close_sound h s = subst (All IsWhole) (sym (journals_close h)) s
 
 settled_sound : (h : History) (job : Job) → IsSound h → IsSound (settled_history job h)
-settled_sound h job s = elim (nat_le BLOCK_LIMIT (length h.waiting)) as (λ full. IsSound (cond full (close h) h)) [ true ↦ close_sound h s | false ↦ s ]
+settled_sound h job s = elim (closes_after job || nat_le BLOCK_LIMIT (length h.waiting)) as (λ full. IsSound (cond full (close h) h)) [ true ↦ close_sound h s | false ↦ s ]
 
 placed_sound : (h : History) (job : Job) (refusal : Option Refusal) (j : Entry) → IsSound h → IsWhole j → IsSound (settled_history job (after_judgement refusal (Some j) h))
 placed_sound h job (Some refusal) j s whole = settled_sound h job s
 placed_sound h job None j s whole = settled_sound (wider h j) job (subst (All IsWhole) (sym (journals_wider h j)) (All-push IsWhole (journals h) j s whole))
+
+anchor_sound : (h : History) (refusal : Option Refusal) (stamp : Option Stamp) → IsSound h → IsSound (settled_history Anchor (after_judgement refusal (option_map (time_journal (size h)) stamp) h))
+anchor_sound h (Some refusal) stamp s = settled_sound h Anchor s
+anchor_sound h None None s = settled_sound h Anchor s
+anchor_sound h None (Some stamp) s = placed_sound h Anchor None (time_journal (size h) stamp) s (time_whole (size h) stamp)
 
 pub job_sound : (h : History) (step : Step) (job : Job) → fits_job job ≡ true → IsSound h → IsSound (after_job h step job)
 unfolding after_job with_job
@@ -129,6 +151,7 @@ job_sound h step (Append member clue content content_digest request by) fits s =
     placed_sound h job (own_refusal real_limits h job) _ s (record_whole h member clue content content_digest request by (content_short member clue content content_digest request by fits).1)
 job_sound h step (NewMember number key by) fits s =
     let job = NewMember number key by in placed_sound h job (own_refusal real_limits h job) _ s (member_whole _ number key by)
+job_sound h step Anchor fits s = anchor_sound (close h) (own_refusal real_limits (close h) Anchor) (stamp_of step) (close_sound h s)
 job_sound h step (Get n) fits s = settled_sound (close h) (Get n) (close_sound h s)
 job_sound h step (Clue clue) fits s = settled_sound (close h) (Clue clue) (close_sound h s)
 job_sound h step Head fits s = settled_sound (close h) Head (close_sound h s)
@@ -153,6 +176,7 @@ for_fits scheme id (Ok (line.Append member clue content proof)) fits =
 for_fits scheme id (Ok (line.NewMember number key proof)) fits = member_fits scheme id number key proof (leb-true (length proof) PROOF_LIMIT fits)
 for_fits scheme id (Ok (line.Get n)) fits = refl
 for_fits scheme id (Ok (line.Clue name)) fits = refl
+for_fits scheme id (Ok line.Anchor) fits = refl
 for_fits scheme id (Ok line.Head) fits = refl
 
 pub job_fits : (scheme : Scheme) (id text : List ℕ) → fits_job (job_of scheme id text) ≡ true

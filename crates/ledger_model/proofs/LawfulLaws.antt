@@ -208,11 +208,11 @@ never_hides : (h : History) (x : Header) (k : Kind) (n : ℕ) → IsNextOf h x k
 never_hides h x kind.Genesis n own = refl
 never_hides h x kind.Content n own = refl
 never_hides h x kind.Member n own = refl
-never_hides h x kind.Time n own = absurd own
+never_hides h x kind.Time n own = refl
 never_hides h x kind.Occult n own = absurd own
 never_hides h x kind.Purge n own = absurd own
 
-none_hide : (target : Entry) (before es : List Entry) → AreNext before es → list_any (hides target) es ≡ false
+pub none_hide : (target : Entry) (before es : List Entry) → AreNext before es → list_any (hides target) es ≡ false
 none_hide target before [] next = refl
 none_hide target before (e ∷ es) next = or_from _ _ (never_hides (history [] before) e.header e.header.kind target.header.jsn next.0.own) (none_hide target (before ++ e ∷ []) es next.1)
 

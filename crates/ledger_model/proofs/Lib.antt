@@ -16,3 +16,5 @@ pub mod KeepLaws
 pub mod ByteLaws
 pub mod FitLaws
 pub mod CountLaws
+pub mod TookLaws
+pub mod PegLaws

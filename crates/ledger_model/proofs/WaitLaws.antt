@@ -1,6 +1,6 @@
 -- Lemmas on receipts that wait for their block's end, and on what is written once it has ended.
 use Rattle.std.specs.Prelude.{slice_get}
-use Rattle.std.proofs.Common.{◌≡◌, ℕ, zero, suc, ◌-◌, ◌≤◌, ◌⊎◌, inl, inr, List, [], ◌∷◌, ◌++◌, length, Option, Some, None, refl, ap, sym, ◌∙◌, arith, append_assoc, append-nil, length-append}
+use Rattle.std.proofs.Common.{true, false, cond, ◌≡◌, ℕ, zero, suc, ◌-◌, ◌≤◌, ◌⊎◌, inl, inr, List, [], ◌∷◌, ◌++◌, length, Option, Some, None, refl, ap, sym, ◌∙◌, arith, append_assoc, append-nil, length-append}
 use Rattle.std.proofs.lemmas.List.{map-append, length-map}
 use Rattle.std.proofs.lemmas.List.Concat.{flat_map-append}
 use Rattle.std.proofs.lemmas.Option.{none-some, slice_get_within}
@@ -11,20 +11,27 @@ use Rattle.ledger_bytes.specs.declared.refusal.Refusal.{Refusal}
 use Rattle.journal_record.specs.Entry.{Entry}
 use Rattle.script_lines.specs.Replies.{reply_text}
 use Rattle.ledger_model.specs.Appends.{append_journal, member_journal}
-use Rattle.ledger_model.specs.Dues.{IsWithin, due_of, due_line, due_lines, due_text, dues_text, digests_of, HasLeaf, IsWaiting, AllWaiting, IsIn, AllIn}
+use Rattle.ledger_model.specs.Dues.{IsWithin, due_line, due_lines, due_text, dues_text, digests_of, HasLeaf, IsWaiting, AllWaiting, IsIn, AllIn}
 use Rattle.ledger_model.specs.Growing.{Grows}
-use Rattle.ledger_model.specs.History.{History, history, journals, journals_of, size, root, close, leaf_digest}
+use Rattle.ledger_model.specs.History.{History, history, id, blocks, point, journals, journals_of, size, root, close, leaf_digest}
 use Rattle.ledger_model.specs.Judgements.{own_refusal}
 use Rattle.ledger_model.specs.Limits.{real_limits}
-use Rattle.ledger_model.specs.Outcomes.{placed_journal, with_waiting, after_judgement, with_job, placed_as, judged_outcome, outcome}
-use Rattle.ledger_model.specs.Rules.{judged_at, stamp_of}
+use Rattle.ledger_model.specs.Outcomes.{placed_journal, with_waiting, after_judgement, with_job, placed_as, anchor_outcome, judged_outcome, outcome}
+use Rattle.ledger_model.specs.Anchors.{stamp_of, time_journal}
+use Rattle.std.specs.Option.{option_map}
+use Rattle.sha2.specs.Sha256.{sha256}
+use Rattle.tree_model.specs.Tree.{mth}
+use Rattle.journal_record.specs.declared.stamp.Stamp.{Stamp}
+use Rattle.ledger_bytes.specs.declared.refusal.Refusal.TheVariants.{NotaryFault}
+use Rattle.script_lines.specs.declared.reply.Reply.TheVariants as reply
+use Rattle.ledger_model.specs.declared.outcome.Query.TheVariants as query
 use Rattle.ledger_model.specs.Step.{Step}
-use Rattle.ledger_model.specs.Texts.{answer_for, answer_to}
+use Rattle.ledger_model.specs.Texts.{told_reply, answer_for}
 use Rattle.ledger_model.specs.declared.answer.Answer.{Answer}
 use Rattle.ledger_model.specs.declared.answer.Answer.TheVariants.{Reply, Receipt}
 use Rattle.ledger_model.specs.declared.due.Due.{Due}
 use Rattle.ledger_model.specs.declared.job.Job.{Job}
-use Rattle.ledger_model.specs.declared.job.Job.TheVariants.{Refused, Append, NewMember, Get, Clue, Head}
+use Rattle.ledger_model.specs.declared.job.Job.TheVariants.{Refused, Append, NewMember, Anchor, Get, Clue, Head}
 use Rattle.ledger_model.proofs.DueLaws.{answer_kept, answer_ended}
 use Rattle.ledger_model.proofs.GetLaws.{get_no_receipt}
 use Rattle.ledger_model.proofs.GrowLaws.{IsEnded, moves_close, close_none, grows_close, grows_size, size_closed}
@@ -35,7 +42,7 @@ slice_get-more [] ys i a is = absurd (none-some a is)
 slice_get-more (x ∷ xs) ys zero a is = is
 slice_get-more (x ∷ xs) ys (suc i) a is = slice_get-more xs ys i a is
 
-slice_get-last : {A : Type 0} (xs : List A) (a : A) → slice_get (xs ++ a ∷ []) (length xs) ≡ Some a
+pub slice_get-last : {A : Type 0} (xs : List A) (a : A) → slice_get (xs ++ a ∷ []) (length xs) ≡ Some a
 slice_get-last [] a = refl
 slice_get-last (x ∷ xs) a = slice_get-last xs a
 
@@ -112,15 +119,25 @@ placed_waits h step None journal = (
   ap (λ js. slice_get (digests_of js) (size h)) (sym (append_assoc (journals_of h.closed) h.waiting (journal ∷ []))) ∙ leaf_last (journals h) journal,
 )
 
+anchor_waits : (h : History) (step : Step) (refusal : Option Refusal) (stamp : Option Stamp)
+    → IsWaiting (after_judgement refusal (option_map (time_journal (size h)) stamp) h) (answer_for h step (judged_outcome refusal (anchor_outcome h stamp)))
+anchor_waits h step (Some refusal) stamp = tt
+anchor_waits h step None None = tt
+anchor_waits h step None (Some stamp) = placed_waits h step None (time_journal (size h) stamp)
+
+head_waits : (h : History) (step : Step) → IsWaiting h (Reply (told_reply h step query.Head))
+head_waits h step = elim step.failed as (λ v. IsWaiting h (Reply (cond v (reply.Refused NotaryFault) (reply.Head (digest (id h)) (size h) (digest (root h (size h))) (blocks h) (point h) (length step.after) (digest (mth sha256 step.after)))))) [ true ↦ tt | false ↦ tt ]
+
 pub answer_waits : (h : History) (step : Step) (job : Job) → IsWaiting (with_job real_limits (stamp_of step) h job) (answer_for h step (outcome real_limits (stamp_of step) h job))
 unfolding outcome with_job
 answer_waits h step (Refused refusal) = tt
 answer_waits h step (Append member clue content content_digest request by) =
     placed_waits h step (own_refusal real_limits h (Append member clue content content_digest request by)) (append_journal h member clue content content_digest request by)
 answer_waits h step (NewMember number key by) = placed_waits h step (own_refusal real_limits h (NewMember number key by)) (member_journal (size h) number key by)
+answer_waits h step Anchor = anchor_waits h step (own_refusal real_limits h Anchor) (stamp_of step)
 answer_waits h step (Get n) = get_no_receipt (λ jsn leaf. ⊥) h n
 answer_waits h step (Clue clue) = tt
-answer_waits h step Head = tt
+answer_waits h step Head = head_waits h step
 
 -- journals in blocks
 

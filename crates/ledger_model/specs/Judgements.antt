@@ -9,7 +9,7 @@ use Rattle.ledger_model.specs.Clues.{jsns_with, clue_count}
 use Rattle.ledger_model.specs.History.{History, size, point}
 use Rattle.ledger_model.specs.Members.{members, keys}
 use Rattle.ledger_model.specs.declared.job.Job.{Job}
-use Rattle.ledger_model.specs.declared.job.Job.TheVariants.{Refused, Append, NewMember, Get, Clue, Head}
+use Rattle.ledger_model.specs.declared.job.Job.TheVariants.{Refused, Append, NewMember, Anchor, Get, Clue, Head}
 use Rattle.ledger_model.specs.declared.limits.Limits.{Limits}
 
 -- how many journals are kept
@@ -23,6 +23,10 @@ is_full most limits h = nat_le most (kept_count h) || nat_le limits.size (size h
 -- there is no room for a member's journal
 unfoldable pub fullness : Limits → History → Option Refusal
 fullness limits h = if is_full limits.soft limits h then Some (Full (kept_count h) (size h)) else None
+
+-- there is no room for a journal of the operator
+unfoldable pub hard_fullness : Limits → History → Option Refusal
+hard_fullness limits h = if is_full limits.hard limits h then Some (Full (kept_count h) (size h)) else None
 
 -- among members with these keys there is none with this number
 abbrev pub unknown_in : List (List ℕ) → ℕ → Option Refusal
@@ -54,6 +58,7 @@ abbrev pub own_judgements : Limits → History → Job → List (Option Refusal)
 own_judgements limits h (Refused refusal) = Some refusal ∷ []
 own_judgements limits h (Append member clue content content_digest request by) = append_judgements limits h member clue by.key
 own_judgements limits h (NewMember number key by) = member_judgements limits h number by.key
+own_judgements limits h Anchor = hard_fullness limits h ∷ []
 own_judgements limits h (Get n) = []
 own_judgements limits h (Clue clue) = []
 own_judgements limits h Head = []

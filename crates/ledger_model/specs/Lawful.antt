@@ -25,6 +25,7 @@ abbrev pub IsNextOf : History → Header → Kind → Type 0
 IsNextOf h x kind.Genesis = ⊤
 IsNextOf h x kind.Content = IsNextRecord h x
 IsNextOf h x kind.Member = x.a ≡ length (members h)
+IsNextOf h x kind.Time = ⊤
 IsNextOf h x other = ⊥
 
 -- a header that may be the next one: it obeys its layout, by which it is a genesis exactly where it is the first

@@ -7,6 +7,8 @@ use Rattle.journal_record.specs.Entry.{Entry}
 use Rattle.journal_record.specs.declared.header.Kind.{Kind}
 use Rattle.journal_record.specs.declared.header.Kind.TheVariants as kind
 use Rattle.journal_record.specs.declared.stamp.Stamp.{Stamp}
+use Rattle.std.specs.Option.{option_map}
+use Rattle.ledger_model.specs.Anchors.{time_journal}
 use Rattle.ledger_model.specs.Appends.{append_journal, member_journal}
 use Rattle.ledger_model.specs.History.{History, history, journals, size, point, leaf_digest}
 use Rattle.ledger_model.specs.Judgements.{own_refusal}
@@ -20,11 +22,12 @@ use Rattle.ledger_model.specs.declared.outcome.Query.TheVariants as query
 use Rattle.ledger_model.specs.declared.view.View.{View}
 use Rattle.ledger_model.specs.declared.view.View.TheVariants.{Absent, Purged, Occulted, Whole}
 
--- the journal that an accepted job places, where it places one; no job so far has a stamp in it
+-- the journal that an accepted job places, where it places one: an anchor does once it has its stamp
 abbrev pub placed_journal : History → Option Stamp → Job → Option Entry
 placed_journal h stamp (job.Refused refusal) = None
 placed_journal h stamp (job.Append member clue content content_digest request by) = Some (append_journal h member clue content content_digest request by)
 placed_journal h stamp (job.NewMember number key by) = Some (member_journal (size h) number key by)
+placed_journal h stamp job.Anchor = option_map (time_journal (size h)) stamp
 placed_journal h stamp (job.Get n) = None
 placed_journal h stamp (job.Clue clue) = None
 placed_journal h stamp job.Head = None
@@ -45,6 +48,7 @@ with_job limits stamp h job = after_judgement (own_refusal limits h job) (placed
 
 -- what a job asks for, where it asks
 abbrev pub query_of : Job → Option Query
+query_of job.Anchor = Some query.Stamp
 query_of (job.Get n) = Some (query.Get n)
 query_of (job.Clue clue) = Some (query.Clue clue)
 query_of job.Head = Some query.Head
@@ -54,12 +58,18 @@ query_of other = None
 abbrev pub placed_as : ℕ → Entry → Outcome
 placed_as jsn journal = Placed jsn (digest (leaf_digest journal))
 
+-- what comes of an accepted anchor: without a stamp it asks for one
+abbrev pub anchor_outcome : History → Option Stamp → Outcome
+anchor_outcome h None = Reading query.Stamp
+anchor_outcome h (Some stamp) = placed_as (size h) (time_journal (size h) stamp)
+
 -- what comes of an accepted job
 abbrev pub accepted_outcome : History → Option Stamp → Job → Outcome
 accepted_outcome h stamp (job.Refused refusal) = Refused refusal
 accepted_outcome h stamp (job.Append member clue content content_digest request by) =
     placed_as (size h) (append_journal h member clue content content_digest request by)
 accepted_outcome h stamp (job.NewMember number key by) = placed_as (size h) (member_journal (size h) number key by)
+accepted_outcome h stamp job.Anchor = anchor_outcome h stamp
 accepted_outcome h stamp (job.Get n) = Reading (query.Get n)
 accepted_outcome h stamp (job.Clue clue) = Reading (query.Clue clue)
 accepted_outcome h stamp job.Head = Reading query.Head

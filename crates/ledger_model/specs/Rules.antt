@@ -1,11 +1,11 @@
 -- What a step does to a history: what judges it, what it places, and which blocks it ends.
-use Rattle.std.specs.Prelude.{ℕ, ◌||◌, Bool, true, false, if◌then◌else◌, List, [], ◌∷◌, length, nat_le, Option, None, Result, Ok, Err}
+use Rattle.std.specs.Prelude.{ℕ, ◌||◌, Bool, true, false, if◌then◌else◌, List, [], ◌∷◌, length, nat_le, Result, Ok, Err}
 use Rattle.ledger_bytes.specs.declared.limits.TheConstants.{BLOCK_LIMIT}
 use Rattle.ledger_bytes.specs.declared.refusal.Refusal.{Refusal}
-use Rattle.journal_record.specs.declared.stamp.Stamp.{Stamp}
 use Rattle.script_lines.specs.Grammar.{spoken_line}
 use Rattle.script_lines.specs.declared.line.Line.{Line}
 use Rattle.script_lines.specs.declared.line.Line.TheVariants as line
+use Rattle.ledger_model.specs.Anchors.{stamp_of}
 use Rattle.ledger_model.specs.Appends.{append_with, member_job, clue_of}
 use Rattle.ledger_model.specs.History.{History, id, close}
 use Rattle.ledger_model.specs.Limits.{real_limits}
@@ -13,13 +13,14 @@ use Rattle.ledger_model.specs.Outcomes.{with_job}
 use Rattle.ledger_model.specs.Scheme.{Scheme}
 use Rattle.ledger_model.specs.Step.{Step}
 use Rattle.ledger_model.specs.declared.job.Job.{Job}
-use Rattle.ledger_model.specs.declared.job.Job.TheVariants.{Refused, Append, NewMember, Get, Clue, Head}
+use Rattle.ledger_model.specs.declared.job.Job.TheVariants.{Refused, Append, NewMember, Anchor, Get, Clue, Head}
 
 -- what a line that was read asks for, on the ledger with this id
 abbrev pub job_for : Scheme → List ℕ → Result Line Refusal → Job
 job_for scheme id (Err refusal) = Refused refusal
 job_for scheme id (Ok (line.Append member clue content proof)) = append_with scheme id member (clue_of clue) content proof
 job_for scheme id (Ok (line.NewMember number key proof)) = member_job scheme id number key proof
+job_for scheme id (Ok line.Anchor) = Anchor
 job_for scheme id (Ok (line.Get n)) = Get n
 job_for scheme id (Ok (line.Clue name)) = Clue (clue_of name)
 job_for scheme id (Ok line.Head) = Head
@@ -35,9 +36,10 @@ closes_before (Append member clue content content_digest request by) = false
 closes_before (NewMember number key by) = false
 closes_before other = true
 
--- whether a job's journal is a block of its own; no job so far has such a one
+-- whether a job's journal is a block of its own
 abbrev pub closes_after : Job → Bool
-closes_after job = false
+closes_after Anchor = true
+closes_after other = false
 
 -- the history that a job is judged against
 abbrev pub judged_at : History → Job → History
@@ -46,10 +48,6 @@ judged_at h job = if closes_before job then close h else h
 -- the history where a job is done: the open block ends where it is full, or where the job wants it
 abbrev pub settled_history : Job → History → History
 settled_history job h = if closes_after job || nat_le BLOCK_LIMIT (length h.waiting) then close h else h
-
--- the stamp that the notary gave in a step; no line so far asks for one
-abbrev pub stamp_of : Step → Option Stamp
-stamp_of step = None
 
 -- the history after a job: it is judged, it places what it places, and a block ends
 unfoldable pub after_job : History → Step → Job → History

@@ -1,10 +1,11 @@
 -- What is written for a run.
-use Rattle.std.specs.Prelude.{ℕ, List, [], ◌∷◌, ◌++◌, length, filter, Option, nat_le}
+use Rattle.std.specs.Prelude.{if◌then◌else◌, ℕ, List, [], ◌∷◌, ◌++◌, length, filter, Option, nat_le}
 use Rattle.std.specs.Option.{option_map}
 use Rattle.sha2.specs.Sha256.{sha256}
 use Rattle.tree_model.specs.Tree.{mth}
 use Rattle.ledger_bytes.specs.Digests.{digest}
 use Rattle.ledger_bytes.specs.declared.digest.Digest.{Digest}
+use Rattle.ledger_bytes.specs.declared.refusal.Refusal.TheVariants.{NotaryFault}
 use Rattle.journal_record.specs.declared.stamp.Stamp.{Stamp}
 use Rattle.script_lines.specs.Replies.{reply_text}
 use Rattle.script_lines.specs.declared.reply.Reply.{Reply as AnyReply}
@@ -14,7 +15,8 @@ use Rattle.ledger_model.specs.Getting.{get_reply}
 use Rattle.ledger_model.specs.History.{History, id, size, root, blocks, point, block_of, end_of}
 use Rattle.ledger_model.specs.Limits.{real_limits}
 use Rattle.ledger_model.specs.Outcomes.{outcome}
-use Rattle.ledger_model.specs.Rules.{job_of, judged_at, stamp_of, after_step, after_window}
+use Rattle.ledger_model.specs.Anchors.{stamp_of, no_stamp}
+use Rattle.ledger_model.specs.Rules.{job_of, judged_at, after_step, after_window}
 use Rattle.ledger_model.specs.Scheme.{Scheme}
 use Rattle.ledger_model.specs.Step.{Step}
 use Rattle.ledger_model.specs.declared.answer.Answer.{Answer}
@@ -23,7 +25,7 @@ use Rattle.ledger_model.specs.declared.job.Job.{Job}
 use Rattle.ledger_model.specs.declared.outcome.Outcome.{Outcome}
 use Rattle.ledger_model.specs.declared.outcome.Outcome.TheVariants.{Refused, Placed, Reading}
 use Rattle.ledger_model.specs.declared.outcome.Query.{Query}
-use Rattle.ledger_model.specs.declared.outcome.Query.TheVariants.{Get, Clue, Head}
+use Rattle.ledger_model.specs.declared.outcome.Query.TheVariants.{Stamp as StampOf, Get, Clue, Head}
 
 -- the numbers of a clue's journals from the point on
 abbrev pub kept_with : History → Digest → List ℕ
@@ -33,8 +35,10 @@ kept_with h clue = filter (λ jsn. nat_le (point h) jsn) (jsns_with h clue)
 abbrev pub told_reply : History → Step → Query → AnyReply
 told_reply h step (Get n) = get_reply h n
 told_reply h step (Clue clue) = reply.Clue (length (jsns_with h clue)) (kept_with h clue)
+told_reply h step StampOf = reply.Refused (no_stamp step)
 told_reply h step Head =
-    reply.Head (digest (id h)) (size h) (digest (root h (size h))) (blocks h) (point h) (length step.after) (digest (mth sha256 step.after))
+    if step.failed then reply.Refused NotaryFault
+    else reply.Head (digest (id h)) (size h) (digest (root h (size h))) (blocks h) (point h) (length step.after) (digest (mth sha256 step.after))
 
 -- the answer to a job that is judged against h, by what came of it
 abbrev pub answer_for : History → Step → Outcome → Answer

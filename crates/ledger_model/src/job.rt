@@ -1,5 +1,5 @@
 ghost use Rattle.std.specs.Prelude.{◌≡◌};
-ghost use Rattle.ledger_model.specs.Rules.{closes_before};
+ghost use Rattle.ledger_model.specs.Rules.{closes_before, closes_after};
 
 use journal_record::Approval;
 use ledger_bytes::{Bytes, Digest, Refusal};
@@ -31,6 +31,8 @@ pub enum Job {
         /// The approval of member 0.
         by: Approval,
     },
+    /// A journal that tells a time, with a stamp of the notary over everything that was placed before.
+    Anchor,
     /// A journal.
     Get {
         /// The journal's number.
@@ -52,7 +54,22 @@ impl Job {
     {
         match self {
             Job::Refused(_) | Job::Append { .. } | Job::NewMember { .. } => false,
-            Job::Get { .. } | Job::Clue { .. } | Job::Head => true,
+            Job::Anchor | Job::Get { .. } | Job::Clue { .. } | Job::Head => true,
+        }
+    }
+
+    /// Whether the open block ends behind the job: its journal is a block of its own.
+    pub fn closes_after(&self) -> bool
+        ensures { result ≡ closes_after self.now }
+    {
+        match self {
+            Job::Anchor => true,
+            Job::Refused(_)
+            | Job::Append { .. }
+            | Job::NewMember { .. }
+            | Job::Get { .. }
+            | Job::Clue { .. }
+            | Job::Head => false,
         }
     }
 }

@@ -6,21 +6,24 @@ ghost use Rattle.journal_record.specs.Header.{spelling};
 ghost use Rattle.journal_record.specs.Rules.{IsHeader};
 ghost use Rattle.script_lines.specs.Receipts.{AllFit, IsReceipted};
 ghost use Rattle.script_lines.specs.declared.reply.Reply.TheVariants as replies;
+ghost use Rattle.time_peg.specs.Entries.{IsList, NotaryState};
 ghost use Rattle.ledger_model.specs.Dues.{dues, all_dues, due_lines, due_replies, EachCounted, HasLeaf, AllIn};
 ghost use Rattle.ledger_model.specs.Ends.{ends_from, cut_at, Rises};
 ghost use Rattle.ledger_model.specs.Fitting.{fits_job};
 ghost use Rattle.ledger_model.specs.Genesis.{new_ledger, HasKeys};
 ghost use Rattle.ledger_model.specs.Getting.{get_reply};
 ghost use Rattle.ledger_model.specs.Growing.{Grows};
-ghost use Rattle.ledger_model.specs.History.{History, journals, journals_of, size, id, point, seen_point};
+ghost use Rattle.ledger_model.specs.History.{History, journals, journals_of, size, id, point, seen_point, close};
 ghost use Rattle.ledger_model.specs.InOrder.{steps_of};
 ghost use Rattle.ledger_model.specs.Lawful.{IsLawful, IsSound};
 ghost use Rattle.ledger_model.specs.Outcomes.{view};
+ghost use Rattle.ledger_model.specs.Pegs.{Pegged};
 ghost use Rattle.ledger_model.specs.Prepared.{prepared_items, after_jobs, job_dues};
 ghost use Rattle.ledger_model.specs.Rules.{after_job, after_steps, after};
 ghost use Rattle.ledger_model.specs.Scheme.{Scheme};
 ghost use Rattle.ledger_model.specs.Step.{Step};
 ghost use Rattle.ledger_model.specs.Texts.{text};
+ghost use Rattle.ledger_model.specs.Took.{counts_after, Took, TookAll};
 ghost use Rattle.ledger_model.specs.Windows.{Said, said_lines, windows, AllButLastWhole, NoneWholeBefore};
 ghost use Rattle.ledger_model.specs.declared.due.Due.{Due as AnyDue};
 ghost use Rattle.ledger_model.specs.declared.genesis.Genesis.{Genesis};
@@ -131,4 +134,28 @@ pub fn the_replies_of_a_run_fit()
         → AllFit (due_replies f (all_dues scheme h steps)) }
     ensures steps { (lines : List (List ℕ)) → length lines < 2 ^ 64
         → EachCounted (steps_of (windows (said_lines lines))) }
+{}
+
+/// The notary takes part in a run as in its parts, one after the other.
+pub fn the_notary_is_attended()
+    ensures joined { (scheme : Scheme) (h : History) (n mid m : NotaryState) (xs ys : List Step)
+        → Took scheme h n xs mid → Took scheme (after_steps scheme h xs) mid ys m
+        → Took scheme h n (xs ++ ys) m }
+    ensures counted { (scheme : Scheme) (h : History) (n m : NotaryState) (steps : List Step)
+        → Took scheme h n steps m → m.faults ≡ counts_after steps n.faults }
+{}
+
+/// Whatever lines are run, the notary's list keeps the entry of each kept time journal, with its time and its salt: along
+/// steps, at a block's end, where the list alone grows, and for a beginning of the history.
+pub fn a_run_keeps_its_pegs()
+    ensures steps { (scheme : Scheme) (h : History) (n m : NotaryState) (steps : List Step) → 0 < size h
+        → Took scheme h n steps m → Pegged h n.entries → Pegged (after_steps scheme h steps) m.entries }
+    ensures windows { (scheme : Scheme) (h : History) (n m : NotaryState) (steps : List (List Step)) → 0 < size h
+        → TookAll scheme h n steps m → Pegged h n.entries → Pegged (after scheme h steps) m.entries }
+    ensures ended { (h : History) (es : List (List ℕ)) → 0 < size h → Pegged h es → Pegged (close h) es }
+    ensures longer { (h : History) (es more : List (List ℕ)) → IsList (es ++ more) → Pegged h es
+        → Pegged h (es ++ more) }
+    ensures fewer { (k g : History) (more : List Entry) (es : List (List ℕ))
+        → journals g ≡ journals k ++ more → 0 < size k → point g ≤ point k → Pegged g es → Pegged k es }
+    ensures new { (genesis : Genesis) (es : List (List ℕ)) → IsList es → Pegged (new_ledger genesis) es }
 {}

@@ -1,0 +1,8 @@
+use Rattle.ledger_model.proofs.TookLaws.{took_then, took_counted}
+use Rattle.ledger_model.proofs.laws.the_notary_is_attended.Goals as goal
+
+pub returns-clause-joined : goal.returns-clause-joined
+returns-clause-joined c = took_then
+
+pub returns-clause-counted : goal.returns-clause-counted
+returns-clause-counted c = took_counted
