@@ -54,6 +54,7 @@ fn prepare_line<V: Verifier>(verifier: &V, id: &Digest, line: Line) -> Job
             proof,
         ),
         Line::NewMember { number, key, proof } => member_job(verifier, id, number, key, proof),
+        Line::Anchor => Job::Anchor,
         Line::Get { n } => Job::Get { n },
         Line::Clue { name } => Job::Clue {
             clue: clue_digest(name.as_slice()),

@@ -1,5 +1,6 @@
 -- Lemmas on what comes of a job.
-use Rattle.std.proofs.Common.{◌≡◌, ℕ, ◌≤◌, List, length, Option, Some, None, ap, sym, subst, ◌∙◌}
+use Rattle.std.specs.Prelude.{Result, Ok, Err, OnOk, IfOk}
+use Rattle.std.proofs.Common.{false, true, refl, ◌-◌, ◌<◌, ◌≡◌, ℕ, ◌≤◌, List, length, Option, Some, None, ap, sym, subst, ◌∙◌}
 use Rattle.sha2.specs.Sha256.{sha256}
 use Rattle.tree_model.specs.Tree.{leaf}
 use Rattle.ledger_bytes.specs.Digests.{digest}
@@ -15,18 +16,23 @@ use Rattle.journal_record.specs.declared.stamp.Stamp.{Stamp}
 use Rattle.ledger_model.specs.Appends.{append_header, append_journal, member_header, member_journal}
 use Rattle.ledger_model.specs.Clues.{next_ordinal, last_journal}
 use Rattle.ledger_model.specs.History.{History, size, leaf_digest}
-use Rattle.ledger_model.specs.Judgements.{own_refusal}
+use Rattle.journal_record.specs.declared.rules.TheConstants.{NOTARY_LIMIT}
+use Rattle.ledger_model.specs.Anchors.{time_header, time_journal}
+use Rattle.ledger_model.specs.Members.{is_member}
+use Rattle.ledger_model.specs.Judgements.{own_refusal, hard_fullness}
+use Rattle.ledger_book.proofs.JudgeLaws.{first_one, hard_not}
+use Rattle.ledger_model.specs.Lawful.{gathers}
 use Rattle.ledger_model.specs.Limits.{AreWithin}
 use Rattle.ledger_model.specs.Outcomes as outcomes
 use Rattle.ledger_model.specs.Outcomes.{placed_journal, with_waiting, after_judgement, placed_as, accepted_outcome, judged_outcome}
 use Rattle.ledger_model.specs.declared.job.Job.{Job}
-use Rattle.ledger_model.specs.declared.job.Job.TheVariants.{Append, NewMember}
+use Rattle.ledger_model.specs.declared.job.Job.TheVariants.{Append, NewMember, Anchor}
 use Rattle.ledger_model.specs.declared.limits.Limits.{Limits}
 use Rattle.ledger_model.specs.declared.outcome.Outcome.TheVariants.{Refused, Placed, Reading}
 use Rattle.ledger_model.specs.declared.outcome.Query.{Query}
-use Rattle.ledger_model.proofs.AcceptedLaws.{record_next, member_next}
+use Rattle.ledger_model.proofs.AcceptedLaws.{record_next, member_next, time_next}
 use Rattle.ledger_book.specs.Books.{Kept, Stands, Serves}
-use Rattle.ledger_book.specs.Steps.{Applies, IsSame, MayPlace, IsLeafOf}
+use Rattle.ledger_book.specs.Steps.{Applies, IsSame, MayPlace, IsLeafOf, HasOperatorRoom}
 
 -- a refusal changes nothing
 pub applies_refused : (limits : Limits) (stamp : Option Stamp) (h : History) (job : Job) (refusal : Refusal) (k : Kept) → own_refusal limits h job ≡ Some refusal → Serves k h → Applies limits stamp h job (Refused refusal) k
@@ -77,9 +83,9 @@ module _ (h : History) (member : ℕ) (clue : Digest) (content : List ℕ) (cont
       ∙ ap (λ x. append_header (size h) member clue x previous content content_digest request by) o
       ∙ ap (λ x. append_header (size h) member clue (next_ordinal h clue) x content content_digest request by) p)
 
-  pub record_kind : record_journal.header ≡ header → header.kind ≡ kind.Content
+  pub record_kind : record_journal.header ≡ header → is_member header.kind ≡ false
   unfolding append_header
-  record_kind is = ap (λ (x : Header). x.kind) (sym is)
+  record_kind is = ap (λ (x : Header). is_member x.kind) (sym is)
 
   pub record_may : (limits : Limits) (k : Kept) → AreWithin limits → own_refusal limits h (Append member clue content content_digest request by) ≡ None → length content ≤ CONTENT_LIMIT → Stands k h → record_journal.header ≡ header → MayPlace h header
   record_may limits k within none long s is = subst (MayPlace h) is (record_next limits within h member clue content content_digest request by none s.lawful long)
@@ -92,3 +98,38 @@ module _ (h : History) (number : ℕ) (key : Digest) (by : Approval) (header : H
 
   pub member_may : (limits : Limits) (k : Kept) → AreWithin limits → own_refusal limits h (NewMember number key by) ≡ None → Stands k h → (member_journal (size h) number key by).header ≡ header → MayPlace h header
   member_may limits k within none s is = subst (MayPlace h) is (member_next limits within h number key by none s.lawful)
+
+-- a time journal at its place
+module _ (h : History) (stamp : Stamp) (header : Header) where
+  pub time_kind : (time_journal (size h) stamp).header ≡ header → is_member header.kind ≡ false
+  unfolding time_header
+  time_kind is = ap (λ (x : Header). is_member x.kind) (sym is)
+
+  pub time_may : (limits : Limits) (k : Kept) → AreWithin limits → own_refusal limits h Anchor ≡ None → stamp.index < NOTARY_LIMIT → Stands k h → (time_journal (size h) stamp).header ≡ header → MayPlace h header
+  time_may limits k within none few s is = subst (MayPlace h) is (time_next limits within h stamp none s.lawful few)
+
+-- an anchor is refused where there is no room, and only there
+pub anchor_refused : (limits : Limits) (h : History) (refusal : Option Refusal) → refusal ≡ hard_fullness limits h → refusal ≡ own_refusal limits h Anchor
+anchor_refused limits h refusal is = is ∙ first_one (hard_fullness limits h)
+
+-- .. so not where there is room by what is kept
+pub anchor_accepted : (k : Kept) (h : History) → Serves k h → HasOperatorRoom k → own_refusal k.limits h Anchor ≡ None
+anchor_accepted k h s room = sym (anchor_refused k.limits h None (hard_not k h (k.size - k.point) s refl room.0 room.1))
+
+-- a record and a new member may share their block with others
+pub content_gathers : (jsn member : ℕ) (clue : Digest) (ordinal previous : ℕ) (content : List ℕ) (content_digest request : Digest) (by : Approval) (header : Header) → header ≡ append_header jsn member clue ordinal previous content content_digest request by → gathers header.kind ≡ true
+unfolding append_header
+content_gathers jsn member clue ordinal previous content content_digest request by header is = ap (λ (x : Header). gathers x.kind) is
+
+pub member_gathers : (jsn number : ℕ) (key : Digest) (by : Approval) (header : Header) → header ≡ member_header jsn number key by → gathers header.kind ≡ true
+unfolding member_header
+member_gathers jsn number key by header is = ap (λ (x : Header). gathers x.kind) is
+
+-- a result that is no error, or is one
+pub on_ok_all : {T E : Type 0} {A : Type 0} (result : Result T E) → A → OnOk result A
+on_ok_all (Ok value) a = a
+on_ok_all (Err error) a = tt
+
+pub if_ok_all : {T E : Type 0} {A : T → Type 0} (result : Result T E) → ((t : T) → A t) → IfOk result A
+if_ok_all (Ok value) a = a value
+if_ok_all (Err error) a = tt

@@ -28,7 +28,8 @@ use Rattle.ledger_model.specs.Members.{members, is_member, member_of}
 use Rattle.ledger_model.specs.declared.genesis.Genesis.{Genesis}
 use Rattle.ledger_model.specs.declared.limits.Limits.{Limits}
 use Rattle.ledger_model.proofs.KeepLaws.{genesis_lawful}
-use Rattle.ledger_book.specs.Books.{Kept, Serves, aged_members, clues_added}
+use Rattle.ledger_book.specs.Books.{Kept, Serves, aged_members}
+use Rattle.ledger_model.specs.Bases.{clues_added}
 use Rattle.ledger_book.specs.Replaying.{IsFirst, begun_with}
 use Rattle.ledger_book.proofs.ClueLaws.{marks_same}
 

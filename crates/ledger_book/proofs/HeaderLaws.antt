@@ -9,6 +9,8 @@ use Rattle.journal_record.specs.declared.approval.Approval.{Approval}
 use Rattle.journal_record.specs.declared.header.Header.{Header}
 use Rattle.journal_record.specs.declared.header.Kind.{Kind}
 use Rattle.journal_record.specs.declared.header.Kind.TheVariants as kind
+use Rattle.journal_record.specs.declared.stamp.Stamp.{Stamp}
+use Rattle.ledger_model.specs.Anchors.{time_header}
 use Rattle.ledger_model.specs.Appends.{append_header, member_header}
 use Rattle.ledger_model.specs.Genesis.{founders_content, genesis_header}
 use Rattle.ledger_model.specs.declared.genesis.Genesis.{Genesis}
@@ -53,3 +55,10 @@ member_is jsn number a key content who by n c w =
     ap (λ x. header_with kind.Member jsn 0 zero_digest 0 0 x key 0 content who) n
     ∙ ap (λ x. header_with kind.Member jsn 0 zero_digest 0 0 number key 0 (digest x) who) c
     ∙ ap (λ x. header_with kind.Member jsn 0 zero_digest 0 0 number key 0 (digest (content_digest_of [])) (digest x)) w
+
+pub time_is : (jsn : ℕ) (stamp : Stamp) (content who : Digest) → content.0 ≡ content_digest_of [] → who.0 ≡ who_digest_of []
+    → record (header_with kind.Time jsn 0 zero_digest 0 0 stamp.index stamp.salt 0 content who) { b = stamp.time } ≡ time_header jsn stamp
+unfolding time_header
+time_is jsn stamp content who c w =
+    ap (λ x. record (header_with kind.Time jsn 0 zero_digest 0 0 stamp.index stamp.salt 0 (digest x) who) { b = stamp.time }) c
+    ∙ ap (λ x. record (header_with kind.Time jsn 0 zero_digest 0 0 stamp.index stamp.salt 0 (digest (content_digest_of [])) (digest x)) { b = stamp.time }) w

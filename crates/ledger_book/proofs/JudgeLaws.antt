@@ -13,7 +13,7 @@ use Rattle.journal_record.specs.Rules.{is_no_clue}
 use Rattle.journal_record.specs.declared.member.Member.{Member}
 use Rattle.ledger_model.specs.Clues.{jsns_with, clue_count, last_of, next_ordinal, last_journal}
 use Rattle.ledger_model.specs.History.{History, journals, size}
-use Rattle.ledger_model.specs.Judgements.{kept_count, is_full, fullness, clues_full, first_refusal, unknown_in}
+use Rattle.ledger_model.specs.Judgements.{kept_count, is_full, fullness, hard_fullness, clues_full, first_refusal, unknown_in}
 use Rattle.ledger_model.specs.Lawful.{AreLawful}
 use Rattle.ledger_model.specs.Members.{members, keys}
 use Rattle.ledger_model.specs.Texts.{kept_with}
@@ -50,6 +50,27 @@ full_not k h n s is less room =
     let first : nat_le k.limits.soft (kept_count h) ≡ false = lt-leb k.limits.soft (kept_count h) (omega (arith, less, kept_is k h n s is)) in
     let test : nat_le k.limits.size (size h) ≡ false = lt-leb k.limits.size (size h) (omega (arith, room, s.stands.counts.size)) in
     full_as k.limits h false (ap (λ b. b || nat_le k.limits.size (size h)) first ∙ test)
+
+hard_as : (l : Limits) (h : History) (b : Bool) → is_full l.hard l h ≡ b → cond b (Some (Full (kept_count h) (size h))) None ≡ hard_fullness l h
+unfolding hard_fullness
+hard_as l h b is = sym (ap (λ v. cond v (Some (Full (kept_count h) (size h))) None) is)
+
+pub hard_by_kept : (k : Kept) (h : History) (n : ℕ) → Serves k h → n ≡ k.size - k.point → k.limits.hard ≤ n → Some (Full n k.size) ≡ hard_fullness k.limits h
+hard_by_kept k h n s is most =
+    let test : nat_le k.limits.hard (kept_count h) ≡ true = le-leb k.limits.hard (kept_count h) (omega (arith, most, kept_is k h n s is)) in
+    full_told k h n s is ∙ hard_as k.limits h true (ap (λ b. b || nat_le k.limits.size (size h)) test)
+
+pub hard_by_size : (k : Kept) (h : History) (n : ℕ) → Serves k h → n ≡ k.size - k.point → n < k.limits.hard → k.limits.size ≤ k.size → Some (Full n k.size) ≡ hard_fullness k.limits h
+hard_by_size k h n s is less most =
+    let first : nat_le k.limits.hard (kept_count h) ≡ false = lt-leb k.limits.hard (kept_count h) (omega (arith, less, kept_is k h n s is)) in
+    let test : nat_le k.limits.size (size h) ≡ true = le-leb k.limits.size (size h) (omega (arith, most, s.stands.counts.size)) in
+    full_told k h n s is ∙ hard_as k.limits h true (ap (λ b. b || nat_le k.limits.size (size h)) first ∙ test)
+
+pub hard_not : (k : Kept) (h : History) (n : ℕ) → Serves k h → n ≡ k.size - k.point → n < k.limits.hard → k.size < k.limits.size → (let none : Option Refusal = None in none ≡ hard_fullness k.limits h)
+hard_not k h n s is less room =
+    let first : nat_le k.limits.hard (kept_count h) ≡ false = lt-leb k.limits.hard (kept_count h) (omega (arith, less, kept_is k h n s is)) in
+    let test : nat_le k.limits.size (size h) ≡ false = lt-leb k.limits.size (size h) (omega (arith, room, s.stands.counts.size)) in
+    hard_as k.limits h false (ap (λ b. b || nat_le k.limits.size (size h)) first ∙ test)
 
 -- whether there is room for a journal of the operator
 pub hard_full : (k : Kept) (h : History) (n : ℕ) → Serves k h → n ≡ k.size - k.point → (nat_le k.limits.hard n || nat_le k.limits.size k.size) ≡ is_full k.limits.hard k.limits h

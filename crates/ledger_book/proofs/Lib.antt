@@ -3,6 +3,7 @@ pub mod ClueLaws
 pub mod MemberLaws
 pub mod StandsLaws
 pub mod GenesisLaws
+pub mod OpenLaws
 pub mod JudgeLaws
 pub mod ApplyLaws
 mod ReplayLaws

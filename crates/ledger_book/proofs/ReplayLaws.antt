@@ -45,6 +45,10 @@ module _ (k : Kept) (h : History) (x : Header) (s : Stands k h) (layout : IsHead
   pub record_is_next : (answer : Bool) → x.kind ≡ kind.Content → (IsTrue answer ↔ IsNextRecord h x) → IsTrue answer ↔ MayPlace h x
   record_is_next answer is told = (λ yes. next_by_kind kind.Content is (record_by_kind (told.0 yes)), λ next. told.1 (record_of_kind (own_by_kind kind.Content is next)))
 
+  -- a time journal
+  pub time_is_next : x.kind ≡ kind.Time → MayPlace h x
+  time_is_next is = next_by_kind kind.Time is tt
+
   -- a new member
   pub member_is_next : (count : ℕ) → x.kind ≡ kind.Member → count ≡ length k.members → IsTrue (nat_eq x.a count) ↔ MayPlace h x
   unfolding members

@@ -19,6 +19,8 @@ use Rattle.journal_record.specs.declared.header.Kind.TheVariants as kind
 use Rattle.journal_record.specs.declared.member.Member.{Member}
 use Rattle.clue_index.specs.Added.{Mark, Added, with_mark}
 use Rattle.clue_index.specs.Index as index
+use Rattle.time_peg.specs.Entries.{peg_string}
+use Rattle.ledger_model.specs.Anchors.{peg_at}
 use Rattle.ledger_model.specs.History as model
 use Rattle.ledger_model.specs.History.{History, history, journals, journals_of, close, leaf_digest, first_leaf_digest, is_purge, purge_point, greatest_point}
 use Rattle.ledger_model.specs.Lawful.{AreLawful, IsNextOf}
@@ -31,7 +33,8 @@ use Rattle.ledger_model.proofs.GrowLaws.{close_settled, close_ended, size_closed
 use Rattle.ledger_model.proofs.KeepLaws.{journals_wider}
 use Rattle.ledger_model.proofs.LawfulLaws.{later_seen, lawful_more, none_hidden, some_journal}
 use Rattle.ledger_model.proofs.PlaceLaws.{founders_kept, admitted_more, admitted_same, point_same}
-use Rattle.ledger_book.specs.Books.{Kept, Stands, Serves, headers, leaf_digests, sealed_size, ends_above, aged_member, aged_members, clues_added}
+use Rattle.ledger_book.specs.Books.{Kept, Stands, Serves, headers, leaf_digests, sealed_size, ends_above, aged_member, aged_members}
+use Rattle.ledger_model.specs.Bases.{clues_added}
 use Rattle.ledger_book.specs.Steps.{IsAsBefore, MayPlace, IsLeafOf, with_clue_of}
 use Rattle.ledger_book.specs.Seals.{head_at, sealed_block, seal_of}
 use Rattle.ledger_book.specs.declared.sealed.Sealed.{Sealed}
@@ -43,6 +46,16 @@ waiting_count k h s = omega (arith, s.counts.size, s.counts.sealed_is, length-ap
 
 pub none_waits : (k : Kept) (h : History) → Stands k h → k.sealed ≡ k.size → h.waiting ≡ []
 none_waits k h s none = nil_from_length h.waiting (omega (arith, waiting_count k h s))
+
+-- what the notary is to stamp, by what is kept
+pub peg_told : (k : Kept) (h : History) → Stands k h → h.waiting ≡ [] → sha256 (peg_string k.id.0 k.sealed k.root.0) ≡ peg_at h (model.size h)
+unfolding peg_at
+peg_told k h s none =
+    let at : sealed_size h ≡ model.size h = ap length (sym (ap (λ w. journals_of h.closed ++ w) none ∙ append-nil (journals_of h.closed))) in
+    ap (λ l. sha256 (peg_string l k.sealed k.root.0)) s.tree.id
+    ∙ ap (λ l. sha256 (peg_string (model.id h) k.sealed l)) s.tree.root
+    ∙ ap (λ n. sha256 (peg_string (model.id h) n (model.root h (sealed_size h)))) s.counts.sealed_is
+    ∙ ap (λ n. sha256 (peg_string (model.id h) n (model.root h n))) at
 
 -- nothing waits: the block's end changes nothing
 pub stands_settled : (k : Kept) (h : History) → Stands k h → k.sealed ≡ k.size → Stands k (close h)
@@ -170,7 +183,7 @@ no_purge : (h : History) (x : Header) (k : Kind) → IsNextOf h x k → cond (is
 no_purge h x kind.Genesis own = refl
 no_purge h x kind.Content own = refl
 no_purge h x kind.Member own = refl
-no_purge h x kind.Time own = absurd own
+no_purge h x kind.Time own = refl
 no_purge h x kind.Occult own = absurd own
 no_purge h x kind.Purge own = absurd own
 
@@ -266,14 +279,14 @@ module _ (k : Kept) (h : History) (j : Entry) (header : Header) (s : Stands k h)
       subst (λ d. StandsFor sha256 rows (leaf_digests h ++ d ∷ [])) same (more (leaf_digests h) s.tree.leaves)
 
   -- a member's record
-  pub stands_record : (t : index.Kept) (hs : List Header) (rows : Levels) (ends : List ℕ) (tip : Digest) → header.kind ≡ kind.Content → AddsClue k.clues t header → Grown k hs rows ends header tip
+  pub stands_record : (t : index.Kept) (hs : List Header) (rows : Levels) (ends : List ℕ) (tip : Digest) → is_member header.kind ≡ false → AddsClue k.clues t header → Grown k hs rows ends header tip
       → Stands (kept_with k k.members t hs rows ends) (wider h j)
   stands_record t hs rows ends tip content adds more =
-      let kind_is : j.header.kind ≡ kind.Content = ap (λ (x : Header). x.kind) is ∙ content in
+      let kind_is : is_member j.header.kind ≡ false = ap (λ (x : Header). is_member x.kind) is ∙ content in
       let told = adds (clues_added k.floor (journals h)) s.clues (omega (arith, low, next.jsn)) (subst (λ n. All (λ (m : Mark). m.jsn < n) (clues_added k.floor (journals h)).marks) (sym next.jsn) (marks_below k.floor (journals h) s.lawful)) in
       let clues : index.Stands t (clues_added k.floor (journals (wider h j))) = subst (index.Stands t) (ap (λ (x : Header). with_clue_of x (clues_added k.floor (journals h))) (sym is) ∙ wider_clues k.floor h j) told in
       grown k (wider h j) j k.members t hs rows ends header is more.headers_are more.ends_are
-      (stands_wider k h j k.members t rows s placing (s.members ∙ ap (aged_members k.floor) (sym (wider_members_same h j some_yet (ap is_member kind_is)))) clues (leaf_more rows tip more.tip_is more.leaves_are))
+      (stands_wider k h j k.members t rows s placing (s.members ∙ ap (aged_members k.floor) (sym (wider_members_same h j some_yet kind_is))) clues (leaf_more rows tip more.tip_is more.leaves_are))
 
   -- a new member
   pub stands_member : (ms : List Member) (hs : List Header) (rows : Levels) (ends : List ℕ) (tip : Digest) → header.kind ≡ kind.Member → ms ≡ k.members ++ record { key = header.link; jsn = header.jsn } ∷ []

@@ -1,14 +1,12 @@
 -- What a book keeps of a history, and what it is to stand for one.
-use Rattle.std.specs.Prelude.{◌≡◌, ℕ, ◌≤◌, if◌then◌else◌, List, [], map, filter, drop, length, nat_lt}
+use Rattle.std.specs.Prelude.{◌≡◌, ℕ, ◌≤◌, if◌then◌else◌, List, map, filter, drop, length, nat_lt}
 use Rattle.sha2.specs.Sha256.{sha256}
 use Rattle.ledger_bytes.specs.declared.digest.Digest.{Digest}
-use Rattle.journal_record.specs.Entry.{Entry}
 use Rattle.journal_record.specs.declared.header.Header.{Header}
 use Rattle.merkle_batch.specs.Rows.{Levels, StandsFor}
 use Rattle.journal_record.specs.declared.member.Member.{Member}
-use Rattle.clue_index.specs.Added.{Mark, Added}
 use Rattle.clue_index.specs.Index as index
-use Rattle.ledger_model.specs.Clues.{has_clue}
+use Rattle.ledger_model.specs.Bases.{clues_added}
 use Rattle.ledger_model.specs.History as model
 use Rattle.ledger_model.specs.History.{History, journals, journals_of, leaf_digest}
 use Rattle.ledger_model.specs.Lawful.{AreLawful}
@@ -37,14 +35,6 @@ aged_member floor m = record { key = m.key; jsn = if nat_lt m.jsn floor then 0 e
 
 abbrev pub aged_members : ℕ → List Member → List Member
 aged_members floor members = map (aged_member floor) members
-
--- a journal's clue and its number
-abbrev pub mark_of : Entry → Mark
-mark_of journal = record { clue = journal.header.clue.0; jsn = journal.header.jsn }
-
--- what an index of clues was given of some journals, of which those from the floor on are kept
-abbrev pub clues_added : ℕ → List Entry → Added
-clues_added floor journals = record { states = []; marks = map mark_of (filter has_clue journals); floor = floor }
 
 -- what a book keeps
 pub record Kept : Type 0 where

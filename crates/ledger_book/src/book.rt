@@ -1,6 +1,7 @@
-ghost use Rattle.std.specs.Prelude.{◌≡◌, ◌+◌, ◌≤◌, IfOk, IfNone, IsSome, ◌<◌, length, nat_le, slice_get, option_copied, Option, None, true, if◌then◌else◌};
+ghost use Rattle.std.specs.Prelude.{◌≡◌, ◌+◌, ◌≤◌, IfOk, IfNone, IsSome, ◌<◌, [], length, nat_le, slice_get, option_copied, Option, None, true, if◌then◌else◌};
 ghost use Rattle.sha2.specs.Sha256.{sha256};
 ghost use Rattle.merkle_batch.specs.Rows.{StandsFor};
+ghost use Rattle.ledger_model.specs.Anchors.{peg_at};
 ghost use Rattle.ledger_model.specs.Clues.{jsns_with};
 ghost use Rattle.ledger_model.specs.Genesis.{new_ledger};
 ghost use Rattle.ledger_model.specs.History as model;
@@ -29,6 +30,7 @@ use merkle_batch::Tree;
 use merkle_tree::Head;
 use std::alloc::Global;
 use std::marker::Model;
+use time_peg::peg_of;
 
 /// The state of a ledger's history. A contract sees the record of what is kept; `Stands` says of which histories it
 /// keeps that, and each clause speaks of all of these.
@@ -163,6 +165,16 @@ impl Book {
         ensures { (h : History) → Stands self.now h → result ≡ head_of h }
     {
         self.head
+    }
+
+    /// What the notary is to stamp for an anchor: the digest of the ledger's id, the size and the root at the end of the
+    /// last block that has ended. So it is over all journals only where none waits.
+    pub fn peg(&self) -> Digest
+        ensures peg { (h : History) → Stands self.now h → h.waiting ≡ []
+            → result.0 ≡ peg_at h (model.size h) }
+        ensures wide { length result.0 ≡ 32 }
+    {
+        peg_of::<Sha>(&self.id, self.head.size, &self.head.root)
     }
 
     /// How many blocks have ended.

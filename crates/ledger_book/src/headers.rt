@@ -1,10 +1,11 @@
 ghost use Rattle.std.specs.Prelude.{◌≡◌, ◌≤◌, ◌<◌, ◌^◌, ◌++◌, length, ℕ, List};
 ghost use Rattle.journal_record.specs.Entry.{content_digest_of};
+ghost use Rattle.ledger_model.specs.Anchors as anchors;
 ghost use Rattle.ledger_model.specs.Appends.{append_header, member_header};
 ghost use Rattle.ledger_model.specs.Genesis.{genesis_header};
 
 use journal_record::{
-    Approval, Header, Kind, approval_digest, content_digest, name_digest, who_digest,
+    Approval, Header, Kind, Stamp, approval_digest, content_digest, name_digest, who_digest,
 };
 use ledger_bytes::Digest;
 use ledger_model::Genesis;
@@ -103,5 +104,26 @@ pub(crate) fn new_member_header(jsn: u64, number: u32, key: &Digest, by: &Approv
         content_len: 0,
         content_digest: content_digest(b""),
         who_digest: approval_digest(by),
+    }
+}
+
+/// The header of a time journal that is journal `jsn`.
+pub(crate) fn time_header(jsn: u64, stamp: &Stamp) -> Header
+    ensures { result ≡ anchors.time_header jsn stamp.now }
+{
+    Header {
+        version: 1,
+        kind: Kind::Time,
+        jsn,
+        member: 0,
+        clue: Digest::ZERO,
+        clue_ord: 0,
+        clue_prev: 0,
+        a: stamp.index,
+        b: stamp.time,
+        link: stamp.salt,
+        content_len: 0,
+        content_digest: content_digest(b""),
+        who_digest: who_digest(b""),
     }
 }

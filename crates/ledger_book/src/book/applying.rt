@@ -1,15 +1,17 @@
-ghost use Rattle.std.specs.Prelude.{◌≡◌, ◌≤◌, length, true, IfOk, OnErr, Option, option_copied};
+ghost use Rattle.std.specs.Prelude.{◌≡◌, ◌≤◌, ◌<◌, length, true, false, IfOk, IfSome, OnOk, OnErr, Option, option_copied};
 ghost use Rattle.ledger_bytes.specs.declared.limits.TheConstants.{CONTENT_LIMIT, PROOF_LIMIT};
+ghost use Rattle.journal_record.specs.declared.rules.TheConstants.{NOTARY_LIMIT};
 ghost use Rattle.journal_record.specs.declared.stamp.Stamp.{Stamp as StampRecord};
 ghost use Rattle.ledger_model.specs.Fitting.{fits_job};
 ghost use Rattle.ledger_model.specs.History.{History};
 ghost use Rattle.ledger_model.specs.Outcomes.{AsksFor};
+ghost use Rattle.ledger_model.specs.Rules.{closes_after};
 ghost use Rattle.ledger_model.specs.declared.job.Job.TheVariants as asked;
 ghost use Rattle.ledger_book.specs.Books.{Serves};
-ghost use Rattle.ledger_book.specs.Steps.{IsSame, IsAsBefore, HasNumber, PlacesNothing, NeverReads, Applies};
+ghost use Rattle.ledger_book.specs.Steps.{IsSame, IsAsBefore, HasNumber, PlacesNothing, NeverReads, Applies, OpenGathers, Anchors};
 
 use super::Book;
-use crate::headers::{new_member_header, record_header};
+use crate::headers::{new_member_header, record_header, time_header};
 use journal_record::{Approval, Stamp};
 use ledger_bytes::{Bytes, Digest, NoMemory, Sha};
 use ledger_model::{Job, Outcome, Query};
@@ -17,19 +19,24 @@ use merkle_tree::leaf_of;
 
 impl Book {
     /// Judges a job, and places its journal in the open block where it is accepted. A refusal changes nothing, and so
-    /// does an `Err`. The open block isn't ended by this: the caller ends it where it is full, and before a job that
-    /// asks for that. The stamp is the notary's; no job so far needs one.
+    /// does an `Err`. The open block isn't ended by this: the caller ends it where it is full, before a job that asks for
+    /// that, and behind one whose journal is a block of its own. The stamp is the notary's: an anchor that is accepted asks
+    /// for it, and is to be applied again with it.
     pub fn apply(&mut self, job: &Job, stamp: Option<&Stamp>) -> Result<Outcome, NoMemory>
-        requires { fits_job job.now ≡ true }
+        requires fits { fits_job job.now ≡ true }
+        requires stamp { IfSome (option_copied stamp) (λ s. s.index < NOTARY_LIMIT) }
         ensures ok { IfOk result (λ outcome. (h : History) → Serves self.old h
             → Applies self.old.limits (option_copied stamp.entry) h job.now outcome self.new) }
         ensures number { IfOk result (HasNumber self.old self.new) }
+        ensures gathers { OnOk result (closes_after job.now ≡ false → OpenGathers self.old
+            → OpenGathers self.new) }
+        ensures anchor { IfOk result (λ outcome. job.now ≡ asked.Anchor
+            → Anchors self.old (option_copied stamp.entry) outcome) }
         ensures err { OnErr result (IsAsBefore self.old self.new) }
         ensures same { IsSame self.old self.new }
         ensures unchanged { IfOk result (λ outcome. PlacesNothing outcome → self.new ≡ self.old) }
         ensures asked { IfOk result (AsksFor job.now) }
     {
-        let _stamp = stamp;
         match job {
             Job::Refused(refusal) => Ok(Outcome::Refused(*refusal)),
             Job::Append {
@@ -41,6 +48,7 @@ impl Book {
                 by,
             } => self.apply_record(*member, clue, content, content_digest, request, by),
             Job::NewMember { number, key, by } => self.apply_member(*number, key, by),
+            Job::Anchor => self.apply_anchor(stamp),
             Job::Get { n } => Ok(Outcome::Reading(Query::Get { n: *n })),
             Job::Clue { clue } => Ok(Outcome::Reading(Query::Clue { clue: *clue })),
             Job::Head => Ok(Outcome::Reading(Query::Head)),
@@ -65,6 +73,7 @@ impl Book {
             (asked.Append member clue.now content.now content_digest.now request.now by.now) outcome
             self.new) }
         ensures number { IfOk result (HasNumber self.old self.new) }
+        ensures gathers { OnOk result (OpenGathers self.old → OpenGathers self.new) }
         ensures err { OnErr result (IsAsBefore self.old self.new) }
         ensures same { IsSame self.old self.new }
         ensures unchanged { IfOk result (λ outcome. PlacesNothing outcome → self.new ≡ self.old) }
@@ -92,6 +101,31 @@ impl Book {
         })
     }
 
+    // Judges an anchor. One that is accepted asks for a stamp, and with it its journal is placed.
+    fn apply_anchor(&mut self, stamp: Option<&Stamp>) -> Result<Outcome, NoMemory>
+        requires { IfSome (option_copied stamp) (λ s. s.index < NOTARY_LIMIT) }
+        ensures ok { IfOk result (λ outcome. (h : History) → Serves self.old h
+            → Applies self.old.limits (option_copied stamp.entry) h asked.Anchor outcome self.new) }
+        ensures number { IfOk result (HasNumber self.old self.new) }
+        ensures anchor { IfOk result (Anchors self.old (option_copied stamp.entry)) }
+        ensures err { OnErr result (IsAsBefore self.old self.new) }
+        ensures same { IsSame self.old self.new }
+        ensures unchanged { IfOk result (λ outcome. PlacesNothing outcome → self.new ≡ self.old) }
+        ensures asked { IfOk result (AsksFor asked.Anchor) }
+    {
+        if let Some(refusal) = self.hard_refusal() {
+            return Ok(Outcome::Refused(refusal));
+        }
+        let Some(stamp) = stamp else {
+            return Ok(Outcome::Reading(Query::Stamp));
+        };
+        let jsn = self.size;
+        let header = time_header(jsn, stamp);
+        let leaf = leaf_of::<Sha>(&header.encode());
+        self.place_record(&header, leaf)?;
+        Ok(Outcome::Placed { jsn, leaf })
+    }
+
     // Judges a new member, and admits it where it is accepted.
     fn apply_member(
         &mut self,
@@ -105,6 +139,7 @@ impl Book {
             → Applies self.old.limits stamp h
             (asked.NewMember number key.now by.now) outcome self.new) }
         ensures number { IfOk result (HasNumber self.old self.new) }
+        ensures gathers { OnOk result (OpenGathers self.old → OpenGathers self.new) }
         ensures err { OnErr result (IsAsBefore self.old self.new) }
         ensures same { IsSame self.old self.new }
         ensures unchanged { IfOk result (λ outcome. PlacesNothing outcome → self.new ≡ self.old) }

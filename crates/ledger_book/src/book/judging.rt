@@ -1,10 +1,11 @@
-ghost use Rattle.std.specs.Prelude.{◌≡◌, ◌<◌, [], ◌∷◌, length, IfNone, None};
+ghost use Rattle.std.specs.Prelude.{◌≡◌, ◌<◌, [], ◌∷◌, length, IfNone, IfSome, None};
 ghost use Rattle.ledger_bytes.specs.declared.limits.TheConstants.{MEMBER_LIMIT};
 ghost use Rattle.journal_record.specs.Members.{keys};
 ghost use Rattle.ledger_model.specs.History.{History};
-ghost use Rattle.ledger_model.specs.Judgements.{fullness, unknown_in, wrong_key_in, clues_full, append_judgements, member_judgements, first_refusal};
+ghost use Rattle.ledger_model.specs.Judgements.{fullness, hard_fullness, unknown_in, wrong_key_in, clues_full, append_judgements, member_judgements, first_refusal};
 ghost use Rattle.ledger_model.specs.Limits.{AreWithin, real_limits};
 ghost use Rattle.ledger_book.specs.Books.{Stands, Serves};
+ghost use Rattle.ledger_book.specs.Steps.{HasOperatorRoom};
 
 use super::Book;
 use journal_record::Approval;
@@ -51,6 +52,25 @@ impl Book {
     {
         let kept = self.size.saturating_sub(self.point);
         if kept >= self.limits.soft || self.size >= self.limits.size {
+            return Some(Refusal::Full {
+                kept,
+                size: self.size,
+            });
+        }
+        None
+    }
+
+    /// Why an anchor is refused by the ledger alone, where it is: there is no room for a journal of the operator.
+    pub(super) fn hard_refusal(&self) -> Option<Refusal>
+        ensures refusal { (h : History) → Serves self.now h
+            → result ≡ hard_fullness self.now.limits h }
+        ensures some { IfSome result (λ refusal. HasOperatorRoom self.now → ⊥) }
+        ensures none { IfNone result (HasOperatorRoom self.now) }
+        ensures room { IfNone result (self.now.size < real_limits.size) }
+        ensures within { AreWithin self.now.limits }
+    {
+        let kept = self.size.saturating_sub(self.point);
+        if kept >= self.limits.hard || self.size >= self.limits.size {
             return Some(Refusal::Full {
                 kept,
                 size: self.size,

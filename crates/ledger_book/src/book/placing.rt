@@ -1,4 +1,4 @@
-ghost use Rattle.std.specs.Prelude.{◌≡◌, ◌+◌, ◌<◌, ◌≤◌, [], ℕ, All, Some, length, OnOk, OnErr};
+ghost use Rattle.std.specs.Prelude.{◌≡◌, ◌+◌, ◌<◌, ◌≤◌, [], ℕ, All, true, false, Some, length, OnOk, OnErr};
 ghost use Rattle.ledger_bytes.specs.declared.limits.TheConstants.{MEMBER_LIMIT};
 ghost use Rattle.journal_record.specs.Entry.{Entry};
 ghost use Rattle.journal_record.specs.declared.header.Kind.TheVariants as kind;
@@ -6,10 +6,12 @@ ghost use Rattle.clue_index.specs.Added.{Added};
 ghost use Rattle.clue_index.specs.Index as index;
 ghost use Rattle.ledger_model.specs.Clues.{next_ordinal, last_journal};
 ghost use Rattle.ledger_model.specs.History.{History};
+ghost use Rattle.ledger_model.specs.Lawful.{gathers};
 ghost use Rattle.ledger_model.specs.Limits.{real_limits};
+ghost use Rattle.ledger_model.specs.Members.{is_member};
 ghost use Rattle.ledger_model.specs.Outcomes.{with_waiting};
 ghost use Rattle.ledger_book.specs.Books.{Stands};
-ghost use Rattle.ledger_book.specs.Steps.{IsSame, IsAsBefore, MayPlace, IsLeafOf, with_clue_of};
+ghost use Rattle.ledger_book.specs.Steps.{IsSame, IsAsBefore, MayPlace, IsLeafOf, OpenGathers, with_clue_of};
 
 use super::Book;
 use crate::headers::Place;
@@ -44,15 +46,17 @@ impl Book {
         }
     }
 
-    /// Places a member's record, which has this leaf digest, in the open block.
+    /// Places a journal that is no new member, and has this leaf digest, in the open block.
     pub(super) fn place_record(&mut self, header: &Header, leaf: Digest) -> Result<(), NoMemory>
         requires room { self.old.size < real_limits.size }
         requires leaf { IsLeafOf header.now leaf }
         ensures ok { OnOk result ((h : History) (journal : Entry) → Stands self.old h
             → journal.header ≡ header.now
-            → header.now.kind ≡ kind.Content → MayPlace h header.now
+            → is_member header.now.kind ≡ false → MayPlace h header.now
             → Stands self.new (with_waiting (Some journal) h)) }
         ensures size { OnOk result (self.new.size ≡ self.old.size + 1) }
+        ensures gathers { OnOk result (gathers header.now.kind ≡ true → OpenGathers self.old
+            → OpenGathers self.new) }
         ensures sealed { self.new.sealed ≡ self.old.sealed }
         ensures err { OnErr result (IsAsBefore self.old self.new) }
         ensures same { IsSame self.old self.new }
@@ -77,6 +81,8 @@ impl Book {
             → header.now.kind ≡ kind.Member → MayPlace h header.now
             → Stands self.new (with_waiting (Some journal) h)) }
         ensures size { OnOk result (self.new.size ≡ self.old.size + 1) }
+        ensures gathers { OnOk result (gathers header.now.kind ≡ true → OpenGathers self.old
+            → OpenGathers self.new) }
         ensures sealed { self.new.sealed ≡ self.old.sealed }
         ensures err { OnErr result (IsAsBefore self.old self.new) }
         ensures same { IsSame self.old self.new }

@@ -1,4 +1,4 @@
-ghost use Rattle.std.specs.Prelude.{◌≡◌, ◌<◌, ◌⊎◌, ◌↔◌, IsTrue, IfOk, OnErr, length};
+ghost use Rattle.std.specs.Prelude.{◌≡◌, ◌<◌, ◌⊎◌, ◌↔◌, false, IsTrue, IfOk, OnErr, length};
 ghost use Rattle.ledger_bytes.specs.declared.limits.TheConstants.{MEMBER_LIMIT};
 ghost use Rattle.journal_record.specs.Entry.{Entry};
 ghost use Rattle.journal_record.specs.Rules.{IsHeader};
@@ -6,6 +6,7 @@ ghost use Rattle.journal_record.specs.declared.header.Kind.TheVariants as kind;
 ghost use Rattle.ledger_model.specs.History.{History};
 ghost use Rattle.ledger_model.specs.Lawful.{IsNextRecord};
 ghost use Rattle.ledger_model.specs.Limits.{AreWithin, real_limits};
+ghost use Rattle.ledger_model.specs.Members.{is_member};
 ghost use Rattle.ledger_book.specs.Books.{Stands, Serves};
 ghost use Rattle.ledger_book.specs.Replaying.{IsFirst, begun_with, Replays};
 ghost use Rattle.ledger_book.specs.Steps.{IsSame, IsAsBefore, MayPlace, IsLeafOf};
@@ -68,8 +69,8 @@ impl Book {
 
     /// Places the journal with this header, whose leaf digest is known, in the open block, where it is the next one.
     /// Contents aren't looked at, since they may be hidden. A header that isn't the next one has the damage [`Damage::Entry`] with the number
-    /// that is next, and changes nothing; so does an `Err`. What no job places so far is never the next one: a
-    /// journal of the kinds time, occult and purge.
+    /// that is next, and changes nothing; so does an `Err`. What no job places so far is never the next one: a journal
+    /// of the kinds occult and purge.
     pub fn replay(&mut self, header: &Header, leaf: &Digest) -> Result<Result<(), Damage>, NoMemory>
         requires layout { IsHeader header.now }
         requires leaf { IsLeafOf header.now leaf.now }
@@ -93,7 +94,7 @@ impl Book {
         requires layout { IsHeader header.now }
         ensures next { (h : History) → Stands self.now h → IsTrue result ↔ MayPlace h header.now }
         ensures room { IsTrue result → self.now.size < real_limits.size }
-        ensures kinds { IsTrue result → (header.now.kind ≡ kind.Content)
+        ensures kinds { IsTrue result → (is_member header.now.kind ≡ false)
             ⊎ (header.now.kind ≡ kind.Member) }
         ensures few { IsTrue result → header.now.kind ≡ kind.Member
             → length self.now.members < MEMBER_LIMIT }
@@ -105,7 +106,8 @@ impl Book {
         match header.kind {
             Kind::Content => self.is_next_record(header),
             Kind::Member => header.a == u64::from(self.members.count()),
-            Kind::Genesis | Kind::Time | Kind::Occult | Kind::Purge => false,
+            Kind::Time => true,
+            Kind::Genesis | Kind::Occult | Kind::Purge => false,
         }
     }
 
