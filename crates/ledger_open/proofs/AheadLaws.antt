@@ -18,7 +18,7 @@ use Rattle.ledger_open.specs.Ahead.{WasRead, IsStop, WereRead, place_behind, num
 use Rattle.ledger_open.specs.Damages.{Begun, IsDamage}
 use Rattle.ledger_open.specs.Opening.{Known, known_from, HasRead, IsPlain}
 use Rattle.ledger_open.specs.Places.{place_of_record}
-use Rattle.ledger_open.specs.Standing.{ground}
+use Rattle.ledger_open.specs.Standing.{floor_from}
 use Rattle.ledger_open.specs.Taking.{Headed, TakesBlock, IsBadBlock}
 use Rattle.ledger_open.specs.declared.ahead.Ahead.{Ahead}
 use Rattle.ledger_open.specs.declared.ahead.Hashed.{Hashed}
@@ -26,6 +26,7 @@ use Rattle.ledger_open.specs.declared.ahead.Stop.{Stop}
 use Rattle.ledger_open.specs.declared.ahead.Stop.TheVariants as stops
 use Rattle.ledger_open.specs.declared.places.PlaceAt.{PlaceAt}
 use Rattle.ledger_open.proofs.FirstLaws.{headed_read, err_read}
+use Rattle.ledger_open.proofs.KnownLaws.{begun_first}
 use Rattle.ledger_open.proofs.MoreLaws.{few, first_is, MoreHere, more_here, more_bad, more_read, more_count, read_of}
 use Rattle.ledger_open.proofs.TakeLaws.{headed_size}
 
@@ -225,7 +226,7 @@ ahead_both tells file k head count place bs cs stop next is counted at a more en
 -- ---- the end
 
 pub end_bad : (tells : Bool) (file : List ℕ) (k : Known) (damage : Damage) → IsAhead tells file k [] (stops.Damaged damage) → IsTrue tells → IsPlain file → IsDamage file damage
-end_bad tells file k damage a told plain = err_read file a.read.blocks k.place (files.Damaged damage) (record { begun = a.read.begun told plain; lawful = λ some. a.read.knows.legal }) (a.ends told)
+end_bad tells file k damage a told plain = err_read file a.read.blocks k.place (files.Damaged damage) (record { begun = begun_first a.read told plain; lawful = λ some. a.read.knows.legal }) (a.ends told)
 
 pub end_shut : (tells : Bool) (file : List ℕ) (k : Known) → IsAhead tells file k [] stops.Shut → IsTrue tells → get_or file k.place 0 ≢ 1
 end_shut tells file k a told = a.ends told
@@ -278,7 +279,7 @@ next_again tells old new book places ahead place same n =
       at = n.at;
       place_is = n.place_is;
       are = record {
-        read = record { blocks = r.blocks; knows = r.knows; begun = λ told. subst (λ (f : List ℕ). IsPlain f → Begun ground f r.blocks n.at) (same told) (r.begun told) };
+        read = record { start = r.start; blocks = r.blocks; knows = r.knows; begun = λ told. subst (λ (f : List ℕ). IsPlain f → Begun (floor_from r.start) f r.blocks n.at) (same told) (r.begun told) };
         ahead = were_again tells old new n.at (length (journals_of r.blocks)) (blocks_in ahead.blocks.items) same n.are.ahead;
         ends = stop_again tells old new (place_behind n.at (blocks_in ahead.blocks.items)) (number_behind (length (journals_of r.blocks)) (blocks_in ahead.blocks.items)) ahead.stop same n.are.ends;
       };

@@ -1,5 +1,5 @@
 -- A file as far as it was read, and a block more.
-use Rattle.std.specs.Prelude.{sum_by}
+use Rattle.std.specs.Prelude.{sum_by, None}
 use Rattle.std.proofs.Common.{◌≡◌, ◌≢◌, ℕ, ◌+◌, ◌≤◌, List, [], ◌∷◌, ◌++◌, length, get_or, take, drop, refl, sym, ◌∙◌, ap, subst, arith, append_assoc, append-nil, length-append, length-take, length-drop, take-append-drop, get_or-take}
 use Rattle.std.proofs.lemmas.List.{drop_at, get_or-drop, take-append-le, drop-append-le, drop_all}
 use Rattle.std.proofs.lemmas.List.Concat.{flat_map-append}
@@ -91,7 +91,7 @@ begun_more file ks at root es b o root_is block = record {
       ∙ sym (flat_map-append (λ (x : List ℕ). 1 ∷ x) (written_blocks (ground).root [] ks) (block_bytes own es ∷ [])) ∙ ap open_blocks (sym (written_more (ground).root [] ks es)))
 
 -- the next gate is shut: the file has the blocks that were read
-pub begun_ends : (file : List ℕ) (ks : List (List Entry)) (at : ℕ) → Begun ground file ks at → get_or file at 0 ≢ 1 → at + 1 ≤ length file → HasFile ks file
+pub begun_ends : (file : List ℕ) (ks : List (List Entry)) (at : ℕ) → Begun ground file ks at → get_or file at 0 ≢ 1 → at + 1 ≤ length file → HasFile None ks file
 begun_ends file ks at b shut inside = (b.generation, record { front = b.front; head = b.head; lawful = b.lawful; stands = by_rest b.rest b.is }) where
   by_rest : (rest : List ℕ) → file ≡ (b.front ++ open_blocks (written_blocks (ground).root [] ks)) ++ rest → Stands b.front (written_blocks (ground).root [] ks) file
   by_rest [] is = absurd (omega (arith, inside, b.place, ap length is, length-append (b.front ++ open_blocks (written_blocks (ground).root [] ks)) []))

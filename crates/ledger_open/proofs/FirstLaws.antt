@@ -1,5 +1,5 @@
 -- The first block of a file.
-use Rattle.std.specs.Prelude.{Bool, true, false, IsTrue, IfSome, Option, Ok, Some, All}
+use Rattle.std.specs.Prelude.{Bool, true, false, IsTrue, IfSome, Option, Ok, Some, None, All}
 use Rattle.std.specs.List.{list_all}
 use Rattle.std.proofs.Common.{◌≡◌, ◌≢◌, ◌&&◌, inl, inr, ℕ, ◌+◌, ◌<◌, ◌≤◌, List, [], ◌∷◌, length, get_or, map, take, drop, refl, sym, ◌∙◌, ap, subst, arith, length-append}
 use Rattle.std.proofs.lemmas.Bool.{eqb-true, true≢false, ltb-true}
@@ -29,11 +29,12 @@ use Rattle.ledger_model.specs.Lawful as lawful
 use Rattle.ledger_model.specs.Lawful.{IsNext, AreNext, IsLawful}
 use Rattle.ledger_open.specs.Damages.{IsNotNext, IsOtherRoot, Begun, IsReadTo, IsNextHere, IsDamage}
 use Rattle.ledger_open.specs.Opening.{known_from, Knows, HasRead, IsPlain, IsReadErr, as_open}
-use Rattle.ledger_open.specs.Places.{place_at, place_of_record, places_in, entry_at}
+use Rattle.ledger_open.specs.Places.{place_at, place_of_record, places_in, after_at, entry_at}
 use Rattle.ledger_open.specs.Standing.{ground}
 use Rattle.ledger_open.specs.Taking.{Headed, IsBadBlock}
 use Rattle.ledger_open.specs.declared.places.PlaceAt.{PlaceAt}
 use Rattle.ledger_open.proofs.BegunLaws.{begun_none, begun_more}
+use Rattle.ledger_open.proofs.KnownLaws.{knows_whole}
 use Rattle.ledger_open.proofs.PlaceLaws.{AreHere, open_here}
 use Rattle.ledger_open.proofs.SizeLaws.{record_size}
 
@@ -218,25 +219,23 @@ with_content content e = record { header = e.header; content = content; who = e.
 module _ (block : BlockAt) (first : RecordAt) (content : List ℕ) (book : Kept) (places : List PlaceAt) (place : ℕ)
     (one : block.records ≡ first ∷ []) (size : length content ≡ 64) (listed : places ≡ place_of_record first ∷ []) (tail : place ≡ 65 + block.len)
     (serves : (j : Entry) → j.header ≡ first.header → j.content ≡ content → Serves book (begun_with j)) where
-  first_known : (e : Entry) → AreBlock 0 (e ∷ []) → IsRead 64 (e ∷ []) block → first ≡ record_at 109 e → Knows (known_from book places place) ground ((with_content content e ∷ []) ∷ [])
+  first_known : (e : Entry) → AreBlock 0 (e ∷ []) → IsRead 64 (e ∷ []) block → first ≡ record_at 109 e → Knows (known_from book places place) None ((with_content content e ∷ []) ∷ [])
   first_known e b r at =
-      let s = serves (with_content content e) (ap (λ (x : RecordAt). x.header) (sym at)) refl in record {
-        lawful = (record { some = omega arith; most = omega arith; entries = (record { jsn = b.begins; rules = b.readable.0.rules; widths = b.readable.0.widths; content = size ∙ sym (keys_len e [] b); who = b.readable.0.who }, tt) }, tt);
-        legal = record {
-          journals_are = s.stands.lawful;
-          blocks_are = All-cons lawful.IsBlock (with_content content e ∷ []) [] (record { some = omega arith; most = omega arith; gathered = λ more. absurd (more refl) }) (All-nil lawful.IsBlock);
-          waiting_is = record { room = omega arith; gathered = refl };
-        };
-        serves = s;
-        places = listed ∙ ap (λ (x : RecordAt). place_of_record x ∷ []) at;
-        tail = omega (arith, tail, r.len, record_size e b.readable.0, length-append (record_bytes e) []);
-      }
+      let s = serves (with_content content e) (ap (λ (x : RecordAt). x.header) (sym at)) refl in
+      let behind : place ≡ after_at 64 ((with_content content e ∷ []) ∷ []) = omega (arith, tail, r.len, record_size e b.readable.0, length-append (record_bytes e) []) in
+      knows_whole (known_from book places place) ((with_content content e ∷ []) ∷ [])
+      (record { some = omega arith; most = omega arith; entries = (record { jsn = b.begins; rules = b.readable.0.rules; widths = b.readable.0.widths; content = size ∙ sym (keys_len e [] b); who = b.readable.0.who }, tt) }, tt)
+      (record {
+        journals_are = s.stands.lawful;
+        blocks_are = All-cons lawful.IsBlock (with_content content e ∷ []) [] (record { some = omega arith; most = omega arith; gathered = λ more. absurd (more refl) }) (All-nil lawful.IsBlock);
+        waiting_is = record { room = omega arith; gathered = refl };
+      }) s (listed ∙ ap (λ (x : RecordAt). place_of_record x ∷ []) at) behind
 
   pub first_read : (tells : Bool) (file : List ℕ) → (es : List Entry) × AreBlock 0 es × IsRead 64 es block → (IsTrue tells → FirstHere file block) → (IsTrue tells → content ≡ take 64 (drop first.content_at file))
       → block.root.0 ≡ leaf sha256 (spelling first.header) → HasRead tells file (known_from book places place)
   first_read false file read here told root_is =
       let s = single_of read.0 block first read.1.some read.2 one in
-      record { blocks = (with_content content s.entry ∷ []) ∷ []; knows = first_known s.entry (subst (AreBlock 0) s.is read.1) (subst (λ (l : List Entry). IsRead 64 l block) s.is read.2) s.place; begun = λ t. absurd (true≢false (sym t)) }
+      record { start = None; blocks = (with_content content s.entry ∷ []) ∷ []; knows = first_known s.entry (subst (AreBlock 0) s.is read.1) (subst (λ (l : List Entry). IsRead 64 l block) s.is read.2) s.place; begun = λ t. absurd (true≢false (sym t)) }
   first_read true file read here told root_is =
       let f = here refl in
       let s = single_of f.es block first f.are.some f.read one in
@@ -246,6 +245,7 @@ module _ (block : BlockAt) (first : RecordAt) (content : List ℕ) (book : Kept)
       let same : with_content content s.entry ≡ s.entry =
       ap (λ (c : List ℕ). with_content c s.entry) (told refl ∙ ap (λ (n : ℕ). take 64 (drop n file)) (ap (λ (r : RecordAt). r.content_at) s.place) ∙ content_here file block.root.0 s.entry b o) in
       record {
+        start = None;
         blocks = (with_content content s.entry ∷ []) ∷ [];
         knows = k;
         begun = λ t plain.

@@ -12,16 +12,17 @@ use Rattle.block_file.specs.File.{whole_file}
 use Rattle.block_file.specs.Head.{IsShut, front_of, digest_of}
 use Rattle.ledger_open.specs.Heads.{IsFront}
 use Rattle.std.specs.Int.{to_be_bytes, w32, w64}
-use Rattle.std.specs.Prelude.{sum_by}
+use Rattle.std.specs.Prelude.{sum_by, None}
+use Rattle.std.proofs.lemmas.List.Elements.{All-nil}
 use Rattle.std.proofs.lemmas.List.Sums.{sum_by-cons}
-use Rattle.journal_record.specs.Header.{spelling}
+use Rattle.journal_record.specs.Header.{HasWidths, spelling}
 use Rattle.journal_record.specs.Records.{AreReadable}
 use Rattle.ledger_book.specs.Books.{Kept, Stands, Serves}
 use Rattle.ledger_book.specs.Seals.{head_of}
 use Rattle.ledger_model.specs.History.{History}
 use Rattle.merkle_tree.specs.declared.head.Head.{Head}
 use Rattle.ledger_open.specs.Opening.{known_from, Knows}
-use Rattle.ledger_open.specs.Places.{record_len}
+use Rattle.ledger_open.specs.Places.{record_len, after_at}
 use Rattle.ledger_open.specs.declared.places.PlaceAt.{PlaceAt}
 use Rattle.ledger_disk.specs.Disk.{State, settled_state}
 use Rattle.ledger_model.specs.Genesis.{HasKeys}
@@ -29,6 +30,7 @@ use Rattle.twin_file.specs.Images.{AreShut, IsMadeOrShut}
 use Rattle.ledger_open.specs.Founding.{IsFounded, IsFoundedOrShut}
 use Rattle.ledger_open.specs.Growing.{new_file}
 use Rattle.ledger_open.proofs.GrowLaws.{erased_stands}
+use Rattle.ledger_open.proofs.KnownLaws.{knows_whole}
 use Rattle.ledger_open.proofs.PartLaws.{early_at, sides_pair}
 use Rattle.ledger_open.proofs.SizeLaws.{body_size, block_size, mth_size}
 use Rattle.ledger_open.proofs.TakeLaws.{root_is}
@@ -110,6 +112,7 @@ module _ (genesis : Genesis) (operator : length genesis.operator.0 ≡ 32) (regu
       early = early_at (point (new_ledger genesis)) (point (new_ledger genesis)) 1 (size (new_ledger genesis)) refl (omega arith);
       none = refl;
       lawful = founded_lawful genesis;
+      wide = record { headers = All-nil (λ (e : Entry). HasWidths e.header); founders = tt };
     };
     ends = refl;
   }
@@ -145,15 +148,11 @@ module _ (genesis : Genesis) (operator : length genesis.operator.0 ≡ 32) (regu
   first_block_size root size = block_size root (genesis_journal genesis ∷ []) size block_readable ∙ ap (λ (n : ℕ). 44 + n) len_is
 
   pub first_knows : (book : Kept) (places : List PlaceAt) → Serves book (new_ledger genesis) → places ≡ record { content_at = 287; who_at = 351; content_len = 64; who_len = 0 } ∷ []
-      → Knows (known_from book places 351) ground (new_ledger genesis).closed
+      → Knows (known_from book places 351) None (new_ledger genesis).closed
   unfolding genesis_header
-  first_knows book places serves listed = record {
-    lawful = (record { some = omega arith; most = omega arith; entries = (entry_is, tt) }, tt);
-    legal = founded_lawful genesis;
-    serves = serves;
-    places = listed;
-    tail = omega (arith, len_is);
-  }
+  first_knows book places serves listed =
+      let tail : 351 ≡ after_at 64 blocks = omega (arith, len_is) in
+      knows_whole (known_from book places 351) blocks (record { some = omega arith; most = omega arith; entries = (entry_is, tt) }, tt) (founded_lawful genesis) serves listed tail
 
 -- the root of block 0
 pub first_root_is : (book : Kept) (head : Head) (genesis : Genesis) → Serves book (new_ledger genesis) → ((h : History) → Stands book h → head ≡ head_of h) → head.root.0 ≡ (ground).root (leaves_of (genesis_journal genesis ∷ []))

@@ -3,7 +3,7 @@ use Rattle.std.specs.List.{list_any, list_all}
 use Rattle.std.specs.Prelude.{◌==◌, slice_get}
 use Rattle.std.proofs.Common.{◌≡◌, ◌≢◌, inl, ℕ, zero, suc, ◌+◌, ◌-◌, ◌≤◌, Bool, true, false, ◌&&◌, ◌||◌, List, [], ◌∷◌, ◌++◌, length, map, take, Option, Some, refl, sym, ◌∙◌, ap, subst, arith, append_assoc, append-nil, length-append}
 use Rattle.std.proofs.lemmas.Bool.{eqb-true, eq-eqb, true≢false, and_parts}
-use Rattle.std.proofs.lemmas.List.Elements.{All-push}
+use Rattle.std.proofs.lemmas.List.Elements.{All-nil, All-push}
 use Rattle.std.proofs.lemmas.Option.{slice_get_past}
 use Rattle.journal_record.specs.declared.header.Kind.{Kind}
 use Rattle.journal_record.specs.declared.header.Kind.TheVariants.{Genesis, Content, Member, Time, Occult, Purge}
@@ -11,29 +11,37 @@ use Rattle.ledger_model.specs.Lawful as lawful
 use Rattle.ledger_model.specs.Lawful.{AreNext, gathers, AllGather, IsFounded, IsLawful}
 use Rattle.std.proofs.lemmas.List.{map-append}
 use Rattle.journal_record.specs.Entry.{Entry}
-use Rattle.journal_record.specs.Header.{spelling}
+use Rattle.journal_record.specs.Header.{HasWidths, spelling}
 use Rattle.journal_record.specs.declared.header.Header.{Header}
 use Rattle.ledger_model.specs.History.{History, history, journals_of, journals, size, point}
 use Rattle.ledger_model.proofs.LawfulLaws.{hide_none}
 use Rattle.ledger_model.specs.Outcomes.{is_occult, hides, is_hidden_by, is_hidden}
 use Rattle.journal_record.specs.Blocks.{block_bytes, leaves_of, AreFrom, IsBlock, AreBlocks, written_blocks}
 use Rattle.block_file.specs.File.{Stands}
+use Rattle.ledger_open.specs.Growing.{HasBlockMore}
 use Rattle.ledger_open.specs.Standing.{Floor, ground, HasBlocks, AllKept, SameButHidden, hidden_before, StandsFor, IsErased, Alike, StandsBy, Reads}
 use Rattle.ledger_open.proofs.SizeLaws.{mth_size}
 use Rattle.ledger_open.proofs.AgainLaws.{blocks_unique}
 use Rattle.ledger_open.proofs.KeptLaws.{all_kept, same_more, same_weaker, header_map_same, same_alike}
-use Rattle.ledger_open.proofs.PartLaws.{same_all, stands_first, stands_whole, early_at, early_most}
+use Rattle.ledger_open.proofs.PartLaws.{whole_parts, same_all, stands_first, stands_whole, floor_none, file_first, early_at, early_most}
 use Rattle.ledger_open.proofs.HidingLaws.{from_blocks, none_above, hidden_among, kept_hide, journals_closed, journals_push, hidden_by, hidden_push, before_push, before_hidden}
 
 -- Histories that one image has agree but for hidden contents.
 one_history : (floor floor′ : ℕ) (gone gone′ : ℕ → Bool) (image : List ℕ) (h k : History) → StandsBy floor gone image h → StandsBy floor′ gone′ image k → floor ≡ 0 → floor′ ≡ 0 → Alike h k
 one_history floor floor′ gone gone′ image h k x y at at′ =
     let kept = same_all floor gone image h x at in
-    let same = (blocks_unique ground x.generation y.generation x.keeps.blocks y.keeps.blocks image mth_size x.keeps.file y.keeps.file).1 in
+    let same = (blocks_unique ground x.generation y.generation x.keeps.blocks y.keeps.blocks image mth_size (file_first floor gone image h x at) (file_first floor′ gone′ image k y at′)).1 in
     let there : SameButHidden (is_hidden k) gone′ k.closed x.keeps.blocks = subst (λ (bs : List (List Entry)). SameButHidden (is_hidden k) gone′ k.closed bs) (sym same) (same_all floor′ gone′ image k y at′) in
     let hide : (n : ℕ) → is_hidden h n ≡ is_hidden k n = λ n. hidden_by (is_hidden h) gone h x.keeps.blocks n x.none kept ∙ sym (hidden_by (is_hidden k) gone′ k x.keeps.blocks n y.none there) in
-    same_alike (is_hidden h) gone gone′ h.closed k.closed x.keeps.blocks kept
-    (same_weaker (is_hidden k) gone′ (is_hidden h) gone′ (λ n s. sym (hide n) ∙ s) (λ n z. z) k.closed x.keeps.blocks there)
+    record {
+      floor = 0;
+      begins = inl (sym x.unpurged);
+      first = whole_parts h;
+      second = whole_parts k;
+      base = λ some. absurd (some refl);
+      blocks = same_alike (is_hidden h) gone gone′ h.closed k.closed x.keeps.blocks kept
+          (same_weaker (is_hidden k) gone′ (is_hidden h) gone′ (λ n s. sym (hide n) ∙ s) (λ n z. z) k.closed x.keeps.blocks there);
+    }
 
 pub one_image : (image : List ℕ) (h k : History) → StandsFor image h → StandsFor image k → Alike h k
 one_image image h k s t = one_history s.floor t.floor (hidden_before h) (hidden_before k) image h k s.file t.file (stands_first image h s) (stands_first image k t)
@@ -52,6 +60,7 @@ stands_weaker floor gone gone′ image h fewer x = record {
   early = x.early;
   none = x.none;
   lawful = x.lawful;
+  wide = x.wide;
 }
 
 pub reads : (gone : ℕ → Bool) (image : List ℕ) (h : History) → StandsBy (point h) gone image h → Reads image h
@@ -151,6 +160,9 @@ module _ (image new : List ℕ) (h : History) (b : List Entry) (x : IsErased ima
   all_same : SameButHidden (is_hidden h) (is_hidden h) h.closed x.keeps.blocks
   all_same = same_all (point h) (is_hidden h) image h x x.unpurged
 
+  file : HasBlocks ground x.generation x.keeps.blocks image
+  file = file_first (point h) (is_hidden h) image h x x.unpurged
+
   count : size h ≡ length (journals_of x.keeps.blocks)
   count = ap length (journals_closed h x.none) ∙ sym (length-map (journals_of h.closed)) ∙ ap length (header_map_same (is_hidden h) (is_hidden h) (λ (y : Header). y.jsn) (journals_of h.closed) (journals_of x.keeps.blocks) (all_kept (is_hidden h) (is_hidden h) h.closed x.keeps.blocks all_same)) ∙ length-map (journals_of x.keeps.blocks) where
     length-map : (es : List Entry) → length (map (λ (e : Entry). e.header.jsn) es) ≡ length es
@@ -162,7 +174,7 @@ module _ (image new : List ℕ) (h : History) (b : List Entry) (x : IsErased ima
   none_later : (t : Entry) → size h ≤ t.header.jsn → list_any (hides t) (journals_of h.closed) ≡ false
   none_later t le =
       kept_hide (is_hidden h) (is_hidden h) (Some t) (journals_of h.closed) (journals_of x.keeps.blocks) (all_kept (is_hidden h) (is_hidden h) h.closed x.keeps.blocks all_same)
-      ∙ none_above 0 t (journals_of x.keeps.blocks) (from_blocks 0 x.keeps.blocks x.keeps.file.lawful) (omega (arith, le, count))
+      ∙ none_above 0 t (journals_of x.keeps.blocks) (from_blocks 0 x.keeps.blocks file.lawful) (omega (arith, le, count))
 
   old : (n : ℕ) → is_hidden_by (journals_of h.closed) (target n) ≡ is_hidden h n
   old n =
@@ -184,37 +196,39 @@ module _ (image new : List ℕ) (h : History) (b : List Entry) (x : IsErased ima
   none_new : (n : ℕ) → size h ≤ n → is_hidden h n ≡ false
   none_new n le = ap (is_hidden_by (journals h)) (slice_get_past (journals h) n le)
 
-  same_then : SameButHidden (is_hidden more) (hidden_before more) (x.parts.kept ++ b ∷ []) (x.keeps.blocks ++ b ∷ [])
+  same_then : SameButHidden (is_hidden more) (hidden_before more) (h.closed ++ b ∷ []) (x.keeps.blocks ++ b ∷ [])
   same_then =
-      same_more (is_hidden more) (hidden_before more) x.parts.kept x.keeps.blocks b b
-      (same_weaker (is_hidden h) (is_hidden h) (is_hidden more) (hidden_before more) new_hidden (λ n z. sym (new_before n) ∙ z) x.parts.kept x.keeps.blocks x.keeps.same)
+      same_more (is_hidden more) (hidden_before more) h.closed x.keeps.blocks b b
+      (same_weaker (is_hidden h) (is_hidden h) (is_hidden more) (hidden_before more) new_hidden (λ n z. sym (new_before n) ∙ z) h.closed x.keeps.blocks all_same)
       (all_self (is_hidden more) (hidden_before more) (size h) b bb.entries (λ n le. new_before n ∙ none_new n le))
 
   -- A block more behind a clean file: the image stands for the history with the block, where at most its last journal hides another.
-  pub grows : Stands x.keeps.file.front (written_blocks (ground).root [] x.keeps.blocks ++ block_bytes ((ground).root (leaves_of (journals_of x.keeps.blocks) ++ leaves_of b)) b ∷ []) new → StandsFor new more
-  grows stands = record {
+  pub grows_first : Stands x.keeps.file.front (written_blocks (ground).root [] x.keeps.blocks ++ block_bytes ((ground).root (leaves_of (journals_of x.keeps.blocks) ++ leaves_of b)) b ∷ []) new → StandsFor new more
+  grows_first stands = record {
     floor = point more;
     begins = inl refl;
     file = record {
       generation = x.generation;
-      parts = record {
-        gone = x.parts.gone;
-        kept = x.parts.kept ++ b ∷ [];
-        are = ap (λ (bs : List (List Entry)). bs ++ b ∷ []) x.parts.are ∙ append_assoc x.parts.gone x.parts.kept (b ∷ []);
-        at = x.parts.at ∙ x.unpurged ∙ sym floor;
-      };
+      parts = record { gone = []; kept = more.closed; are = refl; at = sym floor };
       unpurged = floor;
       keeps = record {
         blocks = x.keeps.blocks ++ b ∷ [];
-        file = file_more ground x.generation x.keeps.blocks b image new x.keeps.file (subst (λ (m : ℕ). IsBlock m b) (omega (arith, count)) bb) stands;
+        file = file_more ground x.generation x.keeps.blocks b image new (file_first (point h) (is_hidden h) image h x x.unpurged) (subst (λ (m : ℕ). IsBlock m b) (omega (arith, count)) bb) stands;
         same = same_then;
       };
       early = early_at (point more) (point more) x.generation (size more) refl
           (omega (arith, early_most (point h == point h) x.generation (size h) x.early, ap length (journals_push h.closed b), ap length (journals_closed h x.none), length-append (journals_of h.closed) b));
       none = refl;
       lawful = lawful_then;
+      wide = record { headers = All-nil (λ (e : Entry). HasWidths e.header); founders = tt };
     };
   }
+
+  -- .. behind whatever floor the file has
+  pub grows : HasBlockMore x.keeps.file b new → StandsFor new more
+  grows stands = grows_first
+      (subst (λ (f : Floor). Stands x.keeps.file.front (written_blocks f.root [] x.keeps.blocks ++ block_bytes (f.root (leaves_of (journals_of x.keeps.blocks) ++ leaves_of b)) b ∷ []) new)
+      (floor_none (point h) (is_hidden h) image h x x.unpurged) stands)
 
   -- .. and it is clean, where no journal of the block hides another
   pub grows_erased : ((target : Entry) → list_any (hides target) b ≡ false) → StandsFor new more → IsErased new more

@@ -3,6 +3,7 @@ pub mod AgainLaws
 pub mod KeptLaws
 pub mod HidingLaws
 pub mod PartLaws
+pub mod FloorLaws
 pub mod GrowLaws
 pub mod FoundingLaws
 pub mod FollowLaws
@@ -10,6 +11,7 @@ pub mod NextLaws
 pub mod DamageLaws
 pub mod PlaceLaws
 pub mod WholeLaws
+pub mod KnownLaws
 pub mod PairLaws
 pub mod TakeLaws
 pub mod BegunLaws

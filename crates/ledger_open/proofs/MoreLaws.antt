@@ -1,5 +1,5 @@
 -- A block more is read.
-use Rattle.std.specs.Prelude.{Bool, true, false, IsTrue, IfSome, IsSomeAnd, Option, Ok, Some, sum_by, ◌^◌, ◌==◌}
+use Rattle.std.specs.Prelude.{Bool, true, false, IsTrue, IfSome, IsSomeAnd, Option, Ok, Some, None, sum_by, ◌^◌, ◌==◌}
 use Rattle.std.proofs.Common.{◌≡◌, ◌≢◌, ◌⊎◌, ◌-◌, cond, inl, inr, ℕ, ◌+◌, ◌<◌, ◌≤◌, List, [], ◌∷◌, ◌++◌, length, get_or, map, take, drop, refl, sym, ◌∙◌, ap, subst, arith, append_assoc, append-nil, length-append}
 use Rattle.std.proofs.lemmas.Bool.{true≢false, eq-eqb}
 use Rattle.std.proofs.lemmas.List.Elements.{All-push}
@@ -31,6 +31,7 @@ use Rattle.ledger_open.proofs.BegunLaws.{begun_more, begun_ends}
 use Rattle.ledger_open.proofs.FirstLaws.{headed_read, bad_read, some_of}
 use Rattle.ledger_open.proofs.GrowLaws.{blocks_more}
 use Rattle.ledger_open.proofs.HidingLaws.{journals_push}
+use Rattle.ledger_open.proofs.KnownLaws.{knows_whole, knows_none, serves_whole, begun_first}
 use Rattle.ledger_open.proofs.PlaceLaws.{places_same}
 use Rattle.ledger_open.proofs.SizeLaws.{body_size}
 use Rattle.ledger_open.proofs.TakeLaws.{headed_size}
@@ -48,7 +49,7 @@ few ks l = omega (arith, few_from [] (journals_of ks ++ []) l.journals_are.next 
 
 -- the next journal's number, as the head tells it
 pub first_is : (tells : Bool) (file : List ℕ) (k : Known) (head : Head) (r : HasRead tells file k) → ((h : History) → Stands k.book h → head ≡ head_of h) → head.size ≡ length (journals_of r.blocks)
-first_is tells file k head r is = ap (λ (x : Head). x.size) (is (history r.blocks []) r.knows.serves.stands)
+first_is tells file k head r is = ap (λ (x : Head). x.size) (is (history r.blocks []) (serves_whole r.knows).stands)
 
 pub first_below : (tells : Bool) (file : List ℕ) (k : Known) (head : Head) → HasRead tells file k → ((h : History) → Stands k.book h → head ≡ head_of h) → head.size < 2 ^ 32
 first_below tells file k head r is = omega (arith, first_is tells file k head r is, few r.blocks r.knows.legal)
@@ -56,7 +57,7 @@ first_below tells file k head r is = omega (arith, first_is tells file k head r 
 -- ---- why a file is read no further
 
 readto : (tells : Bool) (file : List ℕ) (k : Known) (r : HasRead tells file k) → IsTrue tells → IsPlain file → IsReadTo file r.blocks k.place
-readto tells file k r told plain = record { begun = r.begun told plain; lawful = λ some. r.knows.legal }
+readto tells file k r told plain = record { begun = begun_first r told plain; lawful = λ some. r.knows.legal }
 
 -- the block where it stands
 pub record MoreHere (file : List ℕ) (at first : ℕ) (block : BlockAt) : Type 0 where
@@ -75,7 +76,7 @@ pub more_bad : (tells : Bool) (file : List ℕ) (k : Known) (head : Head) (block
 more_bad tells file k head block damage r is told plain m bad =
     let n = first_is tells file k head r is in
     bad_read file r.blocks k.place block.root.0 m.es damage (record { read = readto tells file k r told plain; are = subst (λ (i : ℕ). AreBlock i m.es) n m.are; stands = m.stands })
-    (bad r.blocks m.es (headed_read k.place m.es block m.read) n r.knows.serves)
+    (bad r.blocks m.es (headed_read k.place m.es block m.read) n (serves_whole r.knows))
 
 -- ---- the block behind those that were read
 
@@ -101,33 +102,34 @@ module _ (k : Known) (block : BlockAt) (book : Kept) (places : List PlaceAt) (pl
   block_of : (ks : List (List Entry)) (es : List Entry) → AreBlock first es → TakesBlock book ks es block.root.0 → IsBlock (length (journals_of ks)) es
   block_of ks es b t = record { some = b.some; most = b.most; entries = from_next (journals_of ks) es t.next b.readable }
 
-  more_known : (ks : List (List Entry)) (es : List Entry) → Knows k ground ks → AreBlock first es → IsRead k.place es block → Knows (known_from book places place) ground (ks ++ es ∷ [])
+  more_known : (ks : List (List Entry)) (es : List Entry) → Knows k None ks → AreBlock first es → IsRead k.place es block → Knows (known_from book places place) None (ks ++ es ∷ [])
   more_known ks es n b r =
-      let t = takes ks es (headed_read k.place es block r) n.serves in record {
-        lawful = blocks_more 0 ks es n.lawful (subst (λ (m : ℕ). IsBlock m es) (omega arith) (block_of ks es b t));
-        legal = record {
-          journals_are = t.serves.stands.lawful;
-          blocks_are = All-push lawful.IsBlock ks es n.legal.blocks_are (record { some = b.some; most = b.most; gathered = t.share });
-          waiting_is = n.legal.waiting_is;
-        };
-        serves = t.serves;
-        places = listed ∙ ap (λ (l : List PlaceAt). l ++ map place_of_record block.records) n.places
-            ∙ ap (λ (l : List PlaceAt). places_at 64 ks ++ l) (ap (map place_of_record) r.records ∙ places_same (k.place + 45) es b.readable ∙ ap (λ (m : ℕ). places_in (m + 45) es) n.tail) ∙ sym (places_push 64 ks es);
-        tail = omega (arith, tail, r.len, body_size es b.readable, n.tail, after_push 64 ks es);
-      }
+      let t = takes ks es (headed_read k.place es block r) (serves_whole n) in
+      let behind : place ≡ after_at 64 (ks ++ es ∷ []) = omega (arith, tail, r.len, body_size es b.readable, n.tail, after_push 64 ks es) in
+      knows_whole (known_from book places place) (ks ++ es ∷ [])
+      (blocks_more 0 ks es n.lawful (subst (λ (m : ℕ). IsBlock m es) (omega arith) (block_of ks es b t)))
+      (record {
+        journals_are = t.serves.stands.lawful;
+        blocks_are = All-push lawful.IsBlock ks es n.legal.blocks_are (record { some = b.some; most = b.most; gathered = t.share });
+        waiting_is = n.legal.waiting_is;
+      }) t.serves
+      (listed ∙ ap (λ (l : List PlaceAt). l ++ map place_of_record block.records) n.places
+      ∙ ap (λ (l : List PlaceAt). places_at 64 ks ++ l) (ap (map place_of_record) r.records ∙ places_same (k.place + 45) es b.readable ∙ ap (λ (m : ℕ). places_in (m + 45) es) n.tail) ∙ sym (places_push 64 ks es))
+      behind
 
   pub more_read : (tells : Bool) (file : List ℕ) → HasRead tells file k → (es : List Entry) × AreBlock first es × IsRead k.place es block → (IsTrue tells → MoreHere file k.place first block) → HasRead tells file (known_from book places place)
   more_read false file r read here =
-      record { blocks = r.blocks ++ read.0 ∷ []; knows = more_known r.blocks read.0 r.knows read.1 read.2; begun = λ t. absurd (true≢false (sym t)) }
+      record { start = None; blocks = r.blocks ++ read.0 ∷ []; knows = more_known r.blocks read.0 (knows_none r.knows) read.1 read.2; begun = λ t. absurd (true≢false (sym t)) }
   more_read true file r read here =
       let m = here refl in
-      let n = more_known r.blocks m.es r.knows m.are m.read in
-      let t = takes r.blocks m.es (headed_read k.place m.es block m.read) r.knows.serves in
+      let n = more_known r.blocks m.es (knows_none r.knows) m.are m.read in
+      let t = takes r.blocks m.es (headed_read k.place m.es block m.read) (serves_whole r.knows) in
       let at : k.place + 45 + sum_by record_len m.es ≡ place = omega (arith, tail, m.read.len, body_size m.es m.are.readable) in
       record {
+        start = None;
         blocks = r.blocks ++ m.es ∷ [];
         knows = n;
-        begun = λ told plain. subst (Begun ground file (r.blocks ++ m.es ∷ [])) at (begun_more file r.blocks k.place block.root.0 m.es (r.begun told plain) m.stands t.root_is (block_of r.blocks m.es m.are t));
+        begun = λ told plain. subst (Begun ground file (r.blocks ++ m.es ∷ [])) at (begun_more file r.blocks k.place block.root.0 m.es (begun_first r told plain) m.stands t.root_is (block_of r.blocks m.es m.are t));
       }
 
 count_push : (ks : List (List Entry)) (es : List Entry) (block : BlockAt) → Headed es block.records → length (journals_of (ks ++ es ∷ [])) ≡ length (journals_of ks) + length block.records
@@ -186,10 +188,10 @@ base_form file base taken fits h some (size, inr digest) is =
 
 pub known_of : (tells : Bool) (file : List ℕ) (k : Known) → HasRead tells file k → (IsTrue tells → IsPlain file) → (IsTrue tells → get_or file k.place 0 ≢ 1) → (IsTrue tells → k.place + 1 ≤ length file) → HasKnown tells file k
 known_of tells file k r plain shut inside =
-    record { blocks = r.blocks; knows = r.knows; has = λ told. begun_ends file r.blocks k.place (r.begun told (plain told)) (shut told) (inside told) }
+    record { start = None; blocks = r.blocks; knows = knows_none r.knows; has = λ told. begun_ends file r.blocks k.place (begun_first r told (plain told)) (shut told) (inside told) }
 
 pub some_bytes : (base slice : List ℕ) (empty : Bool) → slice ≡ base → empty ≡ (length slice == 0) → empty ≡ false → length base ≢ 0
 some_bytes base slice empty same is full none = true≢false (sym (eq-eqb (length slice) 0 (ap length same ∙ none)) ∙ sym is ∙ full)
 
 pub known_again : (tells : Bool) (old new : List ℕ) (k : Known) → (IsTrue tells → old ≡ new) → HasKnown tells old k → HasKnown tells new k
-known_again tells old new k same h = record { blocks = h.blocks; knows = h.knows; has = λ told. subst (HasFile h.blocks) (same told) (h.has told) }
+known_again tells old new k same h = record { start = h.start; blocks = h.blocks; knows = h.knows; has = λ told. subst (HasFile h.start h.blocks) (same told) (h.has told) }

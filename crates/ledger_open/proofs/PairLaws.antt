@@ -3,7 +3,7 @@ use Rattle.std.proofs.Common.{◌≡◌, ◌⊎◌, inl, inr, ℕ, List, [], ◌
 use Rattle.block_file.specs.File.{open_blocks}
 use Rattle.journal_record.specs.Blocks.{written_blocks}
 use Rattle.ledger_model.specs.History.{History}
-use Rattle.ledger_open.specs.Standing.{ground, StandsFor, PairFor, Alike}
+use Rattle.ledger_open.specs.Standing.{floor_behind, StandsFor, PairFor, Alike}
 use Rattle.ledger_open.proofs.GrowLaws.{one_image}
 use Rattle.ledger_open.proofs.PartLaws.{pair_sides}
 
@@ -11,7 +11,7 @@ use Rattle.ledger_open.proofs.PartLaws.{pair_sides}
 some_bytes : (image : List ℕ) (h : History) → StandsFor image h → length image ≡ 0 → ⊥
 some_bytes image h x none =
     let file = x.file.keeps.file in
-    omega (arith, none, ap length file.stands.is, length-append (file.front ++ open_blocks (written_blocks (ground).root [] x.file.keeps.blocks)) (file.stands.gate ∷ file.stands.rest))
+    omega (arith, none, ap length file.stands.is, length-append (file.front ++ open_blocks (written_blocks (floor_behind h x.file.parts.gone).root [] x.file.keeps.blocks)) (file.stands.gate ∷ file.stands.rest))
 
 pub one_pair : (a b : List ℕ) (h k : History) → PairFor a b h → PairFor a b k → Alike h k
 one_pair a b h k p q = by_sides (pair_sides a b h p) (pair_sides a b k q) where

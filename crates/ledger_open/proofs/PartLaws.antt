@@ -6,12 +6,15 @@ use Rattle.std.proofs.lemmas.Bool.{eq-eqb, true≢false}
 use Rattle.std.proofs.lemmas.List.{map-append, take_at, take-append-drop}
 use Rattle.std.proofs.lemmas.List.Elements.{All-head, All-take}
 use Rattle.std.proofs.lemmas.List.Sums.{fold-append}
+use Rattle.block_file.specs.File.{open_blocks}
+use Rattle.journal_record.specs.Blocks.{AreBlocks, written_blocks}
 use Rattle.journal_record.specs.Entry.{Entry}
 use Rattle.ledger_model.specs.History.{History, journals, journals_of, size, point, greatest_point, purge_point}
 use Rattle.ledger_model.specs.Lawful.{IsBlock}
 use Rattle.ledger_model.specs.Outcomes.{is_hidden}
 use Rattle.twin_file.specs.Twin.{open_of, other_of}
-use Rattle.ledger_open.specs.Standing.{Parts, SameButHidden, StandsBy, StandsFor, PairFor, IsBeside, hidden_before, point_before}
+use Rattle.ledger_open.specs.Heads.{IsFront}
+use Rattle.ledger_open.specs.Standing.{Floor, ground, floor_behind, HasBlocks, Parts, SameButHidden, StandsBy, StandsFor, PairFor, IsBeside, hidden_before, point_before}
 
 -- ---- the parts of a history
 
@@ -28,11 +31,16 @@ none_gone h all x = by_gone x.gone refl where
       let none : length (journals_of (b ∷ bs)) ≡ 0 = ap (λ (l : List (List Entry)). length (journals_of l)) (sym is) ∙ x.at in
       absurd (omega (arith, one, none, length-append b (journals_of bs)))
 
+pub gone_none : (floor : ℕ) (h : History) → All IsBlock h.closed → floor ≡ 0 → (x : Parts floor h) → x.gone ≡ []
+gone_none floor h all at x = none_gone h all (record { gone = x.gone; kept = x.kept; are = x.are; at = x.at ∙ at })
+
 -- and so all are there
 pub all_there : (floor : ℕ) (h : History) → All IsBlock h.closed → floor ≡ 0 → (x : Parts floor h) → x.kept ≡ h.closed
-all_there floor h all at x =
-    let gone = none_gone h all (record { gone = x.gone; kept = x.kept; are = x.are; at = x.at ∙ at }) in
-    sym (x.are ∙ ap (λ (bs : List (List Entry)). bs ++ x.kept) gone)
+all_there floor h all at x = sym (x.are ∙ ap (λ (bs : List (List Entry)). bs ++ x.kept) (gone_none floor h all at x))
+
+-- all of a history's blocks
+abbrev pub whole_parts : (h : History) → Parts 0 h
+whole_parts h = record { gone = []; kept = h.closed; are = refl; at = refl }
 
 -- ---- where a file begins
 
@@ -67,6 +75,29 @@ stands_whole image h s = subst (λ (n : ℕ). StandsBy n (hidden_before h) image
 pub same_all : (floor : ℕ) (gone : ℕ → Bool) (image : List ℕ) (h : History) (x : StandsBy floor gone image h) → floor ≡ 0 → SameButHidden (is_hidden h) gone h.closed x.keeps.blocks
 same_all floor gone image h x at =
     subst (λ (bs : List (List Entry)). SameButHidden (is_hidden h) gone bs x.keeps.blocks) (all_there floor h x.lawful.blocks_are at x.parts) x.keeps.same
+
+-- ---- what the floor of a file is
+
+-- the blocks of a file, where its floor is another's
+abbrev pub file_at : (from to : Floor) → from ≡ to → (generation : ℕ) (bs : List (List Entry)) (image : List ℕ) → HasBlocks from generation bs image → HasBlocks to generation bs image
+file_at from to same generation bs image x = record {
+  front = x.front;
+  head = subst (λ (f : Floor). IsFront generation f.base x.front) same x.head;
+  lawful = subst (λ (f : Floor). AreBlocks f.first bs) same x.lawful;
+  stands = record {
+    gate = x.stands.gate;
+    rest = x.stands.rest;
+    is = subst (λ (f : Floor). image ≡ (x.front ++ open_blocks (written_blocks f.root [] bs)) ++ x.stands.gate ∷ x.stands.rest) same x.stands.is;
+    shut = x.stands.shut;
+  };
+}
+
+-- a file that begins with journal 0 has no base
+pub floor_none : (floor : ℕ) (gone : ℕ → Bool) (image : List ℕ) (h : History) (x : StandsBy floor gone image h) → floor ≡ 0 → floor_behind h x.parts.gone ≡ ground
+floor_none floor gone image h x at = ap (floor_behind h) (gone_none floor h x.lawful.blocks_are at x.parts)
+
+abbrev pub file_first : (floor : ℕ) (gone : ℕ → Bool) (image : List ℕ) (h : History) (x : StandsBy floor gone image h) → floor ≡ 0 → HasBlocks ground x.generation x.keeps.blocks image
+file_first floor gone image h x at = file_at (floor_behind h x.parts.gone) ground (floor_none floor gone image h x at) x.generation x.keeps.blocks image x.keeps.file
 
 -- ---- the generation of a file
 

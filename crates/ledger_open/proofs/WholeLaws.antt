@@ -12,7 +12,7 @@ use Rattle.ledger_open.specs.Damages.{IsDamage}
 use Rattle.ledger_open.specs.Standing.{ground, HasBlocks, AllKept, SameButHidden, StandsBy, StandsFor, hidden_before}
 use Rattle.ledger_open.proofs.AgainLaws.{entry_is, blocks_unique}
 use Rattle.ledger_open.proofs.DamageLaws.{none_damaged}
-use Rattle.ledger_open.proofs.PartLaws.{same_all, stands_first}
+use Rattle.ledger_open.proofs.PartLaws.{same_all, stands_first, file_first}
 use Rattle.ledger_open.proofs.SizeLaws.{mth_size}
 
 module _ (hid gone : ℕ → Bool) (shown : (n : ℕ) → hid n ≡ false) where
@@ -22,7 +22,7 @@ module _ (hid gone : ℕ → Bool) (shown : (n : ℕ) → hid n ≡ false) where
   all_same (e ∷ es) [] a = absurd a
   all_same (e ∷ es) (f ∷ fs) a = ap (λ (x : Entry). x ∷ fs) (entry_is f e a.0.header (a.0.shown (shown e.header.jsn)) a.0.who) ∙ ap (λ (l : List Entry). e ∷ l) (all_same es fs a.1)
 
-  blocks_same : (bs cs : List (List Entry)) → SameButHidden hid gone bs cs → cs ≡ bs
+  pub blocks_same : (bs cs : List (List Entry)) → SameButHidden hid gone bs cs → cs ≡ bs
   blocks_same [] [] s = refl
   blocks_same [] (c ∷ cs) s = absurd s
   blocks_same (b ∷ bs) [] s = absurd s
@@ -31,7 +31,7 @@ module _ (hid gone : ℕ → Bool) (shown : (n : ℕ) → hid n ≡ false) where
 -- a file that stands for a history has its blocks
 pub own_blocks : (floor : ℕ) (gone : ℕ → Bool) (image : List ℕ) (h : History) (x : StandsBy floor gone image h) → floor ≡ 0 → HasBlocks ground x.generation h.closed image
 own_blocks floor gone image h x at =
-    subst (λ (l : List (List Entry)). HasBlocks ground x.generation l image) (blocks_same (is_hidden h) gone (λ n. none_hidden h n x.lawful.journals_are) h.closed x.keeps.blocks (same_all floor gone image h x at)) x.keeps.file
+    subst (λ (l : List (List Entry)). HasBlocks ground x.generation l image) (blocks_same (is_hidden h) gone (λ n. none_hidden h n x.lawful.journals_are) h.closed x.keeps.blocks (same_all floor gone image h x at)) (file_first floor gone image h x at)
 
 pub own_all : (image : List ℕ) (h : History) (x : StandsFor image h) → HasBlocks ground x.file.generation h.closed image
 own_all image h x = own_blocks x.floor (hidden_before h) image h x.file (stands_first image h x)

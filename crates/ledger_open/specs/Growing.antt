@@ -11,16 +11,16 @@ use Rattle.ledger_model.specs.History.{History, history, journals, journals_of, 
 use Rattle.ledger_model.specs.Lawful.{AreNext, IsBlock}
 use Rattle.ledger_model.specs.Outcomes.{hides}
 use Rattle.ledger_model.specs.declared.genesis.Genesis.{Genesis}
-use Rattle.ledger_open.specs.Standing.{ground, StandsFor, IsErased, IsClean, HasBlocks}
+use Rattle.ledger_open.specs.Standing.{Floor, ground, StandsFor, IsErased, IsClean, HasBlocks}
 
 -- the history with a block more
 abbrev pub with_block : List Entry → History → History
 with_block block h = history (h.closed ++ block ∷ []) []
 
 -- the file has this block more behind the blocks that it had
-abbrev pub HasBlockMore : {generation : ℕ} {blocks : List (List Entry)} {image : List ℕ} → HasBlocks ground generation blocks image → List Entry → List ℕ → Type 0
-HasBlockMore {blocks = blocks} x block new =
-    Stands x.front (written_blocks (ground).root [] blocks ++ block_bytes ((ground).root (leaves_of (journals_of blocks) ++ leaves_of block)) block ∷ []) new
+abbrev pub HasBlockMore : {floor : Floor} {generation : ℕ} {blocks : List (List Entry)} {image : List ℕ} → HasBlocks floor generation blocks image → List Entry → List ℕ → Type 0
+HasBlockMore {floor = floor} {blocks = blocks} x block new =
+    Stands x.front (written_blocks floor.root [] blocks ++ block_bytes (floor.root (leaves_of (journals_of blocks) ++ leaves_of block)) block ∷ []) new
 
 -- a block that may be the next one of this history
 pub record IsNextBlock (h : History) (block : List Entry) : Type 0 where

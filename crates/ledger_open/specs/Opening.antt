@@ -1,5 +1,5 @@
 -- What is known of a ledger that was made or opened, and what making and opening leave.
-use Rattle.std.specs.Prelude.{◌≡◌, ◌⊎◌, ℕ, ◌+◌, Bool, IsTrue, List, [], length, take, drop, Result, MatchResult}
+use Rattle.std.specs.Prelude.{◌≡◌, ◌⊎◌, ℕ, ◌+◌, Bool, false, IsTrue, List, [], length, take, drop, Option, Some, None, Result, MatchResult, ⊤}
 use Rattle.block_file.specs.File.{IsSettled}
 use Rattle.block_file.specs.Head.{IsShut, HasHead, number_at}
 use Rattle.block_file.specs.Place.{base_len_of, base_digest_of}
@@ -11,12 +11,16 @@ use Rattle.journal_record.specs.Entry.{Entry}
 use Rattle.ledger_book.specs.Books.{Kept, Serves}
 use Rattle.ledger_bytes.specs.Causes.{count_after}
 use Rattle.ledger_disk.specs.Disk.{State, MayLeave, OneMore, settled_state}
-use Rattle.ledger_model.specs.History.{history}
+use Rattle.ledger_model.specs.Bases.{base_of}
+use Rattle.ledger_model.specs.History.{History, history}
 use Rattle.ledger_model.specs.Lawful.{IsLawful}
+use Rattle.ledger_model.specs.Outcomes.{is_hidden}
+use Rattle.pseudo_genesis.specs.Bases.{IsBase, HasWidths}
+use Rattle.pseudo_genesis.specs.declared.base.Base.{Base}
 use Rattle.twin_file.specs.Twin.{open_of, other_of, IsTaken, IsReopenErr}
 use Rattle.ledger_open.specs.Damages.{Begun, IsDamage}
 use Rattle.ledger_open.specs.Places.{places_at, after_at}
-use Rattle.ledger_open.specs.Standing.{Floor, ground, HasBlocks}
+use Rattle.ledger_open.specs.Standing.{ground, floor_from, HasBlocks, Parts, SameButHidden}
 use Rattle.ledger_open.specs.declared.failure.OpenErr.{OpenErr}
 use Rattle.ledger_open.specs.declared.places.PlaceAt.{PlaceAt}
 use Rattle.ledger_open.specs.declared.failure.OpenErr.TheVariants.{DiskFault, Damaged, Empty, Exists, NewerFormat, NoMemory}
@@ -32,14 +36,37 @@ pub record Known : Type 0 where
 abbrev pub known_from : Kept → List PlaceAt → ℕ → Known
 known_from book places place = record { book = book; places = places; place = place }
 
--- They are those of these blocks from this floor on, which may be a ledger's. No disk is in it. Each file begins with
--- journal 0 so far, and so the blocks are the whole history.
-pub record Knows (k : Known) (floor : Floor) (blocks : List (List Entry)) : Type 0 where
-  pub lawful : AreBlocks floor.first blocks
+-- a base that keeps its rules, where there is one
+abbrev pub IsDecoded : Option Base → Type 0
+IsDecoded None = ⊤
+IsDecoded (Some b) = IsBase b × HasWidths b
+
+-- it is that of this history at its point
+abbrev pub IsBaseOf : Option Base → History → Type 0
+IsBaseOf None h = ⊤
+IsBaseOf (Some b) h = base_of h b.point ≡ b
+
+-- This history goes on from the base, or begins, with these blocks, but for contents that are hidden: it is one of those
+-- that a file with this base and these blocks may be of.
+pub record GoesOn (start : Option Base) (blocks : List (List Entry)) (h : History) : Type 0 where
+  pub lawful : IsLawful h
+  pub none : h.waiting ≡ []
+  pub parts : Parts (floor_from start).first h
+  pub base : IsBaseOf start h
+  pub same : SameButHidden (is_hidden h) (λ n. false) parts.kept blocks
+
+-- They are those of this base, or of none, and of these blocks, for each history that goes on so. No disk is in it.
+pub record Knows (k : Known) (start : Option Base) (blocks : List (List Entry)) : Type 0 where
+  pub base : IsDecoded start
+  -- no file has a base so far, and so the blocks are a whole history
+  pub unbased : start ≡ None
   pub legal : IsLawful (history blocks [])
-  pub serves : Serves k.book (history blocks [])
-  pub places : k.places ≡ places_at (64 + length floor.base) blocks
-  pub tail : k.place ≡ after_at (64 + length floor.base) blocks
+  pub lawful : AreBlocks (floor_from start).first blocks
+  pub serves : (h : History) → GoesOn start blocks h → Serves k.book h
+  pub places : k.places ≡ places_at (64 + length (floor_from start).base) blocks
+  pub tail : k.place ≡ after_at (64 + length (floor_from start).base) blocks
+  -- no journal waits
+  pub settled : k.book.size ≡ k.book.sealed
 
 -- ---- what was read
 
@@ -50,23 +77,25 @@ pub record IsPlain (file : List ℕ) : Type 0 where
 
 -- some blocks are known; and where the disk tells its bytes, the file begins with them
 pub record HasRead (tells : Bool) (file : List ℕ) (k : Known) : Type 0 where
+  pub start : Option Base
   pub blocks : List (List Entry)
-  pub knows : Knows k ground blocks
-  pub begun : IsTrue tells → IsPlain file → Begun ground file blocks k.place
+  pub knows : Knows k start blocks
+  pub begun : IsTrue tells → IsPlain file → Begun (floor_from start) file blocks k.place
 
 -- an open file has lawful blocks, of some generation, and so no damage
 abbrev pub HasLawfulBlocks : List ℕ → Type 0
 HasLawfulBlocks file = (generation : ℕ) × (blocks : List (List Entry)) × HasBlocks ground generation blocks file × IsLawful (history blocks [])
 
--- an open file has these blocks, of some generation
-abbrev pub HasFile : List (List Entry) → List ℕ → Type 0
-HasFile blocks file = (generation : ℕ) × HasBlocks ground generation blocks file
+-- an open file has this base, or none, and these blocks, of some generation
+abbrev pub HasFile : Option Base → List (List Entry) → List ℕ → Type 0
+HasFile start blocks file = (generation : ℕ) × HasBlocks (floor_from start) generation blocks file
 
 -- some blocks are known; and where the disk tells its bytes, the file has them
 pub record HasKnown (tells : Bool) (file : List ℕ) (k : Known) : Type 0 where
+  pub start : Option Base
   pub blocks : List (List Entry)
-  pub knows : Knows k ground blocks
-  pub has : IsTrue tells → HasFile blocks file
+  pub knows : Knows k start blocks
+  pub has : IsTrue tells → HasFile start blocks file
 
 -- what a `BlockFile` tells of the head of this file, which is open and known
 pub record IsHeadOf (file : List ℕ) (taken : BlockFile) : Type 0 where
@@ -143,31 +172,33 @@ IsOpenErr a b (Damaged damage) =
 abbrev pub StandsAsRead : State → State → Type 0
 StandsAsRead old new = (new ≡ old) ⊎ (new ≡ settled_state old.seen)
 
--- every image has the blocks that the file had
-abbrev pub KeepsBlocks : State → State → Type 0
-KeepsBlocks old new =
-    (generation : ℕ) (blocks : List (List Entry)) → HasBlocks ground generation blocks old.seen → (image : List ℕ)
-    → MayLeave new image → HasBlocks ground generation blocks image
+-- every image has the blocks that the file had behind this base, or none
+abbrev pub KeepsBlocks : Option Base → State → State → Type 0
+KeepsBlocks start old new =
+    (generation : ℕ) (blocks : List (List Entry)) → HasBlocks (floor_from start) generation blocks old.seen
+    → (image : List ℕ) → MayLeave new image → HasBlocks (floor_from start) generation blocks image
 
 -- what is known of the open file, which is cut behind its tail gate, and of the other one, which is emptied
 pub record IsOpenedAs (tells : Bool) (k : Known) (open_old other_old open_new other_new : State) : Type 0 where
+  pub start : Option Base
   pub blocks : List (List Entry)
-  pub knows : Knows k ground blocks
-  pub has : IsTrue tells → HasFile blocks open_old.seen
+  pub knows : Knows k start blocks
+  pub has : IsTrue tells → HasFile start blocks open_old.seen
   pub open_is : IsTrue tells → open_new ≡ settled_state (take (k.place + 1) open_old.seen)
   pub other_is : IsTrue tells → IsSettled other_old → other_new ≡ settled_state []
 
--- The file that is taken was read as these blocks, it ends with its tail gate, and the other is empty. Nothing is pending.
-pub record IsReopened (in_a : Bool) (place : ℕ) (blocks : List (List Entry)) (a b a_new b_new : State) : Type 0 where
+-- The file that is taken was read as this base, or none, and these blocks, it ends with its tail gate, and the other is
+-- empty. Nothing is pending.
+pub record IsReopened (in_a : Bool) (place : ℕ) (start : Option Base) (blocks : List (List Entry)) (a b a_new b_new : State) : Type 0 where
   pub taken : IsTaken in_a a.seen b.seen
-  pub has : HasFile blocks (open_of in_a a b).seen
+  pub has : HasFile start blocks (open_of in_a a b).seen
   pub open_is : open_of in_a a_new b_new ≡ settled_state (take (place + 1) (open_of in_a a b).seen)
   pub other_is : other_of in_a a_new b_new ≡ settled_state []
 
--- Nothing is pending, the open file has these blocks and ends with its tail gate, which stands at this place, and the other
--- file is empty.
-pub record IsTidyAt (in_a : Bool) (place : ℕ) (blocks : List (List Entry)) (a b : State) : Type 0 where
+-- Nothing is pending, the open file has this base, or none, and these blocks and ends with its tail gate, which stands at
+-- this place, and the other file is empty.
+pub record IsTidyAt (in_a : Bool) (place : ℕ) (start : Option Base) (blocks : List (List Entry)) (a b : State) : Type 0 where
   pub quiet : IsSettled (open_of in_a a b)
   pub empty : other_of in_a a b ≡ settled_state []
-  pub has : HasFile blocks (open_of in_a a b).seen
+  pub has : HasFile start blocks (open_of in_a a b).seen
   pub ends : length (open_of in_a a b).seen ≡ place + 1

@@ -4,7 +4,7 @@ use Rattle.block_file.specs.declared.block.RecordAt.{RecordAt}
 use Rattle.journal_record.specs.Entry.{Entry}
 use Rattle.journal_record.specs.declared.header.Header.{Header}
 use Rattle.ledger_model.specs.History.{History, journals_of, point}
-use Rattle.ledger_open.specs.Standing.{IsKept, StandsBy, point_before}
+use Rattle.ledger_open.specs.Standing.{IsKept, StandsBy, floor_behind, point_before}
 use Rattle.ledger_open.specs.declared.places.PlaceAt.{PlaceAt}
 use Rattle.ledger_model.specs.Outcomes.{is_hidden}
 
@@ -73,7 +73,7 @@ places_of h = places_at 64 h.closed
 abbrev pub AreAtPlaces : Type 0
 AreAtPlaces =
     (floor : ℕ) (zeros : ℕ → Bool) (image : List ℕ) (h : History) (x : StandsBy floor zeros image h)
-    → AllAt (is_hidden h) zeros image (journals_of x.parts.kept) (places_at 64 x.parts.kept)
+    → AllAt (is_hidden h) zeros image (journals_of x.parts.kept) (places_at (64 + length (floor_behind h x.parts.gone).base) x.parts.kept)
 
 -- the blocks that a file has of a history are all of them, since no purge has a point above 0 so far
 abbrev pub AreAllThere : Type 0

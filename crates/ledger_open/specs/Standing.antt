@@ -1,10 +1,15 @@
 -- What a pair of files stands for: a history, of which hidden contents aren't kept, nor blocks before a file's floor.
-use Rattle.std.specs.Prelude.{◌≡◌, ◌≢◌, ◌⊎◌, ℕ, ◌+◌, ◌-◌, ◌≤◌, ◌==◌, Bool, true, false, if◌then◌else◌, List, [], ◌∷◌, ◌++◌, length, take, slice_get, replicate, ⊤}
+use Rattle.std.specs.Prelude.{◌≡◌, ◌≢◌, ◌⊎◌, ℕ, ◌+◌, ◌-◌, ◌≤◌, ◌==◌, Bool, true, false, if◌then◌else◌, All, List, [], ◌∷◌, ◌++◌, length, map, take, slice_get, replicate, Option, Some, None, ⊤}
 use Rattle.sha2.specs.Sha256.{sha256}
-use Rattle.tree_model.specs.Tree.{mth}
+use Rattle.tree_model.specs.RootFrom.{root_from}
+use Rattle.tree_model.specs.Tree.{mth, leaf}
 use Rattle.block_file.specs.File.{Stands}
 use Rattle.journal_record.specs.Blocks.{AreBlocks, written_blocks}
 use Rattle.journal_record.specs.Entry.{Entry}
+use Rattle.journal_record.specs.Header.{HasWidths}
+use Rattle.pseudo_genesis.specs.Bases.{spelling}
+use Rattle.pseudo_genesis.specs.declared.base.Base.{Base}
+use Rattle.ledger_model.specs.Bases.{base_of}
 use Rattle.ledger_model.specs.History.{History, journals, journals_of, size, point, greatest_point}
 use Rattle.ledger_model.specs.Lawful.{IsLawful}
 use Rattle.ledger_model.specs.Outcomes.{is_hidden_by, is_hidden}
@@ -23,6 +28,25 @@ pub record Floor : Type 0 where
 -- a file that begins with journal 0
 abbrev pub ground : Floor
 ground = record { first = 0; base = []; root = mth sha256 }
+
+-- a file that begins behind this base: roots are those over its peaks and the leaves from its point on
+abbrev pub floor_of : Base → Floor
+floor_of b =
+    record {
+      first = b.point;
+      base = spelling b;
+      root = λ leaves. root_from sha256 (map (λ peak. peak.0) b.peaks) b.point (map (leaf sha256) leaves);
+    }
+
+-- .. or with journal 0, where there is no base
+abbrev pub floor_from : Option Base → Floor
+floor_from None = ground
+floor_from (Some b) = floor_of b
+
+-- where a file of this history begins that doesn't have these blocks
+abbrev pub floor_behind : History → List (List Entry) → Floor
+floor_behind h [] = ground
+floor_behind h (b ∷ bs) = floor_of (base_of h (length (journals_of (b ∷ bs))))
 
 -- an open file of this generation that begins at this floor, and has these blocks
 pub record HasBlocks (floor : Floor) (generation : ℕ) (blocks : List (List Entry)) (image : List ℕ) : Type 0 where
@@ -80,17 +104,28 @@ pub record Parts (floor : ℕ) (h : History) : Type 0 where
   pub are : h.closed ≡ gone ++ kept
   pub at : length (journals_of gone) ≡ floor
 
+-- the first of some journals, which holds keys, has 64 bytes as its content
+abbrev pub HasFounders : List Entry → Type 0
+HasFounders [] = ⊤
+HasFounders (e ∷ es) = length e.content ≡ 64
+
+-- journals that a file could have: their headers are of their widths
+pub record AreWide (es : List Entry) : Type 0 where
+  pub headers : All (λ e. HasWidths e.header) es
+  pub founders : HasFounders es
+
 -- The image has this history from this journal on, where these contents are zeros, and those that are hidden beside them
 -- may be any bytes. Its generation is at most the size, and less where it doesn't begin at the point.
 pub record StandsBy (floor : ℕ) (zeros : ℕ → Bool) (image : List ℕ) (h : History) : Type 0 where
   pub generation : ℕ
   pub parts : Parts floor h
-  -- No purge has a point above 0 so far, so each file begins with journal 0, and no block is gone.
+  -- no purge has a point above 0 so far, so each file begins with journal 0, and no block is gone
   pub unpurged : point h ≡ 0
-  pub keeps : Keeps ground generation (is_hidden h) zeros parts.kept image
+  pub keeps : Keeps (floor_behind h parts.gone) generation (is_hidden h) zeros parts.kept image
   pub early : generation + (if floor == point h then 0 else 1) ≤ size h
   pub none : h.waiting ≡ []
   pub lawful : IsLawful h
+  pub wide : AreWide (journals_of parts.gone)
 
 -- The image stands for this history: a content that only the last journal hides may be any bytes, and where the last
 -- journal is a purge, the file may still begin at the point before it.
@@ -128,16 +163,21 @@ pub record IsCleanPair (a b : List ℕ) (h : History) : Type 0 where
   pub clean : IsClean (open_of in_a a b) h
   pub empty : length (other_of in_a a b) ≡ 0
 
--- The same blocks in two histories, but for contents that are hidden in both. They are all blocks, since none is gone
--- so far.
-abbrev pub Alike : History → History → Type 0
-Alike h k = SameButHidden (is_hidden h) (λ n. false) h.closed k.closed
+-- Two histories of which a file keeps the same, from the point on, or from the point before the last journal: behind the
+-- same base the same blocks, but for contents that are hidden in both.
+pub record Alike (h k : History) : Type 0 where
+  pub floor : ℕ
+  pub begins : (floor ≡ point h) ⊎ (floor ≡ point_before h)
+  pub first : Parts floor h
+  pub second : Parts floor k
+  pub base : floor ≢ 0 → base_of h floor ≡ base_of k floor
+  pub blocks : SameButHidden (is_hidden h) (λ n. false) first.kept second.kept
 
--- an image stands for one history at most, but for what is hidden
+-- an image stands for one history at most, but for what isn't kept
 abbrev pub IsOneHistory : Type 0
 IsOneHistory = (image : List ℕ) (h k : History) → StandsFor image h → StandsFor image k → Alike h k
 
--- a pair of files stands for one history at most, but for what is hidden
+-- a pair of files stands for one history at most, but for what isn't kept
 abbrev pub IsOnePair : Type 0
 IsOnePair = (a b : List ℕ) (h k : History) → PairFor a b h → PairFor a b k → Alike h k
 

@@ -84,7 +84,7 @@ fn first_block(
 fn prepare(alloc: Global, genesis: &Genesis, limits: Limits) -> Result<Made, NoMemory>
     requires { AreWithin limits }
     ensures known { IfOk result (λ made. Knows (known_from made.book made.places.list 351)
-        ground (new_ledger genesis.now).closed) }
+        None (new_ledger genesis.now).closed) }
     ensures limits { IfOk result (λ made. made.book.limits ≡ limits) }
     ensures block { IfOk result (λ made. made.block.items ≡ block_bytes
         ((ground).root (leaves_of (genesis_journal genesis.now ∷ [])))
@@ -123,7 +123,7 @@ pub fn init<D: Disk>(
     requires { AreWithin limits }
     ensures ok { IfOk result (λ opened. Knows
         (known_from opened.book opened.places.list (place_of (file_of opened.twin)))
-        ground (new_ledger genesis.now).closed × (in_a_of opened.twin ≡ true)) }
+        None (new_ledger genesis.now).closed × (in_a_of opened.twin ≡ true)) }
     ensures limits { IfOk result (λ opened. opened.book.limits ≡ limits) }
     ensures keys { OnOk result (HasKeys genesis.now) }
     ensures founded { OnOk result (IsTrue D.tells

@@ -1,14 +1,15 @@
-ghost use Rattle.std.specs.Prelude.{◌≡◌, ◌⊎◌, Bool, List, ℕ, length};
+ghost use Rattle.std.specs.Prelude.{◌≡◌, ◌⊎◌, Bool, List, ℕ, Option, length};
 ghost use Rattle.block_file.specs.declared.failure.Damage.{Damage};
 ghost use Rattle.ledger_model.specs.Genesis.{HasKeys, new_ledger};
 ghost use Rattle.ledger_model.specs.History.{History, journals};
 ghost use Rattle.ledger_model.specs.declared.genesis.Genesis.{Genesis};
+ghost use Rattle.pseudo_genesis.specs.declared.base.Base.{Base};
 ghost use Rattle.ledger_open.specs.Damages.{IsDamage};
 ghost use Rattle.ledger_open.specs.Founding.{IsFounded};
 ghost use Rattle.ledger_open.specs.Growing.{Grows, GrowsErased, IsNewClean};
 ghost use Rattle.ledger_open.specs.Places.{AreAtPlaces, AreAllThere};
 ghost use Rattle.ledger_open.specs.Opening.{Known, Knows, IsOpenErr, IsOutside, IsReopened, IsTidyAt};
-ghost use Rattle.ledger_open.specs.Standing.{ground, IsOneHistory, IsOnePair, IsAlone, StandsFor, PairFor, IsClean, IsCleanPair};
+ghost use Rattle.ledger_open.specs.Standing.{IsOneHistory, IsOnePair, IsAlone, StandsFor, PairFor, IsClean, IsCleanPair};
 ghost use Rattle.ledger_open.specs.declared.failure.OpenErr.{OpenErr};
 ghost use Rattle.ledger_open.specs.declared.failure.OpenErr.TheVariants as errors;
 ghost use Rattle.block_file.specs.Head.{IsShut};
@@ -17,7 +18,7 @@ ghost use Rattle.ledger_disk.specs.Disk.{State, settled_state};
 ghost use Rattle.journal_record.specs.Entry.{Entry};
 ghost use Rattle.twin_file.specs.Twin.{open_of};
 
-/// Histories that one image stands for agree but for hidden contents, and so do those of a pair. The other file of a pair
+/// Histories that one image stands for agree but for what isn't kept, and so do those of a pair. The other file of a pair
 /// is empty.
 pub fn a_pair_stands_for_one_history()
     ensures image { IsOneHistory }
@@ -57,25 +58,26 @@ pub fn a_standing_pair_opens()
 
 /// The book of a ledger that was opened stands for each history that the pair stands for.
 pub fn an_opened_book_stands_for_the_history()
-    ensures { (k : Known) (in_a : Bool) (blocks : List (List Entry)) (a b a_new b_new : State)
-        (h : History) → Knows k ground blocks → IsReopened in_a k.place blocks a b a_new b_new
+    ensures { (k : Known) (in_a : Bool) (start : Option Base) (blocks : List (List Entry))
+        (a b a_new b_new : State) (h : History) → Knows k start blocks
+        → IsReopened in_a k.place start blocks a b a_new b_new
         → PairFor a.seen b.seen h → Serves k.book h }
 {}
 
 /// A pair that was opened is clean for each history that it stood for: the open file ends with its tail gate, and the other
 /// is empty. Of one that was clean no byte has changed.
 pub fn an_opened_pair_is_clean()
-    ensures history { (k : Known) (in_a : Bool) (blocks : List (List Entry))
-        (a b a_new b_new : State) (h : History) → Knows k ground blocks
-        → IsReopened in_a k.place blocks a b a_new b_new → PairFor a.seen b.seen h
+    ensures history { (k : Known) (in_a : Bool) (start : Option Base) (blocks : List (List Entry))
+        (a b a_new b_new : State) (h : History) → Knows k start blocks
+        → IsReopened in_a k.place start blocks a b a_new b_new → PairFor a.seen b.seen h
         → IsCleanPair a_new.seen b_new.seen h }
-    ensures tidy { (k : Known) (in_a : Bool) (blocks : List (List Entry))
-        (a b a_new b_new : State) → Knows k ground blocks
-        → IsReopened in_a k.place blocks a b a_new b_new
-        → IsTidyAt in_a k.place blocks a_new b_new }
-    ensures left { (k : Known) (in_a : Bool) (blocks : List (List Entry))
-        (a b a_new b_new : State) (h : History) → Knows k ground blocks
-        → IsReopened in_a k.place blocks a b a_new b_new → IsClean (open_of in_a a b).seen h
+    ensures tidy { (k : Known) (in_a : Bool) (start : Option Base) (blocks : List (List Entry))
+        (a b a_new b_new : State) → Knows k start blocks
+        → IsReopened in_a k.place start blocks a b a_new b_new
+        → IsTidyAt in_a k.place start blocks a_new b_new }
+    ensures left { (k : Known) (in_a : Bool) (start : Option Base) (blocks : List (List Entry))
+        (a b a_new b_new : State) (h : History) → Knows k start blocks
+        → IsReopened in_a k.place start blocks a b a_new b_new → IsClean (open_of in_a a b).seen h
         → open_of in_a a_new b_new ≡ settled_state (open_of in_a a b).seen }
 {}
 
@@ -87,8 +89,9 @@ pub fn a_new_pair_is_clean()
 
 /// Where a pair was opened, it has no damage, and is neither empty nor of another version.
 pub fn an_opened_pair_has_no_damage()
-    ensures { (k : Known) (in_a : Bool) (blocks : List (List Entry)) (a b a_new b_new : State)
-        (e : OpenErr) → Knows k ground blocks → IsReopened in_a k.place blocks a b a_new b_new
+    ensures { (k : Known) (in_a : Bool) (start : Option Base) (blocks : List (List Entry))
+        (a b a_new b_new : State) (e : OpenErr) → Knows k start blocks
+        → IsReopened in_a k.place start blocks a b a_new b_new
         → IsOpenErr a.seen b.seen e → IsOutside e }
 {}
 

@@ -1,6 +1,6 @@
 //! A ledger that was made before is opened again.
 
-ghost use Rattle.std.specs.Prelude.{◌≡◌, ◌≢◌, ◌⊎◌, ◌+◌, ◌≤◌, [], ℕ, List, take, None, Err, IsTrue, IfOk, IfErr, IsSomeAnd, OnOk};
+ghost use Rattle.std.specs.Prelude.{◌≡◌, ◌≢◌, ◌⊎◌, ◌+◌, ◌≤◌, [], ℕ, List, take, Option, None, Err, IsTrue, IfOk, IfErr, IsSomeAnd, OnOk};
 ghost use Rattle.block_file.specs.File.{IsSettled};
 ghost use Rattle.block_file.specs.Head.{generation_of};
 ghost use Rattle.block_file.specs.Place.{place_of, base_len_of};
@@ -12,7 +12,8 @@ ghost use Rattle.twin_file.specs.Places.{HasTail};
 ghost use Rattle.twin_file.specs.Twin.{open_of};
 ghost use Rattle.twin_file.specs.Which.{in_a_of, generation_in, file_of, copy_of};
 ghost use Rattle.ledger_open.specs.Opening.{known_from, Knows, IsHeadOf, HasLawfulBlocks, IsOpenedAs, IsOutside, IsReadErr, IsOpenErr, IsReopened, StandsAsRead, KeepsBlocks, CountsOpen};
-ghost use Rattle.ledger_open.specs.Standing.{ground, PairFor};
+ghost use Rattle.pseudo_genesis.specs.declared.base.Base.{Base};
+ghost use Rattle.ledger_open.specs.Standing.{PairFor};
 ghost use Rattle.ledger_open.specs.declared.failure.OpenErr.{OpenErr as OpenErrRecord};
 ghost use Rattle.ledger_open.specs.declared.failure.OpenErr.TheVariants as errors;
 
@@ -74,7 +75,7 @@ fn open_file<R: Threads, D: Disk>(
 
     // At every exit each image of the open file has its blocks, and an empty other file is left alone.
     ensures images { IsTrue D.tells → IsSettled (D.state taken.old).bytes
-        → KeepsBlocks (D.state taken.old).bytes (D.state taken.new).bytes }
+        → KeepsBlocks None (D.state taken.old).bytes (D.state taken.new).bytes }
     ensures idle { IsTrue D.tells → (D.state other.old).bytes.seen ≡ []
         → (D.state other.new).bytes ≡ (D.state other.old).bytes }
     ensures faults { CountsOpen result (D.state taken.old).faults (D.state taken.new).faults
@@ -109,10 +110,10 @@ pub fn reopen<R: Threads, D: Disk>(
     limits: Limits,
 ) -> Result<Opened, OpenErr>
     requires { AreWithin limits }
-    ensures ok { IfOk result (λ opened. (blocks : List (List Entry))
+    ensures ok { IfOk result (λ opened. (start : Option Base) × (blocks : List (List Entry))
         × Knows (known_from opened.book opened.places.list (place_of (file_of opened.twin)))
-        ground blocks
-        × (IsTrue D.tells → IsReopened (in_a_of opened.twin) (place_of (file_of opened.twin)) blocks
+        start blocks
+        × (IsTrue D.tells → IsReopened (in_a_of opened.twin) (place_of (file_of opened.twin)) start blocks
         (D.state a.old).bytes (D.state b.old).bytes (D.state a.new).bytes (D.state b.new).bytes)) }
     ensures limits { IfOk result (λ opened. opened.book.limits ≡ limits) }
     ensures told { IfOk result (λ opened. HasTail

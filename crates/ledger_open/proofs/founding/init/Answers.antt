@@ -3,14 +3,14 @@ use Rattle.block_file.specs.Place.{place_of}
 use Rattle.ledger_model.specs.Genesis.{new_ledger}
 use Rattle.twin_file.specs.Which.{file_of}
 use Rattle.ledger_open.specs.Opening.{Knows, known_from}
-use Rattle.ledger_open.specs.Standing.{ground}
+use Rattle.std.specs.Prelude.{None}
 use Rattle.ledger_open.proofs.FoundingLaws.{made_images, shut_now, first_place}
 use Rattle.ledger_open.proofs.founding.init.Goals as goal
 
 pub returns-in-Ok-clause-ok : goal.returns-in-Ok-clause-ok
 returns-in-Ok-clause-ok g c =
     let place = first_place c.args.genesis.now c.as_slice.result.now (place_of (file_of c.in-Ok.twin)) c.in_ok-made.ensures.keys (c.as_slice.ensures.value ∙ c.in_ok-made.ensures.block) c.in-Ok.ensures.twin.2 in
-    (subst (λ (n : ℕ). Knows (known_from c.in_ok-made.made.book c.in_ok-made.made.places.list n) ground (new_ledger c.args.genesis.now).closed) (sym place) c.in_ok-made.ensures.known, c.in-Ok.ensures.twin.0)
+    (subst (λ (n : ℕ). Knows (known_from c.in_ok-made.made.book c.in_ok-made.made.places.list n) None (new_ledger c.args.genesis.now).closed) (sym place) c.in_ok-made.ensures.known, c.in-Ok.ensures.twin.0)
 
 pub returns-in-Ok-clause-images : goal.returns-in-Ok-clause-images
 returns-in-Ok-clause-images g c told shut_a shut_b quiet image_a image_b left_a left_b =

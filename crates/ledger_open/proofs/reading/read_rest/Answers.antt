@@ -5,8 +5,12 @@ use Rattle.ledger_disk.specs.Disk.{State}
 use Rattle.ledger_open.specs.Ahead.{blocks_in, number_behind, IsStop}
 use Rattle.ledger_open.specs.Opening.{IsReadErr, known_from}
 use Rattle.ledger_open.proofs.AheadLaws.{ahead_of, next_again, next_blocks}
-use Rattle.ledger_open.proofs.MoreLaws.{known_of, told_inside}
+use Rattle.ledger_open.proofs.MoreLaws.{first_below, known_of, told_inside}
 use Rattle.ledger_open.proofs.reading.read_rest.Goals as goal
+
+pub read_ahead-requires-clause-number : goal.read_ahead-requires-clause-number
+read_ahead-requires-clause-number g c =
+    first_below g.D.Disk.tells (g.D.Disk.state c.args.disk.now).bytes.seen (known_from c.args.read.book c.args.read.places.list (place_of c.args.file.now)) c.head-first.result c.requires.known c.head-first.ensures
 
 pub loop-alloc-init : goal.loop-alloc-init
 loop-alloc-init g c =
