@@ -1,8 +1,6 @@
 -- What a block's end does to a history, to what is kept of it, and to what the disks may leave.
 use Rattle.std.specs.Prelude.{Bool, true, false, sum_by}
-use Rattle.std.specs.List.{list_any, list_all}
-use Rattle.std.proofs.Common.{◌≡◌, ◌⊎◌, inl, inr, ℕ, ◌+◌, ◌≤◌, ◌==◌, ◌&&◌, ◌||◌, List, [], ◌∷◌, ◌++◌, length, map, refl, ap, sym, subst, ◌∙◌, arith, append_assoc, append-nil}
-use Rattle.std.proofs.lemmas.Bool.{true≢false, and_parts}
+use Rattle.std.proofs.Common.{◌≡◌, ◌⊎◌, inl, inr, ℕ, ◌+◌, ◌≤◌, List, [], ◌∷◌, ◌++◌, length, map, refl, ap, sym, subst, ◌∙◌, arith, append_assoc, append-nil}
 use Rattle.std.proofs.lemmas.List.{map-append, length-map, take_all}
 use Rattle.std.proofs.lemmas.List.Sums.{sum_by-cons}
 use Rattle.sha2.specs.Sha256.{sha256}
@@ -11,28 +9,31 @@ use Rattle.ledger_bytes.specs.declared.limits.TheConstants.{BLOCK_LIMIT}
 use Rattle.journal_record.specs.Blocks.{body_of, block_bytes, leaves_of, written_blocks, AreFrom}
 use Rattle.journal_record.specs.Entry.{Entry}
 use Rattle.journal_record.specs.Header.{spelling}
+use Rattle.journal_record.specs.declared.header.Header.{Header}
 use Rattle.journal_record.specs.declared.header.Kind.{Kind}
 use Rattle.journal_record.specs.declared.header.Kind.TheVariants.{Genesis, Content, Member, Time, Occult, Purge}
 use Rattle.block_file.specs.File.{Stands, tail_of}
 use Rattle.ledger_disk.proofs.Guarding.{settled_image}
 use Rattle.ledger_disk.specs.Disk.{State, MayLeave, settled_state}
 use Rattle.ledger_model.specs.History.{History, history, journals, journals_of, size, leaves, root, point, greatest_point, purge_point, is_purge, close, close_by}
-use Rattle.ledger_model.specs.Lawful.{AreNext, AllGather, gathers}
-use Rattle.ledger_model.specs.Outcomes.{hides, is_occult}
+use Rattle.ledger_model.specs.Outcomes.{is_hidden}
+use Rattle.ledger_model.specs.Lawful.{AreNext, IsNextOf}
 use Rattle.ledger_model.proofs.GrowLaws.{close_none, size_closed}
 use Rattle.ledger_model.proofs.KeepLaws.{journals_close}
+use Rattle.ledger_model.proofs.LawfulLaws.{none_hide}
 use Rattle.ledger_model.proofs.PlaceLaws.{point_same}
 use Rattle.ledger_book.specs.Books.{sealed_size}
 use Rattle.twin_file.specs.Twin.{open_of, other_of}
 use Rattle.ledger_open.specs.Growing.{with_block, IsNextBlock}
 use Rattle.ledger_open.specs.Places.{record_len, place_at, places_in, places_at, after_at}
 use Rattle.ledger_open.specs.declared.places.PlaceAt.{PlaceAt}
-use Rattle.ledger_open.specs.Standing.{ground, StandsFor, IsErased, PairFor}
+use Rattle.ledger_open.specs.Standing.{ground, floor_behind, HasBlocks, StandsFor, IsErased, PairFor}
 use Rattle.ledger_open.proofs.AgainLaws.{blocks_unique}
-use Rattle.ledger_open.proofs.GrowLaws.{erased_stands, grows, grows_erased}
+use Rattle.ledger_open.proofs.GrowLaws.{erased_stands, grows_first, grows_erased}
 use Rattle.ledger_open.proofs.HidingLaws.{journals_push}
 use Rattle.ledger_open.proofs.NextLaws.{next_behind}
 use Rattle.ledger_open.proofs.OpenLaws.{tail_is}
+use Rattle.ledger_open.proofs.PartLaws.{file_at, file_first, floor_none}
 use Rattle.ledger_open.proofs.SizeLaws.{mth_size, block_size, body_size, readable}
 use Rattle.ledger_open.proofs.WholeLaws.{own_blocks}
 use Rattle.batch_committer.specs.Committed.{IsCommitted, IsUncommitted}
@@ -81,65 +82,57 @@ root_closed h =
     (take_all (sealed_size g) (leaves g) (omega (arith, sealed_all g (close_none h), length-map (journals g) (λ (j : Entry). spelling j.header)))
     ∙ ap (map (λ (j : Entry). spelling j.header)) (journals_close h))
 
--- ---- what gathers neither hides nor purges
+-- ---- no journal that may be the next one purges
 
-kind_hides : (k : Kind) (a n : ℕ) → gathers k ≡ true → (is_occult k && a == n) ≡ false
-kind_hides Genesis a n g = refl
-kind_hides Content a n g = refl
-kind_hides Member a n g = refl
-kind_hides Time a n g = refl
-kind_hides Occult a n g = absurd (true≢false (sym g))
-kind_hides Purge a n g = refl
-
-pub gathered_hides : (target : Entry) (es : List Entry) → AllGather es → list_any (hides target) es ≡ false
-gathered_hides target [] g = refl
-gathered_hides target (e ∷ es) g =
-    let both = and_parts (gathers e.header.kind) (list_all (λ (x : Entry). gathers x.header.kind) es) g in
-    ap (λ (v : Bool). v || list_any (hides target) es) (kind_hides e.header.kind e.header.a target.header.jsn both.0) ∙ gathered_hides target es both.1
-
-kind_purges : (k : Kind) → gathers k ≡ true → is_purge k ≡ false
-kind_purges Genesis g = refl
-kind_purges Content g = refl
-kind_purges Member g = refl
-kind_purges Time g = refl
-kind_purges Occult g = refl
-kind_purges Purge g = absurd (true≢false (sym g))
+kind_purges : (h : History) (x : Header) (k : Kind) → IsNextOf h x k → is_purge k ≡ false
+kind_purges h x Genesis own = refl
+kind_purges h x Content own = refl
+kind_purges h x Member own = refl
+kind_purges h x Time own = refl
+kind_purges h x Occult own = absurd own
+kind_purges h x Purge own = absurd own
 
 point_none : (e : Entry) (v : Bool) → is_purge e.header.kind ≡ v → v ≡ false → purge_point e ≡ 0
 point_none e v is none = rw (is ∙ none)
 
-gathered_point : (before es : List Entry) → AllGather es → greatest_point (before ++ es) ≡ greatest_point before
-gathered_point before [] g = ap greatest_point (append-nil before)
-gathered_point before (e ∷ es) g =
-    let both = and_parts (gathers e.header.kind) (list_all (λ (x : Entry). gathers x.header.kind) es) g in
-    ap greatest_point (sym (append_assoc before (e ∷ []) es)) ∙ gathered_point (before ++ e ∷ []) es both.1
-    ∙ point_same before e (point_none e (is_purge e.header.kind) refl (kind_purges e.header.kind both.0))
+pub next_point : (before es : List Entry) → AreNext before es → greatest_point (before ++ es) ≡ greatest_point before
+next_point before [] next = ap greatest_point (append-nil before)
+next_point before (e ∷ es) next =
+    ap greatest_point (sym (append_assoc before (e ∷ []) es)) ∙ next_point (before ++ e ∷ []) es next.1
+    ∙ point_same before e (point_none e (is_purge e.header.kind) refl (kind_purges (history [] before) e.header e.header.kind next.0.own))
 
-point_block : (h : History) → AllGather h.waiting → point (sealed_part h) ≡ 0 → point (with_block h.waiting (sealed_part h)) ≡ 0
+point_block : (h : History) → AreNext (journals_of h.closed) h.waiting → point (sealed_part h) ≡ 0 → point (with_block h.waiting (sealed_part h)) ≡ 0
 unfolding point
-point_block h g none =
-    ap greatest_point (journals_push h.closed h.waiting) ∙ gathered_point (journals_of h.closed) h.waiting g
+point_block h next none =
+    ap greatest_point (journals_push h.closed h.waiting) ∙ next_point (journals_of h.closed) h.waiting next
     ∙ ap greatest_point (sym (journals_sealed h)) ∙ none
 
 -- ---- the open block may be the next one
 
 module _ (k : Kept) (h : History) (p : Keeps k h) where
+  waiting_next : AreNext (journals_of h.closed) h.waiting
+  waiting_next = next_behind [] (journals_of h.closed) h.waiting p.serves.stands.lawful.next
+
   pub next_block_is : 1 ≤ length h.waiting → length h.waiting ≤ BLOCK_LIMIT → point (sealed_part h) ≡ 0 → IsNextBlock (sealed_part h) h.waiting
   next_block_is some most floor = record {
     entries = record { some = some; most = most; entries = subst (λ (n : ℕ). AreFrom n h.waiting) (sym (size_sealed h)) p.next };
-    shape = record { some = some; most = most; gathered = λ one. p.gathered };
-    next = subst (λ (l : List Entry). AreNext l h.waiting) (sym (journals_sealed h)) (next_behind [] (journals_of h.closed) h.waiting p.serves.stands.lawful.next);
-    floor = point_block h p.gathered floor;
+    shape = record { some = some; most = most; gathered = p.gathered };
+    next = subst (λ (l : List Entry). AreNext l h.waiting) (sym (journals_sealed h)) waiting_next;
+    floor = point_block h waiting_next floor;
   }
 
 -- ---- the open file
 
+-- the file begins with journal 0
+abbrev pub first_file : (image : List ℕ) (h : History) (x : IsErased image h) → HasBlocks ground x.generation x.keeps.blocks image
+first_file image h x = file_first (point h) (is_hidden h) image h x x.unpurged
+
 -- the file keeps the blocks of the history
 same_blocks : (image : List ℕ) (h : History) (x : IsErased image h) → x.keeps.blocks ≡ h.closed
-same_blocks image h x = (blocks_unique ground x.generation x.generation x.keeps.blocks h.closed image mth_size x.keeps.file (own_blocks _ _ image h x x.unpurged)).1
+same_blocks image h x = (blocks_unique ground x.generation x.generation x.keeps.blocks h.closed image mth_size (first_file image h x) (own_blocks _ _ image h x x.unpurged)).1
 
 pub tail_at : (image : List ℕ) (h : History) (x : IsErased image h) → tail_of x.keeps.file.front (written_blocks (ground).root [] x.keeps.blocks) ≡ after_at 64 h.closed
-tail_at image h x = tail_is x.generation x.keeps.blocks image x.keeps.file ∙ ap (after_at 64) (same_blocks image h x)
+tail_at image h x = tail_is x.generation x.keeps.blocks image (first_file image h x) ∙ ap (after_at 64) (same_blocks image h x)
 
 -- another image with the same front and blocks
 pub stands_by : (image new : List ℕ) (h : History) (x : IsErased image h) → Stands x.keeps.file.front (written_blocks (ground).root [] x.keeps.blocks) new → IsErased new h
@@ -149,12 +142,14 @@ stands_by image new h x stands = record {
   unpurged = x.unpurged;
   keeps = record {
     blocks = x.keeps.blocks;
-    file = record { front = x.keeps.file.front; head = x.keeps.file.head; lawful = x.keeps.file.lawful; stands = stands };
+    file = file_at ground (floor_behind h x.parts.gone) (sym (floor_none (point h) (is_hidden h) image h x x.unpurged)) x.generation x.keeps.blocks new
+        (record { front = x.keeps.file.front; head = (first_file image h x).head; lawful = (first_file image h x).lawful; stands = stands });
     same = x.keeps.same;
   };
   early = x.early;
   none = x.none;
   lawful = x.lawful;
+  wide = x.wide;
 }
 
 -- the bytes of a block, as the file has them behind its blocks
@@ -175,7 +170,7 @@ module _ (k : Kept) (h : History) (p : Keeps k h) (some : 1 ≤ length h.waiting
   more_stands : StandsFor new (with_block h.waiting (sealed_part h))
   more_stands =
       let n = next_block_is k h p some most x.unpurged in
-      grows image new (sealed_part h) h.waiting x n.entries n.shape n.next n.floor
+      grows_first image new (sealed_part h) h.waiting x n.entries n.shape n.next n.floor
       (subst (λ (b : List ℕ). Stands x.keeps.file.front (written_blocks (ground).root [] x.keeps.blocks ++ b ∷ []) new) (bytes_behind image h x) stands)
 
   pub block_stands : StandsFor new (sealed_part (close h))
@@ -185,7 +180,7 @@ module _ (k : Kept) (h : History) (p : Keeps k h) (some : 1 ≤ length h.waiting
   block_erased =
       let n = next_block_is k h p some most x.unpurged in
       subst (IsErased new) (sealed_close h some)
-      (grows_erased image new (sealed_part h) h.waiting x n.entries n.shape n.next n.floor (λ m. gathered_hides m h.waiting p.gathered) more_stands)
+      (grows_erased image new (sealed_part h) h.waiting x n.entries n.shape n.next n.floor (λ m. none_hide m (journals_of h.closed) h.waiting (waiting_next k h p)) more_stands)
 
 -- ---- images of a pair
 
@@ -218,7 +213,7 @@ module _ (tells : Bool) (w : World) (h : History) (p : Holds tells w h) (some : 
   pub commit_clean : (next : ℕ) → next ≡ w.kept.place + 1 + length (next_bytes h) → IsCommitted tells w.kept.in_a w.kept.place (next_bytes h) w.disks disks
       → IsCleanFor w.kept.in_a next (sealed_part (close h)) disks.a.bytes disks.b.bytes
   commit_clean next at c =
-      let has = c.has p.told p.disks.erased.keeps.file.front (written_blocks (ground).root [] p.disks.erased.keeps.blocks) p.disks.erased.keeps.file.stands tail in
+      let has = c.has p.told p.disks.erased.keeps.file.front (written_blocks (ground).root [] p.disks.erased.keeps.blocks) (first_file _ (sealed_part h) p.disks.erased).stands tail in
       record {
         quiet = has.nothing_pending;
         empty = c.other ∙ p.disks.empty;
@@ -233,7 +228,7 @@ module _ (tells : Bool) (w : World) (h : History) (p : Holds tells w h) (some : 
       let in_a = w.kept.in_a in
       let x = p.disks.erased in
       let empty : other_of in_a disks.a.bytes disks.b.bytes ≡ settled_state [] = c.other ∙ p.disks.empty in
-      elim (c.may p.told p.disks.quiet x.keeps.file.front (written_blocks (ground).root [] x.keeps.blocks) x.keeps.file.stands tail (open_of in_a i j) (open_left in_a disks.a.bytes disks.b.bytes i j left_a left_b)) [
+      elim (c.may p.told p.disks.quiet x.keeps.file.front (written_blocks (ground).root [] x.keeps.blocks) (first_file _ (sealed_part h) x).stands tail (open_of in_a i j) (open_left in_a disks.a.bytes disks.b.bytes i j left_a left_b)) [
         | inl s ↦ inl (pair_of in_a disks.a.bytes disks.b.bytes i j (sealed_part h) empty left_a left_b (erased_stands _ (sealed_part h) (stands_by _ (open_of in_a i j) (sealed_part h) x s)))
         | inr s ↦ inr (pair_of in_a disks.a.bytes disks.b.bytes i j (sealed_part (close h)) empty left_a left_b (block_stands w.kept h p.keeps some most _ (open_of in_a i j) x s))
       ]

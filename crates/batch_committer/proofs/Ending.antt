@@ -93,7 +93,7 @@ keeps_closed k new h some p serves same places place body dues =
       dues = subst (AllWaiting (close h)) (sym dues) tt;
       body = body ∙ sym (ap body_of none);
       next = subst (AreFrom (sealed_size (close h))) (sym none) tt;
-      gathered = subst AllGather (sym none) refl;
+      gathered = λ more. subst AllGather (sym none) refl;
       located = located_close k new h some places place p.next p.located;
     }
 

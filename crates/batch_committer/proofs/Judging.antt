@@ -1,9 +1,9 @@
 -- A job was judged by the book, and its journal gathered.
-use Rattle.std.specs.Prelude.{Bool, true, IsTrue, ◌↔◌, Result, Ok, Err, OnOk, nat_le, ◌==◌, bytes_eq, slice_get, if◌then◌else◌, sum_by}
+use Rattle.std.specs.Prelude.{Bool, true, false, IsTrue, ◌↔◌, Result, Ok, Err, OnOk, nat_le, ◌==◌, bytes_eq, slice_get, if◌then◌else◌, sum_by}
 use Rattle.std.specs.Int.{w16, w32, to_be_bytes}
 use Rattle.std.specs.List.{list_all}
-use Rattle.std.proofs.Common.{◌≡◌, ℕ, zero, suc, ◌+◌, ◌≤◌, ◌&&◌, cond, List, [], ◌∷◌, ◌++◌, length, map, Option, Some, None, refl, ap, sym, subst, ◌∙◌, arith, append_assoc, append-nil, length-append}
-use Rattle.std.proofs.lemmas.Bool.{le-leb, leb-true, eqb-true, and_parts}
+use Rattle.std.proofs.Common.{◌≡◌, ◌≢◌, ℕ, zero, suc, ◌+◌, ◌≤◌, ◌&&◌, cond, List, [], ◌∷◌, ◌++◌, length, map, Option, Some, None, refl, ap, sym, subst, ◌∙◌, arith, append_assoc, append-nil, length-append}
+use Rattle.std.proofs.lemmas.Bool.{true≢false, le-leb, leb-true, eqb-true, and_parts}
 use Rattle.std.proofs.lemmas.List.Concat.{flat_map-append}
 use Rattle.std.proofs.lemmas.Option.{none-some}
 use Rattle.ledger_bytes.specs.declared.digest.Digest.{Digest}
@@ -16,6 +16,8 @@ use Rattle.journal_record.specs.Header.{HasWidths}
 use Rattle.journal_record.specs.declared.approval.Approval.{Approval}
 use Rattle.journal_record.specs.declared.approval.TheConstants.{WHO_LIMIT}
 use Rattle.journal_record.specs.declared.header.Header.{Header}
+use Rattle.journal_record.specs.declared.stamp.Stamp.{Stamp}
+use Rattle.ledger_model.specs.Anchors.{stamp_of, time_header, time_journal}
 use Rattle.ledger_model.specs.Appends.{append_journal, member_journal, append_header, member_header}
 use Rattle.ledger_model.specs.Fitting.{fits_approval, fits_job}
 use Rattle.ledger_model.specs.History.{History, history, journals, journals_of, size}
@@ -23,13 +25,13 @@ use Rattle.ledger_model.specs.Judgements.{own_refusal}
 use Rattle.ledger_model.specs.Lawful.{IsNext, AreNext, AllGather, gathers}
 use Rattle.ledger_model.specs.Limits.{real_limits}
 use Rattle.ledger_model.specs.Outcomes.{placed_journal, with_waiting, after_judgement, with_job, judged_outcome, accepted_outcome, outcome, AsksFor, query_of}
-use Rattle.ledger_model.specs.Rules.{closes_before}
+use Rattle.ledger_model.specs.Rules.{closes_before, closes_after}
 use Rattle.ledger_model.specs.Step.{Step}
 use Rattle.ledger_model.specs.Texts.{answer_for}
 use Rattle.ledger_model.specs.declared.answer.Answer.{Answer}
 use Rattle.ledger_model.specs.declared.due.Due.{Due}
 use Rattle.ledger_model.specs.declared.job.Job.{Job}
-use Rattle.ledger_model.specs.declared.job.Job.TheVariants.{Refused, Append, NewMember, Get, Clue, Head}
+use Rattle.ledger_model.specs.declared.job.Job.TheVariants.{Refused, Append, NewMember, Anchor, Get, Clue, Head}
 use Rattle.ledger_model.specs.declared.limits.Limits.{Limits}
 use Rattle.ledger_model.specs.declared.outcome.Outcome.{Outcome}
 use Rattle.ledger_model.specs.declared.outcome.Outcome.TheVariants as came
@@ -49,50 +51,54 @@ use Rattle.batch_committer.proofs.Closing.{places_in_more, body_len}
 -- ---- what came of a job
 
 -- a job that placed nothing changes nothing
-judged_same : (h : History) (job : Job) (refusal : Option Refusal) (o : Outcome) → PlacesNothing o → o ≡ judged_outcome refusal (accepted_outcome h None job) → after_judgement refusal (placed_journal h None job) h ≡ h
-judged_same h job (Some refusal) o none is = refl
-judged_same h (Refused why) None o none is = refl
-judged_same h (Append member clue content content_digest request by) None o none is = absurd (subst PlacesNothing is none)
-judged_same h (NewMember number key by) None o none is = absurd (subst PlacesNothing is none)
-judged_same h (Get n) None o none is = refl
-judged_same h (Clue clue) None o none is = refl
-judged_same h Head None o none is = refl
+judged_same : (stamp : Option Stamp) (h : History) (job : Job) (refusal : Option Refusal) (o : Outcome) → PlacesNothing o → o ≡ judged_outcome refusal (accepted_outcome h stamp job) → after_judgement refusal (placed_journal h stamp job) h ≡ h
+judged_same stamp h job (Some refusal) o none is = refl
+judged_same stamp h (Refused why) None o none is = refl
+judged_same stamp h (Append member clue content content_digest request by) None o none is = absurd (subst PlacesNothing is none)
+judged_same stamp h (NewMember number key by) None o none is = absurd (subst PlacesNothing is none)
+judged_same None h Anchor None o none is = refl
+judged_same (Some stamp) h Anchor None o none is = absurd (subst PlacesNothing is none)
+judged_same stamp h (Get n) None o none is = refl
+judged_same stamp h (Clue clue) None o none is = refl
+judged_same stamp h Head None o none is = refl
 
-pub same_job : (limits : Limits) (h : History) (job : Job) (o : Outcome) → PlacesNothing o → o ≡ outcome limits None h job → with_job limits None h job ≡ h
+pub same_job : (stamp : Option Stamp) (limits : Limits) (h : History) (job : Job) (o : Outcome) → PlacesNothing o → o ≡ outcome limits stamp h job → with_job limits stamp h job ≡ h
 unfolding outcome with_job
-same_job limits h job o none is = judged_same h job (own_refusal limits h job) o none is
+same_job stamp limits h job o none is = judged_same stamp h job (own_refusal limits h job) o none is
 
 -- a job placed a journal
-pub record WasPlaced (limits : Limits) (h : History) (job : Job) (jsn : ℕ) : Type 0 where
+pub record WasPlaced (stamp : Option Stamp) (limits : Limits) (h : History) (job : Job) (jsn : ℕ) : Type 0 where
   pub journal : Entry
   pub jsn_is : jsn ≡ size h
-  pub placed_is : placed_journal h None job ≡ Some journal
-  pub after : with_job limits None h job ≡ with_waiting (Some journal) h
+  pub placed_is : placed_journal h stamp job ≡ Some journal
+  pub after : with_job limits stamp h job ≡ with_waiting (Some journal) h
 
-record IsJudgedAs (h : History) (job : Job) (refusal : Option Refusal) (jsn : ℕ) : Type 0 where
+record IsJudgedAs (stamp : Option Stamp) (h : History) (job : Job) (refusal : Option Refusal) (jsn : ℕ) : Type 0 where
   accepted : refusal ≡ None
   journal : Entry
   jsn_is : jsn ≡ size h
-  placed_is : placed_journal h None job ≡ Some journal
+  placed_is : placed_journal h stamp job ≡ Some journal
 
-judged_as : (h : History) (job : Job) (refusal : Option Refusal) (jsn : ℕ) (leaf : Digest) → came.Placed jsn leaf ≡ judged_outcome refusal (accepted_outcome h None job) → IsJudgedAs h job refusal jsn
-judged_as h job (Some refusal) jsn leaf is = absurd (let no : ⊥ = cc is in no)
-judged_as h (Refused why) None jsn leaf is = absurd (let no : ⊥ = cc is in no)
-judged_as h (Append member clue content content_digest request by) None jsn leaf is =
+judged_as : (stamp : Option Stamp) (h : History) (job : Job) (refusal : Option Refusal) (jsn : ℕ) (leaf : Digest) → came.Placed jsn leaf ≡ judged_outcome refusal (accepted_outcome h stamp job) → IsJudgedAs stamp h job refusal jsn
+judged_as stamp h job (Some refusal) jsn leaf is = absurd (let no : ⊥ = cc is in no)
+judged_as stamp h (Refused why) None jsn leaf is = absurd (let no : ⊥ = cc is in no)
+judged_as stamp h (Append member clue content content_digest request by) None jsn leaf is =
     record { accepted = refl; journal = append_journal h member clue content content_digest request by; jsn_is = cc is; placed_is = refl }
-judged_as h (NewMember number key by) None jsn leaf is = record { accepted = refl; journal = member_journal (size h) number key by; jsn_is = cc is; placed_is = refl }
-judged_as h (Get n) None jsn leaf is = absurd (let no : ⊥ = cc is in no)
-judged_as h (Clue clue) None jsn leaf is = absurd (let no : ⊥ = cc is in no)
-judged_as h Head None jsn leaf is = absurd (let no : ⊥ = cc is in no)
+judged_as stamp h (NewMember number key by) None jsn leaf is = record { accepted = refl; journal = member_journal (size h) number key by; jsn_is = cc is; placed_is = refl }
+judged_as None h Anchor None jsn leaf is = absurd (let no : ⊥ = cc is in no)
+judged_as (Some stamp) h Anchor None jsn leaf is = record { accepted = refl; journal = time_journal (size h) stamp; jsn_is = cc is; placed_is = refl }
+judged_as stamp h (Get n) None jsn leaf is = absurd (let no : ⊥ = cc is in no)
+judged_as stamp h (Clue clue) None jsn leaf is = absurd (let no : ⊥ = cc is in no)
+judged_as stamp h Head None jsn leaf is = absurd (let no : ⊥ = cc is in no)
 
-pub was_placed : (limits : Limits) (h : History) (job : Job) (jsn : ℕ) (leaf : Digest) → came.Placed jsn leaf ≡ outcome limits None h job → WasPlaced limits h job jsn
+pub was_placed : (stamp : Option Stamp) (limits : Limits) (h : History) (job : Job) (jsn : ℕ) (leaf : Digest) → came.Placed jsn leaf ≡ outcome limits stamp h job → WasPlaced stamp limits h job jsn
 unfolding outcome with_job
-was_placed limits h job jsn leaf is =
-    let j = judged_as h job (own_refusal limits h job) jsn leaf is in record {
+was_placed stamp limits h job jsn leaf is =
+    let j = judged_as stamp h job (own_refusal limits h job) jsn leaf is in record {
       journal = j.journal;
       jsn_is = j.jsn_is;
       placed_is = j.placed_is;
-      after = ap (λ r. after_judgement r (placed_journal h None job) h) j.accepted ∙ ap (λ o. after_judgement None o h) j.placed_is;
+      after = ap (λ r. after_judgement r (placed_journal h stamp job) h) j.accepted ∙ ap (λ o. after_judgement None o h) j.placed_is;
     }
 
 -- ---- the journal that a job places
@@ -107,29 +113,33 @@ proof_few member by fits = leb-true (length by.proof) PROOF_LIMIT (and_parts (by
 -- its parts
 pub record IsMade (job : Job) (journal : Entry) : Type 0 where
   pub content : List ℕ
-  pub by : Approval
-  pub parts : HasParts job content by
+  pub given : List Approval
+  pub parts : HasParts job content given
   pub content_is : journal.content ≡ content
-  pub who_is : journal.who ≡ who_of (by ∷ [])
+  pub who_is : journal.who ≡ who_of given
   pub len : length journal.content ≡ journal.header.content_len
   pub few : length journal.who ≤ WHO_LIMIT
-  pub gathers_is : gathers journal.header.kind ≡ true
+  pub gathers_is : closes_after job ≡ false → gathers journal.header.kind ≡ true
 
 made_as : (job : Job) (got journal : Entry) → got ≡ journal → IsMade job got → IsMade job journal
 made_as job got journal is m = subst (IsMade job) is m
 
-pub is_made : (h : History) (job : Job) (journal : Entry) → fits_job job ≡ true → placed_journal h None job ≡ Some journal → IsMade job journal
-unfolding append_header member_header
-is_made h (Refused why) journal fits is = absurd (none-some journal is)
-is_made h (Append member clue content content_digest request by) journal fits is =
+pub is_made : (stamp : Option Stamp) (h : History) (job : Job) (journal : Entry) → fits_job job ≡ true → placed_journal h stamp job ≡ Some journal → IsMade job journal
+unfolding append_header member_header time_header
+is_made stamp h (Refused why) journal fits is = absurd (none-some journal is)
+is_made stamp h (Append member clue content content_digest request by) journal fits is =
     made_as (Append member clue content content_digest request by) (append_journal h member clue content content_digest request by) journal (cc is)
-    (record { content = content; by = by; parts = (refl, refl); content_is = refl; who_is = refl; len = refl; few = who_few by (proof_few member by (and_parts (nat_le (length content) CONTENT_LIMIT && bytes_eq content_digest.0 (content_digest_of content)) (fits_approval member by) fits).1); gathers_is = refl })
-is_made h (NewMember number key by) journal fits is =
+    (record { content = content; given = by ∷ []; parts = (refl, refl); content_is = refl; who_is = refl; len = refl; few = who_few by (proof_few member by (and_parts (nat_le (length content) CONTENT_LIMIT && bytes_eq content_digest.0 (content_digest_of content)) (fits_approval member by) fits).1); gathers_is = λ other. refl })
+is_made stamp h (NewMember number key by) journal fits is =
     made_as (NewMember number key by) (member_journal (size h) number key by) journal (cc is)
-    (record { content = []; by = by; parts = (refl, refl); content_is = refl; who_is = refl; len = refl; few = who_few by (proof_few 0 by fits); gathers_is = refl })
-is_made h (Get n) journal fits is = absurd (none-some journal is)
-is_made h (Clue clue) journal fits is = absurd (none-some journal is)
-is_made h Head journal fits is = absurd (none-some journal is)
+    (record { content = []; given = by ∷ []; parts = (refl, refl); content_is = refl; who_is = refl; len = refl; few = who_few by (proof_few 0 by fits); gathers_is = λ other. refl })
+is_made None h Anchor journal fits is = absurd (none-some journal is)
+is_made (Some s) h Anchor journal fits is =
+    made_as Anchor (time_journal (size h) s) journal (cc is)
+    (record { content = []; given = []; parts = (refl, refl); content_is = refl; who_is = refl; len = refl; few = omega arith; gathers_is = λ other. absurd (true≢false other) })
+is_made stamp h (Get n) journal fits is = absurd (none-some journal is)
+is_made stamp h (Clue clue) journal fits is = absurd (none-some journal is)
+is_made stamp h Head journal fits is = absurd (none-some journal is)
 
 -- ---- the journal in the book
 
@@ -169,11 +179,11 @@ header_is k h n journal header floor is got =
     cc same
 
 -- the journal was gathered
-pub gathered_by : (old new : Kept) (header : Header) (content : List ℕ) (by : Approval) (place : PlaceAt) (journal : Entry) → header ≡ journal.header → journal.content ≡ content → journal.who ≡ who_of (by ∷ []) → HasWidths header
-    → new.body ≡ old.body ++ record_bytes (record { header = header; content = content; who = who_of (by ∷ []) }) → new.places ≡ old.places ++ place ∷ [] → place ≡ place_at (old.place + 45 + length old.body) journal → IsGathered old new journal
-gathered_by old new header content by place journal header_is content_is who_is widths body places place_is = record {
+pub gathered_by : (old new : Kept) (header : Header) (content : List ℕ) (given : List Approval) (place : PlaceAt) (journal : Entry) → header ≡ journal.header → journal.content ≡ content → journal.who ≡ who_of given → HasWidths header
+    → new.body ≡ old.body ++ record_bytes (record { header = header; content = content; who = who_of given }) → new.places ≡ old.places ++ place ∷ [] → place ≡ place_at (old.place + 45 + length old.body) journal → IsGathered old new journal
+gathered_by old new header content given place journal header_is content_is who_is widths body places place_is = record {
   widths = subst HasWidths header_is widths;
-  body = body ∙ ap (λ (e : Entry). old.body ++ record_bytes e) (entry_is (record { header = header; content = content; who = who_of (by ∷ []) }) journal header_is (sym content_is) (sym who_is));
+  body = body ∙ ap (λ (e : Entry). old.body ++ record_bytes e) (entry_is (record { header = header; content = content; who = who_of given }) journal header_is (sym content_is) (sym who_is));
   places = places ∙ ap (λ p. old.places ++ p ∷ []) place_is;
 }
 
@@ -203,17 +213,24 @@ gather_more (x ∷ es) e all is =
     let both = and_parts (gathers x.header.kind) (list_all (λ (y : Entry). gathers y.header.kind) es) all in
     ap (λ (v : Bool). v && list_all (λ (y : Entry). gathers y.header.kind) (es ++ e ∷ [])) both.0 ∙ gather_more es e both.1 is
 
+-- a journal that may share its block comes behind such ones, and another one stands alone
+waits_so : (job : Job) (waiting : List Entry) (e : Entry) → (closes_after job ≡ false → AllGather waiting) → (closes_after job ≡ true → waiting ≡ []) → (closes_after job ≡ false → gathers e.header.kind ≡ true) → length (waiting ++ e ∷ []) ≢ 1 → AllGather (waiting ++ e ∷ [])
+waits_so job waiting e all none is more = by (closes_after job) refl where
+  by : (v : Bool) → closes_after job ≡ v → AllGather (waiting ++ e ∷ [])
+  by true alone = absurd (more (ap (λ es. length (es ++ e ∷ [])) (none alone)))
+  by false other = gather_more waiting e (all other) (is other)
+
 -- with a journal more
-gathers_more : (old mid new : Kept) (h : History) (job : Job) (journal : Entry) → Keeps old h → IsMade job journal → Serves new.book (with_waiting (Some journal) h) → IsSame old.book new.book → mid.body ≡ old.body → mid.places ≡ old.places → mid.place ≡ old.place
+pub gathers_more : (old mid new : Kept) (h : History) (journal : Entry) → Keeps old h → length journal.content ≡ journal.header.content_len → length journal.who ≤ WHO_LIMIT → (length (h.waiting ++ journal ∷ []) ≢ 1 → AllGather (h.waiting ++ journal ∷ [])) → Serves new.book (with_waiting (Some journal) h) → IsSame old.book new.book → mid.body ≡ old.body → mid.places ≡ old.places → mid.place ≡ old.place
     → new.place ≡ old.place → IsGathered mid new journal → Gathers new (with_waiting (Some journal) h)
-gathers_more old mid new h job journal p m serves same body places place new_place g =
+gathers_more old mid new h journal p len few shape serves same body places place new_place g =
     let next = last_next new.book h journal serves in
     let entry : IsEntry (sealed_size h + length h.waiting) journal = record {
       jsn = next.jsn ∙ length-append (journals_of h.closed) h.waiting;
       rules = next.layout;
       widths = g.widths;
-      content = m.len;
-      who = m.few;
+      content = len;
+      who = few;
     } in
     record {
       serves = serves;
@@ -221,7 +238,7 @@ gathers_more old mid new h job journal p m serves same body places place new_pla
       floor = same.floor ∙ p.floor;
       body = g.body ∙ ap (λ (l : List ℕ). l ++ record_bytes journal) (body ∙ p.body) ∙ ap (λ (l : List ℕ). body_of h.waiting ++ l) (sym (append-nil (record_bytes journal))) ∙ sym (flat_map-append record_bytes h.waiting (journal ∷ []));
       next = from_more (sealed_size h) h.waiting (journal ∷ []) p.next (entry, tt);
-      gathered = gather_more h.waiting journal p.gathered m.gathers_is;
+      gathered = shape;
       located = record {
         places = g.places ∙ ap (λ (l : List PlaceAt). l ++ place_at (mid.place + 45 + length mid.body) journal ∷ []) (places ∙ p.located.places)
             ∙ ap (λ (n : ℕ). (places_at 64 h.closed ++ places_in (old.place + 45) h.waiting) ++ place_at n journal ∷ []) (omega (arith, place, ap length body, ap length p.body, body_len (sealed_size h) h.waiting p.next))
@@ -234,41 +251,52 @@ gathers_more old mid new h job journal p m serves same body places place new_pla
 
 -- ---- the judgement
 
-real_applies : (old new : books.Kept) (h : History) (job : Job) (o : Outcome) → old.limits ≡ real_limits → Applies old.limits None h job o new → Applies real_limits None h job o new
-real_applies old new h job o is a = subst (λ limits. Applies limits None h job o new) is a
+pub real_applies : (stamp : Option Stamp) (old new : books.Kept) (h : History) (job : Job) (o : Outcome) → old.limits ≡ real_limits → Applies old.limits stamp h job o new → Applies real_limits stamp h job o new
+real_applies stamp old new h job o is a = subst (λ limits. Applies limits stamp h job o new) is a
 
 -- nothing was placed: what was told is due
 pub judged_same_kept : (old new : Kept) (h : History) (step : Step) (job : Job) (o : Outcome) (answer : Answer) → Keeps old h → Applies old.book.limits None h job o new.book → PlacesNothing o → (PlacesNothing o → new.book ≡ old.book)
-    → new.body ≡ old.body → new.places ≡ old.places → new.place ≡ old.place → answer ≡ answer_for h step o → Judged new h step job answer
-judged_same_kept old new h step job o answer p applies none book body places place is =
-    let a = real_applies old.book new.book h job o p.limits applies in record {
-      answer_is = is ∙ ap (answer_for h step) a.outcome_is;
-      gathers = subst (Gathers new) (sym (same_job real_limits h job o none a.outcome_is)) (gathers_same old new h (book none) body places place (gathers_kept old h p));
+    → new.body ≡ old.body → new.places ≡ old.places → new.place ≡ old.place → answer ≡ answer_for h step o → stamp_of step ≡ None → Judged new h step job answer
+judged_same_kept old new h step job o answer p applies none book body places place is unstamped =
+    let a = real_applies None old.book new.book h job o p.limits applies in record {
+      answer_is = is ∙ ap (answer_for h step) a.outcome_is ∙ ap (λ o. answer_for h step (outcome real_limits o h job)) (sym unstamped);
+      gathers = subst (λ o. Gathers new (with_job real_limits o h job)) (sym unstamped) (subst (Gathers new) (sym (same_job None real_limits h job o none a.outcome_is)) (gathers_same old new h (book none) body places place (gathers_kept old h p)));
     }
 
 -- a journal was placed
-pub judged_placed : (old mid new : Kept) (h : History) (step : Step) (job : Job) (o : Outcome) (jsn : ℕ) (leaf : Digest) (answer : Answer) → Keeps old h → fits_job job ≡ true → Applies old.book.limits None h job o new.book → IsSame old.book new.book → o ≡ came.Placed jsn leaf
-    → ((g : History) (journal : Entry) (content : List ℕ) (by : Approval) → HasParts job content by → Serves new.book g → slice_get (journals g) jsn ≡ Some journal → new.book.floor ≤ jsn → journal.content ≡ content → journal.who ≡ who_of (by ∷ []) → IsGathered mid new journal)
-    → mid.body ≡ old.body → mid.places ≡ old.places → mid.place ≡ old.place → new.place ≡ old.place → answer ≡ answer_for h step o → Judged new h step job answer
-judged_placed old mid new h step job o jsn leaf answer p fits applies same is gathered body places place new_place answer_is =
-    let a = real_applies old.book new.book h job o p.limits applies in
-    let w = was_placed real_limits h job jsn leaf (sym is ∙ a.outcome_is) in
-    let m = is_made h job w.journal fits w.placed_is in
+pub judged_placed : (stamp : Option Stamp) (old mid new : Kept) (h : History) (step : Step) (job : Job) (o : Outcome) (jsn : ℕ) (leaf : Digest) (answer : Answer) → Keeps old h → (closes_after job ≡ false → AllGather h.waiting) → (closes_after job ≡ true → h.waiting ≡ []) → fits_job job ≡ true → Applies old.book.limits stamp h job o new.book → IsSame old.book new.book → o ≡ came.Placed jsn leaf
+    → ((g : History) (journal : Entry) (content : List ℕ) (given : List Approval) → HasParts job content given → Serves new.book g → slice_get (journals g) jsn ≡ Some journal → new.book.floor ≤ jsn → journal.content ≡ content → journal.who ≡ who_of given → IsGathered mid new journal)
+    → mid.body ≡ old.body → mid.places ≡ old.places → mid.place ≡ old.place → new.place ≡ old.place → answer ≡ answer_for h step o → stamp_of step ≡ stamp → Judged new h step job answer
+judged_placed stamp old mid new h step job o jsn leaf answer p all none fits applies same is gathered body places place new_place answer_is stamped =
+    let a = real_applies stamp old.book new.book h job o p.limits applies in
+    let w = was_placed stamp real_limits h job jsn leaf (sym is ∙ a.outcome_is) in
+    let m = is_made stamp h job w.journal fits w.placed_is in
     let s : Serves new.book (with_waiting (Some w.journal) h) = subst (Serves new.book) w.after a.serves in
     let there : slice_get (journals (with_waiting (Some w.journal) h)) jsn ≡ Some w.journal = ap (slice_get (journals (with_waiting (Some w.journal) h))) w.jsn_is ∙ last_journal_is h w.journal in
-    let g = gathered (with_waiting (Some w.journal) h) w.journal m.content m.by m.parts s there (omega (arith, same.floor, p.floor)) m.content_is m.who_is in record {
-      answer_is = answer_is ∙ ap (answer_for h step) a.outcome_is;
-      gathers = subst (Gathers new) (sym w.after) (gathers_more old mid new h job w.journal p m s same body places place new_place g);
+    let g = gathered (with_waiting (Some w.journal) h) w.journal m.content m.given m.parts s there (omega (arith, same.floor, p.floor)) m.content_is m.who_is in record {
+      answer_is = answer_is ∙ ap (answer_for h step) a.outcome_is ∙ ap (λ o. answer_for h step (outcome real_limits o h job)) (sym stamped);
+      gathers = subst (λ o. Gathers new (with_job real_limits o h job)) (sym stamped) (subst (Gathers new) (sym w.after) (gathers_more old mid new h w.journal p m.len m.few (waits_so job h.waiting w.journal all none m.gathers_is) s same body places place new_place g));
     }
 
 -- a job that asks for something ends the open block first
-asks_closes : (job : Job) (q : Query) → query_of job ≡ Some q → closes_before job ≡ true
+pub asks_closes : (job : Job) (q : Query) → query_of job ≡ Some q → closes_before job ≡ true
 asks_closes (Refused refusal) q is = absurd (let no : ⊥ = cc is in no)
 asks_closes (Append member clue content content_digest request by) q is = absurd (let no : ⊥ = cc is in no)
 asks_closes (NewMember number key by) q is = absurd (let no : ⊥ = cc is in no)
+asks_closes Anchor q is = refl
 asks_closes (Get n) q is = refl
 asks_closes (Clue clue) q is = refl
 asks_closes Head q is = refl
+
+-- .. and so does one whose journal is a block of its own
+pub alone_first : (job : Job) → closes_after job ≡ true → closes_before job ≡ true
+alone_first (Refused refusal) alone = absurd (true≢false (sym alone))
+alone_first (Append member clue content content_digest request by) alone = absurd (true≢false (sym alone))
+alone_first (NewMember number key by) alone = absurd (true≢false (sym alone))
+alone_first Anchor alone = refl
+alone_first (Get n) alone = refl
+alone_first (Clue clue) alone = refl
+alone_first Head alone = refl
 
 -- .. so nothing waits when it is told
 pub asked_settled : (g : History) (job : Job) (o : Outcome) (q : Query) → AsksFor job o → o ≡ came.Reading q → (closes_before job ≡ true → g.waiting ≡ []) → g.waiting ≡ []

@@ -9,3 +9,6 @@ pub mod Judging
 pub mod Offering
 pub mod Telling
 pub mod GetLaws
+pub mod Attends
+pub mod Taken
+pub mod Anchoring

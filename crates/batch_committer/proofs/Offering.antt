@@ -1,26 +1,28 @@
 -- A job is taken: the open block may end before it and after it.
-use Rattle.std.specs.Prelude.{Bool, true, false, nat_le, Result, Ok, Err, IfErr}
-use Rattle.std.proofs.Common.{◌≡◌, ◌⊎◌, inl, inr, ℕ, ◌<◌, ◌≤◌, cond, List, [], ◌∷◌, ◌++◌, length, None, refl, ap, sym, subst, ◌∙◌, arith}
+use Rattle.std.specs.Prelude.{◌||◌, Bool, true, false, nat_le, Result, Ok, Err, IfErr}
+use Rattle.std.proofs.Common.{◌≡◌, ◌⊎◌, inl, inr, ℕ, ◌<◌, ◌≤◌, cond, List, [], ◌∷◌, ◌++◌, length, refl, ap, sym, subst, ◌∙◌, arith}
 use Rattle.std.proofs.KnownBytes.{Appends-nil}
 use Rattle.std.proofs.lemmas.Bool.{le-leb, lt-leb}
 use Rattle.std.proofs.lemmas.List.{nil_from_length}
 use Rattle.ledger_bytes.specs.declared.limits.TheConstants.{BLOCK_LIMIT}
 use Rattle.journal_record.specs.Entry.{Entry}
 use Rattle.ledger_io.specs.Outside.{SinkState}
+use Rattle.ledger_model.specs.Anchors.{stamp_of}
 use Rattle.ledger_model.specs.Dues.{due_of, AllWaiting, IsWaiting}
 use Rattle.ledger_model.specs.Growing.{Grows}
 use Rattle.ledger_model.specs.History.{History, history, close}
 use Rattle.ledger_model.specs.Limits.{real_limits}
 use Rattle.ledger_model.specs.Outcomes.{with_job}
-use Rattle.ledger_model.specs.Rules.{closes_before, judged_at, settled_history, after_job}
+use Rattle.ledger_model.specs.Rules.{closes_before, closes_after, judged_at, settled_history, after_job}
 use Rattle.ledger_model.specs.Step.{Step}
 use Rattle.ledger_model.specs.Texts.{answer_to}
 use Rattle.ledger_model.specs.declared.answer.Answer.{Answer}
 use Rattle.ledger_model.specs.declared.due.Due.{Due}
 use Rattle.ledger_model.specs.declared.job.Job.{Job}
-use Rattle.ledger_model.proofs.GrowLaws.{grows_not, grows_then, grows_close, close_settled, settled_none}
-use Rattle.ledger_model.proofs.WaitLaws.{waits_job, waits_closed, grows_waits, all_still_waiting, waiting-append, answer_waits}
+use Rattle.ledger_model.proofs.GrowLaws.{grows_settled, grows_with, grows_after, close_settled, settled_none}
+use Rattle.ledger_model.proofs.WaitLaws.{waits_job, waits_closed, all_still_waiting, waiting-append, answer_waits}
 use Rattle.ledger_book.specs.Books.{Serves}
+use Rattle.ledger_book.proofs.OpenLaws.{opens_empty}
 use Rattle.block_file.specs.Head.{generation_of}
 use Rattle.twin_file.specs.Twin.{open_of}
 use Rattle.batch_committer.specs.Steps.{due_by, Judged, KeepsFile, HasGrown}
@@ -32,20 +34,7 @@ use Rattle.batch_committer.proofs.WayLaws.{goes_then, ended_then, goes_as, ended
 
 -- ---- a job in its three steps
 
-grows_settled : (job : Job) (h : History) → Grows h (settled_history job h)
-grows_settled job h = elim (nat_le BLOCK_LIMIT (length h.waiting)) as (λ v. Grows h (cond v (close h) h)) [ true ↦ grows_close h | false ↦ grows_not h ]
-
-grows_with : (h : History) (step : Step) (job : Job) → Grows h (with_job real_limits None h job)
-grows_with h step job = grows_waits h (with_job real_limits None h job) (waits_job h step job)
-
-grows_after : (h : History) (step : Step) (job : Job) → Grows (judged_at h job) (after_job h step job)
-unfolding after_job
-grows_after h step job =
-    let g = judged_at h job in
-    let k = with_job real_limits None g job in
-    grows_then g k (settled_history job k) (grows_with g step job) (grows_settled job k)
-
-after_is : (h : History) (step : Step) (job : Job) → settled_history job (with_job real_limits None (judged_at h job) job) ≡ after_job h step job
+pub after_is : (h : History) (step : Step) (job : Job) → settled_history job (with_job real_limits (stamp_of step) (judged_at h job) job) ≡ after_job h step job
 unfolding after_job
 after_is h step job = refl
 
@@ -55,42 +44,42 @@ due_is h step job = refl
 
 module _ (tells : Bool) (w m n t : World) (step : Step) (job : Job) where
   abbrev mid_next : History → History
-  mid_next h = with_job real_limits None (judged_at h job) job
+  mid_next h = with_job real_limits (stamp_of step) (judged_at h job) job
 
   abbrev mid_due : History → List Due
   mid_due h = due_by (judged_at h job) step job ∷ []
 
   -- the block before it was ended, it was judged, and the block that it fills was ended
-  pub offer_goes : Goes tells w (λ h. judged_at h job) (λ h. []) m → Goes tells m (λ g. with_job real_limits None g job) (λ g. due_by g step job ∷ []) n → Goes tells n (settled_history job) (λ g. []) t
+  pub offer_goes : Goes tells w (λ h. judged_at h job) (λ h. []) m → Goes tells m (λ g. with_job real_limits (stamp_of step) g job) (λ g. due_by g step job ∷ []) n → Goes tells n (settled_history job) (λ g. []) t
       → Goes tells w (λ h. after_job h step job) (λ h. due_of h step job ∷ []) t
   offer_goes x y z =
       goes_as tells w t (λ h. settled_history job (mid_next h)) (λ h. after_job h step job) mid_due (λ h. due_of h step job ∷ [])
       (λ h p. after_is h step job) (λ h p. ap (λ d. d ∷ []) (due_is h step job))
       (goes_then tells w n t mid_next (settled_history job) mid_due (λ g. [])
-      (goes_then tells w m n (λ h. judged_at h job) (λ g. with_job real_limits None g job) (λ h. []) (λ g. due_by g step job ∷ []) x y) z)
+      (goes_then tells w m n (λ h. judged_at h job) (λ g. with_job real_limits (stamp_of step) g job) (λ h. []) (λ g. due_by g step job ∷ []) x y) z)
 
   -- the block before it couldn't be ended
   pub offer_unended : (end : End) → Ended tells w (λ h. judged_at h job) (λ h. []) end t → Ended tells w (λ h. after_job h step job) (λ h. due_of h step job ∷ []) end t
   offer_unended end x = ended_wider tells w t (λ h. judged_at h job) (λ h. after_job h step job) (λ h. []) (λ h. due_of h step job ∷ []) end (λ h p. grows_after h step job) x
 
   -- it couldn't be judged
-  pub offer_unjudged : (end : End) → Goes tells w (λ h. judged_at h job) (λ h. []) m → Ended tells m (λ g. with_job real_limits None g job) (λ g. due_by g step job ∷ []) end t
+  pub offer_unjudged : (end : End) → Goes tells w (λ h. judged_at h job) (λ h. []) m → Ended tells m (λ g. with_job real_limits (stamp_of step) g job) (λ g. due_by g step job ∷ []) end t
       → Ended tells w (λ h. after_job h step job) (λ h. due_of h step job ∷ []) end t
   offer_unjudged end x y =
       ended_as tells w t (λ h. after_job h step job) (λ h. after_job h step job) mid_due (λ h. due_of h step job ∷ []) end
       (λ h p. refl) (λ h p. ap (λ d. d ∷ []) (due_is h step job))
       (ended_wider tells w t mid_next (λ h. after_job h step job) mid_due (λ h. []) end
       (λ h p. subst (Grows (mid_next h)) (after_is h step job) (grows_settled job (mid_next h)))
-      (ended_then tells w m t (λ h. judged_at h job) (λ g. with_job real_limits None g job) (λ h. []) (λ g. due_by g step job ∷ []) end x y))
+      (ended_then tells w m t (λ h. judged_at h job) (λ g. with_job real_limits (stamp_of step) g job) (λ h. []) (λ g. due_by g step job ∷ []) end x y))
 
   -- the block that it fills couldn't be ended
-  pub offer_unfilled : (end : End) → Goes tells w (λ h. judged_at h job) (λ h. []) m → Goes tells m (λ g. with_job real_limits None g job) (λ g. due_by g step job ∷ []) n → Ended tells n (settled_history job) (λ g. []) end t
+  pub offer_unfilled : (end : End) → Goes tells w (λ h. judged_at h job) (λ h. []) m → Goes tells m (λ g. with_job real_limits (stamp_of step) g job) (λ g. due_by g step job ∷ []) n → Ended tells n (settled_history job) (λ g. []) end t
       → Ended tells w (λ h. after_job h step job) (λ h. due_of h step job ∷ []) end t
   offer_unfilled end x y z =
       ended_as tells w t (λ h. settled_history job (mid_next h)) (λ h. after_job h step job) mid_due (λ h. due_of h step job ∷ []) end
       (λ h p. after_is h step job) (λ h p. ap (λ d. d ∷ []) (due_is h step job))
       (ended_then tells w n t mid_next (settled_history job) mid_due (λ g. []) end
-      (goes_then tells w m n (λ h. judged_at h job) (λ g. with_job real_limits None g job) (λ h. []) (λ g. due_by g step job ∷ []) x y) z)
+      (goes_then tells w m n (λ h. judged_at h job) (λ g. with_job real_limits (stamp_of step) g job) (λ h. []) (λ g. due_by g step job ∷ []) x y) z)
 
 -- ---- a job that was judged
 
@@ -98,16 +87,16 @@ abbrev due_at : Step → Answer → Due
 due_at step answer = record { lane = step.lane; index = step.index; answer = answer }
 
 -- the blocks that have ended are the same
-sealed_with : (g : History) (step : Step) (job : Job) → sealed_part (with_job real_limits None g job) ≡ sealed_part g
-sealed_with g step job = ap (λ (bs : List (List Entry)). history bs []) (waits_closed g (with_job real_limits None g job) (waits_job g step job))
+sealed_with : (g : History) (step : Step) (job : Job) → sealed_part (with_job real_limits (stamp_of step) g job) ≡ sealed_part g
+sealed_with g step job = ap (λ (bs : List (List Entry)). history bs []) (waits_closed g (with_job real_limits (stamp_of step) g job) (waits_job g step job))
 
 pub judged_goes : (tells : Bool) (w : World) (k : Kept) (step : Step) (job : Job) (answer : Answer) → k.place ≡ w.kept.place → k.in_a ≡ w.kept.in_a → k.dues ≡ w.kept.dues ++ due_at step answer ∷ []
     → (closes_before job ≡ true → (h : History) → Serves w.kept.book h → h.waiting ≡ [])
     → ((g : History) → Holds tells w g → (closes_before job ≡ true → g.waiting ≡ []) → Judged k g step job answer)
-    → Goes tells w (λ g. with_job real_limits None g job) (λ g. due_by g step job ∷ []) (world k w.disks w.sink)
+    → Goes tells w (λ g. with_job real_limits (stamp_of step) g job) (λ g. due_by g step job ∷ []) (world k w.disks w.sink)
 judged_goes tells w k step job answer place in_a dues settled judged = record {
   holds = λ g p.
-      let f = with_job real_limits None g job in
+      let f = with_job real_limits (stamp_of step) g job in
       let j = judged g p (λ closes. settled closes g p.keeps.serves) in
       let all : AllWaiting f (w.kept.dues ++ due_at step answer ∷ []) =
       waiting-append f w.kept.dues (due_at step answer ∷ []) (all_still_waiting g f w.kept.dues (waits_job g step job) p.keeps.dues) (subst (IsWaiting f) (sym j.answer_is) (answer_waits g step job), tt) in record {
@@ -126,7 +115,7 @@ judged_goes tells w k step job answer place in_a dues settled judged = record {
             (subst (λ v. IsCleanFor v k.place (sealed_part g) w.disks.a.bytes w.disks.b.bytes) (sym in_a)
             (subst (λ at. IsCleanFor w.kept.in_a at (sealed_part g) w.disks.a.bytes w.disks.b.bytes) (sym place) p.disks));
       };
-  grows = λ g p. grows_with g step job;
+  grows = λ g p. grows_with real_limits (stamp_of step) g job;
   sofar = [];
   appended = Appends-nil w.sink.held;
   writes = λ g p. record {
@@ -140,16 +129,16 @@ judged_goes tells w k step job answer place in_a dues settled judged = record {
 
 -- .. while the disks were read
 pub judged_read : (tells : Bool) (k t : Kept) (old new : Pair) (sink : SinkState) (step : Step) (job : Job) → WereRead tells old new → NoneFailed old new
-    → Goes tells (world k old sink) (λ g. with_job real_limits None g job) (λ g. due_by g step job ∷ []) (world t old sink)
-    → Goes tells (world k old sink) (λ g. with_job real_limits None g job) (λ g. due_by g step job ∷ []) (world t new sink)
+    → Goes tells (world k old sink) (λ g. with_job real_limits (stamp_of step) g job) (λ g. due_by g step job ∷ []) (world t old sink)
+    → Goes tells (world k old sink) (λ g. with_job real_limits (stamp_of step) g job) (λ g. due_by g step job ∷ []) (world t new sink)
 judged_read tells k t old new sink step job read none x =
-    goes_then tells (world k old sink) (world t old sink) (world t new sink) (λ g. with_job real_limits None g job) (λ g. g) (λ g. due_by g step job ∷ []) (λ g. []) x (goes_read tells old new read t sink none)
+    goes_then tells (world k old sink) (world t old sink) (world t new sink) (λ g. with_job real_limits (stamp_of step) g job) (λ g. g) (λ g. due_by g step job ∷ []) (λ g. []) x (goes_read tells old new read t sink none)
 
 -- .. and one for which a disk failed or memory was short
 pub unjudged_ended : (tells : Bool) (k t : Kept) (old new : Pair) (sink : SinkState) (step : Step) (job : Job) (end : End) → WereRead tells old new → ReadingEnds end old new
-    → Ended tells (world k old sink) (λ g. with_job real_limits None g job) (λ g. due_by g step job ∷ []) end (world t new sink)
+    → Ended tells (world k old sink) (λ g. with_job real_limits (stamp_of step) g job) (λ g. due_by g step job ∷ []) end (world t new sink)
 unjudged_ended tells k t old new sink step job end read e =
-    read_ended tells old new read k t sink (λ g. with_job real_limits None g job) (λ g. due_by g step job ∷ []) end (λ g. grows_with g step job) e
+    read_ended tells old new read k t sink (λ g. with_job real_limits (stamp_of step) g job) (λ g. due_by g step job ∷ []) end (λ g. grows_with real_limits (stamp_of step) g job) e
 
 -- ---- sizes
 
@@ -158,8 +147,11 @@ fits_gathered tells old new disks sink f room grown file = record {
   reads = subst (λ v. Reads tells new.place (open_of v disks.a disks.b)) (sym file.in_a) (subst (λ at. Reads tells at (open_of old.in_a disks.a disks.b)) (sym file.place) f.reads);
   generation = λ told. file.generation ∙ f.generation told ∙ sym (ap (λ v. generation_of (open_of v disks.a disks.b).bytes.seen) file.in_a);
   copy = file.copy ∙ f.copy;
-  few = omega (arith, room, grown.0, grown.1);
+  few = omega (arith, room.0, grown.0, grown.1);
 }
+
+pub room_empty : (k : Kept) → k.book.size ≡ k.book.sealed → HasRoom k
+room_empty k empty = (omega (arith, empty), opens_empty k.book empty)
 
 -- ---- before a job
 
@@ -177,11 +169,17 @@ before_kept tells w job asked is so = goes_as tells w w (λ h. h) (λ h. judged_
 
 -- ---- after it: the block that is full, and the one that isn't
 
-settled_full : (job : Job) (h : History) → BLOCK_LIMIT ≤ length h.waiting → close h ≡ settled_history job h
-settled_full job h full = sym (ap (λ v. cond v (close h) h) (le-leb BLOCK_LIMIT (length h.waiting) full))
+settled_alone : (job : Job) (h : History) → closes_after job ≡ true → close h ≡ settled_history job h
+settled_alone job h alone = sym (ap (λ v. cond (v || nat_le BLOCK_LIMIT (length h.waiting)) (close h) h) alone)
 
-settled_room : (job : Job) (h : History) → length h.waiting < BLOCK_LIMIT → h ≡ settled_history job h
-settled_room job h room = sym (ap (λ v. cond v (close h) h) (lt-leb BLOCK_LIMIT (length h.waiting) room))
+settled_full : (job : Job) (h : History) → BLOCK_LIMIT ≤ length h.waiting → close h ≡ settled_history job h
+settled_full job h full = sym (ap (λ v. cond (closes_after job || v) (close h) h) (le-leb BLOCK_LIMIT (length h.waiting) full) ∙ ap (λ v. cond v (close h) h) (or_true (closes_after job))) where
+  or_true : (v : Bool) → (v || true) ≡ true
+  or_true true = refl
+  or_true false = refl
+
+settled_room : (job : Job) (h : History) → closes_after job ≡ false → length h.waiting < BLOCK_LIMIT → h ≡ settled_history job h
+settled_room job h other room = sym (ap (λ v. cond (v || nat_le BLOCK_LIMIT (length h.waiting)) (close h) h) other ∙ ap (λ v. cond v (close h) h) (lt-leb BLOCK_LIMIT (length h.waiting) room))
 
 -- none waits, or as many as a block may have
 abbrev pub IsDue : ℕ → Type 0
@@ -201,8 +199,15 @@ due_goes tells w t job due x = goes_as tells w t close (settled_history job) (λ
 pub due_ended : (tells : Bool) (w t : World) (job : Job) (end : End) → ((h : History) → Serves w.kept.book h → IsDue (length h.waiting)) → Ended tells w close (λ h. []) end t → Ended tells w (settled_history job) (λ h. []) end t
 due_ended tells w t job end due x = ended_as tells w t close (settled_history job) (λ h. []) (λ h. []) end (λ h p. settled_due job h (due h p.keeps.serves)) (λ h p. refl) x
 
-pub room_goes : (tells : Bool) (w : World) (job : Job) → ((h : History) → Serves w.kept.book h → length h.waiting < BLOCK_LIMIT) → Goes tells w (settled_history job) (λ h. []) w
-room_goes tells w job few = goes_as tells w w (λ h. h) (settled_history job) (λ h. []) (λ h. []) (λ h p. settled_room job h (few h p.keeps.serves)) (λ h p. refl) (goes_same tells w)
+pub room_goes : (tells : Bool) (w : World) (job : Job) → closes_after job ≡ false → ((h : History) → Serves w.kept.book h → length h.waiting < BLOCK_LIMIT) → Goes tells w (settled_history job) (λ h. []) w
+room_goes tells w job other few = goes_as tells w w (λ h. h) (settled_history job) (λ h. []) (λ h. []) (λ h p. settled_room job h other (few h p.keeps.serves)) (λ h p. refl) (goes_same tells w)
+
+-- the block of the job alone ends
+pub alone_goes : (tells : Bool) (w t : World) (job : Job) → closes_after job ≡ true → Goes tells w close (λ h. []) t → Goes tells w (settled_history job) (λ h. []) t
+alone_goes tells w t job alone x = goes_as tells w t close (settled_history job) (λ h. []) (λ h. []) (λ h p. settled_alone job h alone) (λ h p. refl) x
+
+pub alone_ended : (tells : Bool) (w t : World) (job : Job) (end : End) → closes_after job ≡ true → Ended tells w close (λ h. []) end t → Ended tells w (settled_history job) (λ h. []) end t
+alone_ended tells w t job end alone x = ended_as tells w t close (settled_history job) (λ h. []) (λ h. []) end (λ h p. settled_alone job h alone) (λ h p. refl) x
 
 -- .. from the clauses of a call
 pub if_err_then : {T E : Type 0} {A B : E → Type 0} (result : Result T E) → ((e : E) → A e → B e) → IfErr result A → IfErr result B

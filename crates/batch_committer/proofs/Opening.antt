@@ -1,7 +1,6 @@
 -- What is known of a ledger that was made or opened, and of one that is held.
-use Rattle.std.specs.Prelude.{Bool, true, false, IsTrue, IsSomeAnd}
-use Rattle.std.proofs.Common.{◌≡◌, ℕ, ◌+◌, ◌≤◌, List, [], ◌∷◌, ◌++◌, length, take, refl, ap, sym, subst, ◌∙◌, arith, append-nil, length-append}
-use Rattle.std.proofs.lemmas.Bool.{true≢false}
+use Rattle.std.specs.Prelude.{Bool, true, false, IsTrue, IsSomeAnd, Option, Some, None}
+use Rattle.std.proofs.Common.{◌≡◌, ℕ, ◌+◌, ◌≤◌, List, [], ◌∷◌, ◌++◌, length, refl, ap, sym, subst, ◌∙◌, arith, append-nil, length-append}
 use Rattle.std.proofs.lemmas.List.{nil_from_length}
 use Rattle.block_file.proofs.WriteLaws.{tail_shut}
 use Rattle.block_file.specs.File.{IsSettled, IsShutAt, open_blocks}
@@ -10,28 +9,30 @@ use Rattle.journal_record.specs.Blocks.{written_blocks}
 use Rattle.journal_record.specs.Entry.{Entry}
 use Rattle.ledger_disk.specs.Disk.{DiskState, State, settled_state}
 use Rattle.ledger_io.specs.Outside.{SinkState}
-use Rattle.ledger_model.proofs.LawfulLaws.{later_seen, none_hidden, some_journal}
+use Rattle.ledger_model.proofs.LawfulLaws.{later_seen, some_journal}
 use Rattle.ledger_model.specs.Genesis.{HasKeys, new_ledger}
 use Rattle.ledger_model.specs.History.{History, history, journals, journals_of, size, point}
 use Rattle.ledger_model.specs.Lawful.{IsLawful}
 use Rattle.ledger_model.specs.Limits.{real_limits}
-use Rattle.ledger_model.specs.Outcomes.{is_hidden}
 use Rattle.ledger_model.specs.declared.genesis.Genesis.{Genesis}
+use Rattle.pseudo_genesis.specs.declared.base.Base.{Base}
 use Rattle.ledger_book.specs.Books as books
 use Rattle.ledger_book.specs.Books.{Serves}
+use Rattle.ledger_book.proofs.OpenLaws.{opens_empty, opens_gather}
 use Rattle.twin_file.proofs.HeadLaws.{generation_is}
-use Rattle.twin_file.specs.Twin.{open_of, IsTaken}
+use Rattle.twin_file.specs.Twin.{open_of}
 use Rattle.ledger_open.specs.Founding.{IsFounded}
 use Rattle.ledger_open.specs.Growing.{new_file}
 use Rattle.ledger_open.specs.Opening.{Known, Knows, IsReopened, IsTidyAt}
 use Rattle.ledger_open.specs.Places.{places_at, after_at}
-use Rattle.ledger_open.specs.Standing.{ground, StandsFor, IsErased, PairFor, hidden_before}
+use Rattle.ledger_open.specs.Standing.{ground, IsErased, PairFor}
 use Rattle.ledger_open.proofs.CleanLaws.{blocks_are, stands_open, opened_erased}
 use Rattle.ledger_open.proofs.FoundingLaws.{founded_clean}
+use Rattle.ledger_open.proofs.KnownLaws.{serves_whole, none_based}
 use Rattle.ledger_open.proofs.OpenLaws.{tail_is, reopened_clean}
 use Rattle.batch_committer.specs.Opened.{kept_from, IsOpened, IsQuietFor}
 use Rattle.batch_committer.specs.World.{World, Pair, world, Fits, HasRoom, IsCleanFor, Holds}
-use Rattle.batch_committer.proofs.Closing.{clean_image, tail_at, sealed_same}
+use Rattle.batch_committer.proofs.Closing.{first_file, clean_image, tail_at, sealed_same}
 
 -- ---- the history of some blocks
 
@@ -42,18 +43,18 @@ floor_none k h s none =
     let all = later_seen h k.floor s.stands.lawful (omega (arith, seen, s.stands.counts.point)) in
     omega (arith, seen, s.stands.counts.point, all, none)
 
-held_blocks : (tells : Bool) (k : Known) (in_a : Bool) (generation : ℕ) (disks : Pair) (sink : SinkState) (bs : List (List Entry)) → IsOpened k in_a disks bs → k.book.limits ≡ real_limits → IsTrue tells → IsCleanFor in_a k.place (history bs []) disks.a.bytes disks.b.bytes
+held_blocks : (tells : Bool) (k : Known) (in_a : Bool) (generation : ℕ) (disks : Pair) (sink : SinkState) (bs : List (List Entry)) → IsOpened k in_a disks None bs → k.book.limits ≡ real_limits → IsTrue tells → IsCleanFor in_a k.place (history bs []) disks.a.bytes disks.b.bytes
     → Holds tells (world (kept_from k in_a generation) disks sink) (history bs [])
 held_blocks tells k in_a generation disks sink bs o limits told clean = record {
   told = told;
   keeps = record {
-    serves = o.knows.serves;
+    serves = serves_whole o.knows;
     limits = limits;
-    floor = floor_none k.book (history bs []) o.knows.serves clean.erased.unpurged;
+    floor = floor_none k.book (history bs []) (serves_whole o.knows) clean.erased.unpurged;
     dues = tt;
     body = refl;
     next = tt;
-    gathered = refl;
+    gathered = λ more. refl;
     located = record { places = o.knows.places ∙ sym (append-nil (places_at 64 bs)); tail = o.knows.tail };
   };
   disks = clean;
@@ -61,11 +62,12 @@ held_blocks tells k in_a generation disks sink bs o limits told clean = record {
 
 -- ---- a ledger that was opened
 
-pub opened_held : (tells : Bool) (k : Known) (in_a : Bool) (generation : ℕ) (blocks : List (List Entry)) (a b : State) (disks : Pair) (sink : SinkState) (h : History) → IsOpened k in_a disks blocks → k.book.limits ≡ real_limits → IsTrue tells
-    → IsReopened in_a k.place blocks a b disks.a.bytes disks.b.bytes → PairFor a.seen b.seen h → Holds tells (world (kept_from k in_a generation) disks sink) h
-opened_held tells k in_a generation blocks a b disks sink h o limits told r p =
+pub opened_held : (tells : Bool) (k : Known) (in_a : Bool) (generation : ℕ) (start : Option Base) (blocks : List (List Entry)) (a b : State) (disks : Pair) (sink : SinkState) (h : History) → IsOpened k in_a disks start blocks → k.book.limits ≡ real_limits → IsTrue tells
+    → IsReopened in_a k.place start blocks a b disks.a.bytes disks.b.bytes → PairFor a.seen b.seen h → Holds tells (world (kept_from k in_a generation) disks sink) h
+opened_held tells k in_a generation (Some s) blocks a b disks sink h o limits told r p = none_based o.knows
+opened_held tells k in_a generation None blocks a b disks sink h o limits told r p =
     let is : history blocks [] ≡ h = blocks_are k in_a blocks a b disks.a.bytes disks.b.bytes h r (stands_open in_a a b h r.taken p) in
-    let c = reopened_clean k in_a blocks a b disks.a.bytes disks.b.bytes o.knows r in
+    let c = reopened_clean k in_a None blocks a b disks.a.bytes disks.b.bytes o.knows r in
     subst (Holds tells (world (kept_from k in_a generation) disks sink)) is
     (held_blocks tells k in_a generation disks sink blocks o limits told (record {
       quiet = c.quiet;
@@ -76,8 +78,9 @@ opened_held tells k in_a generation blocks a b disks sink h o limits told r p =
 
 -- ---- what a call asks for
 
-shut_of : (k : Known) (in_a : Bool) (blocks : List (List Entry)) (a b : State) → Knows k ground blocks → IsTidyAt in_a k.place blocks a b → IsShutAt k.place (open_of in_a a b).seen
-shut_of k in_a blocks a b knows c =
+shut_of : (k : Known) (in_a : Bool) (start : Option Base) (blocks : List (List Entry)) (a b : State) → Knows k start blocks → IsTidyAt in_a k.place start blocks a b → IsShutAt k.place (open_of in_a a b).seen
+shut_of k in_a (Some s) blocks a b knows c = none_based knows
+shut_of k in_a None blocks a b knows c =
     let file = (open_of in_a a b).seen in
     let x = c.has.1 in
     subst (λ (n : ℕ). IsShutAt n file) (tail_is c.has.0 blocks file x ∙ sym knows.tail) (tail_shut x.front (written_blocks (ground).root [] blocks) file x.stands)
@@ -90,44 +93,41 @@ generation_at : (in_a : Bool) (generation : ℕ) (disks : Pair) → generation �
 generation_at true generation disks is = is
 generation_at false generation disks is = is
 
-few_of : (book : books.Kept) (blocks : List (List Entry)) → Serves book (history blocks []) → book.size ≡ book.sealed
-few_of book blocks s = omega (arith, s.stands.counts.size, s.stands.counts.sealed_is, ap length (append-nil (journals_of blocks)))
-
-fits_of : (tells : Bool) (k : Known) (in_a : Bool) (generation : ℕ) (disks : Pair) (sink : SinkState) (blocks : List (List Entry)) → IsOpened k in_a disks blocks → (IsTrue tells → IsShutAt k.place (open_of in_a disks.a.bytes disks.b.bytes).seen)
+fits_of : (tells : Bool) (k : Known) (in_a : Bool) (generation : ℕ) (disks : Pair) (sink : SinkState) (start : Option Base) (blocks : List (List Entry)) → IsOpened k in_a disks start blocks → (IsTrue tells → IsShutAt k.place (open_of in_a disks.a.bytes disks.b.bytes).seen)
     → (IsTrue tells → generation ≡ generation_of (open_of in_a disks.a.bytes disks.b.bytes).seen)
     → Fits tells (world (kept_from k in_a generation) disks sink)
-fits_of tells k in_a generation disks sink blocks o shut is = record {
+fits_of tells k in_a generation disks sink start blocks o shut is = record {
   reads = record { told = o.told; shut = λ told. shut_at in_a k.place disks (shut told) };
   generation = λ told. generation_at in_a generation disks (is told);
   copy = refl;
-  few = omega (arith, few_of k.book blocks o.knows.serves);
+  few = omega (arith, o.knows.settled);
 }
 
-pub opened_fits : (tells : Bool) (k : Known) (in_a : Bool) (generation : ℕ) (blocks : List (List Entry)) (a b : State) (disks : Pair) (sink : SinkState) → IsOpened k in_a disks blocks
-    → (IsTrue tells → IsReopened in_a k.place blocks a b disks.a.bytes disks.b.bytes) → (IsTrue tells → generation ≡ generation_of (open_of in_a disks.a.bytes disks.b.bytes).seen) → Fits tells (world (kept_from k in_a generation) disks sink)
-opened_fits tells k in_a generation blocks a b disks sink o r is =
-    fits_of tells k in_a generation disks sink blocks o (λ told. shut_of k in_a blocks disks.a.bytes disks.b.bytes o.knows (reopened_clean k in_a blocks a b disks.a.bytes disks.b.bytes o.knows (r told))) is
+pub opened_fits : (tells : Bool) (k : Known) (in_a : Bool) (generation : ℕ) (start : Option Base) (blocks : List (List Entry)) (a b : State) (disks : Pair) (sink : SinkState) → IsOpened k in_a disks start blocks
+    → (IsTrue tells → IsReopened in_a k.place start blocks a b disks.a.bytes disks.b.bytes) → (IsTrue tells → generation ≡ generation_of (open_of in_a disks.a.bytes disks.b.bytes).seen) → Fits tells (world (kept_from k in_a generation) disks sink)
+opened_fits tells k in_a generation start blocks a b disks sink o r is =
+    fits_of tells k in_a generation disks sink start blocks o (λ told. shut_of k in_a start blocks disks.a.bytes disks.b.bytes o.knows (reopened_clean k in_a start blocks a b disks.a.bytes disks.b.bytes o.knows (r told))) is
 
-pub opened_room : (k : Known) (in_a : Bool) (generation : ℕ) (blocks : List (List Entry)) (disks : Pair) → IsOpened k in_a disks blocks → HasRoom (kept_from k in_a generation)
-opened_room k in_a generation blocks disks o = omega (arith, few_of k.book blocks o.knows.serves)
+pub opened_room : (k : Known) (in_a : Bool) (generation : ℕ) (start : Option Base) (blocks : List (List Entry)) (disks : Pair) → IsOpened k in_a disks start blocks → HasRoom (kept_from k in_a generation)
+opened_room k in_a generation start blocks disks o = (omega (arith, o.knows.settled), opens_empty k.book o.knows.settled)
 
 -- ---- a ledger that was made
 
 -- how long a clean file is
 clean_length : (image : List ℕ) (h : History) (place : ℕ) (x : IsErased image h) → x.keeps.file.stands.rest ≡ [] → place ≡ after_at 64 h.closed → length image ≡ place + 1
 clean_length image h place x none at =
-    let f = x.keeps.file in
+    let f = first_file image h x in
     let written = written_blocks (ground).root [] x.keeps.blocks in
     omega (arith, at, tail_at image h x, ap length none, ap length f.stands.is, length-append (f.front ++ open_blocks written) (f.stands.gate ∷ f.stands.rest))
 
 -- .. and that one of such a length is clean
 length_clean : (image : List ℕ) (h : History) (place : ℕ) (x : IsErased image h) → length image ≡ place + 1 → place ≡ after_at 64 h.closed → x.keeps.file.stands.rest ≡ []
 length_clean image h place x long at =
-    let f = x.keeps.file in
+    let f = first_file image h x in
     let written = written_blocks (ground).root [] x.keeps.blocks in
     nil_from_length f.stands.rest (omega (arith, at, tail_at image h x, long, ap length f.stands.is, length-append (f.front ++ open_blocks written) (f.stands.gate ∷ f.stands.rest)))
 
-module _ (k : Known) (genesis : Genesis) (disks : Pair) (keys : HasKeys genesis) (knows : Knows k ground (new_ledger genesis).closed) (f : IsFounded genesis disks.a.bytes disks.b.bytes) where
+module _ (k : Known) (genesis : Genesis) (disks : Pair) (keys : HasKeys genesis) (knows : Knows k None (new_ledger genesis).closed) (f : IsFounded genesis disks.a.bytes disks.b.bytes) where
   seen_is : disks.a.bytes.seen ≡ new_file genesis
   seen_is = ap (λ (s : State). s.seen) f.first
 
@@ -147,16 +147,16 @@ module _ (k : Known) (genesis : Genesis) (disks : Pair) (keys : HasKeys genesis)
   founded_shut =
       let x = (founded_for).erased in
       subst (λ (n : ℕ). IsShutAt n disks.a.bytes.seen) (tail_at disks.a.bytes.seen (new_ledger genesis) x ∙ sym knows.tail)
-      (tail_shut x.keeps.file.front (written_blocks (ground).root [] x.keeps.blocks) disks.a.bytes.seen x.keeps.file.stands)
+      (tail_shut x.keeps.file.front (written_blocks (ground).root [] x.keeps.blocks) disks.a.bytes.seen (first_file disks.a.bytes.seen (new_ledger genesis) x).stands)
 
-pub founded_held : (tells : Bool) (k : Known) (genesis : Genesis) (disks : Pair) (sink : SinkState) → HasKeys genesis → IsOpened k true disks (new_ledger genesis).closed → k.book.limits ≡ real_limits → IsTrue tells → IsFounded genesis disks.a.bytes disks.b.bytes
+pub founded_held : (tells : Bool) (k : Known) (genesis : Genesis) (disks : Pair) (sink : SinkState) → HasKeys genesis → IsOpened k true disks None (new_ledger genesis).closed → k.book.limits ≡ real_limits → IsTrue tells → IsFounded genesis disks.a.bytes disks.b.bytes
     → Holds tells (world (kept_from k true 1) disks sink) (new_ledger genesis)
 founded_held tells k genesis disks sink keys o limits told f = held_blocks tells k true 1 disks sink (new_ledger genesis).closed o limits told (founded_for k genesis disks keys o.knows f)
 
-pub founded_fits : (tells : Bool) (k : Known) (genesis : Genesis) (disks : Pair) (sink : SinkState) → HasKeys genesis → IsOpened k true disks (new_ledger genesis).closed → (IsTrue tells → IsFounded genesis disks.a.bytes disks.b.bytes)
+pub founded_fits : (tells : Bool) (k : Known) (genesis : Genesis) (disks : Pair) (sink : SinkState) → HasKeys genesis → IsOpened k true disks None (new_ledger genesis).closed → (IsTrue tells → IsFounded genesis disks.a.bytes disks.b.bytes)
     → Fits tells (world (kept_from k true 1) disks sink)
 founded_fits tells k genesis disks sink keys o f =
-    fits_of tells k true 1 disks sink (new_ledger genesis).closed o (λ told. founded_shut k genesis disks keys o.knows (f told)) (λ told. founded_generation k genesis disks keys o.knows (f told))
+    fits_of tells k true 1 disks sink None (new_ledger genesis).closed o (λ told. founded_shut k genesis disks keys o.knows (f told)) (λ told. founded_generation k genesis disks keys o.knows (f told))
 
 -- ---- a ledger that is held
 
@@ -187,8 +187,8 @@ held_lawful tells w h p room = record {
   journals_are = p.keeps.serves.stands.lawful;
   blocks_are = p.disks.erased.lawful.blocks_are;
   waiting_is = record {
-    room = omega (arith, room, p.keeps.serves.stands.counts.size, p.keeps.serves.stands.counts.sealed_is, length-append (journals_of h.closed) h.waiting);
-    gathered = p.keeps.gathered;
+    room = omega (arith, room.0, p.keeps.serves.stands.counts.size, p.keeps.serves.stands.counts.sealed_is, length-append (journals_of h.closed) h.waiting);
+    gathered = opens_gather w.kept.book h p.keeps.serves.stands room.1;
   };
 }
 

@@ -1,21 +1,22 @@
 -- A committer of a ledger that was made or opened just now.
-use Rattle.std.specs.Prelude.{ℕ, ◌+◌, ◌≤◌, Bool, IsSomeAnd, List, None}
+use Rattle.std.specs.Prelude.{ℕ, ◌+◌, ◌≤◌, Bool, IsSomeAnd, List, Option, None}
 use Rattle.journal_record.specs.Entry.{Entry}
 use Rattle.block_file.specs.File.{IsSettled}
 use Rattle.ledger_disk.specs.Disk.{MayLeave}
 use Rattle.ledger_model.specs.History.{History}
 use Rattle.twin_file.specs.Twin.{open_of}
+use Rattle.pseudo_genesis.specs.declared.base.Base.{Base}
 use Rattle.ledger_open.specs.Opening.{Known, Knows}
-use Rattle.ledger_open.specs.Standing.{ground, PairFor, IsCleanPair}
+use Rattle.ledger_open.specs.Standing.{PairFor, IsCleanPair}
 use Rattle.batch_committer.specs.World.{Kept, Pair, first_kept}
 
 -- what is kept of a ledger of which this is known
 abbrev pub kept_from : Known → Bool → ℕ → Kept
 kept_from known in_a generation = first_kept known.book known.places known.place in_a generation None
 
--- the ledger was made or opened: these are its blocks, and the length of its open file is told
-pub record IsOpened (known : Known) (in_a : Bool) (disks : Pair) (blocks : List (List Entry)) : Type 0 where
-  pub knows : Knows known ground blocks
+-- the ledger was made or opened: its file has this base, or none, and these blocks, and the length of that file is told
+pub record IsOpened (known : Known) (in_a : Bool) (disks : Pair) (start : Option Base) (blocks : List (List Entry)) : Type 0 where
+  pub knows : Knows known start blocks
   pub told : IsSomeAnd (open_of in_a disks.a disks.b).told (λ n. known.place + 1 ≤ n)
 
 -- nothing is pending, the pair is clean for this history, and so is each pair of images

@@ -1,46 +1,47 @@
 -- The steps that a committer takes, one after the other.
-use Rattle.std.specs.Prelude.{◌≡◌, ℕ, ◌+◌, ◌-◌, ◌<◌, ◌≤◌, List, [], ◌∷◌, ◌++◌, length, None}
+use Rattle.std.specs.Prelude.{⊤, ◌≡◌, ◌≢◌, ℕ, ◌+◌, ◌-◌, ◌<◌, ◌≤◌, false, List, [], ◌∷◌, ◌++◌, length}
 use Rattle.journal_record.specs.Blocks.{record_bytes, body_of, AreFrom}
 use Rattle.journal_record.specs.Entry.{Entry}
 use Rattle.journal_record.specs.Header.{HasWidths}
 use Rattle.journal_record.specs.declared.approval.Approval.{Approval}
 use Rattle.ledger_model.specs.Dues.{dues_text}
 use Rattle.ledger_model.specs.History.{History, size, root}
-use Rattle.ledger_model.specs.InOrder.{step_of}
+use Rattle.ledger_model.specs.Anchors.{stamp_of}
 use Rattle.ledger_model.specs.Lawful.{AllGather}
 use Rattle.ledger_model.specs.Limits.{real_limits}
 use Rattle.ledger_model.specs.Outcomes.{with_job, outcome}
+use Rattle.ledger_model.specs.Rules.{closes_after}
 use Rattle.ledger_model.specs.Step.{Step}
 use Rattle.ledger_model.specs.Texts.{answer_for}
 use Rattle.ledger_model.specs.declared.answer.Answer.{Answer}
 use Rattle.ledger_model.specs.declared.due.Due.{Due}
 use Rattle.ledger_model.specs.declared.job.Job.{Job}
-use Rattle.ledger_model.specs.declared.job.Job.TheVariants.{Refused, Append, NewMember, Get, Clue, Head}
+use Rattle.ledger_model.specs.declared.job.Job.TheVariants.{Refused, Append, NewMember, Anchor, Get, Clue, Head}
+use Rattle.ledger_model.specs.declared.outcome.Query.{Query}
+use Rattle.ledger_model.specs.declared.outcome.Query.TheVariants as query
 use Rattle.ledger_book.specs.Books as books
 use Rattle.ledger_book.specs.Books.{Serves, sealed_size}
+use Rattle.ledger_book.specs.Steps.{OpenGathers}
 use Rattle.ledger_open.specs.Places.{place_at}
 use Rattle.batch_committer.specs.World.{Kept, Located}
 
--- the step of a line of a lane with this number there, where there is no notary
-abbrev pub step_at : ℕ → ℕ → List ℕ → Step
-step_at lane index line = step_of (record { lane = lane; index = index; line = line })
-
 -- what is due for a job that is judged against g, by what came of it
 abbrev pub due_by : History → Step → Job → Due
-due_by g step job = record { lane = step.lane; index = step.index; answer = answer_for g step (outcome real_limits None g job) }
+due_by g step job = record { lane = step.lane; index = step.index; answer = answer_for g step (outcome real_limits (stamp_of step) g job) }
 
 -- the lines that are due, where the last block of a history has ended
 abbrev pub settled_text : History → List Due → List ℕ
 settled_text h dues = dues_text (length h.closed - 1) (size h) (root h (size h)) dues
 
--- the content and the approval of a job that may place a journal
-abbrev pub HasParts : Job → List ℕ → Approval → Type 0
-HasParts (Refused refusal) content by = ⊥
-HasParts (Append member clue record_content content_digest request given) content by = (content ≡ record_content) × (by ≡ given)
-HasParts (NewMember number key given) content by = (content ≡ []) × (by ≡ given)
-HasParts (Get n) content by = ⊥
-HasParts (Clue clue) content by = ⊥
-HasParts Head content by = ⊥
+-- the content and the approvals of a job that may place a journal
+abbrev pub HasParts : Job → List ℕ → List Approval → Type 0
+HasParts (Refused refusal) content given = ⊥
+HasParts (Append member clue record_content content_digest request by) content given = (content ≡ record_content) × (given ≡ by ∷ [])
+HasParts (NewMember number key by) content given = (content ≡ []) × (given ≡ by ∷ [])
+HasParts Anchor content given = (content ≡ []) × (given ≡ [])
+HasParts (Get n) content given = ⊥
+HasParts (Clue clue) content given = ⊥
+HasParts Head content given = ⊥
 
 -- the book has a journal with this number, whose header it keeps
 pub record HasJournal (book : books.Kept) (jsn : ℕ) : Type 0 where
@@ -60,13 +61,13 @@ pub record Gathers (k : Kept) (h : History) : Type 0 where
   pub floor : k.book.floor ≡ 0
   pub body : k.body ≡ body_of h.waiting
   pub next : AreFrom (sealed_size h) h.waiting
-  pub gathered : AllGather h.waiting
+  pub gathered : length h.waiting ≢ 1 → AllGather h.waiting
   pub located : Located k h
 
 -- a job was judged against g and its journal gathered: this is due for it, and all else is kept as the history after it says
 pub record Judged (new : Kept) (g : History) (step : Step) (job : Job) (answer : Answer) : Type 0 where
-  pub answer_is : answer ≡ answer_for g step (outcome real_limits None g job)
-  pub gathers : Gathers new (with_job real_limits None g job)
+  pub answer_is : answer ≡ answer_for g step (outcome real_limits (stamp_of step) g job)
+  pub gathers : Gathers new (with_job real_limits (stamp_of step) g job)
 
 -- the open file is as before, and its tail gate stands where it stood
 pub record KeepsFile (old new : Kept) : Type 0 where
@@ -83,3 +84,13 @@ pub record KeepsRest (old new : Kept) : Type 0 where
 -- at most one journal was placed, and no block ended
 abbrev pub HasGrown : Kept → Kept → Type 0
 HasGrown old new = (new.book.size ≤ old.book.size + 1) × (new.book.sealed ≡ old.book.sealed)
+
+-- the journals that wait may share their block as before, where the job's own isn't a block of its own
+abbrev pub StaysGathered : Kept → Kept → Job → Type 0
+StaysGathered old new job = closes_after job ≡ false → OpenGathers old.book → OpenGathers new.book
+
+-- a query that the ledger answers without its notary
+abbrev pub IsOfLedger : Query → Type 0
+IsOfLedger query.Stamp = ⊥
+IsOfLedger query.Head = ⊥
+IsOfLedger other = ⊤

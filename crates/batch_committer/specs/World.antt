@@ -1,5 +1,5 @@
 -- What a committer, its disks and its sink tell, and how a call leads from one to the next.
-use Rattle.std.specs.Prelude.{◌≡◌, ℕ, ◌+◌, ◌<◌, ◌≤◌, ◌⊎◌, Bool, IsTrue, IsSomeAnd, List, [], ◌++◌, length, Option, None}
+use Rattle.std.specs.Prelude.{◌≡◌, ◌≢◌, ℕ, ◌+◌, ◌<◌, ◌≤◌, Bool, IsTrue, IsSomeAnd, List, [], ◌++◌, length, Option, None}
 use Rattle.std.specs.Io.KnownBytes.{Appends}
 use Rattle.ledger_bytes.specs.Begins.{Begins}
 use Rattle.ledger_bytes.specs.declared.limits.TheConstants.{BLOCK_LIMIT}
@@ -17,6 +17,7 @@ use Rattle.ledger_model.specs.Limits.{real_limits}
 use Rattle.ledger_model.specs.declared.due.Due.{Due}
 use Rattle.ledger_book.specs.Books as books
 use Rattle.ledger_book.specs.Books.{Serves, sealed_size}
+use Rattle.ledger_book.specs.Steps.{OpenGathers}
 use Rattle.twin_file.specs.Twin.{open_of, other_of}
 use Rattle.ledger_open.specs.Places.{places_in, places_at, after_at}
 use Rattle.ledger_open.specs.Standing.{IsErased, PairFor}
@@ -90,9 +91,9 @@ pub record Fits (tells : Bool) (w : World) : Type 0 where
   pub copy : w.kept.copy ≡ None
   pub few : w.kept.book.size ≤ w.kept.book.sealed + BLOCK_LIMIT
 
--- a journal more has room in the open block
+-- a journal more has room in the open block, and may share it with those that wait there
 abbrev pub HasRoom : Kept → Type 0
-HasRoom k = k.book.size < k.book.sealed + BLOCK_LIMIT
+HasRoom k = (k.book.size < k.book.sealed + BLOCK_LIMIT) × OpenGathers k.book
 
 -- ---- which history it is
 
@@ -113,7 +114,7 @@ pub record Keeps (k : Kept) (h : History) : Type 0 where
   pub dues : AllWaiting h k.dues
   pub body : k.body ≡ body_of h.waiting
   pub next : AreFrom (sealed_size h) h.waiting
-  pub gathered : AllGather h.waiting
+  pub gathered : length h.waiting ≢ 1 → AllGather h.waiting
   pub located : Located k h
 
 -- The pair is clean for a history where no journal waits, and nothing is pending: the open file has it and ends with its

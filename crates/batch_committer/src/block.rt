@@ -1,8 +1,8 @@
-ghost use Rattle.std.specs.Prelude.{◌≡◌, ◌<◌, ◌^◌, ◌++◌, [], ◌∷◌, ◌≤◌, length, drop, OnOk};
+ghost use Rattle.std.specs.Prelude.{◌≡◌, ◌<◌, ◌^◌, ◌++◌, [], ◌∷◌, ◌≤◌, length, drop, All, OnOk};
 ghost use Rattle.journal_record.specs.Approval.{who_of, approval_bytes};
 ghost use Rattle.journal_record.specs.Header.{HasWidths};
 ghost use Rattle.journal_record.specs.Blocks.{record_bytes};
-ghost use Rattle.ledger_bytes.specs.declared.limits.TheConstants.{PROOF_LIMIT};
+ghost use Rattle.ledger_bytes.specs.declared.limits.TheConstants.{APPROVAL_LIMIT, PROOF_LIMIT};
 ghost use Rattle.batch_committer.specs.Spelled.{head_of};
 
 use crate::head::{HEAD_LEN, head};
@@ -12,7 +12,7 @@ use std::alloc::Global;
 use std::marker::Model;
 
 /// How many bytes an approval has in front of its proof.
-pub(crate) const APPROVAL_LEN: u32 = 6;
+const APPROVAL_LEN: u32 = 6;
 
 /// The bytes of the open block, gathered as journals are placed: room for what stands in front, and the records.
 #[derive(Drop)]
@@ -40,35 +40,63 @@ impl OpenBlock {
         }
     }
 
-    /// Adds a journal.
+    /// Adds a journal, which these approved.
     pub(crate) fn put(
         &mut self,
         header: &Header,
         content: &[u8],
-        by: &Approval,
+        given: &[Approval],
     ) -> Result<(), NoMemory>
-        requires proof { length by.now.proof ≤ PROOF_LIMIT }
+        requires few { length given.now ≤ APPROVAL_LIMIT }
+        requires proofs { All (λ a. length a.proof ≤ PROOF_LIMIT) given.now }
         ensures body { OnOk result (self.new.body ≡ self.old.body ++ record_bytes
-            (record { header = header.now; content = content.now; who = who_of (by.now ∷ []) })) }
+            (record { header = header.now; content = content.now; who = who_of given.now })) }
         ensures widths { OnOk result (HasWidths header.now) }
     {
         self.make_room()?;
-        self.put_parts(header, content, by)
+        self.put_parts(header, content, given)
     }
 
-    fn put_parts(&mut self, header: &Header, content: &[u8], by: &Approval) -> Result<(), NoMemory>
+    fn put_parts(
+        &mut self,
+        header: &Header,
+        content: &[u8],
+        given: &[Approval],
+    ) -> Result<(), NoMemory>
         requires room { length self.old.head ≡ 44 }
-        requires proof { length by.now.proof ≤ PROOF_LIMIT }
+        requires few { length given.now ≤ APPROVAL_LIMIT }
+        requires proofs { All (λ a. length a.proof ≤ PROOF_LIMIT) given.now }
         ensures body { OnOk result (self.new.body ≡ self.old.body ++ record_bytes
-            (record { header = header.now; content = content.now; who = who_of (by.now ∷ []) })) }
+            (record { header = header.now; content = content.now; who = who_of given.now })) }
         ensures widths { OnOk result (HasWidths header.now) }
     {
-        let proof = by.proof.as_slice();
         let header = header.encode();
-        let len = proof.len() as u16;
+        let who_len = who_len(given);
         self.add(&header)?;
-        self.add(&(APPROVAL_LEN + u32::from(len)).to_be_bytes())?;
+        self.add(&who_len.to_be_bytes())?;
         self.add(content)?;
+        self.put_approvals(given)
+    }
+
+    fn put_approvals(&mut self, given: &[Approval]) -> Result<(), NoMemory>
+        requires room { length self.old.head ≡ 44 }
+        requires proofs { All (λ a. length a.proof ≤ PROOF_LIMIT) given.now }
+        ensures body { OnOk result (self.new.body ≡ self.old.body ++ who_of given.now) }
+    {
+        for by in given {
+            self.put_approval(by)?;
+        }
+        Ok(())
+    }
+
+    fn put_approval(&mut self, by: &Approval) -> Result<(), NoMemory>
+        requires room { length self.old.head ≡ 44 }
+        requires proof { length by.now.proof ≤ PROOF_LIMIT }
+        ensures room { OnOk result (length self.new.head ≡ 44) }
+        ensures body { OnOk result (self.new.body ≡ self.old.body ++ approval_bytes by.now) }
+    {
+        let proof = by.proof.as_slice();
+        let len = proof.len() as u16;
         self.add(&by.member.to_be_bytes())?;
         self.add(&len.to_be_bytes())?;
         self.add(proof)
@@ -136,6 +164,19 @@ impl OpenBlock {
     {
         self.bytes.clear();
     }
+}
+
+/// How many bytes show who approved.
+pub(crate) fn who_len(given: &[Approval]) -> u32
+    requires few { length given.now ≤ APPROVAL_LIMIT }
+    requires proofs { All (λ a. length a.proof ≤ PROOF_LIMIT) given.now }
+    ensures { result ≡ length (who_of given.now) }
+{
+    let mut len = 0_u32;
+    for by in given {
+        len += APPROVAL_LEN + by.proof.as_slice().len() as u32;
+    }
+    len
 }
 
 // Puts the head in the place of the first bytes.

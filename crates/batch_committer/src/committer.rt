@@ -1,10 +1,8 @@
-ghost use Rattle.std.specs.Prelude.{◌≡◌, ◌↔◌, [], ◌∷◌, List, ℕ, true, false, is_err, IsTrue, OnOk, IfErr, Err};
+ghost use Rattle.std.specs.Prelude.{◌≡◌, ◌↔◌, [], Bool, List, ℕ, true, false, is_err, IsTrue, OnOk, IfErr, Err};
 ghost use Rattle.block_file.specs.Place.{place_of};
-ghost use Rattle.ledger_model.specs.Dues.{due_of};
 ghost use Rattle.ledger_model.specs.History.{History, id, close};
-ghost use Rattle.ledger_model.specs.Rules.{after_job};
 ghost use Rattle.twin_file.specs.Which.{in_a_of, generation_in, file_of, copy_of};
-ghost use Rattle.batch_committer.specs.Steps.{step_at};
+ghost use Rattle.batch_committer.specs.Attending.{step_in, Takes, EndsTaking};
 ghost use Rattle.batch_committer.specs.World.{pair, world, first_kept, Fits, HasRoom, Keeps, Goes, Ended};
 
 use crate::End;
@@ -16,11 +14,13 @@ use ledger_io::Sink;
 use ledger_open::Opened;
 use std::alloc::Global;
 use std::marker::Model;
+use time_peg::Notary;
 
 /// Takes jobs, one after the other: gathers their journals into blocks, commits these on the two disks of the ledger, and
 /// writes replies in the order of the jobs, a receipt once its block is on the disk for good. A block ends where it has
-/// 64 journals, before a job that asks for that, and by a flush. Each call is handed the same two disks and the same
-/// sink. Once a call has ended the run nothing more is taken, and the disks aren't used again.
+/// 64 journals, before a job that asks for that, behind one whose journal is a block of its own, and by a flush. Each call
+/// is handed the same two disks, the same sink and the same notary. Once a call has ended the run nothing more is taken, and
+/// the disks aren't used again.
 #[derive(Drop)]
 pub struct Committer {
     inner: Taking,
@@ -77,12 +77,15 @@ impl Committer {
     }
 
     /// Takes a job, which came from a line: ends the open block before it where the job asks for that, judges the job,
-    /// gathers its journal, and ends the block that it fills. What is due for the job is written with the block's end.
-    pub fn offer<D: Disk, K: Sink>(
+    /// gathers its journal, and ends the block that it fills, or that is to hold it alone. What is due for the job is written
+    /// with the block's end. An anchor's journal is placed where the notary stamps it; where the notary fails, or its list
+    /// is full, the anchor is refused, and the run goes on.
+    pub fn offer<D: Disk, K: Sink, N: Notary>(
         &mut self,
         a: &mut D,
         b: &mut D,
         sink: &mut K,
+        notary: &mut N,
         item: Prepared,
     ) -> Result<(), End>
         requires fits { self.old.ended ≡ false → Fits D.tells (world self.old.kept
@@ -90,30 +93,29 @@ impl Committer {
         requires room { self.old.ended ≡ false → HasRoom self.old.kept }
 
         // The line plays no part once its job is there.
-        ensures ok { OnOk result ((line : List ℕ) → Goes D.tells
+        ensures ok { OnOk result ((failed : Bool) × ((line : List ℕ) → Takes D.tells
             (world self.old.kept (pair (D.state a.old) (D.state b.old)) (K.state sink.old))
-            (λ h. after_job h (step_at item.lane item.index line) item.job)
-            (λ h. due_of h (step_at item.lane item.index line) item.job ∷ [])
-            (world self.new.kept (pair (D.state a.new) (D.state b.new)) (K.state sink.new))) }
+            (world self.new.kept (pair (D.state a.new) (D.state b.new)) (K.state sink.new))
+            (N.state notary.old) (N.state notary.new)
+            (step_in (N.state notary.old) (N.state notary.new) failed item.lane item.index line)
+            item.job)) }
         ensures fits { OnOk result (Fits D.tells (world self.new.kept
             (pair (D.state a.new) (D.state b.new)) (K.state sink.new))) }
         ensures room { OnOk result (HasRoom self.new.kept) }
-        ensures err { IfErr result (λ end. self.old.ended ≡ false → (line : List ℕ) → Ended D.tells
+        ensures err { IfErr result (λ end. self.old.ended ≡ false → EndsTaking D.tells
             (world self.old.kept (pair (D.state a.old) (D.state b.old)) (K.state sink.old))
-            (λ h. after_job h (step_at item.lane item.index line) item.job)
-            (λ h. due_of h (step_at item.lane item.index line) item.job ∷ [])
-            end
-            (world self.new.kept (pair (D.state a.new) (D.state b.new)) (K.state sink.new))) }
+            (world self.new.kept (pair (D.state a.new) (D.state b.new)) (K.state sink.new))
+            (N.state notary.old) (N.state notary.new) item.lane item.index item.job end) }
         ensures closed { (result ≡ Err End.Closed) ↔ (self.old.ended ≡ true) }
         ensures ended { self.new.ended ≡ is_err result }
         ensures same { self.old.ended ≡ true → self.new ≡ self.old }
         ensures unused { self.old.ended ≡ true → (a.new ≡ a.old) × (b.new ≡ b.old)
-            × (sink.new ≡ sink.old) }
+            × (sink.new ≡ sink.old) × (notary.new ≡ notary.old) }
     {
         if self.ended {
             return Err(End::Closed);
         }
-        let result = self.inner.take(a, b, sink, &item);
+        let result = self.inner.take(a, b, sink, notary, &item);
         self.ended = result.is_err();
         result
     }

@@ -1,4 +1,4 @@
-ghost use Rattle.std.specs.Prelude.{◌≡◌, ◌≤◌, ◌+◌, ℕ, Bool, true, IsTrue, List, [], IsSomeAnd};
+ghost use Rattle.std.specs.Prelude.{◌≡◌, ◌≤◌, ◌+◌, ℕ, Bool, true, IsTrue, List, [], Option, None, IsSomeAnd};
 ghost use Rattle.block_file.specs.Head.{generation_of};
 ghost use Rattle.journal_record.specs.Entry.{Entry};
 ghost use Rattle.ledger_disk.specs.Disk.{State};
@@ -9,6 +9,7 @@ ghost use Rattle.ledger_model.specs.Lawful.{IsLawful};
 ghost use Rattle.ledger_model.specs.Limits.{real_limits};
 ghost use Rattle.ledger_model.specs.declared.genesis.Genesis.{Genesis};
 ghost use Rattle.twin_file.specs.Twin.{open_of};
+ghost use Rattle.pseudo_genesis.specs.declared.base.Base.{Base};
 ghost use Rattle.ledger_open.specs.Founding.{IsFounded};
 ghost use Rattle.ledger_open.specs.Opening.{Known, IsReopened};
 ghost use Rattle.ledger_open.specs.Standing.{PairFor};
@@ -18,30 +19,33 @@ ghost use Rattle.batch_committer.specs.World.{World, Pair, world, Fits, HasRoom,
 /// What is known of a ledger that was opened is all that the first call asks for. Under the limits of each ledger each
 /// history that the pair stood for is the one that the committer and its disks have.
 pub fn an_opened_ledger_is_held()
-    ensures held { (tells : Bool) (k : Known) (in_a : Bool) (generation : ℕ) (blocks : List (List Entry))
+    ensures held { (tells : Bool) (k : Known) (in_a : Bool) (generation : ℕ)
+        (start : Option Base) (blocks : List (List Entry))
         (a b : State) (disks : Pair) (sink : SinkState) (h : History)
-        → IsOpened k in_a disks blocks → k.book.limits ≡ real_limits → IsTrue tells
-        → IsReopened in_a k.place blocks a b disks.a.bytes disks.b.bytes
+        → IsOpened k in_a disks start blocks → k.book.limits ≡ real_limits → IsTrue tells
+        → IsReopened in_a k.place start blocks a b disks.a.bytes disks.b.bytes
         → PairFor a.seen b.seen h
         → Holds tells (world (kept_from k in_a generation) disks sink) h }
-    ensures fits { (tells : Bool) (k : Known) (in_a : Bool) (generation : ℕ) (blocks : List (List Entry))
+    ensures fits { (tells : Bool) (k : Known) (in_a : Bool) (generation : ℕ)
+        (start : Option Base) (blocks : List (List Entry))
         (a b : State) (disks : Pair) (sink : SinkState)
-        → IsOpened k in_a disks blocks
-        → (IsTrue tells → IsReopened in_a k.place blocks a b disks.a.bytes disks.b.bytes)
+        → IsOpened k in_a disks start blocks
+        → (IsTrue tells → IsReopened in_a k.place start blocks a b disks.a.bytes disks.b.bytes)
         → (IsTrue tells → generation ≡ generation_of (open_of in_a disks.a.bytes disks.b.bytes).seen)
         → Fits tells (world (kept_from k in_a generation) disks sink) }
-    ensures room { (k : Known) (in_a : Bool) (generation : ℕ) (blocks : List (List Entry)) (disks : Pair)
-        → IsOpened k in_a disks blocks → HasRoom (kept_from k in_a generation) }
+    ensures room { (k : Known) (in_a : Bool) (generation : ℕ) (start : Option Base)
+        (blocks : List (List Entry)) (disks : Pair)
+        → IsOpened k in_a disks start blocks → HasRoom (kept_from k in_a generation) }
 {}
 
 /// The same of a ledger that was made: it is the new ledger's history.
 pub fn a_new_ledger_is_held()
     ensures held { (tells : Bool) (k : Known) (genesis : Genesis) (disks : Pair) (sink : SinkState)
-        → HasKeys genesis → IsOpened k true disks (new_ledger genesis).closed
+        → HasKeys genesis → IsOpened k true disks None (new_ledger genesis).closed
         → k.book.limits ≡ real_limits → IsTrue tells → IsFounded genesis disks.a.bytes disks.b.bytes
         → Holds tells (world (kept_from k true 1) disks sink) (new_ledger genesis) }
     ensures fits { (tells : Bool) (k : Known) (genesis : Genesis) (disks : Pair) (sink : SinkState)
-        → HasKeys genesis → IsOpened k true disks (new_ledger genesis).closed
+        → HasKeys genesis → IsOpened k true disks None (new_ledger genesis).closed
         → (IsTrue tells → IsFounded genesis disks.a.bytes disks.b.bytes)
         → Fits tells (world (kept_from k true 1) disks sink) }
 {}

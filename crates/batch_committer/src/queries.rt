@@ -1,8 +1,10 @@
-ghost use Rattle.std.specs.Prelude.{◌≡◌, [], IsTrue, IfOk, IfErr, OnOk};
+ghost use Rattle.std.specs.Prelude.{◌≡◌, [], Bool, ℕ, List, IsTrue, IfOk, IfErr, OnOk};
 ghost use Rattle.ledger_model.specs.History.{History};
-ghost use Rattle.ledger_model.specs.InOrder.{step_of};
 ghost use Rattle.ledger_model.specs.Texts.{told_reply};
-ghost use Rattle.ledger_model.specs.Windows.{Said};
+ghost use Rattle.ledger_model.specs.Step.{Step};
+ghost use Rattle.ledger_model.specs.declared.job.Job.TheVariants.{Head};
+ghost use Rattle.batch_committer.specs.Attending.{step_in, Attended};
+ghost use Rattle.batch_committer.specs.Steps.{IsOfLedger};
 ghost use Rattle.ledger_model.specs.declared.outcome.Query.TheVariants as query;
 ghost use Rattle.ledger_book.specs.Books.{Serves};
 ghost use Rattle.ledger_open.specs.Places.{places_of};
@@ -12,13 +14,15 @@ ghost use Rattle.batch_committer.specs.Read.{WasRead, ReadEnds};
 use crate::End;
 use crate::getting::get;
 use ledger_book::{Book, Query};
-use ledger_bytes::{Digest, Items, NoMemory, Sha, TreeHash};
+use ledger_bytes::{Digest, Items, NoMemory, Refusal};
 use ledger_disk::Disk;
 use ledger_open::Places;
 use script_lines::Reply;
 use std::alloc::Global;
+use time_peg::Notary;
 
-/// What is told to a query, where no journal waits. Whole journals are read from the open file, whose disk this is.
+/// What is told to a query that the notary has no part in, where no journal waits. Whole journals are read from the open
+/// file, whose disk this is.
 pub(crate) fn reply_to<D: Disk>(
     alloc: Global,
     book: &Book,
@@ -26,9 +30,10 @@ pub(crate) fn reply_to<D: Disk>(
     file: &mut D,
     query: &Query,
 ) -> Result<Reply, End>
-    ensures told { IfOk result (λ reply. IsTrue D.tells → (h : History) (x : Said)
+    requires { IsOfLedger query.now }
+    ensures told { IfOk result (λ reply. IsTrue D.tells → (h : History) (step : Step)
         → Serves book.now h → places.now.list ≡ places_of h → IsErased (D.state file.old).bytes.seen h
-        → reply ≡ told_reply h (step_of x) query.now) }
+        → reply ≡ told_reply h step query.now) }
     ensures read { WasRead D.tells
         (D.state file.old)
         (D.state file.new) }
@@ -38,14 +43,14 @@ pub(crate) fn reply_to<D: Disk>(
     match query {
         Query::Get { n } => get(alloc, book, places, file, *n),
         Query::Clue { clue } => Ok(clue_reply(book, clue)?),
-        Query::Head => Ok(head_reply(book)),
+        Query::Stamp | Query::Head => unreachable!(),
     }
 }
 
 // The journals of a clue.
 fn clue_reply(book: &Book, clue: &Digest) -> Result<Reply, NoMemory>
-    ensures { IfOk result (λ reply. (h : History) (x : Said) → Serves book.now h
-        → reply ≡ told_reply h (step_of x) (query.Clue clue.now)) }
+    ensures { IfOk result (λ reply. (h : History) (step : Step) → Serves book.now h
+        → reply ≡ told_reply h step (query.Clue clue.now)) }
 {
     let (count, kept) = book.clue(clue)?;
     Ok(Reply::Clue {
@@ -54,19 +59,27 @@ fn clue_reply(book: &Book, clue: &Digest) -> Result<Reply, NoMemory>
     })
 }
 
-// Where the ledger stands, where no journal waits. There is no notary so far: its list is empty.
-fn head_reply(book: &Book) -> Reply
-    ensures { (h : History) (x : Said) → Serves book.now h → h.waiting ≡ []
-        → result ≡ told_reply h (step_of x) query.Head }
+/// Where the ledger and its notary stand, where no journal waits. Where the notary fails that is told.
+pub(crate) fn head_reply<N: Notary>(book: &Book, notary: &mut N) -> Reply
+    ensures told { (failed : Bool)
+        × ((h : History) (lane index : ℕ) (line : List ℕ) → Serves book.now h → h.waiting ≡ []
+        → (let step = step_in (N.state notary.old) (N.state notary.new) failed lane index line in
+        (result ≡ told_reply h step query.Head)
+        × Attended (N.state notary.old) (N.state notary.new) h step Head)) }
 {
-    let head = book.head();
-    Reply::Head {
-        id: book.id(),
-        size: head.size,
-        root: head.root,
-        blocks: book.blocks(),
-        point: book.point(),
-        notary_size: 0,
-        notary_root: Sha::empty(),
+    match notary.head() {
+        Ok(stamped) => {
+            let head = book.head();
+            Reply::Head {
+                id: book.id(),
+                size: head.size,
+                root: head.root,
+                blocks: book.blocks(),
+                point: book.point(),
+                notary_size: stamped.size,
+                notary_root: stamped.root,
+            }
+        }
+        Err(_) => Reply::Refused(Refusal::NotaryFault),
     }
 }

@@ -1,35 +1,33 @@
-ghost use Rattle.std.specs.Prelude.{◌≡◌, ◌↔◌, ◌≤◌, ◌<◌, ◌+◌, ◌^◌, ◌++◌, [], ◌∷◌, length, slice_get, Some, None, Bool, true, List, ℕ, IfOk, IfErr, OnOk, OnErr, IsTrue};
+ghost use Rattle.std.specs.Prelude.{◌≡◌, ◌↔◌, ◌≤◌, ◌<◌, ◌+◌, ◌^◌, ◌++◌, [], ◌∷◌, false, length, slice_get, All, Some, None, Option, Bool, true, List, ℕ, IfOk, IfErr, OnOk, OnErr, IsTrue};
 ghost use Rattle.journal_record.specs.Approval.{who_of};
 ghost use Rattle.journal_record.specs.Entry.{Entry};
 ghost use Rattle.journal_record.specs.declared.approval.Approval.{Approval as AnyApproval};
-ghost use Rattle.ledger_bytes.specs.declared.limits.TheConstants.{PROOF_LIMIT};
+ghost use Rattle.ledger_bytes.specs.declared.limits.TheConstants.{APPROVAL_LIMIT, PROOF_LIMIT};
 ghost use Rattle.block_file.specs.Place.{place_of};
 ghost use Rattle.ledger_io.specs.Outside.{SinkState};
-ghost use Rattle.ledger_model.specs.Dues.{due_of};
 ghost use Rattle.ledger_model.specs.Fitting.{fits_job};
 ghost use Rattle.ledger_model.specs.History.{History, journals, id, close};
-ghost use Rattle.ledger_model.specs.InOrder.{step_of};
-ghost use Rattle.ledger_model.specs.Limits.{real_limits};
-ghost use Rattle.ledger_model.specs.Outcomes.{with_job};
-ghost use Rattle.ledger_model.specs.Rules.{closes_before, judged_at, settled_history, after_job};
+ghost use Rattle.ledger_model.specs.Rules.{closes_after, closes_before, judged_at, settled_history};
+ghost use Rattle.ledger_model.specs.Step.{Step};
 ghost use Rattle.ledger_model.specs.Texts.{told_reply};
-ghost use Rattle.ledger_model.specs.Windows.{Said};
-ghost use Rattle.ledger_model.specs.declared.job.Job.{Job as AnyJob};
+ghost use Rattle.ledger_model.specs.declared.job.Job.TheVariants as jobs;
 ghost use Rattle.ledger_book.specs.Books.{Serves};
+ghost use Rattle.ledger_book.specs.Steps.{OpenGathers, HasOperatorRoom};
 ghost use Rattle.twin_file.specs.Which.{in_a_of, generation_in, file_of, copy_of};
 ghost use Rattle.ledger_open.specs.Places.{place_at};
 ghost use Rattle.batch_committer.specs.Read.{WereRead, NoneFailed, ReadingEnds};
-ghost use Rattle.batch_committer.specs.Steps.{step_at, due_by, HasParts, HasJournal, IsGathered, Judged, KeepsFile, KeepsRest, HasGrown};
+ghost use Rattle.batch_committer.specs.Attending.{step_in, Takes, EndsTaking, TakesIn, EndsIn, JudgedBy, EndsAsking};
+ghost use Rattle.batch_committer.specs.Steps.{IsOfLedger, HasParts, HasJournal, IsGathered, KeepsFile, KeepsRest, HasGrown, StaysGathered};
 ghost use Rattle.batch_committer.specs.World.{Pair, pair, world, first_kept, Reads, Fits, HasRoom, Keeps, Holds, Goes, Ended};
 
 use crate::End;
-use crate::block::{APPROVAL_LEN, OpenBlock};
+use crate::block::{OpenBlock, who_len};
 use crate::commit::commit;
 use crate::dues::spell;
-use crate::queries::reply_to;
+use crate::queries::{head_reply, reply_to};
 use journal_record::Approval;
 use ledger_book::{Job, Outcome, Prepared, Query};
-use ledger_bytes::{BLOCK_LIMIT, Digest, NoMemory};
+use ledger_bytes::{BLOCK_LIMIT, Digest, NoMemory, Refusal};
 use ledger_disk::Disk;
 use ledger_io::{Sink, write_all};
 use ledger_model::{Answer, Due};
@@ -37,6 +35,8 @@ use ledger_open::{Opened, PlaceAt};
 use script_lines::Reply;
 use std::alloc::Global;
 use std::marker::Model;
+use std::slice;
+use time_peg::{Notary, NotaryErr};
 
 /// How many bytes of a record stand before its content: the header, and the length of who placed the journal.
 const RECORD_HEAD_LEN: u64 = 178;
@@ -118,35 +118,35 @@ impl Taking {
     }
 
     /// Takes a job, which came from a line: ends the open block where the job asks for that, judges the job and gathers
-    /// what it places, and ends the block that it fills.
-    pub(crate) fn take<D: Disk, K: Sink>(
+    /// what it places, and ends the block that it fills, or that is to hold it alone.
+    pub(crate) fn take<D: Disk, K: Sink, N: Notary>(
         &mut self,
         a: &mut D,
         b: &mut D,
         sink: &mut K,
+        notary: &mut N,
         item: &Prepared,
     ) -> Result<(), End>
         requires fits { Fits D.tells (world self.old (pair (D.state a.old) (D.state b.old))
             (K.state sink.old)) }
         requires room { HasRoom self.old }
-        ensures ok { OnOk result ((line : List ℕ) → Goes D.tells
+        ensures ok { OnOk result ((failed : Bool) × ((line : List ℕ) → Takes D.tells
             (world self.old (pair (D.state a.old) (D.state b.old)) (K.state sink.old))
-            (λ h. after_job h (step_at item.now.lane item.now.index line) item.now.job)
-            (λ h. due_of h (step_at item.now.lane item.now.index line) item.now.job ∷ [])
-            (world self.new (pair (D.state a.new) (D.state b.new)) (K.state sink.new))) }
+            (world self.new (pair (D.state a.new) (D.state b.new)) (K.state sink.new))
+            (N.state notary.old) (N.state notary.new)
+            (step_in (N.state notary.old) (N.state notary.new) failed item.now.lane item.now.index line)
+            item.now.job)) }
         ensures fits { OnOk result (Fits D.tells (world self.new
             (pair (D.state a.new) (D.state b.new)) (K.state sink.new))) }
         ensures room { OnOk result (HasRoom self.new) }
-        ensures err { IfErr result (λ end. (line : List ℕ) → Ended D.tells
+        ensures err { IfErr result (λ end. EndsTaking D.tells
             (world self.old (pair (D.state a.old) (D.state b.old)) (K.state sink.old))
-            (λ h. after_job h (step_at item.now.lane item.now.index line) item.now.job)
-            (λ h. due_of h (step_at item.now.lane item.now.index line) item.now.job ∷ [])
-            end
-            (world self.new (pair (D.state a.new) (D.state b.new)) (K.state sink.new))) }
+            (world self.new (pair (D.state a.new) (D.state b.new)) (K.state sink.new))
+            (N.state notary.old) (N.state notary.new) item.now.lane item.now.index item.now.job end) }
     {
         self.end_before(a, b, sink, &item.job)?;
-        self.take_in(a, b, item)?;
-        self.end_full(a, b, sink)
+        self.take_in(a, b, notary, item)?;
+        self.end_after(a, b, sink, &item.job)
     }
 
     /// Writes all that is due. Where a journal waits the open block ends before that: it is committed. All memory is
@@ -238,22 +238,33 @@ impl Taking {
         }
     }
 
-    // Ends the open block where it is full, and writes all that is due where no journal waits.
-    fn end_full<D: Disk, K: Sink>(&mut self, a: &mut D, b: &mut D, sink: &mut K) -> Result<(), End>
-        requires { Fits D.tells (world self.old (pair (D.state a.old) (D.state b.old))
+    // Ends the open block behind a job whose journal is a block of its own, and where it is full. Writes all that is due
+    // where no journal waits.
+    fn end_after<D: Disk, K: Sink>(
+        &mut self,
+        a: &mut D,
+        b: &mut D,
+        sink: &mut K,
+        job: &Job,
+    ) -> Result<(), End>
+        requires fits { Fits D.tells (world self.old (pair (D.state a.old) (D.state b.old))
             (K.state sink.old)) }
-        ensures ok { OnOk result ((job : AnyJob) → Goes D.tells
+        requires gathers { closes_after job.now ≡ false → OpenGathers self.old.book }
+        ensures ok { OnOk result (Goes D.tells
             (world self.old (pair (D.state a.old) (D.state b.old)) (K.state sink.old))
-            (settled_history job) (λ h. [])
+            (settled_history job.now) (λ h. [])
             (world self.new (pair (D.state a.new) (D.state b.new)) (K.state sink.new))) }
         ensures fits { OnOk result (Fits D.tells (world self.new
             (pair (D.state a.new) (D.state b.new)) (K.state sink.new))) }
         ensures room { OnOk result (HasRoom self.new) }
-        ensures err { IfErr result (λ end. (job : AnyJob) → Ended D.tells
+        ensures err { IfErr result (λ end. Ended D.tells
             (world self.old (pair (D.state a.old) (D.state b.old)) (K.state sink.old))
-            (settled_history job) (λ h. []) end
+            (settled_history job.now) (λ h. []) end
             (world self.new (pair (D.state a.new) (D.state b.new)) (K.state sink.new))) }
     {
+        if job.closes_after() {
+            return self.settle(a, b, sink);
+        }
         let waiting = self.opened.book.waiting_count();
         if waiting == 0 || waiting >= BLOCK_LIMIT {
             self.settle(a, b, sink)
@@ -263,30 +274,34 @@ impl Taking {
     }
 
     // Judges a job and gathers what it places, and keeps what is due for it with the rest.
-    fn take_in<D: Disk>(&mut self, a: &mut D, b: &mut D, item: &Prepared) -> Result<(), End>
+    fn take_in<D: Disk, N: Notary>(
+        &mut self,
+        a: &mut D,
+        b: &mut D,
+        notary: &mut N,
+        item: &Prepared,
+    ) -> Result<(), End>
+        requires room { HasRoom self.old }
         requires settled { closes_before item.now.job ≡ true
             → (h : History) → Serves self.old.book h → h.waiting ≡ [] }
-        ensures ok { OnOk result ((line : List ℕ) (sink : SinkState) → Goes D.tells
-            (world self.old (pair (D.state a.old) (D.state b.old))
-            sink)
-            (λ g. with_job real_limits None g item.now.job)
-            (λ g. due_by g (step_at item.now.lane item.now.index line) item.now.job ∷ [])
-            (world self.new (pair (D.state a.new) (D.state b.new))
-            sink)) }
-        ensures err { IfErr result (λ end. (line : List ℕ) (sink : SinkState) → Ended D.tells
-            (world self.old (pair (D.state a.old) (D.state b.old))
-            sink)
-            (λ g. with_job real_limits None g item.now.job)
-            (λ g. due_by g (step_at item.now.lane item.now.index line) item.now.job ∷ [])
-            end
-            (world self.new (pair (D.state a.new) (D.state b.new))
-            sink)) }
+        ensures ok { OnOk result ((failed : Bool) × ((line : List ℕ) (sink : SinkState)
+            → TakesIn D.tells
+            (world self.old (pair (D.state a.old) (D.state b.old)) sink)
+            (world self.new (pair (D.state a.new) (D.state b.new)) sink)
+            (N.state notary.old) (N.state notary.new)
+            (step_in (N.state notary.old) (N.state notary.new) failed item.now.lane item.now.index line)
+            item.now.job)) }
+        ensures err { IfErr result (λ end. (sink : SinkState) → EndsIn D.tells
+            (world self.old (pair (D.state a.old) (D.state b.old)) sink)
+            (world self.new (pair (D.state a.new) (D.state b.new)) sink)
+            (N.state notary.old) (N.state notary.new) item.now.lane item.now.index item.now.job end) }
         ensures read { WereRead D.tells
             (pair (D.state a.old) (D.state b.old)) (pair (D.state a.new) (D.state b.new)) }
         ensures grown { OnOk result (HasGrown self.old self.new) }
+        ensures gathers { OnOk result (StaysGathered self.old self.new item.now.job) }
         ensures file { KeepsFile self.old self.new }
     {
-        let answer = self.judge(a, b, &item.job)?;
+        let answer = self.judge(a, b, notary, &item.job)?;
         let due = Due {
             lane: item.lane,
             index: item.index,
@@ -299,16 +314,27 @@ impl Taking {
     }
 
     // Judges a job, gathers what it places, and answers what is due for it.
-    fn judge<D: Disk>(&mut self, a: &mut D, b: &mut D, job: &Job) -> Result<Answer, End>
+    fn judge<D: Disk, N: Notary>(
+        &mut self,
+        a: &mut D,
+        b: &mut D,
+        notary: &mut N,
+        job: &Job,
+    ) -> Result<Answer, End>
         requires fits { fits_job job.now ≡ true }
-        ensures judged { IfOk result (λ answer. (h : History) (x : Said) (sink : SinkState)
-            → Holds D.tells
-            (world self.old (pair (D.state a.old) (D.state b.old))
-            sink)
-            h
-            → (closes_before job.now ≡ true → h.waiting ≡ [])
-            → Judged self.new h (step_of x) job.now answer) }
+        requires room { HasRoom self.old }
+        requires settled { closes_before job.now ≡ true
+            → (h : History) → Serves self.old.book h → h.waiting ≡ [] }
+        ensures judged { IfOk result (λ answer. (failed : Bool) × ((h : History) (lane index : ℕ)
+            (line : List ℕ) (sink : SinkState)
+            → Holds D.tells (world self.old (pair (D.state a.old) (D.state b.old)) sink) h
+            → JudgedBy self.new (N.state notary.old) (N.state notary.new) h
+            (step_in (N.state notary.old) (N.state notary.new) failed lane index line) job.now
+            answer)) }
+        ensures unasked { OnErr result (EndsAsking self.old (N.state notary.old)
+            (N.state notary.new) job.now) }
         ensures grown { OnOk result (HasGrown self.old self.new) }
+        ensures gathers { OnOk result (StaysGathered self.old self.new job.now) }
         ensures rest { KeepsRest self.old self.new }
         ensures read { WereRead D.tells
             (pair (D.state a.old) (D.state b.old)) (pair (D.state a.new) (D.state b.new)) }
@@ -327,18 +353,62 @@ impl Taking {
                     stamp: None,
                 })
             }
-            Outcome::Reading(query) => Ok(Answer::Reply(self.tell(a, b, &query)?)),
+            Outcome::Reading(query) => match query {
+                Query::Stamp => self.anchor(notary),
+                Query::Head => Ok(Answer::Reply(head_reply(&self.opened.book, notary))),
+                Query::Get { .. } => Ok(Answer::Reply(self.tell(a, b, &query)?)),
+                Query::Clue { .. } => Ok(Answer::Reply(self.tell(a, b, &query)?)),
+            },
+        }
+    }
+
+    // An anchor that the ledger accepts: the notary stamps it, and its journal is gathered. A notary that gives no stamp
+    // refuses it.
+    fn anchor<N: Notary>(&mut self, notary: &mut N) -> Result<Answer, End>
+        requires room { HasOperatorRoom self.old.book }
+        requires settled { (h : History) → Serves self.old.book h → h.waiting ≡ [] }
+        ensures judged { IfOk result (λ answer. (failed : Bool) × ((h : History) (lane index : ℕ)
+            (line : List ℕ) → Keeps self.old h
+            → JudgedBy self.new (N.state notary.old) (N.state notary.new) h
+            (step_in (N.state notary.old) (N.state notary.new) failed lane index line) jobs.Anchor
+            answer)) }
+        ensures unasked { OnErr result (EndsAsking self.old (N.state notary.old)
+            (N.state notary.new) jobs.Anchor) }
+        ensures grown { OnOk result (HasGrown self.old self.new) }
+        ensures rest { KeepsRest self.old self.new }
+        ensures only { IfErr result (λ end. end ≡ End.NoMemory) }
+    {
+        let peg = self.opened.book.peg();
+        let stamp = match notary.stamp(self.alloc, &peg) {
+            Ok(stamp) => stamp,
+            Err(NotaryErr::Full) => return Ok(Answer::Reply(Reply::Refused(Refusal::NotaryFull))),
+            Err(NotaryErr::Failed) => {
+                return Ok(Answer::Reply(Reply::Refused(Refusal::NotaryFault)));
+            }
+            Err(NotaryErr::NoMemory) => return Err(End::NoMemory),
+        };
+        match self.opened.book.apply(&Job::Anchor, Some(&stamp))? {
+            Outcome::Placed { jsn, leaf } => {
+                self.gather_placed(&Job::Anchor, jsn)?;
+                Ok(Answer::Receipt {
+                    jsn,
+                    leaf,
+                    stamp: Some(stamp),
+                })
+            }
+            Outcome::Refused(_) | Outcome::Reading(_) => unreachable!(),
         }
     }
 
     // What is told to a query, where no journal waits.
     fn tell<D: Disk>(&self, a: &mut D, b: &mut D, query: &Query) -> Result<Reply, End>
-        ensures told { IfOk result (λ reply. (h : History) (x : Said) (sink : SinkState)
+        requires { IsOfLedger query.now }
+        ensures told { IfOk result (λ reply. (h : History) (step : Step) (sink : SinkState)
             → Holds D.tells
             (world self.now (pair (D.state a.old) (D.state b.old))
             sink)
             h
-            → h.waiting ≡ [] → reply ≡ told_reply h (step_of x) query.now) }
+            → h.waiting ≡ [] → reply ≡ told_reply h step query.now) }
         ensures read { WereRead D.tells
             (pair (D.state a.old) (D.state b.old)) (pair (D.state a.new) (D.state b.new)) }
         ensures no_fault { OnOk result (NoneFailed
@@ -358,27 +428,31 @@ impl Taking {
         requires fits { fits_job job.now ≡ true }
         requires has { HasJournal self.old.book jsn }
         ensures gathered { OnOk result ((h : History) (journal : Entry) (content : List ℕ)
-            (by : AnyApproval) → HasParts job.now content by → Serves self.old.book h
+            (given : List AnyApproval) → HasParts job.now content given → Serves self.old.book h
             → slice_get (journals h) jsn ≡ Some journal → self.old.book.floor ≤ jsn
-            → journal.content ≡ content → journal.who ≡ who_of (by ∷ [])
+            → journal.content ≡ content → journal.who ≡ who_of given
             → IsGathered self.old self.new journal) }
         ensures book { self.new.book ≡ self.old.book }
         ensures rest { KeepsRest self.old self.new }
     {
         match job {
-            Job::Append { content, by, .. } => self.gather(jsn, content.as_slice(), by),
-            Job::NewMember { by, .. } => self.gather(jsn, &[], by),
+            Job::Append { content, by, .. } => {
+                self.gather(jsn, content.as_slice(), slice::from_ref(by))
+            }
+            Job::NewMember { by, .. } => self.gather(jsn, &[], slice::from_ref(by)),
+            Job::Anchor => self.gather(jsn, &[], &[]),
             Job::Refused(_) | Job::Get { .. } | Job::Clue { .. } | Job::Head => Ok(()),
         }
     }
 
-    // Gathers a journal of the book: keeps its place, and its bytes behind those of the open block.
-    fn gather(&mut self, jsn: u64, content: &[u8], by: &Approval) -> Result<(), NoMemory>
+    // Gathers a journal of the book, which these approved: keeps its place, and its bytes behind those of the open block.
+    fn gather(&mut self, jsn: u64, content: &[u8], given: &[Approval]) -> Result<(), NoMemory>
         requires has { HasJournal self.old.book jsn }
-        requires proof { length by.now.proof ≤ PROOF_LIMIT }
+        requires few { length given.now ≤ APPROVAL_LIMIT }
+        requires proofs { All (λ a. length a.proof ≤ PROOF_LIMIT) given.now }
         ensures gathered { OnOk result ((h : History) (journal : Entry) → Serves self.old.book h
             → slice_get (journals h) jsn ≡ Some journal → self.old.book.floor ≤ jsn
-            → journal.content ≡ content.now → journal.who ≡ who_of (by.now ∷ [])
+            → journal.content ≡ content.now → journal.who ≡ who_of given.now
             → IsGathered self.old self.new journal) }
         ensures book { self.new.book ≡ self.old.book }
         ensures rest { KeepsRest self.old self.new }
@@ -391,23 +465,24 @@ impl Taking {
         self.opened.places.reserve(1)?;
         self.opened
             .places
-            .push(place_of_record(at, header.content_len, by));
-        self.block.put(&header, content, by)
+            .push(place_of_record(at, header.content_len, given));
+        self.block.put(&header, content, given)
     }
 }
 
 // The place of a journal whose record begins at this offset, and whose content is so long.
-fn place_of_record(at: u64, content_len: u32, by: &Approval) -> PlaceAt
+fn place_of_record(at: u64, content_len: u32, given: &[Approval]) -> PlaceAt
     requires room { at ≤ 2 ^ 63 + 2 ^ 62 + 45 }
-    requires proof { length by.now.proof ≤ PROOF_LIMIT }
+    requires few { length given.now ≤ APPROVAL_LIMIT }
+    requires proofs { All (λ a. length a.proof ≤ PROOF_LIMIT) given.now }
     ensures { (journal : Entry) → journal.header.content_len ≡ content_len
-        → journal.who ≡ who_of (by.now ∷ []) → result ≡ place_at at journal }
+        → journal.who ≡ who_of given.now → result ≡ place_at at journal }
 {
     let content_at = at + RECORD_HEAD_LEN;
     PlaceAt {
         content_at,
         who_at: content_at + u64::from(content_len),
         content_len,
-        who_len: APPROVAL_LEN + by.proof.as_slice().len() as u32,
+        who_len: who_len(given),
     }
 }

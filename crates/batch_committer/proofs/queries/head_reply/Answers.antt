@@ -1,8 +1,30 @@
-use Rattle.std.proofs.Common.{ap}
-use Rattle.ledger_bytes.specs.Digests.{digest}
+use Rattle.std.proofs.Common.{false, true, refl, sym, ap, ◌∙◌, length}
+use Rattle.sha2.specs.Sha256.{sha256}
+use Rattle.tree_model.specs.Tree.{mth}
+use Rattle.batch_committer.specs.Attending.{step_in}
+use Rattle.batch_committer.proofs.Attends.{attends_head, attends_headless}
 use Rattle.batch_committer.proofs.Telling.{told_head}
 use Rattle.batch_committer.proofs.queries.head_reply.Goals as goal
 
-pub returns : goal.returns
-returns c = λ h x s none.
-    told_head h x c.id.result c.head-head.result c.blocks-2.result c.point.result c.empty.result (ap digest c.empty.ensures) none (c.id.ensures h s.stands) (c.blocks-2.ensures h s.stands) (c.point.ensures.point h s) (c.head-head.ensures h s.stands)
+pub returns-in-Ok : goal.returns-in-Ok
+returns-in-Ok g c =
+    let e = c.in-Ok.ensures in
+    let n = g.N.Notary.state c.args.notary.now in
+    let m = g.N.Notary.state c.head.new.self in
+    record {
+      told = (
+        false,
+        λ h lane index line s none. (
+          told_head h (step_in n m false lane index line) c.id.result c.head-head.result c.blocks-in-Ok.result c.point.result c.in-Ok.stamped.size c.in-Ok.stamped.root refl
+              (e.size ∙ ap length (sym e.same)) (e.root ∙ ap (mth sha256) (sym e.same)) none (c.id.ensures h s.stands) (c.blocks-in-Ok.ensures h s.stands) (c.point.ensures.point h s) (c.head-head.ensures h s.stands),
+          attends_head n m h lane index line e.same e.faults,
+        ),
+      );
+    }
+
+pub returns-in-Err : goal.returns-in-Err
+returns-in-Err g c =
+    let e = c.in-Err.ensures in
+    let n = g.N.Notary.state c.args.notary.now in
+    let m = g.N.Notary.state c.head.new.self in
+    record { told = (true, λ h lane index line s none. (refl, attends_headless n m h lane index line c.in-Err.field-0 e.err e.same e.faults)) }

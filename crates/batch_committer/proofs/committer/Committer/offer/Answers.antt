@@ -1,21 +1,21 @@
-use Rattle.std.proofs.Common.{◌≡◌, false, [], refl, sym, ap, ◌∙◌}
+use Rattle.std.proofs.Common.{◌≡◌, false, sym, ap, ◌∙◌}
 use Rattle.batch_committer.specs.World.{Held}
 use Rattle.batch_committer.specs.declared.end.End.TheVariants.{Closed}
-use Rattle.batch_committer.proofs.Ending.{goes_at, ended_at}
 use Rattle.batch_committer.proofs.Judging.{on_ok_then}
 use Rattle.batch_committer.proofs.Offering.{if_err_then}
-use Rattle.batch_committer.proofs.WayLaws.{never_closed, err_not}
+use Rattle.batch_committer.proofs.Taken.{takes_at, ends_at, never_ends_closed}
+use Rattle.batch_committer.proofs.WayLaws.{err_not}
 use Rattle.batch_committer.proofs.committer.Committer.offer.Goals as goal
 
 pub returns-clause-ok : goal.returns-clause-ok
 returns-clause-ok g c =
-    on_ok_then c.take-result.result (λ x line. goes_at g.D.Disk.tells _ _ (ap (λ (k : Held). k.kept) c.self.view_is) _ _ _ _ _ (x line)) c.take-result.ensures.ok
+    on_ok_then c.take-result.result (λ x. (x.0, λ line. takes_at g.D.Disk.tells _ _ (ap (λ (k : Held). k.kept) c.self.view_is) _ _ _ _ _ _ _ (x.1 line))) c.take-result.ensures.ok
 
 pub returns-clause-err : goal.returns-clause-err
 returns-clause-err g c =
-    if_err_then c.take-result.result (λ end x still line. ended_at g.D.Disk.tells _ _ (ap (λ (k : Held). k.kept) c.self.view_is) _ _ _ _ _ _ (x line)) c.take-result.ensures.err
+    if_err_then c.take-result.result (λ end x still. ends_at g.D.Disk.tells _ _ (ap (λ (k : Held). k.kept) c.self.view_is) _ _ _ _ _ _ _ _ end x) c.take-result.ensures.err
 
 pub returns-clause-closed : goal.returns-clause-closed
 returns-clause-closed g c =
     let still : c.args.self.now.ended ≡ false = sym (ap (λ (k : Held). k.ended) c.self.view_is) ∙ c.if-self.false in
-    (λ is. absurd (err_not _ c.take-result.result Closed (λ x. never_closed g.D.Disk.tells _ _ _ _ Closed refl (x [])) c.take-result.ensures.err is), λ is. absurd (let no : ⊥ = cc (still, is) in no))
+    (λ is. absurd (err_not _ c.take-result.result Closed (λ x. never_ends_closed g.D.Disk.tells _ _ _ _ _ _ _ x) c.take-result.ensures.err is), λ is. absurd (let no : ⊥ = cc (still, is) in no))

@@ -19,7 +19,7 @@ returns-clause-gathered c =
     let at : c.tail.result + 45 + c.len.result ≡ place_of c.self.inside.opened.twin.file + 45 + length c.self.inside.block.body =
     omega (arith, c.tail.ensures, ap place_of c.file.ensures.value, c.len.ensures.len) in
     gathered_at (the_view c.self.inside) _ _ journal c.self.view_is
-    (gathered_by (the_view c.self.inside) _ c.in-Some.header.now c.args.content.now c.args.by.now c.place_of_record.result journal is content_is who_is widths body
+    (gathered_by (the_view c.self.inside) _ c.in-Some.header.now c.args.content.now c.args.given.now c.place_of_record.result journal is content_is who_is widths body
     (c.push.ensures.list ∙ ap (λ ps. ps ++ c.place_of_record.result ∷ []) c.in_ok-reserve.ensures.list)
     (c.place_of_record.ensures journal (ap (λ (x : Header). x.content_len) (sym is)) who_is ∙ ap (λ n. place_at n journal) at)))
     c.put.ensures.body c.put.ensures.widths

@@ -1,12 +1,21 @@
-use Rattle.std.proofs.Common.{◌≤◌, None, refl, sym, ap, subst, ◌∙◌}
+use Rattle.std.proofs.Common.{inl, inr, false, ◌≤◌, None, refl, sym, ap, subst, ◌∙◌}
+use Rattle.std.proofs.lemmas.Result.{IfOk-weaker, on_err_weaker}
 use Rattle.ledger_book.specs.Books as books
 use Rattle.ledger_book.specs.Books.{Serves}
-use Rattle.ledger_book.specs.Steps.{IsSame, PlacesNothing, Applies}
-use Rattle.ledger_model.specs.InOrder.{step_of}
+use Rattle.ledger_book.proofs.OpenLaws.{opens_gather}
+use Rattle.ledger_book.proofs.ApplyLaws.{on_ok_all}
+use Rattle.ledger_book.specs.Steps.{IsSame, PlacesNothing, Applies, OpenGathers}
+use Rattle.ledger_model.specs.Rules.{closes_after}
+use Rattle.ledger_model.specs.Outcomes.{AsksFor}
 use Rattle.ledger_model.specs.Texts.{answer_for}
-use Rattle.ledger_model.specs.declared.answer.Answer.TheVariants.{Reply}
+use Rattle.ledger_model.specs.declared.answer.Answer.TheVariants.{Reply, Receipt}
+use Rattle.ledger_model.specs.declared.job.Job.{Job}
+use Rattle.ledger_model.specs.declared.outcome.Outcome.TheVariants as came
+use Rattle.batch_committer.specs.Attending.{step_in, Attended, JudgedBy, EndsAsking}
 use Rattle.batch_committer.specs.World.{Kept, Keeps, Holds, world, pair}
-use Rattle.batch_committer.proofs.Judging.{has_placed, judged_same_kept, judged_placed, asked_settled}
+use Rattle.batch_committer.proofs.Anchoring.{asked_room, asked_anchor, asked_head, anchor_asks, keeps_book, on_err_all}
+use Rattle.batch_committer.proofs.Attends.{unstamped, unstamped_same, attends_other, ends_untouched}
+use Rattle.batch_committer.proofs.Judging.{real_applies, has_placed, judged_same_kept, judged_placed, asks_closes, alone_first}
 use Rattle.batch_committer.proofs.ReadLaws.{holds_book}
 use Rattle.batch_committer.proofs.taking.Taking.judge.Goals as goal
 
@@ -14,28 +23,174 @@ pub gather_placed-requires-clause-has : goal.gather_placed-requires-clause-has
 gather_placed-requires-clause-has g c =
     has_placed c.self.inside.opened.book c.apply.new.self _ c.in-Placed.jsn c.in-Placed.leaf c.apply.ensures.same c.in_ok-refusal.ensures.number c.in-Placed.is
 
+pub anchor-requires-clause-room : goal.anchor-requires-clause-room
+anchor-requires-clause-room g c =
+    let job = asked_anchor c.args.job.now c.in-Reading.query (subst (AsksFor c.args.job.now) c.in-Reading.is c.in_ok-refusal.ensures.asked) c.in-Stamp.is in
+    asked_room c.self.inside.opened.book c.apply.new.self _ c.in-Reading.query (c.in_ok-refusal.ensures.anchor job) c.in-Reading.is c.in_ok-refusal.ensures.unchanged
+
+pub anchor-requires-clause-settled : goal.anchor-requires-clause-settled
+anchor-requires-clause-settled g c = λ h s.
+    let asked = subst (AsksFor c.args.job.now) c.in-Reading.is c.in_ok-refusal.ensures.asked in
+    let same = c.in_ok-refusal.ensures.unchanged (subst PlacesNothing (sym c.in-Reading.is) tt) in
+    c.requires.settled (asks_closes c.args.job.now c.in-Reading.query asked) h (subst (λ (k : Kept). Serves k.book h) c.self.view_is (subst (λ b. Serves b h) same s))
+
 pub returns-in-Refused-clause-judged : goal.returns-in-Refused-clause-judged
-returns-in-Refused-clause-judged g c = λ h x sink holds none.
-    let p = subst (λ (k : Kept). Keeps k h) (sym c.self.view_is) holds.keeps in
-    judged_same_kept _ _ h (step_of x) c.args.job.now _ _ p (c.in_ok-refusal.ensures.ok h p.serves) (subst PlacesNothing (sym c.in-Refused.is) tt) c.in_ok-refusal.ensures.unchanged refl refl refl
-    (sym (ap (answer_for h (step_of x)) c.in-Refused.is))
+returns-in-Refused-clause-judged g c =
+    let n = g.N.Notary.state c.args.notary.now in (
+      false,
+      λ h lane index line sink holds.
+          let p = subst (λ (k : Kept). Keeps k h) (sym c.self.view_is) holds.keeps in
+          let step = step_in n n false lane index line in
+          let a = c.in_ok-refusal.ensures.ok h p.serves in
+          record {
+            judged = judged_same_kept _ _ h step c.args.job.now _ _ p a (subst PlacesNothing (sym c.in-Refused.is) tt) c.in_ok-refusal.ensures.unchanged refl refl refl (sym (ap (answer_for h step) c.in-Refused.is)) (unstamped n false lane index line);
+            attended = attends_other n h lane index line c.args.job.now (λ is none. let asks = anchor_asks _ h c.args.job.now _ _ (real_applies None c.self.inside.opened.book _ h c.args.job.now _ p.limits a) is none in let no : ⊥ = cc (asks, c.in-Refused.is) in no);
+          },
+    )
 
 pub returns-in_ok-gather_placed-in-Placed-clause-judged : goal.returns-in_ok-gather_placed-in-Placed-clause-judged
-returns-in_ok-gather_placed-in-Placed-clause-judged g c = λ h x sink holds none.
-    let p = subst (λ (k : Kept). Keeps k h) (sym c.self.view_is) holds.keeps in
-    let e = c.in_ok-gather_placed-in-Placed.ensures in
-    judged_placed _ _ c.gather_placed.new.self h (step_of x) c.args.job.now _ c.in-Placed.jsn c.in-Placed.leaf _ p c.requires.fits
-    (subst (λ b. Applies c.self.inside.opened.book.limits None h c.args.job.now c.in_ok-refusal.field-0 b) (sym e.book) (c.in_ok-refusal.ensures.ok h p.serves))
-    (subst (IsSame c.self.inside.opened.book) (sym e.book) c.apply.ensures.same) c.in-Placed.is
-    (λ f journal content by parts serves there floor. e.gathered f journal content by parts (subst (λ b. Serves b f) e.book serves) there (subst (λ (b : books.Kept). b.floor ≤ c.in-Placed.jsn) e.book floor))
-    refl refl refl e.rest.file.place (sym (ap (answer_for h (step_of x)) c.in-Placed.is))
+returns-in_ok-gather_placed-in-Placed-clause-judged g c =
+    let n = g.N.Notary.state c.args.notary.now in
+    let e = c.in_ok-gather_placed-in-Placed.ensures in (
+      false,
+      λ h lane index line sink holds.
+          let p = subst (λ (k : Kept). Keeps k h) (sym c.self.view_is) holds.keeps in
+          let step = step_in n n false lane index line in
+          let a = c.in_ok-refusal.ensures.ok h p.serves in
+          record {
+            judged = judged_placed None _ _ c.gather_placed.new.self h step c.args.job.now _ c.in-Placed.jsn c.in-Placed.leaf _ p (λ other. opens_gather c.args.self.now.book h holds.keeps.serves.stands c.requires.room.1)
+                (λ alone. c.requires.settled (alone_first c.args.job.now alone) h holds.keeps.serves) c.requires.fits
+                (subst (λ b. Applies c.self.inside.opened.book.limits None h c.args.job.now c.in_ok-refusal.field-0 b) (sym e.book) a)
+                (subst (IsSame c.self.inside.opened.book) (sym e.book) c.apply.ensures.same) c.in-Placed.is
+                (λ f journal content given parts serves there floor. e.gathered f journal content given parts (subst (λ b. Serves b f) e.book serves) there (subst (λ (b : books.Kept). b.floor ≤ c.in-Placed.jsn) e.book floor))
+                refl refl refl e.rest.file.place (ap (Receipt c.in-Placed.jsn c.in-Placed.leaf) (sym (unstamped n false lane index line)) ∙ sym (ap (answer_for h step) c.in-Placed.is)) (unstamped n false lane index line);
+            attended = attends_other n h lane index line c.args.job.now (λ is none. let asks = anchor_asks _ h c.args.job.now _ _ (real_applies None c.self.inside.opened.book _ h c.args.job.now _ p.limits a) is none in let no : ⊥ = cc (asks, c.in-Placed.is) in no);
+          },
+    )
 
-pub returns-in_ok-tell-in-Reading-clause-judged : goal.returns-in_ok-tell-in-Reading-clause-judged
-returns-in_ok-tell-in-Reading-clause-judged g c = λ h x sink holds none.
-    let disks = pair (g.D.Disk.state c.args.a.now) (g.D.Disk.state c.args.b.now) in
-    let p = subst (λ (k : Kept). Holds g.D.Disk.tells (world k disks sink) h) (sym c.self.view_is) holds in
-    let settled = asked_settled h c.args.job.now _ c.in-Reading.query c.in_ok-refusal.ensures.asked c.in-Reading.is none in
+pub returns-in-Stamp-clause-judged : goal.returns-in-Stamp-clause-judged
+returns-in-Stamp-clause-judged g c =
+    let n = g.N.Notary.state c.args.notary.now in
+    let m = g.N.Notary.state c.anchor.new.notary in
     let nothing : PlacesNothing c.in_ok-refusal.field-0 = subst PlacesNothing (sym c.in-Reading.is) tt in
-    let there = holds_book g.D.Disk.tells _ c.apply.new.self disks sink h (c.in_ok-refusal.ensures.unchanged nothing) p in
-    judged_same_kept _ _ h (step_of x) c.args.job.now _ _ p.keeps (c.in_ok-refusal.ensures.ok h p.keeps.serves) nothing c.in_ok-refusal.ensures.unchanged refl refl refl
-    (ap Reply (c.in_ok-tell-in-Reading.ensures.told h x sink there settled) ∙ sym (ap (answer_for h (step_of x)) c.in-Reading.is))
+    let job = asked_anchor c.args.job.now c.in-Reading.query (subst (AsksFor c.args.job.now) c.in-Reading.is c.in_ok-refusal.ensures.asked) c.in-Stamp.is in
+    IfOk-weaker c.anchor.result _ _
+    (λ answer x. (
+      x.0,
+      λ h lane index line sink holds.
+          let p = subst (λ (k : Kept). Keeps k h) (sym c.self.view_is) holds.keeps in
+          let y = x.1 h lane index line (keeps_book _ c.apply.new.self h (c.in_ok-refusal.ensures.unchanged nothing) p) in
+          subst (λ (j : Job). JudgedBy c.anchor.new.self n m h (step_in n m x.0 lane index line) j answer) (sym job) y,
+    ))
+    c.anchor.ensures.judged
+
+pub returns-in-Stamp-clause-unasked : goal.returns-in-Stamp-clause-unasked
+returns-in-Stamp-clause-unasked g c =
+    let nothing : PlacesNothing c.in_ok-refusal.field-0 = subst PlacesNothing (sym c.in-Reading.is) tt in
+    let job = asked_anchor c.args.job.now c.in-Reading.query (subst (AsksFor c.args.job.now) c.in-Reading.is c.in_ok-refusal.ensures.asked) c.in-Stamp.is in
+    on_err_weaker c.anchor.result
+    (λ x. subst (EndsAsking c.args.self.now (g.N.Notary.state c.args.notary.now) (g.N.Notary.state c.anchor.new.notary)) (sym job)
+    (elim x [
+      | inl y ↦ inl (y.0, λ h lane index line p. y.1 h lane index line (keeps_book _ c.apply.new.self h (c.in_ok-refusal.ensures.unchanged nothing) (subst (λ (k : Kept). Keeps k h) (sym c.self.view_is) p)))
+      | inr y ↦ inr y
+    ]))
+    c.anchor.ensures.unasked
+
+pub returns-in-Head-clause-judged : goal.returns-in-Head-clause-judged
+returns-in-Head-clause-judged g c =
+    let n = g.N.Notary.state c.args.notary.now in
+    let m = g.N.Notary.state c.head_reply.new.notary in
+    let nothing : PlacesNothing c.in_ok-refusal.field-0 = subst PlacesNothing (sym c.in-Reading.is) tt in
+    let same = c.in_ok-refusal.ensures.unchanged nothing in
+    let asked = subst (AsksFor c.args.job.now) c.in-Reading.is c.in_ok-refusal.ensures.asked in
+    let job = asked_head c.args.job.now c.in-Reading.query asked c.in-Head.is in
+    let x = c.head_reply.ensures.told in (
+      x.0,
+      λ h lane index line sink holds.
+          let p = subst (λ (k : Kept). Keeps k h) (sym c.self.view_is) holds.keeps in
+          let step = step_in n m x.0 lane index line in
+          let none = c.requires.settled (asks_closes c.args.job.now c.in-Reading.query asked) h holds.keeps.serves in
+          let y = x.1 h lane index line (subst (λ b. Serves b h) (sym same) p.serves) none in
+          record {
+            judged = judged_same_kept _ _ h step c.args.job.now _ _ p (c.in_ok-refusal.ensures.ok h p.serves) nothing c.in_ok-refusal.ensures.unchanged refl refl refl
+                (ap Reply y.0 ∙ ap (λ q. answer_for h step (came.Reading q)) (sym c.in-Head.is) ∙ sym (ap (answer_for h step) c.in-Reading.is)) (unstamped_same n m x.0 lane index line y.1.list);
+            attended = subst (λ (j : Job). Attended n m h step j) (sym job) y.1;
+          },
+    )
+
+pub returns-in_ok-tell-in-Get-clause-judged : goal.returns-in_ok-tell-in-Get-clause-judged
+returns-in_ok-tell-in-Get-clause-judged g c =
+    let n = g.N.Notary.state c.args.notary.now in
+    let disks = pair (g.D.Disk.state c.args.a.now) (g.D.Disk.state c.args.b.now) in
+    let asked = subst (AsksFor c.args.job.now) c.in-Reading.is c.in_ok-refusal.ensures.asked in
+    let nothing : PlacesNothing c.in_ok-refusal.field-0 = subst PlacesNothing (sym c.in-Reading.is) tt in (
+      false,
+      λ h lane index line sink holds.
+          let p = subst (λ (k : Kept). Holds g.D.Disk.tells (world k disks sink) h) (sym c.self.view_is) holds in
+          let step = step_in n n false lane index line in
+          let none = c.requires.settled (asks_closes c.args.job.now c.in-Reading.query asked) h holds.keeps.serves in
+          let there = holds_book g.D.Disk.tells _ c.apply.new.self disks sink h (c.in_ok-refusal.ensures.unchanged nothing) p in
+          let a = c.in_ok-refusal.ensures.ok h p.keeps.serves in
+          record {
+            judged = judged_same_kept _ _ h step c.args.job.now _ _ p.keeps a nothing c.in_ok-refusal.ensures.unchanged refl refl refl
+                (ap Reply (c.in_ok-tell-in-Get.ensures.told h step sink there none) ∙ sym (ap (answer_for h step) c.in-Reading.is)) (unstamped n false lane index line);
+            attended = attends_other n h lane index line c.args.job.now (λ is own. let asks = anchor_asks _ h c.args.job.now _ _ (real_applies None c.self.inside.opened.book _ h c.args.job.now _ p.keeps.limits a) is own in let no : ⊥ = cc (asks, c.in-Reading.is, c.in-Get.is) in no);
+          },
+    )
+
+pub returns-in_ok-tell-in-Clue-clause-judged : goal.returns-in_ok-tell-in-Clue-clause-judged
+returns-in_ok-tell-in-Clue-clause-judged g c =
+    let n = g.N.Notary.state c.args.notary.now in
+    let disks = pair (g.D.Disk.state c.args.a.now) (g.D.Disk.state c.args.b.now) in
+    let asked = subst (AsksFor c.args.job.now) c.in-Reading.is c.in_ok-refusal.ensures.asked in
+    let nothing : PlacesNothing c.in_ok-refusal.field-0 = subst PlacesNothing (sym c.in-Reading.is) tt in (
+      false,
+      λ h lane index line sink holds.
+          let p = subst (λ (k : Kept). Holds g.D.Disk.tells (world k disks sink) h) (sym c.self.view_is) holds in
+          let step = step_in n n false lane index line in
+          let none = c.requires.settled (asks_closes c.args.job.now c.in-Reading.query asked) h holds.keeps.serves in
+          let there = holds_book g.D.Disk.tells _ c.apply.new.self disks sink h (c.in_ok-refusal.ensures.unchanged nothing) p in
+          let a = c.in_ok-refusal.ensures.ok h p.keeps.serves in
+          record {
+            judged = judged_same_kept _ _ h step c.args.job.now _ _ p.keeps a nothing c.in_ok-refusal.ensures.unchanged refl refl refl
+                (ap Reply (c.in_ok-tell-in-Clue.ensures.told h step sink there none) ∙ sym (ap (answer_for h step) c.in-Reading.is)) (unstamped n false lane index line);
+            attended = attends_other n h lane index line c.args.job.now (λ is own. let asks = anchor_asks _ h c.args.job.now _ _ (real_applies None c.self.inside.opened.book _ h c.args.job.now _ p.keeps.limits a) is own in let no : ⊥ = cc (asks, c.in-Reading.is, c.in-Clue.is) in no);
+          },
+    )
+
+pub returns-in-Refused-clause-gathers : goal.returns-in-Refused-clause-gathers
+returns-in-Refused-clause-gathers g c = λ other all.
+    subst OpenGathers (sym (c.in_ok-refusal.ensures.unchanged (subst PlacesNothing (sym c.in-Refused.is) tt))) (subst (λ (k : Kept). OpenGathers k.book) (sym c.self.view_is) all)
+
+pub returns-in-Head-clause-gathers : goal.returns-in-Head-clause-gathers
+returns-in-Head-clause-gathers g c = λ other all.
+    subst OpenGathers (sym (c.in_ok-refusal.ensures.unchanged (subst PlacesNothing (sym c.in-Reading.is) tt))) (subst (λ (k : Kept). OpenGathers k.book) (sym c.self.view_is) all)
+
+pub returns-in_ok-tell-in-Get-clause-gathers : goal.returns-in_ok-tell-in-Get-clause-gathers
+returns-in_ok-tell-in-Get-clause-gathers g c = λ other all.
+    subst OpenGathers (sym (c.in_ok-refusal.ensures.unchanged (subst PlacesNothing (sym c.in-Reading.is) tt))) (subst (λ (k : Kept). OpenGathers k.book) (sym c.self.view_is) all)
+
+pub returns-in_ok-tell-in-Clue-clause-gathers : goal.returns-in_ok-tell-in-Clue-clause-gathers
+returns-in_ok-tell-in-Clue-clause-gathers g c = λ other all.
+    subst OpenGathers (sym (c.in_ok-refusal.ensures.unchanged (subst PlacesNothing (sym c.in-Reading.is) tt))) (subst (λ (k : Kept). OpenGathers k.book) (sym c.self.view_is) all)
+
+pub returns-in_ok-gather_placed-in-Placed-clause-gathers : goal.returns-in_ok-gather_placed-in-Placed-clause-gathers
+returns-in_ok-gather_placed-in-Placed-clause-gathers g c = λ other all.
+    subst OpenGathers (sym c.in_ok-gather_placed-in-Placed.ensures.book) (c.in_ok-refusal.ensures.gathers other (subst (λ (k : Kept). OpenGathers k.book) (sym c.self.view_is) all))
+
+pub returns-in-Stamp-clause-gathers : goal.returns-in-Stamp-clause-gathers
+returns-in-Stamp-clause-gathers g c =
+    let job = asked_anchor c.args.job.now c.in-Reading.query (subst (AsksFor c.args.job.now) c.in-Reading.is c.in_ok-refusal.ensures.asked) c.in-Stamp.is in
+    on_ok_all c.anchor.result (λ other. absurd (let no : ⊥ = cc (sym (ap closes_after job) ∙ other) in no))
+
+pub returns-in_err-refusal-clause-unasked : goal.returns-in_err-refusal-clause-unasked
+returns-in_err-refusal-clause-unasked g c = on_err_all c.from_residual.result (ends_untouched c.args.self.now (g.N.Notary.state c.args.notary.now) c.args.job.now)
+
+pub returns-in_err-gather_placed-in-Placed-clause-unasked : goal.returns-in_err-gather_placed-in-Placed-clause-unasked
+returns-in_err-gather_placed-in-Placed-clause-unasked g c = on_err_all c.from_residual-in_err-gather_placed-in-Placed.result (ends_untouched c.args.self.now (g.N.Notary.state c.args.notary.now) c.args.job.now)
+
+pub returns-in_err-tell-in-Get-clause-unasked : goal.returns-in_err-tell-in-Get-clause-unasked
+returns-in_err-tell-in-Get-clause-unasked g c = on_err_all c.from_residual-in_err-tell-in-Get.result (ends_untouched c.args.self.now (g.N.Notary.state c.args.notary.now) c.args.job.now)
+
+pub returns-in_err-tell-in-Clue-clause-unasked : goal.returns-in_err-tell-in-Clue-clause-unasked
+returns-in_err-tell-in-Clue-clause-unasked g c = on_err_all c.from_residual-in_err-tell-in-Clue.result (ends_untouched c.args.self.now (g.N.Notary.state c.args.notary.now) c.args.job.now)

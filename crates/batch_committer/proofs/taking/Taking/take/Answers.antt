@@ -1,39 +1,43 @@
-use Rattle.batch_committer.specs.Steps.{step_at}
 use Rattle.batch_committer.specs.World.{world, pair}
 use Rattle.batch_committer.proofs.Judging.{on_ok_then}
-use Rattle.batch_committer.proofs.Offering.{offer_goes, offer_unended, offer_unjudged, offer_unfilled, fits_gathered, if_err_then}
+use Rattle.batch_committer.proofs.Offering.{fits_gathered, if_err_then}
 use Rattle.batch_committer.proofs.ReadLaws.{fits_read}
+use Rattle.batch_committer.proofs.Taken.{taken, unfilled, unjudged, unended}
 use Rattle.batch_committer.proofs.WayLaws.{err_is}
 use Rattle.batch_committer.proofs.taking.Taking.take.Goals as goal
 
 pub returns-in_err-end_before-clause-err : goal.returns-in_err-end_before-clause-err
 returns-in_err-end_before-clause-err g c =
     err_is _ c.from_residual.result _ c.from_residual.ensures.1
-    (λ line.
-    let m = world c.end_before.new.self (pair (g.D.Disk.state c.end_before.new.a) (g.D.Disk.state c.end_before.new.b)) (g.K.Sink.state c.end_before.new.sink) in
-    offer_unended g.D.Disk.tells _ m m m (step_at c.args.item.now.lane c.args.item.now.index line) c.args.item.now.job _ c.in_err-end_before.ensures.err)
+    (unended g.D.Disk.tells _ _ _ c.args.item.now.lane c.args.item.now.index c.args.item.now.job _ c.in_err-end_before.ensures.err)
 
 pub returns-in_err-take_in-clause-err : goal.returns-in_err-take_in-clause-err
 returns-in_err-take_in-clause-err g c =
+    let sink = g.K.Sink.state c.end_before.new.sink in
+    let m = world c.end_before.new.self (pair (g.D.Disk.state c.end_before.new.a) (g.D.Disk.state c.end_before.new.b)) sink in
     err_is _ c.from_residual-in_err-take_in.result _ c.from_residual-in_err-take_in.ensures.1
-    (λ line.
-    let m = world c.end_before.new.self (pair (g.D.Disk.state c.end_before.new.a) (g.D.Disk.state c.end_before.new.b)) (g.K.Sink.state c.end_before.new.sink) in
-    offer_unjudged g.D.Disk.tells _ m m _ (step_at c.args.item.now.lane c.args.item.now.index line) c.args.item.now.job _ c.in_ok-end_before.ensures.ok (c.in_err-take_in.ensures.err line (g.K.Sink.state c.end_before.new.sink)))
+    (unjudged g.D.Disk.tells _ m m _ _ _ c.args.item.now.lane c.args.item.now.index c.args.item.now.job c.in_ok-end_before.ensures.ok _ (c.in_err-take_in.ensures.err sink))
 
-pub end_full-requires : goal.end_full-requires
-end_full-requires g c =
+pub end_after-requires-clause-fits : goal.end_after-requires-clause-fits
+end_after-requires-clause-fits g c =
     let e = c.in_ok-take_in.ensures in
     fits_read g.D.Disk.tells _ _ e.read c.take_in.new.self (g.K.Sink.state c.end_before.new.sink)
     (fits_gathered g.D.Disk.tells c.end_before.new.self c.take_in.new.self _ _ c.in_ok-end_before.ensures.fits c.in_ok-end_before.ensures.room e.grown e.file)
 
+pub end_after-requires-clause-gathers : goal.end_after-requires-clause-gathers
+end_after-requires-clause-gathers g c =
+    λ other. c.in_ok-take_in.ensures.gathers other c.in_ok-end_before.ensures.room.1
+
 pub returns-clause-ok : goal.returns-clause-ok
 returns-clause-ok g c =
-    on_ok_then c.end_full.result
-    (λ x line. offer_goes g.D.Disk.tells _ _ _ _ (step_at c.args.item.now.lane c.args.item.now.index line) c.args.item.now.job c.in_ok-end_before.ensures.ok (c.in_ok-take_in.ensures.ok line (g.K.Sink.state c.end_before.new.sink)) (x c.args.item.now.job))
-    c.end_full.ensures.ok
+    let y = c.in_ok-take_in.ensures.ok in
+    on_ok_then c.end_after.result
+    (λ x. (y.0, λ line. taken g.D.Disk.tells _ _ _ _ _ _ c.args.item.now.lane c.args.item.now.index c.args.item.now.job c.in_ok-end_before.ensures.ok y.0 line (y.1 line (g.K.Sink.state c.end_before.new.sink)) x))
+    c.end_after.ensures.ok
 
 pub returns-clause-err : goal.returns-clause-err
 returns-clause-err g c =
-    if_err_then c.end_full.result
-    (λ end x line. offer_unfilled g.D.Disk.tells _ _ _ _ (step_at c.args.item.now.lane c.args.item.now.index line) c.args.item.now.job end c.in_ok-end_before.ensures.ok (c.in_ok-take_in.ensures.ok line (g.K.Sink.state c.end_before.new.sink)) (x c.args.item.now.job))
-    c.end_full.ensures.err
+    let y = c.in_ok-take_in.ensures.ok in
+    if_err_then c.end_after.result
+    (λ end x. unfilled g.D.Disk.tells _ _ _ _ _ _ c.args.item.now.lane c.args.item.now.index c.args.item.now.job c.in_ok-end_before.ensures.ok end y.0 (λ line. y.1 line (g.K.Sink.state c.end_before.new.sink)) x)
+    c.end_after.ensures.err

@@ -1,0 +1,127 @@
+-- An anchor that the ledger accepts: what comes of it, by what the notary answered.
+use Rattle.std.specs.Prelude.{Result, Ok, Err, OnErr}
+use Rattle.std.proofs.Common.{◌≡◌, ◌≢◌, ℕ, ◌⊎◌, inl, inr, List, length, Option, Some, None, refl, ap, sym, subst, ◌∙◌}
+use Rattle.ledger_bytes.specs.declared.refusal.Refusal.{Refusal}
+use Rattle.journal_record.specs.declared.stamp.Stamp.{Stamp}
+use Rattle.script_lines.specs.declared.reply.Reply.TheVariants as reply
+use Rattle.ledger_bytes.specs.Causes.{count_after}
+use Rattle.journal_record.specs.declared.rules.TheConstants.{NOTARY_LIMIT}
+use Rattle.time_peg.specs.Entries.{NotaryState, IsStamped, HasOneMore, Counts}
+use Rattle.time_peg.specs.declared.notary.NotaryErr.{NotaryErr}
+use Rattle.time_peg.specs.declared.notary.NotaryErr.TheVariants.{Failed, Full, NoMemory}
+use Rattle.ledger_model.specs.Anchors.{stamp_of, no_stamp}
+use Rattle.ledger_model.specs.History.{History}
+use Rattle.ledger_model.specs.Judgements.{own_refusal}
+use Rattle.ledger_model.specs.Limits.{real_limits}
+use Rattle.ledger_model.specs.Outcomes.{accepted_outcome, query_of, after_judgement, with_job, anchor_outcome, judged_outcome, outcome}
+use Rattle.ledger_model.specs.Step.{Step}
+use Rattle.ledger_model.specs.Texts.{answer_for}
+use Rattle.ledger_model.specs.declared.answer.Answer.TheVariants.{Reply}
+use Rattle.ledger_model.specs.declared.job.Job.{Job}
+use Rattle.ledger_model.specs.declared.job.Job.TheVariants.{Refused, Append, NewMember, Anchor, Get, Clue, Head}
+use Rattle.ledger_model.specs.declared.limits.Limits.{Limits}
+use Rattle.ledger_model.specs.declared.outcome.Outcome.{Outcome}
+use Rattle.ledger_model.specs.declared.outcome.Outcome.TheVariants as came
+use Rattle.ledger_model.specs.declared.outcome.Query.{Query}
+use Rattle.ledger_model.specs.declared.outcome.Query.TheVariants as query
+use Rattle.ledger_book.specs.Books as books
+use Rattle.ledger_book.specs.Books.{Serves}
+use Rattle.ledger_book.proofs.ApplyLaws.{anchor_accepted}
+use Rattle.ledger_book.specs.Steps.{Applies, Anchors, HasOperatorRoom, PlacesNothing}
+use Rattle.batch_committer.specs.Steps.{Gathers, Judged}
+use Rattle.batch_committer.specs.World.{Kept, Keeps}
+use Rattle.batch_committer.proofs.Judging.{gathers_kept}
+
+-- a result that is an error, or isn't
+pub on_err_all : {T E : Type 0} {A : Type 0} (result : Result T E) → A → OnErr result A
+on_err_all (Ok value) a = tt
+on_err_all (Err error) a = a
+
+-- ---- no stamp
+
+none_placed : (h : History) (refusal : Option Refusal) → after_judgement refusal None h ≡ h
+none_placed h (Some refusal) = refl
+none_placed h None = refl
+
+pub unplaced : (limits : Limits) (h : History) → with_job limits None h Anchor ≡ h
+unfolding with_job
+unplaced limits h = none_placed h (own_refusal limits h Anchor)
+
+-- the notary gave no stamp: nothing changes, and that is told
+pub unstamped_judged : (k : Kept) (h : History) (step : Step) (why : Refusal) → Keeps k h → own_refusal real_limits h Anchor ≡ None → stamp_of step ≡ None → no_stamp step ≡ why → Judged k h step Anchor (Reply (reply.Refused why))
+unfolding outcome
+unstamped_judged k h step why p accepted none is = record {
+  answer_is =
+      ap (λ r. Reply (reply.Refused r)) (sym is)
+      ∙ sym (ap (λ o. answer_for h step (judged_outcome (own_refusal real_limits h Anchor) (anchor_outcome h o))) none ∙ ap (λ r. answer_for h step (judged_outcome r (came.Reading query.Stamp))) accepted);
+  gathers = subst (λ o. Gathers k (with_job real_limits o h Anchor)) (sym none) (subst (Gathers k) (sym (unplaced real_limits h)) (gathers_kept k h p));
+}
+
+-- ---- a stamp
+
+-- with a stamp and with room it is placed
+pub stamped_placed : (k : books.Kept) (s : Stamp) (o : Outcome) → HasOperatorRoom k → Anchors k (Some s) o → ((x : Refusal) × (o ≡ came.Refused x)) ⊎ ((x : Query) × (o ≡ came.Reading x)) → ⊥
+stamped_placed k s o room told (inl x) = subst (Anchors k (Some s)) x.1 told room
+stamped_placed k s o room told (inr x) = subst (Anchors k (Some s)) x.1 told
+
+-- ---- from the clauses of a notary
+
+pub accepted_real : (k : Kept) (h : History) → Keeps k h → HasOperatorRoom k.book → own_refusal real_limits h Anchor ≡ None
+accepted_real k h p room = subst (λ limits. own_refusal limits h Anchor ≡ None) p.limits (anchor_accepted k.book h p.serves room)
+
+pub full_of : (peg : List ℕ) (old new : List (List ℕ)) (before now : ℕ) (e : NotaryErr) → e ≡ Full → IsStamped peg old new (Err e) → Counts {T = Stamp} (Err e) before now → (new ≡ old) × (length old ≡ NOTARY_LIMIT) × (now ≡ before)
+full_of peg old new before now e is list count =
+    let l = subst (λ x. IsStamped peg old new (Err x)) is list in (l.0, l.1, subst (λ x. Counts {T = Stamp} (Err x) before now) is count)
+
+pub failed_of : (peg : List ℕ) (old new : List (List ℕ)) (before now : ℕ) (e : NotaryErr) → e ≡ Failed → IsStamped peg old new (Err e) → Counts {T = Stamp} (Err e) before now → ((new ≡ old) ⊎ HasOneMore peg old new) × (now ≡ count_after before)
+failed_of peg old new before now e is list count = (subst (λ x. IsStamped peg old new (Err x)) is list, subst (λ x. Counts {T = Stamp} (Err x) before now) is count)
+
+-- where memory was short nothing changed
+pub memory_of : (peg : List ℕ) (n m : NotaryState) (e : NotaryErr) → e ≡ NoMemory → IsStamped peg n.entries m.entries (Err e) → Counts {T = Stamp} (Err e) n.faults m.faults → m ≡ n
+memory_of peg n m e is list count =
+    let entries : m.entries ≡ n.entries = subst (λ x. IsStamped peg n.entries m.entries (Err x)) is list in
+    let faults : m.faults ≡ n.faults = subst (λ x. Counts {T = Stamp} (Err x) n.faults m.faults) is count in
+    λ i. record { entries = entries i; faults = faults i }
+
+result_full : Result Stamp NotaryErr → Type 0
+result_full (Ok s) = ⊥
+result_full (Err Failed) = ⊥
+result_full (Err Full) = Unit {0}
+result_full (Err NoMemory) = ⊥
+
+pub failed_not_full : (old : List (List ℕ)) (e : NotaryErr) → e ≡ Failed → (length old ≡ NOTARY_LIMIT → (let r : Result Stamp NotaryErr = Err e in r ≡ Err Full)) → length old ≢ NOTARY_LIMIT
+unfolding result_full
+failed_not_full old e is full at = subst result_full (sym (full at) ∙ ap (λ x. Err x) is) tt
+
+-- ---- by what the book told before
+
+-- where it asks for a stamp there is room
+pub asked_room : (old new : books.Kept) (o : Outcome) (q : Query) → Anchors old None o → o ≡ came.Reading q → (PlacesNothing o → new ≡ old) → HasOperatorRoom new
+asked_room old new o q told is same = subst HasOperatorRoom (sym (same (subst PlacesNothing (sym is) tt))) (subst (Anchors old None) is told)
+
+pub asked_anchor : (job : Job) (q : Query) → query_of job ≡ Some q → q ≡ query.Stamp → job ≡ Anchor
+asked_anchor (Refused refusal) q is at = absurd (let no : ⊥ = cc is in no)
+asked_anchor (Append member clue content content_digest request by) q is at = absurd (let no : ⊥ = cc is in no)
+asked_anchor (NewMember number key by) q is at = absurd (let no : ⊥ = cc is in no)
+asked_anchor Anchor q is at = refl
+asked_anchor (Get n) q is at = absurd (let no : ⊥ = cc (is, at) in no)
+asked_anchor (Clue clue) q is at = absurd (let no : ⊥ = cc (is, at) in no)
+asked_anchor Head q is at = absurd (let no : ⊥ = cc (is, at) in no)
+
+pub asked_head : (job : Job) (q : Query) → query_of job ≡ Some q → q ≡ query.Head → job ≡ Head
+asked_head (Refused refusal) q is at = absurd (let no : ⊥ = cc is in no)
+asked_head (Append member clue content content_digest request by) q is at = absurd (let no : ⊥ = cc is in no)
+asked_head (NewMember number key by) q is at = absurd (let no : ⊥ = cc is in no)
+asked_head Anchor q is at = absurd (let no : ⊥ = cc (is, at) in no)
+asked_head (Get n) q is at = absurd (let no : ⊥ = cc (is, at) in no)
+asked_head (Clue clue) q is at = absurd (let no : ⊥ = cc (is, at) in no)
+asked_head Head q is at = refl
+
+-- an anchor without a stamp asks for one, where it is accepted
+pub anchor_asks : (limits : Limits) (h : History) (job : Job) (o : Outcome) (new : books.Kept) → Applies limits None h job o new → job ≡ Anchor → own_refusal limits h job ≡ None → o ≡ came.Reading query.Stamp
+unfolding outcome
+anchor_asks limits h job o new a is none =
+    a.outcome_is ∙ ap (λ x. judged_outcome x (accepted_outcome h None job)) none ∙ ap (λ (j : Job). accepted_outcome h None j) is
+
+pub keeps_book : (k : Kept) (book : books.Kept) (h : History) → book ≡ k.book → Keeps k h → Keeps (record k { book = book }) h
+keeps_book k book h is p = subst (λ b. Keeps (record k { book = b }) h) (sym is) p

@@ -1,0 +1,112 @@
+use Rattle.std.proofs.Common.{◌∙◌, ap, inl, inr, ◌≤◌, false, true, Some, refl, sym, subst}
+use Rattle.ledger_bytes.specs.declared.refusal.Refusal.TheVariants.{NotaryFault, NotaryFull}
+use Rattle.ledger_model.specs.declared.job.Job.TheVariants.{Anchor}
+use Rattle.ledger_book.specs.Books as books
+use Rattle.ledger_book.specs.Books.{Serves}
+use Rattle.ledger_book.specs.Steps.{Applies, IsSame, HasOperatorRoom}
+use Rattle.batch_committer.specs.Attending.{step_in}
+use Rattle.batch_committer.specs.World.{Kept, Keeps}
+use Rattle.batch_committer.proofs.Attends.{attends_full, full_stamp, full_why, attends_failed, failed_stamp, failed_why, attends_stamped, stamped}
+use Rattle.batch_committer.proofs.Anchoring.{on_err_all, unstamped_judged, stamped_placed, accepted_real, full_of, failed_of, failed_not_full, memory_of}
+use Rattle.batch_committer.proofs.Judging.{has_placed, judged_placed}
+use Rattle.std.proofs.lemmas.Bool.{true≢false}
+use Rattle.ledger_model.specs.Texts.{answer_for}
+use Rattle.ledger_model.specs.declared.answer.Answer.TheVariants.{Receipt}
+use Rattle.batch_committer.proofs.taking.Taking.anchor.Goals as goal
+
+pub returns-in-Err-Full-clause-judged : goal.returns-in-Err-Full-clause-judged
+returns-in-Err-Full-clause-judged g c =
+    let n = g.N.Notary.state c.args.notary.now in
+    let m = g.N.Notary.state c.stamp.new.self in
+    let e = c.in-Err-Full.ensures in
+    let f = full_of c.peg-peg.result.0 n.entries m.entries n.faults m.faults c.in-Err-Full.field-0 c.in-Err-Full.field-0-is e.list e.faults in (
+      false,
+      λ h lane index line p.
+          let own = accepted_real c.args.self.now h p c.requires.room in
+          record {
+            judged = unstamped_judged c.args.self.now h (step_in n m false lane index line) NotaryFull p own (full_stamp n m f.0 f.1 lane index line) (full_why n m f.0 f.1 lane index line);
+            attended = attends_full n m f.0 f.1 h lane index line own f.2;
+          },
+    )
+
+pub returns-in-Err-Failed-clause-judged : goal.returns-in-Err-Failed-clause-judged
+returns-in-Err-Failed-clause-judged g c =
+    let n = g.N.Notary.state c.args.notary.now in
+    let m = g.N.Notary.state c.stamp.new.self in
+    let e = c.in-Err-Failed.ensures in
+    let peg = c.peg-peg.result.0 in
+    let f = failed_of peg n.entries m.entries n.faults m.faults c.in-Err-Failed.field-0 c.in-Err-Failed.field-0-is e.list e.faults in
+    let not_full = failed_not_full n.entries c.in-Err-Failed.field-0 c.in-Err-Failed.field-0-is e.full in (
+      true,
+      λ h lane index line p.
+          let own = accepted_real c.args.self.now h p c.requires.room in
+          let pegs = c.peg-peg.ensures.peg h (subst (λ (k : Kept). books.Stands k.book h) (sym c.self.view_is) p.serves.stands) (c.requires.settled h p.serves) in
+          record {
+            judged = unstamped_judged c.args.self.now h (step_in n m true lane index line) NotaryFault p own (failed_stamp n m peg f.0 e.lawful not_full lane index line) (failed_why n m peg f.0 e.lawful not_full lane index line);
+            attended = attends_failed n m peg f.0 e.lawful not_full h lane index line own pegs f.1;
+          },
+    )
+
+pub gather_placed-requires-clause-has : goal.gather_placed-requires-clause-has
+gather_placed-requires-clause-has g c =
+    has_placed c.self.inside.opened.book c.apply.new.self _ c.in-Placed.jsn c.in-Placed.leaf c.apply.ensures.same c.in_ok-jsn.ensures.number c.in-Placed.is
+
+pub returns-in-Err-NoMemory-clause-unasked : goal.returns-in-Err-NoMemory-clause-unasked
+returns-in-Err-NoMemory-clause-unasked g c =
+    let e = c.in-Err-NoMemory.ensures in
+    inr (refl, memory_of c.peg-peg.result.0 (g.N.Notary.state c.args.notary.now) (g.N.Notary.state c.stamp.new.self) c.in-Err-NoMemory.field-0 c.in-Err-NoMemory.field-0-is e.list e.faults)
+
+pub returns-in_err-jsn-clause-unasked : goal.returns-in_err-jsn-clause-unasked
+returns-in_err-jsn-clause-unasked g c =
+    let n = g.N.Notary.state c.args.notary.now in
+    let m = g.N.Notary.state c.stamp.new.self in
+    let e = c.in-Ok.ensures in
+    on_err_all c.from_residual.result
+    (inl (
+      false,
+      λ h lane index line p.
+          attends_stamped n m c.peg-peg.result.0 c.peg-peg.ensures.wide c.in-Ok.stamp e.list.1 e.list.2 e.lawful h lane index line (accepted_real c.args.self.now h p c.requires.room)
+          (c.peg-peg.ensures.peg h (subst (λ (k : Kept). books.Stands k.book h) (sym c.self.view_is) p.serves.stands) (c.requires.settled h p.serves)) e.faults,
+    ))
+
+pub returns-in_err-gather_placed-in-Placed-clause-unasked : goal.returns-in_err-gather_placed-in-Placed-clause-unasked
+returns-in_err-gather_placed-in-Placed-clause-unasked g c =
+    let n = g.N.Notary.state c.args.notary.now in
+    let m = g.N.Notary.state c.stamp.new.self in
+    let e = c.in-Ok.ensures in
+    on_err_all c.from_residual-in_err-gather_placed-in-Placed.result
+    (inl (
+      false,
+      λ h lane index line p.
+          attends_stamped n m c.peg-peg.result.0 c.peg-peg.ensures.wide c.in-Ok.stamp e.list.1 e.list.2 e.lawful h lane index line (accepted_real c.args.self.now h p c.requires.room)
+          (c.peg-peg.ensures.peg h (subst (λ (k : Kept). books.Stands k.book h) (sym c.self.view_is) p.serves.stands) (c.requires.settled h p.serves)) e.faults,
+    ))
+
+pub unreachable-requires : goal.unreachable-requires
+unreachable-requires g c =
+    stamped_placed c.self.inside.opened.book c.in-Ok.stamp c.in_ok-jsn.field-0
+    (subst (λ (k : Kept). HasOperatorRoom k.book) (sym c.self.view_is) c.requires.room) (c.in_ok-jsn.ensures.anchor refl) c.in-Refused.is
+
+pub returns-clause-judged : goal.returns-clause-judged
+returns-clause-judged g c =
+    let n = g.N.Notary.state c.args.notary.now in
+    let m = g.N.Notary.state c.stamp.new.self in
+    let e = c.in-Ok.ensures in
+    let peg = c.peg-peg.result.0 in (
+      false,
+      λ h lane index line keeps.
+          let p = subst (λ (k : Kept). Keeps k h) (sym c.self.view_is) keeps in
+          let own = accepted_real c.args.self.now h keeps c.requires.room in
+          let x = c.in_ok-gather_placed-in-Placed.ensures in
+          let given = stamped n m peg c.peg-peg.ensures.wide c.in-Ok.stamp e.list.1 e.list.2 e.lawful lane index line e.list.0 in
+          record {
+            judged = judged_placed (Some c.in-Ok.stamp) _ _ c.gather_placed.new.self h (step_in n m false lane index line) Anchor c.in_ok-jsn.field-0 c.in-Placed.jsn c.in-Placed.leaf _ p (λ other. absurd (true≢false other)) (λ alone. c.requires.settled h keeps.serves) refl
+                (subst (λ b. Applies c.self.inside.opened.book.limits (Some c.in-Ok.stamp) h Anchor c.in_ok-jsn.field-0 b) (sym x.book) (c.in_ok-jsn.ensures.ok h p.serves))
+                (subst (IsSame c.self.inside.opened.book) (sym x.book) c.apply.ensures.same) c.in-Placed.is
+                (λ f journal content given parts serves there floor. x.gathered f journal content given parts (subst (λ b. Serves b f) x.book serves) there (subst (λ (b : books.Kept). b.floor ≤ c.in-Placed.jsn) x.book floor))
+                refl refl refl x.rest.file.place
+                (ap (Receipt c.in-Placed.jsn c.in-Placed.leaf) (sym given) ∙ sym (ap (answer_for h (step_in n m false lane index line)) c.in-Placed.is)) given;
+            attended = attends_stamped n m peg c.peg-peg.ensures.wide c.in-Ok.stamp e.list.1 e.list.2 e.lawful h lane index line own
+                (c.peg-peg.ensures.peg h p.serves.stands (c.requires.settled h keeps.serves)) e.faults;
+          },
+    )
