@@ -1,5 +1,5 @@
 -- Lemmas on a run whose disks were opened or made first.
-use Rattle.std.proofs.Common.{◌≡◌, ℕ, ◌⊎◌, inl, inr, ◌<◌, List, [], length, take, drop, refl, ap, sym, subst, ◌∙◌, arith}
+use Rattle.std.proofs.Common.{◌≡◌, ℕ, inl, inr, ◌<◌, List, [], length, map, take, drop, refl, ap, sym, subst, ◌∙◌, arith}
 use Rattle.std.specs.Prelude.{IfSome, IsSome}
 use Rattle.std.proofs.KnownBytes.{Consumes-nil, Appends-nil}
 use Rattle.std.proofs.lemmas.List.{take-append-drop, length-take-le}
@@ -11,13 +11,17 @@ use Rattle.ledger_bytes.specs.Causes.{count_after}
 use Rattle.ledger_disk.specs.Disk.{State, MayLeave}
 use Rattle.ledger_disk.proofs.Guarding.{settled_image}
 use Rattle.std.proofs.lemmas.List.Elements.{All-nil}
-use Rattle.ledger_io.specs.Lines.{lines_of, IsLine}
+use Rattle.ledger_io.specs.Lines.{IsLine}
 use Rattle.ledger_io.specs.Outside.{SourceState, SinkState}
 use Rattle.ledger_io.specs.Runs.{FallsShort, SomeOfScript}
 use Rattle.ledger_io.specs.declared.ending.Ending.TheVariants as run
 use Rattle.ledger_model.specs.History.{History}
 use Rattle.ledger_model.specs.Rules.{after}
 use Rattle.ledger_model.specs.Scheme.{Scheme}
+use Rattle.ledger_model.specs.Step.{Step}
+use Rattle.ledger_model.specs.Texts.{text}
+use Rattle.ledger_model.specs.Windows.{said_lines, windows}
+use Rattle.time_peg.specs.Entries.{NotaryState}
 use Rattle.ledger_model.proofs.DueLaws.{grows_windows}
 use Rattle.ledger_model.proofs.WaitLaws.{begins_closed}
 use Rattle.ledger_open.specs.Standing.{PairFor}
@@ -27,33 +31,34 @@ use Rattle.ledger_cli.specs.Runs.{Handed, handed, AreQuiet, StandFor, Faults, No
 use Rattle.ledger_cli.specs.Session.{IsOfLines}
 use Rattle.ledger_cli.specs.declared.ending.LedgerEnding.{LedgerEnding}
 use Rattle.ledger_cli.specs.declared.ending.LedgerEnding.TheVariants.{Run, DiskFault, Damaged, Empty, Exists, NewerFormat}
-use Rattle.ledger_cli.proofs.LineLaws.{steps_for, text_for, in_order}
+use Rattle.ledger_cli.proofs.MergeLaws.{all_unasked, unasked_merges, each_unasked}
+use Rattle.ledger_cli.proofs.NotaryLaws.{some_none}
 
 -- ---- what is told of a run is told of what it was handed before the disks were opened
 
-pub serves_from : (scheme : Scheme) (h : History) (ending : LedgerEnding) (source : SourceState) (sink : SinkState) (d e : Pair) (now : Handed) → RunsOn scheme h ending (handed source sink d) now → RunsOn scheme h ending (handed source sink e) now
-serves_from scheme h (Run run.Done) source sink d e now s = record { read = s.read; replies = s.replies; consumed = s.consumed; appended = s.appended; replied = s.replied }
-serves_from scheme h (Run run.Usage) source sink d e now s = absurd s.replied
-serves_from scheme h (Run run.ReadFault) source sink d e now s = record { read = s.read; replies = s.replies; consumed = s.consumed; appended = s.appended; replied = s.replied }
-serves_from scheme h (Run run.WriteFault) source sink d e now s = record { read = s.read; replies = s.replies; consumed = s.consumed; appended = s.appended; replied = s.replied }
-serves_from scheme h (Run run.NoMemory) source sink d e now s = record { read = s.read; replies = s.replies; consumed = s.consumed; appended = s.appended; replied = s.replied }
-serves_from scheme h (Run run.LineTooLong) source sink d e now s = record { read = s.read; replies = s.replies; consumed = s.consumed; appended = s.appended; replied = s.replied }
-serves_from scheme h (Run run.ScriptTooLong) source sink d e now s = record { read = s.read; replies = s.replies; consumed = s.consumed; appended = s.appended; replied = s.replied }
-serves_from scheme h DiskFault source sink d e now s = record { read = s.read; replies = s.replies; consumed = s.consumed; appended = s.appended; replied = s.replied }
-serves_from scheme h (Damaged damage) source sink d e now s = absurd s.replied
-serves_from scheme h Empty source sink d e now s = absurd s.replied
-serves_from scheme h Exists source sink d e now s = absurd s.replied
-serves_from scheme h (NewerFormat found) source sink d e now s = absurd s.replied
+pub serves_from : (scheme : Scheme) (h : History) (ending : LedgerEnding) (source : SourceState) (sink : SinkState) (n : NotaryState) (d e : Pair) (now : Handed) → RunsOn scheme h ending (handed source sink d n) now → RunsOn scheme h ending (handed source sink e n) now
+serves_from scheme h (Run run.Done) source sink n d e now s = record { read = s.read; replies = s.replies; consumed = s.consumed; appended = s.appended; replied = s.replied }
+serves_from scheme h (Run run.Usage) source sink n d e now s = absurd s.replied
+serves_from scheme h (Run run.ReadFault) source sink n d e now s = record { read = s.read; replies = s.replies; consumed = s.consumed; appended = s.appended; replied = s.replied }
+serves_from scheme h (Run run.WriteFault) source sink n d e now s = record { read = s.read; replies = s.replies; consumed = s.consumed; appended = s.appended; replied = s.replied }
+serves_from scheme h (Run run.NoMemory) source sink n d e now s = record { read = s.read; replies = s.replies; consumed = s.consumed; appended = s.appended; replied = s.replied }
+serves_from scheme h (Run run.LineTooLong) source sink n d e now s = record { read = s.read; replies = s.replies; consumed = s.consumed; appended = s.appended; replied = s.replied }
+serves_from scheme h (Run run.ScriptTooLong) source sink n d e now s = record { read = s.read; replies = s.replies; consumed = s.consumed; appended = s.appended; replied = s.replied }
+serves_from scheme h DiskFault source sink n d e now s = record { read = s.read; replies = s.replies; consumed = s.consumed; appended = s.appended; replied = s.replied }
+serves_from scheme h (Damaged damage) source sink n d e now s = absurd s.replied
+serves_from scheme h Empty source sink n d e now s = absurd s.replied
+serves_from scheme h Exists source sink n d e now s = absurd s.replied
+serves_from scheme h (NewerFormat found) source sink n d e now s = absurd s.replied
 
-module _ (source : SourceState) (sink : SinkState) (d e : Pair) (now : Handed) (a : d.a.faults ≡ e.a.faults) (b : d.b.faults ≡ e.b.faults) where
-  none_from : (S : ℕ → ℕ → Type 0) (K : SinkState → SinkState → Type 0) → Faults S K NoDiskFailed (handed source sink d) now → Faults S K NoDiskFailed (handed source sink e) now
+module _ (source : SourceState) (sink : SinkState) (n : NotaryState) (d e : Pair) (now : Handed) (a : d.a.faults ≡ e.a.faults) (b : d.b.faults ≡ e.b.faults) where
+  none_from : (S : ℕ → ℕ → Type 0) (K : SinkState → SinkState → Type 0) → Faults S K NoDiskFailed (handed source sink d n) now → Faults S K NoDiskFailed (handed source sink e n) now
   none_from S K f = record { source_is = f.source_is; sink_is = f.sink_is; disks_are = record { a = f.disks_are.a ∙ a; b = f.disks_are.b ∙ b } }
 
   one_from : DiskFailed d now.disks → DiskFailed e now.disks
   one_from (inl f) = inl (f.0 ∙ ap count_after a, f.1 ∙ b)
   one_from (inr f) = inr (f.0 ∙ a, f.1 ∙ ap count_after b)
 
-  pub faults_from : (ending : LedgerEnding) → FaultsBy ending (handed source sink d) now → FaultsBy ending (handed source sink e) now
+  pub faults_from : (ending : LedgerEnding) → FaultsBy ending (handed source sink d n) now → FaultsBy ending (handed source sink e n) now
   faults_from (Run run.Done) f = none_from _ _ f
   faults_from (Run run.Usage) f = absurd f
   faults_from (Run run.ReadFault) f = none_from _ _ f
@@ -73,26 +78,34 @@ module _ (source : SourceState) (sink : SinkState) (d e : Pair) (now : Handed) (
 
 -- ---- a run that didn't begin
 
-module _ (scheme : Scheme) (h : History) (source : SourceState) (sink : SinkState) (old now : Pair) (images : (a b : List ℕ) → MayLeave now.a.bytes a → MayLeave now.b.bytes b → PairFor a b h) where
-  stops_first : (lines : List (List ℕ)) → StopsOn scheme h [] now lines (text_for scheme h lines)
+module _ (scheme : Scheme) (h : History) (source : SourceState) (sink : SinkState) (n : NotaryState) (old now : Pair) (images : (a b : List ℕ) → MayLeave now.a.bytes a → MayLeave now.b.bytes b → PairFor a b h) where
+  -- no line was taken
+  abbrev steps_for : List (List ℕ) → List (List Step)
+  steps_for lines = map (all_unasked n) (windows (said_lines lines))
+
+  stops_first : (lines : List (List ℕ)) → StopsOn scheme h [] now n n lines (text scheme h (steps_for lines))
   stops_first lines = record {
-    answers = in_order scheme h lines;
+    steps = steps_for lines;
+    merge = unasked_merges n (windows (said_lines lines));
+    took = some_none scheme h n (steps_for lines) (each_unasked n (windows (said_lines lines)));
+    text_is = refl;
     images = λ a b x y. record {
       kept = h;
       stands = images a b x y;
       no_shorter = begins_not h.closed;
       no_longer = begins_closed h (after scheme h (steps_for lines)) (grows_windows scheme h (steps_for lines));
       receipts = λ jsn leaf r. absurd r.line;
+      pegs = λ p. p;
     };
   }
 
-  some_first : SomeOfScript (StopsOn scheme h [] now) source source [] (Begins [])
-  some_first = inl (refl, ([], [], record { is = refl; each = All-nil IsLine }, λ lines. (text_for scheme h lines, stops_first lines, record { rest = text_for scheme h lines; is = refl })))
+  some_first : SomeOfScript (StopsOn scheme h [] now n n) source source [] (Begins [])
+  some_first = inl (refl, ([], [], record { is = refl; each = All-nil IsLine }, λ lines. (text scheme h (steps_for lines), stops_first lines, record { rest = text scheme h (steps_for lines); is = refl })))
 
-  pub serves_none : RunsOn scheme h (Run run.NoMemory) (handed source sink old) (handed source sink now)
+  pub serves_none : RunsOn scheme h (Run run.NoMemory) (handed source sink old n) (handed source sink now n)
   serves_none = record { read = []; replies = []; consumed = Consumes-nil source.left; appended = Appends-nil sink.held; replied = (inl refl, some_first) }
 
-  pub serves_fault : RunsOn scheme h DiskFault (handed source sink old) (handed source sink now)
+  pub serves_fault : RunsOn scheme h DiskFault (handed source sink old n) (handed source sink now n)
   serves_fault = record { read = []; replies = []; consumed = Consumes-nil source.left; appended = Appends-nil sink.held; replied = (inl refl, some_first) }
 
 -- where nothing is pending each image is what is read

@@ -1,10 +1,15 @@
 pub mod CarryLaws
 pub mod LineLaws
+pub mod NotaryLaws
+pub mod ListLaws
+pub mod CountedLaws
 pub mod OpeningLaws
 pub mod SessionLaws
+pub mod PegLaws
 pub mod StopLaws
 pub mod TakeLaws
 pub mod TopLaws
+pub mod KeepingLaws
 pub mod PieceLaws
 pub mod MergeLaws
 pub mod OrderLaws

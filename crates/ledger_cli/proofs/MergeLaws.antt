@@ -1,24 +1,18 @@
 -- Lemmas on merges.
 use Rattle.std.specs.Prelude.{⊤, All, filter}
-use Rattle.std.proofs.Common.{◌≡◌, ◌≢◌, ℕ, suc, ◌+◌, ◌<◌, ◌^◌, ◌==◌, ◌⊎◌, inl, inr, Bool, true, false, cond, List, [], ◌∷◌, ◌++◌, length, map, refl, ap, sym, subst, ◌∙◌, arith, append_assoc, append-nil, length-append, eq-eqb, ne_eqb}
+use Rattle.std.proofs.Common.{◌≡◌, ℕ, ◌+◌, ◌==◌, Bool, true, false, cond, List, [], ◌∷◌, ◌++◌, length, map, refl, ap, sym, subst, ◌∙◌, arith, length-append, eq-eqb}
 use Rattle.std.specs.List.{flat_map}
-use Rattle.std.proofs.lemmas.List.{map-append}
 use Rattle.std.proofs.lemmas.List.Elements.{filter-append, All-head, All-tail}
-use mathlib.Core.Logic.{dite}
-use native.Mathlib.Decide.{ℕ_discrete}
 use Rattle.script_lines.specs.Grammar.{spoken_line}
 use Rattle.script_lines.specs.Receipts.{Fits}
-use Rattle.ledger_model.specs.Dues.{IsCounted, AllCounted, EachCounted}
-use Rattle.ledger_model.specs.History.{History}
+use Rattle.time_peg.specs.Entries.{NotaryState}
+use Rattle.ledger_model.specs.Dues.{AllCounted, EachCounted}
 use Rattle.ledger_model.specs.InOrder.{step_of, steps_of}
 use Rattle.ledger_model.specs.Merge.{said_by, picked_lines, lines_of_lane, IsMergeOf, IsMerge}
-use Rattle.ledger_model.specs.Notary.{Linked, LinkedAll, failures, IsAttended}
-use Rattle.ledger_model.specs.Rules.{after_step, after_window}
-use Rattle.ledger_model.specs.Scheme.{Scheme}
 use Rattle.ledger_model.specs.Step.{Step}
-use Rattle.ledger_model.specs.Windows.{Said, said_after, said_lines, windows, count_of, numbered_line}
-use Rattle.ledger_model.proofs.LaneLaws.{merges_window, list_stays}
+use Rattle.ledger_model.specs.Windows.{Said, said_after, said_lines, windows, count_of}
 use Rattle.ledger_model.proofs.WindowLaws.{joined}
+use Rattle.ledger_cli.specs.Taken.{AllUnasked, EachUnasked}
 
 -- ---- orders of lines
 
@@ -29,38 +23,61 @@ IsOrder window order = (lane : ℕ) → lines_of_lane lane order ≡ lines_of_la
 pub order_same : (window : List Said) → IsOrder window window
 order_same window lane = refl
 
--- the steps of an order are a merge
-pub order_merges : (window order : List Said) → IsOrder window order → IsMergeOf window (map step_of order)
-order_merges window order o lane = merges_window order lane ∙ o lane
-
 pub order_append : (a b x y : List Said) → IsOrder a x → IsOrder b y → IsOrder (a ++ b) (x ++ y)
 order_append a b x y o p lane =
     filter-append (λ (l : Said). l.lane == lane) x y
     ∙ ap (λ (l : List Said). l ++ lines_of_lane lane y) (o lane) ∙ ap (λ (l : List Said). lines_of_lane lane a ++ l) (p lane)
     ∙ sym (filter-append (λ (l : Said). l.lane == lane) a b)
 
--- each window's lines in another order
-abbrev pub AreOrders : List (List Said) → List (List Said) → Type 0
-AreOrders [] [] = ⊤
-AreOrders [] (order ∷ orders) = ⊥
-AreOrders (window ∷ windows) [] = ⊥
-AreOrders (window ∷ windows) (order ∷ orders) = IsOrder window order × AreOrders windows orders
+-- the lines of a lane's steps are the lane's lines
+picked_said : (k : ℕ) (steps : List Step) → picked_lines k steps ≡ lines_of_lane k (map said_by steps)
+picked_said k [] = refl
+picked_said k (step ∷ steps) =
+    elim (step.lane == k) as (λ b. map said_by (cond b (step ∷ filter (λ (s : Step). s.lane == k) steps) (filter (λ (s : Step). s.lane == k) steps)) ≡ cond b (said_by step ∷ lines_of_lane k (map said_by steps)) (lines_of_lane k (map said_by steps))) [
+      | true ↦ ap (λ (l : List Said). said_by step ∷ l) (picked_said k steps)
+      | false ↦ picked_said k steps
+    ]
 
-pub orders_same : (windows : List (List Said)) → AreOrders windows windows
-orders_same [] = tt
-orders_same (window ∷ windows) = (order_same window, orders_same windows)
+-- steps are a merge where their lines are an order
+pub merge_order : (window : List Said) (steps : List Step) → IsMergeOf window steps → IsOrder window (map said_by steps)
+merge_order window steps m lane = sym (picked_said lane steps) ∙ m lane
 
-pub orders_merge : (windows orders : List (List Said)) → AreOrders windows orders → IsMerge windows (steps_of orders)
-orders_merge [] [] o = tt
-orders_merge [] (order ∷ orders) o = absurd o
-orders_merge (window ∷ windows) [] o = absurd o
-orders_merge (window ∷ windows) (order ∷ orders) o = (order_merges window order o.0, orders_merge windows orders o.1)
+pub order_merge : (window : List Said) (steps : List Step) → IsOrder window (map said_by steps) → IsMergeOf window steps
+order_merge window steps o lane = picked_said lane steps ∙ o lane
 
-pub orders_append : (ws vs xs ys : List (List Said)) → AreOrders ws xs → AreOrders vs ys → AreOrders (ws ++ vs) (xs ++ ys)
-orders_append [] vs [] ys o p = p
-orders_append [] vs (x ∷ xs) ys o p = absurd o
-orders_append (a ∷ ws) vs [] ys o p = absurd o
-orders_append (a ∷ ws) vs (x ∷ xs) ys o p = (o.0, orders_append ws vs xs ys o.1 p)
+pub merges_append : (ws vs : List (List Said)) (xs ys : List (List Step)) → IsMerge ws xs → IsMerge vs ys → IsMerge (ws ++ vs) (xs ++ ys)
+merges_append [] vs [] ys m n = n
+merges_append [] vs (x ∷ xs) ys m n = absurd m
+merges_append (a ∷ ws) vs [] ys m n = absurd m
+merges_append (a ∷ ws) vs (x ∷ xs) ys m n = (m.0, merges_append ws vs xs ys m.1 n)
+
+-- ---- lines that weren't taken
+
+-- a line as a step in which the notary had no part
+abbrev pub unasked : NotaryState → Said → Step
+unasked n x = record { lane = x.lane; index = x.index; line = x.line; failed = true; before = n.entries; after = n.entries }
+
+abbrev pub all_unasked : NotaryState → List Said → List Step
+all_unasked n xs = map (unasked n) xs
+
+pub said_unasked : (n : NotaryState) (xs : List Said) → map said_by (all_unasked n xs) ≡ xs
+said_unasked n [] = refl
+said_unasked n (x ∷ xs) = ap (λ (l : List Said). x ∷ l) (said_unasked n xs)
+
+pub unasked_merge : (n : NotaryState) (xs : List Said) → IsMergeOf xs (all_unasked n xs)
+unasked_merge n xs = order_merge xs (all_unasked n xs) (subst (IsOrder xs) (sym (said_unasked n xs)) (order_same xs))
+
+pub unasked_merges : (n : NotaryState) (windows : List (List Said)) → IsMerge windows (map (all_unasked n) windows)
+unasked_merges n [] = tt
+unasked_merges n (window ∷ windows) = (unasked_merge n window, unasked_merges n windows)
+
+pub are_unasked : (n : NotaryState) (xs : List Said) → AllUnasked n (all_unasked n xs)
+are_unasked n [] = tt
+are_unasked n (x ∷ xs) = ((refl, refl, refl), are_unasked n xs)
+
+pub each_unasked : (n : NotaryState) (windows : List (List Said)) → EachUnasked n (map (all_unasked n) windows)
+each_unasked n [] = tt
+each_unasked n (window ∷ windows) = (are_unasked n window, each_unasked n windows)
 
 -- an order of no lines has none
 pub order_none : (order : List Said) → IsOrder [] order → order ≡ []
@@ -103,24 +120,46 @@ order_all P window order o a = said_all P order (λ k. subst (AllSaid P) (sym (o
 
 -- ---- numbers
 
-Counts : Said → Type 0
-Counts x = IsCounted (step_of x)
+-- a line's numbers are as programs have them
+pub Numbered : Said → Type 0
+Numbered x = Fits x.lane × Fits x.index
 
-counted_said : (window : List Said) → AllCounted (map step_of window) → AllSaid Counts window
-unfolding AllSaid Counts
+counted_said : (window : List Said) → AllCounted (map step_of window) → AllSaid Numbered window
+unfolding AllSaid Numbered
 counted_said [] c = tt
-counted_said (x ∷ xs) c = (c.0, counted_said xs c.1)
+counted_said (x ∷ xs) c = ((c.0.lane, c.0.index), counted_said xs c.1)
 
-said_counted : (window : List Said) → AllSaid Counts window → AllCounted (map step_of window)
-unfolding AllSaid Counts
-said_counted [] a = tt
-said_counted (x ∷ xs) a = (a.0, said_counted xs a.1)
+abbrev pub AllNumbered : List Step → Type 0
+AllNumbered [] = ⊤
+AllNumbered (step ∷ steps) = (Fits step.lane × Fits step.index) × AllNumbered steps
 
-pub orders_counted : (windows orders : List (List Said)) → AreOrders windows orders → EachCounted (steps_of windows) → EachCounted (steps_of orders)
-orders_counted [] [] o c = tt
-orders_counted [] (order ∷ orders) o c = absurd o
-orders_counted (window ∷ windows) [] o c = absurd o
-orders_counted (window ∷ windows) (order ∷ orders) o c = (said_counted order (order_all Counts window order o.0 (counted_said window c.0)), orders_counted windows orders o.1 c.1)
+abbrev pub EachNumbered : List (List Step) → Type 0
+EachNumbered [] = ⊤
+EachNumbered (window ∷ windows) = AllNumbered window × EachNumbered windows
+
+said_numbered : (steps : List Step) → AllSaid Numbered (map said_by steps) → AllNumbered steps
+unfolding AllSaid Numbered
+said_numbered [] a = tt
+said_numbered (step ∷ steps) a = (a.0, said_numbered steps a.1)
+
+-- so are those of a merge's steps
+pub merge_numbered : (windows : List (List Said)) (steps : List (List Step)) → IsMerge windows steps → EachCounted (steps_of windows) → EachNumbered steps
+merge_numbered [] [] m c = tt
+merge_numbered [] (part ∷ parts) m c = absurd m
+merge_numbered (window ∷ windows) [] m c = absurd m
+merge_numbered (window ∷ windows) (part ∷ parts) m c = (
+  said_numbered part (order_all Numbered window (map said_by part) (merge_order window part m.0) (counted_said window c.0)),
+  merge_numbered windows parts m.1 c.1,
+)
+
+numbered_first : (steps rest : List Step) → AllNumbered (steps ++ rest) → AllNumbered steps
+numbered_first [] rest a = tt
+numbered_first (step ∷ steps) rest a = (a.0, numbered_first steps rest a.1)
+
+-- .. and those of whole windows, and of the first steps of the next one
+pub numbered_parts : (done : List (List Step)) (current rest : List Step) (more : List (List Step)) → EachNumbered (done ++ (current ++ rest) ∷ more) → EachNumbered done × AllNumbered current
+numbered_parts [] current rest more e = (tt, numbered_first current rest e.0)
+numbered_parts (window ∷ done) current rest more e = let r = numbered_parts done current rest more e.1 in ((e.0, r.0), r.1)
 
 -- ---- where all lines belong to one lane
 
@@ -136,59 +175,19 @@ lane_all k (x ∷ xs) a = ap (λ (b : Bool). cond b (x ∷ lines_of_lane k xs) (
 pub order_alone : (k : ℕ) (window order : List Said) → AllSaid (IsOf k) window → IsOrder window order → order ≡ window
 order_alone k window order a o = sym (lane_all k order (order_all (IsOf k) window order o a)) ∙ o k ∙ lane_all k window a
 
--- the lines of a lane's steps are the lane's lines
-picked_said : (k : ℕ) (steps : List Step) → picked_lines k steps ≡ lines_of_lane k (map said_by steps)
-picked_said k [] = refl
-picked_said k (step ∷ steps) =
-    elim (step.lane == k) as (λ b. map said_by (cond b (step ∷ filter (λ (s : Step). s.lane == k) steps) (filter (λ (s : Step). s.lane == k) steps)) ≡ cond b (said_by step ∷ lines_of_lane k (map said_by steps)) (lines_of_lane k (map said_by steps))) [
-      | true ↦ ap (λ (l : List Said). said_by step ∷ l) (picked_said k steps)
-      | false ↦ picked_said k steps
-    ]
-
-pub merge_order : (window : List Said) (steps : List Step) → IsMergeOf window steps → IsOrder window (map said_by steps)
-merge_order window steps m lane = sym (picked_said lane steps) ∙ m lane
-
--- steps that meet no fault, along which the notary's list stays empty
-unfailed : (step : Step) (steps : List Step) → failures (step ∷ steps) ≡ 0 → (step.failed ≡ false) × (failures steps ≡ 0)
-unfailed step steps none = by step.failed refl
-  where
-    by : (b : Bool) → step.failed ≡ b → (step.failed ≡ false) × (failures steps ≡ 0)
-    by true e = let one : failures (step ∷ steps) ≡ suc (failures steps) = ap (λ (b : Bool). length (cond b (step ∷ filter (λ (s : Step). s.failed) steps) (filter (λ (s : Step). s.failed) steps))) e in absurd (let no : ⊥ = omega (arith, one, none) in no)
-    by false e = (e, sym (ap (λ (b : Bool). length (cond b (step ∷ filter (λ (s : Step). s.failed) steps) (filter (λ (s : Step). s.failed) steps))) e) ∙ none)
-
-pub steps_plain : (scheme : Scheme) (h : History) (steps : List Step) (last : List (List ℕ)) → Linked scheme h [] steps last → failures steps ≡ 0 → (steps ≡ map step_of (map said_by steps)) × (last ≡ [])
-steps_plain scheme h [] last l f = (refl, l)
-steps_plain scheme h (step ∷ steps) last l f =
-    let u = unfailed step steps f in
-    let g = after_step scheme h step in
-    let before : step.before ≡ [] = l.0 in
-    let after : step.after ≡ [] = list_stays scheme h step l.1 ∙ before in
-    let more = steps_plain scheme g steps last (subst (λ (first : List (List ℕ)). Linked scheme g first steps last) after l.2) u.1 in
-    let one : step ≡ step_of (said_by step) = λ i. record { lane = step.lane; index = step.index; line = step.line; failed = u.0 i; before = before i; after = after i } in (
-      ap (λ (s : Step). s ∷ steps) one ∙ ap (λ (l : List Step). step_of (said_by step) ∷ l) more.0,
-      more.1,
-    )
-
-failures_append : (xs ys : List Step) → failures (xs ++ ys) ≡ failures xs + failures ys
-failures_append xs ys =
-    ap length (filter-append (λ (s : Step). s.failed) xs ys) ∙ length-append (filter (λ (s : Step). s.failed) xs) (filter (λ (s : Step). s.failed) ys)
-
 pub EachOf : ℕ → List (List Said) → Type 0
 EachOf k [] = ⊤
 EachOf k (window ∷ windows) = AllSaid (IsOf k) window × EachOf k windows
 
-pub windows_alone : (scheme : Scheme) (h : History) (k : ℕ) (windows : List (List Said)) (steps : List (List Step)) → EachOf k windows → IsMerge windows steps → LinkedAll scheme h [] steps [] → failures (flat_map (λ w. w) steps) ≡ 0 → steps ≡ steps_of windows
+-- windows' lines that are of one lane are taken in their order
+pub windows_alone : (k : ℕ) (windows : List (List Said)) (steps : List (List Step)) → EachOf k windows → IsMerge windows steps → map (map said_by) steps ≡ windows
 unfolding EachOf
-windows_alone scheme h k [] [] e m l f = refl
-windows_alone scheme h k [] (part ∷ parts) e m l f = absurd m
-windows_alone scheme h k (window ∷ windows) [] e m l f = absurd m
-windows_alone scheme h k (window ∷ windows) (part ∷ parts) e m l f =
-    let g = after_window scheme h part in
-    let both = failures_append part (flat_map (λ w. w) parts) in
-    let plain = steps_plain scheme h part l.0 l.1 (omega (arith, both, f)) in
-    let rest = subst (λ (first : List (List ℕ)). LinkedAll scheme g first parts []) plain.1 l.2 in
-    ap (λ (p : List Step). p ∷ parts) (plain.0 ∙ ap (map step_of) (order_alone k window (map said_by part) e.0 (merge_order window part m.0)))
-    ∙ ap (λ (ps : List (List Step)). map step_of window ∷ ps) (windows_alone scheme g k windows parts e.1 m.1 rest (omega (arith, both, f)))
+windows_alone k [] [] e m = refl
+windows_alone k [] (part ∷ parts) e m = absurd m
+windows_alone k (window ∷ windows) [] e m = absurd m
+windows_alone k (window ∷ windows) (part ∷ parts) e m =
+    ap (λ (w : List Said). w ∷ map (map said_by) parts) (order_alone k window (map said_by part) e.0 (merge_order window part m.0))
+    ∙ ap (λ (ws : List (List Said)). window ∷ ws) (windows_alone k windows parts e.1 m.1)
 
 -- ---- the lines of a script that belong to one lane
 
@@ -211,11 +210,11 @@ each_of k [] a = tt
 each_of k (window ∷ windows) a = let r = said_split (IsOf k) window (flat_map (λ w. w) windows) a in (r.0, each_of k windows r.1)
 
 -- .. are taken in their order
-pub alone : (scheme : Scheme) (h : History) (k : ℕ) (lines : List (List ℕ)) (steps : List (List Step)) → AllLines k lines → IsMerge (windows (said_lines lines)) steps → IsAttended scheme h [] [] 0 steps → steps ≡ steps_of (windows (said_lines lines))
-alone scheme h k lines steps a m t =
-    windows_alone scheme h k (windows (said_lines lines)) steps
+pub alone : (k : ℕ) (lines : List (List ℕ)) (steps : List (List Step)) → AllLines k lines → IsMerge (windows (said_lines lines)) steps → map (map said_by) steps ≡ windows (said_lines lines)
+alone k lines steps a m =
+    windows_alone k (windows (said_lines lines)) steps
     (each_of k (windows (said_lines lines)) (subst (AllSaid (IsOf k)) (sym (joined 0 0 (said_lines lines))) (lines_said k [] lines a)))
-    m t.linked (omega (arith, t.few))
+    m
 
 -- ---- parts of a window
 

@@ -1,6 +1,6 @@
 -- Lemmas on the commands that open or make a ledger.
 use Rattle.std.proofs.Common.{◌≡◌, ◌≢◌, ℕ, ◌⊎◌, inl, inr, Bool, true, List, [], ◌∷◌, take, refl, ap, sym, subst, ◌∙◌, arith}
-use Rattle.std.specs.Prelude.{IsTrue, codes, decimal}
+use Rattle.std.specs.Prelude.{IsTrue, Option, None, codes, decimal}
 use Rattle.std.specs.Io.KnownBytes.{Appends}
 use Rattle.std.proofs.KnownBytes.{Appends-nil}
 use Rattle.batch_committer.specs.Opened.{kept_from, IsOpened}
@@ -18,12 +18,14 @@ use Rattle.ledger_model.specs.History.{History, id}
 use Rattle.ledger_model.specs.Limits.{real_limits}
 use Rattle.ledger_model.specs.Scheme.{Scheme}
 use Rattle.ledger_model.specs.declared.genesis.Genesis.{Genesis}
+use Rattle.pseudo_genesis.specs.declared.base.Base.{Base}
 use Rattle.ledger_open.specs.Founding.{IsFounded, IsFoundedOrShut, IsOneOpen}
 use Rattle.ledger_open.specs.Opening.{Known, IsReopened, IsOpenErr, IsOutside, StandsAsRead, CountsTwoErr}
 use Rattle.ledger_open.specs.Standing.{PairFor}
 use Rattle.ledger_open.specs.declared.failure.OpenErr.{OpenErr}
 use Rattle.ledger_open.specs.declared.failure.OpenErr.TheVariants as open_err
 use Rattle.ledger_open.proofs.OpenLaws.{pair_opens, reopened_only}
+use Rattle.time_peg.specs.Entries.{NotaryState}
 use Rattle.twin_file.specs.Images.{AreShut}
 use Rattle.twin_file.specs.Twin.{open_of}
 use Rattle.ledger_cli.specs.Endings.{ending_of_opening, line_of}
@@ -41,8 +43,8 @@ use Rattle.ledger_cli.proofs.CarryLaws.{first_short, serves_from, faults_from, s
 
 -- ---- faults of opening
 
-module _ (source : SourceState) (sink : SinkState) (old now : Pair) where
-  pub counts_ended : (e : OpenErr) → CountsTwoErr e old.a.faults now.a.faults old.b.faults now.b.faults → FaultsBy (ending_of_opening e) (handed source sink old) (handed source sink now)
+module _ (source : SourceState) (sink : SinkState) (n : NotaryState) (old now : Pair) where
+  pub counts_ended : (e : OpenErr) → CountsTwoErr e old.a.faults now.a.faults old.b.faults now.b.faults → FaultsBy (ending_of_opening e) (handed source sink old n) (handed source sink now n)
   counts_ended open_err.DiskFault c = record { source_is = inl refl; sink_is = (refl, refl); disks_are = c }
   counts_ended open_err.NoMemory c = record { source_is = inl refl; sink_is = (refl, refl); disks_are = record { a = c.0; b = c.1 } }
   counts_ended (open_err.Damaged damage) c = record { source_is = refl; sink_is = (refl, refl); disks_are = record { a = c.0; b = c.1 } }
@@ -52,10 +54,10 @@ module _ (source : SourceState) (sink : SinkState) (old now : Pair) where
 
 -- ---- a ledger that is opened again
 
-module _ (scheme : Scheme) (tells : Bool) (source : SourceState) (sink : SinkState) (old now : Pair) where
+module _ (scheme : Scheme) (tells : Bool) (source : SourceState) (sink : SinkState) (n : NotaryState) (old now : Pair) where
   -- nothing was read or written
-  unstarted : IsUnstarted (handed source sink old) (handed source sink now)
-  unstarted = record { unread = refl; unwritten = refl }
+  unstarted : IsUnstarted (handed source sink old n) (handed source sink now n)
+  unstarted = record { unread = refl; unwritten = refl; unasked = refl }
 
   -- it isn't opened
   module _ (same : IsTrue tells → (now.a.bytes ≡ settled_state old.a.bytes.seen) × (now.b.bytes ≡ settled_state old.b.bytes.seen)) where
@@ -72,82 +74,82 @@ module _ (scheme : Scheme) (tells : Bool) (source : SourceState) (sink : SinkSta
       → (e ≢ open_err.DiskFault → IsTrue tells → (now.a.bytes ≡ settled_state old.a.bytes.seen) × (now.b.bytes ≡ settled_state old.b.bytes.seen))
       → (IsTrue tells → (f : OpenErr) → (IsOutside f → ⊥) → IsOpenErr old.a.bytes.seen old.b.bytes.seen f → StandsAsRead old.a.bytes now.a.bytes × StandsAsRead old.b.bytes now.b.bytes)
       → (IsTrue tells → IsSettled old.a.bytes → IsSettled old.b.bytes → (h : History) → PairFor old.a.bytes.seen old.b.bytes.seen h → (a b : List ℕ) → MayLeave now.a.bytes a → MayLeave now.b.bytes b → PairFor a b h)
-      → CountsTwoErr e old.a.faults now.a.faults old.b.faults now.b.faults → RunsAgain scheme tells (ending_of_opening e) (handed source sink old) (handed source sink now)
+      → CountsTwoErr e old.a.faults now.a.faults old.b.faults now.b.faults → RunsAgain scheme tells (ending_of_opening e) (handed source sink old n) (handed source sink now n)
   not_opened open_err.DiskFault err same kept images counts = record {
-    serves = λ t h p q. serves_fault scheme h source sink old now (images t (q tt).a (q tt).b h p);
+    serves = λ t h p l q. serves_fault scheme h source sink n old now (images t (q tt).a (q tt).b h p);
     unstarted = λ some. unstarted;
     refused = λ t. tt;
     exact = λ t f cause not. (unstarted, stay (kept t f not cause));
-    faults = counts_ended source sink old now open_err.DiskFault counts;
+    faults = counts_ended source sink n old now open_err.DiskFault counts;
   }
   not_opened open_err.NoMemory err same kept images counts = record {
-    serves = λ t h p q. serves_none scheme h source sink old now (images t (q tt).a (q tt).b h p);
+    serves = λ t h p l q. serves_none scheme h source sink n old now (images t (q tt).a (q tt).b h p);
     unstarted = λ some. unstarted;
     refused = λ t. tt;
     exact = λ t f cause not. (unstarted, stay (kept t f not cause));
-    faults = counts_ended source sink old now open_err.NoMemory counts;
+    faults = counts_ended source sink n old now open_err.NoMemory counts;
   }
   not_opened (open_err.Damaged damage) err same kept images counts = record {
-    serves = λ t h p q. absurd (pair_opens old.a.bytes.seen old.b.bytes.seen h p (open_err.Damaged damage) (err t));
+    serves = λ t h p l q. absurd (pair_opens old.a.bytes.seen old.b.bytes.seen h p (open_err.Damaged damage) (err t));
     unstarted = λ some. unstarted;
     refused = refusal (same (λ is. let no : ⊥ = cc is in no)) (open_err.Damaged damage) err;
     exact = λ t f cause not. (unstarted, settled (same (λ is. let no : ⊥ = cc is in no)) t);
-    faults = counts_ended source sink old now (open_err.Damaged damage) counts;
+    faults = counts_ended source sink n old now (open_err.Damaged damage) counts;
   }
   not_opened open_err.Empty err same kept images counts = record {
-    serves = λ t h p q. absurd (pair_opens old.a.bytes.seen old.b.bytes.seen h p open_err.Empty (err t));
+    serves = λ t h p l q. absurd (pair_opens old.a.bytes.seen old.b.bytes.seen h p open_err.Empty (err t));
     unstarted = λ some. unstarted;
     refused = refusal (same (λ is. let no : ⊥ = cc is in no)) open_err.Empty err;
     exact = λ t f cause not. (unstarted, settled (same (λ is. let no : ⊥ = cc is in no)) t);
-    faults = counts_ended source sink old now open_err.Empty counts;
+    faults = counts_ended source sink n old now open_err.Empty counts;
   }
   not_opened open_err.Exists err same kept images counts = record {
-    serves = λ t h p q. absurd (err t);
+    serves = λ t h p l q. absurd (err t);
     unstarted = λ some. unstarted;
     refused = refusal (same (λ is. let no : ⊥ = cc is in no)) open_err.Exists err;
     exact = λ t f cause not. absurd (err t);
-    faults = counts_ended source sink old now open_err.Exists counts;
+    faults = counts_ended source sink n old now open_err.Exists counts;
   }
   not_opened (open_err.NewerFormat found) err same kept images counts = record {
-    serves = λ t h p q. absurd (pair_opens old.a.bytes.seen old.b.bytes.seen h p (open_err.NewerFormat found) (err t));
+    serves = λ t h p l q. absurd (pair_opens old.a.bytes.seen old.b.bytes.seen h p (open_err.NewerFormat found) (err t));
     unstarted = λ some. unstarted;
     refused = refusal (same (λ is. let no : ⊥ = cc is in no)) (open_err.NewerFormat found) err;
     exact = λ t f cause not. (unstarted, settled (same (λ is. let no : ⊥ = cc is in no)) t);
-    faults = counts_ended source sink old now (open_err.NewerFormat found) counts;
+    faults = counts_ended source sink n old now (open_err.NewerFormat found) counts;
   }
 
   -- nothing was done for want of memory
-  pub again_unstarted : now ≡ old → RunsAgain scheme tells (Run run.NoMemory) (handed source sink old) (handed source sink now)
+  pub again_unstarted : now ≡ old → RunsAgain scheme tells (Run run.NoMemory) (handed source sink old n) (handed source sink now n)
   again_unstarted is =
-      subst (λ (d : Pair). RunsAgain scheme tells (Run run.NoMemory) (handed source sink old) (handed source sink d)) (sym is) (record {
-        serves = λ t h p q. serves_none scheme h source sink old old (quiet_pair old h (q tt) p);
-        unstarted = λ some. record { unread = refl; unwritten = refl };
+      subst (λ (d : Pair). RunsAgain scheme tells (Run run.NoMemory) (handed source sink old n) (handed source sink d n)) (sym is) (record {
+        serves = λ t h p l q. serves_none scheme h source sink n old old (quiet_pair old h (q tt) p);
+        unstarted = λ some. record { unread = refl; unwritten = refl; unasked = refl };
         refused = λ t. tt;
-        exact = λ t f cause not. (record { unread = refl; unwritten = refl }, record { a = inl refl; b = inl refl });
+        exact = λ t f cause not. (record { unread = refl; unwritten = refl; unasked = refl }, record { a = inl refl; b = inl refl });
         faults = record { source_is = inl refl; sink_is = (refl, refl); disks_are = record { a = refl; b = refl } };
       })
 
   -- it is opened, and a committer begins with it
-  module _ (k : Known) (in_a : Bool) (generation : ℕ) (blocks : List (List Entry)) (opened : IsOpened k in_a now blocks) (kept : Kept) (kept_is : kept ≡ kept_from k in_a generation) where
-    pub again_fits : (IsTrue tells → IsReopened in_a k.place blocks old.a.bytes old.b.bytes now.a.bytes now.b.bytes) → (IsTrue tells → generation ≡ generation_of (open_of in_a now.a.bytes now.b.bytes).seen) → Fits tells (world kept now sink)
-    again_fits r is = subst (λ (x : Kept). Fits tells (world x now sink)) (sym kept_is) (opened_fits tells k in_a generation blocks old.a.bytes old.b.bytes now sink opened r is)
+  module _ (k : Known) (in_a : Bool) (generation : ℕ) (start : Option Base) (blocks : List (List Entry)) (opened : IsOpened k in_a now start blocks) (kept : Kept) (kept_is : kept ≡ kept_from k in_a generation) where
+    pub again_fits : (IsTrue tells → IsReopened in_a k.place start blocks old.a.bytes old.b.bytes now.a.bytes now.b.bytes) → (IsTrue tells → generation ≡ generation_of (open_of in_a now.a.bytes now.b.bytes).seen) → Fits tells (world kept now sink)
+    again_fits r is = subst (λ (x : Kept). Fits tells (world x now sink)) (sym kept_is) (opened_fits tells k in_a generation start blocks old.a.bytes old.b.bytes now sink opened r is)
 
     pub begins_room : HasRoom kept
-    begins_room = subst HasRoom (sym kept_is) (opened_room k in_a generation blocks now opened)
+    begins_room = subst HasRoom (sym kept_is) (opened_room k in_a generation start blocks now opened)
 
     pub begins_none : kept.dues ≡ []
     begins_none = ap (λ (x : Kept). x.dues) kept_is
 
-    pub ran_again : (limits : k.book.limits ≡ real_limits) (r : IsTrue tells → IsReopened in_a k.place blocks old.a.bytes old.b.bytes now.a.bytes now.b.bytes) (a : now.a.faults ≡ old.a.faults) (b : now.b.faults ≡ old.b.faults)
-        (ending : LedgerEnding) (last : Handed) → Runs scheme tells (world kept now sink) ending (handed source sink now) last → IsOfLines ending → RunsAgain scheme tells ending (handed source sink old) last
+    pub ran_again : (limits : k.book.limits ≡ real_limits) (r : IsTrue tells → IsReopened in_a k.place start blocks old.a.bytes old.b.bytes now.a.bytes now.b.bytes) (a : now.a.faults ≡ old.a.faults) (b : now.b.faults ≡ old.b.faults)
+        (ending : LedgerEnding) (last : Handed) → Runs scheme tells (world kept now sink) ending (handed source sink now n) last → IsOfLines ending → RunsAgain scheme tells ending (handed source sink old n) last
     ran_again limits r a b ending last ran started = record {
-      serves = λ t h p q.
-          serves_from scheme h ending source sink now old last
-          (ran.serves h (subst (λ (x : Kept). Holds tells (world x now sink) h) (sym kept_is) (opened_held tells k in_a generation blocks old.a.bytes old.b.bytes now sink h opened limits t (r t) p)) (none_waits old.a.bytes.seen old.b.bytes.seen h p));
+      serves = λ t h p l q.
+          serves_from scheme h ending source sink n now old last
+          (ran.serves h (subst (λ (x : Kept). Holds tells (world x now sink) h) (sym kept_is) (opened_held tells k in_a generation start blocks old.a.bytes old.b.bytes now sink h opened limits t (r t) p)) (none_waits old.a.bytes.seen old.b.bytes.seen h p) l);
       unstarted = λ some. absurd (no_refusal ending started some);
       refused = λ t. of_lines ending _ started;
-      exact = λ t e cause not. absurd (not (reopened_only k in_a blocks old.a.bytes old.b.bytes now.a.bytes now.b.bytes e opened.knows (r t) cause));
-      faults = faults_from source sink now old last a b ending ran.faults;
+      exact = λ t e cause not. absurd (not (reopened_only k in_a start blocks old.a.bytes old.b.bytes now.a.bytes now.b.bytes e opened.knows (r t) cause));
+      faults = faults_from source sink n now old last a b ending ran.faults;
     }
 
 -- ---- a ledger that is made
@@ -161,7 +163,7 @@ none_open : (a b : State) → IsShut a.seen → IsShut b.seen → IsOneOpen a.se
 none_open a b i j (inl x) = shut_open a.seen i x
 none_open a b i j (inr x) = shut_open b.seen j x
 
-module _ (genesis : Genesis) (tells : Bool) (source : SourceState) (sink : SinkState) (old now : Pair)
+module _ (genesis : Genesis) (tells : Bool) (source : SourceState) (sink : SinkState) (n : NotaryState) (old now : Pair)
     (left : IsTrue tells → IsOneOpen old.a.bytes.seen old.b.bytes.seen → StandsAsRead old.a.bytes now.a.bytes × StandsAsRead old.b.bytes now.b.bytes)
     (images : IsTrue tells → AreShut old.a.bytes old.b.bytes → (a b : List ℕ) → MayLeave now.a.bytes a → MayLeave now.b.bytes b → IsFoundedOrShut genesis a b) where
   stayed : IsTrue tells → IsOneOpen old.a.bytes.seen old.b.bytes.seen → StayAsRead old now
@@ -177,33 +179,36 @@ module _ (genesis : Genesis) (tells : Bool) (source : SourceState) (sink : SinkS
   -- it isn't made
   pub not_made : (e : OpenErr) → IsOutside e ⊎ (e ≡ open_err.Exists) → (e ≡ open_err.Exists → IsTrue tells → IsOneOpen old.a.bytes.seen old.b.bytes.seen)
       → (e ≢ open_err.DiskFault → IsTrue tells → (now.a.bytes ≡ settled_state old.a.bytes.seen) × (now.b.bytes ≡ settled_state old.b.bytes.seen))
-      → CountsTwoErr e old.a.faults now.a.faults old.b.faults now.b.faults → Makes genesis tells (ending_of_opening e) (handed source sink old) (handed source sink now)
+      → CountsTwoErr e old.a.faults now.a.faults old.b.faults now.b.faults → Makes genesis tells (ending_of_opening e) (handed source sink old n) (handed source sink now n)
   not_made open_err.DiskFault why exists same counts = record {
     written = [];
     unread = refl;
+    unasked = refl;
     appended = Appends-nil sink.held;
     told = refl;
     left = stayed;
     images = images;
-    faults = counts_ended source sink old now open_err.DiskFault counts;
+    faults = counts_ended source sink n old now open_err.DiskFault counts;
   }
   not_made open_err.NoMemory why exists same counts = record {
     written = [];
     unread = refl;
+    unasked = refl;
     appended = Appends-nil sink.held;
     told = refl;
     left = λ t. inl (stayed_now (same (λ is. let no : ⊥ = cc is in no)) t);
     images = images;
-    faults = counts_ended source sink old now open_err.NoMemory counts;
+    faults = counts_ended source sink n old now open_err.NoMemory counts;
   }
   not_made open_err.Exists why exists same counts = record {
     written = [];
     unread = refl;
+    unasked = refl;
     appended = Appends-nil sink.held;
     told = refl;
     left = λ t. (exists refl t, settled_now (same (λ is. let no : ⊥ = cc is in no)) t);
     images = images;
-    faults = counts_ended source sink old now open_err.Exists counts;
+    faults = counts_ended source sink n old now open_err.Exists counts;
   }
   not_made (open_err.Damaged damage) (inl why) exists same counts = absurd why
   not_made (open_err.Damaged damage) (inr is) exists same counts = absurd (let no : ⊥ = cc is in no)
@@ -215,24 +220,24 @@ module _ (genesis : Genesis) (tells : Bool) (source : SourceState) (sink : SinkS
   -- .. and no script is run
   pub not_run : (scheme : Scheme) (e : OpenErr) → IsOutside e ⊎ (e ≡ open_err.Exists) → (e ≡ open_err.Exists → IsTrue tells → IsOneOpen old.a.bytes.seen old.b.bytes.seen)
       → (e ≢ open_err.DiskFault → IsTrue tells → (now.a.bytes ≡ settled_state old.a.bytes.seen) × (now.b.bytes ≡ settled_state old.b.bytes.seen))
-      → CountsTwoErr e old.a.faults now.a.faults old.b.faults now.b.faults → RunsNew scheme genesis tells (ending_of_opening e) (handed source sink old) (handed source sink now)
+      → CountsTwoErr e old.a.faults now.a.faults old.b.faults now.b.faults → RunsNew scheme genesis tells (ending_of_opening e) (handed source sink old n) (handed source sink now n)
   not_run scheme open_err.DiskFault why exists same counts = record {
-    serves = λ t none. inr (record { outside = tt; unstarted = unstarted scheme tells source sink old now; images = images t });
-    unstarted = λ some. unstarted scheme tells source sink old now;
-    left = λ t o. (unstarted scheme tells source sink old now, stayed t o);
-    faults = counts_ended source sink old now open_err.DiskFault counts;
+    serves = λ t none l. inr (record { outside = tt; unstarted = unstarted scheme tells source sink n old now; images = images t });
+    unstarted = λ some. unstarted scheme tells source sink n old now;
+    left = λ t o. (unstarted scheme tells source sink n old now, stayed t o);
+    faults = counts_ended source sink n old now open_err.DiskFault counts;
   }
   not_run scheme open_err.NoMemory why exists same counts = record {
-    serves = λ t none. inr (record { outside = tt; unstarted = unstarted scheme tells source sink old now; images = images t });
-    unstarted = λ some. unstarted scheme tells source sink old now;
-    left = λ t o. (unstarted scheme tells source sink old now, stayed t o);
-    faults = counts_ended source sink old now open_err.NoMemory counts;
+    serves = λ t none l. inr (record { outside = tt; unstarted = unstarted scheme tells source sink n old now; images = images t });
+    unstarted = λ some. unstarted scheme tells source sink n old now;
+    left = λ t o. (unstarted scheme tells source sink n old now, stayed t o);
+    faults = counts_ended source sink n old now open_err.NoMemory counts;
   }
   not_run scheme open_err.Exists why exists same counts = record {
-    serves = λ t none. absurd (none_open old.a.bytes old.b.bytes none.0 none.1 (exists refl t));
-    unstarted = λ some. unstarted scheme tells source sink old now;
-    left = λ t o. (unstarted scheme tells source sink old now, settled_now (same (λ is. let no : ⊥ = cc is in no)) t);
-    faults = counts_ended source sink old now open_err.Exists counts;
+    serves = λ t none l. absurd (none_open old.a.bytes old.b.bytes none.0 none.1 (exists refl t));
+    unstarted = λ some. unstarted scheme tells source sink n old now;
+    left = λ t o. (unstarted scheme tells source sink n old now, settled_now (same (λ is. let no : ⊥ = cc is in no)) t);
+    faults = counts_ended source sink n old now open_err.Exists counts;
   }
   not_run scheme (open_err.Damaged damage) (inl why) exists same counts = absurd why
   not_run scheme (open_err.Damaged damage) (inr is) exists same counts = absurd (let no : ⊥ = cc is in no)
@@ -249,10 +254,11 @@ module _ (genesis : Genesis) (tells : Bool) (source : SourceState) (sink : SinkS
     made_now : IsTrue tells → IsMadeOf genesis old now
     made_now t = (shut t, founded t)
 
-    pub made_unspelled : Makes genesis tells (Run run.NoMemory) (handed source sink old) (handed source sink now)
+    pub made_unspelled : Makes genesis tells (Run run.NoMemory) (handed source sink old n) (handed source sink now n)
     made_unspelled = record {
       written = [];
       unread = refl;
+      unasked = refl;
       appended = Appends-nil sink.held;
       told = refl;
       left = λ t. inr (made_now t);
@@ -260,10 +266,11 @@ module _ (genesis : Genesis) (tells : Bool) (source : SourceState) (sink : SinkS
       faults = record { source_is = inl refl; sink_is = (refl, refl); disks_are = record { a = a; b = b } };
     }
 
-    pub made_told : (later : SinkState) (written : List ℕ) → written ≡ ledger_line genesis → Appends sink.held later.held written → MeetsNone sink later → Makes genesis tells (Run run.Done) (handed source sink old) (handed source later now)
+    pub made_told : (later : SinkState) (written : List ℕ) → written ≡ ledger_line genesis → Appends sink.held later.held written → MeetsNone sink later → Makes genesis tells (Run run.Done) (handed source sink old n) (handed source later now n)
     made_told later written is appended none = record {
       written = written;
       unread = refl;
+      unasked = refl;
       appended = appended;
       told = is;
       left = made_now;
@@ -271,10 +278,11 @@ module _ (genesis : Genesis) (tells : Bool) (source : SourceState) (sink : SinkS
       faults = record { source_is = refl; sink_is = none; disks_are = record { a = a; b = b } };
     }
 
-    pub made_cut : (later : SinkState) (written : List ℕ) → FallsShort written (ledger_line genesis) → Appends sink.held later.held written → MeetsOne sink later → Makes genesis tells (Run run.WriteFault) (handed source sink old) (handed source later now)
+    pub made_cut : (later : SinkState) (written : List ℕ) → FallsShort written (ledger_line genesis) → Appends sink.held later.held written → MeetsOne sink later → Makes genesis tells (Run run.WriteFault) (handed source sink old n) (handed source later now n)
     made_cut later written short appended one = record {
       written = written;
       unread = refl;
+      unasked = refl;
       appended = appended;
       told = short;
       left = made_now;
@@ -282,11 +290,11 @@ module _ (genesis : Genesis) (tells : Bool) (source : SourceState) (sink : SinkS
       faults = record { source_is = inl refl; sink_is = one; disks_are = record { a = a; b = b } };
     }
 
-    pub made_failed : (later : SinkState) (error : WriteErr) (piece : List ℕ) → piece ≡ ledger_line genesis → WritesFirst sink.held later.held piece error → MeetsOne sink later → Makes genesis tells (Run run.WriteFault) (handed source sink old) (handed source later now)
+    pub made_failed : (later : SinkState) (error : WriteErr) (piece : List ℕ) → piece ≡ ledger_line genesis → WritesFirst sink.held later.held piece error → MeetsOne sink later → Makes genesis tells (Run run.WriteFault) (handed source sink old n) (handed source later now n)
     made_failed later (WriteFault taken) piece is first one = made_cut later (take taken piece) (first_short (ledger_line genesis) piece taken is first.0) first.1 one
 
     -- .. and a committer begins with it
-    module _ (k : Known) (keys : HasKeys genesis) (opened : IsOpened k true now (new_ledger genesis).closed) (in_a : Bool) (first : in_a ≡ true) (generation : ℕ) (one : generation ≡ 1) (kept : Kept) (kept_is : kept ≡ kept_from k in_a generation) where
+    module _ (k : Known) (keys : HasKeys genesis) (opened : IsOpened k true now None (new_ledger genesis).closed) (in_a : Bool) (first : in_a ≡ true) (generation : ℕ) (one : generation ≡ 1) (kept : Kept) (kept_is : kept ≡ kept_from k in_a generation) where
       here : kept ≡ kept_from k true 1
       here = kept_is ∙ ap (λ v. kept_from k v generation) first ∙ ap (kept_from k true) one
 
@@ -294,19 +302,19 @@ module _ (genesis : Genesis) (tells : Bool) (source : SourceState) (sink : SinkS
       new_fits = subst (λ (x : Kept). Fits tells (world x now sink)) (sym here) (founded_fits tells k genesis now sink keys opened founded)
 
       pub new_room : HasRoom kept
-      new_room = subst HasRoom (sym here) (opened_room k true 1 (new_ledger genesis).closed now opened)
+      new_room = subst HasRoom (sym here) (opened_room k true 1 None (new_ledger genesis).closed now opened)
 
       pub new_none : kept.dues ≡ []
       new_none = ap (λ (x : Kept). x.dues) here
 
-      pub ran_new : (scheme : Scheme) (limits : k.book.limits ≡ real_limits) (ending : LedgerEnding) (last : Handed) → Runs scheme tells (world kept now sink) ending (handed source sink now) last → IsOfLines ending → RunsNew scheme genesis tells ending (handed source sink old) last
+      pub ran_new : (scheme : Scheme) (limits : k.book.limits ≡ real_limits) (ending : LedgerEnding) (last : Handed) → Runs scheme tells (world kept now sink) ending (handed source sink now n) last → IsOfLines ending → RunsNew scheme genesis tells ending (handed source sink old n) last
       ran_new scheme limits ending last ran started = record {
-        serves = λ t none.
-            inl (serves_from scheme (new_ledger genesis) ending source sink now old last
-            (ran.serves (new_ledger genesis) (subst (λ (x : Kept). Holds tells (world x now sink) (new_ledger genesis)) (sym here) (founded_held tells k genesis now sink keys opened limits t (founded t))) refl));
+        serves = λ t none l.
+            inl (serves_from scheme (new_ledger genesis) ending source sink n now old last
+            (ran.serves (new_ledger genesis) (subst (λ (x : Kept). Holds tells (world x now sink) (new_ledger genesis)) (sym here) (founded_held tells k genesis now sink keys opened limits t (founded t))) refl l));
         unstarted = λ some. absurd (no_refusal ending started some);
         left = λ t o. never t o;
-        faults = faults_from source sink now old last a b ending ran.faults;
+        faults = faults_from source sink n now old last a b ending ran.faults;
       }
 
 -- the line that tells a new ledger

@@ -1,37 +1,41 @@
 -- Lemmas on the lines of a piece, as they are offered to a committer.
-use Rattle.std.proofs.Common.{◌≡◌, ℕ, ◌≤◌, Bool, List, [], ◌∷◌, ◌++◌, length, map, Option, None, Some, Result, Ok, Err, inl, inr, refl, ap, sym, subst, ◌∙◌, arith, append_assoc, append-nil}
+use Rattle.std.proofs.Common.{◌≡◌, ℕ, ◌≤◌, Bool, true, List, [], ◌∷◌, ◌++◌, map, Option, None, Some, inl, inr, refl, ap, sym, subst, ◌∙◌, arith, append_assoc, append-nil}
 use Rattle.std.proofs.lemmas.List.{map-append}
-use Rattle.batch_committer.specs.Steps.{step_at}
-use Rattle.batch_committer.specs.World.{World, Keeps, Holds, HasRoom, Goes, Ended}
+use Rattle.batch_committer.specs.Attending.{step_in, Attended, Takes, EndsAt, EndsUnasked, EndsTaking}
+use Rattle.batch_committer.specs.World.{Keeps, Holds, HasRoom, Goes, Ended}
 use Rattle.batch_committer.specs.declared.end.End.{End}
 use Rattle.batch_committer.specs.declared.end.End.TheVariants as end
 use Rattle.batch_committer.proofs.Ending.{no_memory}
 use Rattle.batch_committer.proofs.Opening.{held_lawful}
-use Rattle.batch_committer.proofs.WayLaws.{goes_same, goes_then, goes_as, ended_then, ended_as}
+use Rattle.batch_committer.proofs.WayLaws.{goes_same, goes_then, goes_as, ended_then, ended_as, ended_wider}
 use Rattle.lane_work.specs.Offering as lanes
 use Rattle.lane_work.specs.Offering.{Stops, GoesSome, OffersLine, RunsAll, RunsSome}
 use Rattle.std.specs.Prelude.{slice_index}
 use Rattle.lane_work.specs.Making.{IsItemOf, lines_of}
-use Rattle.lane_work.specs.Orders.{numbered}
+use Rattle.lane_work.specs.Orders.{numbered, IsOrderOf}
 use Rattle.lane_work.specs.declared.kinds.LaneLine.{LaneLine}
 use Rattle.lane_work.specs.declared.taker.Flow.{Flow}
-use Rattle.lane_work.specs.declared.taker.Flow.TheVariants.{GoOn, Stop}
 use Rattle.ledger_book.specs.declared.prepared.Prepared.{Prepared}
 use Rattle.ledger_model.specs.Dues.{due_of, dues}
 use Rattle.ledger_model.specs.History.{History, id, size, journals, close}
-use Rattle.ledger_model.specs.InOrder.{step_of}
-use Rattle.ledger_model.specs.Lawful.{IsLawful}
+use Rattle.ledger_model.specs.Merge.{said_by}
+use Rattle.ledger_model.specs.Notary.{Attends, AttendsJob}
 use Rattle.ledger_model.specs.Prepared.{prepared_items, after_jobs, job_dues}
-use Rattle.ledger_model.specs.Rules.{job_of, after_job, after_steps}
+use Rattle.ledger_model.specs.Rules.{job_of, judged_at, after_job, after_step, after_steps}
 use Rattle.ledger_model.specs.Scheme.{Scheme}
 use Rattle.ledger_model.specs.Step.{Step}
 use Rattle.ledger_model.specs.Windows.{Said}
+use Rattle.ledger_model.specs.Took.{Took, notary_after}
+use Rattle.time_peg.specs.Entries.{NotaryState}
 use Rattle.ledger_model.specs.declared.due.Due.{Due}
 use Rattle.ledger_model.specs.declared.job.Job.{Job}
-use Rattle.ledger_model.proofs.GrowLaws.{grows_not}
+use Rattle.ledger_model.specs.declared.job.Job.TheVariants.{Anchor}
+use Rattle.ledger_model.proofs.GrowLaws.{grows_job, grows_not, grows_size}
 use Rattle.ledger_model.proofs.LawfulLaws.{some_journal}
-use Rattle.ledger_model.proofs.PreparedLaws.{after_items, dues_of_items}
-use Rattle.ledger_cli.specs.Pieces.{At, world_at, IsOpen, TakesAll, TakesSome, TakesBy, TakesPiece, Told, Answered, PieceTaken, PieceBroken, WindowTaken, FlushBroken, WindowBroken}
+use Rattle.ledger_model.proofs.PreparedLaws.{after_items, dues_of_items, id_kept}
+use Rattle.ledger_cli.specs.Taken.{IsUnasked, TookTo, TookButLast}
+use Rattle.ledger_cli.proofs.NotaryLaws.{took_to}
+use Rattle.ledger_cli.specs.Pieces.{At, world_at, IsOpen, TakesAll, TakesSome, TakesBy, TakesPiece, Told, Answered, PieceTaken, PieceBroken, WindowTaken, WindowBroken}
 
 -- ---- a chain of values is one of what they tell
 
@@ -46,53 +50,142 @@ module _ {S X W : Type 0} (tell : S → W) (step : W → X → Flow → W → Ty
 
 -- ---- jobs, on the ledger with an id
 
-module _ (scheme : Scheme) (key : List ℕ) (tells : Bool) where
-  abbrev jobs_after : List Said → History → History
-  jobs_after xs h = after_jobs h (prepared_items scheme key (map step_of xs))
+-- the history where a line's job is done has the ledger's id
+IsKnown : List ℕ → History → Type 0
+IsKnown key h = (id h ≡ key) × (1 ≤ size h)
 
-  abbrev jobs_due : List Said → History → List Due
-  jobs_due xs h = job_dues h (prepared_items scheme key (map step_of xs))
+known_on : (key : List ℕ) (h : History) (step : Step) (job : Job) → IsKnown key h → IsKnown key (after_job h step job)
+unfolding IsKnown
+known_on key h step job k = (id_kept h (after_job h step job) (grows_job h step job) k.1 ∙ k.0, (let more = grows_size h (after_job h step job) (grows_job h step job) in let some = k.1 in omega (arith, more, some)))
+
+module _ (scheme : Scheme) (key : List ℕ) (tells : Bool) where
+  abbrev jobs_after : List Step → History → History
+  jobs_after steps h = after_jobs h (prepared_items scheme key steps)
+
+  abbrev jobs_due : List Step → History → List Due
+  jobs_due steps h = job_dues h (prepared_items scheme key steps)
+
+  -- the step of a line with this job is one of what the line asks for
+  attends_as : (h : History) (step : Step) → IsKnown key h → AttendsJob (judged_at h (job_of scheme key step.line)) step (job_of scheme key step.line) → Attends scheme h step
+  unfolding IsKnown
+  attends_as h step k a = subst (λ (i : List ℕ). AttendsJob (judged_at h (job_of scheme i step.line)) step (job_of scheme i step.line)) (sym k.0) a
+
+  step_as : (h : History) (step : Step) → IsKnown key h → after_job h step (job_of scheme key step.line) ≡ after_step scheme h step
+  unfolding after_step IsKnown
+  step_as h step k = ap (λ (i : List ℕ). after_job h step (job_of scheme i step.line)) (sym k.0)
 
   -- one item, in the words of its line
+  record ItemGoes (s t : At) (x : Said) : Type 0 where
+    step : Step
+    said : said_by step ≡ x
+    goes : Goes tells (world_at s) (jobs_after (step ∷ [])) (jobs_due (step ∷ [])) (world_at t)
+    before : step.before ≡ s.notary.entries
+    attended : (h : History) → Holds tells (world_at s) h → AttendsJob (judged_at h (job_of scheme key step.line)) step (job_of scheme key step.line) × (notary_after s.notary step ≡ t.notary)
+
+  notary_is : (n m : NotaryState) (failed : Bool) (lane index : ℕ) (line : List ℕ) (g : History) (job : Job) → Attended n m g (step_in n m failed lane index line) job → notary_after n (step_in n m failed lane index line) ≡ m
+  notary_is n m failed lane index line g job a = λ i. record { entries = m.entries; faults = sym a.count i }
+
   item_goes : (s t : At) (x : Said) (item : Prepared) → IsItemOf scheme key x item
-      → ((line : List ℕ) → Goes tells (world_at s) (λ h. after_job h (step_at item.lane item.index line) item.job) (λ h. due_of h (step_at item.lane item.index line) item.job ∷ []) (world_at t))
-      → Goes tells (world_at s) (jobs_after (x ∷ [])) (jobs_due (x ∷ [])) (world_at t)
+      → ((failed : Bool) × ((line : List ℕ) → Takes tells (world_at s) (world_at t) s.notary t.notary (step_in s.notary t.notary failed item.lane item.index line) item.job))
+      → ItemGoes s t x
   item_goes s t x item is g =
-      subst (λ (y : ℕ × ℕ × Job). Goes tells (world_at s) (λ h. after_job h (step_at y.0 y.1 x.line) y.2) (λ h. due_of h (step_at y.0 y.1 x.line) y.2 ∷ []) (world_at t))
-      (λ i. (is.0 i, is.1 i, is.2 i)) (g x.line)
+      let step = step_in s.notary t.notary g.0 x.lane x.index x.line in
+      let takes = subst (λ (y : ℕ × ℕ × Job). Takes tells (world_at s) (world_at t) s.notary t.notary (step_in s.notary t.notary g.0 y.0 y.1 x.line) y.2)
+      (λ i. (is.0 i, is.1 i, is.2 i)) (g.1 x.line) in record {
+        step = step;
+        said = refl;
+        goes = takes.goes;
+        before = refl;
+        attended = λ h p. let a = takes.attended h p in (a.list, notary_is s.notary t.notary g.0 x.lane x.index x.line (judged_at h (job_of scheme key x.line)) (job_of scheme key x.line) a);
+      }
+
+  -- .. that ended the run
+  record ItemEnds (s t : At) (x : Said) (why : End) : Type 0 where
+    step : Step
+    said : said_by step ≡ x
+    ended : Ended tells (world_at s) (jobs_after (step ∷ [])) (jobs_due (step ∷ [])) why (world_at t)
+    took : (h : History) → Holds tells (world_at s) h → IsKnown key h → TookTo scheme h s.notary (step ∷ []) t.notary
+
+  one_took : (h : History) (n m : NotaryState) (step : Step) → IsKnown key h → step.before ≡ n.entries → AttendsJob (judged_at h (job_of scheme key step.line)) step (job_of scheme key step.line) → notary_after n step ≡ m → Took scheme h n (step ∷ []) m
+  one_took h n m step k before a is = (before, attends_as h step k a, sym is)
+
+  one_unasked : (h : History) (n m : NotaryState) (step : Step) → IsKnown key h → m ≡ n → IsUnasked n step → job_of scheme key step.line ≡ Anchor → TookButLast scheme h n (step ∷ []) m
+  unfolding IsKnown
+  one_unasked h n m step k same u is = record {
+    front = [];
+    last = step;
+    split = refl;
+    took = same;
+    anchor = ap (λ (i : List ℕ). job_of scheme i step.line) k.0 ∙ is;
+    unasked = subst (λ (x : NotaryState). IsUnasked x step) (sym same) u;
+  }
 
   item_ended : (s t : At) (x : Said) (item : Prepared) (why : End) → IsItemOf scheme key x item
-      → ((line : List ℕ) → Ended tells (world_at s) (λ h. after_job h (step_at item.lane item.index line) item.job) (λ h. due_of h (step_at item.lane item.index line) item.job ∷ []) why (world_at t))
-      → Ended tells (world_at s) (jobs_after (x ∷ [])) (jobs_due (x ∷ [])) why (world_at t)
-  item_ended s t x item why is g =
-      subst (λ (y : ℕ × ℕ × Job). Ended tells (world_at s) (λ h. after_job h (step_at y.0 y.1 x.line) y.2) (λ h. due_of h (step_at y.0 y.1 x.line) y.2 ∷ []) why (world_at t))
-      (λ i. (is.0 i, is.1 i, is.2 i)) (g x.line)
+      → EndsTaking tells (world_at s) (world_at t) s.notary t.notary item.lane item.index item.job why
+      → ItemEnds s t x why
+  item_ended s t x item why is (inl g) =
+      let step = step_in s.notary t.notary g.0 x.lane x.index x.line in
+      let ends = subst (λ (y : ℕ × ℕ × Job). EndsAt tells (world_at s) (world_at t) s.notary t.notary (step_in s.notary t.notary g.0 y.0 y.1 x.line) y.2 why)
+      (λ i. (is.0 i, is.1 i, is.2 i)) (g.1 x.line) in record {
+        step = step;
+        said = refl;
+        ended = ends.ended;
+        took = λ h p k. let a = ends.attended h p in inl (one_took h s.notary t.notary step k refl a.list (notary_is s.notary t.notary g.0 x.lane x.index x.line (judged_at h (job_of scheme key x.line)) (job_of scheme key x.line) a));
+      }
+  item_ended s t x item why is (inr g) =
+      let step = step_in s.notary t.notary true x.lane x.index x.line in
+      let ends = subst (λ (y : ℕ × ℕ × Job). EndsUnasked tells (world_at s) (world_at t) s.notary t.notary (step_in s.notary t.notary true y.0 y.1 x.line) y.2 why)
+      (λ i. (is.0 i, is.1 i, is.2 i)) (g x.line) in record {
+        step = step;
+        said = refl;
+        ended = ended_wider tells (world_at s) (world_at t) (jobs_after (step ∷ [])) (jobs_after (step ∷ [])) (λ h. []) (jobs_due (step ∷ [])) why (λ h p. grows_not (jobs_after (step ∷ []) h)) ends.ended;
+        took = λ h p k. inr (one_unasked h s.notary t.notary step k ends.same (refl, refl, ap (λ (n : NotaryState). n.entries) ends.same) ends.anchor);
+      }
 
-  jobs_after-append : (xs ys : List Said) (h : History) → jobs_after ys (jobs_after xs h) ≡ jobs_after (xs ++ ys) h
+  jobs_after-append : (xs ys : List Step) (h : History) → jobs_after ys (jobs_after xs h) ≡ jobs_after (xs ++ ys) h
   jobs_after-append [] ys h = refl
   jobs_after-append (x ∷ xs) ys h = jobs_after-append xs ys (jobs_after (x ∷ []) h)
 
-  jobs_due-append : (xs ys : List Said) (h : History) → jobs_due xs h ++ jobs_due ys (jobs_after xs h) ≡ jobs_due (xs ++ ys) h
+  jobs_due-append : (xs ys : List Step) (h : History) → jobs_due xs h ++ jobs_due ys (jobs_after xs h) ≡ jobs_due (xs ++ ys) h
   jobs_due-append [] ys h = refl
-  jobs_due-append (x ∷ xs) ys h = ap (λ (l : List Due). due_of h (step_of x) (job_of scheme key x.line) ∷ l) (jobs_due-append xs ys (jobs_after (x ∷ []) h))
+  jobs_due-append (x ∷ xs) ys h = ap (λ (l : List Due). due_of h x (job_of scheme key x.line) ∷ l) (jobs_due-append xs ys (jobs_after (x ∷ []) h))
 
   -- how far a chain came
   record Came (s : Told) (xs : List Said) (t : Told) : Type 0 where
     names : t.names ≡ s.names
     end : t.end ≡ s.end
-    goes : Goes tells (world_at s.at) (jobs_after xs) (jobs_due xs) (world_at t.at)
+    steps : List Step
+    said : map said_by steps ≡ xs
+    goes : Goes tells (world_at s.at) (jobs_after steps) (jobs_due steps) (world_at t.at)
+    took : (h : History) → Holds tells (world_at s.at) h → IsKnown key h → Took scheme h s.at.notary steps t.at.notary
     still : IsOpen tells t.at
+
+  took_on : (h : History) (n m t : NotaryState) (step : Step) (steps : List Step) → IsKnown key h → step.before ≡ n.entries
+      → AttendsJob (judged_at h (job_of scheme key step.line)) step (job_of scheme key step.line) → notary_after n step ≡ m
+      → Took scheme (jobs_after (step ∷ []) h) m steps t → Took scheme h n (step ∷ steps) t
+  took_on h n m t step steps k before a is more = (
+    before,
+    attends_as h step k a,
+    subst (λ (y : History × NotaryState). Took scheme y.0 y.1 steps t) (λ i. (step_as h step k i, sym is i)) more,
+  )
 
   chain_goes : (s : Told) (xs : List Said) (t : Told) → IsOpen tells s.at → lanes.Goes (OffersLine scheme key (Answered tells)) s xs t → Came s xs t
   unfolding lanes.Goes
-  chain_goes s [] t open_ g = subst (Came s []) (sym g) (record { names = refl; end = refl; goes = goes_same tells (world_at s.at); still = open_ })
+  chain_goes s [] t open_ g = subst (Came s []) (sym g) (record { names = refl; end = refl; steps = []; said = refl; goes = goes_same tells (world_at s.at); took = λ h p k. refl; still = open_ })
   chain_goes s (x ∷ xs) t open_ g =
       let m = g.0 in
       let o = g.1 in
-      let more = chain_goes m xs t o.2.2 g.2 in record {
+      let more = chain_goes m xs t o.2.2 g.2 in
+      let one = item_goes s.at m.at x o.0 o.1 o.2.3 in record {
         names = more.names ∙ o.2.0;
         end = more.end ∙ o.2.1;
-        goes = goes_then tells (world_at s.at) (world_at m.at) (world_at t.at) (jobs_after (x ∷ [])) (jobs_after xs) (jobs_due (x ∷ [])) (jobs_due xs) (item_goes s.at m.at x o.0 o.1 o.2.3) more.goes;
+        steps = one.step ∷ more.steps;
+        said = ap (λ (y : Said). y ∷ map said_by more.steps) one.said ∙ ap (λ (l : List Said). x ∷ l) more.said;
+        goes = goes_then tells (world_at s.at) (world_at m.at) (world_at t.at) (jobs_after (one.step ∷ [])) (jobs_after more.steps) (jobs_due (one.step ∷ [])) (jobs_due more.steps) one.goes more.goes;
+        took = λ h p k.
+            let a = one.attended h p in
+            took_on h s.at.notary m.at.notary t.at.notary one.step more.steps k one.before a.0 a.1
+            (more.took (jobs_after (one.step ∷ []) h) (one.goes.holds h p) (known_on key h one.step (job_of scheme key one.step.line) k));
         still = more.still;
       }
 
@@ -101,30 +194,46 @@ module _ (scheme : Scheme) (key : List ℕ) (tells : Bool) where
     names : t.names ≡ s.names
     why : End
     end : t.end ≡ Some why
-    front : List Said
+    steps : List Step
     rest : List Said
-    split : xs ≡ front ++ rest
-    ended : Ended tells (world_at s.at) (jobs_after front) (jobs_due front) why (world_at t.at)
+    split : xs ≡ map said_by steps ++ rest
+    ended : Ended tells (world_at s.at) (jobs_after steps) (jobs_due steps) why (world_at t.at)
+    took : (h : History) → Holds tells (world_at s.at) h → IsKnown key h → TookTo scheme h s.at.notary steps t.at.notary
+
+  known_after : (steps : List Step) (h : History) → IsKnown key h → IsKnown key (jobs_after steps h)
+  known_after [] h k = k
+  known_after (step ∷ steps) h k = known_after steps (jobs_after (step ∷ []) h) (known_on key h step (job_of scheme key step.line) k)
+
+  steps_as : (steps : List Step) (h : History) → IsKnown key h → jobs_after steps h ≡ after_steps scheme h steps
+  unfolding IsKnown
+  steps_as steps h k = after_items scheme key h steps k.0 k.1
 
   chain_stops : (s : Told) (xs : List Said) (t : Told) → IsOpen tells s.at → Stops (OffersLine scheme key (Answered tells)) s xs t → CameToEnd s xs t
   chain_stops s xs t open_ g =
       let c = chain_goes s g.front g.mid open_ g.goes in
       let o = g.stops in
-      let last : List Said = g.last ∷ [] in record {
+      let one = item_ended g.mid.at t.at g.last o.0 o.2.1.0 o.1 o.2.1.2 in
+      let last : List Step = one.step ∷ [] in record {
         names = o.2.0 ∙ c.names;
         why = o.2.1.0;
         end = o.2.1.1;
-        front = g.front ++ last;
+        steps = c.steps ++ last;
         rest = g.rest;
-        split = g.split ∙ sym (append_assoc g.front last g.rest);
+        split =
+            g.split ∙ ap (λ (l : List Said). l ++ g.last ∷ g.rest) (sym c.said) ∙ ap (λ (y : Said). map said_by c.steps ++ y ∷ g.rest) (sym one.said)
+            ∙ sym (append_assoc (map said_by c.steps) (map said_by last) g.rest) ∙ ap (λ (l : List Said). l ++ g.rest) (sym (map-append said_by c.steps last));
         ended =
-            ended_as tells (world_at s.at) (world_at t.at) (λ h. jobs_after last (jobs_after g.front h)) (jobs_after (g.front ++ last)) (λ h. jobs_due g.front h ++ jobs_due last (jobs_after g.front h)) (jobs_due (g.front ++ last)) o.2.1.0
-            (λ h p. jobs_after-append g.front last h) (λ h p. jobs_due-append g.front last h)
-            (ended_then tells (world_at s.at) (world_at g.mid.at) (world_at t.at) (jobs_after g.front) (jobs_after last) (jobs_due g.front) (jobs_due last) o.2.1.0 c.goes (item_ended g.mid.at t.at g.last o.0 o.2.1.0 o.1 o.2.1.2));
+            ended_as tells (world_at s.at) (world_at t.at) (λ h. jobs_after last (jobs_after c.steps h)) (jobs_after (c.steps ++ last)) (λ h. jobs_due c.steps h ++ jobs_due last (jobs_after c.steps h)) (jobs_due (c.steps ++ last)) o.2.1.0
+            (λ h p. jobs_after-append c.steps last h) (λ h p. jobs_due-append c.steps last h)
+            (ended_then tells (world_at s.at) (world_at g.mid.at) (world_at t.at) (jobs_after c.steps) (jobs_after last) (jobs_due c.steps) (jobs_due last) o.2.1.0 c.goes one.ended);
+        took = λ h p k.
+            took_to scheme h s.at.notary g.mid.at.notary t.at.notary c.steps last (c.took h p k)
+            (subst (λ (i : History). TookTo scheme i g.mid.at.notary last t.at.notary) (steps_as c.steps h k)
+            (one.took (jobs_after c.steps h) (c.goes.holds h p) (known_after c.steps h k)));
       }
 
   -- nothing more is offered for want of memory
-  lacks : (s : At) (xs : List Said) (t : At) → Goes tells (world_at s) (jobs_after xs) (jobs_due xs) (world_at t) → Ended tells (world_at s) (jobs_after xs) (jobs_due xs) end.NoMemory (world_at t)
+  lacks : (s : At) (xs : List Step) (t : At) → Goes tells (world_at s) (jobs_after xs) (jobs_due xs) (world_at t) → Ended tells (world_at s) (jobs_after xs) (jobs_due xs) end.NoMemory (world_at t)
   lacks s xs t g =
       ended_as tells (world_at s) (world_at t) (jobs_after xs) (jobs_after xs) (λ h. jobs_due xs h ++ []) (jobs_due xs) end.NoMemory (λ h p. refl) (λ h p. append-nil (jobs_due xs h))
       (ended_then tells (world_at s) (world_at t) (world_at t) (jobs_after xs) (λ h. h) (jobs_due xs) (λ h. []) end.NoMemory g (no_memory tells (world_at t) t.held.kept (λ h. h) (λ h. []) (λ h p. grows_not h)))
@@ -132,24 +241,41 @@ module _ (scheme : Scheme) (key : List ℕ) (tells : Bool) where
   -- ---- jobs are those of the lines, where this is the ledger's id
 
   module _ (s : At) (key_is : (h : History) → Keeps s.held.kept h → key ≡ id h) (room : HasRoom s.held.kept) where
-    some : (h : History) → Holds tells (world_at s) h → 1 ≤ size h
-    some h p = let l = held_lawful tells (world_at s) h p room in omega (arith, some_journal (journals h) l.journals_are)
+    known : (h : History) → Holds tells (world_at s) h → IsKnown key h
+    unfolding IsKnown
+    known h p = (sym (key_is h p.keeps), (let l = held_lawful tells (world_at s) h p room in omega (arith, some_journal (journals h) l.journals_are)))
 
-    after_is : (xs : List Said) (h : History) → Holds tells (world_at s) h → jobs_after xs h ≡ after_steps scheme h (map step_of xs)
-    after_is xs h p = after_items scheme key h (map step_of xs) (sym (key_is h p.keeps)) (some h p)
+    due_is : (xs : List Step) (h : History) → Holds tells (world_at s) h → jobs_due xs h ≡ dues scheme h xs
+    unfolding IsKnown
+    due_is xs h p = let k = known h p in dues_of_items scheme key h xs k.0 k.1
 
-    due_is : (xs : List Said) (h : History) → Holds tells (world_at s) h → jobs_due xs h ≡ dues scheme h (map step_of xs)
-    due_is xs h p = dues_of_items scheme key h (map step_of xs) (sym (key_is h p.keeps)) (some h p)
+    steps_go : (xs : List Step) (t : At) → Goes tells (world_at s) (jobs_after xs) (jobs_due xs) (world_at t) → Goes tells (world_at s) (λ h. after_steps scheme h xs) (λ h. dues scheme h xs) (world_at t)
+    steps_go xs t g = goes_as tells (world_at s) (world_at t) (jobs_after xs) (λ h. after_steps scheme h xs) (jobs_due xs) (λ h. dues scheme h xs) (λ h p. steps_as xs h (known h p)) (due_is xs) g
 
-    steps_go : (xs : List Said) (t : At) → Goes tells (world_at s) (jobs_after xs) (jobs_due xs) (world_at t) → Goes tells (world_at s) (λ h. after_steps scheme h (map step_of xs)) (λ h. dues scheme h (map step_of xs)) (world_at t)
-    steps_go xs t g = goes_as tells (world_at s) (world_at t) (jobs_after xs) (λ h. after_steps scheme h (map step_of xs)) (jobs_due xs) (λ h. dues scheme h (map step_of xs)) (after_is xs) (due_is xs) g
-
-    steps_end : (xs : List Said) (why : End) (t : At) → Ended tells (world_at s) (jobs_after xs) (jobs_due xs) why (world_at t) → Ended tells (world_at s) (λ h. after_steps scheme h (map step_of xs)) (λ h. dues scheme h (map step_of xs)) why (world_at t)
-    steps_end xs why t g = ended_as tells (world_at s) (world_at t) (jobs_after xs) (λ h. after_steps scheme h (map step_of xs)) (jobs_due xs) (λ h. dues scheme h (map step_of xs)) why (after_is xs) (due_is xs) g
+    steps_end : (xs : List Step) (why : End) (t : At) → Ended tells (world_at s) (jobs_after xs) (jobs_due xs) why (world_at t) → Ended tells (world_at s) (λ h. after_steps scheme h xs) (λ h. dues scheme h xs) why (world_at t)
+    steps_end xs why t g = ended_as tells (world_at s) (world_at t) (jobs_after xs) (λ h. after_steps scheme h xs) (jobs_due xs) (λ h. dues scheme h xs) why (λ h p. steps_as xs h (known h p)) (due_is xs) g
 
 -- ---- what a piece came to
 
 module _ {S : Type 0} (tell : S → Told) (scheme : Scheme) (key : List ℕ) (tells : Bool) (first : List ℕ) (lines : List LaneLine) (s t : S) (open_ : IsOpen tells (tell s).at) (key_is : (h : History) → Keeps (tell s).at.held.kept h → key ≡ id h) where
+  all_taken : (order : List Said) → Came scheme key tells (tell s) order (tell t) → TakesAll scheme tells order (tell s).at (tell t).at
+  all_taken order c = record {
+    steps = c.steps;
+    said = c.said;
+    goes = steps_go scheme key tells (tell s).at key_is open_.room c.steps (tell t).at c.goes;
+    took = λ h p. c.took h p (known scheme key tells (tell s).at key_is open_.room h p);
+    still = c.still;
+  }
+
+  some_taken : (order : List Said) (c : CameToEnd scheme key tells (tell s) order (tell t)) → TakesSome scheme tells order c.why (tell s).at (tell t).at
+  some_taken order c = record {
+    steps = c.steps;
+    rest = c.rest;
+    split = c.split;
+    ended = steps_end scheme key tells (tell s).at key_is open_.room c.steps c.why (tell t).at c.ended;
+    took = λ h p. c.took h p (known scheme key tells (tell s).at key_is open_.room h p);
+  }
+
   pub ran_all : (tell s).end ≡ None → RunsAll (OffersLine scheme key (λ s item f t. Answered tells (tell s) item f (tell t))) first lines s t
       → ((tell t).names ≡ (tell s).names) × TakesPiece scheme tells first lines (tell t).end (tell s).at (tell t).at
   unfolding TakesPiece
@@ -158,10 +284,10 @@ module _ {S : Type 0} (tell : S → Told) (scheme : Scheme) (key : List ℕ) (te
       elim r.runs [
         | inl g ↦
             let c = chain_goes scheme key tells (tell s) r.order (tell t) open_ (seen_goes tell o s r.order t g) in
-            (c.names, (r.order, r.is_order, subst (λ (e : Option End). TakesBy scheme tells r.order e (tell s).at (tell t).at) (sym (c.end ∙ fresh)) (record { goes = steps_go scheme key tells (tell s).at key_is open_.room r.order (tell t).at c.goes; still = c.still })))
+            (c.names, (r.order, r.is_order, subst (λ (e : Option End). TakesBy scheme tells r.order e (tell s).at (tell t).at) (sym (c.end ∙ fresh)) (all_taken r.order c)))
         | inr g ↦
             let c = chain_stops scheme key tells (tell s) r.order (tell t) open_ (seen_stops tell o s r.order t g) in
-            (c.names, (r.order, r.is_order, subst (λ (e : Option End). TakesBy scheme tells r.order e (tell s).at (tell t).at) (sym c.end) (record { front = c.front; rest = c.rest; split = c.split; ended = steps_end scheme key tells (tell s).at key_is open_.room c.front c.why (tell t).at c.ended })))
+            (c.names, (r.order, r.is_order, subst (λ (e : Option End). TakesBy scheme tells r.order e (tell s).at (tell t).at) (sym c.end) (some_taken r.order c)))
       ]
 
   pub ran_some : RunsSome (OffersLine scheme key (λ s item f t. Answered tells (tell s) item f (tell t))) first lines s t
@@ -169,15 +295,29 @@ module _ {S : Type 0} (tell : S → Told) (scheme : Scheme) (key : List ℕ) (te
   unfolding TakesPiece
   ran_some r =
       let g = r.runs in
-      let c = chain_goes scheme key tells (tell s) g.front (tell t) open_ (seen_goes tell (OffersLine scheme key (Answered tells)) s g.front t g.goes) in
-      (c.names, (r.order, r.is_order, record { front = g.front; rest = g.rest; split = g.split; ended = steps_end scheme key tells (tell s).at key_is open_.room g.front end.NoMemory (tell t).at (lacks scheme key tells (tell s).at g.front (tell t).at c.goes) }))
+      let c = chain_goes scheme key tells (tell s) g.front (tell t) open_ (seen_goes tell (OffersLine scheme key (Answered tells)) s g.front t g.goes) in (
+        c.names,
+        (
+          r.order,
+          r.is_order,
+          record {
+            steps = c.steps;
+            rest = g.rest;
+            split = g.split ∙ ap (λ (l : List Said). l ++ g.rest) (sym c.said);
+            ended = steps_end scheme key tells (tell s).at key_is open_.room c.steps end.NoMemory (tell t).at (lacks scheme key tells (tell s).at c.steps (tell t).at c.goes);
+            took = λ h p. inl (c.took h p (known scheme key tells (tell s).at key_is open_.room h p));
+          },
+        ),
+      )
 
 -- ---- pieces and windows
 
 module _ (scheme : Scheme) (tells : Bool) (got first : List ℕ) (items lines : List LaneLine) (s t : At) (first_is : got ≡ first) (lines_are : items ≡ lines) where
   pub piece_taken : TakesPiece scheme tells got items None s t → PieceTaken scheme tells first lines s t
   unfolding TakesPiece
-  piece_taken x = subst (λ (y : List ℕ × List LaneLine). PieceTaken scheme tells y.0 y.1 s t) (λ i. (first_is i, lines_are i)) (record { order = x.0; is_order = x.1; goes = x.2.goes })
+  piece_taken x =
+      subst (λ (y : List ℕ × List LaneLine). PieceTaken scheme tells y.0 y.1 s t) (λ i. (first_is i, lines_are i))
+      (record { steps = x.2.steps; is_order = subst (λ (l : List Said). IsOrderOf got items l) (sym x.2.said) x.1; goes = x.2.goes; took = x.2.took })
 
   pub piece_open : TakesPiece scheme tells got items None s t → IsOpen tells t
   unfolding TakesPiece
@@ -187,34 +327,40 @@ module _ (scheme : Scheme) (tells : Bool) (got first : List ℕ) (items lines : 
   unfolding TakesPiece
   piece_broken why x =
       subst (λ (y : List ℕ × List LaneLine). PieceBroken scheme tells y.0 y.1 why s t) (λ i. (first_is i, lines_are i))
-      (record { order = x.0; is_order = x.1; front = x.2.front; rest = x.2.rest; split = x.2.split; ended = x.2.ended })
+      (record { steps = x.2.steps; rest = x.2.rest; is_order = subst (λ (l : List Said). IsOrderOf got items l) x.2.split x.1; ended = x.2.ended; took = x.2.took })
 
 -- no line at all
 pub piece_empty : (scheme : Scheme) (tells : Bool) (first : List ℕ) (lines : List LaneLine) (s : At) → lines ≡ [] → PieceTaken scheme tells first lines s s
 unfolding numbered
 piece_empty scheme tells first lines s none = record {
-  order = [];
+  steps = [];
   is_order = λ k. sym (ap (λ (ls : List LaneLine). numbered (slice_index first k) (lines_of k ls)) none);
   goes = goes_same tells (world_at s);
+  took = λ h p. refl;
 }
 
-module _ (scheme : Scheme) (tells : Bool) (first : List ℕ) (lines : List LaneLine) (s m t : At) (x : PieceTaken scheme tells first lines s m) where
+module _ (scheme : Scheme) (tells : Bool) (first : List ℕ) (lines : List LaneLine) (s m t : At) (same : t.notary ≡ m.notary) (x : PieceTaken scheme tells first lines s m) where
+  took_same : (h : History) → Holds tells (world_at s) h → Took scheme h s.notary x.steps t.notary
+  took_same h p = subst (λ (n : NotaryState). Took scheme h s.notary x.steps n) (sym same) (x.took h p)
+
   pub window_taken : Goes tells (world_at m) close (λ h. []) (world_at t) → WindowTaken scheme tells first lines s t
   window_taken f = record {
-    order = x.order;
+    steps = x.steps;
     is_order = x.is_order;
     goes =
-        goes_as tells (world_at s) (world_at t) (λ h. close (after_steps scheme h (map step_of x.order))) (λ h. close (after_steps scheme h (map step_of x.order))) (λ h. dues scheme h (map step_of x.order) ++ []) (λ h. dues scheme h (map step_of x.order))
-        (λ h p. refl) (λ h p. append-nil (dues scheme h (map step_of x.order)))
-        (goes_then tells (world_at s) (world_at m) (world_at t) (λ h. after_steps scheme h (map step_of x.order)) close (λ h. dues scheme h (map step_of x.order)) (λ h. []) x.goes f);
+        goes_as tells (world_at s) (world_at t) (λ h. close (after_steps scheme h x.steps)) (λ h. close (after_steps scheme h x.steps)) (λ h. dues scheme h x.steps ++ []) (λ h. dues scheme h x.steps)
+        (λ h p. refl) (λ h p. append-nil (dues scheme h x.steps))
+        (goes_then tells (world_at s) (world_at m) (world_at t) (λ h. after_steps scheme h x.steps) close (λ h. dues scheme h x.steps) (λ h. []) x.goes f);
+    took = took_same;
   }
 
   pub flush_broken : (why : End) → Ended tells (world_at m) close (λ h. []) why (world_at t) → WindowBroken scheme tells first lines why s t
   flush_broken why f = inr (record {
-    order = x.order;
+    steps = x.steps;
     is_order = x.is_order;
     ended =
-        ended_as tells (world_at s) (world_at t) (λ h. close (after_steps scheme h (map step_of x.order))) (λ h. close (after_steps scheme h (map step_of x.order))) (λ h. dues scheme h (map step_of x.order) ++ []) (λ h. dues scheme h (map step_of x.order)) why
-        (λ h p. refl) (λ h p. append-nil (dues scheme h (map step_of x.order)))
-        (ended_then tells (world_at s) (world_at m) (world_at t) (λ h. after_steps scheme h (map step_of x.order)) close (λ h. dues scheme h (map step_of x.order)) (λ h. []) why x.goes f);
+        ended_as tells (world_at s) (world_at t) (λ h. close (after_steps scheme h x.steps)) (λ h. close (after_steps scheme h x.steps)) (λ h. dues scheme h x.steps ++ []) (λ h. dues scheme h x.steps) why
+        (λ h p. refl) (λ h p. append-nil (dues scheme h x.steps))
+        (ended_then tells (world_at s) (world_at m) (world_at t) (λ h. after_steps scheme h x.steps) close (λ h. dues scheme h x.steps) (λ h. []) why x.goes f);
+    took = took_same;
   })

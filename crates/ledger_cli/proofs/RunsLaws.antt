@@ -1,13 +1,14 @@
 -- Lemmas on a session that takes its lines in pieces: how far it came, and how it ends.
-use Rattle.std.proofs.Common.{◌≡◌, ◌≢◌, ℕ, ◌+◌, ◌^◌, ◌<◌, ◌≤◌, ◌==◌, ◌⊎◌, inl, inr, Bool, true, false, cond, List, [], ◌∷◌, ◌++◌, length, map, filter, Option, None, Some, Err, refl, ap, sym, subst, ◌∙◌, arith, append_assoc, append-nil, length-append, eq-eqb, ne_eqb}
+use Rattle.std.proofs.Common.{◌≡◌, ◌≢◌, ℕ, ◌+◌, ◌^◌, ◌<◌, ◌≤◌, ◌==◌, inl, inr, Bool, true, false, cond, List, [], ◌∷◌, ◌++◌, length, map, filter, Option, None, Some, Err, refl, ap, sym, subst, ◌∙◌, arith, append_assoc, append-nil, length-append, eq-eqb, ne_eqb}
 use Rattle.std.specs.Prelude.{if◌then◌else◌, slice_index}
 use Rattle.std.proofs.lemmas.List.{map-append}
 use Rattle.std.proofs.lemmas.List.Elements.{filter-append}
-use Rattle.std.specs.Io.KnownBytes.{Consumes, Appends}
+use Rattle.std.specs.Io.KnownBytes.{Consumes}
 use mathlib.Core.Logic.{dite}
 use native.Mathlib.Decide.{ℕ_discrete}
 use Rattle.script_lines.specs.Grammar.{spoken_line}
-use Rattle.batch_committer.specs.World.{World, HasRoom, Goes, Ended}
+use Rattle.time_peg.specs.Entries.{NotaryState}
+use Rattle.batch_committer.specs.World.{World, HasRoom, Holds, Goes, Ended}
 use Rattle.batch_committer.specs.declared.end.End.{End}
 use Rattle.batch_committer.specs.declared.end.End.TheVariants as end
 use Rattle.batch_committer.proofs.Ending.{no_memory}
@@ -23,27 +24,28 @@ use Rattle.ledger_io.specs.declared.failure.LineErr.{LineErr}
 use Rattle.ledger_io.specs.declared.failure.LineErr.TheVariants.{NoMemory}
 use Rattle.ledger_io.proofs.ReadingLaws.{HasGiven, read_none, read_more, given_consumed}
 use Rattle.ledger_io.proofs.RunLaws.{ended_whole, ended_failed, some_at_failure, some_of_given}
-use Rattle.ledger_model.specs.Dues.{dues, all_dues}
+use Rattle.ledger_model.specs.Dues.{dues}
 use Rattle.ledger_model.specs.History.{History, close}
-use Rattle.ledger_model.specs.InOrder.{step_of, steps_of}
-use Rattle.ledger_model.specs.Merge.{lines_of_lane}
-use Rattle.ledger_model.specs.Rules.{after, after_steps}
+use Rattle.ledger_model.specs.Merge.{said_by, lines_of_lane, IsMerge}
+use Rattle.ledger_model.specs.Rules.{after_steps}
 use Rattle.ledger_model.specs.Scheme.{Scheme}
+use Rattle.ledger_model.specs.Step.{Step}
+use Rattle.ledger_model.specs.Took.{Took}
 use Rattle.ledger_model.specs.Windows.{Said, said_lines, windows, numbered_line, count_of, bytes_of, fills_window}
-use Rattle.ledger_model.specs.declared.due.Due.{Due}
-use Rattle.ledger_model.proofs.DueLaws.{after_steps-append, dues-append}
 use Rattle.ledger_model.proofs.GrowLaws.{grows_not}
 use Rattle.ledger_model.proofs.LaneLaws.{said_after-append}
 use Rattle.ledger_model.proofs.WindowLaws.{IsCut, cut_none, cut_more, cut_whole, bytes_of-push}
 use Rattle.ledger_cli.specs.Endings.{ending_of_end}
-use Rattle.ledger_cli.specs.Pieces.{At, at, world_at, PieceTaken, PieceBroken, WindowTaken, FlushBroken, WindowBroken}
-use Rattle.ledger_cli.specs.Runs.{handed, FaultsBy, StopsOn, RunsOn}
+use Rattle.ledger_cli.specs.Pieces.{At, world_at, PieceTaken, PieceBroken, WindowTaken, WindowBroken}
+use Rattle.ledger_cli.specs.Runs.{handed, StopsOn}
 use Rattle.ledger_cli.specs.Session.{Runs}
+use Rattle.ledger_cli.specs.Taken.{TookTo}
 use Rattle.ledger_cli.specs.declared.ending.LedgerEnding.TheVariants.{Run}
 use Rattle.ledger_cli.proofs.HaltLaws.{stopped, stopped_last, answered}
-use Rattle.ledger_cli.proofs.LineLaws.{reached, owed, window_on, dues_on}
-use Rattle.ledger_cli.proofs.MergeLaws.{IsOrder, AreOrders, order_append, orders_append, order_same, count_more}
-use Rattle.ledger_cli.proofs.OrderLaws.{CanGoOn, part_open, part_whole, last_orders}
+use Rattle.ledger_cli.proofs.LineLaws.{reached, owed, reach_on, owe_on, window_on, dues_on}
+use Rattle.ledger_cli.proofs.MergeLaws.{IsOrder, order_append, order_merge, order_same, merges_append, count_more}
+use Rattle.ledger_cli.proofs.NotaryLaws.{TookOn, TookOnTo, took_none, took_on, took_on_to, took_stays, window_took}
+use Rattle.ledger_cli.proofs.OrderLaws.{CanGoOn, part_open, part_whole, last_merge}
 use Rattle.ledger_cli.proofs.StopLaws.{SaidOf}
 use Rattle.ledger_cli.proofs.SessionLaws.{few_lines, faults_end, faults_stop, at_most_once, serve_stop, serve_end}
 
@@ -124,29 +126,31 @@ count_few j (l ∷ ls) =
 
 -- ---- how far a session came
 
--- These lines were given. Whole windows were taken, of the window at hand some lines, each in some order, and the others wait.
-pub record SoFar (scheme : Scheme) (tells : Bool) (first_w w : World) (before now : SourceState) (reading : Reading) (first next : List ℕ) (piece : List LaneLine) (lines bytes : ℕ) : Type 0 where
+-- These lines were given. Whole windows were taken, of the window at hand some lines, each in some order, and the others wait. The
+-- notary took part in all steps so far.
+pub record SoFar (scheme : Scheme) (tells : Bool) (first_w w : World) (first_n n : NotaryState) (before now : SourceState) (reading : Reading) (first next : List ℕ) (piece : List LaneLine) (lines bytes : ℕ) : Type 0 where
   pub script : List (List ℕ)
   pub input : HasGiven before now reading script
   pub windows_are : List (List Said)
   pub front : List Said
   pub cut : IsCut (said_lines script) windows_are front
-  pub done : List (List Said)
-  pub current : List Said
+  pub done : List (List Step)
+  pub current : List Step
   pub late : List Said
-  pub orders : AreOrders windows_are done
-  pub order : IsOrder front (current ++ late)
+  pub merge : IsMerge windows_are done
+  pub order : IsOrder front (map said_by current ++ late)
   pub are_late : AreLate first next piece script late
   pub lines_are : lines ≡ length front
   pub bytes_are : bytes ≡ bytes_of front
   pub few : length piece ≤ lines
   pub goes : Goes tells first_w (reached scheme done current) (owed scheme done current) w
+  pub took : (h : History) → Holds tells first_w h → TookOn scheme h first_n done current n
 
-pub sofar_begins : (scheme : Scheme) (tells : Bool) (w : World) (before : SourceState) (reading : Reading) (first next : List ℕ) (piece : List LaneLine) (lines bytes : ℕ)
+pub sofar_begins : (scheme : Scheme) (tells : Bool) (w : World) (n : NotaryState) (before : SourceState) (reading : Reading) (first next : List ℕ) (piece : List LaneLine) (lines bytes : ℕ)
     → reading ≡ record { held = []; total = 0; ended = false; failed = None } → piece ≡ [] → ((k : ℕ) → k < 8 → slice_index first k ≡ 1) → ((k : ℕ) → k < 8 → slice_index next k ≡ 1) → lines ≡ 0 → bytes ≡ 0
-    → SoFar scheme tells w w before before reading first next piece lines bytes
+    → SoFar scheme tells w w n n before before reading first next piece lines bytes
 unfolding numbered
-sofar_begins scheme tells w before reading first next piece lines bytes is none f n lines_are bytes_are = record {
+sofar_begins scheme tells w n before reading first next piece lines bytes is none f m lines_are bytes_are = record {
   script = [];
   input = read_none before reading is;
   windows_are = [];
@@ -155,149 +159,160 @@ sofar_begins scheme tells w before reading first next piece lines bytes is none 
   done = [];
   current = [];
   late = [];
-  orders = tt;
+  merge = tt;
   order = order_same [];
   are_late = record {
     order = λ k. sym (ap (λ (ls : List LaneLine). numbered (slice_index first k) (lines_of k ls)) none);
-    from = λ k less. let a = f k less in let b = n k less in let e = ap (λ (ls : List LaneLine). length (lines_of k ls)) none in omega (arith, a, b, e);
-    counts = n;
+    from = λ k less. let a = f k less in let b = m k less in let e = ap (λ (ls : List LaneLine). length (lines_of k ls)) none in omega (arith, a, b, e);
+    counts = m;
   };
   lines_are = lines_are;
   bytes_are = bytes_are;
   few = let e = ap length none in omega (arith, e);
   goes = goes_same tells w;
+  took = λ h p. took_none scheme h n;
 }
 
 -- ---- lines that are taken, and ends
 
-module _ (scheme : Scheme) where
-  reach_on : (done : List (List Said)) (current order : List Said) (h : History) → after_steps scheme (reached scheme done current h) (map step_of order) ≡ reached scheme done (current ++ order) h
-  reach_on done current order h =
-      let g = after scheme h (steps_of done) in
-      sym (ap (after_steps scheme g) (map-append step_of current order) ∙ after_steps-append scheme g (map step_of current) (map step_of order))
+module _ (scheme : Scheme) (tells : Bool) (first_w w t : World) (done : List (List Step)) (current steps : List Step) (g : Goes tells first_w (reached scheme done current) (owed scheme done current) w) where
+  go_on : Goes tells w (λ h. after_steps scheme h steps) (λ h. dues scheme h steps) t → Goes tells first_w (reached scheme done (current ++ steps)) (owed scheme done (current ++ steps)) t
+  go_on x =
+      goes_as tells first_w t (λ h. after_steps scheme (reached scheme done current h) steps) (reached scheme done (current ++ steps))
+      (λ h. owed scheme done current h ++ dues scheme (reached scheme done current h) steps) (owed scheme done (current ++ steps))
+      (λ h p. reach_on scheme h done current steps) (λ h p. owe_on scheme h done current steps)
+      (goes_then tells first_w w t (reached scheme done current) (λ h. after_steps scheme h steps) (owed scheme done current) (λ h. dues scheme h steps) g x)
 
-  owe_on : (done : List (List Said)) (current order : List Said) (h : History) → owed scheme done current h ++ dues scheme (reached scheme done current h) (map step_of order) ≡ owed scheme done (current ++ order) h
-  owe_on done current order h =
-      let g = after scheme h (steps_of done) in
-      let all = all_of h in
-      append_assoc all (dues scheme g (map step_of current)) (dues scheme (reached scheme done current h) (map step_of order))
-      ∙ ap (λ l. all ++ l) (sym (ap (dues scheme g) (map-append step_of current order) ∙ dues-append scheme g (map step_of current) (map step_of order)))
-    where
-      all_of : History → List Due
-      all_of k = all_dues scheme k (steps_of done)
+  break_on : (why : End) → Ended tells w (λ h. after_steps scheme h steps) (λ h. dues scheme h steps) why t → Ended tells first_w (reached scheme done (current ++ steps)) (owed scheme done (current ++ steps)) why t
+  break_on why x =
+      ended_as tells first_w t (λ h. after_steps scheme (reached scheme done current h) steps) (reached scheme done (current ++ steps))
+      (λ h. owed scheme done current h ++ dues scheme (reached scheme done current h) steps) (owed scheme done (current ++ steps)) why
+      (λ h p. reach_on scheme h done current steps) (λ h p. owe_on scheme h done current steps)
+      (ended_then tells first_w w t (reached scheme done current) (λ h. after_steps scheme h steps) (owed scheme done current) (λ h. dues scheme h steps) why g x)
 
-  module _ (tells : Bool) (first_w w t : World) (done : List (List Said)) (current order : List Said) (g : Goes tells first_w (reached scheme done current) (owed scheme done current) w) where
-    go_on : Goes tells w (λ h. after_steps scheme h (map step_of order)) (λ h. dues scheme h (map step_of order)) t → Goes tells first_w (reached scheme done (current ++ order)) (owed scheme done (current ++ order)) t
-    go_on x =
-        goes_as tells first_w t (λ h. after_steps scheme (reached scheme done current h) (map step_of order)) (reached scheme done (current ++ order))
-        (λ h. owed scheme done current h ++ dues scheme (reached scheme done current h) (map step_of order)) (owed scheme done (current ++ order))
-        (λ h p. reach_on done current order h) (λ h p. owe_on done current order h)
-        (goes_then tells first_w w t (reached scheme done current) (λ h. after_steps scheme h (map step_of order)) (owed scheme done current) (λ h. dues scheme h (map step_of order)) g x)
+  -- with the end of the window
+  close_on : (h : History) → close (after_steps scheme (reached scheme done current h) steps) ≡ reached scheme (done ++ (current ++ steps) ∷ []) [] h
+  close_on h = ap close (reach_on scheme h done current steps) ∙ window_on scheme h done (current ++ steps)
 
-    break_on : (why : End) → Ended tells w (λ h. after_steps scheme h (map step_of order)) (λ h. dues scheme h (map step_of order)) why t → Ended tells first_w (reached scheme done (current ++ order)) (owed scheme done (current ++ order)) why t
-    break_on why x =
-        ended_as tells first_w t (λ h. after_steps scheme (reached scheme done current h) (map step_of order)) (reached scheme done (current ++ order))
-        (λ h. owed scheme done current h ++ dues scheme (reached scheme done current h) (map step_of order)) (owed scheme done (current ++ order)) why
-        (λ h p. reach_on done current order h) (λ h p. owe_on done current order h)
-        (ended_then tells first_w w t (reached scheme done current) (λ h. after_steps scheme h (map step_of order)) (owed scheme done current) (λ h. dues scheme h (map step_of order)) why g x)
+  due_on : (h : History) → owed scheme done current h ++ dues scheme (reached scheme done current h) steps ≡ owed scheme (done ++ (current ++ steps) ∷ []) [] h
+  due_on h = owe_on scheme h done current steps ∙ dues_on scheme h done (current ++ steps)
 
-    -- with the end of the window
-    close_on : (h : History) → close (after_steps scheme (reached scheme done current h) (map step_of order)) ≡ reached scheme (done ++ (current ++ order) ∷ []) [] h
-    close_on h = ap close (reach_on done current order h) ∙ window_on scheme h done (current ++ order)
+  end_on : Goes tells w (λ h. close (after_steps scheme h steps)) (λ h. dues scheme h steps) t → Goes tells first_w (reached scheme (done ++ (current ++ steps) ∷ []) []) (owed scheme (done ++ (current ++ steps) ∷ []) []) t
+  end_on x =
+      goes_as tells first_w t (λ h. close (after_steps scheme (reached scheme done current h) steps)) (reached scheme (done ++ (current ++ steps) ∷ []) [])
+      (λ h. owed scheme done current h ++ dues scheme (reached scheme done current h) steps) (owed scheme (done ++ (current ++ steps) ∷ []) [])
+      (λ h p. close_on h) (λ h p. due_on h)
+      (goes_then tells first_w w t (reached scheme done current) (λ h. close (after_steps scheme h steps)) (owed scheme done current) (λ h. dues scheme h steps) g x)
 
-    due_on : (h : History) → owed scheme done current h ++ dues scheme (reached scheme done current h) (map step_of order) ≡ owed scheme (done ++ (current ++ order) ∷ []) [] h
-    due_on h = owe_on done current order h ∙ dues_on scheme h done (current ++ order)
+  unend_on : (why : End) → Ended tells w (λ h. close (after_steps scheme h steps)) (λ h. dues scheme h steps) why t → Ended tells first_w (reached scheme (done ++ (current ++ steps) ∷ []) []) (owed scheme (done ++ (current ++ steps) ∷ []) []) why t
+  unend_on why x =
+      ended_as tells first_w t (λ h. close (after_steps scheme (reached scheme done current h) steps)) (reached scheme (done ++ (current ++ steps) ∷ []) [])
+      (λ h. owed scheme done current h ++ dues scheme (reached scheme done current h) steps) (owed scheme (done ++ (current ++ steps) ∷ []) []) why
+      (λ h p. close_on h) (λ h p. due_on h)
+      (ended_then tells first_w w t (reached scheme done current) (λ h. close (after_steps scheme h steps)) (owed scheme done current) (λ h. dues scheme h steps) why g x)
 
-    end_on : Goes tells w (λ h. close (after_steps scheme h (map step_of order))) (λ h. dues scheme h (map step_of order)) t → Goes tells first_w (reached scheme (done ++ (current ++ order) ∷ []) []) (owed scheme (done ++ (current ++ order) ∷ []) []) t
-    end_on x =
-        goes_as tells first_w t (λ h. close (after_steps scheme (reached scheme done current h) (map step_of order))) (reached scheme (done ++ (current ++ order) ∷ []) [])
-        (λ h. owed scheme done current h ++ dues scheme (reached scheme done current h) (map step_of order)) (owed scheme (done ++ (current ++ order) ∷ []) [])
-        (λ h p. close_on h) (λ h p. due_on h)
-        (goes_then tells first_w w t (reached scheme done current) (λ h. close (after_steps scheme h (map step_of order))) (owed scheme done current) (λ h. dues scheme h (map step_of order)) g x)
+-- .. as the notary took part
+module _ (scheme : Scheme) (tells : Bool) (first_w w : World) (first_n n m : NotaryState) (done : List (List Step)) (current steps : List Step) (g : Goes tells first_w (reached scheme done current) (owed scheme done current) w)
+    (a : (h : History) → Holds tells first_w h → TookOn scheme h first_n done current n) where
+  take_on : ((h : History) → Holds tells w h → Took scheme h n steps m) → (h : History) → Holds tells first_w h → TookOn scheme h first_n done (current ++ steps) m
+  take_on b h p = took_on scheme h first_n done current steps n m (a h p) (b (reached scheme done current h) (g.holds h p))
 
-    unend_on : (why : End) → Ended tells w (λ h. close (after_steps scheme h (map step_of order))) (λ h. dues scheme h (map step_of order)) why t → Ended tells first_w (reached scheme (done ++ (current ++ order) ∷ []) []) (owed scheme (done ++ (current ++ order) ∷ []) []) why t
-    unend_on why x =
-        ended_as tells first_w t (λ h. close (after_steps scheme (reached scheme done current h) (map step_of order))) (reached scheme (done ++ (current ++ order) ∷ []) [])
-        (λ h. owed scheme done current h ++ dues scheme (reached scheme done current h) (map step_of order)) (owed scheme (done ++ (current ++ order) ∷ []) []) why
-        (λ h p. close_on h) (λ h p. due_on h)
-        (ended_then tells first_w w t (reached scheme done current) (λ h. close (after_steps scheme h (map step_of order))) (owed scheme done current) (λ h. dues scheme h (map step_of order)) why g x)
+  take_to : ((h : History) → Holds tells w h → TookTo scheme h n steps m) → (h : History) → Holds tells first_w h → TookOnTo scheme h first_n done (current ++ steps) m
+  take_to b h p = took_on_to scheme h first_n done current steps n m (a h p) (b (reached scheme done current h) (g.holds h p))
 
 -- a part of an order that was taken, with the rest of it
-with_rest : (front current late order part rest : List Said) → IsOrder front (current ++ late) → IsOrder late order → order ≡ part ++ rest → IsOrder front ((current ++ part) ++ rest)
-with_rest front current late order part rest o p split k =
-    ap (lines_of_lane k) (append_assoc current part rest ∙ ap (λ (l : List Said). current ++ l) (sym split))
-    ∙ filter-append (λ (l : Said). l.lane == k) current order ∙ ap (λ (l : List Said). lines_of_lane k current ++ l) (p k) ∙ sym (filter-append (λ (l : Said). l.lane == k) current late) ∙ o k
+with_rest : (front late : List Said) (current part : List Step) (rest : List Said) → IsOrder front (map said_by current ++ late) → IsOrder late (map said_by part ++ rest) → IsOrder front (map said_by (current ++ part) ++ rest)
+with_rest front late current part rest o p k =
+    ap (lines_of_lane k) (ap (λ (l : List Said). l ++ rest) (map-append said_by current part) ∙ append_assoc (map said_by current) (map said_by part) rest)
+    ∙ filter-append (λ (l : Said). l.lane == k) (map said_by current) (map said_by part ++ rest) ∙ ap (λ (l : List Said). lines_of_lane k (map said_by current) ++ l) (p k)
+    ∙ sym (filter-append (λ (l : Said). l.lane == k) (map said_by current) late) ∙ o k
 
-with_order : (front current late order : List Said) → IsOrder front (current ++ late) → IsOrder late order → IsOrder front (current ++ order)
-with_order front current late order o p k =
-    filter-append (λ (l : Said). l.lane == k) current order ∙ ap (λ (l : List Said). lines_of_lane k current ++ l) (p k) ∙ sym (filter-append (λ (l : Said). l.lane == k) current late) ∙ o k
+with_order : (front late : List Said) (current part : List Step) → IsOrder front (map said_by current ++ late) → IsOrder late (map said_by part) → IsOrder front (map said_by (current ++ part))
+with_order front late current part o p k =
+    ap (lines_of_lane k) (map-append said_by current part)
+    ∙ filter-append (λ (l : Said). l.lane == k) (map said_by current) (map said_by part) ∙ ap (λ (l : List Said). lines_of_lane k (map said_by current) ++ l) (p k)
+    ∙ sym (filter-append (λ (l : Said). l.lane == k) (map said_by current) late) ∙ o k
 
 -- ---- a stop within the script
 
-halt : (scheme : Scheme) (tells : Bool) (first_w : World) (before now : SourceState) (reading : Reading) (script : List (List ℕ)) (input : HasGiven before now reading script) (done : List (List Said)) (current : List Said) → CanGoOn script done current
+halt : (scheme : Scheme) (tells : Bool) (first_w : World) (first_n n : NotaryState) (before now : SourceState) (reading : Reading) (script : List (List ℕ)) (input : HasGiven before now reading script) (done : List (List Step)) (current : List Step) → CanGoOn n script done current
+    → ((h : History) → Holds tells first_w h → TookOnTo scheme h first_n done current n)
     → HasRoom first_w.kept → first_w.kept.dues ≡ [] → (why : End) (t : World) → Ended tells first_w (reached scheme done current) (owed scheme done current) why t
-    → Runs scheme tells first_w (ending_of_end why) (handed before first_w.sink first_w.disks) (handed now t.sink t.disks)
-halt scheme tells first_w before now reading script input done current can room no_dues why t all = record {
-  serves = λ h p none.
-      let stop = stopped scheme tells first_w h p room none no_dues script (few_lines before now reading script input) done current can why t all in
+    → Runs scheme tells first_w (ending_of_end why) (handed before first_w.sink first_w.disks first_n) (handed now t.sink t.disks n)
+halt scheme tells first_w first_n n before now reading script input done current can took room no_dues why t all = record {
+  serves = λ h p none list.
+      let stop = stopped scheme tells first_w h p room none no_dues first_n list script (few_lines before now reading script input) done current n can (took h p) why t all in
       let here = stop [] in
-      serve_stop scheme h why first_w t before now all.part input.read all.cause input.consumed all.appended here.0 here.2
-      (λ IsSo so. some_of_given (StopsOn scheme h all.part t.disks) before now reading script input IsSo (λ tail. let a = stop tail in (a.0, a.1, so a.0 a.2)));
-  faults = faults_stop why first_w t before now (inl input.faults) all.cause;
+      serve_stop scheme h why first_w t before now first_n n all.part input.read all.cause input.consumed all.appended here.0 here.2
+      (λ IsSo so. some_of_given (StopsOn scheme h all.part t.disks first_n n) before now reading script input IsSo (λ tail. let a = stop tail in (a.0, a.1, so a.0 a.2)));
+  faults = faults_stop why first_w t before now first_n n (inl input.faults) all.cause;
 }
 
 -- the script with a line that isn't taken
-can_later : (script : List (List ℕ)) (line : List ℕ) (done : List (List Said)) (current : List Said) → CanGoOn script done current → CanGoOn (script ++ line ∷ []) done current
-can_later script line done current can tail =
+can_later : (n : NotaryState) (script : List (List ℕ)) (line : List ℕ) (done : List (List Step)) (current : List Step) → CanGoOn n script done current → CanGoOn n (script ++ line ∷ []) done current
+can_later n script line done current can tail =
     let g = can (line ∷ tail) in record {
       all = g.all;
-      orders = subst (λ l. AreOrders (windows (said_lines l)) g.all) (sym (append_assoc script (line ∷ []) tail)) g.orders;
+      merge = subst (λ l. IsMerge (windows (said_lines l)) g.all) (sym (append_assoc script (line ∷ []) tail)) g.merge;
       begun = g.begun;
     }
 
 -- nothing more is done for want of memory
-lacking : (scheme : Scheme) (tells : Bool) (first_w w : World) (done : List (List Said)) (current : List Said) → Goes tells first_w (reached scheme done current) (owed scheme done current) w → Ended tells first_w (reached scheme done current) (owed scheme done current) end.NoMemory w
+lacking : (scheme : Scheme) (tells : Bool) (first_w w : World) (done : List (List Step)) (current : List Step) → Goes tells first_w (reached scheme done current) (owed scheme done current) w → Ended tells first_w (reached scheme done current) (owed scheme done current) end.NoMemory w
 lacking scheme tells first_w w done current g =
     ended_as tells first_w w (reached scheme done current) (reached scheme done current) (λ h. owed scheme done current h ++ []) (owed scheme done current) end.NoMemory (λ h p. refl) (λ h p. append-nil (owed scheme done current h))
     (ended_then tells first_w w w (reached scheme done current) (λ h. h) (owed scheme done current) (λ h. []) end.NoMemory g (no_memory tells w w.kept (λ h. h) (λ h. []) (λ h p. grows_not h)))
 
-module _ (scheme : Scheme) (tells : Bool) (first_w w : World) (before now : SourceState) (reading : Reading) (first next : List ℕ) (piece : List LaneLine) (lines window_bytes : ℕ)
-    (room : HasRoom first_w.kept) (no_dues : first_w.kept.dues ≡ []) (s : SoFar scheme tells first_w w before now reading first next piece lines window_bytes) where
-  can_here : CanGoOn s.script s.done s.current
-  can_here = part_open s.script s.windows_are s.front s.done s.current s.late s.cut s.orders s.order
+module _ (scheme : Scheme) (tells : Bool) (first_w w : World) (first_n n : NotaryState) (before now : SourceState) (reading : Reading) (first next : List ℕ) (piece : List LaneLine) (lines window_bytes : ℕ)
+    (room : HasRoom first_w.kept) (no_dues : first_w.kept.dues ≡ []) (s : SoFar scheme tells first_w w first_n n before now reading first next piece lines window_bytes) where
+  can_here : CanGoOn n s.script s.done s.current
+  can_here = part_open n s.script s.windows_are s.front s.done s.current s.late s.cut s.merge s.order
+
+  stays_here : (h : History) → Holds tells first_w h → TookOnTo scheme h first_n s.done s.current n
+  stays_here h p = took_stays scheme h first_n s.done s.current n (s.took h p)
+
+  -- what a piece is taken by
+  module _ (held : At) (same : world_at held ≡ w) (same_n : held.notary ≡ n) where
+    goes_here : Goes tells first_w (reached scheme s.done s.current) (owed scheme s.done s.current) (world_at held)
+    goes_here = subst (Goes tells first_w (reached scheme s.done s.current) (owed scheme s.done s.current)) (sym same) s.goes
+
+    took_here : (h : History) → Holds tells first_w h → TookOn scheme h first_n s.done s.current held.notary
+    took_here h p = subst (TookOn scheme h first_n s.done s.current) (sym same_n) (s.took h p)
 
   -- ---- a piece
 
   -- its lines were taken
-  pub sofar_taken : (held : At) (t : At) (new_first new_next : List ℕ) (new_piece : List LaneLine) → world_at held ≡ w → PieceTaken scheme tells first piece held t → new_piece ≡ [] → new_first ≡ next → new_next ≡ next
-      → SoFar scheme tells first_w (world_at t) before now reading new_first new_next new_piece lines window_bytes
-  sofar_taken held t new_first new_next new_piece same x none f n = record {
+  pub sofar_taken : (held : At) (t : At) (new_first new_next : List ℕ) (new_piece : List LaneLine) → world_at held ≡ w → held.notary ≡ n → PieceTaken scheme tells first piece held t → new_piece ≡ [] → new_first ≡ next → new_next ≡ next
+      → SoFar scheme tells first_w (world_at t) first_n t.notary before now reading new_first new_next new_piece lines window_bytes
+  sofar_taken held t new_first new_next new_piece same same_n x none f g = record {
     script = s.script;
     input = s.input;
     windows_are = s.windows_are;
     front = s.front;
     cut = s.cut;
     done = s.done;
-    current = s.current ++ x.order;
+    current = s.current ++ x.steps;
     late = [];
-    orders = s.orders;
-    order = subst (IsOrder s.front) (sym (append-nil (s.current ++ x.order))) (with_order s.front s.current s.late x.order s.order (late_taken first next piece s.script s.late x.order s.are_late x.is_order));
-    are_late = late_none new_first new_next new_piece s.script none (f ∙ sym n) (λ k less. ap (λ (l : List ℕ). slice_index l k) n ∙ s.are_late.counts k less);
+    merge = s.merge;
+    order = subst (IsOrder s.front) (sym (append-nil (map said_by (s.current ++ x.steps)))) (with_order s.front s.late s.current x.steps s.order (late_taken first next piece s.script s.late (map said_by x.steps) s.are_late x.is_order));
+    are_late = late_none new_first new_next new_piece s.script none (f ∙ sym g) (λ k less. ap (λ (l : List ℕ). slice_index l k) g ∙ s.are_late.counts k less);
     lines_are = s.lines_are;
     bytes_are = s.bytes_are;
     few = let e = ap length none in omega (arith, e);
-    goes = go_on scheme tells first_w (world_at held) (world_at t) s.done s.current x.order (subst (Goes tells first_w (reached scheme s.done s.current) (owed scheme s.done s.current)) (sym same) s.goes) x.goes;
+    goes = go_on scheme tells first_w (world_at held) (world_at t) s.done s.current x.steps (goes_here held same same_n) x.goes;
+    took = take_on scheme tells first_w (world_at held) first_n held.notary t.notary s.done s.current x.steps (goes_here held same same_n) (took_here held same same_n) x.took;
   }
 
   -- .. or the run ended on the way
-  pub ran_broken : (held t : At) (why : End) → world_at held ≡ w → PieceBroken scheme tells first piece why held t
-      → Runs scheme tells first_w (ending_of_end why) (handed before first_w.sink first_w.disks) (handed now t.sink t.disks)
-  ran_broken held t why same x =
-      let taken = late_taken first next piece s.script s.late x.order s.are_late x.is_order in
-      halt scheme tells first_w before now reading s.script s.input s.done (s.current ++ x.front)
-      (part_open s.script s.windows_are s.front s.done (s.current ++ x.front) x.rest s.cut s.orders (with_rest s.front s.current s.late x.order x.front x.rest s.order taken x.split))
+  pub ran_broken : (held t : At) (why : End) → world_at held ≡ w → held.notary ≡ n → PieceBroken scheme tells first piece why held t
+      → Runs scheme tells first_w (ending_of_end why) (handed before first_w.sink first_w.disks first_n) (handed now t.sink t.disks t.notary)
+  ran_broken held t why same same_n x =
+      let taken = late_taken first next piece s.script s.late (map said_by x.steps ++ x.rest) s.are_late x.is_order in
+      halt scheme tells first_w first_n t.notary before now reading s.script s.input s.done (s.current ++ x.steps)
+      (part_open t.notary s.script s.windows_are s.front s.done (s.current ++ x.steps) x.rest s.cut s.merge (with_rest s.front s.late s.current x.steps x.rest s.order taken))
+      (take_to scheme tells first_w (world_at held) first_n held.notary t.notary s.done s.current x.steps (goes_here held same same_n) (took_here held same same_n) x.took)
       room no_dues why (world_at t)
-      (break_on scheme tells first_w (world_at held) (world_at t) s.done s.current x.front (subst (Goes tells first_w (reached scheme s.done s.current) (owed scheme s.done s.current)) (sym same) s.goes) why x.ended)
+      (break_on scheme tells first_w (world_at held) (world_at t) s.done s.current x.steps (goes_here held same same_n) why x.ended)
 
   -- the numbers of lanes fit
   pub few_numbers : (k : ℕ) → k < 8 → (slice_index first k + length (lines_of k piece) < 2 ^ 64) × (slice_index next k + 1 < 2 ^ 64)
@@ -321,55 +336,62 @@ module _ (scheme : Scheme) (tells : Bool) (first_w w : World) (before now : Sour
 
     -- ---- reading ended
 
-    module _ (end : Option LineErr) (e : EndsReading end before after_read read s.script) (held : At) (same : world_at held ≡ w) where
+    module _ (end : Option LineErr) (e : EndsReading end before after_read read s.script) (held : At) (same : world_at held ≡ w) (same_n : held.notary ≡ n) where
       here : Goes tells first_w (reached scheme s.done s.current) (owed scheme s.done s.current) (world_at held)
-      here = subst (Goes tells first_w (reached scheme s.done s.current) (owed scheme s.done s.current)) (sym same) s.goes
+      here = goes_here held same same_n
+
+      there : (h : History) → Holds tells first_w h → TookOn scheme h first_n s.done s.current held.notary
+      there = took_here held same same_n
+
+      last_order : (steps : List Step) → IsOrderOf first piece (map said_by steps) → IsOrder s.front (map said_by (s.current ++ steps))
+      last_order steps o = with_order s.front s.late s.current steps s.order (late_taken first next piece s.script s.late (map said_by steps) s.are_late o)
 
       -- .. and the last lines were taken, and the last block ended
-      pub ran_whole : (t : At) → WindowTaken scheme tells first piece held t → t.held.kept.dues ≡ [] → Runs scheme tells first_w (Run (ending_after end)) (handed before first_w.sink first_w.disks) (handed after_read t.sink t.disks)
+      pub ran_whole : (t : At) → WindowTaken scheme tells first piece held t → t.held.kept.dues ≡ [] → Runs scheme tells first_w (Run (ending_after end)) (handed before first_w.sink first_w.disks first_n) (handed after_read t.sink t.disks t.notary)
       ran_whole t x no_more =
-          let order = with_order s.front s.current s.late x.order s.order (late_taken first next piece s.script s.late x.order s.are_late x.is_order) in
-          let now_taken = s.current ++ x.order in
+          let now_taken = s.current ++ x.steps in
           let all = whole_end t x in record {
-            serves = λ h p none.
-                serve_end scheme h end first_w (world_at t) before after_read all.sofar read s.script all.no_fault.sink consumed all.appended e
-                (answered scheme tells first_w h p room none no_dues s.script few_here s.done now_taken (last_orders s.script s.windows_are s.front s.done now_taken s.cut s.orders order) (world_at t) all no_more);
-            faults = faults_end end (handed before first_w.sink first_w.disks) (handed after_read t.sink t.disks) read s.script e all.no_fault.a all.no_fault.b all.no_fault.sink;
+            serves = λ h p none list.
+                serve_end scheme h end first_w (world_at t) before after_read first_n t.notary all.sofar read s.script all.no_fault.sink consumed all.appended e
+                (answered scheme tells first_w h p room none no_dues first_n list s.script few_here s.done now_taken t.notary (last_merge s.script s.windows_are s.front s.done now_taken s.cut s.merge (last_order x.steps x.is_order))
+                (take_on scheme tells first_w (world_at held) first_n held.notary t.notary s.done s.current x.steps here there x.took h p) (world_at t) all no_more);
+            faults = faults_end end (handed before first_w.sink first_w.disks first_n) (handed after_read t.sink t.disks t.notary) read s.script e all.no_fault.a all.no_fault.b all.no_fault.sink;
           }
         where
-          whole_end : (t : At) (x : WindowTaken scheme tells first piece held t) → Goes tells first_w (λ k. close (reached scheme s.done (s.current ++ x.order) k)) (λ k. owed scheme s.done (s.current ++ x.order) k ++ []) (world_at t)
+          whole_end : (t : At) (x : WindowTaken scheme tells first piece held t) → Goes tells first_w (λ k. close (reached scheme s.done (s.current ++ x.steps) k)) (λ k. owed scheme s.done (s.current ++ x.steps) k ++ []) (world_at t)
           whole_end t x =
-              goes_as tells first_w (world_at t) (λ h. close (after_steps scheme (reached scheme s.done s.current h) (map step_of x.order))) (λ k. close (reached scheme s.done (s.current ++ x.order) k))
-              (λ h. owed scheme s.done s.current h ++ dues scheme (reached scheme s.done s.current h) (map step_of x.order)) (λ k. owed scheme s.done (s.current ++ x.order) k ++ [])
-              (λ h p. ap close (reach_on scheme s.done s.current x.order h)) (λ h p. owe_on scheme s.done s.current x.order h ∙ sym (append-nil (owed scheme s.done (s.current ++ x.order) h)))
-              (goes_then tells first_w (world_at held) (world_at t) (reached scheme s.done s.current) (λ h. close (after_steps scheme h (map step_of x.order))) (owed scheme s.done s.current) (λ h. dues scheme h (map step_of x.order)) here x.goes)
+              goes_as tells first_w (world_at t) (λ h. close (after_steps scheme (reached scheme s.done s.current h) x.steps)) (λ k. close (reached scheme s.done (s.current ++ x.steps) k))
+              (λ h. owed scheme s.done s.current h ++ dues scheme (reached scheme s.done s.current h) x.steps) (λ k. owed scheme s.done (s.current ++ x.steps) k ++ [])
+              (λ h p. ap close (reach_on scheme h s.done s.current x.steps)) (λ h p. owe_on scheme h s.done s.current x.steps ∙ sym (append-nil (owed scheme s.done (s.current ++ x.steps) h)))
+              (goes_then tells first_w (world_at held) (world_at t) (reached scheme s.done s.current) (λ h. close (after_steps scheme h x.steps)) (owed scheme s.done s.current) (λ h. dues scheme h x.steps) here x.goes)
 
       -- .. or they weren't
-      pub ran_cut : (t : At) (why : End) → WindowBroken scheme tells first piece why held t → Runs scheme tells first_w (ending_of_end why) (handed before first_w.sink first_w.disks) (handed after_read t.sink t.disks)
+      pub ran_cut : (t : At) (why : End) → WindowBroken scheme tells first piece why held t → Runs scheme tells first_w (ending_of_end why) (handed before first_w.sink first_w.disks first_n) (handed after_read t.sink t.disks t.notary)
       ran_cut t why (inl x) =
-          let taken = late_taken first next piece s.script s.late x.order s.are_late x.is_order in
-          let all = break_on scheme tells first_w (world_at held) (world_at t) s.done s.current x.front here why x.ended in
-          let can = part_open s.script s.windows_are s.front s.done (s.current ++ x.front) x.rest s.cut s.orders (with_rest s.front s.current s.late x.order x.front x.rest s.order taken x.split) in record {
-            serves = λ h p none.
-                let stop = subst (λ l. SomeAnswer (StopsOn scheme h all.part t.disks) l (SaidOf why all.part)) (append-nil s.script)
-                (stopped scheme tells first_w h p room none no_dues s.script few_here s.done (s.current ++ x.front) can why (world_at t) all []) in
-                serve_stop scheme h why first_w (world_at t) before after_read all.part read all.cause consumed all.appended stop.0 stop.2
+          let taken = late_taken first next piece s.script s.late (map said_by x.steps ++ x.rest) s.are_late x.is_order in
+          let all = break_on scheme tells first_w (world_at held) (world_at t) s.done s.current x.steps here why x.ended in
+          let can = part_open t.notary s.script s.windows_are s.front s.done (s.current ++ x.steps) x.rest s.cut s.merge (with_rest s.front s.late s.current x.steps x.rest s.order taken) in record {
+            serves = λ h p none list.
+                let stop = subst (λ l. SomeAnswer (StopsOn scheme h all.part t.disks first_n t.notary) l (SaidOf why all.part)) (append-nil s.script)
+                (stopped scheme tells first_w h p room none no_dues first_n list s.script few_here s.done (s.current ++ x.steps) t.notary can
+                (take_to scheme tells first_w (world_at held) first_n held.notary t.notary s.done s.current x.steps here there x.took h p) why (world_at t) all []) in
+                serve_stop scheme h why first_w (world_at t) before after_read first_n t.notary all.part read all.cause consumed all.appended stop.0 stop.2
                 (λ IsSo so. inr (end, s.script, e, (stop.0, stop.1, so stop.0 stop.2)));
-            faults = faults_stop why first_w (world_at t) before after_read (at_most_once end before after_read read s.script e) all.cause;
+            faults = faults_stop why first_w (world_at t) before after_read first_n t.notary (at_most_once end before after_read read s.script e) all.cause;
           }
       ran_cut t why (inr x) =
-          let order = with_order s.front s.current s.late x.order s.order (late_taken first next piece s.script s.late x.order s.are_late x.is_order) in
-          let now_taken = s.current ++ x.order in
+          let now_taken = s.current ++ x.steps in
           let all =
-          ended_as tells first_w (world_at t) (λ h. close (after_steps scheme (reached scheme s.done s.current h) (map step_of x.order))) (λ k. close (reached scheme s.done (s.current ++ x.order) k))
-          (λ h. owed scheme s.done s.current h ++ dues scheme (reached scheme s.done s.current h) (map step_of x.order)) (λ k. owed scheme s.done (s.current ++ x.order) k ++ []) why
-          (λ h p. ap close (reach_on scheme s.done s.current x.order h)) (λ h p. owe_on scheme s.done s.current x.order h ∙ sym (append-nil (owed scheme s.done (s.current ++ x.order) h)))
-          (ended_then tells first_w (world_at held) (world_at t) (reached scheme s.done s.current) (λ h. close (after_steps scheme h (map step_of x.order))) (owed scheme s.done s.current) (λ h. dues scheme h (map step_of x.order)) why here x.ended) in record {
-            serves = λ h p none.
-                let stop = stopped_last scheme tells first_w h p room none no_dues s.script few_here s.done now_taken (last_orders s.script s.windows_are s.front s.done now_taken s.cut s.orders order) why (world_at t) all in
-                serve_stop scheme h why first_w (world_at t) before after_read all.part read all.cause consumed all.appended stop.0 stop.2
+          ended_as tells first_w (world_at t) (λ h. close (after_steps scheme (reached scheme s.done s.current h) x.steps)) (λ k. close (reached scheme s.done (s.current ++ x.steps) k))
+          (λ h. owed scheme s.done s.current h ++ dues scheme (reached scheme s.done s.current h) x.steps) (λ k. owed scheme s.done (s.current ++ x.steps) k ++ []) why
+          (λ h p. ap close (reach_on scheme h s.done s.current x.steps)) (λ h p. owe_on scheme h s.done s.current x.steps ∙ sym (append-nil (owed scheme s.done (s.current ++ x.steps) h)))
+          (ended_then tells first_w (world_at held) (world_at t) (reached scheme s.done s.current) (λ h. close (after_steps scheme h x.steps)) (owed scheme s.done s.current) (λ h. dues scheme h x.steps) why here x.ended) in record {
+            serves = λ h p none list.
+                let stop = stopped_last scheme tells first_w h p room none no_dues first_n list s.script few_here s.done now_taken t.notary (last_merge s.script s.windows_are s.front s.done now_taken s.cut s.merge (last_order x.steps x.is_order))
+                (take_on scheme tells first_w (world_at held) first_n held.notary t.notary s.done s.current x.steps here there x.took h p) why (world_at t) all in
+                serve_stop scheme h why first_w (world_at t) before after_read first_n t.notary all.part read all.cause consumed all.appended stop.0 stop.2
                 (λ IsSo so. inr (end, s.script, e, (stop.0, stop.1, so stop.0 stop.2)));
-            faults = faults_stop why first_w (world_at t) before after_read (at_most_once end before after_read read s.script e) all.cause;
+            faults = faults_stop why first_w (world_at t) before after_read first_n t.notary (at_most_once end before after_read read s.script e) all.cause;
           }
 
     pub ends_whole : after_read.faults ≡ now.faults → GivesNone now after_read reading new bytes → EndsReading None before after_read read s.script
@@ -383,18 +405,18 @@ module _ (scheme : Scheme) (tells : Bool) (first_w w : World) (before now : Sour
         ]
 
     -- a line can't be read for want of memory
-    pub ran_starved : after_read.faults ≡ now.faults → Gives now after_read reading new bytes (Err NoMemory) → Runs scheme tells first_w (Run run.NoMemory) (handed before first_w.sink first_w.disks) (handed after_read w.sink w.disks)
+    pub ran_starved : after_read.faults ≡ now.faults → Gives now after_read reading new bytes (Err NoMemory) → Runs scheme tells first_w (Run run.NoMemory) (handed before first_w.sink first_w.disks first_n) (handed after_read w.sink w.disks n)
     ran_starved k g =
         elim g [
           | inl again ↦ absurd (let no : ⊥ = cc (again.0, s.input.sound) in no)
           | inr f ↦
               let all = lacking scheme tells first_w w s.done s.current s.goes in record {
-                serves = λ h p none.
-                    let stop = stopped scheme tells first_w h p room none no_dues s.script few_here s.done s.current can_here end.NoMemory w all in
+                serves = λ h p none list.
+                    let stop = stopped scheme tells first_w h p room none no_dues first_n list s.script few_here s.done s.current n can_here (stays_here h p) end.NoMemory w all in
                     let here = stop [] in
-                    serve_stop scheme h end.NoMemory first_w w before after_read all.part read all.cause consumed all.appended here.0 here.2
-                    (λ IsSo so. some_at_failure before now after_read reading new bytes s.script s.input r (StopsOn scheme h all.part w.disks) IsSo k f (λ tail. let a = stop tail in (a.0, a.1, so a.0 a.2)));
-                faults = faults_stop end.NoMemory first_w w before after_read (inl (k ∙ s.input.faults)) all.cause;
+                    serve_stop scheme h end.NoMemory first_w w before after_read first_n n all.part read all.cause consumed all.appended here.0 here.2
+                    (λ IsSo so. some_at_failure before now after_read reading new bytes s.script s.input r (StopsOn scheme h all.part w.disks first_n n) IsSo k f (λ tail. let a = stop tail in (a.0, a.1, so a.0 a.2)));
+                faults = faults_stop end.NoMemory first_w w before after_read first_n n (inl (k ∙ s.input.faults)) all.cause;
               }
         ]
 
@@ -414,11 +436,11 @@ module _ (scheme : Scheme) (tells : Bool) (first_w w : World) (before now : Sour
       said_now = said_after-append [] s.script (line ∷ [])
 
       -- .. for which there is no memory
-      pub ran_lacking : Runs scheme tells first_w (Run run.NoMemory) (handed before first_w.sink first_w.disks) (handed after_read w.sink w.disks)
-      ran_lacking = halt scheme tells first_w before after_read new script_now more s.done s.current (can_later s.script line s.done s.current can_here) room no_dues end.NoMemory w (lacking scheme tells first_w w s.done s.current s.goes)
+      pub ran_lacking : Runs scheme tells first_w (Run run.NoMemory) (handed before first_w.sink first_w.disks first_n) (handed after_read w.sink w.disks n)
+      ran_lacking = halt scheme tells first_w first_n n before after_read new script_now more s.done s.current (can_later n s.script line s.done s.current can_here) stays_here room no_dues end.NoMemory w (lacking scheme tells first_w w s.done s.current s.goes)
 
-      order_now : IsOrder (s.front ++ x ∷ []) (s.current ++ (s.late ++ x ∷ []))
-      order_now = subst (IsOrder (s.front ++ x ∷ [])) (append_assoc s.current s.late (x ∷ [])) (order_append s.front (x ∷ []) (s.current ++ s.late) (x ∷ []) s.order (order_same (x ∷ [])))
+      order_now : IsOrder (s.front ++ x ∷ []) (map said_by s.current ++ (s.late ++ x ∷ []))
+      order_now = subst (IsOrder (s.front ++ x ∷ [])) (append_assoc (map said_by s.current) s.late (x ∷ [])) (order_append s.front (x ∷ []) (map said_by s.current ++ s.late) (x ∷ []) s.order (order_same (x ∷ [])))
 
       full_is : (value : Bool) → fills_window (lines + 1) (window_bytes + length line) ≡ value → fills_window (length s.front + 1) (bytes_of s.front + length line) ≡ value
       full_is value e = ap (λ n. fills_window (n + 1) (bytes_of s.front + length line)) (sym s.lines_are) ∙ ap (λ n. fills_window (lines + 1) (n + length line)) (sym s.bytes_are) ∙ e
@@ -429,7 +451,7 @@ module _ (scheme : Scheme) (tells : Bool) (first_w w : World) (before now : Sour
 
         -- .. and waits
         pub sofar_added : (new_first : List ℕ) (new_piece : List LaneLine) (new_lines new_bytes : ℕ) → new_first ≡ first → new_piece ≡ piece ++ l ∷ [] → fills_window (lines + 1) (window_bytes + length line) ≡ false
-            → new_lines ≡ lines + 1 → new_bytes ≡ window_bytes + length line → SoFar scheme tells first_w w before after_read new new_first new_next new_piece new_lines new_bytes
+            → new_lines ≡ lines + 1 → new_bytes ≡ window_bytes + length line → SoFar scheme tells first_w w first_n n before after_read new new_first new_next new_piece new_lines new_bytes
         sofar_added new_first new_piece new_lines new_bytes f p e lines_now bytes_now = record {
           script = script_now;
           input = more;
@@ -439,13 +461,14 @@ module _ (scheme : Scheme) (tells : Bool) (first_w w : World) (before now : Sour
           done = s.done;
           current = s.current;
           late = s.late ++ x ∷ [];
-          orders = s.orders;
+          merge = s.merge;
           order = order_now;
           are_late = subst (λ (y : List ℕ × List LaneLine). AreLate y.0 new_next y.1 script_now (s.late ++ x ∷ [])) (λ i. (sym f i, sym p i)) late_now;
           lines_are = (let a = s.lines_are in let b = length-append s.front (x ∷ []) in omega (arith, a, b, lines_now));
           bytes_are = bytes_now ∙ ap (λ n. n + length line) s.bytes_are ∙ sym (bytes_of-push s.front x);
           few = (let a = ap length p in let b = length-append piece (l ∷ []) in let c = s.few in omega (arith, a, b, c, lines_now));
           goes = s.goes;
+          took = s.took;
         }
 
         -- the numbers of lanes fit with it
@@ -459,47 +482,49 @@ module _ (scheme : Scheme) (tells : Bool) (first_w w : World) (before now : Sour
             omega (arith, a, b, d, u, v, w)
 
         -- .. and makes the window whole
-        module _ (e : fills_window (lines + 1) (window_bytes + length line) ≡ true) (held : At) (same : world_at held ≡ w) (new_piece : List LaneLine) (p : new_piece ≡ piece ++ l ∷ []) where
+        module _ (e : fills_window (lines + 1) (window_bytes + length line) ≡ true) (held : At) (same : world_at held ≡ w) (same_n : held.notary ≡ n) (new_piece : List LaneLine) (p : new_piece ≡ piece ++ l ∷ []) where
           cut_now : IsCut (said_lines script_now) (s.windows_are ++ (s.front ++ x ∷ []) ∷ []) []
           cut_now = subst (λ xs. IsCut xs (s.windows_are ++ (s.front ++ x ∷ []) ∷ []) []) (sym said_now) (cut_whole (said_lines s.script) s.windows_are s.front x s.cut (full_is true e))
-
-          goes_here : Goes tells first_w (reached scheme s.done s.current) (owed scheme s.done s.current) (world_at held)
-          goes_here = subst (Goes tells first_w (reached scheme s.done s.current) (owed scheme s.done s.current)) (sym same) s.goes
 
           taken_now : (order : List Said) → IsOrderOf first new_piece order → IsOrder (s.late ++ x ∷ []) order
           taken_now order o = late_taken first new_next new_piece script_now (s.late ++ x ∷ []) order (subst (λ y. AreLate first new_next y script_now (s.late ++ x ∷ [])) (sym p) late_now) o
 
-          orders_now : (order : List Said) → IsOrderOf first new_piece order → AreOrders (s.windows_are ++ (s.front ++ x ∷ []) ∷ []) (s.done ++ (s.current ++ order) ∷ [])
-          orders_now order o = orders_append s.windows_are ((s.front ++ x ∷ []) ∷ []) s.done ((s.current ++ order) ∷ []) s.orders (with_order (s.front ++ x ∷ []) s.current (s.late ++ x ∷ []) order order_now (taken_now order o), tt)
+          merge_now : (steps : List Step) → IsOrderOf first new_piece (map said_by steps) → IsMerge (s.windows_are ++ (s.front ++ x ∷ []) ∷ []) (s.done ++ (s.current ++ steps) ∷ [])
+          merge_now steps o =
+              merges_append s.windows_are ((s.front ++ x ∷ []) ∷ []) s.done ((s.current ++ steps) ∷ []) s.merge
+              (order_merge (s.front ++ x ∷ []) (s.current ++ steps) (with_order (s.front ++ x ∷ []) (s.late ++ x ∷ []) s.current steps order_now (taken_now (map said_by steps) o)), tt)
 
           pub sofar_window : (t : At) (last_first last_next : List ℕ) (last_piece : List LaneLine) (new_lines new_bytes : ℕ) → WindowTaken scheme tells first new_piece held t → last_piece ≡ [] → last_first ≡ new_next → last_next ≡ new_next → new_lines ≡ 0 → new_bytes ≡ 0
-              → SoFar scheme tells first_w (world_at t) before after_read new last_first last_next last_piece new_lines new_bytes
-          sofar_window t last_first last_next last_piece new_lines new_bytes y none f n lines_now bytes_now = record {
+              → SoFar scheme tells first_w (world_at t) first_n t.notary before after_read new last_first last_next last_piece new_lines new_bytes
+          sofar_window t last_first last_next last_piece new_lines new_bytes y none f nx lines_now bytes_now = record {
             script = script_now;
             input = more;
             windows_are = s.windows_are ++ (s.front ++ x ∷ []) ∷ [];
             front = [];
             cut = cut_now;
-            done = s.done ++ (s.current ++ y.order) ∷ [];
+            done = s.done ++ (s.current ++ y.steps) ∷ [];
             current = [];
             late = [];
-            orders = orders_now y.order y.is_order;
+            merge = merge_now y.steps y.is_order;
             order = order_same [];
-            are_late = late_none last_first last_next last_piece script_now none (f ∙ sym n) (λ k less. ap (λ (l : List ℕ). slice_index l k) n ∙ late_now.counts k less);
+            are_late = late_none last_first last_next last_piece script_now none (f ∙ sym nx) (λ k less. ap (λ (l : List ℕ). slice_index l k) nx ∙ late_now.counts k less);
             lines_are = lines_now;
             bytes_are = bytes_now;
             few = let d = ap length none in omega (arith, d);
-            goes = end_on scheme tells first_w (world_at held) (world_at t) s.done s.current y.order goes_here y.goes;
+            goes = end_on scheme tells first_w (world_at held) (world_at t) s.done s.current y.steps (goes_here held same same_n) y.goes;
+            took = λ h q. window_took scheme h first_n s.done (s.current ++ y.steps) t.notary (take_on scheme tells first_w (world_at held) first_n held.notary t.notary s.done s.current y.steps (goes_here held same same_n) (took_here held same same_n) y.took h q);
           }
 
-          pub ran_unended : (t : At) (why : End) → WindowBroken scheme tells first new_piece why held t → Runs scheme tells first_w (ending_of_end why) (handed before first_w.sink first_w.disks) (handed after_read t.sink t.disks)
+          pub ran_unended : (t : At) (why : End) → WindowBroken scheme tells first new_piece why held t → Runs scheme tells first_w (ending_of_end why) (handed before first_w.sink first_w.disks first_n) (handed after_read t.sink t.disks t.notary)
           ran_unended t why (inl y) =
-              halt scheme tells first_w before after_read new script_now more s.done (s.current ++ y.front)
-              (part_whole script_now s.windows_are (s.front ++ x ∷ []) s.done (s.current ++ y.front) y.rest cut_now s.orders (with_rest (s.front ++ x ∷ []) s.current (s.late ++ x ∷ []) y.order y.front y.rest order_now (taken_now y.order y.is_order) y.split))
+              halt scheme tells first_w first_n t.notary before after_read new script_now more s.done (s.current ++ y.steps)
+              (part_whole t.notary script_now s.windows_are (s.front ++ x ∷ []) s.done (s.current ++ y.steps) y.rest cut_now s.merge (with_rest (s.front ++ x ∷ []) (s.late ++ x ∷ []) s.current y.steps y.rest order_now (taken_now (map said_by y.steps ++ y.rest) y.is_order)))
+              (take_to scheme tells first_w (world_at held) first_n held.notary t.notary s.done s.current y.steps (goes_here held same same_n) (took_here held same same_n) y.took)
               room no_dues why (world_at t)
-              (break_on scheme tells first_w (world_at held) (world_at t) s.done s.current y.front goes_here why y.ended)
+              (break_on scheme tells first_w (world_at held) (world_at t) s.done s.current y.steps (goes_here held same same_n) why y.ended)
           ran_unended t why (inr y) =
-              halt scheme tells first_w before after_read new script_now more (s.done ++ (s.current ++ y.order) ∷ []) []
-              (part_open script_now (s.windows_are ++ (s.front ++ x ∷ []) ∷ []) [] (s.done ++ (s.current ++ y.order) ∷ []) [] [] cut_now (orders_now y.order y.is_order) (order_same []))
+              halt scheme tells first_w first_n t.notary before after_read new script_now more (s.done ++ (s.current ++ y.steps) ∷ []) []
+              (part_open t.notary script_now (s.windows_are ++ (s.front ++ x ∷ []) ∷ []) [] (s.done ++ (s.current ++ y.steps) ∷ []) [] [] cut_now (merge_now y.steps y.is_order) (order_same []))
+              (λ h q. took_stays scheme h first_n (s.done ++ (s.current ++ y.steps) ∷ []) [] t.notary (window_took scheme h first_n s.done (s.current ++ y.steps) t.notary (take_on scheme tells first_w (world_at held) first_n held.notary t.notary s.done s.current y.steps (goes_here held same same_n) (took_here held same same_n) y.took h q)))
               room no_dues why (world_at t)
-              (unend_on scheme tells first_w (world_at held) (world_at t) s.done s.current y.order goes_here why y.ended)
+              (unend_on scheme tells first_w (world_at held) (world_at t) s.done s.current y.steps (goes_here held same same_n) why y.ended)

@@ -1,37 +1,23 @@
--- Lemmas on a session: how far it came, and how it ends.
-use Rattle.std.proofs.Common.{◌≡◌, ◌≢◌, ℕ, ◌+◌, ◌^◌, ◌<◌, inl, inr, Bool, true, false, cond, List, [], ◌∷◌, ◌++◌, length, Option, None, Some, Err, refl, ap, sym, subst, ◌∙◌, arith, append-nil, length-append}
-use Rattle.std.specs.Prelude.{filter, ◌==◌, if◌then◌else◌}
+-- Lemmas on how a session ends.
+use Rattle.std.proofs.Common.{◌≡◌, ℕ, ◌^◌, ◌<◌, inl, inr, List, length, Option, None, Some, arith}
 use Rattle.std.specs.Io.KnownBytes.{Consumes, Appends}
-use Rattle.script_lines.specs.Grammar.{spoken_line}
-use Rattle.batch_committer.specs.World.{World, HasRoom, OneFailed, EndsBy, Goes, Ended}
+use Rattle.time_peg.specs.Entries.{NotaryState}
+use Rattle.batch_committer.specs.World.{World, EndsBy}
 use Rattle.batch_committer.specs.declared.end.End.{End}
 use Rattle.batch_committer.specs.declared.end.End.TheVariants as end
-use Rattle.batch_committer.proofs.Ending.{no_memory}
-use Rattle.batch_committer.proofs.WayLaws.{goes_same, goes_then, goes_as, ended_then, ended_as}
 use Rattle.ledger_bytes.specs.Begins.{Begins}
 use Rattle.ledger_io.specs.Outside.{SourceState, MeetsNone}
-use Rattle.ledger_io.specs.Reading.{Reading, Reads, GivesLine, GivesNone, Gives, faults_next}
+use Rattle.ledger_io.specs.Reading.{Reading}
 use Rattle.ledger_io.specs.Runs.{EndsReading, FallsShort, SomeOfScript, ending_after}
-use Rattle.ledger_io.specs.declared.ending.Ending.TheVariants as run
 use Rattle.ledger_io.specs.declared.failure.LineErr.{LineErr}
 use Rattle.ledger_io.specs.declared.failure.LineErr.TheVariants.{ReadFault, LineTooLong, ScriptTooLong, NoMemory}
-use Rattle.ledger_io.proofs.ReadingLaws.{HasGiven, read_none, read_more, given_consumed}
-use Rattle.ledger_io.proofs.RunLaws.{ended_whole, ended_failed, some_at_failure, some_of_given}
-use Rattle.ledger_model.specs.Dues.{due_for}
-use Rattle.ledger_model.specs.History.{History, close}
-use Rattle.ledger_model.specs.InOrder.{step_of}
-use Rattle.ledger_model.specs.Rules.{after_step}
+use Rattle.ledger_io.proofs.ReadingLaws.{HasGiven}
+use Rattle.ledger_model.specs.History.{History}
 use Rattle.ledger_model.specs.Scheme.{Scheme}
-use Rattle.ledger_model.specs.Windows.{Said, said_lines, numbered_line, count_of, bytes_of, fills_window}
-use Rattle.ledger_model.proofs.GrowLaws.{grows_not}
-use Rattle.ledger_model.proofs.LaneLaws.{said_after-append}
-use Rattle.ledger_model.proofs.WindowLaws.{IsCut, cut_none, cut_more, cut_whole, bytes_of-push}
 use Rattle.ledger_cli.specs.Endings.{ending_of_end}
 use Rattle.ledger_cli.specs.Runs.{Handed, handed, FailedAtMostOnce, FaultsBy, AnswersOn, StopsOn, RunsOn}
-use Rattle.ledger_cli.specs.Session.{after_line, Runs}
 use Rattle.ledger_cli.specs.declared.ending.LedgerEnding.TheVariants.{Run}
-use Rattle.ledger_cli.proofs.LineLaws.{reached, owed, step_on, due_on, window_on, dues_on}
-use Rattle.ledger_cli.proofs.StopLaws.{SaidOf, stopped, stopped_last, answered}
+use Rattle.ledger_cli.proofs.StopLaws.{SaidOf}
 
 -- a script has fewer lines than bytes
 pub few_lines : (before now : SourceState) (reading : Reading) (lines : List (List ℕ)) → HasGiven before now reading lines → length lines < 2 ^ 64
@@ -55,30 +41,30 @@ at_most_once (Some LineTooLong) before now read script e = inl e.0
 at_most_once (Some ScriptTooLong) before now read script e = inl e.0
 at_most_once (Some NoMemory) before now read script e = absurd e
 
-pub faults_stop : (end : End) (w t : World) (before now : SourceState) → FailedAtMostOnce before.faults now.faults → EndsBy end w t → FaultsBy (ending_of_end end) (handed before w.sink w.disks) (handed now t.sink t.disks)
-faults_stop end.DiskFault w t before now once e = record { source_is = once; sink_is = e.1; disks_are = e.0 }
-faults_stop end.WriteFault w t before now once e = record { source_is = once; sink_is = e.2; disks_are = record { a = e.0; b = e.1 } }
-faults_stop end.NoMemory w t before now once e = record { source_is = once; sink_is = e.sink; disks_are = record { a = e.a; b = e.b } }
-faults_stop end.Closed w t before now once e = absurd e
+pub faults_stop : (end : End) (w t : World) (before now : SourceState) (n m : NotaryState) → FailedAtMostOnce before.faults now.faults → EndsBy end w t → FaultsBy (ending_of_end end) (handed before w.sink w.disks n) (handed now t.sink t.disks m)
+faults_stop end.DiskFault w t before now n m once e = record { source_is = once; sink_is = e.1; disks_are = e.0 }
+faults_stop end.WriteFault w t before now n m once e = record { source_is = once; sink_is = e.2; disks_are = record { a = e.0; b = e.1 } }
+faults_stop end.NoMemory w t before now n m once e = record { source_is = once; sink_is = e.sink; disks_are = record { a = e.a; b = e.b } }
+faults_stop end.Closed w t before now n m once e = absurd e
 
 -- ---- how a session ends
 
 -- a stop, by what is known of some text of the script and of what is left
-pub serve_stop : (scheme : Scheme) (h : History) (end : End) (w t : World) (before now : SourceState) (part read : List ℕ) → EndsBy end w t
+pub serve_stop : (scheme : Scheme) (h : History) (end : End) (w t : World) (before now : SourceState) (n m : NotaryState) (part read : List ℕ) → EndsBy end w t
     → Consumes before.left now.left read → Appends w.sink.held t.sink.held part → (some : List ℕ) → SaidOf end part some
-    → ((IsSo : List ℕ → Type 0) → ((whole : List ℕ) → SaidOf end part whole → IsSo whole) → SomeOfScript (StopsOn scheme h part t.disks) before now read IsSo)
-    → RunsOn scheme h (ending_of_end end) (handed before w.sink w.disks) (handed now t.sink t.disks)
-serve_stop scheme h end.DiskFault w t before now part read cause consumed appended some said so = record { read = read; replies = part; consumed = consumed; appended = appended; replied = (said.0, so (Begins part) (λ whole s. s.1)) }
-serve_stop scheme h end.WriteFault w t before now part read cause consumed appended some said so = record { read = read; replies = part; consumed = consumed; appended = appended; replied = so (FallsShort part) (λ whole s. s) }
-serve_stop scheme h end.NoMemory w t before now part read cause consumed appended some said so = record { read = read; replies = part; consumed = consumed; appended = appended; replied = (said.0, so (Begins part) (λ whole s. s.1)) }
-serve_stop scheme h end.Closed w t before now part read cause consumed appended some said so = absurd cause
+    → ((IsSo : List ℕ → Type 0) → ((whole : List ℕ) → SaidOf end part whole → IsSo whole) → SomeOfScript (StopsOn scheme h part t.disks n m) before now read IsSo)
+    → RunsOn scheme h (ending_of_end end) (handed before w.sink w.disks n) (handed now t.sink t.disks m)
+serve_stop scheme h end.DiskFault w t before now n m part read cause consumed appended some said so = record { read = read; replies = part; consumed = consumed; appended = appended; replied = (said.0, so (Begins part) (λ whole s. s.1)) }
+serve_stop scheme h end.WriteFault w t before now n m part read cause consumed appended some said so = record { read = read; replies = part; consumed = consumed; appended = appended; replied = so (FallsShort part) (λ whole s. s) }
+serve_stop scheme h end.NoMemory w t before now n m part read cause consumed appended some said so = record { read = read; replies = part; consumed = consumed; appended = appended; replied = (said.0, so (Begins part) (λ whole s. s.1)) }
+serve_stop scheme h end.Closed w t before now n m part read cause consumed appended some said so = absurd cause
 
 -- the lines that the end of reading leaves are answered
-pub serve_end : (scheme : Scheme) (h : History) (end : Option LineErr) (w t : World) (before now : SourceState) (replies read : List ℕ) (script : List (List ℕ)) → MeetsNone w.sink t.sink
-    → Consumes before.left now.left read → Appends w.sink.held t.sink.held replies → EndsReading end before now read script → AnswersOn scheme h t.disks script replies
-    → RunsOn scheme h (Run (ending_after end)) (handed before w.sink w.disks) (handed now t.sink t.disks)
-serve_end scheme h None w t before now replies read script sink consumed appended e a = record { read = read; replies = replies; consumed = consumed; appended = appended; replied = record { lines = script; ended = e; answered = a; written = sink } }
-serve_end scheme h (Some ReadFault) w t before now replies read script sink consumed appended e a = record { read = read; replies = replies; consumed = consumed; appended = appended; replied = record { lines = script; ended = e; answered = a; written = sink } }
-serve_end scheme h (Some LineTooLong) w t before now replies read script sink consumed appended e a = record { read = read; replies = replies; consumed = consumed; appended = appended; replied = record { lines = script; ended = e; answered = a; written = sink } }
-serve_end scheme h (Some ScriptTooLong) w t before now replies read script sink consumed appended e a = record { read = read; replies = replies; consumed = consumed; appended = appended; replied = record { lines = script; ended = e; answered = a; written = sink } }
-serve_end scheme h (Some NoMemory) w t before now replies read script sink consumed appended e a = absurd e
+pub serve_end : (scheme : Scheme) (h : History) (end : Option LineErr) (w t : World) (before now : SourceState) (n m : NotaryState) (replies read : List ℕ) (script : List (List ℕ)) → MeetsNone w.sink t.sink
+    → Consumes before.left now.left read → Appends w.sink.held t.sink.held replies → EndsReading end before now read script → AnswersOn scheme h t.disks n m script replies
+    → RunsOn scheme h (Run (ending_after end)) (handed before w.sink w.disks n) (handed now t.sink t.disks m)
+serve_end scheme h None w t before now n m replies read script sink consumed appended e a = record { read = read; replies = replies; consumed = consumed; appended = appended; replied = record { lines = script; ended = e; answered = a; written = sink } }
+serve_end scheme h (Some ReadFault) w t before now n m replies read script sink consumed appended e a = record { read = read; replies = replies; consumed = consumed; appended = appended; replied = record { lines = script; ended = e; answered = a; written = sink } }
+serve_end scheme h (Some LineTooLong) w t before now n m replies read script sink consumed appended e a = record { read = read; replies = replies; consumed = consumed; appended = appended; replied = record { lines = script; ended = e; answered = a; written = sink } }
+serve_end scheme h (Some ScriptTooLong) w t before now n m replies read script sink consumed appended e a = record { read = read; replies = replies; consumed = consumed; appended = appended; replied = record { lines = script; ended = e; answered = a; written = sink } }
+serve_end scheme h (Some NoMemory) w t before now n m replies read script sink consumed appended e a = absurd e

@@ -14,6 +14,7 @@ use Rattle.ledger_io.specs.declared.writer.WriteErr.TheVariants.{WriteFault}
 use Rattle.ledger_model.specs.Scheme.{Scheme}
 use Rattle.ledger_model.specs.declared.genesis.Genesis.{Genesis}
 use Rattle.ledger_open.specs.Founding.{IsFoundedOrShut}
+use Rattle.time_peg.specs.Entries.{NotaryState}
 use Rattle.twin_file.specs.Images.{AreShut}
 use Rattle.ledger_disk.specs.Disk.{MayLeave}
 use Rattle.ledger_cli.specs.Endings.{status_of, last_line, HasWords}
@@ -49,26 +50,28 @@ nothing x = record { source_is = inl refl; sink_is = (refl, refl); disks_are = r
 pub unstarted_by : (scheme : Scheme) (tells : Bool) (words : Option Command) (x : Handed) → IsSome words → ServedBy scheme tells words (Run run.NoMemory) x x
 unstarted_by scheme tells None x some = absurd (let no : ⊥ = cc some in no)
 unstarted_by scheme tells (Some (command.Dry genesis)) x some = record {
-  serves = λ t none. inr (record { outside = tt; unstarted = record { unread = refl; unwritten = refl }; images = images_stay genesis x.disks });
-  unstarted = λ some. record { unread = refl; unwritten = refl };
-  left = λ t o. (record { unread = refl; unwritten = refl }, record { a = inl refl; b = inl refl });
+  serves = λ t none l. inr (record { outside = tt; unstarted = record { unread = refl; unwritten = refl; unasked = refl }; images = images_stay genesis x.disks });
+  unstarted = λ some. record { unread = refl; unwritten = refl; unasked = refl };
+  left = λ t o. (record { unread = refl; unwritten = refl; unasked = refl }, record { a = inl refl; b = inl refl });
   faults = nothing x;
 }
 unstarted_by scheme tells (Some (command.Init genesis)) x some = record {
   written = [];
   unread = refl;
+  unasked = refl;
   appended = Appends-nil x.sink.held;
   told = refl;
   left = λ t. inl (record { a = inl refl; b = inl refl });
   images = λ t s. images_stay genesis x.disks s;
   faults = nothing x;
 }
-unstarted_by scheme tells (Some command.Run) x some = again_unstarted scheme tells x.source x.sink x.disks x.disks refl
+unstarted_by scheme tells (Some command.Run) x some = again_unstarted scheme tells x.source x.sink x.notary x.disks x.disks refl
 unstarted_by scheme tells (Some (command.Sign signing)) x some = record {
   plain = run.NoMemory;
   ending_is = refl;
   wrote = record { written = []; unread = refl; appended = Appends-nil x.sink.held; output = (refl, (refl, refl)) };
   disks_are = refl;
+  notary_is = refl;
 }
 
 -- ---- faults of a whole run
@@ -166,18 +169,18 @@ is_disk (NewerFormat found) is = absurd (omega (arith, is))
 no_last : (before now : SinkState) → WritesLast [] before now → MeetsNone before now
 no_last before now w = elim w.once [ inl whole ↦ whole.1 | inr short ↦ absurd (let no : ⊥ = omega (arith, short.0) in no) ]
 
-module _ (scheme : Scheme) (tells : Bool) (words : Option Command) (status : ℕ) (met : LedgerEnding) (before : Handed) (source : SourceState) (disks : Pair) (mid last : SinkState)
-    (s : ServedBy scheme tells words met before (handed source mid disks)) (f : Finishes met status mid last) where
+module _ (scheme : Scheme) (tells : Bool) (words : Option Command) (status : ℕ) (met : LedgerEnding) (before : Handed) (source : SourceState) (disks : Pair) (n : NotaryState) (mid last : SinkState)
+    (s : ServedBy scheme tells words met before (handed source mid disks n)) (f : Finishes met status mid last) where
   -- the ending that the status tells is the one that was met, where it isn't want of memory
   was_met : (e : LedgerEnding) → f.ending ≡ e → (Run run.NoMemory ≡ e → ⊥) → met ≡ e
   was_met e is not = elim f.told [ inl same ↦ sym same ∙ is | inr none ↦ absurd (not (sym none.0 ∙ is)) ]
 
   -- .. and its faults are those that were met
-  faults_met : (e : LedgerEnding) → met ≡ e → (e ≡ Run run.Usage → ⊥) → FaultsBy e before (handed source mid disks)
+  faults_met : (e : LedgerEnding) → met ≡ e → (e ≡ Run run.Usage → ⊥) → FaultsBy e before (handed source mid disks n)
   faults_met e is not =
-      elim (served_faults scheme tells words met before (handed source mid disks) s) [
+      elim (served_faults scheme tells words met before (handed source mid disks n) s) [
         | inl usage ↦ absurd (not (sym is ∙ usage.1))
-        | inr faults ↦ subst (λ x. FaultsBy x before (handed source mid disks)) is faults
+        | inr faults ↦ subst (λ x. FaultsBy x before (handed source mid disks n)) is faults
       ]
 
   empty_line : (e : LedgerEnding) → f.ending ≡ e → last_line e ≡ [] → MeetsNone mid last
@@ -187,20 +190,20 @@ module _ (scheme : Scheme) (tells : Bool) (words : Option Command) (status : ℕ
   usage_only is =
       let e : f.ending ≡ Run run.Usage = is_usage f.ending (sym f.status_is ∙ is) in
       let m = was_met (Run run.Usage) e (λ same. let no : ⊥ = cc same in no) in
-      elim (served_faults scheme tells words met before (handed source mid disks) s) [
+      elim (served_faults scheme tells words met before (handed source mid disks n) s) [
         | inl usage ↦ usage.0
-        | inr faults ↦ absurd (subst (λ x. FaultsBy x before (handed source mid disks)) m faults)
+        | inr faults ↦ absurd (subst (λ x. FaultsBy x before (handed source mid disks n)) m faults)
       ]
 
   pub usage_where : words ≡ None → status ≡ 1
   usage_where is =
-      let m : met ≡ Run run.Usage = (subst (λ w. ServedBy scheme tells w met before (handed source mid disks)) is s).0 in
+      let m : met ≡ Run run.Usage = (subst (λ w. ServedBy scheme tells w met before (handed source mid disks n)) is s).0 in
       elim f.told [
         | inl same ↦ f.status_is ∙ ap status_of (same ∙ m)
         | inr none ↦ absurd (subst HasWords m none.1)
       ]
 
-  pub done_met : status ≡ 0 → NothingFailed before (handed source last disks)
+  pub done_met : status ≡ 0 → NothingFailed before (handed source last disks n)
   done_met is =
       let e : f.ending ≡ Run run.Done = is_done f.ending (sym f.status_is ∙ is) in
       let faults = faults_met (Run run.Done) (was_met (Run run.Done) e (λ same. let no : ⊥ = cc same in no)) (λ same. let no : ⊥ = cc same in no) in

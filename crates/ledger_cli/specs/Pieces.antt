@@ -1,29 +1,34 @@
 -- What came of a piece of a window, whose lines were offered to a committer.
-use Rattle.std.specs.Prelude.{◌≡◌, ◌⊎◌, ℕ, Bool, false, List, [], ◌∷◌, ◌++◌, map, Option, None, Some}
-use Rattle.batch_committer.specs.Steps.{step_at}
-use Rattle.batch_committer.specs.World.{Held, Pair, World, world, Fits, HasRoom, Goes, Ended}
+use Rattle.std.specs.Prelude.{◌≡◌, ◌⊎◌, ℕ, Bool, false, List, ◌++◌, map, Option, None, Some}
+use Rattle.batch_committer.specs.World.{Held, Pair, World, world, Fits, HasRoom, Holds, Goes, Ended}
 use Rattle.batch_committer.specs.declared.end.End.{End}
 use Rattle.lane_work.specs.Orders.{IsOrderOf}
 use Rattle.lane_work.specs.declared.kinds.LaneLine.{LaneLine}
 use Rattle.lane_work.specs.declared.taker.Flow.{Flow}
 use Rattle.lane_work.specs.declared.taker.Flow.TheVariants.{GoOn, Stop}
 use Rattle.ledger_book.specs.declared.prepared.Prepared.{Prepared}
+use Rattle.batch_committer.specs.Attending.{step_in, Takes, EndsTaking}
 use Rattle.ledger_io.specs.Outside.{SinkState}
-use Rattle.ledger_model.specs.Dues.{due_of, dues}
-use Rattle.ledger_model.specs.History.{close}
-use Rattle.ledger_model.specs.InOrder.{step_of}
-use Rattle.ledger_model.specs.Rules.{after_job, after_steps}
+use Rattle.ledger_model.specs.Dues.{dues}
+use Rattle.ledger_model.specs.History.{History, close}
+use Rattle.ledger_model.specs.Merge.{said_by}
+use Rattle.ledger_model.specs.Rules.{after_steps}
 use Rattle.ledger_model.specs.Scheme.{Scheme}
+use Rattle.ledger_model.specs.Step.{Step}
+use Rattle.ledger_model.specs.Took.{Took}
 use Rattle.ledger_model.specs.Windows.{Said}
+use Rattle.time_peg.specs.Entries.{NotaryState}
+use Rattle.ledger_cli.specs.Taken.{TookTo}
 
--- what a committer, its disks and its sink tell
+-- what a committer, its disks, its sink and its notary tell
 pub record At : Type 0 where
   pub held : Held
   pub disks : Pair
   pub sink : SinkState
+  pub notary : NotaryState
 
-abbrev pub at : Held → Pair → SinkState → At
-at held disks sink = record { held = held; disks = disks; sink = sink }
+abbrev pub at : Held → Pair → SinkState → NotaryState → At
+at held disks sink notary = record { held = held; disks = disks; sink = sink; notary = notary }
 
 abbrev pub world_at : At → World
 world_at s = world s.held.kept s.disks s.sink
@@ -34,17 +39,23 @@ pub record IsOpen (tells : Bool) (s : At) : Type 0 where
   pub fits : Fits tells (world_at s)
   pub room : HasRoom s.held.kept
 
--- lines were taken in this order
+-- ---- lines in an order
+
+-- lines were taken in this order: in these steps, in which the notary took part
 pub record TakesAll (scheme : Scheme) (tells : Bool) (order : List Said) (s t : At) : Type 0 where
-  pub goes : Goes tells (world_at s) (λ h. after_steps scheme h (map step_of order)) (λ h. dues scheme h (map step_of order)) (world_at t)
+  pub steps : List Step
+  pub said : map said_by steps ≡ order
+  pub goes : Goes tells (world_at s) (λ h. after_steps scheme h steps) (λ h. dues scheme h steps) (world_at t)
+  pub took : (h : History) → Holds tells (world_at s) h → Took scheme h s.notary steps t.notary
   pub still : IsOpen tells t
 
 -- .. or the run ended on the way over some first ones
 pub record TakesSome (scheme : Scheme) (tells : Bool) (order : List Said) (end : End) (s t : At) : Type 0 where
-  pub front : List Said
+  pub steps : List Step
   pub rest : List Said
-  pub split : order ≡ front ++ rest
-  pub ended : Ended tells (world_at s) (λ h. after_steps scheme h (map step_of front)) (λ h. dues scheme h (map step_of front)) end (world_at t)
+  pub split : order ≡ map said_by steps ++ rest
+  pub ended : Ended tells (world_at s) (λ h. after_steps scheme h steps) (λ h. dues scheme h steps) end (world_at t)
+  pub took : (h : History) → Holds tells (world_at s) h → TookTo scheme h s.notary steps t.notary
 
 abbrev pub TakesBy : Scheme → Bool → List Said → Option End → At → At → Type 0
 TakesBy scheme tells order None s t = TakesAll scheme tells order s t
@@ -68,40 +79,42 @@ told names end at = record { names = names; end = end; at = at }
 abbrev pub Answered : Bool → Told → Prepared → Flow → Told → Type 0
 Answered tells s item GoOn t =
     (t.names ≡ s.names) × (t.end ≡ s.end) × IsOpen tells t.at
-    × ((line : List ℕ) → Goes tells (world_at s.at) (λ h. after_job h (step_at item.lane item.index line) item.job) (λ h. due_of h (step_at item.lane item.index line) item.job ∷ []) (world_at t.at))
+    × ((failed : Bool) × ((line : List ℕ) → Takes tells (world_at s.at) (world_at t.at) s.at.notary t.at.notary (step_in s.at.notary t.at.notary failed item.lane item.index line) item.job))
 Answered tells s item Stop t =
     (t.names ≡ s.names)
     × ((end : End) × (t.end ≡ Some end)
-    × ((line : List ℕ) → Ended tells (world_at s.at) (λ h. after_job h (step_at item.lane item.index line) item.job) (λ h. due_of h (step_at item.lane item.index line) item.job ∷ []) end (world_at t.at)))
+    × EndsTaking tells (world_at s.at) (world_at t.at) s.at.notary t.at.notary item.lane item.index item.job end)
 
 -- ---- a piece, and the end of its window
 
 -- the lines of a piece were taken
 pub record PieceTaken (scheme : Scheme) (tells : Bool) (first : List ℕ) (lines : List LaneLine) (s t : At) : Type 0 where
-  pub order : List Said
-  pub is_order : IsOrderOf first lines order
-  pub goes : Goes tells (world_at s) (λ h. after_steps scheme h (map step_of order)) (λ h. dues scheme h (map step_of order)) (world_at t)
+  pub steps : List Step
+  pub is_order : IsOrderOf first lines (map said_by steps)
+  pub goes : Goes tells (world_at s) (λ h. after_steps scheme h steps) (λ h. dues scheme h steps) (world_at t)
+  pub took : (h : History) → Holds tells (world_at s) h → Took scheme h s.notary steps t.notary
 
 -- .. or the run ended on the way over some first ones
 pub record PieceBroken (scheme : Scheme) (tells : Bool) (first : List ℕ) (lines : List LaneLine) (end : End) (s t : At) : Type 0 where
-  pub order : List Said
-  pub is_order : IsOrderOf first lines order
-  pub front : List Said
+  pub steps : List Step
   pub rest : List Said
-  pub split : order ≡ front ++ rest
-  pub ended : Ended tells (world_at s) (λ h. after_steps scheme h (map step_of front)) (λ h. dues scheme h (map step_of front)) end (world_at t)
+  pub is_order : IsOrderOf first lines (map said_by steps ++ rest)
+  pub ended : Ended tells (world_at s) (λ h. after_steps scheme h steps) (λ h. dues scheme h steps) end (world_at t)
+  pub took : (h : History) → Holds tells (world_at s) h → TookTo scheme h s.notary steps t.notary
 
 -- .. and the open block was ended
 pub record WindowTaken (scheme : Scheme) (tells : Bool) (first : List ℕ) (lines : List LaneLine) (s t : At) : Type 0 where
-  pub order : List Said
-  pub is_order : IsOrderOf first lines order
-  pub goes : Goes tells (world_at s) (λ h. close (after_steps scheme h (map step_of order))) (λ h. dues scheme h (map step_of order)) (world_at t)
+  pub steps : List Step
+  pub is_order : IsOrderOf first lines (map said_by steps)
+  pub goes : Goes tells (world_at s) (λ h. close (after_steps scheme h steps)) (λ h. dues scheme h steps) (world_at t)
+  pub took : (h : History) → Holds tells (world_at s) h → Took scheme h s.notary steps t.notary
 
 -- .. or couldn't be ended
 pub record FlushBroken (scheme : Scheme) (tells : Bool) (first : List ℕ) (lines : List LaneLine) (end : End) (s t : At) : Type 0 where
-  pub order : List Said
-  pub is_order : IsOrderOf first lines order
-  pub ended : Ended tells (world_at s) (λ h. close (after_steps scheme h (map step_of order))) (λ h. dues scheme h (map step_of order)) end (world_at t)
+  pub steps : List Step
+  pub is_order : IsOrderOf first lines (map said_by steps)
+  pub ended : Ended tells (world_at s) (λ h. close (after_steps scheme h steps)) (λ h. dues scheme h steps) end (world_at t)
+  pub took : (h : History) → Holds tells (world_at s) h → Took scheme h s.notary steps t.notary
 
 abbrev pub WindowBroken : Scheme → Bool → List ℕ → List LaneLine → End → At → At → Type 0
 WindowBroken scheme tells first lines end s t = PieceBroken scheme tells first lines end s t ⊎ FlushBroken scheme tells first lines end s t

@@ -1,5 +1,5 @@
 -- What a run of the program did, from the bytes that came in to the bytes that went out and the files that are left.
-use Rattle.std.specs.Prelude.{◌≡◌, ⊤, ℕ, ◌≤◌, ◌⊎◌, Bool, IsTrue, List, [], ◌∷◌, codes, decimal, Option, None, Some, IsSome, IfSome}
+use Rattle.std.specs.Prelude.{◌≡◌, ⊤, ℕ, ◌⊎◌, Bool, IsTrue, List, [], ◌∷◌, codes, decimal, Option, None, Some, IsSome, IfSome}
 use Rattle.std.specs.Io.KnownBytes.{Consumes, Appends}
 use Rattle.batch_committer.specs.World.{Pair}
 use Rattle.block_file.specs.File.{IsSettled}
@@ -17,25 +17,28 @@ use Rattle.ledger_io.specs.declared.failure.LineErr.TheVariants as line_err
 use Rattle.ledger_model.specs.Genesis.{new_ledger}
 use Rattle.ledger_model.specs.History.{History, id, journals_of}
 use Rattle.ledger_model.specs.Merge.{IsMerge}
-use Rattle.ledger_model.specs.Notary.{IsAttended}
 use Rattle.ledger_bytes.specs.declared.digest.Digest.{Digest}
 use Rattle.ledger_model.specs.Dues.{HasLeaf}
 use Rattle.script_lines.specs.Receipts.{IsReceipted}
+use Rattle.ledger_model.specs.Pegs.{Pegged}
 use Rattle.ledger_model.specs.Rules.{after}
 use Rattle.ledger_model.specs.Scheme.{Scheme}
 use Rattle.ledger_model.specs.Step.{Step}
 use Rattle.ledger_model.specs.Texts.{text}
+use Rattle.ledger_model.specs.Took.{TookAll}
 use Rattle.ledger_model.specs.Windows.{said_lines, windows}
 use Rattle.ledger_model.specs.declared.genesis.Genesis.{Genesis}
 use Rattle.ledger_open.specs.Founding.{IsFounded, IsFoundedOrShut, IsOneOpen}
 use Rattle.ledger_open.specs.Opening.{IsOpenErr, IsOutside, StandsAsRead}
 use Rattle.ledger_open.specs.Standing.{PairFor, IsCleanPair}
 use Rattle.ledger_open.specs.declared.failure.OpenErr.{OpenErr}
+use Rattle.time_peg.specs.Entries.{NotaryState, IsList}
 use Rattle.twin_file.specs.Images.{AreShut}
 use Rattle.ledger_bytes.specs.Digests.{digest}
 use Rattle.script_lines.specs.Words.{hex_of}
 use Rattle.ledger_cli.specs.Endings.{line_of, status_of, last_line, refusal_of, HasWords}
 use Rattle.ledger_cli.specs.Signing.{signed_text}
+use Rattle.ledger_cli.specs.Taken.{TookSome}
 use Rattle.ledger_cli.specs.declared.ending.LedgerEnding.{LedgerEnding}
 use Rattle.ledger_cli.specs.declared.ending.LedgerEnding.TheVariants.{Run, DiskFault, Damaged, Empty, Exists, NewerFormat}
 use Rattle.ledger_cli.specs.declared.words.Command.{Command}
@@ -43,14 +46,15 @@ use Rattle.ledger_cli.specs.declared.words.Command.TheVariants as command
 
 -- ---- what a run is handed
 
--- what the program reads from, what it writes to, and the two disks of the ledger
+-- what the program reads from, what it writes to, the two disks of the ledger, and the notary
 pub record Handed : Type 0 where
   pub source : SourceState
   pub sink : SinkState
   pub disks : Pair
+  pub notary : NotaryState
 
-abbrev pub handed : SourceState → SinkState → Pair → Handed
-handed source sink disks = record { source = source; sink = sink; disks = disks }
+abbrev pub handed : SourceState → SinkState → Pair → NotaryState → Handed
+handed source sink disks notary = record { source = source; sink = sink; disks = disks; notary = notary }
 
 abbrev pub outside_of : Handed → Outside
 outside_of x = outside x.source x.sink
@@ -129,48 +133,54 @@ FaultsBy (NewerFormat found) before after_all = Faults NoneFailed MeetsNone NoDi
 
 -- ---- a script on a ledger
 
--- what is answered to the lines of a script on a history: the text of a merge of them, window by window
-pub record Answers (scheme : Scheme) (h : History) (lines : List (List ℕ)) (replies : List ℕ) : Type 0 where
+-- what is answered to the lines of a script on a history: the text of a merge of them, window by window, along whose steps the
+-- notary goes from one state to another
+pub record Answers (scheme : Scheme) (h : History) (lines : List (List ℕ)) (replies : List ℕ) (first last : NotaryState) : Type 0 where
   pub steps : List (List Step)
   pub merge : IsMerge (windows (said_lines lines)) steps
-  pub attended : IsAttended scheme h [] [] 0 steps
+  pub took : TookAll scheme h first steps last
   pub replies_are : replies ≡ text scheme h steps
 
 -- Two images stand for a history that goes on from h and ends at a block's end of the whole history, or is h. Each receipt that was
--- written whole is kept in it.
-pub record MayStand (h whole : History) (replies : List ℕ) (a b : List ℕ) : Type 0 where
+-- written whole is kept in it. The notary's list has the entry of each of its time journals, where it had those of h.
+pub record MayStand (h whole : History) (first last : NotaryState) (replies : List ℕ) (a b : List ℕ) : Type 0 where
   pub kept : History
   pub stands : PairFor a b kept
   pub no_shorter : Begins h.closed kept.closed
   pub no_longer : Begins kept.closed whole.closed
   pub receipts : (jsn : ℕ) (leaf : Digest) → IsReceipted replies jsn leaf → HasLeaf (journals_of kept.closed) jsn leaf
+  pub pegs : Pegged h first.entries → Pegged kept last.entries
 
 -- so do all images that a crash may leave
-abbrev pub AllStand : History → History → List ℕ → Pair → Type 0
-AllStand h whole replies disks =
-    (a b : List ℕ) → MayLeave disks.a.bytes a → MayLeave disks.b.bytes b → MayStand h whole replies a b
+abbrev pub AllStand : History → History → NotaryState → NotaryState → List ℕ → Pair → Type 0
+AllStand h whole first last replies disks =
+    (a b : List ℕ) → MayLeave disks.a.bytes a → MayLeave disks.b.bytes b → MayStand h whole first last replies a b
 
 -- the lines are answered, and the pair is clean for the history after them
-pub record AnswersOn (scheme : Scheme) (h : History) (disks : Pair) (lines : List (List ℕ)) (replies : List ℕ) : Type 0 where
-  pub answers : Answers scheme h lines replies
+pub record AnswersOn (scheme : Scheme) (h : History) (disks : Pair) (first last : NotaryState) (lines : List (List ℕ)) (replies : List ℕ) : Type 0 where
+  pub answers : Answers scheme h lines replies first last
   pub clean : IsCleanPair disks.a.bytes.seen disks.b.bytes.seen (after scheme h answers.steps)
   pub quiet : AreQuiet disks
-  pub images : AllStand h (after scheme h answers.steps) replies disks
+  pub images : AllStand h (after scheme h answers.steps) first last replies disks
 
--- a text answers the lines, and what is left after some replies stands for a beginning of the history after them
-pub record StopsOn (scheme : Scheme) (h : History) (replies : List ℕ) (disks : Pair) (lines : List (List ℕ)) (whole_text : List ℕ) : Type 0 where
-  pub answers : Answers scheme h lines whole_text
-  pub images : AllStand h (after scheme h answers.steps) replies disks
+-- A text answers the lines: that of a merge of them of which some first steps were taken. Along these the notary goes from one state
+-- to the other; in the others it is said to fail. What is left after some replies stands for a beginning of the history after all.
+pub record StopsOn (scheme : Scheme) (h : History) (replies : List ℕ) (disks : Pair) (first last : NotaryState) (lines : List (List ℕ)) (whole_text : List ℕ) : Type 0 where
+  pub steps : List (List Step)
+  pub merge : IsMerge (windows (said_lines lines)) steps
+  pub took : TookSome scheme h first steps last
+  pub text_is : whole_text ≡ text scheme h steps
+  pub images : AllStand h (after scheme h steps) first last replies disks
 
 -- all lines that count are answered
 abbrev pub AnswersAll : Scheme → History → Option LineErr → List ℕ → List ℕ → Handed → Handed → Type 0
 AnswersAll scheme h end read replies before after_all =
-    Answered (AnswersOn scheme h after_all.disks) end read replies (outside_of before) (outside_of after_all)
+    Answered (AnswersOn scheme h after_all.disks before.notary after_all.notary) end read replies (outside_of before) (outside_of after_all)
 
 -- the run stopped: some text that answers the script is so, and of its history a beginning is left
 abbrev pub StopsSo : Scheme → History → List ℕ → List ℕ → Handed → Handed → (List ℕ → Type 0) → Type 0
 StopsSo scheme h read replies before after_all IsSo =
-    SomeOfScript (StopsOn scheme h replies after_all.disks) before.source after_all.source read IsSo
+    SomeOfScript (StopsOn scheme h replies after_all.disks before.notary after_all.notary) before.source after_all.source read IsSo
 
 -- what was written before the last line and what is left, by the ending
 abbrev pub Replies : Scheme → History → LedgerEnding → List ℕ → List ℕ → Handed → Handed → Type 0
@@ -196,10 +206,11 @@ pub record RunsOn (scheme : Scheme) (h : History) (ending : LedgerEnding) (befor
   pub appended : Appends before.sink.held after_all.sink.held replies
   pub replied : Replies scheme h ending read replies before after_all
 
--- nothing was read or written
+-- nothing was read or written, and the notary is as it was
 pub record IsUnstarted (before after_all : Handed) : Type 0 where
   pub unread : after_all.source ≡ before.source
   pub unwritten : after_all.sink ≡ before.sink
+  pub unasked : after_all.notary ≡ before.notary
 
 -- ---- the commands
 
@@ -240,8 +251,8 @@ LeftUnopened (NewerFormat found) before after_all = IsUnstarted before after_all
 
 -- `run`: the ledger that is there is opened, and the script is run on it
 pub record RunsAgain (scheme : Scheme) (tells : Bool) (ending : LedgerEnding) (before after_all : Handed) : Type 0 where
-  -- whatever history the pair stood for
-  pub serves : IsTrue tells → (h : History) → StandFor before.disks h → (IsOutsideEnding ending → AreQuiet before.disks) → RunsOn scheme h ending before after_all
+  -- whatever history the pair stood for, where the notary keeps a list
+  pub serves : IsTrue tells → (h : History) → StandFor before.disks h → IsList before.notary.entries → (IsOutsideEnding ending → AreQuiet before.disks) → RunsOn scheme h ending before after_all
   -- a refusal reads and writes nothing, whatever the disks tell
   pub unstarted : IsSome (refusal_of ending) → IsUnstarted before after_all
   pub refused : IsTrue tells → IfSome (refusal_of ending) (λ e. IsRefused e before.disks after_all.disks)
@@ -293,6 +304,7 @@ LeftByInit genesis (NewerFormat found) before after_all = ⊥
 pub record Makes (genesis : Genesis) (tells : Bool) (ending : LedgerEnding) (before after_all : Handed) : Type 0 where
   pub written : List ℕ
   pub unread : after_all.source ≡ before.source
+  pub unasked : after_all.notary ≡ before.notary
   pub appended : Appends before.sink.held after_all.sink.held written
   pub told : ToldBy (ledger_line genesis) ending written
   pub left : IsTrue tells → LeftByInit genesis ending before.disks after_all.disks
@@ -325,7 +337,7 @@ LeftThere (NewerFormat found) before after_all = ⊥
 
 -- `dry`: a new ledger, and the script is run on it
 pub record RunsNew (scheme : Scheme) (genesis : Genesis) (tells : Bool) (ending : LedgerEnding) (before after_all : Handed) : Type 0 where
-  pub serves : IsTrue tells → HasNone before.disks → RunsOn scheme (new_ledger genesis) ending before after_all ⊎ IsNotMade genesis ending before after_all
+  pub serves : IsTrue tells → HasNone before.disks → IsList before.notary.entries → RunsOn scheme (new_ledger genesis) ending before after_all ⊎ IsNotMade genesis ending before after_all
   -- a refusal reads and writes nothing, whatever the disks tell
   pub unstarted : IsSome (refusal_of ending) → IsUnstarted before after_all
   pub left : IsTrue tells → HasOpen before.disks → LeftThere ending before after_all
@@ -337,6 +349,7 @@ pub record Signs (written_text : List ℕ) (ending : LedgerEnding) (before after
   pub ending_is : ending ≡ Run plain
   pub wrote : Wrote written_text plain (outside_of before) (outside_of after_all)
   pub disks_are : after_all.disks ≡ before.disks
+  pub notary_is : after_all.notary ≡ before.notary
 
 -- everything but the last line, by the command
 abbrev pub ServedBy : Scheme → Bool → Option Command → LedgerEnding → Handed → Handed → Type 0
@@ -359,5 +372,5 @@ pub record RanProgram (scheme : Scheme) (tells : Bool) (words : Option Command) 
   pub met : LedgerEnding
   -- the sink as it was in front of the last line
   pub sink : SinkState
-  pub served : ServedBy scheme tells words met before (handed after_all.source sink after_all.disks)
+  pub served : ServedBy scheme tells words met before (handed after_all.source sink after_all.disks after_all.notary)
   pub finishes : Finishes met status sink after_all.sink

@@ -1,16 +1,42 @@
-ghost use Rattle.std.specs.Prelude.{◌≡◌, ℕ, List, All};
+ghost use Rattle.std.specs.Prelude.{◌≡◌, ◌≤◌, ◌+◌, ℕ, List, All, length, map};
+ghost use Rattle.std.specs.List.{flat_map};
+ghost use Rattle.ledger_bytes.specs.Begins.{Begins};
+ghost use Rattle.time_peg.specs.Entries.{NotaryState};
 ghost use Rattle.script_lines.specs.Grammar.{spoken_line};
 ghost use Rattle.ledger_model.specs.History.{History};
-ghost use Rattle.ledger_model.specs.InOrder.{steps_of};
+ghost use Rattle.ledger_model.specs.Merge.{said_by};
 ghost use Rattle.ledger_model.specs.Scheme.{Scheme};
-ghost use Rattle.ledger_model.specs.Texts.{text};
+ghost use Rattle.ledger_model.specs.Step.{Step};
+ghost use Rattle.ledger_model.specs.Took.{counts_after};
 ghost use Rattle.ledger_model.specs.Windows.{said_lines, windows};
 ghost use Rattle.ledger_cli.specs.Runs.{Answers};
+ghost use Rattle.ledger_cli.specs.Taken.{TookSome};
 
-/// Where all lines of a script belong to one lane, what answers them is the text of the lines in their order.
+/// Where all lines of a script belong to one lane, they are answered in their order.
 pub fn lines_of_one_lane_are_answered_in_order()
     ensures { (scheme : Scheme) (h : History) (k : ℕ) (lines : List (List ℕ)) (replies : List ℕ)
+        (first last : NotaryState)
         → All (λ line. (spoken_line line).0 ≡ k) lines
-        → Answers scheme h lines replies
-        → replies ≡ text scheme h (steps_of (windows (said_lines lines))) }
+        → (answers : Answers scheme h lines replies first last)
+        → map (map said_by) answers.steps ≡ windows (said_lines lines) }
+{}
+
+/// The notary's count of failures is one more for each step of a run in which it failed. Where the run stopped, only steps
+/// that were taken count.
+pub fn a_run_counts_the_failures_of_its_notary()
+    ensures counted { (scheme : Scheme) (h : History) (lines : List (List ℕ)) (replies : List ℕ)
+        (first last : NotaryState) → (answers : Answers scheme h lines replies first last)
+        → last.faults ≡ counts_after (flat_map (λ window. window) answers.steps) first.faults }
+    ensures stopped { (scheme : Scheme) (h : History) (windows : List (List Step))
+        (first last : NotaryState) → TookSome scheme h first windows last
+        → (taken : List Step) × Begins taken (flat_map (λ window. window) windows)
+        × (last.faults ≡ counts_after taken first.faults) }
+{}
+
+/// However a run ends, the notary's list goes on from what it was, by at most one entry for each line.
+pub fn the_list_of_a_notary_goes_on()
+    ensures { (scheme : Scheme) (h : History) (windows : List (List Step))
+        (first last : NotaryState) → TookSome scheme h first windows last
+        → Begins first.entries last.entries × (length last.entries
+        ≤ length first.entries + length (flat_map (λ window. window) windows)) }
 {}

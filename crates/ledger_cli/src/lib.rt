@@ -1,10 +1,11 @@
-//! The top call of `ledgerctl`: from the words of the command line, the bytes of a script and two files to the bytes that
-//! are written, the files that are left and the exit status.
+//! The top call of `ledgerctl`: from the words of the command line, the bytes of a script, two files and a notary to the
+//! bytes that are written, what is left of them and the exit status.
 #![tactic(auto)]
 
 mod desk;
 mod ending;
 mod laws;
+mod main_call;
 mod piece;
 mod session;
 mod signing;
@@ -14,7 +15,11 @@ mod window;
 mod words;
 
 pub use ending::LedgerEnding;
-pub use laws::lines_of_one_lane_are_answered_in_order;
+pub use laws::{
+    a_run_counts_the_failures_of_its_notary, lines_of_one_lane_are_answered_in_order,
+    the_list_of_a_notary_goes_on,
+};
+pub use main_call::ledger_main;
 pub use session::run_session;
 pub use signing::{Request, Signing};
 pub use standard::ledger_standard;

@@ -65,6 +65,11 @@ impl Piece {
         }
     }
 
+    /// Whether the lines are of several lanes.
+    pub(crate) fn is_mixed(&self) -> bool {
+        self.mixed
+    }
+
     /// Whether this is one line, of the lane that alone brought lines before: there is no other to be prepared beside.
     pub(crate) fn is_alone(&self) -> bool {
         match (self.before, self.lines.as_slice()) {

@@ -1,11 +1,14 @@
 ghost use Rattle.std.specs.Prelude.{◌≤◌, IfOk};
 
-use crate::ledger_top;
+use crate::ledger_main;
 use lane_work::OpenGate;
-use ledger_bytes::NoMemory;
+use ledger_bytes::{Digest, NoMemory};
 use ledger_disk::{FileDisk, MemDisk};
 use ledger_io::{Ending, Sink, Source, StdSink, StdSource, command_words, finish};
 use member_book::TagScheme;
+use notary_ledger::RealClock;
+use std::fs::File;
+use std::io::Read;
 use std::sync::Wait;
 use std::thread::Threads;
 
@@ -13,10 +16,10 @@ use std::thread::Threads;
 const DRY_ROOM: usize = 67_108_864;
 
 /// Runs the program over standard input and standard output, by the words of its command line, and answers its exit
-/// status. `init` and `run` use the files `ledger.a` and `ledger.b` of their folder, which has to be there; `dry` uses two
-/// disks in memory of 67,108,864 bytes each. Proofs are those of the tag scheme. What [`ledger_top`] promises holds of
-/// it, but standard input and output and real files tell nothing of what they gave and took. `threads` is `rt` once more,
-/// by whose bound threads may be started.
+/// status. `init` and `run` use the files `ledger.a`, `ledger.b` and `notary` of their folder, which has to be there, the
+/// system's clock, and 32 bytes of `/dev/urandom` as the seed of salts; `dry` uses two disks in memory of 67,108,864 bytes
+/// each. Proofs are those of the tag scheme. What [`ledger_main`] promises holds of it, but standard input and output and
+/// real files tell nothing of what they gave and took. `threads` is `rt` once more, by whose bound threads may be started.
 pub fn ledger_standard<R: Threads + Wait + Sync>(rt: &HostRuntime, threads: &R) -> u8
     ensures { result ≤ 9 }
 {
@@ -58,10 +61,30 @@ fn run_on_files<R: Threads + Wait + Sync, S: Source, K: Sink>(
 {
     let mut a = file_in(rt, folder, "/ledger.a")?;
     let mut b = file_in(rt, folder, "/ledger.b")?;
-    let alloc = rt.alloc();
-    Ok(ledger_top(
-        threads, alloc, words, source, sink, &mut a, &mut b, &TagScheme, &OpenGate,
-    ))
+    let keeper = file_in(rt, folder, "/notary")?;
+    let (status, _) = ledger_main(
+        threads,
+        rt.alloc(),
+        words,
+        source,
+        sink,
+        &mut a,
+        &mut b,
+        keeper,
+        RealClock::new(rt),
+        seed(rt),
+        &TagScheme,
+        &OpenGate,
+    );
+    Ok(status)
+}
+
+// 32 bytes from the system's source of random bytes.
+fn seed(rt: &HostRuntime) -> Option<Digest> {
+    let mut file = File::open(rt, "/dev/urandom").ok()?;
+    let mut bytes = [0; 32];
+    file.read_exact(&mut bytes).ok()?;
+    Some(Digest(bytes))
 }
 
 fn file_in<'a>(
@@ -87,10 +110,23 @@ fn run_in_memory<R: Threads + Wait + Sync, S: Source, K: Sink>(
         [verb, ..] if verb.as_str() == "dry" => DRY_ROOM,
         _ => 0,
     };
-    let mut a = MemDisk::new(rt.alloc(), room, Vec::new(rt.alloc()))?;
-    let mut b = MemDisk::new(rt.alloc(), room, Vec::new(rt.alloc()))?;
     let alloc = rt.alloc();
-    Ok(ledger_top(
-        threads, alloc, words, source, sink, &mut a, &mut b, &TagScheme, &OpenGate,
-    ))
+    let mut a = MemDisk::new(alloc, room, Vec::new(alloc))?;
+    let mut b = MemDisk::new(alloc, room, Vec::new(alloc))?;
+    let keeper = MemDisk::new(alloc, 0, Vec::new(alloc))?;
+    let (status, _) = ledger_main(
+        threads,
+        alloc,
+        words,
+        source,
+        sink,
+        &mut a,
+        &mut b,
+        keeper,
+        RealClock::new(rt),
+        None,
+        &TagScheme,
+        &OpenGate,
+    );
+    Ok(status)
 }

@@ -2,6 +2,7 @@ ghost use Rattle.std.specs.Prelude.{◌≡◌, ◌↔◌, None, map, string_byte
 ghost use Rattle.batch_committer.specs.World.{Pair, pair};
 ghost use Rattle.ledger_bytes.specs.Causes.{count_after};
 ghost use Rattle.ledger_io.specs.Outside.{SourceState, MeetsOne};
+ghost use Rattle.time_peg.specs.Entries.{NotaryState};
 ghost use Rattle.ledger_cli.specs.Runs.{handed, DiskFailed, Finishes, Makes, NothingFailed, RanProgram, RunsAgain, RunsNew, ServedBy, Signs};
 ghost use Rattle.ledger_cli.specs.Signing.{signed_text};
 ghost use Rattle.ledger_cli.specs.Words.{command_of};
@@ -22,11 +23,13 @@ use script_lines::Word;
 use std::alloc::Global;
 use std::sync::Wait;
 use std::thread::Threads;
+use time_peg::Notary;
 
 /// The program: runs the command that the words after the program's name make. `init` makes a ledger of the two disks.
 /// `run` opens the ledger that is there, and runs the script that `source` gives on it; its replies are written to `sink`,
 /// a receipt once its block is on the disk for good. `dry` does both with a new ledger. `sign` reads nothing, uses no disk
-/// and writes one text. Whose key a proof shows is what the verifier says. It answers the exit status:
+/// and writes one text. Whose key a proof shows is what the verifier says. Anchors are stamped by `notary`; where that fails
+/// the line is refused and the run goes on. It answers the exit status:
 ///
 /// | Status | Comes | Last line |
 /// |---|---|---|
@@ -44,7 +47,15 @@ use std::thread::Threads;
 /// Of several, the first that happens is the status: a run that is done met no fault, and one that ends with a fault met
 /// that one. Lines that ended before a fault of reading are answered first. The last line is written by one attempt; a
 /// fault there doesn't change the status.
-pub fn ledger_top<R: Threads + Wait + Sync, S: Source, K: Sink, D: Disk, V: Verifier, G: Gate>(
+pub fn ledger_top<
+    R: Threads + Wait + Sync,
+    S: Source,
+    K: Sink,
+    D: Disk,
+    N: Notary,
+    V: Verifier,
+    G: Gate,
+>(
     rt: &R,
     alloc: Global,
     words: &[String],
@@ -52,29 +63,30 @@ pub fn ledger_top<R: Threads + Wait + Sync, S: Source, K: Sink, D: Disk, V: Veri
     sink: &mut K,
     a: &mut D,
     b: &mut D,
+    notary: &mut N,
     verifier: &V,
     gate: &G,
 ) -> u8
     ensures ran { RanProgram (V.shows verifier.now) D.tells
         (command_of (map string_bytes words.now)) result
-        (handed (S.state source.old) (K.state sink.old) (pair (D.state a.old) (D.state b.old)))
-        (handed (S.state source.new) (K.state sink.new) (pair (D.state a.new) (D.state b.new))) }
+        (handed (S.state source.old) (K.state sink.old) (pair (D.state a.old) (D.state b.old)) (N.state notary.old))
+        (handed (S.state source.new) (K.state sink.new) (pair (D.state a.new) (D.state b.new)) (N.state notary.new)) }
     ensures usage { (result ≡ 1) ↔ (command_of (map string_bytes words.now) ≡ None) }
     ensures done { result ≡ 0 → NothingFailed
-        (handed (S.state source.old) (K.state sink.old) (pair (D.state a.old) (D.state b.old)))
-        (handed (S.state source.new) (K.state sink.new) (pair (D.state a.new) (D.state b.new))) }
+        (handed (S.state source.old) (K.state sink.old) (pair (D.state a.old) (D.state b.old)) (N.state notary.old))
+        (handed (S.state source.new) (K.state sink.new) (pair (D.state a.new) (D.state b.new)) (N.state notary.new)) }
     ensures read_fault { result ≡ 2
         → (S.state source.new).faults ≡ count_after (S.state source.old).faults }
     ensures write_fault { result ≡ 3 → MeetsOne (K.state sink.old) (K.state sink.new) }
     ensures disk_fault { result ≡ 4 → DiskFailed
         (pair (D.state a.old) (D.state b.old)) (pair (D.state a.new) (D.state b.new)) }
 {
-    let met = run_words(rt, alloc, words, source, sink, a, b, verifier, gate);
+    let met = run_words(rt, alloc, words, source, sink, a, b, notary, verifier, gate);
     finish_run(alloc, sink, met)
 }
 
 // The last line is written by one attempt. For one that is made of words memory is taken.
-fn finish_run<K: Sink>(alloc: Global, sink: &mut K, met: LedgerEnding) -> u8
+pub(crate) fn finish_run<K: Sink>(alloc: Global, sink: &mut K, met: LedgerEnding) -> u8
     ensures { Finishes met result (K.state sink.old) (K.state sink.new) }
 {
     if let Some(line) = met.fixed_line() {
@@ -92,7 +104,15 @@ fn finish_run<K: Sink>(alloc: Global, sink: &mut K, met: LedgerEnding) -> u8
 }
 
 // All but the last line.
-fn run_words<R: Threads + Wait + Sync, S: Source, K: Sink, D: Disk, V: Verifier, G: Gate>(
+fn run_words<
+    R: Threads + Wait + Sync,
+    S: Source,
+    K: Sink,
+    D: Disk,
+    N: Notary,
+    V: Verifier,
+    G: Gate,
+>(
     rt: &R,
     alloc: Global,
     words: &[String],
@@ -100,20 +120,23 @@ fn run_words<R: Threads + Wait + Sync, S: Source, K: Sink, D: Disk, V: Verifier,
     sink: &mut K,
     a: &mut D,
     b: &mut D,
+    notary: &mut N,
     verifier: &V,
     gate: &G,
 ) -> LedgerEnding
     ensures { ServedBy (V.shows verifier.now) D.tells
         (command_of (map string_bytes words.now)) result
-        (handed (S.state source.old) (K.state sink.old) (pair (D.state a.old) (D.state b.old)))
-        (handed (S.state source.new) (K.state sink.new) (pair (D.state a.new) (D.state b.new))) }
+        (handed (S.state source.old) (K.state sink.old) (pair (D.state a.old) (D.state b.old)) (N.state notary.old))
+        (handed (S.state source.new) (K.state sink.new) (pair (D.state a.new) (D.state b.new)) (N.state notary.new)) }
 {
     match Command::read(alloc, words) {
         Ok(Some(Command::Dry(genesis))) => {
-            run_new(rt, alloc, &genesis, source, sink, a, b, verifier, gate)
+            run_new(
+                rt, alloc, &genesis, source, sink, a, b, notary, verifier, gate,
+            )
         }
         Ok(Some(Command::Init(genesis))) => make(alloc, &genesis, sink, a, b),
-        Ok(Some(Command::Run)) => run_again(rt, alloc, source, sink, a, b, verifier, gate),
+        Ok(Some(Command::Run)) => run_again(rt, alloc, source, sink, a, b, notary, verifier, gate),
         Ok(Some(Command::Sign(signing))) => sign(&signing, sink),
         Ok(None) => LedgerEnding::Run(Ending::Usage),
         Err(NoMemory) => LedgerEnding::Run(Ending::NoMemory),
@@ -121,19 +144,28 @@ fn run_words<R: Threads + Wait + Sync, S: Source, K: Sink, D: Disk, V: Verifier,
 }
 
 // Opens the ledger of two disks, and runs a script on it.
-fn run_again<R: Threads + Wait + Sync, S: Source, K: Sink, D: Disk, V: Verifier, G: Gate>(
+fn run_again<
+    R: Threads + Wait + Sync,
+    S: Source,
+    K: Sink,
+    D: Disk,
+    N: Notary,
+    V: Verifier,
+    G: Gate,
+>(
     rt: &R,
     alloc: Global,
     source: &mut S,
     sink: &mut K,
     a: &mut D,
     b: &mut D,
+    notary: &mut N,
     verifier: &V,
     gate: &G,
 ) -> LedgerEnding
     ensures { RunsAgain (V.shows verifier.now) D.tells result
-        (handed (S.state source.old) (K.state sink.old) (pair (D.state a.old) (D.state b.old)))
-        (handed (S.state source.new) (K.state sink.new) (pair (D.state a.new) (D.state b.new))) }
+        (handed (S.state source.old) (K.state sink.old) (pair (D.state a.old) (D.state b.old)) (N.state notary.old))
+        (handed (S.state source.new) (K.state sink.new) (pair (D.state a.new) (D.state b.new)) (N.state notary.new)) }
 {
     match reopen(rt, alloc, a, b, Limits::real()) {
         Ok(opened) => {
@@ -148,6 +180,7 @@ fn run_again<R: Threads + Wait + Sync, S: Source, K: Sink, D: Disk, V: Verifier,
                 b,
                 source,
                 sink,
+                notary,
             )
         }
         Err(e) => LedgerEnding::from(e),
@@ -155,7 +188,7 @@ fn run_again<R: Threads + Wait + Sync, S: Source, K: Sink, D: Disk, V: Verifier,
 }
 
 // Makes a ledger of two disks, and runs a script on it.
-fn run_new<R: Threads + Wait + Sync, S: Source, K: Sink, D: Disk, V: Verifier, G: Gate>(
+fn run_new<R: Threads + Wait + Sync, S: Source, K: Sink, D: Disk, N: Notary, V: Verifier, G: Gate>(
     rt: &R,
     alloc: Global,
     genesis: &Genesis,
@@ -163,12 +196,13 @@ fn run_new<R: Threads + Wait + Sync, S: Source, K: Sink, D: Disk, V: Verifier, G
     sink: &mut K,
     a: &mut D,
     b: &mut D,
+    notary: &mut N,
     verifier: &V,
     gate: &G,
 ) -> LedgerEnding
     ensures { RunsNew (V.shows verifier.now) genesis.now D.tells result
-        (handed (S.state source.old) (K.state sink.old) (pair (D.state a.old) (D.state b.old)))
-        (handed (S.state source.new) (K.state sink.new) (pair (D.state a.new) (D.state b.new))) }
+        (handed (S.state source.old) (K.state sink.old) (pair (D.state a.old) (D.state b.old)) (N.state notary.old))
+        (handed (S.state source.new) (K.state sink.new) (pair (D.state a.new) (D.state b.new)) (N.state notary.new)) }
 {
     match init(alloc, a, b, genesis, Limits::real()) {
         Ok(opened) => {
@@ -183,6 +217,7 @@ fn run_new<R: Threads + Wait + Sync, S: Source, K: Sink, D: Disk, V: Verifier, G
                 b,
                 source,
                 sink,
+                notary,
             )
         }
         Err(refusal) => LedgerEnding::from(refusal),
@@ -197,9 +232,9 @@ fn make<K: Sink, D: Disk>(
     a: &mut D,
     b: &mut D,
 ) -> LedgerEnding
-    ensures { (source : SourceState) → Makes genesis.now D.tells result
-        (handed source (K.state sink.old) (pair (D.state a.old) (D.state b.old)))
-        (handed source (K.state sink.new) (pair (D.state a.new) (D.state b.new))) }
+    ensures { (source : SourceState) (notary : NotaryState) → Makes genesis.now D.tells result
+        (handed source (K.state sink.old) (pair (D.state a.old) (D.state b.old)) notary)
+        (handed source (K.state sink.new) (pair (D.state a.new) (D.state b.new)) notary) }
 {
     let id = match init(alloc, a, b, genesis, Limits::real()) {
         Ok(opened) => opened.book.id(),
@@ -218,8 +253,8 @@ fn make<K: Sink, D: Disk>(
 
 // Writes the text of a request.
 fn sign<K: Sink>(signing: &Signing, sink: &mut K) -> LedgerEnding
-    ensures { (source : SourceState) (disks : Pair) → Signs (signed_text signing.now) result
-        (handed source (K.state sink.old) disks) (handed source (K.state sink.new) disks) }
+    ensures { (source : SourceState) (disks : Pair) (notary : NotaryState) → Signs (signed_text signing.now) result
+        (handed source (K.state sink.old) disks notary) (handed source (K.state sink.new) disks notary) }
 {
     match write_all(sink, &signing.text()) {
         Ok(()) => LedgerEnding::Run(Ending::Done),

@@ -9,9 +9,9 @@ use Rattle.ledger_cli.proofs.session.answer_lines.Given as goal
 abbrev pub invariant-loop-line : goal.invariant-loop-line
 invariant-loop-line g l =
     let first = world l.fn.committer.kept (pair (g.D.Disk.state l.fn.a) (g.D.Disk.state l.fn.b)) (g.K.Sink.state l.fn.sink) in
-    let now = at l.committer (pair (g.D.Disk.state l.a) (g.D.Disk.state l.b)) (g.K.Sink.state l.sink) in
+    let now = at l.committer (pair (g.D.Disk.state l.a) (g.D.Disk.state l.b)) (g.K.Sink.state l.sink) (g.N.Notary.state l.notary) in
     IsOpen g.D.Disk.tells now
-    × SoFar (g.V.Verifier.shows l.fn.verifier) g.D.Disk.tells first (world_at now) (g.S.Source.state l.fn.source) (g.S.Source.state l.source) l.lines l.piece.first l.piece.next l.piece.lines.items l.window.lines l.window.bytes
+    × SoFar (g.V.Verifier.shows l.fn.verifier) g.D.Disk.tells first (world_at now) (g.N.Notary.state l.fn.notary) (g.N.Notary.state l.notary) (g.S.Source.state l.fn.source) (g.S.Source.state l.source) l.lines l.piece.first l.piece.next l.piece.lines.items l.window.lines l.window.bytes
 
 -- how much may be read yet, and how much of what was read is left
 abbrev pub decreases-loop-line : goal.decreases-loop-line

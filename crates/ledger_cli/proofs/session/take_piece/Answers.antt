@@ -1,4 +1,4 @@
-use Rattle.std.proofs.Common.{rules, ◌≡◌, length}
+use Rattle.std.proofs.Common.{rules}
 use Rattle.intake_queue.proofs.Lists.{none_left}
 use Rattle.ledger_cli.proofs.PieceLaws.{piece_taken, piece_open, piece_broken, piece_empty}
 use Rattle.ledger_cli.proofs.session.take_piece.Goals as goal

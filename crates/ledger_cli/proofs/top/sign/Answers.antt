@@ -4,9 +4,10 @@ use Rattle.ledger_cli.proofs.TopLaws.{wrote_part}
 use Rattle.ledger_cli.proofs.top.sign.Goals as goal
 
 pub returns-in-Err : goal.returns-in-Err
-returns-in-Err g c = λ source disks. record {
+returns-in-Err g c = λ source disks notary. record {
   plain = WriteFault;
   ending_is = refl;
   wrote = wrote_part _ c.text.result source _ _ c.in-Err.field-0 c.text.ensures c.in-Err.ensures.taken c.in-Err.ensures.once;
   disks_are = refl;
+  notary_is = refl;
 }

@@ -7,10 +7,10 @@ use Rattle.ledger_cli.proofs.desk.Desk.run.Given.{Over}
 use Rattle.ledger_cli.proofs.desk.Desk.run.Goals as goal
 
 -- what a desk tells
-tell : (g : Over) → Desk g.row.D.Denot g.row.K.Denot → Told
+tell : (g : Over) → Desk g.row.D.Denot g.row.K.Denot g.row.N.Denot → Told
 tell g s =
-    told (s.committer.ghost_name ∷ s.a.ghost_name ∷ s.b.ghost_name ∷ s.sink.ghost_name ∷ []) s.end
-    (at s.committer.now (pair (g.D.Disk.state s.a.now) (g.D.Disk.state s.b.now)) (g.K.Sink.state s.sink.now))
+    told (s.committer.ghost_name ∷ s.a.ghost_name ∷ s.b.ghost_name ∷ s.sink.ghost_name ∷ s.notary.ghost_name ∷ []) s.end
+    (at s.committer.now (pair (g.D.Disk.state s.a.now) (g.D.Disk.state s.b.now)) (g.K.Sink.state s.sink.now) (g.N.Notary.state s.notary.now))
 
 pub returns-in-Ok : goal.returns-in-Ok
 unfolding tell
@@ -20,6 +20,7 @@ returns-in-Ok g c =
       same_a = ap (λ n. get_or n 1 0) r.0;
       same_b = ap (λ n. get_or n 2 0) r.0;
       same_sink = ap (λ n. get_or n 3 0) r.0;
+      same_notary = ap (λ n. get_or n 4 0) r.0;
       takes = r.1;
     }
 
@@ -31,5 +32,6 @@ returns-in-Err g c =
       same_a = ap (λ n. get_or n 1 0) r.0;
       same_b = ap (λ n. get_or n 2 0) r.0;
       same_sink = ap (λ n. get_or n 3 0) r.0;
+      same_notary = ap (λ n. get_or n 4 0) r.0;
       takes = r.1;
     }

@@ -1,0 +1,128 @@
+-- What a run of the program did whose notary keeps its list on a disk, or in memory where no folder is named.
+use Rattle.std.specs.Prelude.{◌≡◌, ◌⊎◌, ℕ, Bool, true, false, IsTrue, IsSome, List, [], Option, Some, None, codes}
+use Rattle.ledger_bytes.specs.Causes.{count_after}
+use Rattle.ledger_bytes.specs.declared.digest.Digest.{Digest}
+use Rattle.batch_committer.specs.World.{Pair}
+use Rattle.block_file.specs.declared.failure.FileErr.{FileErr}
+use Rattle.block_file.specs.declared.failure.FileErr.TheVariants as files
+use Rattle.ledger_disk.specs.Disk.{DiskState, MayLeave}
+use Rattle.ledger_io.specs.Outside.{SourceState, SinkState}
+use Rattle.ledger_io.specs.Writing.{WritesLast}
+use Rattle.ledger_io.specs.declared.ending.Ending.TheVariants as run
+use Rattle.ledger_model.specs.Scheme.{Scheme}
+use Rattle.notary_ledger.specs.Opening.{KeepsList}
+use Rattle.notary_ledger.specs.Slots.{Lists, MayList}
+use Rattle.time_peg.specs.Entries.{NotaryState}
+use Rattle.ledger_cli.specs.Endings.{last_line}
+use Rattle.ledger_cli.specs.Runs.{Handed, handed, RanProgram}
+use Rattle.ledger_cli.specs.declared.ending.LedgerEnding.{LedgerEnding}
+use Rattle.ledger_cli.specs.declared.ending.LedgerEnding.TheVariants.{Run, DiskFault}
+use Rattle.ledger_cli.specs.declared.words.Command.{Command}
+use Rattle.ledger_cli.specs.declared.words.Command.TheVariants as command
+
+-- what the program reads from, what it writes to, the two disks of the ledger, and the disk on which the notary keeps its list
+pub record Given : Type 0 where
+  pub source : SourceState
+  pub sink : SinkState
+  pub disks : Pair
+  pub keeper : DiskState
+
+abbrev pub given : SourceState → SinkState → Pair → DiskState → Given
+given source sink disks keeper = record { source = source; sink = sink; disks = disks; keeper = keeper }
+
+-- with a notary in place of its disk
+abbrev pub with_notary : Given → NotaryState → Handed
+with_notary x notary = handed x.source x.sink x.disks notary
+
+-- a notary that has stamped nothing
+abbrev pub new_notary : NotaryState
+new_notary = record { entries = []; faults = 0 }
+
+-- whether a command names a folder
+abbrev pub names_folder : Option Command → Bool
+names_folder None = false
+names_folder (Some (command.Dry genesis)) = false
+names_folder (Some (command.Init genesis)) = true
+names_folder (Some command.Run) = true
+names_folder (Some (command.Sign signing)) = false
+
+-- how a run ends whose notary can't be taken up
+abbrev pub ending_of_keeper : FileErr → LedgerEnding
+ending_of_keeper files.DiskFault = DiskFault
+ending_of_keeper (files.Damaged damage) = DiskFault
+ending_of_keeper (files.NewerFormat found) = DiskFault
+ending_of_keeper files.NoMemory = Run run.NoMemory
+
+-- ---- a notary and its disk
+
+-- the notary has the list that the disk reads as, and has failed as often
+pub record IsTakenUp (tells : Bool) (keeper : DiskState) (notary : NotaryState) : Type 0 where
+  pub list : IsTrue tells → Lists notary.entries keeper.bytes.seen
+  pub faults : notary.faults ≡ keeper.faults
+
+-- what a crash may leave of the disk has the notary's list, or that and one entry whose stamp failed
+pub record IsLeftBy (tells : Bool) (notary : NotaryState) (keeper : DiskState) : Type 0 where
+  pub half : Option (List ℕ)
+  pub images : IsTrue tells → (image : List ℕ) → MayLeave keeper.bytes image → MayList notary.entries half image
+  pub faults : keeper.faults ≡ notary.faults
+
+-- what a crash may leave of the disk has the list of something that a crash might have left before
+abbrev pub IsLeftListed : Bool → DiskState → DiskState → Type 0
+IsLeftListed tells before after = IsTrue tells → (image : List ℕ) → MayLeave after.bytes image → KeepsList before.bytes image
+
+-- ---- runs
+
+-- a run with a new notary in memory
+pub record RanInMemory (scheme : Scheme) (tells : Bool) (words : Option Command) (status : ℕ) (before after_all : Given) : Type 0 where
+  pub notary : NotaryState
+  pub ran : RanProgram scheme tells words status (with_notary before new_notary) (with_notary after_all notary)
+  pub keeper_is : after_all.keeper ≡ before.keeper
+
+-- a run with the notary that the disk keeps
+pub record RanOnKeeper (scheme : Scheme) (tells keeps : Bool) (words : Option Command) (status : ℕ) (before after_all : Given) : Type 0 where
+  pub first : NotaryState
+  pub last : NotaryState
+  pub taken_up : IsTakenUp keeps before.keeper first
+  pub left : IsLeftBy keeps last after_all.keeper
+  pub ran : RanProgram scheme tells words status (with_notary before first) (with_notary after_all last)
+
+-- a run that wasn't begun: nothing is read, and the ledger's disks aren't touched; this is its last line
+pub record IsUnbegun (line : List ℕ) (before after_all : Given) : Type 0 where
+  pub unread : after_all.source ≡ before.source
+  pub untouched : after_all.disks ≡ before.disks
+  pub last : WritesLast line before.sink after_all.sink
+
+-- for want of a seed of salts
+pub record WantsSeed (status : ℕ) (before after_all : Given) : Type 0 where
+  pub unbegun : IsUnbegun (codes "fail 2 seed\n") before after_all
+  pub status_is : status ≡ 2
+  pub keeper_is : after_all.keeper ≡ before.keeper
+
+-- for want of memory
+pub record WantsMemory (keeps : Bool) (words : Option Command) (status : ℕ) (before after_all : Given) : Type 0 where
+  pub unbegun : IsUnbegun (last_line (Run run.NoMemory)) before after_all
+  pub status_is : status ≡ 6
+  pub words_are : IsSome words
+  pub listed : IsLeftListed keeps before.keeper after_all.keeper
+  pub faults : after_all.keeper.faults ≡ before.keeper.faults
+
+-- since the notary's disk failed
+pub record KeeperFailed (keeps : Bool) (status : ℕ) (before after_all : Given) : Type 0 where
+  pub unbegun : IsUnbegun (last_line DiskFault) before after_all
+  pub status_is : status ≡ 4
+  pub listed : IsLeftListed keeps before.keeper after_all.keeper
+  pub faults : after_all.keeper.faults ≡ count_after before.keeper.faults
+
+-- By whether the words name a folder, and whether there is a seed of salts. Only a folder has a notary that is kept.
+abbrev pub RanWith : Scheme → Bool → Bool → Option Command → Bool → Option Digest → ℕ → Given → Given → Type 0
+RanWith scheme tells keeps words false seed status before after_all =
+    RanInMemory scheme tells words status before after_all ⊎ WantsMemory keeps words status before after_all
+RanWith scheme tells keeps words true None status before after_all =
+    WantsSeed status before after_all ⊎ WantsMemory keeps words status before after_all
+RanWith scheme tells keeps words true (Some seed) status before after_all =
+    RanOnKeeper scheme tells keeps words status before after_all
+    ⊎ (KeeperFailed keeps status before after_all ⊎ WantsMemory keeps words status before after_all)
+
+abbrev pub RanMain : Scheme → Bool → Bool → Option Command → Option Digest → ℕ → Given → Given → Type 0
+RanMain scheme tells keeps words seed status before after_all =
+    RanWith scheme tells keeps words (names_folder words) seed status before after_all
