@@ -15,6 +15,7 @@ use ledger_io::{MemSink, Sink};
 use ledger_model::{Genesis, Limits};
 use ledger_open::{OpenErr, init, reopen};
 use member_book::tag_proof;
+use notary_ledger::MemNotary;
 use sha2::{Digest as Hasher, Sha256};
 use std::alloc::Global;
 use std::marker::Model;
@@ -193,13 +194,14 @@ fn job_of(alloc: Global, id: &Digest, ask: Ask) -> Result<Job, NoMemory>
     }
 }
 
-/// A committer with its disks and its sink, which meet what the next call asks for.
+/// A committer with its disks, its sink and a notary, which meet what the next call asks for.
 #[derive(Drop)]
 struct Bench<D: Disk + Drop, K: Sink + Drop> {
     committer: Committer,
     a: D,
     b: D,
     sink: K,
+    notary: MemNotary,
 }
 
 impl<D: Disk + Drop, K: Sink + Drop> Model for Bench<D, K> {
@@ -230,6 +232,7 @@ impl<D: Disk + Drop, K: Sink + Drop> Bench<D, K> {
                 a,
                 b,
                 sink,
+                notary: MemNotary::new(alloc, Vec::new(alloc)),
             }),
             Err(e) => Err(e),
         }
@@ -257,8 +260,13 @@ impl<D: Disk + Drop, K: Sink + Drop> Bench<D, K> {
             index,
             job,
         };
-        self.committer
-            .offer(&mut self.a, &mut self.b, &mut self.sink, item)
+        self.committer.offer(
+            &mut self.a,
+            &mut self.b,
+            &mut self.sink,
+            &mut self.notary,
+            item,
+        )
     }
 
     fn flush(&mut self) -> Result<(), End> {

@@ -1,22 +1,10 @@
-//! What no contract says of the crates between a line and the files: printed text, faults in mid-stream, and a call of each
-//! on its happy path.
+//! What no contract says of the book, the committer and the opening of a ledger: printed text, faults in mid-stream, and a
+//! call of each on its happy path.
 #![tactic(auto)]
 
 #[cfg(test)]
 mod books;
 #[cfg(test)]
-mod clues;
-#[cfg(test)]
 mod committing;
 #[cfg(test)]
-mod lanes;
-#[cfg(test)]
-mod line_fields;
-#[cfg(test)]
-mod members;
-#[cfg(test)]
 mod opening;
-#[cfg(test)]
-mod replies;
-#[cfg(test)]
-mod verbs;

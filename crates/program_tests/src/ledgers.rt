@@ -7,6 +7,7 @@ use ledger_cli::ledger_top;
 use ledger_disk::{Disk, MemDisk};
 use ledger_io::{MemSink, MemSource};
 use member_book::TagScheme;
+use notary_ledger::MemNotary;
 use std::alloc::Global;
 use std::sync::Wait;
 use std::test::Fail;
@@ -14,6 +15,7 @@ use std::thread::Threads;
 
 mod disks;
 mod lanes;
+mod notaries;
 mod words;
 
 // The keys of the operator and the regulator of a ledger for trial: 32 bytes 1, and 32 bytes 2.
@@ -108,6 +110,7 @@ fn run_on<R: Threads + Wait + Sync, D: Disk>(
     let script = Bytes::copy_of(alloc, script)?;
     let mut source = MemSource::new(script, [faults.read].to_vec(alloc)?);
     let mut sink = MemSink::new(alloc, faults.room, [faults.write].to_vec(alloc)?)?;
+    let mut notary = MemNotary::new(alloc, Vec::new(alloc));
     let status = ledger_top(
         rt,
         alloc,
@@ -116,6 +119,7 @@ fn run_on<R: Threads + Wait + Sync, D: Disk>(
         &mut sink,
         a,
         b,
+        &mut notary,
         &TagScheme,
         &OpenGate,
     );

@@ -9,6 +9,7 @@ use ledger_cli::ledger_top;
 use ledger_disk::{Disk, MemDisk};
 use ledger_io::{MemSink, MemSource};
 use member_book::TagScheme;
+use notary_ledger::MemNotary;
 use std::alloc::Global;
 use std::sync::Wait;
 use std::thread::Threads;
@@ -26,6 +27,7 @@ pub(crate) fn run<R: Threads + Wait + Sync>(rt: &R, alloc: Global, row: &Row) ->
     let script = Bytes::copy_of(alloc, &row.script)?;
     let mut source = MemSource::new(script, Vec::new(alloc));
     let mut sink = MemSink::new(alloc, OUTPUT_ROOM, Vec::new(alloc))?;
+    let mut notary = MemNotary::new(alloc, Vec::new(alloc));
     let words = row.words.as_slice();
     let status = match row.program {
         Program::Ledger => ledger_top(
@@ -36,6 +38,7 @@ pub(crate) fn run<R: Threads + Wait + Sync>(rt: &R, alloc: Global, row: &Row) ->
             &mut sink,
             &mut a,
             &mut b,
+            &mut notary,
             &TagScheme,
             &OpenGate,
         ),

@@ -24,9 +24,18 @@ fn run_demo<R: Threads + Wait + Sync, S: Source, K: Sink, G: Gate>(
     let words = words.as_slice();
     let mut a = MemDisk::new(alloc, DISK_ROOM, Vec::new(alloc))?;
     let mut b = MemDisk::new(alloc, DISK_ROOM, Vec::new(alloc))?;
-    let verifier = &TagScheme;
+    let mut notary = MemNotary::new(alloc, Vec::new(alloc));
     Ok(ledger_top(
-        rt, alloc, words, source, sink, &mut a, &mut b, verifier, gate,
+        rt,
+        alloc,
+        words,
+        source,
+        sink,
+        &mut a,
+        &mut b,
+        &mut notary,
+        &TagScheme,
+        gate,
     ))
 }
 

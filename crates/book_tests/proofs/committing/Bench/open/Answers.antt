@@ -20,9 +20,9 @@ invariant_of-result g c =
     let generation = generation_in opened.twin in
     let kept = c.new.ensures.kept ∙ ap (first_kept opened.book opened.places.list place in_a generation) e.copy in
     let known = known_from opened.book opened.places.list place in
-    let is : IsOpened known in_a (pair a b) e.ok.0 = record { knows = e.ok.1; told = told_at in_a a b place e.told } in
+    let is : IsOpened known in_a (pair a b) e.ok.0 e.ok.1 = record { knows = e.ok.2; told = told_at in_a a b place e.told } in
     λ _. (
       fits_at g.D.Disk.tells _ _ kept (pair a b) sink
-          (opened_fits g.D.Disk.tells known in_a generation e.ok.0 (g.D.Disk.state c.args.a).bytes (g.D.Disk.state c.args.b).bytes (pair a b) sink is e.ok.2 e.generation),
-      subst HasRoom (sym kept) (opened_room known in_a generation e.ok.0 (pair a b) is),
+          (opened_fits g.D.Disk.tells known in_a generation e.ok.0 e.ok.1 (g.D.Disk.state c.args.a).bytes (g.D.Disk.state c.args.b).bytes (pair a b) sink is e.ok.3 e.generation),
+      subst HasRoom (sym kept) (opened_room known in_a generation e.ok.0 e.ok.1 (pair a b) is),
     )

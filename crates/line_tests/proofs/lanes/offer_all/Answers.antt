@@ -1,7 +1,7 @@
 use Rattle.std.proofs.Common.{arith, vec_items}
 use Rattle.lane_work.proofs.Lines.{lines_short}
 use Rattle.lane_work.proofs.Setting.{long_vec}
-use Rattle.book_tests.proofs.lanes.offer_all.Goals as goal
+use Rattle.line_tests.proofs.lanes.offer_all.Goals as goal
 
 pub run_lanes-requires-clause-numbers : goal.run_lanes-requires-clause-numbers
 run_lanes-requires-clause-numbers g c κs within k low =

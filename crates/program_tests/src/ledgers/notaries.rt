@@ -1,0 +1,132 @@
+//! A notary that fails, and the notary of a folder: its times, and what is answered where it can't be taken up.
+
+use super::*;
+use ledger_bytes::Digest;
+use ledger_cli::ledger_main;
+use ledger_disk::FuseDisk;
+use notary_ledger::ListClock;
+
+// What two anchors are answered where the first stamp fails.
+const FAILED_FIRST: &str = "0.1 no 27\n0.2 ok 1 \
+    87bf027bc348bc6c62bc73f78ef0e66f559d6c12d0a19cefb58272252edad4a5 1 2 \
+    99fd4a459333f63d07c6fb120abb4290c10715e5138887ec2f1b89a752ff10b4 0 1000\n";
+
+const SEED: Digest = Digest([7; 32]);
+
+// The stamps of three anchors and of a later one, and what is told where the notary can't be taken up.
+const FIRST: &str = "0 5000 1 5000 2 7000 ";
+
+const SECOND: &str = "3 7000 ";
+
+const NO_SEED: &str = "fail 2 seed\n";
+
+const NO_DISK: &str = "fail 4 disk\n";
+
+/// What `dry` answers to two anchors, where the first stamp fails.
+fn failed_first<R: Threads + Wait + Sync>(rt: &R, alloc: Global) -> Result<Vec<u8>, NoMemory> {
+    let mut a = MemDisk::new(alloc, AMPLE, Vec::new(alloc))?;
+    let mut b = MemDisk::new(alloc, AMPLE, Vec::new(alloc))?;
+    let mut source = MemSource::new(
+        Bytes::copy_of(alloc, b"0 anchor\n0 anchor\n")?,
+        Vec::new(alloc),
+    );
+    let mut sink = MemSink::new(alloc, AMPLE, Vec::new(alloc))?;
+    ledger_top(
+        rt,
+        alloc,
+        &strings(alloc, &DEMO)?,
+        &mut source,
+        &mut sink,
+        &mut a,
+        &mut b,
+        &mut MemNotary::new(alloc, [0].to_vec(alloc)?),
+        &TagScheme,
+        &OpenGate,
+    );
+    Ok(sink.written_bytes().to_vec(alloc)?)
+}
+
+/// The status of a run on these disks with the notary that the third one keeps, and what it wrote.
+fn run_kept<R: Threads + Wait + Sync, E: Disk + Drop>(
+    rt: &R,
+    alloc: Global,
+    a: &mut MemDisk,
+    b: &mut MemDisk,
+    words: &[&str],
+    script: &[u8],
+    keeper: E,
+    seed: Option<Digest>,
+) -> Result<(u8, Vec<u8>, E), NoMemory> {
+    let mut source = MemSource::new(Bytes::copy_of(alloc, script)?, Vec::new(alloc));
+    let mut sink = MemSink::new(alloc, AMPLE, Vec::new(alloc))?;
+    let (status, keeper) = ledger_main(
+        rt,
+        alloc,
+        &strings(alloc, words)?,
+        &mut source,
+        &mut sink,
+        a,
+        b,
+        keeper,
+        ListClock::new([5000, 4000, 7000].to_vec(alloc)?),
+        seed,
+        &TagScheme,
+        &OpenGate,
+    );
+    Ok((status, sink.written_bytes().to_vec(alloc)?, keeper))
+}
+
+/// The last two words of each line: where its entry stands in the notary's list, and the time.
+fn stamps(alloc: Global, replies: &[u8]) -> Result<Vec<u8>, NoMemory> {
+    let mut stamps = Vec::new(alloc);
+    for line in replies.split(|byte| *byte == b'\n') {
+        for word in line.split(|byte| *byte == b' ').skip(7) {
+            stamps.extend_from_slice(word)?;
+            stamps.push(b' ')?;
+        }
+    }
+    Ok(stamps)
+}
+
+#[test]
+fn answers_where_a_stamp_failed(rt: HostRuntime) -> Result<(), Fail> {
+    let written = failed_first(&rt, rt.alloc())?;
+    assert!(rt; written.as_slice() == FAILED_FIRST.as_bytes());
+    Ok(())
+}
+
+// Times never fall, and a later run goes on behind the entries of an earlier one.
+#[test]
+fn goes_on_with_the_notary_of_a_folder(rt: HostRuntime) -> Result<(), Fail> {
+    let alloc = rt.alloc();
+    let mut a = MemDisk::new(alloc, AMPLE, Vec::new(alloc))?;
+    let mut b = MemDisk::new(alloc, AMPLE, Vec::new(alloc))?;
+    let keeper = MemDisk::new(alloc, AMPLE, Vec::new(alloc))?;
+    let seed = Some(SEED);
+    let (made, told, keeper) = run_kept(&rt, alloc, &mut a, &mut b, &INIT, b"", keeper, seed)?;
+    let script = b"0 anchor\n0 anchor\n0 anchor\n";
+    let (first, replies, keeper) = run_kept(
+        &rt, alloc, &mut a, &mut b, &RUN, script, keeper, seed,
+    )?;
+    let (second, more, keeper) = run_kept(
+        &rt,
+        alloc,
+        &mut a,
+        &mut b,
+        &RUN,
+        b"0 anchor",
+        keeper,
+        seed,
+    )?;
+    assert!(rt; (made, first, second) == (0, 0, 0) && told.as_slice() == TOLD.as_bytes());
+    assert!(rt; stamps(alloc, &replies)?.as_slice() == FIRST.as_bytes());
+    assert!(rt; stamps(alloc, &more)?.as_slice() == SECOND.as_bytes());
+    let (status, written, keeper) = run_kept(
+        &rt, alloc, &mut a, &mut b, &RUN, b"0 head", keeper, None,
+    )?;
+    assert!(rt; status == 2 && written.as_slice() == NO_SEED.as_bytes());
+    let keeper = FuseDisk::new(keeper, 0);
+    let (status, written, _) = run_kept(&rt, alloc, &mut a, &mut b, &RUN, b"0 head", keeper, seed)?;
+    assert!(rt; status == 4 && written.as_slice() == NO_DISK.as_bytes());
+    Ok(())
+}
