@@ -53,6 +53,27 @@ def receipts_in(printed):
     return found
 
 
+# The times of the time journals of whole receipts, by the places of their entries in the notary's list.
+def stamps_in(printed):
+    found = {}
+    for line in printed.split(b"\n")[:-1]:
+        words = line.split(b" ")
+        if len(words) == 9 and words[1] == b"ok":
+            found[int(words[7])] = int(words[8])
+    return found
+
+
+# How many of these entries the notary's file doesn't have, or has with another time.
+def missing_entries(folder, stamps):
+    with open(os.path.join(folder, "notary"), "rb") as file:
+        slots = file.read()
+    lost = 0
+    for place, time in stamps.items():
+        slot = slots[73 * place : 73 * place + 74]
+        lost += len(slot) < 74 or slot[0] != 1 or int.from_bytes(slot[1:9], "big") != time
+    return lost
+
+
 # How many of these journals aren't there, or have another leaf digest; all where the ledger doesn't open.
 def missing(program, folder, receipts):
     numbers = sorted(receipts)

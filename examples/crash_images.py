@@ -6,10 +6,10 @@ output, there have to be, on the receipt's file and in this order: the write of 
 a sync. The gate was shut until then, and the folder was synced after each file was opened. The first run is on the new
 ledger, the second on one with the rest of a commit that was cut off, which is trimmed when it is opened.
 
-Then crash images are made. A moment is drawn, the two files have what was synced by then, and each later write or cut took
-place whole, in part or not at all: a front of it, some of its sectors, or any bytes in its range. The program opens each pair,
-and each receipt of which a byte was written before that moment is looked for by `get`. While `init` runs both files may still
-be shut, until its line is written.
+Then crash images are made. A moment is drawn, the three files have what was synced by then, and each later write or cut took
+place whole, in part or not at all: a front of it, some of its sectors, or any bytes in its range. The program opens each image,
+and each receipt of which a byte was written before that moment is looked for by `get`, and for a time journal the entry that it
+names in the notary's file. While `init` runs both files of the ledger may still be shut, until its line is written.
 
 Prints what it saw, and ends with 1 where an order is broken, a receipt is missing or a pair doesn't open. That it can fail is
 shown by --drop, which takes calls out of the trace, as if the program hadn't made them: `syncs` all syncs of the files,
@@ -25,10 +25,10 @@ import tempfile
 from concurrent.futures import ThreadPoolExecutor
 from dataclasses import dataclass, field
 
-from common import OPERATOR, REGULATOR, built_program, leaf_of, made_ledger, receipts_in, record, run_script, words_of
+from common import OPERATOR, REGULATOR, built_program, leaf_of, made_ledger, missing_entries, receipts_in, record, run_script, stamps_in, words_of
 
 CALLS = "openat,close,write,pwrite64,writev,pwritev,fsync,fdatasync,ftruncate,dup,dup2,dup3,rename,unlink"
-FILES = ("ledger.a", "ledger.b")
+FILES = ("ledger.a", "ledger.b", "notary")
 DROPS = ("syncs", "block-sync", "gate-sync", "folder-sync")
 SECTOR = 512
 
@@ -43,13 +43,15 @@ class Call:
     data: bytes = b""
 
 
-# What was traced of one command: the files before it, its calls, what it was to keep, and what it printed.
+# What was traced of one command: the files before it, its calls, the receipts and stamps that it was to keep, and what it
+# printed.
 @dataclass
 class Trace:
     name: str
     before: dict
     calls: list
     kept: dict
+    kept_stamps: dict
     printed: list = field(default_factory=list)
 
 
@@ -79,14 +81,14 @@ def main():
 # as a crash in its commit may leave it: whole behind a gate that is shut.
 def traced_runs(program, folder, blocks, chance):
     os.mkdir(folder)
-    first = traced(program, "init", folder, ["init", folder, "demo", OPERATOR, REGULATOR], b"", {})
+    first = traced(program, "init", folder, ["init", folder, "demo", OPERATOR, REGULATOR], b"", {}, {})
     lines = [record(program, made_ledger(program, tempfile.mkdtemp(dir=folder)), "5a" * n) for n in (1, 40, 1500)]
-    second = traced(program, "run", folder, ["run", folder], script_of(blocks, lines, chance), {})
-    receipts = receipts_in(b"".join(second.printed))
+    second = traced(program, "run", folder, ["run", folder], script_of(blocks, lines, chance), {}, {})
+    receipts, stamps = receipts_in(b"".join(second.printed)), stamps_in(b"".join(second.printed))
     last = max(receipts)
     cut_off(os.path.join(folder, FILES[0]))
     kept = {number: leaf for number, leaf in receipts.items() if block_of(second, number) != block_of(second, last)}
-    third = traced(program, "run on a cut commit", folder, ["run", folder], script_of(blocks, lines, chance), kept)
+    third = traced(program, "run on a cut commit", folder, ["run", folder], script_of(blocks, lines, chance), kept, stamps)
     for trace in (first, second, third):
         count = len(receipts_in(b"".join(trace.printed)))
         writes = sum(call.kind == "write" for call in trace.calls)
@@ -95,9 +97,10 @@ def traced_runs(program, folder, blocks, chance):
     return [first, second, third]
 
 
-# Lines that append, and a line that asks and so ends the block.
+# Lines that append, and a line that asks or anchors and so ends the block.
 def script_of(blocks, lines, chance):
-    return b"".join(chance.choice(lines) * chance.randint(1, 5) + b"0 head\n" for _ in range(blocks))
+    ends = (b"0 head\n", b"0 anchor\n")
+    return b"".join(chance.choice(lines) * chance.randint(1, 5) + chance.choice(ends) for _ in range(blocks))
 
 
 # The number of the block of a journal, by its receipt.
@@ -135,7 +138,7 @@ def blocks_in(content):
 
 
 # Runs a command under strace.
-def traced(program, name, folder, words, script, kept):
+def traced(program, name, folder, words, script, kept, kept_stamps):
     before = contents(folder)
     log = os.path.join(folder, "trace")
     command = ["strace", "-f", "-xx", "-s", "4194304", "-e", f"trace={CALLS}", "-o", log, program, *words]
@@ -145,7 +148,7 @@ def traced(program, name, folder, words, script, kept):
     with open(log) as file:
         calls = calls_of(joined(file), folder)
     os.remove(log)
-    trace = Trace(name, before, calls, kept, [call.data for call in calls if call.kind == "out"])
+    trace = Trace(name, before, calls, kept, kept_stamps, [call.data for call in calls if call.kind == "out"])
     if b"".join(trace.printed) != ran.stdout:
         sys.exit(f"{name}: the trace doesn't have what was printed")
     return trace
@@ -362,8 +365,10 @@ def partly(content, call, chance):
 def open_image(program, folder, trace, moment):
     printed = b"".join(call.data for call in trace.calls[:moment] if call.kind == "out")
     receipts = {**trace.kept, **receipts_in(printed)}
+    stamps = {**trace.kept_stamps, **stamps_in(printed)}
     numbers = sorted(receipts)
     ran = run_script(program, folder, b"0 head\n" + b"".join(b"0 get %d\n" % number for number in numbers))
+    entries = missing_entries(folder, stamps)
     shutil.rmtree(folder)
     where = f"{trace.name}, a crash after {moment} of {len(trace.calls)} calls"
     if trace.name == "init" and not printed and ran.stdout == b"fail 8 empty\n":
@@ -372,6 +377,8 @@ def open_image(program, folder, trace, moment):
         return len(numbers), False, f"{where}: status {ran.returncode}, {ran.stdout[-120:]}"
     replies = ran.stdout.splitlines()[1:]
     lost = [number for number, reply in zip(numbers, replies) if leaf_of(reply) != receipts[number]]
+    if entries:
+        return len(numbers), False, f"{where}: {entries} entries of the notary are lost"
     return len(numbers), False, f"{where}: the journals {lost[:5]} are lost" if lost or len(replies) != len(numbers) else None
 
 
