@@ -9,11 +9,11 @@ use Rattle.hex.proofs.HexLemmas.{decode_of-ok}
 use Rattle.ledger_bytes.specs.declared.limits.TheConstants.{CONTENT_LIMIT, NAME_LIMIT, PROOF_LIMIT}
 use Rattle.ledger_bytes.specs.declared.refusal.Refusal.{Refusal}
 use Rattle.script_lines.specs.Fields.{Left, fields_of, read_or_bad, field_from, field_at, end_from, end_at}
-use Rattle.script_lines.specs.Grammar.{◌>>=◌, append_at, member_at, anchor_at, get_at, clue_at, head_at, verb_at, asked_by, lane_of, spoken_by, spoken_at, spoken_line}
+use Rattle.script_lines.specs.Grammar.{◌>>=◌, append_at, member_at, anchor_at, get_at, prove_at, extend_at, clue_at, head_at, verb_at, asked_by, lane_of, spoken_by, spoken_at, spoken_line}
 use Rattle.script_lines.specs.Limits.{fits_line, is_of_form, fits_what}
-use Rattle.script_lines.specs.Spellings.{text_of, number_of, bytes_of, digest_of, clue_of, name_of, is_dash}
+use Rattle.script_lines.specs.Spellings.{text_of, number_of, bytes_of, digest_of, clue_of, name_of, which_of, is_dash}
 use Rattle.script_lines.specs.declared.line.Line.{Line}
-use Rattle.script_lines.specs.declared.line.Line.TheVariants.{Append, NewMember, Anchor, Get, Clue, Head}
+use Rattle.script_lines.specs.declared.line.Line.TheVariants.{Append, NewMember, Anchor, Get, Prove, Extend, Clue, Head}
 
 -- what a field reads as keeps to a rule, or the refusal is one of a line's form
 abbrev Gives : {A : Type 0} → (A → Type 0) → Result (A × Left) Refusal → Type 0
@@ -108,6 +108,19 @@ get_fits fields =
     then_fits Any _ _ (field_gives Any (number_of (2 ^ 64 - 1)) fields (λ text x is. tt)) (λ n m.
     end_fits n.1 (Get n.0) refl)
 
+prove_fits : (fields : Left) → fits_what (prove_at fields) ≡ true
+unfolding prove_at
+prove_fits fields =
+    then_fits Any _ _ (field_gives Any (number_of (2 ^ 64 - 1)) fields (λ text x is. tt)) (λ n m.
+    end_fits n.1 (Prove n.0) refl)
+
+extend_fits : (fields : Left) → fits_what (extend_at fields) ≡ true
+unfolding extend_at
+extend_fits fields =
+    then_fits Any _ _ (field_gives Any which_of fields (λ text x is. tt)) (λ which w.
+    then_fits Any _ _ (field_gives Any (number_of (2 ^ 64 - 1)) which.1 (λ text x is. tt)) (λ m k.
+    end_fits m.1 (Extend which.0 m.0) refl))
+
 clue_fits : (fields : Left) → fits_what (clue_at fields) ≡ true
 unfolding clue_at
 clue_fits fields =
@@ -129,8 +142,10 @@ verb_fits verb fields =
     (either_fits (bytes_eq verb (codes "member")) _ _ (member_fits fields)
     (either_fits (bytes_eq verb (codes "anchor")) _ _ (anchor_fits fields)
     (either_fits (bytes_eq verb (codes "get")) _ _ (get_fits fields)
+    (either_fits (bytes_eq verb (codes "prove")) _ _ (prove_fits fields)
+    (either_fits (bytes_eq verb (codes "extend")) _ _ (extend_fits fields)
     (either_fits (bytes_eq verb (codes "clue")) _ _ (clue_fits fields)
-    (either_fits (bytes_eq verb (codes "head")) _ _ (head_fits fields) refl)))))
+    (either_fits (bytes_eq verb (codes "head")) _ _ (head_fits fields) refl)))))))
 
 asked_fits : (verb : Result (List ℕ × Left) Refusal) → fits_what (asked_by verb) ≡ true
 asked_fits (Ok verb) = verb_fits verb.0 verb.1

@@ -28,8 +28,8 @@ word_unbroken [] x = tt
 word_unbroken (b ∷ bs) x = (x.1, word_unbroken bs x.2)
 
 -- the first word of a line
-first_word : (lane index : ℕ) → lane < 2 ^ 64 → index < 2 ^ 64 → IsWord (decimal lane ++ codes "." ++ decimal index)
-first_word lane index ll ii = word_more (decimal lane ++ codes ".") (decimal index) (word_more (decimal lane) (codes ".") (decimal_word lane ll) (literal (codes ".") refl)) (decimal_word index ii)
+first_word : (lane index : ℕ) → IsWord (decimal lane ++ codes "." ++ decimal index)
+first_word lane index = word_more (decimal lane ++ codes ".") (decimal index) (word_more (decimal lane) (codes ".") (decimal_word lane) (literal (codes ".") refl)) (decimal_word index)
 
 -- a word before a space
 words_same : (a b c : List ℕ) (ws : List (List ℕ)) → IsWord a → IsWord b → a ++ 32 ∷ c ≡ b ++ spaced_words ws → (a ≡ b) × (32 ∷ c ≡ spaced_words ws)
@@ -45,8 +45,8 @@ spaced_unbroken : (ws : List (List ℕ)) → AreWords ws → IsUnbroken (spaced_
 spaced_unbroken [] a = tt
 spaced_unbroken (w ∷ ws) a = (λ is. cc, unbroken_more w (spaced_words ws) (word_unbroken w a.0) (spaced_unbroken ws a.1))
 
-line_unbroken : (t : Told) → FitsReply t → IsUnbroken (reply_line t.lane t.index t.reply)
-line_unbroken t f = unbroken_more (decimal t.lane ++ codes "." ++ decimal t.index) (spaced_words (reply_words t.reply)) (word_unbroken (decimal t.lane ++ codes "." ++ decimal t.index) (first_word t.lane t.index f.lane f.index)) (spaced_unbroken (reply_words t.reply) (reply_are t.reply f.reply))
+line_unbroken : (t : Told) → IsUnbroken (reply_line t.lane t.index t.reply)
+line_unbroken t = unbroken_more (decimal t.lane ++ codes "." ++ decimal t.index) (spaced_words (reply_words t.reply)) (word_unbroken (decimal t.lane ++ codes "." ++ decimal t.index) (first_word t.lane t.index)) (spaced_unbroken (reply_words t.reply) (reply_are t.reply))
 
 lines_line : (l begun rest : List ℕ) → IsUnbroken l → lines_after begun (l ++ 10 ∷ rest) ≡ (begun ++ l) ∷ lines_after [] rest
 lines_line [] begun rest u = ap (λ (m : List ℕ). m ∷ lines_after [] rest) (sym (append-nil begun))
@@ -72,7 +72,7 @@ module _ (P : ℕ → Digest → Type 0) (lane index jsn : ℕ) (leaf : Digest) 
 
   -- its words behind the first
   behind_first : (t : Told) → FitsReply t → reply_line t.lane t.index t.reply ≡ line → spaced_words (reply_words receipt) ≡ spaced_words (reply_words t.reply)
-  behind_first t f is = (words_same (decimal lane ++ codes "." ++ decimal index) (decimal t.lane ++ codes "." ++ decimal t.index) (codes "ok" ++ spaced_words (decimal jsn ∷ hex_of leaf ∷ decimal block ∷ decimal size ∷ hex_of root ∷ stamp_words stamp)) (reply_words t.reply) (first_word lane index ll ii) (first_word t.lane t.index f.lane f.index) (sym is)).1
+  behind_first t f is = (words_same (decimal lane ++ codes "." ++ decimal index) (decimal t.lane ++ codes "." ++ decimal t.index) (codes "ok" ++ spaced_words (decimal jsn ∷ hex_of leaf ∷ decimal block ∷ decimal size ∷ hex_of root ∷ stamp_words stamp)) (reply_words t.reply) (first_word lane index) (first_word t.lane t.index) (sym is)).1
 
   ok_word : IsWord (codes "ok")
   ok_word = literal (codes "ok") refl
@@ -84,7 +84,7 @@ module _ (P : ℕ → Digest → Type 0) (lane index jsn : ℕ) (leaf : Digest) 
   placed_same : (j : ℕ) (l : Digest) (ws : List (List ℕ)) → P j l → (j < 2 ^ 64) × IsBytes l.0 → spaced_words (reply_words receipt) ≡ spaced_words (codes "ok" ∷ decimal j ∷ hex_of l ∷ ws) → P jsn leaf
   placed_same j l ws p fits is =
       let one = words_same (codes "ok") (codes "ok") (decimal jsn ++ spaced_words (hex_of leaf ∷ decimal block ∷ decimal size ∷ hex_of root ∷ stamp_words stamp)) (decimal j ∷ hex_of l ∷ ws) ok_word ok_word (ap (λ (l : List ℕ). drop 1 l) is) in
-      let two = words_same (decimal jsn) (decimal j) (hex_of leaf ++ spaced_words (decimal block ∷ decimal size ∷ hex_of root ∷ stamp_words stamp)) (hex_of l ∷ ws) (decimal_word jsn jj) (decimal_word j fits.0) (ap (λ (l : List ℕ). drop 1 l) one.1) in
+      let two = words_same (decimal jsn) (decimal j) (hex_of leaf ++ spaced_words (decimal block ∷ decimal size ∷ hex_of root ∷ stamp_words stamp)) (hex_of l ∷ ws) (decimal_word jsn) (decimal_word j) (ap (λ (l : List ℕ). drop 1 l) one.1) in
       let three = words_same (encode_lower leaf.0) (encode_lower l.0) (decimal block ++ spaced_words (decimal size ∷ hex_of root ∷ stamp_words stamp)) ws (hex_word leaf.0) (hex_word l.0) (ap (λ (l : List ℕ). drop 1 l) two.1) in
       let number : j ≡ jsn = sym (decimal_injective jsn j jj fits.0 two.0) in
       let same : l.0 ≡ leaf.0 = sym (decode_of-same (encode_lower leaf.0) leaf.0 l.0 (decode_of-encode_lower leaf.0 bytes) (ap decode_of three.0 ∙ decode_of-encode_lower l.0 fits.1)) in
@@ -109,10 +109,10 @@ module _ (P : ℕ → Digest → Type 0) (lane index jsn : ℕ) (leaf : Digest) 
     parted : whole_lines (told_text (t ∷ ts) ++ tail) ≡ reply_line t.lane t.index t.reply ∷ whole_lines (told_text ts ++ tail)
     parted =
         ap (λ (l : List ℕ). lines_after [] l) (append_assoc (reply_line t.lane t.index t.reply ++ codes "\n") (told_text ts) tail ∙ append_assoc (reply_line t.lane t.index t.reply) (codes "\n") (told_text ts ++ tail))
-        ∙ lines_line (reply_line t.lane t.index t.reply) [] (told_text ts ++ tail) (line_unbroken t f.0)
+        ∙ lines_line (reply_line t.lane t.index t.reply) [] (told_text ts ++ tail) (line_unbroken t)
 
     pick : (IsAmong (whole_lines (told_text ts ++ tail)) line → P jsn leaf) → IsAmong (reply_line t.lane t.index t.reply ∷ whole_lines (told_text ts ++ tail)) line → P jsn leaf
-    pick go (inl same) = by_reply t.reply e.0 f.0.reply (behind_first t f.0 same) (reply_are t.reply f.0.reply)
+    pick go (inl same) = by_reply t.reply e.0 f.0.reply (behind_first t f.0 same) (reply_are t.reply)
     pick go (inr more) = go more
 
 -- Where replies were written, and then maybe a tail in which no line is a receipt: each whole line that is a receipt is one of the replies', so what is said of each of their receipts is true of it.

@@ -17,13 +17,15 @@ use Rattle.ledger_bytes.specs.Digests.{digest}
 use Rattle.ledger_bytes.specs.declared.digest.Digest.{Digest}
 use Rattle.ledger_bytes.specs.declared.refusal.Refusal.{Refusal}
 use Rattle.script_lines.specs.Fields.{field_at}
-use Rattle.script_lines.specs.Grammar.{append_at, member_at, anchor_at, get_at, clue_at, head_at, spoken_line, spoken_at}
+use Rattle.script_lines.specs.Grammar.{append_at, member_at, anchor_at, get_at, prove_at, extend_at, clue_at, head_at, spoken_line, spoken_at}
 use Rattle.script_lines.specs.Parts.{parts}
 use Rattle.script_lines.specs.Sayings.{clue_text, line_words, line_text, IsOneField, IsName, IsClue, IsShort, IsSayable}
 use Rattle.script_lines.specs.Spellings.{text_of, number_of, bytes_of, digest_of, clue_of, name_of, is_dash}
-use Rattle.script_lines.specs.Words.{hex_of, hex_or_dash, spaced_words}
+use Rattle.script_lines.specs.Words.{hex_of, hex_or_dash, spaced_words, which_text}
 use Rattle.script_lines.specs.declared.line.Line.{Line}
-use Rattle.script_lines.specs.declared.line.Line.TheVariants.{Append, NewMember, Anchor, Get, Clue, Head}
+use Rattle.script_lines.specs.declared.line.Line.TheVariants.{Append, NewMember, Anchor, Get, Prove, Extend, Clue, Head}
+use Rattle.script_lines.specs.declared.said.Which.{Which}
+use Rattle.script_lines.specs.declared.said.Which.TheVariants.{Ledger, Notary}
 use Rattle.script_lines.proofs.Numbers.{number_of-decimal, numerals}
 
 -- no space stands in any of some words
@@ -135,6 +137,15 @@ get_at-words : (n : ℕ) → n < 2 ^ 64 → get_at (record { column = 3; fields 
 unfolding get_at
 get_at-words n small = rw (number_of-decimal (2 ^ 64 - 1) n (lit< tt) (omega arith)) refl
 
+prove_at-words : (n : ℕ) → n < 2 ^ 64 → prove_at (record { column = 3; fields = decimal n ∷ [] }) ≡ Ok (Prove n)
+unfolding prove_at
+prove_at-words n small = rw (number_of-decimal (2 ^ 64 - 1) n (lit< tt) (omega arith)) refl
+
+extend_at-words : (which : Which) (m : ℕ) → m < 2 ^ 64 → extend_at (record { column = 3; fields = which_text which ∷ decimal m ∷ [] }) ≡ Ok (Extend which m)
+unfolding extend_at
+extend_at-words Ledger m small = rw (number_of-decimal (2 ^ 64 - 1) m (lit< tt) (omega arith)) refl
+extend_at-words Notary m small = rw (number_of-decimal (2 ^ 64 - 1) m (lit< tt) (omega arith)) refl
+
 clue_at-words : (name : List ℕ) → IsClue name → clue_at (record { column = 3; fields = clue_text name ∷ [] }) ≡ Ok (Clue name)
 unfolding clue_at
 clue_at-words name is = rw (clue_of-text name is) refl
@@ -151,6 +162,10 @@ negated false passes = refl
 literal-whole : (word : List ℕ) → list_all (λ byte. not (byte == 32)) word ≡ true → IsOneField word
 literal-whole word each = All-weaker (λ c. not (c == 32) ≡ true) (λ byte. (byte == 32) ≡ false) (λ c passes. negated (c == 32) passes) word (AllPass-from_list_all (λ byte. not (byte == 32)) word each)
 
+which-whole : (which : Which) → IsOneField (which_text which)
+which-whole Ledger = literal-whole (codes "ledger") refl
+which-whole Notary = literal-whole (codes "notary") refl
+
 words-whole : (line : Line) → IsSayable line → AreFields (line_words line)
 words-whole (Append member clue content proof) is =
     (literal-whole (codes "append") refl, (decimal-whole member (omega arith), (clue-whole clue is.1, (hex-whole content is.2.1, (hex-whole proof is.3.1, tt)))))
@@ -158,6 +173,8 @@ words-whole (NewMember number key proof) is =
     (literal-whole (codes "member") refl, (decimal-whole number (omega arith), (digits-whole key.0 is.2, (hex-whole proof is.3.1, tt))))
 words-whole Anchor is = (literal-whole (codes "anchor") refl, tt)
 words-whole (Get n) is = (literal-whole (codes "get") refl, (decimal-whole n is, tt))
+words-whole (Prove n) is = (literal-whole (codes "prove") refl, (decimal-whole n is, tt))
+words-whole (Extend which m) is = (literal-whole (codes "extend") refl, (which-whole which, (decimal-whole m is, tt)))
 words-whole (Clue name) is = (literal-whole (codes "clue") refl, (clue-whole name is, tt))
 words-whole Head is = (literal-whole (codes "head") refl, tt)
 
@@ -170,6 +187,8 @@ said_by-words (Append member clue content proof) is = ap (λ (read : Result Line
 said_by-words (NewMember number key proof) is = ap (λ (read : Result Line Refusal). (0, read)) (member_at-words number key proof is)
 said_by-words Anchor is = ap (λ (read : Result Line Refusal). (0, read)) anchor_at-words
 said_by-words (Get n) is = ap (λ (read : Result Line Refusal). (0, read)) (get_at-words n is)
+said_by-words (Prove n) is = ap (λ (read : Result Line Refusal). (0, read)) (prove_at-words n is)
+said_by-words (Extend which m) is = ap (λ (read : Result Line Refusal). (0, read)) (extend_at-words which m is)
 said_by-words (Clue name) is = ap (λ (read : Result Line Refusal). (0, read)) (clue_at-words name is)
 said_by-words Head is = ap (λ (read : Result Line Refusal). (0, read)) head_at-words
 

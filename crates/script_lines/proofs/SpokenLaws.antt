@@ -6,11 +6,11 @@ use Rattle.std.proofs.lemmas.Bool.{and_parts, leb-true}
 use Rattle.ledger_bytes.specs.declared.limits.TheConstants.{CONTENT_LIMIT, PROOF_LIMIT}
 use Rattle.ledger_bytes.specs.declared.refusal.Refusal.{Refusal}
 use Rattle.script_lines.specs.Fields.{Left, fields_of, next_column, read_or_bad, field_from, field_at, end_from, end_at}
-use Rattle.script_lines.specs.Grammar.{◌>>=◌, append_at, member_at, anchor_at, get_at, clue_at, head_at, verb_at, asked_by, lane_of, spoken_by, spoken_at, spoken_line}
+use Rattle.script_lines.specs.Grammar.{◌>>=◌, append_at, member_at, anchor_at, get_at, prove_at, extend_at, clue_at, head_at, verb_at, asked_by, lane_of, spoken_by, spoken_at, spoken_line}
 use Rattle.script_lines.specs.Receipts.{Fits, RefusalFits}
-use Rattle.script_lines.specs.Spellings.{text_of, number_of, bytes_of, digest_of, clue_of, is_decimal, value_behind}
+use Rattle.script_lines.specs.Spellings.{text_of, number_of, bytes_of, digest_of, clue_of, which_of, is_decimal, value_behind}
 use Rattle.script_lines.specs.declared.line.Line.{Line}
-use Rattle.script_lines.specs.declared.line.Line.TheVariants.{Append, NewMember, Anchor, Get, Clue, Head}
+use Rattle.script_lines.specs.declared.line.Line.TheVariants.{Append, NewMember, Anchor, Get, Prove, Extend, Clue, Head}
 
 -- the numbers that a refusal of the line may tell
 abbrev pub LineFits : Line → Type 0
@@ -18,6 +18,8 @@ LineFits (Append member clue content proof) = Fits member
 LineFits (NewMember number key proof) = ⊤
 LineFits Anchor = ⊤
 LineFits (Get n) = ⊤
+LineFits (Prove n) = ⊤
+LineFits (Extend which m) = ⊤
 LineFits (Clue name) = ⊤
 LineFits Head = ⊤
 
@@ -93,6 +95,19 @@ get_fits fields here =
     then_fits Any _ _ (field_gives Any (number_of (2 ^ 64 - 1)) fields here (λ text x is. tt)) (λ n m a.
     end_fits n.1 (Get n.0) a tt)
 
+prove_fits : (fields : Left) → Fits fields.column → WhatFits (prove_at fields)
+unfolding prove_at
+prove_fits fields here =
+    then_fits Any _ _ (field_gives Any (number_of (2 ^ 64 - 1)) fields here (λ text x is. tt)) (λ n m a.
+    end_fits n.1 (Prove n.0) a tt)
+
+extend_fits : (fields : Left) → Fits fields.column → WhatFits (extend_at fields)
+unfolding extend_at
+extend_fits fields here =
+    then_fits Any _ _ (field_gives Any which_of fields here (λ text x is. tt)) (λ which w a.
+    then_fits Any _ _ (field_gives Any (number_of (2 ^ 64 - 1)) which.1 a (λ text x is. tt)) (λ m k b.
+    end_fits m.1 (Extend which.0 m.0) b tt))
+
 clue_fits : (fields : Left) → Fits fields.column → WhatFits (clue_at fields)
 unfolding clue_at
 clue_fits fields here =
@@ -113,8 +128,10 @@ verb_fits verb fields here =
     (either_fits (bytes_eq verb (codes "member")) _ _ (member_fits fields here)
     (either_fits (bytes_eq verb (codes "anchor")) _ _ (anchor_fits fields here)
     (either_fits (bytes_eq verb (codes "get")) _ _ (get_fits fields here)
+    (either_fits (bytes_eq verb (codes "prove")) _ _ (prove_fits fields here)
+    (either_fits (bytes_eq verb (codes "extend")) _ _ (extend_fits fields here)
     (either_fits (bytes_eq verb (codes "clue")) _ _ (clue_fits fields here)
-    (either_fits (bytes_eq verb (codes "head")) _ _ (head_fits fields here) tt)))))
+    (either_fits (bytes_eq verb (codes "head")) _ _ (head_fits fields here) tt)))))))
 
 asked_fits : (verb : Result (List ℕ × Left) Refusal) → Gives Any verb → WhatFits (asked_by verb)
 asked_fits (Ok verb) g = verb_fits verb.0 verb.1 g.1

@@ -5,9 +5,9 @@ use Rattle.ledger_bytes.specs.declared.limits.TheConstants.{CONTENT_LIMIT, PROOF
 use Rattle.ledger_bytes.specs.declared.refusal.Refusal.{Refusal}
 use Rattle.ledger_bytes.specs.declared.refusal.Refusal.TheVariants.{BadVerb, BadLane}
 use Rattle.script_lines.specs.Fields.{Left, fields_of, field_at, end_at}
-use Rattle.script_lines.specs.Spellings.{text_of, number_of, bytes_of, digest_of, clue_of}
+use Rattle.script_lines.specs.Spellings.{text_of, number_of, bytes_of, digest_of, clue_of, which_of}
 use Rattle.script_lines.specs.declared.line.Line.{Line}
-use Rattle.script_lines.specs.declared.line.Line.TheVariants.{Append, NewMember, Anchor, Get, Clue, Head}
+use Rattle.script_lines.specs.declared.line.Line.TheVariants.{Append, NewMember, Anchor, Get, Prove, Extend, Clue, Head}
 
 -- the second step, with what the first gave
 infixl 10 ◌>>=◌
@@ -47,6 +47,21 @@ get_at fields = do
   end ← end_at n.1
   Ok (Get n.0)
 
+-- `prove N`
+unfoldable pub prove_at : Left → Result Line Refusal
+prove_at fields = do
+  n ← field_at (number_of (2 ^ 64 - 1)) fields
+  end ← end_at n.1
+  Ok (Prove n.0)
+
+-- `extend ledger M` or `extend notary M`
+unfoldable pub extend_at : Left → Result Line Refusal
+extend_at fields = do
+  which ← field_at which_of fields
+  m ← field_at (number_of (2 ^ 64 - 1)) which.1
+  end ← end_at m.1
+  Ok (Extend which.0 m.0)
+
 -- `clue NAME`, where NAME is a clue's name, or `-` for no clue
 unfoldable pub clue_at : Left → Result Line Refusal
 clue_at fields = do
@@ -67,6 +82,8 @@ verb_at verb fields =
     else if bytes_eq verb (codes "member") then member_at fields
     else if bytes_eq verb (codes "anchor") then anchor_at fields
     else if bytes_eq verb (codes "get") then get_at fields
+    else if bytes_eq verb (codes "prove") then prove_at fields
+    else if bytes_eq verb (codes "extend") then extend_at fields
     else if bytes_eq verb (codes "clue") then clue_at fields
     else if bytes_eq verb (codes "head") then head_at fields
     else Err BadVerb

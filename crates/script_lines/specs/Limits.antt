@@ -4,7 +4,7 @@ use Rattle.ledger_bytes.specs.declared.limits.TheConstants.{CONTENT_LIMIT, NAME_
 use Rattle.ledger_bytes.specs.declared.refusal.Refusal.{Refusal}
 use Rattle.ledger_bytes.specs.declared.refusal.Refusal.TheVariants.{BadVerb, BadField, BadLane}
 use Rattle.script_lines.specs.declared.line.Line.{Line}
-use Rattle.script_lines.specs.declared.line.Line.TheVariants.{Append, NewMember, Anchor, Get, Clue, Head}
+use Rattle.script_lines.specs.declared.line.Line.TheVariants.{Append, NewMember, Anchor, Get, Prove, Extend, Clue, Head}
 
 -- nothing in the line is longer than a line may give
 abbrev pub fits_line : Line → Bool
@@ -13,6 +13,8 @@ fits_line (Append member clue content proof) =
 fits_line (NewMember number key proof) = nat_le (length proof) PROOF_LIMIT
 fits_line Anchor = true
 fits_line (Get n) = true
+fits_line (Prove n) = true
+fits_line (Extend which m) = true
 fits_line (Clue name) = nat_le (length name) NAME_LIMIT
 fits_line Head = true
 

@@ -87,10 +87,6 @@ abbrev pub AllFits : List ℕ → Type 0
 AllFits [] = ⊤
 AllFits (n ∷ ns) = Fits n × AllFits ns
 
-abbrev pub MarkFits : Option (ℕ × ℕ × ℕ) → Type 0
-MarkFits None = ⊤
-MarkFits (Some mark) = Fits mark.0 × Fits mark.1 × Fits mark.2
-
 abbrev pub StampFits : Option (ℕ × ℕ) → Type 0
 StampFits None = ⊤
 StampFits (Some stamp) = Fits stamp.0 × Fits stamp.1
@@ -120,14 +116,15 @@ RefusalFits (refusals.Full kept size) = Fits kept × Fits size
 RefusalFits (refusals.BadSize size) = Fits size
 RefusalFits refusals.CluesFull = ⊤
 
--- a reply's numbers are as programs have them, and so is the leaf digest of a receipt
+-- A reply's numbers are as programs have them, and so is the leaf digest of a receipt. Nothing is asked of a proof: it is no
+-- receipt, whatever its numbers.
 abbrev pub ReplyFits : Reply → Type 0
 ReplyFits (Placed jsn leaf block size root stamp) =
     Fits jsn × IsBytes leaf.0 × Fits block × Fits size × StampFits stamp
 ReplyFits (Whole header content who) = ⊤
 ReplyFits (Occulted header who) = ⊤
-ReplyFits (Proof n leaf lo hi proof) = Fits n × MarkFits lo × MarkFits hi
-ReplyFits (Extension which m size root proof) = Fits m × Fits size
+ReplyFits (Proof n leaf lo hi proof) = ⊤
+ReplyFits (Extension which m size root proof) = ⊤
 ReplyFits (Clue count kept) = Fits count × AllFits kept
 ReplyFits (Head id size root blocks point notary_size notary_root) =
     Fits size × Fits blocks × Fits point × Fits notary_size

@@ -2,9 +2,9 @@
 use Rattle.std.specs.Prelude.{◌≡◌, ◌≢◌, ℕ, ◌<◌, ◌≤◌, ◌^◌, ◌==◌, false, List, [], ◌∷◌, ◌++◌, length, All, codes, decimal, ⊤}
 use Rattle.hex.specs.Hex.{IsBytes}
 use Rattle.ledger_bytes.specs.declared.limits.TheConstants.{CONTENT_LIMIT, NAME_LIMIT, PROOF_LIMIT}
-use Rattle.script_lines.specs.Words.{hex_of, hex_or_dash, spaced_words}
+use Rattle.script_lines.specs.Words.{hex_of, hex_or_dash, spaced_words, which_text}
 use Rattle.script_lines.specs.declared.line.Line.{Line}
-use Rattle.script_lines.specs.declared.line.Line.TheVariants.{Append, NewMember, Anchor, Get, Clue, Head}
+use Rattle.script_lines.specs.declared.line.Line.TheVariants.{Append, NewMember, Anchor, Get, Prove, Extend, Clue, Head}
 
 -- a clue's name, or `-` for no clue
 abbrev pub clue_text : List ℕ → List ℕ
@@ -18,6 +18,8 @@ line_words (Append member clue content proof) =
 line_words (NewMember number key proof) = codes "member" ∷ decimal number ∷ hex_of key ∷ hex_or_dash proof ∷ []
 line_words Anchor = codes "anchor" ∷ []
 line_words (Get n) = codes "get" ∷ decimal n ∷ []
+line_words (Prove n) = codes "prove" ∷ decimal n ∷ []
+line_words (Extend which m) = codes "extend" ∷ which_text which ∷ decimal m ∷ []
 line_words (Clue name) = codes "clue" ∷ clue_text name ∷ []
 line_words Head = codes "head" ∷ []
 
@@ -51,5 +53,7 @@ IsSayable (Append member clue content proof) =
 IsSayable (NewMember number key proof) = (number < 2 ^ 32) × (length key.0 ≡ 32) × IsBytes key.0 × IsShort PROOF_LIMIT proof
 IsSayable Anchor = ⊤
 IsSayable (Get n) = n < 2 ^ 64
+IsSayable (Prove n) = n < 2 ^ 64
+IsSayable (Extend which m) = m < 2 ^ 64
 IsSayable (Clue name) = IsClue name
 IsSayable Head = ⊤

@@ -1,3 +1,4 @@
+use crate::said::Which;
 use ledger_bytes::{Bytes, Digest};
 
 /// What a line of a script asks for.
@@ -29,6 +30,17 @@ pub enum Line {
     Get {
         /// The journal's number.
         n: u64,
+    },
+    /// The proof of a journal is asked for: `prove N`.
+    Prove {
+        /// The journal's number.
+        n: u64,
+    },
+    /// The proof that a tree goes on from an earlier one is asked for: `extend ledger M` or `extend notary M`.
+    Extend {
+        which: Which,
+        /// The earlier size.
+        m: u64,
     },
     /// A clue's journals are asked for: `clue NAME`.
     Clue {

@@ -1,5 +1,5 @@
 ghost use Rattle.std.specs.Prelude.{◌≡◌, ◌≤◌, true, IfOk, IfSome};
-ghost use Rattle.script_lines.specs.Grammar.{append_at, member_at, anchor_at, get_at, clue_at, head_at, asked_by, lane_of, spoken_line};
+ghost use Rattle.script_lines.specs.Grammar.{append_at, member_at, anchor_at, get_at, prove_at, extend_at, clue_at, head_at, asked_by, lane_of, spoken_line};
 ghost use Rattle.script_lines.specs.Fields.{field_at};
 ghost use Rattle.script_lines.specs.Reading.{Reads, fits_read};
 ghost use Rattle.script_lines.specs.Spellings.{text_of};
@@ -86,6 +86,10 @@ fn read_asked(alloc: Global, mut fields: Fields) -> Result<Line, Stop>
         read_anchor(fields)
     } else if verb == b"get".as_slice() {
         read_get(fields)
+    } else if verb == b"prove".as_slice() {
+        read_prove(fields)
+    } else if verb == b"extend".as_slice() {
+        read_extend(fields)
     } else if verb == b"clue".as_slice() {
         read_clue(alloc, fields)
     } else if verb == b"head".as_slice() {
@@ -146,6 +150,27 @@ fn read_get(mut fields: Fields) -> Result<Line, Stop>
     let n = fields.number(u64::MAX)?;
     fields.end()?;
     Ok(Line::Get { n })
+}
+
+#[tactic(auto, unfolding(crate::specs::Grammar::prove_at))]
+fn read_prove(mut fields: Fields) -> Result<Line, Stop>
+    ensures reads { Reads result (prove_at fields.entry) }
+    ensures fits { fits_read result ≡ true }
+{
+    let n = fields.number(u64::MAX)?;
+    fields.end()?;
+    Ok(Line::Prove { n })
+}
+
+#[tactic(auto, unfolding(crate::specs::Grammar::extend_at))]
+fn read_extend(mut fields: Fields) -> Result<Line, Stop>
+    ensures reads { Reads result (extend_at fields.entry) }
+    ensures fits { fits_read result ≡ true }
+{
+    let which = fields.which()?;
+    let m = fields.number(u64::MAX)?;
+    fields.end()?;
+    Ok(Line::Extend { which, m })
 }
 
 #[tactic(auto, unfolding(crate::specs::Grammar::clue_at))]
