@@ -5,3 +5,4 @@ pub mod Accepting
 pub mod ExtensionLaws
 pub mod Judging
 pub mod Truths
+pub mod StayLaws

@@ -8,8 +8,8 @@ ghost use Rattle.script_lines.specs.declared.said.Which.{Which as Tree};
 ghost use Rattle.script_lines.specs.declared.said.Which.TheVariants.{Ledger};
 ghost use Rattle.tree_model.specs.Tree.{Hash, mth};
 ghost use Rattle.tree_model.specs.Clash.{Clashes};
-ghost use Rattle.audit_core.specs.Trust.{Trust, root_of};
-ghost use Rattle.audit_core.specs.Acceptance.{acceptance};
+ghost use Rattle.audit_core.specs.Trust.{Trust, TrustsMore, root_of};
+ghost use Rattle.audit_core.specs.Acceptance.{acceptance, IsAccepted};
 ghost use Rattle.audit_core.specs.Extending.{extend_refusal, IsExtension};
 ghost use Rattle.audit_core.specs.Truth.{Lists, HasJournal, IsTrueOf};
 ghost use Rattle.audit_core.specs.Judgement.{IsUnderHead, leaf_clash, clash_of};
@@ -85,4 +85,10 @@ pub fn yes_stays_true()
         → length lists.headers ≡ head.size → mth hash lists.headers ≡ head.root.0
         → IsTrueOf hash lists claim ⊎ (Clashes hash (chain_clash hash lists.headers extensions)
         ⊎ Clashes hash (clash_of hash (first_of proof.size lists) bytes)) }
+{}
+
+/// What was accepted stays accepted where more heads are trusted.
+pub fn accepted_proofs_stay_accepted()
+    ensures { (trust more : Trust) → TrustsMore trust more → (hash : Hash) (bytes : List ℕ) (claim : ClaimRecord)
+        → IsAccepted hash bytes claim trust → IsAccepted hash bytes claim more }
 {}

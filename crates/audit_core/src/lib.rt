@@ -16,6 +16,9 @@ pub use acceptance::accept;
 pub use extension::check_extension;
 pub use heads::Heads;
 pub use judgement::judge;
-pub use laws::{extension_is_true, extensions_are_true, yes_is_true, yes_stays_true};
+pub use laws::{
+    accepted_proofs_stay_accepted, extension_is_true, extensions_are_true, yes_is_true,
+    yes_stays_true,
+};
 pub use refusal::{No, TrustErr};
 pub use verdict::Verdict;
