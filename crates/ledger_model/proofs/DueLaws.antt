@@ -25,7 +25,9 @@ use Rattle.ledger_model.specs.declared.answer.Answer.{Answer}
 use Rattle.ledger_model.specs.declared.answer.Answer.TheVariants.{Reply, Receipt}
 use Rattle.ledger_model.specs.declared.due.Due.{Due}
 use Rattle.ledger_model.specs.declared.job.Job.{Job}
-use Rattle.ledger_model.specs.declared.job.Job.TheVariants.{Refused, Append, NewMember, Anchor, Get, Clue, Head}
+use Rattle.ledger_model.specs.declared.job.Job.TheVariants.{Refused, Append, NewMember, Anchor, Get, Prove, Extend, Clue, Head}
+use Rattle.ledger_model.specs.declared.outcome.Query.TheVariants as query
+use Rattle.ledger_model.proofs.ProveLaws.{asked}
 use Rattle.ledger_model.proofs.GrowLaws.{IsEnded, moves_close, grows_not, grows_moved, grows_job, grows_settled, size_close, grows_then, grows_size, size_closed, root_kept, block_of-grows, end_of-grows, end_of-le, block_of-ended, end_of-ended}
 
 -- each receipt's journal has a number of this range
@@ -67,6 +69,8 @@ within_job k step (NewMember number key by) =
     let job = NewMember number key by in within_judged k step job (own_refusal real_limits k job) (member_journal (size k) number key by)
 within_job k step Anchor = within_closed k step
 within_job k step (Get n) = tt
+within_job k step (Prove n) = asked (IsWithin _ _) (close k) step (own_refusal real_limits (close k) (Prove n)) (query.Prove n) (λ why is. tt) tt
+within_job k step (Extend which m) = asked (IsWithin _ _) (close k) step (own_refusal real_limits (close k) (Extend which m)) (query.Extend which m) (λ why is. tt) tt
 within_job k step (Clue clue) = tt
 within_job k step Head = tt
 

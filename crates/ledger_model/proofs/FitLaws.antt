@@ -1,6 +1,6 @@
 -- The numbers of each reply that is due in a run are as programs have them, and so are the leaf digests of receipts.
 use Rattle.std.specs.Prelude.{⊤, All, nat_le, nat_lt, filter, slice_get}
-use Rattle.std.proofs.Common.{◌≡◌, ℕ, suc, ◌+◌, ◌<◌, ◌≤◌, ◌&&◌, ◌==◌, not, Bool, true, false, cond, List, [], ◌∷◌, ◌++◌, length, Option, Some, None, Result, Ok, Err, refl, sym, ap, subst, arith, append_assoc, append-nil, length-append}
+use Rattle.std.proofs.Common.{◌≡◌, ℕ, suc, ◌+◌, ◌<◌, ◌≤◌, ◌&&◌, ◌==◌, not, Bool, true, false, ◌||◌, cond, List, [], ◌∷◌, ◌++◌, length, Option, Some, None, Result, Ok, Err, refl, sym, ap, subst, arith, append_assoc, append-nil, length-append}
 use Rattle.ledger_bytes.specs.Fields.{IsBytes}
 use Rattle.ledger_bytes.specs.declared.digest.Digest.{Digest}
 use Rattle.ledger_bytes.specs.declared.limits.TheConstants.{MEMBER_LIMIT}
@@ -10,6 +10,7 @@ use Rattle.journal_record.specs.Entry.{Entry}
 use Rattle.journal_record.specs.Members.{is_known, is_key_of, number_refusal}
 use Rattle.journal_record.specs.Rules.{is_no_clue}
 use Rattle.journal_record.specs.declared.member.Member.{Member}
+use Rattle.std.specs.Option.{option_or}
 use Rattle.script_lines.specs.Grammar.{spoken_line}
 use Rattle.script_lines.specs.Receipts.{Told, Fits, AllFits, StampFits, RefusalFits, ReplyFits, AllFit}
 use Rattle.script_lines.specs.declared.line.Line.{Line}
@@ -27,12 +28,16 @@ use Rattle.ledger_model.specs.Members.{members, keys}
 use Rattle.ledger_model.specs.Outcomes.{placed_as, anchor_outcome, judged_outcome, outcome}
 use Rattle.ledger_model.specs.Anchors.{stamp_of, time_journal, no_stamp, is_full_list}
 use Rattle.ledger_model.specs.Rules.{job_for, job_of, closes_before, judged_at, after_step, after_steps, after_window, after}
+use Rattle.ledger_model.specs.Proofs.{prove_refusal, extend_refusal}
 use Rattle.ledger_model.specs.Scheme.{Scheme}
 use Rattle.ledger_model.specs.Step.{Step}
 use Rattle.ledger_model.specs.Texts.{kept_with, told_reply, answer_for, answer_to, told_stamp, reply_in}
 use Rattle.ledger_model.specs.declared.answer.Answer.{Answer}
 use Rattle.ledger_model.specs.declared.answer.Answer.TheVariants.{Reply, Receipt}
 use Rattle.ledger_model.specs.declared.due.Due.{Due}
+use Rattle.script_lines.specs.declared.said.Which.TheVariants.{Ledger, Notary}
+use Rattle.ledger_model.specs.declared.outcome.Outcome.TheVariants.{Reading}
+use Rattle.ledger_model.specs.declared.outcome.Query.{Query}
 use Rattle.ledger_model.specs.declared.outcome.Query.TheVariants as query
 use Rattle.script_lines.specs.declared.reply.Reply.TheVariants as reply
 use Rattle.journal_record.specs.declared.stamp.Stamp.{Stamp}
@@ -40,12 +45,13 @@ use Rattle.ledger_bytes.specs.Digests.{digest}
 use Rattle.sha2.specs.Sha256.{sha256}
 use Rattle.tree_model.specs.Tree.{mth}
 use Rattle.ledger_model.specs.declared.job.Job.{Job}
-use Rattle.ledger_model.specs.declared.job.Job.TheVariants.{Refused, Append, NewMember, Anchor, Get, Clue, Head}
+use Rattle.ledger_model.specs.declared.job.Job.TheVariants.{Refused, Append, NewMember, Anchor, Get, Prove, Extend, Clue, Head}
 use Rattle.ledger_model.proofs.ByteLaws.{leaf_bytes}
 use Rattle.ledger_model.proofs.DueLaws.{grows_steps, AllWithin, all_wider, all_higher, dues_within, grows_windows}
 use Rattle.ledger_model.proofs.GetLaws.{get_fits}
 use Rattle.ledger_model.proofs.GrowLaws.{length-journals_of, grows_close, grows_size, grows_then}
 use Rattle.ledger_model.proofs.KeepLaws.{run_lawful, close_lawful, step_lawful, steps_lawful}
+use Rattle.ledger_model.proofs.ProveLaws.{asked, told_proof, told_extension}
 use Rattle.ledger_model.proofs.LawfulLaws.{lawful_from, some_journal, lawful_members, AreBetween, numbers_between, numbers_few, point_below}
 
 -- how much a lawful history holds
@@ -153,6 +159,22 @@ number_fits ms number f =
       | false ↦ elim (number == length ms) as (λ v. MayFit (cond v None (Some (refusals.MemberNumber (length ms))))) [ true ↦ tt | false ↦ f ]
     ]
 
+prove_fits : (h : History) (n : ℕ) → IsLawful h → MayFit (prove_refusal h n)
+unfolding prove_refusal
+prove_fits h n l =
+    elim (nat_le (size h) n) as (λ v. MayFit (cond v (Some (refusals.NoJournal (size h))) (cond (nat_lt n (point h)) (Some (refusals.Purged (point h))) None))) [
+      | true ↦ omega (arith, size_few h l)
+      | false ↦ elim (nat_lt n (point h)) as (λ v. MayFit (cond v (Some (refusals.Purged (point h))) None)) [ true ↦ omega (arith, point_few h l, size_few h l) | false ↦ tt ]
+    ]
+
+extend_fits : (h : History) (m : ℕ) → IsLawful h → MayFit (extend_refusal h m)
+unfolding extend_refusal
+extend_fits h m l =
+    elim (m == 0 || nat_lt (size h) m) as (λ v. MayFit (option_or (cond v (Some (refusals.BadSize (size h))) None) (cond (nat_lt m (point h)) (Some (refusals.Purged (point h))) None))) [
+      | true ↦ omega (arith, size_few h l)
+      | false ↦ elim (nat_lt m (point h)) as (λ v. MayFit (cond v (Some (refusals.Purged (point h))) None)) [ true ↦ omega (arith, point_few h l, size_few h l) | false ↦ tt ]
+    ]
+
 -- the numbers of a job that a refusal may tell
 abbrev pub JobFits : Job → Type 0
 JobFits (Refused refusal) = RefusalFits refusal
@@ -160,6 +182,8 @@ JobFits (Append member clue content content_digest request by) = Fits member
 JobFits (NewMember number key by) = ⊤
 JobFits Anchor = ⊤
 JobFits (Get n) = ⊤
+JobFits (Prove n) = ⊤
+JobFits (Extend which m) = ⊤
 JobFits (Clue clue) = ⊤
 JobFits Head = ⊤
 
@@ -173,6 +197,9 @@ own_fits h (NewMember number key by) l f =
     (full_fits h l, (number_fits (members h) number (omega (arith, members_few h l)), (wrong_fits (keys h) 0 by.key (omega arith), tt)))
 own_fits h Anchor l f = first_fits (hard_fullness real_limits h ∷ []) (hard_fits h l, tt)
 own_fits h (Get n) l f = tt
+own_fits h (Prove n) l f = first_fits (prove_refusal h n ∷ []) (prove_fits h n l, tt)
+own_fits h (Extend Ledger m) l f = first_fits (extend_refusal h m ∷ []) (extend_fits h m l, tt)
+own_fits h (Extend Notary m) l f = tt
 own_fits h (Clue clue) l f = tt
 own_fits h Head l f = tt
 
@@ -182,6 +209,8 @@ for_fits scheme id (Err refusal) f = f
 for_fits scheme id (Ok (line.Append member clue content proof)) f = f
 for_fits scheme id (Ok (line.NewMember number key proof)) f = tt
 for_fits scheme id (Ok (line.Get n)) f = tt
+for_fits scheme id (Ok (line.Prove n)) f = tt
+for_fits scheme id (Ok (line.Extend which m)) f = tt
 for_fits scheme id (Ok (line.Clue name)) f = tt
 for_fits scheme id (Ok line.Anchor) f = tt
 for_fits scheme id (Ok line.Head) f = tt
@@ -214,6 +243,10 @@ head_fits h step l c = elim step.failed as (λ v. AnswerFits (Reply (cond v (rep
   | false ↦ (omega (arith, size_few h l), omega (arith, closed_few h l, size_few h l), omega (arith, point_few h l, size_few h l), c.entries)
 ]
 
+-- .. of a job that only asks
+asked_fits : (h : History) (step : Step) (job : Job) (q : Query) → MayFit (own_refusal real_limits h job) → ReplyFits (told_reply h step q) → AnswerFits (answer_for h step (judged_outcome (own_refusal real_limits h job) (Reading q)))
+asked_fits h step job q f told = asked AnswerFits h step (own_refusal real_limits h job) q (λ why is. subst MayFit is f) told
+
 outcome_fits : (h : History) (step : Step) (job : Job) → IsLawful h → IsCounted step → JobFits job → AnswerFits (answer_for h step (outcome real_limits (stamp_of step) h job))
 unfolding outcome
 outcome_fits h step (Refused refusal) l c f = f
@@ -224,6 +257,9 @@ outcome_fits h step (NewMember number key by) l c f =
     let job = NewMember number key by in placed_fits h step (own_refusal real_limits h job) (member_journal (size h) number key by) c (own_fits h job l f)
 outcome_fits h step Anchor l c f = anchor_fits h step (own_refusal real_limits h Anchor) (stamp_of step) c (own_fits h Anchor l f)
 outcome_fits h step (Get n) l c f = get_fits h n (omega (arith, size_few h l)) (omega (arith, point_few h l, size_few h l))
+outcome_fits h step (Prove n) l c f = asked_fits h step (Prove n) (query.Prove n) (own_fits h (Prove n) l f) (told_proof ReplyFits h step n tt (λ m leaf lo hi bytes. tt))
+outcome_fits h step (Extend which m) l c f =
+    asked_fits h step (Extend which m) (query.Extend which m) (own_fits h (Extend which m) l f) (told_extension ReplyFits h step which m tt c.entries (λ tree k size root bytes. tt))
 outcome_fits h step (Clue clue) l c f = (count_fits h clue l, kept_fit h clue l)
 outcome_fits h step Head l c f = head_fits h step l c
 

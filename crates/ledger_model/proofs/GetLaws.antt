@@ -66,6 +66,11 @@ pub get_no_receipt : (P : ℕ → Digest → Type 0) (h : History) (n : ℕ) →
 unfolding get_reply
 get_no_receipt P h n = of_shown (OfReceipt P) (λ kept found. tt) (λ header content who. tt) (λ header who. tt) h n (view h n) tt (λ p is. tt)
 
+-- it is a refusal, or a journal with or without its content
+pub get_told : (P : Reply → Type 0) (h : History) (n : ℕ) → ((why : Refusal) → P (reply.Refused why)) → ((header content who : List ℕ) → P (reply.Whole header content who)) → ((header who : List ℕ) → P (reply.Occulted header who)) → P (get_reply h n)
+unfolding get_reply
+get_told P h n refused whole occulted = of_shown P (λ kept found. refused (refusals.Damaged kept found)) whole occulted h n (view h n) (refused (refusals.NoJournal (size h))) (λ p is. refused (refusals.Purged p))
+
 -- a purged journal is told with the point
 purged_at : (h : History) (n p : ℕ) → view h n ≡ Purged p → p ≡ point h
 unfolding view

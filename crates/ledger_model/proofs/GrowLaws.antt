@@ -34,9 +34,6 @@ pub record Moves (k g : History) : Type 0 where
   pub journals_are : journals g ≡ journals k ++ more
   pub blocks_are : (g.closed ≡ k.closed) ⊎ IsEnded k g
 
-moves_not : (k : History) → Moves k k
-moves_not k = record { more = []; journals_are = sym (append-nil (journals k)); blocks_are = inl refl }
-
 -- the journals of blocks and one more
 pub journals_of-push : (blocks : List (List Entry)) (block : List Entry) → journals_of (blocks ++ block ∷ []) ++ [] ≡ journals_of blocks ++ block
 journals_of-push blocks block =

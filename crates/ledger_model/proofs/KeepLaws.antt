@@ -31,7 +31,7 @@ use Rattle.ledger_model.specs.Scheme.{Scheme}
 use Rattle.ledger_model.specs.Step.{Step}
 use Rattle.ledger_model.specs.declared.genesis.Genesis.{Genesis}
 use Rattle.ledger_model.specs.declared.job.Job.{Job}
-use Rattle.ledger_model.specs.declared.job.Job.TheVariants.{Refused, Append, NewMember, Anchor, Get, Clue, Head}
+use Rattle.ledger_model.specs.declared.job.Job.TheVariants.{Refused, Append, NewMember, Anchor, Get, Prove, Extend, Clue, Head}
 use Rattle.ledger_model.proofs.AcceptedLaws.{record_next, record_whole, member_next, member_whole, time_next, time_whole, stamp_few}
 use Rattle.ledger_model.proofs.GrowLaws.{journals_of-push, close_none}
 use Rattle.ledger_model.proofs.LawfulLaws.{lawful_more}
@@ -112,6 +112,11 @@ anchor_lawful h None (Some stamp) l none is few =
     (subst AreLawful (sym (journals_wider h j)) (lawful_more (journals h) j l.journals_are (time_next real_limits real_within h stamp (sym is) l.journals_are (few stamp refl))))
     l.blocks_are (omega (arith, one)) (λ more. absurd (more one))
 
+-- a job that only asks places nothing
+unplaced : (refusal : Option Refusal) (h : History) → after_judgement refusal None h ≡ h
+unplaced None h = refl
+unplaced (Some refusal) h = refl
+
 pub job_lawful : (h : History) (step : Step) (job : Job) → fits_job job ≡ true → IsLawful h → IsLawful (after_job h step job)
 unfolding after_job with_job append_header member_header
 job_lawful h step (Refused refusal) fits l = settled_lawful h (Refused refusal) l
@@ -125,6 +130,10 @@ job_lawful h step (NewMember number key by) fits l =
     (λ none. lawful_more (journals h) _ l.journals_are (member_next real_limits real_within h number key by none l.journals_are))
 job_lawful h step Anchor fits l = anchor_lawful (close h) (own_refusal real_limits (close h) Anchor) (stamp_of step) (close_lawful h l) (close_none h) refl (stamp_few step)
 job_lawful h step (Get n) fits l = settled_lawful (close h) (Get n) (close_lawful h l)
+job_lawful h step (Prove n) fits l =
+    subst (λ g. IsLawful (settled_history (Prove n) g)) (sym (unplaced (own_refusal real_limits (close h) (Prove n)) (close h))) (settled_lawful (close h) (Prove n) (close_lawful h l))
+job_lawful h step (Extend which m) fits l =
+    subst (λ g. IsLawful (settled_history (Extend which m) g)) (sym (unplaced (own_refusal real_limits (close h) (Extend which m)) (close h))) (settled_lawful (close h) (Extend which m) (close_lawful h l))
 job_lawful h step (Clue clue) fits l = settled_lawful (close h) (Clue clue) (close_lawful h l)
 job_lawful h step Head fits l = settled_lawful (close h) Head (close_lawful h l)
 
@@ -153,6 +162,10 @@ job_sound h step (NewMember number key by) fits s =
     let job = NewMember number key by in placed_sound h job (own_refusal real_limits h job) _ s (member_whole _ number key by)
 job_sound h step Anchor fits s = anchor_sound (close h) (own_refusal real_limits (close h) Anchor) (stamp_of step) (close_sound h s)
 job_sound h step (Get n) fits s = settled_sound (close h) (Get n) (close_sound h s)
+job_sound h step (Prove n) fits s =
+    subst (λ g. IsSound (settled_history (Prove n) g)) (sym (unplaced (own_refusal real_limits (close h) (Prove n)) (close h))) (settled_sound (close h) (Prove n) (close_sound h s))
+job_sound h step (Extend which m) fits s =
+    subst (λ g. IsSound (settled_history (Extend which m) g)) (sym (unplaced (own_refusal real_limits (close h) (Extend which m)) (close h))) (settled_sound (close h) (Extend which m) (close_sound h s))
 job_sound h step (Clue clue) fits s = settled_sound (close h) (Clue clue) (close_sound h s)
 job_sound h step Head fits s = settled_sound (close h) Head (close_sound h s)
 
@@ -175,6 +188,8 @@ for_fits scheme id (Ok (line.Append member clue content proof)) fits =
     record_fits scheme id member _ content proof (leb-true (length content) CONTENT_LIMIT front.1) (leb-true (length proof) PROOF_LIMIT parts.1)
 for_fits scheme id (Ok (line.NewMember number key proof)) fits = member_fits scheme id number key proof (leb-true (length proof) PROOF_LIMIT fits)
 for_fits scheme id (Ok (line.Get n)) fits = refl
+for_fits scheme id (Ok (line.Prove n)) fits = refl
+for_fits scheme id (Ok (line.Extend which m)) fits = refl
 for_fits scheme id (Ok (line.Clue name)) fits = refl
 for_fits scheme id (Ok line.Anchor) fits = refl
 for_fits scheme id (Ok line.Head) fits = refl

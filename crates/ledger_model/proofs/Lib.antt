@@ -18,3 +18,5 @@ pub mod FitLaws
 pub mod CountLaws
 pub mod TookLaws
 pub mod PegLaws
+pub mod BoundLaws
+pub mod ProveLaws

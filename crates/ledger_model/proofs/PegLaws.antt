@@ -1,9 +1,9 @@
 -- Whatever lines are run, each time journal keeps its entry in the notary's list.
 use Rattle.std.specs.Prelude.{nat_lt, nat_le}
 use Rattle.std.specs.Int.{w64, to_be_bytes, from_be_bytes}
-use Rattle.std.specs.List.{fold}
+use Rattle.std.specs.List.{fold, AllByRecursion}
 use Rattle.std.specs.Option.{is_none, option_map}
-use Rattle.std.proofs.Common.{◌≡◌, ℕ, zero, suc, ◌<◌, ◌≤◌, ◌⊎◌, ◌||◌, ◌&&◌, max, inl, inr, Bool, true, false, cond, List, [], ◌∷◌, ◌++◌, length, map, drop, slice_get, Option, Some, None, refl, ap, sym, subst, ◌∙◌, arith, append_assoc, append-nil, length-append}
+use Rattle.std.proofs.Common.{◌≡◌, ℕ, zero, suc, ◌<◌, ◌≤◌, ◌^◌, ◌⊎◌, ◌||◌, ◌&&◌, max, inl, inr, Bool, true, false, cond, List, [], ◌∷◌, ◌++◌, length, map, drop, slice_get, Option, Some, None, refl, ap, sym, subst, ◌∙◌, arith, append_assoc, append-nil, length-append}
 use Rattle.std.proofs.lemmas.Bool.{leb-false, lt-ltb}
 use Rattle.std.proofs.lemmas.List.{map-append, take_at, drop_at}
 use Rattle.std.proofs.lemmas.List.Sums.{fold-append}
@@ -24,7 +24,7 @@ use Rattle.ledger_model.specs.Genesis.{genesis_header, new_ledger}
 use Rattle.ledger_model.specs.History.{History, journals, size, id, root, point, first_leaf_digest, purge_point, greatest_point, close}
 use Rattle.ledger_model.specs.Judgements.{own_refusal}
 use Rattle.ledger_model.specs.Limits.{real_limits}
-use Rattle.ledger_model.specs.Notary.{asks, MayStamp, Changes, AttendsJob}
+use Rattle.ledger_model.specs.Notary.{asks, MayStamp, Changes, ChangesBy}
 use Rattle.ledger_model.specs.Outcomes.{with_waiting, after_judgement, with_job}
 use Rattle.ledger_model.specs.Pegs.{Pegged}
 use Rattle.ledger_model.specs.Rules.{closes_before, closes_after, job_of, judged_at, settled_history, after_job, after_step, after_steps, after}
@@ -33,7 +33,7 @@ use Rattle.ledger_model.specs.Step.{Step}
 use Rattle.ledger_model.specs.Took.{notary_after, Took, TookAll}
 use Rattle.ledger_model.specs.declared.genesis.Genesis.{Genesis}
 use Rattle.ledger_model.specs.declared.job.Job.{Job}
-use Rattle.ledger_model.specs.declared.job.Job.TheVariants.{Refused, Append, NewMember, Anchor, Get, Clue, Head}
+use Rattle.ledger_model.specs.declared.job.Job.TheVariants.{Refused, Append, NewMember, Anchor, Get, Prove, Extend, Clue, Head}
 use Rattle.ledger_model.proofs.GrowLaws.{root_kept, grows_asked, grows_with, grows_job, grows_size}
 use Rattle.ledger_model.proofs.KeepLaws.{journals_close, journals_wider}
 use Rattle.ledger_model.proofs.WaitLaws.{slice_get-more, slice_get-last}
@@ -66,7 +66,7 @@ point_kept k g more is =
     omega (arith, ap greatest_point is ∙ ap (fold max 0) (map-append purge_point (journals k) more) ∙ fold-append max 0 front back, rises_from (fold max 0 front) back)
 
 -- an element of a list with one more at its end
-last_or : {A : Type 0} (xs : List A) (x : A) (j : ℕ) (e : A) → slice_get (xs ++ x ∷ []) j ≡ Some e → ((j < length xs) × (slice_get xs j ≡ Some e)) ⊎ ((j ≡ length xs) × (x ≡ e))
+pub last_or : {A : Type 0} (xs : List A) (x : A) (j : ℕ) (e : A) → slice_get (xs ++ x ∷ []) j ≡ Some e → ((j < length xs) × (slice_get xs j ≡ Some e)) ⊎ ((j ≡ length xs) × (x ≡ e))
 last_or [] x zero e is = inr (refl, same_Some x e is)
 last_or [] x (suc j) e is = absurd cc
 last_or (y ∷ xs) x zero e is = inl (omega arith, is)
@@ -231,17 +231,39 @@ module _ (step : Step) (s : Stamp) (has : HasStamp step s) (peg : List ℕ) (wid
       ap (λ (x : Stamp). slice_get step.after x.index) stamp_is ∙ ap (λ es. slice_get es (length step.before)) more.3 ∙ slice_get-last step.before e
       ∙ sym (ap (λ (x : Stamp). Some (entry_of x.time peg x.salt.0)) stamp_is)
 
+-- the notary was asked for it, and has one entry more
+stamped_by : (h : History) (step : Step) (s : Stamp) → own_refusal real_limits h Anchor ≡ None → HasStamp step s → ChangesBy h step Anchor → MayStamp false (peg_at h (size h)) step.before step.after
+stamped_by h step s accepted has changes =
+    let asked : asks h step.before Anchor ≡ true = ap (λ o. is_none o && nat_lt (length step.before) NOTARY_LIMIT) accepted ∙ lt-ltb (length step.before) NOTARY_LIMIT has.room in
+    subst (λ v. Changes true v (peg_at h (size h)) step.before step.after) has.well (subst (λ v. Changes v step.failed (peg_at h (size h)) step.before step.after) asked changes)
+
+last_width : (xs : List (List ℕ)) (e : List ℕ) → AllByRecursion (λ x. length x ≡ 72) (xs ++ e ∷ []) → length e ≡ 72
+last_width [] e all = all.0
+last_width (x ∷ xs) e all = last_width xs e all.1
+
+-- .. so its time and its salt have their widths
+pub stamped_fits : (h : History) (step : Step) (s : Stamp) → own_refusal real_limits h Anchor ≡ None → stamp_of step ≡ Some s → ChangesBy h step Anchor → (s.time < 2 ^ 64) × (length s.salt.0 ≡ 32)
+stamped_fits h step s accepted is changes =
+    let has = has_stamp step s is in
+    let peg = peg_at h (size h) in
+    let changed = stamped_by h step s accepted has changes in
+    let more = changed.0 in
+    let e = entry_of more.0 peg more.1 in
+    let same = stamp_is step s has peg (peg_wide h (size h)) more in
+    let width : length e ≡ 72 = last_width step.before e (subst (AllByRecursion (λ x. length x ≡ 72)) more.3 changed.1.widths) in (
+      omega (arith, ap (λ (x : Stamp). x.time) same, more.2),
+      ap (λ (x : Stamp). length x.salt.0) same ∙ omega (arith, width, peg_wide h (size h), length-append (to_be_bytes w64 more.0) (peg ++ more.1), length-append peg more.1),
+    )
+
 -- an anchor, where nothing waits
-module _ (h : History) (step : Step) (some : 0 < size h) (before : Pegged h step.before) (attends : AttendsJob h step Anchor) where
+module _ (h : History) (step : Step) (some : 0 < size h) (before : Pegged h step.before) (attends : ChangesBy h step Anchor) where
   after_is : Pegged h step.after
   after_is = changes_on h (asks h step.before Anchor) step.failed (peg_at h (size h)) step.before step.after attends before
 
   has_entry : (s : Stamp) → own_refusal real_limits h Anchor ≡ None → HasStamp step s → HasEntry h (time_journal (size h) s) step.after
   unfolding time_header
   has_entry s accepted has =
-      let asked : asks h step.before Anchor ≡ true = ap (λ o. is_none o && nat_lt (length step.before) NOTARY_LIMIT) accepted ∙ lt-ltb (length step.before) NOTARY_LIMIT has.room in
-      let changed : MayStamp false (peg_at h (size h)) step.before step.after =
-      subst (λ v. Changes true v (peg_at h (size h)) step.before step.after) has.well (subst (λ v. Changes v step.failed (peg_at h (size h)) step.before step.after) asked attends) in (
+      let changed = stamped_by h step s accepted has attends in (
         entry_is step s has (peg_at h (size h)) (peg_wide h (size h)) changed.0,
         λ i d at is time. omega (arith, index_is step s has (peg_at h (size h)) (peg_wide h (size h)) changed.0, slice_get_within step.before d.header.a _ (before.each i d at is time)),
       )
@@ -252,7 +274,7 @@ module _ (h : History) (step : Step) (some : 0 < size h) (before : Pegged h step
   anchor_pegged None (Some s) r is = placed h step.after some after_is None (time_journal (size h) s) (λ none time. has_entry s r (has_stamp step s is))
 
 -- what is judged against a history
-judged_pegged : (h : History) (step : Step) (job : Job) → 0 < size h → Pegged h step.before → AttendsJob h step job → Pegged (with_job real_limits (stamp_of step) h job) step.after
+judged_pegged : (h : History) (step : Step) (job : Job) → 0 < size h → Pegged h step.before → ChangesBy h step job → Pegged (with_job real_limits (stamp_of step) h job) step.after
 unfolding with_job append_header member_header
 judged_pegged h step (Refused refusal) some p attends = subst (Pegged h) (sym attends) p
 judged_pegged h step (Append member clue content content_digest request by) some p attends =
@@ -261,10 +283,12 @@ judged_pegged h step (NewMember number key by) some p attends =
     untimed h step.after some (subst (Pegged h) (sym attends) p) (own_refusal real_limits h (NewMember number key by)) (member_journal (size h) number key by) (λ time. cc)
 judged_pegged h step Anchor some p attends = anchor_pegged h step some p attends (own_refusal real_limits h Anchor) (stamp_of step) refl refl
 judged_pegged h step (Get n) some p attends = unplaced (own_refusal real_limits h (Get n)) h step.after (subst (Pegged h) (sym attends) p)
+judged_pegged h step (Prove n) some p attends = unplaced (own_refusal real_limits h (Prove n)) h step.after (subst (Pegged h) (sym attends) p)
+judged_pegged h step (Extend which m) some p attends = unplaced (own_refusal real_limits h (Extend which m)) h step.after (subst (Pegged h) (sym attends) p)
 judged_pegged h step (Clue clue) some p attends = unplaced (own_refusal real_limits h (Clue clue)) h step.after (subst (Pegged h) (sym attends) p)
 judged_pegged h step Head some p attends = unplaced (own_refusal real_limits h Head) h step.after (subst (Pegged h) (sym attends) p)
 
-pub pegged_job : (h : History) (step : Step) (job : Job) → 0 < size h → Pegged h step.before → AttendsJob (judged_at h job) step job → Pegged (after_job h step job) step.after
+pub pegged_job : (h : History) (step : Step) (job : Job) → 0 < size h → Pegged h step.before → ChangesBy (judged_at h job) step job → Pegged (after_job h step job) step.after
 unfolding after_job
 pegged_job h step job some p attends =
     let g = judged_at h job in
@@ -280,7 +304,7 @@ module _ (scheme : Scheme) where
   unfolding after_step
   step_some h step some = omega (arith, some, grows_size h (after_step scheme h step) (grows_job h step (job_of scheme (id h) step.line)))
 
-  pegged_step : (h : History) (step : Step) → 0 < size h → Pegged h step.before → AttendsJob (judged_at h (job_of scheme (id h) step.line)) step (job_of scheme (id h) step.line) → Pegged (after_step scheme h step) step.after
+  pegged_step : (h : History) (step : Step) → 0 < size h → Pegged h step.before → ChangesBy (judged_at h (job_of scheme (id h) step.line)) step (job_of scheme (id h) step.line) → Pegged (after_step scheme h step) step.after
   unfolding after_step
   pegged_step h step some p attends = pegged_job h step (job_of scheme (id h) step.line) some p attends
 
@@ -288,7 +312,7 @@ module _ (scheme : Scheme) where
   pegged_steps h n m [] some took p = subst (λ (x : NotaryState). Pegged h x.entries) (sym took) p
   pegged_steps h n m (step ∷ steps) some took p =
       pegged_steps (after_step scheme h step) (notary_after n step) m steps (step_some h step some) took.2
-      (pegged_step h step some (subst (Pegged h) (sym took.0) p) took.1)
+      (pegged_step h step some (subst (Pegged h) (sym took.0) p) took.1.list)
 
   steps_some : (h : History) (steps : List Step) → 0 < size h → 0 < size (after_steps scheme h steps)
   steps_some h [] some = some

@@ -23,6 +23,7 @@ use Rattle.sha2.specs.Sha256.{sha256}
 use Rattle.tree_model.specs.Tree.{mth}
 use Rattle.journal_record.specs.declared.stamp.Stamp.{Stamp}
 use Rattle.ledger_bytes.specs.declared.refusal.Refusal.TheVariants.{NotaryFault}
+use Rattle.script_lines.specs.Receipts.{OfReceipt}
 use Rattle.script_lines.specs.declared.reply.Reply.TheVariants as reply
 use Rattle.ledger_model.specs.declared.outcome.Query.TheVariants as query
 use Rattle.ledger_model.specs.Step.{Step}
@@ -31,9 +32,12 @@ use Rattle.ledger_model.specs.declared.answer.Answer.{Answer}
 use Rattle.ledger_model.specs.declared.answer.Answer.TheVariants.{Reply, Receipt}
 use Rattle.ledger_model.specs.declared.due.Due.{Due}
 use Rattle.ledger_model.specs.declared.job.Job.{Job}
-use Rattle.ledger_model.specs.declared.job.Job.TheVariants.{Refused, Append, NewMember, Anchor, Get, Clue, Head}
+use Rattle.ledger_model.specs.declared.job.Job.TheVariants.{Refused, Append, NewMember, Anchor, Get, Prove, Extend, Clue, Head}
 use Rattle.ledger_model.proofs.DueLaws.{answer_kept, answer_ended}
+use Rattle.ledger_model.specs.declared.outcome.Outcome.TheVariants.{Reading}
+use Rattle.ledger_model.specs.declared.outcome.Query.{Query}
 use Rattle.ledger_model.proofs.GetLaws.{get_no_receipt}
+use Rattle.ledger_model.proofs.ProveLaws.{told_proof, told_extension}
 use Rattle.ledger_model.proofs.GrowLaws.{IsEnded, moves_close, close_none, grows_close, grows_size, size_closed}
 
 -- an element that is there stays there
@@ -88,9 +92,6 @@ waits_journals h g x = ap journals x.is ∙ sym (append_assoc (journals_of h.clo
 pub waits_closed : (h g : History) → Waits h g → g.closed ≡ h.closed
 waits_closed h g x = ap (λ (k : History). k.closed) x.is
 
-pub grows_waits : (h g : History) → Waits h g → Grows h g
-grows_waits h g x = record { more = x.more; journals_are = waits_journals h g x; blocks = []; closed_are = waits_closed h g x ∙ sym (append-nil h.closed) }
-
 -- receipts that waited wait on
 still_waiting : (h g : History) (answer : Answer) → Waits h g → IsWaiting h answer → IsWaiting g answer
 still_waiting h g (Reply reply) x w = w
@@ -128,6 +129,10 @@ anchor_waits h step None (Some stamp) = placed_waits h step None (time_journal (
 head_waits : (h : History) (step : Step) → IsWaiting h (Reply (told_reply h step query.Head))
 head_waits h step = elim step.failed as (λ v. IsWaiting h (Reply (cond v (reply.Refused NotaryFault) (reply.Head (digest (id h)) (size h) (digest (root h (size h))) (blocks h) (point h) (length step.after) (digest (mth sha256 step.after)))))) [ true ↦ tt | false ↦ tt ]
 
+asked_waits : (h : History) (step : Step) (refusal : Option Refusal) (q : Query) → OfReceipt (λ jsn leaf. ⊥) (told_reply h step q) → IsWaiting (after_judgement refusal None h) (answer_for h step (judged_outcome refusal (Reading q)))
+asked_waits h step None q told = told
+asked_waits h step (Some refusal) q told = tt
+
 pub answer_waits : (h : History) (step : Step) (job : Job) → IsWaiting (with_job real_limits (stamp_of step) h job) (answer_for h step (outcome real_limits (stamp_of step) h job))
 unfolding outcome with_job
 answer_waits h step (Refused refusal) = tt
@@ -136,6 +141,8 @@ answer_waits h step (Append member clue content content_digest request by) =
 answer_waits h step (NewMember number key by) = placed_waits h step (own_refusal real_limits h (NewMember number key by)) (member_journal (size h) number key by)
 answer_waits h step Anchor = anchor_waits h step (own_refusal real_limits h Anchor) (stamp_of step)
 answer_waits h step (Get n) = get_no_receipt (λ jsn leaf. ⊥) h n
+answer_waits h step (Prove n) = asked_waits h step (own_refusal real_limits h (Prove n)) (query.Prove n) (told_proof (OfReceipt (λ jsn leaf. ⊥)) h step n tt (λ m leaf lo hi bytes. tt))
+answer_waits h step (Extend which m) = asked_waits h step (own_refusal real_limits h (Extend which m)) (query.Extend which m) (told_extension (OfReceipt (λ jsn leaf. ⊥)) h step which m tt tt (λ tree k size root bytes. tt))
 answer_waits h step (Clue clue) = tt
 answer_waits h step Head = head_waits h step
 

@@ -5,7 +5,7 @@ use Rattle.journal_record.specs.Entry.{content_digest_of}
 use Rattle.journal_record.specs.declared.approval.Approval.{Approval}
 use Rattle.script_lines.specs.Limits.{is_of_form}
 use Rattle.ledger_model.specs.declared.job.Job.{Job}
-use Rattle.ledger_model.specs.declared.job.Job.TheVariants.{Refused, Append, NewMember, Anchor, Get, Clue, Head}
+use Rattle.ledger_model.specs.declared.job.Job.TheVariants.{Refused, Append, NewMember, Anchor, Get, Prove, Extend, Clue, Head}
 
 -- whether an approval is this member's, with a proof no longer than a line may give
 abbrev pub fits_approval : ℕ → Approval → Bool
@@ -19,5 +19,7 @@ fits_job (Append member clue content content_digest request by) =
 fits_job (NewMember number key by) = fits_approval 0 by
 fits_job Anchor = true
 fits_job (Get n) = true
+fits_job (Prove n) = true
+fits_job (Extend which m) = true
 fits_job (Clue clue) = true
 fits_job Head = true

@@ -5,11 +5,13 @@ use Rattle.ledger_bytes.specs.declared.refusal.Refusal.{Refusal}
 use Rattle.ledger_bytes.specs.declared.refusal.Refusal.TheVariants.{Full, UnknownMember, WrongKey, CluesFull}
 use Rattle.journal_record.specs.Members.{is_known, is_key_of, number_refusal}
 use Rattle.journal_record.specs.Rules.{is_no_clue}
+use Rattle.script_lines.specs.declared.said.Which.TheVariants.{Ledger, Notary}
 use Rattle.ledger_model.specs.Clues.{jsns_with, clue_count}
 use Rattle.ledger_model.specs.History.{History, size, point}
 use Rattle.ledger_model.specs.Members.{members, keys}
+use Rattle.ledger_model.specs.Proofs.{prove_refusal, extend_refusal}
 use Rattle.ledger_model.specs.declared.job.Job.{Job}
-use Rattle.ledger_model.specs.declared.job.Job.TheVariants.{Refused, Append, NewMember, Anchor, Get, Clue, Head}
+use Rattle.ledger_model.specs.declared.job.Job.TheVariants.{Refused, Append, NewMember, Anchor, Get, Prove, Extend, Clue, Head}
 use Rattle.ledger_model.specs.declared.limits.Limits.{Limits}
 
 -- how many journals are kept
@@ -60,6 +62,9 @@ own_judgements limits h (Append member clue content content_digest request by) =
 own_judgements limits h (NewMember number key by) = member_judgements limits h number by.key
 own_judgements limits h Anchor = hard_fullness limits h ∷ []
 own_judgements limits h (Get n) = []
+own_judgements limits h (Prove n) = prove_refusal h n ∷ []
+own_judgements limits h (Extend Ledger m) = extend_refusal h m ∷ []
+own_judgements limits h (Extend Notary m) = []
 own_judgements limits h (Clue clue) = []
 own_judgements limits h Head = []
 

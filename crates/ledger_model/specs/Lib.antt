@@ -17,6 +17,8 @@ pub mod Notary
 pub mod Rules
 pub mod Took
 pub mod Pegs
+pub mod Bounds
+pub mod Proofs
 pub mod Growing
 pub mod Getting
 pub mod Texts

@@ -29,6 +29,8 @@ placed_journal h stamp (job.Append member clue content content_digest request by
 placed_journal h stamp (job.NewMember number key by) = Some (member_journal (size h) number key by)
 placed_journal h stamp job.Anchor = option_map (time_journal (size h)) stamp
 placed_journal h stamp (job.Get n) = None
+placed_journal h stamp (job.Prove n) = None
+placed_journal h stamp (job.Extend which m) = None
 placed_journal h stamp (job.Clue clue) = None
 placed_journal h stamp job.Head = None
 
@@ -50,6 +52,8 @@ with_job limits stamp h job = after_judgement (own_refusal limits h job) (placed
 abbrev pub query_of : Job → Option Query
 query_of job.Anchor = Some query.Stamp
 query_of (job.Get n) = Some (query.Get n)
+query_of (job.Prove n) = Some (query.Prove n)
+query_of (job.Extend which m) = Some (query.Extend which m)
 query_of (job.Clue clue) = Some (query.Clue clue)
 query_of job.Head = Some query.Head
 query_of other = None
@@ -71,6 +75,8 @@ accepted_outcome h stamp (job.Append member clue content content_digest request 
 accepted_outcome h stamp (job.NewMember number key by) = placed_as (size h) (member_journal (size h) number key by)
 accepted_outcome h stamp job.Anchor = anchor_outcome h stamp
 accepted_outcome h stamp (job.Get n) = Reading (query.Get n)
+accepted_outcome h stamp (job.Prove n) = Reading (query.Prove n)
+accepted_outcome h stamp (job.Extend which m) = Reading (query.Extend which m)
 accepted_outcome h stamp (job.Clue clue) = Reading (query.Clue clue)
 accepted_outcome h stamp job.Head = Reading query.Head
 

@@ -13,7 +13,7 @@ use Rattle.ledger_model.specs.Outcomes.{with_job}
 use Rattle.ledger_model.specs.Scheme.{Scheme}
 use Rattle.ledger_model.specs.Step.{Step}
 use Rattle.ledger_model.specs.declared.job.Job.{Job}
-use Rattle.ledger_model.specs.declared.job.Job.TheVariants.{Refused, Append, NewMember, Anchor, Get, Clue, Head}
+use Rattle.ledger_model.specs.declared.job.Job.TheVariants.{Refused, Append, NewMember, Anchor, Get, Prove, Extend, Clue, Head}
 
 -- what a line that was read asks for, on the ledger with this id
 abbrev pub job_for : Scheme → List ℕ → Result Line Refusal → Job
@@ -22,6 +22,8 @@ job_for scheme id (Ok (line.Append member clue content proof)) = append_with sch
 job_for scheme id (Ok (line.NewMember number key proof)) = member_job scheme id number key proof
 job_for scheme id (Ok line.Anchor) = Anchor
 job_for scheme id (Ok (line.Get n)) = Get n
+job_for scheme id (Ok (line.Prove n)) = Prove n
+job_for scheme id (Ok (line.Extend which m)) = Extend which m
 job_for scheme id (Ok (line.Clue name)) = Clue (clue_of name)
 job_for scheme id (Ok line.Head) = Head
 

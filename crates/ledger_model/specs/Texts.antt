@@ -6,16 +6,22 @@ use Rattle.tree_model.specs.Tree.{mth}
 use Rattle.ledger_bytes.specs.Digests.{digest}
 use Rattle.ledger_bytes.specs.declared.digest.Digest.{Digest}
 use Rattle.ledger_bytes.specs.declared.refusal.Refusal.TheVariants.{NotaryFault}
+use Rattle.ledger_bytes.specs.declared.mark.TimeMark.{TimeMark}
 use Rattle.journal_record.specs.declared.stamp.Stamp.{Stamp}
+use Rattle.proof_codec.specs.Claims.{claim_of}
+use Rattle.proof_codec.specs.Proofs.{Shown, spelling}
 use Rattle.script_lines.specs.Replies.{reply_text}
 use Rattle.script_lines.specs.declared.reply.Reply.{Reply as AnyReply}
+use Rattle.script_lines.specs.declared.said.Which.{Which}
+use Rattle.script_lines.specs.declared.said.Which.TheVariants.{Ledger, Notary}
 use Rattle.script_lines.specs.declared.reply.Reply.TheVariants as reply
 use Rattle.ledger_model.specs.Clues.{jsns_with}
-use Rattle.ledger_model.specs.Getting.{get_reply}
+use Rattle.ledger_model.specs.Getting.{get_reply, reply_unless}
 use Rattle.ledger_model.specs.History.{History, id, size, root, blocks, point, block_of, end_of}
 use Rattle.ledger_model.specs.Limits.{real_limits}
 use Rattle.ledger_model.specs.Outcomes.{outcome}
 use Rattle.ledger_model.specs.Anchors.{stamp_of, no_stamp}
+use Rattle.ledger_model.specs.Proofs.{shown_of, extension_in, list_extension, size_refusal}
 use Rattle.ledger_model.specs.Rules.{job_of, judged_at, after_step, after_window}
 use Rattle.ledger_model.specs.Scheme.{Scheme}
 use Rattle.ledger_model.specs.Step.{Step}
@@ -25,16 +31,36 @@ use Rattle.ledger_model.specs.declared.job.Job.{Job}
 use Rattle.ledger_model.specs.declared.outcome.Outcome.{Outcome}
 use Rattle.ledger_model.specs.declared.outcome.Outcome.TheVariants.{Refused, Placed, Reading}
 use Rattle.ledger_model.specs.declared.outcome.Query.{Query}
-use Rattle.ledger_model.specs.declared.outcome.Query.TheVariants.{Stamp as StampOf, Get, Clue, Head}
+use Rattle.ledger_model.specs.declared.outcome.Query.TheVariants.{Stamp as StampOf, Get, Prove, Extend, Clue, Head}
 
 -- the numbers of a clue's journals from the point on
 abbrev pub kept_with : History → Digest → List ℕ
 kept_with h clue = filter (λ jsn. nat_le (point h) jsn) (jsns_with h clue)
 
+-- a bound as it is told
+abbrev pub told_mark : Option TimeMark → Option (ℕ × ℕ × ℕ)
+told_mark mark = option_map (λ m. (m.jsn, m.index, m.time)) mark
+
+-- the proof of a journal with what it claims
+abbrev pub proof_reply : Shown → AnyReply
+proof_reply shown =
+    let claim = claim_of shown in
+    reply.Proof claim.n claim.leaf (told_mark claim.lo) (told_mark claim.hi) (spelling shown)
+
+-- the proof that a list with this head goes on from its first m
+abbrev pub extension_reply : Which → ℕ → ℕ → List ℕ → List ℕ → AnyReply
+extension_reply which m size root proof = reply.Extension which m size (digest root) proof
+
 -- what is told to a query that is judged against h
 abbrev pub told_reply : History → Step → Query → AnyReply
 told_reply h step (Get n) = get_reply h n
 told_reply h step (Clue clue) = reply.Clue (length (jsns_with h clue)) (kept_with h clue)
+told_reply h step (Prove n) = if step.failed then reply.Refused NotaryFault else proof_reply (shown_of h step.after n)
+told_reply h step (Extend Ledger m) = extension_reply Ledger m (size h) (root h (size h)) (extension_in h m)
+told_reply h step (Extend Notary m) =
+    if step.failed then reply.Refused NotaryFault
+    else reply_unless (size_refusal (length step.after) m)
+    (extension_reply Notary m (length step.after) (mth sha256 step.after) (list_extension step.after m))
 told_reply h step StampOf = reply.Refused (no_stamp step)
 told_reply h step Head =
     if step.failed then reply.Refused NotaryFault

@@ -1,10 +1,10 @@
 -- How the notary takes part in a run of steps, with its list and its count of failures.
-use Rattle.std.specs.Prelude.{◌≡◌, ℕ, if◌then◌else◌, List, [], ◌∷◌}
+use Rattle.std.specs.Prelude.{◌≡◌, ℕ, false, if◌then◌else◌, List, [], ◌∷◌, ⊤}
 use Rattle.ledger_bytes.specs.Causes.{count_after}
 use Rattle.time_peg.specs.Entries.{NotaryState}
-use Rattle.ledger_model.specs.History.{History}
-use Rattle.ledger_model.specs.Notary.{Attends}
-use Rattle.ledger_model.specs.Rules.{after_step, after_window}
+use Rattle.ledger_model.specs.History.{History, id}
+use Rattle.ledger_model.specs.Notary.{Attends, calls}
+use Rattle.ledger_model.specs.Rules.{job_of, judged_at, after_step, after_window}
 use Rattle.ledger_model.specs.Scheme.{Scheme}
 use Rattle.ledger_model.specs.Step.{Step}
 
@@ -16,6 +16,12 @@ counts_after (step ∷ steps) n = counts_after steps (if step.failed then count_
 -- the notary after a step
 abbrev pub notary_after : NotaryState → Step → NotaryState
 notary_after n step = record { entries = step.after; faults = if step.failed then count_after n.faults else n.faults }
+
+-- none of the steps that h takes calls the notary in a way that may fail
+abbrev pub NoneCall : Scheme → History → List Step → Type 0
+NoneCall scheme h [] = ⊤
+NoneCall scheme h (step ∷ steps) =
+    (let job = job_of scheme (id h) step.line in calls (judged_at h job) step.before job ≡ false) × NoneCall scheme (after_step scheme h step) steps
 
 -- along the steps that h takes the notary goes from one state to another: its list changes in each as the line wants, and
 -- each failure is counted

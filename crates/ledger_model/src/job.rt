@@ -3,6 +3,7 @@ ghost use Rattle.ledger_model.specs.Rules.{closes_before, closes_after};
 
 use journal_record::Approval;
 use ledger_bytes::{Bytes, Digest, Refusal};
+use script_lines::Which;
 
 /// What a line of a script asks for, with everything that the line alone defines.
 #[derive(Debug, Drop)]
@@ -38,6 +39,17 @@ pub enum Job {
         /// The journal's number.
         n: u64,
     },
+    /// The proof of a journal.
+    Prove {
+        /// The journal's number.
+        n: u64,
+    },
+    /// The proof that the ledger or the notary's list goes on from an earlier size.
+    Extend {
+        which: Which,
+        /// The earlier size.
+        m: u64,
+    },
     /// The journals of a clue.
     Clue {
         /// The digest of the clue's name, or 32 zero bytes for no clue.
@@ -54,7 +66,12 @@ impl Job {
     {
         match self {
             Job::Refused(_) | Job::Append { .. } | Job::NewMember { .. } => false,
-            Job::Anchor | Job::Get { .. } | Job::Clue { .. } | Job::Head => true,
+            Job::Anchor
+            | Job::Get { .. }
+            | Job::Prove { .. }
+            | Job::Extend { .. }
+            | Job::Clue { .. }
+            | Job::Head => true,
         }
     }
 
@@ -68,6 +85,8 @@ impl Job {
             | Job::Append { .. }
             | Job::NewMember { .. }
             | Job::Get { .. }
+            | Job::Prove { .. }
+            | Job::Extend { .. }
             | Job::Clue { .. }
             | Job::Head => false,
         }

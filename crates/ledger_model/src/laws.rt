@@ -1,4 +1,4 @@
-ghost use Rattle.std.specs.Prelude.{◌≡◌, ℕ, ◌+◌, ◌^◌, ◌<◌, ◌≤◌, List, ◌++◌, length, All, Some, slice_get, true};
+ghost use Rattle.std.specs.Prelude.{◌≡◌, ℕ, ◌+◌, ◌^◌, ◌<◌, ◌≤◌, List, ◌++◌, length, All, Some, slice_get, true, false};
 ghost use Rattle.std.specs.List.{flat_map};
 ghost use Rattle.ledger_bytes.specs.declared.digest.Digest.{Digest};
 ghost use Rattle.journal_record.specs.Entry.{Entry};
@@ -6,28 +6,35 @@ ghost use Rattle.journal_record.specs.Header.{spelling};
 ghost use Rattle.journal_record.specs.Rules.{IsHeader};
 ghost use Rattle.script_lines.specs.Receipts.{AllFit, IsReceipted};
 ghost use Rattle.script_lines.specs.declared.reply.Reply.TheVariants as replies;
+ghost use Rattle.script_lines.specs.declared.said.Which.TheVariants.{Ledger, Notary};
+ghost use Rattle.sha2.specs.Sha256.{sha256};
+ghost use Rattle.tree_model.specs.Tree.{mth};
 ghost use Rattle.time_peg.specs.Entries.{IsList, NotaryState};
+ghost use Rattle.ledger_model.specs.Bounds.{lower_journal, upper_journal, IsNearestBefore, IsNearestBehind};
 ghost use Rattle.ledger_model.specs.Dues.{dues, all_dues, due_lines, due_replies, EachCounted, HasLeaf, AllIn};
 ghost use Rattle.ledger_model.specs.Ends.{ends_from, cut_at, Rises};
 ghost use Rattle.ledger_model.specs.Fitting.{fits_job};
 ghost use Rattle.ledger_model.specs.Genesis.{new_ledger, HasKeys};
 ghost use Rattle.ledger_model.specs.Getting.{get_reply};
 ghost use Rattle.ledger_model.specs.Growing.{Grows};
-ghost use Rattle.ledger_model.specs.History.{History, journals, journals_of, size, id, point, seen_point, close};
+ghost use Rattle.ledger_model.specs.History.{History, journals, journals_of, size, id, point, seen_point, close, root};
 ghost use Rattle.ledger_model.specs.InOrder.{steps_of};
 ghost use Rattle.ledger_model.specs.Lawful.{IsLawful, IsSound};
 ghost use Rattle.ledger_model.specs.Outcomes.{view};
 ghost use Rattle.ledger_model.specs.Pegs.{Pegged};
 ghost use Rattle.ledger_model.specs.Prepared.{prepared_items, after_jobs, job_dues};
+ghost use Rattle.ledger_model.specs.Proofs.{shown_of, extension_in, list_extension};
 ghost use Rattle.ledger_model.specs.Rules.{after_job, after_steps, after};
 ghost use Rattle.ledger_model.specs.Scheme.{Scheme};
 ghost use Rattle.ledger_model.specs.Step.{Step};
-ghost use Rattle.ledger_model.specs.Texts.{text};
-ghost use Rattle.ledger_model.specs.Took.{counts_after, Took, TookAll};
+ghost use Rattle.ledger_model.specs.Texts.{text, answer_to, proof_reply, extension_reply};
+ghost use Rattle.ledger_model.specs.Took.{counts_after, NoneCall, Took, TookAll};
 ghost use Rattle.ledger_model.specs.Windows.{Said, said_lines, windows, AllButLastWhole, NoneWholeBefore};
+ghost use Rattle.ledger_model.specs.declared.answer.Answer.TheVariants as answers;
 ghost use Rattle.ledger_model.specs.declared.due.Due.{Due as AnyDue};
 ghost use Rattle.ledger_model.specs.declared.genesis.Genesis.{Genesis};
 ghost use Rattle.ledger_model.specs.declared.job.Job.{Job};
+ghost use Rattle.ledger_model.specs.declared.job.Job.TheVariants as jobs;
 ghost use Rattle.ledger_model.specs.declared.view.View.TheVariants as views;
 
 /// The windows of a script are its lines in order, none lost. Each but the last has 4,096 lines or
@@ -136,13 +143,16 @@ pub fn the_replies_of_a_run_fit()
         → EachCounted (steps_of (windows (said_lines lines))) }
 {}
 
-/// The notary takes part in a run as in its parts, one after the other.
+/// The notary takes part in a run as in its parts, one after the other, and its failures are those of the steps in which it
+/// failed; where no step calls it there are none.
 pub fn the_notary_is_attended()
     ensures joined { (scheme : Scheme) (h : History) (n mid m : NotaryState) (xs ys : List Step)
         → Took scheme h n xs mid → Took scheme (after_steps scheme h xs) mid ys m
         → Took scheme h n (xs ++ ys) m }
     ensures counted { (scheme : Scheme) (h : History) (n m : NotaryState) (steps : List Step)
         → Took scheme h n steps m → m.faults ≡ counts_after steps n.faults }
+    ensures uncalled { (scheme : Scheme) (h : History) (n m : NotaryState) (steps : List Step)
+        → Took scheme h n steps m → NoneCall scheme h steps → m.faults ≡ n.faults }
 {}
 
 /// Whatever lines are run, the notary's list keeps the entry of each kept time journal, with its time and its salt: along
@@ -158,4 +168,25 @@ pub fn a_run_keeps_its_pegs()
     ensures fewer { (k g : History) (more : List Entry) (es : List (List ℕ))
         → journals g ≡ journals k ++ more → 0 < size k → point g ≤ point k → Pegged g es → Pegged k es }
     ensures new { (genesis : Genesis) (es : List (List ℕ)) → IsList es → Pegged (new_ledger genesis) es }
+{}
+
+/// The bounds of a journal are the nearest kept time journals on its two sides, and each is missing exactly where none is
+/// kept on that side.
+pub fn the_bounds_are_nearest()
+    ensures lower { (h : History) (n : ℕ) → IsLawful h → IsNearestBefore h n (lower_journal h n) }
+    ensures upper { (h : History) (n : ℕ) → IsLawful h → IsNearestBehind h n (upper_journal h n) }
+{}
+
+/// What isn't refused is proved: each journal from the point on, each beginning of the ledger from the point on, and each
+/// beginning of the notary's list. Where the notary is called it may fail instead.
+pub fn what_is_kept_is_proved()
+    ensures journals { (h : History) (step : Step) (n : ℕ) → point h ≤ n → n < size h → step.failed ≡ false
+        → answer_to h step (jobs.Prove n) ≡ answers.Reply (proof_reply (shown_of (close h) step.after n)) }
+    ensures ledger { (h : History) (step : Step) (m : ℕ) → 0 < m → m ≤ size h → point h ≤ m
+        → answer_to h step (jobs.Extend Ledger m) ≡ answers.Reply (extension_reply Ledger m (size (close h))
+        (root (close h) (size (close h))) (extension_in (close h) m)) }
+    ensures notary { (h : History) (step : Step) (m : ℕ) → 0 < m → m ≤ length step.after
+        → step.failed ≡ false
+        → answer_to h step (jobs.Extend Notary m) ≡ answers.Reply (extension_reply Notary m (length step.after)
+        (mth sha256 step.after) (list_extension step.after m)) }
 {}

@@ -1,4 +1,4 @@
-use Rattle.ledger_model.proofs.TookLaws.{took_then, took_counted}
+use Rattle.ledger_model.proofs.TookLaws.{took_then, took_counted, took_uncalled}
 use Rattle.ledger_model.proofs.laws.the_notary_is_attended.Goals as goal
 
 pub returns-clause-joined : goal.returns-clause-joined
@@ -6,3 +6,6 @@ returns-clause-joined c = took_then
 
 pub returns-clause-counted : goal.returns-clause-counted
 returns-clause-counted c = took_counted
+
+pub returns-clause-uncalled : goal.returns-clause-uncalled
+returns-clause-uncalled c = took_uncalled
