@@ -9,6 +9,7 @@ use Rattle.tree_model.specs.Tree.{leaf}
 use Rattle.tree_model.proofs.Levels.{root_one}
 use Rattle.ledger_bytes.specs.Digests.{digest}
 use Rattle.ledger_bytes.specs.declared.digest.Digest.{Digest}
+use Rattle.ledger_bytes.specs.declared.mark.TimeMark.{TimeMark}
 use Rattle.journal_record.specs.Entry.{Entry}
 use Rattle.journal_record.specs.Header.{spelling}
 use Rattle.journal_record.specs.Members as book
@@ -20,6 +21,10 @@ use Rattle.journal_record.specs.declared.member.Member.{Member}
 use Rattle.merkle_batch.specs.Rows.{Levels, StandsFor}
 use Rattle.clue_index.specs.Added.{added_at_first}
 use Rattle.clue_index.specs.Index as index
+use Rattle.proof_codec.specs.Claims.{mark_of}
+use Rattle.proof_codec.specs.Reading.{is_time}
+use Rattle.time_peg.specs.Times.{marks_from}
+use Rattle.ledger_model.specs.Bounds.{marks_of}
 use Rattle.ledger_model.specs.Genesis.{genesis_header, genesis_journal}
 use Rattle.ledger_model.specs.History as model
 use Rattle.ledger_model.specs.History.{history, is_purge}
@@ -34,8 +39,8 @@ use Rattle.ledger_book.specs.Replaying.{IsFirst, begun_with}
 use Rattle.ledger_book.proofs.ClueLaws.{marks_same}
 
 -- what the book of a first journal keeps
-abbrev pub first_kept : Limits → Digest → List ℕ → List Member → index.Kept → List Header → Levels → Kept
-first_kept limits leaf ends members clues headers tree = record {
+abbrev pub first_kept : Limits → Digest → List ℕ → List Member → index.Kept → List TimeMark → List Header → Levels → Kept
+first_kept limits leaf ends members clues times headers tree = record {
   limits = limits;
   floor = 0;
   size = 1;
@@ -47,6 +52,7 @@ first_kept limits leaf ends members clues headers tree = record {
   id = leaf;
   members = members;
   clues = clues;
+  times = times;
   headers = headers;
   tree = tree;
 }
@@ -86,6 +92,9 @@ module _ (header : Header) (operator regulator : Digest) (j : Entry) (kind_is : 
   unfolding model.seen_point
   first_point = ap (λ (k : Kind). fold max 0 (cond (is_purge k) j.header.a 0 ∷ [])) first_kind
 
+  first_times : marks_from 0 (marks_of (model.journals (begun_with j))) ≡ []
+  first_times = ap (λ (k : Kind). marks_from 0 (map (λ (e : Entry). mark_of e.header) (cond (is_time k) (j ∷ []) []))) first_kind
+
   first_root : model.root (begun_with j) 1 ≡ leaf sha256 (spelling j.header)
   unfolding model.root
   first_root = root_one sha256 (leaf sha256 (spelling j.header))
@@ -95,10 +104,10 @@ module _ (header : Header) (operator regulator : Digest) (j : Entry) (kind_is : 
   first_id = refl
 
   -- its book stands for the history that has it alone
-  pub serves_first : (limits : Limits) (tip : Digest) (encoded : List ℕ) (ms : List Member) (clues : index.Kept) (hs : List Header) (rows : Levels) (ends : List ℕ)
-      → encoded ≡ spelling header → tip.0 ≡ leaf sha256 encoded → ms ≡ book.founders operator regulator → index.Stands clues (added_at_first []) → hs ≡ header ∷ [] → StandsFor sha256 rows (tip.0 ∷ []) → ends ≡ 1 ∷ []
-      → Serves (first_kept limits tip ends ms clues hs rows) (begun_with j)
-  serves_first limits tip encoded ms clues hs rows ends e l m c hss stands es =
+  pub serves_first : (limits : Limits) (tip : Digest) (encoded : List ℕ) (ms : List Member) (clues : index.Kept) (times : List TimeMark) (hs : List Header) (rows : Levels) (ends : List ℕ)
+      → encoded ≡ spelling header → tip.0 ≡ leaf sha256 encoded → ms ≡ book.founders operator regulator → index.Stands clues (added_at_first []) → times ≡ [] → hs ≡ header ∷ [] → StandsFor sha256 rows (tip.0 ∷ []) → ends ≡ 1 ∷ []
+      → Serves (first_kept limits tip ends ms clues times hs rows) (begun_with j)
+  serves_first limits tip encoded ms clues times hs rows ends e l m c ts hss stands es =
       let told : tip.0 ≡ leaf sha256 (spelling j.header) = l ∙ ap (leaf sha256) (e ∙ ap spelling (sym first.header_is)) in record {
         stands = record {
           lawful = first_lawful;
@@ -106,6 +115,7 @@ module _ (header : Header) (operator regulator : Digest) (j : Entry) (kind_is : 
           tree = record { root = told ∙ sym first_root; id = told ∙ sym first_id; headers_are = hss ∙ ap (λ x. x ∷ []) (sym first.header_is); leaves = subst (λ x. StandsFor sha256 rows (x ∷ [])) told stands };
           members = ap (aged_members 0) (m ∙ first_members);
           clues = subst (index.Stands clues) (sym first_clues) c;
+          times = ts ∙ sym first_times;
         };
         seen = omega arith;
       }

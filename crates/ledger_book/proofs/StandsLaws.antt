@@ -10,6 +10,7 @@ use Rattle.tree_model.specs.Tree as tree
 use Rattle.merkle_batch.specs.Rows.{Levels, StandsFor}
 use Rattle.ledger_bytes.specs.Digests.{digest}
 use Rattle.ledger_bytes.specs.declared.digest.Digest.{Digest}
+use Rattle.ledger_bytes.specs.declared.mark.TimeMark.{TimeMark}
 use Rattle.journal_record.specs.Entry.{Entry}
 use Rattle.journal_record.specs.Header.{spelling}
 use Rattle.journal_record.specs.Rules.{is_no_clue, clue_ok}
@@ -19,7 +20,9 @@ use Rattle.journal_record.specs.declared.header.Kind.TheVariants as kind
 use Rattle.journal_record.specs.declared.member.Member.{Member}
 use Rattle.clue_index.specs.Added.{Mark, Added, with_mark}
 use Rattle.clue_index.specs.Index as index
+use Rattle.proof_codec.specs.Reading.{is_time}
 use Rattle.time_peg.specs.Entries.{peg_string}
+use Rattle.time_peg.specs.Times.{marks_from}
 use Rattle.ledger_model.specs.Anchors.{peg_at}
 use Rattle.ledger_model.specs.History as model
 use Rattle.ledger_model.specs.History.{History, history, journals, journals_of, close, leaf_digest, first_leaf_digest, is_purge, purge_point, greatest_point}
@@ -35,10 +38,12 @@ use Rattle.ledger_model.proofs.LawfulLaws.{later_seen, lawful_more, none_hidden,
 use Rattle.ledger_model.proofs.PlaceLaws.{founders_kept, admitted_more, admitted_same, point_same}
 use Rattle.ledger_book.specs.Books.{Kept, Stands, Serves, headers, leaf_digests, sealed_size, ends_above, aged_member, aged_members}
 use Rattle.ledger_model.specs.Bases.{clues_added}
-use Rattle.ledger_book.specs.Steps.{IsAsBefore, MayPlace, IsLeafOf, with_clue_of}
+use Rattle.ledger_model.specs.Bounds.{marks_of}
+use Rattle.ledger_book.specs.Steps.{IsAsBefore, MayPlace, IsLeafOf, with_clue_of, with_time_of}
 use Rattle.ledger_book.specs.Seals.{head_at, sealed_block, seal_of}
 use Rattle.ledger_book.specs.declared.sealed.Sealed.{Sealed}
 use Rattle.ledger_book.proofs.ClueLaws.{marks_more, marks_same, marks_below}
+use Rattle.ledger_book.proofs.TimeLaws.{times_more}
 
 -- how many journals wait
 pub waiting_count : (k : Kept) (h : History) → Stands k h → k.size ≡ k.sealed + length h.waiting
@@ -127,6 +132,7 @@ stands_shut k h root ends s some r more =
       };
       members = s.members ∙ ap (λ js. aged_members k.floor (founders js ++ admitted_members js)) (sym e);
       clues = subst (λ (js : List Entry). index.Stands k.clues (clues_added k.floor js)) (sym e) s.clues;
+      times = s.times ∙ ap (λ (js : List Entry). marks_from k.point (marks_of (drop k.floor js))) (sym e);
     }
 
 pub stands_closed : (k : Kept) (h : History) (root : Digest) (ends : List ℕ) → Stands k h → k.sealed < k.size → root.0 ≡ model.root h (model.size h) → ends ≡ k.ends ++ k.size ∷ []
@@ -190,7 +196,8 @@ no_purge h x kind.Purge own = absurd own
 -- a journal more in the open block
 stands_wider : (k : Kept) (h : History) (j : Entry) (ms : List Member) (t : index.Kept) (rows : Levels) → Stands k h → MayPlace h j.header
     → aged_members k.floor ms ≡ aged_members k.floor (members (wider h j)) → index.Stands t (clues_added k.floor (journals (wider h j)))
-    → StandsFor sha256 rows (leaf_digests h ++ leaf_digest j ∷ []) → Stands (record k { size = k.size + 1; members = ms; clues = t; headers = k.headers ++ j.header ∷ []; tree = rows }) (wider h j)
+    → StandsFor sha256 rows (leaf_digests h ++ leaf_digest j ∷ [])
+    → Stands (record k { size = k.size + 1; members = ms; clues = t; times = with_time_of k.size j.header k.times; headers = k.headers ++ j.header ∷ []; tree = rows }) (wider h j)
 unfolding model.seen_point model.id
 stands_wider k h j ms t rows s next same clues leaves =
     let e = journals_wider h j in
@@ -218,6 +225,7 @@ stands_wider k h j ms t rows s next same clues leaves =
       };
       members = same;
       clues = clues;
+      times = times_more k h j s next.jsn ∙ ap (λ (js : List Entry). marks_from k.point (marks_of (drop k.floor js))) (sym e);
     }
 
 -- the clues with a journal more
@@ -242,7 +250,7 @@ wider_members_more h j some one =
 
 -- what an index of clues that was given a journal's clue tells
 abbrev pub AddsClue : index.Kept → index.Kept → Header → Type 0
-AddsClue old new header = (a : Added) → index.Stands old a → a.floor ≤ header.jsn → All (λ m. m.jsn < header.jsn) a.marks → index.Stands new (with_clue_of header a)
+AddsClue old new header = (a : Added) → clue_ok header.kind header.clue ≡ true → index.Stands old a → a.floor ≤ header.jsn → All (λ m. m.jsn < header.jsn) a.marks → index.Stands new (with_clue_of header a)
 
 -- the lists with a header more
 pub record Grown (k : Kept) (hs : List Header) (rows : Levels) (ends : List ℕ) (header : Header) (tip : Digest) : Type 0 where
@@ -252,15 +260,18 @@ pub record Grown (k : Kept) (hs : List Header) (rows : Levels) (ends : List ℕ)
   pub tip_is : IsLeafOf header tip
 
 -- what a book keeps behind a journal
-abbrev pub kept_with : Kept → List Member → index.Kept → List Header → Levels → List ℕ → Kept
-kept_with k ms t hs rows ends = record k { size = k.size + 1; ends = ends; members = ms; clues = t; headers = hs; tree = rows }
+abbrev pub kept_with : Kept → List Member → index.Kept → List TimeMark → List Header → Levels → List ℕ → Kept
+kept_with k ms t times hs rows ends = record k { size = k.size + 1; ends = ends; members = ms; clues = t; times = times; headers = hs; tree = rows }
 
 -- with lists that are equal to those
-grown : (k : Kept) (g : History) (j : Entry) (ms : List Member) (t : index.Kept) (hs : List Header) (rows : Levels) (ends : List ℕ) (header : Header)
-    → j.header ≡ header → hs ≡ k.headers ++ header ∷ [] → ends ≡ k.ends → Stands (kept_with k ms t (k.headers ++ j.header ∷ []) rows k.ends) g → Stands (kept_with k ms t hs rows ends) g
-grown k g j ms t hs rows ends header is heads_are ends_are s =
+grown : (k : Kept) (g : History) (j : Entry) (ms : List Member) (t : index.Kept) (times : List TimeMark) (hs : List Header) (rows : Levels) (ends : List ℕ) (header : Header)
+    → j.header ≡ header → times ≡ with_time_of k.size header k.times → hs ≡ k.headers ++ header ∷ [] → ends ≡ k.ends
+    → Stands (kept_with k ms t (with_time_of k.size j.header k.times) (k.headers ++ j.header ∷ []) rows k.ends) g → Stands (kept_with k ms t times hs rows ends) g
+grown k g j ms t times hs rows ends header is times_are heads_are ends_are s =
     let heads : k.headers ++ j.header ∷ [] ≡ hs = ap (λ x. k.headers ++ x ∷ []) is ∙ sym heads_are in
-    subst (λ (x : List ℕ). Stands (kept_with k ms t hs rows x) g) (sym ends_are) (subst (λ (x : List Header). Stands (kept_with k ms t x rows k.ends) g) heads s)
+    let timed : with_time_of k.size j.header k.times ≡ times = ap (λ x. with_time_of k.size x k.times) is ∙ sym times_are in
+    subst (λ (x : List ℕ). Stands (kept_with k ms t times hs rows x) g) (sym ends_are)
+    (subst (λ (x : List TimeMark). Stands (kept_with k ms t x hs rows k.ends) g) timed (subst (λ (x : List Header). Stands (kept_with k ms t (with_time_of k.size j.header k.times) x rows k.ends) g) heads s))
 
 module _ (k : Kept) (h : History) (j : Entry) (header : Header) (s : Stands k h) (is : j.header ≡ header) (next : MayPlace h header) where
   placing : MayPlace h j.header
@@ -278,19 +289,19 @@ module _ (k : Kept) (h : History) (j : Entry) (header : Header) (s : Stands k h)
       let same : tip.0 ≡ leaf_digest j = tip_is ∙ ap (λ (x : Header). tree.leaf sha256 (spelling x)) (sym is) in
       subst (λ d. StandsFor sha256 rows (leaf_digests h ++ d ∷ [])) same (more (leaf_digests h) s.tree.leaves)
 
-  -- a member's record
-  pub stands_record : (t : index.Kept) (hs : List Header) (rows : Levels) (ends : List ℕ) (tip : Digest) → is_member header.kind ≡ false → AddsClue k.clues t header → Grown k hs rows ends header tip
-      → Stands (kept_with k k.members t hs rows ends) (wider h j)
-  stands_record t hs rows ends tip content adds more =
+  -- a journal that is no new member
+  pub stands_record : (t : index.Kept) (times : List TimeMark) (hs : List Header) (rows : Levels) (ends : List ℕ) (tip : Digest) → is_member header.kind ≡ false → AddsClue k.clues t header
+      → times ≡ with_time_of k.size header k.times → Grown k hs rows ends header tip → Stands (kept_with k k.members t times hs rows ends) (wider h j)
+  stands_record t times hs rows ends tip content adds timed more =
       let kind_is : is_member j.header.kind ≡ false = ap (λ (x : Header). is_member x.kind) is ∙ content in
-      let told = adds (clues_added k.floor (journals h)) s.clues (omega (arith, low, next.jsn)) (subst (λ n. All (λ (m : Mark). m.jsn < n) (clues_added k.floor (journals h)).marks) (sym next.jsn) (marks_below k.floor (journals h) s.lawful)) in
+      let told = adds (clues_added k.floor (journals h)) next.layout.clue s.clues (omega (arith, low, next.jsn)) (subst (λ n. All (λ (m : Mark). m.jsn < n) (clues_added k.floor (journals h)).marks) (sym next.jsn) (marks_below k.floor (journals h) s.lawful)) in
       let clues : index.Stands t (clues_added k.floor (journals (wider h j))) = subst (index.Stands t) (ap (λ (x : Header). with_clue_of x (clues_added k.floor (journals h))) (sym is) ∙ wider_clues k.floor h j) told in
-      grown k (wider h j) j k.members t hs rows ends header is more.headers_are more.ends_are
+      grown k (wider h j) j k.members t times hs rows ends header is timed more.headers_are more.ends_are
       (stands_wider k h j k.members t rows s placing (s.members ∙ ap (aged_members k.floor) (sym (wider_members_same h j some_yet kind_is))) clues (leaf_more rows tip more.tip_is more.leaves_are))
 
   -- a new member
   pub stands_member : (ms : List Member) (hs : List Header) (rows : Levels) (ends : List ℕ) (tip : Digest) → header.kind ≡ kind.Member → ms ≡ k.members ++ record { key = header.link; jsn = header.jsn } ∷ []
-      → Grown k hs rows ends header tip → Stands (kept_with k ms k.clues hs rows ends) (wider h j)
+      → Grown k hs rows ends header tip → Stands (kept_with k ms k.clues k.times hs rows ends) (wider h j)
   stands_member ms hs rows ends tip member added more =
       let kind_is : j.header.kind ≡ kind.Member = ap (λ (x : Header). x.kind) is ∙ member in
       let none_j : is_no_clue j.header.clue ≡ true = ap (λ (x : Header). is_no_clue x.clue) is ∙ subst (λ (x : Kind). clue_ok x header.clue ≡ true) member next.layout.clue in
@@ -299,7 +310,8 @@ module _ (k : Kept) (h : History) (j : Entry) (header : Header) (s : Stands k h)
       ap (aged_members k.floor) (added ∙ ap (λ (x : Header). k.members ++ record { key = x.link; jsn = x.jsn } ∷ []) (sym is)) ∙ map-append (aged_member k.floor) k.members (member_of j ∷ [])
       ∙ ap (λ x. x ++ aged_members k.floor (member_of j ∷ [])) s.members ∙ sym (map-append (aged_member k.floor) (members h) (member_of j ∷ []))
       ∙ ap (aged_members k.floor) (sym (wider_members_more h j some_yet (ap is_member kind_is))) in
-      grown k (wider h j) j ms k.clues hs rows ends header is more.headers_are more.ends_are
+      let timed : k.times ≡ with_time_of k.size header k.times = sym (ap (λ (x : Kind). cond (is_time x) (k.times ++ record { jsn = k.size; index = header.a; time = header.b } ∷ []) k.times) member) in
+      grown k (wider h j) j ms k.clues k.times hs rows ends header is timed more.headers_are more.ends_are
       (stands_wider k h j ms k.clues rows s placing joined (subst (index.Stands k.clues) same s.clues) (leaf_more rows tip more.tip_is more.leaves_are))
 
 -- more room for the tree changes nothing
@@ -311,6 +323,7 @@ as_before_stands old new h same s =
       tree = record { root = s.tree.root; id = s.tree.id; headers_are = s.tree.headers_are; leaves = same.tree (leaf_digests h) s.tree.leaves };
       members = s.members;
       clues = s.clues;
+      times = s.times;
     } in
     subst (λ (k : Kept). Stands k h) (sym same.kept) moved
 

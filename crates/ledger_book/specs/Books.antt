@@ -2,11 +2,14 @@
 use Rattle.std.specs.Prelude.{◌≡◌, ℕ, ◌≤◌, if◌then◌else◌, List, map, filter, drop, length, nat_lt}
 use Rattle.sha2.specs.Sha256.{sha256}
 use Rattle.ledger_bytes.specs.declared.digest.Digest.{Digest}
+use Rattle.ledger_bytes.specs.declared.mark.TimeMark.{TimeMark}
 use Rattle.journal_record.specs.declared.header.Header.{Header}
 use Rattle.merkle_batch.specs.Rows.{Levels, StandsFor}
 use Rattle.journal_record.specs.declared.member.Member.{Member}
 use Rattle.clue_index.specs.Index as index
+use Rattle.time_peg.specs.Times.{marks_from}
 use Rattle.ledger_model.specs.Bases.{clues_added}
+use Rattle.ledger_model.specs.Bounds.{marks_of}
 use Rattle.ledger_model.specs.History as model
 use Rattle.ledger_model.specs.History.{History, journals, journals_of, leaf_digest}
 use Rattle.ledger_model.specs.Lawful.{AreLawful}
@@ -52,6 +55,8 @@ pub record Kept : Type 0 where
   pub id : Digest
   pub members : List Member
   pub clues : index.Kept
+  -- the marks of the time journals from the point on, in order
+  pub times : List TimeMark
   pub headers : List Header
   pub tree : Levels
 
@@ -78,6 +83,8 @@ pub record Stands (k : Kept) (h : History) : Type 0 where
   pub tree : HasTree k h
   pub members : aged_members k.floor k.members ≡ aged_members k.floor (member.members h)
   pub clues : index.Stands k.clues (clues_added k.floor (journals h))
+  -- the marks of the kept time journals, as far as the point is seen
+  pub times : k.times ≡ marks_from k.point (marks_of (drop k.floor (journals h)))
 
 -- .. and a purge up to its first header has been seen
 pub record Serves (k : Kept) (h : History) : Type 0 where

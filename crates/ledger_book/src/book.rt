@@ -1,7 +1,10 @@
-ghost use Rattle.std.specs.Prelude.{◌≡◌, ◌+◌, ◌≤◌, IfOk, IfNone, IsSome, ◌<◌, [], length, nat_le, slice_get, option_copied, Option, None, true, if◌then◌else◌};
+ghost use Rattle.std.specs.Prelude.{◌≡◌, ◌+◌, ◌^◌, ◌≤◌, IfOk, IfNone, IsSome, ◌<◌, [], length, nat_le, slice_get, option_copied, Option, None, true, if◌then◌else◌};
+ghost use Rattle.std.specs.Option.{option_map};
 ghost use Rattle.sha2.specs.Sha256.{sha256};
 ghost use Rattle.merkle_batch.specs.Rows.{StandsFor};
+ghost use Rattle.proof_codec.specs.Claims.{mark_of};
 ghost use Rattle.ledger_model.specs.Anchors.{peg_at};
+ghost use Rattle.ledger_model.specs.Bounds.{lower_journal, upper_journal};
 ghost use Rattle.ledger_model.specs.Clues.{jsns_with};
 ghost use Rattle.ledger_model.specs.Genesis.{new_ledger};
 ghost use Rattle.ledger_model.specs.History as model;
@@ -15,6 +18,7 @@ ghost use Rattle.ledger_book.specs.Seals.{head_of, seal_of};
 ghost use Rattle.ledger_book.specs.Steps.{IsSame};
 
 mod applying;
+mod asking;
 mod judging;
 mod placing;
 mod replaying;
@@ -23,14 +27,14 @@ use crate::Sealed;
 use crate::headers::first_header;
 use clue_index::ClueIndex;
 use journal_record::Header;
-use ledger_bytes::{Digest, NoMemory, Sha};
+use ledger_bytes::{Digest, NoMemory, Sha, TimeMark};
 use ledger_model::{Genesis, Limits, View};
 use member_book::MemberBook;
 use merkle_batch::Tree;
 use merkle_tree::Head;
 use std::alloc::Global;
 use std::marker::Model;
-use time_peg::peg_of;
+use time_peg::{TimeIndex, peg_of};
 
 /// The state of a ledger's history. A contract sees the record of what is kept; `Stands` says of which histories it
 /// keeps that, and each clause speaks of all of these.
@@ -50,6 +54,8 @@ pub struct Book {
     id: Digest,
     members: MemberBook,
     clues: ClueIndex,
+    /// The time journals from the point on.
+    times: TimeIndex,
     headers: Vec<Header>,
     /// The tree over all journals.
     tree: Tree<Sha>,
@@ -57,6 +63,7 @@ pub struct Book {
 
 impl Model for Book {
     ghost use Rattle.std.specs.Prelude.{◌≡◌, ◌^◌, ◌+◌, ◌<◌, ◌≤◌, vec_len, vec_capacity};
+    ghost use Rattle.std.specs.List.{AllByRecursion};
     ghost use Rattle.ledger_model.specs.Limits.{AreWithin};
     ghost use Rattle.ledger_book.specs.Books.{Kept};
 
@@ -74,6 +81,7 @@ impl Model for Book {
       id = b.id;
       members = b.members;
       clues = b.clues;
+      times = b.times;
       headers = b.headers.items;
       tree = b.tree;
     } };
@@ -81,7 +89,8 @@ impl Model for Book {
     ghost invariant = { λ b. (1 ≤ b.size) × (b.size < 2 ^ 32) × AreWithin b.limits
         × (b.blocks ≤ b.head.size) × (b.head.size ≤ b.size)
         × (b.head.size < b.size → vec_len b.ends < vec_capacity b.ends) × (b.tree.size ≡ b.size)
-        × (b.tree.floor ≡ b.floor) × (b.floor + vec_len b.headers ≡ b.size) };
+        × (b.tree.floor ≡ b.floor) × (b.floor + vec_len b.headers ≡ b.size)
+        × AllByRecursion (λ m. m.jsn < b.size) b.times };
 }
 
 impl Book {
@@ -223,11 +232,23 @@ impl Book {
         Ok((count, kept))
     }
 
+    /// The bounds of journal `n` in time: the last time journal in front of it and the first behind it, among those that are
+    /// kept. A time journal is no bound of itself. They are found by a search.
+    pub fn bounds_of(&self, n: u64) -> (Option<TimeMark>, Option<TimeMark>)
+        ensures lower { (h : History) → Serves self.now h
+            → result.0 ≡ option_map (λ e. mark_of e.header) (lower_journal h n) }
+        ensures upper { (h : History) → Serves self.now h
+            → result.1 ≡ option_map (λ e. mark_of e.header) (upper_journal h n) }
+    {
+        self.times.bounds_of(n)
+    }
+
     /// The tree over all journals, which keeps their leaves from the first kept header on.
     pub fn tree(&self) -> &Tree<Sha>
         ensures stands { (h : History) → Stands self.now h
             → StandsFor sha256 result.now (leaf_digests h) }
         ensures floor { result.now.floor ≡ self.now.floor }
+        ensures fits { result.now.size < 2 ^ 32 }
     {
         &self.tree
     }

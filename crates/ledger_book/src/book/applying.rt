@@ -50,6 +50,17 @@ impl Book {
             Job::NewMember { number, key, by } => self.apply_member(*number, key, by),
             Job::Anchor => self.apply_anchor(stamp),
             Job::Get { n } => Ok(Outcome::Reading(Query::Get { n: *n })),
+            Job::Prove { n } => match self.prove_refusal(*n) {
+                Some(refusal) => Ok(Outcome::Refused(refusal)),
+                None => Ok(Outcome::Reading(Query::Prove { n: *n })),
+            },
+            Job::Extend { which, m } => match self.extend_refusal(*which, *m) {
+                Some(refusal) => Ok(Outcome::Refused(refusal)),
+                None => Ok(Outcome::Reading(Query::Extend {
+                    which: *which,
+                    m: *m,
+                })),
+            },
             Job::Clue { clue } => Ok(Outcome::Reading(Query::Clue { clue: *clue })),
             Job::Head => Ok(Outcome::Reading(Query::Head)),
         }

@@ -1,6 +1,8 @@
 ghost use Rattle.std.specs.Prelude.{◌≡◌, ◌+◌, ◌<◌, ◌≤◌, [], ℕ, All, true, false, Some, length, OnOk, OnErr};
+ghost use Rattle.std.specs.List.{AllByRecursion};
 ghost use Rattle.ledger_bytes.specs.declared.limits.TheConstants.{MEMBER_LIMIT};
 ghost use Rattle.journal_record.specs.Entry.{Entry};
+ghost use Rattle.journal_record.specs.Rules.{clue_ok};
 ghost use Rattle.journal_record.specs.declared.header.Kind.TheVariants as kind;
 ghost use Rattle.clue_index.specs.Added.{Added};
 ghost use Rattle.clue_index.specs.Index as index;
@@ -11,13 +13,14 @@ ghost use Rattle.ledger_model.specs.Limits.{real_limits};
 ghost use Rattle.ledger_model.specs.Members.{is_member};
 ghost use Rattle.ledger_model.specs.Outcomes.{with_waiting};
 ghost use Rattle.ledger_book.specs.Books.{Stands};
-ghost use Rattle.ledger_book.specs.Steps.{IsSame, IsAsBefore, MayPlace, IsLeafOf, OpenGathers, with_clue_of};
+ghost use Rattle.ledger_book.specs.Steps.{IsSame, IsAsBefore, MayPlace, IsLeafOf, OpenGathers, with_clue_of, with_time_of};
 
 use super::Book;
 use crate::headers::Place;
 use clue_index::ClueIndex;
-use journal_record::Header;
-use ledger_bytes::{Digest, NoMemory};
+use journal_record::{Header, Kind};
+use ledger_bytes::{Digest, NoMemory, TimeMark};
+use time_peg::TimeIndex;
 
 impl Book {
     /// Where the next journal stands, which has this clue.
@@ -64,7 +67,7 @@ impl Book {
         self.headers.reserve(1)?;
         self.tree.reserve(1)?;
         self.ends.reserve(1)?;
-        add_clue(&mut self.clues, header)?;
+        add_to_indexes(&mut self.times, &mut self.clues, self.size, header)?;
         self.tree.add_leaves(&[leaf]);
         self.headers.push_reserved(*header);
         self.size += 1;
@@ -96,6 +99,31 @@ impl Book {
         self.size += 1;
         Ok(())
     }
+}
+
+// Adds a journal, which has this number, to the times where it is a time journal, and else to its clue, where it has one.
+fn add_to_indexes(
+    times: &mut TimeIndex,
+    clues: &mut ClueIndex,
+    jsn: u64,
+    header: &Header,
+) -> Result<(), NoMemory>
+    requires { AllByRecursion (λ m. m.jsn < jsn) times.old }
+    ensures times { OnOk result (times.new ≡ with_time_of jsn header.now times.old) }
+    ensures clues { OnOk result ((a : Added) → clue_ok header.now.kind header.now.clue ≡ true
+        → index.Stands clues.old a → a.floor ≤ header.now.jsn
+        → All (λ m. m.jsn < header.now.jsn) a.marks
+        → index.Stands clues.new (with_clue_of header.now a)) }
+    ensures err { OnErr result ((times.new ≡ times.old) × (clues.new ≡ clues.old)) }
+{
+    if header.kind == Kind::Time {
+        return times.add(TimeMark {
+            jsn,
+            index: header.a,
+            time: header.b,
+        });
+    }
+    add_clue(clues, header)
 }
 
 // Adds a journal to its clue, where it has one.

@@ -21,6 +21,7 @@ use member_book::MemberBook;
 use merkle_batch::Tree;
 use merkle_tree::{Head, leaf_of};
 use std::alloc::Global;
+use time_peg::TimeIndex;
 
 impl Book {
     /// The book of a ledger whose journal 0 has this header and, as its content, the keys of the operator and the
@@ -62,6 +63,7 @@ impl Book {
             id: leaf,
             members,
             clues: ClueIndex::new(alloc),
+            times: TimeIndex::new(alloc),
             headers,
             tree,
         })

@@ -1,0 +1,53 @@
+//! Why a job that asks for a proof is refused.
+
+ghost use Rattle.std.specs.Prelude.{◌≡◌};
+ghost use Rattle.ledger_model.specs.History.{History};
+ghost use Rattle.ledger_model.specs.Judgements.{own_refusal};
+ghost use Rattle.ledger_model.specs.Proofs as proofs;
+ghost use Rattle.ledger_model.specs.declared.job.Job.TheVariants as asked;
+ghost use Rattle.ledger_model.specs.declared.limits.Limits.{Limits};
+ghost use Rattle.ledger_book.specs.Books.{Serves};
+
+use super::Book;
+use ledger_bytes::Refusal;
+use script_lines::Which;
+
+impl Book {
+    /// Why journal `n` has no proof, where it has none.
+    pub(super) fn prove_refusal(&self, n: u64) -> Option<Refusal>
+        ensures { (h : History) → Serves self.now h → result ≡ proofs.prove_refusal h n }
+    {
+        if n >= self.size {
+            Some(Refusal::NoJournal { size: self.size })
+        } else if n < self.point {
+            Some(Refusal::Purged { point: self.point })
+        } else {
+            None
+        }
+    }
+
+    /// Why there is no proof that a tree goes on from its first `m`, as far as the ledger alone tells it: nothing is known
+    /// of the notary's list.
+    pub(super) fn extend_refusal(&self, which: Which, m: u64) -> Option<Refusal>
+        ensures { (limits : Limits) (h : History) → Serves self.now h
+            → result ≡ own_refusal limits h (asked.Extend which m) }
+    {
+        match which {
+            Which::Ledger => self.ledger_refusal(m),
+            Which::Notary => None,
+        }
+    }
+
+    // Why there is no proof that the ledger goes on from its first `m` journals, where there is none.
+    fn ledger_refusal(&self, m: u64) -> Option<Refusal>
+        ensures { (h : History) → Serves self.now h → result ≡ proofs.extend_refusal h m }
+    {
+        if m == 0 || m > self.size {
+            Some(Refusal::BadSize { size: self.size })
+        } else if m < self.point {
+            Some(Refusal::Purged { point: self.point })
+        } else {
+            None
+        }
+    }
+}
