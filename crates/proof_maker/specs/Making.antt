@@ -1,67 +1,36 @@
--- The proof of a journal, the proof that the ledger goes on from an earlier head, and why none is made.
-use Rattle.std.specs.Prelude.{◌≡◌, ℕ, ◌==◌, ◌||◌, nat_le, nat_lt, if◌then◌else◌, List, [], get_or, take, Option, Some, None, Result, Ok, Err}
-use Rattle.std.specs.List.{concat}
+-- Proofs as they are made, what is answered where there is none, and who accepts them.
+use Rattle.std.specs.Prelude.{◌≡◌, ◌⊎◌, ℕ, Bool, true, false, if◌then◌else◌, List, length, take, Some, None, Result, Ok, Err, ⊤}
 use Rattle.sha2.specs.Sha256.{sha256}
+use Rattle.ledger_bytes.specs.Causes.{count_after}
 use Rattle.ledger_bytes.specs.Digests.{digest}
 use Rattle.ledger_bytes.specs.declared.digest.Digest.{Digest}
 use Rattle.ledger_bytes.specs.declared.refusal.Refusal.{Refusal}
-use Rattle.ledger_bytes.specs.declared.refusal.Refusal.TheVariants.{NoJournal, Purged, BadSize}
-use Rattle.tree_model.specs.Extension.{proof}
-use Rattle.tree_model.specs.Path.{path}
+use Rattle.ledger_bytes.specs.declared.refusal.Refusal.TheVariants.{BadVerb, BadField, BadLane, Damaged, UnknownMember, WrongKey, MissingApproval, ApprovalOrder, MemberNumber, MembersFull, NoJournal, Purged, NotData, NotTime, AlreadyOcculted, LeafDiffers, RootDiffers, NotaryFault, NotaryFull, Full, BadSize, CluesFull}
+use Rattle.tree_model.specs.Tree.{mth}
+use Rattle.merkle_tree.specs.declared.head.Head.{Head}
 use Rattle.merkle_batch.specs.declared.tree.TreeErr.{TreeErr}
 use Rattle.merkle_batch.specs.declared.tree.TreeErr.TheVariants as tree_err
+use Rattle.time_peg.specs.declared.notary.NotaryErr.{NotaryErr}
+use Rattle.time_peg.specs.declared.notary.NotaryErr.TheVariants as notary_err
 use Rattle.proof_codec.specs.Claims.{claim_of}
 use Rattle.proof_codec.specs.Proofs.{Shown, IsProof, spelling}
-use Rattle.ledger_model.specs.History.{History, id, point, root}
-use Rattle.ledger_book.specs.Books.{leaf_digests, sealed_size}
-use Rattle.ledger_book.specs.Seals.{head_of}
-use Rattle.script_lines.specs.declared.said.Which.TheVariants.{Ledger}
+use Rattle.ledger_model.specs.Bounds.{has_bound}
+use Rattle.ledger_model.specs.History.{History, id, size, root}
+use Rattle.ledger_model.specs.Proofs.{shown_of, prove_refusal, extend_refusal, size_refusal, extension_in, list_extension}
+use Rattle.ledger_book.specs.Seals.{head_at}
+use Rattle.script_lines.specs.declared.said.Which.{Which}
+use Rattle.script_lines.specs.declared.said.Which.TheVariants.{Ledger, Notary}
 use Rattle.audit_core.specs.Trust.{Trust, ledger_at, root_of}
-use Rattle.proof_maker.specs.declared.making.Leaf.{Leaf}
 use Rattle.proof_maker.specs.declared.made.Made.{Made}
 use Rattle.proof_maker.specs.declared.made.MadeExtension.{MadeExtension}
 use Rattle.proof_maker.specs.declared.made.MakeErr.{MakeErr}
 use Rattle.proof_maker.specs.declared.made.MakeErr.TheVariants.{Refused, NoMemory}
 
--- this is leaf n, with its path under the tree over the first so many leaves
-pub record IsLeaf (leaves : List (List ℕ)) (size n : ℕ) (leaf : Leaf) : Type 0 where
-  pub digest_is : leaf.digest ≡ digest (get_or leaves n [])
-  pub path_is : leaf.path.items ≡ concat (path sha256 n (take size leaves))
+-- ---- what is made
 
--- what a proof without bounds shows
-abbrev pub unbounded : ℕ → ℕ → Digest → List ℕ → Shown
-unbounded size n leaf path =
-    record {
-      size = size;
-      n = n;
-      leaf = leaf;
-      path = path;
-      lo = None;
-      hi = None;
-      notary_size = 0;
-      lo_path = [];
-      hi_path = [];
-    }
-
--- what the proof of leaf n shows under the tree over so many leaves, where this is the leaf with its path
-abbrev pub shown_by : Leaf → ℕ → ℕ → Shown
-shown_by leaf size n = unbounded size n leaf.digest leaf.path.items
-
--- what the proof of leaf n shows under the tree over the first so many leaves
-abbrev pub shown_over : List (List ℕ) → ℕ → ℕ → Shown
-shown_over leaves size n = unbounded size n (digest (get_or leaves n [])) (concat (path sha256 n (take size leaves)))
-
--- what the proof of journal n shows: its leaf and its path under the head at the last block's end. No journal of a
--- ledger tells a time so far, so there is no bound.
-abbrev pub shown_of : History → ℕ → Shown
-shown_of h n = shown_over (leaf_digests h) (sealed_size h) n
-
--- why journal n has no proof: it stands in no block that has ended, or it was purged
-abbrev pub refusal_of : History → ℕ → Option Refusal
-refusal_of h n =
-    if nat_le (sealed_size h) n then Some (NoJournal (sealed_size h))
-    else if nat_lt n (point h) then Some (Purged (point h))
-    else None
+-- the head over all entries of a notary's list
+abbrev pub head_over : List (List ℕ) → Head
+head_over es = record { size = length es; root = digest (mth sha256 es) }
 
 -- this was made: what is shown has a spelling, and these are its bytes and its claim
 pub record IsMade (shown : Shown) (made : Made) : Type 0 where
@@ -69,42 +38,123 @@ pub record IsMade (shown : Shown) (made : Made) : Type 0 where
   pub claim_is : made.claim ≡ claim_of shown
   pub proof_is : made.proof ≡ spelling shown
 
--- the digests of the proof that the tree over the first so many leaves goes on from that over the first m
-abbrev pub extension_over : List (List ℕ) → ℕ → ℕ → List ℕ
-extension_over leaves size m = concat (proof sha256 m (take size leaves))
-
--- why there is no proof that the ledger goes on from its first m journals: they are none, or not so many stand in
--- blocks that have ended, or more were purged
-abbrev pub extension_refusal : History → ℕ → Option Refusal
-extension_refusal h m =
-    if m == 0 || nat_lt (sealed_size h) m then Some (BadSize (sealed_size h))
-    else if nat_lt m (point h) then Some (Purged (point h))
-    else None
-
--- this was made: the head at the last block's end, and the proof that it goes on from the first m journals
+-- this was made: the head over all journals, and the proof that the ledger goes on from its first m
 pub record IsExtended (h : History) (m : ℕ) (made : MadeExtension) : Type 0 where
-  pub head_is : made.head ≡ head_of h
-  pub proof_is : made.proof ≡ extension_over (leaf_digests h) (sealed_size h) m
+  pub head_is : made.head ≡ head_at h (size h)
+  pub proof_is : made.proof ≡ extension_in h m
 
--- what a call answers, where this stands against a proof or nothing does
-abbrev pub Answers : {A : Type 0} → Option Refusal → Result A MakeErr → Type 0
-Answers refusal (Ok made) = refusal ≡ None
-Answers refusal (Err (Refused why)) = refusal ≡ Some why
-Answers refusal (Err NoMemory) = refusal ≡ None
+-- this was made: the head over all entries of a notary's list, and the proof that it goes on from its first m
+pub record IsListExtended (es : List (List ℕ)) (m : ℕ) (made : MadeExtension) : Type 0 where
+  pub size_is : made.head.size ≡ length es
+  pub root_is : made.head.root.0 ≡ mth sha256 es
+  pub proof_is : made.proof ≡ list_extension es m
 
--- an auditor trusts the head at the last block's end
-abbrev pub TrustsHead : Trust → History → Type 0
-TrustsHead trust h =
-    ledger_at trust (sealed_size h) ≡ Some (record { id = digest (id h); root = digest (root h (sealed_size h)) })
+-- ---- what is answered
 
--- an auditor trusts the ledger's root over its first m journals, and no other root than the ledger's at the last
--- block's end
-pub record TrustsFirst (trust : Trust) (h : History) (m : ℕ) : Type 0 where
-  pub first : root_of Ledger trust m ≡ Some (digest (root h m))
-  pub agrees : (kept : Digest) → root_of Ledger trust (sealed_size h) ≡ Some kept → kept ≡ digest (root h (sealed_size h))
+-- what comes where a proof of journal n is to be made, and the notary's list is this: the proof where nothing refuses it, and
+-- why there is none where something does; a bounded one may also fail by the notary
+abbrev pub Proves : History → List (List ℕ) → ℕ → Result Made MakeErr → Type 0
+Proves h es n (Ok made) = (prove_refusal h n ≡ None) × IsMade (shown_of h es n) made
+Proves h es n (Err (Refused why)) =
+    (prove_refusal h n ≡ Some why) ⊎ ((why ≡ NotaryFault) × (has_bound h n ≡ true) × (prove_refusal h n ≡ None))
+Proves h es n (Err NoMemory) = prove_refusal h n ≡ None
+
+-- .. where an extension of the ledger's first m journals is
+abbrev pub Extends : History → ℕ → Result MadeExtension MakeErr → Type 0
+Extends h m (Ok made) = (extend_refusal h m ≡ None) × IsExtended h m made
+Extends h m (Err (Refused why)) = extend_refusal h m ≡ Some why
+Extends h m (Err NoMemory) = extend_refusal h m ≡ None
+
+-- .. where an extension of the first m entries of a notary's list is; the notary may fail before anything else is known
+abbrev pub ExtendsList : List (List ℕ) → ℕ → Result MadeExtension MakeErr → Type 0
+ExtendsList es m (Ok made) = (size_refusal (length es) m ≡ None) × IsListExtended es m made
+ExtendsList es m (Err (Refused why)) = (size_refusal (length es) m ≡ Some why) ⊎ (why ≡ NotaryFault)
+ExtendsList es m (Err NoMemory) = size_refusal (length es) m ≡ None
+
+-- .. where one of both trees is
+abbrev pub ExtendsWhich : Which → History → List (List ℕ) → ℕ → Result MadeExtension MakeErr → Type 0
+ExtendsWhich Ledger h es m result = Extends h m result
+ExtendsWhich Notary h es m result = ExtendsList es m result
+
+-- a number of first ones is refused where none or not so many are there
+abbrev pub ChecksSize : ℕ → ℕ → Result Unit MakeErr → Type 0
+ChecksSize size m (Ok done) = size_refusal size m ≡ None
+ChecksSize size m (Err (Refused why)) = size_refusal size m ≡ Some why
+ChecksSize size m (Err NoMemory) = ⊥
+
+-- is this refusal a failure of the notary?
+abbrev pub is_fault : Refusal → Bool
+is_fault BadVerb = false
+is_fault (BadField column) = false
+is_fault BadLane = false
+is_fault (Damaged kept found) = false
+is_fault (UnknownMember member) = false
+is_fault (WrongKey member) = false
+is_fault (MissingApproval member) = false
+is_fault (ApprovalOrder at) = false
+is_fault (MemberNumber next) = false
+is_fault MembersFull = false
+is_fault (NoJournal size) = false
+is_fault (Purged point) = false
+is_fault (NotData kind) = false
+is_fault (NotTime kind) = false
+is_fault (AlreadyOcculted by) = false
+is_fault (LeafDiffers kept) = false
+is_fault (RootDiffers kept) = false
+is_fault NotaryFault = true
+is_fault NotaryFull = false
+is_fault (Full kept size) = false
+is_fault (BadSize size) = false
+is_fault CluesFull = false
+
+-- the count of the notary's faults rises by one exactly where its failure is answered; at the end of its type it stays
+abbrev pub CountsFaults : {A : Type 0} → Result A MakeErr → ℕ → ℕ → Type 0
+CountsFaults (Ok made) before now = now ≡ before
+CountsFaults (Err (Refused why)) before now = now ≡ (if is_fault why then count_after before else before)
+CountsFaults (Err NoMemory) before now = now ≡ before
+
+-- a call that asks no notary answers no failure of one
+abbrev pub NeverFaults : {A : Type 0} → Result A MakeErr → Type 0
+NeverFaults (Ok made) = ⊤
+NeverFaults (Err (Refused why)) = is_fault why ≡ false
+NeverFaults (Err NoMemory) = ⊤
 
 -- the answer to what a tree answers
 abbrev pub of_tree : TreeErr → MakeErr
 of_tree (tree_err.Below p) = Refused (Purged p)
 of_tree (tree_err.Beyond size) = Refused (NoJournal size)
 of_tree tree_err.NoMemory = NoMemory
+
+-- .. and to what a notary does; that its list is full comes of no call that a proof needs
+abbrev pub of_notary : NotaryErr → MakeErr
+of_notary notary_err.Failed = Refused NotaryFault
+of_notary notary_err.Full = Refused NotaryFault
+of_notary notary_err.NoMemory = NoMemory
+
+-- ---- who accepts it
+
+-- an auditor trusts the head over all journals, as one of this ledger
+abbrev pub TrustsHead : Trust → History → Type 0
+TrustsHead trust h = ledger_at trust (size h) ≡ Some (record { id = digest (id h); root = digest (root h (size h)) })
+
+-- .. and the head over all entries of the notary's list
+abbrev pub TrustsList : Trust → List (List ℕ) → Type 0
+TrustsList trust es = root_of Notary trust (length es) ≡ Some (digest (mth sha256 es))
+
+-- an auditor trusts this root for the first m of a tree, and for the size of a head no other root than that head's
+pub record TrustsFirst (which : Which) (trust : Trust) (m size : ℕ) (first root : Digest) : Type 0 where
+  pub trusted : root_of which trust m ≡ Some first
+  pub agrees : (kept : Digest) → root_of which trust size ≡ Some kept → kept ≡ root
+
+-- .. of the ledger's tree
+abbrev pub TrustsJournals : Trust → History → ℕ → Type 0
+TrustsJournals trust h m = TrustsFirst Ledger trust m (size h) (digest (root h m)) (digest (root h (size h)))
+
+-- .. of the notary's
+abbrev pub TrustsEntries : Trust → List (List ℕ) → ℕ → Type 0
+TrustsEntries trust es m = TrustsFirst Notary trust m (length es) (digest (mth sha256 (take m es))) (digest (mth sha256 es))
+
+-- .. of one of both
+abbrev pub TrustsWhich : Which → Trust → History → List (List ℕ) → ℕ → Type 0
+TrustsWhich Ledger trust h es m = TrustsJournals trust h m
+TrustsWhich Notary trust h es m = TrustsEntries trust es m

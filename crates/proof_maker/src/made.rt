@@ -5,6 +5,7 @@ use merkle_batch::TreeErr;
 use merkle_tree::Head;
 use proof_codec::Claim;
 use thiserror::Error;
+use time_peg::NotaryErr;
 
 /// A proof that was made.
 #[derive(Debug, Drop)]
@@ -15,7 +16,7 @@ pub struct Made {
     pub proof: Bytes,
 }
 
-/// A proof that a ledger goes on from an earlier head.
+/// A proof that a ledger or a notary's list goes on from an earlier head.
 #[derive(Debug, Drop)]
 pub struct MadeExtension {
     /// The head that it leads to.
@@ -27,7 +28,8 @@ pub struct MadeExtension {
 /// Why no proof was made.
 #[derive(Clone, Copy, Debug, PartialEq, Eq, Error)]
 pub enum MakeErr {
-    #[error("the ledger has no such journal or size")]
+    /// There is no such journal or size, or the notary failed.
+    #[error("nothing is proved of that journal or size")]
     Refused(Refusal),
     #[error("not enough memory")]
     NoMemory,
@@ -53,6 +55,20 @@ impl From<TreeErr> for MakeErr {
             TreeErr::Below { p } => MakeErr::Refused(Refusal::Purged { point: p }),
             TreeErr::Beyond { size } => MakeErr::Refused(Refusal::NoJournal { size }),
             TreeErr::NoMemory => MakeErr::NoMemory,
+        }
+    }
+}
+
+// A list that is full refuses stamps alone, and a proof needs none.
+impl From<NotaryErr> for MakeErr {
+    ghost use Rattle.proof_maker.specs.Making.{of_notary};
+
+    ghost from_gives = { λ from e. e ≡ of_notary from };
+
+    fn from(from: NotaryErr) -> Self {
+        match from {
+            NotaryErr::Failed | NotaryErr::Full => MakeErr::Refused(Refusal::NotaryFault),
+            NotaryErr::NoMemory => MakeErr::NoMemory,
         }
     }
 }

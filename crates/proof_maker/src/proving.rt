@@ -1,35 +1,72 @@
-ghost use Rattle.std.specs.Prelude.{◌≡◌, ℕ, IfOk};
+ghost use Rattle.std.specs.Prelude.{◌≡◌, true, false, ℕ, IfOk, IfSome};
 ghost use Rattle.sha2.specs.Sha256.{sha256};
 ghost use Rattle.ledger_book.specs.Books.{Serves};
+ghost use Rattle.ledger_model.specs.Bounds.{has_bound};
+ghost use Rattle.ledger_model.specs.History as model;
 ghost use Rattle.ledger_model.specs.History.{History};
+ghost use Rattle.ledger_model.specs.Pegs.{Pegged};
+ghost use Rattle.ledger_model.specs.Proofs.{prove_refusal};
 ghost use Rattle.audit_core.specs.Acceptance.{IsAccepted};
 ghost use Rattle.audit_core.specs.Trust.{Trust};
-ghost use Rattle.proof_maker.specs.Making.{Answers, IsMade, TrustsHead, refusal_of, shown_of};
+ghost use Rattle.proof_maker.specs.Making.{Proves, CountsFaults, TrustsHead, TrustsList, is_fault};
+ghost use Rattle.proof_maker.specs.Parts as part;
 
-use crate::making::make;
+use crate::bound::Bound;
+use crate::noted::Noted;
+use crate::parts::Parts;
+use crate::spelling::spell;
 use crate::{Made, MakeErr};
 use ledger_book::Book;
 use ledger_bytes::Refusal;
 use std::alloc::Global;
+use time_peg::Notary;
 
-/// Makes the proof of journal `n` under the book's head. `NoJournal` comes where it stands in no block that has ended,
-/// with the head's size, and then `Purged` where it lies below the point. The cost is that of the path: at most a
-/// logarithm of stored nodes and hashes.
-pub fn prove(alloc: Global, book: &Book, n: u64) -> Result<Made, MakeErr>
-    ensures answer { (h : History) → Serves book.now h → Answers (refusal_of h n) result }
-    ensures made { IfOk result (λ made. (h : History) → Serves book.now h
-        → IsMade (shown_of h n) made) }
-    // Who trusts the book's head accepts it.
+/// Makes the proof of journal `n` under the root over all journals, of which none may wait, between the nearest time
+/// journals that are kept. `NoJournal` comes where there is no such journal, with the ledger's size, and then `Purged`
+/// where it lies below the point; `NotaryFault` only where there is a bound, since else the notary isn't asked. The cost is
+/// that of the proof: at most a logarithm of stored nodes and hashes for each path.
+pub fn prove<N: Notary>(alloc: Global, book: &Book, notary: &mut N, n: u64) -> Result<Made, MakeErr>
+    requires settled { book.now.sealed ≡ book.now.size }
+    ensures answer { (h : History) → Serves book.now h
+        → Proves h (N.state notary.old).entries n result }
+    ensures same { (N.state notary.new).entries ≡ (N.state notary.old).entries }
+    ensures faults { CountsFaults result (N.state notary.old).faults (N.state notary.new).faults }
+    // Who trusts the ledger's head accepts it, where there is a bound with the notary's.
     ensures accepted { IfOk result (λ made. (h : History) (trust : Trust) → Serves book.now h
-        → TrustsHead trust h → IsAccepted sha256 made.proof made.claim trust) }
+        → Pegged h (N.state notary.old).entries → TrustsHead trust h
+        → (has_bound h n ≡ true → TrustsList trust (N.state notary.old).entries)
+        → IsAccepted sha256 made.proof made.claim trust) }
 {
-    let head = book.head();
-    if n >= head.size {
-        return Err(MakeErr::Refused(Refusal::NoJournal { size: head.size }));
+    let size = book.head().size;
+    if let Some(why) = refusal_of(book, size, n) {
+        return Err(MakeErr::Refused(why));
+    }
+    let parts = Parts::of(alloc, book, n)?;
+    let (lower, upper) = (index_of(&parts.lower), index_of(&parts.upper));
+    let noted = Noted::of(alloc, notary, lower, upper)?;
+    Ok(spell(alloc, size, n, &parts, &noted)?)
+}
+
+// Why journal `n` has no proof, where there are so many journals.
+fn refusal_of(book: &Book, size: u64, n: u64) -> Option<Refusal>
+    ensures why { (h : History) → Serves book.now h → size ≡ model.size h
+        → result ≡ prove_refusal h n }
+    ensures own { IfSome result (λ why. is_fault why ≡ false) }
+{
+    if n >= size {
+        return Some(Refusal::NoJournal { size });
     }
     let point = book.point();
     if n < point {
-        return Err(MakeErr::Refused(Refusal::Purged { point }));
+        Some(Refusal::Purged { point })
+    } else {
+        None
     }
-    make(alloc, book.tree(), head.size, n)
+}
+
+// The index of the notary's entry of a bound.
+fn index_of(bound: &Option<Bound>) -> Option<u64>
+    ensures { result ≡ part.index_of bound.now }
+{
+    bound.as_ref().map(|bound| bound.header.a)
 }

@@ -1,0 +1,72 @@
+-- Why there is no proof of a journal, and no extension.
+use Rattle.std.proofs.Common.{◌≡◌, ℕ, zero, suc, ◌<◌, ◌≤◌, cond, inl, inr, Option, Some, None, Err, refl, sym, ap, ◌∙◌, arith}
+use Rattle.std.specs.Prelude.{nat_lt}
+use Rattle.std.specs.Option.{option_or}
+use Rattle.std.proofs.lemmas.Bool.{cases_lt, le-leb, lt-leb, lt-ltb, le-ltb, ne_eqb}
+use Rattle.ledger_bytes.specs.declared.refusal.Refusal.TheVariants.{NoJournal, Purged, BadSize}
+use Rattle.ledger_model.specs.History as model
+use Rattle.ledger_model.specs.History.{History}
+use Rattle.ledger_model.specs.Proofs.{prove_refusal, extend_refusal, size_refusal}
+use Rattle.proof_maker.specs.Making.{Extends, ChecksSize}
+use Rattle.proof_maker.specs.declared.made.MakeErr.{MakeErr}
+use Rattle.proof_maker.specs.declared.made.MakeErr.TheVariants.{Refused, NoMemory}
+
+some_none : {A : Type 0} {x : A} → (let none : Option A = None in Some x ≡ none) → ⊥
+some_none e = cc
+
+module _ (h : History) (size n : ℕ) where
+  pub absent : size ≡ model.size h → size ≤ n → prove_refusal h n ≡ Some (NoJournal size)
+  unfolding prove_refusal
+  absent all above = rw (le-leb (model.size h) n (omega (arith, all, above))) (ap (λ s. Some (NoJournal s)) (sym all))
+
+  module _ (point : ℕ) (all : size ≡ model.size h) (there : n < size) (seen : point ≡ model.point h) where
+    pub purged : n < point → prove_refusal h n ≡ Some (Purged point)
+    unfolding prove_refusal
+    purged below = rw (lt-leb (model.size h) n (omega (arith, all, there)), lt-ltb n (model.point h) (omega (arith, seen, below))) (ap (λ p. Some (Purged p)) (sym seen))
+
+    pub none : point ≤ n → prove_refusal h n ≡ None
+    unfolding prove_refusal
+    none kept = rw (lt-leb (model.size h) n (omega (arith, all, there)), le-ltb n (model.point h) (omega (arith, seen, kept))) refl
+
+-- where nothing refuses journal n, it's there, and no purge has given it up
+pub passes : (h : History) (n : ℕ) → prove_refusal h n ≡ None → (n < model.size h) × (model.point h ≤ n)
+unfolding prove_refusal
+passes h n none = elim (cases_lt n (model.size h)) [
+  | inr above ↦ absurd (some_none (sym (absent h (model.size h) n refl above) ∙ none))
+  | inl there ↦ elim (cases_lt n (model.point h)) [
+    | inl below ↦ absurd (some_none (sym (purged h (model.size h) n (model.point h) refl there refl below) ∙ none))
+    | inr kept ↦ (there, kept)
+  ]
+]
+
+-- ---- of an extension
+
+over : (size m : ℕ) → size < suc m → size_refusal size (suc m) ≡ Some (BadSize size)
+over size m above = rw (ne_eqb (suc m) 0 (λ none. omega (arith, none)), lt-ltb size (suc m) above) refl
+
+pub size_passes : (size m : ℕ) → size_refusal size m ≡ None → (0 < m) × (m ≤ size)
+size_passes size zero passes = absurd cc
+size_passes size (suc m) passes = elim (cases_lt size (suc m)) [
+  | inl above ↦ absurd (some_none (sym (over size m above) ∙ passes))
+  | inr there ↦ (omega arith, there)
+]
+
+module _ (h : History) (size m : ℕ) (all : size ≡ model.size h) where
+  size_same : size_refusal (model.size h) m ≡ size_refusal size m
+  size_same = ap (λ s. size_refusal s m) (sym all)
+
+  pub size_refused : (e : MakeErr) → ChecksSize size m (Err e) → Extends h m (Err e)
+  unfolding extend_refusal
+  size_refused (Refused why) is = ap (λ o. option_or o (cond (nat_lt m (model.point h)) (Some (Purged (model.point h))) None)) (size_same ∙ is)
+  size_refused NoMemory is = absurd is
+
+  module _ (point : ℕ) (passes : size_refusal size m ≡ None) (seen : point ≡ model.point h) where
+    behind : extend_refusal h m ≡ cond (nat_lt m (model.point h)) (Some (Purged (model.point h))) None
+    unfolding extend_refusal
+    behind = ap (λ o. option_or o (cond (nat_lt m (model.point h)) (Some (Purged (model.point h))) None)) (size_same ∙ passes)
+
+    pub extension_purged : m < point → extend_refusal h m ≡ Some (Purged point)
+    extension_purged below = behind ∙ rw (lt-ltb m (model.point h) (omega (arith, seen, below))) (ap (λ p. Some (Purged p)) (sym seen))
+
+    pub extension_kept : point ≤ m → extend_refusal h m ≡ None
+    extension_kept kept = behind ∙ rw (le-ltb m (model.point h) (omega (arith, seen, kept))) refl
