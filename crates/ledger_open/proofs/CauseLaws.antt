@@ -1,13 +1,13 @@
 -- A file that is read no further has one damage, and a pair that isn't opened one cause.
-use Rattle.std.specs.Prelude.{Err, Bool, IsTrue}
-use Rattle.std.proofs.Common.{◌≡◌, ◌≢◌, ◌⊎◌, inl, inr, ℕ, ◌+◌, ◌-◌, ◌<◌, ◌≤◌, List, [], ◌∷◌, ◌++◌, length, get_or, take, drop, refl, sym, ◌∙◌, ap, subst, arith, append_assoc, append-nil, length-append, length-take, length-drop}
+use Rattle.std.specs.Prelude.{Err, Bool}
+use Rattle.std.proofs.Common.{◌≡◌, ◌≢◌, ◌⊎◌, inl, inr, ℕ, ◌+◌, ◌-◌, ◌<◌, ◌≤◌, List, [], ◌∷◌, ◌++◌, length, get_or, take, drop, refl, sym, ◌∙◌, ap, subst, arith, append_assoc, append-nil, length-append, length-take}
 use Rattle.std.proofs.lemmas.Bool.{cases_lt}
-use Rattle.std.proofs.lemmas.List.{take-take, get_or-drop, get_or-take, drop-append-le, take-append-le}
+use Rattle.std.proofs.lemmas.List.{take-take, get_or-drop, get_or-take}
 use Rattle.block_file.proofs.OnceLaws.{block_once, length_same}
 use Rattle.block_file.proofs.ParseLaws.{given}
 use Rattle.block_file.specs.Blocks.{AreBlock, IsOpenBlock, IsBlockErr}
 use Rattle.block_file.specs.File.{open_blocks}
-use Rattle.block_file.specs.Head.{IsShut, IsOpen, HasHead, IsHeadErr, IsResumeErr, digest_of, number_at}
+use Rattle.block_file.specs.Head.{IsShut, IsHeadErr, IsResumeErr, digest_of, number_at}
 use Rattle.block_file.specs.declared.failure.Damage.{Damage}
 use Rattle.block_file.specs.declared.failure.Damage.TheVariants.{Magic, BaseForm, Base, Length, Entry as Entries, Root, Content}
 use Rattle.block_file.specs.declared.failure.FileErr.{FileErr}
@@ -20,7 +20,7 @@ use Rattle.ledger_model.specs.Lawful as lawful
 use Rattle.ledger_model.specs.Lawful.{AreNext, IsLawful, IsFounded}
 use Rattle.twin_file.specs.Twin.{choice, IsTaken, IsReopenErr}
 use Rattle.twin_file.proofs.TakeLaws.{taken_once, head_err, side_a, side_b}
-use Rattle.ledger_open.specs.Damages.{Begun, IsReadTo, IsNextHere, IsNotNext, CanShare, IsOtherRoot, IsOtherContent, IsBlockDamage, IsDamage, HasBase, base_in}
+use Rattle.ledger_open.specs.Damages.{Begun, IsReadTo, IsNotNext, CanShare, IsOtherRoot, IsOtherContent, IsDamage, HasBase, base_in}
 use Rattle.ledger_open.specs.Opening.{IsOpenErr, IsOutside}
 use Rattle.ledger_open.specs.Places.{after_at}
 use Rattle.ledger_open.specs.Standing.{ground}
@@ -30,7 +30,7 @@ use Rattle.ledger_open.proofs.AgainLaws.{number_front}
 use Rattle.ledger_open.proofs.DamageLaws.{some_entry, gate_open, next_of}
 use Rattle.ledger_open.proofs.FirstLaws.{first_next}
 use Rattle.ledger_open.proofs.FollowLaws.{GoesOn, readings, follows_open, are_block, open_same}
-use Rattle.ledger_open.proofs.NextLaws.{next_index, gather_take, share_take}
+use Rattle.ledger_open.proofs.NextLaws.{next_index, gather_take}
 use Rattle.ledger_open.proofs.OpenLaws.{shut_empty}
 use Rattle.ledger_open.proofs.PlaceLaws.{tail_place}
 use Rattle.ledger_open.proofs.SizeLaws.{mth_size}

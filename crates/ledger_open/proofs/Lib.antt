@@ -21,3 +21,4 @@ pub mod FirstLaws
 pub mod MoreLaws
 pub mod AheadLaws
 pub mod OpenLaws
+pub mod WidthLaws
