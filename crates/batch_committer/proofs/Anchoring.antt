@@ -3,7 +3,9 @@ use Rattle.std.specs.Prelude.{Result, Ok, Err, OnErr}
 use Rattle.std.proofs.Common.{◌≡◌, ◌≢◌, ℕ, ◌⊎◌, inl, inr, List, length, Option, Some, None, refl, ap, sym, subst, ◌∙◌}
 use Rattle.ledger_bytes.specs.declared.refusal.Refusal.{Refusal}
 use Rattle.journal_record.specs.declared.stamp.Stamp.{Stamp}
+use Rattle.script_lines.specs.declared.reply.Reply.{Reply as AnyReply}
 use Rattle.script_lines.specs.declared.reply.Reply.TheVariants as reply
+use Rattle.script_lines.specs.declared.said.Which.{Which}
 use Rattle.ledger_bytes.specs.Causes.{count_after}
 use Rattle.journal_record.specs.declared.rules.TheConstants.{NOTARY_LIMIT}
 use Rattle.time_peg.specs.Entries.{NotaryState, IsStamped, HasOneMore, Counts}
@@ -15,10 +17,10 @@ use Rattle.ledger_model.specs.Judgements.{own_refusal}
 use Rattle.ledger_model.specs.Limits.{real_limits}
 use Rattle.ledger_model.specs.Outcomes.{accepted_outcome, query_of, after_judgement, with_job, anchor_outcome, judged_outcome, outcome}
 use Rattle.ledger_model.specs.Step.{Step}
-use Rattle.ledger_model.specs.Texts.{answer_for}
+use Rattle.ledger_model.specs.Texts.{answer_for, told_reply}
 use Rattle.ledger_model.specs.declared.answer.Answer.TheVariants.{Reply}
 use Rattle.ledger_model.specs.declared.job.Job.{Job}
-use Rattle.ledger_model.specs.declared.job.Job.TheVariants.{Refused, Append, NewMember, Anchor, Get, Clue, Head}
+use Rattle.ledger_model.specs.declared.job.Job.TheVariants.{Refused, Append, NewMember, Anchor, Get, Prove, Extend, Clue, Head}
 use Rattle.ledger_model.specs.declared.limits.Limits.{Limits}
 use Rattle.ledger_model.specs.declared.outcome.Outcome.{Outcome}
 use Rattle.ledger_model.specs.declared.outcome.Outcome.TheVariants as came
@@ -30,7 +32,8 @@ use Rattle.ledger_book.proofs.ApplyLaws.{anchor_accepted}
 use Rattle.ledger_book.specs.Steps.{Applies, Anchors, HasOperatorRoom, PlacesNothing}
 use Rattle.batch_committer.specs.Steps.{Gathers, Judged}
 use Rattle.batch_committer.specs.World.{Kept, Keeps}
-use Rattle.batch_committer.proofs.Judging.{gathers_kept}
+use Rattle.batch_committer.specs.Attending.{Attended, JudgedBy}
+use Rattle.batch_committer.proofs.Judging.{gathers_kept, judged_same_kept}
 
 -- a result that is an error, or isn't
 pub on_err_all : {T E : Type 0} {A : Type 0} (result : Result T E) → A → OnErr result A
@@ -99,23 +102,46 @@ failed_not_full old e is full at = subst result_full (sym (full at) ∙ ap (λ x
 pub asked_room : (old new : books.Kept) (o : Outcome) (q : Query) → Anchors old None o → o ≡ came.Reading q → (PlacesNothing o → new ≡ old) → HasOperatorRoom new
 asked_room old new o q told is same = subst HasOperatorRoom (sym (same (subst PlacesNothing (sym is) tt))) (subst (Anchors old None) is told)
 
+-- the job that asks for this
+abbrev job_asking : Query → Job
+job_asking query.Stamp = Anchor
+job_asking (query.Get n) = Get n
+job_asking (query.Prove n) = Prove n
+job_asking (query.Extend which m) = Extend which m
+job_asking (query.Clue clue) = Clue clue
+job_asking query.Head = Head
+
+asked_by : (job : Job) (q : Query) → query_of job ≡ Some q → job ≡ job_asking q
+asked_by (Refused refusal) q is = absurd (let no : ⊥ = cc is in no)
+asked_by (Append member clue content content_digest request by) q is = absurd (let no : ⊥ = cc is in no)
+asked_by (NewMember number key by) q is = absurd (let no : ⊥ = cc is in no)
+asked_by Anchor q is = let e : query.Stamp ≡ q = cc is in ap job_asking e
+asked_by (Get n) q is = let e : query.Get n ≡ q = cc is in ap job_asking e
+asked_by (Prove n) q is = let e : query.Prove n ≡ q = cc is in ap job_asking e
+asked_by (Extend which m) q is = let e : query.Extend which m ≡ q = cc is in ap job_asking e
+asked_by (Clue clue) q is = let e : query.Clue clue ≡ q = cc is in ap job_asking e
+asked_by Head q is = let e : query.Head ≡ q = cc is in ap job_asking e
+
 pub asked_anchor : (job : Job) (q : Query) → query_of job ≡ Some q → q ≡ query.Stamp → job ≡ Anchor
-asked_anchor (Refused refusal) q is at = absurd (let no : ⊥ = cc is in no)
-asked_anchor (Append member clue content content_digest request by) q is at = absurd (let no : ⊥ = cc is in no)
-asked_anchor (NewMember number key by) q is at = absurd (let no : ⊥ = cc is in no)
-asked_anchor Anchor q is at = refl
-asked_anchor (Get n) q is at = absurd (let no : ⊥ = cc (is, at) in no)
-asked_anchor (Clue clue) q is at = absurd (let no : ⊥ = cc (is, at) in no)
-asked_anchor Head q is at = absurd (let no : ⊥ = cc (is, at) in no)
+asked_anchor job q is at = asked_by job q is ∙ ap job_asking at
 
 pub asked_head : (job : Job) (q : Query) → query_of job ≡ Some q → q ≡ query.Head → job ≡ Head
-asked_head (Refused refusal) q is at = absurd (let no : ⊥ = cc is in no)
-asked_head (Append member clue content content_digest request by) q is at = absurd (let no : ⊥ = cc is in no)
-asked_head (NewMember number key by) q is at = absurd (let no : ⊥ = cc is in no)
-asked_head Anchor q is at = absurd (let no : ⊥ = cc (is, at) in no)
-asked_head (Get n) q is at = absurd (let no : ⊥ = cc (is, at) in no)
-asked_head (Clue clue) q is at = absurd (let no : ⊥ = cc (is, at) in no)
-asked_head Head q is at = refl
+asked_head job q is at = asked_by job q is ∙ ap job_asking at
+
+pub asked_prove : (job : Job) (q : Query) (n : ℕ) → query_of job ≡ Some q → q ≡ query.Prove n → job ≡ Prove n
+asked_prove job q n is at = asked_by job q is ∙ ap job_asking at
+
+pub asked_extend : (job : Job) (q : Query) (which : Which) (m : ℕ) → query_of job ≡ Some q → q ≡ query.Extend which m → job ≡ Extend which m
+asked_extend job q which m is at = asked_by job q is ∙ ap job_asking at
+
+-- a job that was told to read wasn't refused
+accepted_by : (refusal : Option Refusal) (o : Outcome) (q : Query) → came.Reading q ≡ judged_outcome refusal o → refusal ≡ None
+accepted_by None o q is = refl
+accepted_by (Some why) o q is = absurd (let no : ⊥ = cc is in no)
+
+pub asked_accepted : (limits : Limits) (h : History) (job : Job) (o : Outcome) (q : Query) (new : books.Kept) → Applies limits None h job o new → o ≡ came.Reading q → own_refusal limits h job ≡ None
+unfolding outcome
+asked_accepted limits h job o q new a is = accepted_by (own_refusal limits h job) (accepted_outcome h None job) q (sym is ∙ a.outcome_is)
 
 -- an anchor without a stamp asks for one, where it is accepted
 pub anchor_asks : (limits : Limits) (h : History) (job : Job) (o : Outcome) (new : books.Kept) → Applies limits None h job o new → job ≡ Anchor → own_refusal limits h job ≡ None → o ≡ came.Reading query.Stamp
@@ -125,3 +151,12 @@ anchor_asks limits h job o new a is none =
 
 pub keeps_book : (k : Kept) (book : books.Kept) (h : History) → book ≡ k.book → Keeps k h → Keeps (record k { book = book }) h
 keeps_book k book h is p = subst (λ b. Keeps (record k { book = b }) h) (sym is) p
+
+-- what was told to a job that only asks is due for it, and nothing changes
+pub told_judged : (old : Kept) (book : books.Kept) (n m : NotaryState) (h : History) (step : Step) (job asked : Job) (o : Outcome) (q known : Query) (said : AnyReply) → Keeps old h → Applies old.book.limits None h job o book → (PlacesNothing o → book ≡ old.book) → o ≡ came.Reading q → q ≡ known → job ≡ asked
+    → stamp_of step ≡ None → (said ≡ told_reply h step known) × Attended n m h step asked → JudgedBy (record old { book = book }) n m h step job (Reply said)
+told_judged old book n m h step job asked o q known said p applies same is at which none told = record {
+  judged = judged_same_kept old (record old { book = book }) h step job o (Reply said) p applies (subst PlacesNothing (sym is) tt) same refl refl refl
+      (ap Reply told.0 ∙ ap (λ x. answer_for h step (came.Reading x)) (sym at) ∙ sym (ap (answer_for h step) is)) none;
+  attended = subst (λ (j : Job). Attended n m h step j) (sym which) told.1;
+}

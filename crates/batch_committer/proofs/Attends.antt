@@ -3,7 +3,7 @@ use Rattle.std.specs.Prelude.{Bool, true, false, ◌||◌, ◌&&◌, nat_lt, Err
 use Rattle.std.specs.Option.{is_none}
 use Rattle.std.specs.Int.{w64, to_be_bytes, from_be_bytes}
 use Rattle.std.proofs.Common.{◌≡◌, ◌≢◌, ℕ, ◌^◌, ◌<◌, ◌⊎◌, inl, inr, cond, List, [], ◌∷◌, ◌++◌, length, drop, Option, Some, None, refl, ap, sym, subst, ◌∙◌, arith, append_assoc, length-append}
-use Rattle.std.proofs.lemmas.Bool.{le-leb, lt-leb, lt-ltb, le-ltb}
+use Rattle.std.proofs.lemmas.Bool.{true≢false, le-leb, lt-leb, lt-ltb, le-ltb}
 use Rattle.std.proofs.lemmas.List.{take_at, drop_at}
 use Rattle.std.proofs.lemmas.Nat.{from_be_bytes-to_be_bytes_8}
 use Rattle.ledger_bytes.specs.Digests.{digest}
@@ -21,7 +21,7 @@ use Rattle.ledger_model.specs.Judgements.{own_refusal}
 use Rattle.ledger_model.specs.Limits.{real_limits}
 use Rattle.ledger_model.specs.Notary.{asks, Changes}
 use Rattle.ledger_model.specs.declared.job.Job.{Job}
-use Rattle.ledger_model.specs.declared.job.Job.TheVariants.{Refused, Append, NewMember, Anchor, Get, Clue, Head}
+use Rattle.ledger_model.specs.declared.job.Job.TheVariants.{Refused, Append, NewMember, Anchor, Get, Prove, Extend, Clue, Head}
 use Rattle.batch_committer.specs.Attending.{step_in, Attended, EndsAsking}
 use Rattle.batch_committer.specs.World.{Kept}
 
@@ -44,10 +44,14 @@ unstamped_same n m failed lane index line same = by_cases (failed || is_full_lis
   by_cases true = refl
   by_cases false = ap (λ es. stamp_from (length n.entries) (drop (length n.entries) es)) same ∙ ap (stamp_from (length n.entries)) (drop_own n.entries)
 
+-- it didn't fail
+unfailed : {called : Bool} → false ≡ true → called ≡ true
+unfailed failed = absurd (true≢false (sym failed))
+
 -- it took part in the step of a job that asks for nothing
 untouched : (n : NotaryState) (h : History) (lane index : ℕ) (line : List ℕ) (job : Job) (asked : Bool) → asks h n.entries job ≡ asked → asked ≡ false → Attended n n h (step_in n n false lane index line) job
 untouched n h lane index line job asked is none = record {
-  list = subst (λ v. Changes v false (peg_at h (size h)) n.entries n.entries) (sym (is ∙ none)) refl;
+  list = record { list = subst (λ v. Changes v false (peg_at h (size h)) n.entries n.entries) (sym (is ∙ none)) refl; called = unfailed };
   count = refl;
 }
 
@@ -61,6 +65,8 @@ attends_other n h lane index line Anchor not_it = by_refusal (own_refusal real_l
   by_refusal None is = absurd (not_it refl is)
   by_refusal (Some refusal) is = untouched n h lane index line Anchor false (ap (λ o. is_none o && nat_lt (length n.entries) NOTARY_LIMIT) is) refl
 attends_other n h lane index line (Get m) not_it = untouched n h lane index line (Get m) false refl refl
+attends_other n h lane index line (Prove m) not_it = untouched n h lane index line (Prove m) false refl refl
+attends_other n h lane index line (Extend which m) not_it = untouched n h lane index line (Extend which m) false refl refl
 attends_other n h lane index line (Clue clue) not_it = untouched n h lane index line (Clue clue) false refl refl
 attends_other n h lane index line Head not_it = untouched n h lane index line Head false refl refl
 
@@ -71,6 +77,8 @@ untouched_by n (Append member clue content content_digest request by) = inl (λ 
 untouched_by n (NewMember number key by) = inl (λ h lane index line. untouched n h lane index line (NewMember number key by) false refl refl)
 untouched_by n Anchor = inr refl
 untouched_by n (Get m) = inl (λ h lane index line. untouched n h lane index line (Get m) false refl refl)
+untouched_by n (Prove m) = inl (λ h lane index line. untouched n h lane index line (Prove m) false refl refl)
+untouched_by n (Extend which m) = inl (λ h lane index line. untouched n h lane index line (Extend which m) false refl refl)
 untouched_by n (Clue clue) = inl (λ h lane index line. untouched n h lane index line (Clue clue) false refl refl)
 untouched_by n Head = inl (λ h lane index line. untouched n h lane index line Head false refl refl)
 
@@ -80,10 +88,10 @@ ends_untouched old n job = elim (untouched_by n job) [ inl f ↦ inl (false, λ 
 
 -- the head of its list was asked for
 pub attends_head : (n m : NotaryState) (h : History) (lane index : ℕ) (line : List ℕ) → m.entries ≡ n.entries → m.faults ≡ n.faults → Attended n m h (step_in n m false lane index line) Head
-attends_head n m h lane index line same count = record { list = same; count = count }
+attends_head n m h lane index line same count = record { list = record { list = same; called = unfailed }; count = count }
 
 pub attends_headless : (n m : NotaryState) (h : History) (lane index : ℕ) (line : List ℕ) (e : NotaryErr) → e ≡ Failed → m.entries ≡ n.entries → Counts {T = Unit {0}} (Err e) n.faults m.faults → Attended n m h (step_in n m true lane index line) Head
-attends_headless n m h lane index line e is same count = record { list = same; count = subst (λ x. Counts {T = Unit {0}} (Err x) n.faults m.faults) is count }
+attends_headless n m h lane index line e is same count = record { list = record { list = same; called = λ failed. refl }; count = subst (λ x. Counts {T = Unit {0}} (Err x) n.faults m.faults) is count }
 
 -- ---- a stamp
 
@@ -113,9 +121,12 @@ module _ (n m : NotaryState) (peg : List ℕ) (wide : length peg ≡ 32) (s : St
 
   pub attends_stamped : (h : History) (lane index : ℕ) (line : List ℕ) → own_refusal real_limits h Anchor ≡ None → peg ≡ peg_at h (size h) → m.faults ≡ n.faults → Attended n m h (step_in n m false lane index line) Anchor
   attends_stamped h lane index line accepted pegs same = record {
-    list = subst (λ v. Changes v false (peg_at h (size h)) n.entries m.entries)
-        (sym (ap (λ o. is_none o && nat_lt (length n.entries) NOTARY_LIMIT) accepted ∙ lt-ltb (length n.entries) NOTARY_LIMIT room))
-        ((s.time, s.salt.0, fits, is ∙ ap (λ p. n.entries ++ entry_of s.time p s.salt.0 ∷ []) pegs), list);
+    list = record {
+      list = subst (λ v. Changes v false (peg_at h (size h)) n.entries m.entries)
+          (sym (ap (λ o. is_none o && nat_lt (length n.entries) NOTARY_LIMIT) accepted ∙ lt-ltb (length n.entries) NOTARY_LIMIT room))
+          ((s.time, s.salt.0, fits, is ∙ ap (λ p. n.entries ++ entry_of s.time p s.salt.0 ∷ []) pegs), list);
+      called = unfailed;
+    };
     count = same;
   }
 
@@ -128,12 +139,15 @@ module _ (n m : NotaryState) (peg : List ℕ) (left : (m.entries ≡ n.entries) 
   ]
 
   pub attends_failed : (h : History) (lane index : ℕ) (line : List ℕ) → own_refusal real_limits h Anchor ≡ None → peg ≡ peg_at h (size h) → m.faults ≡ count_after n.faults → Attended n m h (step_in n m true lane index line) Anchor
-  attends_failed h lane index line accepted pegs rose = record {
-    list = subst (λ v. Changes v true (peg_at h (size h)) n.entries m.entries)
-        (sym (ap (λ o. is_none o && nat_lt (length n.entries) NOTARY_LIMIT) accepted ∙ lt-ltb (length n.entries) NOTARY_LIMIT few))
-        (elim left [ inl same ↦ inl same | inr more ↦ inr (subst (λ p. HasOneMore p n.entries m.entries) pegs more, list) ]);
-    count = rose;
-  }
+  attends_failed h lane index line accepted pegs rose =
+      let asked : asks h n.entries Anchor ≡ true = ap (λ o. is_none o && nat_lt (length n.entries) NOTARY_LIMIT) accepted ∙ lt-ltb (length n.entries) NOTARY_LIMIT few in record {
+        list = record {
+          list = subst (λ v. Changes v true (peg_at h (size h)) n.entries m.entries) (sym asked)
+              (elim left [ inl same ↦ inl same | inr more ↦ inr (subst (λ p. HasOneMore p n.entries m.entries) pegs more, list) ]);
+          called = λ failed. asked;
+        };
+        count = rose;
+      }
 
   pub failed_stamp : (lane index : ℕ) (line : List ℕ) → stamp_of (step_in n m true lane index line) ≡ None
   unfolding stamp_of
@@ -146,8 +160,11 @@ module _ (n m : NotaryState) (peg : List ℕ) (left : (m.entries ≡ n.entries) 
 module _ (n m : NotaryState) (same : m.entries ≡ n.entries) (full : length n.entries ≡ NOTARY_LIMIT) where
   pub attends_full : (h : History) (lane index : ℕ) (line : List ℕ) → own_refusal real_limits h Anchor ≡ None → m.faults ≡ n.faults → Attended n m h (step_in n m false lane index line) Anchor
   attends_full h lane index line accepted count = record {
-    list = subst (λ v. Changes v false (peg_at h (size h)) n.entries m.entries)
-        (sym (ap (λ o. is_none o && nat_lt (length n.entries) NOTARY_LIMIT) accepted ∙ le-ltb (length n.entries) NOTARY_LIMIT (omega (arith, full)))) same;
+    list = record {
+      list = subst (λ v. Changes v false (peg_at h (size h)) n.entries m.entries)
+          (sym (ap (λ o. is_none o && nat_lt (length n.entries) NOTARY_LIMIT) accepted ∙ le-ltb (length n.entries) NOTARY_LIMIT (omega (arith, full)))) same;
+      called = unfailed;
+    };
     count = count;
   }
 

@@ -24,14 +24,14 @@ use Rattle.ledger_model.specs.History.{History, history, journals, journals_of, 
 use Rattle.ledger_model.specs.Judgements.{own_refusal}
 use Rattle.ledger_model.specs.Lawful.{IsNext, AreNext, AllGather, gathers}
 use Rattle.ledger_model.specs.Limits.{real_limits}
-use Rattle.ledger_model.specs.Outcomes.{placed_journal, with_waiting, after_judgement, with_job, judged_outcome, accepted_outcome, outcome, AsksFor, query_of}
+use Rattle.ledger_model.specs.Outcomes.{placed_journal, with_waiting, after_judgement, with_job, judged_outcome, accepted_outcome, outcome, query_of}
 use Rattle.ledger_model.specs.Rules.{closes_before, closes_after}
 use Rattle.ledger_model.specs.Step.{Step}
 use Rattle.ledger_model.specs.Texts.{answer_for}
 use Rattle.ledger_model.specs.declared.answer.Answer.{Answer}
 use Rattle.ledger_model.specs.declared.due.Due.{Due}
 use Rattle.ledger_model.specs.declared.job.Job.{Job}
-use Rattle.ledger_model.specs.declared.job.Job.TheVariants.{Refused, Append, NewMember, Anchor, Get, Clue, Head}
+use Rattle.ledger_model.specs.declared.job.Job.TheVariants.{Refused, Append, NewMember, Anchor, Get, Prove, Extend, Clue, Head}
 use Rattle.ledger_model.specs.declared.limits.Limits.{Limits}
 use Rattle.ledger_model.specs.declared.outcome.Outcome.{Outcome}
 use Rattle.ledger_model.specs.declared.outcome.Outcome.TheVariants as came
@@ -59,6 +59,8 @@ judged_same stamp h (NewMember number key by) None o none is = absurd (subst Pla
 judged_same None h Anchor None o none is = refl
 judged_same (Some stamp) h Anchor None o none is = absurd (subst PlacesNothing is none)
 judged_same stamp h (Get n) None o none is = refl
+judged_same stamp h (Prove n) None o none is = refl
+judged_same stamp h (Extend which m) None o none is = refl
 judged_same stamp h (Clue clue) None o none is = refl
 judged_same stamp h Head None o none is = refl
 
@@ -88,6 +90,8 @@ judged_as stamp h (NewMember number key by) None jsn leaf is = record { accepted
 judged_as None h Anchor None jsn leaf is = absurd (let no : ⊥ = cc is in no)
 judged_as (Some stamp) h Anchor None jsn leaf is = record { accepted = refl; journal = time_journal (size h) stamp; jsn_is = cc is; placed_is = refl }
 judged_as stamp h (Get n) None jsn leaf is = absurd (let no : ⊥ = cc is in no)
+judged_as stamp h (Prove n) None jsn leaf is = absurd (let no : ⊥ = cc is in no)
+judged_as stamp h (Extend which m) None jsn leaf is = absurd (let no : ⊥ = cc is in no)
 judged_as stamp h (Clue clue) None jsn leaf is = absurd (let no : ⊥ = cc is in no)
 judged_as stamp h Head None jsn leaf is = absurd (let no : ⊥ = cc is in no)
 
@@ -138,6 +142,8 @@ is_made (Some s) h Anchor journal fits is =
     made_as Anchor (time_journal (size h) s) journal (cc is)
     (record { content = []; given = []; parts = (refl, refl); content_is = refl; who_is = refl; len = refl; few = omega arith; gathers_is = λ other. absurd (true≢false other) })
 is_made stamp h (Get n) journal fits is = absurd (none-some journal is)
+is_made stamp h (Prove n) journal fits is = absurd (none-some journal is)
+is_made stamp h (Extend which m) journal fits is = absurd (none-some journal is)
 is_made stamp h (Clue clue) journal fits is = absurd (none-some journal is)
 is_made stamp h Head journal fits is = absurd (none-some journal is)
 
@@ -285,6 +291,8 @@ asks_closes (Append member clue content content_digest request by) q is = absurd
 asks_closes (NewMember number key by) q is = absurd (let no : ⊥ = cc is in no)
 asks_closes Anchor q is = refl
 asks_closes (Get n) q is = refl
+asks_closes (Prove n) q is = refl
+asks_closes (Extend which m) q is = refl
 asks_closes (Clue clue) q is = refl
 asks_closes Head q is = refl
 
@@ -295,12 +303,10 @@ alone_first (Append member clue content content_digest request by) alone = absur
 alone_first (NewMember number key by) alone = absurd (true≢false (sym alone))
 alone_first Anchor alone = refl
 alone_first (Get n) alone = refl
+alone_first (Prove n) alone = refl
+alone_first (Extend which m) alone = refl
 alone_first (Clue clue) alone = refl
 alone_first Head alone = refl
-
--- .. so nothing waits when it is told
-pub asked_settled : (g : History) (job : Job) (o : Outcome) (q : Query) → AsksFor job o → o ≡ came.Reading q → (closes_before job ≡ true → g.waiting ≡ []) → g.waiting ≡ []
-asked_settled g job o q told is none = none (asks_closes job q (subst (AsksFor job) is told))
 
 -- from the clauses of a call
 pub on_ok_then : {T E : Type 0} {A B : Type 0} (result : Result T E) → (A → B) → OnOk result A → OnOk result B

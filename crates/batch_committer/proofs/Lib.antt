@@ -12,3 +12,4 @@ pub mod GetLaws
 pub mod Attends
 pub mod Taken
 pub mod Anchoring
+pub mod Extending

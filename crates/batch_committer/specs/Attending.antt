@@ -22,8 +22,8 @@ abbrev pub step_in : NotaryState → NotaryState → Bool → ℕ → ℕ → Li
 step_in n m failed lane index line =
     record { lane = lane; index = index; line = line; failed = failed; before = n.entries; after = m.entries }
 
--- the notary took part in the step of a job that is judged against g: its list changed as the job asks for, and its count of
--- faults is one more exactly where it failed
+-- the notary took part in the step of a job that is judged against g: its list changed as the job asks for, it failed only where
+-- the job calls it, and its count of faults is one more exactly where it failed
 pub record Attended (n m : NotaryState) (g : History) (step : Step) (job : Job) : Type 0 where
   pub list : AttendsJob g step job
   pub count : m.faults ≡ (if step.failed then count_after n.faults else n.faults)
@@ -38,7 +38,8 @@ pub record EndsAt (tells : Bool) (w t : World) (n m : NotaryState) (step : Step)
   pub ended : Ended tells w (λ h. after_job h step job) (λ h. due_of h step job ∷ []) end t
   pub attended : (h : History) → Holds tells w h → Attended n m (judged_at h job) step job
 
--- .. or at an anchor for which the notary didn't answer: its step counts as one that failed, and nothing is due for it
+-- .. or at an anchor for which the notary didn't answer: its step stands as one that failed, which isn't counted, and nothing is
+-- due for it
 pub record EndsUnasked (tells : Bool) (w t : World) (n m : NotaryState) (step : Step) (job : Job) (end : End) : Type 0 where
   pub ended : Ended tells w (λ h. after_job h step job) (λ h. []) end t
   pub anchor : job ≡ Anchor

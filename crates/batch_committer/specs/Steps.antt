@@ -16,7 +16,7 @@ use Rattle.ledger_model.specs.Texts.{answer_for}
 use Rattle.ledger_model.specs.declared.answer.Answer.{Answer}
 use Rattle.ledger_model.specs.declared.due.Due.{Due}
 use Rattle.ledger_model.specs.declared.job.Job.{Job}
-use Rattle.ledger_model.specs.declared.job.Job.TheVariants.{Refused, Append, NewMember, Anchor, Get, Clue, Head}
+use Rattle.ledger_model.specs.declared.job.Job.TheVariants.{Refused, Append, NewMember, Anchor, Get, Prove, Extend, Clue, Head}
 use Rattle.ledger_model.specs.declared.outcome.Query.{Query}
 use Rattle.ledger_model.specs.declared.outcome.Query.TheVariants as query
 use Rattle.ledger_book.specs.Books as books
@@ -40,6 +40,8 @@ HasParts (Append member clue record_content content_digest request by) content g
 HasParts (NewMember number key by) content given = (content ≡ []) × (given ≡ by ∷ [])
 HasParts Anchor content given = (content ≡ []) × (given ≡ [])
 HasParts (Get n) content given = ⊥
+HasParts (Prove n) content given = ⊥
+HasParts (Extend which m) content given = ⊥
 HasParts (Clue clue) content given = ⊥
 HasParts Head content given = ⊥
 
@@ -89,8 +91,11 @@ HasGrown old new = (new.book.size ≤ old.book.size + 1) × (new.book.sealed ≡
 abbrev pub StaysGathered : Kept → Kept → Job → Type 0
 StaysGathered old new job = closes_after job ≡ false → OpenGathers old.book → OpenGathers new.book
 
--- a query that the ledger answers without its notary
+-- a query that asks for no proof, and that the ledger answers without its notary
 abbrev pub IsOfLedger : Query → Type 0
 IsOfLedger query.Stamp = ⊥
+IsOfLedger (query.Get n) = ⊤
+IsOfLedger (query.Prove n) = ⊥
+IsOfLedger (query.Extend which m) = ⊥
+IsOfLedger (query.Clue clue) = ⊤
 IsOfLedger query.Head = ⊥
-IsOfLedger other = ⊤

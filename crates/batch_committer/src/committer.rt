@@ -79,7 +79,7 @@ impl Committer {
     /// Takes a job, which came from a line: ends the open block before it where the job asks for that, judges the job,
     /// gathers its journal, and ends the block that it fills, or that is to hold it alone. What is due for the job is written
     /// with the block's end. An anchor's journal is placed where the notary stamps it; where the notary fails, or its list
-    /// is full, the anchor is refused, and the run goes on.
+    /// is full, the anchor is refused, and the run goes on. So it does where the notary fails in a proof.
     pub fn offer<D: Disk, K: Sink, N: Notary>(
         &mut self,
         a: &mut D,

@@ -10,6 +10,7 @@ mod end;
 mod getting;
 mod head;
 mod laws;
+mod proving;
 mod queries;
 mod taking;
 

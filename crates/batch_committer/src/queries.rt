@@ -21,8 +21,8 @@ use script_lines::Reply;
 use std::alloc::Global;
 use time_peg::Notary;
 
-/// What is told to a query that the notary has no part in, where no journal waits. Whole journals are read from the open
-/// file, whose disk this is.
+/// What is told to a query that asks for no proof and that the notary has no part in, where no journal waits. Whole journals
+/// are read from the open file, whose disk this is.
 pub(crate) fn reply_to<D: Disk>(
     alloc: Global,
     book: &Book,
@@ -43,7 +43,7 @@ pub(crate) fn reply_to<D: Disk>(
     match query {
         Query::Get { n } => get(alloc, book, places, file, *n),
         Query::Clue { clue } => Ok(clue_reply(book, clue)?),
-        Query::Stamp | Query::Head => unreachable!(),
+        Query::Stamp | Query::Prove { .. } | Query::Extend { .. } | Query::Head => unreachable!(),
     }
 }
 

@@ -24,6 +24,7 @@ use crate::End;
 use crate::block::{OpenBlock, who_len};
 use crate::commit::commit;
 use crate::dues::spell;
+use crate::proving::{extension_of, proof_of};
 use crate::queries::{head_reply, reply_to};
 use journal_record::Approval;
 use ledger_book::{Job, Outcome, Prepared, Query};
@@ -225,7 +226,7 @@ impl Taking {
             (pair (D.state a.new) (D.state b.new)) (K.state sink.new))) }
         ensures room { OnOk result (HasRoom self.new) }
         ensures settled { OnOk result (closes_before job.now ≡ true
-            → (h : History) → Serves self.new.book h → h.waiting ≡ []) }
+            → self.new.book.size ≡ self.new.book.sealed) }
         ensures err { IfErr result (λ end. Ended D.tells
             (world self.old (pair (D.state a.old) (D.state b.old)) (K.state sink.old))
             (λ h. judged_at h job.now) (λ h. []) end
@@ -283,7 +284,7 @@ impl Taking {
     ) -> Result<(), End>
         requires room { HasRoom self.old }
         requires settled { closes_before item.now.job ≡ true
-            → (h : History) → Serves self.old.book h → h.waiting ≡ [] }
+            → self.old.book.size ≡ self.old.book.sealed }
         ensures ok { OnOk result ((failed : Bool) × ((line : List ℕ) (sink : SinkState)
             → TakesIn D.tells
             (world self.old (pair (D.state a.old) (D.state b.old)) sink)
@@ -324,7 +325,7 @@ impl Taking {
         requires fits { fits_job job.now ≡ true }
         requires room { HasRoom self.old }
         requires settled { closes_before job.now ≡ true
-            → (h : History) → Serves self.old.book h → h.waiting ≡ [] }
+            → self.old.book.size ≡ self.old.book.sealed }
         ensures judged { IfOk result (λ answer. (failed : Bool) × ((h : History) (lane index : ℕ)
             (line : List ℕ) (sink : SinkState)
             → Holds D.tells (world self.old (pair (D.state a.old) (D.state b.old)) sink) h
@@ -357,6 +358,14 @@ impl Taking {
                 Query::Stamp => self.anchor(notary),
                 Query::Head => Ok(Answer::Reply(head_reply(&self.opened.book, notary))),
                 Query::Get { .. } => Ok(Answer::Reply(self.tell(a, b, &query)?)),
+                Query::Prove { n } => {
+                    let reply = proof_of(self.alloc, &self.opened.book, notary, n)?;
+                    Ok(Answer::Reply(reply))
+                }
+                Query::Extend { which, m } => {
+                    let reply = extension_of(self.alloc, &self.opened.book, notary, which, m)?;
+                    Ok(Answer::Reply(reply))
+                }
                 Query::Clue { .. } => Ok(Answer::Reply(self.tell(a, b, &query)?)),
             },
         }
@@ -441,7 +450,12 @@ impl Taking {
             }
             Job::NewMember { by, .. } => self.gather(jsn, &[], slice::from_ref(by)),
             Job::Anchor => self.gather(jsn, &[], &[]),
-            Job::Refused(_) | Job::Get { .. } | Job::Clue { .. } | Job::Head => Ok(()),
+            Job::Refused(_)
+            | Job::Get { .. }
+            | Job::Prove { .. }
+            | Job::Extend { .. }
+            | Job::Clue { .. }
+            | Job::Head => Ok(()),
         }
     }
 

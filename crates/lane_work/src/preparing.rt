@@ -56,6 +56,8 @@ fn prepare_line<V: Verifier>(verifier: &V, id: &Digest, line: Line) -> Job
         Line::NewMember { number, key, proof } => member_job(verifier, id, number, key, proof),
         Line::Anchor => Job::Anchor,
         Line::Get { n } => Job::Get { n },
+        Line::Prove { n } => Job::Prove { n },
+        Line::Extend { which, m } => Job::Extend { which, m },
         Line::Clue { name } => Job::Clue {
             clue: clue_digest(name.as_slice()),
         },

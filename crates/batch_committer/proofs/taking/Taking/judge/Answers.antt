@@ -1,19 +1,23 @@
-use Rattle.std.proofs.Common.{inl, inr, false, ◌≤◌, None, refl, sym, ap, subst, ◌∙◌}
+use Rattle.std.proofs.Common.{◌≡◌, inl, inr, false, ◌≤◌, None, refl, sym, ap, subst, ◌∙◌}
 use Rattle.std.proofs.lemmas.Result.{IfOk-weaker, on_err_weaker}
 use Rattle.ledger_book.specs.Books as books
 use Rattle.ledger_book.specs.Books.{Serves}
 use Rattle.ledger_book.proofs.OpenLaws.{opens_gather}
+use Rattle.ledger_book.proofs.StandsLaws.{none_waits}
 use Rattle.ledger_book.proofs.ApplyLaws.{on_ok_all}
 use Rattle.ledger_book.specs.Steps.{IsSame, PlacesNothing, Applies, OpenGathers}
 use Rattle.ledger_model.specs.Rules.{closes_after}
 use Rattle.ledger_model.specs.Outcomes.{AsksFor}
+use Rattle.ledger_model.specs.Judgements.{own_refusal}
+use Rattle.ledger_model.specs.Limits.{real_limits}
 use Rattle.ledger_model.specs.Texts.{answer_for}
 use Rattle.ledger_model.specs.declared.answer.Answer.TheVariants.{Reply, Receipt}
 use Rattle.ledger_model.specs.declared.job.Job.{Job}
-use Rattle.ledger_model.specs.declared.outcome.Outcome.TheVariants as came
+use Rattle.ledger_model.specs.declared.job.Job.TheVariants.{Prove, Extend, Head}
+use Rattle.ledger_model.specs.declared.outcome.Query.TheVariants as query
 use Rattle.batch_committer.specs.Attending.{step_in, Attended, JudgedBy, EndsAsking}
 use Rattle.batch_committer.specs.World.{Kept, Keeps, Holds, world, pair}
-use Rattle.batch_committer.proofs.Anchoring.{asked_room, asked_anchor, asked_head, anchor_asks, keeps_book, on_err_all}
+use Rattle.batch_committer.proofs.Anchoring.{asked_room, asked_anchor, asked_head, asked_prove, asked_extend, asked_accepted, anchor_asks, keeps_book, on_err_all, told_judged}
 use Rattle.batch_committer.proofs.Attends.{unstamped, unstamped_same, attends_other, ends_untouched}
 use Rattle.batch_committer.proofs.Judging.{real_applies, has_placed, judged_same_kept, judged_placed, asks_closes, alone_first}
 use Rattle.batch_committer.proofs.ReadLaws.{holds_book}
@@ -32,7 +36,7 @@ pub anchor-requires-clause-settled : goal.anchor-requires-clause-settled
 anchor-requires-clause-settled g c = λ h s.
     let asked = subst (AsksFor c.args.job.now) c.in-Reading.is c.in_ok-refusal.ensures.asked in
     let same = c.in_ok-refusal.ensures.unchanged (subst PlacesNothing (sym c.in-Reading.is) tt) in
-    c.requires.settled (asks_closes c.args.job.now c.in-Reading.query asked) h (subst (λ (k : Kept). Serves k.book h) c.self.view_is (subst (λ b. Serves b h) same s))
+    none_waits _ h (subst (λ b. Serves b h) same s).stands (sym (subst (λ (k : Kept). k.book.size ≡ k.book.sealed) (sym c.self.view_is) (c.requires.settled (asks_closes c.args.job.now c.in-Reading.query asked))))
 
 pub returns-in-Refused-clause-judged : goal.returns-in-Refused-clause-judged
 returns-in-Refused-clause-judged g c =
@@ -59,7 +63,7 @@ returns-in_ok-gather_placed-in-Placed-clause-judged g c =
           let a = c.in_ok-refusal.ensures.ok h p.serves in
           record {
             judged = judged_placed None _ _ c.gather_placed.new.self h step c.args.job.now _ c.in-Placed.jsn c.in-Placed.leaf _ p (λ other. opens_gather c.args.self.now.book h holds.keeps.serves.stands c.requires.room.1)
-                (λ alone. c.requires.settled (alone_first c.args.job.now alone) h holds.keeps.serves) c.requires.fits
+                (λ alone. none_waits _ h holds.keeps.serves.stands (sym (c.requires.settled (alone_first c.args.job.now alone)))) c.requires.fits
                 (subst (λ b. Applies c.self.inside.opened.book.limits None h c.args.job.now c.in_ok-refusal.field-0 b) (sym e.book) a)
                 (subst (IsSame c.self.inside.opened.book) (sym e.book) c.apply.ensures.same) c.in-Placed.is
                 (λ f journal content given parts serves there floor. e.gathered f journal content given parts (subst (λ b. Serves b f) e.book serves) there (subst (λ (b : books.Kept). b.floor ≤ c.in-Placed.jsn) e.book floor))
@@ -100,22 +104,16 @@ pub returns-in-Head-clause-judged : goal.returns-in-Head-clause-judged
 returns-in-Head-clause-judged g c =
     let n = g.N.Notary.state c.args.notary.now in
     let m = g.N.Notary.state c.head_reply.new.notary in
-    let nothing : PlacesNothing c.in_ok-refusal.field-0 = subst PlacesNothing (sym c.in-Reading.is) tt in
-    let same = c.in_ok-refusal.ensures.unchanged nothing in
-    let asked = subst (AsksFor c.args.job.now) c.in-Reading.is c.in_ok-refusal.ensures.asked in
+    let e = c.in_ok-refusal.ensures in
+    let asked = subst (AsksFor c.args.job.now) c.in-Reading.is e.asked in
     let job = asked_head c.args.job.now c.in-Reading.query asked c.in-Head.is in
     let x = c.head_reply.ensures.told in (
       x.0,
       λ h lane index line sink holds.
           let p = subst (λ (k : Kept). Keeps k h) (sym c.self.view_is) holds.keeps in
-          let step = step_in n m x.0 lane index line in
-          let none = c.requires.settled (asks_closes c.args.job.now c.in-Reading.query asked) h holds.keeps.serves in
-          let y = x.1 h lane index line (subst (λ b. Serves b h) (sym same) p.serves) none in
-          record {
-            judged = judged_same_kept _ _ h step c.args.job.now _ _ p (c.in_ok-refusal.ensures.ok h p.serves) nothing c.in_ok-refusal.ensures.unchanged refl refl refl
-                (ap Reply y.0 ∙ ap (λ q. answer_for h step (came.Reading q)) (sym c.in-Head.is) ∙ sym (ap (answer_for h step) c.in-Reading.is)) (unstamped_same n m x.0 lane index line y.1.list);
-            attended = subst (λ (j : Job). Attended n m h step j) (sym job) y.1;
-          },
+          let none = none_waits _ h holds.keeps.serves.stands (sym (c.requires.settled (asks_closes c.args.job.now c.in-Reading.query asked))) in
+          let y = x.1 h lane index line (subst (λ b. Serves b h) (sym (e.unchanged (subst PlacesNothing (sym c.in-Reading.is) tt))) p.serves) none in
+          told_judged _ _ n m h (step_in n m x.0 lane index line) c.args.job.now Head c.in_ok-refusal.field-0 c.in-Reading.query query.Head _ p (e.ok h p.serves) e.unchanged c.in-Reading.is c.in-Head.is job (unstamped_same n m x.0 lane index line y.1.list.list) y,
     )
 
 pub returns-in_ok-tell-in-Get-clause-judged : goal.returns-in_ok-tell-in-Get-clause-judged
@@ -128,7 +126,7 @@ returns-in_ok-tell-in-Get-clause-judged g c =
       λ h lane index line sink holds.
           let p = subst (λ (k : Kept). Holds g.D.Disk.tells (world k disks sink) h) (sym c.self.view_is) holds in
           let step = step_in n n false lane index line in
-          let none = c.requires.settled (asks_closes c.args.job.now c.in-Reading.query asked) h holds.keeps.serves in
+          let none = none_waits _ h holds.keeps.serves.stands (sym (c.requires.settled (asks_closes c.args.job.now c.in-Reading.query asked))) in
           let there = holds_book g.D.Disk.tells _ c.apply.new.self disks sink h (c.in_ok-refusal.ensures.unchanged nothing) p in
           let a = c.in_ok-refusal.ensures.ok h p.keeps.serves in
           record {
@@ -148,7 +146,7 @@ returns-in_ok-tell-in-Clue-clause-judged g c =
       λ h lane index line sink holds.
           let p = subst (λ (k : Kept). Holds g.D.Disk.tells (world k disks sink) h) (sym c.self.view_is) holds in
           let step = step_in n n false lane index line in
-          let none = c.requires.settled (asks_closes c.args.job.now c.in-Reading.query asked) h holds.keeps.serves in
+          let none = none_waits _ h holds.keeps.serves.stands (sym (c.requires.settled (asks_closes c.args.job.now c.in-Reading.query asked))) in
           let there = holds_book g.D.Disk.tells _ c.apply.new.self disks sink h (c.in_ok-refusal.ensures.unchanged nothing) p in
           let a = c.in_ok-refusal.ensures.ok h p.keeps.serves in
           record {
@@ -194,3 +192,51 @@ returns-in_err-tell-in-Get-clause-unasked g c = on_err_all c.from_residual-in_er
 
 pub returns-in_err-tell-in-Clue-clause-unasked : goal.returns-in_err-tell-in-Clue-clause-unasked
 returns-in_err-tell-in-Clue-clause-unasked g c = on_err_all c.from_residual-in_err-tell-in-Clue.result (ends_untouched c.args.self.now (g.N.Notary.state c.args.notary.now) c.args.job.now)
+
+pub returns-in_ok-reply-in-Prove-clause-judged : goal.returns-in_ok-reply-in-Prove-clause-judged
+returns-in_ok-reply-in-Prove-clause-judged g c =
+    let n = g.N.Notary.state c.args.notary.now in
+    let m = g.N.Notary.state c.proof_of.new.notary in
+    let e = c.in_ok-refusal.ensures in
+    let job = asked_prove c.args.job.now c.in-Reading.query c.in-Prove.n (subst (AsksFor c.args.job.now) c.in-Reading.is e.asked) c.in-Prove.is in
+    let x = c.in_ok-reply-in-Prove.ensures.told in (
+      x.0,
+      λ h lane index line sink holds.
+          let p = subst (λ (k : Kept). Keeps k h) (sym c.self.view_is) holds.keeps in
+          let a = e.ok h p.serves in
+          let accepted = asked_accepted real_limits h c.args.job.now _ c.in-Reading.query _ (real_applies None c.self.inside.opened.book _ h c.args.job.now _ p.limits a) c.in-Reading.is in
+          let y = x.1 h lane index line (subst (λ b. Serves b h) (sym (e.unchanged (subst PlacesNothing (sym c.in-Reading.is) tt))) p.serves) (subst (λ (j : Job). own_refusal real_limits h j ≡ None) job accepted) in
+          told_judged _ _ n m h (step_in n m x.0 lane index line) c.args.job.now (Prove c.in-Prove.n) c.in_ok-refusal.field-0 c.in-Reading.query (query.Prove c.in-Prove.n) _ p a e.unchanged c.in-Reading.is c.in-Prove.is job (unstamped_same n m x.0 lane index line y.1.list.list) y,
+    )
+
+pub returns-in_err-reply-in-Prove-clause-unasked : goal.returns-in_err-reply-in-Prove-clause-unasked
+returns-in_err-reply-in-Prove-clause-unasked g c =
+    let n = g.N.Notary.state c.args.notary.now in
+    let m = g.N.Notary.state c.proof_of.new.notary in
+    let job = asked_prove c.args.job.now c.in-Reading.query c.in-Prove.n (subst (AsksFor c.args.job.now) c.in-Reading.is c.in_ok-refusal.ensures.asked) c.in-Prove.is in
+    on_err_all c.from_residual-in_err-reply-in-Prove.result
+    (inl (false, λ h lane index line p. subst (λ (j : Job). Attended n m h (step_in n m false lane index line) j) (sym job) (c.in_err-reply-in-Prove.ensures.err h lane index line)))
+
+pub returns-in_ok-reply-in-Extend-clause-judged : goal.returns-in_ok-reply-in-Extend-clause-judged
+returns-in_ok-reply-in-Extend-clause-judged g c =
+    let n = g.N.Notary.state c.args.notary.now in
+    let m = g.N.Notary.state c.extension_of.new.notary in
+    let e = c.in_ok-refusal.ensures in
+    let job = asked_extend c.args.job.now c.in-Reading.query c.in-Extend.which c.in-Extend.m (subst (AsksFor c.args.job.now) c.in-Reading.is e.asked) c.in-Extend.is in
+    let x = c.in_ok-reply-in-Extend.ensures.told in (
+      x.0,
+      λ h lane index line sink holds.
+          let p = subst (λ (k : Kept). Keeps k h) (sym c.self.view_is) holds.keeps in
+          let a = e.ok h p.serves in
+          let accepted = asked_accepted real_limits h c.args.job.now _ c.in-Reading.query _ (real_applies None c.self.inside.opened.book _ h c.args.job.now _ p.limits a) c.in-Reading.is in
+          let y = x.1 h lane index line (subst (λ b. Serves b h) (sym (e.unchanged (subst PlacesNothing (sym c.in-Reading.is) tt))) p.serves) (subst (λ (j : Job). own_refusal real_limits h j ≡ None) job accepted) in
+          told_judged _ _ n m h (step_in n m x.0 lane index line) c.args.job.now (Extend c.in-Extend.which c.in-Extend.m) c.in_ok-refusal.field-0 c.in-Reading.query (query.Extend c.in-Extend.which c.in-Extend.m) _ p a e.unchanged c.in-Reading.is c.in-Extend.is job (unstamped_same n m x.0 lane index line y.1.list.list) y,
+    )
+
+pub returns-in_err-reply-in-Extend-clause-unasked : goal.returns-in_err-reply-in-Extend-clause-unasked
+returns-in_err-reply-in-Extend-clause-unasked g c =
+    let n = g.N.Notary.state c.args.notary.now in
+    let m = g.N.Notary.state c.extension_of.new.notary in
+    let job = asked_extend c.args.job.now c.in-Reading.query c.in-Extend.which c.in-Extend.m (subst (AsksFor c.args.job.now) c.in-Reading.is c.in_ok-refusal.ensures.asked) c.in-Extend.is in
+    on_err_all c.from_residual-in_err-reply-in-Extend.result
+    (inl (false, λ h lane index line p. subst (λ (j : Job). Attended n m h (step_in n m false lane index line) j) (sym job) (c.in_err-reply-in-Extend.ensures.err h lane index line)))

@@ -1,9 +1,10 @@
-use Rattle.std.proofs.Common.{true, inl, inr, ◌++◌, ◌∷◌, [], ap, ◌∙◌}
+use Rattle.std.proofs.Common.{true, inl, inr, ◌++◌, ◌∷◌, [], ap, sym, ◌∙◌}
 use Rattle.ledger_model.specs.Anchors.{stamp_of}
 use Rattle.ledger_model.specs.Limits.{real_limits}
 use Rattle.ledger_model.specs.Outcomes.{with_job}
 use Rattle.ledger_model.specs.declared.due.Due.{Due}
 use Rattle.ledger_model.proofs.GrowLaws.{grows_with}
+use Rattle.ledger_book.proofs.StandsLaws.{none_waits}
 use Rattle.batch_committer.specs.Attending.{step_in}
 use Rattle.batch_committer.specs.World.{Kept, world, pair}
 use Rattle.batch_committer.specs.declared.end.End.TheVariants.{NoMemory}
@@ -67,7 +68,7 @@ returns-clause-ok g c =
                 (judged_goes g.D.Disk.tells (world c.args.self.now old sink) _ step i.job c.in_ok-answer.answer
                 (ap (λ (k : Kept). k.place) c.self.view_is ∙ e.rest.file.place) (ap (λ (k : Kept). k.in_a) c.self.view_is ∙ e.rest.file.in_a)
                 (c.in-Ok.ensures.items ∙ ap (λ (k : Kept). k.dues ++ due ∷ []) c.self.view_is ∙ ap (λ ds. ds ++ due ∷ []) e.rest.dues)
-                c.requires.settled
+                (λ closes h s. none_waits _ h s.stands (sym (c.requires.settled closes)))
                 (λ h holds none. judged_dues c.judge.new.self _ c.push.new.self.items h step i.job c.in_ok-answer.answer c.self.view_is (x.1 h i.lane i.index line sink holds).judged));
             attended = λ h held. (x.1 h i.lane i.index line sink held).attended;
           },
