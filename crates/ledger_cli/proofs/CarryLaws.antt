@@ -1,5 +1,5 @@
 -- Lemmas on a run whose disks were opened or made first.
-use Rattle.std.proofs.Common.{◌≡◌, ℕ, inl, inr, ◌<◌, List, [], length, map, take, drop, refl, ap, sym, subst, ◌∙◌, arith}
+use Rattle.std.proofs.Common.{◌≡◌, ℕ, inl, inr, ◌<◌, List, [], ◌∷◌, length, map, take, drop, refl, ap, sym, subst, ◌∙◌, arith}
 use Rattle.std.specs.Prelude.{IfSome, IsSome}
 use Rattle.std.proofs.KnownBytes.{Consumes-nil, Appends-nil}
 use Rattle.std.proofs.lemmas.List.{take-append-drop, length-take-le}
@@ -15,6 +15,7 @@ use Rattle.ledger_io.specs.Lines.{IsLine}
 use Rattle.ledger_io.specs.Outside.{SourceState, SinkState}
 use Rattle.ledger_io.specs.Runs.{FallsShort, SomeOfScript}
 use Rattle.ledger_io.specs.declared.ending.Ending.TheVariants as run
+use Rattle.ledger_model.specs.Growing.{Grows}
 use Rattle.ledger_model.specs.History.{History}
 use Rattle.ledger_model.specs.Rules.{after}
 use Rattle.ledger_model.specs.Scheme.{Scheme}
@@ -27,12 +28,12 @@ use Rattle.ledger_model.proofs.WaitLaws.{begins_closed}
 use Rattle.ledger_open.specs.Standing.{PairFor}
 use Rattle.ledger_open.specs.declared.failure.OpenErr.{OpenErr}
 use Rattle.ledger_cli.specs.Endings.{refusal_of}
-use Rattle.ledger_cli.specs.Runs.{Handed, handed, AreQuiet, StandFor, Faults, NoDiskFailed, DiskFailed, FaultsBy, StopsOn, RunsOn}
+use Rattle.ledger_cli.specs.Runs.{Handed, handed, AreQuiet, StandFor, Faults, NoDiskFailed, DiskFailed, FaultsBy, AllStand, StopsOn, RunsOn}
 use Rattle.ledger_cli.specs.Session.{IsOfLines}
 use Rattle.ledger_cli.specs.declared.ending.LedgerEnding.{LedgerEnding}
 use Rattle.ledger_cli.specs.declared.ending.LedgerEnding.TheVariants.{Run, DiskFault, Damaged, Empty, Exists, NewerFormat}
 use Rattle.ledger_cli.proofs.MergeLaws.{all_unasked, unasked_merges, each_unasked}
-use Rattle.ledger_cli.proofs.NotaryLaws.{some_none}
+use Rattle.ledger_cli.proofs.NotaryLaws.{none_first}
 
 -- ---- what is told of a run is told of what it was handed before the disks were opened
 
@@ -83,23 +84,30 @@ module _ (scheme : Scheme) (h : History) (source : SourceState) (sink : SinkStat
   abbrev steps_for : List (List ℕ) → List (List Step)
   steps_for lines = map (all_unasked n) (windows (said_lines lines))
 
-  stops_first : (lines : List (List ℕ)) → StopsOn scheme h [] now n n lines (text scheme h (steps_for lines))
+  -- .. nor is a block left that wasn't there
+  all_first : (whole : History) → Grows h whole → AllStand h whole n n [] now
+  all_first whole grows = λ a b x y. record {
+    kept = h;
+    stands = images a b x y;
+    no_shorter = begins_not h.closed;
+    no_longer = begins_closed h whole grows;
+    receipts = λ jsn leaf r. absurd r.line;
+    pegs = λ p. p;
+  }
+
+  stops_first : (lines : List (List ℕ)) → StopsOn scheme h [] now n n (Begins []) lines (text scheme h (steps_for lines))
   stops_first lines = record {
     steps = steps_for lines;
     merge = unasked_merges n (windows (said_lines lines));
-    took = some_none scheme h n (steps_for lines) (each_unasked n (windows (said_lines lines)));
+    took = record { done = []; now = []; rest = steps_for lines; split = refl; first = none_first n (steps_for lines) (each_unasked n (windows (said_lines lines))); took = (n, refl, refl) };
     text_is = refl;
-    images = λ a b x y. record {
-      kept = h;
-      stands = images a b x y;
-      no_shorter = begins_not h.closed;
-      no_longer = begins_closed h (after scheme h (steps_for lines)) (grows_windows scheme h (steps_for lines));
-      receipts = λ jsn leaf r. absurd r.line;
-      pegs = λ p. p;
-    };
+    written = begins_not [];
+    images = all_first (after scheme h (steps_for lines)) (grows_windows scheme h (steps_for lines));
+    proofs = λ pegged. (tt, tt);
+    images_taken = all_first (after scheme h ([] ∷ [])) (grows_windows scheme h ([] ∷ []));
   }
 
-  some_first : SomeOfScript (StopsOn scheme h [] now n n) source source [] (Begins [])
+  some_first : SomeOfScript (StopsOn scheme h [] now n n (Begins [])) source source [] (Begins [])
   some_first = inl (refl, ([], [], record { is = refl; each = All-nil IsLine }, λ lines. (text scheme h (steps_for lines), stops_first lines, record { rest = text scheme h (steps_for lines); is = refl })))
 
   pub serves_none : RunsOn scheme h (Run run.NoMemory) (handed source sink old n) (handed source sink now n)

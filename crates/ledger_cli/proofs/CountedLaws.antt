@@ -15,10 +15,9 @@ use Rattle.ledger_model.specs.Scheme.{Scheme}
 use Rattle.ledger_model.specs.Step.{Step}
 use Rattle.ledger_model.specs.Texts.{told_stamp}
 use Rattle.ledger_model.specs.Took.{Took, TookAll, notary_after}
-use Rattle.ledger_cli.specs.Taken.{TookTo, IsUnasked}
 use Rattle.ledger_cli.proofs.LineLaws.{Counted}
 use Rattle.ledger_cli.proofs.MergeLaws.{AllNumbered, EachNumbered}
-use Rattle.ledger_cli.proofs.NotaryLaws.{TookOnTo}
+use Rattle.ledger_cli.proofs.NotaryLaws.{TookOn}
 
 -- a step in which it took part keeps a lawful list, and its numbers fit
 record IsTold (step : Step) : Type 0 where
@@ -66,27 +65,15 @@ unfolding stamp_of
 attends_told scheme h step list a =
     let job = job_of scheme (id h) step.line in
     let g = judged_at h job in
-    let now = change_list (asks g step.before job) step.failed (peg_at g (size g)) step.before step.after list a in record {
+    let now = change_list (asks g step.before job) step.failed (peg_at g (size g)) step.before step.after list a.list in record {
       counted = λ f. record {
         lane = f.0;
         index = f.1;
         entries = (let few = now.few in omega (arith, few));
-        stamp = change_fits (asks g step.before job) step.failed (peg_at g (size g)) step.before step.after list a;
+        stamp = change_fits (asks g step.before job) step.failed (peg_at g (size g)) step.before step.after list a.list;
       };
       list = now;
     }
-
-unasked_told : (n : NotaryState) (step : Step) → IsList n.entries → IsUnasked n step → IsTold step
-unfolding stamp_of
-unasked_told n step list u = let now = subst IsList (sym u.2) list in record {
-  counted = λ f. record {
-    lane = f.0;
-    index = f.1;
-    entries = (let few = now.few in omega (arith, few));
-    stamp = subst (λ (b : Bool). StampFits (told_stamp (cond (b || is_full_list step.before) None (stamp_from (length step.before) (drop (length step.before) step.after))))) (sym u.0) tt;
-  };
-  list = now;
-}
 
 took_told : (scheme : Scheme) (h : History) (n m : NotaryState) (steps : List Step) → IsList n.entries → AllNumbered steps → Took scheme h n steps m → AllCounted steps × IsList m.entries
 took_told scheme h n m [] list numbers t = (tt, subst (λ (x : NotaryState). IsList x.entries) (sym t) list)
@@ -94,21 +81,6 @@ took_told scheme h n m (step ∷ steps) list numbers t =
     let told = attends_told scheme h step (subst IsList (sym t.0) list) t.1 in
     let more = took_told scheme (after_step scheme h step) (notary_after n step) m steps told.list numbers.1 t.2 in
     ((told.counted numbers.0, more.0), more.1)
-
-counted_more : (front : List Step) (last : Step) → AllCounted front → IsCounted last → AllCounted (front ++ last ∷ [])
-counted_more [] last a c = (c, tt)
-counted_more (x ∷ xs) last a c = (a.0, counted_more xs last a.1 c)
-
-numbered_split : (front : List Step) (last : Step) → AllNumbered (front ++ last ∷ []) → AllNumbered front × (Fits last.lane × Fits last.index)
-numbered_split [] last a = (tt, a.0)
-numbered_split (x ∷ xs) last a = let r = numbered_split xs last a.1 in ((a.0, r.0), r.1)
-
-to_told : (scheme : Scheme) (h : History) (n m : NotaryState) (steps : List Step) → IsList n.entries → AllNumbered steps → TookTo scheme h n steps m → AllCounted steps
-to_told scheme h n m steps list numbers (inl t) = (took_told scheme h n m steps list numbers t).0
-to_told scheme h n m steps list numbers (inr t) =
-    let parts = numbered_split t.front t.last (subst AllNumbered t.split numbers) in
-    let front = took_told scheme h n m t.front list parts.0 t.took in
-    subst AllCounted (sym t.split) (counted_more t.front t.last front.0 ((unasked_told m t.last front.1 t.unasked).counted parts.1))
 
 all_told : (scheme : Scheme) (h : History) (n m : NotaryState) (windows : List (List Step)) → IsList n.entries → EachNumbered windows → TookAll scheme h n windows m → EachCounted windows × IsList m.entries
 all_told scheme h n m [] list numbers t = (tt, subst (λ (x : NotaryState). IsList x.entries) (sym t) list)
@@ -120,8 +92,8 @@ all_told scheme h n m (window ∷ windows) list numbers t =
 pub counted_all : (scheme : Scheme) (h : History) (n m : NotaryState) (windows : List (List Step)) → IsList n.entries → EachNumbered windows → TookAll scheme h n windows m → EachCounted windows
 counted_all scheme h n m windows list numbers t = (all_told scheme h n m windows list numbers t).0
 
--- whole windows, and the steps at whose last one the run ended
-pub counted_to : (scheme : Scheme) (h : History) (n m : NotaryState) (done : List (List Step)) (current : List Step) → IsList n.entries → EachNumbered done → AllNumbered current → TookOnTo scheme h n done current m → Counted done current
-counted_to scheme h n m done current list numbers numbers_now t =
+-- whole windows, and the first steps of the next one
+pub counted_on : (scheme : Scheme) (h : History) (n m : NotaryState) (done : List (List Step)) (current : List Step) → IsList n.entries → EachNumbered done → AllNumbered current → TookOn scheme h n done current m → Counted done current
+counted_on scheme h n m done current list numbers numbers_now t =
     let whole = all_told scheme h n t.between done list numbers t.whole in
-    record { windows_are = whole.0; steps_are = to_told scheme (after scheme h done) t.between m current whole.1 numbers_now t.steps }
+    record { windows_are = whole.0; steps_are = (took_told scheme (after scheme h done) t.between m current whole.1 numbers_now t.steps).0 }

@@ -1,6 +1,5 @@
 -- Lemmas on the notary's list, which only goes on.
 use Rattle.std.proofs.Common.{◌≡◌, ℕ, ◌+◌, ◌≤◌, Bool, true, false, inl, inr, List, [], ◌∷◌, ◌++◌, length, ap, sym, ◌∙◌, arith, append-nil, length-append}
-use Rattle.std.proofs.lemmas.List.Concat.{flat_map-append}
 use Rattle.batch_committer.proofs.WayLaws.{begins_then}
 use Rattle.ledger_bytes.specs.Begins.{Begins}
 use Rattle.time_peg.specs.Entries.{NotaryState, HasOneMore, entry_of}
@@ -11,8 +10,8 @@ use Rattle.ledger_model.specs.Rules.{job_of, judged_at, after_step, after_window
 use Rattle.ledger_model.specs.Scheme.{Scheme}
 use Rattle.ledger_model.specs.Step.{Step}
 use Rattle.ledger_model.specs.Took.{Took, TookAll, notary_after}
-use Rattle.ledger_cli.specs.Taken.{TookTo, TookFirst, TookSome}
-use Rattle.ledger_cli.proofs.NotaryLaws.{flat}
+use Rattle.ledger_cli.specs.Taken.{taken, TookSome}
+use Rattle.ledger_cli.proofs.NotaryLaws.{flat, taken_begins}
 
 -- a list goes on from another by at most so many entries
 pub record GoesOnBy (most : ℕ) (first last : List (List ℕ)) : Type 0 where
@@ -43,7 +42,7 @@ attends_goes : (scheme : Scheme) (h : History) (step : Step) → Attends scheme 
 attends_goes scheme h step a =
     let job = job_of scheme (id h) step.line in
     let g = judged_at h job in
-    change_goes (asks g step.before job) step.failed (peg_at g (size g)) step.before step.after a
+    change_goes (asks g step.before job) step.failed (peg_at g (size g)) step.before step.after a.list
 
 took_goes : (scheme : Scheme) (h : History) (n m : NotaryState) (steps : List Step) → Took scheme h n steps m → GoesOnBy (length steps) n.entries m.entries
 took_goes scheme h n m [] t = stays 0 n.entries m.entries (ap (λ (x : NotaryState). x.entries) t)
@@ -56,27 +55,15 @@ took_goes scheme h n m (step ∷ steps) t =
       few = (let f = one.few in let e = ap length t.0 in omega (arith, f, e));
     }) more)
 
-to_goes : (scheme : Scheme) (h : History) (n m : NotaryState) (steps : List Step) → TookTo scheme h n steps m → GoesOnBy (length steps) n.entries m.entries
-to_goes scheme h n m steps (inl t) = took_goes scheme h n m steps t
-to_goes scheme h n m steps (inr t) =
-    goes_wider (length t.front) (length steps) n.entries m.entries (let e = ap length t.split in let l = length-append t.front (t.last ∷ []) in omega (arith, e, l))
-    (took_goes scheme h n m t.front t.took)
-
 all_goes : (scheme : Scheme) (h : History) (n m : NotaryState) (windows : List (List Step)) → TookAll scheme h n windows m → GoesOnBy (length (flat windows)) n.entries m.entries
 all_goes scheme h n m [] t = stays 0 n.entries m.entries (ap (λ (x : NotaryState). x.entries) t)
 all_goes scheme h n m (window ∷ windows) t =
     goes_wider (length window + length (flat windows)) (length (flat (window ∷ windows))) n.entries m.entries (let l = length-append window (flat windows) in omega (arith, l))
     (goes_then (length window) (length (flat windows)) n.entries t.0.entries m.entries (took_goes scheme h n t.0 window t.1) (all_goes scheme (after_window scheme h window) t.0 m windows t.2))
 
-first_goes : (scheme : Scheme) (h : History) (n m : NotaryState) (windows : List (List Step)) → TookFirst scheme h n windows m → GoesOnBy (length (flat windows)) n.entries m.entries
-first_goes scheme h n m [] t = stays 0 n.entries m.entries (ap (λ (x : NotaryState). x.entries) t)
-first_goes scheme h n m (window ∷ windows) t =
-    goes_wider (length t.0) (length (flat (window ∷ windows))) n.entries m.entries
-    (let e = ap length t.2 in let l = length-append t.0 t.1 in let k = length-append window (flat windows) in omega (arith, e, l, k))
-    (to_goes scheme h n m t.0 t.3)
-
 pub some_goes : (scheme : Scheme) (h : History) (n m : NotaryState) (windows : List (List Step)) → TookSome scheme h n windows m → GoesOnBy (length (flat windows)) n.entries m.entries
 some_goes scheme h n m windows t =
-    goes_wider (length (flat t.done) + length (flat t.rest)) (length (flat windows)) n.entries m.entries
-    (let e = ap length (ap flat t.split ∙ flat_map-append (λ (window : List Step). window) t.done t.rest) in let l = length-append (flat t.done) (flat t.rest) in omega (arith, e, l))
-    (goes_then (length (flat t.done)) (length (flat t.rest)) n.entries t.between.entries m.entries (all_goes scheme h n t.between t.done t.whole) (first_goes scheme (after scheme h t.done) t.between m t.rest t.first))
+    let steps = flat (taken t.done t.now) in
+    let b = taken_begins scheme h n m windows t in
+    goes_wider (length steps) (length (flat windows)) n.entries m.entries (let e = ap length b.is in let l = length-append steps b.rest in omega (arith, e, l))
+    (all_goes scheme h n m (taken t.done t.now) t.took)

@@ -152,7 +152,7 @@ merge_numbered (window ∷ windows) (part ∷ parts) m c = (
   merge_numbered windows parts m.1 c.1,
 )
 
-numbered_first : (steps rest : List Step) → AllNumbered (steps ++ rest) → AllNumbered steps
+pub numbered_first : (steps rest : List Step) → AllNumbered (steps ++ rest) → AllNumbered steps
 numbered_first [] rest a = tt
 numbered_first (step ∷ steps) rest a = (a.0, numbered_first steps rest a.1)
 

@@ -13,11 +13,11 @@ use Rattle.ledger_model.proofs.CountLaws.{script_counted}
 use Rattle.ledger_model.proofs.GrowLaws.{close_settled}
 use Rattle.ledger_model.proofs.LaneLaws.{with_last, windows_on, windows_end}
 use Rattle.ledger_model.proofs.WindowLaws.{IsCut}
-use Rattle.ledger_cli.specs.Taken.{AllUnasked, EachUnasked, TookSome}
-use Rattle.ledger_cli.proofs.CountedLaws.{counted_to}
+use Rattle.ledger_cli.specs.Taken.{AllUnasked, EachUnasked, TakesFirst}
+use Rattle.ledger_cli.proofs.CountedLaws.{counted_on}
 use Rattle.ledger_cli.proofs.LineLaws.{reached, owed, after_none, with_end, on_windows, on_stays, window_on, dues_on, GoesOn, Counted}
-use Rattle.ledger_cli.proofs.MergeLaws.{IsOrder, order_append, order_merge, order_same, order_none, none_order, merges_append, all_unasked, said_unasked, unasked_merge, unasked_merges, are_unasked, each_unasked, AllNumbered, EachNumbered, merge_numbered, numbered_parts}
-use Rattle.ledger_cli.proofs.NotaryLaws.{TookOnTo, some_more, some_done}
+use Rattle.ledger_cli.proofs.MergeLaws.{IsOrder, order_append, order_merge, order_same, order_none, none_order, merges_append, all_unasked, said_unasked, unasked_merge, unasked_merges, are_unasked, each_unasked, AllNumbered, EachNumbered, merge_numbered, numbered_first, numbered_parts}
+use Rattle.ledger_cli.proofs.NotaryLaws.{TookOn}
 
 -- ---- a run that goes on
 
@@ -96,20 +96,38 @@ begun_goes scheme h n all done current (inl b) = subst (GoesOn scheme done curre
 begun_goes scheme h n all done current (inr b) =
     subst (λ (w : List (List Step)). GoesOn scheme done current h w) (sym b.1) (subst (λ (c : List Step). GoesOn scheme done c h done) (sym b.0) (on_stays scheme h done))
 
-pub begun_took : (scheme : Scheme) (h : History) (first n : NotaryState) (all done : List (List Step)) (current : List Step) → IsBegun n all done current → TookOnTo scheme h first done current n → TookSome scheme h first all n
-begun_took scheme h first n all done current (inl b) t = some_more scheme h first all done current b.0 b.1 n b.2 b.3 b.4 t
-begun_took scheme h first n all done current (inr b) t = some_done scheme h first all done current n b.0 b.1 t
+-- steps that weren't taken come behind those that were
+pub record StandsBehind (n : NotaryState) (all done : List (List Step)) (current : List Step) : Type 0 where
+  pub rest : List (List Step)
+  pub split : all ≡ done ++ rest
+  pub first : TakesFirst n current rest
+
+pub begun_behind : (n : NotaryState) (all done : List (List Step)) (current behind : List Step) → IsBegun n all done (current ++ behind) → AllUnasked n behind → StandsBehind n all done current
+begun_behind n all done current behind (inl b) u = record {
+  rest = ((current ++ behind) ++ b.0) ∷ b.1;
+  split = b.2;
+  first = (behind ++ b.0, append_assoc current behind b.0, unasked_both behind b.0 u b.3, b.4);
+}
+  where
+    unasked_both : (xs ys : List Step) → AllUnasked n xs → AllUnasked n ys → AllUnasked n (xs ++ ys)
+    unasked_both [] ys a c = c
+    unasked_both (x ∷ xs) ys a c = (a.0, unasked_both xs ys a.1 c)
+begun_behind n all done current behind (inr b) u = record { rest = []; split = b.1 ∙ sym (append-nil done); first = first_none current behind b.0 }
+  where
+    first_none : (xs ys : List Step) → xs ++ ys ≡ [] → xs ≡ []
+    first_none [] ys e = refl
+    first_none (x ∷ xs) ys e = absurd (let no : ⊥ = cc in no)
 
 begun_numbered : (n : NotaryState) (all done : List (List Step)) (current : List Step) → IsBegun n all done current → EachNumbered all → EachNumbered done × AllNumbered current
 begun_numbered n all done current (inl b) e = numbered_parts done current b.0 b.1 (subst EachNumbered b.2 e)
 begun_numbered n all done current (inr b) e = (subst EachNumbered b.1 e, subst AllNumbered (sym b.0) tt)
 
-pub parts_of : (scheme : Scheme) (h : History) (first n : NotaryState) (script : List (List ℕ)) (done : List (List Step)) (current : List Step) → CanGoOn n script done current → length script < 2 ^ 64 → IsList first.entries → TookOnTo scheme h first done current n → Counted done current
-parts_of scheme h first n script done current c few list t =
+pub parts_of : (scheme : Scheme) (h : History) (first n : NotaryState) (script : List (List ℕ)) (done : List (List Step)) (current behind : List Step) → CanGoOn n script done (current ++ behind) → length script < 2 ^ 64 → IsList first.entries → TookOn scheme h first done current n → Counted done current
+parts_of scheme h first n script done current behind c few list t =
     let g = c [] in
     let few_here : length (script ++ []) < 2 ^ 64 = subst (λ l. length l < 2 ^ 64) (sym (append-nil script)) few in
-    let numbers = begun_numbered n g.all done current g.begun (merge_numbered (windows (said_lines (script ++ []))) g.all g.merge (script_counted (script ++ []) few_here)) in
-    counted_to scheme h first n done current list numbers.0 numbers.1 t
+    let numbers = begun_numbered n g.all done (current ++ behind) g.begun (merge_numbered (windows (said_lines (script ++ []))) g.all g.merge (script_counted (script ++ []) few_here)) in
+    counted_on scheme h first n done current list numbers.0 (numbered_first current behind numbers.1) t
 
 -- ---- a script that has ended
 

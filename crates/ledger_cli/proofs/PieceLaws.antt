@@ -1,5 +1,7 @@
 -- Lemmas on the lines of a piece, as they are offered to a committer.
-use Rattle.std.proofs.Common.{◌≡◌, ℕ, ◌≤◌, Bool, true, List, [], ◌∷◌, ◌++◌, map, Option, None, Some, inl, inr, refl, ap, sym, subst, ◌∙◌, arith, append_assoc, append-nil}
+use Rattle.std.specs.Prelude.{◌||◌}
+use Rattle.std.specs.Option.{option_map}
+use Rattle.std.proofs.Common.{◌≡◌, ℕ, ◌≤◌, ◌⊎◌, Bool, true, cond, List, [], ◌∷◌, ◌++◌, length, drop, map, Option, None, Some, inl, inr, refl, ap, sym, subst, ◌∙◌, arith, append_assoc, append-nil}
 use Rattle.std.proofs.lemmas.List.{map-append}
 use Rattle.batch_committer.specs.Attending.{step_in, Attended, Takes, EndsAt, EndsUnasked, EndsTaking}
 use Rattle.batch_committer.specs.World.{Keeps, Holds, HasRoom, Goes, Ended}
@@ -7,7 +9,7 @@ use Rattle.batch_committer.specs.declared.end.End.{End}
 use Rattle.batch_committer.specs.declared.end.End.TheVariants as end
 use Rattle.batch_committer.proofs.Ending.{no_memory}
 use Rattle.batch_committer.proofs.Opening.{held_lawful}
-use Rattle.batch_committer.proofs.WayLaws.{goes_same, goes_then, goes_as, ended_then, ended_as, ended_wider}
+use Rattle.batch_committer.proofs.WayLaws.{goes_same, goes_then, goes_as, ended_then, ended_as}
 use Rattle.lane_work.specs.Offering as lanes
 use Rattle.lane_work.specs.Offering.{Stops, GoesSome, OffersLine, RunsAll, RunsSome}
 use Rattle.std.specs.Prelude.{slice_index}
@@ -16,10 +18,15 @@ use Rattle.lane_work.specs.Orders.{numbered, IsOrderOf}
 use Rattle.lane_work.specs.declared.kinds.LaneLine.{LaneLine}
 use Rattle.lane_work.specs.declared.taker.Flow.{Flow}
 use Rattle.ledger_book.specs.declared.prepared.Prepared.{Prepared}
+use Rattle.ledger_bytes.specs.declared.refusal.Refusal.{Refusal}
+use Rattle.ledger_model.specs.Anchors.{is_full_list, stamp_from, stamp_of, time_journal}
 use Rattle.ledger_model.specs.Dues.{due_of, dues}
 use Rattle.ledger_model.specs.History.{History, id, size, journals, close}
+use Rattle.ledger_model.specs.Judgements.{own_refusal}
+use Rattle.ledger_model.specs.Limits.{real_limits}
 use Rattle.ledger_model.specs.Merge.{said_by}
 use Rattle.ledger_model.specs.Notary.{Attends, AttendsJob}
+use Rattle.ledger_model.specs.Outcomes.{after_judgement, with_job}
 use Rattle.ledger_model.specs.Prepared.{prepared_items, after_jobs, job_dues}
 use Rattle.ledger_model.specs.Rules.{job_of, judged_at, after_job, after_step, after_steps}
 use Rattle.ledger_model.specs.Scheme.{Scheme}
@@ -30,11 +37,10 @@ use Rattle.time_peg.specs.Entries.{NotaryState}
 use Rattle.ledger_model.specs.declared.due.Due.{Due}
 use Rattle.ledger_model.specs.declared.job.Job.{Job}
 use Rattle.ledger_model.specs.declared.job.Job.TheVariants.{Anchor}
-use Rattle.ledger_model.proofs.GrowLaws.{grows_job, grows_not, grows_size}
+use Rattle.ledger_model.proofs.GrowLaws.{close_none, close_settled, grows_job, grows_not, grows_size}
 use Rattle.ledger_model.proofs.LawfulLaws.{some_journal}
 use Rattle.ledger_model.proofs.PreparedLaws.{after_items, dues_of_items, id_kept}
-use Rattle.ledger_cli.specs.Taken.{IsUnasked, TookTo, TookButLast}
-use Rattle.ledger_cli.proofs.NotaryLaws.{took_to}
+use Rattle.ledger_model.proofs.TookLaws.{took_then}
 use Rattle.ledger_cli.specs.Pieces.{At, world_at, IsOpen, TakesAll, TakesSome, TakesBy, TakesPiece, Told, Answered, PieceTaken, PieceBroken, WindowTaken, WindowBroken}
 
 -- ---- a chain of values is one of what they tell
@@ -57,6 +63,15 @@ IsKnown key h = (id h ≡ key) × (1 ≤ size h)
 known_on : (key : List ℕ) (h : History) (step : Step) (job : Job) → IsKnown key h → IsKnown key (after_job h step job)
 unfolding IsKnown
 known_on key h step job k = (id_kept h (after_job h step job) (grows_job h step job) k.1 ∙ k.0, (let more = grows_size h (after_job h step job) (grows_job h step job) in let some = k.1 in omega (arith, more, some)))
+
+-- an anchor that got no stamp places nothing: the open block in front of it has ended
+unasked_closes : (h : History) (step : Step) → step.failed ≡ true → after_job h step Anchor ≡ close h
+unfolding after_job with_job stamp_of
+unasked_closes h step failed =
+    let k = close h in
+    let stays : (refusal : Option Refusal) → after_judgement refusal None k ≡ k = λ refusal. elim refusal as (λ r. after_judgement r None k ≡ k) [ None ↦ refl | Some why ↦ refl ] in
+    subst (λ (b : Bool). close (after_judgement (own_refusal real_limits k Anchor) (option_map (time_journal (size k)) (cond (b || is_full_list step.before) None (stamp_from (length step.before) (drop (length step.before) step.after)))) k) ≡ k) (sym failed)
+    (ap close (stays (own_refusal real_limits k Anchor)) ∙ sym (close_settled k (close_none h)))
 
 module _ (scheme : Scheme) (key : List ℕ) (tells : Bool) where
   abbrev jobs_after : List Step → History → History
@@ -104,43 +119,39 @@ module _ (scheme : Scheme) (key : List ℕ) (tells : Bool) where
     step : Step
     said : said_by step ≡ x
     ended : Ended tells (world_at s) (jobs_after (step ∷ [])) (jobs_due (step ∷ [])) why (world_at t)
-    took : (h : History) → Holds tells (world_at s) h → IsKnown key h → TookTo scheme h s.notary (step ∷ []) t.notary
+    took : (h : History) → Holds tells (world_at s) h → IsKnown key h → Took scheme h s.notary (step ∷ []) t.notary
+
+  -- .. before the notary was asked
+  record ItemUnasked (s t : At) (x : Said) (why : End) : Type 0 where
+    anchor : job_of scheme key x.line ≡ Anchor
+    ended : Ended tells (world_at s) close (λ h. []) why (world_at t)
+    same : t.notary ≡ s.notary
 
   one_took : (h : History) (n m : NotaryState) (step : Step) → IsKnown key h → step.before ≡ n.entries → AttendsJob (judged_at h (job_of scheme key step.line)) step (job_of scheme key step.line) → notary_after n step ≡ m → Took scheme h n (step ∷ []) m
   one_took h n m step k before a is = (before, attends_as h step k a, sym is)
 
-  one_unasked : (h : History) (n m : NotaryState) (step : Step) → IsKnown key h → m ≡ n → IsUnasked n step → job_of scheme key step.line ≡ Anchor → TookButLast scheme h n (step ∷ []) m
-  unfolding IsKnown
-  one_unasked h n m step k same u is = record {
-    front = [];
-    last = step;
-    split = refl;
-    took = same;
-    anchor = ap (λ (i : List ℕ). job_of scheme i step.line) k.0 ∙ is;
-    unasked = subst (λ (x : NotaryState). IsUnasked x step) (sym same) u;
-  }
-
   item_ended : (s t : At) (x : Said) (item : Prepared) (why : End) → IsItemOf scheme key x item
       → EndsTaking tells (world_at s) (world_at t) s.notary t.notary item.lane item.index item.job why
-      → ItemEnds s t x why
+      → ItemEnds s t x why ⊎ ItemUnasked s t x why
   item_ended s t x item why is (inl g) =
       let step = step_in s.notary t.notary g.0 x.lane x.index x.line in
       let ends = subst (λ (y : ℕ × ℕ × Job). EndsAt tells (world_at s) (world_at t) s.notary t.notary (step_in s.notary t.notary g.0 y.0 y.1 x.line) y.2 why)
-      (λ i. (is.0 i, is.1 i, is.2 i)) (g.1 x.line) in record {
+      (λ i. (is.0 i, is.1 i, is.2 i)) (g.1 x.line) in inl (record {
         step = step;
         said = refl;
         ended = ends.ended;
-        took = λ h p k. let a = ends.attended h p in inl (one_took h s.notary t.notary step k refl a.list (notary_is s.notary t.notary g.0 x.lane x.index x.line (judged_at h (job_of scheme key x.line)) (job_of scheme key x.line) a));
-      }
+        took = λ h p k. let a = ends.attended h p in one_took h s.notary t.notary step k refl a.list (notary_is s.notary t.notary g.0 x.lane x.index x.line (judged_at h (job_of scheme key x.line)) (job_of scheme key x.line) a);
+      })
   item_ended s t x item why is (inr g) =
       let step = step_in s.notary t.notary true x.lane x.index x.line in
       let ends = subst (λ (y : ℕ × ℕ × Job). EndsUnasked tells (world_at s) (world_at t) s.notary t.notary (step_in s.notary t.notary true y.0 y.1 x.line) y.2 why)
-      (λ i. (is.0 i, is.1 i, is.2 i)) (g x.line) in record {
-        step = step;
-        said = refl;
-        ended = ended_wider tells (world_at s) (world_at t) (jobs_after (step ∷ [])) (jobs_after (step ∷ [])) (λ h. []) (jobs_due (step ∷ [])) why (λ h p. grows_not (jobs_after (step ∷ []) h)) ends.ended;
-        took = λ h p k. inr (one_unasked h s.notary t.notary step k ends.same (refl, refl, ap (λ (n : NotaryState). n.entries) ends.same) ends.anchor);
-      }
+      (λ i. (is.0 i, is.1 i, is.2 i)) (g x.line) in inr (record {
+        anchor = ends.anchor;
+        ended =
+            ended_as tells (world_at s) (world_at t) (λ h. after_job h step (job_of scheme key x.line)) close (λ h. []) (λ h. []) why
+            (λ h p. ap (after_job h step) ends.anchor ∙ unasked_closes h step refl) (λ h p. refl) ends.ended;
+        same = ends.same;
+      })
 
   jobs_after-append : (xs ys : List Step) (h : History) → jobs_after ys (jobs_after xs h) ≡ jobs_after (xs ++ ys) h
   jobs_after-append [] ys h = refl
@@ -189,7 +200,14 @@ module _ (scheme : Scheme) (key : List ℕ) (tells : Bool) where
         still = more.still;
       }
 
-  -- .. and stopped
+  -- .. and stopped: there, or at an anchor that comes next
+  record StopsAtAnchor (s : Told) (steps : List Step) (rest : List Said) (why : End) (t : Told) : Type 0 where
+    said : Said
+    later : List Said
+    split : rest ≡ said ∷ later
+    anchor : job_of scheme key said.line ≡ Anchor
+    ended : Ended tells (world_at s.at) (λ h. close (jobs_after steps h)) (jobs_due steps) why (world_at t.at)
+
   record CameToEnd (s : Told) (xs : List Said) (t : Told) : Type 0 where
     names : t.names ≡ s.names
     why : End
@@ -197,8 +215,8 @@ module _ (scheme : Scheme) (key : List ℕ) (tells : Bool) where
     steps : List Step
     rest : List Said
     split : xs ≡ map said_by steps ++ rest
-    ended : Ended tells (world_at s.at) (jobs_after steps) (jobs_due steps) why (world_at t.at)
-    took : (h : History) → Holds tells (world_at s.at) h → IsKnown key h → TookTo scheme h s.at.notary steps t.at.notary
+    ended : Ended tells (world_at s.at) (jobs_after steps) (jobs_due steps) why (world_at t.at) ⊎ StopsAtAnchor s steps rest why t
+    took : (h : History) → Holds tells (world_at s.at) h → IsKnown key h → Took scheme h s.at.notary steps t.at.notary
 
   known_after : (steps : List Step) (h : History) → IsKnown key h → IsKnown key (jobs_after steps h)
   known_after [] h k = k
@@ -208,29 +226,59 @@ module _ (scheme : Scheme) (key : List ℕ) (tells : Bool) where
   unfolding IsKnown
   steps_as steps h k = after_items scheme key h steps k.0 k.1
 
+  -- the last item was taken, and its call ended the run
+  stops_there : (s m t : Told) (xs : List Said) (x : Said) (rest : List Said) (why : End) → Came s xs m → t.names ≡ m.names → t.end ≡ Some why → ItemEnds m.at t.at x why → CameToEnd s (xs ++ x ∷ rest) t
+  stops_there s m t xs x rest why c names end_is one =
+      let last : List Step = one.step ∷ [] in record {
+        names = names ∙ c.names;
+        why = why;
+        end = end_is;
+        steps = c.steps ++ last;
+        rest = rest;
+        split =
+            ap (λ (l : List Said). l ++ x ∷ rest) (sym c.said) ∙ ap (λ (y : Said). map said_by c.steps ++ y ∷ rest) (sym one.said)
+            ∙ sym (append_assoc (map said_by c.steps) (map said_by last) rest) ∙ ap (λ (l : List Said). l ++ rest) (sym (map-append said_by c.steps last));
+        ended =
+            inl (ended_as tells (world_at s.at) (world_at t.at) (λ h. jobs_after last (jobs_after c.steps h)) (jobs_after (c.steps ++ last)) (λ h. jobs_due c.steps h ++ jobs_due last (jobs_after c.steps h)) (jobs_due (c.steps ++ last)) why
+            (λ h p. jobs_after-append c.steps last h) (λ h p. jobs_due-append c.steps last h)
+            (ended_then tells (world_at s.at) (world_at m.at) (world_at t.at) (jobs_after c.steps) (jobs_after last) (jobs_due c.steps) (jobs_due last) why c.goes one.ended));
+        took = λ h p k.
+            took_then scheme h s.at.notary m.at.notary t.at.notary c.steps last (c.took h p k)
+            (subst (λ (i : History). Took scheme i m.at.notary last t.at.notary) (steps_as c.steps h k)
+            (one.took (jobs_after c.steps h) (c.goes.holds h p) (known_after c.steps h k)));
+      }
+
+  -- .. or it wasn't: the notary wasn't asked
+  stops_before : (s m t : Told) (xs : List Said) (x : Said) (rest : List Said) (why : End) → Came s xs m → t.names ≡ m.names → t.end ≡ Some why → ItemUnasked m.at t.at x why → CameToEnd s (xs ++ x ∷ rest) t
+  stops_before s m t xs x rest why c names end_is one = record {
+    names = names ∙ c.names;
+    why = why;
+    end = end_is;
+    steps = c.steps;
+    rest = x ∷ rest;
+    split = ap (λ (l : List Said). l ++ x ∷ rest) (sym c.said);
+    ended = inr (record {
+      said = x;
+      later = rest;
+      split = refl;
+      anchor = one.anchor;
+      ended =
+          ended_as tells (world_at s.at) (world_at t.at) (λ h. close (jobs_after c.steps h)) (λ h. close (jobs_after c.steps h)) (λ h. jobs_due c.steps h ++ []) (jobs_due c.steps) why
+          (λ h p. refl) (λ h p. append-nil (jobs_due c.steps h))
+          (ended_then tells (world_at s.at) (world_at m.at) (world_at t.at) (jobs_after c.steps) close (jobs_due c.steps) (λ h. []) why c.goes one.ended);
+    });
+    took = λ h p k. subst (λ (n : NotaryState). Took scheme h s.at.notary c.steps n) (sym one.same) (c.took h p k);
+  }
+
   chain_stops : (s : Told) (xs : List Said) (t : Told) → IsOpen tells s.at → Stops (OffersLine scheme key (Answered tells)) s xs t → CameToEnd s xs t
   chain_stops s xs t open_ g =
       let c = chain_goes s g.front g.mid open_ g.goes in
       let o = g.stops in
-      let one = item_ended g.mid.at t.at g.last o.0 o.2.1.0 o.1 o.2.1.2 in
-      let last : List Step = one.step ∷ [] in record {
-        names = o.2.0 ∙ c.names;
-        why = o.2.1.0;
-        end = o.2.1.1;
-        steps = c.steps ++ last;
-        rest = g.rest;
-        split =
-            g.split ∙ ap (λ (l : List Said). l ++ g.last ∷ g.rest) (sym c.said) ∙ ap (λ (y : Said). map said_by c.steps ++ y ∷ g.rest) (sym one.said)
-            ∙ sym (append_assoc (map said_by c.steps) (map said_by last) g.rest) ∙ ap (λ (l : List Said). l ++ g.rest) (sym (map-append said_by c.steps last));
-        ended =
-            ended_as tells (world_at s.at) (world_at t.at) (λ h. jobs_after last (jobs_after c.steps h)) (jobs_after (c.steps ++ last)) (λ h. jobs_due c.steps h ++ jobs_due last (jobs_after c.steps h)) (jobs_due (c.steps ++ last)) o.2.1.0
-            (λ h p. jobs_after-append c.steps last h) (λ h p. jobs_due-append c.steps last h)
-            (ended_then tells (world_at s.at) (world_at g.mid.at) (world_at t.at) (jobs_after c.steps) (jobs_after last) (jobs_due c.steps) (jobs_due last) o.2.1.0 c.goes one.ended);
-        took = λ h p k.
-            took_to scheme h s.at.notary g.mid.at.notary t.at.notary c.steps last (c.took h p k)
-            (subst (λ (i : History). TookTo scheme i g.mid.at.notary last t.at.notary) (steps_as c.steps h k)
-            (one.took (jobs_after c.steps h) (c.goes.holds h p) (known_after c.steps h k)));
-      }
+      let why = o.2.1.0 in
+      subst (λ (l : List Said). CameToEnd s l t) (sym g.split) (elim (item_ended g.mid.at t.at g.last o.0 why o.1 o.2.1.2) [
+        | inl one ↦ stops_there s g.mid t g.front g.last g.rest why c o.2.0 o.2.1.1 one
+        | inr one ↦ stops_before s g.mid t g.front g.last g.rest why c o.2.0 o.2.1.1 one
+      ])
 
   -- nothing more is offered for want of memory
   lacks : (s : At) (xs : List Step) (t : At) → Goes tells (world_at s) (jobs_after xs) (jobs_due xs) (world_at t) → Ended tells (world_at s) (jobs_after xs) (jobs_due xs) end.NoMemory (world_at t)
@@ -255,6 +303,16 @@ module _ (scheme : Scheme) (key : List ℕ) (tells : Bool) where
     steps_end : (xs : List Step) (why : End) (t : At) → Ended tells (world_at s) (jobs_after xs) (jobs_due xs) why (world_at t) → Ended tells (world_at s) (λ h. after_steps scheme h xs) (λ h. dues scheme h xs) why (world_at t)
     steps_end xs why t g = ended_as tells (world_at s) (world_at t) (jobs_after xs) (λ h. after_steps scheme h xs) (jobs_due xs) (λ h. dues scheme h xs) why (λ h p. steps_as xs h (known h p)) (due_is xs) g
 
+    -- .. at an anchor that comes next
+    anchor_end : (xs : List Step) (why : End) (t : At) → Ended tells (world_at s) (λ h. close (jobs_after xs h)) (jobs_due xs) why (world_at t) → Ended tells (world_at s) (λ h. close (after_steps scheme h xs)) (λ h. dues scheme h xs) why (world_at t)
+    anchor_end xs why t g = ended_as tells (world_at s) (world_at t) (λ h. close (jobs_after xs h)) (λ h. close (after_steps scheme h xs)) (jobs_due xs) (λ h. dues scheme h xs) why (λ h p. ap close (steps_as xs h (known h p))) (due_is xs) g
+
+    anchor_is : (xs : List Step) (line : List ℕ) → job_of scheme key line ≡ Anchor → (h : History) → Holds tells (world_at s) h → job_of scheme (id (after_steps scheme h xs)) line ≡ Anchor
+    unfolding IsKnown
+    anchor_is xs line is h p =
+        let k = known h p in
+        ap (λ (i : List ℕ). job_of scheme i line) (ap id (sym (steps_as xs h k)) ∙ (known_after xs h k).0) ∙ is
+
 -- ---- what a piece came to
 
 module _ {S : Type 0} (tell : S → Told) (scheme : Scheme) (key : List ℕ) (tells : Bool) (first : List ℕ) (lines : List LaneLine) (s t : S) (open_ : IsOpen tells (tell s).at) (key_is : (h : History) → Keeps (tell s).at.held.kept h → key ≡ id h) where
@@ -272,7 +330,16 @@ module _ {S : Type 0} (tell : S → Told) (scheme : Scheme) (key : List ℕ) (te
     steps = c.steps;
     rest = c.rest;
     split = c.split;
-    ended = steps_end scheme key tells (tell s).at key_is open_.room c.steps c.why (tell t).at c.ended;
+    ended = elim c.ended [
+      | inl e ↦ inl (steps_end scheme key tells (tell s).at key_is open_.room c.steps c.why (tell t).at e)
+      | inr e ↦ inr (record {
+        said = e.said;
+        later = e.later;
+        split = e.split;
+        anchor = anchor_is scheme key tells (tell s).at key_is open_.room c.steps e.said.line e.anchor;
+        ended = anchor_end scheme key tells (tell s).at key_is open_.room c.steps c.why (tell t).at e.ended;
+      })
+    ];
     took = λ h p. c.took h p (known scheme key tells (tell s).at key_is open_.room h p);
   }
 
@@ -304,8 +371,8 @@ module _ {S : Type 0} (tell : S → Told) (scheme : Scheme) (key : List ℕ) (te
             steps = c.steps;
             rest = g.rest;
             split = g.split ∙ ap (λ (l : List Said). l ++ g.rest) (sym c.said);
-            ended = steps_end scheme key tells (tell s).at key_is open_.room c.steps end.NoMemory (tell t).at (lacks scheme key tells (tell s).at c.steps (tell t).at c.goes);
-            took = λ h p. inl (c.took h p (known scheme key tells (tell s).at key_is open_.room h p));
+            ended = inl (steps_end scheme key tells (tell s).at key_is open_.room c.steps end.NoMemory (tell t).at (lacks scheme key tells (tell s).at c.steps (tell t).at c.goes));
+            took = λ h p. c.took h p (known scheme key tells (tell s).at key_is open_.room h p);
           },
         ),
       )

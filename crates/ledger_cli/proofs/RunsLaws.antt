@@ -8,7 +8,7 @@ use mathlib.Core.Logic.{dite}
 use native.Mathlib.Decide.{ℕ_discrete}
 use Rattle.script_lines.specs.Grammar.{spoken_line}
 use Rattle.time_peg.specs.Entries.{NotaryState}
-use Rattle.batch_committer.specs.World.{World, HasRoom, Holds, Goes, Ended}
+use Rattle.batch_committer.specs.World.{Pair, World, HasRoom, Holds, Goes, Ended}
 use Rattle.batch_committer.specs.declared.end.End.{End}
 use Rattle.batch_committer.specs.declared.end.End.TheVariants as end
 use Rattle.batch_committer.proofs.Ending.{no_memory}
@@ -25,26 +25,28 @@ use Rattle.ledger_io.specs.declared.failure.LineErr.TheVariants.{NoMemory}
 use Rattle.ledger_io.proofs.ReadingLaws.{HasGiven, read_none, read_more, given_consumed}
 use Rattle.ledger_io.proofs.RunLaws.{ended_whole, ended_failed, some_at_failure, some_of_given}
 use Rattle.ledger_model.specs.Dues.{dues}
-use Rattle.ledger_model.specs.History.{History, close}
+use Rattle.ledger_model.specs.History.{History, id, close}
 use Rattle.ledger_model.specs.Merge.{said_by, lines_of_lane, IsMerge}
-use Rattle.ledger_model.specs.Rules.{after_steps}
+use Rattle.ledger_model.specs.Rules.{job_of, after_steps}
 use Rattle.ledger_model.specs.Scheme.{Scheme}
 use Rattle.ledger_model.specs.Step.{Step}
+use Rattle.ledger_model.specs.Texts.{text}
 use Rattle.ledger_model.specs.Took.{Took}
 use Rattle.ledger_model.specs.Windows.{Said, said_lines, windows, numbered_line, count_of, bytes_of, fills_window}
+use Rattle.ledger_model.specs.declared.job.Job.TheVariants.{Anchor}
 use Rattle.ledger_model.proofs.GrowLaws.{grows_not}
 use Rattle.ledger_model.proofs.LaneLaws.{said_after-append}
 use Rattle.ledger_model.proofs.WindowLaws.{IsCut, cut_none, cut_more, cut_whole, bytes_of-push}
 use Rattle.ledger_cli.specs.Endings.{ending_of_end}
-use Rattle.ledger_cli.specs.Pieces.{At, world_at, PieceTaken, PieceBroken, WindowTaken, WindowBroken}
+use Rattle.ledger_cli.specs.Pieces.{At, world_at, EndsThere, EndsAtAnchor, EndsBehind, PieceTaken, PieceBroken, WindowTaken, WindowBroken}
 use Rattle.ledger_cli.specs.Runs.{handed, StopsOn}
 use Rattle.ledger_cli.specs.Session.{Runs}
-use Rattle.ledger_cli.specs.Taken.{TookTo}
+use Rattle.ledger_cli.specs.Taken.{taken}
 use Rattle.ledger_cli.specs.declared.ending.LedgerEnding.TheVariants.{Run}
-use Rattle.ledger_cli.proofs.HaltLaws.{stopped, stopped_last, answered}
+use Rattle.ledger_cli.proofs.HaltLaws.{Halts, halts_there, halts_at, stopped, stopped_last, answered}
 use Rattle.ledger_cli.proofs.LineLaws.{reached, owed, reach_on, owe_on, window_on, dues_on}
 use Rattle.ledger_cli.proofs.MergeLaws.{IsOrder, order_append, order_merge, order_same, merges_append, count_more}
-use Rattle.ledger_cli.proofs.NotaryLaws.{TookOn, TookOnTo, took_none, took_on, took_on_to, took_stays, window_took}
+use Rattle.ledger_cli.proofs.NotaryLaws.{TookOn, took_none, took_on, window_took}
 use Rattle.ledger_cli.proofs.OrderLaws.{CanGoOn, part_open, part_whole, last_merge}
 use Rattle.ledger_cli.proofs.StopLaws.{SaidOf}
 use Rattle.ledger_cli.proofs.SessionLaws.{few_lines, faults_end, faults_stop, at_most_once, serve_stop, serve_end}
@@ -183,12 +185,29 @@ module _ (scheme : Scheme) (tells : Bool) (first_w w t : World) (done : List (Li
       (λ h p. reach_on scheme h done current steps) (λ h p. owe_on scheme h done current steps)
       (goes_then tells first_w w t (reached scheme done current) (λ h. after_steps scheme h steps) (owed scheme done current) (λ h. dues scheme h steps) g x)
 
-  break_on : (why : End) → Ended tells w (λ h. after_steps scheme h steps) (λ h. dues scheme h steps) why t → Ended tells first_w (reached scheme done (current ++ steps)) (owed scheme done (current ++ steps)) why t
-  break_on why x =
-      ended_as tells first_w t (λ h. after_steps scheme (reached scheme done current h) steps) (reached scheme done (current ++ steps))
-      (λ h. owed scheme done current h ++ dues scheme (reached scheme done current h) steps) (owed scheme done (current ++ steps)) why
-      (λ h p. reach_on scheme h done current steps) (λ h p. owe_on scheme h done current steps)
-      (ended_then tells first_w w t (reached scheme done current) (λ h. after_steps scheme h steps) (owed scheme done current) (λ h. dues scheme h steps) why g x)
+  -- .. or the run ended behind them
+  module _ (n : NotaryState) (rest : List Said) (why : End) where
+    break_there : EndsThere scheme tells steps why w t → Halts scheme tells first_w n done (current ++ steps) rest why t
+    break_there x =
+        halts_there scheme tells first_w n done (current ++ steps) rest why t
+        (ended_as tells first_w t (λ h. after_steps scheme (reached scheme done current h) steps) (reached scheme done (current ++ steps))
+        (λ h. owed scheme done current h ++ dues scheme (reached scheme done current h) steps) (owed scheme done (current ++ steps)) why
+        (λ h p. reach_on scheme h done current steps) (λ h p. owe_on scheme h done current steps)
+        (ended_then tells first_w w t (reached scheme done current) (λ h. after_steps scheme h steps) (owed scheme done current) (λ h. dues scheme h steps) why g x))
+
+    break_at : EndsAtAnchor scheme tells steps rest why w t → Halts scheme tells first_w n done (current ++ steps) rest why t
+    break_at x =
+        subst (λ (l : List Said). Halts scheme tells first_w n done (current ++ steps) l why t) (sym x.split)
+        (halts_at scheme tells first_w n done (current ++ steps) x.said x.later why t
+        (λ h p. subst (λ (k : History). job_of scheme (id k) x.said.line ≡ Anchor) (reach_on scheme h done current steps) (x.anchor (reached scheme done current h) (g.holds h p)))
+        (ended_as tells first_w t (λ h. close (after_steps scheme (reached scheme done current h) steps)) (λ h. close (reached scheme done (current ++ steps) h))
+        (λ h. owed scheme done current h ++ dues scheme (reached scheme done current h) steps) (owed scheme done (current ++ steps)) why
+        (λ h p. ap close (reach_on scheme h done current steps)) (λ h p. owe_on scheme h done current steps)
+        (ended_then tells first_w w t (reached scheme done current) (λ h. close (after_steps scheme h steps)) (owed scheme done current) (λ h. dues scheme h steps) why g x.ended)))
+
+    break_on : EndsBehind scheme tells steps rest why w t → Halts scheme tells first_w n done (current ++ steps) rest why t
+    break_on (inl x) = break_there x
+    break_on (inr x) = break_at x
 
   -- with the end of the window
   close_on : (h : History) → close (after_steps scheme (reached scheme done current h) steps) ≡ reached scheme (done ++ (current ++ steps) ∷ []) [] h
@@ -217,15 +236,19 @@ module _ (scheme : Scheme) (tells : Bool) (first_w w : World) (first_n n m : Not
   take_on : ((h : History) → Holds tells w h → Took scheme h n steps m) → (h : History) → Holds tells first_w h → TookOn scheme h first_n done (current ++ steps) m
   take_on b h p = took_on scheme h first_n done current steps n m (a h p) (b (reached scheme done current h) (g.holds h p))
 
-  take_to : ((h : History) → Holds tells w h → TookTo scheme h n steps m) → (h : History) → Holds tells first_w h → TookOnTo scheme h first_n done (current ++ steps) m
-  take_to b h p = took_on_to scheme h first_n done current steps n m (a h p) (b (reached scheme done current h) (g.holds h p))
-
 -- a part of an order that was taken, with the rest of it
 with_rest : (front late : List Said) (current part : List Step) (rest : List Said) → IsOrder front (map said_by current ++ late) → IsOrder late (map said_by part ++ rest) → IsOrder front (map said_by (current ++ part) ++ rest)
 with_rest front late current part rest o p k =
     ap (lines_of_lane k) (ap (λ (l : List Said). l ++ rest) (map-append said_by current part) ∙ append_assoc (map said_by current) (map said_by part) rest)
     ∙ filter-append (λ (l : Said). l.lane == k) (map said_by current) (map said_by part ++ rest) ∙ ap (λ (l : List Said). lines_of_lane k (map said_by current) ++ l) (p k)
     ∙ sym (filter-append (λ (l : Said). l.lane == k) (map said_by current) late) ∙ o k
+
+-- .. of which some first lines stand as steps
+with_behind : (front : List Said) (current behind : List Step) (rest later : List Said) → map said_by behind ++ later ≡ rest → IsOrder front (map said_by current ++ rest) → IsOrder front (map said_by (current ++ behind) ++ later)
+with_behind front current behind rest later split o =
+    subst (IsOrder front)
+    (ap (λ (l : List Said). map said_by current ++ l) (sym split) ∙ sym (append_assoc (map said_by current) (map said_by behind) later) ∙ ap (λ (l : List Said). l ++ later) (sym (map-append said_by current behind)))
+    o
 
 with_order : (front late : List Said) (current part : List Step) → IsOrder front (map said_by current ++ late) → IsOrder late (map said_by part) → IsOrder front (map said_by (current ++ part))
 with_order front late current part o p k =
@@ -235,18 +258,38 @@ with_order front late current part o p k =
 
 -- ---- a stop within the script
 
-halt : (scheme : Scheme) (tells : Bool) (first_w : World) (first_n n : NotaryState) (before now : SourceState) (reading : Reading) (script : List (List ℕ)) (input : HasGiven before now reading script) (done : List (List Step)) (current : List Step) → CanGoOn n script done current
-    → ((h : History) → Holds tells first_w h → TookOnTo scheme h first_n done current n)
-    → HasRoom first_w.kept → first_w.kept.dues ≡ [] → (why : End) (t : World) → Ended tells first_w (reached scheme done current) (owed scheme done current) why t
+-- what is known of a text is told of it
+stop_as : (scheme : Scheme) (h : History) (part : List ℕ) (disks : Pair) (first_n n : NotaryState) (why : End) (lines : List (List ℕ)) (IsSo : List ℕ → Type 0) → ((whole : List ℕ) → SaidOf why part whole → IsSo whole)
+    → SomeAnswer (StopsOn scheme h part disks first_n n (SaidOf why part)) lines (SaidOf why part) → SomeAnswer (StopsOn scheme h part disks first_n n IsSo) lines IsSo
+stop_as scheme h part disks first_n n why lines IsSo so a =
+    let s = a.1 in (
+      a.0,
+      record {
+        steps = s.steps;
+        merge = s.merge;
+        took = s.took;
+        text_is = s.text_is;
+        written = so (text scheme h (taken s.took.done s.took.now)) s.written;
+        images = s.images;
+        proofs = s.proofs;
+        images_taken = s.images_taken;
+      },
+      so a.0 a.2,
+    )
+
+halt : (scheme : Scheme) (tells : Bool) (first_w : World) (first_n n : NotaryState) (before now : SourceState) (reading : Reading) (script : List (List ℕ)) (input : HasGiven before now reading script) (done : List (List Step)) (current : List Step)
+    → ((h : History) → Holds tells first_w h → TookOn scheme h first_n done current n)
+    → HasRoom first_w.kept → first_w.kept.dues ≡ [] → (rest : List Said) (why : End) (t : World) (x : Halts scheme tells first_w n done current rest why t) → CanGoOn n script done (current ++ x.behind)
     → Runs scheme tells first_w (ending_of_end why) (handed before first_w.sink first_w.disks first_n) (handed now t.sink t.disks n)
-halt scheme tells first_w first_n n before now reading script input done current can took room no_dues why t all = record {
-  serves = λ h p none list.
-      let stop = stopped scheme tells first_w h p room none no_dues first_n list script (few_lines before now reading script input) done current n can (took h p) why t all in
-      let here = stop [] in
-      serve_stop scheme h why first_w t before now first_n n all.part input.read all.cause input.consumed all.appended here.0 here.2
-      (λ IsSo so. some_of_given (StopsOn scheme h all.part t.disks first_n n) before now reading script input IsSo (λ tail. let a = stop tail in (a.0, a.1, so a.0 a.2)));
-  faults = faults_stop why first_w t before now first_n n (inl input.faults) all.cause;
-}
+halt scheme tells first_w first_n n before now reading script input done current took room no_dues rest why t x can =
+    let all = x.ended in record {
+      serves = λ h p none list.
+          let stop = stopped scheme tells first_w h p room none no_dues first_n list script (few_lines before now reading script input) done current n rest why t x can (took h p) in
+          let here = stop [] in
+          serve_stop scheme h why first_w t before now first_n n all.part input.read all.cause input.consumed all.appended here.0 here.2
+          (λ IsSo so. some_of_given (StopsOn scheme h all.part t.disks first_n n IsSo) before now reading script input IsSo (λ tail. stop_as scheme h all.part t.disks first_n n why (script ++ tail) IsSo so (stop tail)));
+      faults = faults_stop why first_w t before now first_n n (inl input.faults) all.cause;
+    }
 
 -- the script with a line that isn't taken
 can_later : (n : NotaryState) (script : List (List ℕ)) (line : List ℕ) (done : List (List Step)) (current : List Step) → CanGoOn n script done current → CanGoOn n (script ++ line ∷ []) done current
@@ -265,11 +308,12 @@ lacking scheme tells first_w w done current g =
 
 module _ (scheme : Scheme) (tells : Bool) (first_w w : World) (first_n n : NotaryState) (before now : SourceState) (reading : Reading) (first next : List ℕ) (piece : List LaneLine) (lines window_bytes : ℕ)
     (room : HasRoom first_w.kept) (no_dues : first_w.kept.dues ≡ []) (s : SoFar scheme tells first_w w first_n n before now reading first next piece lines window_bytes) where
-  can_here : CanGoOn n s.script s.done s.current
-  can_here = part_open n s.script s.windows_are s.front s.done s.current s.late s.cut s.merge s.order
+  -- nothing more is done for want of memory
+  lacks_here : Halts scheme tells first_w n s.done s.current s.late end.NoMemory w
+  lacks_here = halts_there scheme tells first_w n s.done s.current s.late end.NoMemory w (lacking scheme tells first_w w s.done s.current s.goes)
 
-  stays_here : (h : History) → Holds tells first_w h → TookOnTo scheme h first_n s.done s.current n
-  stays_here h p = took_stays scheme h first_n s.done s.current n (s.took h p)
+  can_here : CanGoOn n s.script s.done (s.current ++ lacks_here.behind)
+  can_here = part_open n s.script s.windows_are s.front s.done (s.current ++ lacks_here.behind) lacks_here.later s.cut s.merge (with_behind s.front s.current lacks_here.behind s.late lacks_here.later lacks_here.split s.order)
 
   -- what a piece is taken by
   module _ (held : At) (same : world_at held ≡ w) (same_n : held.notary ≡ n) where
@@ -308,11 +352,12 @@ module _ (scheme : Scheme) (tells : Bool) (first_w w : World) (first_n n : Notar
       → Runs scheme tells first_w (ending_of_end why) (handed before first_w.sink first_w.disks first_n) (handed now t.sink t.disks t.notary)
   ran_broken held t why same same_n x =
       let taken = late_taken first next piece s.script s.late (map said_by x.steps ++ x.rest) s.are_late x.is_order in
+      let broken = break_on scheme tells first_w (world_at held) (world_at t) s.done s.current x.steps (goes_here held same same_n) t.notary x.rest why x.ended in
+      let order = with_rest s.front s.late s.current x.steps x.rest s.order taken in
       halt scheme tells first_w first_n t.notary before now reading s.script s.input s.done (s.current ++ x.steps)
-      (part_open t.notary s.script s.windows_are s.front s.done (s.current ++ x.steps) x.rest s.cut s.merge (with_rest s.front s.late s.current x.steps x.rest s.order taken))
-      (take_to scheme tells first_w (world_at held) first_n held.notary t.notary s.done s.current x.steps (goes_here held same same_n) (took_here held same same_n) x.took)
-      room no_dues why (world_at t)
-      (break_on scheme tells first_w (world_at held) (world_at t) s.done s.current x.steps (goes_here held same same_n) why x.ended)
+      (take_on scheme tells first_w (world_at held) first_n held.notary t.notary s.done s.current x.steps (goes_here held same same_n) (took_here held same same_n) x.took)
+      room no_dues x.rest why (world_at t) broken
+      (part_open t.notary s.script s.windows_are s.front s.done ((s.current ++ x.steps) ++ broken.behind) broken.later s.cut s.merge (with_behind s.front (s.current ++ x.steps) broken.behind x.rest broken.later broken.split order))
 
   -- the numbers of lanes fit
   pub few_numbers : (k : ℕ) → k < 8 → (slice_index first k + length (lines_of k piece) < 2 ^ 64) × (slice_index next k + 1 < 2 ^ 64)
@@ -369,14 +414,16 @@ module _ (scheme : Scheme) (tells : Bool) (first_w w : World) (first_n n : Notar
       pub ran_cut : (t : At) (why : End) → WindowBroken scheme tells first piece why held t → Runs scheme tells first_w (ending_of_end why) (handed before first_w.sink first_w.disks first_n) (handed after_read t.sink t.disks t.notary)
       ran_cut t why (inl x) =
           let taken = late_taken first next piece s.script s.late (map said_by x.steps ++ x.rest) s.are_late x.is_order in
-          let all = break_on scheme tells first_w (world_at held) (world_at t) s.done s.current x.steps here why x.ended in
-          let can = part_open t.notary s.script s.windows_are s.front s.done (s.current ++ x.steps) x.rest s.cut s.merge (with_rest s.front s.late s.current x.steps x.rest s.order taken) in record {
+          let broken = break_on scheme tells first_w (world_at held) (world_at t) s.done s.current x.steps here t.notary x.rest why x.ended in
+          let all = broken.ended in
+          let order = with_rest s.front s.late s.current x.steps x.rest s.order taken in
+          let can = part_open t.notary s.script s.windows_are s.front s.done ((s.current ++ x.steps) ++ broken.behind) broken.later s.cut s.merge (with_behind s.front (s.current ++ x.steps) broken.behind x.rest broken.later broken.split order) in record {
             serves = λ h p none list.
-                let stop = subst (λ l. SomeAnswer (StopsOn scheme h all.part t.disks first_n t.notary) l (SaidOf why all.part)) (append-nil s.script)
-                (stopped scheme tells first_w h p room none no_dues first_n list s.script few_here s.done (s.current ++ x.steps) t.notary can
-                (take_to scheme tells first_w (world_at held) first_n held.notary t.notary s.done s.current x.steps here there x.took h p) why (world_at t) all []) in
+                let stop = subst (λ l. SomeAnswer (StopsOn scheme h all.part t.disks first_n t.notary (SaidOf why all.part)) l (SaidOf why all.part)) (append-nil s.script)
+                (stopped scheme tells first_w h p room none no_dues first_n list s.script few_here s.done (s.current ++ x.steps) t.notary x.rest why (world_at t) broken can
+                (take_on scheme tells first_w (world_at held) first_n held.notary t.notary s.done s.current x.steps here there x.took h p) []) in
                 serve_stop scheme h why first_w (world_at t) before after_read first_n t.notary all.part read all.cause consumed all.appended stop.0 stop.2
-                (λ IsSo so. inr (end, s.script, e, (stop.0, stop.1, so stop.0 stop.2)));
+                (λ IsSo so. inr (end, s.script, e, stop_as scheme h all.part t.disks first_n t.notary why s.script IsSo so stop));
             faults = faults_stop why first_w (world_at t) before after_read first_n t.notary (at_most_once end before after_read read s.script e) all.cause;
           }
       ran_cut t why (inr x) =
@@ -390,7 +437,7 @@ module _ (scheme : Scheme) (tells : Bool) (first_w w : World) (first_n n : Notar
                 let stop = stopped_last scheme tells first_w h p room none no_dues first_n list s.script few_here s.done now_taken t.notary (last_merge s.script s.windows_are s.front s.done now_taken s.cut s.merge (last_order x.steps x.is_order))
                 (take_on scheme tells first_w (world_at held) first_n held.notary t.notary s.done s.current x.steps here there x.took h p) why (world_at t) all in
                 serve_stop scheme h why first_w (world_at t) before after_read first_n t.notary all.part read all.cause consumed all.appended stop.0 stop.2
-                (λ IsSo so. inr (end, s.script, e, (stop.0, stop.1, so stop.0 stop.2)));
+                (λ IsSo so. inr (end, s.script, e, stop_as scheme h all.part t.disks first_n t.notary why s.script IsSo so stop));
             faults = faults_stop why first_w (world_at t) before after_read first_n t.notary (at_most_once end before after_read read s.script e) all.cause;
           }
 
@@ -410,12 +457,12 @@ module _ (scheme : Scheme) (tells : Bool) (first_w w : World) (first_n n : Notar
         elim g [
           | inl again ↦ absurd (let no : ⊥ = cc (again.0, s.input.sound) in no)
           | inr f ↦
-              let all = lacking scheme tells first_w w s.done s.current s.goes in record {
+              let all = lacks_here.ended in record {
                 serves = λ h p none list.
-                    let stop = stopped scheme tells first_w h p room none no_dues first_n list s.script few_here s.done s.current n can_here (stays_here h p) end.NoMemory w all in
+                    let stop = stopped scheme tells first_w h p room none no_dues first_n list s.script few_here s.done s.current n s.late end.NoMemory w lacks_here can_here (s.took h p) in
                     let here = stop [] in
                     serve_stop scheme h end.NoMemory first_w w before after_read first_n n all.part read all.cause consumed all.appended here.0 here.2
-                    (λ IsSo so. some_at_failure before now after_read reading new bytes s.script s.input r (StopsOn scheme h all.part w.disks first_n n) IsSo k f (λ tail. let a = stop tail in (a.0, a.1, so a.0 a.2)));
+                    (λ IsSo so. some_at_failure before now after_read reading new bytes s.script s.input r (StopsOn scheme h all.part w.disks first_n n IsSo) IsSo k f (λ tail. stop_as scheme h all.part w.disks first_n n end.NoMemory (s.script ++ tail) IsSo so (stop tail)));
                 faults = faults_stop end.NoMemory first_w w before after_read first_n n (inl (k ∙ s.input.faults)) all.cause;
               }
         ]
@@ -437,7 +484,7 @@ module _ (scheme : Scheme) (tells : Bool) (first_w w : World) (first_n n : Notar
 
       -- .. for which there is no memory
       pub ran_lacking : Runs scheme tells first_w (Run run.NoMemory) (handed before first_w.sink first_w.disks first_n) (handed after_read w.sink w.disks n)
-      ran_lacking = halt scheme tells first_w first_n n before after_read new script_now more s.done s.current (can_later n s.script line s.done s.current can_here) stays_here room no_dues end.NoMemory w (lacking scheme tells first_w w s.done s.current s.goes)
+      ran_lacking = halt scheme tells first_w first_n n before after_read new script_now more s.done s.current s.took room no_dues s.late end.NoMemory w lacks_here (can_later n s.script line s.done (s.current ++ lacks_here.behind) can_here)
 
       order_now : IsOrder (s.front ++ x ∷ []) (map said_by s.current ++ (s.late ++ x ∷ []))
       order_now = subst (IsOrder (s.front ++ x ∷ [])) (append_assoc (map said_by s.current) s.late (x ∷ [])) (order_append s.front (x ∷ []) (map said_by s.current ++ s.late) (x ∷ []) s.order (order_same (x ∷ [])))
@@ -517,14 +564,16 @@ module _ (scheme : Scheme) (tells : Bool) (first_w w : World) (first_n n : Notar
 
           pub ran_unended : (t : At) (why : End) → WindowBroken scheme tells first new_piece why held t → Runs scheme tells first_w (ending_of_end why) (handed before first_w.sink first_w.disks first_n) (handed after_read t.sink t.disks t.notary)
           ran_unended t why (inl y) =
+              let broken = break_on scheme tells first_w (world_at held) (world_at t) s.done s.current y.steps (goes_here held same same_n) t.notary y.rest why y.ended in
+              let order = with_rest (s.front ++ x ∷ []) (s.late ++ x ∷ []) s.current y.steps y.rest order_now (taken_now (map said_by y.steps ++ y.rest) y.is_order) in
               halt scheme tells first_w first_n t.notary before after_read new script_now more s.done (s.current ++ y.steps)
-              (part_whole t.notary script_now s.windows_are (s.front ++ x ∷ []) s.done (s.current ++ y.steps) y.rest cut_now s.merge (with_rest (s.front ++ x ∷ []) (s.late ++ x ∷ []) s.current y.steps y.rest order_now (taken_now (map said_by y.steps ++ y.rest) y.is_order)))
-              (take_to scheme tells first_w (world_at held) first_n held.notary t.notary s.done s.current y.steps (goes_here held same same_n) (took_here held same same_n) y.took)
-              room no_dues why (world_at t)
-              (break_on scheme tells first_w (world_at held) (world_at t) s.done s.current y.steps (goes_here held same same_n) why y.ended)
+              (take_on scheme tells first_w (world_at held) first_n held.notary t.notary s.done s.current y.steps (goes_here held same same_n) (took_here held same same_n) y.took)
+              room no_dues y.rest why (world_at t) broken
+              (part_whole t.notary script_now s.windows_are (s.front ++ x ∷ []) s.done ((s.current ++ y.steps) ++ broken.behind) broken.later cut_now s.merge (with_behind (s.front ++ x ∷ []) (s.current ++ y.steps) broken.behind y.rest broken.later broken.split order))
           ran_unended t why (inr y) =
-              halt scheme tells first_w first_n t.notary before after_read new script_now more (s.done ++ (s.current ++ y.steps) ∷ []) []
-              (part_open t.notary script_now (s.windows_are ++ (s.front ++ x ∷ []) ∷ []) [] (s.done ++ (s.current ++ y.steps) ∷ []) [] [] cut_now (merge_now y.steps y.is_order) (order_same []))
-              (λ h q. took_stays scheme h first_n (s.done ++ (s.current ++ y.steps) ∷ []) [] t.notary (window_took scheme h first_n s.done (s.current ++ y.steps) t.notary (take_on scheme tells first_w (world_at held) first_n held.notary t.notary s.done s.current y.steps (goes_here held same same_n) (took_here held same same_n) y.took h q)))
-              room no_dues why (world_at t)
-              (unend_on scheme tells first_w (world_at held) (world_at t) s.done s.current y.steps (goes_here held same same_n) why y.ended)
+              let whole = s.done ++ (s.current ++ y.steps) ∷ [] in
+              let stays = halts_there scheme tells first_w t.notary whole [] [] why (world_at t) (unend_on scheme tells first_w (world_at held) (world_at t) s.done s.current y.steps (goes_here held same same_n) why y.ended) in
+              halt scheme tells first_w first_n t.notary before after_read new script_now more whole []
+              (λ h q. window_took scheme h first_n s.done (s.current ++ y.steps) t.notary (take_on scheme tells first_w (world_at held) first_n held.notary t.notary s.done s.current y.steps (goes_here held same same_n) (took_here held same same_n) y.took h q))
+              room no_dues [] why (world_at t) stays
+              (part_open t.notary script_now (s.windows_are ++ (s.front ++ x ∷ []) ∷ []) [] whole ([] ++ stays.behind) stays.later cut_now (merge_now y.steps y.is_order) (with_behind [] [] stays.behind [] stays.later stays.split (order_same [])))

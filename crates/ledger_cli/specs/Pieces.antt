@@ -1,5 +1,5 @@
 -- What came of a piece of a window, whose lines were offered to a committer.
-use Rattle.std.specs.Prelude.{◌≡◌, ◌⊎◌, ℕ, Bool, false, List, ◌++◌, map, Option, None, Some}
+use Rattle.std.specs.Prelude.{◌≡◌, ◌⊎◌, ℕ, Bool, false, List, ◌∷◌, ◌++◌, map, Option, None, Some}
 use Rattle.batch_committer.specs.World.{Held, Pair, World, world, Fits, HasRoom, Holds, Goes, Ended}
 use Rattle.batch_committer.specs.declared.end.End.{End}
 use Rattle.lane_work.specs.Orders.{IsOrderOf}
@@ -10,15 +10,15 @@ use Rattle.ledger_book.specs.declared.prepared.Prepared.{Prepared}
 use Rattle.batch_committer.specs.Attending.{step_in, Takes, EndsTaking}
 use Rattle.ledger_io.specs.Outside.{SinkState}
 use Rattle.ledger_model.specs.Dues.{dues}
-use Rattle.ledger_model.specs.History.{History, close}
+use Rattle.ledger_model.specs.History.{History, id, close}
 use Rattle.ledger_model.specs.Merge.{said_by}
-use Rattle.ledger_model.specs.Rules.{after_steps}
+use Rattle.ledger_model.specs.Rules.{job_of, after_steps}
 use Rattle.ledger_model.specs.Scheme.{Scheme}
 use Rattle.ledger_model.specs.Step.{Step}
 use Rattle.ledger_model.specs.Took.{Took}
 use Rattle.ledger_model.specs.Windows.{Said}
+use Rattle.ledger_model.specs.declared.job.Job.TheVariants.{Anchor}
 use Rattle.time_peg.specs.Entries.{NotaryState}
-use Rattle.ledger_cli.specs.Taken.{TookTo}
 
 -- what a committer, its disks, its sink and its notary tell
 pub record At : Type 0 where
@@ -49,13 +49,29 @@ pub record TakesAll (scheme : Scheme) (tells : Bool) (order : List Said) (s t : 
   pub took : (h : History) → Holds tells (world_at s) h → Took scheme h s.notary steps t.notary
   pub still : IsOpen tells t
 
--- .. or the run ended on the way over some first ones
+-- the run ended where these steps were taken
+abbrev pub EndsThere : Scheme → Bool → List Step → End → World → World → Type 0
+EndsThere scheme tells steps end w t = Ended tells w (λ h. after_steps scheme h steps) (λ h. dues scheme h steps) end t
+
+-- .. or at the line behind them, an anchor, before the notary was asked: the open block in front of it ends, and nothing is due for it
+pub record EndsAtAnchor (scheme : Scheme) (tells : Bool) (steps : List Step) (rest : List Said) (end : End) (w t : World) : Type 0 where
+  pub said : Said
+  pub later : List Said
+  pub split : rest ≡ said ∷ later
+  pub anchor : (h : History) → Holds tells w h → job_of scheme (id (after_steps scheme h steps)) said.line ≡ Anchor
+  pub ended : Ended tells w (λ h. close (after_steps scheme h steps)) (λ h. dues scheme h steps) end t
+
+-- one of the two
+abbrev pub EndsBehind : Scheme → Bool → List Step → List Said → End → World → World → Type 0
+EndsBehind scheme tells steps rest end w t = EndsThere scheme tells steps end w t ⊎ EndsAtAnchor scheme tells steps rest end w t
+
+-- .. or the run ended on the way, where some first ones were taken
 pub record TakesSome (scheme : Scheme) (tells : Bool) (order : List Said) (end : End) (s t : At) : Type 0 where
   pub steps : List Step
   pub rest : List Said
   pub split : order ≡ map said_by steps ++ rest
-  pub ended : Ended tells (world_at s) (λ h. after_steps scheme h steps) (λ h. dues scheme h steps) end (world_at t)
-  pub took : (h : History) → Holds tells (world_at s) h → TookTo scheme h s.notary steps t.notary
+  pub ended : EndsBehind scheme tells steps rest end (world_at s) (world_at t)
+  pub took : (h : History) → Holds tells (world_at s) h → Took scheme h s.notary steps t.notary
 
 abbrev pub TakesBy : Scheme → Bool → List Said → Option End → At → At → Type 0
 TakesBy scheme tells order None s t = TakesAll scheme tells order s t
@@ -94,13 +110,13 @@ pub record PieceTaken (scheme : Scheme) (tells : Bool) (first : List ℕ) (lines
   pub goes : Goes tells (world_at s) (λ h. after_steps scheme h steps) (λ h. dues scheme h steps) (world_at t)
   pub took : (h : History) → Holds tells (world_at s) h → Took scheme h s.notary steps t.notary
 
--- .. or the run ended on the way over some first ones
+-- .. or the run ended on the way, where some first ones were taken
 pub record PieceBroken (scheme : Scheme) (tells : Bool) (first : List ℕ) (lines : List LaneLine) (end : End) (s t : At) : Type 0 where
   pub steps : List Step
   pub rest : List Said
   pub is_order : IsOrderOf first lines (map said_by steps ++ rest)
-  pub ended : Ended tells (world_at s) (λ h. after_steps scheme h steps) (λ h. dues scheme h steps) end (world_at t)
-  pub took : (h : History) → Holds tells (world_at s) h → TookTo scheme h s.notary steps t.notary
+  pub ended : EndsBehind scheme tells steps rest end (world_at s) (world_at t)
+  pub took : (h : History) → Holds tells (world_at s) h → Took scheme h s.notary steps t.notary
 
 -- .. and the open block was ended
 pub record WindowTaken (scheme : Scheme) (tells : Bool) (first : List ℕ) (lines : List LaneLine) (s t : At) : Type 0 where

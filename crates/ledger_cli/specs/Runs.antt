@@ -32,13 +32,14 @@ use Rattle.ledger_open.specs.Founding.{IsFounded, IsFoundedOrShut, IsOneOpen}
 use Rattle.ledger_open.specs.Opening.{IsOpenErr, IsOutside, StandsAsRead}
 use Rattle.ledger_open.specs.Standing.{PairFor, IsCleanPair}
 use Rattle.ledger_open.specs.declared.failure.OpenErr.{OpenErr}
+use Rattle.proof_maker.specs.Written.{AllGood}
 use Rattle.time_peg.specs.Entries.{NotaryState, IsList}
 use Rattle.twin_file.specs.Images.{AreShut}
 use Rattle.ledger_bytes.specs.Digests.{digest}
 use Rattle.script_lines.specs.Words.{hex_of}
 use Rattle.ledger_cli.specs.Endings.{line_of, status_of, last_line, refusal_of, HasWords}
 use Rattle.ledger_cli.specs.Signing.{signed_text}
-use Rattle.ledger_cli.specs.Taken.{TookSome}
+use Rattle.ledger_cli.specs.Taken.{taken, TookSome}
 use Rattle.ledger_cli.specs.declared.ending.LedgerEnding.{LedgerEnding}
 use Rattle.ledger_cli.specs.declared.ending.LedgerEnding.TheVariants.{Run, DiskFault, Damaged, Empty, Exists, NewerFormat}
 use Rattle.ledger_cli.specs.declared.words.Command.{Command}
@@ -133,13 +134,15 @@ FaultsBy (NewerFormat found) before after_all = Faults NoneFailed MeetsNone NoDi
 
 -- ---- a script on a ledger
 
--- what is answered to the lines of a script on a history: the text of a merge of them, window by window, along whose steps the
--- notary goes from one state to another
+-- What is answered to the lines of a script on a history: the text of a merge of them, window by window, along whose steps the
+-- notary goes from one state to another. Where its list had the pegs of the history, each proof and each extension is accepted under
+-- the heads of its step.
 pub record Answers (scheme : Scheme) (h : History) (lines : List (List ℕ)) (replies : List ℕ) (first last : NotaryState) : Type 0 where
   pub steps : List (List Step)
   pub merge : IsMerge (windows (said_lines lines)) steps
   pub took : TookAll scheme h first steps last
   pub replies_are : replies ≡ text scheme h steps
+  pub proofs : Pegged h first.entries → AllGood scheme h steps
 
 -- Two images stand for a history that goes on from h and ends at a block's end of the whole history, or is h. Each receipt that was
 -- written whole is kept in it. The notary's list has the entry of each of its time journals, where it had those of h.
@@ -164,23 +167,28 @@ pub record AnswersOn (scheme : Scheme) (h : History) (disks : Pair) (first last 
   pub images : AllStand h (after scheme h answers.steps) first last replies disks
 
 -- A text answers the lines: that of a merge of them of which some first steps were taken. Along these the notary goes from one state
--- to the other; in the others it is said to fail. What is left after some replies stands for a beginning of the history after all.
-pub record StopsOn (scheme : Scheme) (h : History) (replies : List ℕ) (disks : Pair) (first last : NotaryState) (lines : List (List ℕ)) (whole_text : List ℕ) : Type 0 where
+-- to the other; the others stand as ones in which it failed, which isn't counted. What was written is so of the text of the taken
+-- steps too: nothing of the others is written. What is left after some replies stands for a beginning of the history after all, and of
+-- that after the taken steps. The proofs that are written are accepted, as those of a whole run.
+pub record StopsOn (scheme : Scheme) (h : History) (replies : List ℕ) (disks : Pair) (first last : NotaryState) (IsSo : List ℕ → Type 0) (lines : List (List ℕ)) (whole_text : List ℕ) : Type 0 where
   pub steps : List (List Step)
   pub merge : IsMerge (windows (said_lines lines)) steps
   pub took : TookSome scheme h first steps last
   pub text_is : whole_text ≡ text scheme h steps
+  pub written : IsSo (text scheme h (taken took.done took.now))
   pub images : AllStand h (after scheme h steps) first last replies disks
+  pub proofs : Pegged h first.entries → AllGood scheme h (taken took.done took.now)
+  pub images_taken : AllStand h (after scheme h (taken took.done took.now)) first last replies disks
 
 -- all lines that count are answered
 abbrev pub AnswersAll : Scheme → History → Option LineErr → List ℕ → List ℕ → Handed → Handed → Type 0
 AnswersAll scheme h end read replies before after_all =
     Answered (AnswersOn scheme h after_all.disks before.notary after_all.notary) end read replies (outside_of before) (outside_of after_all)
 
--- the run stopped: some text that answers the script is so, and of its history a beginning is left
+-- the run stopped: some text that answers the script is so, and that of the steps that were taken; of their history a beginning is left
 abbrev pub StopsSo : Scheme → History → List ℕ → List ℕ → Handed → Handed → (List ℕ → Type 0) → Type 0
 StopsSo scheme h read replies before after_all IsSo =
-    SomeOfScript (StopsOn scheme h replies after_all.disks before.notary after_all.notary) before.source after_all.source read IsSo
+    SomeOfScript (StopsOn scheme h replies after_all.disks before.notary after_all.notary IsSo) before.source after_all.source read IsSo
 
 -- what was written before the last line and what is left, by the ending
 abbrev pub Replies : Scheme → History → LedgerEnding → List ℕ → List ℕ → Handed → Handed → Type 0

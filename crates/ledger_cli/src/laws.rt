@@ -10,7 +10,7 @@ ghost use Rattle.ledger_model.specs.Step.{Step};
 ghost use Rattle.ledger_model.specs.Took.{counts_after};
 ghost use Rattle.ledger_model.specs.Windows.{said_lines, windows};
 ghost use Rattle.ledger_cli.specs.Runs.{Answers};
-ghost use Rattle.ledger_cli.specs.Taken.{TookSome};
+ghost use Rattle.ledger_cli.specs.Taken.{taken, TookSome};
 
 /// Where all lines of a script belong to one lane, they are answered in their order.
 pub fn lines_of_one_lane_are_answered_in_order()
@@ -28,9 +28,10 @@ pub fn a_run_counts_the_failures_of_its_notary()
         (first last : NotaryState) → (answers : Answers scheme h lines replies first last)
         → last.faults ≡ counts_after (flat_map (λ window. window) answers.steps) first.faults }
     ensures stopped { (scheme : Scheme) (h : History) (windows : List (List Step))
-        (first last : NotaryState) → TookSome scheme h first windows last
-        → (taken : List Step) × Begins taken (flat_map (λ window. window) windows)
-        × (last.faults ≡ counts_after taken first.faults) }
+        (first last : NotaryState) → (took : TookSome scheme h first windows last)
+        → let steps = flat_map (λ window. window) (taken took.done took.now) in
+        Begins steps (flat_map (λ window. window) windows)
+        × (last.faults ≡ counts_after steps first.faults) }
 {}
 
 /// However a run ends, the notary's list goes on from what it was, by at most one entry for each line.
