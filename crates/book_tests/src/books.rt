@@ -3,12 +3,13 @@
 ghost use Rattle.std.specs.Prelude.{◌≡◌, true, IfOk};
 ghost use Rattle.journal_record.specs.Rules.{IsHeader};
 ghost use Rattle.ledger_model.specs.Fitting.{fits_job};
+ghost use Rattle.ledger_model.specs.Limits.{AreWithin};
 
 use block_file::Damage;
 use hex::FromHex;
-use journal_record::{Approval, Header, Kind, content_digest, request_digest};
+use journal_record::{Approval, Header, Kind, Stamp, content_digest, request_digest};
 use ledger_book::{Book, Genesis, Job, Limits, Outcome};
-use ledger_bytes::{BLOCK_LIMIT, Bytes, Digest, NoMemory, Sha};
+use ledger_bytes::{BLOCK_LIMIT, Bytes, Digest, NoMemory, Refusal, Sha, TimeMark};
 use merkle_tree::{Head, leaf_of};
 use std::alloc::Global;
 use std::process::Abort;
@@ -72,14 +73,32 @@ fn place(rt: &impl Abort, alloc: Global, book: &mut Book, number: u64) -> Result
     Ok(())
 }
 
-/// The ledger `demo` with that many records, in blocks of 64.
-fn ledger_of(rt: &impl Abort, alloc: Global, records: u64) -> Result<Book, NoMemory> {
-    let genesis = Genesis {
+/// Places an anchor that has the entry with this index, in a block of its own.
+fn anchor(rt: &impl Abort, book: &mut Book, index: u8) -> Result<(), NoMemory> {
+    let stamp = Stamp {
+        index: u64::from(index),
+        time: 1_000,
+        salt: Digest([3; 32]),
+    };
+    book.seal();
+    let outcome = book.apply(&Job::Anchor, Some(&stamp))?;
+    assert!(rt; is_placed(&outcome));
+    book.seal();
+    Ok(())
+}
+
+/// The first journal of the ledger `demo`.
+fn demo(alloc: Global) -> Result<Genesis, NoMemory> {
+    Ok(Genesis {
         name: Bytes::copy_of(alloc, b"demo")?,
         operator: OPERATOR,
         regulator: REGULATOR,
-    };
-    let mut book = Book::new(alloc, &genesis, Limits::real())?;
+    })
+}
+
+/// The ledger `demo` with that many records, in blocks of 64.
+fn ledger_of(rt: &impl Abort, alloc: Global, records: u64) -> Result<Book, NoMemory> {
+    let mut book = Book::new(alloc, &demo(alloc)?, Limits::real())?;
     for number in 1..=records {
         place(rt, alloc, &mut book, number)?;
     }
@@ -172,5 +191,48 @@ fn what_is_not_next_is_refused(rt: HostRuntime) -> Result<(), Fail> {
     assert!(rt; told == Err(Damage::Entry { jsn: 3 }));
     assert!(rt; take(&mut again, header)? == Ok(()));
     assert!(rt; again.waiting_count() == 3);
+    Ok(())
+}
+
+#[test]
+fn a_journal_lies_between_anchors(rt: HostRuntime) -> Result<(), Fail> {
+    let mut book = ledger_of(&rt, rt.alloc(), 3)?;
+    anchor(&rt, &mut book, 0)?;
+    place(&rt, rt.alloc(), &mut book, 4)?;
+    anchor(&rt, &mut book, 1)?;
+    let lower = TimeMark {
+        jsn: 4,
+        index: 0,
+        time: 1_000,
+    };
+    let upper = TimeMark {
+        jsn: 6,
+        index: 1,
+        time: 1_000,
+    };
+    assert!(rt; book.bounds_of(5) == (Some(lower), Some(upper)));
+    Ok(())
+}
+
+/// The limits of a ledger that is full for its members once it has two journals.
+fn two_journals() -> Limits
+    ensures { AreWithin result }
+{
+    Limits {
+        soft: 2,
+        ..Limits::real()
+    }
+}
+
+#[test]
+fn a_full_ledger_takes_anchors(rt: HostRuntime) -> Result<(), Fail> {
+    let alloc = rt.alloc();
+    let mut book = Book::new(alloc, &demo(alloc)?, two_journals())?;
+    place(&rt, alloc, &mut book, 1)?;
+    let job = record(alloc, &book.id(), 2)?;
+    let full = Refusal::Full { kept: 2, size: 2 };
+    assert!(rt; book.apply(&job, None)? == Outcome::Refused(full));
+    anchor(&rt, &mut book, 0)?;
+    assert_eq!(rt; book.head().size, 3);
     Ok(())
 }

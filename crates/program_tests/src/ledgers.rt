@@ -16,6 +16,7 @@ use std::thread::Threads;
 mod disks;
 mod lanes;
 mod notaries;
+mod proofs;
 mod words;
 
 // The keys of the operator and the regulator of a ledger for trial: 32 bytes 1, and 32 bytes 2.

@@ -1,6 +1,6 @@
 use hex::FromHex;
-use ledger_bytes::{Digest, Sha};
-use ledger_disk::{Disk, MemDisk, Pick};
+use ledger_bytes::{Digest, NoMemory, Sha};
+use ledger_disk::{Disk, FuseDisk, MemDisk, Pick};
 use merkle_tree::Head;
 use notary_ledger::{Clock, ListClock, LocalNotary, MemNotary, RealClock};
 use std::alloc::Global;
@@ -47,6 +47,25 @@ fn head_after_a_crash(
     Ok(reopened(alloc, disk, Vec::new(alloc))?.head()?)
 }
 
+// How many of three stamps answered Ok, of a notary on a disk that stops, and what is left of the disk.
+fn stamped_until_a_stop(
+    alloc: Global,
+    disk: FuseDisk<MemDisk>,
+) -> Result<(u64, MemDisk), NoMemory> {
+    let clock = ListClock::new([1, 2, 3].to_vec(alloc)?);
+    let mut notary = match LocalNotary::reopen(alloc, disk, clock, Digest([0; 32])) {
+        Ok(notary) => notary,
+        Err((_, disk)) => return Ok((0, disk.into_inner())),
+    };
+    let mut stamped = 0_u64;
+    for _ in 0..3 {
+        if stamped_time(alloc, &mut notary).is_ok() {
+            stamped = stamped.saturating_add(1);
+        }
+    }
+    Ok((stamped, notary.into_disk().into_inner()))
+}
+
 #[test]
 fn times_never_fall(rt: HostRuntime) -> Result<(), Fail> {
     let alloc = rt.alloc();
@@ -56,6 +75,29 @@ fn times_never_fall(rt: HostRuntime) -> Result<(), Fail> {
     let times = stamped_times(alloc, &mut notary)?;
     let head = head_after_a_crash(alloc, notary)?;
     assert_eq!(rt; (times, head), ([5000, 5000, 7000], Head { size: 3, root }));
+    Ok(())
+}
+
+// Of the calls that a fuse counts a notary takes three to begin and five for each stamp. Where it stops behind the write of a gate, and what was written
+// is left, the entry of the stamp that didn't answer is there.
+#[test]
+fn a_stop_leaves_each_entry_that_was_told(rt: HostRuntime) -> Result<(), Fail> {
+    let alloc = rt.alloc();
+    for left in 0..=18_u64 {
+        let disk = MemDisk::new(alloc, 300, Vec::new(alloc))?;
+        let (stamped, disk) = stamped_until_a_stop(alloc, FuseDisk::new(disk, left))?;
+        assert_eq!(rt; stamped, left.saturating_sub(3) / 5);
+        for (pick, size) in [
+            (Pick::AllWritten, left.saturating_sub(2) / 5),
+            (Pick::NoneWritten, stamped),
+        ] {
+            let mut again = reopened(alloc, disk.crash(pick)?, Vec::new(alloc))?;
+            assert_eq!(rt; again.head()?.size, size, "{pick:?} after {left}");
+        }
+        let mut torn = reopened(alloc, disk.crash(Pick::Torn(left))?, Vec::new(alloc))?;
+        let size = torn.head()?.size;
+        assert!(rt; size == stamped || size == stamped.saturating_add(1));
+    }
     Ok(())
 }
 
