@@ -1,4 +1,4 @@
-ghost use Rattle.std.specs.Prelude.{◌≡◌, ◌<◌, ◌^◌, [], ◌∷◌, length};
+ghost use Rattle.std.specs.Prelude.{◌≡◌, ◌<◌, ◌^◌, [], ◌∷◌, length, All};
 ghost use Rattle.sha2.specs.Sha256.{sha256};
 ghost use Rattle.ledger_bytes.specs.Tags.{byte_of};
 ghost use Rattle.journal_record.specs.Approval.{who_of};
@@ -6,6 +6,7 @@ ghost use Rattle.journal_record.specs.Entry.{content_digest_of, who_digest_of};
 
 use crate::Approval;
 use ledger_bytes::{Digest, Sha, Tag, TreeHash};
+use std::slice;
 
 /// The digest of a journal's content: SHA-256 of the byte 02 and the content.
 pub fn content_digest(content: &[u8]) -> Digest
@@ -27,11 +28,22 @@ pub fn approval_digest(by: &Approval) -> Digest
     requires { length by.now.proof < 2 ^ 16 }
     ensures { result.0 ≡ who_digest_of (who_of (by.now ∷ [])) }
 {
-    let proof = by.proof.as_slice();
+    approvals_digest(slice::from_ref(by))
+}
+
+/// The digest of the bytes that show which members approved a journal: of [`who_bytes`](crate::who_bytes) of these
+/// approvals, in their order. It takes no memory.
+pub fn approvals_digest(given: &[Approval]) -> Digest
+    requires { All (λ a. length a.proof < 2 ^ 16) given.now }
+    ensures { result.0 ≡ who_digest_of (who_of given.now) }
+{
     let mut hasher = Sha::start(Tag::Who.byte());
-    hasher.add(&by.member.to_be_bytes());
-    hasher.add(&(proof.len() as u16).to_be_bytes());
-    hasher.add(proof);
+    for approval in given {
+        let proof = approval.proof.as_slice();
+        hasher.add(&approval.member.to_be_bytes());
+        hasher.add(&(proof.len() as u16).to_be_bytes());
+        hasher.add(proof);
+    }
     hasher.end()
 }
 

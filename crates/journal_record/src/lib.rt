@@ -14,7 +14,7 @@ mod tags;
 mod whole;
 
 pub use approval::{Approval, WHO_LIMIT, who_bytes};
-pub use digests::{approval_digest, content_digest, who_digest};
+pub use digests::{approval_digest, approvals_digest, content_digest, who_digest};
 pub use header::{HEADER_LEN, Header, Kind};
 pub use member::Member;
 pub use reading::{is_inverse_of_encoding, take_header};
