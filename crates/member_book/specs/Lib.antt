@@ -1,2 +1,3 @@
 pub mod Approvals
+pub mod Erasures
 pub mod Members
