@@ -1,19 +1,16 @@
 -- What is read of a line keeps to a line's limits.
-use Rattle.std.proofs.Common.{◌≡◌, ℕ, ◌*◌, ◌-◌, ◌^◌, ◌≤◌, ◌&&◌, nat_le, nat_lt, if◌then◌else◌, Bool, true, false, cond, List, [], ◌∷◌, length, codes, Option, Some, None, Result, Ok, Err, refl, ap, arith}
-use Rattle.std.specs.Result.{result_ok}
+use Rattle.std.proofs.Common.{◌≡◌, ℕ, ◌-◌, ◌^◌, ◌≤◌, ◌&&◌, nat_le, nat_lt, if◌then◌else◌, Bool, true, false, cond, List, [], ◌∷◌, length, codes, Option, Some, None, Result, Ok, Err, refl, ap, arith}
 use Rattle.std.specs.Str.{bytes_eq}
 use Rattle.std.proofs.lemmas.Bool.{and_from, and_parts, le-leb, leb-true}
-use Rattle.hex.specs.Hex.{decode_of}
-use Rattle.hex.specs.declared.error.FromHexError.{FromHexError}
-use Rattle.hex.proofs.HexLemmas.{decode_of-ok}
 use Rattle.ledger_bytes.specs.declared.limits.TheConstants.{CONTENT_LIMIT, NAME_LIMIT, PROOF_LIMIT}
 use Rattle.ledger_bytes.specs.declared.refusal.Refusal.{Refusal}
 use Rattle.script_lines.specs.Fields.{Left, fields_of, read_or_bad, field_from, field_at, end_from, end_at}
-use Rattle.script_lines.specs.Grammar.{◌>>=◌, append_at, member_at, anchor_at, get_at, prove_at, extend_at, clue_at, head_at, verb_at, asked_by, lane_of, spoken_by, spoken_at, spoken_line}
-use Rattle.script_lines.specs.Limits.{fits_line, is_of_form, fits_what}
-use Rattle.script_lines.specs.Spellings.{text_of, number_of, bytes_of, digest_of, clue_of, name_of, which_of, is_dash}
+use Rattle.script_lines.specs.Grammar.{◌>>=◌, append_at, member_at, anchor_at, occult_at, get_at, prove_at, extend_at, clue_at, head_at, verb_at, asked_by, lane_of, spoken_by, spoken_at, spoken_line}
+use Rattle.script_lines.specs.Limits.{fits_line, fits_approvals, is_of_form, fits_what}
+use Rattle.script_lines.specs.Spellings.{text_of, number_of, bytes_of, digest_of, clue_of, name_of, which_of, approvals_of, is_dash}
 use Rattle.script_lines.specs.declared.line.Line.{Line}
-use Rattle.script_lines.specs.declared.line.Line.TheVariants.{Append, NewMember, Anchor, Get, Prove, Extend, Clue, Head}
+use Rattle.script_lines.specs.declared.line.Line.TheVariants.{Append, NewMember, Anchor, Occult, Get, Prove, Extend, Clue, Head}
+use Rattle.script_lines.proofs.Approving.{bytes_short, approvals_short, approvals_fit}
 
 -- what a field reads as keeps to a rule, or the refusal is one of a line's form
 abbrev Gives : {A : Type 0} → (A → Type 0) → Result (A × Left) Refusal → Type 0
@@ -45,24 +42,6 @@ end_fits left line fits = by left.fields where
 
 abbrev Any : {A : Type 0} → A → Type 0
 Any x = Unit {0}
-
--- what is there is what was found
-found : (read : Result (List ℕ) FromHexError) (bytes : List ℕ) → result_ok read ≡ Some bytes → read ≡ Ok bytes
-found (Ok x) bytes is = let same : x ≡ bytes = cc in ap Ok same
-found (Err e) bytes is = absurd cc
-
-bytes_short : (most : ℕ) (text bytes : List ℕ) → bytes_of most text ≡ Some bytes → length bytes ≤ most
-bytes_short most text bytes is =
-    elim (is_dash text) as (λ dash. cond dash (Some []) (cond (nat_le 2 (length text) && nat_le (length text) (2 * most)) (result_ok (decode_of text)) None) ≡ Some bytes → length bytes ≤ most) [
-      | true ↦ λ none. let same : [] ≡ bytes = cc in omega (arith, ap length same)
-      | false ↦ λ some.
-          elim (nat_le 2 (length text) && nat_le (length text) (2 * most)) as (λ fits. (nat_le 2 (length text) && nat_le (length text) (2 * most)) ≡ fits → cond fits (result_ok (decode_of text)) None ≡ Some bytes → length bytes ≤ most) [
-            | true ↦ λ fits read.
-                let decoded = decode_of-ok text bytes (found (decode_of text) bytes read) in
-                omega (arith, decoded.2, leb-true (length text) (2 * most) (and_parts (nat_le 2 (length text)) (nat_le (length text) (2 * most)) fits).1)
-            | false ↦ λ fits read. absurd cc
-          ] refl some
-    ] is
 
 name_short : (text name : List ℕ) → name_of text ≡ Some name → length name ≤ NAME_LIMIT
 name_short text name is =
@@ -101,6 +80,14 @@ member_fits fields =
 anchor_fits : (fields : Left) → fits_what (anchor_at fields) ≡ true
 unfolding anchor_at
 anchor_fits fields = end_fits fields Anchor refl
+
+occult_fits : (fields : Left) → fits_what (occult_at fields) ≡ true
+unfolding occult_at
+occult_fits fields =
+    then_fits Any _ _ (field_gives Any (number_of (2 ^ 64 - 1)) fields (λ text x is. tt)) (λ target t.
+    then_fits Any _ _ (field_gives Any digest_of target.1 (λ text x is. tt)) (λ leaf l.
+    then_fits (λ given. fits_approvals given ≡ true) _ _ (field_gives (λ given. fits_approvals given ≡ true) approvals_of leaf.1 (λ text given is. approvals_fit given (approvals_short text given is))) (λ given g.
+    end_fits given.1 (Occult target.0 leaf.0 given.0) g)))
 
 get_fits : (fields : Left) → fits_what (get_at fields) ≡ true
 unfolding get_at
@@ -141,11 +128,12 @@ verb_fits verb fields =
     either_fits (bytes_eq verb (codes "append")) _ _ (append_fits fields)
     (either_fits (bytes_eq verb (codes "member")) _ _ (member_fits fields)
     (either_fits (bytes_eq verb (codes "anchor")) _ _ (anchor_fits fields)
+    (either_fits (bytes_eq verb (codes "occult")) _ _ (occult_fits fields)
     (either_fits (bytes_eq verb (codes "get")) _ _ (get_fits fields)
     (either_fits (bytes_eq verb (codes "prove")) _ _ (prove_fits fields)
     (either_fits (bytes_eq verb (codes "extend")) _ _ (extend_fits fields)
     (either_fits (bytes_eq verb (codes "clue")) _ _ (clue_fits fields)
-    (either_fits (bytes_eq verb (codes "head")) _ _ (head_fits fields) refl)))))))
+    (either_fits (bytes_eq verb (codes "head")) _ _ (head_fits fields) refl))))))))
 
 asked_fits : (verb : Result (List ℕ × Left) Refusal) → fits_what (asked_by verb) ≡ true
 asked_fits (Ok verb) = verb_fits verb.0 verb.1

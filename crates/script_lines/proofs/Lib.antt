@@ -1,9 +1,11 @@
+pub mod Approving
 pub mod Cuts
 pub mod Filled
 pub mod Given
 pub mod Hexes
 pub mod Numbers
 pub mod Sayings
+pub mod Separate
 pub mod Fitting
 pub mod WordLaws
 pub mod ReceiptLaws

@@ -1,32 +1,31 @@
 -- A line's text is read as the line.
-use Rattle.std.proofs.Common.{◌≡◌, ℕ, ◌-◌, ◌*◌, ◌^◌, ◌<◌, ◌≤◌, ◌==◌, ◌&&◌, nat_le, nat_lt, nat_eq, not, inl, inr, lit<, Bool, true, false, List, [], ◌∷◌, ◌++◌, length, codes, decimal, Some, Result, Ok, refl, sym, ap, ◌∙◌, append-nil, arith}
-use Rattle.std.specs.Char.{is_ascii_digit}
+use Rattle.std.proofs.Common.{◌≡◌, ℕ, ◌-◌, ◌^◌, ◌<◌, ◌==◌, ◌&&◌, nat_le, nat_lt, not, lit<, Bool, true, false, List, [], ◌∷◌, ◌++◌, length, codes, decimal, Some, Result, Ok, refl, ap, ◌∙◌, append-nil, arith}
 use Rattle.std.specs.List.{list_all}
 use Rattle.std.specs.Result.{result_ok}
 use Rattle.std.specs.Option.{option_map}
-use Rattle.std.proofs.lemmas.Bool.{and_from, cases_eq, cond-true, cond-false, le-leb, lt-ltb}
-use Rattle.std.proofs.lemmas.Bool.Decides.{nat_tests}
-use Rattle.std.proofs.lemmas.Fmt.{digits_decimal}
-use Rattle.std.proofs.lemmas.List.Elements.{All-cons, All-nil, All-weaker}
+use Rattle.std.proofs.lemmas.Bool.{and_from, cond-true, cond-false, le-leb, lt-ltb}
+use Rattle.std.proofs.lemmas.List.Elements.{All-weaker}
 use Rattle.std.proofs.lemmas.List.Splits.{slice_split_at, slice_split_none}
 use Rattle.std.proofs.lemmas.List.Sums.{AllPass-from_list_all}
 use Rattle.std.proofs.lemmas.Slice.Eq.{bytes_eq-Decides}
-use Rattle.hex.specs.Hex.{IsBytes, encode_lower, lower_digits, is_hex_digit}
-use Rattle.hex.proofs.HexLemmas.{decode_of-encode_lower, decode_of-ok, decode_sized-encode_lower, length-encode_with}
+use Rattle.hex.specs.Hex.{IsBytes}
+use Rattle.hex.proofs.HexLemmas.{decode_sized-encode_lower}
 use Rattle.ledger_bytes.specs.Digests.{digest}
 use Rattle.ledger_bytes.specs.declared.digest.Digest.{Digest}
 use Rattle.ledger_bytes.specs.declared.refusal.Refusal.{Refusal}
 use Rattle.script_lines.specs.Fields.{field_at}
-use Rattle.script_lines.specs.Grammar.{append_at, member_at, anchor_at, get_at, prove_at, extend_at, clue_at, head_at, spoken_line, spoken_at}
+use Rattle.script_lines.specs.Grammar.{append_at, member_at, anchor_at, occult_at, get_at, prove_at, extend_at, clue_at, head_at, spoken_line, spoken_at}
 use Rattle.script_lines.specs.Parts.{parts}
-use Rattle.script_lines.specs.Sayings.{clue_text, line_words, line_text, IsOneField, IsName, IsClue, IsShort, IsSayable}
-use Rattle.script_lines.specs.Spellings.{text_of, number_of, bytes_of, digest_of, clue_of, name_of, is_dash}
+use Rattle.script_lines.specs.Sayings.{approvals_text, clue_text, line_words, line_text, IsOneField, IsName, IsClue, IsSayable}
+use Rattle.script_lines.specs.Spellings.{text_of, digest_of, clue_of, name_of, is_dash}
 use Rattle.script_lines.specs.Words.{hex_of, hex_or_dash, spaced_words, which_text}
 use Rattle.script_lines.specs.declared.line.Line.{Line}
-use Rattle.script_lines.specs.declared.line.Line.TheVariants.{Append, NewMember, Anchor, Get, Prove, Extend, Clue, Head}
+use Rattle.script_lines.specs.declared.line.Line.TheVariants.{Append, NewMember, Anchor, Occult, Get, Prove, Extend, Clue, Head}
 use Rattle.script_lines.specs.declared.said.Which.{Which}
 use Rattle.script_lines.specs.declared.said.Which.TheVariants.{Ledger, Notary}
-use Rattle.script_lines.proofs.Numbers.{number_of-decimal, numerals}
+use Rattle.script_lines.specs.declared.said.SaidApproval.{SaidApproval}
+use Rattle.script_lines.proofs.Numbers.{number_of-decimal}
+use Rattle.script_lines.proofs.Separate.{decimal-whole, digits-whole, dash-whole, hex-whole, approvals-whole, number_of-word, bytes_of-hex, approvals_of-text}
 
 -- no space stands in any of some words
 abbrev AreFields : List (List ℕ) → Type 0
@@ -40,55 +39,9 @@ parts-spaced text (word ∷ words) whole rest =
     slice_split_at (λ b. b == 32) text 32 (word ++ spaced_words words) whole refl
     ∙ ap (λ others. text ∷ others) (parts-spaced word words rest.0 rest.1)
 
--- a byte that passes a test which a space doesn't pass is no space
-other : (p : ℕ → Bool) → p 32 ≡ false → (byte : ℕ) → p byte ≡ true → (byte == 32) ≡ false
-other p never byte passes =
-    elim (cases_eq byte 32) [
-      | inl is ↦ cc (sym (ap p is), never, passes)
-      | inr differs ↦ grind (arith, nat_tests)
-    ]
-
-decimal-whole : (n : ℕ) → n < 2 ^ 64 → IsOneField (decimal n)
-decimal-whole n small =
-    All-weaker (λ c. is_ascii_digit c ≡ true) (λ byte. (byte == 32) ≡ false) (other is_ascii_digit refl) (decimal n)
-    (AllPass-from_list_all is_ascii_digit (decimal n) (digits_decimal numerals n small))
-
-digits-whole : (bytes : List ℕ) → IsBytes bytes → IsOneField (encode_lower bytes)
-digits-whole bytes are =
-    let decoded = decode_of-ok (encode_lower bytes) bytes (decode_of-encode_lower bytes are) in
-    All-weaker (λ c. is_hex_digit c ≡ true) (λ byte. (byte == 32) ≡ false) (other is_hex_digit refl) (encode_lower bytes) decoded.1
-
-dash-whole : IsOneField (codes "-")
-dash-whole = All-cons (λ byte. (byte == 32) ≡ false) 45 [] refl (All-nil (λ byte. (byte == 32) ≡ false))
-
-hex-whole : (bytes : List ℕ) → IsBytes bytes → IsOneField (hex_or_dash bytes)
-hex-whole [] are = dash-whole
-hex-whole (byte ∷ bytes) are = digits-whole (byte ∷ bytes) are
-
 clue-whole : (clue : List ℕ) → IsClue clue → IsOneField (clue_text clue)
-clue-whole [] is = dash-whole
+clue-whole [] is = dash-whole 32 refl
 clue-whole (byte ∷ name) is = is.0.whole
-
--- two bytes and more are no dash
-and_false : (b : Bool) → (b && false) ≡ false
-and_false true = refl
-and_false false = refl
-
-dash-short : (text : List ℕ) → 2 ≤ length text → is_dash text ≡ false
-dash-short [] long = absurd (omega arith)
-dash-short (x ∷ []) long = absurd (omega arith)
-dash-short (x ∷ y ∷ rest) long = and_false (nat_eq x 45)
-
-bytes_of-hex : (most : ℕ) (bytes : List ℕ) → IsShort most bytes → bytes_of most (hex_or_dash bytes) ≡ Some bytes
-bytes_of-hex most [] short = refl
-bytes_of-hex most (byte ∷ bytes) short =
-    let text = encode_lower (byte ∷ bytes) in
-    let size = length-encode_with lower_digits (byte ∷ bytes) in
-    let long : 2 ≤ length text = omega (arith, size) in
-    let within : length text ≤ 2 * most = omega (arith, size, short.0) in
-    cond-false (is_dash text) _ _ (dash-short text long)
-    ∙ cond-true (nat_le 2 (length text) && nat_le (length text) (2 * most)) _ _ (and_from _ _ (le-leb 2 (length text) long) (le-leb (length text) (2 * most) within))
-    ∙ ap result_ok (decode_of-encode_lower (byte ∷ bytes) short.1)
 
 digest_of-hex : (key : Digest) → length key.0 ≡ 32 → IsBytes key.0 → digest_of (hex_of key) ≡ Some key
 digest_of-hex key whole are = ap (λ read. option_map digest (result_ok read)) (decode_sized-encode_lower key.0 32 whole are)
@@ -106,9 +59,6 @@ clue_of-text [] is = refl
 clue_of-text (byte ∷ name) is =
     let never : is_dash (byte ∷ name) ≡ false = differs (is_dash (byte ∷ name)) (λ passes. is.1 ((bytes_eq-Decides (byte ∷ name) (codes "-")).0 passes)) in
     cond-false (is_dash (byte ∷ name)) _ _ never ∙ name_of-name (byte ∷ name) is.0
-
-number_of-word : (n : ℕ) → n < 2 ^ 32 → number_of (2 ^ 32 - 1) (decimal n) ≡ Some n
-number_of-word n small = number_of-decimal (2 ^ 32 - 1) n (lit< tt) (omega arith)
 
 append_at-words : (member : ℕ) (clue content proof : List ℕ) → IsSayable (Append member clue content proof)
     → append_at (record { column = 3; fields = decimal member ∷ clue_text clue ∷ hex_or_dash content ∷ hex_or_dash proof ∷ [] }) ≡ Ok (Append member clue content proof)
@@ -132,6 +82,15 @@ member_at-words number key proof is =
 anchor_at-words : anchor_at (record { column = 3; fields = [] }) ≡ Ok Anchor
 unfolding anchor_at
 anchor_at-words = refl
+
+occult_at-words : (target : ℕ) (leaf : Digest) (given : List SaidApproval) → IsSayable (Occult target leaf given)
+    → occult_at (record { column = 3; fields = decimal target ∷ hex_of leaf ∷ approvals_text given ∷ [] }) ≡ Ok (Occult target leaf given)
+unfolding occult_at
+occult_at-words target leaf given is =
+    let n = number_of-decimal (2 ^ 64 - 1) target (lit< tt) (omega (arith, is.0)) in
+    let l = digest_of-hex leaf is.1 is.2 in
+    let g = approvals_of-text given is.3 is.4 in
+    rw (n, l, g) refl
 
 get_at-words : (n : ℕ) → n < 2 ^ 64 → get_at (record { column = 3; fields = decimal n ∷ [] }) ≡ Ok (Get n)
 unfolding get_at
@@ -168,13 +127,15 @@ which-whole Notary = literal-whole (codes "notary") refl
 
 words-whole : (line : Line) → IsSayable line → AreFields (line_words line)
 words-whole (Append member clue content proof) is =
-    (literal-whole (codes "append") refl, (decimal-whole member (omega arith), (clue-whole clue is.1, (hex-whole content is.2.1, (hex-whole proof is.3.1, tt)))))
+    (literal-whole (codes "append") refl, (decimal-whole 32 refl member (omega arith), (clue-whole clue is.1, (hex-whole 32 refl refl content is.2.1, (hex-whole 32 refl refl proof is.3.1, tt)))))
 words-whole (NewMember number key proof) is =
-    (literal-whole (codes "member") refl, (decimal-whole number (omega arith), (digits-whole key.0 is.2, (hex-whole proof is.3.1, tt))))
+    (literal-whole (codes "member") refl, (decimal-whole 32 refl number (omega arith), (digits-whole 32 refl key.0 is.2, (hex-whole 32 refl refl proof is.3.1, tt))))
 words-whole Anchor is = (literal-whole (codes "anchor") refl, tt)
-words-whole (Get n) is = (literal-whole (codes "get") refl, (decimal-whole n is, tt))
-words-whole (Prove n) is = (literal-whole (codes "prove") refl, (decimal-whole n is, tt))
-words-whole (Extend which m) is = (literal-whole (codes "extend") refl, (which-whole which, (decimal-whole m is, tt)))
+words-whole (Occult target leaf given) is =
+    (literal-whole (codes "occult") refl, (decimal-whole 32 refl target is.0, (digits-whole 32 refl leaf.0 is.2, (approvals-whole 32 refl refl refl refl refl given is.4, tt))))
+words-whole (Get n) is = (literal-whole (codes "get") refl, (decimal-whole 32 refl n is, tt))
+words-whole (Prove n) is = (literal-whole (codes "prove") refl, (decimal-whole 32 refl n is, tt))
+words-whole (Extend which m) is = (literal-whole (codes "extend") refl, (which-whole which, (decimal-whole 32 refl m is, tt)))
 words-whole (Clue name) is = (literal-whole (codes "clue") refl, (clue-whole name is, tt))
 words-whole Head is = (literal-whole (codes "head") refl, tt)
 
@@ -186,6 +147,7 @@ said_by-words : (line : Line) → IsSayable line → (let said : ℕ × Result L
 said_by-words (Append member clue content proof) is = ap (λ (read : Result Line Refusal). (0, read)) (append_at-words member clue content proof is)
 said_by-words (NewMember number key proof) is = ap (λ (read : Result Line Refusal). (0, read)) (member_at-words number key proof is)
 said_by-words Anchor is = ap (λ (read : Result Line Refusal). (0, read)) anchor_at-words
+said_by-words (Occult target leaf given) is = ap (λ (read : Result Line Refusal). (0, read)) (occult_at-words target leaf given is)
 said_by-words (Get n) is = ap (λ (read : Result Line Refusal). (0, read)) (get_at-words n is)
 said_by-words (Prove n) is = ap (λ (read : Result Line Refusal). (0, read)) (prove_at-words n is)
 said_by-words (Extend which m) is = ap (λ (read : Result Line Refusal). (0, read)) (extend_at-words which m is)

@@ -1,22 +1,25 @@
 -- The numbers of a line that was read, and those of its refusal, are as programs have them.
 use Rattle.std.specs.Prelude.{⊤}
 use Rattle.std.specs.Str.{bytes_eq}
-use Rattle.std.proofs.Common.{◌≡◌, ℕ, ◌-◌, ◌^◌, ◌&&◌, nat_le, if◌then◌else◌, Bool, true, false, cond, List, [], ◌∷◌, codes, Option, Some, None, Result, Ok, Err, refl, arith}
-use Rattle.std.proofs.lemmas.Bool.{and_parts, leb-true}
+use Rattle.std.proofs.Common.{◌≡◌, ℕ, ◌-◌, ◌^◌, if◌then◌else◌, Bool, true, false, All, List, [], ◌∷◌, codes, Option, Some, None, Result, Ok, Err, refl, arith}
+use Rattle.std.proofs.lemmas.List.Elements.{All-weaker}
 use Rattle.ledger_bytes.specs.declared.limits.TheConstants.{CONTENT_LIMIT, PROOF_LIMIT}
 use Rattle.ledger_bytes.specs.declared.refusal.Refusal.{Refusal}
 use Rattle.script_lines.specs.Fields.{Left, fields_of, next_column, read_or_bad, field_from, field_at, end_from, end_at}
-use Rattle.script_lines.specs.Grammar.{◌>>=◌, append_at, member_at, anchor_at, get_at, prove_at, extend_at, clue_at, head_at, verb_at, asked_by, lane_of, spoken_by, spoken_at, spoken_line}
+use Rattle.script_lines.specs.Grammar.{◌>>=◌, append_at, member_at, anchor_at, occult_at, get_at, prove_at, extend_at, clue_at, head_at, verb_at, asked_by, lane_of, spoken_by, spoken_at, spoken_line}
 use Rattle.script_lines.specs.Receipts.{Fits, RefusalFits}
-use Rattle.script_lines.specs.Spellings.{text_of, number_of, bytes_of, digest_of, clue_of, which_of, is_decimal, value_behind}
+use Rattle.script_lines.specs.Spellings.{text_of, number_of, bytes_of, digest_of, clue_of, which_of, approvals_of}
 use Rattle.script_lines.specs.declared.line.Line.{Line}
-use Rattle.script_lines.specs.declared.line.Line.TheVariants.{Append, NewMember, Anchor, Get, Prove, Extend, Clue, Head}
+use Rattle.script_lines.specs.declared.line.Line.TheVariants.{Append, NewMember, Anchor, Occult, Get, Prove, Extend, Clue, Head}
+use Rattle.script_lines.specs.declared.said.SaidApproval.{SaidApproval}
+use Rattle.script_lines.proofs.Approving.{IsShortApproval, number_low, approvals_short}
 
 -- the numbers that a refusal of the line may tell
 abbrev pub LineFits : Line → Type 0
 LineFits (Append member clue content proof) = Fits member
 LineFits (NewMember number key proof) = ⊤
 LineFits Anchor = ⊤
+LineFits (Occult target leaf given) = All (λ by. Fits by.member) given
 LineFits (Get n) = ⊤
 LineFits (Prove n) = ⊤
 LineFits (Extend which m) = ⊤
@@ -60,13 +63,11 @@ abbrev Any : {A : Type 0} → A → Type 0
 Any x = Unit {0}
 
 number_fits : (text : List ℕ) (n : ℕ) → number_of (2 ^ 32 - 1) text ≡ Some n → Fits n
-number_fits text n is =
-    elim (is_decimal text && nat_le (value_behind 0 text) (2 ^ 32 - 1)) as (λ v. (is_decimal text && nat_le (value_behind 0 text) (2 ^ 32 - 1)) ≡ v → cond v (Some (value_behind 0 text)) None ≡ Some n → Fits n) [
-      | true ↦ λ fits read.
-          let same : value_behind 0 text ≡ n = cc in
-          omega (arith, same, leb-true (value_behind 0 text) (2 ^ 32 - 1) (and_parts (is_decimal text) (nat_le (value_behind 0 text) (2 ^ 32 - 1)) fits).1)
-      | false ↦ λ fits read. absurd cc
-    ] refl is
+number_fits text n is = omega (arith, number_low (2 ^ 32 - 1) text n is)
+
+members_fit : (text : List ℕ) (given : List SaidApproval) → approvals_of text ≡ Some given → All (λ by. Fits by.member) given
+members_fit text given is =
+    All-weaker IsShortApproval (λ by. Fits by.member) (λ by short. omega (arith, short.member)) given (approvals_short text given is).each
 
 append_fits : (fields : Left) → Fits fields.column → WhatFits (append_at fields)
 unfolding append_at
@@ -88,6 +89,14 @@ member_fits fields here =
 anchor_fits : (fields : Left) → Fits fields.column → WhatFits (anchor_at fields)
 unfolding anchor_at
 anchor_fits fields here = end_fits fields Anchor here tt
+
+occult_fits : (fields : Left) → Fits fields.column → WhatFits (occult_at fields)
+unfolding occult_at
+occult_fits fields here =
+    then_fits Any _ _ (field_gives Any (number_of (2 ^ 64 - 1)) fields here (λ text x is. tt)) (λ target t a.
+    then_fits Any _ _ (field_gives Any digest_of target.1 a (λ text x is. tt)) (λ leaf l b.
+    then_fits (All (λ by. Fits by.member)) _ _ (field_gives (All (λ by. Fits by.member)) approvals_of leaf.1 b members_fit) (λ given g c.
+    end_fits given.1 (Occult target.0 leaf.0 given.0) c g)))
 
 get_fits : (fields : Left) → Fits fields.column → WhatFits (get_at fields)
 unfolding get_at
@@ -127,11 +136,12 @@ verb_fits verb fields here =
     either_fits (bytes_eq verb (codes "append")) _ _ (append_fits fields here)
     (either_fits (bytes_eq verb (codes "member")) _ _ (member_fits fields here)
     (either_fits (bytes_eq verb (codes "anchor")) _ _ (anchor_fits fields here)
+    (either_fits (bytes_eq verb (codes "occult")) _ _ (occult_fits fields here)
     (either_fits (bytes_eq verb (codes "get")) _ _ (get_fits fields here)
     (either_fits (bytes_eq verb (codes "prove")) _ _ (prove_fits fields here)
     (either_fits (bytes_eq verb (codes "extend")) _ _ (extend_fits fields here)
     (either_fits (bytes_eq verb (codes "clue")) _ _ (clue_fits fields here)
-    (either_fits (bytes_eq verb (codes "head")) _ _ (head_fits fields here) tt)))))))
+    (either_fits (bytes_eq verb (codes "head")) _ _ (head_fits fields here) tt))))))))
 
 asked_fits : (verb : Result (List ℕ × Left) Refusal) → Gives Any verb → WhatFits (asked_by verb)
 asked_fits (Ok verb) g = verb_fits verb.0 verb.1 g.1

@@ -5,9 +5,9 @@ use Rattle.ledger_bytes.specs.declared.limits.TheConstants.{CONTENT_LIMIT, PROOF
 use Rattle.ledger_bytes.specs.declared.refusal.Refusal.{Refusal}
 use Rattle.ledger_bytes.specs.declared.refusal.Refusal.TheVariants.{BadVerb, BadLane}
 use Rattle.script_lines.specs.Fields.{Left, fields_of, field_at, end_at}
-use Rattle.script_lines.specs.Spellings.{text_of, number_of, bytes_of, digest_of, clue_of, which_of}
+use Rattle.script_lines.specs.Spellings.{text_of, number_of, bytes_of, digest_of, clue_of, which_of, approvals_of}
 use Rattle.script_lines.specs.declared.line.Line.{Line}
-use Rattle.script_lines.specs.declared.line.Line.TheVariants.{Append, NewMember, Anchor, Get, Prove, Extend, Clue, Head}
+use Rattle.script_lines.specs.declared.line.Line.TheVariants.{Append, NewMember, Anchor, Occult, Get, Prove, Extend, Clue, Head}
 
 -- the second step, with what the first gave
 infixl 10 ◌>>=◌
@@ -39,6 +39,15 @@ unfoldable pub anchor_at : Left → Result Line Refusal
 anchor_at fields = do
   end ← end_at fields
   Ok Anchor
+
+-- `occult TARGET LEAF APPROVALS`
+unfoldable pub occult_at : Left → Result Line Refusal
+occult_at fields = do
+  target ← field_at (number_of (2 ^ 64 - 1)) fields
+  leaf ← field_at digest_of target.1
+  given ← field_at approvals_of leaf.1
+  end ← end_at given.1
+  Ok (Occult target.0 leaf.0 given.0)
 
 -- `get N`
 unfoldable pub get_at : Left → Result Line Refusal
@@ -81,6 +90,7 @@ verb_at verb fields =
     if bytes_eq verb (codes "append") then append_at fields
     else if bytes_eq verb (codes "member") then member_at fields
     else if bytes_eq verb (codes "anchor") then anchor_at fields
+    else if bytes_eq verb (codes "occult") then occult_at fields
     else if bytes_eq verb (codes "get") then get_at fields
     else if bytes_eq verb (codes "prove") then prove_at fields
     else if bytes_eq verb (codes "extend") then extend_at fields

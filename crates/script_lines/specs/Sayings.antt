@@ -1,15 +1,30 @@
 -- Lines as they are written.
 use Rattle.std.specs.Prelude.{◌≡◌, ◌≢◌, ℕ, ◌<◌, ◌≤◌, ◌^◌, ◌==◌, false, List, [], ◌∷◌, ◌++◌, length, All, codes, decimal, ⊤}
 use Rattle.hex.specs.Hex.{IsBytes}
-use Rattle.ledger_bytes.specs.declared.limits.TheConstants.{CONTENT_LIMIT, NAME_LIMIT, PROOF_LIMIT}
+use Rattle.ledger_bytes.specs.declared.limits.TheConstants.{APPROVAL_LIMIT, CONTENT_LIMIT, NAME_LIMIT, PROOF_LIMIT}
 use Rattle.script_lines.specs.Words.{hex_of, hex_or_dash, spaced_words, which_text}
 use Rattle.script_lines.specs.declared.line.Line.{Line}
-use Rattle.script_lines.specs.declared.line.Line.TheVariants.{Append, NewMember, Anchor, Get, Prove, Extend, Clue, Head}
+use Rattle.script_lines.specs.declared.line.Line.TheVariants.{Append, NewMember, Anchor, Occult, Get, Prove, Extend, Clue, Head}
+use Rattle.script_lines.specs.declared.said.SaidApproval.{SaidApproval}
 
 -- a clue's name, or `-` for no clue
 abbrev pub clue_text : List ℕ → List ℕ
 clue_text [] = codes "-"
 clue_text (byte ∷ name) = byte ∷ name
+
+-- an approval: the member's number and the proof
+abbrev pub approval_text : SaidApproval → List ℕ
+approval_text by = decimal by.member ++ 58 ∷ hex_or_dash by.proof
+
+-- approvals, each behind a comma
+abbrev pub approvals_behind : List SaidApproval → List ℕ
+approvals_behind [] = []
+approvals_behind (by ∷ given) = 44 ∷ (approval_text by ++ approvals_behind given)
+
+-- approvals with commas between, or `-` for none
+abbrev pub approvals_text : List SaidApproval → List ℕ
+approvals_text [] = codes "-"
+approvals_text (by ∷ given) = approval_text by ++ approvals_behind given
 
 -- the words of a line behind its lane
 abbrev pub line_words : Line → List (List ℕ)
@@ -17,6 +32,7 @@ line_words (Append member clue content proof) =
     codes "append" ∷ decimal member ∷ clue_text clue ∷ hex_or_dash content ∷ hex_or_dash proof ∷ []
 line_words (NewMember number key proof) = codes "member" ∷ decimal number ∷ hex_of key ∷ hex_or_dash proof ∷ []
 line_words Anchor = codes "anchor" ∷ []
+line_words (Occult target leaf given) = codes "occult" ∷ decimal target ∷ hex_of leaf ∷ approvals_text given ∷ []
 line_words (Get n) = codes "get" ∷ decimal n ∷ []
 line_words (Prove n) = codes "prove" ∷ decimal n ∷ []
 line_words (Extend which m) = codes "extend" ∷ which_text which ∷ decimal m ∷ []
@@ -46,12 +62,19 @@ IsClue (byte ∷ name) = IsName (byte ∷ name) × ((byte ∷ name) ≢ codes "-
 abbrev pub IsShort : ℕ → List ℕ → Type 0
 IsShort most bytes = (length bytes ≤ most) × IsBytes bytes
 
+-- an approval that a line can say
+pub record IsSayableApproval (by : SaidApproval) : Type 0 where
+  pub member : by.member < 2 ^ 32
+  pub proof : IsShort PROOF_LIMIT by.proof
+
 -- what a line can say
 abbrev pub IsSayable : Line → Type 0
 IsSayable (Append member clue content proof) =
     (member < 2 ^ 32) × IsClue clue × IsShort CONTENT_LIMIT content × IsShort PROOF_LIMIT proof
 IsSayable (NewMember number key proof) = (number < 2 ^ 32) × (length key.0 ≡ 32) × IsBytes key.0 × IsShort PROOF_LIMIT proof
 IsSayable Anchor = ⊤
+IsSayable (Occult target leaf given) =
+    (target < 2 ^ 64) × (length leaf.0 ≡ 32) × IsBytes leaf.0 × (length given ≤ APPROVAL_LIMIT) × All IsSayableApproval given
 IsSayable (Get n) = n < 2 ^ 64
 IsSayable (Prove n) = n < 2 ^ 64
 IsSayable (Extend which m) = m < 2 ^ 64

@@ -1,5 +1,5 @@
-use crate::said::Which;
-use ledger_bytes::{Bytes, Digest};
+use crate::said::{SaidApproval, Which};
+use ledger_bytes::{Bytes, Digest, Items};
 
 /// What a line of a script asks for.
 #[derive(Debug, Drop)]
@@ -26,6 +26,15 @@ pub enum Line {
     },
     /// A time journal is to be added, with a notary's stamp: `anchor`.
     Anchor,
+    /// The content of a journal is to be hidden: `occult TARGET LEAF APPROVALS`.
+    Occult {
+        /// The journal's number.
+        target: u64,
+        /// The digest of the journal's leaf.
+        leaf: Digest,
+        /// Who approves it, up to 256 members.
+        given: Items<SaidApproval>,
+    },
     /// A journal is asked for: `get N`.
     Get {
         /// The journal's number.

@@ -1,5 +1,5 @@
 ghost use Rattle.std.specs.Prelude.{◌≡◌, ◌≤◌, true, IfOk, IfSome};
-ghost use Rattle.script_lines.specs.Grammar.{append_at, member_at, anchor_at, get_at, prove_at, extend_at, clue_at, head_at, asked_by, lane_of, spoken_line};
+ghost use Rattle.script_lines.specs.Grammar.{append_at, member_at, anchor_at, occult_at, get_at, prove_at, extend_at, clue_at, head_at, asked_by, lane_of, spoken_line};
 ghost use Rattle.script_lines.specs.Fields.{field_at};
 ghost use Rattle.script_lines.specs.Reading.{Reads, fits_read};
 ghost use Rattle.script_lines.specs.Spellings.{text_of};
@@ -84,6 +84,8 @@ fn read_asked(alloc: Global, mut fields: Fields) -> Result<Line, Stop>
         read_member(alloc, fields)
     } else if verb == b"anchor".as_slice() {
         read_anchor(fields)
+    } else if verb == b"occult".as_slice() {
+        read_occult(alloc, fields)
     } else if verb == b"get".as_slice() {
         read_get(fields)
     } else if verb == b"prove".as_slice() {
@@ -140,6 +142,22 @@ fn read_anchor(fields: Fields) -> Result<Line, Stop>
 {
     fields.end()?;
     Ok(Line::Anchor)
+}
+
+#[tactic(auto, unfolding(crate::specs::Grammar::occult_at))]
+fn read_occult(alloc: Global, mut fields: Fields) -> Result<Line, Stop>
+    ensures reads { Reads result (occult_at fields.entry) }
+    ensures fits { fits_read result ≡ true }
+{
+    let target = fields.number(u64::MAX)?;
+    let leaf = fields.digest()?;
+    let given = fields.approvals(alloc)?;
+    fields.end()?;
+    Ok(Line::Occult {
+        target,
+        leaf,
+        given,
+    })
 }
 
 #[tactic(auto, unfolding(crate::specs::Grammar::get_at))]
