@@ -1,11 +1,14 @@
 -- Lemmas on what comes of a job.
-use Rattle.std.specs.Prelude.{Result, Ok, Err, OnOk, IfOk}
-use Rattle.std.proofs.Common.{false, true, refl, ◌-◌, ◌<◌, ◌≡◌, ℕ, ◌≤◌, List, length, Option, Some, None, ap, sym, subst, ◌∙◌}
+use Rattle.std.specs.Prelude.{All, nat_le, Result, Ok, Err, OnOk, IfOk}
+use Rattle.std.specs.List.{list_all}
+use Rattle.std.proofs.lemmas.Bool.{and_parts, leb-true}
+use Rattle.std.proofs.lemmas.List.Elements.{All-nil, All-cons}
+use Rattle.std.proofs.Common.{false, true, refl, ◌-◌, ◌<◌, ◌≡◌, ℕ, ◌≤◌, List, [], ◌∷◌, length, Option, Some, None, ap, sym, subst, ◌∙◌}
 use Rattle.sha2.specs.Sha256.{sha256}
 use Rattle.tree_model.specs.Tree.{leaf}
 use Rattle.ledger_bytes.specs.Digests.{digest}
 use Rattle.ledger_bytes.specs.declared.digest.Digest.{Digest}
-use Rattle.ledger_bytes.specs.declared.limits.TheConstants.{CONTENT_LIMIT}
+use Rattle.ledger_bytes.specs.declared.limits.TheConstants.{APPROVAL_LIMIT, CONTENT_LIMIT, PROOF_LIMIT}
 use Rattle.ledger_bytes.specs.declared.refusal.Refusal.{Refusal}
 use Rattle.journal_record.specs.Entry.{Entry}
 use Rattle.journal_record.specs.Header.{spelling}
@@ -13,7 +16,8 @@ use Rattle.journal_record.specs.declared.approval.Approval.{Approval}
 use Rattle.journal_record.specs.declared.header.Header.{Header}
 use Rattle.journal_record.specs.declared.header.Kind.TheVariants as kind
 use Rattle.journal_record.specs.declared.stamp.Stamp.{Stamp}
-use Rattle.ledger_model.specs.Appends.{append_header, append_journal, member_header, member_journal}
+use Rattle.ledger_model.specs.Appends.{append_header, append_journal, member_header, member_journal, occult_header, occult_journal}
+use Rattle.ledger_model.specs.Fitting.{fits_job}
 use Rattle.ledger_model.specs.Clues.{next_ordinal, last_journal}
 use Rattle.ledger_model.specs.History.{History, size, leaf_digest}
 use Rattle.journal_record.specs.declared.rules.TheConstants.{NOTARY_LIMIT}
@@ -26,11 +30,11 @@ use Rattle.ledger_model.specs.Limits.{AreWithin}
 use Rattle.ledger_model.specs.Outcomes as outcomes
 use Rattle.ledger_model.specs.Outcomes.{placed_journal, with_waiting, after_judgement, placed_as, accepted_outcome, judged_outcome}
 use Rattle.ledger_model.specs.declared.job.Job.{Job}
-use Rattle.ledger_model.specs.declared.job.Job.TheVariants.{Append, NewMember, Anchor}
+use Rattle.ledger_model.specs.declared.job.Job.TheVariants.{Append, NewMember, Anchor, Occult}
 use Rattle.ledger_model.specs.declared.limits.Limits.{Limits}
 use Rattle.ledger_model.specs.declared.outcome.Outcome.TheVariants.{Refused, Placed, Reading}
 use Rattle.ledger_model.specs.declared.outcome.Query.{Query}
-use Rattle.ledger_model.proofs.AcceptedLaws.{record_next, member_next, time_next}
+use Rattle.ledger_model.proofs.AcceptedLaws.{record_next, member_next, occult_next, time_next}
 use Rattle.ledger_book.specs.Books.{Kept, Stands, Serves}
 use Rattle.ledger_book.specs.Steps.{Applies, IsSame, MayPlace, IsLeafOf, HasOperatorRoom}
 
@@ -98,6 +102,27 @@ module _ (h : History) (number : ℕ) (key : Digest) (by : Approval) (header : H
 
   pub member_may : (limits : Limits) (k : Kept) → AreWithin limits → own_refusal limits h (NewMember number key by) ≡ None → Stands k h → (member_journal (size h) number key by).header ≡ header → MayPlace h header
   member_may limits k within none s is = subst (MayPlace h) is (member_next limits within h number key by none s.lawful)
+
+-- an occult at its place
+module _ (h : History) (target : ℕ) (leaf : Digest) (given : List Approval) (header : Header) where
+  pub occult_kind : (occult_journal (size h) target leaf given).header ≡ header → is_member header.kind ≡ false
+  unfolding occult_header
+  occult_kind is = ap (λ (x : Header). is_member x.kind) (sym is)
+
+  pub occult_may : (limits : Limits) (k : Kept) → AreWithin limits → own_refusal limits h (Occult target leaf given) ≡ None → Stands k h → (occult_journal (size h) target leaf given).header ≡ header → MayPlace h header
+  occult_may limits k within none s is = subst (MayPlace h) is (occult_next limits within h target leaf given none s.lawful)
+
+-- the approvals of an occult that fits
+pub proofs_short : (given : List Approval) → list_all (λ (by : Approval). nat_le (length by.proof) PROOF_LIMIT) given ≡ true → All (λ (by : Approval). length by.proof ≤ PROOF_LIMIT) given
+proofs_short [] all = All-nil (λ (by : Approval). length by.proof ≤ PROOF_LIMIT)
+proofs_short (g ∷ gs) all =
+    let both = and_parts (nat_le (length g.proof) PROOF_LIMIT) (list_all (λ (by : Approval). nat_le (length by.proof) PROOF_LIMIT) gs) all in
+    All-cons (λ (by : Approval). length by.proof ≤ PROOF_LIMIT) g gs (leb-true (length g.proof) PROOF_LIMIT both.0) (proofs_short gs both.1)
+
+pub occult_fits : (target : ℕ) (leaf : Digest) (given : List Approval) → fits_job (Occult target leaf given) ≡ true → (length given ≤ APPROVAL_LIMIT) × All (λ (by : Approval). length by.proof ≤ PROOF_LIMIT) given
+occult_fits target leaf given fits =
+    let both = and_parts (nat_le (length given) APPROVAL_LIMIT) (list_all (λ (by : Approval). nat_le (length by.proof) PROOF_LIMIT) given) fits in
+    (leb-true (length given) APPROVAL_LIMIT both.0, proofs_short given both.1)
 
 -- a time journal at its place
 module _ (h : History) (stamp : Stamp) (header : Header) where

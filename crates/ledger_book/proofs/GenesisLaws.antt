@@ -1,5 +1,5 @@
 -- Lemmas on the book of a first journal.
-use Rattle.std.proofs.Common.{◌≡◌, ℕ, true, cond, not, List, [], ◌∷◌, ◌++◌, length, take, drop, refl, ap, sym, subst, ◌∙◌, arith}
+use Rattle.std.proofs.Common.{◌≡◌, ℕ, ◌&&◌, ◌==◌, true, cond, not, option_map, Some, None, List, [], ◌∷◌, ◌++◌, length, take, drop, refl, ap, sym, subst, ◌∙◌, arith}
 use Rattle.std.specs.List.{fold}
 use Rattle.std.specs.Prelude.{max, map}
 use Rattle.std.proofs.lemmas.Bool.{eqb-true}
@@ -33,14 +33,17 @@ use Rattle.ledger_model.specs.Members.{members, is_member, member_of}
 use Rattle.ledger_model.specs.declared.genesis.Genesis.{Genesis}
 use Rattle.ledger_model.specs.declared.limits.Limits.{Limits}
 use Rattle.ledger_model.proofs.KeepLaws.{genesis_lawful}
+use Rattle.ledger_model.specs.Targets.{is_occult}
+use Rattle.ledger_model.proofs.HideLaws.{hider_is}
+use Rattle.ledger_book.specs.Hiders.{Indexes}
 use Rattle.ledger_book.specs.Books.{Kept, Serves, aged_members}
 use Rattle.ledger_model.specs.Bases.{clues_added}
 use Rattle.ledger_book.specs.Replaying.{IsFirst, begun_with}
 use Rattle.ledger_book.proofs.ClueLaws.{marks_same}
 
 -- what the book of a first journal keeps
-abbrev pub first_kept : Limits → Digest → List ℕ → List Member → index.Kept → List TimeMark → List Header → Levels → Kept
-first_kept limits leaf ends members clues times headers tree = record {
+abbrev pub first_kept : Limits → Digest → List ℕ → List Member → index.Kept → List (ℕ × ℕ) → List TimeMark → List Header → Levels → Kept
+first_kept limits leaf ends members clues hiders times headers tree = record {
   limits = limits;
   floor = 0;
   size = 1;
@@ -52,6 +55,7 @@ first_kept limits leaf ends members clues times headers tree = record {
   id = leaf;
   members = members;
   clues = clues;
+  hiders = hiders;
   times = times;
   headers = headers;
   tree = tree;
@@ -95,6 +99,9 @@ module _ (header : Header) (operator regulator : Digest) (j : Entry) (kind_is : 
   first_times : marks_from 0 (marks_of (model.journals (begun_with j))) ≡ []
   first_times = ap (λ (k : Kind). marks_from 0 (map (λ (e : Entry). mark_of e.header) (cond (is_time k) (j ∷ []) []))) first_kind
 
+  first_hiders : Indexes [] 0 (begun_with j)
+  first_hiders = λ n le. sym (hider_is (begun_with j) n first_lawful ∙ ap (λ (k : Kind). option_map (λ (e : Entry). e.header.jsn) (cond (is_occult k && j.header.a == n) (Some j) None)) first_kind)
+
   first_root : model.root (begun_with j) 1 ≡ leaf sha256 (spelling j.header)
   unfolding model.root
   first_root = root_one sha256 (leaf sha256 (spelling j.header))
@@ -104,10 +111,10 @@ module _ (header : Header) (operator regulator : Digest) (j : Entry) (kind_is : 
   first_id = refl
 
   -- its book stands for the history that has it alone
-  pub serves_first : (limits : Limits) (tip : Digest) (encoded : List ℕ) (ms : List Member) (clues : index.Kept) (times : List TimeMark) (hs : List Header) (rows : Levels) (ends : List ℕ)
-      → encoded ≡ spelling header → tip.0 ≡ leaf sha256 encoded → ms ≡ book.founders operator regulator → index.Stands clues (added_at_first []) → times ≡ [] → hs ≡ header ∷ [] → StandsFor sha256 rows (tip.0 ∷ []) → ends ≡ 1 ∷ []
-      → Serves (first_kept limits tip ends ms clues times hs rows) (begun_with j)
-  serves_first limits tip encoded ms clues times hs rows ends e l m c ts hss stands es =
+  pub serves_first : (limits : Limits) (tip : Digest) (encoded : List ℕ) (ms : List Member) (clues : index.Kept) (by : List (ℕ × ℕ)) (times : List TimeMark) (hs : List Header) (rows : Levels) (ends : List ℕ)
+      → encoded ≡ spelling header → tip.0 ≡ leaf sha256 encoded → ms ≡ book.founders operator regulator → index.Stands clues (added_at_first []) → by ≡ [] → times ≡ [] → hs ≡ header ∷ [] → StandsFor sha256 rows (tip.0 ∷ []) → ends ≡ 1 ∷ []
+      → Serves (first_kept limits tip ends ms clues by times hs rows) (begun_with j)
+  serves_first limits tip encoded ms clues by times hs rows ends e l m c bs ts hss stands es =
       let told : tip.0 ≡ leaf sha256 (spelling j.header) = l ∙ ap (leaf sha256) (e ∙ ap spelling (sym first.header_is)) in record {
         stands = record {
           lawful = first_lawful;
@@ -115,6 +122,7 @@ module _ (header : Header) (operator regulator : Digest) (j : Entry) (kind_is : 
           tree = record { root = told ∙ sym first_root; id = told ∙ sym first_id; headers_are = hss ∙ ap (λ x. x ∷ []) (sym first.header_is); leaves = subst (λ x. StandsFor sha256 rows (x ∷ [])) told stands };
           members = ap (aged_members 0) (m ∙ first_members);
           clues = subst (index.Stands clues) (sym first_clues) c;
+          hiders = subst (λ (x : List (ℕ × ℕ)). Indexes x 0 (begun_with j)) (sym bs) first_hiders;
           times = ts ∙ sym first_times;
         };
         seen = omega arith;

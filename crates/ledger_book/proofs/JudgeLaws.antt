@@ -13,7 +13,8 @@ use Rattle.journal_record.specs.Rules.{is_no_clue}
 use Rattle.journal_record.specs.declared.member.Member.{Member}
 use Rattle.ledger_model.specs.Clues.{jsns_with, clue_count, last_of, next_ordinal, last_journal}
 use Rattle.ledger_model.specs.History.{History, journals, size}
-use Rattle.ledger_model.specs.Judgements.{kept_count, is_full, fullness, hard_fullness, clues_full, first_refusal, unknown_in}
+use Rattle.ledger_model.specs.Judgements.{kept_count, is_full, fullness, hard_fullness, clues_full, unknown_in}
+use Rattle.member_book.specs.Erasures.{first_refusal}
 use Rattle.ledger_model.specs.Lawful.{AreLawful}
 use Rattle.ledger_model.specs.Members.{members, keys}
 use Rattle.ledger_model.specs.Texts.{kept_with}

@@ -7,9 +7,9 @@ use Rattle.journal_record.specs.declared.header.Header.{Header}
 use Rattle.journal_record.specs.declared.header.Kind.{Kind}
 use Rattle.journal_record.specs.declared.header.Kind.TheVariants as kind
 use Rattle.ledger_model.specs.Clues.{jsns_with, clue_count, next_ordinal, last_journal}
-use Rattle.ledger_model.specs.History.{History, history, journals}
+use Rattle.ledger_model.specs.History.{History, history, journals, point}
 use Rattle.ledger_model.specs.Judgements.{clues_full}
-use Rattle.ledger_model.specs.Lawful.{IsNextOf, IsNextRecord}
+use Rattle.ledger_model.specs.Lawful.{IsNextOf, IsNextRecord, IsNextOccult}
 use Rattle.ledger_model.specs.Limits.{real_limits}
 use Rattle.ledger_model.specs.Members.{members}
 use Rattle.ledger_book.specs.Books.{Kept, Stands}
@@ -48,6 +48,18 @@ module _ (k : Kept) (h : History) (x : Header) (s : Stands k h) (layout : IsHead
   -- a time journal
   pub time_is_next : x.kind ≡ kind.Time → MayPlace h x
   time_is_next is = next_by_kind kind.Time is tt
+
+  -- an occult
+  occult_by_kind : IsNextOccult h x → IsNextOf (history [] (journals h)) x kind.Occult
+  unfolding point
+  occult_by_kind own = record { kept = own.kept; before = own.before; target_is = own.target_is; shown = own.shown; leaf_is = own.leaf_is }
+
+  occult_of_kind : IsNextOf (history [] (journals h)) x kind.Occult → IsNextOccult h x
+  unfolding point
+  occult_of_kind own = record { kept = own.kept; before = own.before; target_is = own.target_is; shown = own.shown; leaf_is = own.leaf_is }
+
+  pub occult_is_next : (answer : Bool) → x.kind ≡ kind.Occult → (IsTrue answer ↔ IsNextOccult h x) → IsTrue answer ↔ MayPlace h x
+  occult_is_next answer is told = (λ yes. next_by_kind kind.Occult is (occult_by_kind (told.0 yes)), λ next. told.1 (occult_of_kind (own_by_kind kind.Occult is next)))
 
   -- a new member
   pub member_is_next : (count : ℕ) → x.kind ≡ kind.Member → count ≡ length k.members → IsTrue (nat_eq x.a count) ↔ MayPlace h x

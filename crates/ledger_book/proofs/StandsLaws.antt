@@ -1,6 +1,7 @@
 -- Lemmas on what a book keeps of a history.
 use Rattle.std.proofs.Common.{◌≡◌, ℕ, ◌+◌, ◌<◌, ◌≤◌, true, false, cond, not, List, [], ◌∷◌, ◌++◌, length, map, drop, Option, Some, refl, ap, sym, subst, ◌∙◌, arith, append_assoc, append-nil, length-append, take}
-use Rattle.std.specs.Prelude.{All, filter, nat_lt}
+use Rattle.std.specs.Prelude.{All, filter, nat_lt, slice_get}
+use Rattle.std.specs.Option.{is_some}
 use Rattle.std.proofs.lemmas.Bool.{le-leb, lt-leb, lt-ltb, le-ltb}
 use Rattle.std.proofs.lemmas.List.{map-append, length-map, nil_from_length, drop-append-le, take_all}
 use Rattle.std.proofs.lemmas.List.Concat.{flat_map-append}
@@ -29,13 +30,15 @@ use Rattle.ledger_model.specs.History.{History, history, journals, journals_of, 
 use Rattle.ledger_model.specs.Lawful.{AreLawful, IsNextOf}
 use Rattle.ledger_model.specs.Members.{members, founders, is_member, admits, member_of, admitted_members}
 use Rattle.ledger_model.specs.Outcomes as outcomes
-use Rattle.ledger_model.specs.Outcomes.{is_occult, is_hidden, hides}
+use Rattle.ledger_model.specs.Targets.{is_hidden, hider_among}
 use Rattle.ledger_model.specs.declared.view.View.TheVariants as view
 use Rattle.ledger_model.proofs.EndLaws.{ends_push}
 use Rattle.ledger_model.proofs.GrowLaws.{close_settled, close_ended, size_closed, root_kept}
+use Rattle.ledger_model.proofs.HideLaws.{hidden_is}
 use Rattle.ledger_model.proofs.KeepLaws.{journals_wider}
-use Rattle.ledger_model.proofs.LawfulLaws.{later_seen, lawful_more, none_hidden, some_journal}
+use Rattle.ledger_model.proofs.LawfulLaws.{later_seen, lawful_more, some_journal}
 use Rattle.ledger_model.proofs.PlaceLaws.{founders_kept, admitted_more, admitted_same, point_same}
+use Rattle.ledger_book.specs.Hiders.{hider_in, AddsHider}
 use Rattle.ledger_book.specs.Books.{Kept, Stands, Serves, headers, leaf_digests, sealed_size, ends_above, aged_member, aged_members}
 use Rattle.ledger_model.specs.Bases.{clues_added}
 use Rattle.ledger_model.specs.Bounds.{marks_of}
@@ -43,6 +46,7 @@ use Rattle.ledger_book.specs.Steps.{IsAsBefore, MayPlace, IsLeafOf, with_clue_of
 use Rattle.ledger_book.specs.Seals.{head_at, sealed_block, seal_of}
 use Rattle.ledger_book.specs.declared.sealed.Sealed.{Sealed}
 use Rattle.ledger_book.proofs.ClueLaws.{marks_more, marks_same, marks_below}
+use Rattle.ledger_book.proofs.HiderLaws.{hiders_more}
 use Rattle.ledger_book.proofs.TimeLaws.{times_more}
 
 -- how many journals wait
@@ -132,6 +136,7 @@ stands_shut k h root ends s some r more =
       };
       members = s.members ∙ ap (λ js. aged_members k.floor (founders js ++ admitted_members js)) (sym e);
       clues = subst (λ (js : List Entry). index.Stands k.clues (clues_added k.floor js)) (sym e) s.clues;
+      hiders = λ n le. s.hiders n le ∙ ap (λ (js : List Entry). hider_among js (slice_get js n)) (sym e);
       times = s.times ∙ ap (λ (js : List Entry). marks_from k.point (marks_of (drop k.floor js))) (sym e);
     }
 
@@ -167,9 +172,9 @@ view_purged k h n s below purged =
     ∙ sym (ap (λ v. cond v (view.Purged (model.point h)) (cond (is_hidden h n) view.Occulted view.Whole)) (lt-ltb n (model.point h) (omega (arith, purged, point_is k h s))))
     ∙ view_there h n (omega (arith, below, s.stands.counts.size))
 
-pub view_whole : (k : Kept) (h : History) (n : ℕ) → Serves k h → n < k.size → k.point ≤ n → view.Whole ≡ outcomes.view h n
-view_whole k h n s below kept =
-    sym (ap (λ v. cond v view.Occulted view.Whole) (none_hidden h n s.stands.lawful))
+pub view_kept : (k : Kept) (h : History) (n : ℕ) (by : Option ℕ) → Serves k h → n < k.size → k.point ≤ n → by ≡ hider_in n k.hiders → cond (is_some by) view.Occulted view.Whole ≡ outcomes.view h n
+view_kept k h n by s below kept told =
+    sym (ap (λ v. cond v view.Occulted view.Whole) (hidden_is h n ∙ ap is_some (sym (told ∙ s.stands.hiders n (omega (arith, s.seen, kept))))))
     ∙ sym (ap (λ v. cond v (view.Purged (model.point h)) (cond (is_hidden h n) view.Occulted view.Whole)) (le-ltb n (model.point h) (omega (arith, kept, point_is k h s))))
     ∙ view_there h n (omega (arith, below, s.stands.counts.size))
 
@@ -190,16 +195,16 @@ no_purge h x kind.Genesis own = refl
 no_purge h x kind.Content own = refl
 no_purge h x kind.Member own = refl
 no_purge h x kind.Time own = refl
-no_purge h x kind.Occult own = absurd own
+no_purge h x kind.Occult own = refl
 no_purge h x kind.Purge own = absurd own
 
 -- a journal more in the open block
-stands_wider : (k : Kept) (h : History) (j : Entry) (ms : List Member) (t : index.Kept) (rows : Levels) → Stands k h → MayPlace h j.header
+stands_wider : (k : Kept) (h : History) (j : Entry) (ms : List Member) (t : index.Kept) (by : List (ℕ × ℕ)) (rows : Levels) → Stands k h → MayPlace h j.header → AddsHider j.header.kind j.header k.hiders by
     → aged_members k.floor ms ≡ aged_members k.floor (members (wider h j)) → index.Stands t (clues_added k.floor (journals (wider h j)))
     → StandsFor sha256 rows (leaf_digests h ++ leaf_digest j ∷ [])
-    → Stands (record k { size = k.size + 1; members = ms; clues = t; times = with_time_of k.size j.header k.times; headers = k.headers ++ j.header ∷ []; tree = rows }) (wider h j)
+    → Stands (record k { size = k.size + 1; members = ms; clues = t; hiders = by; times = with_time_of k.size j.header k.times; headers = k.headers ++ j.header ∷ []; tree = rows }) (wider h j)
 unfolding model.seen_point model.id
-stands_wider k h j ms t rows s next same clues leaves =
+stands_wider k h j ms t by rows s next hides same clues leaves =
     let e = journals_wider h j in
     let some = some_journal (journals h) s.lawful in
     let below : length (journals_of h.closed) ≤ model.size h = omega (arith, length-append (journals_of h.closed) h.waiting) in
@@ -225,6 +230,7 @@ stands_wider k h j ms t rows s next same clues leaves =
       };
       members = same;
       clues = clues;
+      hiders = hiders_more k.hiders by k.floor h j s.lawful next s.hiders hides;
       times = times_more k h j s next.jsn ∙ ap (λ (js : List Entry). marks_from k.point (marks_of (drop k.floor js))) (sym e);
     }
 
@@ -260,18 +266,18 @@ pub record Grown (k : Kept) (hs : List Header) (rows : Levels) (ends : List ℕ)
   pub tip_is : IsLeafOf header tip
 
 -- what a book keeps behind a journal
-abbrev pub kept_with : Kept → List Member → index.Kept → List TimeMark → List Header → Levels → List ℕ → Kept
-kept_with k ms t times hs rows ends = record k { size = k.size + 1; ends = ends; members = ms; clues = t; times = times; headers = hs; tree = rows }
+abbrev pub kept_with : Kept → List Member → index.Kept → List (ℕ × ℕ) → List TimeMark → List Header → Levels → List ℕ → Kept
+kept_with k ms t by times hs rows ends = record k { size = k.size + 1; ends = ends; members = ms; clues = t; hiders = by; times = times; headers = hs; tree = rows }
 
 -- with lists that are equal to those
-grown : (k : Kept) (g : History) (j : Entry) (ms : List Member) (t : index.Kept) (times : List TimeMark) (hs : List Header) (rows : Levels) (ends : List ℕ) (header : Header)
+grown : (k : Kept) (g : History) (j : Entry) (ms : List Member) (t : index.Kept) (by : List (ℕ × ℕ)) (times : List TimeMark) (hs : List Header) (rows : Levels) (ends : List ℕ) (header : Header)
     → j.header ≡ header → times ≡ with_time_of k.size header k.times → hs ≡ k.headers ++ header ∷ [] → ends ≡ k.ends
-    → Stands (kept_with k ms t (with_time_of k.size j.header k.times) (k.headers ++ j.header ∷ []) rows k.ends) g → Stands (kept_with k ms t times hs rows ends) g
-grown k g j ms t times hs rows ends header is times_are heads_are ends_are s =
+    → Stands (kept_with k ms t by (with_time_of k.size j.header k.times) (k.headers ++ j.header ∷ []) rows k.ends) g → Stands (kept_with k ms t by times hs rows ends) g
+grown k g j ms t by times hs rows ends header is times_are heads_are ends_are s =
     let heads : k.headers ++ j.header ∷ [] ≡ hs = ap (λ x. k.headers ++ x ∷ []) is ∙ sym heads_are in
     let timed : with_time_of k.size j.header k.times ≡ times = ap (λ x. with_time_of k.size x k.times) is ∙ sym times_are in
-    subst (λ (x : List ℕ). Stands (kept_with k ms t times hs rows x) g) (sym ends_are)
-    (subst (λ (x : List TimeMark). Stands (kept_with k ms t x hs rows k.ends) g) timed (subst (λ (x : List Header). Stands (kept_with k ms t (with_time_of k.size j.header k.times) x rows k.ends) g) heads s))
+    subst (λ (x : List ℕ). Stands (kept_with k ms t by times hs rows x) g) (sym ends_are)
+    (subst (λ (x : List TimeMark). Stands (kept_with k ms t by x hs rows k.ends) g) timed (subst (λ (x : List Header). Stands (kept_with k ms t by (with_time_of k.size j.header k.times) x rows k.ends) g) heads s))
 
 module _ (k : Kept) (h : History) (j : Entry) (header : Header) (s : Stands k h) (is : j.header ≡ header) (next : MayPlace h header) where
   placing : MayPlace h j.header
@@ -290,18 +296,18 @@ module _ (k : Kept) (h : History) (j : Entry) (header : Header) (s : Stands k h)
       subst (λ d. StandsFor sha256 rows (leaf_digests h ++ d ∷ [])) same (more (leaf_digests h) s.tree.leaves)
 
   -- a journal that is no new member
-  pub stands_record : (t : index.Kept) (times : List TimeMark) (hs : List Header) (rows : Levels) (ends : List ℕ) (tip : Digest) → is_member header.kind ≡ false → AddsClue k.clues t header
-      → times ≡ with_time_of k.size header k.times → Grown k hs rows ends header tip → Stands (kept_with k k.members t times hs rows ends) (wider h j)
-  stands_record t times hs rows ends tip content adds timed more =
+  pub stands_record : (t : index.Kept) (by : List (ℕ × ℕ)) (times : List TimeMark) (hs : List Header) (rows : Levels) (ends : List ℕ) (tip : Digest) → is_member header.kind ≡ false → AddsClue k.clues t header → AddsHider header.kind header k.hiders by
+      → times ≡ with_time_of k.size header k.times → Grown k hs rows ends header tip → Stands (kept_with k k.members t by times hs rows ends) (wider h j)
+  stands_record t by times hs rows ends tip content adds hides timed more =
       let kind_is : is_member j.header.kind ≡ false = ap (λ (x : Header). is_member x.kind) is ∙ content in
       let told = adds (clues_added k.floor (journals h)) next.layout.clue s.clues (omega (arith, low, next.jsn)) (subst (λ n. All (λ (m : Mark). m.jsn < n) (clues_added k.floor (journals h)).marks) (sym next.jsn) (marks_below k.floor (journals h) s.lawful)) in
       let clues : index.Stands t (clues_added k.floor (journals (wider h j))) = subst (index.Stands t) (ap (λ (x : Header). with_clue_of x (clues_added k.floor (journals h))) (sym is) ∙ wider_clues k.floor h j) told in
-      grown k (wider h j) j k.members t times hs rows ends header is timed more.headers_are more.ends_are
-      (stands_wider k h j k.members t rows s placing (s.members ∙ ap (aged_members k.floor) (sym (wider_members_same h j some_yet kind_is))) clues (leaf_more rows tip more.tip_is more.leaves_are))
+      grown k (wider h j) j k.members t by times hs rows ends header is timed more.headers_are more.ends_are
+      (stands_wider k h j k.members t by rows s placing (subst (λ (x : Header). AddsHider x.kind x k.hiders by) (sym is) hides) (s.members ∙ ap (aged_members k.floor) (sym (wider_members_same h j some_yet kind_is))) clues (leaf_more rows tip more.tip_is more.leaves_are))
 
   -- a new member
   pub stands_member : (ms : List Member) (hs : List Header) (rows : Levels) (ends : List ℕ) (tip : Digest) → header.kind ≡ kind.Member → ms ≡ k.members ++ record { key = header.link; jsn = header.jsn } ∷ []
-      → Grown k hs rows ends header tip → Stands (kept_with k ms k.clues k.times hs rows ends) (wider h j)
+      → Grown k hs rows ends header tip → Stands (kept_with k ms k.clues k.hiders k.times hs rows ends) (wider h j)
   stands_member ms hs rows ends tip member added more =
       let kind_is : j.header.kind ≡ kind.Member = ap (λ (x : Header). x.kind) is ∙ member in
       let none_j : is_no_clue j.header.clue ≡ true = ap (λ (x : Header). is_no_clue x.clue) is ∙ subst (λ (x : Kind). clue_ok x header.clue ≡ true) member next.layout.clue in
@@ -311,8 +317,8 @@ module _ (k : Kept) (h : History) (j : Entry) (header : Header) (s : Stands k h)
       ∙ ap (λ x. x ++ aged_members k.floor (member_of j ∷ [])) s.members ∙ sym (map-append (aged_member k.floor) (members h) (member_of j ∷ []))
       ∙ ap (aged_members k.floor) (sym (wider_members_more h j some_yet (ap is_member kind_is))) in
       let timed : k.times ≡ with_time_of k.size header k.times = sym (ap (λ (x : Kind). cond (is_time x) (k.times ++ record { jsn = k.size; index = header.a; time = header.b } ∷ []) k.times) member) in
-      grown k (wider h j) j ms k.clues k.times hs rows ends header is timed more.headers_are more.ends_are
-      (stands_wider k h j ms k.clues rows s placing joined (subst (index.Stands k.clues) same s.clues) (leaf_more rows tip more.tip_is more.leaves_are))
+      grown k (wider h j) j ms k.clues k.hiders k.times hs rows ends header is timed more.headers_are more.ends_are
+      (stands_wider k h j ms k.clues k.hiders rows s placing (subst (λ (x : Kind). AddsHider x j.header k.hiders k.hiders) (sym kind_is) refl) joined (subst (index.Stands k.clues) same s.clues) (leaf_more rows tip more.tip_is more.leaves_are))
 
 -- more room for the tree changes nothing
 pub as_before_stands : (old new : Kept) (h : History) → IsAsBefore old new → Stands old h → Stands new h
@@ -323,6 +329,7 @@ as_before_stands old new h same s =
       tree = record { root = s.tree.root; id = s.tree.id; headers_are = s.tree.headers_are; leaves = same.tree (leaf_digests h) s.tree.leaves };
       members = s.members;
       clues = s.clues;
+      hiders = s.hiders;
       times = s.times;
     } in
     subst (λ (k : Kept). Stands k h) (sym same.kept) moved

@@ -15,6 +15,7 @@ use Rattle.ledger_model.specs.History.{History, journals, journals_of, leaf_dige
 use Rattle.ledger_model.specs.Lawful.{AreLawful}
 use Rattle.ledger_model.specs.Members as member
 use Rattle.ledger_model.specs.declared.limits.Limits.{Limits}
+use Rattle.ledger_book.specs.Hiders.{Indexes}
 
 -- the headers of all journals
 abbrev pub headers : History → List Header
@@ -55,6 +56,8 @@ pub record Kept : Type 0 where
   pub id : Digest
   pub members : List Member
   pub clues : index.Kept
+  -- of hidden journals, which journal hides each
+  pub hiders : List (ℕ × ℕ)
   -- the marks of the time journals from the point on, in order
   pub times : List TimeMark
   pub headers : List Header
@@ -83,6 +86,7 @@ pub record Stands (k : Kept) (h : History) : Type 0 where
   pub tree : HasTree k h
   pub members : aged_members k.floor k.members ≡ aged_members k.floor (member.members h)
   pub clues : index.Stands k.clues (clues_added k.floor (journals h))
+  pub hiders : Indexes k.hiders k.floor h
   -- the marks of the kept time journals, as far as the point is seen
   pub times : k.times ≡ marks_from k.point (marks_of (drop k.floor (journals h)))
 

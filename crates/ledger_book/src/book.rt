@@ -25,6 +25,7 @@ mod replaying;
 
 use crate::Sealed;
 use crate::headers::first_header;
+use crate::hiders::Hiders;
 use clue_index::ClueIndex;
 use journal_record::Header;
 use ledger_bytes::{Digest, NoMemory, Sha, TimeMark};
@@ -54,6 +55,8 @@ pub struct Book {
     id: Digest,
     members: MemberBook,
     clues: ClueIndex,
+    /// Which of the kept journals are hidden, and by which.
+    hiders: Hiders,
     /// The time journals from the point on.
     times: TimeIndex,
     headers: Vec<Header>,
@@ -81,6 +84,7 @@ impl Model for Book {
       id = b.id;
       members = b.members;
       clues = b.clues;
+      hiders = b.hiders;
       times = b.times;
       headers = b.headers.items;
       tree = b.tree;
@@ -90,7 +94,7 @@ impl Model for Book {
         × (b.blocks ≤ b.head.size) × (b.head.size ≤ b.size)
         × (b.head.size < b.size → vec_len b.ends < vec_capacity b.ends) × (b.tree.size ≡ b.size)
         × (b.tree.floor ≡ b.floor) × (b.floor + vec_len b.headers ≡ b.size)
-        × AllByRecursion (λ m. m.jsn < b.size) b.times };
+        × AllByRecursion (λ m. m.jsn < b.size) b.times × (b.floor ≤ b.point) };
 }
 
 impl Book {
@@ -138,7 +142,7 @@ impl Book {
         Some(sealed)
     }
 
-    /// What of journal `n` can be shown.
+    /// What of journal `n` can be shown. Whether its content is hidden is found by an index.
     pub fn view(&self, n: u64) -> View
         ensures { (h : History) → Serves self.now h → result ≡ outcomes.view h n }
     {
@@ -147,7 +151,10 @@ impl Book {
         } else if n < self.point {
             View::Purged { point: self.point }
         } else {
-            View::Whole
+            match self.hiders.of(n) {
+                Some(_) => View::Occulted,
+                None => View::Whole,
+            }
         }
     }
 

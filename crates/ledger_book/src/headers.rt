@@ -1,11 +1,13 @@
-ghost use Rattle.std.specs.Prelude.{◌≡◌, ◌≤◌, ◌<◌, ◌^◌, ◌++◌, length, ℕ, List};
+ghost use Rattle.std.specs.Prelude.{◌≡◌, ◌≤◌, ◌<◌, ◌^◌, ◌++◌, length, ℕ, List, All};
 ghost use Rattle.journal_record.specs.Entry.{content_digest_of};
 ghost use Rattle.ledger_model.specs.Anchors as anchors;
+ghost use Rattle.ledger_model.specs.Appends as appends;
 ghost use Rattle.ledger_model.specs.Appends.{append_header, member_header};
 ghost use Rattle.ledger_model.specs.Genesis.{genesis_header};
 
 use journal_record::{
-    Approval, Header, Kind, Stamp, approval_digest, content_digest, name_digest, who_digest,
+    Approval, Header, Kind, Stamp, approval_digest, approvals_digest, content_digest, name_digest,
+    who_digest,
 };
 use ledger_bytes::Digest;
 use ledger_model::Genesis;
@@ -104,6 +106,28 @@ pub(crate) fn new_member_header(jsn: u64, number: u32, key: &Digest, by: &Approv
         content_len: 0,
         content_digest: content_digest(b""),
         who_digest: approval_digest(by),
+    }
+}
+
+/// The header of an occult that is journal `jsn`.
+pub(crate) fn occult_header(jsn: u64, target: u64, leaf: &Digest, given: &[Approval]) -> Header
+    requires { All (λ a. length a.proof < 2 ^ 16) given.now }
+    ensures { result ≡ appends.occult_header jsn target leaf.now given.now }
+{
+    Header {
+        version: 1,
+        kind: Kind::Occult,
+        jsn,
+        member: 0,
+        clue: Digest::ZERO,
+        clue_ord: 0,
+        clue_prev: 0,
+        a: target,
+        b: 0,
+        link: *leaf,
+        content_len: 0,
+        content_digest: content_digest(b""),
+        who_digest: approvals_digest(given),
     }
 }
 

@@ -4,6 +4,7 @@
 
 mod book;
 mod headers;
+mod hiders;
 mod laws;
 mod prepared;
 mod sealed;

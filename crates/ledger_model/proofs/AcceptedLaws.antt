@@ -1,9 +1,11 @@
 -- An accepted job places the next journal, and its parts have their digests.
 use Rattle.std.specs.Prelude.{IsTrue, nat_lt, nat_le, bytes_eq, ◌==◌}
-use Rattle.std.proofs.Common.{◌≡◌, ℕ, ◌+◌, ◌<◌, ◌≤◌, ◌&&◌, ◌||◌, Bool, true, false, cond, not, List, [], ◌∷◌, length, drop, Option, Some, None, refl, sym, ◌∙◌, ap, arith}
-use Rattle.std.proofs.lemmas.Bool.{eqb-true, le-leb, lt-leb, lt-ltb, leb-false, ltb-true, and_from}
+use Rattle.std.proofs.Common.{◌≡◌, ℕ, ◌+◌, ◌<◌, ◌≤◌, ◌&&◌, ◌||◌, Bool, true, false, cond, not, List, [], ◌∷◌, length, ◌++◌, drop, Option, Some, None, refl, sym, ◌∙◌, ap, arith}
+use Rattle.std.proofs.lemmas.Bool.{eqb-true, le-leb, lt-leb, lt-ltb, leb-false, ltb-true, ltb-false, true≢false, and_from}
 use Rattle.std.proofs.lemmas.List.{length-map}
 use Rattle.std.proofs.lemmas.Slice.Eq.{bytes_eq-Decides}
+use Rattle.std.specs.Option.{is_some}
+use Rattle.ledger_bytes.specs.Digests.{digest}
 use Rattle.ledger_bytes.specs.declared.digest.Digest.{Digest}
 use Rattle.ledger_bytes.specs.declared.limits.TheConstants.{MEMBER_LIMIT, CONTENT_LIMIT}
 use Rattle.ledger_bytes.specs.declared.refusal.Refusal.{Refusal}
@@ -12,19 +14,27 @@ use Rattle.journal_record.specs.Entry.{Entry, content_digest_of}
 use Rattle.journal_record.specs.Members.{is_known, number_refusal}
 use Rattle.journal_record.specs.Rules.{IsHeader, is_no_clue, clue_ord_ok, clue_prev_ok}
 use Rattle.journal_record.specs.declared.approval.Approval.{Approval}
+use Rattle.journal_record.specs.declared.header.Header.{Header}
+use Rattle.journal_record.specs.declared.header.Kind.{Kind}
+use Rattle.journal_record.specs.declared.header.Kind.TheVariants as kind
+use Rattle.member_book.specs.Erasures.{absent, purged, is_record, no_record, hidden_by, other_leaf, target_row}
+use Rattle.member_book.specs.Approvals.{approvals_refusal}
 use Rattle.journal_record.specs.declared.member.Member.{Member}
 use Rattle.journal_record.specs.declared.rules.TheConstants.{NOTARY_LIMIT}
 use Rattle.journal_record.specs.declared.stamp.Stamp.{Stamp}
 use Rattle.ledger_model.specs.Anchors.{time_header, time_journal, stamp_from, stamp_of}
 use Rattle.ledger_model.specs.Step.{Step}
-use Rattle.ledger_model.specs.Appends.{append_header, append_journal, member_header, member_journal}
+use Rattle.ledger_model.specs.Appends.{append_header, append_journal, member_header, member_journal, occult_header, occult_journal}
 use Rattle.ledger_model.specs.Clues.{jsns_with, clue_count, last_of, next_ordinal, last_journal}
-use Rattle.ledger_model.specs.History.{History, history, journals, size}
-use Rattle.ledger_model.specs.Judgements.{kept_count, is_full, fullness, hard_fullness, unknown_in, wrong_key_in, clues_full, append_judgements, member_judgements, first_refusal}
-use Rattle.ledger_model.specs.Lawful.{IsNext, AreLawful, IsWhole}
+use Rattle.ledger_model.specs.History.{History, history, journals, size, point}
+use Rattle.ledger_model.specs.Judgements.{kept_count, is_full, fullness, hard_fullness, unknown_in, wrong_key_in, clues_full, append_judgements, member_judgements, occult_judgements}
+use Rattle.member_book.specs.Erasures.{first_refusal}
+use Rattle.ledger_model.specs.Lawful.{IsNextOccult, IsNext, AreLawful, IsWhole}
 use Rattle.ledger_model.specs.Limits.{real_limits, AreWithin}
 use Rattle.ledger_model.specs.Members.{members, keys}
+use Rattle.ledger_model.specs.Targets.{hider, kind_at, leaf_at}
 use Rattle.ledger_model.specs.declared.limits.Limits.{Limits}
+use Rattle.ledger_model.proofs.HideLaws.{hidden_is}
 use Rattle.ledger_model.proofs.LawfulLaws.{lawful_from, some_journal, lawful_members, AreBetween, numbers_between, last_between}
 
 -- no refusal
@@ -158,6 +168,71 @@ module _ (limits : Limits) (within : AreWithin limits) (h : History) (stamp : St
     below = let less = hard_room limits h (none_first (hard_fullness limits h) [] judged).0 in omega (arith, less, within.size);
     own = tt;
   }
+
+-- an occult that is accepted
+record_is : (k : Kind) → is_record k ≡ true → k ≡ kind.Content
+record_is kind.Content is = refl
+record_is kind.Genesis is = absurd (true≢false (sym is))
+record_is kind.Member is = absurd (true≢false (sym is))
+record_is kind.Time is = absurd (true≢false (sym is))
+record_is kind.Occult is = absurd (true≢false (sym is))
+record_is kind.Purge is = absurd (true≢false (sym is))
+
+none_hides : (o : Option ℕ) → IsNone (hidden_by o) → is_some o ≡ false
+none_hides None is = refl
+none_hides (Some x) is = absurd cc
+
+-- .. names a record that is kept and that none hides, with its leaf digest
+pub target_own : (h : History) (x : Header) (more : List (Option Refusal))
+    → IsNone (first_refusal (target_row (size h) (point h) (kind_at h x.a) (hider h x.a) (digest (leaf_at h x.a)) x.a x.link ++ more))
+    → IsNextOccult h x
+target_own h x more is =
+    let target = x.a in
+    let leaf = x.link in
+    let a = none_first (absent (size h) target) _ is in
+    let b = none_first (purged (point h) target) _ a.1 in
+    let c = none_first (no_record (kind_at h target)) _ b.1 in
+    let d = none_first (hidden_by (hider h target)) _ c.1 in
+    let e = none_first (other_leaf (digest (leaf_at h target)) leaf) _ d.1 in
+    record {
+      kept = ltb-false target (point h) (if_none (nat_lt target (point h)) _ b.0);
+      before = leb-false (size h) target (if_none (nat_le (size h) target) _ a.0);
+      target_is = record_is (kind_at h target) (if_not (is_record (kind_at h target)) _ c.0);
+      shown = hidden_is h target ∙ none_hides (hider h target) d.0;
+      leaf_is = (bytes_eq-Decides leaf.0 (leaf_at h target)).0 (if_not (bytes_eq leaf.0 (leaf_at h target)) _ e.0);
+    }
+
+module _ (limits : Limits) (within : AreWithin limits) (h : History) (target : ℕ) (leaf : Digest) (given : List Approval) (judged : IsNone (first_refusal (occult_judgements limits h target leaf given))) where
+  pub occult_own : IsNextOccult h (occult_header (size h) target leaf given)
+  unfolding occult_header
+  occult_own =
+      target_own h (occult_header (size h) target leaf given) (approvals_refusal (keys h) given (0 ∷ 1 ∷ []) ∷ []) (none_first (hard_fullness limits h) _ judged).1
+
+  pub occult_next : AreLawful (journals h) → IsNext (history [] (journals h)) (occult_journal (size h) target leaf given).header
+  unfolding occult_header point
+  occult_next lawful =
+      let rows = none_first (hard_fullness limits h) _ judged in
+      let own = occult_own in
+      record {
+        layout = record {
+          version = refl;
+          jsn = lt-ltb 0 (size h) (omega (arith, some_journal (journals h) lawful));
+          member = refl;
+          clue = refl;
+          clue_ord = refl;
+          clue_prev = refl;
+          a = lt-ltb target (size h) own.before;
+          b = refl;
+          content_len = refl;
+        };
+        jsn = refl;
+        below = let less = hard_room limits h rows.0 in omega (arith, less, within.size);
+        own = record { kept = own.kept; before = own.before; target_is = own.target_is; shown = own.shown; leaf_is = own.leaf_is };
+      }
+
+pub occult_whole : (jsn target : ℕ) (leaf : Digest) (given : List Approval) → IsWhole (occult_journal jsn target leaf given)
+unfolding occult_header
+occult_whole jsn target leaf given = record { length_is = refl; content_is = refl; who_is = refl }
 
 pub time_whole : (jsn : ℕ) (stamp : Stamp) → IsWhole (time_journal jsn stamp)
 unfolding time_header

@@ -1,27 +1,41 @@
 -- The numbers of each reply that is due in a run are as programs have them, and so are the leaf digests of receipts.
-use Rattle.std.specs.Prelude.{⊤, All, nat_le, nat_lt, filter, slice_get}
-use Rattle.std.proofs.Common.{◌≡◌, ℕ, suc, ◌+◌, ◌<◌, ◌≤◌, ◌&&◌, ◌==◌, not, Bool, true, false, ◌||◌, cond, List, [], ◌∷◌, ◌++◌, length, Option, Some, None, Result, Ok, Err, refl, sym, ap, subst, arith, append_assoc, append-nil, length-append}
+use Rattle.std.specs.Prelude.{⊤, All, nat_le, nat_lt, filter, slice_get, find, min, bytes_eq}
+use Rattle.std.proofs.Common.{◌≡◌, ℕ, suc, ◌+◌, ◌<◌, ◌≤◌, ◌&&◌, ◌==◌, not, Bool, true, false, ◌||◌, cond, List, [], ◌∷◌, ◌++◌, length, map, drop, option_map, Option, Some, None, Result, Ok, Err, refl, sym, ap, subst, arith, append_assoc, append-nil, length-append}
+use Rattle.std.specs.List.{list_all, position_or_len, reduce}
+use Rattle.std.proofs.lemmas.Bool.{and_parts, leb-true, ltb-true}
+use Rattle.std.proofs.lemmas.List.{length-map}
+use Rattle.std.proofs.lemmas.Slice.Zip.{length-zip}
 use Rattle.ledger_bytes.specs.Fields.{IsBytes}
 use Rattle.ledger_bytes.specs.declared.digest.Digest.{Digest}
-use Rattle.ledger_bytes.specs.declared.limits.TheConstants.{MEMBER_LIMIT}
+use Rattle.ledger_bytes.specs.declared.limits.TheConstants.{APPROVAL_LIMIT, MEMBER_LIMIT, PROOF_LIMIT}
 use Rattle.ledger_bytes.specs.declared.refusal.Refusal.{Refusal}
 use Rattle.ledger_bytes.specs.declared.refusal.Refusal.TheVariants as refusals
 use Rattle.journal_record.specs.Entry.{Entry}
 use Rattle.journal_record.specs.Members.{is_known, is_key_of, number_refusal}
 use Rattle.journal_record.specs.Rules.{is_no_clue}
+use Rattle.journal_record.specs.Header.{code_of}
+use Rattle.journal_record.specs.Request.{occult_request_digest_of}
+use Rattle.journal_record.specs.declared.approval.Approval.{Approval}
+use Rattle.journal_record.specs.declared.header.Kind.{Kind}
+use Rattle.journal_record.specs.declared.header.Kind.TheVariants as kind
 use Rattle.journal_record.specs.declared.member.Member.{Member}
+use Rattle.member_book.specs.Approvals.{neighbours, order_refusal, unknown_refusal, shows_key, key_refusal, approves, missing_refusal, approvals_refusal}
 use Rattle.std.specs.Option.{option_or}
 use Rattle.script_lines.specs.Grammar.{spoken_line}
 use Rattle.script_lines.specs.Receipts.{Told, Fits, AllFits, StampFits, RefusalFits, ReplyFits, AllFit}
 use Rattle.script_lines.specs.declared.line.Line.{Line}
 use Rattle.script_lines.specs.declared.line.Line.TheVariants as line
+use Rattle.script_lines.specs.Limits.{fits_what}
+use Rattle.script_lines.specs.declared.said.SaidApproval.{SaidApproval}
+use Rattle.script_lines.proofs.Fitting.{spoken_fits}
 use Rattle.script_lines.proofs.SpokenLaws.{WhatFits, spoken_counts}
-use Rattle.ledger_model.specs.Appends.{append_with, member_job, append_journal, member_journal}
+use Rattle.ledger_model.specs.Appends.{approval_of, append_with, member_job, occult_job, append_journal, member_journal, occult_journal}
 use Rattle.ledger_model.specs.Clues.{numbers_of, jsns_with, clue_count}
 use Rattle.ledger_model.specs.Dues.{IsWithin, due_for, dues, all_dues, due_reply, due_replies, IsCounted, AllCounted, EachCounted}
 use Rattle.ledger_model.specs.Growing.{Grows}
 use Rattle.ledger_model.specs.History.{History, id, journals, journals_of, size, root, blocks, point, block_from, end_from, block_of, end_of, close}
-use Rattle.ledger_model.specs.Judgements.{kept_count, is_full, fullness, hard_fullness, unknown_in, wrong_key_in, clues_full, first_refusal, own_refusal}
+use Rattle.ledger_model.specs.Judgements.{kept_count, is_full, fullness, hard_fullness, unknown_in, wrong_key_in, clues_full, own_refusal}
+use Rattle.member_book.specs.Erasures.{absent, purged, is_record, no_record, hidden_by, other_leaf, first_refusal}
 use Rattle.ledger_model.specs.Lawful.{AreNext, IsBlock, IsLawful}
 use Rattle.ledger_model.specs.Limits.{real_limits}
 use Rattle.ledger_model.specs.Members.{members, keys}
@@ -30,6 +44,7 @@ use Rattle.ledger_model.specs.Anchors.{stamp_of, time_journal, no_stamp, is_full
 use Rattle.ledger_model.specs.Rules.{job_for, job_of, closes_before, judged_at, after_step, after_steps, after_window, after}
 use Rattle.ledger_model.specs.Proofs.{prove_refusal, extend_refusal}
 use Rattle.ledger_model.specs.Scheme.{Scheme}
+use Rattle.ledger_model.specs.Targets.{hides, hider_among, hider, kind_at, leaf_at}
 use Rattle.ledger_model.specs.Step.{Step}
 use Rattle.ledger_model.specs.Texts.{kept_with, told_reply, answer_for, answer_to, told_stamp, reply_in}
 use Rattle.ledger_model.specs.declared.answer.Answer.{Answer}
@@ -45,14 +60,14 @@ use Rattle.ledger_bytes.specs.Digests.{digest}
 use Rattle.sha2.specs.Sha256.{sha256}
 use Rattle.tree_model.specs.Tree.{mth}
 use Rattle.ledger_model.specs.declared.job.Job.{Job}
-use Rattle.ledger_model.specs.declared.job.Job.TheVariants.{Refused, Append, NewMember, Anchor, Get, Prove, Extend, Clue, Head}
+use Rattle.ledger_model.specs.declared.job.Job.TheVariants.{Refused, Append, NewMember, Anchor, Occult, Get, Prove, Extend, Clue, Head}
 use Rattle.ledger_model.proofs.ByteLaws.{leaf_bytes}
 use Rattle.ledger_model.proofs.DueLaws.{grows_steps, AllWithin, all_wider, all_higher, dues_within, grows_windows}
 use Rattle.ledger_model.proofs.GetLaws.{get_fits}
 use Rattle.ledger_model.proofs.GrowLaws.{length-journals_of, grows_close, grows_size, grows_then}
 use Rattle.ledger_model.proofs.KeepLaws.{run_lawful, close_lawful, step_lawful, steps_lawful}
 use Rattle.ledger_model.proofs.ProveLaws.{asked, told_proof, told_extension}
-use Rattle.ledger_model.proofs.LawfulLaws.{lawful_from, some_journal, lawful_members, AreBetween, numbers_between, numbers_few, point_below}
+use Rattle.ledger_model.proofs.LawfulLaws.{AreFrom, lawful_from, some_journal, lawful_members, AreBetween, numbers_between, numbers_few, point_below}
 
 -- how much a lawful history holds
 
@@ -175,12 +190,82 @@ extend_fits h m l =
       | false ↦ elim (nat_lt m (point h)) as (λ v. MayFit (cond v (Some (refusals.Purged (point h))) None)) [ true ↦ omega (arith, point_few h l, size_few h l) | false ↦ tt ]
     ]
 
+-- refusals of an occult
+
+either_fits : (a b : Option Refusal) → MayFit a → MayFit b → MayFit (option_or a b)
+either_fits (Some x) b f g = f
+either_fits None b f g = g
+
+absent_fits : (size n : ℕ) → Fits size → MayFit (absent size n)
+absent_fits size n f = elim (nat_le size n) as (λ v. MayFit (cond v (Some (refusals.NoJournal size)) None)) [ true ↦ f | false ↦ tt ]
+
+purged_fits : (p n : ℕ) → Fits p → MayFit (purged p n)
+purged_fits p n f = elim (nat_lt n p) as (λ v. MayFit (cond v (Some (refusals.Purged p)) None)) [ true ↦ f | false ↦ tt ]
+
+code_fits : (k : Kind) → Fits (code_of k)
+code_fits kind.Genesis = omega arith
+code_fits kind.Content = omega arith
+code_fits kind.Member = omega arith
+code_fits kind.Time = omega arith
+code_fits kind.Occult = omega arith
+code_fits kind.Purge = omega arith
+
+no_record_fits : (k : Kind) → MayFit (no_record k)
+no_record_fits k = elim (is_record k) as (λ v. MayFit (cond v None (Some (refusals.NotData (code_of k))))) [ true ↦ tt | false ↦ code_fits k ]
+
+other_leaf_fits : (kept leaf : Digest) → MayFit (other_leaf kept leaf)
+other_leaf_fits kept leaf = elim (bytes_eq leaf.0 kept.0) as (λ v. MayFit (cond v None (Some (refusals.LeafDiffers kept)))) [ true ↦ tt | false ↦ tt ]
+
+found_fits : (m : ℕ) (target : Entry) (es : List Entry) → AreFrom m es → m + length es ≤ real_limits.size → MayFit (hidden_by (option_map (λ (j : Entry). j.header.jsn) (find (hides target) es)))
+found_fits m target [] from few = tt
+found_fits m target (e ∷ es) from few = elim (hides target e) as (λ v. MayFit (hidden_by (option_map (λ (j : Entry). j.header.jsn) (cond v (Some e) (find (hides target) es))))) [
+  | true ↦ omega (arith, from.0, few)
+  | false ↦ found_fits (m + 1) target es from.2 (omega (arith, few))
+]
+
+hider_fits : (h : History) (n : ℕ) → IsLawful h → MayFit (hidden_by (hider h n))
+hider_fits h n l = by_target (slice_get (journals h) n) where
+  by_target : (target : Option Entry) → MayFit (hidden_by (hider_among (journals h) target))
+  by_target None = tt
+  by_target (Some target) = found_fits 0 target (journals h) (lawful_from (journals h) l.journals_are) (omega (arith, size_few h l))
+
+-- the members of approvals
+abbrev pub MembersFit : List Approval → Type 0
+MembersFit [] = ⊤
+MembersFit (g ∷ gs) = Fits g.member × MembersFit gs
+
+member_found : (said : ℕ → Refusal) (fit : (m : ℕ) → Fits m → RefusalFits (said m)) (p : Approval → Bool) (given : List Approval) → MembersFit given → MayFit (option_map (λ (g : Approval). said g.member) (find p given))
+member_found said fit p [] f = tt
+member_found said fit p (g ∷ gs) f = elim (p g) as (λ v. MayFit (option_map (λ (x : Approval). said x.member) (cond v (Some g) (find p gs)))) [ true ↦ fit g.member f.0 | false ↦ member_found said fit p gs f.1 ]
+
+order_fits : (given : List Approval) → length given ≤ APPROVAL_LIMIT → MayFit (order_refusal given)
+order_fits given few =
+    let at = position_or_len (λ (pair : Approval × Approval). nat_le pair.1.member pair.0.member) (neighbours given) in
+    elim (nat_lt at (length (neighbours given))) as (λ v. nat_lt at (length (neighbours given)) ≡ v → MayFit (option_map (λ before. refusals.ApprovalOrder (before + 1)) (cond v (Some at) None))) [
+      | true ↦ λ is. omega (arith, ltb-true at (length (neighbours given)) is, length-zip given (drop 1 given), few)
+      | false ↦ λ is. tt
+    ] refl
+
+missing_fits : (given : List Approval) → MayFit (missing_refusal given (0 ∷ 1 ∷ []))
+missing_fits given = elim (approves given 0) as (λ u. MayFit (option_map (λ m. refusals.MissingApproval m) (reduce min (cond (not u) (0 ∷ cond (not (approves given 1)) (1 ∷ []) []) (cond (not (approves given 1)) (1 ∷ []) []))))) [
+  | true ↦ elim (approves given 1) as (λ v. MayFit (option_map (λ m. refusals.MissingApproval m) (reduce min (cond (not v) (1 ∷ []) [])))) [ true ↦ tt | false ↦ omega arith ]
+  | false ↦ elim (approves given 1) as (λ v. MayFit (option_map (λ m. refusals.MissingApproval m) (reduce min (0 ∷ cond (not v) (1 ∷ []) [])))) [ true ↦ omega arith | false ↦ omega arith ]
+]
+
+approvals_fit : (known : List (List ℕ)) (given : List Approval) → length given ≤ APPROVAL_LIMIT → MembersFit given → MayFit (approvals_refusal known given (0 ∷ 1 ∷ []))
+approvals_fit known given few f =
+    either_fits (order_refusal given) _ (order_fits given few)
+    (either_fits (unknown_refusal known given) _ (member_found (λ m. refusals.UnknownMember m) (λ m fit. fit) (λ (g : Approval). not (is_known known g.member)) given f)
+    (either_fits (key_refusal known given) _ (member_found (λ m. refusals.WrongKey m) (λ m fit. fit) (λ (g : Approval). not (shows_key known g)) given f)
+    (missing_fits given)))
+
 -- the numbers of a job that a refusal may tell
 abbrev pub JobFits : Job → Type 0
 JobFits (Refused refusal) = RefusalFits refusal
 JobFits (Append member clue content content_digest request by) = Fits member
 JobFits (NewMember number key by) = ⊤
 JobFits Anchor = ⊤
+JobFits (Occult target leaf given) = (length given ≤ APPROVAL_LIMIT) × MembersFit given
 JobFits (Get n) = ⊤
 JobFits (Prove n) = ⊤
 JobFits (Extend which m) = ⊤
@@ -196,6 +281,18 @@ own_fits h (NewMember number key by) l f =
     first_fits (fullness real_limits h ∷ number_refusal (members h) number ∷ wrong_key_in (keys h) 0 by.key ∷ [])
     (full_fits h l, (number_fits (members h) number (omega (arith, members_few h l)), (wrong_fits (keys h) 0 by.key (omega arith), tt)))
 own_fits h Anchor l f = first_fits (hard_fullness real_limits h ∷ []) (hard_fits h l, tt)
+own_fits h (Occult target leaf given) l f =
+    let kept = digest (leaf_at h target) in
+    first_fits (hard_fullness real_limits h ∷ absent (size h) target ∷ purged (point h) target ∷ no_record (kind_at h target) ∷ hidden_by (hider h target) ∷ other_leaf kept leaf ∷ approvals_refusal (keys h) given (0 ∷ 1 ∷ []) ∷ []) (
+      hard_fits h l,
+      (
+        absent_fits (size h) target (omega (arith, size_few h l)),
+        (
+          purged_fits (point h) target (omega (arith, point_few h l, size_few h l)),
+          (no_record_fits (kind_at h target), (hider_fits h target l, (other_leaf_fits kept leaf, (approvals_fit (keys h) given f.0 f.1, tt)))),
+        ),
+      ),
+    )
 own_fits h (Get n) l f = tt
 own_fits h (Prove n) l f = first_fits (prove_refusal h n ∷ []) (prove_fits h n l, tt)
 own_fits h (Extend Ledger m) l f = first_fits (extend_refusal h m ∷ []) (extend_fits h m l, tt)
@@ -203,21 +300,30 @@ own_fits h (Extend Notary m) l f = tt
 own_fits h (Clue clue) l f = tt
 own_fits h Head l f = tt
 
-for_fits : (scheme : Scheme) (id : List ℕ) (what : Result Line Refusal) → WhatFits what → JobFits (job_for scheme id what)
-unfolding append_with member_job
-for_fits scheme id (Err refusal) f = f
-for_fits scheme id (Ok (line.Append member clue content proof)) f = f
-for_fits scheme id (Ok (line.NewMember number key proof)) f = tt
-for_fits scheme id (Ok (line.Get n)) f = tt
-for_fits scheme id (Ok (line.Prove n)) f = tt
-for_fits scheme id (Ok (line.Extend which m)) f = tt
-for_fits scheme id (Ok (line.Clue name)) f = tt
-for_fits scheme id (Ok line.Anchor) f = tt
-for_fits scheme id (Ok line.Head) f = tt
+said_fit : (scheme : Scheme) (message : List ℕ) (gs : List SaidApproval) → All (λ by. Fits by.member) gs → MembersFit (map (λ (by : SaidApproval). approval_of scheme by.member message by.proof) gs)
+said_fit scheme message [] all = tt
+said_fit scheme message (g ∷ gs) all = (all 0 g (omega arith), said_fit scheme message gs (λ k d lt. all (suc k) d (omega (arith, lt))))
+
+for_fits : (scheme : Scheme) (id : List ℕ) (what : Result Line Refusal) → fits_what what ≡ true → WhatFits what → JobFits (job_for scheme id what)
+unfolding append_with member_job occult_job
+for_fits scheme id (Err refusal) fits f = f
+for_fits scheme id (Ok (line.Append member clue content proof)) fits f = f
+for_fits scheme id (Ok (line.NewMember number key proof)) fits f = tt
+for_fits scheme id (Ok (line.Get n)) fits f = tt
+for_fits scheme id (Ok (line.Prove n)) fits f = tt
+for_fits scheme id (Ok (line.Extend which m)) fits f = tt
+for_fits scheme id (Ok (line.Clue name)) fits f = tt
+for_fits scheme id (Ok line.Anchor) fits f = tt
+for_fits scheme id (Ok (line.Occult target leaf given)) fits f =
+    let message = occult_request_digest_of id target leaf.0 in (
+      omega (arith, length-map given (λ (by : SaidApproval). approval_of scheme by.member message by.proof), leb-true (length given) APPROVAL_LIMIT (and_parts (nat_le (length given) APPROVAL_LIMIT) (list_all (λ (by : SaidApproval). nat_le (length by.proof) PROOF_LIMIT) given) fits).0),
+      said_fit scheme message given f,
+    )
+for_fits scheme id (Ok line.Head) fits f = tt
 
 pub job_counts : (scheme : Scheme) (id text : List ℕ) → JobFits (job_of scheme id text)
 unfolding job_of
-job_counts scheme id text = for_fits scheme id (spoken_line text).1 (spoken_counts text)
+job_counts scheme id text = for_fits scheme id (spoken_line text).1 (spoken_fits text) (spoken_counts text)
 
 -- answers
 
@@ -256,6 +362,8 @@ outcome_fits h step (Append member clue content content_digest request by) l c f
 outcome_fits h step (NewMember number key by) l c f =
     let job = NewMember number key by in placed_fits h step (own_refusal real_limits h job) (member_journal (size h) number key by) c (own_fits h job l f)
 outcome_fits h step Anchor l c f = anchor_fits h step (own_refusal real_limits h Anchor) (stamp_of step) c (own_fits h Anchor l f)
+outcome_fits h step (Occult target leaf given) l c f =
+    let job = Occult target leaf given in placed_fits h step (own_refusal real_limits h job) (occult_journal (size h) target leaf given) c (own_fits h job l f)
 outcome_fits h step (Get n) l c f = get_fits h n (omega (arith, size_few h l)) (omega (arith, point_few h l, size_few h l))
 outcome_fits h step (Prove n) l c f = asked_fits h step (Prove n) (query.Prove n) (own_fits h (Prove n) l f) (told_proof ReplyFits h step n tt (λ m leaf lo hi bytes. tt))
 outcome_fits h step (Extend which m) l c f =

@@ -4,21 +4,25 @@ use Rattle.std.specs.Option.{option_map}
 use Rattle.journal_record.specs.declared.rules.TheConstants.{NOTARY_LIMIT}
 use Rattle.journal_record.specs.declared.stamp.Stamp.{Stamp}
 use Rattle.ledger_model.specs.Anchors.{stamp_of, time_journal}
-use Rattle.std.proofs.Common.{Bool, ◌≢◌, ◌||◌, ◌<◌, ap, ◌≡◌, ℕ, ◌≤◌, ◌&&◌, true, false, cond, List, [], ◌∷◌, ◌++◌, length, Option, Some, None, Result, Ok, Err, refl, sym, ap, subst, arith, eq-eqb, append_assoc, length-append}
+use Rattle.std.proofs.Common.{Bool, ◌≢◌, ◌||◌, ◌<◌, ap, ◌≡◌, ℕ, ◌≤◌, ◌&&◌, true, false, cond, List, [], ◌∷◌, ◌++◌, length, map, Option, Some, None, Result, Ok, Err, refl, sym, ◌∙◌, ap, subst, arith, eq-eqb, append_assoc, length-append}
 use Rattle.std.specs.List.{list_all}
 use Rattle.std.proofs.lemmas.Bool.{le-leb, leb-true, leb-false, and_from, and_parts}
+use Rattle.std.proofs.lemmas.List.{length-map}
 use Rattle.std.proofs.lemmas.List.Elements.{All-nil, All-cons, All-push}
 use Rattle.std.proofs.lemmas.Slice.Eq.{bytes_eq-Decides}
 use Rattle.ledger_bytes.specs.declared.digest.Digest.{Digest}
-use Rattle.ledger_bytes.specs.declared.limits.TheConstants.{BLOCK_LIMIT, NAME_LIMIT, CONTENT_LIMIT, PROOF_LIMIT}
+use Rattle.ledger_bytes.specs.declared.limits.TheConstants.{APPROVAL_LIMIT, BLOCK_LIMIT, NAME_LIMIT, CONTENT_LIMIT, PROOF_LIMIT}
 use Rattle.ledger_bytes.specs.declared.refusal.Refusal.{Refusal}
 use Rattle.journal_record.specs.Entry.{Entry, content_digest_of}
+use Rattle.journal_record.specs.Request.{occult_request_digest_of}
+use Rattle.journal_record.specs.declared.approval.Approval.{Approval}
 use Rattle.script_lines.specs.Grammar.{spoken_line}
-use Rattle.script_lines.specs.Limits.{fits_what}
+use Rattle.script_lines.specs.Limits.{fits_what, fits_approvals}
+use Rattle.script_lines.specs.declared.said.SaidApproval.{SaidApproval}
 use Rattle.script_lines.specs.declared.line.Line.{Line}
 use Rattle.script_lines.specs.declared.line.Line.TheVariants as line
 use Rattle.script_lines.proofs.Fitting.{spoken_fits}
-use Rattle.ledger_model.specs.Appends.{append_with, member_job, append_header, append_journal, member_header, member_journal}
+use Rattle.ledger_model.specs.Appends.{approval_of, append_with, member_job, occult_job, append_header, append_journal, member_header, member_journal, occult_journal}
 use Rattle.ledger_model.specs.Fitting.{fits_approval, fits_job}
 use Rattle.ledger_model.specs.Genesis.{HasKeys, genesis_header, genesis_journal, new_ledger}
 use Rattle.ledger_model.specs.History.{History, history, journals, journals_of, size, id, close_by, close}
@@ -31,8 +35,8 @@ use Rattle.ledger_model.specs.Scheme.{Scheme}
 use Rattle.ledger_model.specs.Step.{Step}
 use Rattle.ledger_model.specs.declared.genesis.Genesis.{Genesis}
 use Rattle.ledger_model.specs.declared.job.Job.{Job}
-use Rattle.ledger_model.specs.declared.job.Job.TheVariants.{Refused, Append, NewMember, Anchor, Get, Prove, Extend, Clue, Head}
-use Rattle.ledger_model.proofs.AcceptedLaws.{record_next, record_whole, member_next, member_whole, time_next, time_whole, stamp_few}
+use Rattle.ledger_model.specs.declared.job.Job.TheVariants.{Refused, Append, NewMember, Anchor, Occult, Get, Prove, Extend, Clue, Head}
+use Rattle.ledger_model.proofs.AcceptedLaws.{record_next, record_whole, member_next, member_whole, occult_next, occult_whole, time_next, time_whole, stamp_few}
 use Rattle.ledger_model.proofs.GrowLaws.{journals_of-push, close_none}
 use Rattle.ledger_model.proofs.LawfulLaws.{lawful_more}
 
@@ -89,7 +93,7 @@ placed_lawful h job (Some refusal) j l is next = settled_lawful h job l
 placed_lawful h job None j l is next =
     settled_keeps (wider h j) job (subst AreLawful (sym (journals_wider h j)) (next refl)) l.blocks_are (omega (arith, l.waiting_is.room, length-append h.waiting (j ∷ []))) (all_gather h.waiting j l.waiting_is.gathered is)
 
-real_within : AreWithin real_limits
+pub real_within : AreWithin real_limits
 real_within = record { soft = omega arith; hard = omega arith; size = omega arith; clues = omega arith }
 
 -- the parts of a job that fits
@@ -100,6 +104,13 @@ content_short member clue content content_digest request by fits =
     let front = and_parts (nat_le (length content) CONTENT_LIMIT) (bytes_eq content_digest.0 (content_digest_of content)) parts.0 in
     (leb-true (length content) CONTENT_LIMIT front.0, front.1)
 
+-- a journal that is a block of its own, where nothing waits
+alone_lawful : (h : History) (refusal : Option Refusal) (j : Entry) → IsLawful h → h.waiting ≡ [] → (refusal ≡ None → AreLawful (journals h ++ j ∷ [])) → IsLawful (close (after_judgement refusal (Some j) h))
+alone_lawful h (Some refusal) j l none next = close_lawful h l
+alone_lawful h None j l none next =
+    let one : length (h.waiting ++ j ∷ []) ≡ 1 = ap (λ es. length (es ++ j ∷ [])) none in
+    close_keeps (wider h j) (subst AreLawful (sym (journals_wider h j)) (next refl)) l.blocks_are (omega (arith, one)) (λ more. absurd (more one))
+
 -- an anchor, where nothing waits
 anchor_lawful : (h : History) (refusal : Option Refusal) (stamp : Option Stamp) → IsLawful h → h.waiting ≡ [] → refusal ≡ own_refusal real_limits h Anchor → ((s : Stamp) → stamp ≡ Some s → s.index < NOTARY_LIMIT)
     → IsLawful (close (after_judgement refusal (option_map (time_journal (size h)) stamp) h))
@@ -107,10 +118,7 @@ anchor_lawful h (Some refusal) stamp l none is few = close_lawful h l
 anchor_lawful h None None l none is few = close_lawful h l
 anchor_lawful h None (Some stamp) l none is few =
     let j = time_journal (size h) stamp in
-    let one : length (h.waiting ++ j ∷ []) ≡ 1 = ap (λ es. length (es ++ j ∷ [])) none in
-    close_keeps (wider h j)
-    (subst AreLawful (sym (journals_wider h j)) (lawful_more (journals h) j l.journals_are (time_next real_limits real_within h stamp (sym is) l.journals_are (few stamp refl))))
-    l.blocks_are (omega (arith, one)) (λ more. absurd (more one))
+    alone_lawful h None j l none (λ accepted. lawful_more (journals h) j l.journals_are (time_next real_limits real_within h stamp (sym is) l.journals_are (few stamp refl)))
 
 -- a job that only asks places nothing
 unplaced : (refusal : Option Refusal) (h : History) → after_judgement refusal None h ≡ h
@@ -129,6 +137,10 @@ job_lawful h step (NewMember number key by) fits l =
     placed_lawful h job (own_refusal real_limits h job) (member_journal _ number key by) l refl
     (λ none. lawful_more (journals h) _ l.journals_are (member_next real_limits real_within h number key by none l.journals_are))
 job_lawful h step Anchor fits l = anchor_lawful (close h) (own_refusal real_limits (close h) Anchor) (stamp_of step) (close_lawful h l) (close_none h) refl (stamp_few step)
+job_lawful h step (Occult target leaf given) fits l =
+    let g = close h in
+    alone_lawful (close h) (own_refusal real_limits (close h) (Occult target leaf given)) (occult_journal (size (close h)) target leaf given) (close_lawful h l) (close_none h)
+    (λ none. lawful_more (journals (close h)) _ (close_lawful h l).journals_are (occult_next real_limits real_within (close h) target leaf given none (close_lawful h l).journals_are))
 job_lawful h step (Get n) fits l = settled_lawful (close h) (Get n) (close_lawful h l)
 job_lawful h step (Prove n) fits l =
     subst (λ g. IsLawful (settled_history (Prove n) g)) (sym (unplaced (own_refusal real_limits (close h) (Prove n)) (close h))) (settled_lawful (close h) (Prove n) (close_lawful h l))
@@ -161,6 +173,8 @@ job_sound h step (Append member clue content content_digest request by) fits s =
 job_sound h step (NewMember number key by) fits s =
     let job = NewMember number key by in placed_sound h job (own_refusal real_limits h job) _ s (member_whole _ number key by)
 job_sound h step Anchor fits s = anchor_sound (close h) (own_refusal real_limits (close h) Anchor) (stamp_of step) (close_sound h s)
+job_sound h step (Occult target leaf given) fits s =
+    let job = Occult target leaf given in placed_sound (close h) job (own_refusal real_limits (close h) job) _ (close_sound h s) (occult_whole _ target leaf given)
 job_sound h step (Get n) fits s = settled_sound (close h) (Get n) (close_sound h s)
 job_sound h step (Prove n) fits s =
     subst (λ g. IsSound (settled_history (Prove n) g)) (sym (unplaced (own_refusal real_limits (close h) (Prove n)) (close h))) (settled_sound (close h) (Prove n) (close_sound h s))
@@ -180,6 +194,19 @@ member_fits : (scheme : Scheme) (id : List ℕ) (number : ℕ) (key : Digest) (p
 unfolding member_job
 member_fits scheme id number key proof p = le-leb (length proof) PROOF_LIMIT p
 
+pub occult_fits : (scheme : Scheme) (id : List ℕ) (target : ℕ) (leaf : Digest) (given : List SaidApproval) → fits_approvals given ≡ true → fits_job (occult_job scheme id target leaf given) ≡ true
+unfolding occult_job
+occult_fits scheme id target leaf given fits =
+    let parts = and_parts (nat_le (length given) APPROVAL_LIMIT) (list_all (λ (by : SaidApproval). nat_le (length by.proof) PROOF_LIMIT) given) fits in
+    and_from _ _ (ap (λ n. nat_le n APPROVAL_LIMIT) (length-map given (λ (by : SaidApproval). approval_of scheme by.member (occult_request_digest_of id target leaf.0) by.proof)) ∙ parts.0) (proofs_fit given parts.1)
+  where
+    proofs_fit : (gs : List SaidApproval) → list_all (λ (by : SaidApproval). nat_le (length by.proof) PROOF_LIMIT) gs ≡ true
+        → list_all (λ (by : Approval). nat_le (length by.proof) PROOF_LIMIT) (map (λ (by : SaidApproval). approval_of scheme by.member (occult_request_digest_of id target leaf.0) by.proof) gs) ≡ true
+    proofs_fit [] all = refl
+    proofs_fit (g ∷ gs) all =
+        let both = and_parts (nat_le (length g.proof) PROOF_LIMIT) (list_all (λ (by : SaidApproval). nat_le (length by.proof) PROOF_LIMIT) gs) all in
+        and_from _ _ both.0 (proofs_fit gs both.1)
+
 for_fits : (scheme : Scheme) (id : List ℕ) (what : Result Line Refusal) → fits_what what ≡ true → fits_job (job_for scheme id what) ≡ true
 for_fits scheme id (Err refusal) fits = fits
 for_fits scheme id (Ok (line.Append member clue content proof)) fits =
@@ -192,6 +219,7 @@ for_fits scheme id (Ok (line.Prove n)) fits = refl
 for_fits scheme id (Ok (line.Extend which m)) fits = refl
 for_fits scheme id (Ok (line.Clue name)) fits = refl
 for_fits scheme id (Ok line.Anchor) fits = refl
+for_fits scheme id (Ok (line.Occult target leaf given)) fits = occult_fits scheme id target leaf given fits
 for_fits scheme id (Ok line.Head) fits = refl
 
 pub job_fits : (scheme : Scheme) (id text : List ℕ) → fits_job (job_of scheme id text) ≡ true

@@ -1,8 +1,8 @@
 -- What holds of lawful journals: their numbers, their layout, their members and their clues.
-use Rattle.std.specs.Prelude.{⊤, All, IsTrue, filter, max, nat_lt, nat_le, bytes_eq, slice_get, zero, suc}
-use Rattle.std.proofs.Common.{◌≡◌, ℕ, ◌+◌, ◌<◌, ◌≤◌, ◌&&◌, ◌==◌, true, false, cond, not, List, [], ◌∷◌, ◌++◌, length, map, take, drop, Option, None, Some, refl, sym, ◌∙◌, ap, subst, arith, append_assoc, append-nil, length-append}
+use Rattle.std.specs.Prelude.{⊤, All, IsTrue, filter, max, nat_lt, nat_le, bytes_eq, zero, suc}
+use Rattle.std.proofs.Common.{◌≡◌, ℕ, ◌+◌, ◌<◌, ◌≤◌, true, false, cond, not, List, [], ◌∷◌, ◌++◌, length, map, take, drop, Option, None, Some, refl, sym, ◌∙◌, ap, subst, arith, append_assoc, append-nil, length-append}
 use Rattle.std.specs.List.{fold, list_any}
-use Rattle.std.proofs.lemmas.Bool.{ltb-true, true≢false, and_parts, or_from}
+use Rattle.std.proofs.lemmas.Bool.{ltb-true, true≢false, and_parts}
 use Rattle.std.proofs.lemmas.List.{map-append, take-append-drop, length-map}
 use Rattle.std.proofs.lemmas.List.Elements.{All-nil, All-cons}
 use Rattle.std.proofs.lemmas.List.Sums.{fold-append}
@@ -18,7 +18,7 @@ use Rattle.ledger_model.specs.Clues.{has_clue, is_of_clue, numbers_of, last_of}
 use Rattle.ledger_model.specs.History.{History, history, journals, is_purge, purge_point, greatest_point, point, seen_point}
 use Rattle.ledger_model.specs.Lawful.{IsNext, IsNextOf, AreNext, IsFounded, AreLawful}
 use Rattle.ledger_model.specs.Members.{founders, is_member, admits, member_of, admitted_members, members}
-use Rattle.ledger_model.specs.Outcomes.{is_occult, hides, is_hidden_by, is_hidden}
+use Rattle.ledger_model.specs.Targets.{hides, is_hidden_by}
 use Rattle.ledger_model.proofs.PlaceLaws.{founders_kept, admitted_more, admitted_same}
 
 -- each journal has the number of its place, counted from m, and obeys its layout
@@ -56,7 +56,7 @@ some_journal [] lawful = absurd lawful.founded
 some_journal (e ∷ es) lawful = omega arith
 
 -- the first journal is a genesis
-genesis_first : (k : Kind) (jsn : ℕ) → jsn ≡ 0 → IsTrue (jsn_ok k jsn) → k ≡ kind.Genesis
+pub genesis_first : (k : Kind) (jsn : ℕ) → jsn ≡ 0 → IsTrue (jsn_ok k jsn) → k ≡ kind.Genesis
 genesis_first kind.Genesis jsn at ok = refl
 genesis_first kind.Content jsn at ok = absurd (let less = ltb-true 0 jsn ok in omega arith)
 genesis_first kind.Member jsn at ok = absurd (let less = ltb-true 0 jsn ok in omega arith)
@@ -203,23 +203,7 @@ later_seen h floor lawful reaches =
         let low : greatest_point (take floor (journals h)) < floor = point_below floor 0 0 (take floor (journals h)) (front_from 0 floor (journals h) (lawful_from (journals h) lawful)) (take_few floor (journals h)) (omega (arith, is)) in
         omega (arith, low, reaches, parts)
 
--- no journal that may be the next one so far hides another
-never_hides : (h : History) (x : Header) (k : Kind) (n : ℕ) → IsNextOf h x k → (is_occult k && x.a == n) ≡ false
-never_hides h x kind.Genesis n own = refl
-never_hides h x kind.Content n own = refl
-never_hides h x kind.Member n own = refl
-never_hides h x kind.Time n own = refl
-never_hides h x kind.Occult n own = absurd own
-never_hides h x kind.Purge n own = absurd own
-
-pub none_hide : (target : Entry) (before es : List Entry) → AreNext before es → list_any (hides target) es ≡ false
-none_hide target before [] next = refl
-none_hide target before (e ∷ es) next = or_from _ _ (never_hides (history [] before) e.header e.header.kind target.header.jsn next.0.own) (none_hide target (before ++ e ∷ []) es next.1)
-
 -- journals of which none hides another hide none
 pub hide_none : (es : List Entry) (target : Option Entry) → ((t : Entry) → list_any (hides t) es ≡ false) → is_hidden_by es target ≡ false
 hide_none es None none = refl
 hide_none es (Some t) none = none t
-
-pub none_hidden : (h : History) (n : ℕ) → AreLawful (journals h) → is_hidden h n ≡ false
-none_hidden h n lawful = hide_none (journals h) (slice_get (journals h) n) (λ t. none_hide t [] (journals h) lawful.next)

@@ -11,8 +11,10 @@ pub mod WaitLaws
 pub mod WrittenLaws
 pub mod PlaceLaws
 pub mod LawfulLaws
+pub mod HideLaws
 pub mod AcceptedLaws
 pub mod KeepLaws
+pub mod OccultLaws
 pub mod ByteLaws
 pub mod FitLaws
 pub mod CountLaws

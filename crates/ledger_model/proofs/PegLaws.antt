@@ -19,7 +19,7 @@ use Rattle.journal_record.specs.declared.rules.TheConstants.{NOTARY_LIMIT}
 use Rattle.journal_record.specs.declared.stamp.Stamp.{Stamp}
 use Rattle.time_peg.specs.Entries.{IsList, HasOneMore, NotaryState, entry_of, peg_string, time_in}
 use Rattle.ledger_model.specs.Anchors.{peg_at, time_header, time_journal, stamp_from, stamp_of, is_full_list}
-use Rattle.ledger_model.specs.Appends.{append_header, append_journal, member_header, member_journal}
+use Rattle.ledger_model.specs.Appends.{append_header, append_journal, member_header, member_journal, occult_header, occult_journal}
 use Rattle.ledger_model.specs.Genesis.{genesis_header, new_ledger}
 use Rattle.ledger_model.specs.History.{History, journals, size, id, root, point, first_leaf_digest, purge_point, greatest_point, close}
 use Rattle.ledger_model.specs.Judgements.{own_refusal}
@@ -33,7 +33,7 @@ use Rattle.ledger_model.specs.Step.{Step}
 use Rattle.ledger_model.specs.Took.{notary_after, Took, TookAll}
 use Rattle.ledger_model.specs.declared.genesis.Genesis.{Genesis}
 use Rattle.ledger_model.specs.declared.job.Job.{Job}
-use Rattle.ledger_model.specs.declared.job.Job.TheVariants.{Refused, Append, NewMember, Anchor, Get, Prove, Extend, Clue, Head}
+use Rattle.ledger_model.specs.declared.job.Job.TheVariants.{Refused, Append, NewMember, Anchor, Occult, Get, Prove, Extend, Clue, Head}
 use Rattle.ledger_model.proofs.GrowLaws.{root_kept, grows_asked, grows_with, grows_job, grows_size}
 use Rattle.ledger_model.proofs.KeepLaws.{journals_close, journals_wider}
 use Rattle.ledger_model.proofs.WaitLaws.{slice_get-more, slice_get-last}
@@ -275,13 +275,15 @@ module _ (h : History) (step : Step) (some : 0 < size h) (before : Pegged h step
 
 -- what is judged against a history
 judged_pegged : (h : History) (step : Step) (job : Job) → 0 < size h → Pegged h step.before → ChangesBy h step job → Pegged (with_job real_limits (stamp_of step) h job) step.after
-unfolding with_job append_header member_header
+unfolding with_job append_header member_header occult_header
 judged_pegged h step (Refused refusal) some p attends = subst (Pegged h) (sym attends) p
 judged_pegged h step (Append member clue content content_digest request by) some p attends =
     untimed h step.after some (subst (Pegged h) (sym attends) p) (own_refusal real_limits h (Append member clue content content_digest request by)) (append_journal h member clue content content_digest request by) (λ time. cc)
 judged_pegged h step (NewMember number key by) some p attends =
     untimed h step.after some (subst (Pegged h) (sym attends) p) (own_refusal real_limits h (NewMember number key by)) (member_journal (size h) number key by) (λ time. cc)
 judged_pegged h step Anchor some p attends = anchor_pegged h step some p attends (own_refusal real_limits h Anchor) (stamp_of step) refl refl
+judged_pegged h step (Occult target leaf given) some p attends =
+    untimed h step.after some (subst (Pegged h) (sym attends) p) (own_refusal real_limits h (Occult target leaf given)) (occult_journal (size h) target leaf given) (λ time. cc)
 judged_pegged h step (Get n) some p attends = unplaced (own_refusal real_limits h (Get n)) h step.after (subst (Pegged h) (sym attends) p)
 judged_pegged h step (Prove n) some p attends = unplaced (own_refusal real_limits h (Prove n)) h step.after (subst (Pegged h) (sym attends) p)
 judged_pegged h step (Extend which m) some p attends = unplaced (own_refusal real_limits h (Extend which m)) h step.after (subst (Pegged h) (sym attends) p)

@@ -14,7 +14,8 @@ use Rattle.script_lines.specs.declared.said.Which.{Which}
 use Rattle.script_lines.specs.declared.said.Which.TheVariants.{Ledger, Notary}
 use Rattle.ledger_model.specs.Getting.{reply_unless}
 use Rattle.ledger_model.specs.History.{History, size, point, greatest_point, root, close}
-use Rattle.ledger_model.specs.Judgements.{first_refusal, own_refusal}
+use Rattle.ledger_model.specs.Judgements.{own_refusal}
+use Rattle.member_book.specs.Erasures.{first_refusal}
 use Rattle.ledger_model.specs.Limits.{real_limits}
 use Rattle.ledger_model.specs.Outcomes.{judged_outcome, outcome}
 use Rattle.ledger_model.specs.Proofs.{shown_of, extension_in, list_extension, prove_refusal, size_refusal, extend_refusal}

@@ -1,19 +1,20 @@
--- The journals of members' records and of new members.
-use Rattle.std.specs.Prelude.{ℕ, List, [], ◌∷◌, length}
+-- The journals of members' records, of new members and of occults.
+use Rattle.std.specs.Prelude.{ℕ, List, [], ◌∷◌, length, map}
 use Rattle.std.specs.Option.{option_map}
 use Rattle.ledger_bytes.specs.Digests.{digest, zero_digest}
 use Rattle.ledger_bytes.specs.declared.digest.Digest.{Digest}
 use Rattle.journal_record.specs.Approval.{who_of}
 use Rattle.journal_record.specs.Entry.{Entry, content_digest_of, who_digest_of}
-use Rattle.journal_record.specs.Request.{request_digest_of, member_request_digest_of, clue_digest_of}
+use Rattle.journal_record.specs.Request.{request_digest_of, member_request_digest_of, occult_request_digest_of, clue_digest_of}
 use Rattle.journal_record.specs.declared.approval.Approval.{Approval}
 use Rattle.journal_record.specs.declared.header.Header.{Header}
 use Rattle.journal_record.specs.declared.header.Kind.TheVariants as kind
+use Rattle.script_lines.specs.declared.said.SaidApproval.{SaidApproval}
 use Rattle.ledger_model.specs.Clues.{next_ordinal, last_journal}
 use Rattle.ledger_model.specs.History.{History, size}
 use Rattle.ledger_model.specs.Scheme.{Scheme}
 use Rattle.ledger_model.specs.declared.job.Job.{Job}
-use Rattle.ledger_model.specs.declared.job.Job.TheVariants.{Append, NewMember}
+use Rattle.ledger_model.specs.declared.job.Job.TheVariants.{Append, NewMember, Occult}
 
 -- the digest that a member approves, for a record with this clue
 abbrev pub request_with : List ℕ → ℕ → Digest → List ℕ → List ℕ
@@ -36,6 +37,12 @@ append_with scheme id member clue content proof =
 -- the job of a new member on the ledger with this id
 unfoldable pub member_job : Scheme → List ℕ → ℕ → Digest → List ℕ → Job
 member_job scheme id number key proof = NewMember number key (approval_of scheme 0 (member_request_digest_of id number key.0) proof)
+
+-- the job of an occult on the ledger with this id: each approval is one of its request
+unfoldable pub occult_job : Scheme → List ℕ → ℕ → Digest → List SaidApproval → Job
+occult_job scheme id target leaf given =
+    let request = occult_request_digest_of id target leaf.0 in
+    Occult target leaf (map (λ by. approval_of scheme by.member request by.proof) given)
 
 -- the header of a record that is journal jsn, with its clue, its number among the clue's journals, and the clue's journal before it
 unfoldable pub append_header : ℕ → ℕ → Digest → ℕ → ℕ → List ℕ → Digest → Digest → Approval → Header
@@ -87,4 +94,30 @@ member_journal jsn number key by = record {
   header = member_header jsn number key by;
   content = [];
   who = who_of (by ∷ []);
+}
+
+-- the header of an occult that is journal jsn
+unfoldable pub occult_header : ℕ → ℕ → Digest → List Approval → Header
+occult_header jsn target leaf given = record {
+  version = 1;
+  kind = kind.Occult;
+  jsn = jsn;
+  member = 0;
+  clue = zero_digest;
+  clue_ord = 0;
+  clue_prev = 0;
+  a = target;
+  b = 0;
+  link = leaf;
+  content_len = 0;
+  content_digest = digest (content_digest_of []);
+  who_digest = digest (who_digest_of (who_of given));
+}
+
+-- an occult as journal jsn
+abbrev pub occult_journal : ℕ → ℕ → Digest → List Approval → Entry
+occult_journal jsn target leaf given = record {
+  header = occult_header jsn target leaf given;
+  content = [];
+  who = who_of given;
 }

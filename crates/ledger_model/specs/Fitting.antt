@@ -1,11 +1,12 @@
 -- Jobs that a line may make.
 use Rattle.std.specs.Prelude.{ℕ, ◌==◌, ◌&&◌, Bool, true, length, nat_le, bytes_eq}
-use Rattle.ledger_bytes.specs.declared.limits.TheConstants.{CONTENT_LIMIT, PROOF_LIMIT}
+use Rattle.std.specs.List.{list_all}
+use Rattle.ledger_bytes.specs.declared.limits.TheConstants.{APPROVAL_LIMIT, CONTENT_LIMIT, PROOF_LIMIT}
 use Rattle.journal_record.specs.Entry.{content_digest_of}
 use Rattle.journal_record.specs.declared.approval.Approval.{Approval}
 use Rattle.script_lines.specs.Limits.{is_of_form}
 use Rattle.ledger_model.specs.declared.job.Job.{Job}
-use Rattle.ledger_model.specs.declared.job.Job.TheVariants.{Refused, Append, NewMember, Anchor, Get, Prove, Extend, Clue, Head}
+use Rattle.ledger_model.specs.declared.job.Job.TheVariants.{Refused, Append, NewMember, Anchor, Occult, Get, Prove, Extend, Clue, Head}
 
 -- whether an approval is this member's, with a proof no longer than a line may give
 abbrev pub fits_approval : ℕ → Approval → Bool
@@ -18,6 +19,8 @@ fits_job (Append member clue content content_digest request by) =
     nat_le (length content) CONTENT_LIMIT && bytes_eq content_digest.0 (content_digest_of content) && fits_approval member by
 fits_job (NewMember number key by) = fits_approval 0 by
 fits_job Anchor = true
+fits_job (Occult target leaf given) =
+    nat_le (length given) APPROVAL_LIMIT && list_all (λ by. nat_le (length by.proof) PROOF_LIMIT) given
 fits_job (Get n) = true
 fits_job (Prove n) = true
 fits_job (Extend which m) = true

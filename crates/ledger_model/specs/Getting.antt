@@ -10,7 +10,7 @@ use Rattle.journal_record.specs.declared.header.Header.{Header}
 use Rattle.script_lines.specs.declared.reply.Reply.{Reply}
 use Rattle.script_lines.specs.declared.reply.Reply.TheVariants as reply
 use Rattle.ledger_model.specs.History.{History, journals, size}
-use Rattle.ledger_model.specs.Judgements.{first_refusal}
+use Rattle.member_book.specs.Erasures.{first_refusal}
 use Rattle.ledger_model.specs.Outcomes.{view}
 use Rattle.ledger_model.specs.declared.view.View.{View}
 use Rattle.ledger_model.specs.declared.view.View.TheVariants.{Absent, Purged, Occulted, Whole}

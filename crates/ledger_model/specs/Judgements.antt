@@ -1,17 +1,21 @@
 -- What is looked at before a job is accepted, in its order.
 use Rattle.std.specs.Prelude.{ℕ, ◌-◌, ◌==◌, ◌&&◌, ◌||◌, Bool, not, if◌then◌else◌, List, [], ◌∷◌, length, slice_get, Option, Some, None, nat_le}
+use Rattle.ledger_bytes.specs.Digests.{digest}
 use Rattle.ledger_bytes.specs.declared.digest.Digest.{Digest}
 use Rattle.ledger_bytes.specs.declared.refusal.Refusal.{Refusal}
 use Rattle.ledger_bytes.specs.declared.refusal.Refusal.TheVariants.{Full, UnknownMember, WrongKey, CluesFull}
 use Rattle.journal_record.specs.Members.{is_known, is_key_of, number_refusal}
 use Rattle.journal_record.specs.Rules.{is_no_clue}
+use Rattle.journal_record.specs.declared.approval.Approval.{Approval}
+use Rattle.member_book.specs.Erasures.{occult_row, first_refusal}
 use Rattle.script_lines.specs.declared.said.Which.TheVariants.{Ledger, Notary}
 use Rattle.ledger_model.specs.Clues.{jsns_with, clue_count}
 use Rattle.ledger_model.specs.History.{History, size, point}
 use Rattle.ledger_model.specs.Members.{members, keys}
 use Rattle.ledger_model.specs.Proofs.{prove_refusal, extend_refusal}
+use Rattle.ledger_model.specs.Targets.{kind_at, leaf_at, hider}
 use Rattle.ledger_model.specs.declared.job.Job.{Job}
-use Rattle.ledger_model.specs.declared.job.Job.TheVariants.{Refused, Append, NewMember, Anchor, Get, Prove, Extend, Clue, Head}
+use Rattle.ledger_model.specs.declared.job.Job.TheVariants.{Refused, Append, NewMember, Anchor, Occult, Get, Prove, Extend, Clue, Head}
 use Rattle.ledger_model.specs.declared.limits.Limits.{Limits}
 
 -- how many journals are kept
@@ -55,24 +59,25 @@ abbrev pub member_judgements : Limits → History → ℕ → Option Digest → 
 member_judgements limits h number shown =
     fullness limits h ∷ number_refusal (members h) number ∷ wrong_key_in (keys h) 0 shown ∷ []
 
+-- an occult of this target, with its leaf digest and these approvals
+abbrev pub occult_judgements : Limits → History → ℕ → Digest → List Approval → List (Option Refusal)
+occult_judgements limits h target leaf given =
+    hard_fullness limits h
+    ∷ occult_row (size h) (point h) (kind_at h target) (hider h target) (digest (leaf_at h target)) (keys h) target leaf given
+
 -- what may refuse a job by the history alone
 abbrev pub own_judgements : Limits → History → Job → List (Option Refusal)
 own_judgements limits h (Refused refusal) = Some refusal ∷ []
 own_judgements limits h (Append member clue content content_digest request by) = append_judgements limits h member clue by.key
 own_judgements limits h (NewMember number key by) = member_judgements limits h number by.key
 own_judgements limits h Anchor = hard_fullness limits h ∷ []
+own_judgements limits h (Occult target leaf given) = occult_judgements limits h target leaf given
 own_judgements limits h (Get n) = []
 own_judgements limits h (Prove n) = prove_refusal h n ∷ []
 own_judgements limits h (Extend Ledger m) = extend_refusal h m ∷ []
 own_judgements limits h (Extend Notary m) = []
 own_judgements limits h (Clue clue) = []
 own_judgements limits h Head = []
-
--- the first refusal, where there is one
-abbrev pub first_refusal : List (Option Refusal) → Option Refusal
-first_refusal [] = None
-first_refusal (Some refusal ∷ rest) = Some refusal
-first_refusal (None ∷ rest) = first_refusal rest
 
 -- why a job is refused by the history alone, where it is
 abbrev pub own_refusal : Limits → History → Job → Option Refusal

@@ -8,10 +8,11 @@ use Rattle.journal_record.specs.declared.header.Header.{Header}
 use Rattle.journal_record.specs.declared.header.Kind.{Kind}
 use Rattle.journal_record.specs.declared.header.Kind.TheVariants as kind
 use Rattle.ledger_model.specs.Clues.{next_ordinal, last_journal}
-use Rattle.ledger_model.specs.History.{History, history, journals, size}
+use Rattle.ledger_model.specs.History.{History, history, journals, size, point}
 use Rattle.ledger_model.specs.Judgements.{clues_full}
 use Rattle.ledger_model.specs.Limits.{real_limits}
 use Rattle.ledger_model.specs.Members.{members}
+use Rattle.ledger_model.specs.Targets.{is_hidden, kind_at, leaf_at}
 
 -- a member's record: the member is known, the clue's numbers are the next ones, and there is room for the clue
 pub record IsNextRecord (h : History) (x : Header) : Type 0 where
@@ -20,13 +21,22 @@ pub record IsNextRecord (h : History) (x : Header) : Type 0 where
   pub clue_prev : x.clue_prev ≡ last_journal h x.clue
   pub room : clues_full real_limits h x.clue ≡ None
 
--- what the next journal must be by its kind; the other kinds are placed by no job so far
+-- an occult: it names a record that is kept and that none hides yet, by its number and its leaf digest
+pub record IsNextOccult (h : History) (x : Header) : Type 0 where
+  pub kept : point h ≤ x.a
+  pub before : x.a < size h
+  pub target_is : kind_at h x.a ≡ kind.Content
+  pub shown : is_hidden h x.a ≡ false
+  pub leaf_is : x.link.0 ≡ leaf_at h x.a
+
+-- what the next journal must be by its kind; no job places a purge so far
 abbrev pub IsNextOf : History → Header → Kind → Type 0
 IsNextOf h x kind.Genesis = ⊤
 IsNextOf h x kind.Content = IsNextRecord h x
 IsNextOf h x kind.Member = x.a ≡ length (members h)
 IsNextOf h x kind.Time = ⊤
-IsNextOf h x other = ⊥
+IsNextOf h x kind.Occult = IsNextOccult h x
+IsNextOf h x kind.Purge = ⊥
 
 -- a header that may be the next one: it obeys its layout, by which it is a genesis exactly where it is the first
 pub record IsNext (h : History) (x : Header) : Type 0 where

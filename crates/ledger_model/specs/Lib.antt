@@ -4,6 +4,7 @@ pub mod Genesis
 pub mod Limits
 pub mod Step
 pub mod Members
+pub mod Targets
 pub mod Clues
 pub mod Bases
 pub mod Scheme

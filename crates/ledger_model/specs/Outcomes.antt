@@ -1,17 +1,15 @@
 -- What a job does to a history by itself: what comes of it, and what it places in the open block.
-use Rattle.std.specs.Prelude.{◌≡◌, ℕ, ◌==◌, ◌&&◌, Bool, true, false, if◌then◌else◌, List, [], ◌∷◌, ◌++◌, Option, Some, None, nat_le, nat_lt, slice_get, ⊤}
-use Rattle.std.specs.List.{list_any}
+use Rattle.std.specs.Prelude.{◌≡◌, ℕ, if◌then◌else◌, [], ◌∷◌, ◌++◌, Option, Some, None, nat_le, nat_lt, ⊤}
 use Rattle.ledger_bytes.specs.Digests.{digest}
 use Rattle.ledger_bytes.specs.declared.refusal.Refusal.{Refusal}
 use Rattle.journal_record.specs.Entry.{Entry}
-use Rattle.journal_record.specs.declared.header.Kind.{Kind}
-use Rattle.journal_record.specs.declared.header.Kind.TheVariants as kind
 use Rattle.journal_record.specs.declared.stamp.Stamp.{Stamp}
 use Rattle.std.specs.Option.{option_map}
 use Rattle.ledger_model.specs.Anchors.{time_journal}
-use Rattle.ledger_model.specs.Appends.{append_journal, member_journal}
-use Rattle.ledger_model.specs.History.{History, history, journals, size, point, leaf_digest}
+use Rattle.ledger_model.specs.Appends.{append_journal, member_journal, occult_journal}
+use Rattle.ledger_model.specs.History.{History, history, size, point, leaf_digest}
 use Rattle.ledger_model.specs.Judgements.{own_refusal}
+use Rattle.ledger_model.specs.Targets.{is_hidden}
 use Rattle.ledger_model.specs.declared.job.Job.{Job}
 use Rattle.ledger_model.specs.declared.job.Job.TheVariants as job
 use Rattle.ledger_model.specs.declared.limits.Limits.{Limits}
@@ -28,6 +26,7 @@ placed_journal h stamp (job.Refused refusal) = None
 placed_journal h stamp (job.Append member clue content content_digest request by) = Some (append_journal h member clue content content_digest request by)
 placed_journal h stamp (job.NewMember number key by) = Some (member_journal (size h) number key by)
 placed_journal h stamp job.Anchor = option_map (time_journal (size h)) stamp
+placed_journal h stamp (job.Occult target leaf given) = Some (occult_journal (size h) target leaf given)
 placed_journal h stamp (job.Get n) = None
 placed_journal h stamp (job.Prove n) = None
 placed_journal h stamp (job.Extend which m) = None
@@ -74,6 +73,7 @@ accepted_outcome h stamp (job.Append member clue content content_digest request 
     placed_as (size h) (append_journal h member clue content content_digest request by)
 accepted_outcome h stamp (job.NewMember number key by) = placed_as (size h) (member_journal (size h) number key by)
 accepted_outcome h stamp job.Anchor = anchor_outcome h stamp
+accepted_outcome h stamp (job.Occult target leaf given) = placed_as (size h) (occult_journal (size h) target leaf given)
 accepted_outcome h stamp (job.Get n) = Reading (query.Get n)
 accepted_outcome h stamp (job.Prove n) = Reading (query.Prove n)
 accepted_outcome h stamp (job.Extend which m) = Reading (query.Extend which m)
@@ -94,23 +94,6 @@ abbrev pub AsksFor : Job → Outcome → Type 0
 AsksFor job (Refused refusal) = ⊤
 AsksFor job (Placed jsn leaf) = ⊤
 AsksFor job (Reading query) = query_of job ≡ Some query
-
-abbrev pub is_occult : Kind → Bool
-is_occult kind.Occult = true
-is_occult other = false
-
--- whether a journal hides the content of another: of the one whose number it names
-abbrev pub hides : Entry → Entry → Bool
-hides target journal = is_occult journal.header.kind && journal.header.a == target.header.jsn
-
--- whether one of some journals hides the content of a journal, where that one is there
-abbrev pub is_hidden_by : List Entry → Option Entry → Bool
-is_hidden_by journals None = false
-is_hidden_by journals (Some target) = list_any (hides target) journals
-
--- whether the content of journal n is hidden
-abbrev pub is_hidden : History → ℕ → Bool
-is_hidden h n = is_hidden_by (journals h) (slice_get (journals h) n)
 
 -- what of journal n can be shown
 unfoldable pub view : History → ℕ → View

@@ -2,7 +2,7 @@ ghost use Rattle.std.specs.Prelude.{◌≡◌};
 ghost use Rattle.ledger_model.specs.Rules.{closes_before, closes_after};
 
 use journal_record::Approval;
-use ledger_bytes::{Bytes, Digest, Refusal};
+use ledger_bytes::{Bytes, Digest, Items, Refusal};
 use script_lines::Which;
 
 /// What a line of a script asks for, with everything that the line alone defines.
@@ -34,6 +34,15 @@ pub enum Job {
     },
     /// A journal that tells a time, with a stamp of the notary over everything that was placed before.
     Anchor,
+    /// An occult: a journal that hides the content of a record.
+    Occult {
+        /// The record's number.
+        target: u64,
+        /// The digest of the record's leaf.
+        leaf: Digest,
+        /// Who approves it, in the order in which they were given.
+        given: Items<Approval>,
+    },
     /// A journal.
     Get {
         /// The journal's number.
@@ -67,6 +76,7 @@ impl Job {
         match self {
             Job::Refused(_) | Job::Append { .. } | Job::NewMember { .. } => false,
             Job::Anchor
+            | Job::Occult { .. }
             | Job::Get { .. }
             | Job::Prove { .. }
             | Job::Extend { .. }
@@ -80,7 +90,7 @@ impl Job {
         ensures { result ≡ closes_after self.now }
     {
         match self {
-            Job::Anchor => true,
+            Job::Anchor | Job::Occult { .. } => true,
             Job::Refused(_)
             | Job::Append { .. }
             | Job::NewMember { .. }

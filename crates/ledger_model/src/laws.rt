@@ -1,9 +1,11 @@
-ghost use Rattle.std.specs.Prelude.{◌≡◌, ℕ, ◌+◌, ◌^◌, ◌<◌, ◌≤◌, List, ◌++◌, length, All, Some, slice_get, true, false};
+ghost use Rattle.std.specs.Prelude.{◌≡◌, ◌≢◌, ℕ, ◌+◌, ◌^◌, ◌<◌, ◌≤◌, List, ◌++◌, length, All, Some, None, slice_get, true, false};
 ghost use Rattle.std.specs.List.{flat_map};
 ghost use Rattle.ledger_bytes.specs.declared.digest.Digest.{Digest};
 ghost use Rattle.journal_record.specs.Entry.{Entry};
 ghost use Rattle.journal_record.specs.Header.{spelling};
 ghost use Rattle.journal_record.specs.Rules.{IsHeader};
+ghost use Rattle.journal_record.specs.declared.approval.Approval.{Approval};
+ghost use Rattle.journal_record.specs.declared.header.Kind.TheVariants as kinds;
 ghost use Rattle.script_lines.specs.Receipts.{AllFit, IsReceipted};
 ghost use Rattle.script_lines.specs.declared.reply.Reply.TheVariants as replies;
 ghost use Rattle.script_lines.specs.declared.said.Which.TheVariants.{Ledger, Notary};
@@ -19,7 +21,9 @@ ghost use Rattle.ledger_model.specs.Getting.{get_reply};
 ghost use Rattle.ledger_model.specs.Growing.{Grows};
 ghost use Rattle.ledger_model.specs.History.{History, journals, journals_of, size, id, point, seen_point, close, root};
 ghost use Rattle.ledger_model.specs.InOrder.{steps_of};
+ghost use Rattle.ledger_model.specs.Judgements.{own_refusal};
 ghost use Rattle.ledger_model.specs.Lawful.{IsLawful, IsSound};
+ghost use Rattle.ledger_model.specs.Limits.{real_limits};
 ghost use Rattle.ledger_model.specs.Outcomes.{view};
 ghost use Rattle.ledger_model.specs.Pegs.{Pegged};
 ghost use Rattle.ledger_model.specs.Prepared.{prepared_items, after_jobs, job_dues};
@@ -27,6 +31,7 @@ ghost use Rattle.ledger_model.specs.Proofs.{shown_of, extension_in, list_extensi
 ghost use Rattle.ledger_model.specs.Rules.{after_job, after_steps, after};
 ghost use Rattle.ledger_model.specs.Scheme.{Scheme};
 ghost use Rattle.ledger_model.specs.Step.{Step};
+ghost use Rattle.ledger_model.specs.Targets.{hider, is_hidden, kind_at};
 ghost use Rattle.ledger_model.specs.Texts.{text, answer_to, proof_reply, extension_reply};
 ghost use Rattle.ledger_model.specs.Took.{counts_after, NoneCall, Took, TookAll};
 ghost use Rattle.ledger_model.specs.Windows.{Said, said_lines, windows, AllButLastWhole, NoneWholeBefore};
@@ -94,6 +99,35 @@ pub fn sound_histories_show_their_journals()
     ensures occulted { (h : History) (n : ℕ) (e : Entry) → IsSound h
         → slice_get (journals h) n ≡ Some e → view h n ≡ views.Occulted
         → get_reply h n ≡ replies.Occulted (spelling e.header) e.who }
+{}
+
+/// An occult that is accepted, of a record that was shown whole, hides its content: the occult is the first journal that does.
+/// What can be shown of all others stays as it was.
+pub fn an_occult_hides_its_target()
+    ensures hider { (h : History) (step : Step) (target : ℕ) (leaf : Digest) (given : List Approval)
+        → IsLawful h
+        → own_refusal real_limits (close h) (jobs.Occult target leaf given) ≡ None
+        → hider (after_job h step (jobs.Occult target leaf given)) target ≡ Some (size h) }
+    ensures before { (h : History) (step : Step) (target : ℕ) (leaf : Digest) (given : List Approval)
+        → IsLawful h
+        → own_refusal real_limits (close h) (jobs.Occult target leaf given) ≡ None
+        → view h target ≡ views.Whole }
+    ensures after { (h : History) (step : Step) (target : ℕ) (leaf : Digest) (given : List Approval)
+        → IsLawful h
+        → own_refusal real_limits (close h) (jobs.Occult target leaf given) ≡ None
+        → view (after_job h step (jobs.Occult target leaf given)) target ≡ views.Occulted }
+    ensures others { (h : History) (step : Step) (target : ℕ) (leaf : Digest) (given : List Approval) (n : ℕ)
+        → IsLawful h
+        → own_refusal real_limits (close h) (jobs.Occult target leaf given) ≡ None
+        → n < size h → n ≢ target
+        → view (after_job h step (jobs.Occult target leaf given)) n ≡ view h n }
+{}
+
+/// In a lawful history only records are hidden, so the first journal never is.
+pub fn only_records_are_hidden()
+    ensures records { (h : History) (n : ℕ) → IsLawful h → is_hidden h n ≡ true
+        → kind_at h n ≡ kinds.Content }
+    ensures first { (h : History) → IsLawful h → is_hidden h 0 ≡ false }
 {}
 
 /// From journal 0 on the whole point is seen; from a later journal on it is, where what is seen reaches that journal.

@@ -1,5 +1,5 @@
-ghost use Rattle.std.specs.Prelude.{◌≡◌, ◌≤◌, ◌<◌, length, true, false, IfOk, IfSome, OnOk, OnErr, Option, option_copied};
-ghost use Rattle.ledger_bytes.specs.declared.limits.TheConstants.{CONTENT_LIMIT, PROOF_LIMIT};
+ghost use Rattle.std.specs.Prelude.{◌≡◌, ◌≤◌, ◌<◌, length, true, false, IfOk, IfSome, OnOk, OnErr, Option, option_copied, All};
+ghost use Rattle.ledger_bytes.specs.declared.limits.TheConstants.{APPROVAL_LIMIT, CONTENT_LIMIT, PROOF_LIMIT};
 ghost use Rattle.journal_record.specs.declared.rules.TheConstants.{NOTARY_LIMIT};
 ghost use Rattle.journal_record.specs.declared.stamp.Stamp.{Stamp as StampRecord};
 ghost use Rattle.ledger_model.specs.Fitting.{fits_job};
@@ -11,7 +11,7 @@ ghost use Rattle.ledger_book.specs.Books.{Serves};
 ghost use Rattle.ledger_book.specs.Steps.{IsSame, IsAsBefore, HasNumber, PlacesNothing, NeverReads, Applies, OpenGathers, Anchors};
 
 use super::Book;
-use crate::headers::{new_member_header, record_header, time_header};
+use crate::headers::{new_member_header, occult_header, record_header, time_header};
 use journal_record::{Approval, Stamp};
 use ledger_bytes::{Bytes, Digest, NoMemory, Sha};
 use ledger_model::{Job, Outcome, Query};
@@ -49,6 +49,11 @@ impl Book {
             } => self.apply_record(*member, clue, content, content_digest, request, by),
             Job::NewMember { number, key, by } => self.apply_member(*number, key, by),
             Job::Anchor => self.apply_anchor(stamp),
+            Job::Occult {
+                target,
+                leaf,
+                given,
+            } => self.apply_occult(*target, leaf, given.as_slice()),
             Job::Get { n } => Ok(Outcome::Reading(Query::Get { n: *n })),
             Job::Prove { n } => match self.prove_refusal(*n) {
                 Some(refusal) => Ok(Outcome::Refused(refusal)),
@@ -132,6 +137,35 @@ impl Book {
         };
         let jsn = self.size;
         let header = time_header(jsn, stamp);
+        let leaf = leaf_of::<Sha>(&header.encode());
+        self.place_record(&header, leaf)?;
+        Ok(Outcome::Placed { jsn, leaf })
+    }
+
+    // Judges an occult, and places it where it is accepted.
+    fn apply_occult(
+        &mut self,
+        target: u64,
+        leaf: &Digest,
+        given: &[Approval],
+    ) -> Result<Outcome, NoMemory>
+        requires count { length given.now ≤ APPROVAL_LIMIT }
+        requires proofs { All (λ a. length a.proof ≤ PROOF_LIMIT) given.now }
+        ensures ok { IfOk result (λ outcome. (stamp : Option StampRecord) (h : History)
+            → Serves self.old h
+            → Applies self.old.limits stamp h
+            (asked.Occult target leaf.now given.now) outcome self.new) }
+        ensures number { IfOk result (HasNumber self.old self.new) }
+        ensures err { OnErr result (IsAsBefore self.old self.new) }
+        ensures same { IsSame self.old self.new }
+        ensures unchanged { IfOk result (λ outcome. PlacesNothing outcome → self.new ≡ self.old) }
+        ensures places { IfOk result NeverReads }
+    {
+        if let Some(refusal) = self.occult_refusal(target, leaf, given) {
+            return Ok(Outcome::Refused(refusal));
+        }
+        let jsn = self.size;
+        let header = occult_header(jsn, target, leaf, given);
         let leaf = leaf_of::<Sha>(&header.encode());
         self.place_record(&header, leaf)?;
         Ok(Outcome::Placed { jsn, leaf })

@@ -1,6 +1,7 @@
 //! Why a job that asks for a proof is refused.
 
-ghost use Rattle.std.specs.Prelude.{◌≡◌};
+ghost use Rattle.std.specs.Prelude.{◌≡◌, ◌⊎◌, ◌<◌, ◌≤◌, IfSome, IfNone};
+ghost use Rattle.ledger_bytes.specs.declared.refusal.Refusal.TheVariants.{NoJournal, Purged, BadSize};
 ghost use Rattle.ledger_model.specs.History.{History};
 ghost use Rattle.ledger_model.specs.Judgements.{own_refusal};
 ghost use Rattle.ledger_model.specs.Proofs as proofs;
@@ -13,9 +14,11 @@ use ledger_bytes::Refusal;
 use script_lines::Which;
 
 impl Book {
-    /// Why journal `n` has no proof, where it has none.
-    pub(super) fn prove_refusal(&self, n: u64) -> Option<Refusal>
-        ensures { (h : History) → Serves self.now h → result ≡ proofs.prove_refusal h n }
+    /// Why journal `n` has no proof, where it has none: `NoJournal` where there is no such journal, with the size, and then
+    /// `Purged` where it lies below the point.
+    pub fn prove_refusal(&self, n: u64) -> Option<Refusal>
+        ensures why { (h : History) → Serves self.now h → result ≡ proofs.prove_refusal h n }
+        ensures kinds { IfSome result (λ why. (why ≡ NoJournal self.now.size) ⊎ (why ≡ Purged self.now.point)) }
     {
         if n >= self.size {
             Some(Refusal::NoJournal { size: self.size })
@@ -38,9 +41,12 @@ impl Book {
         }
     }
 
-    // Why there is no proof that the ledger goes on from its first `m` journals, where there is none.
-    fn ledger_refusal(&self, m: u64) -> Option<Refusal>
-        ensures { (h : History) → Serves self.now h → result ≡ proofs.extend_refusal h m }
+    /// Why there is no proof that the ledger goes on from its first `m` journals, where there is none: `BadSize` where they are
+    /// none or not so many are there, with the size, and then `Purged` where more lie below the point.
+    pub fn ledger_refusal(&self, m: u64) -> Option<Refusal>
+        ensures why { (h : History) → Serves self.now h → result ≡ proofs.extend_refusal h m }
+        ensures kinds { IfSome result (λ why. (why ≡ BadSize self.now.size) ⊎ (why ≡ Purged self.now.point)) }
+        ensures within { IfNone result ((0 < m) × (m ≤ self.now.size) × (self.now.point ≤ m)) }
     {
         if m == 0 || m > self.size {
             Some(Refusal::BadSize { size: self.size })

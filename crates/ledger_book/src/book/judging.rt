@@ -1,14 +1,20 @@
-ghost use Rattle.std.specs.Prelude.{◌≡◌, ◌<◌, [], ◌∷◌, length, IfNone, IfSome, None};
+ghost use Rattle.std.specs.Prelude.{◌≡◌, ◌<◌, ◌≤◌, ◌^◌, [], ◌∷◌, length, IfNone, IfSome, None};
 ghost use Rattle.ledger_bytes.specs.declared.limits.TheConstants.{MEMBER_LIMIT};
 ghost use Rattle.journal_record.specs.Members.{keys};
+ghost use Rattle.ledger_bytes.specs.Digests.{digest};
+ghost use Rattle.ledger_model.specs.History as model;
 ghost use Rattle.ledger_model.specs.History.{History};
-ghost use Rattle.ledger_model.specs.Judgements.{fullness, hard_fullness, unknown_in, wrong_key_in, clues_full, append_judgements, member_judgements, first_refusal};
+ghost use Rattle.ledger_model.specs.Targets.{kind_at, leaf_at};
+ghost use Rattle.ledger_model.specs.Judgements.{fullness, hard_fullness, unknown_in, wrong_key_in, clues_full, append_judgements, member_judgements, occult_judgements};
+ghost use Rattle.member_book.specs.Erasures.{first_refusal};
 ghost use Rattle.ledger_model.specs.Limits.{AreWithin, real_limits};
 ghost use Rattle.ledger_book.specs.Books.{Stands, Serves};
+ghost use Rattle.ledger_book.specs.Facts.{AreFacts};
 ghost use Rattle.ledger_book.specs.Steps.{HasOperatorRoom};
 
 use super::Book;
-use journal_record::Approval;
+use erase_rules::{OccultFacts, judge_occult};
+use journal_record::{Approval, Kind};
 use ledger_bytes::{Digest, Refusal};
 use ledger_model::Limits;
 
@@ -113,5 +119,62 @@ impl Book {
             return None;
         }
         Some(Refusal::CluesFull)
+    }
+
+    /// Why an occult is refused, where it is: there is no room for a journal of the operator, or else by its target and its
+    /// approvals.
+    pub(super) fn occult_refusal(
+        &self,
+        target: u64,
+        leaf: &Digest,
+        given: &[Approval],
+    ) -> Option<Refusal>
+        requires { length given.now < 2 ^ 32 }
+        ensures refusal { (h : History) → Serves self.now h
+            → result ≡ first_refusal
+            (occult_judgements self.now.limits h target leaf.now given.now) }
+        ensures room { IfNone result (self.now.size < real_limits.size) }
+        ensures within { AreWithin self.now.limits }
+    {
+        if let Some(refusal) = self.hard_refusal() {
+            return Some(refusal);
+        }
+        judge_occult(&self.facts(target), &self.members, leaf, given).err()
+    }
+
+    /// What is known of journal `n`, where an occult names it.
+    pub(super) fn facts(&self, n: u64) -> OccultFacts
+        ensures { (h : History) → Serves self.now h → AreFacts h result n }
+    {
+        OccultFacts {
+            target: n,
+            size: self.size,
+            point: self.point,
+            kind: self.kind_of(n),
+            by: self.hiders.of(n),
+            leaf: self.leaf_of(n),
+        }
+    }
+
+    // The kind of a journal that is kept.
+    fn kind_of(&self, n: u64) -> Kind
+        ensures { (h : History) → Serves self.now h → self.now.floor ≤ n → n < model.size h
+            → result ≡ kind_at h n }
+    {
+        match self.header(n) {
+            Some(header) => header.kind,
+            None => Kind::Genesis,
+        }
+    }
+
+    // The leaf digest of a journal that is kept.
+    fn leaf_of(&self, n: u64) -> Digest
+        ensures { (h : History) → Serves self.now h → self.now.floor ≤ n → n < model.size h
+            → result ≡ digest (leaf_at h n) }
+    {
+        match self.tree.leaf(n) {
+            Ok(leaf) => leaf,
+            Err(_) => Digest::ZERO,
+        }
     }
 }

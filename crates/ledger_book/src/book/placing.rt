@@ -13,10 +13,12 @@ ghost use Rattle.ledger_model.specs.Limits.{real_limits};
 ghost use Rattle.ledger_model.specs.Members.{is_member};
 ghost use Rattle.ledger_model.specs.Outcomes.{with_waiting};
 ghost use Rattle.ledger_book.specs.Books.{Stands};
+ghost use Rattle.ledger_book.specs.Hiders.{AddsHider};
 ghost use Rattle.ledger_book.specs.Steps.{IsSame, IsAsBefore, MayPlace, IsLeafOf, OpenGathers, with_clue_of, with_time_of};
 
 use super::Book;
 use crate::headers::Place;
+use crate::hiders::Hiders;
 use clue_index::ClueIndex;
 use journal_record::{Header, Kind};
 use ledger_bytes::{Digest, NoMemory, TimeMark};
@@ -67,7 +69,13 @@ impl Book {
         self.headers.reserve(1)?;
         self.tree.reserve(1)?;
         self.ends.reserve(1)?;
-        add_to_indexes(&mut self.times, &mut self.clues, self.size, header)?;
+        add_to_indexes(
+            &mut self.times,
+            &mut self.clues,
+            &mut self.hiders,
+            self.size,
+            header,
+        )?;
         self.tree.add_leaves(&[leaf]);
         self.headers.push_reserved(*header);
         self.size += 1;
@@ -101,10 +109,12 @@ impl Book {
     }
 }
 
-// Adds a journal, which has this number, to the times where it is a time journal, and else to its clue, where it has one.
+// Adds a journal, which has this number, to the times where it is a time journal, to the hiders where it is an occult, and
+// else to its clue, where it has one.
 fn add_to_indexes(
     times: &mut TimeIndex,
     clues: &mut ClueIndex,
+    hiders: &mut Hiders,
     jsn: u64,
     header: &Header,
 ) -> Result<(), NoMemory>
@@ -114,7 +124,9 @@ fn add_to_indexes(
         → index.Stands clues.old a → a.floor ≤ header.now.jsn
         → All (λ m. m.jsn < header.now.jsn) a.marks
         → index.Stands clues.new (with_clue_of header.now a)) }
-    ensures err { OnErr result ((times.new ≡ times.old) × (clues.new ≡ clues.old)) }
+    ensures hiders { OnOk result (AddsHider header.now.kind header.now hiders.old hiders.new) }
+    ensures err { OnErr result ((times.new ≡ times.old) × (clues.new ≡ clues.old)
+        × (hiders.new ≡ hiders.old)) }
 {
     if header.kind == Kind::Time {
         return times.add(TimeMark {
@@ -122,6 +134,9 @@ fn add_to_indexes(
             index: header.a,
             time: header.b,
         });
+    }
+    if header.kind == Kind::Occult {
+        return hiders.add(header.a, header.jsn);
     }
     add_clue(clues, header)
 }

@@ -12,8 +12,10 @@ ghost use Rattle.ledger_book.specs.Replaying.{IsFirst, begun_with, Replays};
 ghost use Rattle.ledger_book.specs.Steps.{IsSame, IsAsBefore, MayPlace, IsLeafOf};
 
 use super::Book;
+use crate::hiders::Hiders;
 use block_file::Damage;
 use clue_index::ClueIndex;
+use erase_rules::target_refusal;
 use journal_record::{Header, Kind};
 use ledger_bytes::{Digest, NoMemory, Sha};
 use ledger_model::Limits;
@@ -63,6 +65,7 @@ impl Book {
             id: leaf,
             members,
             clues: ClueIndex::new(alloc),
+            hiders: Hiders::new(alloc),
             times: TimeIndex::new(alloc),
             headers,
             tree,
@@ -71,8 +74,8 @@ impl Book {
 
     /// Places the journal with this header, whose leaf digest is known, in the open block, where it is the next one.
     /// Contents aren't looked at, since they may be hidden. A header that isn't the next one has the damage [`Damage::Entry`] with the number
-    /// that is next, and changes nothing; so does an `Err`. What no job places so far is never the next one: a journal
-    /// of the kinds occult and purge.
+    /// that is next, and changes nothing; so does an `Err`. A purge is never the next one, since no job places it
+    /// so far.
     pub fn replay(&mut self, header: &Header, leaf: &Digest) -> Result<Result<(), Damage>, NoMemory>
         requires layout { IsHeader header.now }
         requires leaf { IsLeafOf header.now leaf.now }
@@ -109,7 +112,8 @@ impl Book {
             Kind::Content => self.is_next_record(header),
             Kind::Member => header.a == u64::from(self.members.count()),
             Kind::Time => true,
-            Kind::Genesis | Kind::Occult | Kind::Purge => false,
+            Kind::Occult => target_refusal(&self.facts(header.a), &header.link).is_none(),
+            Kind::Genesis | Kind::Purge => false,
         }
     }
 

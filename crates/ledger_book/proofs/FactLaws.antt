@@ -1,0 +1,115 @@
+-- Lemmas on the journal that an occult names: what a book tells of it is what the history says.
+use Rattle.std.specs.Prelude.{IsTrue, nat_le, nat_lt, slice_get, get_or}
+use Rattle.std.specs.Result.{result_err}
+use Rattle.std.specs.Option.{is_some, is_none}
+use Rattle.std.proofs.Common.{◌≡◌, ℕ, zero, suc, ◌<◌, ◌≤◌, ◌↔◌, not, Bool, true, false, cond, List, [], ◌∷◌, ◌++◌, length, map, Option, Some, None, refl, sym, ◌∙◌, ap, arith}
+use Rattle.std.proofs.lemmas.Bool.{le-leb, lt-leb, le-ltb, leb-false, ltb-false, true≢false}
+use Rattle.std.proofs.lemmas.Slice.Eq.{bytes_eq-Decides}
+use Rattle.ledger_bytes.specs.Digests.{digest}
+use Rattle.ledger_bytes.specs.declared.digest.Digest.{Digest}
+use Rattle.ledger_bytes.specs.declared.refusal.Refusal.{Refusal}
+use Rattle.ledger_bytes.specs.declared.refusal.Refusal.TheVariants.{NoJournal, Purged, LeafDiffers}
+use Rattle.journal_record.specs.Entry.{Entry}
+use Rattle.journal_record.specs.declared.header.Header.{Header}
+use Rattle.journal_record.specs.declared.header.Kind.{Kind}
+use Rattle.journal_record.specs.declared.header.Kind.TheVariants as kind
+use Rattle.member_book.specs.Approvals.{judgement}
+use Rattle.member_book.specs.Erasures.{purged, no_record, hidden_by, other_leaf, target_row, first_refusal}
+use Rattle.erase_rules.specs.declared.occult.OccultFacts.{OccultFacts}
+use Rattle.ledger_model.specs.History.{History, journals, size, point}
+use Rattle.ledger_model.specs.Lawful.{IsNextOccult}
+use Rattle.ledger_model.specs.Targets.{hider, kind_at, leaf_at}
+use Rattle.ledger_model.proofs.AcceptedLaws.{target_own}
+use Rattle.ledger_model.proofs.HideLaws.{hidden_is}
+use Rattle.ledger_book.specs.Books.{headers}
+use Rattle.ledger_book.specs.Facts.{AreFacts}
+
+-- the kind of a journal whose header is there
+read_kind : (es : List Entry) (n : ℕ) (x : Header) → Some x ≡ slice_get (map (λ (e : Entry). e.header) es) n → x.kind ≡ get_or (map (λ (e : Entry). e.header.kind) es) n kind.Genesis
+read_kind [] n x is = absurd cc
+read_kind (e ∷ es) zero x is = let same : x ≡ e.header = cc in ap (λ (y : Header). y.kind) same
+read_kind (e ∷ es) (suc n) x is = read_kind es n x is
+
+read_none : (es : List Entry) (n : ℕ) → (let none : Option Header = None in none ≡ slice_get (map (λ (e : Entry). e.header) es) n) → length es ≤ n
+read_none [] n is = omega arith
+read_none (e ∷ es) zero is = absurd cc
+read_none (e ∷ es) (suc n) is = omega (arith, read_none es n is)
+
+pub kind_read : (floor : ℕ) (h : History) (n : ℕ) (x : Header) → floor ≤ n → Some x ≡ cond (nat_le floor n) (slice_get (headers h) n) None → x.kind ≡ kind_at h n
+kind_read floor h n x le is = read_kind (journals h) n x (is ∙ ap (λ (v : Bool). cond v (slice_get (headers h) n) None) (le-leb floor n le))
+
+pub kind_none : (floor : ℕ) (h : History) (n : ℕ) → floor ≤ n → n < size h → (let none : Option Header = None in none ≡ cond (nat_le floor n) (slice_get (headers h) n) None) → ⊥
+kind_none floor h n le lt is = omega (arith, lt, read_none (journals h) n (is ∙ ap (λ (v : Bool). cond v (slice_get (headers h) n) None) (le-leb floor n le)))
+
+-- the row over the facts is that over the history
+module _ (h : History) (f : OccultFacts) (n : ℕ) (leaf : Digest) (rest : List (Option Refusal)) (a : AreFacts h f n) where
+  abbrev row : ℕ → ℕ → Kind → Option ℕ → Digest → ℕ → List (Option Refusal)
+  row size point kind by kept target = target_row size point kind by kept target leaf ++ rest
+
+  by_point : n < size h → first_refusal (purged (point h) n ∷ no_record f.kind ∷ hidden_by f.by ∷ other_leaf f.leaf leaf ∷ rest) ≡ first_refusal (purged (point h) n ∷ no_record (kind_at h n) ∷ hidden_by (hider h n) ∷ other_leaf (digest (leaf_at h n)) leaf ∷ rest)
+  by_point lt = elim (nat_lt n (point h)) as (λ v. nat_lt n (point h) ≡ v → first_refusal (cond v (Some (Purged (point h))) None ∷ no_record f.kind ∷ hidden_by f.by ∷ other_leaf f.leaf leaf ∷ rest) ≡ first_refusal (cond v (Some (Purged (point h))) None ∷ no_record (kind_at h n) ∷ hidden_by (hider h n) ∷ other_leaf (digest (leaf_at h n)) leaf ∷ rest)) [
+    | true ↦ λ e. refl
+    | false ↦ λ e.
+        let le = ltb-false n (point h) e in
+        ap (λ k. first_refusal (no_record k ∷ hidden_by f.by ∷ other_leaf f.leaf leaf ∷ rest)) (a.kind_is le lt)
+        ∙ ap (λ o. first_refusal (no_record (kind_at h n) ∷ hidden_by o ∷ other_leaf f.leaf leaf ∷ rest)) (a.by_is le)
+        ∙ ap (λ l. first_refusal (no_record (kind_at h n) ∷ hidden_by (hider h n) ∷ other_leaf l leaf ∷ rest)) (a.leaf_is le lt)
+  ] refl
+
+  by_size : first_refusal (row (size h) (point h) f.kind f.by f.leaf n) ≡ first_refusal (row (size h) (point h) (kind_at h n) (hider h n) (digest (leaf_at h n)) n)
+  by_size = elim (nat_le (size h) n) as (λ v. nat_le (size h) n ≡ v → first_refusal (cond v (Some (NoJournal (size h))) None ∷ purged (point h) n ∷ no_record f.kind ∷ hidden_by f.by ∷ other_leaf f.leaf leaf ∷ rest) ≡ first_refusal (cond v (Some (NoJournal (size h))) None ∷ purged (point h) n ∷ no_record (kind_at h n) ∷ hidden_by (hider h n) ∷ other_leaf (digest (leaf_at h n)) leaf ∷ rest)) [
+    | true ↦ λ e. refl
+    | false ↦ λ e. by_point (leb-false (size h) n e)
+  ] refl
+
+  pub row_told : first_refusal (row f.size f.point f.kind f.by f.leaf f.target) ≡ first_refusal (row (size h) (point h) (kind_at h n) (hider h n) (digest (leaf_at h n)) n)
+  row_told =
+      ap (λ x. first_refusal (row x f.point f.kind f.by f.leaf f.target)) a.size_is
+      ∙ ap (λ x. first_refusal (row (size h) x f.kind f.by f.leaf f.target)) a.point_is
+      ∙ ap (λ x. first_refusal (row (size h) (point h) f.kind f.by f.leaf x)) a.target_is
+      ∙ by_size
+
+-- an occult that may be the next one isn't refused by its target
+none_hidden : (o : Option ℕ) → is_some o ≡ false → (let none : Option Refusal = None in hidden_by o ≡ none)
+none_hidden None is = refl
+none_hidden (Some x) is = absurd (true≢false is)
+
+own_row : (h : History) (x : Header) → IsNextOccult h x → (let none : Option Refusal = None in first_refusal (target_row (size h) (point h) (kind_at h x.a) (hider h x.a) (digest (leaf_at h x.a)) x.a x.link) ≡ none)
+own_row h x own =
+    let kept = digest (leaf_at h x.a) in
+    ap (λ v. first_refusal (cond v (Some (NoJournal (size h))) None ∷ purged (point h) x.a ∷ no_record (kind_at h x.a) ∷ hidden_by (hider h x.a) ∷ other_leaf (digest (leaf_at h x.a)) x.link ∷ [])) (lt-leb (size h) x.a own.before)
+    ∙ ap (λ v. first_refusal (cond v (Some (Purged (point h))) None ∷ no_record (kind_at h x.a) ∷ hidden_by (hider h x.a) ∷ other_leaf (digest (leaf_at h x.a)) x.link ∷ [])) (le-ltb x.a (point h) own.kept)
+    ∙ ap (λ k. first_refusal (no_record k ∷ hidden_by (hider h x.a) ∷ other_leaf (digest (leaf_at h x.a)) x.link ∷ [])) own.target_is
+    ∙ ap (λ o. first_refusal (o ∷ other_leaf (digest (leaf_at h x.a)) x.link ∷ [])) (none_hidden (hider h x.a) (sym (hidden_is h x.a) ∙ own.shown))
+    ∙ ap (λ v. first_refusal (cond v None (Some (LeafDiffers (digest (leaf_at h x.a)))) ∷ [])) ((bytes_eq-Decides x.link.0 (leaf_at h x.a)).1 own.leaf_is)
+
+is_none_none : (o : Option Refusal) → IsTrue (is_none o) → (let none : Option Refusal = None in o ≡ none)
+is_none_none None is = refl
+is_none_none (Some x) is = absurd (true≢false (sym is))
+
+pub none_told : (o : Option Refusal) (answer : Bool) → is_some o ≡ not answer → is_none o ≡ answer
+none_told None true is = refl
+none_told None false is = absurd cc
+none_told (Some x) true is = absurd cc
+none_told (Some x) false is = refl
+
+-- .. and one that isn't, may
+pub next_occult : (h : History) (x : Header) (f : OccultFacts) (o : Option Refusal) → AreFacts h f x.a → o ≡ first_refusal (target_row f.size f.point f.kind f.by f.leaf f.target x.link) → IsTrue (is_none o) ↔ IsNextOccult h x
+next_occult h x f o a told = (
+  λ yes. target_own h x [] (sym (told ∙ row_told h f x.a x.link [] a) ∙ is_none_none o yes),
+  λ own. ap is_none (told ∙ row_told h f x.a x.link [] a ∙ own_row h x own),
+)
+
+-- what a judge's answer tells of the refusal
+pub judged_err : (o : Option Refusal) → result_err (judgement o) ≡ o
+judged_err None = refl
+judged_err (Some x) = refl
+
+-- a row whose first refusal doesn't come
+pub row_after : (first : Option Refusal) (row : List (Option Refusal)) → (let none : Option Refusal = None in none ≡ first) → first_refusal (first ∷ row) ≡ first_refusal row
+row_after None row is = refl
+row_after (Some x) row is = absurd cc
+
+pub row_first : (first : Option Refusal) (row : List (Option Refusal)) (refusal : Refusal) → Some refusal ≡ first → Some refusal ≡ first_refusal (first ∷ row)
+row_first None row refusal is = absurd cc
+row_first (Some x) row refusal is = is
