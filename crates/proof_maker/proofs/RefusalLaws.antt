@@ -1,15 +1,12 @@
 -- Why there is no proof of a journal, and no extension.
-use Rattle.std.proofs.Common.{◌≡◌, ℕ, zero, suc, ◌<◌, ◌≤◌, cond, inl, inr, Option, Some, None, Err, refl, sym, ap, ◌∙◌, arith}
-use Rattle.std.specs.Prelude.{nat_lt}
-use Rattle.std.specs.Option.{option_or}
+use Rattle.std.proofs.Common.{◌≡◌, ℕ, zero, suc, ◌<◌, ◌≤◌, false, ◌⊎◌, inl, inr, Option, Some, None, refl, sym, ap, ◌∙◌, arith}
 use Rattle.std.proofs.lemmas.Bool.{cases_lt, le-leb, lt-leb, lt-ltb, le-ltb, ne_eqb}
+use Rattle.ledger_bytes.specs.declared.refusal.Refusal.{Refusal}
 use Rattle.ledger_bytes.specs.declared.refusal.Refusal.TheVariants.{NoJournal, Purged, BadSize}
 use Rattle.ledger_model.specs.History as model
 use Rattle.ledger_model.specs.History.{History}
-use Rattle.ledger_model.specs.Proofs.{prove_refusal, extend_refusal, size_refusal}
-use Rattle.proof_maker.specs.Making.{Extends, ChecksSize}
-use Rattle.proof_maker.specs.declared.made.MakeErr.{MakeErr}
-use Rattle.proof_maker.specs.declared.made.MakeErr.TheVariants.{Refused, NoMemory}
+use Rattle.ledger_model.specs.Proofs.{prove_refusal, size_refusal}
+use Rattle.proof_maker.specs.Making.{is_fault}
 
 some_none : {A : Type 0} {x : A} → (let none : Option A = None in Some x ≡ none) → ⊥
 some_none e = cc
@@ -39,6 +36,11 @@ passes h n none = elim (cases_lt n (model.size h)) [
   ]
 ]
 
+-- it is no failure of the notary
+pub no_fault : (why : Refusal) {x y : Refusal} → (why ≡ x) ⊎ (why ≡ y) → is_fault x ≡ false → is_fault y ≡ false → is_fault why ≡ false
+no_fault why (inl is) first second = ap is_fault is ∙ first
+no_fault why (inr is) first second = ap is_fault is ∙ second
+
 -- ---- of an extension
 
 over : (size m : ℕ) → size < suc m → size_refusal size (suc m) ≡ Some (BadSize size)
@@ -50,23 +52,3 @@ size_passes size (suc m) passes = elim (cases_lt size (suc m)) [
   | inl above ↦ absurd (some_none (sym (over size m above) ∙ passes))
   | inr there ↦ (omega arith, there)
 ]
-
-module _ (h : History) (size m : ℕ) (all : size ≡ model.size h) where
-  size_same : size_refusal (model.size h) m ≡ size_refusal size m
-  size_same = ap (λ s. size_refusal s m) (sym all)
-
-  pub size_refused : (e : MakeErr) → ChecksSize size m (Err e) → Extends h m (Err e)
-  unfolding extend_refusal
-  size_refused (Refused why) is = ap (λ o. option_or o (cond (nat_lt m (model.point h)) (Some (Purged (model.point h))) None)) (size_same ∙ is)
-  size_refused NoMemory is = absurd is
-
-  module _ (point : ℕ) (passes : size_refusal size m ≡ None) (seen : point ≡ model.point h) where
-    behind : extend_refusal h m ≡ cond (nat_lt m (model.point h)) (Some (Purged (model.point h))) None
-    unfolding extend_refusal
-    behind = ap (λ o. option_or o (cond (nat_lt m (model.point h)) (Some (Purged (model.point h))) None)) (size_same ∙ passes)
-
-    pub extension_purged : m < point → extend_refusal h m ≡ Some (Purged point)
-    extension_purged below = behind ∙ rw (lt-ltb m (model.point h) (omega (arith, seen, below))) (ap (λ p. Some (Purged p)) (sym seen))
-
-    pub extension_kept : point ≤ m → extend_refusal h m ≡ None
-    extension_kept kept = behind ∙ rw (le-ltb m (model.point h) (omega (arith, seen, kept))) refl

@@ -1,11 +1,12 @@
 -- The proofs that a run writes are accepted.
 use Rattle.std.specs.Prelude.{nat_le, nat_lt}
 use Rattle.std.specs.Option.{option_or}
-use Rattle.std.proofs.Common.{◌≡◌, ℕ, ◌<◌, ◌≤◌, ◌||◌, ◌==◌, Bool, true, false, cond, List, [], ◌∷◌, ◌++◌, length, map, Option, Some, None, refl, sym, ap, ◌∙◌, subst, arith, length-append}
+use Rattle.std.proofs.Common.{◌≡◌, ℕ, ◌<◌, ◌≤◌, ◌||◌, ◌==◌, Bool, true, false, cond, List, [], ◌∷◌, length, map, take, Option, Some, None, refl, sym, ap, ◌∙◌, subst, arith, length-append}
 use Rattle.std.proofs.lemmas.Bool.{or_parts, eqb-false, leb-false, ltb-false}
-use Rattle.std.proofs.lemmas.List.{length-map, take_at}
+use Rattle.std.proofs.lemmas.List.{length-map, take-append-le}
 use Rattle.sha2.specs.Sha256.{sha256}
 use Rattle.tree_model.specs.Tree as tree
+use Rattle.ledger_bytes.specs.Begins.{Begins}
 use Rattle.ledger_bytes.specs.Digests.{digest}
 use Rattle.ledger_bytes.specs.declared.mark.TimeMark.{TimeMark}
 use Rattle.ledger_bytes.specs.declared.refusal.Refusal.{Refusal}
@@ -20,12 +21,12 @@ use Rattle.script_lines.specs.Replies.{time_mark}
 use Rattle.script_lines.specs.declared.reply.Reply.TheVariants as reply
 use Rattle.script_lines.specs.declared.said.Which.TheVariants.{Ledger, Notary}
 use Rattle.ledger_model.specs.Anchors.{stamp_of}
-use Rattle.ledger_model.specs.Appends.{append_journal, member_journal}
+use Rattle.ledger_model.specs.Appends.{append_journal, member_journal, occult_journal}
 use Rattle.ledger_model.specs.Getting.{reply_unless}
-use Rattle.ledger_model.specs.Growing.{Grows}
 use Rattle.ledger_model.specs.History as model
 use Rattle.ledger_model.specs.History.{History, journals, id, close}
-use Rattle.ledger_model.specs.Judgements.{first_refusal, own_refusal}
+use Rattle.ledger_model.specs.Judgements.{own_refusal}
+use Rattle.member_book.specs.Erasures.{first_refusal}
 use Rattle.ledger_model.specs.Lawful.{IsLawful}
 use Rattle.ledger_model.specs.Limits.{real_limits}
 use Rattle.ledger_model.specs.Notary.{ChangesBy}
@@ -38,7 +39,7 @@ use Rattle.ledger_model.specs.Step.{Step}
 use Rattle.ledger_model.specs.Took.{notary_after, Took, TookAll}
 use Rattle.ledger_model.specs.Texts.{told_mark, proof_reply, extension_reply, told_reply, answer_for, answer_to}
 use Rattle.ledger_model.specs.declared.job.Job.{Job}
-use Rattle.ledger_model.specs.declared.job.Job.TheVariants.{Refused, Append, NewMember, Anchor, Get, Prove, Extend, Clue, Head}
+use Rattle.ledger_model.specs.declared.job.Job.TheVariants.{Refused, Append, NewMember, Anchor, Occult, Get, Prove, Extend, Clue, Head}
 use Rattle.ledger_model.specs.declared.outcome.Outcome.TheVariants.{Reading}
 use Rattle.ledger_model.specs.declared.outcome.Query.TheVariants as query
 use Rattle.ledger_model.proofs.FitLaws.{size_few}
@@ -50,10 +51,8 @@ use Rattle.ledger_model.proofs.PegLaws.{pegged_job, pegged_close, pegged_steps}
 use Rattle.ledger_book.specs.Books.{leaf_digests}
 use Rattle.ledger_book.specs.Seals.{head_at}
 use Rattle.audit_core.specs.Acceptance.{IsAccepted}
-use Rattle.audit_core.specs.Extending.{IsExtension}
-use Rattle.audit_core.specs.Trust.{Trust}
 use Rattle.proof_maker.specs.Making.{IsMade, TrustsFirst}
-use Rattle.proof_maker.specs.Written.{claim_told, IsGood, IsGoodAnswer, IsGoodStep, AreGood, AllGood, HasWideTimes}
+use Rattle.proof_maker.specs.Written.{claim_told, IsGood, IsGoodAnswer, IsGoodStep, AreGood, AllGood, HasWideTimes, LeadsOn}
 use Rattle.proof_maker.specs.declared.made.Made.{Made}
 use Rattle.proof_maker.proofs.AcceptLaws.{made_accepted}
 use Rattle.proof_maker.proofs.ExtendLaws.{extension_accepted, list_accepted}
@@ -164,6 +163,8 @@ good_answer h step (Append member clue content content_digest request by) lawful
     placed_good h step.after step (own_refusal real_limits h (Append member clue content content_digest request by)) (model.size h) (append_journal h member clue content content_digest request by)
 good_answer h step (NewMember number key by) lawful wide pegged changes = placed_good h step.after step (own_refusal real_limits h (NewMember number key by)) (model.size h) (member_journal (model.size h) number key by)
 good_answer h step Anchor lawful wide pegged changes = anchor_good (close h) step.after step (own_refusal real_limits (close h) Anchor) (stamp_of step)
+good_answer h step (Occult target leaf given) lawful wide pegged changes =
+    placed_good (close h) step.after step (own_refusal real_limits (close h) (Occult target leaf given)) (model.size (close h)) (occult_journal (model.size (close h)) target leaf given)
 good_answer h step (Get n) lawful wide pegged changes = get_told (IsGood (close h) step.after) (close h) n (λ why. tt) (λ header content who. tt) (λ header who. tt)
 good_answer h step (Prove n) lawful wide pegged changes =
     let g = close h in
@@ -219,17 +220,15 @@ module _ (scheme : Scheme) where
 
 -- ---- an earlier head leads to a later one
 
-pub ledger_leads_on : (h f : History) (trust : Trust) → IsLawful h → IsLawful f → Grows h f → TrustsFirst Ledger trust (model.size h) (model.size f) (digest (model.root h (model.size h))) (digest (model.root f (model.size f)))
-    → IsExtension sha256 Ledger (model.size h) (head_at f (model.size f)) (extension_in f (model.size h)) trust
-ledger_leads_on h f trust legal lawful grows trusts =
-    let m = model.size h in
-    let le : m ≤ model.size f = omega (arith, ap length grows.journals_are, length-append (journals h) grows.more) in
-    good_ledger f [] m lawful (some_journal (journals h) legal.journals_are) le trust
-    (subst (λ root. TrustsFirst Ledger trust m (model.size f) (digest root) (digest (model.root f (model.size f)))) (sym (root_kept h f grows.more m grows.journals_are (omega arith))) trusts)
-
-pub list_leads_on : (es more : List (List ℕ)) (trust : Trust) → IsList (es ++ more) → 0 < length es
-    → TrustsFirst Notary trust (length es) (length (es ++ more)) (digest (tree.mth sha256 es)) (digest (tree.mth sha256 (es ++ more)))
-    → IsExtension sha256 Notary (length es) (record { size = length (es ++ more); root = digest (tree.mth sha256 (es ++ more)) }) (list_extension (es ++ more) (length es)) trust
-list_leads_on es more trust list some trusts =
-    good_list (model.history [] []) (es ++ more) (length es) list some (omega (arith, length-append es more)) trust
-    (subst (λ front. TrustsFirst Notary trust (length es) (length (es ++ more)) (digest (tree.mth sha256 front)) (digest (tree.mth sha256 (es ++ more)))) (sym (take_at es more (length es) refl)) trusts)
+pub leads_on : (h f : History) (es later : List (List ℕ)) → IsLawful f → Begins (journals h) (journals f) → IsList later → Begins es later → LeadsOn h f es later
+leads_on h f es later lawful goes list more = record {
+  journals_are = goes;
+  list_is = more;
+  ledger = λ m trust some le trusts.
+      good_ledger f [] m lawful some (let e = ap length goes.is in let l = length-append (journals h) goes.rest in omega (arith, e, l, le)) trust
+      (subst (λ root. TrustsFirst Ledger trust m (model.size f) (digest root) (digest (model.root f (model.size f)))) (sym (root_kept h f goes.rest m goes.is le)) trusts);
+  notary = λ m trust some le trusts.
+      good_list f later m list some (let e = ap length more.is in let l = length-append es more.rest in omega (arith, e, l, le)) trust
+      (subst (λ front. TrustsFirst Notary trust m (length later) (digest (tree.mth sha256 front)) (digest (tree.mth sha256 later)))
+      (sym (ap (take m) more.is ∙ take-append-le m es more.rest le)) trusts);
+}

@@ -1,6 +1,9 @@
 -- The proofs that a run writes, and who accepts them.
-use Rattle.std.specs.Prelude.{◌≡◌, ℕ, true, List, [], ◌∷◌, Option, Some, slice_get, ⊤}
+use Rattle.std.specs.Prelude.{◌≡◌, ℕ, ◌<◌, ◌≤◌, true, List, [], ◌∷◌, length, take, Option, Some, slice_get, ⊤}
 use Rattle.sha2.specs.Sha256.{sha256}
+use Rattle.tree_model.specs.Tree.{mth}
+use Rattle.ledger_bytes.specs.Begins.{Begins}
+use Rattle.ledger_bytes.specs.Digests.{digest}
 use Rattle.ledger_bytes.specs.declared.digest.Digest.{Digest}
 use Rattle.journal_record.specs.Entry.{Entry}
 use Rattle.journal_record.specs.Header.{HasWidths}
@@ -8,9 +11,11 @@ use Rattle.journal_record.specs.declared.header.Kind.TheVariants as kind
 use Rattle.proof_codec.specs.declared.claim.Claim.{Claim}
 use Rattle.script_lines.specs.Replies.{time_mark}
 use Rattle.script_lines.specs.declared.reply.Reply.{Reply as AnyReply}
+use Rattle.script_lines.specs.declared.said.Which.TheVariants.{Ledger, Notary}
 use Rattle.script_lines.specs.declared.reply.Reply.TheVariants.{Placed, Whole, Occulted, Proof, Extension, Clue, Head, Refused}
 use Rattle.ledger_model.specs.Bounds.{has_bound}
-use Rattle.ledger_model.specs.History.{History, journals, id}
+use Rattle.ledger_model.specs.History.{History, journals, id, size, root}
+use Rattle.ledger_model.specs.Proofs.{extension_in, list_extension}
 use Rattle.ledger_model.specs.Rules.{job_of, judged_at, after_step, after_window}
 use Rattle.ledger_model.specs.Scheme.{Scheme}
 use Rattle.ledger_model.specs.Step.{Step}
@@ -20,7 +25,8 @@ use Rattle.ledger_model.specs.declared.answer.Answer.TheVariants.{Reply, Receipt
 use Rattle.audit_core.specs.Acceptance.{IsAccepted}
 use Rattle.audit_core.specs.Extending.{IsExtension}
 use Rattle.audit_core.specs.Trust.{Trust}
-use Rattle.proof_maker.specs.Making.{TrustsHead, TrustsList, TrustsWhich}
+use Rattle.ledger_book.specs.Seals.{head_at}
+use Rattle.proof_maker.specs.Making.{TrustsHead, TrustsList, TrustsFirst, TrustsWhich, head_over}
 
 -- the claim that a reply tells beside its proof
 abbrev pub claim_told : ℕ → Digest → Option (ℕ × ℕ × ℕ) → Option (ℕ × ℕ × ℕ) → Claim
@@ -63,3 +69,16 @@ AllGood scheme h (window ∷ windows) = AreGood scheme h window × AllGood schem
 -- the headers of the time journals have the widths of their layout
 abbrev pub HasWideTimes : History → Type 0
 HasWideTimes h = (j : ℕ) (e : Entry) → slice_get (journals h) j ≡ Some e → e.header.kind ≡ kind.Time → HasWidths e.header
+
+-- ---- earlier heads
+
+-- What stood at an earlier moment stands at a later one: the journals and the notary's list go on. An auditor who trusts the root
+-- over all that stood earlier in a tree, or over a beginning of it, accepts the extension from there to the later head.
+pub record LeadsOn (h f : History) (es later : List (List ℕ)) : Type 0 where
+  pub journals_are : Begins (journals h) (journals f)
+  pub list_is : Begins es later
+  pub ledger : (m : ℕ) (trust : Trust) → 0 < m → m ≤ size h → TrustsFirst Ledger trust m (size f) (digest (root h m)) (digest (root f (size f)))
+      → IsExtension sha256 Ledger m (head_at f (size f)) (extension_in f m) trust
+  pub notary : (m : ℕ) (trust : Trust) → 0 < m → m ≤ length es
+      → TrustsFirst Notary trust m (length later) (digest (mth sha256 (take m es))) (digest (mth sha256 later))
+      → IsExtension sha256 Notary m (head_over later) (list_extension later m) trust

@@ -51,12 +51,10 @@ pub fn extend_ledger(alloc: Global, book: &Book, m: u64) -> Result<MadeExtension
     ensures accepted { IfOk result (λ made. (h : History) (trust : Trust) → Serves book.now h
         → TrustsJournals trust h m → IsExtension sha256 which_of.Ledger m made.head made.proof trust) }
 {
-    let head = book.head();
-    check_size(m, head.size)?;
-    let point = book.point();
-    if m < point {
-        return Err(MakeErr::Refused(Refusal::Purged { point }));
+    if let Some(why) = book.ledger_refusal(m) {
+        return Err(MakeErr::Refused(why));
     }
+    let head = book.head();
     let proof = extension_of(alloc, book.tree(), m)?;
     Ok(MadeExtension { head, proof })
 }
@@ -83,7 +81,7 @@ pub fn extend_notary<N: Notary>(
     Ok(MadeExtension { head, proof })
 }
 
-// Refuses a number of first ones that are none, or more than all.
+// Refuses a number of first entries of the list that are none, or more than all.
 fn check_size(m: u64, size: u64) -> Result<(), MakeErr>
     ensures { ChecksSize size m result }
 {

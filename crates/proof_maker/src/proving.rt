@@ -1,14 +1,12 @@
-ghost use Rattle.std.specs.Prelude.{◌≡◌, true, false, ℕ, IfOk, IfSome};
+ghost use Rattle.std.specs.Prelude.{◌≡◌, true, ℕ, IfOk};
 ghost use Rattle.sha2.specs.Sha256.{sha256};
 ghost use Rattle.ledger_book.specs.Books.{Serves};
 ghost use Rattle.ledger_model.specs.Bounds.{has_bound};
-ghost use Rattle.ledger_model.specs.History as model;
 ghost use Rattle.ledger_model.specs.History.{History};
 ghost use Rattle.ledger_model.specs.Pegs.{Pegged};
-ghost use Rattle.ledger_model.specs.Proofs.{prove_refusal};
 ghost use Rattle.audit_core.specs.Acceptance.{IsAccepted};
 ghost use Rattle.audit_core.specs.Trust.{Trust};
-ghost use Rattle.proof_maker.specs.Making.{Proves, CountsFaults, TrustsHead, TrustsList, is_fault};
+ghost use Rattle.proof_maker.specs.Making.{Proves, CountsFaults, TrustsHead, TrustsList};
 ghost use Rattle.proof_maker.specs.Parts as part;
 
 use crate::bound::Bound;
@@ -17,7 +15,6 @@ use crate::parts::Parts;
 use crate::spelling::spell;
 use crate::{Made, MakeErr};
 use ledger_book::Book;
-use ledger_bytes::Refusal;
 use std::alloc::Global;
 use time_peg::Notary;
 
@@ -38,30 +35,13 @@ pub fn prove<N: Notary>(alloc: Global, book: &Book, notary: &mut N, n: u64) -> R
         → IsAccepted sha256 made.proof made.claim trust) }
 {
     let size = book.head().size;
-    if let Some(why) = refusal_of(book, size, n) {
+    if let Some(why) = book.prove_refusal(n) {
         return Err(MakeErr::Refused(why));
     }
     let parts = Parts::of(alloc, book, n)?;
     let (lower, upper) = (index_of(&parts.lower), index_of(&parts.upper));
     let noted = Noted::of(alloc, notary, lower, upper)?;
     Ok(spell(alloc, size, n, &parts, &noted)?)
-}
-
-// Why journal `n` has no proof, where there are so many journals.
-fn refusal_of(book: &Book, size: u64, n: u64) -> Option<Refusal>
-    ensures why { (h : History) → Serves book.now h → size ≡ model.size h
-        → result ≡ prove_refusal h n }
-    ensures own { IfSome result (λ why. is_fault why ≡ false) }
-{
-    if n >= size {
-        return Some(Refusal::NoJournal { size });
-    }
-    let point = book.point();
-    if n < point {
-        Some(Refusal::Purged { point })
-    } else {
-        None
-    }
 }
 
 // The index of the notary's entry of a bound.
