@@ -1,14 +1,16 @@
 -- Lemmas on jobs as a line makes them.
-use Rattle.std.proofs.Common.{◌≡◌, ℕ, List, length, Option, Some, None, refl, ap, ◌∙◌}
+use Rattle.std.proofs.Common.{◌≡◌, ℕ, List, length, map, Option, Some, None, refl, ap, ◌∙◌}
 use Rattle.std.specs.Option.{option_map}
 use Rattle.ledger_bytes.specs.Digests.{digest}
 use Rattle.ledger_bytes.specs.declared.digest.Digest.{Digest}
 use Rattle.journal_record.specs.Entry.{content_digest_of}
-use Rattle.journal_record.specs.Request.{request_digest_of, member_request_digest_of}
-use Rattle.ledger_model.specs.Appends.{append_with, request_with, member_job}
+use Rattle.journal_record.specs.Request.{request_digest_of, member_request_digest_of, occult_request_digest_of}
+use Rattle.journal_record.specs.declared.approval.Approval.{Approval}
+use Rattle.script_lines.specs.declared.said.SaidApproval.{SaidApproval}
+use Rattle.ledger_model.specs.Appends.{approval_of, append_with, request_with, member_job, occult_job}
 use Rattle.ledger_model.specs.Scheme.{Scheme}
 use Rattle.ledger_model.specs.declared.job.Job.{Job}
-use Rattle.ledger_model.specs.declared.job.Job.TheVariants.{Append, NewMember}
+use Rattle.ledger_model.specs.declared.job.Job.TheVariants.{Append, NewMember, Occult}
 
 -- a digest is that of its bytes
 some_digest : (o : Option Digest) → o ≡ option_map digest (option_map (λ (d : Digest). d.0) o)
@@ -34,3 +36,10 @@ unfolding member_job
 member_is scheme id number key proof shown request found r k p =
     let job : Option Digest → Job = λ z. NewMember number key (record { member = 0; key = z; proof = proof }) in
     ap job (some_digest found ∙ ap (option_map digest) (k ∙ ap (λ x. scheme x shown) r ∙ ap (scheme (member_request_digest_of id number key.0)) p))
+
+pub occult_is : (scheme : Scheme) (id : List ℕ) (target : ℕ) (leaf : Digest) (given : List SaidApproval) (request : List ℕ) (shown : List Approval)
+    → request ≡ occult_request_digest_of id target leaf.0 → shown ≡ map (λ (by : SaidApproval). approval_of scheme by.member request by.proof) given
+    → Occult target leaf shown ≡ occult_job scheme id target leaf given
+unfolding occult_job
+occult_is scheme id target leaf given request shown r s =
+    ap (Occult target leaf) s ∙ ap (λ x. Occult target leaf (map (λ (by : SaidApproval). approval_of scheme by.member x by.proof) given)) r

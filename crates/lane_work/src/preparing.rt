@@ -4,7 +4,7 @@ ghost use Rattle.script_lines.specs.Limits.{fits_line};
 ghost use Rattle.ledger_model.specs.Fitting.{fits_job};
 ghost use Rattle.ledger_model.specs.Rules.{job_for, job_of};
 
-use crate::requests::{member_job, record_job};
+use crate::requests::{member_job, occult_job, record_job};
 use journal_record::clue_digest;
 use ledger_book::{Job, Prepared};
 use ledger_bytes::{Digest, NoMemory};
@@ -27,19 +27,24 @@ pub fn prepare<V: Verifier>(
 {
     let Spoken { lane, what } = read_line(alloc, line)?;
     let job = match what {
-        Ok(line) => prepare_line(verifier, id, line),
+        Ok(line) => prepare_line(alloc, verifier, id, line)?,
         Err(refusal) => Job::Refused(refusal),
     };
     Ok(Prepared { lane, index, job })
 }
 
 // The job of a line that has a right form.
-fn prepare_line<V: Verifier>(verifier: &V, id: &Digest, line: Line) -> Job
+fn prepare_line<V: Verifier>(
+    alloc: Global,
+    verifier: &V,
+    id: &Digest,
+    line: Line,
+) -> Result<Job, NoMemory>
     requires { fits_line line ≡ true }
-    ensures job { result ≡ job_for (V.shows verifier.now) id.now.0 (Ok line) }
-    ensures fits { fits_job result ≡ true }
+    ensures job { IfOk result (λ job. job ≡ job_for (V.shows verifier.now) id.now.0 (Ok line)) }
+    ensures fits { IfOk result (λ job. fits_job job ≡ true) }
 {
-    match line {
+    let job = match line {
         Line::Append {
             member,
             clue,
@@ -55,6 +60,11 @@ fn prepare_line<V: Verifier>(verifier: &V, id: &Digest, line: Line) -> Job
         ),
         Line::NewMember { number, key, proof } => member_job(verifier, id, number, key, proof),
         Line::Anchor => Job::Anchor,
+        Line::Occult {
+            target,
+            leaf,
+            given,
+        } => occult_job(alloc, verifier, id, target, leaf, given.as_slice())?,
         Line::Get { n } => Job::Get { n },
         Line::Prove { n } => Job::Prove { n },
         Line::Extend { which, m } => Job::Extend { which, m },
@@ -62,5 +72,6 @@ fn prepare_line<V: Verifier>(verifier: &V, id: &Digest, line: Line) -> Job
             clue: clue_digest(name.as_slice()),
         },
         Line::Head => Job::Head,
-    }
+    };
+    Ok(job)
 }

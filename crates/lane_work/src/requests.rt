@@ -1,12 +1,17 @@
-ghost use Rattle.std.specs.Prelude.{◌≡◌, ◌≤◌, length, true};
+ghost use Rattle.std.specs.Prelude.{◌≡◌, ◌≤◌, length, map, true, IfOk};
 ghost use Rattle.ledger_bytes.specs.declared.limits.TheConstants.{CONTENT_LIMIT, PROOF_LIMIT};
+ghost use Rattle.script_lines.specs.Limits.{fits_approvals};
 ghost use Rattle.ledger_model.specs.Appends as appends;
 ghost use Rattle.ledger_model.specs.Fitting.{fits_job};
 
-use journal_record::{Approval, content_digest, member_request_digest, request_digest};
+use journal_record::{
+    Approval, content_digest, member_request_digest, occult_request_digest, request_digest,
+};
 use ledger_book::Job;
-use ledger_bytes::{Bytes, Digest};
+use ledger_bytes::{Bytes, Digest, Items, NoMemory};
 use member_book::Verifier;
+use script_lines::SaidApproval;
+use std::alloc::Global;
 
 /// The job of a member's record with this clue, or with 32 zero bytes for none, on the ledger with this id: with the
 /// digests that the member approves, and the key that the proof shows to this verifier.
@@ -61,4 +66,65 @@ pub(crate) fn member_job<V: Verifier>(
             proof,
         },
     }
+}
+
+/// The job of an occult of the record with this number and this leaf digest on the ledger with this id, with the keys that
+/// the proofs of its approvals show to this verifier.
+pub(crate) fn occult_job<V: Verifier>(
+    alloc: Global,
+    verifier: &V,
+    id: &Digest,
+    target: u64,
+    leaf: Digest,
+    given: &[SaidApproval],
+) -> Result<Job, NoMemory>
+    requires { fits_approvals given.now ≡ true }
+    ensures job { IfOk result (λ job. job ≡ appends.occult_job
+        (V.shows verifier.now) id.now.0 target leaf given.now) }
+    ensures fits { IfOk result (λ job. fits_job job ≡ true) }
+{
+    let request = occult_request_digest(id, target, &leaf);
+    let shown = shown_approvals(alloc, verifier, &request, given)?;
+    Ok(Job::Occult {
+        target,
+        leaf,
+        given: Items::of(shown),
+    })
+}
+
+// The approvals of a request, each with the key that its proof shows to this verifier.
+fn shown_approvals<V: Verifier>(
+    alloc: Global,
+    verifier: &V,
+    request: &Digest,
+    given: &[SaidApproval],
+) -> Result<Vec<Approval>, NoMemory>
+    ensures { IfOk result (λ shown. shown.items
+        ≡ map (λ by. appends.approval_of (V.shows verifier.now) by.member request.now.0 by.proof)
+        given.now) }
+{
+    let mut shown = Vec::new(alloc);
+    for by in given {
+        shown.push(shown_approval(alloc, verifier, request, by)?)?;
+    }
+    Ok(shown)
+}
+
+// An approval of a request, with the key that its proof shows to this verifier.
+fn shown_approval<V: Verifier>(
+    alloc: Global,
+    verifier: &V,
+    request: &Digest,
+    by: &SaidApproval,
+) -> Result<Approval, NoMemory>
+    ensures { IfOk result (λ approval. approval ≡ appends.approval_of
+        (V.shows verifier.now) by.now.member request.now.0 by.now.proof) }
+{
+    let proof = Bytes::copy_of(alloc, by.proof.as_slice())?;
+    let key = verifier.key_of(request, proof.as_slice());
+    Ok(Approval {
+        member: by.member,
+        key,
+        proof,
+    })
 }
