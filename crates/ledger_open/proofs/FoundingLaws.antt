@@ -5,7 +5,7 @@ use Rattle.sha2.proofs.Facts256.{length-sha256}
 use Rattle.journal_record.specs.Entry.{Entry}
 use Rattle.ledger_model.specs.Genesis.{genesis_header, genesis_journal, new_ledger}
 use Rattle.ledger_model.specs.History.{point, size}
-use Rattle.ledger_model.specs.Outcomes.{is_hidden}
+use Rattle.ledger_model.specs.Targets.{is_hidden}
 use Rattle.ledger_model.specs.declared.genesis.Genesis.{Genesis}
 use Rattle.journal_record.specs.Blocks.{IsEntry, written_blocks, body_of, block_bytes, leaves_of}
 use Rattle.block_file.specs.File.{whole_file}

@@ -15,7 +15,7 @@ use Rattle.journal_record.specs.Header.{HasWidths, spelling}
 use Rattle.journal_record.specs.declared.header.Header.{Header}
 use Rattle.ledger_model.specs.History.{History, history, journals_of, journals, size, point}
 use Rattle.ledger_model.proofs.LawfulLaws.{hide_none}
-use Rattle.ledger_model.specs.Outcomes.{is_occult, hides, is_hidden_by, is_hidden}
+use Rattle.ledger_model.specs.Targets.{is_occult, hides, is_hidden_by, is_hidden}
 use Rattle.journal_record.specs.Blocks.{block_bytes, leaves_of, AreFrom, IsBlock, AreBlocks, written_blocks}
 use Rattle.block_file.specs.File.{Stands}
 use Rattle.ledger_open.specs.Growing.{HasBlockMore}

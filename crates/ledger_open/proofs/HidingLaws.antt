@@ -11,7 +11,7 @@ use Rattle.journal_record.specs.declared.header.Header.{Header}
 use Rattle.journal_record.specs.declared.header.Kind.{Kind}
 use Rattle.journal_record.specs.declared.header.Kind.TheVariants.{Genesis, Content, Member, Time, Occult, Purge}
 use Rattle.ledger_model.specs.History.{History, history, journals_of, journals, size}
-use Rattle.ledger_model.specs.Outcomes.{is_occult, hides, is_hidden_by, is_hidden}
+use Rattle.ledger_model.specs.Targets.{is_occult, hides, is_hidden_by, is_hidden}
 use Rattle.journal_record.specs.Blocks.{AreFrom, AreBlocks}
 use Rattle.ledger_open.specs.Standing.{AllKept, SameButHidden, hidden_before}
 use Rattle.ledger_open.proofs.KeptLaws.{all_kept, header_any_same}
@@ -63,7 +63,7 @@ pub kept_hide : (hid gone : ℕ → Bool) (target : Option Entry) (es fs : List 
 kept_hide hid gone None es fs a = refl
 kept_hide hid gone (Some t) es fs a = header_any_same hid gone (λ (x : Header). is_occult x.kind && x.a == t.header.jsn) es fs a
 
-kept_hidden : (hid gone : ℕ → Bool) (hiders es fs : List Entry) (n : ℕ) → AllKept hid gone es fs → is_hidden_by hiders (slice_get es n) ≡ is_hidden_by hiders (slice_get fs n)
+pub kept_hidden : (hid gone : ℕ → Bool) (hiders es fs : List Entry) (n : ℕ) → AllKept hid gone es fs → is_hidden_by hiders (slice_get es n) ≡ is_hidden_by hiders (slice_get fs n)
 kept_hidden hid gone hiders [] [] n a = refl
 kept_hidden hid gone hiders [] (f ∷ fs) n a = absurd a
 kept_hidden hid gone hiders (e ∷ es) [] n a = absurd a

@@ -88,3 +88,25 @@ module _ (hid gone gone′ : ℕ → Bool) where
   same_alike (b ∷ bs) [] (c ∷ cs) s t = absurd t
   same_alike (b ∷ bs) (d ∷ ds) [] s t = absurd s
   same_alike (b ∷ bs) (d ∷ ds) (c ∷ cs) s t = (all_alike b d c s.0 t.0, same_alike bs ds cs s.1 t.1)
+
+-- .. and the other way round
+module _ (hid gone : ℕ → Bool) where
+  all_back : (es fs : List Entry) → AllKept hid gone es fs → AllKept hid (λ n. false) fs es
+  all_back [] [] a = tt
+  all_back [] (f ∷ fs) a = absurd a
+  all_back (e ∷ es) [] a = absurd a
+  all_back (e ∷ es) (f ∷ fs) a = (
+    record {
+      header = sym a.0.header;
+      who = sym a.0.who;
+      shown = λ s. sym (a.0.shown (ap (λ (h : Header). hid h.jsn) (sym a.0.header) ∙ s));
+      zeroed = λ z. let no : ⊥ = true≢false (sym z) in absurd no;
+    },
+    all_back es fs a.1,
+  )
+
+  pub same_back : (bs cs : List (List Entry)) → SameButHidden hid gone bs cs → SameButHidden hid (λ n. false) cs bs
+  same_back [] [] s = tt
+  same_back [] (c ∷ cs) s = absurd s
+  same_back (b ∷ bs) [] s = absurd s
+  same_back (b ∷ bs) (c ∷ cs) s = (all_back b c s.0, same_back bs cs s.1)

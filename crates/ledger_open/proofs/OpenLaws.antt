@@ -1,9 +1,8 @@
 -- A pair of files when it is opened.
-use Rattle.std.specs.Prelude.{Bool, true, false, IsTrue, Option, Some, None, option_map, Result, Ok, Err, IsErrAnd, IfOk, sum_by}
-use Rattle.std.proofs.Common.{◌≡◌, ◌≢◌, ◌⊎◌, inl, inr, refl, ℕ, ◌+◌, ◌≤◌, ◌<◌, List, [], ◌∷◌, ◌++◌, length, get_or, take, drop, sym, ◌∙◌, ap, subst, arith, append_assoc, length-append, length-drop, length-take, take-append-drop}
-use Rattle.std.proofs.lemmas.Bool.{true≢false}
-use Rattle.std.proofs.lemmas.List.{nil_from_length, take-append-le, drop-append-le, get_or_append_left, take_at, take_all}
-use Rattle.block_file.specs.File.{IsSettled, Stands, open_blocks, tail_of}
+use Rattle.std.specs.Prelude.{Bool, true, false, Option, Some, None, option_map, Result, Ok, Err, IsErrAnd, IfOk}
+use Rattle.std.proofs.Common.{◌≡◌, ◌≢◌, ◌⊎◌, inl, inr, refl, ℕ, ◌+◌, ◌≤◌, ◌<◌, List, [], ◌∷◌, ◌++◌, length, get_or, take, drop, sym, ◌∙◌, ap, subst, arith, append_assoc, length-append, length-drop}
+use Rattle.std.proofs.lemmas.List.{take-append-le, drop-append-le, get_or_append_left, take_at}
+use Rattle.block_file.specs.File.{IsSettled, open_blocks, tail_of}
 use Rattle.block_file.specs.Head.{IsShut, IsOpen, HasHead, IsHeadErr, IsResumeErr, generation_of, number_at}
 use Rattle.block_file.specs.declared.failure.Damage.{Damage}
 use Rattle.block_file.specs.declared.failure.Damage.TheVariants as damages
@@ -13,8 +12,7 @@ use Rattle.journal_record.specs.Blocks.{written_blocks}
 use Rattle.journal_record.specs.Entry.{Entry}
 use Rattle.ledger_disk.proofs.Guarding.{settled_image}
 use Rattle.ledger_disk.specs.Disk.{State, settled_state, MayLeave}
-use Rattle.ledger_model.specs.History.{History, history, point}
-use Rattle.ledger_model.specs.Outcomes.{is_hidden}
+use Rattle.ledger_model.specs.History.{History, history}
 use Rattle.pseudo_genesis.specs.declared.base.Base.{Base}
 use Rattle.ledger_model.specs.Lawful.{IsLawful}
 use Rattle.twin_file.proofs.TakeLaws.{taken_once, reopen_err}
@@ -23,20 +21,19 @@ use Rattle.twin_file.specs.Picking.{IsReopened as IsLooked}
 use Rattle.twin_file.specs.Twin.{choice, IsTaken, IsReopenErr}
 use Rattle.twin_file.specs.Which.{in_a_of, generation_in, file_of, view_of}
 use Rattle.twin_file.specs.declared.twin.Twin.{Twin}
-use Rattle.ledger_open.specs.Opening.{Known, Knows, known_from, HasLawfulBlocks, HasFile, HasKnown, IsHeadOf, IsOutside, IsOpenErr, IsOpenedAs, IsReopened, IsTidyAt, KeepsBlocks, as_open}
-use Rattle.ledger_open.specs.Places.{after_at, record_len}
-use Rattle.ledger_open.specs.Standing.{ground, floor_from, floor_behind, HasBlocks, StandsBy, StandsFor, PairFor, IsClean, hidden_before}
-use Rattle.ledger_open.specs.declared.places.PlaceAt.{PlaceAt}
+use Rattle.ledger_open.specs.Opening.{Known, Knows, HasLawfulBlocks, HasFile, IsHeadOf, IsOutside, IsOpenErr, IsReopened, as_open}
+use Rattle.ledger_open.specs.Places.{after_at}
+use Rattle.ledger_open.specs.Standing.{ground, floor_behind, HasBlocks, StandsBy, StandsFor, PairFor, hidden_before}
 use Rattle.ledger_open.specs.declared.failure.OpenErr.{OpenErr}
 use Rattle.ledger_open.specs.declared.failure.OpenErr.TheVariants as errors
-use Rattle.ledger_open.proofs.AgainLaws.{flat, number_front, blocks_unique}
+use Rattle.ledger_open.proofs.AgainLaws.{flat}
 use Rattle.ledger_open.proofs.DamageLaws.{no_base, none_damaged}
 use Rattle.ledger_open.proofs.PartLaws.{pair_sides, stands_first, file_at, file_first, floor_none}
-use Rattle.ledger_open.proofs.KnownLaws.{serves_whole, none_based}
+use Rattle.ledger_open.proofs.KnownLaws.{goes_on, none_based}
 use Rattle.ledger_open.proofs.PlaceLaws.{tail_place}
-use Rattle.ledger_book.specs.Books.{Kept, Serves}
+use Rattle.ledger_book.specs.Books.{Serves}
 use Rattle.ledger_open.proofs.SizeLaws.{mth_size}
-use Rattle.ledger_open.proofs.WholeLaws.{stands_undamaged, serves_each}
+use Rattle.ledger_open.proofs.OwnLaws.{stands_undamaged}
 
 -- a file with blocks has a head that is known
 module _ (generation : ℕ) (bs : List (List Entry)) (file : List ℕ) (x : HasBlocks ground generation bs file) where
@@ -69,42 +66,10 @@ module _ (generation : ℕ) (bs : List (List Entry)) (file : List ℕ) (x : HasB
   pub tail_is : tail_of x.front (written_blocks (ground).root [] bs) ≡ after_at 64 bs
   tail_is = tail_place ground mth_size x.front 64 bs x.lawful x.head.size
 
--- ---- images of the open file
-
-pub same_keeps : (start : Option Base) (old new : State) → new ≡ old → IsSettled old → KeepsBlocks start old new
-same_keeps start old new same quiet generation bs x image left =
-    subst (λ (l : List ℕ). HasBlocks (floor_from start) generation bs l) (sym (settled_image old.seen image (subst (λ (s : State). MayLeave s image) (same ∙ quiet) left))) x
-
-pub trim_keeps : (old mid new : State) (k : Known) (start : Option Base) (ks : List (List Entry)) → mid ≡ old → Knows k start ks → HasFile start ks old.seen
-    → (IsSettled mid → (front : List ℕ) (blocks : List (List ℕ)) → Stands front blocks mid.seen → tail_of front blocks ≡ k.place → (image : List ℕ) → MayLeave new image → Stands front blocks image)
-    → IsSettled old → KeepsBlocks None old new
-trim_keeps old mid new k (Some b) ks same knows has images quiet generation bs x image left = none_based knows
-trim_keeps old mid new k None ks same knows has images quiet generation bs x image left =
-    let one = (blocks_unique ground has.0 generation ks bs old.seen mth_size has.1 x).1 in
-    let tail : tail_of x.front (written_blocks (ground).root [] bs) ≡ k.place = tail_is generation bs old.seen x ∙ ap (after_at 64) (sym one) ∙ sym knows.tail in
-    record {
-      front = x.front;
-      head = x.head;
-      lawful = x.lawful;
-      stands = images (subst IsSettled (sym same) quiet) x.front (written_blocks (ground).root [] bs) (subst (λ (s : State). Stands x.front (written_blocks (ground).root [] bs) s.seen) (sym same) x.stands) tail image left;
-    }
-
 -- a file that was read has lawful blocks
 pub lawful_file : {start : Option Base} {k : Known} {blocks : List (List Entry)} {file : List ℕ} → Knows k start blocks → HasFile start blocks file → HasLawfulBlocks file
 lawful_file {start = Some b} knows has = none_based knows
 lawful_file {start = None} {blocks = blocks} knows has = (has.0, blocks, has.1, knows.legal)
-
--- what is known of a file that was read, once it is cut behind its tail gate and the other one is emptied
-pub opened_as : (tells : Bool) (book : Kept) (places : List PlaceAt) (read before place : ℕ) (old mid new other cleared : State) → HasKnown tells old.seen (known_from book places read) → before ≡ read → place ≡ before → (IsTrue tells → mid ≡ old)
-    → (IsTrue tells → new ≡ settled_state (take (before + 1) mid.seen)) → (IsTrue tells → IsSettled other → cleared ≡ settled_state []) → IsOpenedAs tells (known_from book places place) old other new cleared
-opened_as tells book places read before place old mid new other cleared r first then_ same trimmed emptied = record {
-  start = r.start;
-  blocks = r.blocks;
-  knows = subst (λ (n : ℕ). Knows (known_from book places n) r.start r.blocks) (sym (then_ ∙ first)) r.knows;
-  has = r.has;
-  open_is = λ told. trimmed told ∙ ap (λ (s : State). settled_state (take (before + 1) s.seen)) (same told) ∙ ap (λ (n : ℕ). settled_state (take (n + 1) old.seen)) (sym then_);
-  other_is = emptied;
-}
 
 -- an image with the blocks of another stands for what that one stands for
 pub stands_again : (floor : ℕ) (gone : ℕ → Bool) (old new : List ℕ) (h : History) → ((generation : ℕ) (bs : List (List Entry)) → HasBlocks ground generation bs old → HasBlocks ground generation bs new) → floor ≡ 0 → StandsBy floor gone old h → StandsBy floor gone new h
@@ -168,13 +133,6 @@ pub pair_synced : (h : History) (a b ma mb : State) → ma.seen ≡ a.seen → m
 pair_synced h a b ma mb ea eb p =
     subst (λ (x : List ℕ). PairFor x mb.seen h) (sym ea) (subst (λ (x : List ℕ). PairFor a.seen x h) (sym eb) p)
 
-module _ (h : History) (open_ other new_open new_other : State) (quiet : IsSettled other) (keeps : KeepsBlocks None open_ new_open) (idle : other.seen ≡ [] → new_other ≡ other) (p : StandsFor open_.seen h × (length other.seen ≡ 0)) where
-  pub images_open : (image image′ : List ℕ) → MayLeave new_open image → MayLeave new_other image′ → StandsFor image h × (length image′ ≡ 0)
-  images_open image image′ l l′ =
-      let none : other.seen ≡ [] = nil_from_length other.seen p.1 in
-      let is : image′ ≡ other.seen = settled_image other.seen image′ (subst (λ (s : State). MayLeave s image′) (idle none ∙ quiet) l′) in
-      (record { floor = p.0.floor; begins = p.0.begins; file = stands_again p.0.floor (hidden_before h) open_.seen image h (λ g bs x. keeps g bs x image l) (stands_first open_.seen h p.0) p.0.file }, ap length is ∙ p.1)
-
 -- ---- the file that is taken
 
 pub record IsTakenAs (a b : List ℕ) (x : Bool) (twin : Twin) : Type 0 where
@@ -191,72 +149,10 @@ pub taken_at : (a b a_now b_now : State) (x : Bool) (twin : Twin) → a_now ≡ 
 taken_at a b a_now b_now x twin same_a same_b t =
     subst (λ (s : State). IsTaken x s.seen b_now.seen) (sym same_a) (subst (λ (s : State). IsTaken x a.seen s.seen) (sym same_b) t.taken)
 
--- a file that is cut behind its tail gate keeps its generation
-cut_generation : (file : List ℕ) (n : ℕ) → 65 ≤ length file → 64 ≤ n → generation_of (take (n + 1) file) ≡ generation_of file
-cut_generation file n long least = sym (number_front 10 (take (n + 1) file) (drop (n + 1) file) (omega (arith, long, least, length-take (n + 1) file))) ∙ ap (number_at 10) (take-append-drop (n + 1) file)
-
-after_least : (at : ℕ) (bs : List (List Entry)) → at ≤ after_at at bs
-after_least at [] = omega arith
-after_least at (b ∷ bs) = omega (arith, after_least (at + 45 + sum_by record_len b) bs)
-
-opened_generation : (tells : Bool) (k : Known) (now other new other_new : State) → HasHead now.seen → IsOpenedAs tells k now other new other_new → IsTrue tells → generation_of now.seen ≡ generation_of new.seen
-opened_generation tells k now other new other_new head o told =
-    sym (cut_generation now.seen k.place head.is_open.long (omega (arith, o.knows.tail, after_least (64 + length (floor_from o.start).base) o.blocks))) ∙ ap (λ (s : State). generation_of s.seen) (sym (o.open_is told))
-
-pub generation_a : (tells y : Bool) (k : Known) (s a_now b_now a_new b_new : State) (g h : ℕ) → y ≡ true → a_now ≡ s → HasHead s.seen → h ≡ generation_of s.seen → g ≡ h → IsOpenedAs tells k a_now b_now a_new b_new → IsTrue tells
-    → g ≡ generation_of (choice y a_new b_new).seen
-generation_a tells true k s a_now b_now a_new b_new g h is same head first then_ o told =
-    then_ ∙ first ∙ ap (λ (s : State). generation_of s.seen) (sym same) ∙ opened_generation tells k a_now b_now a_new b_new (subst (λ (s : State). HasHead s.seen) (sym same) head) o told
-generation_a tells false k s a_now b_now a_new b_new g h is same head first then_ o told = absurd (true≢false (sym is))
-
-pub generation_b : (tells y : Bool) (k : Known) (s a_now b_now a_new b_new : State) (g h : ℕ) → y ≡ false → b_now ≡ s → HasHead s.seen → h ≡ generation_of s.seen → g ≡ h → IsOpenedAs tells k b_now a_now b_new a_new → IsTrue tells
-    → g ≡ generation_of (choice y a_new b_new).seen
-generation_b tells false k s a_now b_now a_new b_new g h is same head first then_ o told =
-    then_ ∙ first ∙ ap (λ (s : State). generation_of s.seen) (sym same) ∙ opened_generation tells k b_now a_now b_new a_new (subst (λ (s : State). HasHead s.seen) (sym same) head) o told
-generation_b tells true k s a_now b_now a_new b_new g h is same head first then_ o told = absurd (true≢false is)
-
 -- two facts of a value that was answered
 pub if_both : {T E : Type 0} (r : Result T E) (P Q R : T → Type 0) → ((x : T) → P x → Q x → R x) → IfOk r P → IfOk r Q → IfOk r R
 if_both (Ok x) P Q R f p q = f x p q
 if_both (Err e) P Q R f p q = tt
-
--- the first is the open file
-pub reopened_a : (tells x : Bool) (k : Known) (a b a_now b_now a_new b_new : State) → x ≡ true → (IsTrue tells → IsTaken true a_now.seen b_now.seen) → (IsTrue tells → a_now ≡ settled_state a.seen) → (IsTrue tells → b_now ≡ settled_state b.seen)
-    → IsOpenedAs tells k a_now b_now a_new b_new → (start : Option Base) × (blocks : List (List Entry)) × Knows k start blocks × (IsTrue tells → IsReopened x k.place start blocks a b a_new b_new)
-reopened_a tells true k a b a_now b_now a_new b_new is taken same_a same_b o = (
-  o.start,
-  o.blocks,
-  o.knows,
-  λ told.
-      let one : a_now.seen ≡ a.seen = ap (λ (s : State). s.seen) (same_a told) in
-      let two : b_now.seen ≡ b.seen = ap (λ (s : State). s.seen) (same_b told) in
-      record {
-        taken = subst (λ (l : List ℕ). IsTaken true l b.seen) one (subst (λ (l : List ℕ). IsTaken true a_now.seen l) two (taken told));
-        has = subst (HasFile o.start o.blocks) one (o.has told);
-        open_is = o.open_is told ∙ ap (λ (l : List ℕ). settled_state (take (k.place + 1) l)) one;
-        other_is = o.other_is told (synced b b_now (same_b told));
-      },
-)
-reopened_a tells false k a b a_now b_now a_new b_new is taken same_a same_b o = absurd (true≢false (sym is))
-
--- the second is
-pub reopened_b : (tells x : Bool) (k : Known) (a b a_now b_now a_new b_new : State) → x ≡ false → (IsTrue tells → IsTaken false a_now.seen b_now.seen) → (IsTrue tells → a_now ≡ settled_state a.seen) → (IsTrue tells → b_now ≡ settled_state b.seen)
-    → IsOpenedAs tells k b_now a_now b_new a_new → (start : Option Base) × (blocks : List (List Entry)) × Knows k start blocks × (IsTrue tells → IsReopened x k.place start blocks a b a_new b_new)
-reopened_b tells false k a b a_now b_now a_new b_new is taken same_a same_b o = (
-  o.start,
-  o.blocks,
-  o.knows,
-  λ told.
-      let one : a_now.seen ≡ a.seen = ap (λ (s : State). s.seen) (same_a told) in
-      let two : b_now.seen ≡ b.seen = ap (λ (s : State). s.seen) (same_b told) in
-      record {
-        taken = subst (λ (l : List ℕ). IsTaken false l b.seen) one (subst (λ (l : List ℕ). IsTaken false a_now.seen l) two (taken told));
-        has = subst (HasFile o.start o.blocks) two (o.has told);
-        open_is = o.open_is told ∙ ap (λ (l : List ℕ). settled_state (take (k.place + 1) l)) two;
-        other_is = o.other_is told (synced a a_now (same_a told));
-      },
-)
-reopened_b tells true k a b a_now b_now a_new b_new is taken same_a same_b o = absurd (true≢false is)
 
 look_err_by : (a b : List ℕ) (e : FileErr) → IsReopenErr a b e → IsOpenErr a b (as_open e)
 look_err_by a b files.DiskFault why = tt
@@ -379,7 +275,7 @@ shut_empty a b sa sb (errors.Damaged damage) (inr (x, taken, why)) = absurd (shu
 pub pair_served : (k : Known) (x : Bool) (start : Option Base) (ks : List (List Entry)) (a b a_new b_new : State) (h : History) → Knows k start ks → IsReopened x k.place start ks a b a_new b_new → PairFor a.seen b.seen h → Serves k.book h
 pair_served k x (Some s) ks a b a_new b_new h knows r p = none_based knows
 pair_served k x None ks a b a_new b_new h knows r p =
-    serves_each (choice x a b).seen h r.has.0 ks k.book (stands_in x a b h r.taken p) r.has.1 (serves_whole knows) where
+    knows.serves h (goes_on (choice x a b).seen h r.has.0 ks (stands_in x a b h r.taken p) r.has.1) where
       stands_in : (x : Bool) (a b : State) (h : History) → IsTaken x a.seen b.seen → PairFor a.seen b.seen h → StandsFor (choice x a b).seen h
       stands_in true a b h t p = (taken_pair true a.seen b.seen h t p).0
       stands_in false a b h t p = (taken_pair false a.seen b.seen h t p).0
@@ -400,31 +296,5 @@ module _ (generation : ℕ) (bs : List (List Entry)) (file : List ℕ) (x : HasB
   pub cut_has : HasBlocks ground generation bs (take (at + 1) file)
   cut_has = record { front = x.front; head = x.head; lawful = x.lawful; stands = record { gate = x.stands.gate; rest = []; is = cut_is; shut = x.stands.shut } }
 
-  cut_length : length (take (at + 1) file) ≡ at + 1
+  pub cut_length : length (take (at + 1) file) ≡ at + 1
   cut_length = ap length cut_is ∙ omega (arith, ends, length-append (x.front ++ open_blocks (written_blocks (ground).root [] bs)) (x.stands.gate ∷ []))
-
--- what was opened is clean
-pub reopened_clean : (k : Known) (x : Bool) (start : Option Base) (ks : List (List Entry)) (a b a_new b_new : State) → Knows k start ks → IsReopened x k.place start ks a b a_new b_new → IsTidyAt x k.place start ks a_new b_new
-reopened_clean k x (Some s) ks a b a_new b_new knows r = none_based knows
-reopened_clean k x None ks a b a_new b_new knows r =
-    let f = r.has in
-    let ends = tail_is f.0 ks _ f.1 ∙ sym knows.tail in
-    let now : (choice x a_new b_new).seen ≡ take (k.place + 1) (choice x a b).seen = ap (λ (s : State). s.seen) r.open_is in
-    record {
-      quiet = r.open_is ∙ ap settled_state (sym now);
-      empty = r.other_is;
-      has = (f.0, subst (λ (l : List ℕ). HasBlocks ground f.0 ks l) (sym now) (cut_has f.0 ks _ f.1 k.place ends));
-      ends = ap length now ∙ cut_length f.0 ks _ f.1 k.place ends;
-    }
-
--- .. and has the bytes that it had, where it was clean
-pub left_clean : (k : Known) (x : Bool) (start : Option Base) (ks : List (List Entry)) (a b a_new b_new : State) (h : History) → Knows k start ks → IsReopened x k.place start ks a b a_new b_new → IsClean (choice x a b).seen h → choice x a_new b_new ≡ settled_state (choice x a b).seen
-left_clean k x (Some s) ks a b a_new b_new h knows r c = none_based knows
-left_clean k x None ks a b a_new b_new h knows r c =
-    let e = c.erased in
-    let f = file_first (point h) (is_hidden h) (choice x a b).seen h e e.unpurged in
-    let one : e.keeps.blocks ≡ ks = (blocks_unique ground e.generation r.has.0 e.keeps.blocks ks (choice x a b).seen mth_size f r.has.1).1 in
-    let place : tail_of f.front (written_blocks (ground).root [] e.keeps.blocks) ≡ k.place = tail_is e.generation e.keeps.blocks (choice x a b).seen f ∙ ap (after_at 64) one ∙ sym knows.tail in
-    let size : length (choice x a b).seen ≡ k.place + 1 =
-    omega (arith, place, ap length c.ends, ap length f.stands.is, length-append (f.front ++ open_blocks (written_blocks (ground).root [] e.keeps.blocks)) (f.stands.gate ∷ f.stands.rest)) in
-    r.open_is ∙ ap settled_state (take_all (k.place + 1) (choice x a b).seen (omega (arith, size)))

@@ -11,7 +11,7 @@ use Rattle.journal_record.specs.Blocks.{AreBlocks, written_blocks}
 use Rattle.journal_record.specs.Entry.{Entry}
 use Rattle.ledger_model.specs.History.{History, journals, journals_of, size, point, greatest_point, purge_point}
 use Rattle.ledger_model.specs.Lawful.{IsBlock}
-use Rattle.ledger_model.specs.Outcomes.{is_hidden}
+use Rattle.ledger_model.specs.Targets.{is_hidden}
 use Rattle.twin_file.specs.Twin.{open_of, other_of}
 use Rattle.ledger_open.specs.Heads.{IsFront}
 use Rattle.ledger_open.specs.Standing.{Floor, ground, floor_behind, HasBlocks, Parts, SameButHidden, StandsBy, StandsFor, PairFor, IsBeside, hidden_before, point_before}

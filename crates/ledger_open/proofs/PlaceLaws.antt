@@ -13,7 +13,7 @@ use Rattle.journal_record.specs.Header.{spelling}
 use Rattle.journal_record.specs.Records.{IsReadable, AreReadable}
 use Rattle.journal_record.specs.declared.header.Header.{Header}
 use Rattle.ledger_model.specs.History.{History, journals_of, journals, point}
-use Rattle.ledger_model.specs.Outcomes.{is_hidden}
+use Rattle.ledger_model.specs.Targets.{is_hidden}
 use Rattle.ledger_open.specs.Places.{record_len, place_at, place_of_record, places_in, places_at, after_at, entry_at, AllAt, places_of}
 use Rattle.ledger_open.specs.Standing.{Floor, floor_behind, HasBlocks, IsKept, AllKept, SameButHidden, StandsBy}
 use Rattle.ledger_open.specs.declared.places.PlaceAt.{PlaceAt}
@@ -135,6 +135,14 @@ places_kept hid gone at (b ∷ bs) (c ∷ cs) s =
     ap (λ (l : List PlaceAt). l ++ places_at (at + 45 + sum_by record_len b) bs) one.0
     ∙ ap (λ (n : ℕ). places_in (at + 45) c ++ places_at (at + 45 + n) bs) one.1
     ∙ ap (λ (l : List PlaceAt). places_in (at + 45) c ++ l) (places_kept hid gone (at + 45 + sum_by record_len c) bs cs s.1)
+
+-- .. and blocks end at the same place
+pub after_kept : (hid gone : ℕ → Bool) (at : ℕ) (bs cs : List (List Entry)) → SameButHidden hid gone bs cs → after_at at bs ≡ after_at at cs
+after_kept hid gone at [] [] s = refl
+after_kept hid gone at [] (c ∷ cs) s = absurd s
+after_kept hid gone at (b ∷ bs) [] s = absurd s
+after_kept hid gone at (b ∷ bs) (c ∷ cs) s =
+    ap (λ (n : ℕ). after_at (at + 45 + n) bs) (records_kept hid gone (at + 45) b c s.0).1 ∙ after_kept hid gone (at + 45 + sum_by record_len c) bs cs s.1
 
 -- what is kept of journals stands at the places of the others
 kept_here : (hid gone : ℕ → Bool) (file : List ℕ) (es fs : List Entry) (ps : List PlaceAt) → AllKept hid gone es fs → AreHere file fs ps → AllAt hid gone file es ps

@@ -1,7 +1,7 @@
 -- What making a new ledger leaves.
 use Rattle.std.specs.Prelude.{◌≡◌, ◌⊎◌, ℕ, List, []}
 use Rattle.block_file.specs.Head.{IsShut, IsOpen}
-use Rattle.ledger_disk.specs.Disk.{State, settled_state}
+use Rattle.ledger_disk.specs.Disk.{State, MayLeave, settled_state}
 use Rattle.ledger_model.specs.Genesis.{new_ledger}
 use Rattle.ledger_model.specs.declared.genesis.Genesis.{Genesis}
 use Rattle.ledger_open.specs.Growing.{new_file}
@@ -19,3 +19,8 @@ pub record IsFounded (genesis : Genesis) (a b : State) : Type 0 where
 -- two files are shut, or stand for the new ledger
 abbrev pub IsFoundedOrShut : Genesis → List ℕ → List ℕ → Type 0
 IsFoundedOrShut genesis a b = (IsShut a × IsShut b) ⊎ PairFor a b (new_ledger genesis)
+
+-- every pair of images is shut, or stands for the new ledger
+abbrev pub LeavesFoundedOrShut : Genesis → State → State → Type 0
+LeavesFoundedOrShut genesis a_new b_new =
+    (image_a image_b : List ℕ) → MayLeave a_new image_a → MayLeave b_new image_b → IsFoundedOrShut genesis image_a image_b

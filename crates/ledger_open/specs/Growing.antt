@@ -9,7 +9,7 @@ use Rattle.journal_record.specs.Entry.{Entry}
 use Rattle.ledger_model.specs.Genesis.{new_ledger}
 use Rattle.ledger_model.specs.History.{History, history, journals, journals_of, size, point}
 use Rattle.ledger_model.specs.Lawful.{AreNext, IsBlock}
-use Rattle.ledger_model.specs.Outcomes.{hides}
+use Rattle.ledger_model.specs.Targets.{hides}
 use Rattle.ledger_model.specs.declared.genesis.Genesis.{Genesis}
 use Rattle.ledger_open.specs.Standing.{Floor, ground, StandsFor, IsErased, IsClean, HasBlocks}
 

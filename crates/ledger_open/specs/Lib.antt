@@ -8,3 +8,4 @@ pub mod Growing
 pub mod Opening
 pub mod Ahead
 pub mod Taking
+pub mod Erasing

@@ -1,5 +1,5 @@
 -- What is known of a ledger that was made or opened, and what making and opening leave.
-use Rattle.std.specs.Prelude.{◌≡◌, ◌⊎◌, ℕ, ◌+◌, Bool, false, IsTrue, List, [], length, take, drop, Option, Some, None, Result, MatchResult, ⊤}
+use Rattle.std.specs.Prelude.{◌≡◌, ◌⊎◌, ℕ, ◌+◌, Bool, false, IsTrue, List, [], length, take, drop, Option, Some, None, Result, Err, MatchResult, ⊤}
 use Rattle.block_file.specs.File.{IsSettled}
 use Rattle.block_file.specs.Head.{IsShut, HasHead, number_at}
 use Rattle.block_file.specs.Place.{base_len_of, base_digest_of}
@@ -14,13 +14,14 @@ use Rattle.ledger_disk.specs.Disk.{State, MayLeave, OneMore, settled_state}
 use Rattle.ledger_model.specs.Bases.{base_of}
 use Rattle.ledger_model.specs.History.{History, history}
 use Rattle.ledger_model.specs.Lawful.{IsLawful}
-use Rattle.ledger_model.specs.Outcomes.{is_hidden}
+use Rattle.ledger_model.specs.Targets.{is_hidden}
 use Rattle.pseudo_genesis.specs.Bases.{IsBase, HasWidths}
 use Rattle.pseudo_genesis.specs.declared.base.Base.{Base}
 use Rattle.twin_file.specs.Twin.{open_of, other_of, IsTaken, IsReopenErr}
 use Rattle.ledger_open.specs.Damages.{Begun, IsDamage}
+use Rattle.ledger_open.specs.Erasing.{given_up}
 use Rattle.ledger_open.specs.Places.{places_at, after_at}
-use Rattle.ledger_open.specs.Standing.{ground, floor_from, HasBlocks, Parts, SameButHidden}
+use Rattle.ledger_open.specs.Standing.{ground, floor_from, HasBlocks, Parts, SameButHidden, StandsFor, PairFor, IsClean, IsCleanPair}
 use Rattle.ledger_open.specs.declared.failure.OpenErr.{OpenErr}
 use Rattle.ledger_open.specs.declared.places.PlaceAt.{PlaceAt}
 use Rattle.ledger_open.specs.declared.failure.OpenErr.TheVariants.{DiskFault, Damaged, Empty, Exists, NewerFormat, NoMemory}
@@ -172,33 +173,78 @@ IsOpenErr a b (Damaged damage) =
 abbrev pub StandsAsRead : State → State → Type 0
 StandsAsRead old new = (new ≡ old) ⊎ (new ≡ settled_state old.seen)
 
--- every image has the blocks that the file had behind this base, or none
-abbrev pub KeepsBlocks : Option Base → State → State → Type 0
-KeepsBlocks start old new =
-    (generation : ℕ) (blocks : List (List Entry)) → HasBlocks (floor_from start) generation blocks old.seen
-    → (image : List ℕ) → MayLeave new image → HasBlocks (floor_from start) generation blocks image
+-- .. and so do two
+abbrev pub StandAsRead : State → State → State → State → Type 0
+StandAsRead a b a_new b_new = StandsAsRead a a_new × StandsAsRead b b_new
 
--- what is known of the open file, which is cut behind its tail gate, and of the other one, which is emptied
+-- two files read as before, and nothing is pending
+abbrev pub AreSettled : State → State → State → State → Type 0
+AreSettled a b a_new b_new = (a_new ≡ settled_state a.seen) × (b_new ≡ settled_state b.seen)
+
+-- nothing was pending on two disks, where one of them failed
+abbrev pub WereSettled : {T : Type 0} → Result T OpenErr → State → State → Type 0
+WereSettled result a b = result ≡ Err DiskFault → IsSettled a × IsSettled b
+
+-- every pair of images stands for what the pair stood for
+abbrev pub PairStandsStill : State → State → State → State → Type 0
+PairStandsStill a b a_new b_new =
+    (h : History) → PairFor a.seen b.seen h
+    → (image_a image_b : List ℕ) → MayLeave a_new image_a → MayLeave b_new image_b → PairFor image_a image_b h
+
+-- nothing was written to two files
+abbrev pub AreUnchanged : State → State → State → State → Type 0
+AreUnchanged a b a_new b_new = (a_new ≡ a) × (b_new ≡ b)
+
+-- a pair that was clean, and of which nothing was pending, is the same
+abbrev pub IsCleanStill : State → State → State → State → Type 0
+IsCleanStill a b a_new b_new = IsSettled a → IsSettled b → (h : History) → IsCleanPair a.seen b.seen h → AreUnchanged a b a_new b_new
+
+-- .. so is a file
+abbrev pub IsCleanFileStill : State → State → Type 0
+IsCleanFileStill old new = IsSettled old → (h : History) → IsClean old.seen h → new ≡ old
+
+-- every image of the file stands for what it stood for
+abbrev pub StandsStill : State → State → Type 0
+StandsStill old new =
+    (h : History) → StandsFor old.seen h → (image : List ℕ) → MayLeave new image → StandsFor image h
+
+-- An open file is cut behind its tail gate, which stands at this place, and what the last journal of its blocks hides is
+-- zeros in it. Nothing else is changed, and nothing is pending.
+abbrev pub IsCutAndErased : List (List Entry) → ℕ → State → State → Type 0
+IsCutAndErased blocks place old new = new ≡ settled_state (given_up (history blocks []) (take (place + 1) old.seen))
+
+-- what is known of the open file, which is cut and erased, and of the other one, which is emptied
 pub record IsOpenedAs (tells : Bool) (k : Known) (open_old other_old open_new other_new : State) : Type 0 where
   pub start : Option Base
   pub blocks : List (List Entry)
   pub knows : Knows k start blocks
   pub has : IsTrue tells → HasFile start blocks open_old.seen
-  pub open_is : IsTrue tells → open_new ≡ settled_state (take (k.place + 1) open_old.seen)
+  pub open_is : IsTrue tells → IsCutAndErased blocks k.place open_old open_new
   pub other_is : IsTrue tells → IsSettled other_old → other_new ≡ settled_state []
 
--- The file that is taken was read as this base, or none, and these blocks, it ends with its tail gate, and the other is
--- empty. Nothing is pending.
+-- The file that is taken was read as this base, or none, and these blocks, it is cut and erased, and the other is empty.
+-- Nothing is pending.
 pub record IsReopened (in_a : Bool) (place : ℕ) (start : Option Base) (blocks : List (List Entry)) (a b a_new b_new : State) : Type 0 where
   pub taken : IsTaken in_a a.seen b.seen
   pub has : HasFile start blocks (open_of in_a a b).seen
-  pub open_is : open_of in_a a_new b_new ≡ settled_state (take (place + 1) (open_of in_a a b).seen)
+  pub open_is : IsCutAndErased blocks place (open_of in_a a b) (open_of in_a a_new b_new)
   pub other_is : other_of in_a a_new b_new ≡ settled_state []
 
--- Nothing is pending, the open file has this base, or none, and these blocks and ends with its tail gate, which stands at
--- this place, and the other file is empty.
+-- some blocks are known; and where the disks tell their bytes, the pair was reopened as these
+abbrev pub KnowsReopened : Bool → Bool → Known → State → State → State → State → Type 0
+KnowsReopened tells in_a k a b a_new b_new =
+    (start : Option Base) × (blocks : List (List Entry)) × Knows k start blocks
+    × (IsTrue tells → IsReopened in_a k.place start blocks a b a_new b_new)
+
+-- an open file has this base, or none, and these blocks, but for contents that they hide
+abbrev pub HasKept : Option Base → List (List Entry) → List ℕ → Type 0
+HasKept start blocks file =
+    (now : List (List Entry)) × HasFile start now file × SameButHidden (is_hidden (history blocks [])) (λ n. false) blocks now
+
+-- Nothing is pending, the open file has this base, or none, and these blocks but for contents that they hide, it ends with
+-- its tail gate, which stands at this place, and the other file is empty.
 pub record IsTidyAt (in_a : Bool) (place : ℕ) (start : Option Base) (blocks : List (List Entry)) (a b : State) : Type 0 where
   pub quiet : IsSettled (open_of in_a a b)
   pub empty : other_of in_a a b ≡ settled_state []
-  pub has : HasFile start blocks (open_of in_a a b).seen
+  pub has : HasKept start blocks (open_of in_a a b).seen
   pub ends : length (open_of in_a a b).seen ≡ place + 1

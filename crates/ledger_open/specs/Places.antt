@@ -6,7 +6,7 @@ use Rattle.journal_record.specs.declared.header.Header.{Header}
 use Rattle.ledger_model.specs.History.{History, journals_of, point}
 use Rattle.ledger_open.specs.Standing.{IsKept, StandsBy, floor_behind, point_before}
 use Rattle.ledger_open.specs.declared.places.PlaceAt.{PlaceAt}
-use Rattle.ledger_model.specs.Outcomes.{is_hidden}
+use Rattle.ledger_model.specs.Targets.{is_hidden}
 
 -- how many bytes a journal takes in its block, by its header: the same for a history and for what a file keeps of it
 abbrev pub record_len : Entry → ℕ

@@ -12,7 +12,7 @@ use Rattle.pseudo_genesis.specs.declared.base.Base.{Base}
 use Rattle.ledger_model.specs.Bases.{base_of}
 use Rattle.ledger_model.specs.History.{History, journals, journals_of, size, point, greatest_point}
 use Rattle.ledger_model.specs.Lawful.{IsLawful}
-use Rattle.ledger_model.specs.Outcomes.{is_hidden_by, is_hidden}
+use Rattle.ledger_model.specs.Targets.{is_hidden_by, is_hidden}
 use Rattle.twin_file.specs.Twin.{open_of, other_of, IsPassed}
 use Rattle.ledger_open.specs.Heads.{IsFront}
 

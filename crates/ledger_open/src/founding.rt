@@ -1,17 +1,16 @@
 //! A new ledger.
 
-ghost use Rattle.std.specs.Prelude.{◌≡◌, ◌≢◌, ◌⊎◌, ◌+◌, ◌≤◌, [], ◌∷◌, ℕ, List, Bool, true, false, length, IsTrue, IfOk, IfErr, IsSomeAnd, OnOk, Err, None};
-ghost use Rattle.block_file.specs.File.{IsSettled};
+ghost use Rattle.std.specs.Prelude.{◌≡◌, ◌≢◌, ◌⊎◌, [], ◌∷◌, true, false, length, IsTrue, IfOk, IfErr, OnOk, Err, None};
 ghost use Rattle.block_file.specs.Head.{IsShut, IsOpen};
 ghost use Rattle.block_file.specs.Place.{place_of};
 ghost use Rattle.journal_record.specs.Blocks.{block_bytes, leaves_of};
-ghost use Rattle.ledger_disk.specs.Disk.{MayLeave, KeepsLength, settled_state};
-ghost use Rattle.ledger_model.specs.Genesis.{HasKeys, new_ledger, genesis_journal, genesis_header, founders_content};
+ghost use Rattle.ledger_disk.specs.Disk.{KeepsLength};
+ghost use Rattle.ledger_model.specs.Genesis.{HasKeys, new_ledger, genesis_journal, genesis_header};
 ghost use Rattle.ledger_model.specs.Limits.{AreWithin};
 ghost use Rattle.twin_file.specs.Places.{HasTail};
 ghost use Rattle.twin_file.specs.Which.{in_a_of, generation_in, file_of, copy_of};
-ghost use Rattle.ledger_open.specs.Founding.{IsOneOpen, IsFounded, IsFoundedOrShut};
-ghost use Rattle.ledger_open.specs.Opening.{known_from, Knows, IsOutside, StandsAsRead, CountsRead, CountsOpen};
+ghost use Rattle.ledger_open.specs.Founding.{IsOneOpen, IsFounded, LeavesFoundedOrShut};
+ghost use Rattle.ledger_open.specs.Opening.{known_from, Knows, IsOutside, AreSettled, StandAsRead, WereSettled, CountsRead, CountsOpen};
 ghost use Rattle.ledger_open.specs.Standing.{ground};
 ghost use Rattle.ledger_open.specs.declared.failure.OpenErr.TheVariants as errors;
 
@@ -139,21 +138,17 @@ pub fn init<D: Disk>(
 
     // Where a file is open, both read as before, whatever is answered.
     ensures left { IsTrue D.tells → IsOneOpen (D.state a.old).bytes.seen (D.state b.old).bytes.seen
-        → StandsAsRead (D.state a.old).bytes (D.state a.new).bytes
-        × StandsAsRead (D.state b.old).bytes (D.state b.new).bytes }
+        → StandAsRead (D.state a.old).bytes (D.state b.old).bytes (D.state a.new).bytes (D.state b.new).bytes }
 
     // An error that isn't a fault leaves both as they read, and nothing pending.
     ensures same { IfErr result (λ e. e ≢ errors.DiskFault → IsTrue D.tells
-        → ((D.state a.new).bytes ≡ settled_state (D.state a.old).bytes.seen)
-        × ((D.state b.new).bytes ≡ settled_state (D.state b.old).bytes.seen)) }
+        → AreSettled (D.state a.old).bytes (D.state b.old).bytes (D.state a.new).bytes (D.state b.new).bytes) }
 
     // A crash at any time leaves both shut, or a pair that stands for the new ledger. What was pending matters only where
     // a disk failed, since both syncs succeeded otherwise.
     ensures images { IsTrue D.tells → IsShut (D.state a.old).bytes.seen → IsShut (D.state b.old).bytes.seen
-        → (result ≡ Err errors.DiskFault
-        → IsSettled (D.state a.old).bytes × IsSettled (D.state b.old).bytes)
-        → (image_a image_b : List ℕ) → MayLeave (D.state a.new).bytes image_a
-        → MayLeave (D.state b.new).bytes image_b → IsFoundedOrShut genesis.now image_a image_b }
+        → WereSettled result (D.state a.old).bytes (D.state b.old).bytes
+        → LeavesFoundedOrShut genesis.now (D.state a.new).bytes (D.state b.new).bytes }
     ensures faults { CountsOpen result (D.state a.old).faults (D.state a.new).faults
         (D.state b.old).faults (D.state b.new).faults }
 {

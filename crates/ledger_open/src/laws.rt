@@ -1,20 +1,22 @@
-ghost use Rattle.std.specs.Prelude.{◌≡◌, ◌⊎◌, Bool, List, ℕ, Option, length};
+ghost use Rattle.std.specs.Prelude.{◌≡◌, ◌⊎◌, [], Bool, List, ℕ, Option, Some, None, take, drop};
 ghost use Rattle.block_file.specs.declared.failure.Damage.{Damage};
 ghost use Rattle.ledger_model.specs.Genesis.{HasKeys, new_ledger};
-ghost use Rattle.ledger_model.specs.History.{History, journals};
+ghost use Rattle.ledger_model.specs.History.{History};
 ghost use Rattle.ledger_model.specs.declared.genesis.Genesis.{Genesis};
 ghost use Rattle.pseudo_genesis.specs.declared.base.Base.{Base};
 ghost use Rattle.ledger_open.specs.Damages.{IsDamage};
+ghost use Rattle.ledger_open.specs.Erasing.{AllInside, IsGivenUp, content_place, content_size, last_target};
 ghost use Rattle.ledger_open.specs.Founding.{IsFounded};
 ghost use Rattle.ledger_open.specs.Growing.{Grows, GrowsErased, IsNewClean};
 ghost use Rattle.ledger_open.specs.Places.{AreAtPlaces, AreAllThere};
 ghost use Rattle.ledger_open.specs.Opening.{Known, Knows, IsOpenErr, IsOutside, IsReopened, IsTidyAt};
-ghost use Rattle.ledger_open.specs.Standing.{IsOneHistory, IsOnePair, IsAlone, StandsFor, PairFor, IsClean, IsCleanPair};
+ghost use Rattle.ledger_open.specs.Standing.{IsOneHistory, IsOnePair, IsAlone, AreZeros, StandsFor, IsErased, PairFor, IsClean, IsCleanPair};
 ghost use Rattle.ledger_open.specs.declared.failure.OpenErr.{OpenErr};
 ghost use Rattle.ledger_open.specs.declared.failure.OpenErr.TheVariants as errors;
 ghost use Rattle.block_file.specs.Head.{IsShut};
 ghost use Rattle.ledger_book.specs.Books.{Serves};
 ghost use Rattle.ledger_disk.specs.Disk.{State, settled_state};
+ghost use Rattle.ledger_disk.specs.Guards.{Outside};
 ghost use Rattle.journal_record.specs.Entry.{Entry};
 ghost use Rattle.twin_file.specs.Twin.{open_of};
 
@@ -64,8 +66,8 @@ pub fn an_opened_book_stands_for_the_history()
         → PairFor a.seen b.seen h → Serves k.book h }
 {}
 
-/// A pair that was opened is clean for each history that it stood for: the open file ends with its tail gate, and the other
-/// is empty. Of one that was clean no byte has changed.
+/// A pair that was opened is clean for each history that it stood for: all that is hidden is gone, the open file ends with
+/// its tail gate, and the other is empty. Of one that was clean no byte has changed.
 pub fn an_opened_pair_is_clean()
     ensures history { (k : Known) (in_a : Bool) (start : Option Base) (blocks : List (List Entry))
         (a b a_new b_new : State) (h : History) → Knows k start blocks
@@ -106,4 +108,26 @@ pub fn a_shut_pair_is_empty()
 pub fn a_pair_has_one_cause_of_refusal()
     ensures { (a b : List ℕ) (e f : OpenErr) → (IsOutside e → ⊥) → (IsOutside f → ⊥)
         → IsOpenErr a b e → IsOpenErr a b f → e ≡ f }
+{}
+
+/// Where the last journal hides the content of another, a file stands for the history whatever bytes stand in that
+/// content's place; and where zeros do, all that is hidden is gone. Where it hides none, all that is hidden was gone. A
+/// file that ended with its tail gate is clean once that is given up.
+pub fn a_content_may_be_given_up()
+    ensures meanwhile { (image new : List ℕ) (h : History) (n : ℕ) → StandsFor image h
+        → last_target h ≡ Some n → Outside (content_place h n) (content_size h n) image new
+        → StandsFor new h }
+    ensures erased { (image new : List ℕ) (h : History) (n : ℕ) → StandsFor image h
+        → last_target h ≡ Some n → Outside (content_place h n) (content_size h n) image new
+        → AreZeros (take (content_size h n) (drop (content_place h n) new)) → IsErased new h }
+    ensures other { (image : List ℕ) (h : History) → StandsFor image h → last_target h ≡ None
+        → IsErased image h }
+    ensures clean { (old new : State) (h : History) (stands : StandsFor old.seen h)
+        → stands.file.keeps.file.stands.rest ≡ [] → IsGivenUp old new h → IsClean new.seen h }
+{}
+
+/// In a ledger that was made or opened each content ends before the tail gate.
+pub fn contents_end_before_the_tail()
+    ensures { (k : Known) (start : Option Base) (blocks : List (List Entry)) → Knows k start blocks
+        → AllInside k.place k.places }
 {}

@@ -1,22 +1,19 @@
 //! A ledger that was made before is opened again.
 
-ghost use Rattle.std.specs.Prelude.{◌≡◌, ◌≢◌, ◌⊎◌, ◌+◌, ◌≤◌, [], ℕ, List, take, Option, None, Err, IsTrue, IfOk, IfErr, IsSomeAnd, OnOk};
+ghost use Rattle.std.specs.Prelude.{◌≡◌, ◌≢◌, ◌⊎◌, ◌+◌, [], None, Err, IsTrue, IfOk, IfErr, OnOk};
 ghost use Rattle.block_file.specs.File.{IsSettled};
 ghost use Rattle.block_file.specs.Head.{generation_of};
 ghost use Rattle.block_file.specs.Place.{place_of, base_len_of};
-ghost use Rattle.journal_record.specs.Entry.{Entry};
-ghost use Rattle.ledger_disk.specs.Disk.{MayLeave, settled_state, CountsFault};
-ghost use Rattle.ledger_model.specs.History.{History};
+ghost use Rattle.ledger_disk.specs.Disk.{settled_state, CountsFault};
 ghost use Rattle.ledger_model.specs.Limits.{AreWithin};
 ghost use Rattle.twin_file.specs.Places.{HasTail};
 ghost use Rattle.twin_file.specs.Twin.{open_of};
 ghost use Rattle.twin_file.specs.Which.{in_a_of, generation_in, file_of, copy_of};
-ghost use Rattle.ledger_open.specs.Opening.{known_from, Knows, IsHeadOf, HasLawfulBlocks, IsOpenedAs, IsOutside, IsReadErr, IsOpenErr, IsReopened, StandsAsRead, KeepsBlocks, CountsOpen};
-ghost use Rattle.pseudo_genesis.specs.declared.base.Base.{Base};
-ghost use Rattle.ledger_open.specs.Standing.{PairFor};
+ghost use Rattle.ledger_open.specs.Opening.{known_from, IsHeadOf, HasLawfulBlocks, IsOpenedAs, IsOutside, IsReadErr, IsOpenErr, KnowsReopened, AreSettled, AreUnchanged, StandAsRead, WereSettled, PairStandsStill, IsCleanStill, IsCleanFileStill, StandsStill, CountsOpen};
 ghost use Rattle.ledger_open.specs.declared.failure.OpenErr.{OpenErr as OpenErrRecord};
 ghost use Rattle.ledger_open.specs.declared.failure.OpenErr.TheVariants as errors;
 
+use crate::erasing::finish_in;
 use crate::reading::read_file;
 use crate::{OpenErr, Opened};
 use ledger_disk::Disk;
@@ -41,7 +38,8 @@ fn clear<D: Disk>(disk: &mut D) -> Result<(), OpenErr>
     Ok(())
 }
 
-// Reads the file that was taken, cuts what stands behind its tail gate, and empties the other one.
+// Reads the file that was taken, cuts what stands behind its tail gate, gives up what the last journal hides, and empties
+// the other one.
 fn open_file<R: Threads, D: Disk>(
     rt: &R,
     alloc: Global,
@@ -63,21 +61,22 @@ fn open_file<R: Threads, D: Disk>(
     ensures err { IfErr result (λ e. IsTrue D.tells → IsReadErr (D.state taken.old).bytes.seen e) }
     ensures only { IfErr result (λ e. (e ≢ errors.Empty) × (e ≢ errors.Exists)) }
     ensures same { IfErr result (λ e. e ≢ errors.DiskFault → IsTrue D.tells
-        → ((D.state taken.new).bytes ≡ (D.state taken.old).bytes)
-        × ((D.state other.new).bytes ≡ (D.state other.old).bytes)) }
+        → AreUnchanged (D.state taken.old).bytes (D.state other.old).bytes
+        (D.state taken.new).bytes (D.state other.new).bytes) }
 
     // So it is whatever is answered, unless the file that is taken is whole.
     ensures kept { IsTrue D.tells → HasLawfulBlocks (D.state taken.old).bytes.seen
-        ⊎ (((D.state taken.new).bytes ≡ (D.state taken.old).bytes)
-        × ((D.state other.new).bytes ≡ (D.state other.old).bytes)) }
+        ⊎ AreUnchanged (D.state taken.old).bytes (D.state other.old).bytes
+        (D.state taken.new).bytes (D.state other.new).bytes }
     ensures which { IfOk result (λ opened. (generation_in opened.twin ≡ generation_in twin)
         × (copy_of opened.twin ≡ copy_of twin)) }
 
-    // At every exit each image of the open file has its blocks, and an empty other file is left alone.
+    // At every exit each image of the open file stands for what it stood for, and an empty other file is left alone.
     ensures images { IsTrue D.tells → IsSettled (D.state taken.old).bytes
-        → KeepsBlocks None (D.state taken.old).bytes (D.state taken.new).bytes }
+        → StandsStill (D.state taken.old).bytes (D.state taken.new).bytes }
     ensures idle { IsTrue D.tells → (D.state other.old).bytes.seen ≡ []
         → (D.state other.new).bytes ≡ (D.state other.old).bytes }
+    ensures clean { IsTrue D.tells → IsCleanFileStill (D.state taken.old).bytes (D.state taken.new).bytes }
     ensures faults { CountsOpen result (D.state taken.old).faults (D.state taken.new).faults
         (D.state other.old).faults (D.state other.new).faults }
 {
@@ -87,6 +86,9 @@ fn open_file<R: Threads, D: Disk>(
         Err(e) => return Err(e),
     };
     if let Err(e) = twin.file().trim(taken) {
+        return Err(OpenErr::from(e));
+    }
+    if let Err(e) = finish_in(&read.book, &read.places, twin.file(), taken) {
         return Err(OpenErr::from(e));
     }
     match clear(other) {
@@ -101,7 +103,8 @@ fn open_file<R: Threads, D: Disk>(
 
 /// Opens a ledger from its two disks. Both are synced before they are looked at. The open file is read once, from its
 /// first block on, and the leaf digests of a long ledger's journals are made in a thread beside; what stands behind its tail gate
-/// is cut off, and the other file is emptied where it isn't.
+/// is cut off, what the last journal hides is given up where a crash left that undone, and the other file is emptied where
+/// it isn't.
 pub fn reopen<R: Threads, D: Disk>(
     rt: &R,
     alloc: Global,
@@ -110,11 +113,9 @@ pub fn reopen<R: Threads, D: Disk>(
     limits: Limits,
 ) -> Result<Opened, OpenErr>
     requires { AreWithin limits }
-    ensures ok { IfOk result (λ opened. (start : Option Base) × (blocks : List (List Entry))
-        × Knows (known_from opened.book opened.places.list (place_of (file_of opened.twin)))
-        start blocks
-        × (IsTrue D.tells → IsReopened (in_a_of opened.twin) (place_of (file_of opened.twin)) start blocks
-        (D.state a.old).bytes (D.state b.old).bytes (D.state a.new).bytes (D.state b.new).bytes)) }
+    ensures ok { IfOk result (λ opened. KnowsReopened D.tells (in_a_of opened.twin)
+        (known_from opened.book opened.places.list (place_of (file_of opened.twin)))
+        (D.state a.old).bytes (D.state b.old).bytes (D.state a.new).bytes (D.state b.new).bytes) }
     ensures limits { IfOk result (λ opened. opened.book.limits ≡ limits) }
     ensures told { IfOk result (λ opened. HasTail
         (open_of (in_a_of opened.twin) (D.state a.new).told (D.state b.new).told)
@@ -127,26 +128,19 @@ pub fn reopen<R: Threads, D: Disk>(
     ensures copy { IfOk result (λ opened. copy_of opened.twin ≡ None) }
     ensures err { IfErr result (λ e. IsTrue D.tells
         → IsOpenErr (D.state a.old).bytes.seen (D.state b.old).bytes.seen e) }
-
-    // An error that isn't a fault leaves both as they read, and nothing pending.
     ensures same { IfErr result (λ e. e ≢ errors.DiskFault → IsTrue D.tells
-        → ((D.state a.new).bytes ≡ settled_state (D.state a.old).bytes.seen)
-        × ((D.state b.new).bytes ≡ settled_state (D.state b.old).bytes.seen)) }
+        → AreSettled (D.state a.old).bytes (D.state b.old).bytes (D.state a.new).bytes (D.state b.new).bytes) }
 
     // A pair that its bytes keep from being opened reads as before, whatever is answered.
     ensures refused { IsTrue D.tells → (e : OpenErrRecord) → (IsOutside e → ⊥)
         → IsOpenErr (D.state a.old).bytes.seen (D.state b.old).bytes.seen e
-        → StandsAsRead (D.state a.old).bytes (D.state a.new).bytes
-        × StandsAsRead (D.state b.old).bytes (D.state b.new).bytes }
+        → StandAsRead (D.state a.old).bytes (D.state b.old).bytes (D.state a.new).bytes (D.state b.new).bytes }
 
-    // A crash at any time, and so each answer, leaves a pair that stands for what it stood for. What was pending matters
-    // only where a disk failed, since both syncs succeeded otherwise.
-    ensures images { IsTrue D.tells
-        → (result ≡ Err errors.DiskFault
-        → IsSettled (D.state a.old).bytes × IsSettled (D.state b.old).bytes)
-        → (h : History) → PairFor (D.state a.old).bytes.seen (D.state b.old).bytes.seen h
-        → (image_a image_b : List ℕ) → MayLeave (D.state a.new).bytes image_a
-        → MayLeave (D.state b.new).bytes image_b → PairFor image_a image_b h }
+    // A crash at any time leaves such a pair. What was pending matters only where a disk failed: else both were synced.
+    ensures images { IsTrue D.tells → WereSettled result (D.state a.old).bytes (D.state b.old).bytes
+        → PairStandsStill (D.state a.old).bytes (D.state b.old).bytes (D.state a.new).bytes (D.state b.new).bytes }
+    ensures clean { IsTrue D.tells
+        → IsCleanStill (D.state a.old).bytes (D.state b.old).bytes (D.state a.new).bytes (D.state b.new).bytes }
     ensures faults { CountsOpen result (D.state a.old).faults (D.state a.new).faults
         (D.state b.old).faults (D.state b.new).faults }
 {

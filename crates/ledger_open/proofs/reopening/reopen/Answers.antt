@@ -5,7 +5,9 @@ use Rattle.block_file.specs.Place.{place_of}
 use Rattle.ledger_disk.specs.Disk.{State}
 use Rattle.twin_file.specs.Which.{in_a_of, generation_in, file_of}
 use Rattle.ledger_open.specs.Opening.{IsOpenErr, known_from}
-use Rattle.ledger_open.proofs.OpenLaws.{fault_is, same_pair, settled_pair, synced, pair_synced, images_open, taken_pair, taken_as, taken_at, reopened_a, reopened_b, look_err, whole_opens, generation_a, generation_b, if_both}
+use Rattle.ledger_open.proofs.OpenLaws.{fault_is, same_pair, settled_pair, synced, pair_synced, taken_pair, taken_as, taken_at, look_err, whole_opens, if_both}
+use Rattle.ledger_open.proofs.CleanLaws.{clean_open}
+use Rattle.ledger_open.proofs.ReopenLaws.{images_open, reopened_a, reopened_b, generation_a, generation_b}
 use Rattle.ledger_open.proofs.PartLaws.{sides_pair}
 use Rattle.ledger_open.proofs.reopening.reopen.Goals as goal
 
@@ -89,10 +91,40 @@ pub returns-then-in_a-clause-generation : goal.returns-then-in_a-clause-generati
 returns-then-in_a-clause-generation g c = if_both c.open_file.result _ _ _ (λ opened both which told.
     let t = taken_as _ _ c.in-Ok-Some.field-0 c.in-Ok-Some.twin true c.in-Ok-Some.field-0-is (c.in-Ok-Some.ensures.answer told) (sym c.in_a.ensures ∙ c.if-in_a.true) in
     generation_a g.D.Disk.tells (in_a_of opened.twin) (known_from opened.book opened.places.list (place_of (file_of opened.twin))) (g.D.Disk.state c.sync.new.self).bytes (g.D.Disk.state c.reopen.new.a).bytes (g.D.Disk.state c.reopen.new.b).bytes (g.D.Disk.state c.open_file.new.taken).bytes (g.D.Disk.state c.open_file.new.other).bytes
-    (generation_in opened.twin) (generation_in c.in-Ok-Some.twin) (both.0 ∙ sym c.in_a.ensures ∙ c.if-in_a.true) (c.reopen.ensures.state_a told) t.taken.head t.generation which.0 both.1 told) c.open_file.ensures.ok c.open_file.ensures.which
+    (generation_in opened.twin) (generation_in c.in-Ok-Some.twin) (both.0 ∙ sym c.in_a.ensures ∙ c.if-in_a.true) (c.reopen.ensures.state_a told) t.generation which.0 both.1 told) c.open_file.ensures.ok c.open_file.ensures.which
 
 pub returns-else-in_a-clause-generation : goal.returns-else-in_a-clause-generation
 returns-else-in_a-clause-generation g c = if_both c.open_file-else-in_a.result _ _ _ (λ opened both which told.
     let t = taken_as _ _ c.in-Ok-Some.field-0 c.in-Ok-Some.twin false c.in-Ok-Some.field-0-is (c.in-Ok-Some.ensures.answer told) (sym c.in_a.ensures ∙ c.if-in_a.false) in
     generation_b g.D.Disk.tells (in_a_of opened.twin) (known_from opened.book opened.places.list (place_of (file_of opened.twin))) (g.D.Disk.state c.sync-2.new.self).bytes (g.D.Disk.state c.reopen.new.a).bytes (g.D.Disk.state c.reopen.new.b).bytes (g.D.Disk.state c.open_file-else-in_a.new.other).bytes (g.D.Disk.state c.open_file-else-in_a.new.taken).bytes
-    (generation_in opened.twin) (generation_in c.in-Ok-Some.twin) (both.0 ∙ sym c.in_a.ensures ∙ c.if-in_a.false) (c.reopen.ensures.state_b told) t.taken.head t.generation which.0 both.1 told) c.open_file-else-in_a.ensures.ok c.open_file-else-in_a.ensures.which
+    (generation_in opened.twin) (generation_in c.in-Ok-Some.twin) (both.0 ∙ sym c.in_a.ensures ∙ c.if-in_a.false) (c.reopen.ensures.state_b told) t.generation which.0 both.1 told) c.open_file-else-in_a.ensures.ok c.open_file-else-in_a.ensures.which
+
+pub returns-in_err-sync-clause-clean : goal.returns-in_err-sync-clause-clean
+returns-in_err-sync-clause-clean g c told qa qb h clean = (c.in_err-sync.ensures.err told, refl)
+
+pub returns-in_err-sync-2-clause-clean : goal.returns-in_err-sync-2-clause-clean
+returns-in_err-sync-2-clause-clean g c told qa qb h clean = (c.in_ok-sync.ensures.ok told ∙ sym qa, c.in_err-sync-2.ensures.err told)
+
+pub returns-in-Ok-None-clause-clean : goal.returns-in-Ok-None-clause-clean
+returns-in-Ok-None-clause-clean g c told qa qb h clean = (c.reopen.ensures.state_a told ∙ c.in_ok-sync.ensures.ok told ∙ sym qa, c.reopen.ensures.state_b told ∙ c.in_ok-sync-2.ensures.ok told ∙ sym qb)
+
+pub returns-in-Err-clause-clean : goal.returns-in-Err-clause-clean
+returns-in-Err-clause-clean g c told qa qb h clean = (c.reopen.ensures.state_a told ∙ c.in_ok-sync.ensures.ok told ∙ sym qa, c.reopen.ensures.state_b told ∙ c.in_ok-sync-2.ensures.ok told ∙ sym qb)
+
+pub returns-then-in_a-clause-clean : goal.returns-then-in_a-clause-clean
+returns-then-in_a-clause-clean g c told qa qb h clean =
+    let ea = c.reopen.ensures.state_a told ∙ c.in_ok-sync.ensures.ok told ∙ sym qa in
+    let eb = c.reopen.ensures.state_b told ∙ c.in_ok-sync-2.ensures.ok told ∙ sym qb in
+    let t = taken_at (g.D.Disk.state c.sync.new.self).bytes (g.D.Disk.state c.sync-2.new.self).bytes (g.D.Disk.state c.reopen.new.a).bytes (g.D.Disk.state c.reopen.new.b).bytes true c.in-Ok-Some.twin (c.reopen.ensures.state_a told) (c.reopen.ensures.state_b told)
+    (taken_as _ _ c.in-Ok-Some.field-0 c.in-Ok-Some.twin true c.in-Ok-Some.field-0-is (c.in-Ok-Some.ensures.answer told) (sym c.in_a.ensures ∙ c.if-in_a.true)) in
+    clean_open true (g.D.Disk.state c.args.a.now).bytes (g.D.Disk.state c.args.b.now).bytes (g.D.Disk.state c.reopen.new.a).bytes (g.D.Disk.state c.reopen.new.b).bytes (g.D.Disk.state c.open_file.new.taken).bytes (g.D.Disk.state c.open_file.new.other).bytes h ea eb qa qb t clean
+    (c.open_file.ensures.clean told) (c.open_file.ensures.idle told)
+
+pub returns-else-in_a-clause-clean : goal.returns-else-in_a-clause-clean
+returns-else-in_a-clause-clean g c told qa qb h clean =
+    let ea = c.reopen.ensures.state_a told ∙ c.in_ok-sync.ensures.ok told ∙ sym qa in
+    let eb = c.reopen.ensures.state_b told ∙ c.in_ok-sync-2.ensures.ok told ∙ sym qb in
+    let t = taken_at (g.D.Disk.state c.sync.new.self).bytes (g.D.Disk.state c.sync-2.new.self).bytes (g.D.Disk.state c.reopen.new.a).bytes (g.D.Disk.state c.reopen.new.b).bytes false c.in-Ok-Some.twin (c.reopen.ensures.state_a told) (c.reopen.ensures.state_b told)
+    (taken_as _ _ c.in-Ok-Some.field-0 c.in-Ok-Some.twin false c.in-Ok-Some.field-0-is (c.in-Ok-Some.ensures.answer told) (sym c.in_a.ensures ∙ c.if-in_a.false)) in
+    clean_open false (g.D.Disk.state c.args.a.now).bytes (g.D.Disk.state c.args.b.now).bytes (g.D.Disk.state c.reopen.new.a).bytes (g.D.Disk.state c.reopen.new.b).bytes (g.D.Disk.state c.open_file-else-in_a.new.taken).bytes (g.D.Disk.state c.open_file-else-in_a.new.other).bytes h ea eb qa qb t clean
+    (c.open_file-else-in_a.ensures.clean told) (c.open_file-else-in_a.ensures.idle told)
