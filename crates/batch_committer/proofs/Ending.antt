@@ -2,9 +2,13 @@
 use Rattle.std.specs.Prelude.{Bool, true, false, IsTrue, None}
 use Rattle.std.specs.Int.{w32, w64, to_be_bytes, from_be_bytes}
 use Rattle.std.specs.Io.KnownBytes.{Appends}
-use Rattle.std.proofs.Common.{◌≡◌, inl, inr, ℕ, ◌+◌, ◌<◌, ◌≤◌, List, [], ◌++◌, length, take, drop, refl, ap, sym, subst, ◌∙◌, arith, append_assoc, length-append, length-take, take-append-drop}
+use Rattle.std.proofs.Common.{◌≡◌, inl, inr, ℕ, ◌+◌, ◌-◌, ◌<◌, ◌≤◌, List, [], ◌∷◌, ◌++◌, length, get_or, take, drop, refl, ap, sym, subst, ◌∙◌, arith, append_assoc, length-append, length-take, take-append-drop}
 use Rattle.std.proofs.KnownBytes.{Appends-nil}
-use Rattle.std.proofs.lemmas.List.{nil_from_length, drop-take, take-take}
+use Rattle.std.proofs.lemmas.List.{nil_from_length, drop-take, take-take, get_or-drop}
+use Rattle.std.proofs.lemmas.List.Elements.{All-weaker}
+use Rattle.block_file.specs.File.{IsShutAt}
+use Rattle.ledger_disk.specs.Guards.{Outside}
+use Rattle.journal_record.specs.Entry.{Entry}
 use Rattle.sha2.specs.Sha256.{sha256}
 use Rattle.tree_model.specs.Tree.{mth}
 use Rattle.block_file.specs.Head.{generation_of}
@@ -27,15 +31,17 @@ use Rattle.ledger_book.specs.Books.{Stands, Serves, sealed_size}
 use Rattle.ledger_book.specs.Seals as seals
 use Rattle.ledger_book.specs.Steps.{IsSame}
 use Rattle.twin_file.specs.Twin.{open_of}
-use Rattle.ledger_open.specs.Places.{places_in, places_at}
-use Rattle.batch_committer.specs.Committed.{IsCommitted, IsUncommitted, open_bytes}
+use Rattle.ledger_open.specs.Erasing.{AreBetween, EndsAs}
+use Rattle.ledger_open.specs.Places.{places_in, places_at, after_at}
+use Rattle.ledger_open.specs.declared.places.PlaceAt.{PlaceAt}
+use Rattle.batch_committer.specs.Committed.{IsCommitted, IsUncommitted, HasGivenUp, HasNotGivenUp, open_bytes}
 use Rattle.batch_committer.specs.Spelled as spell
 use Rattle.batch_committer.specs.Steps.{settled_text}
-use Rattle.batch_committer.specs.World.{Kept, World, Pair, world, Reads, Fits, Located, Keeps, IsCleanFor, Holds, Writes, Goes, Says, Stops, Ended, sealed_part}
+use Rattle.batch_committer.specs.World.{Kept, World, Pair, world, Reads, Fits, Located, Keeps, IsCleanFor, Holds, Writes, Goes, Says, Stops, Ended, IsUnanswered, AreInside, sealed_part}
 use Rattle.batch_committer.specs.declared.end.End.{End}
 use Rattle.batch_committer.specs.declared.end.End.TheVariants.{DiskFault, WriteFault, NoMemory}
-use Rattle.batch_committer.proofs.Closing.{next_bytes, root_closed, clean_image, commit_clean, commit_left, located_close}
-use Rattle.batch_committer.proofs.WayLaws.{begins_not}
+use Rattle.batch_committer.proofs.Closing.{next_bytes, root_closed, closed_is, clean_image, clean_pair, left_clean, IsStanding, commit_stands, commit_left, give_clean, give_left, places_more, tail_close, located_close, sealed_same}
+use Rattle.batch_committer.proofs.WayLaws.{begins_not, failed_from}
 
 -- nothing was written yet, and the disks are what they were
 pub stops_before : (tells : Bool) (w : World) (h whole : History) (ds : List Due) (end : End) → Says end [] [] → Grows h whole → Holds tells w h → Stops h whole ds end [] w.disks
@@ -50,6 +56,7 @@ stops_before tells w h whole ds end says x p = record {
     no_shorter = begins_not h.closed;
     no_longer = begins_closed h whole x;
     receipts = tt;
+    clean = left_clean end h (sealed_part h) [] i j (clean_pair w.kept.in_a w.kept.place (sealed_part h) w.disks.a.bytes w.disks.b.bytes i j p.keeps.located.tail p.disks left_a left_b);
   };
 }
 
@@ -105,27 +112,54 @@ pub record AtEnd (tells : Bool) (w : World) (block text : List ℕ) : Type 0 whe
   pub text_is : (h : History) → Holds tells w h → text ≡ settled_text (close h) w.kept.dues
 
 module _ (tells : Bool) (w : World) (block text : List ℕ) (e : AtEnd tells w block text) where
-  clean_then : (h : History) (next : ℕ) (disks : Pair) → Holds tells w h → next ≡ w.kept.place + 1 + length block → IsCommitted tells w.kept.in_a w.kept.place block w.disks disks
-      → IsCleanFor w.kept.in_a next (sealed_part (close h)) disks.a.bytes disks.b.bytes
-  clean_then h next disks p at c =
+  stands_then : (h : History) (next : ℕ) (mid : Pair) → Holds tells w h → next ≡ w.kept.place + 1 + length block → IsCommitted tells w.kept.in_a w.kept.place block w.disks mid
+      → IsStanding w.kept.in_a next (sealed_part (close h)) mid.a.bytes mid.b.bytes
+  stands_then h next mid p at c =
       let is = e.block_is h p in
-      commit_clean tells w h p (e.some h p) (e.most h p) disks next (at ∙ ap (λ (l : List ℕ). w.kept.place + 1 + length l) is)
-      (subst (λ (l : List ℕ). IsCommitted tells w.kept.in_a w.kept.place l w.disks disks) is c)
+      commit_stands tells w h p (e.some h p) (e.most h p) mid next (at ∙ ap (λ (l : List ℕ). w.kept.place + 1 + length l) is)
+      (subst (λ (l : List ℕ). IsCommitted tells w.kept.in_a w.kept.place l w.disks mid) is c)
+
+  -- where the tail gate stands, and what the book and the places are of
+  tail_then : (h : History) → Holds tells w h → w.kept.place + 1 + length block ≡ after_at 64 (sealed_part (close h)).closed
+  tail_then h p = tail_close w.kept h (w.kept.place + 1 + length block) (e.some h p) (ap (λ (l : List ℕ). w.kept.place + 1 + length l) (e.block_is h p)) p.keeps.next p.keeps.located
+
+  ends_then : (h : History) (book : books.Kept) → Holds tells w h → Serves book (close h) → EndsAs book w.kept.places (sealed_part (close h))
+  ends_then h book p serves = record {
+    serves = subst (Serves book) (sym (sealed_same (close h) (close_none h))) serves;
+    places_are = p.keeps.located.places ∙ ap (λ (n : ℕ). places_at 64 h.closed ++ places_in (n + 45) h.waiting) p.keeps.located.tail
+        ∙ sym (places_more 64 h.closed h.waiting) ∙ ap (places_at 64) (sym (closed_is h (e.some h p)));
+    none = refl;
+  }
+
+  clean_then : (h : History) (book : books.Kept) (mid disks : Pair) → Holds tells w h → Serves book (close h) → IsCommitted tells w.kept.in_a w.kept.place block w.disks mid
+      → HasGivenUp tells w.kept.in_a (w.kept.place + 1 + length block) book w.kept.places mid disks → IsCleanFor w.kept.in_a (w.kept.place + 1 + length block) (sealed_part (close h)) disks.a.bytes disks.b.bytes
+  clean_then h book mid disks p serves c g =
+      let next = w.kept.place + 1 + length block in
+      give_clean tells next book w.kept.places (sealed_part (close h)) p.told (ends_then h book p serves) mid disks w.kept.in_a (stands_then h next mid p refl c) g
 
   -- all went well
-  pub end_goes : (k : Kept) (disks : Pair) (sink : SinkState) → ((h : History) → Serves w.kept.book h → Serves k.book (close h)) → IsSame w.kept.book k.book → k.places ≡ w.kept.places → k.in_a ≡ w.kept.in_a → k.place ≡ w.kept.place + 1 + length block → k.body ≡ [] → k.dues ≡ []
-      → IsCommitted tells w.kept.in_a w.kept.place block w.disks disks → Appends w.sink.held sink.held text → MeetsNone w.sink sink → Goes tells w close (λ h. []) (world k disks sink)
-  end_goes k disks sink serves same places in_a place body dues c appended none = record {
+  pub end_goes : (k : Kept) (book : books.Kept) (mid disks : Pair) (sink : SinkState) → k.book ≡ book → ((h : History) → Serves w.kept.book h → Serves book (close h)) → IsSame w.kept.book book → k.places ≡ w.kept.places → k.in_a ≡ w.kept.in_a → k.place ≡ w.kept.place + 1 + length block → k.body ≡ [] → k.dues ≡ []
+      → IsCommitted tells w.kept.in_a w.kept.place block w.disks mid → HasGivenUp tells w.kept.in_a (w.kept.place + 1 + length block) book w.kept.places mid disks
+      → Appends w.sink.held sink.held text → MeetsNone w.sink sink → Goes tells w close (λ h. []) (world k disks sink)
+  end_goes k book mid disks sink is serves same places in_a place body dues c g appended none = record {
     holds = λ h p. record {
       told = p.told;
-      keeps = keeps_closed w.kept k h (e.some h p) p.keeps (serves h p.keeps.serves) same places (place ∙ ap (λ (l : List ℕ). w.kept.place + 1 + length l) (e.block_is h p)) body dues;
-      disks = subst (λ v. IsCleanFor v k.place (sealed_part (close h)) disks.a.bytes disks.b.bytes) (sym in_a) (clean_then h k.place disks p place c);
+      keeps = keeps_closed w.kept k h (e.some h p) p.keeps (subst (λ (b : books.Kept). Serves b (close h)) (sym is) (serves h p.keeps.serves)) (subst (IsSame w.kept.book) (sym is) same) places (place ∙ ap (λ (l : List ℕ). w.kept.place + 1 + length l) (e.block_is h p)) body dues;
+      disks = subst (λ n. IsCleanFor k.in_a n (sealed_part (close h)) disks.a.bytes disks.b.bytes) (sym place)
+          (subst (λ v. IsCleanFor v (w.kept.place + 1 + length block) (sealed_part (close h)) disks.a.bytes disks.b.bytes) (sym in_a) (clean_then h book mid disks p (serves h p.keeps.serves) c g));
     };
     grows = λ h p. grows_close h;
     sofar = text;
     appended = appended;
     writes = λ h p. subst (λ (new : List Due). Writes (close h) w.kept.dues [] new text) (sym dues) (writes_ended h w.kept.dues text p.keeps.dues (e.text_is h p));
-    no_fault = record { a = c.faults_a; b = c.faults_b; sink = none };
+    no_fault = record { a = g.faults_a ∙ c.faults_a; b = g.faults_b ∙ c.faults_b; sink = none };
+  }
+
+  -- the block is a new one, and nothing that is due was written
+  unanswered : (h : History) → Holds tells w h → IsUnanswered h (sealed_part (close h)) []
+  unanswered h p = record {
+    added = omega (arith, ap (λ (bs : List (List Entry)). length bs) (closed_is h (e.some h p)), length-append h.closed (h.waiting ∷ []));
+    unanswered = tt;
   }
 
   -- the commit failed
@@ -141,17 +175,44 @@ module _ (tells : Bool) (w : World) (block text : List ℕ) (e : AtEnd tells w b
       said = λ f y none. refl;
       images = λ i j left_a left_b.
           elim (commit_left tells w h p (e.some h p) (e.most h p) disks i j (subst (λ (l : List ℕ). IsUncommitted tells w.kept.in_a w.kept.place l w.disks disks) (e.block_is h p) c) left_a left_b) [
-            | inl x ↦ record { kept = sealed_part h; stands = x; no_shorter = begins_not h.closed; no_longer = begins_closed h (close h) (grows_close h); receipts = tt }
-            | inr x ↦ record { kept = sealed_part (close h); stands = x; no_shorter = begins_closed h (close h) (grows_close h); no_longer = begins_not (close h).closed; receipts = tt }
+            | inl x ↦ record { kept = sealed_part h; stands = x.0; no_shorter = begins_not h.closed; no_longer = begins_closed h (close h) (grows_close h); receipts = tt; clean = inl x.1 }
+            | inr x ↦ record { kept = sealed_part (close h); stands = x; no_shorter = begins_closed h (close h) (grows_close h); no_longer = begins_not (close h).closed; receipts = tt; clean = inr (unanswered h p) }
           ];
     };
     cause = (c.failed, (refl, refl));
   }
 
+  -- the block is on the disk, and what its journal hides couldn't be given up
+  pub end_ungiven : (k : Kept) (book : books.Kept) (mid disks : Pair) → ((h : History) → Serves w.kept.book h → Serves book (close h)) → IsCommitted tells w.kept.in_a w.kept.place block w.disks mid
+      → HasNotGivenUp tells w.kept.in_a book w.kept.places mid disks → Ended tells w close (λ h. []) DiskFault (world k disks w.sink)
+  end_ungiven k book mid disks serves c g = record {
+    grows = λ h p. grows_close h;
+    part = [];
+    appended = Appends-nil w.sink.held;
+    stops = λ h p. record {
+      done = [];
+      rest = w.kept.dues ++ [];
+      split = refl;
+      said = λ f y none. refl;
+      images = λ i j left_a left_b. record {
+        kept = sealed_part (close h);
+        stands =
+            let next = w.kept.place + 1 + length block in
+            give_left tells next book w.kept.places (sealed_part (close h)) p.told (ends_then h book p (serves h p.keeps.serves)) mid disks w.kept.in_a i j (stands_then h next mid p refl c) g left_a left_b;
+        no_shorter = begins_closed h (close h) (grows_close h);
+        no_longer = begins_not (close h).closed;
+        receipts = tt;
+        clean = inr (unanswered h p);
+      };
+    };
+    cause = (failed_from w.disks mid disks c.faults_a c.faults_b g.failed, (refl, refl));
+  }
+
   -- the sink failed
-  pub end_unwritten : (k : Kept) (disks : Pair) (sink : SinkState) (taken : ℕ) → IsCommitted tells w.kept.in_a w.kept.place block w.disks disks → taken < length text → Appends w.sink.held sink.held (take taken text)
+  pub end_unwritten : (k : Kept) (book : books.Kept) (mid disks : Pair) (sink : SinkState) (taken : ℕ) → ((h : History) → Serves w.kept.book h → Serves book (close h)) → IsCommitted tells w.kept.in_a w.kept.place block w.disks mid
+      → HasGivenUp tells w.kept.in_a (w.kept.place + 1 + length block) book w.kept.places mid disks → taken < length text → Appends w.sink.held sink.held (take taken text)
       → MeetsOne w.sink sink → Ended tells w close (λ h. []) WriteFault (world k disks sink)
-  end_unwritten k disks sink taken c few appended one = record {
+  end_unwritten k book mid disks sink taken serves c g few appended one = record {
     grows = λ h p. grows_close h;
     part = take taken text;
     appended = appended;
@@ -162,13 +223,14 @@ module _ (tells : Bool) (w : World) (block text : List ℕ) (e : AtEnd tells w b
       said = λ f y none. says_first h f w.kept.dues text taken p.keeps.dues (e.text_is h p) few y;
       images = λ i j left_a left_b. record {
         kept = sealed_part (close h);
-        stands = clean_image w.kept.in_a (w.kept.place + 1 + length block) (sealed_part (close h)) disks.a.bytes disks.b.bytes i j (clean_then h (w.kept.place + 1 + length block) disks p refl c) left_a left_b;
+        stands = clean_image w.kept.in_a (w.kept.place + 1 + length block) (sealed_part (close h)) disks.a.bytes disks.b.bytes i j (clean_then h book mid disks p (serves h p.keeps.serves) c g) left_a left_b;
         no_shorter = begins_closed h (close h) (grows_close h);
         no_longer = begins_not (close h).closed;
         receipts = all_in_ended h w.kept.dues p.keeps.dues;
+        clean = clean_pair w.kept.in_a (w.kept.place + 1 + length block) (sealed_part (close h)) disks.a.bytes disks.b.bytes i j (tail_then h p) (clean_then h book mid disks p (serves h p.keeps.serves) c g) left_a left_b;
       };
     };
-    cause = (c.faults_a, c.faults_b, one);
+    cause = (g.faults_a ∙ c.faults_a, g.faults_b ∙ c.faults_b, one);
   }
 
 -- the places, where nothing that counts has changed
@@ -225,6 +287,7 @@ module _ (tells : Bool) (w : World) (text : List ℕ) (none : (h : History) → 
         no_shorter = begins_not h.closed;
         no_longer = begins_closed h (close h) (grows_close h);
         receipts = subst (λ (g : History). AllIn g.closed w.kept.dues) (sym (close_settled h (none h p))) (all_in_ended h w.kept.dues p.keeps.dues);
+        clean = clean_pair w.kept.in_a w.kept.place (sealed_part h) w.disks.a.bytes w.disks.b.bytes i j p.keeps.located.tail p.disks left_a left_b;
       };
     };
     cause = (refl, refl, one);
@@ -264,29 +327,70 @@ count_few k count is few = omega (arith, is, few)
 pub none_waits : (k : books.Kept) (h : History) → k.size ≡ k.sealed → Serves k h → h.waiting ≡ []
 none_waits k h same s = nil_from_length h.waiting (omega (arith, same, s.stands.counts.size, s.stands.counts.sealed_is, length-append (journals_of h.closed) h.waiting))
 
+-- a generation stands in the first 64 bytes
+generation_part : (file : List ℕ) → take 8 (drop 10 (take 64 file)) ≡ take 8 (drop 10 file)
+generation_part file = ap (λ (l : List ℕ). take 8 l) (drop-take 10 54 file) ∙ take-take 8 54 (drop 10 file) (omega arith)
+
+by_head : (new old : List ℕ) → take 64 new ≡ take 64 old → generation_of new ≡ generation_of old
+by_head new old is = ap (λ (l : List ℕ). from_be_bytes w64 l) (sym (generation_part new) ∙ ap (λ (l : List ℕ). take 8 (drop 10 l)) is ∙ generation_part old)
+
 -- a commit leaves the open file's generation
 pub generation_stays : (tells : Bool) (in_a : Bool) (place : ℕ) (block : List ℕ) (before after : Pair) → IsCommitted tells in_a place block before after → IsTrue tells
     → generation_of (open_of in_a after.a after.b).bytes.seen ≡ generation_of (open_of in_a before.a before.b).bytes.seen
 generation_stays tells in_a place block before after c told = by in_a (c.head told) where
-  part : (file : List ℕ) → take 8 (drop 10 (take 64 file)) ≡ take 8 (drop 10 file)
-  part file = ap (λ (l : List ℕ). take 8 l) (drop-take 10 54 file) ∙ take-take 8 54 (drop 10 file) (omega arith)
-
-  -- it stands in the first 64 bytes
-  by_head : (new old : List ℕ) → take 64 new ≡ take 64 old → generation_of new ≡ generation_of old
-  by_head new old is = ap (λ (l : List ℕ). from_be_bytes w64 l) (sym (part new) ∙ ap (λ (l : List ℕ). take 8 (drop 10 l)) is ∙ part old)
-
   by : (v : Bool) → take 64 (open_bytes v after).seen ≡ take 64 (open_bytes v before).seen → generation_of (open_of v after.a after.b).bytes.seen ≡ generation_of (open_of v before.a before.b).bytes.seen
   by true is = by_head after.a.bytes.seen before.a.bytes.seen is
   by false is = by_head after.b.bytes.seen before.b.bytes.seen is
 
+-- a gate is still shut behind all contents that may be given up
+still_shut : (place : ℕ) (old new : List ℕ) → Outside 0 (place - 0) old new → IsShutAt place old → IsShutAt place new
+still_shut place old new o s =
+    let whole : 0 + (place - 0) ≡ place = omega arith in
+    let behind : drop place new ≡ drop place old = ap (λ (n : ℕ). drop n new) (sym whole) ∙ o.after ∙ ap (λ (n : ℕ). drop n old) whole in
+    let first : (file : List ℕ) → get_or file place 0 ≡ get_or (drop place file) 0 0 = λ file. ap (λ (n : ℕ). get_or file n 0) (omega arith) ∙ sym (get_or-drop place file 0 0) in (
+      omega (arith, o.size, s.0),
+      λ open_gate. s.1 (first old ∙ ap (λ (l : List ℕ). get_or l 0 0) (sym behind) ∙ sym (first new) ∙ open_gate),
+    )
+
+inside_all : (end : ℕ) (places : List PlaceAt) → AreInside end places → AreBetween 0 end places
+inside_all end places all =
+    All-weaker (λ (p : PlaceAt). (64 ≤ p.content_at) × (p.content_at + p.content_len ≤ end)) (λ (p : PlaceAt). (0 ≤ p.content_at) × (p.content_at + p.content_len ≤ end)) (λ p is. (omega arith, is.1)) places all
+
+-- what is left of the open file where contents were given up
+pub given_reads : (tells : Bool) (in_a : Bool) (place : ℕ) (book : books.Kept) (places : List PlaceAt) (mid disks : Pair) → AreInside place places → HasGivenUp tells in_a place book places mid disks → Reads tells place (open_of in_a mid.a mid.b) → Reads tells place (open_of in_a disks.a disks.b)
+given_reads tells in_a place book places mid disks inside g r = record {
+  told = g.told;
+  shut = λ t. still_shut place (open_of in_a mid.a mid.b).bytes.seen (open_of in_a disks.a disks.b).bytes.seen (g.rest t 0 place (inside_all place places inside)) (r.shut t);
+}
+
+pub given_generation : (tells : Bool) (in_a : Bool) (place : ℕ) (book : books.Kept) (places : List PlaceAt) (mid disks : Pair) → AreInside place places → HasGivenUp tells in_a place book places mid disks → IsTrue tells
+    → generation_of (open_of in_a disks.a disks.b).bytes.seen ≡ generation_of (open_of in_a mid.a mid.b).bytes.seen
+given_generation tells in_a place book places mid disks inside g t =
+    by_head (open_of in_a disks.a disks.b).bytes.seen (open_of in_a mid.a mid.b).bytes.seen (g.rest t 64 place inside).before
+
+-- where the contents of the open block end, once it has ended
+pub inside_ended : (k : Kept) (block head : List ℕ) → block ≡ head ++ k.body → length head ≡ 44 → AreInside (k.place + 45 + length k.body) k.places → AreInside (k.place + 1 + length block) k.places
+inside_ended k block head is size all =
+    subst (λ (n : ℕ). AreInside n k.places) (omega (arith, ap length is, size, length-append head k.body)) all
+
 pub fits_ended : (tells : Bool) (k : Kept) (old : Bool) (disks : Pair) (sink : SinkState) (place : ℕ) → k.book.size ≡ k.book.sealed → k.place ≡ place → Reads tells place (open_of old disks.a disks.b) → k.in_a ≡ old
-    → (IsTrue tells → k.generation ≡ generation_of (open_of old disks.a disks.b).bytes.seen) → k.copy ≡ None → Fits tells (world k disks sink)
-fits_ended tells k old disks sink place none at reads in_a generation copy = record {
+    → (IsTrue tells → k.generation ≡ generation_of (open_of old disks.a disks.b).bytes.seen) → k.copy ≡ None → AreInside place k.places → Fits tells (world k disks sink)
+fits_ended tells k old disks sink place none at reads in_a generation copy inside = record {
   reads = subst (λ v. Reads tells k.place (open_of v disks.a disks.b)) (sym in_a) (subst (λ n. Reads tells n (open_of old disks.a disks.b)) (sym at) reads);
   generation = λ told. generation told ∙ sym (ap (λ v. generation_of (open_of v disks.a disks.b).bytes.seen) in_a);
   copy = copy;
   few = omega (arith, none);
+  inside =
+      All-weaker (λ (p : PlaceAt). (64 ≤ p.content_at) × (p.content_at + p.content_len ≤ place)) (λ (p : PlaceAt). (64 ≤ p.content_at) × (p.content_at + p.content_len ≤ k.place + 45 + length k.body)) (λ p is. (is.0, omega (arith, is.1, at))) k.places inside;
 }
+
+-- the same for an open file and a place that are known by equations
+pub given_as : (tells in_a in_b : Bool) (at to : ℕ) (book : books.Kept) (places : List PlaceAt) (mid disks : Pair) → in_a ≡ in_b → at ≡ to → HasGivenUp tells in_a at book places mid disks → HasGivenUp tells in_b to book places mid disks
+given_as tells in_a in_b at to book places mid disks same is g =
+    subst (λ (n : ℕ). HasGivenUp tells in_b n book places mid disks) is (subst (λ (v : Bool). HasGivenUp tells v at book places mid disks) same g)
+
+pub not_given_as : (tells in_a in_b : Bool) (book : books.Kept) (places : List PlaceAt) (mid disks : Pair) → in_a ≡ in_b → HasNotGivenUp tells in_a book places mid disks → HasNotGivenUp tells in_b book places mid disks
+not_given_as tells in_a in_b book places mid disks same g = subst (λ (v : Bool). HasNotGivenUp tells v book places mid disks) same g
 
 -- how far a fault of the sink let the lines be written
 pub first_of_text : (old new : SinkState) (text : List ℕ) (e : WriteErr) → WritesFirst old.held new.held text e → (taken : ℕ) × (taken < length text) × Appends old.held new.held (take taken text)

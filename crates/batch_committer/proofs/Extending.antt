@@ -13,7 +13,8 @@ use Rattle.script_lines.specs.declared.said.Which.TheVariants.{Ledger, Notary}
 use Rattle.time_peg.specs.Entries.{NotaryState}
 use Rattle.ledger_model.specs.Getting.{reply_unless}
 use Rattle.ledger_model.specs.History.{History, size}
-use Rattle.ledger_model.specs.Judgements.{own_refusal, first_refusal}
+use Rattle.ledger_model.specs.Judgements.{own_refusal}
+use Rattle.member_book.specs.Erasures.{first_refusal}
 use Rattle.ledger_model.specs.Limits.{real_limits}
 use Rattle.ledger_model.specs.Proofs.{extend_refusal, size_refusal, list_extension}
 use Rattle.ledger_model.specs.Texts.{told_reply, extension_reply}

@@ -12,8 +12,9 @@ use Rattle.script_lines.specs.declared.reply.Reply.{Reply}
 use Rattle.script_lines.specs.declared.reply.Reply.TheVariants as reply
 use Rattle.ledger_model.specs.Getting.{content_damage, who_damage, reply_unless, whole_reply, occulted_reply, reply_on, shown_reply, get_reply}
 use Rattle.ledger_model.specs.History.{History, journals, size, point}
-use Rattle.ledger_model.specs.Judgements.{first_refusal}
-use Rattle.ledger_model.specs.Outcomes.{is_hidden, view}
+use Rattle.member_book.specs.Erasures.{first_refusal}
+use Rattle.ledger_model.specs.Outcomes.{view}
+use Rattle.ledger_model.specs.Targets.{is_hidden}
 use Rattle.ledger_model.specs.declared.view.View.{View}
 use Rattle.ledger_model.specs.declared.view.View.TheVariants.{Absent, Purged, Occulted, Whole}
 use Rattle.ledger_model.proofs.LawfulLaws.{AreFrom, lawful_from}

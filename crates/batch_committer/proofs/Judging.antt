@@ -2,23 +2,25 @@
 use Rattle.std.specs.Prelude.{Bool, true, false, IsTrue, ◌↔◌, Result, Ok, Err, OnOk, nat_le, ◌==◌, bytes_eq, slice_get, if◌then◌else◌, sum_by}
 use Rattle.std.specs.Int.{w16, w32, to_be_bytes}
 use Rattle.std.specs.List.{list_all}
-use Rattle.std.proofs.Common.{◌≡◌, ◌≢◌, ℕ, zero, suc, ◌+◌, ◌≤◌, ◌&&◌, cond, List, [], ◌∷◌, ◌++◌, length, map, Option, Some, None, refl, ap, sym, subst, ◌∙◌, arith, append_assoc, append-nil, length-append}
+use Rattle.std.proofs.Common.{◌≡◌, ◌≢◌, ℕ, zero, suc, ◌+◌, ◌*◌, ◌≤◌, ◌&&◌, cond, List, [], ◌∷◌, ◌++◌, length, map, Option, Some, None, refl, ap, sym, subst, ◌∙◌, arith, append_assoc, append-nil, length-append}
 use Rattle.std.proofs.lemmas.Bool.{true≢false, le-leb, leb-true, eqb-true, and_parts}
 use Rattle.std.proofs.lemmas.List.Concat.{flat_map-append}
+use Rattle.std.proofs.lemmas.List.Elements.{All-push, All-weaker}
 use Rattle.std.proofs.lemmas.Option.{none-some}
 use Rattle.ledger_bytes.specs.declared.digest.Digest.{Digest}
-use Rattle.ledger_bytes.specs.declared.limits.TheConstants.{CONTENT_LIMIT, PROOF_LIMIT}
+use Rattle.ledger_bytes.specs.declared.limits.TheConstants.{APPROVAL_LIMIT, CONTENT_LIMIT, PROOF_LIMIT}
 use Rattle.ledger_bytes.specs.declared.refusal.Refusal.{Refusal}
 use Rattle.journal_record.specs.Approval.{who_of, approval_bytes}
 use Rattle.journal_record.specs.Blocks.{record_bytes, body_of, IsEntry}
 use Rattle.journal_record.specs.Entry.{Entry, content_digest_of}
-use Rattle.journal_record.specs.Header.{HasWidths}
+use Rattle.journal_record.proofs.Spelling.{length-spelling}
+use Rattle.journal_record.specs.Header.{HasWidths, spelling}
 use Rattle.journal_record.specs.declared.approval.Approval.{Approval}
 use Rattle.journal_record.specs.declared.approval.TheConstants.{WHO_LIMIT}
 use Rattle.journal_record.specs.declared.header.Header.{Header}
 use Rattle.journal_record.specs.declared.stamp.Stamp.{Stamp}
 use Rattle.ledger_model.specs.Anchors.{stamp_of, time_header, time_journal}
-use Rattle.ledger_model.specs.Appends.{append_journal, member_journal, append_header, member_header}
+use Rattle.ledger_model.specs.Appends.{append_journal, member_journal, occult_journal, append_header, member_header, occult_header}
 use Rattle.ledger_model.specs.Fitting.{fits_approval, fits_job}
 use Rattle.ledger_model.specs.History.{History, history, journals, journals_of, size}
 use Rattle.ledger_model.specs.Judgements.{own_refusal}
@@ -31,7 +33,7 @@ use Rattle.ledger_model.specs.Texts.{answer_for}
 use Rattle.ledger_model.specs.declared.answer.Answer.{Answer}
 use Rattle.ledger_model.specs.declared.due.Due.{Due}
 use Rattle.ledger_model.specs.declared.job.Job.{Job}
-use Rattle.ledger_model.specs.declared.job.Job.TheVariants.{Refused, Append, NewMember, Anchor, Get, Prove, Extend, Clue, Head}
+use Rattle.ledger_model.specs.declared.job.Job.TheVariants.{Refused, Append, NewMember, Anchor, Occult, Get, Prove, Extend, Clue, Head}
 use Rattle.ledger_model.specs.declared.limits.Limits.{Limits}
 use Rattle.ledger_model.specs.declared.outcome.Outcome.{Outcome}
 use Rattle.ledger_model.specs.declared.outcome.Outcome.TheVariants as came
@@ -45,7 +47,7 @@ use Rattle.ledger_open.proofs.NextLaws.{next_behind}
 use Rattle.ledger_open.specs.Places.{record_len, place_at, places_in, places_at}
 use Rattle.ledger_open.specs.declared.places.PlaceAt.{PlaceAt}
 use Rattle.batch_committer.specs.Steps.{HasParts, HasJournal, IsGathered, Gathers, Judged}
-use Rattle.batch_committer.specs.World.{Kept, Keeps}
+use Rattle.batch_committer.specs.World.{Kept, Keeps, AreInside}
 use Rattle.batch_committer.proofs.Closing.{places_in_more, body_len}
 
 -- ---- what came of a job
@@ -58,6 +60,7 @@ judged_same stamp h (Append member clue content content_digest request by) None 
 judged_same stamp h (NewMember number key by) None o none is = absurd (subst PlacesNothing is none)
 judged_same None h Anchor None o none is = refl
 judged_same (Some stamp) h Anchor None o none is = absurd (subst PlacesNothing is none)
+judged_same stamp h (Occult target leaf given) None o none is = absurd (subst PlacesNothing is none)
 judged_same stamp h (Get n) None o none is = refl
 judged_same stamp h (Prove n) None o none is = refl
 judged_same stamp h (Extend which m) None o none is = refl
@@ -89,6 +92,7 @@ judged_as stamp h (Append member clue content content_digest request by) None js
 judged_as stamp h (NewMember number key by) None jsn leaf is = record { accepted = refl; journal = member_journal (size h) number key by; jsn_is = cc is; placed_is = refl }
 judged_as None h Anchor None jsn leaf is = absurd (let no : ⊥ = cc is in no)
 judged_as (Some stamp) h Anchor None jsn leaf is = record { accepted = refl; journal = time_journal (size h) stamp; jsn_is = cc is; placed_is = refl }
+judged_as stamp h (Occult target named given) None jsn leaf is = record { accepted = refl; journal = occult_journal (size h) target named given; jsn_is = cc is; placed_is = refl }
 judged_as stamp h (Get n) None jsn leaf is = absurd (let no : ⊥ = cc is in no)
 judged_as stamp h (Prove n) None jsn leaf is = absurd (let no : ⊥ = cc is in no)
 judged_as stamp h (Extend which m) None jsn leaf is = absurd (let no : ⊥ = cc is in no)
@@ -114,6 +118,18 @@ who_few by few =
 proof_few : (member : ℕ) (by : Approval) → fits_approval member by ≡ true → length by.proof ≤ PROOF_LIMIT
 proof_few member by fits = leb-true (length by.proof) PROOF_LIMIT (and_parts (by.member == member) (nat_le (length by.proof) PROOF_LIMIT) fits).1
 
+-- .. of several approvals
+whos_length : (given : List Approval) → list_all (λ by. nat_le (length by.proof) PROOF_LIMIT) given ≡ true → length (who_of given) ≤ length given * 4102
+whos_length [] fits = omega arith
+whos_length (by ∷ given) fits =
+    let both = and_parts (nat_le (length by.proof) PROOF_LIMIT) (list_all (λ (a : Approval). nat_le (length a.proof) PROOF_LIMIT) given) fits in
+    omega (arith, leb-true (length by.proof) PROOF_LIMIT both.0, whos_length given both.1, length-append (approval_bytes by) (who_of given), length-append (to_be_bytes w32 by.member ++ to_be_bytes w16 (length by.proof)) by.proof, length-append (to_be_bytes w32 by.member) (to_be_bytes w16 (length by.proof)))
+
+whos_few : (given : List Approval) → (nat_le (length given) APPROVAL_LIMIT && list_all (λ by. nat_le (length by.proof) PROOF_LIMIT) given) ≡ true → length (who_of given) ≤ WHO_LIMIT
+whos_few given fits =
+    let both = and_parts (nat_le (length given) APPROVAL_LIMIT) (list_all (λ (a : Approval). nat_le (length a.proof) PROOF_LIMIT) given) fits in
+    omega (arith, leb-true (length given) APPROVAL_LIMIT both.0, whos_length given both.1)
+
 -- its parts
 pub record IsMade (job : Job) (journal : Entry) : Type 0 where
   pub content : List ℕ
@@ -129,7 +145,7 @@ made_as : (job : Job) (got journal : Entry) → got ≡ journal → IsMade job g
 made_as job got journal is m = subst (IsMade job) is m
 
 pub is_made : (stamp : Option Stamp) (h : History) (job : Job) (journal : Entry) → fits_job job ≡ true → placed_journal h stamp job ≡ Some journal → IsMade job journal
-unfolding append_header member_header time_header
+unfolding append_header member_header time_header occult_header
 is_made stamp h (Refused why) journal fits is = absurd (none-some journal is)
 is_made stamp h (Append member clue content content_digest request by) journal fits is =
     made_as (Append member clue content content_digest request by) (append_journal h member clue content content_digest request by) journal (cc is)
@@ -141,6 +157,9 @@ is_made None h Anchor journal fits is = absurd (none-some journal is)
 is_made (Some s) h Anchor journal fits is =
     made_as Anchor (time_journal (size h) s) journal (cc is)
     (record { content = []; given = []; parts = (refl, refl); content_is = refl; who_is = refl; len = refl; few = omega arith; gathers_is = λ other. absurd (true≢false other) })
+is_made stamp h (Occult target leaf given) journal fits is =
+    made_as (Occult target leaf given) (occult_journal (size h) target leaf given) journal (cc is)
+    (record { content = []; given = given; parts = (refl, refl); content_is = refl; who_is = refl; len = refl; few = whos_few given fits; gathers_is = λ other. absurd (true≢false other) })
 is_made stamp h (Get n) journal fits is = absurd (none-some journal is)
 is_made stamp h (Prove n) journal fits is = absurd (none-some journal is)
 is_made stamp h (Extend which m) journal fits is = absurd (none-some journal is)
@@ -195,6 +214,26 @@ gathered_by old new header content given place journal header_is content_is who_
 
 pub gathered_at : (k0 k1 new : Kept) (journal : Entry) → k0 ≡ k1 → IsGathered k0 new journal → IsGathered k1 new journal
 gathered_at k0 k1 new journal is g = subst (λ k. IsGathered k new journal) is g
+
+-- ---- where contents end
+
+-- with the place of a record more
+pub inside_more : (old : Kept) (tail : ℕ) (gathered : List ℕ) (all_places : List PlaceAt) (place : PlaceAt) (header : Header) (content : List ℕ) (given : List Approval) → HasWidths header → place.content_at ≡ old.place + 45 + length old.body + 178 → place.content_len ≡ length content
+    → tail ≡ old.place → gathered ≡ old.body ++ record_bytes (record { header = header; content = content; who = who_of given }) → all_places ≡ old.places ++ place ∷ [] → AreInside (old.place + 45 + length old.body) old.places → AreInside (tail + 45 + length gathered) all_places
+inside_more old tail gathered all_places place header content given widths at len place_is body places = λ all.
+    let who = who_of given in
+    let four : length (to_be_bytes w32 (length who)) ≡ 4 = refl in
+    let size : length gathered ≡ length old.body + (178 + length content + length who) =
+    omega (arith, ap length body, four, length-spelling header widths, length-append old.body (record_bytes (record { header = header; content = content; who = who })), length-append (spelling header) (to_be_bytes w32 (length who) ++ (content ++ who)), length-append (to_be_bytes w32 (length who)) (content ++ who), length-append content who) in
+    let end = tail + 45 + length gathered in
+    subst (AreInside end) (sym places)
+    (All-push (λ (p : PlaceAt). (64 ≤ p.content_at) × (p.content_at + p.content_len ≤ end)) old.places place
+    (All-weaker (λ (p : PlaceAt). (64 ≤ p.content_at) × (p.content_at + p.content_len ≤ old.place + 45 + length old.body)) (λ (p : PlaceAt). (64 ≤ p.content_at) × (p.content_at + p.content_len ≤ end)) (λ p is. (is.0, omega (arith, is.1, place_is, size))) old.places all)
+    (omega (arith, at), omega (arith, at, len, place_is, size)))
+
+-- .. by a value that is known by an equation
+pub inside_at : (k0 k1 : Kept) → k0 ≡ k1 → AreInside (k1.place + 45 + length k1.body) k1.places → AreInside (k0.place + 45 + length k0.body) k0.places
+inside_at k0 k1 is all = subst (λ (k : Kept). AreInside (k.place + 45 + length k.body) k.places) (sym is) all
 
 -- ---- what is kept after a job
 
@@ -271,7 +310,7 @@ judged_same_kept old new h step job o answer p applies none book body places pla
 
 -- a journal was placed
 pub judged_placed : (stamp : Option Stamp) (old mid new : Kept) (h : History) (step : Step) (job : Job) (o : Outcome) (jsn : ℕ) (leaf : Digest) (answer : Answer) → Keeps old h → (closes_after job ≡ false → AllGather h.waiting) → (closes_after job ≡ true → h.waiting ≡ []) → fits_job job ≡ true → Applies old.book.limits stamp h job o new.book → IsSame old.book new.book → o ≡ came.Placed jsn leaf
-    → ((g : History) (journal : Entry) (content : List ℕ) (given : List Approval) → HasParts job content given → Serves new.book g → slice_get (journals g) jsn ≡ Some journal → new.book.floor ≤ jsn → journal.content ≡ content → journal.who ≡ who_of given → IsGathered mid new journal)
+    → ((g : History) (journal : Entry) (content : List ℕ) (given : List Approval) → HasParts job content given → Serves new.book g → slice_get (journals g) jsn ≡ Some journal → new.book.floor ≤ jsn → length content ≡ journal.header.content_len → journal.content ≡ content → journal.who ≡ who_of given → IsGathered mid new journal)
     → mid.body ≡ old.body → mid.places ≡ old.places → mid.place ≡ old.place → new.place ≡ old.place → answer ≡ answer_for h step o → stamp_of step ≡ stamp → Judged new h step job answer
 judged_placed stamp old mid new h step job o jsn leaf answer p all none fits applies same is gathered body places place new_place answer_is stamped =
     let a = real_applies stamp old.book new.book h job o p.limits applies in
@@ -279,7 +318,7 @@ judged_placed stamp old mid new h step job o jsn leaf answer p all none fits app
     let m = is_made stamp h job w.journal fits w.placed_is in
     let s : Serves new.book (with_waiting (Some w.journal) h) = subst (Serves new.book) w.after a.serves in
     let there : slice_get (journals (with_waiting (Some w.journal) h)) jsn ≡ Some w.journal = ap (slice_get (journals (with_waiting (Some w.journal) h))) w.jsn_is ∙ last_journal_is h w.journal in
-    let g = gathered (with_waiting (Some w.journal) h) w.journal m.content m.given m.parts s there (omega (arith, same.floor, p.floor)) m.content_is m.who_is in record {
+    let g = gathered (with_waiting (Some w.journal) h) w.journal m.content m.given m.parts s there (omega (arith, same.floor, p.floor)) (ap length (sym m.content_is) ∙ m.len) m.content_is m.who_is in record {
       answer_is = answer_is ∙ ap (answer_for h step) a.outcome_is ∙ ap (λ o. answer_for h step (outcome real_limits o h job)) (sym stamped);
       gathers = subst (λ o. Gathers new (with_job real_limits o h job)) (sym stamped) (subst (Gathers new) (sym w.after) (gathers_more old mid new h w.journal p m.len m.few (waits_so job h.waiting w.journal all none m.gathers_is) s same body places place new_place g));
     }
@@ -290,6 +329,7 @@ asks_closes (Refused refusal) q is = absurd (let no : ⊥ = cc is in no)
 asks_closes (Append member clue content content_digest request by) q is = absurd (let no : ⊥ = cc is in no)
 asks_closes (NewMember number key by) q is = absurd (let no : ⊥ = cc is in no)
 asks_closes Anchor q is = refl
+asks_closes (Occult target leaf given) q is = absurd (let no : ⊥ = cc is in no)
 asks_closes (Get n) q is = refl
 asks_closes (Prove n) q is = refl
 asks_closes (Extend which m) q is = refl
@@ -302,6 +342,7 @@ alone_first (Refused refusal) alone = absurd (true≢false (sym alone))
 alone_first (Append member clue content content_digest request by) alone = absurd (true≢false (sym alone))
 alone_first (NewMember number key by) alone = absurd (true≢false (sym alone))
 alone_first Anchor alone = refl
+alone_first (Occult target leaf given) alone = refl
 alone_first (Get n) alone = refl
 alone_first (Prove n) alone = refl
 alone_first (Extend which m) alone = refl

@@ -1,38 +1,44 @@
 -- What is known of a ledger that was made or opened, and of one that is held.
-use Rattle.std.specs.Prelude.{Bool, true, false, IsTrue, IsSomeAnd, Option, Some, None}
+use Rattle.std.specs.Prelude.{sum_by, Bool, true, false, IsTrue, IsSomeAnd, Option, Some, None}
 use Rattle.std.proofs.Common.{◌≡◌, ℕ, ◌+◌, ◌≤◌, List, [], ◌∷◌, ◌++◌, length, refl, ap, sym, subst, ◌∙◌, arith, append-nil, length-append}
-use Rattle.std.proofs.lemmas.List.{nil_from_length}
+use Rattle.std.proofs.lemmas.List.Elements.{All-nil, All-cons, All-append}
+use Rattle.std.proofs.lemmas.List.Sums.{sum_by-cons}
 use Rattle.block_file.proofs.WriteLaws.{tail_shut}
-use Rattle.block_file.specs.File.{IsSettled, IsShutAt, open_blocks}
+use Rattle.block_file.specs.File.{IsSettled, IsShutAt}
 use Rattle.block_file.specs.Head.{generation_of}
-use Rattle.journal_record.specs.Blocks.{written_blocks}
+use Rattle.journal_record.specs.Blocks.{body_of, written_blocks, AreFrom}
 use Rattle.journal_record.specs.Entry.{Entry}
 use Rattle.ledger_disk.specs.Disk.{DiskState, State, settled_state}
 use Rattle.ledger_io.specs.Outside.{SinkState}
 use Rattle.ledger_model.proofs.LawfulLaws.{later_seen, some_journal}
 use Rattle.ledger_model.specs.Genesis.{HasKeys, new_ledger}
 use Rattle.ledger_model.specs.History.{History, history, journals, journals_of, size, point}
-use Rattle.ledger_model.specs.Lawful.{IsLawful}
+use Rattle.ledger_model.specs.Lawful.{AllGather, IsLawful}
+use Rattle.ledger_model.specs.Targets.{is_hidden}
 use Rattle.ledger_model.specs.Limits.{real_limits}
 use Rattle.ledger_model.specs.declared.genesis.Genesis.{Genesis}
 use Rattle.pseudo_genesis.specs.declared.base.Base.{Base}
 use Rattle.ledger_book.specs.Books as books
-use Rattle.ledger_book.specs.Books.{Serves}
+use Rattle.ledger_book.specs.Books.{Serves, sealed_size}
 use Rattle.ledger_book.proofs.OpenLaws.{opens_empty, opens_gather}
 use Rattle.twin_file.proofs.HeadLaws.{generation_is}
-use Rattle.twin_file.specs.Twin.{open_of}
+use Rattle.twin_file.specs.Twin.{open_of, IsTaken}
 use Rattle.ledger_open.specs.Founding.{IsFounded}
 use Rattle.ledger_open.specs.Growing.{new_file}
 use Rattle.ledger_open.specs.Opening.{Known, Knows, IsReopened, IsTidyAt}
-use Rattle.ledger_open.specs.Places.{places_at, after_at}
-use Rattle.ledger_open.specs.Standing.{ground, IsErased, PairFor}
-use Rattle.ledger_open.proofs.CleanLaws.{blocks_are, stands_open, opened_erased}
+use Rattle.ledger_open.specs.Places.{record_len, place_at, places_in, places_at, after_at}
+use Rattle.ledger_open.specs.declared.places.PlaceAt.{PlaceAt}
+use Rattle.ledger_open.specs.Standing.{ground, floor_from, StandsFor, IsErased, PairFor}
+use Rattle.ledger_open.proofs.CleanLaws.{ends_as, tail_at as file_tail}
 use Rattle.ledger_open.proofs.FoundingLaws.{founded_clean}
 use Rattle.ledger_open.proofs.KnownLaws.{serves_whole, none_based}
-use Rattle.ledger_open.proofs.OpenLaws.{tail_is, reopened_clean}
+use Rattle.ledger_open.proofs.OpenLaws.{tail_is, taken_pair}
+use Rattle.ledger_open.proofs.PlaceLaws.{after_kept}
+use Rattle.ledger_open.proofs.ReopenLaws.{pair_erased, reopened_tidy}
+use Rattle.ledger_open.specs.Erasing.{EndsAs}
 use Rattle.batch_committer.specs.Opened.{kept_from, IsOpened, IsQuietFor}
-use Rattle.batch_committer.specs.World.{World, Pair, world, Fits, HasRoom, IsCleanFor, Holds}
-use Rattle.batch_committer.proofs.Closing.{first_file, clean_image, tail_at, sealed_same}
+use Rattle.batch_committer.specs.World.{World, Pair, world, Fits, HasRoom, AreInside, IsCleanFor, Holds}
+use Rattle.batch_committer.proofs.Closing.{first_file, clean_image, clean_length, length_clean, tail_at, sealed_same}
 
 -- ---- the history of some blocks
 
@@ -43,38 +49,72 @@ floor_none k h s none =
     let all = later_seen h k.floor s.stands.lawful (omega (arith, seen, s.stands.counts.point)) in
     omega (arith, seen, s.stands.counts.point, all, none)
 
-held_blocks : (tells : Bool) (k : Known) (in_a : Bool) (generation : ℕ) (disks : Pair) (sink : SinkState) (bs : List (List Entry)) → IsOpened k in_a disks None bs → k.book.limits ≡ real_limits → IsTrue tells → IsCleanFor in_a k.place (history bs []) disks.a.bytes disks.b.bytes
-    → Holds tells (world (kept_from k in_a generation) disks sink) (history bs [])
-held_blocks tells k in_a generation disks sink bs o limits told clean = record {
+held_at : (tells : Bool) (k : Known) (in_a : Bool) (generation : ℕ) (disks : Pair) (sink : SinkState) (h : History) → EndsAs k.book k.places h → k.place ≡ after_at 64 h.closed → k.book.limits ≡ real_limits → IsTrue tells → IsCleanFor in_a k.place h disks.a.bytes disks.b.bytes
+    → Holds tells (world (kept_from k in_a generation) disks sink) h
+held_at tells k in_a generation disks sink h e tail limits told clean = record {
   told = told;
   keeps = record {
-    serves = serves_whole o.knows;
+    serves = e.serves;
     limits = limits;
-    floor = floor_none k.book (history bs []) (serves_whole o.knows) clean.erased.unpurged;
+    floor = floor_none k.book h e.serves clean.erased.unpurged;
     dues = tt;
-    body = refl;
-    next = tt;
-    gathered = λ more. refl;
-    located = record { places = o.knows.places ∙ sym (append-nil (places_at 64 bs)); tail = o.knows.tail };
+    body = ap body_of (sym e.none);
+    next = subst (AreFrom (sealed_size h)) (sym e.none) tt;
+    gathered = λ more. subst AllGather (sym e.none) refl;
+    located = record {
+      places = e.places_are ∙ sym (ap (λ (ws : List Entry). places_at 64 h.closed ++ places_in (k.place + 45) ws) e.none ∙ append-nil (places_at 64 h.closed));
+      tail = tail;
+    };
   };
-  disks = clean;
+  disks = subst (λ (g : History). IsCleanFor in_a k.place g disks.a.bytes disks.b.bytes) (sym (sealed_same h e.none)) clean;
 }
 
 -- ---- a ledger that was opened
+
+stands_open : (in_a : Bool) (a b : State) (h : History) → IsTaken in_a a.seen b.seen → PairFor a.seen b.seen h → StandsFor (open_of in_a a b).seen h
+stands_open true a b h t p = (taken_pair true a.seen b.seen h t p).0
+stands_open false a b h t p = (taken_pair false a.seen b.seen h t p).0
 
 pub opened_held : (tells : Bool) (k : Known) (in_a : Bool) (generation : ℕ) (start : Option Base) (blocks : List (List Entry)) (a b : State) (disks : Pair) (sink : SinkState) (h : History) → IsOpened k in_a disks start blocks → k.book.limits ≡ real_limits → IsTrue tells
     → IsReopened in_a k.place start blocks a b disks.a.bytes disks.b.bytes → PairFor a.seen b.seen h → Holds tells (world (kept_from k in_a generation) disks sink) h
 opened_held tells k in_a generation (Some s) blocks a b disks sink h o limits told r p = none_based o.knows
 opened_held tells k in_a generation None blocks a b disks sink h o limits told r p =
-    let is : history blocks [] ≡ h = blocks_are k in_a blocks a b disks.a.bytes disks.b.bytes h r (stands_open in_a a b h r.taken p) in
-    let c = reopened_clean k in_a None blocks a b disks.a.bytes disks.b.bytes o.knows r in
-    subst (Holds tells (world (kept_from k in_a generation) disks sink)) is
-    (held_blocks tells k in_a generation disks sink blocks o limits told (record {
+    let file = (open_of in_a a b).seen in
+    let x = stands_open in_a a b h r.taken p in
+    let c = reopened_tidy k in_a None blocks a b disks.a.bytes disks.b.bytes o.knows r in
+    held_at tells k in_a generation disks sink h (ends_as k blocks file o.knows r.has h x) (file_tail k blocks file o.knows r.has h x) limits told
+    (record {
       quiet = c.quiet;
       empty = c.empty;
-      erased = subst (IsErased (open_of in_a disks.a.bytes disks.b.bytes).seen) (sym is) (opened_erased k in_a blocks a b disks.a.bytes disks.b.bytes h o.knows r p);
+      erased = pair_erased k in_a blocks a b disks.a.bytes disks.b.bytes o.knows r h p;
       ends = c.ends;
-    }))
+    })
+
+-- ---- where contents end
+
+inside_in : (end at : ℕ) (es : List Entry) → 64 ≤ at → at + sum_by record_len es ≤ end → AreInside end (places_in at es)
+inside_in end at [] low le = All-nil (λ (p : PlaceAt). (64 ≤ p.content_at) × (p.content_at + p.content_len ≤ end))
+inside_in end at (e ∷ es) low le =
+    All-cons (λ (p : PlaceAt). (64 ≤ p.content_at) × (p.content_at + p.content_len ≤ end)) (place_at at e) (places_in (at + record_len e) es)
+    (omega (arith, low), omega (arith, le, sum_by-cons record_len e es)) (inside_in end (at + record_len e) es (omega (arith, low)) (omega (arith, le, sum_by-cons record_len e es)))
+
+after_low : (at : ℕ) (bs : List (List Entry)) → at ≤ after_at at bs
+after_low at [] = omega arith
+after_low at (b ∷ bs) = omega (arith, after_low (at + 45 + sum_by record_len b) bs)
+
+inside_blocks : (end at : ℕ) (bs : List (List Entry)) → 64 ≤ at → after_at at bs ≤ end → AreInside end (places_at at bs)
+inside_blocks end at [] low le = All-nil (λ (p : PlaceAt). (64 ≤ p.content_at) × (p.content_at + p.content_len ≤ end))
+inside_blocks end at (b ∷ bs) low le =
+    let next = at + 45 + sum_by record_len b in
+    All-append (λ (p : PlaceAt). (64 ≤ p.content_at) × (p.content_at + p.content_len ≤ end)) (places_in (at + 45) b) (places_at next bs)
+    (inside_in end (at + 45) b (omega (arith, low)) (omega (arith, le, after_low next bs)))
+    (inside_blocks end next bs (omega (arith, low)) le)
+
+-- the contents of a ledger that was made or opened end before its tail gate
+inside_known : {start : Option Base} (k : Known) (blocks : List (List Entry)) → Knows k start blocks → AreInside (k.place + 45 + 0) k.places
+inside_known {start} k blocks x =
+    subst (AreInside (k.place + 45 + 0)) (sym x.places)
+    (inside_blocks (k.place + 45 + 0) (64 + length (floor_from start).base) blocks (omega arith) (omega (arith, x.tail)))
 
 -- ---- what a call asks for
 
@@ -82,8 +122,11 @@ shut_of : (k : Known) (in_a : Bool) (start : Option Base) (blocks : List (List E
 shut_of k in_a (Some s) blocks a b knows c = none_based knows
 shut_of k in_a None blocks a b knows c =
     let file = (open_of in_a a b).seen in
-    let x = c.has.1 in
-    subst (λ (n : ℕ). IsShutAt n file) (tail_is c.has.0 blocks file x ∙ sym knows.tail) (tail_shut x.front (written_blocks (ground).root [] blocks) file x.stands)
+    let now = c.has.0 in
+    let x = c.has.1.1 in
+    subst (λ (n : ℕ). IsShutAt n file)
+    (tail_is c.has.1.0 now file x ∙ sym (after_kept (is_hidden (history blocks [])) (λ n. false) 64 blocks now c.has.2) ∙ sym knows.tail)
+    (tail_shut x.front (written_blocks (ground).root [] now) file x.stands)
 
 shut_at : (in_a : Bool) (place : ℕ) (disks : Pair) → IsShutAt place (open_of in_a disks.a.bytes disks.b.bytes).seen → IsShutAt place (open_of in_a disks.a disks.b).bytes.seen
 shut_at true place disks s = s
@@ -101,31 +144,18 @@ fits_of tells k in_a generation disks sink start blocks o shut is = record {
   generation = λ told. generation_at in_a generation disks (is told);
   copy = refl;
   few = omega (arith, o.knows.settled);
+  inside = inside_known k blocks o.knows;
 }
 
 pub opened_fits : (tells : Bool) (k : Known) (in_a : Bool) (generation : ℕ) (start : Option Base) (blocks : List (List Entry)) (a b : State) (disks : Pair) (sink : SinkState) → IsOpened k in_a disks start blocks
     → (IsTrue tells → IsReopened in_a k.place start blocks a b disks.a.bytes disks.b.bytes) → (IsTrue tells → generation ≡ generation_of (open_of in_a disks.a.bytes disks.b.bytes).seen) → Fits tells (world (kept_from k in_a generation) disks sink)
 opened_fits tells k in_a generation start blocks a b disks sink o r is =
-    fits_of tells k in_a generation disks sink start blocks o (λ told. shut_of k in_a start blocks disks.a.bytes disks.b.bytes o.knows (reopened_clean k in_a start blocks a b disks.a.bytes disks.b.bytes o.knows (r told))) is
+    fits_of tells k in_a generation disks sink start blocks o (λ told. shut_of k in_a start blocks disks.a.bytes disks.b.bytes o.knows (reopened_tidy k in_a start blocks a b disks.a.bytes disks.b.bytes o.knows (r told))) is
 
 pub opened_room : (k : Known) (in_a : Bool) (generation : ℕ) (start : Option Base) (blocks : List (List Entry)) (disks : Pair) → IsOpened k in_a disks start blocks → HasRoom (kept_from k in_a generation)
 opened_room k in_a generation start blocks disks o = (omega (arith, o.knows.settled), opens_empty k.book o.knows.settled)
 
 -- ---- a ledger that was made
-
--- how long a clean file is
-clean_length : (image : List ℕ) (h : History) (place : ℕ) (x : IsErased image h) → x.keeps.file.stands.rest ≡ [] → place ≡ after_at 64 h.closed → length image ≡ place + 1
-clean_length image h place x none at =
-    let f = first_file image h x in
-    let written = written_blocks (ground).root [] x.keeps.blocks in
-    omega (arith, at, tail_at image h x, ap length none, ap length f.stands.is, length-append (f.front ++ open_blocks written) (f.stands.gate ∷ f.stands.rest))
-
--- .. and that one of such a length is clean
-length_clean : (image : List ℕ) (h : History) (place : ℕ) (x : IsErased image h) → length image ≡ place + 1 → place ≡ after_at 64 h.closed → x.keeps.file.stands.rest ≡ []
-length_clean image h place x long at =
-    let f = first_file image h x in
-    let written = written_blocks (ground).root [] x.keeps.blocks in
-    nil_from_length f.stands.rest (omega (arith, at, tail_at image h x, long, ap length f.stands.is, length-append (f.front ++ open_blocks written) (f.stands.gate ∷ f.stands.rest)))
 
 module _ (k : Known) (genesis : Genesis) (disks : Pair) (keys : HasKeys genesis) (knows : Knows k None (new_ledger genesis).closed) (f : IsFounded genesis disks.a.bytes disks.b.bytes) where
   seen_is : disks.a.bytes.seen ≡ new_file genesis
@@ -151,7 +181,8 @@ module _ (k : Known) (genesis : Genesis) (disks : Pair) (keys : HasKeys genesis)
 
 pub founded_held : (tells : Bool) (k : Known) (genesis : Genesis) (disks : Pair) (sink : SinkState) → HasKeys genesis → IsOpened k true disks None (new_ledger genesis).closed → k.book.limits ≡ real_limits → IsTrue tells → IsFounded genesis disks.a.bytes disks.b.bytes
     → Holds tells (world (kept_from k true 1) disks sink) (new_ledger genesis)
-founded_held tells k genesis disks sink keys o limits told f = held_blocks tells k true 1 disks sink (new_ledger genesis).closed o limits told (founded_for k genesis disks keys o.knows f)
+founded_held tells k genesis disks sink keys o limits told f =
+    held_at tells k true 1 disks sink (new_ledger genesis) (record { serves = serves_whole o.knows; places_are = o.knows.places; none = refl }) o.knows.tail limits told (founded_for k genesis disks keys o.knows f)
 
 pub founded_fits : (tells : Bool) (k : Known) (genesis : Genesis) (disks : Pair) (sink : SinkState) → HasKeys genesis → IsOpened k true disks None (new_ledger genesis).closed → (IsTrue tells → IsFounded genesis disks.a.bytes disks.b.bytes)
     → Fits tells (world (kept_from k true 1) disks sink)

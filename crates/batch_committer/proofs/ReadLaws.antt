@@ -60,7 +60,7 @@ module _ (tells : Bool) (old new : Pair) (read : WereRead tells old new) where
   generation_by false t = ap (λ (b : State). generation_of b.seen) (read.b.bytes t)
 
   pub fits_read : (k : Kept) (sink : SinkState) → Fits tells (world k old sink) → Fits tells (world k new sink)
-  fits_read k sink f = record { reads = reads_by k.in_a k.place f.reads; generation = λ t. f.generation t ∙ sym (generation_by k.in_a t); copy = f.copy; few = f.few }
+  fits_read k sink f = record { reads = reads_by k.in_a k.place f.reads; generation = λ t. f.generation t ∙ sym (generation_by k.in_a t); copy = f.copy; few = f.few; inside = f.inside }
 
   -- reading leads to the same history, and nothing becomes due by it
   pub goes_read : (k : Kept) (sink : SinkState) → NoneFailed old new → Goes tells (world k old sink) (λ h. h) (λ h. []) (world k new sink)

@@ -1,17 +1,18 @@
 -- How the ways of a committer are joined.
-use Rattle.std.proofs.Common.{◌≡◌, ℕ, inl, inr, Bool, List, [], ◌++◌, refl, ap, sym, subst, ◌∙◌, arith, append_assoc, append-nil, length-append}
+use Rattle.std.proofs.Common.{◌≡◌, ℕ, suc, ◌-◌, ◌<◌, ◌≤◌, inl, inr, Bool, List, [], ◌∷◌, ◌++◌, length, take, refl, ap, sym, subst, ◌∙◌, arith, append_assoc, append-nil, length-append}
 use Rattle.std.specs.Prelude.{Result, Ok, Err, IsErrAnd, IfErr}
 use Rattle.std.proofs.KnownBytes.{Appends-nil, Appends-trans}
 use Rattle.ledger_bytes.specs.Begins.{Begins}
 use Rattle.ledger_bytes.specs.Causes.{count_after}
-use Rattle.ledger_model.specs.Dues.{due_lines}
+use Rattle.journal_record.specs.Entry.{Entry}
+use Rattle.ledger_model.specs.Dues.{due_lines, AllIn}
 use Rattle.ledger_model.specs.Growing.{Grows}
 use Rattle.ledger_model.specs.History.{History}
 use Rattle.ledger_model.specs.declared.due.Due.{Due}
 use Rattle.ledger_model.proofs.GrowLaws.{grows_not, grows_then}
 use Rattle.ledger_model.proofs.RunLaws.{due_lines-append}
 use Rattle.ledger_model.proofs.WaitLaws.{in-append, all_in_more, begins_closed}
-use Rattle.batch_committer.specs.World.{Pair, World, Holds, MeetsNoFault, Writes, Goes, Says, Stops, OneFailed, EndsBy, Ended}
+use Rattle.batch_committer.specs.World.{Pair, World, Holds, MeetsNoFault, Writes, Goes, Says, Stops, OneFailed, EndsBy, Ended, before_last, IsLeftClean}
 use Rattle.batch_committer.specs.declared.end.End.{End}
 use Rattle.batch_committer.specs.declared.end.End.TheVariants.{DiskFault, WriteFault, NoMemory, Closed}
 
@@ -34,7 +35,7 @@ no_fault w = record { a = refl; b = refl; sink = (refl, refl) }
 pub no_fault_then : (w m t : World) → MeetsNoFault w m → MeetsNoFault m t → MeetsNoFault w t
 no_fault_then w m t x y = record { a = y.a ∙ x.a; b = y.b ∙ x.b; sink = (y.sink.0 ∙ x.sink.0, y.sink.1 ∙ x.sink.1) }
 
-failed_from : (x y z : Pair) → y.a.faults ≡ x.a.faults → y.b.faults ≡ x.b.faults → OneFailed y z → OneFailed x z
+pub failed_from : (x y z : Pair) → y.a.faults ≡ x.a.faults → y.b.faults ≡ x.b.faults → OneFailed y z → OneFailed x z
 failed_from x y z a b (inl f) = inl (f.0 ∙ ap count_after a, f.1 ∙ b)
 failed_from x y z a b (inr f) = inr (f.0 ∙ a, f.1 ∙ ap count_after b)
 
@@ -68,6 +69,37 @@ goes_then tells w m t f g d e x y = record {
   no_fault = no_fault_then w m t x.no_fault y.no_fault;
 }
 
+-- ---- what is left
+
+-- all but the last of more blocks begin with these
+take_front : (xs rest : List (List Entry)) → 1 ≤ length rest → take (length (xs ++ rest) - 1) (xs ++ rest) ≡ xs ++ take (length rest - 1) rest
+take_front [] rest more = refl
+take_front (x ∷ xs) rest more =
+    let count : suc (length (xs ++ rest)) - 1 ≡ suc (length (xs ++ rest) - 1) = omega (arith, more, length-append xs rest) in
+    ap (λ (n : ℕ). take n (x ∷ (xs ++ rest))) count ∙ ap (λ (l : List (List Entry)). x ∷ l) (take_front xs rest more)
+
+begins_front : (xs ys : List (List Entry)) → Begins xs ys → length xs < length ys → Begins xs (before_last ys)
+begins_front xs ys b more = record {
+  rest = take (length b.rest - 1) b.rest;
+  is = ap before_last b.is ∙ take_front xs b.rest (omega (arith, more, ap length b.is, length-append xs b.rest));
+}
+
+begins_long : (xs ys : List (List Entry)) → Begins xs ys → length xs ≤ length ys
+begins_long xs ys b = omega (arith, ap length b.is, length-append xs b.rest)
+
+-- images are as clean where more was written before
+clean_more : (end : End) (h g kept : History) (done more : List Due) (a b : List ℕ) → Begins h.closed g.closed → Begins g.closed kept.closed → AllIn g.closed done → IsLeftClean end g kept more a b → IsLeftClean end h kept (done ++ more) a b
+clean_more DiskFault h g kept done more a b x y all (inl e) = inl e
+clean_more DiskFault h g kept done more a b x y all (inr u) =
+    inr
+    (record {
+      added = omega (arith, begins_long h.closed g.closed x, u.added);
+      unanswered = in-append (before_last kept.closed) done more (all_in_more g.closed (before_last kept.closed) done (begins_front g.closed kept.closed y u.added) all) u.unanswered;
+    })
+clean_more WriteFault h g kept done more a b x y all c = c
+clean_more NoMemory h g kept done more a b x y all c = c
+clean_more Closed h g kept done more a b x y all c = c
+
 -- ---- the end of a way
 
 says_more : (end : End) (front part lines : List ℕ) → Says end part lines → Says end (front ++ part) (front ++ lines)
@@ -91,6 +123,7 @@ stops_then h g whole old more1 mid more2 sofar part end disks x y a s = record {
     no_shorter = begins_then h.closed g.closed l.kept.closed (begins_closed h g x) l.no_shorter;
     no_longer = l.no_longer;
     receipts = in-append l.kept.closed a.done s.done (all_in_more g.closed l.kept.closed a.done l.no_shorter a.kept) l.receipts;
+    clean = clean_more end h g l.kept a.done s.done i j (begins_closed h g x) l.no_shorter a.kept l.clean;
   };
 }
 
@@ -143,6 +176,7 @@ ended_wider tells w t f g d e end wider x = record {
       no_shorter = l.no_shorter;
       no_longer = begins_then l.kept.closed (f h).closed (g h).closed l.no_longer (begins_closed (f h) (g h) (wider h p));
       receipts = l.receipts;
+      clean = l.clean;
     };
   };
   cause = x.cause;

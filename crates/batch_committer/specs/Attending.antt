@@ -28,6 +28,10 @@ pub record Attended (n m : NotaryState) (g : History) (step : Step) (job : Job) 
   pub list : AttendsJob g step job
   pub count : m.faults ≡ (if step.failed then count_after n.faults else n.faults)
 
+-- the notary failed at most once in a call, which is counted; this holds of a ledger of which nothing is known as well
+abbrev pub FailsAtMostOnce : NotaryState → NotaryState → Type 0
+FailsAtMostOnce n m = (m.faults ≡ n.faults) ⊎ (m.faults ≡ count_after n.faults)
+
 -- a call took a job: it led from each history to the one after the job's step, and the notary took part in that step
 pub record Takes (tells : Bool) (w t : World) (n m : NotaryState) (step : Step) (job : Job) : Type 0 where
   pub goes : Goes tells w (λ h. after_job h step job) (λ h. due_of h step job ∷ []) t

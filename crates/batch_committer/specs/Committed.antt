@@ -1,7 +1,10 @@
--- What committing a block does to the two disks.
-use Rattle.std.specs.Prelude.{◌≡◌, ◌⊎◌, ℕ, ◌+◌, Bool, IsTrue, List, [], ◌∷◌, ◌++◌, length, take}
+-- What committing a block does to the two disks, and what giving up the content does that its journal hides.
+use Rattle.std.specs.Prelude.{◌≡◌, ◌⊎◌, ℕ, ◌+◌, ◌≤◌, Bool, IsTrue, IsSomeAnd, List, [], ◌∷◌, ◌++◌, length, take}
 use Rattle.block_file.specs.File.{Stands, tail_of, IsSettled, HasBlock}
+use Rattle.ledger_book.specs.Books as books
 use Rattle.ledger_disk.specs.Disk.{State, MayLeave}
+use Rattle.ledger_open.specs.Erasing.{GivesUp, StandsMeanwhile, LeavesRest}
+use Rattle.ledger_open.specs.declared.places.PlaceAt.{PlaceAt}
 use Rattle.twin_file.specs.Twin.{open_of, other_of}
 use Rattle.batch_committer.specs.World.{Pair, Reads, OneFailed}
 
@@ -31,4 +34,19 @@ pub record IsUncommitted (tells : Bool) (in_a : Bool) (place : ℕ) (block : Lis
       → (image : List ℕ) → MayLeave (open_bytes in_a after) image
       → Stands front blocks image ⊎ Stands front (blocks ++ block ∷ []) image
   pub other : other_bytes in_a after ≡ other_bytes in_a before
+  pub failed : OneFailed before after
+
+-- what the last journal of this book hides was given up in the open file, for good, and no disk failed
+pub record HasGivenUp (tells : Bool) (in_a : Bool) (place : ℕ) (book : books.Kept) (places : List PlaceAt) (before after : Pair) : Type 0 where
+  pub gives : IsTrue tells → GivesUp book places (open_of in_a before.a before.b).bytes (open_of in_a after.a after.b).bytes
+  pub rest : IsTrue tells → LeavesRest places (open_of in_a before.a before.b).bytes (open_of in_a after.a after.b).bytes
+  pub told : IsSomeAnd (open_of in_a after.a after.b).told (λ n. place + 1 ≤ n)
+  pub other : other_of in_a after.a after.b ≡ other_of in_a before.a before.b
+  pub faults_a : after.a.faults ≡ before.a.faults
+  pub faults_b : after.b.faults ≡ before.b.faults
+
+-- the open file's disk failed: each image stands for the history still
+pub record HasNotGivenUp (tells : Bool) (in_a : Bool) (book : books.Kept) (places : List PlaceAt) (before after : Pair) : Type 0 where
+  pub meanwhile : IsTrue tells → StandsMeanwhile book places (open_of in_a before.a before.b).bytes (open_of in_a after.a after.b).bytes
+  pub other : other_of in_a after.a after.b ≡ other_of in_a before.a before.b
   pub failed : OneFailed before after

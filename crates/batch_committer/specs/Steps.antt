@@ -16,14 +16,14 @@ use Rattle.ledger_model.specs.Texts.{answer_for}
 use Rattle.ledger_model.specs.declared.answer.Answer.{Answer}
 use Rattle.ledger_model.specs.declared.due.Due.{Due}
 use Rattle.ledger_model.specs.declared.job.Job.{Job}
-use Rattle.ledger_model.specs.declared.job.Job.TheVariants.{Refused, Append, NewMember, Anchor, Get, Prove, Extend, Clue, Head}
+use Rattle.ledger_model.specs.declared.job.Job.TheVariants.{Refused, Append, NewMember, Anchor, Occult, Get, Prove, Extend, Clue, Head}
 use Rattle.ledger_model.specs.declared.outcome.Query.{Query}
 use Rattle.ledger_model.specs.declared.outcome.Query.TheVariants as query
 use Rattle.ledger_book.specs.Books as books
 use Rattle.ledger_book.specs.Books.{Serves, sealed_size}
 use Rattle.ledger_book.specs.Steps.{OpenGathers}
 use Rattle.ledger_open.specs.Places.{place_at}
-use Rattle.batch_committer.specs.World.{Kept, Located}
+use Rattle.batch_committer.specs.World.{Kept, Located, AreInside}
 
 -- what is due for a job that is judged against g, by what came of it
 abbrev pub due_by : History → Step → Job → Due
@@ -39,6 +39,7 @@ HasParts (Refused refusal) content given = ⊥
 HasParts (Append member clue record_content content_digest request by) content given = (content ≡ record_content) × (given ≡ by ∷ [])
 HasParts (NewMember number key by) content given = (content ≡ []) × (given ≡ by ∷ [])
 HasParts Anchor content given = (content ≡ []) × (given ≡ [])
+HasParts (Occult target leaf approvals) content given = (content ≡ []) × (given ≡ approvals)
 HasParts (Get n) content given = ⊥
 HasParts (Prove n) content given = ⊥
 HasParts (Extend which m) content given = ⊥
@@ -90,6 +91,10 @@ HasGrown old new = (new.book.size ≤ old.book.size + 1) × (new.book.sealed ≡
 -- the journals that wait may share their block as before, where the job's own isn't a block of its own
 abbrev pub StaysGathered : Kept → Kept → Job → Type 0
 StaysGathered old new job = closes_after job ≡ false → OpenGathers old.book → OpenGathers new.book
+
+-- each content still ends before the place of the next gate
+abbrev pub StaysInside : Kept → Kept → Type 0
+StaysInside old new = AreInside (old.place + 45 + length old.body) old.places → AreInside (new.place + 45 + length new.body) new.places
 
 -- a query that asks for no proof, and that the ledger answers without its notary
 abbrev pub IsOfLedger : Query → Type 0

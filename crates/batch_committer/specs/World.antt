@@ -1,9 +1,10 @@
 -- What a committer, its disks and its sink tell, and how a call leads from one to the next.
-use Rattle.std.specs.Prelude.{◌≡◌, ◌≢◌, ℕ, ◌+◌, ◌<◌, ◌≤◌, Bool, IsTrue, IsSomeAnd, List, [], ◌++◌, length, Option, None}
+use Rattle.std.specs.Prelude.{◌≡◌, ◌≢◌, ◌⊎◌, ℕ, ◌+◌, ◌-◌, ◌<◌, ◌≤◌, Bool, IsTrue, IsSomeAnd, All, List, [], ◌++◌, length, take, Option, None}
 use Rattle.std.specs.Io.KnownBytes.{Appends}
 use Rattle.ledger_bytes.specs.Begins.{Begins}
 use Rattle.ledger_bytes.specs.declared.limits.TheConstants.{BLOCK_LIMIT}
 use Rattle.journal_record.specs.Blocks.{body_of, AreFrom}
+use Rattle.journal_record.specs.Entry.{Entry}
 use Rattle.block_file.specs.File.{IsSettled, IsShutAt}
 use Rattle.block_file.specs.Head.{generation_of}
 use Rattle.block_file.specs.declared.file.BlockFile.{BlockFile}
@@ -20,7 +21,7 @@ use Rattle.ledger_book.specs.Books.{Serves, sealed_size}
 use Rattle.ledger_book.specs.Steps.{OpenGathers}
 use Rattle.twin_file.specs.Twin.{open_of, other_of}
 use Rattle.ledger_open.specs.Places.{places_in, places_at, after_at}
-use Rattle.ledger_open.specs.Standing.{IsErased, PairFor}
+use Rattle.ledger_open.specs.Standing.{IsErased, PairFor, IsCleanPair}
 use Rattle.ledger_open.specs.declared.places.PlaceAt.{PlaceAt}
 use Rattle.batch_committer.specs.declared.end.End.{End}
 use Rattle.batch_committer.specs.declared.end.End.TheVariants.{DiskFault, WriteFault, NoMemory, Closed}
@@ -83,13 +84,19 @@ pub record Reads (tells : Bool) (place : ℕ) (d : DiskState) : Type 0 where
   pub told : IsSomeAnd d.told (λ n. place + 1 ≤ n)
   pub shut : IsTrue tells → IsShutAt place d.bytes.seen
 
+-- each content at these places stands behind the head of its file, and ends here or before
+abbrev pub AreInside : ℕ → List PlaceAt → Type 0
+AreInside end places = All (λ p. (64 ≤ p.content_at) × (p.content_at + p.content_len ≤ end)) places
+
 -- What each call asks for, also where the disks tell nothing: the open file reads as the calls left it, the generation that
--- is kept is its own, no copy of it was begun, and the open block has no more journals than a block may have.
+-- is kept is its own, no copy of it was begun, the open block has no more journals than a block may have, and each content
+-- ends before the place of the next gate.
 pub record Fits (tells : Bool) (w : World) : Type 0 where
   pub reads : Reads tells w.kept.place (open_of w.kept.in_a w.disks.a w.disks.b)
   pub generation : IsTrue tells → w.kept.generation ≡ generation_of (open_of w.kept.in_a w.disks.a w.disks.b).bytes.seen
   pub copy : w.kept.copy ≡ None
   pub few : w.kept.book.size ≤ w.kept.book.sealed + BLOCK_LIMIT
+  pub inside : AreInside (w.kept.place + 45 + length w.kept.body) w.kept.places
 
 -- a journal more has room in the open block, and may share it with those that wait there
 abbrev pub HasRoom : Kept → Type 0
@@ -156,14 +163,38 @@ pub record Goes (tells : Bool) (before : World) (next : History → History) (du
   pub writes : (h : History) → Holds tells before h → Writes (next h) before.kept.dues (due h) after.kept.dues sofar
   pub no_fault : MeetsNoFault before after
 
--- The images stand for the blocks of h and maybe for more of those of the whole history, and every journal whose receipt was
--- begun is in them.
-pub record Left (h whole : History) (done : List Due) (a b : List ℕ) : Type 0 where
+-- one of the files stands for a history, each content that this hides is gone from it, and the other file is empty
+pub record IsErasedPair (a b : List ℕ) (h : History) : Type 0 where
+  pub in_a : Bool
+  pub erased : IsErased (open_of in_a a b) h
+  pub empty : length (other_of in_a a b) ≡ 0
+
+-- all but the last of some blocks
+abbrev pub before_last : List (List Entry) → List (List Entry)
+before_last blocks = take (length blocks - 1) blocks
+
+-- the last block is one that was added on the way, and no receipt of it was begun
+pub record IsUnanswered (h kept : History) (done : List Due) : Type 0 where
+  pub added : length h.closed < length kept.closed
+  pub unanswered : AllIn (before_last kept.closed) done
+
+-- How clean the images are. Where a disk failed each hidden content is gone from them, unless the last block was added on the
+-- way and no receipt of it was begun. Where none failed they are clean.
+abbrev pub IsLeftClean : End → History → History → List Due → List ℕ → List ℕ → Type 0
+IsLeftClean DiskFault h kept done a b = IsErasedPair a b kept ⊎ IsUnanswered h kept done
+IsLeftClean WriteFault h kept done a b = IsCleanPair a b kept
+IsLeftClean NoMemory h kept done a b = IsCleanPair a b kept
+IsLeftClean Closed h kept done a b = IsCleanPair a b kept
+
+-- The images stand for the blocks of h and maybe for more of those of the whole history, every journal whose receipt was begun
+-- is in them, and what such journals hide is gone.
+pub record Left (h whole : History) (done : List Due) (end : End) (a b : List ℕ) : Type 0 where
   pub kept : History
   pub stands : PairFor a b kept
   pub no_shorter : Begins h.closed kept.closed
   pub no_longer : Begins kept.closed whole.closed
   pub receipts : AllIn kept.closed done
+  pub clean : IsLeftClean end h kept done a b
 
 -- how far the lines were written: whole, but for a fault of the sink
 abbrev pub Says : End → List ℕ → List ℕ → Type 0
@@ -179,7 +210,7 @@ pub record Stops (h whole : History) (dues : List Due) (end : End) (part : List 
   pub rest : List Due
   pub split : dues ≡ done ++ rest
   pub said : (f : History) → Grows whole f → f.waiting ≡ [] → Says end part (due_lines f done)
-  pub images : (a b : List ℕ) → MayLeave disks.a.bytes a → MayLeave disks.b.bytes b → Left h whole done a b
+  pub images : (a b : List ℕ) → MayLeave disks.a.bytes a → MayLeave disks.b.bytes b → Left h whole done end a b
 
 -- one call of one of the two disks failed
 abbrev pub OneFailed : Pair → Pair → Type 0

@@ -2,7 +2,7 @@ ghost use Rattle.std.specs.Prelude.{◌≡◌, ◌↔◌, [], Bool, List, ℕ, t
 ghost use Rattle.block_file.specs.Place.{place_of};
 ghost use Rattle.ledger_model.specs.History.{History, id, close};
 ghost use Rattle.twin_file.specs.Which.{in_a_of, generation_in, file_of, copy_of};
-ghost use Rattle.batch_committer.specs.Attending.{step_in, Takes, EndsTaking};
+ghost use Rattle.batch_committer.specs.Attending.{step_in, FailsAtMostOnce, Takes, EndsTaking};
 ghost use Rattle.batch_committer.specs.World.{pair, world, first_kept, Fits, HasRoom, Keeps, Goes, Ended};
 
 use crate::End;
@@ -106,6 +106,9 @@ impl Committer {
             (world self.old.kept (pair (D.state a.old) (D.state b.old)) (K.state sink.old))
             (world self.new.kept (pair (D.state a.new) (D.state b.new)) (K.state sink.new))
             (N.state notary.old) (N.state notary.new) item.lane item.index item.job end) }
+
+        // Whatever the disks tell.
+        ensures once { FailsAtMostOnce (N.state notary.old) (N.state notary.new) }
         ensures closed { (result ≡ Err End.Closed) ↔ (self.old.ended ≡ true) }
         ensures ended { self.new.ended ≡ is_err result }
         ensures same { self.old.ended ≡ true → self.new ≡ self.old }

@@ -7,6 +7,7 @@ mod commit;
 mod committer;
 mod dues;
 mod end;
+mod erasing;
 mod getting;
 mod head;
 mod laws;

@@ -6,7 +6,7 @@ ghost use Rattle.ledger_model.specs.Limits.{real_limits};
 ghost use Rattle.ledger_model.specs.Texts.{told_reply, told_mark};
 ghost use Rattle.ledger_model.specs.declared.job.Job.TheVariants.{Prove, Extend};
 ghost use Rattle.ledger_model.specs.declared.outcome.Query.TheVariants as query;
-ghost use Rattle.batch_committer.specs.Attending.{step_in, Attended};
+ghost use Rattle.batch_committer.specs.Attending.{step_in, Attended, FailsAtMostOnce};
 
 use ledger_book::Book;
 use ledger_bytes::{NoMemory, TimeMark};
@@ -32,6 +32,7 @@ pub(crate) fn proof_of<N: Notary>(
     ensures err { OnErr result ((h : History) (lane index : ℕ) (line : List ℕ)
         → Attended (N.state notary.old) (N.state notary.new) h
         (step_in (N.state notary.old) (N.state notary.new) false lane index line) (Prove n)) }
+    ensures once { FailsAtMostOnce (N.state notary.old) (N.state notary.new) }
 {
     match prove(alloc, book, notary, n) {
         Ok(made) => Ok(proof_reply(made)),
@@ -80,6 +81,7 @@ pub(crate) fn extension_of<N: Notary>(
     ensures err { OnErr result ((h : History) (lane index : ℕ) (line : List ℕ)
         → Attended (N.state notary.old) (N.state notary.new) h
         (step_in (N.state notary.old) (N.state notary.new) false lane index line) (Extend which m)) }
+    ensures once { FailsAtMostOnce (N.state notary.old) (N.state notary.new) }
 {
     match extend(alloc, book, notary, which, m) {
         Ok(made) => Ok(extension_reply(which, m, made)),

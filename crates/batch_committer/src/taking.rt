@@ -2,7 +2,7 @@ ghost use Rattle.std.specs.Prelude.{◌≡◌, ◌↔◌, ◌≤◌, ◌<◌, �
 ghost use Rattle.journal_record.specs.Approval.{who_of};
 ghost use Rattle.journal_record.specs.Entry.{Entry};
 ghost use Rattle.journal_record.specs.declared.approval.Approval.{Approval as AnyApproval};
-ghost use Rattle.ledger_bytes.specs.declared.limits.TheConstants.{APPROVAL_LIMIT, PROOF_LIMIT};
+ghost use Rattle.ledger_bytes.specs.declared.limits.TheConstants.{APPROVAL_LIMIT, CONTENT_LIMIT, PROOF_LIMIT};
 ghost use Rattle.block_file.specs.Place.{place_of};
 ghost use Rattle.ledger_io.specs.Outside.{SinkState};
 ghost use Rattle.ledger_model.specs.Fitting.{fits_job};
@@ -16,14 +16,15 @@ ghost use Rattle.ledger_book.specs.Steps.{OpenGathers, HasOperatorRoom};
 ghost use Rattle.twin_file.specs.Which.{in_a_of, generation_in, file_of, copy_of};
 ghost use Rattle.ledger_open.specs.Places.{place_at};
 ghost use Rattle.batch_committer.specs.Read.{WereRead, NoneFailed, ReadingEnds};
-ghost use Rattle.batch_committer.specs.Attending.{step_in, Takes, EndsTaking, TakesIn, EndsIn, JudgedBy, EndsAsking};
-ghost use Rattle.batch_committer.specs.Steps.{IsOfLedger, HasParts, HasJournal, IsGathered, KeepsFile, KeepsRest, HasGrown, StaysGathered};
+ghost use Rattle.batch_committer.specs.Attending.{step_in, FailsAtMostOnce, Takes, EndsTaking, TakesIn, EndsIn, JudgedBy, EndsAsking};
+ghost use Rattle.batch_committer.specs.Steps.{IsOfLedger, HasParts, HasJournal, IsGathered, KeepsFile, KeepsRest, HasGrown, StaysGathered, StaysInside};
 ghost use Rattle.batch_committer.specs.World.{Pair, pair, world, first_kept, Reads, Fits, HasRoom, Keeps, Holds, Goes, Ended};
 
 use crate::End;
 use crate::block::{OpenBlock, who_len};
 use crate::commit::commit;
 use crate::dues::spell;
+use crate::erasing::give_up;
 use crate::proving::{extension_of, proof_of};
 use crate::queries::{head_reply, reply_to};
 use journal_record::Approval;
@@ -144,14 +145,15 @@ impl Taking {
             (world self.old (pair (D.state a.old) (D.state b.old)) (K.state sink.old))
             (world self.new (pair (D.state a.new) (D.state b.new)) (K.state sink.new))
             (N.state notary.old) (N.state notary.new) item.now.lane item.now.index item.now.job end) }
+        ensures once { FailsAtMostOnce (N.state notary.old) (N.state notary.new) }
     {
         self.end_before(a, b, sink, &item.job)?;
         self.take_in(a, b, notary, item)?;
         self.end_after(a, b, sink, &item.job)
     }
 
-    /// Writes all that is due. Where a journal waits the open block ends before that: it is committed. All memory is
-    /// taken before the first call of a disk.
+    /// Writes all that is due. Where a journal waits the open block ends before that: it is committed, and what its journal
+    /// hides is given up. All memory is taken before the first call of a disk.
     pub(crate) fn settle<D: Disk, K: Sink>(
         &mut self,
         a: &mut D,
@@ -181,6 +183,7 @@ impl Taking {
         spell(&mut self.text, &self.opened.book, self.dues.as_slice())?;
         self.block.finish(count, &self.opened.book.head().root)?;
         commit(&mut self.opened.twin, a, b, self.block.as_slice())?;
+        give_up(&mut self.opened, a, b)?;
         write_all(sink, self.text.as_slice())?;
         self.block.clear();
         self.dues.clear();
@@ -195,7 +198,8 @@ impl Taking {
             close (λ h. [])
             (world self.new disks (K.state sink.new))) }
         ensures same { OnOk result ((self.new.book ≡ self.old.book)
-            × KeepsFile self.old self.new × (self.new.dues ≡ [])) }
+            × KeepsFile self.old self.new × (self.new.dues ≡ [])
+            × (self.new.body ≡ self.old.body) × (self.new.places ≡ self.old.places)) }
         ensures err { IfErr result (λ end. (tells : Bool) (disks : Pair) → Ended tells
             (world self.old disks (K.state sink.old))
             close (λ h. []) end
@@ -300,7 +304,9 @@ impl Taking {
             (pair (D.state a.old) (D.state b.old)) (pair (D.state a.new) (D.state b.new)) }
         ensures grown { OnOk result (HasGrown self.old self.new) }
         ensures gathers { OnOk result (StaysGathered self.old self.new item.now.job) }
+        ensures inside { OnOk result (StaysInside self.old self.new) }
         ensures file { KeepsFile self.old self.new }
+        ensures once { FailsAtMostOnce (N.state notary.old) (N.state notary.new) }
     {
         let answer = self.judge(a, b, notary, &item.job)?;
         let due = Due {
@@ -334,8 +340,10 @@ impl Taking {
             answer)) }
         ensures unasked { OnErr result (EndsAsking self.old (N.state notary.old)
             (N.state notary.new) job.now) }
+        ensures once { FailsAtMostOnce (N.state notary.old) (N.state notary.new) }
         ensures grown { OnOk result (HasGrown self.old self.new) }
         ensures gathers { OnOk result (StaysGathered self.old self.new job.now) }
+        ensures inside { OnOk result (StaysInside self.old self.new) }
         ensures rest { KeepsRest self.old self.new }
         ensures read { WereRead D.tells
             (pair (D.state a.old) (D.state b.old)) (pair (D.state a.new) (D.state b.new)) }
@@ -383,7 +391,9 @@ impl Taking {
             answer)) }
         ensures unasked { OnErr result (EndsAsking self.old (N.state notary.old)
             (N.state notary.new) jobs.Anchor) }
+        ensures once { FailsAtMostOnce (N.state notary.old) (N.state notary.new) }
         ensures grown { OnOk result (HasGrown self.old self.new) }
+        ensures inside { OnOk result (StaysInside self.old self.new) }
         ensures rest { KeepsRest self.old self.new }
         ensures only { IfErr result (λ end. end ≡ End.NoMemory) }
     {
@@ -439,8 +449,10 @@ impl Taking {
         ensures gathered { OnOk result ((h : History) (journal : Entry) (content : List ℕ)
             (given : List AnyApproval) → HasParts job.now content given → Serves self.old.book h
             → slice_get (journals h) jsn ≡ Some journal → self.old.book.floor ≤ jsn
+            → length content ≡ journal.header.content_len
             → journal.content ≡ content → journal.who ≡ who_of given
             → IsGathered self.old self.new journal) }
+        ensures inside { OnOk result (StaysInside self.old self.new) }
         ensures book { self.new.book ≡ self.old.book }
         ensures rest { KeepsRest self.old self.new }
     {
@@ -450,6 +462,7 @@ impl Taking {
             }
             Job::NewMember { by, .. } => self.gather(jsn, &[], slice::from_ref(by)),
             Job::Anchor => self.gather(jsn, &[], &[]),
+            Job::Occult { given, .. } => self.gather(jsn, &[], given.as_slice()),
             Job::Refused(_)
             | Job::Get { .. }
             | Job::Prove { .. }
@@ -462,12 +475,15 @@ impl Taking {
     // Gathers a journal of the book, which these approved: keeps its place, and its bytes behind those of the open block.
     fn gather(&mut self, jsn: u64, content: &[u8], given: &[Approval]) -> Result<(), NoMemory>
         requires has { HasJournal self.old.book jsn }
+        requires content { length content.now ≤ CONTENT_LIMIT }
         requires few { length given.now ≤ APPROVAL_LIMIT }
         requires proofs { All (λ a. length a.proof ≤ PROOF_LIMIT) given.now }
         ensures gathered { OnOk result ((h : History) (journal : Entry) → Serves self.old.book h
             → slice_get (journals h) jsn ≡ Some journal → self.old.book.floor ≤ jsn
+            → length content.now ≡ journal.header.content_len
             → journal.content ≡ content.now → journal.who ≡ who_of given.now
             → IsGathered self.old self.new journal) }
+        ensures inside { OnOk result (StaysInside self.old self.new) }
         ensures book { self.new.book ≡ self.old.book }
         ensures rest { KeepsRest self.old self.new }
     {
@@ -479,7 +495,7 @@ impl Taking {
         self.opened.places.reserve(1)?;
         self.opened
             .places
-            .push(place_of_record(at, header.content_len, given));
+            .push(place_of_record(at, content.len() as u32, given));
         self.block.put(&header, content, given)
     }
 }
@@ -489,8 +505,9 @@ fn place_of_record(at: u64, content_len: u32, given: &[Approval]) -> PlaceAt
     requires room { at ≤ 2 ^ 63 + 2 ^ 62 + 45 }
     requires few { length given.now ≤ APPROVAL_LIMIT }
     requires proofs { All (λ a. length a.proof ≤ PROOF_LIMIT) given.now }
-    ensures { (journal : Entry) → journal.header.content_len ≡ content_len
+    ensures place { (journal : Entry) → journal.header.content_len ≡ content_len
         → journal.who ≡ who_of given.now → result ≡ place_at at journal }
+    ensures content { (result.content_at ≡ at + RECORD_HEAD_LEN) × (result.content_len ≡ content_len) }
 {
     let content_at = at + RECORD_HEAD_LEN;
     PlaceAt {

@@ -8,7 +8,8 @@ use Rattle.batch_committer.specs.Attending.{step_in}
 use Rattle.batch_committer.specs.World.{Kept, Keeps}
 use Rattle.batch_committer.proofs.Attends.{attends_full, full_stamp, full_why, attends_failed, failed_stamp, failed_why, attends_stamped, stamped}
 use Rattle.batch_committer.proofs.Anchoring.{on_err_all, unstamped_judged, stamped_placed, accepted_real, full_of, failed_of, failed_not_full, memory_of}
-use Rattle.batch_committer.proofs.Judging.{has_placed, judged_placed}
+use Rattle.batch_committer.proofs.Judging.{has_placed, judged_placed, inside_at}
+use Rattle.batch_committer.specs.contracts.taking.Taking.{the_view}
 use Rattle.std.proofs.lemmas.Bool.{true≢false}
 use Rattle.ledger_model.specs.Texts.{answer_for}
 use Rattle.ledger_model.specs.declared.answer.Answer.TheVariants.{Receipt}
@@ -110,3 +111,6 @@ returns-clause-judged g c =
                 (c.peg-peg.ensures.peg h p.serves.stands (c.requires.settled h keeps.serves)) e.faults;
           },
     )
+
+pub returns-clause-inside : goal.returns-clause-inside
+returns-clause-inside g c = λ all. c.in_ok-gather_placed-in-Placed.ensures.inside (inside_at (the_view c.self.inside) c.args.self.now c.self.view_is all)

@@ -19,7 +19,8 @@ use Rattle.batch_committer.specs.Attending.{step_in, Attended, JudgedBy, EndsAsk
 use Rattle.batch_committer.specs.World.{Kept, Keeps, Holds, world, pair}
 use Rattle.batch_committer.proofs.Anchoring.{asked_room, asked_anchor, asked_head, asked_prove, asked_extend, asked_accepted, anchor_asks, keeps_book, on_err_all, told_judged}
 use Rattle.batch_committer.proofs.Attends.{unstamped, unstamped_same, attends_other, ends_untouched}
-use Rattle.batch_committer.proofs.Judging.{real_applies, has_placed, judged_same_kept, judged_placed, asks_closes, alone_first}
+use Rattle.batch_committer.proofs.Judging.{real_applies, has_placed, judged_same_kept, judged_placed, asks_closes, alone_first, inside_at, on_ok_then}
+use Rattle.batch_committer.specs.contracts.taking.Taking.{the_view}
 use Rattle.batch_committer.proofs.ReadLaws.{holds_book}
 use Rattle.batch_committer.proofs.taking.Taking.judge.Goals as goal
 
@@ -240,3 +241,11 @@ returns-in_err-reply-in-Extend-clause-unasked g c =
     let job = asked_extend c.args.job.now c.in-Reading.query c.in-Extend.which c.in-Extend.m (subst (AsksFor c.args.job.now) c.in-Reading.is c.in_ok-refusal.ensures.asked) c.in-Extend.is in
     on_err_all c.from_residual-in_err-reply-in-Extend.result
     (inl (false, λ h lane index line p. subst (λ (j : Job). Attended n m h (step_in n m false lane index line) j) (sym job) (c.in_err-reply-in-Extend.ensures.err h lane index line)))
+
+pub returns-in_ok-gather_placed-in-Placed-clause-inside : goal.returns-in_ok-gather_placed-in-Placed-clause-inside
+returns-in_ok-gather_placed-in-Placed-clause-inside g c = λ all.
+    c.in_ok-gather_placed-in-Placed.ensures.inside (inside_at (the_view c.self.inside) c.args.self.now c.self.view_is all)
+
+pub returns-in-Stamp-clause-inside : goal.returns-in-Stamp-clause-inside
+returns-in-Stamp-clause-inside g c =
+    on_ok_then c.anchor.result (λ inside all. inside (inside_at (the_view c.self.inside) c.args.self.now c.self.view_is all)) c.anchor.ensures.inside
