@@ -1,39 +1,26 @@
 -- Lemmas on a run whose disks were opened or made first.
-use Rattle.std.proofs.Common.{◌≡◌, ℕ, inl, inr, ◌<◌, List, [], ◌∷◌, length, map, take, drop, refl, ap, sym, subst, ◌∙◌, arith}
+use Rattle.std.proofs.Common.{◌≡◌, ℕ, inl, inr, ◌<◌, List, [], length, take, drop, ap, sym, subst, ◌∙◌, arith}
 use Rattle.std.specs.Prelude.{IfSome, IsSome}
-use Rattle.std.proofs.KnownBytes.{Consumes-nil, Appends-nil}
 use Rattle.std.proofs.lemmas.List.{take-append-drop, length-take-le}
 use Rattle.batch_committer.specs.World.{Pair}
-use Rattle.batch_committer.proofs.WayLaws.{begins_not}
 use Rattle.block_file.specs.File.{IsSettled}
-use Rattle.ledger_bytes.specs.Begins.{Begins}
 use Rattle.ledger_bytes.specs.Causes.{count_after}
 use Rattle.ledger_disk.specs.Disk.{State, MayLeave}
 use Rattle.ledger_disk.proofs.Guarding.{settled_image}
-use Rattle.std.proofs.lemmas.List.Elements.{All-nil}
-use Rattle.ledger_io.specs.Lines.{IsLine}
 use Rattle.ledger_io.specs.Outside.{SourceState, SinkState}
-use Rattle.ledger_io.specs.Runs.{FallsShort, SomeOfScript}
+use Rattle.ledger_io.specs.Runs.{FallsShort}
 use Rattle.ledger_io.specs.declared.ending.Ending.TheVariants as run
-use Rattle.ledger_model.specs.Growing.{Grows}
 use Rattle.ledger_model.specs.History.{History}
-use Rattle.ledger_model.specs.Rules.{after}
 use Rattle.ledger_model.specs.Scheme.{Scheme}
-use Rattle.ledger_model.specs.Step.{Step}
-use Rattle.ledger_model.specs.Texts.{text}
-use Rattle.ledger_model.specs.Windows.{said_lines, windows}
 use Rattle.time_peg.specs.Entries.{NotaryState}
-use Rattle.ledger_model.proofs.DueLaws.{grows_windows}
-use Rattle.ledger_model.proofs.WaitLaws.{begins_closed}
-use Rattle.ledger_open.specs.Standing.{PairFor}
+use Rattle.ledger_open.specs.Standing.{PairFor, IsCleanPair}
+use Rattle.batch_committer.specs.Opened.{IsQuietFor}
 use Rattle.ledger_open.specs.declared.failure.OpenErr.{OpenErr}
 use Rattle.ledger_cli.specs.Endings.{refusal_of}
-use Rattle.ledger_cli.specs.Runs.{Handed, handed, AreQuiet, StandFor, Faults, NoDiskFailed, DiskFailed, FaultsBy, AllStand, StopsOn, RunsOn}
+use Rattle.ledger_cli.specs.Runs.{Handed, handed, AreQuiet, StandFor, Faults, NoDiskFailed, DiskFailed, FaultsBy, RunsOn}
 use Rattle.ledger_cli.specs.Session.{IsOfLines}
 use Rattle.ledger_cli.specs.declared.ending.LedgerEnding.{LedgerEnding}
 use Rattle.ledger_cli.specs.declared.ending.LedgerEnding.TheVariants.{Run, DiskFault, Damaged, Empty, Exists, NewerFormat}
-use Rattle.ledger_cli.proofs.MergeLaws.{all_unasked, unasked_merges, each_unasked}
-use Rattle.ledger_cli.proofs.NotaryLaws.{none_first}
 
 -- ---- what is told of a run is told of what it was handed before the disks were opened
 
@@ -79,43 +66,6 @@ module _ (source : SourceState) (sink : SinkState) (n : NotaryState) (d e : Pair
 
 -- ---- a run that didn't begin
 
-module _ (scheme : Scheme) (h : History) (source : SourceState) (sink : SinkState) (n : NotaryState) (old now : Pair) (images : (a b : List ℕ) → MayLeave now.a.bytes a → MayLeave now.b.bytes b → PairFor a b h) where
-  -- no line was taken
-  abbrev steps_for : List (List ℕ) → List (List Step)
-  steps_for lines = map (all_unasked n) (windows (said_lines lines))
-
-  -- .. nor is a block left that wasn't there
-  all_first : (whole : History) → Grows h whole → AllStand h whole n n [] now
-  all_first whole grows = λ a b x y. record {
-    kept = h;
-    stands = images a b x y;
-    no_shorter = begins_not h.closed;
-    no_longer = begins_closed h whole grows;
-    receipts = λ jsn leaf r. absurd r.line;
-    pegs = λ p. p;
-  }
-
-  stops_first : (lines : List (List ℕ)) → StopsOn scheme h [] now n n (Begins []) lines (text scheme h (steps_for lines))
-  stops_first lines = record {
-    steps = steps_for lines;
-    merge = unasked_merges n (windows (said_lines lines));
-    took = record { done = []; now = []; rest = steps_for lines; split = refl; first = none_first n (steps_for lines) (each_unasked n (windows (said_lines lines))); took = (n, refl, refl) };
-    text_is = refl;
-    written = begins_not [];
-    images = all_first (after scheme h (steps_for lines)) (grows_windows scheme h (steps_for lines));
-    proofs = λ pegged. (tt, tt);
-    images_taken = all_first (after scheme h ([] ∷ [])) (grows_windows scheme h ([] ∷ []));
-  }
-
-  some_first : SomeOfScript (StopsOn scheme h [] now n n (Begins [])) source source [] (Begins [])
-  some_first = inl (refl, ([], [], record { is = refl; each = All-nil IsLine }, λ lines. (text scheme h (steps_for lines), stops_first lines, record { rest = text scheme h (steps_for lines); is = refl })))
-
-  pub serves_none : RunsOn scheme h (Run run.NoMemory) (handed source sink old n) (handed source sink now n)
-  serves_none = record { read = []; replies = []; consumed = Consumes-nil source.left; appended = Appends-nil sink.held; replied = (inl refl, some_first) }
-
-  pub serves_fault : RunsOn scheme h DiskFault (handed source sink old n) (handed source sink now n)
-  serves_fault = record { read = []; replies = []; consumed = Consumes-nil source.left; appended = Appends-nil sink.held; replied = (inl refl, some_first) }
-
 -- where nothing is pending each image is what is read
 pub quiet_image : (s : State) (image : List ℕ) → IsSettled s → MayLeave s image → image ≡ s.seen
 quiet_image s image quiet left = settled_image s.seen image (subst (λ (t : State). MayLeave t image) quiet left)
@@ -123,6 +73,10 @@ quiet_image s image quiet left = settled_image s.seen image (subst (λ (t : Stat
 pub quiet_pair : (disks : Pair) (h : History) → AreQuiet disks → StandFor disks h → (a b : List ℕ) → MayLeave disks.a.bytes a → MayLeave disks.b.bytes b → PairFor a b h
 quiet_pair disks h q p a b x y =
     subst (λ l. PairFor l b h) (sym (quiet_image disks.a.bytes a q.a x)) (subst (λ l. PairFor disks.a.bytes.seen l h) (sym (quiet_image disks.b.bytes b q.b y)) p)
+
+pub quiet_clean : (disks : Pair) (h : History) → IsQuietFor disks h → (a b : List ℕ) → MayLeave disks.a.bytes a → MayLeave disks.b.bytes b → IsCleanPair a b h
+quiet_clean disks h q a b x y =
+    subst (λ l. IsCleanPair l b h) (sym (quiet_image disks.a.bytes a q.a x)) (subst (λ l. IsCleanPair disks.a.bytes.seen l h) (sym (quiet_image disks.b.bytes b q.b y)) q.clean)
 
 -- a run over lines tells no refusal
 pub of_lines : (ending : LedgerEnding) (P : OpenErr → Type 0) → IsOfLines ending → IfSome (refusal_of ending) P

@@ -42,7 +42,7 @@ one_fits : (b : Bool) (index : ℕ) (e : List ℕ) → Fits index → Fits (time
 one_fits true index e i t = tt
 one_fits false index e i t = (i, t)
 
-change_list : (asked failed : Bool) (peg : List ℕ) (before after : List (List ℕ)) → IsList before → Changes asked failed peg before after → IsList after
+pub change_list : (asked failed : Bool) (peg : List ℕ) (before after : List (List ℕ)) → IsList before → Changes asked failed peg before after → IsList after
 change_list false failed peg before after list c = subst IsList (sym c) list
 change_list true false peg before after list c = c.1
 change_list true true peg before after list (inl same) = subst IsList (sym same) list

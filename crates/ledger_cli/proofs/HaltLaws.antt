@@ -40,12 +40,14 @@ use Rattle.script_lines.specs.Receipts.{AllFit}
 use Rattle.ledger_cli.specs.Runs.{AllStand, AnswersOn, StopsOn}
 use Rattle.ledger_cli.specs.Taken.{AllUnasked, taken, TookSome}
 use Rattle.ledger_cli.proofs.CountedLaws.{counted_all}
+use Rattle.ledger_cli.proofs.CarryLaws.{quiet_clean}
+use Rattle.ledger_cli.proofs.HeadLaws.{heads_lead_on}
 use Rattle.ledger_cli.proofs.LineLaws.{reached, owed, reach_on, owe_on, window_on, dues_on, after-append, after_none, with_end, Counted}
 use Rattle.ledger_cli.proofs.MergeLaws.{merge_numbered, unasked}
 use Rattle.ledger_cli.proofs.NotaryLaws.{TookOn, took_window, took_end, taken_all}
 use Rattle.ledger_cli.proofs.OrderLaws.{CanGoOn, begun_goes, begun_behind, parts_of, last_after, last_owed}
 use Rattle.ledger_cli.proofs.PegLaws.{pegged_some, some_journal}
-use Rattle.ledger_cli.proofs.StopLaws.{SaidOf, said_of, stop_stands}
+use Rattle.ledger_cli.proofs.StopLaws.{CleanBy, SaidOf, said_of, stop_stands}
 
 -- ---- a call stopped a run behind the steps that were taken
 
@@ -151,14 +153,14 @@ module _ (scheme : Scheme) (tells : Bool) (w : World) (h : History) (p : Holds t
       fits_in : (f : History) → Grows (reached scheme done current h) f → IsLawful f → AllFit (due_replies f (owed scheme done current h))
       fits_in f grows all_lawful = underway_fits scheme h f done current counted.windows_are counted.steps_are lawful all_lawful grows
 
-      images_now : AllStand h now_last first n x.ended.part t.disks
+      images_now : AllStand h now_last first n x.ended.part (CleanBy end h x.ended.part) t.disks
       images_now =
           let now_lawful = run_lawful scheme h (taken done current) lawful in
           stop_stands h (x.next h) now_last (owed scheme done current h) end x.ended.part t.disks first n stops_so closes_now settled_now
           (fits_in now_last (subst (Grows (reached scheme done current h)) (closes_so scheme h done current) (grows_close (reached scheme done current h))) now_lawful) now_lawful
           (pegged_windows scheme h first n (taken done current) (some_journal h lawful) took_all)
 
-      pub stopped : (tail : List (List ℕ)) → SomeAnswer (StopsOn scheme h x.ended.part t.disks first n (SaidOf end x.ended.part)) (script ++ tail) (SaidOf end x.ended.part)
+      pub stopped : (tail : List (List ℕ)) → SomeAnswer (StopsOn scheme h x.ended.part t.disks first n (CleanBy end h x.ended.part) (SaidOf end x.ended.part)) (script ++ tail) (SaidOf end x.ended.part)
       stopped tail =
           let g = can tail in
           let steps = g.all in
@@ -189,6 +191,7 @@ module _ (scheme : Scheme) (tells : Bool) (w : World) (h : History) (p : Holds t
               images = stop_stands h (x.next h) f (owed scheme done current h) end x.ended.part t.disks first n s grows settled (fits_in f goes_on all_lawful) all_lawful
                   (pegged_some scheme h first n steps (some_journal h lawful) all_took);
               proofs = good_windows scheme h first n (taken done current) lawful wide took_all;
+              heads = heads_lead_on scheme h first n (taken done current) lawful list took_all;
               images_taken = images_now;
             },
             said_of end f x.ended.part (text scheme h steps) s.done (s.rest ++ more) (s.said f grows settled) all,
@@ -226,7 +229,7 @@ module _ (scheme : Scheme) (tells : Bool) (w : World) (h : History) (p : Holds t
       whole_after = after-append scheme h steps ([] ∷ []) ∙ sym (close_settled last (after_none scheme h steps none))
 
       -- .. or where the script ended
-      pub stopped_last : (end : End) (t : World) (e : Ended tells w (λ k. close (reached scheme done current k)) (λ k. owed scheme done current k ++ []) end t) → SomeAnswer (StopsOn scheme h e.part t.disks first n (SaidOf end e.part)) script (SaidOf end e.part)
+      pub stopped_last : (end : End) (t : World) (e : Ended tells w (λ k. close (reached scheme done current k)) (λ k. owed scheme done current k ++ []) end t) → SomeAnswer (StopsOn scheme h e.part t.disks first n (CleanBy end h e.part) (SaidOf end e.part)) script (SaidOf end e.part)
       stopped_last end t e =
           let settled = after_none scheme h steps none in
           let due : w.kept.dues ++ (owed scheme done current h ++ []) ≡ owed scheme done current h = ap (λ l. l ++ (owed scheme done current h ++ [])) no_dues ∙ append-nil (owed scheme done current h) in
@@ -234,7 +237,7 @@ module _ (scheme : Scheme) (tells : Bool) (w : World) (h : History) (p : Holds t
           let g : Grows (close (reached scheme done current h)) last = subst (Grows (close (reached scheme done current h))) last_is (grows_not (close (reached scheme done current h))) in
           let all : due_lines last (s.done ++ s.rest) ≡ text scheme h steps = ap (due_lines last) (sym s.split) ∙ text_last in
           let said : SaidOf end e.part (text scheme h steps) = said_of end last e.part (text scheme h steps) s.done s.rest (s.said last g settled) all in
-          let stand : AllStand h last first n e.part t.disks =
+          let stand : AllStand h last first n e.part (CleanBy end h e.part) t.disks =
           stop_stands h (close (reached scheme done current h)) last (owed scheme done current h) end e.part t.disks first n s g settled fits_last (run_lawful scheme h steps lawful) pegged_last in (
             text scheme h steps,
             record {
@@ -245,7 +248,8 @@ module _ (scheme : Scheme) (tells : Bool) (w : World) (h : History) (p : Holds t
               written = subst (SaidOf end e.part) (sym whole_text) said;
               images = stand;
               proofs = good_windows scheme h first n (taken steps []) lawful wide (taken_all scheme h first steps n (took_end scheme h first done current n took));
-              images_taken = subst (λ (k : History). AllStand h k first n e.part t.disks) (sym whole_after) stand;
+              heads = heads_lead_on scheme h first n (taken steps []) lawful list (taken_all scheme h first steps n (took_end scheme h first done current n took));
+              images_taken = subst (λ (k : History). AllStand h k first n e.part (CleanBy end h e.part) t.disks) (sym whole_after) stand;
             },
             said,
           )
@@ -274,6 +278,7 @@ module _ (scheme : Scheme) (tells : Bool) (w : World) (h : History) (p : Holds t
             took = took_end scheme h first done current n took;
             replies_are = said_is ∙ text_last;
             proofs = good_windows scheme h first n steps lawful wide (took_end scheme h first done current n took);
+            heads = heads_lead_on scheme h first n steps lawful list (took_end scheme h first done current n took);
           };
           clean = quiet.clean;
           quiet = record { a = quiet.a; b = quiet.b };
@@ -284,5 +289,6 @@ module _ (scheme : Scheme) (tells : Bool) (w : World) (h : History) (p : Holds t
             no_longer = begins_not last.closed;
             receipts = λ jsn leaf. receipt_kept_in last last.closed (owed scheme done current h) x.sofar [] jsn leaf (append-nil x.sofar ∙ said_is) fits_last (subst (AllIn last.closed) all_done written.kept);
             pegs = pegged_last;
+            clean = quiet_clean t.disks last quiet i j l r;
           };
         }

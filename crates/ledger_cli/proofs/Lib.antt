@@ -3,6 +3,8 @@ pub mod LineLaws
 pub mod NotaryLaws
 pub mod ListLaws
 pub mod CountedLaws
+pub mod HeadLaws
+pub mod FailureLaws
 pub mod OpeningLaws
 pub mod SessionLaws
 pub mod PegLaws
@@ -11,7 +13,9 @@ pub mod TakeLaws
 pub mod TopLaws
 pub mod KeepingLaws
 pub mod PieceLaws
+pub mod AloneLaws
 pub mod MergeLaws
 pub mod OrderLaws
 pub mod HaltLaws
+pub mod ShownLaws
 pub mod RunsLaws

@@ -44,7 +44,7 @@ attends_goes scheme h step a =
     let g = judged_at h job in
     change_goes (asks g step.before job) step.failed (peg_at g (size g)) step.before step.after a.list
 
-took_goes : (scheme : Scheme) (h : History) (n m : NotaryState) (steps : List Step) → Took scheme h n steps m → GoesOnBy (length steps) n.entries m.entries
+pub took_goes : (scheme : Scheme) (h : History) (n m : NotaryState) (steps : List Step) → Took scheme h n steps m → GoesOnBy (length steps) n.entries m.entries
 took_goes scheme h n m [] t = stays 0 n.entries m.entries (ap (λ (x : NotaryState). x.entries) t)
 took_goes scheme h n m (step ∷ steps) t =
     let one = attends_goes scheme h step t.1 in
@@ -55,7 +55,7 @@ took_goes scheme h n m (step ∷ steps) t =
       few = (let f = one.few in let e = ap length t.0 in omega (arith, f, e));
     }) more)
 
-all_goes : (scheme : Scheme) (h : History) (n m : NotaryState) (windows : List (List Step)) → TookAll scheme h n windows m → GoesOnBy (length (flat windows)) n.entries m.entries
+pub all_goes : (scheme : Scheme) (h : History) (n m : NotaryState) (windows : List (List Step)) → TookAll scheme h n windows m → GoesOnBy (length (flat windows)) n.entries m.entries
 all_goes scheme h n m [] t = stays 0 n.entries m.entries (ap (λ (x : NotaryState). x.entries) t)
 all_goes scheme h n m (window ∷ windows) t =
     goes_wider (length window + length (flat windows)) (length (flat (window ∷ windows))) n.entries m.entries (let l = length-append window (flat windows) in omega (arith, l))

@@ -15,11 +15,11 @@ use Rattle.ledger_model.proofs.TookLaws.{took_counted, took_then}
 use Rattle.ledger_cli.specs.Taken.{EachUnasked, TakesFirst, taken, TookSome}
 use Rattle.ledger_cli.proofs.LineLaws.{with_end}
 
-all_then : (scheme : Scheme) (h : History) (n mid m : NotaryState) (xs ys : List (List Step)) → TookAll scheme h n xs mid → TookAll scheme (after scheme h xs) mid ys m → TookAll scheme h n (xs ++ ys) m
+pub all_then : (scheme : Scheme) (h : History) (n mid m : NotaryState) (xs ys : List (List Step)) → TookAll scheme h n xs mid → TookAll scheme (after scheme h xs) mid ys m → TookAll scheme h n (xs ++ ys) m
 all_then scheme h n mid m [] ys a b = subst (λ (x : NotaryState). TookAll scheme h x ys m) a b
 all_then scheme h n mid m (x ∷ xs) ys a b = (a.0, a.1, all_then scheme (after_window scheme h x) a.0 mid m xs ys a.2 b)
 
-all_split : (scheme : Scheme) (h : History) (n m : NotaryState) (xs ys : List (List Step)) → TookAll scheme h n (xs ++ ys) m → (mid : NotaryState) × TookAll scheme h n xs mid × TookAll scheme (after scheme h xs) mid ys m
+pub all_split : (scheme : Scheme) (h : History) (n m : NotaryState) (xs ys : List (List Step)) → TookAll scheme h n (xs ++ ys) m → (mid : NotaryState) × TookAll scheme h n xs mid × TookAll scheme (after scheme h xs) mid ys m
 all_split scheme h n m [] ys t = (n, refl, t)
 all_split scheme h n m (x ∷ xs) ys t = let r = all_split scheme (after_window scheme h x) t.0 m xs ys t.2 in (r.0, (t.0, t.1, r.1), r.2)
 

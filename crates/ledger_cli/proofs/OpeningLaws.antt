@@ -21,7 +21,7 @@ use Rattle.ledger_model.specs.declared.genesis.Genesis.{Genesis}
 use Rattle.pseudo_genesis.specs.declared.base.Base.{Base}
 use Rattle.ledger_open.specs.Founding.{IsFounded, IsFoundedOrShut, IsOneOpen}
 use Rattle.ledger_open.specs.Opening.{Known, IsReopened, IsOpenErr, IsOutside, StandsAsRead, CountsTwoErr}
-use Rattle.ledger_open.specs.Standing.{PairFor}
+use Rattle.ledger_open.specs.Standing.{PairFor, IsCleanPair}
 use Rattle.ledger_open.specs.declared.failure.OpenErr.{OpenErr}
 use Rattle.ledger_open.specs.declared.failure.OpenErr.TheVariants as open_err
 use Rattle.ledger_open.proofs.OpenLaws.{pair_opens, reopened_only}
@@ -39,7 +39,8 @@ use Rattle.script_lines.specs.Words.{hex_of}
 use Rattle.ledger_io.specs.Writing.{WritesFirst}
 use Rattle.ledger_io.specs.declared.writer.WriteErr.{WriteErr}
 use Rattle.ledger_io.specs.declared.writer.WriteErr.TheVariants.{WriteFault}
-use Rattle.ledger_cli.proofs.CarryLaws.{first_short, serves_from, faults_from, serves_none, serves_fault, quiet_pair, of_lines, no_refusal, none_waits}
+use Rattle.ledger_cli.proofs.FailureLaws.{fails_unread}
+use Rattle.ledger_cli.proofs.CarryLaws.{first_short, serves_from, faults_from, quiet_pair, of_lines, no_refusal, none_waits}
 
 -- ---- faults of opening
 
@@ -74,59 +75,67 @@ module _ (scheme : Scheme) (tells : Bool) (source : SourceState) (sink : SinkSta
       → (e ≢ open_err.DiskFault → IsTrue tells → (now.a.bytes ≡ settled_state old.a.bytes.seen) × (now.b.bytes ≡ settled_state old.b.bytes.seen))
       → (IsTrue tells → (f : OpenErr) → (IsOutside f → ⊥) → IsOpenErr old.a.bytes.seen old.b.bytes.seen f → StandsAsRead old.a.bytes now.a.bytes × StandsAsRead old.b.bytes now.b.bytes)
       → (IsTrue tells → IsSettled old.a.bytes → IsSettled old.b.bytes → (h : History) → PairFor old.a.bytes.seen old.b.bytes.seen h → (a b : List ℕ) → MayLeave now.a.bytes a → MayLeave now.b.bytes b → PairFor a b h)
+      → (IsTrue tells → IsSettled old.a.bytes → IsSettled old.b.bytes → (h : History) → IsCleanPair old.a.bytes.seen old.b.bytes.seen h → (now.a.bytes ≡ old.a.bytes) × (now.b.bytes ≡ old.b.bytes))
       → CountsTwoErr e old.a.faults now.a.faults old.b.faults now.b.faults → RunsAgain scheme tells (ending_of_opening e) (handed source sink old n) (handed source sink now n)
-  not_opened open_err.DiskFault err same kept images counts = record {
-    serves = λ t h p l q. serves_fault scheme h source sink n old now (images t (q tt).a (q tt).b h p);
+  not_opened open_err.DiskFault err same kept images clean counts = record {
+    serves = λ t h p l q. inr (record { outside = tt; unstarted = unstarted; images = images t (q tt).a (q tt).b h p; clean = clean t (q tt).a (q tt).b h });
     unstarted = λ some. unstarted;
     refused = λ t. tt;
     exact = λ t f cause not. (unstarted, stay (kept t f not cause));
     faults = counts_ended source sink n old now open_err.DiskFault counts;
+    failures = fails_unread source n;
   }
-  not_opened open_err.NoMemory err same kept images counts = record {
-    serves = λ t h p l q. serves_none scheme h source sink n old now (images t (q tt).a (q tt).b h p);
+  not_opened open_err.NoMemory err same kept images clean counts = record {
+    serves = λ t h p l q. inr (record { outside = tt; unstarted = unstarted; images = images t (q tt).a (q tt).b h p; clean = clean t (q tt).a (q tt).b h });
     unstarted = λ some. unstarted;
     refused = λ t. tt;
     exact = λ t f cause not. (unstarted, stay (kept t f not cause));
     faults = counts_ended source sink n old now open_err.NoMemory counts;
+    failures = fails_unread source n;
   }
-  not_opened (open_err.Damaged damage) err same kept images counts = record {
+  not_opened (open_err.Damaged damage) err same kept images clean counts = record {
     serves = λ t h p l q. absurd (pair_opens old.a.bytes.seen old.b.bytes.seen h p (open_err.Damaged damage) (err t));
     unstarted = λ some. unstarted;
     refused = refusal (same (λ is. let no : ⊥ = cc is in no)) (open_err.Damaged damage) err;
     exact = λ t f cause not. (unstarted, settled (same (λ is. let no : ⊥ = cc is in no)) t);
     faults = counts_ended source sink n old now (open_err.Damaged damage) counts;
+    failures = fails_unread source n;
   }
-  not_opened open_err.Empty err same kept images counts = record {
+  not_opened open_err.Empty err same kept images clean counts = record {
     serves = λ t h p l q. absurd (pair_opens old.a.bytes.seen old.b.bytes.seen h p open_err.Empty (err t));
     unstarted = λ some. unstarted;
     refused = refusal (same (λ is. let no : ⊥ = cc is in no)) open_err.Empty err;
     exact = λ t f cause not. (unstarted, settled (same (λ is. let no : ⊥ = cc is in no)) t);
     faults = counts_ended source sink n old now open_err.Empty counts;
+    failures = fails_unread source n;
   }
-  not_opened open_err.Exists err same kept images counts = record {
+  not_opened open_err.Exists err same kept images clean counts = record {
     serves = λ t h p l q. absurd (err t);
     unstarted = λ some. unstarted;
     refused = refusal (same (λ is. let no : ⊥ = cc is in no)) open_err.Exists err;
     exact = λ t f cause not. absurd (err t);
     faults = counts_ended source sink n old now open_err.Exists counts;
+    failures = fails_unread source n;
   }
-  not_opened (open_err.NewerFormat found) err same kept images counts = record {
+  not_opened (open_err.NewerFormat found) err same kept images clean counts = record {
     serves = λ t h p l q. absurd (pair_opens old.a.bytes.seen old.b.bytes.seen h p (open_err.NewerFormat found) (err t));
     unstarted = λ some. unstarted;
     refused = refusal (same (λ is. let no : ⊥ = cc is in no)) (open_err.NewerFormat found) err;
     exact = λ t f cause not. (unstarted, settled (same (λ is. let no : ⊥ = cc is in no)) t);
     faults = counts_ended source sink n old now (open_err.NewerFormat found) counts;
+    failures = fails_unread source n;
   }
 
   -- nothing was done for want of memory
   pub again_unstarted : now ≡ old → RunsAgain scheme tells (Run run.NoMemory) (handed source sink old n) (handed source sink now n)
   again_unstarted is =
       subst (λ (d : Pair). RunsAgain scheme tells (Run run.NoMemory) (handed source sink old n) (handed source sink d n)) (sym is) (record {
-        serves = λ t h p l q. serves_none scheme h source sink n old old (quiet_pair old h (q tt) p);
+        serves = λ t h p l q. inr (record { outside = tt; unstarted = record { unread = refl; unwritten = refl; unasked = refl }; images = quiet_pair old h (q tt) p; clean = λ c. (refl, refl) });
         unstarted = λ some. record { unread = refl; unwritten = refl; unasked = refl };
         refused = λ t. tt;
         exact = λ t f cause not. (record { unread = refl; unwritten = refl; unasked = refl }, record { a = inl refl; b = inl refl });
         faults = record { source_is = inl refl; sink_is = (refl, refl); disks_are = record { a = refl; b = refl } };
+        failures = fails_unread source n;
       })
 
   -- it is opened, and a committer begins with it
@@ -144,12 +153,13 @@ module _ (scheme : Scheme) (tells : Bool) (source : SourceState) (sink : SinkSta
         (ending : LedgerEnding) (last : Handed) → Runs scheme tells (world kept now sink) ending (handed source sink now n) last → IsOfLines ending → RunsAgain scheme tells ending (handed source sink old n) last
     ran_again limits r a b ending last ran started = record {
       serves = λ t h p l q.
-          serves_from scheme h ending source sink n now old last
-          (ran.serves h (subst (λ (x : Kept). Holds tells (world x now sink) h) (sym kept_is) (opened_held tells k in_a generation start blocks old.a.bytes old.b.bytes now sink h opened limits t (r t) p)) (none_waits old.a.bytes.seen old.b.bytes.seen h p) l);
+          inl (serves_from scheme h ending source sink n now old last
+          (ran.serves h (subst (λ (x : Kept). Holds tells (world x now sink) h) (sym kept_is) (opened_held tells k in_a generation start blocks old.a.bytes old.b.bytes now sink h opened limits t (r t) p)) (none_waits old.a.bytes.seen old.b.bytes.seen h p) l));
       unstarted = λ some. absurd (no_refusal ending started some);
       refused = λ t. of_lines ending _ started;
       exact = λ t e cause not. absurd (not (reopened_only k in_a start blocks old.a.bytes old.b.bytes now.a.bytes now.b.bytes e opened.knows (r t) cause));
       faults = faults_from source sink n now old last a b ending ran.faults;
+      failures = ran.failures;
     }
 
 -- ---- a ledger that is made
@@ -226,18 +236,21 @@ module _ (genesis : Genesis) (tells : Bool) (source : SourceState) (sink : SinkS
     unstarted = λ some. unstarted scheme tells source sink n old now;
     left = λ t o. (unstarted scheme tells source sink n old now, stayed t o);
     faults = counts_ended source sink n old now open_err.DiskFault counts;
+    failures = fails_unread source n;
   }
   not_run scheme open_err.NoMemory why exists same counts = record {
     serves = λ t none l. inr (record { outside = tt; unstarted = unstarted scheme tells source sink n old now; images = images t });
     unstarted = λ some. unstarted scheme tells source sink n old now;
     left = λ t o. (unstarted scheme tells source sink n old now, stayed t o);
     faults = counts_ended source sink n old now open_err.NoMemory counts;
+    failures = fails_unread source n;
   }
   not_run scheme open_err.Exists why exists same counts = record {
     serves = λ t none l. absurd (none_open old.a.bytes old.b.bytes none.0 none.1 (exists refl t));
     unstarted = λ some. unstarted scheme tells source sink n old now;
     left = λ t o. (unstarted scheme tells source sink n old now, settled_now (same (λ is. let no : ⊥ = cc is in no)) t);
     faults = counts_ended source sink n old now open_err.Exists counts;
+    failures = fails_unread source n;
   }
   not_run scheme (open_err.Damaged damage) (inl why) exists same counts = absurd why
   not_run scheme (open_err.Damaged damage) (inr is) exists same counts = absurd (let no : ⊥ = cc is in no)
@@ -315,6 +328,7 @@ module _ (genesis : Genesis) (tells : Bool) (source : SourceState) (sink : SinkS
         unstarted = λ some. absurd (no_refusal ending started some);
         left = λ t o. never t o;
         faults = faults_from source sink n now old last a b ending ran.faults;
+        failures = ran.failures;
       }
 
 -- the line that tells a new ledger

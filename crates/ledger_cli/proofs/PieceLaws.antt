@@ -1,9 +1,9 @@
 -- Lemmas on the lines of a piece, as they are offered to a committer.
 use Rattle.std.specs.Prelude.{◌||◌}
 use Rattle.std.specs.Option.{option_map}
-use Rattle.std.proofs.Common.{◌≡◌, ℕ, ◌≤◌, ◌⊎◌, Bool, true, cond, List, [], ◌∷◌, ◌++◌, length, drop, map, Option, None, Some, inl, inr, refl, ap, sym, subst, ◌∙◌, arith, append_assoc, append-nil}
+use Rattle.std.proofs.Common.{◌≡◌, ℕ, ◌+◌, ◌≤◌, ◌⊎◌, Bool, true, cond, List, [], ◌∷◌, ◌++◌, length, drop, map, Option, None, Some, inl, inr, refl, ap, sym, subst, ◌∙◌, arith, append_assoc, append-nil, length-append}
 use Rattle.std.proofs.lemmas.List.{map-append}
-use Rattle.batch_committer.specs.Attending.{step_in, Attended, Takes, EndsAt, EndsUnasked, EndsTaking}
+use Rattle.batch_committer.specs.Attending.{step_in, Attended, FailsAtMostOnce, Takes, EndsAt, EndsUnasked, EndsTaking}
 use Rattle.batch_committer.specs.World.{Keeps, Holds, HasRoom, Goes, Ended}
 use Rattle.batch_committer.specs.declared.end.End.{End}
 use Rattle.batch_committer.specs.declared.end.End.TheVariants as end
@@ -41,6 +41,8 @@ use Rattle.ledger_model.proofs.GrowLaws.{close_none, close_settled, grows_job, g
 use Rattle.ledger_model.proofs.LawfulLaws.{some_journal}
 use Rattle.ledger_model.proofs.PreparedLaws.{after_items, dues_of_items, id_kept}
 use Rattle.ledger_model.proofs.TookLaws.{took_then}
+use Rattle.ledger_cli.specs.Failures.{FailsIn}
+use Rattle.ledger_cli.proofs.FailureLaws.{fails_none, fails_once, fails_then, fails_wider, order_few}
 use Rattle.ledger_cli.specs.Pieces.{At, world_at, IsOpen, TakesAll, TakesSome, TakesBy, TakesPiece, Told, Answered, PieceTaken, PieceBroken, WindowTaken, WindowBroken}
 
 -- ---- a chain of values is one of what they tell
@@ -169,6 +171,7 @@ module _ (scheme : Scheme) (key : List ℕ) (tells : Bool) where
     said : map said_by steps ≡ xs
     goes : Goes tells (world_at s.at) (jobs_after steps) (jobs_due steps) (world_at t.at)
     took : (h : History) → Holds tells (world_at s.at) h → IsKnown key h → Took scheme h s.at.notary steps t.at.notary
+    fails : FailsIn (length xs) s.at.notary t.at.notary
     still : IsOpen tells t.at
 
   took_on : (h : History) (n m t : NotaryState) (step : Step) (steps : List Step) → IsKnown key h → step.before ≡ n.entries
@@ -182,12 +185,12 @@ module _ (scheme : Scheme) (key : List ℕ) (tells : Bool) where
 
   chain_goes : (s : Told) (xs : List Said) (t : Told) → IsOpen tells s.at → lanes.Goes (OffersLine scheme key (Answered tells)) s xs t → Came s xs t
   unfolding lanes.Goes
-  chain_goes s [] t open_ g = subst (Came s []) (sym g) (record { names = refl; end = refl; steps = []; said = refl; goes = goes_same tells (world_at s.at); took = λ h p k. refl; still = open_ })
+  chain_goes s [] t open_ g = subst (Came s []) (sym g) (record { names = refl; end = refl; steps = []; said = refl; goes = goes_same tells (world_at s.at); took = λ h p k. refl; fails = fails_none s.at.notary; still = open_ })
   chain_goes s (x ∷ xs) t open_ g =
       let m = g.0 in
       let o = g.1 in
       let more = chain_goes m xs t o.2.2 g.2 in
-      let one = item_goes s.at m.at x o.0 o.1 o.2.3 in record {
+      let one = item_goes s.at m.at x o.0 o.1 o.2.4 in record {
         names = more.names ∙ o.2.0;
         end = more.end ∙ o.2.1;
         steps = one.step ∷ more.steps;
@@ -197,6 +200,7 @@ module _ (scheme : Scheme) (key : List ℕ) (tells : Bool) where
             let a = one.attended h p in
             took_on h s.at.notary m.at.notary t.at.notary one.step more.steps k one.before a.0 a.1
             (more.took (jobs_after (one.step ∷ []) h) (one.goes.holds h p) (known_on key h one.step (job_of scheme key one.step.line) k));
+        fails = fails_wider (1 + length xs) (length (x ∷ xs)) s.at.notary t.at.notary (omega arith) (fails_then 1 (length xs) s.at.notary m.at.notary t.at.notary (fails_once s.at.notary m.at.notary o.2.3) more.fails);
         still = more.still;
       }
 
@@ -217,6 +221,12 @@ module _ (scheme : Scheme) (key : List ℕ) (tells : Bool) where
     split : xs ≡ map said_by steps ++ rest
     ended : Ended tells (world_at s.at) (jobs_after steps) (jobs_due steps) why (world_at t.at) ⊎ StopsAtAnchor s steps rest why t
     took : (h : History) → Holds tells (world_at s.at) h → IsKnown key h → Took scheme h s.at.notary steps t.at.notary
+    fails : FailsIn (length xs) s.at.notary t.at.notary
+
+  -- one item more
+  fails_on : (s m t : Told) (xs : List Said) (x : Said) (rest : List Said) → Came s xs m → FailsAtMostOnce m.at.notary t.at.notary → FailsIn (length (xs ++ x ∷ rest)) s.at.notary t.at.notary
+  fails_on s m t xs x rest c once =
+      fails_wider (length xs + 1) (length (xs ++ x ∷ rest)) s.at.notary t.at.notary (let l = length-append xs (x ∷ rest) in omega (arith, l)) (fails_then (length xs) 1 s.at.notary m.at.notary t.at.notary c.fails (fails_once m.at.notary t.at.notary once))
 
   known_after : (steps : List Step) (h : History) → IsKnown key h → IsKnown key (jobs_after steps h)
   known_after [] h k = k
@@ -227,8 +237,8 @@ module _ (scheme : Scheme) (key : List ℕ) (tells : Bool) where
   steps_as steps h k = after_items scheme key h steps k.0 k.1
 
   -- the last item was taken, and its call ended the run
-  stops_there : (s m t : Told) (xs : List Said) (x : Said) (rest : List Said) (why : End) → Came s xs m → t.names ≡ m.names → t.end ≡ Some why → ItemEnds m.at t.at x why → CameToEnd s (xs ++ x ∷ rest) t
-  stops_there s m t xs x rest why c names end_is one =
+  stops_there : (s m t : Told) (xs : List Said) (x : Said) (rest : List Said) (why : End) → Came s xs m → t.names ≡ m.names → t.end ≡ Some why → FailsAtMostOnce m.at.notary t.at.notary → ItemEnds m.at t.at x why → CameToEnd s (xs ++ x ∷ rest) t
+  stops_there s m t xs x rest why c names end_is once one =
       let last : List Step = one.step ∷ [] in record {
         names = names ∙ c.names;
         why = why;
@@ -246,11 +256,12 @@ module _ (scheme : Scheme) (key : List ℕ) (tells : Bool) where
             took_then scheme h s.at.notary m.at.notary t.at.notary c.steps last (c.took h p k)
             (subst (λ (i : History). Took scheme i m.at.notary last t.at.notary) (steps_as c.steps h k)
             (one.took (jobs_after c.steps h) (c.goes.holds h p) (known_after c.steps h k)));
+        fails = fails_on s m t xs x rest c once;
       }
 
   -- .. or it wasn't: the notary wasn't asked
-  stops_before : (s m t : Told) (xs : List Said) (x : Said) (rest : List Said) (why : End) → Came s xs m → t.names ≡ m.names → t.end ≡ Some why → ItemUnasked m.at t.at x why → CameToEnd s (xs ++ x ∷ rest) t
-  stops_before s m t xs x rest why c names end_is one = record {
+  stops_before : (s m t : Told) (xs : List Said) (x : Said) (rest : List Said) (why : End) → Came s xs m → t.names ≡ m.names → t.end ≡ Some why → FailsAtMostOnce m.at.notary t.at.notary → ItemUnasked m.at t.at x why → CameToEnd s (xs ++ x ∷ rest) t
+  stops_before s m t xs x rest why c names end_is once one = record {
     names = names ∙ c.names;
     why = why;
     end = end_is;
@@ -268,16 +279,17 @@ module _ (scheme : Scheme) (key : List ℕ) (tells : Bool) where
           (ended_then tells (world_at s.at) (world_at m.at) (world_at t.at) (jobs_after c.steps) close (jobs_due c.steps) (λ h. []) why c.goes one.ended);
     });
     took = λ h p k. subst (λ (n : NotaryState). Took scheme h s.at.notary c.steps n) (sym one.same) (c.took h p k);
+    fails = fails_on s m t xs x rest c once;
   }
 
   chain_stops : (s : Told) (xs : List Said) (t : Told) → IsOpen tells s.at → Stops (OffersLine scheme key (Answered tells)) s xs t → CameToEnd s xs t
   chain_stops s xs t open_ g =
       let c = chain_goes s g.front g.mid open_ g.goes in
       let o = g.stops in
-      let why = o.2.1.0 in
-      subst (λ (l : List Said). CameToEnd s l t) (sym g.split) (elim (item_ended g.mid.at t.at g.last o.0 why o.1 o.2.1.2) [
-        | inl one ↦ stops_there s g.mid t g.front g.last g.rest why c o.2.0 o.2.1.1 one
-        | inr one ↦ stops_before s g.mid t g.front g.last g.rest why c o.2.0 o.2.1.1 one
+      let why = o.2.2.0 in
+      subst (λ (l : List Said). CameToEnd s l t) (sym g.split) (elim (item_ended g.mid.at t.at g.last o.0 why o.1 o.2.2.2) [
+        | inl one ↦ stops_there s g.mid t g.front g.last g.rest why c o.2.0 o.2.2.1 o.2.1 one
+        | inr one ↦ stops_before s g.mid t g.front g.last g.rest why c o.2.0 o.2.2.1 o.2.1 one
       ])
 
   -- nothing more is offered for want of memory
@@ -322,6 +334,7 @@ module _ {S : Type 0} (tell : S → Told) (scheme : Scheme) (key : List ℕ) (te
     said = c.said;
     goes = steps_go scheme key tells (tell s).at key_is open_.room c.steps (tell t).at c.goes;
     took = λ h p. c.took h p (known scheme key tells (tell s).at key_is open_.room h p);
+    fails = c.fails;
     still = c.still;
   }
 
@@ -341,6 +354,7 @@ module _ {S : Type 0} (tell : S → Told) (scheme : Scheme) (key : List ℕ) (te
       })
     ];
     took = λ h p. c.took h p (known scheme key tells (tell s).at key_is open_.room h p);
+    fails = c.fails;
   }
 
   pub ran_all : (tell s).end ≡ None → RunsAll (OffersLine scheme key (λ s item f t. Answered tells (tell s) item f (tell t))) first lines s t
@@ -373,6 +387,7 @@ module _ {S : Type 0} (tell : S → Told) (scheme : Scheme) (key : List ℕ) (te
             split = g.split ∙ ap (λ (l : List Said). l ++ g.rest) (sym c.said);
             ended = inl (steps_end scheme key tells (tell s).at key_is open_.room c.steps end.NoMemory (tell t).at (lacks scheme key tells (tell s).at c.steps (tell t).at c.goes));
             took = λ h p. c.took h p (known scheme key tells (tell s).at key_is open_.room h p);
+            fails = fails_wider (length g.front) (length r.order) (tell s).at.notary (tell t).at.notary (let e = ap length g.split in let l = length-append g.front g.rest in omega (arith, e, l)) c.fails;
           },
         ),
       )
@@ -384,7 +399,7 @@ module _ (scheme : Scheme) (tells : Bool) (got first : List ℕ) (items lines : 
   unfolding TakesPiece
   piece_taken x =
       subst (λ (y : List ℕ × List LaneLine). PieceTaken scheme tells y.0 y.1 s t) (λ i. (first_is i, lines_are i))
-      (record { steps = x.2.steps; is_order = subst (λ (l : List Said). IsOrderOf got items l) (sym x.2.said) x.1; goes = x.2.goes; took = x.2.took })
+      (record { steps = x.2.steps; is_order = subst (λ (l : List Said). IsOrderOf got items l) (sym x.2.said) x.1; goes = x.2.goes; took = x.2.took; fails = fails_wider (length x.0) (length items) s.notary t.notary (order_few got items x.0 x.1) x.2.fails })
 
   pub piece_open : TakesPiece scheme tells got items None s t → IsOpen tells t
   unfolding TakesPiece
@@ -394,7 +409,7 @@ module _ (scheme : Scheme) (tells : Bool) (got first : List ℕ) (items lines : 
   unfolding TakesPiece
   piece_broken why x =
       subst (λ (y : List ℕ × List LaneLine). PieceBroken scheme tells y.0 y.1 why s t) (λ i. (first_is i, lines_are i))
-      (record { steps = x.2.steps; rest = x.2.rest; is_order = subst (λ (l : List Said). IsOrderOf got items l) x.2.split x.1; ended = x.2.ended; took = x.2.took })
+      (record { steps = x.2.steps; rest = x.2.rest; is_order = subst (λ (l : List Said). IsOrderOf got items l) x.2.split x.1; ended = x.2.ended; took = x.2.took; fails = fails_wider (length x.0) (length items) s.notary t.notary (order_few got items x.0 x.1) x.2.fails })
 
 -- no line at all
 pub piece_empty : (scheme : Scheme) (tells : Bool) (first : List ℕ) (lines : List LaneLine) (s : At) → lines ≡ [] → PieceTaken scheme tells first lines s s
@@ -404,11 +419,15 @@ piece_empty scheme tells first lines s none = record {
   is_order = λ k. sym (ap (λ (ls : List LaneLine). numbered (slice_index first k) (lines_of k ls)) none);
   goes = goes_same tells (world_at s);
   took = λ h p. refl;
+  fails = fails_wider 0 (length lines) s.notary s.notary (omega arith) (fails_none s.notary);
 }
 
 module _ (scheme : Scheme) (tells : Bool) (first : List ℕ) (lines : List LaneLine) (s m t : At) (same : t.notary ≡ m.notary) (x : PieceTaken scheme tells first lines s m) where
   took_same : (h : History) → Holds tells (world_at s) h → Took scheme h s.notary x.steps t.notary
   took_same h p = subst (λ (n : NotaryState). Took scheme h s.notary x.steps n) (sym same) (x.took h p)
+
+  fails_same : FailsIn (length lines) s.notary t.notary
+  fails_same = subst (FailsIn (length lines) s.notary) (sym same) x.fails
 
   pub window_taken : Goes tells (world_at m) close (λ h. []) (world_at t) → WindowTaken scheme tells first lines s t
   window_taken f = record {
@@ -419,6 +438,7 @@ module _ (scheme : Scheme) (tells : Bool) (first : List ℕ) (lines : List LaneL
         (λ h p. refl) (λ h p. append-nil (dues scheme h x.steps))
         (goes_then tells (world_at s) (world_at m) (world_at t) (λ h. after_steps scheme h x.steps) close (λ h. dues scheme h x.steps) (λ h. []) x.goes f);
     took = took_same;
+    fails = fails_same;
   }
 
   pub flush_broken : (why : End) → Ended tells (world_at m) close (λ h. []) why (world_at t) → WindowBroken scheme tells first lines why s t
@@ -430,4 +450,5 @@ module _ (scheme : Scheme) (tells : Bool) (first : List ℕ) (lines : List LaneL
         (λ h p. refl) (λ h p. append-nil (dues scheme h x.steps))
         (ended_then tells (world_at s) (world_at m) (world_at t) (λ h. after_steps scheme h x.steps) close (λ h. dues scheme h x.steps) (λ h. []) why x.goes f);
     took = took_same;
+    fails = fails_same;
   })

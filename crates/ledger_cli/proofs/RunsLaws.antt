@@ -43,12 +43,15 @@ use Rattle.ledger_cli.specs.Runs.{handed, StopsOn}
 use Rattle.ledger_cli.specs.Session.{Runs}
 use Rattle.ledger_cli.specs.Taken.{taken}
 use Rattle.ledger_cli.specs.declared.ending.LedgerEnding.TheVariants.{Run}
+use Rattle.ledger_cli.specs.Leaving.{AreClean}
+use Rattle.ledger_cli.specs.Failures.{FailsIn, FailsByLines}
+use Rattle.ledger_cli.proofs.FailureLaws.{fails_none, fails_then, fails_wider, fails_read, given_few, given_more}
 use Rattle.ledger_cli.proofs.HaltLaws.{Halts, halts_there, halts_at, stopped, stopped_last, answered}
 use Rattle.ledger_cli.proofs.LineLaws.{reached, owed, reach_on, owe_on, window_on, dues_on}
 use Rattle.ledger_cli.proofs.MergeLaws.{IsOrder, order_append, order_merge, order_same, merges_append, count_more}
 use Rattle.ledger_cli.proofs.NotaryLaws.{TookOn, took_none, took_on, window_took}
 use Rattle.ledger_cli.proofs.OrderLaws.{CanGoOn, part_open, part_whole, last_merge}
-use Rattle.ledger_cli.proofs.StopLaws.{SaidOf}
+use Rattle.ledger_cli.proofs.StopLaws.{CleanBy, SaidOf}
 use Rattle.ledger_cli.proofs.SessionLaws.{few_lines, faults_end, faults_stop, at_most_once, serve_stop, serve_end}
 
 -- ---- the lines that wait to be taken
@@ -147,6 +150,10 @@ pub record SoFar (scheme : Scheme) (tells : Bool) (first_w w : World) (first_n n
   pub few : length piece ≤ lines
   pub goes : Goes tells first_w (reached scheme done current) (owed scheme done current) w
   pub took : (h : History) → Holds tells first_w h → TookOn scheme h first_n done current n
+  -- how many lines were taken, at each of which the notary failed once at most
+  pub tried : ℕ
+  pub tried_are : tried + length piece ≤ length script
+  pub fails : FailsIn tried first_n n
 
 pub sofar_begins : (scheme : Scheme) (tells : Bool) (w : World) (n : NotaryState) (before : SourceState) (reading : Reading) (first next : List ℕ) (piece : List LaneLine) (lines bytes : ℕ)
     → reading ≡ record { held = []; total = 0; ended = false; failed = None } → piece ≡ [] → ((k : ℕ) → k < 8 → slice_index first k ≡ 1) → ((k : ℕ) → k < 8 → slice_index next k ≡ 1) → lines ≡ 0 → bytes ≡ 0
@@ -173,6 +180,9 @@ sofar_begins scheme tells w n before reading first next piece lines bytes is non
   few = let e = ap length none in omega (arith, e);
   goes = goes_same tells w;
   took = λ h p. took_none scheme h n;
+  tried = 0;
+  tried_are = let e = ap length none in omega (arith, e);
+  fails = fails_none n;
 }
 
 -- ---- lines that are taken, and ends
@@ -260,7 +270,7 @@ with_order front late current part o p k =
 
 -- what is known of a text is told of it
 stop_as : (scheme : Scheme) (h : History) (part : List ℕ) (disks : Pair) (first_n n : NotaryState) (why : End) (lines : List (List ℕ)) (IsSo : List ℕ → Type 0) → ((whole : List ℕ) → SaidOf why part whole → IsSo whole)
-    → SomeAnswer (StopsOn scheme h part disks first_n n (SaidOf why part)) lines (SaidOf why part) → SomeAnswer (StopsOn scheme h part disks first_n n IsSo) lines IsSo
+    → SomeAnswer (StopsOn scheme h part disks first_n n (CleanBy why h part) (SaidOf why part)) lines (SaidOf why part) → SomeAnswer (StopsOn scheme h part disks first_n n (CleanBy why h part) IsSo) lines IsSo
 stop_as scheme h part disks first_n n why lines IsSo so a =
     let s = a.1 in (
       a.0,
@@ -272,6 +282,7 @@ stop_as scheme h part disks first_n n why lines IsSo so a =
         written = so (text scheme h (taken s.took.done s.took.now)) s.written;
         images = s.images;
         proofs = s.proofs;
+        heads = s.heads;
         images_taken = s.images_taken;
       },
       so a.0 a.2,
@@ -279,16 +290,17 @@ stop_as scheme h part disks first_n n why lines IsSo so a =
 
 halt : (scheme : Scheme) (tells : Bool) (first_w : World) (first_n n : NotaryState) (before now : SourceState) (reading : Reading) (script : List (List ℕ)) (input : HasGiven before now reading script) (done : List (List Step)) (current : List Step)
     → ((h : History) → Holds tells first_w h → TookOn scheme h first_n done current n)
-    → HasRoom first_w.kept → first_w.kept.dues ≡ [] → (rest : List Said) (why : End) (t : World) (x : Halts scheme tells first_w n done current rest why t) → CanGoOn n script done (current ++ x.behind)
+    → HasRoom first_w.kept → first_w.kept.dues ≡ [] → (rest : List Said) (why : End) (t : World) (x : Halts scheme tells first_w n done current rest why t) → CanGoOn n script done (current ++ x.behind) → FailsIn (length script) first_n n
     → Runs scheme tells first_w (ending_of_end why) (handed before first_w.sink first_w.disks first_n) (handed now t.sink t.disks n)
-halt scheme tells first_w first_n n before now reading script input done current took room no_dues rest why t x can =
+halt scheme tells first_w first_n n before now reading script input done current took room no_dues rest why t x can fails =
     let all = x.ended in record {
       serves = λ h p none list.
           let stop = stopped scheme tells first_w h p room none no_dues first_n list script (few_lines before now reading script input) done current n rest why t x can (took h p) in
           let here = stop [] in
           serve_stop scheme h why first_w t before now first_n n all.part input.read all.cause input.consumed all.appended here.0 here.2
-          (λ IsSo so. some_of_given (StopsOn scheme h all.part t.disks first_n n IsSo) before now reading script input IsSo (λ tail. stop_as scheme h all.part t.disks first_n n why (script ++ tail) IsSo so (stop tail)));
+          (λ IsSo so. some_of_given (StopsOn scheme h all.part t.disks first_n n (CleanBy why h all.part) IsSo) before now reading script input IsSo (λ tail. stop_as scheme h all.part t.disks first_n n why (script ++ tail) IsSo so (stop tail)));
       faults = faults_stop why first_w t before now first_n n (inl input.faults) all.cause;
+      failures = fails_read before now first_n n (length script) input.read input.consumed (given_few before now reading script input) fails;
     }
 
 -- the script with a line that isn't taken
@@ -323,6 +335,16 @@ module _ (scheme : Scheme) (tells : Bool) (first_w w : World) (first_n n : Notar
     took_here : (h : History) → Holds tells first_w h → TookOn scheme h first_n s.done s.current held.notary
     took_here h p = subst (TookOn scheme h first_n s.done s.current) (sym same_n) (s.took h p)
 
+    fails_here : FailsIn s.tried first_n held.notary
+    fails_here = subst (FailsIn s.tried first_n) (sym same_n) s.fails
+
+    -- with as many lines more as wait
+    fails_to : (t : At) (more : ℕ) → FailsIn more held.notary t.notary → FailsIn (s.tried + more) first_n t.notary
+    fails_to t more f = fails_then s.tried more first_n held.notary t.notary fails_here f
+
+    fails_all : (t : At) → FailsIn (length piece) held.notary t.notary → FailsIn (length s.script) first_n t.notary
+    fails_all t f = fails_wider (s.tried + length piece) (length s.script) first_n t.notary s.tried_are (fails_to t (length piece) f)
+
   -- ---- a piece
 
   -- its lines were taken
@@ -345,6 +367,9 @@ module _ (scheme : Scheme) (tells : Bool) (first_w w : World) (first_n n : Notar
     few = let e = ap length none in omega (arith, e);
     goes = go_on scheme tells first_w (world_at held) (world_at t) s.done s.current x.steps (goes_here held same same_n) x.goes;
     took = take_on scheme tells first_w (world_at held) first_n held.notary t.notary s.done s.current x.steps (goes_here held same same_n) (took_here held same same_n) x.took;
+    tried = s.tried + length piece;
+    tried_are = let e = ap length none in let l = s.tried_are in omega (arith, e, l);
+    fails = fails_to held same same_n t (length piece) x.fails;
   }
 
   -- .. or the run ended on the way
@@ -357,7 +382,7 @@ module _ (scheme : Scheme) (tells : Bool) (first_w w : World) (first_n n : Notar
       halt scheme tells first_w first_n t.notary before now reading s.script s.input s.done (s.current ++ x.steps)
       (take_on scheme tells first_w (world_at held) first_n held.notary t.notary s.done s.current x.steps (goes_here held same same_n) (took_here held same same_n) x.took)
       room no_dues x.rest why (world_at t) broken
-      (part_open t.notary s.script s.windows_are s.front s.done ((s.current ++ x.steps) ++ broken.behind) broken.later s.cut s.merge (with_behind s.front (s.current ++ x.steps) broken.behind x.rest broken.later broken.split order))
+      (part_open t.notary s.script s.windows_are s.front s.done ((s.current ++ x.steps) ++ broken.behind) broken.later s.cut s.merge (with_behind s.front (s.current ++ x.steps) broken.behind x.rest broken.later broken.split order)) (fails_all held same same_n t x.fails)
 
   -- the numbers of lanes fit
   pub few_numbers : (k : ℕ) → k < 8 → (slice_index first k + length (lines_of k piece) < 2 ^ 64) × (slice_index next k + 1 < 2 ^ 64)
@@ -388,6 +413,9 @@ module _ (scheme : Scheme) (tells : Bool) (first_w w : World) (first_n n : Notar
       there : (h : History) → Holds tells first_w h → TookOn scheme h first_n s.done s.current held.notary
       there = took_here held same same_n
 
+      failures_read : (t : At) → FailsIn (length piece) held.notary t.notary → FailsByLines before after_read first_n t.notary
+      failures_read t f = fails_read before after_read first_n t.notary (length s.script) read consumed (given_more before now reading s.script s.input bytes) (fails_all held same same_n t f)
+
       last_order : (steps : List Step) → IsOrderOf first piece (map said_by steps) → IsOrder s.front (map said_by (s.current ++ steps))
       last_order steps o = with_order s.front s.late s.current steps s.order (late_taken first next piece s.script s.late (map said_by steps) s.are_late o)
 
@@ -401,6 +429,7 @@ module _ (scheme : Scheme) (tells : Bool) (first_w w : World) (first_n n : Notar
                 (answered scheme tells first_w h p room none no_dues first_n list s.script few_here s.done now_taken t.notary (last_merge s.script s.windows_are s.front s.done now_taken s.cut s.merge (last_order x.steps x.is_order))
                 (take_on scheme tells first_w (world_at held) first_n held.notary t.notary s.done s.current x.steps here there x.took h p) (world_at t) all no_more);
             faults = faults_end end (handed before first_w.sink first_w.disks first_n) (handed after_read t.sink t.disks t.notary) read s.script e all.no_fault.a all.no_fault.b all.no_fault.sink;
+            failures = failures_read t x.fails;
           }
         where
           whole_end : (t : At) (x : WindowTaken scheme tells first piece held t) → Goes tells first_w (λ k. close (reached scheme s.done (s.current ++ x.steps) k)) (λ k. owed scheme s.done (s.current ++ x.steps) k ++ []) (world_at t)
@@ -419,12 +448,13 @@ module _ (scheme : Scheme) (tells : Bool) (first_w w : World) (first_n n : Notar
           let order = with_rest s.front s.late s.current x.steps x.rest s.order taken in
           let can = part_open t.notary s.script s.windows_are s.front s.done ((s.current ++ x.steps) ++ broken.behind) broken.later s.cut s.merge (with_behind s.front (s.current ++ x.steps) broken.behind x.rest broken.later broken.split order) in record {
             serves = λ h p none list.
-                let stop = subst (λ l. SomeAnswer (StopsOn scheme h all.part t.disks first_n t.notary (SaidOf why all.part)) l (SaidOf why all.part)) (append-nil s.script)
+                let stop = subst (λ l. SomeAnswer (StopsOn scheme h all.part t.disks first_n t.notary (CleanBy why h all.part) (SaidOf why all.part)) l (SaidOf why all.part)) (append-nil s.script)
                 (stopped scheme tells first_w h p room none no_dues first_n list s.script few_here s.done (s.current ++ x.steps) t.notary x.rest why (world_at t) broken can
                 (take_on scheme tells first_w (world_at held) first_n held.notary t.notary s.done s.current x.steps here there x.took h p) []) in
                 serve_stop scheme h why first_w (world_at t) before after_read first_n t.notary all.part read all.cause consumed all.appended stop.0 stop.2
                 (λ IsSo so. inr (end, s.script, e, stop_as scheme h all.part t.disks first_n t.notary why s.script IsSo so stop));
             faults = faults_stop why first_w (world_at t) before after_read first_n t.notary (at_most_once end before after_read read s.script e) all.cause;
+            failures = failures_read t x.fails;
           }
       ran_cut t why (inr x) =
           let now_taken = s.current ++ x.steps in
@@ -439,6 +469,7 @@ module _ (scheme : Scheme) (tells : Bool) (first_w w : World) (first_n n : Notar
                 serve_stop scheme h why first_w (world_at t) before after_read first_n t.notary all.part read all.cause consumed all.appended stop.0 stop.2
                 (λ IsSo so. inr (end, s.script, e, stop_as scheme h all.part t.disks first_n t.notary why s.script IsSo so stop));
             faults = faults_stop why first_w (world_at t) before after_read first_n t.notary (at_most_once end before after_read read s.script e) all.cause;
+            failures = failures_read t x.fails;
           }
 
     pub ends_whole : after_read.faults ≡ now.faults → GivesNone now after_read reading new bytes → EndsReading None before after_read read s.script
@@ -462,8 +493,9 @@ module _ (scheme : Scheme) (tells : Bool) (first_w w : World) (first_n n : Notar
                     let stop = stopped scheme tells first_w h p room none no_dues first_n list s.script few_here s.done s.current n s.late end.NoMemory w lacks_here can_here (s.took h p) in
                     let here = stop [] in
                     serve_stop scheme h end.NoMemory first_w w before after_read first_n n all.part read all.cause consumed all.appended here.0 here.2
-                    (λ IsSo so. some_at_failure before now after_read reading new bytes s.script s.input r (StopsOn scheme h all.part w.disks first_n n IsSo) IsSo k f (λ tail. stop_as scheme h all.part w.disks first_n n end.NoMemory (s.script ++ tail) IsSo so (stop tail)));
+                    (λ IsSo so. some_at_failure before now after_read reading new bytes s.script s.input r (StopsOn scheme h all.part w.disks first_n n AreClean IsSo) IsSo k f (λ tail. stop_as scheme h all.part w.disks first_n n end.NoMemory (s.script ++ tail) IsSo so (stop tail)));
                 faults = faults_stop end.NoMemory first_w w before after_read first_n n (inl (k ∙ s.input.faults)) all.cause;
+                failures = fails_read before after_read first_n n s.tried read consumed (let f = given_more before now reading s.script s.input bytes in let l = s.tried_are in omega (arith, f, l)) s.fails;
               }
         ]
 
@@ -484,7 +516,7 @@ module _ (scheme : Scheme) (tells : Bool) (first_w w : World) (first_n n : Notar
 
       -- .. for which there is no memory
       pub ran_lacking : Runs scheme tells first_w (Run run.NoMemory) (handed before first_w.sink first_w.disks first_n) (handed after_read w.sink w.disks n)
-      ran_lacking = halt scheme tells first_w first_n n before after_read new script_now more s.done s.current s.took room no_dues s.late end.NoMemory w lacks_here (can_later n s.script line s.done (s.current ++ lacks_here.behind) can_here)
+      ran_lacking = halt scheme tells first_w first_n n before after_read new script_now more s.done s.current s.took room no_dues s.late end.NoMemory w lacks_here (can_later n s.script line s.done (s.current ++ lacks_here.behind) can_here) (fails_wider s.tried (length script_now) first_n n (let l = s.tried_are in let e = length-append s.script (line ∷ []) in omega (arith, l, e)) s.fails)
 
       order_now : IsOrder (s.front ++ x ∷ []) (map said_by s.current ++ (s.late ++ x ∷ []))
       order_now = subst (IsOrder (s.front ++ x ∷ [])) (append_assoc (map said_by s.current) s.late (x ∷ [])) (order_append s.front (x ∷ []) (map said_by s.current ++ s.late) (x ∷ []) s.order (order_same (x ∷ [])))
@@ -516,6 +548,9 @@ module _ (scheme : Scheme) (tells : Bool) (first_w w : World) (first_n n : Notar
           few = (let a = ap length p in let b = length-append piece (l ∷ []) in let c = s.few in omega (arith, a, b, c, lines_now));
           goes = s.goes;
           took = s.took;
+          tried = s.tried;
+          tried_are = (let a = ap length p in let b = length-append piece (l ∷ []) in let c = length-append s.script (line ∷ []) in let d = s.tried_are in omega (arith, a, b, c, d));
+          fails = s.fails;
         }
 
         -- the numbers of lanes fit with it
@@ -532,6 +567,12 @@ module _ (scheme : Scheme) (tells : Bool) (first_w w : World) (first_n n : Notar
         module _ (e : fills_window (lines + 1) (window_bytes + length line) ≡ true) (held : At) (same : world_at held ≡ w) (same_n : held.notary ≡ n) (new_piece : List LaneLine) (p : new_piece ≡ piece ++ l ∷ []) where
           cut_now : IsCut (said_lines script_now) (s.windows_are ++ (s.front ++ x ∷ []) ∷ []) []
           cut_now = subst (λ xs. IsCut xs (s.windows_are ++ (s.front ++ x ∷ []) ∷ []) []) (sym said_now) (cut_whole (said_lines s.script) s.windows_are s.front x s.cut (full_is true e))
+
+          few_now : s.tried + length new_piece ≤ length script_now
+          few_now = let a = ap length p in let b = length-append piece (l ∷ []) in let c = length-append s.script (line ∷ []) in let d = s.tried_are in omega (arith, a, b, c, d)
+
+          fails_now : (t : At) → FailsIn (length new_piece) held.notary t.notary → FailsIn (length script_now) first_n t.notary
+          fails_now t f = fails_wider (s.tried + length new_piece) (length script_now) first_n t.notary few_now (fails_to held same same_n t (length new_piece) f)
 
           taken_now : (order : List Said) → IsOrderOf first new_piece order → IsOrder (s.late ++ x ∷ []) order
           taken_now order o = late_taken first new_next new_piece script_now (s.late ++ x ∷ []) order (subst (λ y. AreLate first new_next y script_now (s.late ++ x ∷ [])) (sym p) late_now) o
@@ -560,6 +601,9 @@ module _ (scheme : Scheme) (tells : Bool) (first_w w : World) (first_n n : Notar
             few = let d = ap length none in omega (arith, d);
             goes = end_on scheme tells first_w (world_at held) (world_at t) s.done s.current y.steps (goes_here held same same_n) y.goes;
             took = λ h q. window_took scheme h first_n s.done (s.current ++ y.steps) t.notary (take_on scheme tells first_w (world_at held) first_n held.notary t.notary s.done s.current y.steps (goes_here held same same_n) (took_here held same same_n) y.took h q);
+            tried = s.tried + length new_piece;
+            tried_are = let e = ap length none in let a = few_now in omega (arith, e, a);
+            fails = fails_to held same same_n t (length new_piece) y.fails;
           }
 
           pub ran_unended : (t : At) (why : End) → WindowBroken scheme tells first new_piece why held t → Runs scheme tells first_w (ending_of_end why) (handed before first_w.sink first_w.disks first_n) (handed after_read t.sink t.disks t.notary)
@@ -569,11 +613,11 @@ module _ (scheme : Scheme) (tells : Bool) (first_w w : World) (first_n n : Notar
               halt scheme tells first_w first_n t.notary before after_read new script_now more s.done (s.current ++ y.steps)
               (take_on scheme tells first_w (world_at held) first_n held.notary t.notary s.done s.current y.steps (goes_here held same same_n) (took_here held same same_n) y.took)
               room no_dues y.rest why (world_at t) broken
-              (part_whole t.notary script_now s.windows_are (s.front ++ x ∷ []) s.done ((s.current ++ y.steps) ++ broken.behind) broken.later cut_now s.merge (with_behind (s.front ++ x ∷ []) (s.current ++ y.steps) broken.behind y.rest broken.later broken.split order))
+              (part_whole t.notary script_now s.windows_are (s.front ++ x ∷ []) s.done ((s.current ++ y.steps) ++ broken.behind) broken.later cut_now s.merge (with_behind (s.front ++ x ∷ []) (s.current ++ y.steps) broken.behind y.rest broken.later broken.split order)) (fails_now t y.fails)
           ran_unended t why (inr y) =
               let whole = s.done ++ (s.current ++ y.steps) ∷ [] in
               let stays = halts_there scheme tells first_w t.notary whole [] [] why (world_at t) (unend_on scheme tells first_w (world_at held) (world_at t) s.done s.current y.steps (goes_here held same same_n) why y.ended) in
               halt scheme tells first_w first_n t.notary before after_read new script_now more whole []
               (λ h q. window_took scheme h first_n s.done (s.current ++ y.steps) t.notary (take_on scheme tells first_w (world_at held) first_n held.notary t.notary s.done s.current y.steps (goes_here held same same_n) (took_here held same same_n) y.took h q))
               room no_dues [] why (world_at t) stays
-              (part_open t.notary script_now (s.windows_are ++ (s.front ++ x ∷ []) ∷ []) [] whole ([] ++ stays.behind) stays.later cut_now (merge_now y.steps y.is_order) (with_behind [] [] stays.behind [] stays.later stays.split (order_same [])))
+              (part_open t.notary script_now (s.windows_are ++ (s.front ++ x ∷ []) ∷ []) [] whole ([] ++ stays.behind) stays.later cut_now (merge_now y.steps y.is_order) (with_behind [] [] stays.behind [] stays.later stays.split (order_same []))) (fails_now t y.fails)

@@ -17,7 +17,7 @@ use Rattle.ledger_model.specs.Scheme.{Scheme}
 use Rattle.ledger_cli.specs.Endings.{ending_of_end}
 use Rattle.ledger_cli.specs.Runs.{Handed, handed, FailedAtMostOnce, FaultsBy, AnswersOn, StopsOn, RunsOn}
 use Rattle.ledger_cli.specs.declared.ending.LedgerEnding.TheVariants.{Run}
-use Rattle.ledger_cli.proofs.StopLaws.{SaidOf}
+use Rattle.ledger_cli.proofs.StopLaws.{SaidOf, CleanBy}
 
 -- a script has fewer lines than bytes
 pub few_lines : (before now : SourceState) (reading : Reading) (lines : List (List ℕ)) → HasGiven before now reading lines → length lines < 2 ^ 64
@@ -52,7 +52,7 @@ faults_stop end.Closed w t before now n m once e = absurd e
 -- a stop, by what is known of some text of the script and of what is left
 pub serve_stop : (scheme : Scheme) (h : History) (end : End) (w t : World) (before now : SourceState) (n m : NotaryState) (part read : List ℕ) → EndsBy end w t
     → Consumes before.left now.left read → Appends w.sink.held t.sink.held part → (some : List ℕ) → SaidOf end part some
-    → ((IsSo : List ℕ → Type 0) → ((whole : List ℕ) → SaidOf end part whole → IsSo whole) → SomeOfScript (StopsOn scheme h part t.disks n m IsSo) before now read IsSo)
+    → ((IsSo : List ℕ → Type 0) → ((whole : List ℕ) → SaidOf end part whole → IsSo whole) → SomeOfScript (StopsOn scheme h part t.disks n m (CleanBy end h part) IsSo) before now read IsSo)
     → RunsOn scheme h (ending_of_end end) (handed before w.sink w.disks n) (handed now t.sink t.disks m)
 serve_stop scheme h end.DiskFault w t before now n m part read cause consumed appended some said so = record { read = read; replies = part; consumed = consumed; appended = appended; replied = (said.0, so (Begins part) (λ whole s. s.1)) }
 serve_stop scheme h end.WriteFault w t before now n m part read cause consumed appended some said so = record { read = read; replies = part; consumed = consumed; appended = appended; replied = so (FallsShort part) (λ whole s. s) }

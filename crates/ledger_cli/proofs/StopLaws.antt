@@ -1,17 +1,29 @@
 -- Lemmas on what is left, and what was written, where a call stopped a run.
-use Rattle.std.proofs.Common.{◌≡◌, ℕ, inl, inr, List, [], ◌∷◌, ◌++◌, length, refl, ap, sym, subst, ◌∙◌, arith, append_assoc, append-nil, length-append}
-use Rattle.std.specs.Prelude.{⊤, decimal, codes}
-use Rattle.batch_committer.specs.World.{Pair, Stops, Says}
+use Rattle.std.proofs.Common.{◌≡◌, ℕ, suc, ◌-◌, ◌<◌, inl, inr, List, [], ◌∷◌, ◌++◌, length, take, Option, None, Some, refl, ap, sym, subst, ◌∙◌, arith, append_assoc, append-nil, length-append}
+use Rattle.std.specs.Prelude.{⊤, All, decimal, codes}
+use Rattle.std.proofs.lemmas.List.{length-map}
+use Rattle.std.proofs.lemmas.Option.{slice_get_within}
+use Rattle.std.proofs.lemmas.List.Elements.{All-head, All-tail}
+use Rattle.batch_committer.specs.World.{Pair, Stops, Says, before_last, IsLeftClean}
+use Rattle.journal_record.specs.Entry.{Entry}
+use Rattle.ledger_bytes.specs.Digests.{digest}
+use Rattle.ledger_bytes.specs.declared.digest.Digest.{Digest}
+use Rattle.ledger_open.specs.Erasing.{last_target}
+use Rattle.ledger_open.specs.Standing.{PairFor}
+use Rattle.ledger_open.proofs.ErasingLaws.{nothing_open}
+use Rattle.ledger_open.proofs.PartLaws.{is_alone}
+use Rattle.twin_file.specs.Twin.{open_of}
+use Rattle.ledger_cli.specs.Leaving.{AreClean, AreErased}
 use Rattle.batch_committer.specs.declared.end.End.{End}
 use Rattle.batch_committer.specs.declared.end.End.TheVariants.{DiskFault, WriteFault, NoMemory, Closed}
 use Rattle.batch_committer.proofs.WayLaws.{begins_then}
 use Rattle.ledger_bytes.specs.Begins.{Begins}
 use Rattle.ledger_io.specs.Runs.{FallsShort, AreWhole}
 use Rattle.ledger_io.proofs.RunLaws.{whole_append}
-use Rattle.ledger_model.specs.Dues.{due_line, due_lines, due_replies}
+use Rattle.ledger_model.specs.Dues.{AllIn, digests_of, due_line, due_lines, due_replies}
 use Rattle.ledger_model.specs.Growing.{Grows}
-use Rattle.ledger_model.specs.History.{History}
-use Rattle.ledger_model.specs.Lawful.{IsLawful}
+use Rattle.ledger_model.specs.History.{History, size, journals_of, leaf_digest}
+use Rattle.ledger_model.specs.Lawful.{IsLawful, IsBlock}
 use Rattle.ledger_model.specs.Pegs.{Pegged}
 use Rattle.ledger_model.specs.Texts.{reply_in}
 use Rattle.ledger_model.specs.declared.due.Due.{Due}
@@ -19,7 +31,7 @@ use Rattle.ledger_model.proofs.FitLaws.{fit-first}
 use Rattle.ledger_model.proofs.RunLaws.{due_lines-append}
 use Rattle.ledger_model.proofs.WaitLaws.{begins_closed}
 use Rattle.ledger_model.proofs.WrittenLaws.{receipt_kept_in}
-use Rattle.script_lines.specs.Receipts.{AllFit}
+use Rattle.script_lines.specs.Receipts.{AllFit, IsReceipted}
 use Rattle.script_lines.specs.Replies.{reply_words}
 use Rattle.script_lines.specs.Words.{spaced_words}
 use Rattle.time_peg.specs.Entries.{NotaryState}
@@ -66,9 +78,60 @@ begins_said Closed part lines s = record { rest = []; is = sym s ∙ sym (append
 
 -- ---- what is left
 
+-- so clean are the images that a call leaves which ended the run
+abbrev pub CleanBy : End → History → List ℕ → History → List ℕ → List ℕ → Type 0
+CleanBy DiskFault h part = AreErased h part
+CleanBy WriteFault h part = AreClean
+CleanBy NoMemory h part = AreClean
+CleanBy Closed h part = AreClean
+
+-- blocks before the last one have fewer journals
+blocks_below : (bs : List (List Entry)) → All IsBlock bs → 0 < length bs → length (journals_of (before_last bs)) < length (journals_of bs)
+blocks_below [] all some = absurd (let no : ⊥ = omega (arith, some) in no)
+blocks_below (b ∷ []) all some = let one = All-head IsBlock b [] all in let first = one.some in let l = length-append b [] in omega (arith, first, l)
+blocks_below (b ∷ c ∷ bs) all some =
+    let less = blocks_below (c ∷ bs) (All-tail IsBlock b (c ∷ bs) all) (omega arith) in
+    let is : before_last (b ∷ c ∷ bs) ≡ b ∷ before_last (c ∷ bs) = (let e : length (b ∷ c ∷ bs) - 1 ≡ suc (length (c ∷ bs) - 1) = omega arith in ap (λ n. take n (b ∷ c ∷ bs)) e) in
+    let front = ap (λ (l : List (List Entry)). length (journals_of l)) is ∙ length-append b (journals_of (before_last (c ∷ bs))) in
+    let whole = length-append b (journals_of (c ∷ bs)) in
+    omega (arith, less, front, whole)
+
+below_last : (kept : History) → IsLawful kept → kept.waiting ≡ [] → 0 < length kept.closed → length (journals_of (before_last kept.closed)) < size kept
+below_last kept lawful none some =
+    let less = blocks_below kept.closed lawful.blocks_are some in
+    let l = length-append (journals_of kept.closed) kept.waiting in
+    let e = ap length none in
+    omega (arith, less, l, e)
+
+-- no receipt of the last journal was written where none of its block was begun
+none_written : (f kept : History) (done : List Due) (part rest : List ℕ) → IsLawful kept → kept.waiting ≡ [] → 0 < length kept.closed → part ++ rest ≡ due_lines f done → AllFit (due_replies f done) → AllIn (before_last kept.closed) done
+    → (leaf : Digest) → IsReceipted part (size kept - 1) leaf → ⊥
+none_written f kept done part rest lawful none some is fit all leaf r =
+    let js = journals_of (before_last kept.closed) in
+    let there = slice_get_within (digests_of js) (size kept - 1) leaf (receipt_kept_in f (before_last kept.closed) done part rest (size kept - 1) leaf is fit all r) in
+    let l = length-map js (λ journal. digest (leaf_digest journal)) in
+    let less = below_last kept lawful none some in
+    let no : ⊥ = omega (arith, there, l, less) in
+    no
+
+left_clean : (end : End) (h f kept : History) (done : List Due) (part rest a b : List ℕ) → PairFor a b kept → part ++ rest ≡ due_lines f done → AllFit (due_replies f done) → IsLeftClean end h kept done a b → CleanBy end h part kept a b
+left_clean DiskFault h f kept done part rest a b stands is fit (inl erased) = inl erased
+left_clean DiskFault h f kept done part rest a b stands is fit (inr u) = by (last_target kept) refl where
+  by : (t : Option ℕ) → last_target kept ≡ t → AreErased h part kept a b
+  by None none = inl (record { in_a = stands.in_a; erased = nothing_open (open_of stands.in_a a b) kept stands.stands none; empty = is_alone a b kept stands })
+  by (Some n) hides = inr (record {
+    target = n;
+    hides = hides;
+    added = u.added;
+    unwritten = none_written f kept done part rest stands.stands.file.lawful stands.stands.file.none (let more = u.added in omega (arith, more)) is fit u.unanswered;
+  })
+left_clean WriteFault h f kept done part rest a b stands is fit clean = clean
+left_clean NoMemory h f kept done part rest a b stands is fit clean = clean
+left_clean Closed h f kept done part rest a b stands is fit clean = clean
+
 -- where a call stopped the run, all images stand for a beginning of each later history
 pub stop_stands : (h whole f : History) (ds : List Due) (end : End) (part : List ℕ) (disks : Pair) (first last : NotaryState) → Stops h whole ds end part disks → Grows whole f → f.waiting ≡ [] → AllFit (due_replies f ds)
-    → IsLawful f → (Pegged h first.entries → Pegged f last.entries) → AllStand h f first last part disks
+    → IsLawful f → (Pegged h first.entries → Pegged f last.entries) → AllStand h f first last part (CleanBy end h part) disks
 stop_stands h whole f ds end part disks first last s g none fit lawful pegs = λ a b x y.
     let l = s.images a b x y in
     let file = l.stands.stands.file in
@@ -80,4 +143,5 @@ stop_stands h whole f ds end part disks first last s g none fit lawful pegs = λ
       no_longer = longer;
       receipts = λ jsn leaf r. receipt_kept_in f l.kept.closed s.done part begun.rest jsn leaf (sym begun.is) (fit-first f s.done s.rest (subst (λ d. AllFit (due_replies f d)) s.split fit)) l.receipts r;
       pegs = λ p. pegged_kept l.kept f last.entries lawful (some_journal l.kept file.lawful) file.none longer (pegs p);
+      clean = left_clean end h f l.kept s.done part begun.rest a b l.stands (sym begun.is) (fit-first f s.done s.rest (subst (λ d. AllFit (due_replies f d)) s.split fit)) l.clean;
     }

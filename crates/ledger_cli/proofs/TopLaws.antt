@@ -23,6 +23,7 @@ use Rattle.ledger_cli.specs.declared.ending.LedgerEnding.{LedgerEnding}
 use Rattle.ledger_cli.specs.declared.ending.LedgerEnding.TheVariants.{Run, DiskFault, Damaged, Empty, Exists, NewerFormat}
 use Rattle.ledger_cli.specs.declared.words.Command.{Command}
 use Rattle.ledger_cli.specs.declared.words.Command.TheVariants as command
+use Rattle.ledger_cli.proofs.FailureLaws.{fails_unread}
 use Rattle.ledger_cli.proofs.CarryLaws.{quiet_image, first_short}
 use Rattle.ledger_cli.proofs.OpeningLaws.{again_unstarted}
 
@@ -54,6 +55,7 @@ unstarted_by scheme tells (Some (command.Dry genesis)) x some = record {
   unstarted = λ some. record { unread = refl; unwritten = refl; unasked = refl };
   left = λ t o. (record { unread = refl; unwritten = refl; unasked = refl }, record { a = inl refl; b = inl refl });
   faults = nothing x;
+  failures = fails_unread x.source x.notary;
 }
 unstarted_by scheme tells (Some (command.Init genesis)) x some = record {
   written = [];

@@ -1,8 +1,12 @@
 pub mod Taken
+pub mod Heads
+pub mod Failures
+pub mod Leaving
 pub mod Signing
 pub mod Words
 pub mod Endings
 pub mod Runs
 pub mod Session
+pub mod Shown
 pub mod Keeping
 pub mod Pieces

@@ -1,5 +1,5 @@
 -- What came of a piece of a window, whose lines were offered to a committer.
-use Rattle.std.specs.Prelude.{◌≡◌, ◌⊎◌, ℕ, Bool, false, List, ◌∷◌, ◌++◌, map, Option, None, Some}
+use Rattle.std.specs.Prelude.{◌≡◌, ◌⊎◌, ℕ, Bool, false, List, ◌∷◌, ◌++◌, length, map, Option, None, Some}
 use Rattle.batch_committer.specs.World.{Held, Pair, World, world, Fits, HasRoom, Holds, Goes, Ended}
 use Rattle.batch_committer.specs.declared.end.End.{End}
 use Rattle.lane_work.specs.Orders.{IsOrderOf}
@@ -7,7 +7,7 @@ use Rattle.lane_work.specs.declared.kinds.LaneLine.{LaneLine}
 use Rattle.lane_work.specs.declared.taker.Flow.{Flow}
 use Rattle.lane_work.specs.declared.taker.Flow.TheVariants.{GoOn, Stop}
 use Rattle.ledger_book.specs.declared.prepared.Prepared.{Prepared}
-use Rattle.batch_committer.specs.Attending.{step_in, Takes, EndsTaking}
+use Rattle.batch_committer.specs.Attending.{step_in, FailsAtMostOnce, Takes, EndsTaking}
 use Rattle.ledger_io.specs.Outside.{SinkState}
 use Rattle.ledger_model.specs.Dues.{dues}
 use Rattle.ledger_model.specs.History.{History, id, close}
@@ -19,6 +19,7 @@ use Rattle.ledger_model.specs.Took.{Took}
 use Rattle.ledger_model.specs.Windows.{Said}
 use Rattle.ledger_model.specs.declared.job.Job.TheVariants.{Anchor}
 use Rattle.time_peg.specs.Entries.{NotaryState}
+use Rattle.ledger_cli.specs.Failures.{FailsIn}
 
 -- what a committer, its disks, its sink and its notary tell
 pub record At : Type 0 where
@@ -47,6 +48,7 @@ pub record TakesAll (scheme : Scheme) (tells : Bool) (order : List Said) (s t : 
   pub said : map said_by steps ≡ order
   pub goes : Goes tells (world_at s) (λ h. after_steps scheme h steps) (λ h. dues scheme h steps) (world_at t)
   pub took : (h : History) → Holds tells (world_at s) h → Took scheme h s.notary steps t.notary
+  pub fails : FailsIn (length order) s.notary t.notary
   pub still : IsOpen tells t
 
 -- the run ended where these steps were taken
@@ -72,6 +74,7 @@ pub record TakesSome (scheme : Scheme) (tells : Bool) (order : List Said) (end :
   pub split : order ≡ map said_by steps ++ rest
   pub ended : EndsBehind scheme tells steps rest end (world_at s) (world_at t)
   pub took : (h : History) → Holds tells (world_at s) h → Took scheme h s.notary steps t.notary
+  pub fails : FailsIn (length order) s.notary t.notary
 
 abbrev pub TakesBy : Scheme → Bool → List Said → Option End → At → At → Type 0
 TakesBy scheme tells order None s t = TakesAll scheme tells order s t
@@ -94,10 +97,10 @@ told names end at = record { names = names; end = end; at = at }
 
 abbrev pub Answered : Bool → Told → Prepared → Flow → Told → Type 0
 Answered tells s item GoOn t =
-    (t.names ≡ s.names) × (t.end ≡ s.end) × IsOpen tells t.at
+    (t.names ≡ s.names) × (t.end ≡ s.end) × IsOpen tells t.at × FailsAtMostOnce s.at.notary t.at.notary
     × ((failed : Bool) × ((line : List ℕ) → Takes tells (world_at s.at) (world_at t.at) s.at.notary t.at.notary (step_in s.at.notary t.at.notary failed item.lane item.index line) item.job))
 Answered tells s item Stop t =
-    (t.names ≡ s.names)
+    (t.names ≡ s.names) × FailsAtMostOnce s.at.notary t.at.notary
     × ((end : End) × (t.end ≡ Some end)
     × EndsTaking tells (world_at s.at) (world_at t.at) s.at.notary t.at.notary item.lane item.index item.job end)
 
@@ -109,6 +112,7 @@ pub record PieceTaken (scheme : Scheme) (tells : Bool) (first : List ℕ) (lines
   pub is_order : IsOrderOf first lines (map said_by steps)
   pub goes : Goes tells (world_at s) (λ h. after_steps scheme h steps) (λ h. dues scheme h steps) (world_at t)
   pub took : (h : History) → Holds tells (world_at s) h → Took scheme h s.notary steps t.notary
+  pub fails : FailsIn (length lines) s.notary t.notary
 
 -- .. or the run ended on the way, where some first ones were taken
 pub record PieceBroken (scheme : Scheme) (tells : Bool) (first : List ℕ) (lines : List LaneLine) (end : End) (s t : At) : Type 0 where
@@ -117,6 +121,7 @@ pub record PieceBroken (scheme : Scheme) (tells : Bool) (first : List ℕ) (line
   pub is_order : IsOrderOf first lines (map said_by steps ++ rest)
   pub ended : EndsBehind scheme tells steps rest end (world_at s) (world_at t)
   pub took : (h : History) → Holds tells (world_at s) h → Took scheme h s.notary steps t.notary
+  pub fails : FailsIn (length lines) s.notary t.notary
 
 -- .. and the open block was ended
 pub record WindowTaken (scheme : Scheme) (tells : Bool) (first : List ℕ) (lines : List LaneLine) (s t : At) : Type 0 where
@@ -124,6 +129,7 @@ pub record WindowTaken (scheme : Scheme) (tells : Bool) (first : List ℕ) (line
   pub is_order : IsOrderOf first lines (map said_by steps)
   pub goes : Goes tells (world_at s) (λ h. close (after_steps scheme h steps)) (λ h. dues scheme h steps) (world_at t)
   pub took : (h : History) → Holds tells (world_at s) h → Took scheme h s.notary steps t.notary
+  pub fails : FailsIn (length lines) s.notary t.notary
 
 -- .. or couldn't be ended
 pub record FlushBroken (scheme : Scheme) (tells : Bool) (first : List ℕ) (lines : List LaneLine) (end : End) (s t : At) : Type 0 where
@@ -131,6 +137,7 @@ pub record FlushBroken (scheme : Scheme) (tells : Bool) (first : List ℕ) (line
   pub is_order : IsOrderOf first lines (map said_by steps)
   pub ended : Ended tells (world_at s) (λ h. close (after_steps scheme h steps)) (λ h. dues scheme h steps) end (world_at t)
   pub took : (h : History) → Holds tells (world_at s) h → Took scheme h s.notary steps t.notary
+  pub fails : FailsIn (length lines) s.notary t.notary
 
 abbrev pub WindowBroken : Scheme → Bool → List ℕ → List LaneLine → End → At → At → Type 0
 WindowBroken scheme tells first lines end s t = PieceBroken scheme tells first lines end s t ⊎ FlushBroken scheme tells first lines end s t

@@ -39,6 +39,9 @@ use Rattle.ledger_bytes.specs.Digests.{digest}
 use Rattle.script_lines.specs.Words.{hex_of}
 use Rattle.ledger_cli.specs.Endings.{line_of, status_of, last_line, refusal_of, HasWords}
 use Rattle.ledger_cli.specs.Signing.{signed_text}
+use Rattle.ledger_cli.specs.Failures.{FailsByLines}
+use Rattle.ledger_cli.specs.Heads.{HeadsLeadOn}
+use Rattle.ledger_cli.specs.Leaving.{AreClean, AreErased}
 use Rattle.ledger_cli.specs.Taken.{taken, TookSome}
 use Rattle.ledger_cli.specs.declared.ending.LedgerEnding.{LedgerEnding}
 use Rattle.ledger_cli.specs.declared.ending.LedgerEnding.TheVariants.{Run, DiskFault, Damaged, Empty, Exists, NewerFormat}
@@ -132,53 +135,62 @@ FaultsBy Empty before after_all = Faults NoneFailed MeetsNone NoDiskFailed befor
 FaultsBy Exists before after_all = Faults NoneFailed MeetsNone NoDiskFailed before after_all
 FaultsBy (NewerFormat found) before after_all = Faults NoneFailed MeetsNone NoDiskFailed before after_all
 
+-- The notary failed once at most for each line that was read, and each failure was counted. Where the disks tell what they have, each
+-- of these is a step's.
+abbrev pub NotaryFails : Handed → Handed → Type 0
+NotaryFails before after_all = FailsByLines before.source after_all.source before.notary after_all.notary
+
 -- ---- a script on a ledger
 
 -- What is answered to the lines of a script on a history: the text of a merge of them, window by window, along whose steps the
 -- notary goes from one state to another. Where its list had the pegs of the history, each proof and each extension is accepted under
--- the heads of its step.
+-- the heads of its step. The heads of each moment lead to those of each later one.
 pub record Answers (scheme : Scheme) (h : History) (lines : List (List ℕ)) (replies : List ℕ) (first last : NotaryState) : Type 0 where
   pub steps : List (List Step)
   pub merge : IsMerge (windows (said_lines lines)) steps
   pub took : TookAll scheme h first steps last
   pub replies_are : replies ≡ text scheme h steps
   pub proofs : Pegged h first.entries → AllGood scheme h steps
+  pub heads : HeadsLeadOn scheme h first.entries steps
 
 -- Two images stand for a history that goes on from h and ends at a block's end of the whole history, or is h. Each receipt that was
--- written whole is kept in it. The notary's list has the entry of each of its time journals, where it had those of h.
-pub record MayStand (h whole : History) (first last : NotaryState) (replies : List ℕ) (a b : List ℕ) : Type 0 where
+-- written whole is kept in it. The notary's list has the entry of each of its time journals, where it had those of h. So clean are
+-- the images.
+pub record MayStand (h whole : History) (first last : NotaryState) (replies : List ℕ) (IsSoClean : History → List ℕ → List ℕ → Type 0) (a b : List ℕ) : Type 0 where
   pub kept : History
   pub stands : PairFor a b kept
   pub no_shorter : Begins h.closed kept.closed
   pub no_longer : Begins kept.closed whole.closed
   pub receipts : (jsn : ℕ) (leaf : Digest) → IsReceipted replies jsn leaf → HasLeaf (journals_of kept.closed) jsn leaf
   pub pegs : Pegged h first.entries → Pegged kept last.entries
+  pub clean : IsSoClean kept a b
 
 -- so do all images that a crash may leave
-abbrev pub AllStand : History → History → NotaryState → NotaryState → List ℕ → Pair → Type 0
-AllStand h whole first last replies disks =
-    (a b : List ℕ) → MayLeave disks.a.bytes a → MayLeave disks.b.bytes b → MayStand h whole first last replies a b
+abbrev pub AllStand : History → History → NotaryState → NotaryState → List ℕ → (History → List ℕ → List ℕ → Type 0) → Pair → Type 0
+AllStand h whole first last replies IsSoClean disks =
+    (a b : List ℕ) → MayLeave disks.a.bytes a → MayLeave disks.b.bytes b → MayStand h whole first last replies IsSoClean a b
 
 -- the lines are answered, and the pair is clean for the history after them
 pub record AnswersOn (scheme : Scheme) (h : History) (disks : Pair) (first last : NotaryState) (lines : List (List ℕ)) (replies : List ℕ) : Type 0 where
   pub answers : Answers scheme h lines replies first last
   pub clean : IsCleanPair disks.a.bytes.seen disks.b.bytes.seen (after scheme h answers.steps)
   pub quiet : AreQuiet disks
-  pub images : AllStand h (after scheme h answers.steps) first last replies disks
+  pub images : AllStand h (after scheme h answers.steps) first last replies AreClean disks
 
 -- A text answers the lines: that of a merge of them of which some first steps were taken. Along these the notary goes from one state
 -- to the other; the others stand as ones in which it failed, which isn't counted. What was written is so of the text of the taken
 -- steps too: nothing of the others is written. What is left after some replies stands for a beginning of the history after all, and of
--- that after the taken steps. The proofs that are written are accepted, as those of a whole run.
-pub record StopsOn (scheme : Scheme) (h : History) (replies : List ℕ) (disks : Pair) (first last : NotaryState) (IsSo : List ℕ → Type 0) (lines : List (List ℕ)) (whole_text : List ℕ) : Type 0 where
+-- that after the taken steps. The proofs that are written are accepted, and their heads lead on, as those of a whole run.
+pub record StopsOn (scheme : Scheme) (h : History) (replies : List ℕ) (disks : Pair) (first last : NotaryState) (IsSoClean : History → List ℕ → List ℕ → Type 0) (IsSo : List ℕ → Type 0) (lines : List (List ℕ)) (whole_text : List ℕ) : Type 0 where
   pub steps : List (List Step)
   pub merge : IsMerge (windows (said_lines lines)) steps
   pub took : TookSome scheme h first steps last
   pub text_is : whole_text ≡ text scheme h steps
   pub written : IsSo (text scheme h (taken took.done took.now))
-  pub images : AllStand h (after scheme h steps) first last replies disks
+  pub images : AllStand h (after scheme h steps) first last replies IsSoClean disks
   pub proofs : Pegged h first.entries → AllGood scheme h (taken took.done took.now)
-  pub images_taken : AllStand h (after scheme h (taken took.done took.now)) first last replies disks
+  pub heads : HeadsLeadOn scheme h first.entries (taken took.done took.now)
+  pub images_taken : AllStand h (after scheme h (taken took.done took.now)) first last replies IsSoClean disks
 
 -- all lines that count are answered
 abbrev pub AnswersAll : Scheme → History → Option LineErr → List ℕ → List ℕ → Handed → Handed → Type 0
@@ -186,20 +198,20 @@ AnswersAll scheme h end read replies before after_all =
     Answered (AnswersOn scheme h after_all.disks before.notary after_all.notary) end read replies (outside_of before) (outside_of after_all)
 
 -- the run stopped: some text that answers the script is so, and that of the steps that were taken; of their history a beginning is left
-abbrev pub StopsSo : Scheme → History → List ℕ → List ℕ → Handed → Handed → (List ℕ → Type 0) → Type 0
-StopsSo scheme h read replies before after_all IsSo =
-    SomeOfScript (StopsOn scheme h replies after_all.disks before.notary after_all.notary IsSo) before.source after_all.source read IsSo
+abbrev pub StopsSo : Scheme → History → List ℕ → List ℕ → Handed → Handed → (History → List ℕ → List ℕ → Type 0) → (List ℕ → Type 0) → Type 0
+StopsSo scheme h read replies before after_all IsSoClean IsSo =
+    SomeOfScript (StopsOn scheme h replies after_all.disks before.notary after_all.notary IsSoClean IsSo) before.source after_all.source read IsSo
 
 -- what was written before the last line and what is left, by the ending
 abbrev pub Replies : Scheme → History → LedgerEnding → List ℕ → List ℕ → Handed → Handed → Type 0
 Replies scheme h (Run run.Done) read replies before after_all = AnswersAll scheme h None read replies before after_all
 Replies scheme h (Run run.Usage) read replies before after_all = ⊥
 Replies scheme h (Run run.ReadFault) read replies before after_all = AnswersAll scheme h (Some line_err.ReadFault) read replies before after_all
-Replies scheme h (Run run.WriteFault) read replies before after_all = StopsSo scheme h read replies before after_all (FallsShort replies)
-Replies scheme h (Run run.NoMemory) read replies before after_all = AreWhole replies × StopsSo scheme h read replies before after_all (Begins replies)
+Replies scheme h (Run run.WriteFault) read replies before after_all = StopsSo scheme h read replies before after_all AreClean (FallsShort replies)
+Replies scheme h (Run run.NoMemory) read replies before after_all = AreWhole replies × StopsSo scheme h read replies before after_all AreClean (Begins replies)
 Replies scheme h (Run run.LineTooLong) read replies before after_all = AnswersAll scheme h (Some line_err.LineTooLong) read replies before after_all
 Replies scheme h (Run run.ScriptTooLong) read replies before after_all = AnswersAll scheme h (Some line_err.ScriptTooLong) read replies before after_all
-Replies scheme h DiskFault read replies before after_all = AreWhole replies × StopsSo scheme h read replies before after_all (Begins replies)
+Replies scheme h DiskFault read replies before after_all = AreWhole replies × StopsSo scheme h read replies before after_all (AreErased h replies) (Begins replies)
 Replies scheme h (Damaged damage) read replies before after_all = ⊥
 Replies scheme h Empty read replies before after_all = ⊥
 Replies scheme h Exists read replies before after_all = ⊥
@@ -257,10 +269,20 @@ LeftUnopened Empty before after_all = IsUnstarted before after_all × SettledAsR
 LeftUnopened Exists before after_all = ⊥
 LeftUnopened (NewerFormat found) before after_all = IsUnstarted before after_all × SettledAsRead before.disks after_all.disks
 
+-- The ledger wasn't opened: a disk failed, or memory was missing. Nothing is read or written. A crash at any time leaves a pair that
+-- stands for this history still, and of one that was clean nothing changes.
+pub record IsNotOpened (h : History) (ending : LedgerEnding) (before after_all : Handed) : Type 0 where
+  pub outside : IsOutsideEnding ending
+  pub unstarted : IsUnstarted before after_all
+  pub images : (a b : List ℕ) → MayLeave after_all.disks.a.bytes a → MayLeave after_all.disks.b.bytes b → PairFor a b h
+  pub clean : IsCleanPair before.disks.a.bytes.seen before.disks.b.bytes.seen h
+      → (after_all.disks.a.bytes ≡ before.disks.a.bytes) × (after_all.disks.b.bytes ≡ before.disks.b.bytes)
+
 -- `run`: the ledger that is there is opened, and the script is run on it
 pub record RunsAgain (scheme : Scheme) (tells : Bool) (ending : LedgerEnding) (before after_all : Handed) : Type 0 where
   -- whatever history the pair stood for, where the notary keeps a list
-  pub serves : IsTrue tells → (h : History) → StandFor before.disks h → IsList before.notary.entries → (IsOutsideEnding ending → AreQuiet before.disks) → RunsOn scheme h ending before after_all
+  pub serves : IsTrue tells → (h : History) → StandFor before.disks h → IsList before.notary.entries → (IsOutsideEnding ending → AreQuiet before.disks)
+      → RunsOn scheme h ending before after_all ⊎ IsNotOpened h ending before after_all
   -- a refusal reads and writes nothing, whatever the disks tell
   pub unstarted : IsSome (refusal_of ending) → IsUnstarted before after_all
   pub refused : IsTrue tells → IfSome (refusal_of ending) (λ e. IsRefused e before.disks after_all.disks)
@@ -268,6 +290,7 @@ pub record RunsAgain (scheme : Scheme) (tells : Bool) (ending : LedgerEnding) (b
   pub exact : IsTrue tells → (e : OpenErr) → IsOpenErr before.disks.a.bytes.seen before.disks.b.bytes.seen e → (IsOutside e → ⊥)
       → LeftUnopened ending before after_all
   pub faults : FaultsBy ending before after_all
+  pub failures : NotaryFails before after_all
 
 -- what is told of a new ledger: its id, its size and its root
 abbrev pub ledger_line : Genesis → List ℕ
@@ -350,6 +373,7 @@ pub record RunsNew (scheme : Scheme) (genesis : Genesis) (tells : Bool) (ending 
   pub unstarted : IsSome (refusal_of ending) → IsUnstarted before after_all
   pub left : IsTrue tells → HasOpen before.disks → LeftThere ending before after_all
   pub faults : FaultsBy ending before after_all
+  pub failures : NotaryFails before after_all
 
 -- `sign`: one text is written
 pub record Signs (written_text : List ℕ) (ending : LedgerEnding) (before after_all : Handed) : Type 0 where

@@ -5,7 +5,7 @@ use Rattle.ledger_io.specs.declared.ending.Ending.TheVariants as run
 use Rattle.ledger_model.specs.History.{History}
 use Rattle.ledger_model.specs.Scheme.{Scheme}
 use Rattle.time_peg.specs.Entries.{IsList}
-use Rattle.ledger_cli.specs.Runs.{Handed, FaultsBy, RunsOn}
+use Rattle.ledger_cli.specs.Runs.{Handed, FaultsBy, NotaryFails, RunsOn}
 use Rattle.ledger_cli.specs.declared.ending.LedgerEnding.{LedgerEnding}
 use Rattle.ledger_cli.specs.declared.ending.LedgerEnding.TheVariants.{Run, DiskFault, Damaged, Empty, Exists, NewerFormat}
 
@@ -28,3 +28,4 @@ IsOfLines (NewerFormat found) = ⊥
 pub record Runs (scheme : Scheme) (tells : Bool) (w : World) (ending : LedgerEnding) (before after_all : Handed) : Type 0 where
   pub serves : (h : History) → Holds tells w h → h.waiting ≡ [] → IsList before.notary.entries → RunsOn scheme h ending before after_all
   pub faults : FaultsBy ending before after_all
+  pub failures : NotaryFails before after_all

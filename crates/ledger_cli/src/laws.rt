@@ -9,7 +9,12 @@ ghost use Rattle.ledger_model.specs.Scheme.{Scheme};
 ghost use Rattle.ledger_model.specs.Step.{Step};
 ghost use Rattle.ledger_model.specs.Took.{counts_after};
 ghost use Rattle.ledger_model.specs.Windows.{said_lines, windows};
-ghost use Rattle.ledger_cli.specs.Runs.{Answers};
+ghost use Rattle.script_lines.specs.Receipts.{IsReceipted};
+ghost use Rattle.ledger_bytes.specs.declared.digest.Digest.{Digest};
+ghost use Rattle.ledger_model.specs.Lawful.{IsSound};
+ghost use Rattle.ledger_cli.specs.Runs.{Answers, MayStand};
+ghost use Rattle.ledger_cli.specs.Leaving.{AreClean, AreErased};
+ghost use Rattle.ledger_cli.specs.Shown.{IsShown};
 ghost use Rattle.ledger_cli.specs.Taken.{taken, TookSome};
 
 /// Where all lines of a script belong to one lane, they are answered in their order.
@@ -40,4 +45,15 @@ pub fn the_list_of_a_notary_goes_on()
         (first last : NotaryState) → TookSome scheme h first windows last
         → Begins first.entries last.entries × (length last.entries
         ≤ length first.entries + length (flat_map (λ window. window) windows)) }
+{}
+
+/// A journal of which a receipt was written whole is shown from each pair of images that a crash may leave: whole, unless a
+/// journal that stands in them hides its content.
+pub fn a_written_receipt_is_shown()
+    ensures clean { (h whole : History) (first last : NotaryState) (replies : List ℕ) (a b : List ℕ)
+        (m : MayStand h whole first last replies AreClean a b) (jsn : ℕ) (leaf : Digest)
+        → IsSound whole → IsReceipted replies jsn leaf → IsShown m.kept jsn leaf }
+    ensures erased { (h whole : History) (first last : NotaryState) (replies : List ℕ) (a b : List ℕ)
+        (m : MayStand h whole first last replies (AreErased h replies) a b) (jsn : ℕ) (leaf : Digest)
+        → IsSound whole → IsReceipted replies jsn leaf → IsShown m.kept jsn leaf }
 {}

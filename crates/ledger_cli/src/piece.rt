@@ -1,4 +1,4 @@
-ghost use Rattle.std.specs.Prelude.{◌≡◌, ◌<◌, ◌+◌, ◌^◌, ◌==◌, ◌++◌, ◌∷◌, [], ℕ, OnOk, if◌then◌else◌, slice_index};
+ghost use Rattle.std.specs.Prelude.{◌≡◌, ◌<◌, ◌+◌, ◌^◌, ◌==◌, ◌++◌, ◌∷◌, [], ℕ, length, IsTrue, IfSome, IfNone, OnOk, OnSome, if◌then◌else◌, slice_index};
 ghost use Rattle.script_lines.specs.Grammar.{spoken_line};
 ghost use Rattle.lane_work.specs.declared.kinds.LaneLine.{LaneLine};
 
@@ -71,7 +71,9 @@ impl Piece {
     }
 
     /// Whether this is one line, of the lane that alone brought lines before: there is no other to be prepared beside.
-    pub(crate) fn is_alone(&self) -> bool {
+    pub(crate) fn is_alone(&self) -> bool
+        ensures one { IsTrue result → length self.now.lines.items ≡ 1 }
+    {
         match (self.before, self.lines.as_slice()) {
             (Some(lane), [line]) => line.lane == lane,
             _ => false,
@@ -86,6 +88,26 @@ impl Piece {
         self.lines.last().map(|last| last.lane)
     }
 
+    /// The line with its number, where it is alone. The next piece then begins; it keeps the room for a line.
+    pub(crate) fn take_alone(&mut self) -> Option<(LaneLine, u64)>
+        ensures line { IfSome result (λ taken. self.old.lines.items ≡ taken.0 ∷ []) }
+        ensures number { IfSome result (λ taken. slice_index self.old.first taken.0.lane ≡ taken.1) }
+        ensures none { OnSome result (self.new.lines.items ≡ []) }
+        ensures first_now { OnSome result (self.new.first ≡ self.old.next) }
+        ensures next { OnSome result (self.new.next ≡ self.old.next) }
+        ensures waits { IfNone result (self.new ≡ self.old) }
+    {
+        if !self.is_alone() {
+            return None;
+        }
+        let Some(said) = self.lines.pop() else {
+            unreachable!()
+        };
+        let index = self.first[usize::from(said.lane)];
+        self.first = self.next;
+        Some((said, index))
+    }
+
     /// The lines with their lanes' first numbers. The next piece then begins.
     pub(crate) fn take(&mut self) -> (Vec<LaneLine>, [u64; 8])
         ensures lines { result.0.items ≡ self.old.lines.items }
@@ -97,8 +119,7 @@ impl Piece {
         self.before = self.only_lane();
         self.mixed = false;
         let lines = mem::replace(&mut self.lines, Vec::new(self.alloc));
-        let first = self.first;
-        self.first = self.next;
+        let first = mem::replace(&mut self.first, self.next);
         (lines, first)
     }
 }

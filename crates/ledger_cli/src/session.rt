@@ -1,4 +1,4 @@
-ghost use Rattle.std.specs.Prelude.{◌≡◌, ◌+◌, ◌^◌, ◌<◌, ◌≤◌, ℕ, [], false, length, slice_index, vec_len, OnOk, IfErr};
+ghost use Rattle.std.specs.Prelude.{◌≡◌, ◌+◌, ◌^◌, ◌<◌, ◌≤◌, ◌∷◌, ℕ, List, [], false, length, slice_index, vec_len, OnOk, IfErr};
 ghost use Rattle.batch_committer.specs.World.{pair, world, Fits, HasRoom};
 ghost use Rattle.lane_work.specs.Making.{lines_of};
 ghost use Rattle.ledger_io.specs.declared.ending.Ending.TheVariants as run;
@@ -12,7 +12,7 @@ use crate::ending::LedgerEnding;
 use crate::piece::Piece;
 use crate::window::Window;
 use batch_committer::{Committer, End};
-use lane_work::Gate;
+use lane_work::{Gate, LaneLine, prepare};
 use ledger_disk::Disk;
 use ledger_io::{Ending, LineErr, Lines, Sink, Source};
 use member_book::Verifier;
@@ -21,7 +21,44 @@ use std::sync::Wait;
 use std::thread::Threads;
 use time_peg::Notary;
 
-// Takes the lines of a piece. The next piece then begins.
+// Takes a line that is the only one of its piece, and has this number in its lane.
+fn take_line<K: Sink, D: Disk, N: Notary, V: Verifier, G: Gate>(
+    alloc: Global,
+    verifier: &V,
+    gate: &G,
+    committer: &mut Committer,
+    a: &mut D,
+    b: &mut D,
+    sink: &mut K,
+    notary: &mut N,
+    said: LaneLine,
+    index: u64,
+) -> Result<(), End>
+    requires open { IsOpen D.tells (at committer.old (pair (D.state a.old) (D.state b.old))
+        (K.state sink.old) (N.state notary.old)) }
+    ensures ok { OnOk result ((first : List ℕ) → slice_index first said.lane ≡ index
+        → PieceTaken (V.shows verifier.now) D.tells first (said ∷ [])
+        (at committer.old (pair (D.state a.old) (D.state b.old)) (K.state sink.old) (N.state notary.old))
+        (at committer.new (pair (D.state a.new) (D.state b.new)) (K.state sink.new) (N.state notary.new))) }
+    ensures open { OnOk result (IsOpen D.tells (at committer.new
+        (pair (D.state a.new) (D.state b.new)) (K.state sink.new) (N.state notary.new))) }
+    ensures err { IfErr result (λ end. (first : List ℕ) → slice_index first said.lane ≡ index
+        → PieceBroken (V.shows verifier.now) D.tells first (said ∷ []) end
+        (at committer.old (pair (D.state a.old) (D.state b.old)) (K.state sink.old) (N.state notary.old))
+        (at committer.new (pair (D.state a.new) (D.state b.new)) (K.state sink.new) (N.state notary.new))) }
+{
+    let id = committer.id();
+    let Ok(item) = prepare(alloc, verifier, &id, index, said.line.as_slice()) else {
+        return Err(End::NoMemory);
+    };
+    gate.pass(said.lane, index);
+    match committer.offer(a, b, sink, notary, item) {
+        Ok(()) => Ok(()),
+        Err(end) => Err(end),
+    }
+}
+
+// Takes the lines of a piece. The next piece then begins. A line that is alone goes without what several need.
 fn take_piece<R: Threads + Wait + Sync, K: Sink, D: Disk, N: Notary, V: Verifier, G: Gate>(
     rt: &R,
     alloc: Global,
@@ -53,6 +90,11 @@ fn take_piece<R: Threads + Wait + Sync, K: Sink, D: Disk, N: Notary, V: Verifier
     ensures first { piece.new.first ≡ piece.old.next }
     ensures next { piece.new.next ≡ piece.old.next }
 {
+    if let Some((said, index)) = piece.take_alone() {
+        return take_line(
+            alloc, verifier, gate, committer, a, b, sink, notary, said, index,
+        );
+    }
     let (lines, first) = piece.take();
     if lines.as_slice().is_empty() {
         return Ok(());
