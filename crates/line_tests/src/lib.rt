@@ -4,11 +4,15 @@
 #[cfg(test)]
 mod clues;
 #[cfg(test)]
+mod erasures;
+#[cfg(test)]
 mod lanes;
 #[cfg(test)]
 mod line_fields;
 #[cfg(test)]
 mod members;
+#[cfg(test)]
+mod occults;
 #[cfg(test)]
 mod replies;
 #[cfg(test)]

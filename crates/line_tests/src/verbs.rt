@@ -1,4 +1,4 @@
-use ledger_bytes::{Bytes, NoMemory, Refusal};
+use ledger_bytes::{Bytes, Digest, NoMemory, Refusal};
 use script_lines::{Line, Spoken, read_line};
 use std::test::Fail;
 
@@ -87,5 +87,34 @@ fn keeps_what_a_line_says(rt: HostRuntime) -> Result<(), Fail> {
     assert_eq!(rt; clue.as_slice(), b"inv".as_slice());
     assert_eq!(rt; content.as_slice(), b"abc".as_slice());
     assert_eq!(rt; proof.as_slice(), [0x03, 0x1c].as_slice());
+    Ok(())
+}
+
+#[test]
+fn keeps_who_approves_an_occult(rt: HostRuntime) -> Result<(), Fail> {
+    let mut text = b"7 occult 12 ".to_vec(rt.alloc())?;
+    text.resize(12 + 64, b'c')?;
+    text.extend_from_slice(b" 0:0aFF,1:-")?;
+    let Spoken { lane, what } = read_line(rt.alloc(), text.as_slice())?;
+    assert_eq!(rt; lane, 7);
+    let Ok(
+        Line::Occult {
+            target,
+            leaf,
+            given,
+        },
+    ) = what
+    else {
+        return Err("not an occult".into());
+    };
+    assert_eq!(rt; target, 12);
+    assert_eq!(rt; leaf, Digest([0xcc; 32]));
+    let [operator, regulator] = given.as_slice() else {
+        return Err("not two approvals".into());
+    };
+    assert_eq!(rt; operator.member, 0);
+    assert_eq!(rt; operator.proof.as_slice(), [0x0a, 0xff].as_slice());
+    assert_eq!(rt; regulator.member, 1);
+    assert_eq!(rt; regulator.proof.as_slice(), b"".as_slice());
     Ok(())
 }

@@ -16,6 +16,7 @@ use std::thread::Threads;
 mod disks;
 mod lanes;
 mod notaries;
+mod occults;
 mod proofs;
 mod words;
 

@@ -1,0 +1,167 @@
+//! A disk that stops in a session with two occults: what each crash leaves, and what stands there once it is opened again.
+
+use super::*;
+use ledger_disk::{FuseDisk, Pick};
+
+// The lines place journals 1 to 6: member 2, two of its records, the occults of both, and a record of the operator.
+const SESSION: [&str; 6] = [
+    "0 member 2 0303030303030303030303030303030303030303030303030303030303030303 \
+    0101010101010101010101010101010101010101010101010101010101010101\
+    6e2700604cd288e681c238fa71ae802ef173e93907477f0111a56a7be4890e8c\n",
+    "0 append 2 inv 616263 0303030303030303030303030303030303030303030303030303030303030303\
+    1c73656160873b10becb5d4a75a046056d790b17f79672513778ab540c22c6df\n",
+    "0 append 2 c 78797a 0303030303030303030303030303030303030303030303030303030303030303\
+    670bc87de87a4d2dc823d029fec29573459c8a94361e427a8df50ceffa0c5f65\n",
+    "0 occult 2 d5bafe4ff5eb75d98a360fd0a779d19ac6abbd6e75a890c22a7d59c35f349099 \
+    0:0101010101010101010101010101010101010101010101010101010101010101\
+    e90cbb0138367a4957a7df2342d6e20b6c004dabd3ce9a7422a38647ebcf69cd,\
+    1:0202020202020202020202020202020202020202020202020202020202020202\
+    21844395d669c0f0d68fc9c363fae3522d0d440e0b8733a86f50666aca19d299\n",
+    "0 occult 3 c8ea41864a0dae4ac5afade605db467793c0e935e42d1a542110476d805eb3fc \
+    0:0101010101010101010101010101010101010101010101010101010101010101\
+    318cf35121fd7fd8e01c57b9e38a2c55dfd42d1bdd1801b16fcbba9e04e45876,\
+    1:0202020202020202020202020202020202020202020202020202020202020202\
+    93d06fb16a7ad5b87c48201350c31b3dc0ee6125f23f5bb46539647aaf1c1550\n",
+    EMPTY,
+];
+
+// The contents, and the numbers of the journals that hide them.
+const HIDDEN: [(&str, usize); 2] = [("abc", 4), ("xyz", 5)];
+
+// What asks for these journals.
+const GETS: &[u8] = b"0 get 1\n0 get 2\n0 get 3\n0 get 4\n0 get 5\n0 get 6\n";
+
+// The size of the ledger behind each of its blocks; the second words of what the session writes where the receipts of these
+// journals are its last, and of what is answered to the lines that ask for them.
+const BLOCKS: [(usize, &str, &str); 5] = [
+    (1, "4 ", "no no no no no no "),
+    (4, "ok ok ok 4 ", "whole whole whole no no no "),
+    (5, "ok ok ok ok 4 ", "whole occulted whole whole no no "),
+    (
+        6,
+        "ok ok ok ok ok 4 ",
+        "whole occulted occulted whole whole no ",
+    ),
+    (
+        7,
+        "ok ok ok ok ok ok ",
+        "whole occulted occulted whole whole whole ",
+    ),
+];
+
+const PICKS: [Pick; 3] = [Pick::AllWritten, Pick::NoneWritten, Pick::Torn(1)];
+
+// How many calls of write, cut and sync the first disk takes in the session: two syncs where the ledger is opened, five calls
+// for each of four blocks, and two for what each occult hides.
+const CALLS: u64 = 26;
+
+// More room than the ledger takes.
+const ROOM: usize = 16_384;
+
+/// The size up to which receipts were written before the first disk stopped after so many calls, and the two disks.
+fn stopped<R: Threads + Wait + Sync>(
+    rt: &R,
+    alloc: Global,
+    calls: u64,
+) -> Result<(Option<usize>, MemDisk, MemDisk), NoMemory> {
+    let mut a = MemDisk::new(alloc, ROOM, Vec::new(alloc))?;
+    let mut b = MemDisk::new(alloc, ROOM, Vec::new(alloc))?;
+    run_on(rt, alloc, &INIT, b"", NO_FAULTS, &mut a, &mut b)?;
+    let script = bytes_of(alloc, &SESSION)?;
+    let mut a = FuseDisk::new(a, calls);
+    let mut b = FuseDisk::new(b, NEVER);
+    let (_, written) = run_on(rt, alloc, &RUN, &script, NO_FAULTS, &mut a, &mut b)?;
+    let size = size_told(alloc, &written)?;
+    Ok((size, a.into_inner(), b.into_inner()))
+}
+
+/// The size that these replies tell, of the session or of the lines that ask for its journals. None for others.
+fn size_told(alloc: Global, replies: &[u8]) -> Result<Option<usize>, NoMemory> {
+    let mut verbs = Vec::new(alloc);
+    for line in replies.split(|byte| *byte == b'\n') {
+        for word in line.split(|byte| *byte == b' ').skip(1).take(1) {
+            verbs.extend_from_slice(word)?;
+            verbs.push(b' ')?;
+        }
+    }
+    for (size, session, gets) in &BLOCKS {
+        if verbs.as_slice() == session.as_bytes() || verbs.as_slice() == gets.as_bytes() {
+            return Ok(Some(*size));
+        }
+    }
+    Ok(None)
+}
+
+/// Whether no content stands on these disks that one of the first so many journals hides.
+fn is_hidden(a: &MemDisk, b: &MemDisk, size: usize) -> Result<bool, NoMemory> {
+    let (a, b) = (a.bytes()?, b.bytes()?);
+    for (content, by) in &HIDDEN {
+        let content = content.as_bytes();
+        if *by < size && (stands_in(a.as_slice(), content) || stands_in(b.as_slice(), content)) {
+            return Ok(false);
+        }
+    }
+    Ok(true)
+}
+
+fn stands_in(bytes: &[u8], piece: &[u8]) -> bool {
+    for at in 0..bytes.len() {
+        if bytes.get(at..).unwrap_or_default().starts_with(piece) {
+            return true;
+        }
+    }
+    false
+}
+
+/// What comes of an image: the size that is told where the ledger is opened on it, whether what that many journals hide was
+/// erased before, and whether it is erased for good from then on.
+#[derive(Clone, Copy, Debug)]
+struct Opening {
+    size: usize,
+    was_erased: bool,
+    is_erased: bool,
+}
+
+fn reopened<R: Threads + Wait + Sync>(
+    rt: &R,
+    alloc: Global,
+    a: &MemDisk,
+    b: &MemDisk,
+) -> Result<Opening, NoMemory> {
+    let (mut new_a, mut new_b) = (a.crash(Pick::AllWritten)?, b.crash(Pick::AllWritten)?);
+    let (_, replies) = run_on(rt, alloc, &RUN, GETS, NO_FAULTS, &mut new_a, &mut new_b)?;
+    let size = size_told(alloc, &replies)?.unwrap_or_default();
+    let (new_a, new_b) = (
+        new_a.crash(Pick::NoneWritten)?,
+        new_b.crash(Pick::NoneWritten)?,
+    );
+    Ok(Opening {
+        size,
+        was_erased: is_hidden(a, b, size)?,
+        is_erased: is_hidden(&new_a, &new_b, size)?,
+    })
+}
+
+// Each receipt that was written holds. What an occult hides is erased before its receipt is written, and where a crash came
+// before that, when the ledger is opened.
+#[test]
+fn erases_before_the_receipt(rt: HostRuntime) -> Result<(), Fail> {
+    let mut erased_late = false;
+    for calls in 0..=CALLS {
+        let (told, a, b) = stopped(&rt, rt.alloc(), calls)?;
+        let told = told.unwrap_or(usize::MAX);
+        assert_eq!(rt; told == 7, calls == CALLS, "at {calls}");
+        for pick in PICKS {
+            let (a, b) = (a.crash(pick)?, b.crash(pick)?);
+            assert!(rt; is_hidden(&a, &b, told)?, "at {calls} {pick:?}");
+            let found = reopened(&rt, rt.alloc(), &a, &b)?;
+            assert!(rt;
+                told <= found.size && found.is_erased,
+                "at {calls} {pick:?}"
+            );
+            erased_late = erased_late || !found.was_erased;
+        }
+    }
+    assert!(rt; erased_late);
+    Ok(())
+}
