@@ -86,9 +86,9 @@ def missing(program, folder, receipts):
     return sum(leaf_of(reply) != receipts[number] for number, reply in zip(numbers, replies))
 
 
-# The leaf digest of the journal that a reply shows.
+# The leaf digest of the journal that a reply shows, whole or without its content.
 def leaf_of(reply):
     words = reply.split(b" ")
-    if len(words) < 3 or words[1] != b"whole":
+    if len(words) < 3 or words[1] not in (b"whole", b"occulted"):
         return None
     return hashlib.sha256(b"\0" + bytes.fromhex(words[2].decode())).hexdigest()

@@ -1,0 +1,119 @@
+#!/usr/bin/env python3
+"""Kills `ledgerctl run` with SIGKILL while it hides contents, and searches the files for what is to be gone.
+
+A ledger is made in a folder of its own, which is removed at the end. Then, TIMES times, a run appends records with contents that
+stand nowhere else, and hides each as soon as its receipt was printed, until it is killed at a random moment. Then the bytes of both
+files are searched: a content whose occult's receipt was printed whole must not be found, before the ledger is opened again and
+after it. Once it was opened, no content is to be found that `get` tells to be hidden, and each receipt's journal has to be there.
+Prints what it saw, and ends with 1 where a content was found or a receipt is lost, or nothing was hidden.
+"""
+import hashlib
+import os
+import random
+import shutil
+import subprocess
+import sys
+import tempfile
+import threading
+
+from common import OPERATOR, REGULATOR, WRAPPER, made_ledger, missing, receipts_in, run_script, words_of
+
+
+def main():
+    parser = words_of(__doc__)
+    parser.add_argument("times", metavar="TIMES", nargs="?", type=int, default=50)
+    parser.add_argument("seed", metavar="SEED", nargs="?", type=int, default=1)
+    words = parser.parse_args()
+    program = words.program or WRAPPER
+    chance = random.Random(words.seed)
+    folder = tempfile.mkdtemp(prefix="ledger-")
+    try:
+        ledger = bytes.fromhex(made_ledger(program, folder))
+        placed, hidden, receipts, found, lost, undone = {}, set(), {}, 0, 0, 0
+        for turn in range(words.times):
+            new_placed, new_hidden, printed = killed_run(program, folder, ledger, chance)
+            placed.update(new_placed)
+            hidden |= new_hidden
+            receipts.update(receipts_in(printed))
+            found += searched(folder, [placed[number] for number in hidden])
+            lost += missing(program, folder, receipts)
+            told = hidden_in(program, folder, placed)
+            undone += len(told - hidden)
+            found += searched(folder, [placed[number] for number in told | hidden])
+            hidden |= told
+        print(f"{words.times} runs killed; {len(receipts)} receipts, {lost} lost")
+        print(f"{len(hidden)} contents hidden, {undone} of them without a receipt; {found} found")
+        return 0 if hidden and not lost and not found else 1
+    finally:
+        shutil.rmtree(folder)
+
+
+# A key's proof of a message.
+def proof(key, message):
+    return (key + hashlib.sha256(b"\x40" + key + message).digest()).hex()
+
+
+def append_line(ledger, content):
+    key = bytes.fromhex(OPERATOR)
+    digest = hashlib.sha256(b"\x02" + content).digest()
+    message = hashlib.sha256(b"\x03" + ledger + bytes(4) + bytes(32) + len(content).to_bytes(4, "big") + digest).digest()
+    return f"0 append 0 - {content.hex()} {proof(key, message)}\n".encode()
+
+
+def occult_line(ledger, number, leaf):
+    message = hashlib.sha256(b"\x04" + ledger + number.to_bytes(8, "big") + bytes.fromhex(leaf)).digest()
+    given = ",".join(f"{member}:{proof(bytes.fromhex(key), message)}" for member, key in enumerate((OPERATOR, REGULATOR)))
+    return f"0 occult {number} {leaf} {given}\n".encode()
+
+
+# Runs until it is killed. Tells the contents of placed records by their numbers, which of them were hidden, and what was printed.
+def killed_run(program, folder, ledger, chance):
+    run = subprocess.Popen([program, "run", folder], stdin=subprocess.PIPE, stdout=subprocess.PIPE)
+    placed, hidden, printed = {}, set(), []
+    timer = threading.Timer(0.05 + chance.uniform(0, 0.1), run.kill)
+    timer.start()
+    try:
+        while True:
+            content = os.urandom(24 + chance.randrange(5000))
+            run.stdin.write(append_line(ledger, content) + b"0 head\n")
+            run.stdin.flush()
+            words = answer(run, printed)
+            answer(run, printed)
+            number, leaf = int(words[2]), words[3].decode()
+            placed[number] = content
+            run.stdin.write(occult_line(ledger, number, leaf))
+            run.stdin.flush()
+            if answer(run, printed)[1] == b"ok":
+                hidden.add(number)
+    except (BrokenPipeError, EOFError):
+        pass
+    timer.cancel()
+    run.kill()
+    run.wait()
+    return placed, hidden, b"".join(printed)
+
+
+# The words of the next whole line.
+def answer(run, printed):
+    line = run.stdout.readline()
+    if not line.endswith(b"\n"):
+        raise EOFError
+    printed.append(line)
+    return line.split()
+
+
+# How many of these contents stand in one of the two files.
+def searched(folder, contents):
+    files = b"\0".join(open(os.path.join(folder, name), "rb").read() for name in ("ledger.a", "ledger.b"))
+    return sum(content in files for content in contents)
+
+
+# The numbers of those journals whose content the ledger tells to be hidden.
+def hidden_in(program, folder, numbers):
+    asked = sorted(numbers)
+    replies = run_script(program, folder, "".join(f"0 get {number}\n" for number in asked).encode()).stdout.splitlines()
+    return {number for number, reply in zip(asked, replies) if reply.split()[1] == b"occulted"}
+
+
+if __name__ == "__main__":
+    sys.exit(main())
