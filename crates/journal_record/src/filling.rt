@@ -1,9 +1,12 @@
 ghost use Rattle.std.specs.Prelude.{◌≡◌, ◌+◌, ◌≤◌, [], ◌++◌, length};
+ghost use Rattle.sha2.specs.Sha256.{sha256};
 
 use crate::HEADER_LEN;
+use ledger_bytes::{Digest, Sha, TreeHash};
 use std::marker::Model;
 
-/// The bytes of a header, filled from the front. A contract sees the bytes that were put so far.
+/// The bytes of a header, or of what is hashed and is no longer than one, filled from the front. A contract sees the bytes
+/// that were put so far.
 #[derive(Drop)]
 pub(crate) struct Filling {
     bytes: [u8; HEADER_LEN],
@@ -31,6 +34,8 @@ impl Filling {
         }
     }
 
+    // Where it is called a piece's length is known, so that only its bytes' moves are left.
+    #[inline(always)]
     pub(crate) fn put(&mut self, piece: &[u8])
         requires { length self.old + length piece.now ≤ HEADER_LEN }
         ensures { self.new ≡ self.old ++ piece.now }
@@ -45,5 +50,12 @@ impl Filling {
         ensures { result ≡ self }
     {
         self.bytes
+    }
+
+    /// SHA-256 of the bytes.
+    pub(crate) fn digest(&self) -> Digest
+        ensures { result.0 ≡ sha256 self.now }
+    {
+        Sha::digest(&self.bytes[..self.len])
     }
 }

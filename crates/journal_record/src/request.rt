@@ -5,7 +5,8 @@ ghost use Rattle.ledger_bytes.specs.Tags.{byte_of};
 ghost use Rattle.journal_record.specs.Request.{request_digest_of, member_request_digest_of, occult_request_digest_of, purge_request_digest_of, clue_digest_of, name_digest_of};
 
 use crate::digests::tagged_digest;
-use ledger_bytes::{Digest, Sha, Tag, TreeHash};
+use crate::filling::Filling;
+use ledger_bytes::{Digest, Tag};
 
 /// The message that a member proves to append a journal: SHA-256 of the byte 03, the ledger's identity (32 bytes), the
 /// member's number (4 bytes, big-endian), the clue's digest (32 bytes, zeros where there is no clue), the content's
@@ -20,13 +21,14 @@ pub fn request_digest(
     ensures { result.0 ≡ request_digest_of id.now.0 member clue.now.0 content_len
         content_digest.now.0 }
 {
-    let mut hasher = Sha::start(Tag::AppendRequest.byte());
-    hasher.add(&id.0);
-    hasher.add(&member.to_be_bytes());
-    hasher.add(&clue.0);
-    hasher.add(&content_len.to_be_bytes());
-    hasher.add(&content_digest.0);
-    hasher.end()
+    let mut message = Filling::new();
+    message.put(&[Tag::AppendRequest.byte()]);
+    message.put(&id.0);
+    message.put(&member.to_be_bytes());
+    message.put(&clue.0);
+    message.put(&content_len.to_be_bytes());
+    message.put(&content_digest.0);
+    message.digest()
 }
 
 /// The message that member 0 proves to admit a member: SHA-256 of the byte 08, the ledger's identity (32 bytes), the
@@ -34,11 +36,12 @@ pub fn request_digest(
 pub fn member_request_digest(id: &Digest, number: u32, key: &Digest) -> Digest
     ensures { result.0 ≡ member_request_digest_of id.now.0 number key.now.0 }
 {
-    let mut hasher = Sha::start(Tag::MemberRequest.byte());
-    hasher.add(&id.0);
-    hasher.add(&number.to_be_bytes());
-    hasher.add(&key.0);
-    hasher.end()
+    let mut message = Filling::new();
+    message.put(&[Tag::MemberRequest.byte()]);
+    message.put(&id.0);
+    message.put(&number.to_be_bytes());
+    message.put(&key.0);
+    message.digest()
 }
 
 /// The message that members 0 and 1 prove to occult a journal: SHA-256 of the byte 04, the ledger's identity (32 bytes),
@@ -62,11 +65,12 @@ fn placed_digest(tag: Tag, id: &Digest, place: u64, digest: &Digest) -> Digest
     ensures { result.0 ≡ sha256 (byte_of tag ∷ (id.now.0 ++ to_be_bytes w64 place
         ++ digest.now.0)) }
 {
-    let mut hasher = Sha::start(tag.byte());
-    hasher.add(&id.0);
-    hasher.add(&place.to_be_bytes());
-    hasher.add(&digest.0);
-    hasher.end()
+    let mut message = Filling::new();
+    message.put(&[tag.byte()]);
+    message.put(&id.0);
+    message.put(&place.to_be_bytes());
+    message.put(&digest.0);
+    message.digest()
 }
 
 /// The digest of a clue's name: SHA-256 of the byte 0C and the name, or 32 zero bytes for the empty name, which names

@@ -1,7 +1,8 @@
 ghost use Rattle.std.specs.Prelude.{◌≡◌, ℕ, List, length, Some, IfSome, option_map};
 ghost use Rattle.journal_record.specs.Tags.{tag_of, tag_key_of, tag_proof_of};
 
-use ledger_bytes::{Digest, Sha, Tag, TreeHash};
+use crate::filling::Filling;
+use ledger_bytes::{Digest, Tag};
 
 /// The key that a tag proof of this message shows, or `None` where the bytes are no such proof. A tag proof is the
 /// key and the key's tag of the message: 64 bytes, of which the last 32 are SHA-256 of the byte 40, the key and the
@@ -26,8 +27,9 @@ pub fn tag_key(message: &Digest, proof: &[u8]) -> Option<Digest>
 pub fn tag_of(key: &Digest, message: &Digest) -> Digest
     ensures { result.0 ≡ tag_of key.now.0 message.now.0 }
 {
-    let mut hasher = Sha::start(Tag::Proof.byte());
-    hasher.add(&key.0);
-    hasher.add(&message.0);
-    hasher.end()
+    let mut proved = Filling::new();
+    proved.put(&[Tag::Proof.byte()]);
+    proved.put(&key.0);
+    proved.put(&message.0);
+    proved.digest()
 }
