@@ -1,3 +1,4 @@
+pub mod BlockEnds
 pub mod Fields
 pub mod Grammar
 pub mod Limits

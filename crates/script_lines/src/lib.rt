@@ -4,6 +4,7 @@
 mod fields;
 mod laws;
 mod line;
+mod receipt;
 mod reply;
 mod said;
 mod spellings;
@@ -16,6 +17,7 @@ mod words;
 pub use fields::Fields;
 pub use laws::{lines_are_read_back, numbers_are_decimal, other_lines_are_no_receipts};
 pub use line::Line;
+pub use receipt::{BlockEnd, put_receipt};
 pub use reply::{Reply, put_refusal, put_reply, reply_text};
 pub use said::{SaidApproval, Which};
 pub use spellings::{is_bytes, read_bytes, read_clue, read_digest, read_name, read_number};

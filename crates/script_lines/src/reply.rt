@@ -125,11 +125,20 @@ fn put_line(out: &mut Vec<u8>, lane: u8, index: u64, reply: &Reply) -> Result<()
         ≡ out.old.items ++ spec.reply_text lane index reply.now) }
     ensures err { OnErr result (Begins out.old.items out.new.items) }
 {
-    put_number(out, u64::from(lane))?;
-    out.push(b'.')?;
-    put_number(out, index)?;
+    put_front(out, lane, index)?;
     put_reply_words(out, reply)?;
     Ok(out.push(b'\n')?)
+}
+
+/// Appends the line that a reply answers, as `LANE.INDEX`.
+pub(crate) fn put_front(out: &mut Vec<u8>, lane: u8, index: u64) -> Result<(), NoMemory>
+    ensures ok { OnOk result (out.new.items
+        ≡ out.old.items ++ decimal lane ++ codes "." ++ decimal index) }
+    ensures err { OnErr result (Begins out.old.items out.new.items) }
+{
+    put_number(out, u64::from(lane))?;
+    out.push(b'.')?;
+    put_number(out, index)
 }
 
 fn put_reply_words(out: &mut Vec<u8>, reply: &Reply) -> Result<(), NoMemory>
@@ -220,7 +229,7 @@ fn put_placed(
     put_stamp(out, stamp)
 }
 
-fn put_stamp(out: &mut Vec<u8>, stamp: Option<(u64, u64)>) -> Result<(), NoMemory>
+pub(crate) fn put_stamp(out: &mut Vec<u8>, stamp: Option<(u64, u64)>) -> Result<(), NoMemory>
     ensures ok { OnOk result (out.new.items
         ≡ out.old.items ++ spaced_words (spec.stamp_words stamp)) }
     ensures err { OnErr result (Begins out.old.items out.new.items) }
