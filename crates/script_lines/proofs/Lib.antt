@@ -10,3 +10,4 @@ pub mod Fitting
 pub mod WordLaws
 pub mod ReceiptLaws
 pub mod SpokenLaws
+pub mod LaneLaws

@@ -113,6 +113,10 @@ lane_of [] = None
 lane_of (digit ∷ []) = if nat_le 48 digit && nat_lt digit (48 + lanes) then Some (digit - 48) else None
 lane_of (digit ∷ more ∷ text) = None
 
+-- the lane that a digit names, or 0 where that isn't served
+abbrev pub lane_or_zero : ℕ → ℕ
+lane_or_zero digit = if nat_le 48 digit && nat_lt digit (48 + lanes) then digit - 48 else 0
+
 -- a line by its lane and the fields behind that; one whose lane isn't served belongs to lane 0
 abbrev pub spoken_by : Option ℕ → Left → ℕ × Result Line Refusal
 spoken_by None fields = (0, Err BadLane)

@@ -1,5 +1,5 @@
 ghost use Rattle.std.specs.Prelude.{◌≡◌, ◌≤◌, true, IfOk, IfSome};
-ghost use Rattle.script_lines.specs.Grammar.{append_at, member_at, anchor_at, occult_at, get_at, prove_at, extend_at, clue_at, head_at, asked_by, lane_of, spoken_line};
+ghost use Rattle.script_lines.specs.Grammar.{append_at, member_at, anchor_at, occult_at, get_at, prove_at, extend_at, clue_at, head_at, asked_by, lane_of, lane_or_zero, spoken_line};
 ghost use Rattle.script_lines.specs.Fields.{field_at};
 ghost use Rattle.script_lines.specs.Reading.{Reads, fits_read};
 ghost use Rattle.script_lines.specs.Spellings.{text_of};
@@ -45,19 +45,27 @@ pub fn read_line(alloc: Global, line: &[u8]) -> Result<Spoken, NoMemory>
     }
 }
 
-/// The lane that a line belongs to, 0 to 7.
-#[tactic(auto, unfolding(crate::specs::Grammar::spoken_line))]
+/// The lane that a line belongs to, 0 to 7. It looks at the first two bytes alone.
+#[tactic(auto, using(crate::proofs::LaneLaws::lane_of_one, crate::proofs::LaneLaws::lane_of_two, crate::proofs::LaneLaws::lane_of_none, crate::proofs::LaneLaws::lane_of_more))]
 pub fn lane_of_line(line: &[u8]) -> u8
     ensures lane { result ≡ (spoken_line line.now).0 }
     ensures in_range { result ≤ 7 }
 {
-    let mut fields = Fields::of(line);
-    let Ok(text) = fields.text() else {
-        return 0;
-    };
-    match read_lane(text) {
-        Some(lane) => lane,
-        None => 0,
+    match line {
+        [digit] => lane_or_zero(*digit),
+        [digit, b' ', ..] => lane_or_zero(*digit),
+        _ => 0,
+    }
+}
+
+fn lane_or_zero(digit: u8) -> u8
+    ensures lane { result ≡ lane_or_zero digit }
+    ensures in_range { result ≤ 7 }
+{
+    if digit >= b'0' && digit < b'0' + LANES {
+        digit - b'0'
+    } else {
+        0
     }
 }
 
