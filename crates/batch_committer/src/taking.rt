@@ -180,7 +180,12 @@ impl Taking {
             return self.write_dues(sink);
         }
         self.opened.book.seal();
-        spell(&mut self.text, &self.opened.book, self.dues.as_slice())?;
+        spell(
+            self.alloc,
+            &mut self.text,
+            &self.opened.book,
+            self.dues.as_slice(),
+        )?;
         self.block.finish(count, &self.opened.book.head().root)?;
         commit(&mut self.opened.twin, a, b, self.block.as_slice())?;
         give_up(&mut self.opened, a, b)?;
@@ -205,7 +210,12 @@ impl Taking {
             close (λ h. []) end
             (world self.new disks (K.state sink.new))) }
     {
-        spell(&mut self.text, &self.opened.book, self.dues.as_slice())?;
+        spell(
+            self.alloc,
+            &mut self.text,
+            &self.opened.book,
+            self.dues.as_slice(),
+        )?;
         write_all(sink, self.text.as_slice())?;
         self.dues.clear();
         Ok(())
