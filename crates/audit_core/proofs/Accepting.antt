@@ -28,14 +28,14 @@ passed true why rest e = (refl, e)
 passed false why rest e = absurd cc
 
 -- what passes the rows of a proof
-record Passes (hash : Hash) (claim : Claim) (p : Shown) (ledger : KnownLedger) (notary : Option Digest) : Type 0 where
-  claimed : same_claim (claim_of p) claim ≡ true
-  leads : path_leads hash ledger.root p.leaf.0 p.n p.size p.path ≡ true
-  lower : lower_leads hash ledger p p.lo ≡ true
-  upper : upper_leads hash ledger p p.hi ≡ true
-  lower_note : lower_noted hash ledger notary p p.lo ≡ true
-  upper_note : upper_noted hash ledger notary p p.hi ≡ true
-  order : in_order p.lo p.hi ≡ true
+pub record Passes (hash : Hash) (claim : Claim) (p : Shown) (ledger : KnownLedger) (notary : Option Digest) : Type 0 where
+  pub claimed : same_claim (claim_of p) claim ≡ true
+  pub leads : path_leads hash ledger.root p.leaf.0 p.n p.size p.path ≡ true
+  pub lower : lower_leads hash ledger p p.lo ≡ true
+  pub upper : upper_leads hash ledger p p.hi ≡ true
+  pub lower_note : lower_noted hash ledger notary p p.lo ≡ true
+  pub upper_note : upper_noted hash ledger notary p p.hi ≡ true
+  pub order : in_order p.lo p.hi ≡ true
 
 module _ (hash : Hash) (claim : Claim) (p : Shown) (ledger : KnownLedger) (notary : Option Digest) where
   passes : first_failing (rows hash claim p ledger notary) ≡ Ok tt → Passes hash claim p ledger notary
@@ -61,17 +61,17 @@ module _ (hash : Hash) (claim : Claim) (p : Shown) (ledger : KnownLedger) (notar
 -- ---- a proof
 
 -- what a yes to a proof rests on
-record Rests (hash : Hash) (claim : Claim) (p : Shown) (kept : Option KnownLedger) (notary : Option Digest) : Type 0 where
-  ledger : KnownLedger
-  trusted : kept ≡ Some ledger
-  passing : Passes hash claim p ledger notary
+pub record Rests (hash : Hash) (claim : Claim) (p : Shown) (kept : Option KnownLedger) (notary : Option Digest) : Type 0 where
+  pub ledger : KnownLedger
+  pub trusted : kept ≡ Some ledger
+  pub passing : Passes hash claim p ledger notary
 
 -- it is not refused
 not_refused : (test : Bool) (why : No) (r : Result (Unit {0}) No) → cond test (Err why) r ≡ Ok tt → r ≡ Ok tt
 not_refused true why r e = absurd cc
 not_refused false why r e = e
 
-under_found : (hash : Hash) (claim : Claim) (p : Shown) (kept : Option KnownLedger) (notary : Option Digest) → acceptance_under hash claim p kept notary ≡ Ok tt
+pub under_found : (hash : Hash) (claim : Claim) (p : Shown) (kept : Option KnownLedger) (notary : Option Digest) → acceptance_under hash claim p kept notary ≡ Ok tt
     → Rests hash claim p kept notary
 under_found hash claim p None notary e = absurd cc
 under_found hash claim p (Some ledger) notary e =

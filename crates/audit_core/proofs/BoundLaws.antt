@@ -25,14 +25,14 @@ module _ (hash : Hash) (ledger : KnownLedger) where
   noted_means (Some kept) size mark root salt path e = record {
     kept = kept;
     trusted = refl;
-    leads = is_root_means kept (fold_bytes hash (leaf hash (noted_entry hash ledger mark root salt)) mark.index size path) e;
+    leads = is_root_means kept (fold_bytes hash (leaf hash (noted_entry hash ledger.id mark root.0 salt)) mark.index size path) e;
   }
 
   noted_of : (notary : Option Digest) (size : ℕ) (mark : TimeMark) (root salt : Digest) (path : List ℕ)
       → IsNoted hash ledger notary size mark root salt path → is_noted hash ledger notary size mark root salt path ≡ true
   noted_of notary size mark root salt path it =
       ap (λ n. is_noted hash ledger n size mark root salt path) it.trusted
-      ∙ is_root_of it.kept (fold_bytes hash (leaf hash (noted_entry hash ledger mark root salt)) mark.index size path) it.leads
+      ∙ is_root_of it.kept (fold_bytes hash (leaf hash (noted_entry hash ledger.id mark root.0 salt)) mark.index size path) it.leads
 
   module _ (notary : Option Digest) (p : Shown) where
     -- ---- the lower bound

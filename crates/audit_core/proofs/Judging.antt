@@ -1,30 +1,35 @@
 -- A proof that is accepted under the lists' own heads is of a claim that is true of them, or it clashes with them.
-use Rattle.std.proofs.Common.{◌≡◌, ◌≢◌, inl, inr, ℕ, ◌<◌, ltb, Bool, true, false, List, [], length, map, get_or, Option, Some, None, Result, Ok, Err, refl, sym, ap, ◌∙◌, subst, arith}
-use Rattle.std.specs.Prelude.{is_some, IsOk, option_map}
-use Rattle.std.specs.Str.{bytes_eq}
-use Rattle.std.proofs.lemmas.Bool.{cases_Bool, and_from, and_parts, ltb-true, lt-ltb, cases_eq, eq-eqb, ne_eqb, false≢true}
-use Rattle.std.proofs.lemmas.List.{get_or-map}
-use Rattle.std.proofs.lemmas.Slice.Eq.{bytes_eq-Decides}
+use Rattle.std.proofs.Common.{◌≡◌, inl, inr, ℕ, Bool, true, false, List, [], length, Option, Some, None, Result, Ok, Err, refl, sym, ap, ◌∙◌, subst}
+use Rattle.std.specs.Prelude.{IsOk, IfSome, option_map}
+use Rattle.std.proofs.lemmas.Bool.{cases_Bool, cases_eq, eq-eqb, ne_eqb, false≢true}
 use Rattle.ledger_bytes.specs.declared.digest.Digest.{Digest}
 use Rattle.ledger_bytes.specs.declared.failure.Bad.{Bad}
 use Rattle.ledger_bytes.specs.Fields.{IsBytes}
 use Rattle.proof_codec.specs.declared.claim.Claim.{Claim}
-use Rattle.proof_codec.specs.Proofs.{Shown}
+use Rattle.proof_codec.specs.Proofs.{Shown, IsProof}
 use Rattle.proof_codec.specs.Claims.{claim_of}
 use Rattle.proof_codec.specs.Reading.{proof_of}
-use Rattle.tree_model.specs.Tree.{Hash, leaf, mth}
-use Rattle.tree_model.specs.Path.{fold_bytes}
-use Rattle.tree_model.proofs.Folds.{fold_bytes_parts}
+use Rattle.tree_model.specs.Tree.{Hash, mth}
+use Rattle.tree_model.specs.Clash.{Clashes}
+use Rattle.tree_model.proofs.PathClashes.{Makes}
 use Rattle.merkle_tree.specs.declared.clash.Clash.{Clash}
 use Rattle.audit_core.specs.declared.known.KnownLedger.{KnownLedger}
 use Rattle.audit_core.specs.declared.refusal.No.{No}
 use Rattle.audit_core.specs.declared.refusal.No.TheVariants.{Malformed}
 use Rattle.audit_core.specs.declared.verdict.Verdict.{Verdict}
 use Rattle.audit_core.specs.declared.verdict.Verdict.TheVariants.{Unaccepted, True, Clash as Clashing}
+use Rattle.audit_core.specs.Bounds.{IsLowerBound, IsUpperBound}
 use Rattle.audit_core.specs.Acceptance.{place_of, acceptance_of, acceptance_under, acceptance_by}
 use Rattle.audit_core.specs.Truth.{Lists, HasJournal, IsTrueOf}
-use Rattle.audit_core.specs.Judgement.{Judgement, refused, holds, shows, shows_found, has_journal, judgement_by, judgement, told_by, own_root, own_ledger, own_notary, own_acceptance, IsAcceptedByOwn, clash_of, Judges, JudgesShown}
-use Rattle.audit_core.proofs.Accepting.{is_yes, under_leads, yes_found, yes_only}
+use Rattle.audit_core.specs.Parts.{first_of_parts, parts_of, ShownGives}
+use Rattle.audit_core.specs.Deciding.{is_true}
+use Rattle.audit_core.specs.Judgement.{Judgement, refused, holds, shows, shows_found, judgement_by, judgement, told_by, own_root, own_ledger, own_notary, own_acceptance, IsAcceptedByOwn, clash_of, ByOwn, Judges, JudgesShown}
+use Rattle.audit_core.proofs.RootLaws.{is_root_means}
+use Rattle.audit_core.proofs.ClaimLaws.{same_claim_means}
+use Rattle.audit_core.proofs.BoundLaws.{lower_means, upper_means}
+use Rattle.audit_core.proofs.Accepting.{Rests, under_found, is_yes, yes_found, yes_only}
+use Rattle.audit_core.proofs.Bounding.{InOrder, shown_true, gives_by, order_by}
+use Rattle.audit_core.proofs.DecidingLaws.{AreBytes, true_found, true_only}
 
 -- ---- a list's own root
 
@@ -56,40 +61,61 @@ known_found id (Some r) ledger e =
     let same : known ≡ ledger = cc in
     ap (λ (l : KnownLedger). Some l.root) same
 
+pub known_id : (id : Digest) (root : Option Digest) (ledger : KnownLedger) → option_map (λ r. record { id = id; root = r }) root ≡ Some ledger → ledger.id ≡ id
+known_id id None ledger e = absurd cc
+known_id id (Some r) ledger e =
+    let made_of : KnownLedger = record { id = id; root = r } in
+    let same : made_of ≡ ledger = cc in
+    sym (ap (λ (l : KnownLedger). l.id) same)
+
+-- what is known of the notary's list
+noted_found : (hash : Hash) (list : List (List ℕ)) (size : ℕ) (kept : Option Digest) (root : Digest) → kept ≡ own_root hash list size → kept ≡ Some root → (size ≡ length list) × (mth hash list ≡ root.0)
+noted_found hash list size kept root is there = own_found hash list size root (sym is ∙ there)
+
 -- ---- a proof that was read
 
-module _ (hash : Hash) (lists : Lists) (claim : Claim) (p : Shown) where
-  -- it is accepted under the lists' own heads
-  abbrev pub ByOwn : Type 0
-  ByOwn = acceptance_under hash claim p (own_ledger hash lists p.size) (own_notary hash lists p.notary_size) ≡ Ok tt
+module _ (hash : Hash) (lists : Lists) (claim : Claim) (p : Shown) (accepted : ByOwn hash lists claim p) where
+  abbrev known : Option KnownLedger
+  known = own_ledger hash lists p.size
 
-  module _ (accepted : ByOwn) where
-    -- its leaf leads to the list's root
-    pub shown_leads : (p.size ≡ length lists.headers) × (claim_of p ≡ claim) × (fold_bytes hash p.leaf.0 p.n p.size p.path ≡ Some (mth hash lists.headers))
-    shown_leads =
-        let found = under_leads hash claim p (own_ledger hash lists p.size) (own_notary hash lists p.notary_size) accepted in
-        let own = own_found hash lists.headers p.size found.0.root (known_found lists.id (own_root hash lists.headers p.size) found.0 found.1) in
-        (own.0, found.2, found.3 ∙ ap Some (sym own.1))
+  abbrev noted : Option Digest
+  noted = own_notary hash lists p.notary_size
 
-    pub shown_within : p.n < length lists.headers
-    shown_within =
-        let leads = shown_leads in
-        omega (arith, leads.0, (fold_bytes_parts hash p.leaf.0 p.n p.size p.path (ap is_some leads.2)).0)
+  -- what it rests on
+  rests : Rests hash claim p known noted
+  rests = under_found hash claim p known noted accepted
 
-    pub shown_gives : (count : ℕ) → length lists.headers ≡ count → fold_bytes hash p.leaf.0 p.n count p.path ≡ Some (mth hash lists.headers)
-    shown_gives count is = let leads = shown_leads in ap (λ j. fold_bytes hash p.leaf.0 p.n j p.path) (sym (leads.0 ∙ is)) ∙ leads.2
+  own_known : (p.size ≡ length lists.headers) × (mth hash lists.headers ≡ rests.ledger.root.0) × (rests.ledger.id ≡ lists.id)
+  own_known =
+      let root : own_root hash lists.headers p.size ≡ Some rests.ledger.root = known_found lists.id (own_root hash lists.headers p.size) rests.ledger rests.trusted in
+      let own = own_found hash lists.headers p.size rests.ledger.root root in
+      (own.0, own.1, known_id lists.id (own_root hash lists.headers p.size) rests.ledger rests.trusted)
 
-    -- the list has it
-    pub journal_is : bytes_eq (leaf hash (get_or lists.headers p.n [])) p.leaf.0 ≡ true → HasJournal hash lists p.n p.leaf
-    journal_is same = record { within = shown_within; leaf_is = (bytes_eq-Decides (leaf hash (get_or lists.headers p.n [])) p.leaf.0).0 same }
+  pub own_claimed : claim_of p ≡ claim
+  own_claimed = same_claim_means (claim_of p) claim rests.passing.claimed
 
-    -- or has another there
-    pub journal_not : bytes_eq (leaf hash (get_or lists.headers p.n [])) p.leaf.0 ≡ false → HasJournal hash lists p.n p.leaf → ⊥
-    journal_not other it = false≢true (sym other ∙ (bytes_eq-Decides (leaf hash (get_or lists.headers p.n [])) p.leaf.0).1 it.leaf_is)
+  own_lower : IfSome p.lo (IsLowerBound hash rests.ledger noted p)
+  own_lower = lower_means hash rests.ledger noted p p.lo rests.passing.lower rests.passing.lower_note
 
-    pub leaf_other : bytes_eq (leaf hash (get_or lists.headers p.n [])) p.leaf.0 ≡ false → p.leaf.0 ≢ get_or (map (leaf hash) lists.headers) p.n []
-    leaf_other other is =
-        false≢true (sym other ∙ (bytes_eq-Decides (leaf hash (get_or lists.headers p.n [])) p.leaf.0).1 (sym (get_or-map (leaf hash) lists.headers p.n [] [] shown_within) ∙ sym is))
+  own_upper : IfSome p.hi (IsUpperBound hash rests.ledger noted p)
+  own_upper = upper_means hash rests.ledger noted p p.hi rests.passing.upper rests.passing.upper_note
+
+  -- all that it shows leads to the lists' roots
+  pub own_gives : ShownGives hash lists p
+  own_gives =
+      let own = own_known in
+      gives_by hash lists p rests.ledger noted own.0 own.1 own.2 (λ bounded root. noted_found hash lists.entries p.notary_size noted root refl)
+      (is_root_means rests.ledger.root _ rests.passing.leads) own_lower own_upper
+
+  pub own_order : IsProof p → InOrder p
+  own_order is_proof = order_by hash p rests.ledger noted is_proof own_lower own_upper
+
+  -- where its claim isn't told to be true it shows two strings
+  pub false_shows : Makes hash → IsProof p → is_true hash lists claim ≡ false → Clashes hash (first_of_parts (parts_of hash lists p))
+  false_shows makes is_proof not = elim (shown_true hash makes lists p own_gives (own_order is_proof)) [
+    | inl so ↦ absurd (false≢true (sym not ∙ true_only hash lists claim (subst (IsTrueOf hash lists) own_claimed so)))
+    | inr clashes ↦ clashes
+  ]
 
 -- what was computed is known by the lists' own heads; of a proof that is seen as another value
 pub by_own : (hash : Hash) (lists : Lists) (claim : Claim) (q p : Shown) (ledger : Option KnownLedger) (notary : Option Digest) (answer : Result (Unit {0}) No) → q ≡ p
@@ -106,7 +132,7 @@ by_own hash lists claim q p ledger notary answer view ledger_is notary_is e =
 pub unbounded_true : (hash : Hash) (lists : Lists) (claim : Claim) → claim.lo ≡ None → claim.hi ≡ None → HasJournal hash lists claim.n claim.leaf → IsTrueOf hash lists claim
 unbounded_true hash lists claim lower upper it = record { journal = it; lower = rw lower tt; upper = rw upper tt }
 
-module _ (hash : Hash) (lists : Lists) (bytes : List ℕ) (claim : Claim) (fits : IsBytes bytes) (lower : claim.lo ≡ None) (upper : claim.hi ≡ None) where
+module _ (hash : Hash) (lists : Lists) (bytes : List ℕ) (claim : Claim) (fits : IsBytes bytes) where
   pub unread : (bad : Bad) (at : ℕ) → Err bad ≡ proof_of bytes → at ≡ place_of bad → own_acceptance hash lists bytes claim ≡ Err (Malformed at)
   unfolding acceptance_by
   unread bad at read is = ap (acceptance_of hash claim (own_ledger hash lists) (own_notary hash lists)) (sym read) ∙ ap (λ n. Err (Malformed n)) (sym is)
@@ -122,13 +148,12 @@ module _ (hash : Hash) (lists : Lists) (bytes : List ℕ) (claim : Claim) (fits 
     pub judged : (j : Judgement) → JudgesShown hash lists claim p j → Judges hash lists bytes claim j
     unfolding clash_of
     judged (refused why) it = sym answer_is ∙ it
-    judged holds it =
-        let claimed : claim_of p ≡ claim = (shown_leads hash lists claim p it.0).1 in
-        let journal : HasJournal hash lists claim.n claim.leaf = subst (λ (c : Claim). HasJournal hash lists c.n c.leaf) claimed it.1 in
-        (accepted_is it.0, unbounded_true hash lists claim lower upper journal)
-    judged (shows pair) it =
-        let claimed : claim_of p ≡ claim = (shown_leads hash lists claim p it.0).1 in
-        (accepted_is it.0, λ is_true. it.1 (subst (λ (c : Claim). HasJournal hash lists c.n c.leaf) (sym claimed) is_true.journal), rw (← read) it.2)
+    judged holds it = (accepted_is it.0, it.1)
+    judged (shows pair) it = (accepted_is it.0, it.1, rw (← read) it.2)
+
+-- what isn't told to be true isn't
+pub untrue : (hash : Hash) (lists : Lists) (claim : Claim) → is_true hash lists claim ≡ false → IsTrueOf hash lists claim → ⊥
+untrue hash lists claim not it = false≢true (sym not ∙ true_only hash lists claim it)
 
 -- ---- verdicts
 
@@ -162,41 +187,28 @@ module _ (hash : Hash) (lists : Lists) (bytes : List ℕ) (claim : Claim) where
 
 -- ---- what is judged
 
-module _ (hash : Hash) (lists : Lists) (n : ℕ) (digest : Digest) where
-  has_found : has_journal hash lists n digest ≡ true → HasJournal hash lists n digest
-  has_found e =
-      let parts = and_parts (ltb n (length lists.headers)) (bytes_eq (leaf hash (get_or lists.headers n [])) digest.0) e in
-      record { within = ltb-true _ _ parts.0; leaf_is = (bytes_eq-Decides (leaf hash (get_or lists.headers n [])) digest.0).0 parts.1 }
-
-  has_of : HasJournal hash lists n digest → has_journal hash lists n digest ≡ true
-  has_of it = and_from (ltb n (length lists.headers)) (bytes_eq (leaf hash (get_or lists.headers n [])) digest.0) (lt-ltb _ _ it.within) ((bytes_eq-Decides (leaf hash (get_or lists.headers n [])) digest.0).1 it.leaf_is)
-
-module _ (hash : Hash) (lists : Lists) (bytes : List ℕ) (claim : Claim) (lower : claim.lo ≡ None) (upper : claim.hi ≡ None) where
+module _ (hash : Hash) (lists : Lists) (bytes : List ℕ) (claim : Claim) where
   pub accepted_ok : IsAcceptedByOwn hash lists bytes claim → own_acceptance hash lists bytes claim ≡ Ok tt
   accepted_ok it = is_yes (own_acceptance hash lists bytes claim) (yes_only hash bytes claim (own_ledger hash lists) (own_notary hash lists) (own_acceptance hash lists bytes claim) refl it)
 
-  -- a journal that isn't there is not the claim's truth
-  pub untrue : has_journal hash lists claim.n claim.leaf ≡ false → IsTrueOf hash lists claim → ⊥
-  untrue not it = false≢true (sym not ∙ has_of hash lists claim.n claim.leaf it.journal)
-
-  pub judgement_is : (j : Judgement) → Judges hash lists bytes claim j → j ≡ judgement hash lists bytes claim
-  judgement_is (refused why) it = rw it refl
-  judgement_is holds it = rw (accepted_ok it.0, has_of hash lists claim.n claim.leaf it.1.journal) refl
-  judgement_is (shows pair) it = elim (cases_Bool (has_journal hash lists claim.n claim.leaf)) [
-    | inl has ↦ absurd (it.1 (unbounded_true hash lists claim lower upper (has_found hash lists claim.n claim.leaf has)))
+  pub judgement_is : AreBytes lists.headers → (j : Judgement) → Judges hash lists bytes claim j → j ≡ judgement hash lists bytes claim
+  judgement_is are (refused why) it = rw it refl
+  judgement_is are holds it = rw (accepted_ok it.0, true_only hash lists claim it.1) refl
+  judgement_is are (shows pair) it = elim (cases_Bool (is_true hash lists claim)) [
+    | inl is ↦ absurd (it.1 (true_found hash lists claim are is))
     | inr not ↦ rw (accepted_ok it.0, not, it.2.found_is) refl
   ]
 
 -- ---- judgements
 
--- what holds is accepted, and its journal is there
+-- what holds is accepted, and is true
 by_holds : (answer : Result (Unit {0}) No) (has : Bool) (found : Option (List ℕ × List ℕ)) → judgement_by answer has found ≡ holds → (answer ≡ Ok tt) × (has ≡ true)
 by_holds (Err why) has found e = absurd cc
 by_holds (Ok done) true found e = (refl, refl)
 by_holds (Ok done) false None e = absurd cc
 by_holds (Ok done) false (Some pair) e = absurd cc
 
--- what shows strings is accepted, and its journal isn't there
+-- what shows strings is accepted, and isn't true
 by_shows : (answer : Result (Unit {0}) No) (has : Bool) (found : Option (List ℕ × List ℕ)) (pair : List ℕ × List ℕ) → judgement_by answer has found ≡ shows pair → (answer ≡ Ok tt) × (has ≡ false)
 by_shows (Err why) has found pair e = absurd cc
 by_shows (Ok done) true found pair e = absurd cc
@@ -206,27 +218,27 @@ found_shown : (found : Option (List ℕ × List ℕ)) → (pair : List ℕ × Li
 found_shown None = (([], []), refl)
 found_shown (Some pair) = (pair, refl)
 
-module _ (hash : Hash) (lists : Lists) (bytes : List ℕ) (claim : Claim) (fits : IsBytes bytes) (lower : claim.lo ≡ None) (upper : claim.hi ≡ None) where
+module _ (hash : Hash) (lists : Lists) (bytes : List ℕ) (claim : Claim) (fits : IsBytes bytes) (are : AreBytes lists.headers) where
   accepted_own : own_acceptance hash lists bytes claim ≡ Ok tt → IsAcceptedByOwn hash lists bytes claim
   accepted_own e = yes_found hash bytes claim (own_ledger hash lists) (own_notary hash lists) (own_acceptance hash lists bytes claim) fits refl (subst IsOk (sym e) refl)
 
   pub holds_means : judgement hash lists bytes claim ≡ holds → IsAcceptedByOwn hash lists bytes claim × IsTrueOf hash lists claim
   holds_means e =
-      let it = by_holds (own_acceptance hash lists bytes claim) (has_journal hash lists claim.n claim.leaf) (clash_of hash lists bytes) e in
-      (accepted_own it.0, unbounded_true hash lists claim lower upper (has_found hash lists claim.n claim.leaf it.1))
+      let it = by_holds (own_acceptance hash lists bytes claim) (is_true hash lists claim) (clash_of hash lists bytes) e in
+      (accepted_own it.0, true_found hash lists claim are it.1)
 
   pub holds_where : IsAcceptedByOwn hash lists bytes claim → IsTrueOf hash lists claim → judgement hash lists bytes claim ≡ holds
-  holds_where accepted is_true = sym (judgement_is hash lists bytes claim lower upper holds (accepted, is_true))
+  holds_where accepted is_true = sym (judgement_is hash lists bytes claim are holds (accepted, is_true))
 
   pub shows_means : (pair : List ℕ × List ℕ) → judgement hash lists bytes claim ≡ shows pair → IsAcceptedByOwn hash lists bytes claim × (IsTrueOf hash lists claim → ⊥)
   shows_means pair e =
-      let it = by_shows (own_acceptance hash lists bytes claim) (has_journal hash lists claim.n claim.leaf) (clash_of hash lists bytes) pair e in
-      (accepted_own it.0, untrue hash lists bytes claim lower upper it.1)
+      let it = by_shows (own_acceptance hash lists bytes claim) (is_true hash lists claim) (clash_of hash lists bytes) pair e in
+      (accepted_own it.0, untrue hash lists claim it.1)
 
   pub shows_where : IsAcceptedByOwn hash lists bytes claim → (IsTrueOf hash lists claim → ⊥) → (pair : List ℕ × List ℕ) × (judgement hash lists bytes claim ≡ shows pair)
-  shows_where accepted other = elim (cases_Bool (has_journal hash lists claim.n claim.leaf)) [
-    | inl has ↦ absurd (other (unbounded_true hash lists claim lower upper (has_found hash lists claim.n claim.leaf has)))
+  shows_where accepted other = elim (cases_Bool (is_true hash lists claim)) [
+    | inl is ↦ absurd (other (true_found hash lists claim are is))
     | inr not ↦
         let found = found_shown (clash_of hash lists bytes) in
-        (found.0, rw (accepted_ok hash lists bytes claim lower upper accepted, not) found.1)
+        (found.0, rw (accepted_ok hash lists bytes claim accepted, not) found.1)
   ]

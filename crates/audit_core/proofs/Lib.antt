@@ -3,6 +3,10 @@ pub mod ClaimLaws
 pub mod BoundLaws
 pub mod Accepting
 pub mod ExtensionLaws
+pub mod PartLaws
+pub mod Bounding
+pub mod DecidingLaws
 pub mod Judging
 pub mod Truths
 pub mod StayLaws
+pub mod Reaching

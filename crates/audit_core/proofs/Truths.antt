@@ -1,10 +1,9 @@
 -- What is accepted is true of each list under the trusted head, or clashes with it.
-use Rattle.std.proofs.Common.{◌≡◌, ◌⊎◌, inl, inr, ℕ, ◌<◌, ◌≤◌, true, false, List, [], ◌∷◌, length, map, get_or, take, Option, Some, None, Ok, refl, sym, ap, ◌∙◌, subst, arith, length-take, take_all, take-take}
+use Rattle.std.proofs.Common.{◌≡◌, ◌⊎◌, inl, inr, ℕ, ◌<◌, ◌≤◌, List, [], ◌∷◌, ◌++◌, length, map, get_or, take, Option, Some, None, Ok, refl, sym, ap, ◌∙◌, subst, arith, length-take, take_all, take-take, append-nil}
 use Rattle.std.specs.Prelude.{is_some, option_map, option_and_then, IsOk}
 use Rattle.std.specs.Str.{bytes_eq}
-use Rattle.std.proofs.lemmas.Bool.{cases_Bool, false≢true}
-use Rattle.std.proofs.lemmas.List.{get_or-map, get_or-take, length-map, take-map}
-use Rattle.std.proofs.lemmas.Slice.Eq.{bytes_eq-Decides}
+use Rattle.std.proofs.lemmas.Bool.{cases_Bool}
+use Rattle.std.proofs.lemmas.List.{get_or-take}
 use Rattle.ledger_bytes.specs.declared.digest.Digest.{Digest}
 use Rattle.merkle_tree.specs.declared.head.Head.{Head}
 use Rattle.script_lines.specs.declared.said.Which.{Which}
@@ -13,16 +12,12 @@ use Rattle.proof_codec.specs.declared.claim.Claim.{Claim}
 use Rattle.proof_codec.specs.Proofs.{Shown}
 use Rattle.proof_codec.specs.Claims.{lower_mark, upper_mark, claim_of}
 use Rattle.proof_codec.specs.Reading.{proof_of}
-use Rattle.tree_model.specs.Tree.{Hash, leaf, mth, root, cut}
-use Rattle.tree_model.specs.Path.{fold, fold_bytes}
-use Rattle.tree_model.specs.Extension.{fold_proof, fold_proof_bytes}
+use Rattle.tree_model.specs.Tree.{Hash, leaf, mth}
+use Rattle.tree_model.specs.Path.{fold_bytes}
+use Rattle.tree_model.specs.Extension.{fold_proof_bytes}
 use Rattle.tree_model.specs.Clash.{Clashes}
-use Rattle.tree_model.proofs.Pieces.{cut-width}
-use Rattle.tree_model.proofs.Folds.{fold_bytes_whole, fold_bytes_even, fold_bytes_parts}
-use Rattle.tree_model.proofs.ProofFolds.{fold_proof_whole, fold_proof_even, fold_proof_bytes_parts}
-use Rattle.tree_model.proofs.PathClashes.{Makes, path_clashes}
-use Rattle.tree_model.proofs.ProofClashes.{proof_clashes}
-use Rattle.merkle_tree.proofs.Differing.{leaves_long}
+use Rattle.tree_model.proofs.ProofFolds.{fold_proof_bytes_parts}
+use Rattle.tree_model.proofs.PathClashes.{Makes}
 use Rattle.audit_core.specs.declared.known.KnownLedger.{KnownLedger}
 use Rattle.audit_core.specs.declared.refusal.No.{No}
 use Rattle.audit_core.specs.Acceptance.{acceptance_of, acceptance_by, acceptance}
@@ -30,9 +25,11 @@ use Rattle.audit_core.specs.Trust.{Trust, root_of, ledger_at, head_refusal}
 use Rattle.audit_core.specs.Truth.{Lists, HasJournal, IsTrueOf}
 use Rattle.audit_core.specs.Judgement.{IsUnderHead, leaf_clash, clash_of}
 use Rattle.audit_core.specs.Extending.{unless, extension_refusal, extension, extend_refusal, IsExtension}
-use Rattle.audit_core.specs.Chains.{first_of, BeginsWith, extension_clash, Extension, LeadsTo, chain_clash}
+use Rattle.audit_core.specs.Parts.{Part, first_of_parts, path_part, extension_clash, parts_of, PathGives, ExtensionGives}
+use Rattle.audit_core.specs.Chains.{first_of, BeginsWith, Extension, LeadsTo, chain_parts, chain_clash}
 use Rattle.audit_core.proofs.Accepting.{under_leads}
 use Rattle.audit_core.proofs.ExtensionLaws.{neither, extension_found}
+use Rattle.audit_core.proofs.PartLaws.{Leads, told_same, digest_is, path_within, path_shows, path_leads_on, extension_shows, extension_leads_on}
 use Rattle.audit_core.proofs.Judging.{known_found, unbounded_true}
 
 -- what isn't there once it is rewritten wasn't there before
@@ -41,11 +38,11 @@ none_before f None e = refl
 none_before f (Some x) e = absurd cc
 
 -- the root of what is known of a ledger is the trusted one
-root_found : (id root : Option Digest) (ledger : KnownLedger) → option_and_then (λ i. option_map (λ r. record { id = i; root = r }) root) id ≡ Some ledger → root ≡ Some ledger.root
+pub root_found : (id root : Option Digest) (ledger : KnownLedger) → option_and_then (λ i. option_map (λ r. record { id = i; root = r }) root) id ≡ Some ledger → root ≡ Some ledger.root
 root_found None root ledger e = absurd cc
 root_found (Some i) root ledger e = known_found i root ledger e
 
-same_root : (a b : Digest) → Some a ≡ Some b → a.0 ≡ b.0
+pub same_root : (a b : Digest) → Some a ≡ Some b → a.0 ≡ b.0
 same_root a b e = let same : a ≡ b = cc in ap (λ (d : Digest). d.0) same
 
 module _ (hash : Hash) (bytes : List ℕ) (claim : Claim) (trust : Trust) (said : acceptance hash bytes claim trust ≡ Ok tt) (p : Shown) (read : proof_of bytes ≡ Ok p) where
@@ -68,6 +65,11 @@ module _ (hash : Hash) (bytes : List ℕ) (claim : Claim) (trust : Trust) (said 
   pub bare : claim.lo ≡ None → claim.hi ≡ None → (p.lo ≡ None) × (p.hi ≡ None)
   bare lower upper = (none_before lower_mark p.lo (ap (λ (c : Claim). c.lo) claimed_is ∙ lower), none_before upper_mark p.hi (ap (λ (c : Claim). c.hi) claimed_is ∙ upper))
 
+-- the strings of a proof that was read are those of its bytes
+pub shown_of : (hash : Hash) (lists : Lists) (bytes : List ℕ) (p : Shown) → proof_of bytes ≡ Ok p → (goal : Type 0) → goal ⊎ Clashes hash (first_of_parts (parts_of hash lists p)) → goal ⊎ Clashes hash (clash_of hash lists bytes)
+unfolding clash_of
+shown_of hash lists bytes p read goal found = elim found [ inl holds ↦ inl holds | inr clashes ↦ inr (rw read clashes) ]
+
 module _ (hash : Hash) (makes : Makes hash) where
   -- ---- proofs
 
@@ -75,14 +77,11 @@ module _ (hash : Hash) (makes : Makes hash) where
   leaf_true : (lists : Lists) (p : Shown) → length lists.headers ≡ p.size → fold_bytes hash p.leaf.0 p.n p.size p.path ≡ Some (mth hash lists.headers)
       → HasJournal hash lists p.n p.leaf ⊎ Clashes hash (leaf_clash hash lists p)
   leaf_true lists p size_is folds =
-      let within : p.n < length lists.headers = omega (arith, size_is, (fold_bytes_parts hash p.leaf.0 p.n p.size p.path (ap is_some folds)).0) in
-      let whole = fold_bytes_even hash p.leaf.0 p.n p.size p.path (ap is_some folds) in
-      let count : length (map (leaf hash) lists.headers) ≡ p.size = length-map lists.headers (leaf hash) ∙ size_is in
-      elim (cases_Bool (bytes_eq (leaf hash (get_or lists.headers p.n [])) p.leaf.0)) [
-        | inl same ↦ inl (record { within = within; leaf_is = (bytes_eq-Decides (leaf hash (get_or lists.headers p.n [])) p.leaf.0).0 same })
-        | inr other ↦ inr (path_clashes hash makes p.leaf.0 p.n (map (leaf hash) lists.headers) (cut 32 p.path) (leaves_long hash 0 [] [] makes lists.headers) (cut-width 32 p.path)
-            (λ is. false≢true (sym other ∙ (bytes_eq-Decides (leaf hash (get_or lists.headers p.n [])) p.leaf.0).1 (sym (get_or-map (leaf hash) lists.headers p.n [] [] within) ∙ sym is)))
-            (ap (λ j. fold hash p.leaf.0 p.n j (cut 32 p.path)) count ∙ sym (fold_bytes_whole hash p.leaf.0 p.n p.size p.path whole) ∙ folds))
+      let gives : PathGives hash lists.headers p.leaf.0 p.n p.path = ap (λ size. fold_bytes hash p.leaf.0 p.n size p.path) size_is ∙ folds in
+      let within : p.n < length lists.headers = path_within hash makes lists.headers p.leaf.0 p.n p.path gives in
+      elim (cases_Bool (bytes_eq p.leaf.0 (get_or (map (leaf hash) lists.headers) p.n []))) [
+        | inl same ↦ inl (record { within = within; leaf_is = sym (digest_is hash makes lists.headers p.leaf.0 p.n within same) })
+        | inr other ↦ inr (path_shows hash makes lists.headers p.leaf.0 p.n p.path gives other)
       ]
 
   module _ (bytes : List ℕ) (claim : Claim) (trust : Trust) (lists : Lists) (said : acceptance hash bytes claim trust ≡ Ok tt) where
@@ -96,54 +95,53 @@ module _ (hash : Hash) (makes : Makes hash) where
 
     pub yes_true : claim.lo ≡ None → claim.hi ≡ None → IsUnderHead hash trust bytes lists.headers → IsTrueOf hash lists claim ⊎ Clashes hash (clash_of hash lists bytes)
     unfolding clash_of
-    yes_true lower upper under = elim (journal_true under) [
-      | inl has ↦ inl (unbounded_true hash lists claim lower upper has)
-      | inr clashes ↦ inr (rw under.read clashes)
-    ]
+    yes_true lower upper under =
+        let p : Shown = under.proof in
+        let none = bare hash bytes claim trust said p under.read lower upper in
+        let folds = leads_to hash bytes claim trust said p under.read under.root under.trusted ∙ ap Some (sym under.root_is) in
+        let gives : PathGives hash lists.headers p.leaf.0 p.n p.path = ap (λ size. fold_bytes hash p.leaf.0 p.n size p.path) under.count ∙ folds in
+        let parts : parts_of hash lists p ≡ path_part hash lists.headers p.leaf.0 p.n p.path ∷ [] = rw (none.0, none.1) refl in
+        let claimed = claimed_is hash bytes claim trust said p under.read in
+        let found : IsTrueOf hash lists claim ⊎ Clashes hash (first_of_parts (path_part hash lists.headers p.leaf.0 p.n p.path ∷ [])) =
+        path_leads_on hash makes lists.headers p.leaf.0 p.n p.path gives (IsTrueOf hash lists claim) []
+        (λ leaf_is. inl (unbounded_true hash lists claim lower upper
+        (subst (λ (c : Claim). HasJournal hash lists c.n c.leaf) claimed (record { within = path_within hash makes lists.headers p.leaf.0 p.n p.path gives; leaf_is = sym leaf_is })))) in
+        shown_of hash lists bytes p under.read (IsTrueOf hash lists claim) (subst (λ (ps : List Part). IsTrueOf hash lists claim ⊎ Clashes hash (first_of_parts ps)) (sym parts) found)
 
   -- ---- extensions
 
-  module _ (list : List (List ℕ)) (m size : ℕ) (old digests : List ℕ) (size_is : length list ≡ size) (folds : fold_proof_bytes hash m old size digests ≡ Some (mth hash list)) where
-    begins : bytes_eq old (mth hash (take m list)) ≡ true → BeginsWith hash list m old
-    begins same = record {
-      within = omega (arith, size_is, (fold_proof_bytes_parts hash m old size digests (ap is_some folds)).1);
-      root_is = sym ((bytes_eq-Decides old (mth hash (take m list))).0 same);
-    }
-
-    extension_clashes : bytes_eq old (mth hash (take m list)) ≡ false → Clashes hash (extension_clash hash list m old digests)
-    extension_clashes other =
-        let whole = fold_proof_even hash m old size digests (ap is_some folds) in
-        proof_clashes hash makes old m (map (leaf hash) list) (cut 32 digests) (leaves_long hash 0 [] [] makes list) (cut-width 32 digests)
-        (λ is. false≢true (sym other ∙ (bytes_eq-Decides old (mth hash (take m list))).1 (is ∙ ap (root hash) (take-map (leaf hash) m list))))
-        (ap (λ j. fold_proof hash m old j (cut 32 digests)) (length-map list (leaf hash) ∙ size_is) ∙ sym (fold_proof_whole hash m old size digests whole) ∙ folds)
-
-    pub extension_true : BeginsWith hash list m old ⊎ Clashes hash (extension_clash hash list m old digests)
-    extension_true = elim (cases_Bool (bytes_eq old (mth hash (take m list)))) [
-      | inl same ↦ inl (begins same)
-      | inr other ↦ inr (extension_clashes other)
-    ]
+  pub extension_true : (list : List (List ℕ)) (m size : ℕ) (old digests : List ℕ) → length list ≡ size → fold_proof_bytes hash m old size digests ≡ Some (mth hash list)
+      → BeginsWith hash list m old ⊎ Clashes hash (extension_clash hash list m old digests)
+  extension_true list m size old digests size_is folds =
+      let gives : ExtensionGives hash list m old digests = ap (λ count. fold_proof_bytes hash m old count digests) size_is ∙ folds in
+      elim (cases_Bool (bytes_eq old (mth hash (take m list)))) [
+        | inl same ↦ inl (record { within = (fold_proof_bytes_parts hash m old (length list) digests (ap is_some gives)).1; root_is = sym (told_same _ _ same) })
+        | inr other ↦ inr (extension_shows hash makes list m old digests gives other)
+      ]
 
   -- back from the last head
+  pub chain_leads_on : (m : ℕ) (old : List ℕ) (es : List Extension) (size : ℕ) (root : List ℕ) (list : List (List ℕ)) → LeadsTo hash m old es size root → length list ≡ size → mth hash list ≡ root
+      → Leads hash makes list (BeginsWith hash list m old) (chain_parts hash list es)
+  unfolding LeadsTo
+  chain_leads_on m old [] size root list leads size_is root_is goal rest on =
+      let within : m ≤ length list = omega (arith, leads.0, size_is) in
+      on (record { within = within; root_is = ap (mth hash) (take_all m list (omega (arith, leads.0, size_is))) ∙ root_is ∙ sym leads.1 })
+  chain_leads_on m old (e ∷ es) size root list leads size_is root_is goal rest on =
+      let gives : ExtensionGives hash list e.m e.old e.digests = ap (λ count. fold_proof_bytes hash e.m e.old count e.digests) size_is ∙ leads.0 ∙ ap Some (sym root_is) in
+      let within : e.m ≤ length list = (fold_proof_bytes_parts hash e.m e.old (length list) e.digests (ap is_some gives)).1 in
+      let shorter : length (take e.m list) ≡ e.m = omega (arith, length-take e.m list, within) in
+      extension_leads_on hash makes list e.m e.old e.digests gives goal (chain_parts hash (take e.m list) es ++ rest)
+      (λ same. chain_leads_on m old es e.m e.old (take e.m list) leads.1 shorter (sym same) goal rest
+      (λ first.
+      let before : m ≤ e.m = omega (arith, first.within, shorter) in
+      on (record { within = omega (arith, before, within); root_is = ap (mth hash) (sym (take-take m e.m list before)) ∙ first.root_is })))
+
   pub chain_true : (m : ℕ) (old : List ℕ) (es : List Extension) (size : ℕ) (root : List ℕ) (list : List (List ℕ)) → LeadsTo hash m old es size root → length list ≡ size → mth hash list ≡ root
       → BeginsWith hash list m old ⊎ Clashes hash (chain_clash hash list es)
-  unfolding LeadsTo chain_clash
-  chain_true m old [] size root list leads size_is root_is =
-      let within : m ≤ length list = omega (arith, leads.0, size_is) in
-      inl (record { within = within; root_is = ap (mth hash) (take_all m list (omega (arith, leads.0, size_is))) ∙ root_is ∙ sym leads.1 })
-  chain_true m old (e ∷ es) size root list leads size_is root_is =
-      let folds = leads.0 ∙ ap Some (sym root_is) in
-      let parts = fold_proof_bytes_parts hash e.m e.old size e.digests (ap is_some leads.0) in
-      elim (cases_Bool (bytes_eq e.old (mth hash (take e.m list)))) [
-        | inr other ↦ inr (rw other (extension_clashes list e.m size e.old e.digests size_is folds other))
-        | inl same ↦
-            let shorter : length (take e.m list) ≡ e.m = omega (arith, length-take e.m list, parts.1, size_is) in
-            elim (chain_true m old es e.m e.old (take e.m list) leads.1 shorter (sym ((bytes_eq-Decides e.old (mth hash (take e.m list))).0 same))) [
-              | inl first ↦
-                  let before : m ≤ e.m = omega (arith, first.within, shorter) in
-                  inl (record { within = omega (arith, before, parts.1, size_is); root_is = ap (mth hash) (sym (take-take m e.m list before)) ∙ first.root_is })
-              | inr clashes ↦ inr (rw same clashes)
-            ]
-      ]
+  unfolding chain_clash
+  chain_true m old es size root list leads size_is root_is =
+      subst (λ (parts : List Part). BeginsWith hash list m old ⊎ Clashes hash (first_of_parts parts)) (append-nil (chain_parts hash list es))
+      (chain_leads_on m old es size root list leads size_is root_is (BeginsWith hash list m old) [] (λ starts. inl starts))
 
   -- a claim that is true of the first journals is true of all
   journal_grows : (lists : Lists) (m n : ℕ) (digest : Digest) → HasJournal hash (first_of m lists) n digest → HasJournal hash lists n digest

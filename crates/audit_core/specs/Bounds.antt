@@ -26,15 +26,16 @@ upper_leads hash ledger p None = true
 upper_leads hash ledger p (Some u) =
     nat_lt p.n u.mark.jsn && proof_leads hash ledger.root u.mark.jsn u.root p.size u.ext
 
--- what the notary's list has at a mark: its time, the peg of the first journals of the ledger by their root, and a salt
-abbrev pub noted_entry : Hash → KnownLedger → TimeMark → Digest → Digest → List ℕ
-noted_entry hash ledger mark root salt = entry_of mark.time (hash (peg_string ledger.id.0 mark.jsn root.0)) salt.0
+-- what the notary's list has at a mark: its time, the peg of the first journals of the ledger with this id by their root,
+-- and a salt
+abbrev pub noted_entry : Hash → Digest → TimeMark → List ℕ → Digest → List ℕ
+noted_entry hash id mark root salt = entry_of mark.time (hash (peg_string id.0 mark.jsn root)) salt.0
 
 -- does this lead to the notary's root, which is to be known?
 abbrev pub is_noted : Hash → KnownLedger → Option Digest → ℕ → TimeMark → Digest → Digest → List ℕ → Bool
 is_noted hash ledger None size mark root salt path = false
 is_noted hash ledger (Some notary) size mark root salt path =
-    path_leads hash notary (leaf hash (noted_entry hash ledger mark root salt)) mark.index size path
+    path_leads hash notary (leaf hash (noted_entry hash ledger.id mark root.0 salt)) mark.index size path
 
 -- the entry of each bound does
 abbrev pub lower_noted : Hash → KnownLedger → Option Digest → Shown → Option ShownLower → Bool
@@ -59,7 +60,7 @@ in_order (Some l) (Some u) = nat_le (lower_mark l).time u.mark.time
 pub record IsNoted (hash : Hash) (ledger : KnownLedger) (notary : Option Digest) (size : ℕ) (mark : TimeMark) (root salt : Digest) (path : List ℕ) : Type 0 where
   pub kept : Digest
   pub trusted : notary ≡ Some kept
-  pub leads : fold_bytes hash (leaf hash (noted_entry hash ledger mark root salt)) mark.index size path ≡ Some kept.0
+  pub leads : fold_bytes hash (leaf hash (noted_entry hash ledger.id mark root.0 salt)) mark.index size path ≡ Some kept.0
 
 pub record IsLowerBound (hash : Hash) (ledger : KnownLedger) (notary : Option Digest) (p : Shown) (l : ShownLower) : Type 0 where
   pub before : (lower_mark l).jsn < p.n

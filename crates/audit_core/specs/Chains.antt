@@ -1,10 +1,13 @@
 -- What an extension of a head says of a list under the new head, and extensions one after the other.
-use Rattle.std.specs.Prelude.{◌≡◌, ℕ, ◌≤◌, if◌then◌else◌, List, [], ◌∷◌, length, map, take, Option, None, Some}
-use Rattle.std.specs.Str.{bytes_eq}
-use Rattle.tree_model.specs.Tree.{Hash, leaf, mth, cut}
+use Rattle.std.specs.Prelude.{◌≡◌, ℕ, ◌≤◌, Bool, true, false, List, [], ◌∷◌, ◌++◌, length, take, Option, Some}
+use Rattle.ledger_bytes.specs.declared.digest.Digest.{Digest}
+use Rattle.proof_codec.specs.Proofs.{Shown, is_bounded}
+use Rattle.script_lines.specs.declared.said.Which.TheVariants.{Ledger, Notary}
+use Rattle.tree_model.specs.Tree.{Hash, mth}
 use Rattle.tree_model.specs.Extension.{fold_proof_bytes}
-use Rattle.tree_model.specs.Clash.{proof_clash}
+use Rattle.audit_core.specs.Trust.{Trust, root_of}
 use Rattle.audit_core.specs.Truth.{Lists}
+use Rattle.audit_core.specs.Parts.{Part, first_of_parts, extension_part, parts_of}
 
 -- the lists with the headers of the first m journals alone
 abbrev pub first_of : ℕ → Lists → Lists
@@ -14,10 +17,6 @@ first_of m lists = record { id = lists.id; headers = take m lists.headers; entri
 pub record BeginsWith (hash : Hash) (list : List (List ℕ)) (m : ℕ) (root : List ℕ) : Type 0 where
   pub within : m ≤ length list
   pub root_is : mth hash (take m list) ≡ root
-
--- the two strings that the digests of an extension from this root of the first m items show, going down from the root
-abbrev pub extension_clash : Hash → List (List ℕ) → ℕ → List ℕ → List ℕ → Option (List ℕ × List ℕ)
-extension_clash hash list m old digests = proof_clash hash m old (map (leaf hash) list) (cut 32 digests)
 
 -- an extension of the head of m items with this root, by the digests of a proof
 pub record Extension : Type 0 where
@@ -31,9 +30,44 @@ LeadsTo hash m old [] size root = (m ≡ size) × (old ≡ root)
 LeadsTo hash m old (e ∷ es) size root =
     (fold_proof_bytes hash e.m e.old size e.digests ≡ Some root) × LeadsTo hash m old es e.m e.old
 
+-- the parts of extensions, back from the last head: each by the items in front of the head that the one behind it extends
+abbrev pub chain_parts : Hash → List (List ℕ) → List Extension → List Part
+chain_parts hash list [] = []
+chain_parts hash list (e ∷ es) = extension_part hash list e.m e.old e.digests ∷ chain_parts hash (take e.m list) es
+
 -- the two strings of the first extension, back from the last head, whose old root isn't that of the list's first items
 unfoldable pub chain_clash : Hash → List (List ℕ) → List Extension → Option (List ℕ × List ℕ)
-chain_clash hash list [] = None
-chain_clash hash list (e ∷ es) =
-    if bytes_eq e.old (mth hash (take e.m list)) then chain_clash hash (take e.m list) es
-    else extension_clash hash list e.m e.old e.digests
+chain_clash hash list es = first_of_parts (chain_parts hash list es)
+
+-- ---- lists under a head that extensions lead to
+
+-- from the trusted root of a size these lead to the list's own head; where there are none that is the trusted one
+pub record IsReached (hash : Hash) (roots : ℕ → Option Digest) (size : ℕ) (extensions : List Extension) (list : List (List ℕ)) : Type 0 where
+  pub root : Digest
+  pub trusted : roots size ≡ Some root
+  pub leads : LeadsTo hash size root.0 extensions (length list) (mth hash list)
+
+-- the ledger with the trusted id, whose list is reached from the head that a proof names; where it has a bound the notary's is too
+pub record AreReached (hash : Hash) (trust : Trust) (p : Shown) (ledger notary : List Extension) (lists : Lists) : Type 0 where
+  pub id : trust.id ≡ Some lists.id
+  pub headers : IsReached hash (root_of Ledger trust) p.size ledger lists.headers
+  pub entries : is_bounded p.lo p.hi ≡ true → IsReached hash (root_of Notary trust) p.notary_size notary lists.entries
+
+-- the lists as they were under the heads that a proof names
+abbrev pub named_by : Shown → Lists → Lists
+named_by p lists = record { id = lists.id; headers = take p.size lists.headers; entries = take p.notary_size lists.entries }
+
+-- the parts of extensions of the notary, where a proof has a bound
+abbrev pub chain_if : Bool → Hash → List (List ℕ) → List Extension → List Part
+chain_if true hash list es = chain_parts hash list es
+chain_if false hash list es = []
+
+-- all parts of what leads from a proof to lists: the extensions of the ledger, those of the notary, and the proof's own
+abbrev pub reached_parts : Hash → Lists → Shown → List Extension → List Extension → List Part
+reached_parts hash lists p ledger notary =
+    chain_parts hash lists.headers ledger
+    ++ (chain_if (is_bounded p.lo p.hi) hash lists.entries notary ++ parts_of hash (named_by p lists) p)
+
+-- the strings of the first of them that tells what isn't of the lists
+unfoldable pub reached_clash : Hash → Lists → Shown → List Extension → List Extension → Option (List ℕ × List ℕ)
+reached_clash hash lists p ledger notary = first_of_parts (reached_parts hash lists p ledger notary)

@@ -1,13 +1,12 @@
 -- How a proof of a claim is judged by the whole lists, under their own heads.
-use Rattle.std.specs.Prelude.{◌≡◌, ℕ, ◌==◌, ◌&&◌, nat_lt, Bool, true, false, if◌then◌else◌, List, [], length, map, get_or, Option, Some, None, option_map, Result, Ok, Err}
-use Rattle.std.specs.Str.{bytes_eq}
+use Rattle.std.specs.Prelude.{◌≡◌, ℕ, ◌==◌, Bool, true, false, if◌then◌else◌, List, [], length, map, Option, Some, None, option_map, Result, Ok, Err}
 use Rattle.ledger_bytes.specs.declared.digest.Digest.{Digest}
 use Rattle.ledger_bytes.specs.declared.failure.Bad.{Bad}
 use Rattle.proof_codec.specs.declared.claim.Claim.{Claim}
 use Rattle.proof_codec.specs.Proofs.{Shown}
 use Rattle.proof_codec.specs.Reading.{proof_of}
 use Rattle.tree_model.specs.Tree.{Hash, leaf, mth, cut}
-use Rattle.tree_model.specs.Clash.{IsClash, path_clash}
+use Rattle.tree_model.specs.Clash.{path_clash}
 use Rattle.merkle_tree.specs.Strings.{pair_of}
 use Rattle.audit_core.specs.declared.known.KnownLedger.{KnownLedger}
 use Rattle.audit_core.specs.declared.refusal.No.{No}
@@ -16,7 +15,9 @@ use Rattle.audit_core.specs.declared.verdict.Verdict.TheVariants as verdict
 use Rattle.script_lines.specs.declared.said.Which.TheVariants.{Ledger}
 use Rattle.audit_core.specs.Trust.{Trust, root_of}
 use Rattle.audit_core.specs.Acceptance.{acceptance_by, acceptance_under, IsAcceptedBy}
-use Rattle.audit_core.specs.Truth.{Lists, HasJournal, IsTrueOf}
+use Rattle.audit_core.specs.Truth.{Lists, IsTrueOf}
+use Rattle.audit_core.specs.Parts.{first_of_parts, parts_of, IsClashOf}
+use Rattle.audit_core.specs.Deciding.{is_true}
 
 -- ---- acceptance under the lists' own heads
 
@@ -59,17 +60,12 @@ abbrev pub leaf_clash : Hash → Lists → Shown → Option (List ℕ × List �
 leaf_clash hash lists p = path_clash hash p.leaf.0 p.n (map (leaf hash) lists.headers) (cut 32 p.path)
 
 abbrev pub clash_in : Hash → Lists → Result Shown Bad → Option (List ℕ × List ℕ)
-clash_in hash lists (Ok p) = leaf_clash hash lists p
+clash_in hash lists (Ok p) = first_of_parts (parts_of hash lists p)
 clash_in hash lists (Err bad) = None
 
--- those that the bytes of a proof without bounds show: its leaf's path is all that it has
+-- those that the bytes of a proof show: of its first part that tells what isn't of the lists
 unfoldable pub clash_of : Hash → Lists → List ℕ → Option (List ℕ × List ℕ)
 clash_of hash lists bytes = clash_in hash lists (proof_of bytes)
-
--- the two strings that are shown are those that were found, the proof's first, and have one digest
-pub record IsClashOf (hash : Hash) (found : Option (List ℕ × List ℕ)) (shown : List ℕ × List ℕ) : Type 0 where
-  pub found_is : found ≡ Some shown
-  pub clashes : IsClash hash shown.0 shown.1
 
 -- ---- judgements
 
@@ -85,20 +81,16 @@ abbrev pub shows_found : Option (List ℕ × List ℕ) → Judgement
 shows_found None = shows ([], [])
 shows_found (Some pair) = shows pair
 
--- is it so that the ledger has a journal n, with this digest of its leaf?
-abbrev pub has_journal : Hash → Lists → ℕ → Digest → Bool
-has_journal hash lists n digest = nat_lt n (length lists.headers) && bytes_eq (leaf hash (get_or lists.headers n [])) digest.0
-
 -- what is judged by an answer, by whether the claim holds, and by the strings that are found
 abbrev pub judgement_by : Result (Unit {0}) No → Bool → Option (List ℕ × List ℕ) → Judgement
 judgement_by (Err why) has found = refused why
 judgement_by (Ok done) true found = holds
 judgement_by (Ok done) false found = shows_found found
 
--- how the bytes of a proof of a claim without bounds are judged by the lists
+-- how the bytes of a proof of a claim are judged by the lists
 abbrev pub judgement : Hash → Lists → List ℕ → Claim → Judgement
 judgement hash lists bytes claim =
-    judgement_by (own_acceptance hash lists bytes claim) (has_journal hash lists claim.n claim.leaf) (clash_of hash lists bytes)
+    judgement_by (own_acceptance hash lists bytes claim) (is_true hash lists claim) (clash_of hash lists bytes)
 
 -- the judgement that a verdict tells
 abbrev pub told_by : Verdict → Judgement
@@ -115,13 +107,14 @@ Judges hash lists bytes claim (shows pair) =
     IsAcceptedByOwn hash lists bytes claim × (IsTrueOf hash lists claim → ⊥)
     × IsClashOf hash (clash_of hash lists bytes) pair
 
--- the same of a proof that was read, by its leaf alone
+-- a proof that was read is accepted under the lists' own heads
+abbrev pub ByOwn : Hash → Lists → Claim → Shown → Type 0
+ByOwn hash lists claim p = acceptance_under hash claim p (own_ledger hash lists p.size) (own_notary hash lists p.notary_size) ≡ Ok tt
+
+-- the same of a proof that was read
 abbrev pub JudgesShown : Hash → Lists → Claim → Shown → Judgement → Type 0
 JudgesShown hash lists claim p (refused why) =
     acceptance_under hash claim p (own_ledger hash lists p.size) (own_notary hash lists p.notary_size) ≡ Err why
-JudgesShown hash lists claim p holds =
-    (acceptance_under hash claim p (own_ledger hash lists p.size) (own_notary hash lists p.notary_size) ≡ Ok tt)
-    × HasJournal hash lists p.n p.leaf
+JudgesShown hash lists claim p holds = ByOwn hash lists claim p × IsTrueOf hash lists claim
 JudgesShown hash lists claim p (shows pair) =
-    (acceptance_under hash claim p (own_ledger hash lists p.size) (own_notary hash lists p.notary_size) ≡ Ok tt)
-    × (HasJournal hash lists p.n p.leaf → ⊥) × IsClashOf hash (leaf_clash hash lists p) pair
+    ByOwn hash lists claim p × (IsTrueOf hash lists claim → ⊥) × IsClashOf hash (first_of_parts (parts_of hash lists p)) pair

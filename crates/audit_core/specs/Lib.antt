@@ -4,5 +4,8 @@ pub mod Bounds
 pub mod Acceptance
 pub mod Extending
 pub mod Truth
+pub mod Parts
+pub mod Deciding
 pub mod Judgement
 pub mod Chains
+pub mod Honest

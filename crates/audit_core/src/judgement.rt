@@ -1,24 +1,35 @@
-ghost use Rattle.std.specs.Prelude.{◌≡◌, ◌↔◌, ℕ, ◌/◌, ◌%◌, ◌<◌, ◌≤◌, length, get_or, [], None, Ok, Err};
-ghost use Rattle.std.specs.Str.{bytes_eq};
-ghost use Rattle.tree_model.specs.Tree.{leaf, cut};
+ghost use Rattle.std.specs.Prelude.{◌≡◌, ◌↔◌, ℕ, ◌%◌, ◌<◌, ◌≤◌, List, length, [], Ok, Err};
+ghost use Rattle.tree_model.specs.Tree.{cut};
+ghost use Rattle.tree_model.specs.Clash.{Clashes};
 ghost use Rattle.merkle_tree.specs.declared.clash.Clash.{Clash as ClashRecord};
 ghost use Rattle.merkle_tree.specs.Strings.{pair_of};
+ghost use Rattle.proof_codec.specs.Proofs.{IsProof};
 ghost use Rattle.audit_core.specs.declared.refusal.No.{No as Refusal};
 ghost use Rattle.audit_core.specs.Truth.{lists_of, IsTrueOf};
-ghost use Rattle.audit_core.specs.Judgement.{own_root, own_ledger, own_acceptance, IsAcceptedByOwn, clash_of, IsClashOf, judgement, told_by, Judges, JudgesShown};
+ghost use Rattle.audit_core.specs.Parts.{first_of_parts, parts_of, ShownGives, IsClashOf};
+ghost use Rattle.audit_core.specs.Honest.{IsHonest, AreMoments};
+ghost use Rattle.audit_core.specs.Judgement.{own_root, own_ledger, own_notary, own_acceptance, IsAcceptedByOwn, clash_of, judgement, told_by, Judges, JudgesShown};
 
 use crate::acceptance::{accept_under, place_of};
 use crate::known::KnownLedger;
+use crate::parts::first_clash;
+use crate::pieces::piece_count;
+use crate::truth::is_true;
 use crate::{No, Verdict};
 use journal_record::HEADER_LEN;
 use ledger_bytes::{Digest, TreeHash};
-use merkle_tree::{clash_path, leaf_of, mth};
+use merkle_tree::{Clash, mth};
 use proof_codec::{Claim, Proof};
 use time_peg::ENTRY_LEN;
 
-/// Judges a proof of a claim without bounds by the whole lists: the headers of all journals of the ledger with this id,
-/// 174 bytes each, and all entries of its notary, 72 bytes each. It trusts the lists' own heads and no other. It takes
-/// no memory. It hashes the lists once, and for a clash the headers again, at most once for each digest of the path.
+/// Judges a proof of a claim by the whole lists: the headers of all journals of the ledger with this id, 174 bytes each,
+/// and all entries of its notary, 72 bytes each. It trusts the lists' own heads and no other. Where a claim that is
+/// accepted is false, the two strings are those of the first of these that isn't of the lists: the leaf's path; the path
+/// of the lower bound's header, that header, and its extension; the extension of the upper bound; the path of the lower
+/// bound's entry, and that entry; the path of the upper bound's entry, and that entry.
+///
+/// It takes no memory. It hashes the lists once, and the headers in front of each bound again; for a clash also a list
+/// again, at most once for each digest of a path or an extension.
 pub fn judge<H: TreeHash>(
     id: &Digest,
     headers: &[u8],
@@ -28,8 +39,6 @@ pub fn judge<H: TreeHash>(
 ) -> Verdict
     requires ledger { length headers.now % 174 ≡ 0 }
     requires notary { length entries.now % 72 ≡ 0 }
-    requires lower { claim.now.lo ≡ None }
-    requires upper { claim.now.hi ≡ None }
     ensures exact { told_by result
         ≡ judgement H.of (lists_of id.now headers.now entries.now) proof.now claim.now }
     // A proof that isn't accepted is refused, with what `accept` answers under these heads.
@@ -46,6 +55,10 @@ pub fn judge<H: TreeHash>(
     ensures strings { (found : ClashRecord) → result ≡ Verdict.Clash found
         → IsClashOf H.of (clash_of H.of (lists_of id.now headers.now entries.now) proof.now)
         (pair_of found) }
+    // Where the notary is honest, the bounds of a claim that holds are moments.
+    ensures moments { (moments : List ℕ) → result ≡ Verdict.True
+        → IsHonest H.of (lists_of id.now headers.now entries.now) moments
+        → AreMoments moments claim.now }
 {
     verdict_of::<H>(id, headers, entries, proof, claim)
 }
@@ -59,8 +72,6 @@ fn verdict_of<H: TreeHash>(
 ) -> Verdict
     requires ledger { length headers.now % 174 ≡ 0 }
     requires notary { length entries.now % 72 ≡ 0 }
-    requires lower { claim.now.lo ≡ None }
-    requires upper { claim.now.hi ≡ None }
     ensures { Judges H.of (lists_of id.now headers.now entries.now) proof.now claim.now
         (told_by result) }
 {
@@ -70,7 +81,7 @@ fn verdict_of<H: TreeHash>(
     }
 }
 
-// Judges a proof that was read. Without bounds a claim is true where the ledger has the proof's leaf.
+// Judges a proof that was read.
 fn judge_shown<H: TreeHash>(
     id: &Digest,
     headers: &[u8],
@@ -80,6 +91,7 @@ fn judge_shown<H: TreeHash>(
 ) -> Verdict
     requires ledger { length headers.now % 174 ≡ 0 }
     requires notary { length entries.now % 72 ≡ 0 }
+    requires proof { IsProof shown.now }
     ensures { JudgesShown H.of
         (lists_of id.now headers.now entries.now) claim.now shown.now (told_by result) }
 {
@@ -88,13 +100,29 @@ fn judge_shown<H: TreeHash>(
     match accept_under::<H>(shown, claim, ledger, notary) {
         Err(no) => Verdict::Unaccepted(no),
         Ok(()) => {
-            let (leaf, n) = (&shown.leaf, shown.n);
-            if has_leaf::<H>(headers, n, leaf) {
+            if is_true::<H>(id, headers, entries, claim) {
                 Verdict::True
             } else {
-                Verdict::Clash(clash_path::<H>(headers, HEADER_LEN, leaf, n, shown.path))
+                Verdict::Clash(shown_clash::<H>(id, headers, entries, shown))
             }
         }
+    }
+}
+
+// The strings that an accepted proof shows, where it shows some.
+fn shown_clash<H: TreeHash>(id: &Digest, headers: &[u8], entries: &[u8], shown: &Proof) -> Clash
+    requires ledger { length headers.now % 174 ≡ 0 }
+    requires notary { length entries.now % 72 ≡ 0 }
+    requires gives { ShownGives H.of (lists_of id.now headers.now entries.now) shown.now }
+    requires shows { Clashes H.of
+        (first_of_parts (parts_of H.of (lists_of id.now headers.now entries.now) shown.now)) }
+    ensures { IsClashOf H.of
+        (first_of_parts (parts_of H.of (lists_of id.now headers.now entries.now) shown.now))
+        (pair_of result) }
+{
+    match first_clash::<H>(id, headers, entries, shown) {
+        Some(clash) => clash,
+        None => unreachable!(),
     }
 }
 
@@ -114,26 +142,9 @@ fn root_at<H: TreeHash>(flat: &[u8], width: usize, size: u64) -> Option<Digest>
     requires whole { length flat.now % width ≡ 0 }
     ensures { result ≡ own_root H.of (cut width flat.now) size }
 {
-    if size == (flat.len() / width) as u64 {
+    if size == piece_count(flat, width) {
         Some(mth::<H>(flat, width))
     } else {
         None
     }
-}
-
-// Does the list have this leaf digest there?
-fn has_leaf<H: TreeHash>(headers: &[u8], n: u64, digest: &Digest) -> bool
-    requires { n < length headers.now / 174 }
-    ensures { result ≡ bytes_eq (leaf H.of (get_or (cut 174 headers.now) n [])) digest.now.0 }
-{
-    leaf_of::<H>(header_at(headers, n)) == *digest
-}
-
-// One header of the list.
-fn header_at(headers: &[u8], n: u64) -> &[u8]
-    requires { n < length headers.now / 174 }
-    ensures { result.now ≡ get_or (cut 174 headers.now) n [] }
-{
-    let at = n as usize * HEADER_LEN;
-    &headers[at..at + HEADER_LEN]
 }

@@ -1,5 +1,6 @@
-ghost use Rattle.std.specs.Prelude.{◌≡◌, ◌⊎◌, ℕ, List, ◌∷◌, length, Some, None, Ok};
+ghost use Rattle.std.specs.Prelude.{◌≡◌, ◌⊎◌, ℕ, List, [], ◌∷◌, length, Some, None, Ok};
 ghost use Rattle.ledger_bytes.specs.declared.digest.Digest.{Digest as DigestRecord};
+ghost use Rattle.ledger_bytes.specs.Fields.{IsBytes};
 ghost use Rattle.merkle_tree.specs.declared.head.Head.{Head as HeadRecord};
 ghost use Rattle.proof_codec.specs.declared.claim.Claim.{Claim as ClaimRecord};
 ghost use Rattle.proof_codec.specs.Proofs.{Shown};
@@ -13,7 +14,9 @@ ghost use Rattle.audit_core.specs.Acceptance.{acceptance, IsAccepted};
 ghost use Rattle.audit_core.specs.Extending.{extend_refusal, IsExtension};
 ghost use Rattle.audit_core.specs.Truth.{Lists, HasJournal, IsTrueOf};
 ghost use Rattle.audit_core.specs.Judgement.{IsUnderHead, leaf_clash, clash_of};
-ghost use Rattle.audit_core.specs.Chains.{first_of, BeginsWith, extension_clash, Extension, LeadsTo, chain_clash};
+ghost use Rattle.audit_core.specs.Parts.{extension_clash};
+ghost use Rattle.audit_core.specs.Honest.{IsHonest, AreMoments};
+ghost use Rattle.audit_core.specs.Chains.{first_of, BeginsWith, Extension, LeadsTo, chain_clash, AreReached, named_by, reached_clash};
 
 /// Where `accept` says yes, the claim is true of each list of headers under the trusted head that the proof names, or the
 /// proof and the list show two different strings with one digest. This rests on the bytes and the trusted heads alone,
@@ -36,6 +39,12 @@ pub fn yes_is_true()
         (lists : Lists) → ((message : List ℕ) → length (hash message) ≡ 32)
         → acceptance hash bytes claim trust ≡ Ok tt → claim.lo ≡ None → claim.hi ≡ None
         → IsUnderHead hash trust bytes lists.headers
+        → IsTrueOf hash lists claim ⊎ Clashes hash (clash_of hash lists bytes) }
+    // With bounds the claim is true of each list of headers and each list of entries under the heads that the proof names.
+    ensures bounded { (hash : Hash) (bytes : List ℕ) (claim : ClaimRecord) (trust : Trust)
+        (lists : Lists) (proof : Shown) → ((message : List ℕ) → length (hash message) ≡ 32)
+        → IsBytes bytes → acceptance hash bytes claim trust ≡ Ok tt → proof_of bytes ≡ Ok proof
+        → AreReached hash trust proof [] [] lists
         → IsTrueOf hash lists claim ⊎ Clashes hash (clash_of hash lists bytes) }
 {}
 
@@ -76,7 +85,7 @@ pub fn extensions_are_true()
 /// Where `accept` says yes, the claim is also true of each list of headers under another head that extensions lead to
 /// from the one that the proof names, or they or the proof show two different strings with one digest.
 pub fn yes_stays_true()
-    ensures { (hash : Hash) (bytes : List ℕ) (claim : ClaimRecord) (trust : Trust)
+    ensures unbounded { (hash : Hash) (bytes : List ℕ) (claim : ClaimRecord) (trust : Trust)
         (lists : Lists) (proof : Shown) (root : DigestRecord) (extensions : List Extension)
         (head : HeadRecord) → ((message : List ℕ) → length (hash message) ≡ 32)
         → acceptance hash bytes claim trust ≡ Ok tt → claim.lo ≡ None → claim.hi ≡ None
@@ -85,6 +94,28 @@ pub fn yes_stays_true()
         → length lists.headers ≡ head.size → mth hash lists.headers ≡ head.root.0
         → IsTrueOf hash lists claim ⊎ (Clashes hash (chain_clash hash lists.headers extensions)
         ⊎ Clashes hash (clash_of hash (first_of proof.size lists) bytes)) }
+    // So it is with bounds, where extensions lead to the lists' heads from those that the proof names. The strings are those
+    // of the first that isn't of the lists: of the ledger's extensions, back from the last head, of the notary's, and then of
+    // the proof's parts.
+    ensures bounded { (hash : Hash) (bytes : List ℕ) (claim : ClaimRecord) (trust : Trust)
+        (lists : Lists) (proof : Shown) (ledger notary : List Extension)
+        → ((message : List ℕ) → length (hash message) ≡ 32)
+        → IsBytes bytes → acceptance hash bytes claim trust ≡ Ok tt → proof_of bytes ≡ Ok proof
+        → AreReached hash trust proof ledger notary lists
+        → IsTrueOf hash lists claim ⊎ Clashes hash (reached_clash hash lists proof ledger notary) }
+{}
+
+/// A claim stays true when the lists grow.
+pub fn claims_stay_true()
+    ensures { (hash : Hash) (claim : ClaimRecord) (proof : Shown) (lists : Lists)
+        → IsTrueOf hash (named_by proof lists) claim → IsTrueOf hash lists claim }
+{}
+
+/// Where a claim is true, and the notary is honest about the ledger whose journals were placed at these moments, the
+/// time in front isn't after the moment of the claim's journal, and the time behind isn't before it.
+pub fn honest_bounds_are_moments()
+    ensures { (hash : Hash) (lists : Lists) (claim : ClaimRecord) (moments : List ℕ)
+        → IsTrueOf hash lists claim → IsHonest hash lists moments → AreMoments moments claim }
 {}
 
 /// What was accepted stays accepted where more heads are trusted.

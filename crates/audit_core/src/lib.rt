@@ -9,7 +9,10 @@ mod judgement;
 mod known;
 mod laws;
 mod leading;
+mod parts;
+mod pieces;
 mod refusal;
+mod truth;
 mod verdict;
 
 pub use acceptance::accept;
@@ -17,8 +20,8 @@ pub use extension::check_extension;
 pub use heads::Heads;
 pub use judgement::judge;
 pub use laws::{
-    accepted_proofs_stay_accepted, extension_is_true, extensions_are_true, yes_is_true,
-    yes_stays_true,
+    accepted_proofs_stay_accepted, claims_stay_true, extension_is_true, extensions_are_true,
+    honest_bounds_are_moments, yes_is_true, yes_stays_true,
 };
 pub use refusal::{No, TrustErr};
 pub use verdict::Verdict;

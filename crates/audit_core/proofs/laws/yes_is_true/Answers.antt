@@ -1,4 +1,5 @@
 use Rattle.audit_core.proofs.Truths.{journal_true, bare, yes_true}
+use Rattle.audit_core.proofs.Reaching.{plain_true}
 use Rattle.audit_core.proofs.laws.yes_is_true.Goals as goal
 
 pub returns-clause-journal : goal.returns-clause-journal
@@ -9,3 +10,7 @@ returns-clause-bare c hash bytes claim trust proof said lower upper read = bare 
 
 pub returns-clause-unbounded : goal.returns-clause-unbounded
 returns-clause-unbounded c hash bytes claim trust lists makes said lower upper under = yes_true hash makes bytes claim trust lists said lower upper under
+
+pub returns-clause-bounded : goal.returns-clause-bounded
+returns-clause-bounded c hash bytes claim trust lists proof makes fits said read reached =
+    plain_true hash makes bytes claim trust lists proof fits said read reached
