@@ -22,6 +22,8 @@ use Rattle.audit_cli.specs.Answers.{answer_to}
 use Rattle.audit_cli.specs.Replies.{reply_text}
 use Rattle.audit_cli.specs.Runs.{Answers, ServedScript}
 use Rattle.audit_cli.specs.Texts.{audit_text, next_text}
+use Rattle.tree_model.proofs.PathClashes.{Makes}
+use Rattle.audit_cli.proofs.SoundLaws.{answered}
 use Rattle.audit_cli.proofs.TextLaws.{text_more, text_begins, text_whole}
 use Rattle.audit_cli.proofs.SessionLaws.{SoFar, next_is}
 
@@ -39,7 +41,7 @@ part_begins hash lines tail line taken fewer =
     omega (arith, fewer, ap length all, ap length whole, length-append text reply, length-append text (take taken reply), length-append (text ++ take taken reply) (drop taken reply ++ more.rest), length-append (drop taken reply) more.rest, length-append (text ++ take taken reply) (drop taken reply), length-take-le taken reply (omega (arith, fewer))) in
     (record { rest = drop taken reply ++ more.rest; is = all }, short)
 
-module _ (hash : Hash) (before now : Outside) (source : SourceState) (old new : Reading) (bytes : List ℕ) (trust : Trust) (count : ℕ) (s : SoFar hash before now old trust count) (r : Reads now.source source old new bytes) where
+module _ (hash : Hash) (makes : Makes hash) (before now : Outside) (source : SourceState) (old new : Reading) (bytes : List ℕ) (trust : Trust) (count : ℕ) (s : SoFar hash before now old trust count) (r : Reads now.source source old new bytes) where
   read_consumed : Consumes before.source.left source.left (s.input.read ++ bytes)
   read_consumed = given_consumed before.source now.source source old new bytes s.lines s.input r
 
@@ -47,18 +49,18 @@ module _ (hash : Hash) (before now : Outside) (source : SourceState) (old new : 
   pub served_done : source.faults ≡ now.source.faults → GivesNone now.source source old new bytes → ServedScript hash ending.Done before (outside source now.sink)
   served_done k g =
       served_end (Answers hash) before None source now.sink (s.input.read ++ bytes) (audit_text hash s.lines) s.lines read_consumed
-      (ended_whole before.source now.source source old new bytes s.lines s.input r k g) refl s.output.appended s.output.none
+      (ended_whole before.source now.source source old new bytes s.lines s.input r k g) (answered hash makes s.lines) s.output.appended s.output.none
 
   -- the text that was written begins that of the lines that were given and any that follow
   begun : (tail : List (List ℕ)) → SomeAnswer (Answers hash) (s.lines ++ tail) (Begins (audit_text hash s.lines))
-  begun tail = (audit_text hash (s.lines ++ tail), refl, text_begins hash s.lines tail)
+  begun tail = (audit_text hash (s.lines ++ tail), answered hash makes (s.lines ++ tail), text_begins hash s.lines tail)
 
   -- an error of reading ends the session
   failed : (error : LineErr) → error ≢ NoMemory → source.faults ≡ faults_next {T = Option (List ℕ)} (Err error) old.failed now.source.faults → Fails now.source source old new bytes error
       → ServedScript hash (ending_of error) before (outside source now.sink)
   failed error other k f =
       served_end (Answers hash) before (Some error) source now.sink (s.input.read ++ bytes) (audit_text hash s.lines) s.lines read_consumed
-      (ended_failed before.source now.source source old new bytes s.lines s.input r error other k f) refl s.output.appended s.output.none
+      (ended_failed before.source now.source source old new bytes s.lines s.input r error other k f) (answered hash makes s.lines) s.output.appended s.output.none
 
   served_failed : (error : LineErr) → source.faults ≡ faults_next {T = Option (List ℕ)} (Err error) old.failed now.source.faults → Fails now.source source old new bytes error
       → ServedScript hash (ending_of error) before (outside source now.sink)
@@ -113,7 +115,7 @@ module _ (hash : Hash) (before now : Outside) (source : SourceState) (old new : 
           replied = (
             rw (none.0, none.1) at one,
             some_of_given (Answers hash) before.source source new (s.lines ++ line ∷ []) more (FallsShort replies)
-                (λ tail. (audit_text hash ((s.lines ++ line ∷ []) ++ tail), refl, part_begins hash s.lines tail line taken fewer)),
+                (λ tail. (audit_text hash ((s.lines ++ line ∷ []) ++ tail), answered hash makes ((s.lines ++ line ∷ []) ++ tail), part_begins hash s.lines tail line taken fewer)),
           );
         }
 

@@ -1,5 +1,5 @@
--- A line that asks to judge a proof gives the bytes of a proof and a claim without bounds.
-use Rattle.std.proofs.Common.{◌≡◌, ℕ, ◌*◌, ◌-◌, ◌^◌, ◌&&◌, nat_le, if◌then◌else◌, Bool, true, false, cond, List, [], ◌∷◌, length, get_or, codes, Option, Some, None, Result, Ok, Err, refl, ap, subst, arith}
+-- A line that asks to check or to judge a proof gives bytes.
+use Rattle.std.proofs.Common.{◌≡◌, ℕ, ◌*◌, ◌-◌, ◌^◌, ◌%◌, ◌==◌, ◌&&◌, nat_le, if◌then◌else◌, Bool, true, false, cond, List, [], ◌∷◌, length, get_or, codes, Option, Some, None, Result, Ok, Err, refl, ap, subst, arith}
 use Rattle.std.specs.Prelude.{⊤}
 use Rattle.std.specs.Result.{result_ok}
 use Rattle.std.specs.Str.{bytes_eq}
@@ -13,26 +13,25 @@ use Rattle.ledger_io.specs.Lines.{line_limit}
 use Rattle.proof_codec.specs.declared.claim.Claim.{Claim}
 use Rattle.script_lines.specs.Fields.{Left, fields_of, read_or_bad, field_from, field_at, end_from, end_at}
 use Rattle.script_lines.specs.Grammar.{◌>>=◌}
-use Rattle.script_lines.specs.Spellings.{text_of, word_of, number_of, bytes_of, digest_of, which_of, mark_of, is_dash}
+use Rattle.script_lines.specs.Spellings.{text_of, number_of, bytes_of, digest_of, which_of, mark_of, is_dash}
 use Rattle.script_lines.specs.declared.said.Which.{Which}
 use Rattle.script_lines.specs.declared.said.Which.TheVariants.{Ledger, Notary}
 use Rattle.audit_cli.specs.declared.line.Line.{Line}
 use Rattle.audit_cli.specs.declared.line.Line.TheVariants.{TrustLedger, TrustNotary, Extend, Check, Judge}
-use Rattle.audit_cli.specs.Grammar.{trust_ledger_at, trust_notary_at, trust_of, trust_at, extend_at, check_at, pieces_of, judge_at, verb_at, line_at, line_of}
+use Rattle.audit_cli.specs.Grammar.{trust_ledger_at, trust_notary_at, trust_of, trust_at, extend_at, check_at, pieces_from, pieces_of, judge_at, verb_at, line_at, line_of}
 
--- these bytes and this claim can be judged
-pub record Judgeable (proof : List ℕ) (claim : Claim) : Type 0 where
-  pub bytes : IsBytes proof
-  pub lower : claim.lo ≡ None
-  pub upper : claim.hi ≡ None
+-- the headers and the proof that are to be judged are bytes
+pub record Judgeable (headers proof : List ℕ) : Type 0 where
+  pub headers_are : IsBytes headers
+  pub proof_is : IsBytes proof
 
--- what is read, where it asks to judge, can be
+-- what is read, where it asks for a proof, has bytes
 abbrev Gives : Result Line Refusal → Type 0
 Gives (Ok (TrustLedger id head)) = ⊤
 Gives (Ok (TrustNotary head)) = ⊤
 Gives (Ok (Extend which m head proof)) = ⊤
-Gives (Ok (Check claim proof)) = ⊤
-Gives (Ok (Judge id headers entries claim proof)) = Judgeable proof claim
+Gives (Ok (Check claim proof)) = IsBytes proof
+Gives (Ok (Judge id headers entries claim proof)) = Judgeable headers proof
 Gives (Err refusal) = ⊤
 
 -- what a field reads as keeps to a rule
@@ -84,19 +83,30 @@ bytes_are most text bytes is =
           ] some
     ] is
 
+-- .. in whole pieces too
+pieces_are : (width : ℕ) (text bytes : List ℕ) → pieces_of width text ≡ Some bytes → IsBytes bytes
+pieces_are width text bytes is = by (bytes_of line_limit text) refl is where
+  kept : (whole : Bool) (given : List ℕ) → cond whole (Some given) None ≡ Some bytes → given ≡ bytes
+  kept true given e = cc
+  kept false given e = absurd cc
+
+  by : (read : Option (List ℕ)) → bytes_of line_limit text ≡ read → pieces_from width read ≡ Some bytes → IsBytes bytes
+  by None read e = absurd cc
+  by (Some given) read e = subst IsBytes (kept (length given % width == 0) given e) (bytes_are line_limit text given read)
+
 judge_gives : (fields : Left) → Gives (judge_at fields)
 unfolding judge_at
 judge_gives fields =
     any_gives digest_of fields _ (λ id.
-    any_gives (pieces_of 174) id.1 _ (λ headers.
+    then_gives IsBytes _ _ (field_reads IsBytes (pieces_of 174) id.1 (pieces_are 174)) (λ headers headers_are.
     any_gives (pieces_of 72) headers.1 _ (λ entries.
     any_gives (number_of (2 ^ 64 - 1)) entries.1 _ (λ n.
     any_gives digest_of n.1 _ (λ leaf.
-    any_gives (word_of (codes "-")) leaf.1 _ (λ lo.
-    any_gives (word_of (codes "-")) lo.1 _ (λ hi.
-    then_gives IsBytes _ _ (field_reads IsBytes (bytes_of line_limit) hi.1 (bytes_are line_limit)) (λ proof are.
-    end_gives proof.1 (Judge id.0 headers.0 entries.0 (record { n = n.0; leaf = leaf.0; lo = None; hi = None }) proof.0)
-    (record { bytes = are; lower = refl; upper = refl })))))))))
+    any_gives mark_of leaf.1 _ (λ lo.
+    any_gives mark_of lo.1 _ (λ hi.
+    then_gives IsBytes _ _ (field_reads IsBytes (bytes_of line_limit) hi.1 (bytes_are line_limit)) (λ proof proof_is.
+    end_gives proof.1 (Judge id.0 headers.0 entries.0 (record { n = n.0; leaf = leaf.0; lo = lo.0; hi = hi.0 }) proof.0)
+    (record { headers_are = headers_are; proof_is = proof_is })))))))))
 
 trust_ledger_gives : (fields : Left) → Gives (trust_ledger_at fields)
 unfolding trust_ledger_at
@@ -136,8 +146,8 @@ check_gives fields =
     any_gives digest_of n.1 _ (λ leaf.
     any_gives mark_of leaf.1 _ (λ lo.
     any_gives mark_of lo.1 _ (λ hi.
-    any_gives (bytes_of line_limit) hi.1 _ (λ proof.
-    end_gives proof.1 (Check (record { n = n.0; leaf = leaf.0; lo = lo.0; hi = hi.0 }) proof.0) tt)))))
+    then_gives IsBytes _ _ (field_reads IsBytes (bytes_of line_limit) hi.1 (bytes_are line_limit)) (λ proof proof_is.
+    end_gives proof.1 (Check (record { n = n.0; leaf = leaf.0; lo = lo.0; hi = hi.0 }) proof.0) proof_is)))))
 
 -- one of two
 either_gives : (b : Bool) (x y : Result Line Refusal) → Gives x → Gives y → Gives (if b then x else y)
@@ -155,5 +165,8 @@ line_gives : (fields : Left) → Gives (line_at fields)
 unfolding line_at
 line_gives fields = any_gives text_of fields _ (λ verb. verb_gives verb.0 verb.1)
 
-pub judged_line : (line : List ℕ) (id : Digest) (headers entries : List ℕ) (claim : Claim) (bytes : List ℕ) → line_of line ≡ Ok (Judge id headers entries claim bytes) → Judgeable bytes claim
+pub judged_line : (line : List ℕ) (id : Digest) (headers entries : List ℕ) (claim : Claim) (bytes : List ℕ) → line_of line ≡ Ok (Judge id headers entries claim bytes) → Judgeable headers bytes
 judged_line line id headers entries claim bytes read = subst Gives read (line_gives (fields_of line))
+
+pub checked_line : (line : List ℕ) (claim : Claim) (bytes : List ℕ) → line_of line ≡ Ok (Check claim bytes) → IsBytes bytes
+checked_line line claim bytes read = subst Gives read (line_gives (fields_of line))

@@ -1,7 +1,8 @@
 pub mod TextLaws
 pub mod SessionLaws
-pub mod EndLaws
 pub mod TopLaws
 pub mod JudgedLines
 pub mod YesLaws
 pub mod LineLaws
+pub mod SoundLaws
+pub mod EndLaws

@@ -1,6 +1,6 @@
 -- Lemmas on the lines of an audit's text: each reply is one.
 use Rattle.std.specs.Prelude.{codes, decimal}
-use Rattle.std.proofs.Common.{◌≡◌, ◌≢◌, refl, sym, ap, ◌∙◌, ℕ, zero, suc, ◌+◌, ◌/◌, ◌%◌, ◌==◌, nat_lt, Bool, true, false, cond, if◌then◌else◌, List, [], ◌∷◌, ◌++◌, length, Result, Ok, Err, arith, append_assoc}
+use Rattle.std.proofs.Common.{◌≡◌, ◌≢◌, refl, sym, ap, ◌∙◌, ℕ, zero, suc, ◌+◌, ◌/◌, ◌%◌, ◌==◌, nat_lt, Bool, true, false, cond, if◌then◌else◌, List, [], ◌∷◌, ◌++◌, length, get_or, Result, Ok, Err, arith, append_assoc}
 use Rattle.std.proofs.lemmas.List.Elements.{All-nil, All-cons, All-append}
 use Rattle.std.specs.Fmt.{digit_glyph, digits_onto, digits}
 use Rattle.ledger_bytes.specs.Codes.{refusal_code}
@@ -20,7 +20,7 @@ use Rattle.audit_cli.specs.declared.reply.Reply.{Reply}
 use Rattle.audit_cli.specs.declared.reply.Reply.TheVariants as reply
 use Rattle.audit_cli.specs.Answers.{answer_to, trust_after}
 use Rattle.audit_cli.specs.Replies.{no_words, reply_words, reply_text, IsOneLine}
-use Rattle.audit_cli.specs.Texts.{text_from, audit_text}
+use Rattle.audit_cli.specs.Texts.{trust_through, text_from, audit_text}
 
 -- ---- words
 
@@ -107,23 +107,38 @@ spaced_unbroken (word ∷ words) are =
     All-cons (λ b. b ≢ 10) 32 (word ++ spaced_words words) (λ is. omega (arith, is))
     (All-append (λ b. b ≢ 10) word (spaced_words words) (word_unbroken word are.0) (spaced_unbroken words are.1))
 
-pub reply_line : (number : ℕ) (given : Reply) → IsOneLine (reply_text number given)
-reply_line number given = record {
-  front = decimal number ++ spaced_words (reply_words given);
-  is = refl;
-  unbroken = All-append (λ b. b ≢ 10) (decimal number) (spaced_words (reply_words given)) (word_unbroken (decimal number) (number_word number)) (spaced_unbroken (reply_words given) (reply_are given));
-}
+-- the words of a reply behind its number
+abbrev pub words_of : ℕ → Reply → List ℕ
+words_of number given = decimal number ++ spaced_words (reply_words given)
 
--- a line in front of a text is one more
-one_more : (text rest : List ℕ) → IsOneLine text → length (lines_of (text ++ rest)) ≡ length (lines_of rest) + 1
-one_more text rest it =
-    let one : lines_of (text ++ rest) ≡ it.front ∷ lines_of rest =
-    ap (λ t. lines_of (t ++ rest)) it.is ∙ ap lines_of (append_assoc it.front (codes "\n") rest) ∙ lines_of-line it.front rest it.unbroken in
-    omega (arith, ap length one)
+reply_unbroken : (number : ℕ) (given : Reply) → IsUnbroken (words_of number given)
+reply_unbroken number given = All-append (λ b. b ≢ 10) (decimal number) (spaced_words (reply_words given)) (word_unbroken (decimal number) (number_word number)) (spaced_unbroken (reply_words given) (reply_are given))
+
+pub reply_line : (number : ℕ) (given : Reply) → IsOneLine (reply_text number given)
+reply_line number given = record { front = words_of number given; is = refl; unbroken = reply_unbroken number given }
+
+-- a reply in front of a text is its first line
+first_line : (number : ℕ) (given : Reply) (rest : List ℕ) → lines_of (reply_text number given ++ rest) ≡ words_of number given ∷ lines_of rest
+first_line number given rest = ap lines_of (append_assoc (words_of number given) (codes "\n") rest) ∙ lines_of-line (words_of number given) rest (reply_unbroken number given)
+
+-- the line of a text that answers a line of a script
+pub text_line : (hash : Hash) (trust : Trust) (number : ℕ) (before : List (List ℕ)) (line : List ℕ) (rest : List (List ℕ))
+    → get_or (lines_of (text_from hash trust number (before ++ line ∷ rest))) (length before) []
+    ≡ words_of (length before + number) (answer_to hash (trust_through hash trust before) line)
+text_line hash trust number [] line rest =
+    let given = answer_to hash trust line in
+    let none : number ≡ 0 + number = omega arith in
+    ap (λ (ls : List (List ℕ)). get_or ls 0 []) (first_line number given (text_from hash (trust_after hash trust line) (number + 1) rest)) ∙ ap (λ n. words_of n given) none
+text_line hash trust number (first ∷ before) line rest =
+    let behind = trust_after hash trust first in
+    let one : length before + (number + 1) ≡ length (first ∷ before) + number = omega arith in
+    ap (λ (ls : List (List ℕ)). get_or ls (length (first ∷ before)) []) (first_line number (answer_to hash trust first) (text_from hash behind (number + 1) (before ++ line ∷ rest)))
+    ∙ text_line hash behind (number + 1) before line rest
+    ∙ ap (λ n. words_of n (answer_to hash (trust_through hash behind before) line)) one
 
 pub text_lines : (hash : Hash) (trust : Trust) (number : ℕ) (lines : List (List ℕ)) → length (lines_of (text_from hash trust number lines)) ≡ length lines
 text_lines hash trust number [] = refl
 text_lines hash trust number (line ∷ lines) =
     let behind = trust_after hash trust line in
-    let more = one_more (reply_text number (answer_to hash trust line)) (text_from hash behind (number + 1) lines) (reply_line number (answer_to hash trust line)) in
-    omega (arith, more, text_lines hash behind (number + 1) lines)
+    let more = first_line number (answer_to hash trust line) (text_from hash behind (number + 1) lines) in
+    omega (arith, ap length more, text_lines hash behind (number + 1) lines)

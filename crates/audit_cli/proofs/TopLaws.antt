@@ -1,12 +1,16 @@
 -- Lemmas on the whole of a run.
-use Rattle.std.proofs.Common.{◌≡◌, ◌≢◌, ◌↔◌, ℕ, Option, Some, None, refl}
-use Rattle.ledger_io.specs.Endings.{last_line}
-use Rattle.ledger_io.specs.Outside.{SourceState, SinkState, outside}
+use Rattle.std.proofs.Common.{◌≡◌, ◌≢◌, ◌↔◌, ℕ, List, [], ◌∷◌, ◌++◌, Option, Some, None, refl, sym, ap, ◌∙◌, subst, append-nil}
+use Rattle.std.specs.Io.KnownBytes.{Appends}
+use Rattle.std.proofs.KnownBytes.{Appends-trans}
+use Rattle.ledger_io.specs.Endings.{status_of, last_line}
+use Rattle.ledger_io.specs.Outside.{SourceState, SinkState, Outside, outside}
+use Rattle.ledger_io.specs.Runs.{Ran}
 use Rattle.ledger_io.specs.Writing.{WritesLast}
 use Rattle.ledger_io.specs.declared.ending.Ending.{Ending}
-use Rattle.ledger_io.specs.declared.ending.Ending.TheVariants.{Usage}
+use Rattle.ledger_io.specs.declared.ending.Ending.TheVariants.{Done, Usage, ReadFault, WriteFault, NoMemory, LineTooLong, ScriptTooLong}
 use Rattle.ledger_io.proofs.RunLaws.{served_usage}
 use Rattle.tree_model.specs.Tree.{Hash}
+use Rattle.audit_cli.specs.Sound.{IsSound, SoundRun}
 use Rattle.audit_cli.specs.Runs.{Answers, RanProgram}
 use Rattle.audit_cli.specs.declared.words.Command.{Command}
 use Rattle.audit_cli.specs.declared.words.Command.TheVariants.{Script}
@@ -23,3 +27,37 @@ ran_usage hash asked status source before after none is l = record {
   usage = (λ e. none, λ e. refl);
   ran = record { sink = before; served = served_usage (Answers hash) (outside source before); last = l };
 }
+
+-- ---- a run that is done
+
+-- what begins no bytes is none
+nil_front : (xs ys : List ℕ) → [] ≡ xs ++ ys → xs ≡ []
+nil_front [] ys e = refl
+nil_front (x ∷ xs) ys e = absurd cc
+
+done_sound : (hash : Hash) (before after : Outside) → Ran (Answers hash) Done before after → SoundRun hash before after
+done_sound hash before after ran =
+    let served = ran.served in
+    let told = served.replied in
+    let none : ran.last.last ≡ [] = nil_front ran.last.last ran.last.front.rest ran.last.front.is in
+    let written = Appends-trans before.sink.held ran.sink.held after.sink.held served.replies ran.last.last served.appended ran.last.appended in
+    record {
+      read = served.read;
+      text = served.replies;
+      consumed = served.consumed;
+      at_end = told.ended.1;
+      written = subst (Appends before.sink.held after.sink.held) (ap (λ last. served.replies ++ last) none ∙ append-nil served.replies) written;
+      sound = subst (λ lines. IsSound hash lines served.replies) told.ended.3 told.answered.sound;
+    }
+
+ending_sound : (hash : Hash) (ending : Ending) (before after : Outside) → status_of ending ≡ 0 → Ran (Answers hash) ending before after → SoundRun hash before after
+ending_sound hash Done before after e ran = done_sound hash before after ran
+ending_sound hash Usage before after e ran = absurd cc
+ending_sound hash ReadFault before after e ran = absurd cc
+ending_sound hash WriteFault before after e ran = absurd cc
+ending_sound hash NoMemory before after e ran = absurd cc
+ending_sound hash LineTooLong before after e ran = absurd cc
+ending_sound hash ScriptTooLong before after e ran = absurd cc
+
+pub run_sound : (hash : Hash) (asked : Option Command) (status : ℕ) (before after : Outside) → RanProgram hash asked status before after → status ≡ 0 → SoundRun hash before after
+run_sound hash asked status before after ran zero_is = ending_sound hash ran.ending before after (sym ran.status_is ∙ zero_is) ran.ran

@@ -1,11 +1,13 @@
 -- Lemmas on what is answered yes, true or clash.
-use Rattle.std.proofs.Common.{◌≡◌, ◌⊎◌, ◌↔◌, ℕ, List, ◌++◌, get_or, length, Option, None, Some, Result, Ok, Err, refl, sym, ap, ◌∙◌, append_assoc}
+use Rattle.std.proofs.Common.{◌≡◌, ◌⊎◌, ◌↔◌, ℕ, List, [], ◌++◌, get_or, length, Option, None, Some, Result, Ok, Err, refl, sym, ap, ◌∙◌, append_assoc}
 use Rattle.std.specs.Prelude.{codes, decimal, ◌==◌, true}
 use Rattle.std.proofs.lemmas.Bool.{false≢true}
 use Rattle.std.proofs.lemmas.List.{append_cancel_left}
 use Rattle.ledger_bytes.specs.declared.digest.Digest.{Digest}
 use Rattle.merkle_tree.specs.declared.head.Head.{Head}
 use Rattle.proof_codec.specs.declared.claim.Claim.{Claim}
+use Rattle.proof_codec.specs.Proofs.{Shown}
+use Rattle.proof_codec.specs.Reading.{proof_of}
 use Rattle.script_lines.specs.Words.{spaced_words}
 use Rattle.script_lines.specs.declared.said.Which.{Which}
 use Rattle.tree_model.specs.Tree.{Hash, mth}
@@ -17,16 +19,19 @@ use Rattle.audit_core.specs.Acceptance.{acceptance}
 use Rattle.audit_core.specs.Extending.{extend_refusal}
 use Rattle.audit_core.specs.Truth.{Lists, lists_of, HasJournal, IsTrueOf}
 use Rattle.audit_core.specs.Judgement.{Judgement, refused, holds, shows, judgement, IsAcceptedByOwn, IsUnderHead, leaf_clash, clash_of}
-use Rattle.audit_core.specs.Chains.{BeginsWith, extension_clash}
+use Rattle.audit_core.specs.Parts.{extension_clash}
+use Rattle.audit_core.specs.Chains.{BeginsWith, AreReached}
+use Rattle.audit_core.proofs.DecidingLaws.{pieces_bytes}
 use Rattle.audit_core.proofs.Judging.{holds_means, holds_where, shows_means, shows_where}
 use Rattle.audit_core.proofs.Truths.{journal_true, yes_true, extension_of, extension_true}
+use Rattle.audit_core.proofs.Reaching.{plain_true}
 use Rattle.audit_cli.specs.declared.line.Line.TheVariants.{Extend, Check, Judge}
 use Rattle.audit_cli.specs.declared.reply.Reply.{Reply}
 use Rattle.audit_cli.specs.declared.reply.Reply.TheVariants as reply
 use Rattle.audit_cli.specs.Answers.{trust_reply, verdict, judge_reply, reply_to, answer_to}
 use Rattle.audit_cli.specs.Grammar.{line_of}
 use Rattle.audit_cli.specs.Replies.{reply_words, reply_text}
-use Rattle.audit_cli.proofs.JudgedLines.{Judgeable, judged_line}
+use Rattle.audit_cli.proofs.JudgedLines.{Judgeable, judged_line, checked_line}
 
 -- ---- the word
 
@@ -75,11 +80,11 @@ told_yes number given = (λ same. yes_alone given (behind_number number given re
 
 -- ---- what it rests on
 
-accepted : (said : Result (Unit {0}) No) → verdict said ≡ reply.Yes → said ≡ Ok tt
+pub accepted : (said : Result (Unit {0}) No) → verdict said ≡ reply.Yes → said ≡ Ok tt
 accepted (Ok done) e = refl
 accepted (Err why) e = absurd cc
 
-unrefused : (refusal : Option No) → trust_reply refusal ≡ reply.Yes → refusal ≡ None
+pub unrefused : (refusal : Option No) → trust_reply refusal ≡ reply.Yes → refusal ≡ None
 unrefused None e = refl
 unrefused (Some why) e = absurd cc
 
@@ -95,6 +100,12 @@ module _ (hash : Hash) (makes : Makes hash) (trust : Trust) (line : List ℕ) (s
   check_true claim bytes lists read lower upper under =
       let said : acceptance hash bytes claim trust ≡ Ok tt = accepted (acceptance hash bytes claim trust) (ap (reply_to hash trust) (sym read) ∙ says) in
       yes_true hash makes bytes claim trust lists said lower upper under
+
+  pub check_bounded : (claim : Claim) (bytes : List ℕ) (p : Shown) (lists : Lists) → line_of line ≡ Ok (Check claim bytes) → proof_of bytes ≡ Ok p → AreReached hash trust p [] [] lists
+      → IsTrueOf hash lists claim ⊎ Clashes hash (clash_of hash lists bytes)
+  check_bounded claim bytes p lists read shown reached =
+      let said : acceptance hash bytes claim trust ≡ Ok tt = accepted (acceptance hash bytes claim trust) (ap (reply_to hash trust) (sym read) ∙ says) in
+      plain_true hash makes bytes claim trust lists p (checked_line line claim bytes read) said shown reached
 
   pub extend_true : (which : Which) (m : ℕ) (head : Head) (bytes : List ℕ) (list : List (List ℕ)) → line_of line ≡ Ok (Extend which m head bytes) → length list ≡ head.size → mth hash list ≡ head.root.0
       → (old : Digest) × (root_of which trust m ≡ Some old) × (BeginsWith hash list m old.0 ⊎ Clashes hash (extension_clash hash list m old.0 bytes))
@@ -119,7 +130,7 @@ module _ (hash : Hash) (trust : Trust) (number : ℕ) (line : List ℕ) (id : Di
   abbrev lists : Lists
   lists = lists_of id headers entries
 
-  judged : Judgeable bytes claim
+  judged : Judgeable headers bytes
   judged = judged_line line id headers entries claim bytes read
 
   reply_is : answer_to hash trust line ≡ judge_reply (judgement hash lists bytes claim)
@@ -129,8 +140,8 @@ module _ (hash : Hash) (trust : Trust) (number : ℕ) (line : List ℕ) (id : Di
   judged_true = (
     λ same.
         let is : answer_to hash trust line ≡ reply.True = true_alone (answer_to hash trust line) (behind_number number (answer_to hash trust line) reply.True same) in
-        holds_means hash lists bytes claim judged.bytes judged.lower judged.upper (true_judged (judgement hash lists bytes claim) (sym reply_is ∙ is)),
-    λ both. ap (reply_text number) (reply_is ∙ ap judge_reply (holds_where hash lists bytes claim judged.bytes judged.lower judged.upper both.0 both.1)),
+        holds_means hash lists bytes claim judged.proof_is (pieces_bytes headers judged.headers_are) (true_judged (judgement hash lists bytes claim) (sym reply_is ∙ is)),
+    λ both. ap (reply_text number) (reply_is ∙ ap judge_reply (holds_where hash lists bytes claim judged.proof_is (pieces_bytes headers judged.headers_are) both.0 both.1)),
   )
 
   pub judged_false : ((told : List ℕ) × (truth : List ℕ) × (reply_text number (answer_to hash trust line) ≡ reply_text number (reply.Clash told truth)))
@@ -139,8 +150,8 @@ module _ (hash : Hash) (trust : Trust) (number : ℕ) (line : List ℕ) (id : Di
     λ some.
         let clash = clash_alone (answer_to hash trust line) some.0 some.1 (behind_number number (answer_to hash trust line) (reply.Clash some.0 some.1) some.2) in
         let shown = clash_judged (judgement hash lists bytes claim) clash.0 clash.1 (sym reply_is ∙ clash.2) in
-        shows_means hash lists bytes claim judged.bytes judged.lower judged.upper shown.0 shown.1,
+        shows_means hash lists bytes claim judged.proof_is (pieces_bytes headers judged.headers_are) shown.0 shown.1,
     λ both.
-        let shown = shows_where hash lists bytes claim judged.bytes judged.lower judged.upper both.0 both.1 in
+        let shown = shows_where hash lists bytes claim judged.proof_is (pieces_bytes headers judged.headers_are) both.0 both.1 in
         (shown.0.0, shown.0.1, ap (reply_text number) (reply_is ∙ ap judge_reply shown.1)),
   )

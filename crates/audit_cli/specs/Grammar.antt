@@ -6,7 +6,7 @@ use Rattle.ledger_bytes.specs.declared.refusal.Refusal.TheVariants.{BadVerb}
 use Rattle.ledger_io.specs.Lines.{line_limit}
 use Rattle.script_lines.specs.Fields.{Left, fields_of, field_at, end_at}
 use Rattle.script_lines.specs.Grammar.{◌>>=◌}
-use Rattle.script_lines.specs.Spellings.{text_of, word_of, number_of, bytes_of, digest_of, which_of, mark_of}
+use Rattle.script_lines.specs.Spellings.{text_of, number_of, bytes_of, digest_of, which_of, mark_of}
 use Rattle.script_lines.specs.declared.said.Which.{Which}
 use Rattle.script_lines.specs.declared.said.Which.TheVariants.{Ledger, Notary}
 use Rattle.audit_cli.specs.declared.line.Line.{Line}
@@ -74,7 +74,7 @@ abbrev pub pieces_of : ℕ → List ℕ → Option (List ℕ)
 pieces_of width text = pieces_from width (bytes_of line_limit text)
 
 -- a proof that is to be judged by the whole lists: the ledger's id, the headers of all its journals, all entries of its
--- notary, a claim as `check` has it, but without marks so far, and the proof's bytes
+-- notary, a claim as `check` has it, and the proof's bytes
 unfoldable pub judge_at : Left → Result Line Refusal
 judge_at fields = do
   id ← field_at digest_of fields
@@ -82,11 +82,11 @@ judge_at fields = do
   entries ← field_at (pieces_of 72) headers.1
   n ← field_at (number_of (2 ^ 64 - 1)) entries.1
   leaf ← field_at digest_of n.1
-  lo ← field_at (word_of (codes "-")) leaf.1
-  hi ← field_at (word_of (codes "-")) lo.1
+  lo ← field_at mark_of leaf.1
+  hi ← field_at mark_of lo.1
   proof ← field_at (bytes_of line_limit) hi.1
   end ← end_at proof.1
-  Ok (Judge id.0 headers.0 entries.0 (record { n = n.0; leaf = leaf.0; lo = None; hi = None }) proof.0)
+  Ok (Judge id.0 headers.0 entries.0 (record { n = n.0; leaf = leaf.0; lo = lo.0; hi = hi.0 }) proof.0)
 
 -- a line by its verb and the fields behind that
 abbrev pub verb_at : List ℕ → Left → Result Line Refusal
@@ -107,11 +107,11 @@ line_at fields = do
 abbrev pub line_of : List ℕ → Result Line Refusal
 line_of line = line_at (fields_of line)
 
--- what a line asks to be judged can be: its lists are whole headers and whole entries, and its claim has no marks
+-- what a line asks to be judged can be: its lists are whole headers and whole entries
 abbrev pub IsFit : Line → Type 0
 IsFit (TrustLedger id head) = ⊤
 IsFit (TrustNotary head) = ⊤
 IsFit (Extend which m head proof) = ⊤
 IsFit (Check claim proof) = ⊤
 IsFit (Judge id headers entries claim proof) =
-    (length headers % 174 ≡ 0) × (length entries % 72 ≡ 0) × (claim.lo ≡ None) × (claim.hi ≡ None)
+    (length headers % 174 ≡ 0) × (length entries % 72 ≡ 0)

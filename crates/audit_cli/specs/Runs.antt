@@ -8,10 +8,12 @@ use Rattle.ledger_io.specs.declared.ending.Ending.{Ending}
 use Rattle.ledger_io.specs.declared.ending.Ending.TheVariants.{Usage}
 use Rattle.audit_cli.specs.declared.words.Command.{Command}
 use Rattle.audit_cli.specs.Texts.{audit_text}
+use Rattle.audit_cli.specs.Sound.{IsSound}
 
--- what is answered to the lines of a script
-abbrev pub Answers : Hash → List (List ℕ) → List ℕ → Type 0
-Answers hash lines replies = replies ≡ audit_text hash lines
+-- what is answered to the lines of a script: its text, of which all that it says is so
+pub record Answers (hash : Hash) (lines : List (List ℕ)) (replies : List ℕ) : Type 0 where
+  pub text : replies ≡ audit_text hash lines
+  pub sound : IsSound hash lines replies
 
 -- a script from its first line to its ending: everything but the last line
 abbrev pub ServedScript : Hash → Ending → Outside → Outside → Type 0

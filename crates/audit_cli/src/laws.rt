@@ -2,6 +2,8 @@ ghost use Rattle.std.specs.Prelude.{◌≡◌, ◌⊎◌, ◌↔◌, ◌+◌, �
 ghost use Rattle.ledger_bytes.specs.declared.digest.Digest.{Digest as DigestRecord};
 ghost use Rattle.merkle_tree.specs.declared.head.Head.{Head as HeadRecord};
 ghost use Rattle.proof_codec.specs.declared.claim.Claim.{Claim as ClaimRecord};
+ghost use Rattle.proof_codec.specs.Proofs.{Shown};
+ghost use Rattle.proof_codec.specs.Reading.{proof_of};
 ghost use Rattle.script_lines.specs.declared.said.Which.{Which as Tree};
 ghost use Rattle.ledger_io.specs.Lines.{lines_of};
 ghost use Rattle.tree_model.specs.Tree.{Hash, mth};
@@ -9,13 +11,15 @@ ghost use Rattle.tree_model.specs.Clash.{Clashes};
 ghost use Rattle.audit_core.specs.Trust.{Trust, root_of};
 ghost use Rattle.audit_core.specs.Truth.{Lists, lists_of, HasJournal, IsTrueOf};
 ghost use Rattle.audit_core.specs.Judgement.{IsAcceptedByOwn, IsUnderHead, leaf_clash, clash_of};
-ghost use Rattle.audit_core.specs.Chains.{BeginsWith, extension_clash};
+ghost use Rattle.audit_core.specs.Parts.{extension_clash};
+ghost use Rattle.audit_core.specs.Chains.{BeginsWith, AreReached};
 ghost use Rattle.audit_cli.specs.declared.line.Line.TheVariants.{Extend, Check, Judge};
 ghost use Rattle.audit_cli.specs.declared.reply.Reply.{Reply as ReplyRecord};
 ghost use Rattle.audit_cli.specs.declared.reply.Reply.TheVariants.{Yes, True, Clash};
 ghost use Rattle.audit_cli.specs.Grammar.{line_of};
 ghost use Rattle.audit_cli.specs.Replies.{reply_text, IsOneLine};
 ghost use Rattle.audit_cli.specs.Answers.{answer_to};
+ghost use Rattle.audit_cli.specs.Sound.{IsSound};
 ghost use Rattle.audit_cli.specs.Texts.{audit_text, text_from, trusted_behind, reply_behind, next_text};
 
 /// The text of a script tells the reply to each line in its place: behind the text of the lines in front of it, with its
@@ -42,7 +46,7 @@ pub fn replies_are_lines()
 /// head that the proof names has the claim's journal, or the proof and the list show two different strings with one
 /// digest. This holds for every hash whose digests have 32 bytes, whatever the lines in front are.
 pub fn checked_claims_are_true()
-    // With bounds or without: that a bound is true isn't said.
+    // With bounds or without.
     ensures journal { (hash : Hash) (lines : List (List ℕ)) (line : List ℕ) (claim : ClaimRecord)
         (bytes : List ℕ) (lists : Lists) → ((message : List ℕ) → length (hash message) ≡ 32)
         → line_of line ≡ Ok (Check claim bytes) → reply_behind hash lines line ≡ Yes
@@ -55,6 +59,14 @@ pub fn checked_claims_are_true()
         → line_of line ≡ Ok (Check claim bytes) → reply_behind hash lines line ≡ Yes
         → claim.lo ≡ None → claim.hi ≡ None
         → IsUnderHead hash (trusted_behind hash lines) bytes lists.headers
+        → IsTrueOf hash lists claim ⊎ Clashes hash (clash_of hash lists bytes) }
+    // With bounds it is true of all lists of the ledger and of its notary under the trusted heads that the proof names.
+    ensures bounded { (hash : Hash) (lines : List (List ℕ)) (line : List ℕ) (claim : ClaimRecord)
+        (bytes : List ℕ) (proof : Shown) (lists : Lists)
+        → ((message : List ℕ) → length (hash message) ≡ 32)
+        → line_of line ≡ Ok (Check claim bytes) → reply_behind hash lines line ≡ Yes
+        → proof_of bytes ≡ Ok proof
+        → AreReached hash (trusted_behind hash lines) proof [] [] lists
         → IsTrueOf hash lists claim ⊎ Clashes hash (clash_of hash lists bytes) }
 {}
 
@@ -88,4 +100,12 @@ pub fn extended_heads_go_on()
         → length list ≡ head.size → mth hash list ≡ head.root.0
         → (old : DigestRecord) × (root_of which (trusted_behind hash lines) m ≡ Some old)
         × (BeginsWith hash list m old.0 ⊎ Clashes hash (extension_clash hash list m old.0 bytes)) }
+{}
+
+/// What the text of a script says is so, or it shows two different strings with one digest: each claim that a `yes` answers
+/// is true of the lists under the heads that its proof names, and under all that the script's extensions lead to, and its
+/// bounds are moments where the notary is honest. This holds for every hash whose digests have 32 bytes.
+pub fn scripts_are_sound()
+    ensures { (hash : Hash) (lines : List (List ℕ)) → ((message : List ℕ) → length (hash message) ≡ 32)
+        → IsSound hash lines (audit_text hash lines) }
 {}

@@ -12,6 +12,6 @@ mod words;
 
 pub use laws::{
     checked_claims_are_true, extended_heads_go_on, judged_claims_are_told, replies_are_lines,
-    replies_stand_in_place,
+    replies_stand_in_place, scripts_are_sound,
 };
 pub use top::{audit_run, audit_top};

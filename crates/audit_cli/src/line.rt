@@ -58,8 +58,7 @@ pub(crate) enum Line {
 /// What a line asks for, without its newline. Its fields stand around single spaces, and the first is the verb, column
 /// 1. A number is decimal digits without a leading zero, below 2^64; a digest 64 hexadecimal digits of either case. WHICH
 /// is `ledger` or `notary`. LO and HI are `-` or `JSN:INDEX:TIME`, and HEX is `-` for no bytes or two hexadecimal digits
-/// for each. HEADERS and ENTRIES are such digits of whole headers and whole entries. The LO and the HI of a judged claim
-/// are `-`.
+/// for each. HEADERS and ENTRIES are such digits of whole headers and whole entries.
 pub(crate) fn read_line(alloc: Global, line: &[u8]) -> Result<Line, Stop>
     ensures reads { Reads result (line_of line.now) }
     ensures fit { IfOk result IsFit }
@@ -167,16 +166,11 @@ fn judge(alloc: Global, mut fields: Fields) -> Result<Line, Stop>
     let entries = pieces(alloc, &mut fields, ENTRY_LEN)?;
     let n = fields.number(u64::MAX)?;
     let leaf = fields.digest()?;
-    fields.word(b"-")?;
-    fields.word(b"-")?;
+    let lo = fields.mark()?;
+    let hi = fields.mark()?;
     let proof = fields.bytes(alloc, LINE_LIMIT)?;
     fields.end()?;
-    let claim = Claim {
-        n,
-        leaf,
-        lo: None,
-        hi: None,
-    };
+    let claim = Claim { n, leaf, lo, hi };
     Ok(Line::Judge {
         id,
         headers,

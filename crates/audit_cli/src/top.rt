@@ -3,6 +3,7 @@ ghost use Rattle.sha2.specs.Sha256.{sha256};
 ghost use Rattle.ledger_bytes.specs.Causes.{count_after};
 ghost use Rattle.ledger_io.specs.Outside.{outside, MeetsNone, MeetsOne};
 ghost use Rattle.audit_cli.specs.Runs.{RanProgram};
+ghost use Rattle.audit_cli.specs.Sound.{SoundRun};
 ghost use Rattle.audit_cli.specs.Words.{command_of};
 
 use crate::session::run_script;
@@ -39,6 +40,10 @@ pub fn audit_top<S: Source, K: Sink, V: Verifier>(
         (outside (S.state source.old) (K.state sink.old))
         (outside (S.state source.new) (K.state sink.new)) }
     ensures usage { (result ≡ 1) ↔ (command_of (map string_bytes words.now) ≡ None) }
+    // A script that was read to its end has a text of which all that it says is so.
+    ensures sound { result ≡ 0 → SoundRun sha256
+        (outside (S.state source.old) (K.state sink.old))
+        (outside (S.state source.new) (K.state sink.new)) }
     ensures done { result ≡ 0 → ((S.state source.new).faults ≡ (S.state source.old).faults)
         × MeetsNone (K.state sink.old) (K.state sink.new) }
     ensures read_fault { result ≡ 2
@@ -62,6 +67,10 @@ pub fn audit_run<H: TreeHash, S: Source, K: Sink, V: Verifier>(
         (outside (S.state source.old) (K.state sink.old))
         (outside (S.state source.new) (K.state sink.new)) }
     ensures started { result ≢ 1 }
+    // A script that was read to its end has a text of which all that it says is so.
+    ensures sound { result ≡ 0 → SoundRun H.of
+        (outside (S.state source.old) (K.state sink.old))
+        (outside (S.state source.new) (K.state sink.new)) }
     ensures done { result ≡ 0 → ((S.state source.new).faults ≡ (S.state source.old).faults)
         × MeetsNone (K.state sink.old) (K.state sink.new) }
     ensures read_fault { result ≡ 2

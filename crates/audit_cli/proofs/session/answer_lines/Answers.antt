@@ -14,7 +14,7 @@ pub returns-in_err-line-clause-ended : goal.returns-in_err-line-clause-ended
 returns-in_err-line-clause-ended g c =
     let e = c.in_err-line.ensures in
     ends_by _ c.from_residual.result _ c.from_residual.ensures.1
-    (served_error _ _ _ _ c.loop-text.lines _ e.gives.0 c.loop-text.heads c.loop-text.number c.loop-text.invariant e.gives.1 c.in_err-line.field-0.0 e.counts e.gives.2)
+    (served_error _ g.met.H.TreeHash.of_length _ _ _ c.loop-text.lines _ e.gives.0 c.loop-text.heads c.loop-text.number c.loop-text.invariant e.gives.1 c.in_err-line.field-0.0 e.counts e.gives.2)
 
 -- each line took a byte at least, so their number fits
 pub overflow_add-number : goal.overflow_add-number
@@ -27,7 +27,7 @@ pub returns-in_err-set_answer-clause-ended : goal.returns-in_err-set_answer-clau
 returns-in_err-set_answer-clause-ended g c =
     let e = rw c.in-Some.is at c.in_ok-line.ensures in
     ends_by _ c.from_residual-in_err-set_answer.result _ c.from_residual-in_err-set_answer.ensures.1
-    (served_memory _ _ _ _ c.loop-text.lines _ e.gives.0 c.loop-text.heads c.loop-text.number c.loop-text.invariant e.gives.1 c.in-Some.line e.counts e.gives.2)
+    (served_memory _ g.met.H.TreeHash.of_length _ _ _ c.loop-text.lines _ e.gives.0 c.loop-text.heads c.loop-text.number c.loop-text.invariant e.gives.1 c.in-Some.line e.counts e.gives.2)
 
 pub returns-in_err-write_all-clause-ended : goal.returns-in_err-write_all-clause-ended
 returns-in_err-write_all-clause-ended g c =
@@ -35,7 +35,7 @@ returns-in_err-write_all-clause-ended g c =
     let text = answers_line g.H.TreeHash.of c.loop-text.heads (c.loop-text.number + 1) _ _ _ c.in-Some.line c.as_slice-in-Some.ensures.value c.in_ok-set_answer.ensures.text c.as_slice.ensures in
     let w = c.in_err-write_all.ensures in
     ends_by _ c.from_residual-in_err-write_all.result _ c.from_residual-in_err-write_all.ensures.1
-    (served_write _ _ _ _ c.loop-text.lines _ e.gives.0 c.loop-text.heads c.loop-text.number c.loop-text.invariant e.gives.1 c.in-Some.line e.counts e.gives.2 _ _ c.in_err-write_all.field-0.0 text w.taken w.once)
+    (served_write _ g.met.H.TreeHash.of_length _ _ _ c.loop-text.lines _ e.gives.0 c.loop-text.heads c.loop-text.number c.loop-text.invariant e.gives.1 c.in-Some.line e.counts e.gives.2 _ _ c.in_err-write_all.field-0.0 text w.taken w.once)
 
 pub loop-text-smaller : goal.loop-text-smaller
 loop-text-smaller g c =
@@ -54,4 +54,4 @@ loop-text-preserved g c =
 pub returns-clause-done : goal.returns-clause-done
 returns-clause-done g c =
     let e = rw c.in_default.is at c.in_ok-line.ensures in
-    served_done _ _ _ _ c.loop-text.lines _ e.gives.0 c.loop-text.heads c.loop-text.number c.loop-text.invariant e.gives.1 e.counts e.gives.2
+    served_done _ g.met.H.TreeHash.of_length _ _ _ c.loop-text.lines _ e.gives.0 c.loop-text.heads c.loop-text.number c.loop-text.invariant e.gives.1 e.counts e.gives.2
