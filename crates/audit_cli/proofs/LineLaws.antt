@@ -1,6 +1,6 @@
 -- Lemmas on the lines of an audit's text: each reply is one.
 use Rattle.std.specs.Prelude.{codes, decimal}
-use Rattle.std.proofs.Common.{◌≡◌, ◌≢◌, refl, sym, ap, ◌∙◌, ℕ, zero, suc, ◌+◌, ◌/◌, ◌%◌, ◌==◌, nat_lt, Bool, true, false, cond, if◌then◌else◌, List, [], ◌∷◌, ◌++◌, length, get_or, Result, Ok, Err, arith, append_assoc}
+use Rattle.std.proofs.Common.{◌≡◌, ◌≢◌, refl, ap, ◌∙◌, ℕ, zero, suc, ◌+◌, ◌/◌, ◌%◌, ◌==◌, nat_lt, Bool, true, false, if◌then◌else◌, List, [], ◌∷◌, ◌++◌, length, get_or, arith, append_assoc}
 use Rattle.std.proofs.lemmas.List.Elements.{All-nil, All-cons, All-append}
 use Rattle.std.specs.Fmt.{digit_glyph, digits_onto, digits}
 use Rattle.ledger_bytes.specs.Codes.{refusal_code}
@@ -9,18 +9,18 @@ use Rattle.ledger_bytes.specs.declared.refusal.Refusal.TheVariants as refusals
 use Rattle.ledger_io.specs.Lines.{IsUnbroken, lines_of}
 use Rattle.ledger_io.proofs.LineLemmas.{lines_of-line}
 use Rattle.script_lines.specs.Receipts.{IsWord, AreWords}
-use Rattle.script_lines.specs.Replies.{refusal_fields, refusal_words}
+use Rattle.script_lines.specs.Replies.{refusal_fields}
 use Rattle.script_lines.specs.Words.{hex_or_dash, spaced_words}
 use Rattle.script_lines.proofs.WordLaws.{hex_word, literal}
 use Rattle.tree_model.specs.Tree.{Hash}
-use Rattle.audit_core.specs.Trust.{Trust, nothing_trusted}
+use Rattle.audit_core.specs.Trust.{Trust}
 use Rattle.audit_core.specs.declared.refusal.No.{No}
 use Rattle.audit_core.specs.declared.refusal.No.TheVariants as nos
 use Rattle.audit_cli.specs.declared.reply.Reply.{Reply}
 use Rattle.audit_cli.specs.declared.reply.Reply.TheVariants as reply
 use Rattle.audit_cli.specs.Answers.{answer_to, trust_after}
 use Rattle.audit_cli.specs.Replies.{no_words, reply_words, reply_text, IsOneLine}
-use Rattle.audit_cli.specs.Texts.{trust_through, text_from, audit_text}
+use Rattle.audit_cli.specs.Texts.{trust_through, text_from}
 
 -- ---- words
 

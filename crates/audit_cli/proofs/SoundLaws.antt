@@ -1,15 +1,10 @@
 -- What the text of a script says is so.
-use Rattle.std.proofs.Common.{◌≡◌, ◌⊎◌, inl, inr, ℕ, ◌+◌, true, List, [], ◌∷◌, ◌++◌, length, get_or, Option, None, Some, Ok, refl, sym, ap, ◌∙◌, subst, arith, append-nil}
+use Rattle.std.proofs.Common.{◌≡◌, ◌⊎◌, inl, inr, ℕ, ◌+◌, List, [], ◌∷◌, ◌++◌, length, get_or, None, Some, Ok, refl, sym, ap, ◌∙◌}
 use Rattle.std.specs.Prelude.{codes, decimal}
-use Rattle.std.specs.Io.KnownBytes.{Appends}
-use Rattle.std.proofs.KnownBytes.{Appends-trans}
-use Rattle.std.proofs.lemmas.List.{nil_from_length}
 use Rattle.ledger_bytes.specs.declared.digest.Digest.{Digest}
-use Rattle.ledger_bytes.specs.Fields.{IsBytes}
 use Rattle.ledger_io.specs.Lines.{lines_of}
-use Rattle.merkle_tree.specs.declared.head.Head.{Head}
 use Rattle.proof_codec.specs.declared.claim.Claim.{Claim}
-use Rattle.proof_codec.specs.Proofs.{Shown, is_bounded}
+use Rattle.proof_codec.specs.Proofs.{Shown}
 use Rattle.proof_codec.specs.Reading.{proof_of}
 use Rattle.script_lines.specs.Words.{spaced_words}
 use Rattle.script_lines.specs.declared.said.Which.{Which}
@@ -21,16 +16,15 @@ use Rattle.tree_model.proofs.PathClashes.{Makes}
 use Rattle.audit_core.specs.Acceptance.{acceptance}
 use Rattle.audit_core.specs.Extending.{extend_refusal}
 use Rattle.audit_core.specs.Trust.{Trust, root_of, nothing_trusted}
-use Rattle.audit_core.specs.Truth.{Lists, IsTrueOf}
-use Rattle.audit_core.specs.Chains.{BeginsWith, Extension, LeadsTo, IsReached, AreReached, chain_clash, reached_clash}
+use Rattle.audit_core.specs.Truth.{Lists}
+use Rattle.audit_core.specs.Chains.{Extension, LeadsTo, IsReached, AreReached, reached_clash}
 use Rattle.audit_core.proofs.Truths.{extension_of, chain_true}
 use Rattle.audit_core.proofs.Reaching.{reached_true, moments_are}
 use Rattle.audit_cli.specs.declared.line.Line.{Line}
 use Rattle.audit_cli.specs.declared.line.Line.TheVariants.{Extend, Check}
 use Rattle.audit_cli.specs.declared.reply.Reply.{Reply}
 use Rattle.audit_cli.specs.declared.reply.Reply.TheVariants as reply
-use Rattle.audit_cli.specs.Grammar.{line_of}
-use Rattle.audit_cli.specs.Answers.{reply_to, answer_to}
+use Rattle.audit_cli.specs.Answers.{reply_to}
 use Rattle.audit_cli.specs.Replies.{reply_words, reply_text}
 use Rattle.audit_cli.specs.Texts.{audit_text, trusted_behind, reply_behind}
 use Rattle.audit_cli.specs.Sound.{SaysYes, Extends, ScriptLeads, IsLed, AreLed, IsTrueInTime, IsSound}
