@@ -1,9 +1,9 @@
 -- A block that isn't read has one damage.
-use Rattle.std.proofs.Common.{◌≡◌, ◌⊎◌, inl, inr, ℕ, ◌<◌, ◌+◌, ◌≤◌, List, [], ◌++◌, length, sym, ◌∙◌, ap, subst, arith, append-nil}
+use Rattle.std.proofs.Common.{◌≡◌, ◌⊎◌, inl, inr, ℕ, ◌<◌, ◌+◌, ◌≤◌, List, [], ◌++◌, sym, ◌∙◌, ap, arith, append-nil}
 use Rattle.std.proofs.lemmas.Bool.{true≢false, cases_lt}
 use Rattle.journal_record.specs.Blocks.{body_of}
-use Rattle.journal_record.specs.Records.{IsBody, BreaksAt}
-use Rattle.block_file.specs.Blocks.{HasBodyAt, IsHeadCut, IsMiscounted, IsBodyCut, IsUnfilled, IsOtherFirst, IsNoEntry, IsHeadDamage, IsBodyErr, IsBlockErr, head_at, body_at, count_in}
+use Rattle.journal_record.specs.Records.{BreaksAt}
+use Rattle.block_file.specs.Blocks.{HasBodyAt, IsHeadCut, IsMiscounted, IsBodyCut, IsOtherFirst, IsNoEntry, IsHeadDamage, IsBodyErr, IsBlockErr, head_at, body_at, count_in}
 use Rattle.block_file.specs.declared.failure.Damage.{Damage}
 use Rattle.block_file.specs.declared.failure.Damage.TheVariants.{Magic, BaseForm, Base, Length, Entry as Entries, Root, Content}
 use Rattle.block_file.specs.declared.failure.FileErr.TheVariants.{Damaged}

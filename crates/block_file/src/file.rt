@@ -150,6 +150,12 @@ impl BlockFile {
             → tail_of front blocks ≡ place_of self.old
             → take len (drop at (D.state from.old).bytes.seen) ≡ open_blocks more
             → (D.state disk.new).bytes.seen ≡ whole_file front (blocks ++ more)) }
+
+        // Whatever bytes they are, they stand over the tail gate of a file that ended with it, and a gate behind them.
+        ensures copied { OnOk result (IsTrue D.tells
+            → length (D.state disk.old).bytes.seen ≡ place_of self.old + 1
+            → (D.state disk.new).bytes.seen ≡ take (place_of self.old) (D.state disk.old).bytes.seen
+            ++ take len (drop at (D.state from.old).bytes.seen) ++ 0 ∷ []) }
         ensures veiled { IsTrue D.tells → IsVeiled (D.state disk.old).bytes
             → IsVeiled (D.state disk.new).bytes }
 

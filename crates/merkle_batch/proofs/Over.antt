@@ -1,7 +1,7 @@
 -- What rows keep over peaks stays right as they change, and gives the root.
 use Rattle.std.proofs.Common.{◌≡◌, ℕ, suc, ◌+◌, ◌-◌, ◌/◌, ◌%◌, ◌<◌, ◌≤◌, inl, inr, Option, Some, None, List, [], ◌∷◌, ◌++◌, length, get_or, set, take, drop, refl, sym, ap, ap₂, ◌∙◌, subst, arith, append_assoc, length-append, length-drop, length-take, length-take-le, drop-drop, drop_at, take_at, replicate, count_ones}
 use Rattle.std.proofs.lemmas.Bool.{cases_eq}
-use Rattle.std.proofs.lemmas.List.{append-nil, nil_from_length, drop-append-le, get_or-drop, get_or_append_left, drop-take, drop_all, drop-set, drop-set-lt, length-replicate}
+use Rattle.std.proofs.lemmas.List.{append-nil, nil_from_length, drop-append-le, get_or-drop, get_or-append_right, get_or_append_left, drop-take, drop_all, drop-set, drop-set-lt, length-replicate}
 use Rattle.std.proofs.Math.Seq.{take-append-add, drop-nil}
 use Rattle.std.proofs.lemmas.Bool.{eq-eqb, ne_eqb}
 use Rattle.tree_model.specs.Tree.{Hash, node}
@@ -359,3 +359,13 @@ module _ (hash : Hash) (ps : List (List ℕ)) (p : ℕ) (cs : List (List ℕ)) (
         let there : root_over hash ps p cs ≡ Some (root_from hash ps p cs) = rw (ne_eqb (p + length cs) 0 some) refl in
         absurd (none-some (root_from hash ps p cs) (is ∙ there))
   ]
+
+-- a kept leaf is that behind the peaks
+pub leaf_over : (p floor place n : ℕ) (row : Row) (ps xs : List (List ℕ)) → length ps ≡ count_ones p → p ≤ floor → floor ≤ n → row.nodes ≡ drop (first_of floor - first_of p) (last_peak p ps ++ xs) → place + first_of floor ≡ n
+    → get_or row.nodes place [] ≡ get_or xs (n - p) []
+leaf_over p floor place n row ps xs ones low above is at =
+    let one : length (last_peak p ps) ≡ p % 2 = length-last_peak ps p ones in
+    ap (λ t. get_or t place []) is ∙ get_or-drop (first_of floor - first_of p) (last_peak p ps ++ xs) place []
+    ∙ ap (λ j. get_or (last_peak p ps ++ xs) j []) (let same : first_of floor - first_of p + place ≡ n - first_of p = omega (arith, at, low) in same)
+    ∙ get_or-append_right (last_peak p ps) xs (p % 2) (n - first_of p) [] one (omega (arith, low, above))
+    ∙ ap (λ j. get_or xs j []) (let same : n - first_of p - p % 2 ≡ n - p = omega arith in same)

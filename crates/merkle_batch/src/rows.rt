@@ -190,8 +190,10 @@ fn extend(alloc: Global, rows: &mut Vec<Row>, level: usize) -> Result<(), NoMemo
 pub(crate) fn leaf_at(rows: &[Row], p: u64, n: u64) -> Digest
     requires first { first_of p ≤ n }
     requires there { HasNodes p (n + 1) rows.now }
-    ensures { (hash : Hash) (ds : List (List ℕ)) → Keeps hash p rows.now ds
+    ensures list { (hash : Hash) (ds : List (List ℕ)) → Keeps hash p rows.now ds
         → result.0 ≡ get_or ds n [] }
+    ensures over { (hash : Hash) (q : ℕ) (ps xs : List (List ℕ)) → length ps ≡ count_ones q
+        → q ≤ p → p ≤ n → KeepsOver hash q p rows.now ps xs → result.0 ≡ get_or xs (n - q) [] }
 {
     match rows {
         [] => unreachable!(),

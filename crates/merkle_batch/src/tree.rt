@@ -256,6 +256,8 @@ impl<H: TreeHash> Tree<H> {
     pub fn leaf(&self, n: u64) -> Result<Digest, TreeErr>
         ensures leaf { IfOk result (λ digest. (ds : List (List ℕ)) → StandsFor H.of self.now ds
             → digest.0 ≡ get_or ds n []) }
+        ensures over { IfOk result (λ digest. (p : ℕ) (ps xs : List (List ℕ))
+            → StandsOver H.of self.now p ps xs → digest.0 ≡ get_or xs (n - p) []) }
         ensures ok { self.now.floor ≤ n → n < self.now.size → IsOk result }
         ensures below { n < self.now.floor → result ≡ Err (tree_err.Below self.now.floor) }
         ensures beyond { self.now.floor ≤ n → self.now.size ≤ n

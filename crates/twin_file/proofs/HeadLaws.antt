@@ -18,6 +18,12 @@ front_piece a b c d e f g size =
     let same : (((((a ++ b) ++ c) ++ d) ++ e) ++ f) ++ g ≡ a ++ (b ++ (c ++ (d ++ (e ++ (f ++ g))))) = simp append_assoc in
     ap (λ (l : List ℕ). take 8 l) same ∙ take_at a (b ++ (c ++ (d ++ (e ++ (f ++ g))))) 8 size
 
+-- .. whatever stands behind it
+pub generation_before : (generation : ℕ) (base piece : List ℕ) → generation < 2 ^ 64 → generation_of (front_of 1 generation base ++ piece ++ 0 ∷ []) ≡ generation
+generation_before generation base piece fits =
+    ap (λ (l : List ℕ). from_be_bytes w64 l) (front_piece (to_be_bytes w64 generation) (to_be_bytes w64 (length base)) (digest_of base) (replicate {A = ℕ} 6 0) base piece (0 ∷ []) refl)
+    ∙ from_be_bytes-to_be_bytes_8 generation fits
+
 module _ (generation : ℕ) (base : List ℕ) (blocks : List (List ℕ)) where
   pub has_head : HasHead (whole_file (front_of 1 generation base) blocks)
   has_head = record {
@@ -27,9 +33,7 @@ module _ (generation : ℕ) (base : List ℕ) (blocks : List (List ℕ)) where
   }
 
   pub generation_is : generation < 2 ^ 64 → generation_of (whole_file (front_of 1 generation base) blocks) ≡ generation
-  generation_is fits =
-      ap (λ (l : List ℕ). from_be_bytes w64 l) (front_piece (to_be_bytes w64 generation) (to_be_bytes w64 (length base)) (digest_of base) (replicate {A = ℕ} 6 0) base (open_blocks blocks) (0 ∷ []) refl)
-      ∙ from_be_bytes-to_be_bytes_8 generation fits
+  generation_is fits = generation_before generation base (open_blocks blocks) fits
 
 pub tail_size : (gate generation : ℕ) (base : List ℕ) → tail_of (front_of gate generation base) [] ≡ 64 + length base
 tail_size gate generation base =

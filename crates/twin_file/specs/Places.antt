@@ -1,5 +1,5 @@
 -- Where a file ends, and what it has up to there.
-use Rattle.std.specs.Prelude.{◌≡◌, ℕ, ◌+◌, ◌≤◌, List, Option, IsSomeAnd}
+use Rattle.std.specs.Prelude.{◌≡◌, ℕ, ◌+◌, ◌≤◌, List, [], ◌∷◌, ◌++◌, length, take, Option, IsSomeAnd}
 use Rattle.block_file.specs.File.{whole_file, tail_of}
 use Rattle.block_file.specs.declared.file.BlockFile.{BlockFile}
 use Rattle.block_file.specs.Place.{place_of}
@@ -20,3 +20,7 @@ pub record IsBuilt (front : List ℕ) (blocks : List (List ℕ)) (bytes : List �
 -- a copy was begun, and so much of it was built
 abbrev pub IsBuiltCopy : List ℕ → List (List ℕ) → List ℕ → Option BlockFile → Type 0
 IsBuiltCopy front blocks bytes copy = IsSomeAnd copy (IsBuilt front blocks bytes)
+
+-- to a copy that ended with its tail gate this piece was added: it stands over that gate, and a gate behind it
+abbrev pub IsLonger : List ℕ → List ℕ → List ℕ → Option BlockFile → Type 0
+IsLonger piece old new copy = IsSomeAnd copy (λ file. length old ≡ place_of file + 1 → new ≡ take (place_of file) old ++ piece ++ 0 ∷ [])

@@ -6,7 +6,7 @@ ghost use Rattle.block_file.specs.Head.{CountsAlone, CountsTwoAlone, HasHead, ge
 ghost use Rattle.block_file.specs.Place.{place_of};
 ghost use Rattle.ledger_disk.specs.Disk.{MayLeave, settled_state, KeepsLength};
 ghost use Rattle.twin_file.specs.Images.{AllOpenTo, AllOpenToEither, IsCopying};
-ghost use Rattle.twin_file.specs.Places.{HasCopy, IsBuiltCopy};
+ghost use Rattle.twin_file.specs.Places.{HasCopy, IsBuiltCopy, IsLonger};
 ghost use Rattle.twin_file.specs.Twin.{open_of, other_of};
 
 use block_file::{BlockFile, FileErr};
@@ -26,6 +26,8 @@ pub fn extend<D: Disk>(
         → IsBuiltCopy front blocks (D.state to.old).bytes.seen copy.old
         → take len (drop at (D.state from.old).bytes.seen) ≡ open_blocks more
         → IsBuiltCopy front (blocks ++ more) (D.state to.new).bytes.seen copy.new) }
+    ensures longer { OnOk result (IsTrue D.tells → IsLonger (take len (drop at (D.state from.old).bytes.seen))
+        (D.state to.old).bytes.seen (D.state to.new).bytes.seen copy.old) }
     ensures veiled { IsTrue D.tells → IsVeiled (D.state to.old).bytes → IsVeiled (D.state to.new).bytes }
     ensures same { IsTrue D.tells → (D.state from.new).bytes ≡ (D.state from.old).bytes }
     ensures from { KeepsLength (D.state from.old).told (D.state from.new).told }

@@ -5,7 +5,7 @@ ghost use Rattle.block_file.specs.Place.{place_of, base_len_of};
 ghost use Rattle.ledger_disk.specs.Disk.{MayLeave, settled_state, KeepsLength};
 ghost use Rattle.twin_file.specs.Images.{AllOpenTo, AllOpenToEither, AllShut, AreShut, IsCopied, IsCopying, IsMadeOrShut, IsQuiet, StaysOpen, KeepsPassed};
 ghost use Rattle.twin_file.specs.Picking.{IsReopened, view};
-ghost use Rattle.twin_file.specs.Places.{HasCopy, HasTail, IsBuilt, IsBuiltCopy};
+ghost use Rattle.twin_file.specs.Places.{HasCopy, HasTail, IsBuilt, IsBuiltCopy, IsLonger};
 ghost use Rattle.twin_file.specs.Twin.{open_of, other_of, OpensTo, IsReopenErr, next_generation};
 ghost use Rattle.twin_file.specs.Which.{in_a_of, generation_in, file_of, copy_of, view_of, SameOpen};
 
@@ -191,6 +191,13 @@ impl Twin {
             → IsBuiltCopy front (blocks ++ more)
             (other_of (in_a_of self.old) (D.state a.new).bytes (D.state b.new).bytes).seen
             (copy_of self.new)) }
+
+        // .. whatever bytes they are.
+        ensures longer { OnOk result (IsTrue D.tells → IsLonger
+            (take len (drop at (open_of (in_a_of self.old) (D.state a.old).bytes (D.state b.old).bytes).seen))
+            (other_of (in_a_of self.old) (D.state a.old).bytes (D.state b.old).bytes).seen
+            (other_of (in_a_of self.old) (D.state a.new).bytes (D.state b.new).bytes).seen
+            (copy_of self.old)) }
 
         // The copy stays shut in every image, however much of it was written.
         ensures shut { IsTrue D.tells
