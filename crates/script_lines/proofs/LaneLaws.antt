@@ -3,7 +3,7 @@ use Rattle.std.proofs.Common.{◌≡◌, ◌≢◌, ℕ, ◌+◌, ◌-◌, ◌<�
 use Rattle.std.specs.List.{slice_split, onto_first}
 use Rattle.script_lines.specs.Fields.{Left, field_at}
 use Rattle.script_lines.specs.Spellings.{text_of}
-use Rattle.script_lines.specs.Grammar.{lane_of, lane_or_zero, spoken_by, spoken_at, spoken_line, lanes}
+use Rattle.script_lines.specs.Grammar.{lane_or_zero, spoken_by, spoken_at, spoken_line, lanes}
 
 -- the lane of a line by its fields
 abbrev lane_by : List (List ℕ) → ℕ

@@ -14,13 +14,13 @@ use Rattle.ledger_bytes.specs.Digests.{digest}
 use Rattle.ledger_bytes.specs.declared.digest.Digest.{Digest}
 use Rattle.ledger_bytes.specs.declared.refusal.Refusal.{Refusal}
 use Rattle.script_lines.specs.Fields.{field_at}
-use Rattle.script_lines.specs.Grammar.{append_at, member_at, anchor_at, occult_at, get_at, prove_at, extend_at, clue_at, head_at, spoken_line, spoken_at}
+use Rattle.script_lines.specs.Grammar.{append_at, member_at, anchor_at, occult_at, purge_at, get_at, prove_at, extend_at, clue_at, head_at, spoken_line, spoken_at}
 use Rattle.script_lines.specs.Parts.{parts}
 use Rattle.script_lines.specs.Sayings.{approvals_text, clue_text, line_words, line_text, IsOneField, IsName, IsClue, IsSayable}
 use Rattle.script_lines.specs.Spellings.{text_of, digest_of, clue_of, name_of, is_dash}
 use Rattle.script_lines.specs.Words.{hex_of, hex_or_dash, spaced_words, which_text}
 use Rattle.script_lines.specs.declared.line.Line.{Line}
-use Rattle.script_lines.specs.declared.line.Line.TheVariants.{Append, NewMember, Anchor, Occult, Get, Prove, Extend, Clue, Head}
+use Rattle.script_lines.specs.declared.line.Line.TheVariants.{Append, NewMember, Anchor, Occult, Purge, Get, Prove, Extend, Clue, Head}
 use Rattle.script_lines.specs.declared.said.Which.{Which}
 use Rattle.script_lines.specs.declared.said.Which.TheVariants.{Ledger, Notary}
 use Rattle.script_lines.specs.declared.said.SaidApproval.{SaidApproval}
@@ -92,6 +92,15 @@ occult_at-words target leaf given is =
     let g = approvals_of-text given is.3 is.4 in
     rw (n, l, g) refl
 
+purge_at-words : (point : ℕ) (root : Digest) (given : List SaidApproval) → IsSayable (Purge point root given)
+    → purge_at (record { column = 3; fields = decimal point ∷ hex_of root ∷ approvals_text given ∷ [] }) ≡ Ok (Purge point root given)
+unfolding purge_at
+purge_at-words point root given is =
+    let n = number_of-decimal (2 ^ 64 - 1) point (lit< tt) (omega (arith, is.0)) in
+    let r = digest_of-hex root is.1 is.2 in
+    let g = approvals_of-text given is.3 is.4 in
+    rw (n, r, g) refl
+
 get_at-words : (n : ℕ) → n < 2 ^ 64 → get_at (record { column = 3; fields = decimal n ∷ [] }) ≡ Ok (Get n)
 unfolding get_at
 get_at-words n small = rw (number_of-decimal (2 ^ 64 - 1) n (lit< tt) (omega arith)) refl
@@ -133,6 +142,8 @@ words-whole (NewMember number key proof) is =
 words-whole Anchor is = (literal-whole (codes "anchor") refl, tt)
 words-whole (Occult target leaf given) is =
     (literal-whole (codes "occult") refl, (decimal-whole 32 refl target is.0, (digits-whole 32 refl leaf.0 is.2, (approvals-whole 32 refl refl refl refl refl given is.4, tt))))
+words-whole (Purge point root given) is =
+    (literal-whole (codes "purge") refl, (decimal-whole 32 refl point is.0, (digits-whole 32 refl root.0 is.2, (approvals-whole 32 refl refl refl refl refl given is.4, tt))))
 words-whole (Get n) is = (literal-whole (codes "get") refl, (decimal-whole 32 refl n is, tt))
 words-whole (Prove n) is = (literal-whole (codes "prove") refl, (decimal-whole 32 refl n is, tt))
 words-whole (Extend which m) is = (literal-whole (codes "extend") refl, (which-whole which, (decimal-whole 32 refl m is, tt)))
@@ -148,6 +159,7 @@ said_by-words (Append member clue content proof) is = ap (λ (read : Result Line
 said_by-words (NewMember number key proof) is = ap (λ (read : Result Line Refusal). (0, read)) (member_at-words number key proof is)
 said_by-words Anchor is = ap (λ (read : Result Line Refusal). (0, read)) anchor_at-words
 said_by-words (Occult target leaf given) is = ap (λ (read : Result Line Refusal). (0, read)) (occult_at-words target leaf given is)
+said_by-words (Purge point root given) is = ap (λ (read : Result Line Refusal). (0, read)) (purge_at-words point root given is)
 said_by-words (Get n) is = ap (λ (read : Result Line Refusal). (0, read)) (get_at-words n is)
 said_by-words (Prove n) is = ap (λ (read : Result Line Refusal). (0, read)) (prove_at-words n is)
 said_by-words (Extend which m) is = ap (λ (read : Result Line Refusal). (0, read)) (extend_at-words which m is)

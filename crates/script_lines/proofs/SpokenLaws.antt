@@ -6,11 +6,11 @@ use Rattle.std.proofs.lemmas.List.Elements.{All-weaker}
 use Rattle.ledger_bytes.specs.declared.limits.TheConstants.{CONTENT_LIMIT, PROOF_LIMIT}
 use Rattle.ledger_bytes.specs.declared.refusal.Refusal.{Refusal}
 use Rattle.script_lines.specs.Fields.{Left, fields_of, next_column, read_or_bad, field_from, field_at, end_from, end_at}
-use Rattle.script_lines.specs.Grammar.{◌>>=◌, append_at, member_at, anchor_at, occult_at, get_at, prove_at, extend_at, clue_at, head_at, verb_at, asked_by, lane_of, spoken_by, spoken_at, spoken_line}
+use Rattle.script_lines.specs.Grammar.{◌>>=◌, append_at, member_at, anchor_at, occult_at, purge_at, get_at, prove_at, extend_at, clue_at, head_at, verb_at, asked_by, lane_of, spoken_by, spoken_at, spoken_line}
 use Rattle.script_lines.specs.Receipts.{Fits, RefusalFits}
 use Rattle.script_lines.specs.Spellings.{text_of, number_of, bytes_of, digest_of, clue_of, which_of, approvals_of}
 use Rattle.script_lines.specs.declared.line.Line.{Line}
-use Rattle.script_lines.specs.declared.line.Line.TheVariants.{Append, NewMember, Anchor, Occult, Get, Prove, Extend, Clue, Head}
+use Rattle.script_lines.specs.declared.line.Line.TheVariants.{Append, NewMember, Anchor, Occult, Purge, Get, Prove, Extend, Clue, Head}
 use Rattle.script_lines.specs.declared.said.SaidApproval.{SaidApproval}
 use Rattle.script_lines.proofs.Approving.{IsShortApproval, number_low, approvals_short}
 
@@ -20,6 +20,7 @@ LineFits (Append member clue content proof) = Fits member
 LineFits (NewMember number key proof) = ⊤
 LineFits Anchor = ⊤
 LineFits (Occult target leaf given) = All (λ by. Fits by.member) given
+LineFits (Purge point root given) = All (λ by. Fits by.member) given
 LineFits (Get n) = ⊤
 LineFits (Prove n) = ⊤
 LineFits (Extend which m) = ⊤
@@ -98,6 +99,14 @@ occult_fits fields here =
     then_fits (All (λ by. Fits by.member)) _ _ (field_gives (All (λ by. Fits by.member)) approvals_of leaf.1 b members_fit) (λ given g c.
     end_fits given.1 (Occult target.0 leaf.0 given.0) c g)))
 
+purge_fits : (fields : Left) → Fits fields.column → WhatFits (purge_at fields)
+unfolding purge_at
+purge_fits fields here =
+    then_fits Any _ _ (field_gives Any (number_of (2 ^ 64 - 1)) fields here (λ text x is. tt)) (λ point p a.
+    then_fits Any _ _ (field_gives Any digest_of point.1 a (λ text x is. tt)) (λ root r b.
+    then_fits (All (λ by. Fits by.member)) _ _ (field_gives (All (λ by. Fits by.member)) approvals_of root.1 b members_fit) (λ given g c.
+    end_fits given.1 (Purge point.0 root.0 given.0) c g)))
+
 get_fits : (fields : Left) → Fits fields.column → WhatFits (get_at fields)
 unfolding get_at
 get_fits fields here =
@@ -137,11 +146,12 @@ verb_fits verb fields here =
     (either_fits (bytes_eq verb (codes "member")) _ _ (member_fits fields here)
     (either_fits (bytes_eq verb (codes "anchor")) _ _ (anchor_fits fields here)
     (either_fits (bytes_eq verb (codes "occult")) _ _ (occult_fits fields here)
+    (either_fits (bytes_eq verb (codes "purge")) _ _ (purge_fits fields here)
     (either_fits (bytes_eq verb (codes "get")) _ _ (get_fits fields here)
     (either_fits (bytes_eq verb (codes "prove")) _ _ (prove_fits fields here)
     (either_fits (bytes_eq verb (codes "extend")) _ _ (extend_fits fields here)
     (either_fits (bytes_eq verb (codes "clue")) _ _ (clue_fits fields here)
-    (either_fits (bytes_eq verb (codes "head")) _ _ (head_fits fields here) tt))))))))
+    (either_fits (bytes_eq verb (codes "head")) _ _ (head_fits fields here) tt)))))))))
 
 asked_fits : (verb : Result (List ℕ × Left) Refusal) → Gives Any verb → WhatFits (asked_by verb)
 asked_fits (Ok verb) g = verb_fits verb.0 verb.1 g.1

@@ -7,7 +7,7 @@ use Rattle.ledger_bytes.specs.declared.refusal.Refusal.TheVariants.{BadVerb, Bad
 use Rattle.script_lines.specs.Fields.{Left, fields_of, field_at, end_at}
 use Rattle.script_lines.specs.Spellings.{text_of, number_of, bytes_of, digest_of, clue_of, which_of, approvals_of}
 use Rattle.script_lines.specs.declared.line.Line.{Line}
-use Rattle.script_lines.specs.declared.line.Line.TheVariants.{Append, NewMember, Anchor, Occult, Get, Prove, Extend, Clue, Head}
+use Rattle.script_lines.specs.declared.line.Line.TheVariants.{Append, NewMember, Anchor, Occult, Purge, Get, Prove, Extend, Clue, Head}
 
 -- the second step, with what the first gave
 infixl 10 ◌>>=◌
@@ -48,6 +48,15 @@ occult_at fields = do
   given ← field_at approvals_of leaf.1
   end ← end_at given.1
   Ok (Occult target.0 leaf.0 given.0)
+
+-- `purge POINT ROOT APPROVALS`
+unfoldable pub purge_at : Left → Result Line Refusal
+purge_at fields = do
+  point ← field_at (number_of (2 ^ 64 - 1)) fields
+  root ← field_at digest_of point.1
+  given ← field_at approvals_of root.1
+  end ← end_at given.1
+  Ok (Purge point.0 root.0 given.0)
 
 -- `get N`
 unfoldable pub get_at : Left → Result Line Refusal
@@ -91,6 +100,7 @@ verb_at verb fields =
     else if bytes_eq verb (codes "member") then member_at fields
     else if bytes_eq verb (codes "anchor") then anchor_at fields
     else if bytes_eq verb (codes "occult") then occult_at fields
+    else if bytes_eq verb (codes "purge") then purge_at fields
     else if bytes_eq verb (codes "get") then get_at fields
     else if bytes_eq verb (codes "prove") then prove_at fields
     else if bytes_eq verb (codes "extend") then extend_at fields

@@ -35,6 +35,15 @@ pub enum Line {
         /// Who approves it, up to 256 members.
         given: Items<SaidApproval>,
     },
+    /// All journals in front of a time journal are to be removed: `purge POINT ROOT APPROVALS`.
+    Purge {
+        /// The time journal's number.
+        point: u64,
+        /// The root of the tree over the journals in front of it.
+        root: Digest,
+        /// Who approves it, up to 256 members.
+        given: Items<SaidApproval>,
+    },
     /// A journal is asked for: `get N`.
     Get {
         /// The journal's number.

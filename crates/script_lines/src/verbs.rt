@@ -1,5 +1,5 @@
 ghost use Rattle.std.specs.Prelude.{◌≡◌, ◌≤◌, true, IfOk, IfSome};
-ghost use Rattle.script_lines.specs.Grammar.{append_at, member_at, anchor_at, occult_at, get_at, prove_at, extend_at, clue_at, head_at, asked_by, lane_of, lane_or_zero, spoken_line};
+ghost use Rattle.script_lines.specs.Grammar.{append_at, member_at, anchor_at, occult_at, purge_at, get_at, prove_at, extend_at, clue_at, head_at, asked_by, lane_of, lane_or_zero, spoken_line};
 ghost use Rattle.script_lines.specs.Fields.{field_at};
 ghost use Rattle.script_lines.specs.Reading.{Reads, fits_read};
 ghost use Rattle.script_lines.specs.Spellings.{text_of};
@@ -94,6 +94,8 @@ fn read_asked(alloc: Global, mut fields: Fields) -> Result<Line, Stop>
         read_anchor(fields)
     } else if verb == b"occult".as_slice() {
         read_occult(alloc, fields)
+    } else if verb == b"purge".as_slice() {
+        read_purge(alloc, fields)
     } else if verb == b"get".as_slice() {
         read_get(fields)
     } else if verb == b"prove".as_slice() {
@@ -166,6 +168,18 @@ fn read_occult(alloc: Global, mut fields: Fields) -> Result<Line, Stop>
         leaf,
         given,
     })
+}
+
+#[tactic(auto, unfolding(crate::specs::Grammar::purge_at))]
+fn read_purge(alloc: Global, mut fields: Fields) -> Result<Line, Stop>
+    ensures reads { Reads result (purge_at fields.entry) }
+    ensures fits { fits_read result ≡ true }
+{
+    let point = fields.number(u64::MAX)?;
+    let root = fields.digest()?;
+    let given = fields.approvals(alloc)?;
+    fields.end()?;
+    Ok(Line::Purge { point, root, given })
 }
 
 #[tactic(auto, unfolding(crate::specs::Grammar::get_at))]
