@@ -1,6 +1,6 @@
 -- An accepted job places the next journal, and its parts have their digests.
 use Rattle.std.specs.Prelude.{IsTrue, nat_lt, nat_le, bytes_eq, ◌==◌}
-use Rattle.std.proofs.Common.{◌≡◌, ℕ, ◌+◌, ◌<◌, ◌≤◌, ◌&&◌, ◌||◌, Bool, true, false, cond, not, List, [], ◌∷◌, length, ◌++◌, drop, Option, Some, None, refl, sym, ◌∙◌, ap, arith}
+use Rattle.std.proofs.Common.{◌≡◌, ℕ, ◌+◌, ◌<◌, ◌≤◌, ◌&&◌, ◌||◌, Bool, true, false, cond, not, List, [], ◌∷◌, length, ◌++◌, map, get_or, drop, Option, Some, None, refl, sym, ◌∙◌, ap, arith}
 use Rattle.std.proofs.lemmas.Bool.{eqb-true, le-leb, lt-leb, lt-ltb, leb-false, ltb-true, ltb-false, true≢false, and_from}
 use Rattle.std.proofs.lemmas.List.{length-map}
 use Rattle.std.proofs.lemmas.Slice.Eq.{bytes_eq-Decides}
@@ -17,25 +17,26 @@ use Rattle.journal_record.specs.declared.approval.Approval.{Approval}
 use Rattle.journal_record.specs.declared.header.Header.{Header}
 use Rattle.journal_record.specs.declared.header.Kind.{Kind}
 use Rattle.journal_record.specs.declared.header.Kind.TheVariants as kind
-use Rattle.member_book.specs.Erasures.{absent, purged, is_record, no_record, hidden_by, other_leaf, target_row}
+use Rattle.member_book.specs.Erasures.{absent, purged, purged_up_to, is_record, no_record, is_time, no_time, hidden_by, other_leaf, other_root, target_row, point_row}
 use Rattle.member_book.specs.Approvals.{approvals_refusal}
 use Rattle.journal_record.specs.declared.member.Member.{Member}
 use Rattle.journal_record.specs.declared.rules.TheConstants.{NOTARY_LIMIT}
 use Rattle.journal_record.specs.declared.stamp.Stamp.{Stamp}
 use Rattle.ledger_model.specs.Anchors.{time_header, time_journal, stamp_from, stamp_of}
 use Rattle.ledger_model.specs.Step.{Step}
-use Rattle.ledger_model.specs.Appends.{append_header, append_journal, member_header, member_journal, occult_header, occult_journal}
+use Rattle.ledger_model.specs.Appends.{append_header, append_journal, member_header, member_journal, occult_header, occult_journal, purge_header, purge_journal}
 use Rattle.ledger_model.specs.Clues.{jsns_with, clue_count, last_of, next_ordinal, last_journal}
-use Rattle.ledger_model.specs.History.{History, history, journals, size, point}
-use Rattle.ledger_model.specs.Judgements.{kept_count, is_full, fullness, hard_fullness, unknown_in, wrong_key_in, clues_full, append_judgements, member_judgements, occult_judgements}
+use Rattle.ledger_model.specs.History.{History, history, journals, size, point, root}
+use Rattle.ledger_model.specs.Judgements.{kept_count, is_full, fullness, hard_fullness, life_fullness, unknown_in, wrong_key_in, clues_full, append_judgements, member_judgements, occult_judgements, purge_judgements}
 use Rattle.member_book.specs.Erasures.{first_refusal}
-use Rattle.ledger_model.specs.Lawful.{IsNextOccult, IsNext, AreLawful, IsWhole}
+use Rattle.ledger_model.specs.Lawful.{IsNextOccult, IsNextPurge, IsNext, AreLawful, IsWhole}
 use Rattle.ledger_model.specs.Limits.{real_limits, AreWithin}
 use Rattle.ledger_model.specs.Members.{members, keys}
+use Rattle.ledger_model.specs.Needs.{purge_needs}
 use Rattle.ledger_model.specs.Targets.{hider, kind_at, leaf_at}
 use Rattle.ledger_model.specs.declared.limits.Limits.{Limits}
 use Rattle.ledger_model.proofs.HideLaws.{hidden_is}
-use Rattle.ledger_model.proofs.LawfulLaws.{lawful_from, some_journal, lawful_members, AreBetween, numbers_between, last_between}
+use Rattle.ledger_model.proofs.LawfulLaws.{lawful_from, genesis_first, some_journal, lawful_members, AreBetween, numbers_between, last_between}
 
 -- no refusal
 abbrev pub IsNone : Option Refusal → Type 0
@@ -229,6 +230,91 @@ module _ (limits : Limits) (within : AreWithin limits) (h : History) (target : �
         below = let less = hard_room limits h rows.0 in omega (arith, less, within.size);
         own = record { kept = own.kept; before = own.before; target_is = own.target_is; shown = own.shown; leaf_is = own.leaf_is };
       }
+
+-- a purge that is accepted
+life_room : (limits : Limits) (h : History) → IsNone (life_fullness limits h) → size h < limits.size
+unfolding life_fullness
+life_room limits h is = leb-false limits.size (size h) (if_none (nat_le limits.size (size h)) _ is)
+
+time_is : (k : Kind) → is_time k ≡ true → k ≡ kind.Time
+time_is kind.Time is = refl
+time_is kind.Genesis is = absurd (true≢false (sym is))
+time_is kind.Content is = absurd (true≢false (sym is))
+time_is kind.Member is = absurd (true≢false (sym is))
+time_is kind.Occult is = absurd (true≢false (sym is))
+time_is kind.Purge is = absurd (true≢false (sym is))
+
+-- the first journal tells no time
+first_kind : (es : List Entry) → AreLawful es → get_or (map (λ (j : Entry). j.header.kind) es) 0 kind.Genesis ≡ kind.Genesis
+first_kind [] lawful = absurd lawful.founded
+first_kind (e ∷ es) lawful = genesis_first e.header.kind e.header.jsn lawful.next.0.jsn lawful.next.0.layout.jsn
+
+timed_behind : (h : History) (n : ℕ) → AreLawful (journals h) → kind_at h n ≡ kind.Time → 0 < n
+timed_behind h n lawful is = elim (nat_lt 0 n) as (λ v. nat_lt 0 n ≡ v → 0 < n) [
+  | true ↦ λ some. ltb-true 0 n some
+  | false ↦ λ none.
+      let first : n ≡ 0 = omega (arith, ltb-false 0 n none) in
+      absurd (true≢false (sym (ap is_time (sym (first_kind (journals h) lawful) ∙ ap (kind_at h) (sym first) ∙ is))))
+] refl
+
+-- .. names a time journal behind the point so far
+pub point_own : (h : History) (x : Header) (kept told : Digest) (more : List (Option Refusal)) → AreLawful (journals h)
+    → IsNone (first_refusal (point_row (size h) (point h) (kind_at h x.a) kept x.a told ++ more))
+    → IsNextPurge h x
+point_own h x kept told more lawful is =
+    let p = x.a in
+    let a = none_first (absent (size h) p) _ is in
+    let b = none_first (purged_up_to (point h) p) _ a.1 in
+    let c = none_first (no_time (kind_at h p)) _ b.1 in
+    let time = time_is (kind_at h p) (if_not (is_time (kind_at h p)) _ c.0) in
+    record {
+      above = elim (nat_lt 0 (point h)) as (λ v. nat_lt 0 (point h) ≡ v → (v && nat_le p (point h)) ≡ false → point h < p) [
+        | true ↦ λ some low. leb-false p (point h) low
+        | false ↦ λ none low. omega (arith, timed_behind h p lawful time, ltb-false 0 (point h) none)
+      ] refl (if_none (nat_lt 0 (point h) && nat_le p (point h)) _ b.0);
+      before = leb-false (size h) p (if_none (nat_le (size h) p) _ a.0);
+      target_is = time;
+    }
+
+module _ (limits : Limits) (within : AreWithin limits) (h : History) (p : ℕ) (told : Digest) (given : List Approval) (judged : IsNone (first_refusal (purge_judgements limits h p told given))) (link : Digest) (lawful : AreLawful (journals h)) where
+  pub purge_own : IsNextPurge h (purge_header (size h) p link given)
+  unfolding purge_header
+  purge_own =
+      point_own h (purge_header (size h) p link given) (digest (root h p)) told (approvals_refusal (keys h) given (purge_needs h p) ∷ []) lawful (none_first (life_fullness limits h) _ judged).1
+
+  pub purge_next : IsNext (history [] (journals h)) (purge_header (size h) p link given)
+  unfolding purge_header point
+  purge_next =
+      let own = purge_own in record {
+        layout = record {
+          version = refl;
+          jsn = lt-ltb 0 (size h) (omega (arith, some_journal (journals h) lawful));
+          member = refl;
+          clue = refl;
+          clue_ord = refl;
+          clue_prev = refl;
+          a = and_from _ _ (lt-ltb 0 p (omega (arith, own.above))) (lt-ltb p (size h) own.before);
+          b = refl;
+          content_len = refl;
+        };
+        jsn = refl;
+        below = let less = life_room limits h (none_first (life_fullness limits h) _ judged).0 in omega (arith, less, within.size);
+        own = record { above = own.above; before = own.before; target_is = own.target_is };
+      }
+
+-- .. and is approved by whom it needs
+pub purge_approved : (limits : Limits) (h : History) (p : ℕ) (told : Digest) (given : List Approval) → IsNone (first_refusal (purge_judgements limits h p told given)) → IsNone (approvals_refusal (keys h) given (purge_needs h p))
+purge_approved limits h p told given judged =
+    let a = none_first (life_fullness limits h) _ judged in
+    let b = none_first (absent (size h) p) _ a.1 in
+    let c = none_first (purged_up_to (point h) p) _ b.1 in
+    let d = none_first (no_time (kind_at h p)) _ c.1 in
+    let e = none_first (other_root (digest (root h p)) told) _ d.1 in
+    (none_first (approvals_refusal (keys h) given (purge_needs h p)) [] e.1).0
+
+pub purge_whole : (h : History) (p : ℕ) (given : List Approval) → IsWhole (purge_journal h p given)
+unfolding purge_header
+purge_whole h p given = record { length_is = refl; content_is = refl; who_is = refl }
 
 pub occult_whole : (jsn target : ℕ) (leaf : Digest) (given : List Approval) → IsWhole (occult_journal jsn target leaf given)
 unfolding occult_header

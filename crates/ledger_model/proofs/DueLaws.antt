@@ -11,7 +11,7 @@ use Rattle.script_lines.specs.Replies.{reply_text}
 use Rattle.script_lines.specs.declared.reply.Reply.TheVariants as reply
 use Rattle.std.specs.Option.{option_map}
 use Rattle.ledger_model.specs.Anchors.{stamp_of, time_journal}
-use Rattle.ledger_model.specs.Appends.{append_journal, member_journal, occult_journal}
+use Rattle.ledger_model.specs.Appends.{append_journal, member_journal, occult_journal, purge_journal}
 use Rattle.ledger_model.specs.Dues.{due_for, dues, reply_at, dues_text, IsWithin}
 use Rattle.ledger_model.specs.Growing.{Grows}
 use Rattle.ledger_model.specs.History.{History, id, journals_of, size, root, close, block_of, end_of}
@@ -26,7 +26,7 @@ use Rattle.ledger_model.specs.declared.answer.Answer.{Answer}
 use Rattle.ledger_model.specs.declared.answer.Answer.TheVariants.{Reply, Receipt}
 use Rattle.ledger_model.specs.declared.due.Due.{Due}
 use Rattle.ledger_model.specs.declared.job.Job.{Job}
-use Rattle.ledger_model.specs.declared.job.Job.TheVariants.{Refused, Append, NewMember, Anchor, Occult, Get, Prove, Extend, Clue, Head}
+use Rattle.ledger_model.specs.declared.job.Job.TheVariants.{Refused, Append, NewMember, Anchor, Occult, Purge, Get, Prove, Extend, Clue, Head}
 use Rattle.ledger_model.specs.declared.outcome.Query.TheVariants as query
 use Rattle.ledger_model.proofs.ProveLaws.{asked}
 use Rattle.ledger_model.proofs.GrowLaws.{IsEnded, moves_close, grows_not, grows_moved, grows_job, grows_settled, size_close, grows_then, grows_size, size_closed, root_kept, block_of-grows, end_of-grows, end_of-le, block_of-ended, end_of-ended}
@@ -67,6 +67,14 @@ within_occult k step target leaf given =
     subst (λ n. IsWithin n (size (after_job k step job)) (answer_to k step job)) (size_close k)
     (within_judged (close k) step job (own_refusal real_limits (close k) job) (occult_journal (size (close k)) target leaf given))
 
+within_purge : (k : History) (step : Step) (p : ℕ) (told : Digest) (given : List Approval)
+    → IsWithin (size k) (size (after_job k step (Purge p told given))) (answer_to k step (Purge p told given))
+unfolding after_job answer_to with_job outcome
+within_purge k step p told given =
+    let job = Purge p told given in
+    subst (λ n. IsWithin n (size (after_job k step job)) (answer_to k step job)) (size_close k)
+    (within_judged (close k) step job (own_refusal real_limits (close k) job) (purge_journal (close k) p given))
+
 -- a receipt's journal is the one that the job places
 pub within_job : (k : History) (step : Step) (job : Job) → IsWithin (size k) (size (after_job k step job)) (answer_to k step job)
 unfolding after_job answer_to with_job outcome
@@ -78,6 +86,7 @@ within_job k step (NewMember number key by) =
     let job = NewMember number key by in within_judged k step job (own_refusal real_limits k job) (member_journal (size k) number key by)
 within_job k step Anchor = within_closed k step
 within_job k step (Occult target leaf given) = within_occult k step target leaf given
+within_job k step (Purge p told given) = within_purge k step p told given
 within_job k step (Get n) = tt
 within_job k step (Prove n) = asked (IsWithin _ _) (close k) step (own_refusal real_limits (close k) (Prove n)) (query.Prove n) (λ why is. tt) tt
 within_job k step (Extend which m) = asked (IsWithin _ _) (close k) step (own_refusal real_limits (close k) (Extend which m)) (query.Extend which m) (λ why is. tt) tt

@@ -1,8 +1,8 @@
 -- The numbers of each reply that is due in a run are as programs have them, and so are the leaf digests of receipts.
-use Rattle.std.specs.Prelude.{⊤, All, nat_le, nat_lt, filter, slice_get, find, min, bytes_eq}
+use Rattle.std.specs.Prelude.{⊤, All, IsTrue, nat_le, nat_lt, filter, slice_get, find, min, bytes_eq}
 use Rattle.std.proofs.Common.{◌≡◌, ℕ, suc, ◌+◌, ◌<◌, ◌≤◌, ◌&&◌, ◌==◌, not, Bool, true, false, ◌||◌, cond, List, [], ◌∷◌, ◌++◌, length, map, drop, option_map, Option, Some, None, Result, Ok, Err, refl, sym, ap, subst, arith, append_assoc, append-nil, length-append}
-use Rattle.std.specs.List.{list_all, position_or_len, reduce}
-use Rattle.std.proofs.lemmas.Bool.{and_parts, leb-true, ltb-true}
+use Rattle.std.specs.List.{list_all, fold, position_or_len, reduce}
+use Rattle.std.proofs.lemmas.Bool.{and_parts, eqb-true, leb-true, ltb-true}
 use Rattle.std.proofs.lemmas.List.{length-map}
 use Rattle.std.proofs.lemmas.Slice.Zip.{length-zip}
 use Rattle.ledger_bytes.specs.Fields.{IsBytes}
@@ -12,33 +12,34 @@ use Rattle.ledger_bytes.specs.declared.refusal.Refusal.{Refusal}
 use Rattle.ledger_bytes.specs.declared.refusal.Refusal.TheVariants as refusals
 use Rattle.journal_record.specs.Entry.{Entry}
 use Rattle.journal_record.specs.Members.{is_known, is_key_of, number_refusal}
-use Rattle.journal_record.specs.Rules.{is_no_clue}
+use Rattle.journal_record.specs.Rules.{is_no_clue, member_ok}
 use Rattle.journal_record.specs.Header.{code_of}
-use Rattle.journal_record.specs.Request.{occult_request_digest_of}
+use Rattle.journal_record.specs.Request.{occult_request_digest_of, purge_request_digest_of}
 use Rattle.journal_record.specs.declared.approval.Approval.{Approval}
 use Rattle.journal_record.specs.declared.header.Kind.{Kind}
 use Rattle.journal_record.specs.declared.header.Kind.TheVariants as kind
 use Rattle.journal_record.specs.declared.member.Member.{Member}
-use Rattle.member_book.specs.Approvals.{neighbours, order_refusal, unknown_refusal, shows_key, key_refusal, approves, missing_refusal, approvals_refusal}
+use Rattle.member_book.specs.Approvals.{neighbours, order_refusal, unknown_refusal, shows_key, key_refusal, approves, approvals_refusal}
 use Rattle.std.specs.Option.{option_or}
 use Rattle.script_lines.specs.Grammar.{spoken_line}
 use Rattle.script_lines.specs.Receipts.{Told, Fits, AllFits, StampFits, RefusalFits, ReplyFits, AllFit}
 use Rattle.script_lines.specs.declared.line.Line.{Line}
 use Rattle.script_lines.specs.declared.line.Line.TheVariants as line
-use Rattle.script_lines.specs.Limits.{fits_what}
+use Rattle.script_lines.specs.Limits.{fits_what, fits_approvals}
 use Rattle.script_lines.specs.declared.said.SaidApproval.{SaidApproval}
 use Rattle.script_lines.proofs.Fitting.{spoken_fits}
 use Rattle.script_lines.proofs.SpokenLaws.{WhatFits, spoken_counts}
-use Rattle.ledger_model.specs.Appends.{approval_of, append_with, member_job, occult_job, append_journal, member_journal, occult_journal}
+use Rattle.ledger_model.specs.Appends.{approval_of, append_with, member_job, occult_job, purge_job, append_journal, member_journal, occult_journal, purge_journal}
 use Rattle.ledger_model.specs.Clues.{numbers_of, jsns_with, clue_count}
 use Rattle.ledger_model.specs.Dues.{IsWithin, due_for, dues, all_dues, due_reply, due_replies, IsCounted, AllCounted, EachCounted}
 use Rattle.ledger_model.specs.Growing.{Grows}
 use Rattle.ledger_model.specs.History.{History, id, journals, journals_of, size, root, blocks, point, block_from, end_from, block_of, end_of, close}
-use Rattle.ledger_model.specs.Judgements.{kept_count, is_full, fullness, hard_fullness, unknown_in, wrong_key_in, clues_full, own_refusal}
-use Rattle.member_book.specs.Erasures.{absent, purged, is_record, no_record, hidden_by, other_leaf, first_refusal}
+use Rattle.ledger_model.specs.Judgements.{kept_count, is_full, fullness, hard_fullness, life_fullness, unknown_in, wrong_key_in, clues_full, own_refusal}
+use Rattle.member_book.specs.Erasures.{absent, purged, purged_up_to, is_record, no_record, is_time, no_time, hidden_by, other_leaf, other_root, first_refusal}
 use Rattle.ledger_model.specs.Lawful.{AreNext, IsBlock, IsLawful}
 use Rattle.ledger_model.specs.Limits.{real_limits}
 use Rattle.ledger_model.specs.Members.{members, keys}
+use Rattle.ledger_model.specs.Needs.{is_taken, purge_needs}
 use Rattle.ledger_model.specs.Outcomes.{placed_as, anchor_outcome, judged_outcome, outcome}
 use Rattle.ledger_model.specs.Anchors.{stamp_of, time_journal, no_stamp, is_full_list}
 use Rattle.ledger_model.specs.Rules.{job_for, job_of, closes_before, judged_at, after_step, after_steps, after_window, after}
@@ -60,7 +61,7 @@ use Rattle.ledger_bytes.specs.Digests.{digest}
 use Rattle.sha2.specs.Sha256.{sha256}
 use Rattle.tree_model.specs.Tree.{mth}
 use Rattle.ledger_model.specs.declared.job.Job.{Job}
-use Rattle.ledger_model.specs.declared.job.Job.TheVariants.{Refused, Append, NewMember, Anchor, Occult, Get, Prove, Extend, Clue, Head}
+use Rattle.ledger_model.specs.declared.job.Job.TheVariants.{Refused, Append, NewMember, Anchor, Occult, Purge, Get, Prove, Extend, Clue, Head}
 use Rattle.ledger_model.proofs.ByteLaws.{leaf_bytes}
 use Rattle.ledger_model.proofs.DueLaws.{grows_steps, AllWithin, all_wider, all_higher, dues_within, grows_windows}
 use Rattle.ledger_model.proofs.GetLaws.{get_fits}
@@ -79,7 +80,8 @@ few_behind before (e ∷ es) few next =
 pub size_few : (h : History) → IsLawful h → size h ≤ real_limits.size
 size_few h l = few_behind [] (journals h) (omega arith) l.journals_are.next
 
-blocks_few : (bs : List (List Entry)) → All IsBlock bs → length bs ≤ length (journals_of bs)
+-- there are no more blocks than journals in them
+pub blocks_few : (bs : List (List Entry)) → All IsBlock bs → length bs ≤ length (journals_of bs)
 blocks_few [] all = omega arith
 blocks_few (b ∷ bs) all = omega (arith, length-journals_of b bs, (all 0 [] (omega arith)).some, blocks_few bs (λ k d lt. all (suc k) d (omega (arith, lt))))
 
@@ -246,18 +248,58 @@ order_fits given few =
       | false ↦ λ is. tt
     ] refl
 
-missing_fits : (given : List Approval) → MayFit (missing_refusal given (0 ∷ 1 ∷ []))
-missing_fits given = elim (approves given 0) as (λ u. MayFit (option_map (λ m. refusals.MissingApproval m) (reduce min (cond (not u) (0 ∷ cond (not (approves given 1)) (1 ∷ []) []) (cond (not (approves given 1)) (1 ∷ []) []))))) [
-  | true ↦ elim (approves given 1) as (λ v. MayFit (option_map (λ m. refusals.MissingApproval m) (reduce min (cond (not v) (1 ∷ []) [])))) [ true ↦ tt | false ↦ omega arith ]
-  | false ↦ elim (approves given 1) as (λ v. MayFit (option_map (λ m. refusals.MissingApproval m) (reduce min (0 ∷ cond (not v) (1 ∷ []) [])))) [ true ↦ omega arith | false ↦ omega arith ]
-]
+-- the least of some numbers
+least_fits : (start : ℕ) (ns : List ℕ) → Fits start → Fits (fold min start ns)
+least_fits start [] f = f
+least_fits start (n ∷ ns) f = least_fits (min start n) ns (omega (arith, f))
 
-approvals_fit : (known : List (List ℕ)) (given : List Approval) → length given ≤ APPROVAL_LIMIT → MembersFit given → MayFit (approvals_refusal known given (0 ∷ 1 ∷ []))
-approvals_fit known given few f =
+missing_of : (ns : List ℕ) → AllFits ns → MayFit (option_map (λ m. refusals.MissingApproval m) (reduce min ns))
+missing_of [] f = tt
+missing_of (n ∷ ns) f = least_fits n ns f.0
+
+some_fit : (p : ℕ → Bool) (ns : List ℕ) → AllFits ns → AllFits (filter p ns)
+some_fit p [] f = tt
+some_fit p (n ∷ ns) f = elim (p n) as (λ v. AllFits (cond v (n ∷ filter p ns) (filter p ns))) [ true ↦ (f.0, some_fit p ns f.1) | false ↦ some_fit p ns f.1 ]
+
+approvals_fit : (known : List (List ℕ)) (given : List Approval) (needed : List ℕ) → length given ≤ APPROVAL_LIMIT → MembersFit given → AllFits needed → MayFit (approvals_refusal known given needed)
+approvals_fit known given needed few f n =
     either_fits (order_refusal given) _ (order_fits given few)
     (either_fits (unknown_refusal known given) _ (member_found (λ m. refusals.UnknownMember m) (λ m fit. fit) (λ (g : Approval). not (is_known known g.member)) given f)
     (either_fits (key_refusal known given) _ (member_found (λ m. refusals.WrongKey m) (λ m fit. fit) (λ (g : Approval). not (shows_key known g)) given f)
-    (missing_fits given)))
+    (missing_of (filter (λ member. not (approves given member)) needed) (some_fit (λ member. not (approves given member)) needed n))))
+
+-- refusals of a purge
+
+life_fits : (h : History) → IsLawful h → MayFit (life_fullness real_limits h)
+unfolding life_fullness
+life_fits h l =
+    elim (nat_le real_limits.size (size h)) as (λ v. MayFit (cond v (Some (refusals.Full (kept_count h) (size h))) None)) [ true ↦ (omega (arith, size_few h l), omega (arith, size_few h l)) | false ↦ tt ]
+
+purged_up_fits : (p n : ℕ) → Fits p → MayFit (purged_up_to p n)
+purged_up_fits p n f = elim (nat_lt 0 p && nat_le n p) as (λ v. MayFit (cond v (Some (refusals.Purged p)) None)) [ true ↦ f | false ↦ tt ]
+
+no_time_fits : (k : Kind) → MayFit (no_time k)
+no_time_fits k = elim (is_time k) as (λ v. MayFit (cond v None (Some (refusals.NotTime (code_of k))))) [ true ↦ tt | false ↦ code_fits k ]
+
+other_root_fits : (kept told : Digest) → MayFit (other_root kept told)
+other_root_fits kept told = elim (bytes_eq told.0 kept.0) as (λ v. MayFit (cond v None (Some (refusals.RootDiffers kept)))) [ true ↦ tt | false ↦ tt ]
+
+member_small : (k : Kind) (member : ℕ) → IsTrue (member_ok k member) → Fits member
+member_small kind.Content member ok = omega (arith, ltb-true member MEMBER_LIMIT ok)
+member_small kind.Genesis member ok = omega (arith, eqb-true member 0 ok)
+member_small kind.Member member ok = omega (arith, eqb-true member 0 ok)
+member_small kind.Time member ok = omega (arith, eqb-true member 0 ok)
+member_small kind.Occult member ok = omega (arith, eqb-true member 0 ok)
+member_small kind.Purge member ok = omega (arith, eqb-true member 0 ok)
+
+owners_fit : (m from to : ℕ) (es : List Entry) → AreFrom m es → AllFits (map (λ (j : Entry). j.header.member) (filter (is_taken from to) es))
+owners_fit m from to [] f = tt
+owners_fit m from to (e ∷ es) f =
+    let later = owners_fit (m + 1) from to es f.2 in
+    elim (is_taken from to e) as (λ v. AllFits (map (λ (j : Entry). j.header.member) (cond v (e ∷ filter (is_taken from to) es) (filter (is_taken from to) es)))) [ true ↦ (member_small e.header.kind e.header.member f.1.member, later) | false ↦ later ]
+
+needs_fit : (h : History) (p : ℕ) → IsLawful h → AllFits (purge_needs h p)
+needs_fit h p l = (omega arith, owners_fit 0 (point h) p (journals h) (lawful_from (journals h) l.journals_are))
 
 -- the numbers of a job that a refusal may tell
 abbrev pub JobFits : Job → Type 0
@@ -266,6 +308,7 @@ JobFits (Append member clue content content_digest request by) = Fits member
 JobFits (NewMember number key by) = ⊤
 JobFits Anchor = ⊤
 JobFits (Occult target leaf given) = (length given ≤ APPROVAL_LIMIT) × MembersFit given
+JobFits (Purge p told given) = (length given ≤ APPROVAL_LIMIT) × MembersFit given
 JobFits (Get n) = ⊤
 JobFits (Prove n) = ⊤
 JobFits (Extend which m) = ⊤
@@ -289,7 +332,19 @@ own_fits h (Occult target leaf given) l f =
         absent_fits (size h) target (omega (arith, size_few h l)),
         (
           purged_fits (point h) target (omega (arith, point_few h l, size_few h l)),
-          (no_record_fits (kind_at h target), (hider_fits h target l, (other_leaf_fits kept leaf, (approvals_fit (keys h) given f.0 f.1, tt)))),
+          (no_record_fits (kind_at h target), (hider_fits h target l, (other_leaf_fits kept leaf, (approvals_fit (keys h) given (0 ∷ 1 ∷ []) f.0 f.1 (omega arith, (omega arith, tt)), tt)))),
+        ),
+      ),
+    )
+own_fits h (Purge p told given) l f =
+    let kept = digest (root h p) in
+    first_fits (life_fullness real_limits h ∷ absent (size h) p ∷ purged_up_to (point h) p ∷ no_time (kind_at h p) ∷ other_root kept told ∷ approvals_refusal (keys h) given (purge_needs h p) ∷ []) (
+      life_fits h l,
+      (
+        absent_fits (size h) p (omega (arith, size_few h l)),
+        (
+          purged_up_fits (point h) p (omega (arith, point_few h l, size_few h l)),
+          (no_time_fits (kind_at h p), (other_root_fits kept told, (approvals_fit (keys h) given (purge_needs h p) f.0 f.1 (needs_fit h p l), tt))),
         ),
       ),
     )
@@ -304,8 +359,15 @@ said_fit : (scheme : Scheme) (message : List ℕ) (gs : List SaidApproval) → A
 said_fit scheme message [] all = tt
 said_fit scheme message (g ∷ gs) all = (all 0 g (omega arith), said_fit scheme message gs (λ k d lt. all (suc k) d (omega (arith, lt))))
 
+given_fit : (scheme : Scheme) (message : List ℕ) (given : List SaidApproval) → fits_approvals given ≡ true → All (λ by. Fits by.member) given
+    → (length (map (λ (by : SaidApproval). approval_of scheme by.member message by.proof) given) ≤ APPROVAL_LIMIT) × MembersFit (map (λ (by : SaidApproval). approval_of scheme by.member message by.proof) given)
+given_fit scheme message given fits f = (
+  omega (arith, length-map given (λ (by : SaidApproval). approval_of scheme by.member message by.proof), leb-true (length given) APPROVAL_LIMIT (and_parts (nat_le (length given) APPROVAL_LIMIT) (list_all (λ (by : SaidApproval). nat_le (length by.proof) PROOF_LIMIT) given) fits).0),
+  said_fit scheme message given f,
+)
+
 for_fits : (scheme : Scheme) (id : List ℕ) (what : Result Line Refusal) → fits_what what ≡ true → WhatFits what → JobFits (job_for scheme id what)
-unfolding append_with member_job occult_job
+unfolding append_with member_job occult_job purge_job
 for_fits scheme id (Err refusal) fits f = f
 for_fits scheme id (Ok (line.Append member clue content proof)) fits f = f
 for_fits scheme id (Ok (line.NewMember number key proof)) fits f = tt
@@ -315,10 +377,8 @@ for_fits scheme id (Ok (line.Extend which m)) fits f = tt
 for_fits scheme id (Ok (line.Clue name)) fits f = tt
 for_fits scheme id (Ok line.Anchor) fits f = tt
 for_fits scheme id (Ok (line.Occult target leaf given)) fits f =
-    let message = occult_request_digest_of id target leaf.0 in (
-      omega (arith, length-map given (λ (by : SaidApproval). approval_of scheme by.member message by.proof), leb-true (length given) APPROVAL_LIMIT (and_parts (nat_le (length given) APPROVAL_LIMIT) (list_all (λ (by : SaidApproval). nat_le (length by.proof) PROOF_LIMIT) given) fits).0),
-      said_fit scheme message given f,
-    )
+    given_fit scheme (occult_request_digest_of id target leaf.0) given fits f
+for_fits scheme id (Ok (line.Purge p told given)) fits f = given_fit scheme (purge_request_digest_of id p told.0) given fits f
 for_fits scheme id (Ok line.Head) fits f = tt
 
 pub job_counts : (scheme : Scheme) (id text : List ℕ) → JobFits (job_of scheme id text)
@@ -364,6 +424,8 @@ outcome_fits h step (NewMember number key by) l c f =
 outcome_fits h step Anchor l c f = anchor_fits h step (own_refusal real_limits h Anchor) (stamp_of step) c (own_fits h Anchor l f)
 outcome_fits h step (Occult target leaf given) l c f =
     let job = Occult target leaf given in placed_fits h step (own_refusal real_limits h job) (occult_journal (size h) target leaf given) c (own_fits h job l f)
+outcome_fits h step (Purge p told given) l c f =
+    let job = Purge p told given in placed_fits h step (own_refusal real_limits h job) (purge_journal h p given) c (own_fits h job l f)
 outcome_fits h step (Get n) l c f = get_fits h n (omega (arith, size_few h l)) (omega (arith, point_few h l, size_few h l))
 outcome_fits h step (Prove n) l c f = asked_fits h step (Prove n) (query.Prove n) (own_fits h (Prove n) l f) (told_proof ReplyFits h step n tt (λ m leaf lo hi bytes. tt))
 outcome_fits h step (Extend which m) l c f =

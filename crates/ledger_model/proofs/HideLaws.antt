@@ -114,7 +114,7 @@ names_below kind.Time jsn a n ok le = refl
 names_below kind.Occult jsn a n ok le = false_from_ne_true (a == n) (λ is. omega (arith, eqb-true a n is, ltb-true a jsn ok, le))
 names_below kind.Purge jsn a n ok le = refl
 
-none_named : (m n : ℕ) (es : List Entry) → AreFrom m es → m + length es ≤ n → (let none : Option ℕ = None in hider_of es n ≡ none)
+pub none_named : (m n : ℕ) (es : List Entry) → AreFrom m es → m + length es ≤ n → (let none : Option ℕ = None in hider_of es n ≡ none)
 none_named m n [] from few = refl
 none_named m n (e ∷ es) from few =
     ap (λ v. option_map (λ (j : Entry). j.header.jsn) (cond v (Some e) (find (names n) es))) (names_below e.header.kind e.header.jsn e.header.a n from.1.a (omega (arith, from.0, few)))
@@ -145,3 +145,17 @@ hider_new (x ∷ es) e n none is = elim (names n x) as (λ v. is_some (option_ma
   | true ↦ λ no. absurd (true≢false no)
   | false ↦ λ more. hider_new es e n more is
 ] none
+
+-- whether a journal is named, and by none in front of it
+named_is : (n : ℕ) (es : List Entry) → list_any (names n) es ≡ is_some (hider_of es n)
+named_is n [] = refl
+named_is n (e ∷ es) = elim (names n e) as (λ v. (v || list_any (names n) es) ≡ is_some (option_map (λ (j : Entry). j.header.jsn) (cond v (Some e) (find (names n) es)))) [
+  | true ↦ refl
+  | false ↦ named_is n es
+]
+
+pub hidden_named : (h : History) (n : ℕ) → AreLawful (journals h) → is_hidden h n ≡ list_any (names n) (journals h)
+hidden_named h n lawful = hidden_is h n ∙ ap is_some (hider_is h n lawful) ∙ sym (named_is n (journals h))
+
+pub named_before : (m n : ℕ) (es : List Entry) → AreFrom m es → m + length es ≤ n → list_any (names n) es ≡ false
+named_before m n es from few = named_is n es ∙ ap is_some (none_named m n es from few)

@@ -14,7 +14,7 @@ use Rattle.ledger_bytes.specs.declared.digest.Digest.{Digest}
 use Rattle.ledger_bytes.specs.declared.limits.TheConstants.{APPROVAL_LIMIT, BLOCK_LIMIT, NAME_LIMIT, CONTENT_LIMIT, PROOF_LIMIT}
 use Rattle.ledger_bytes.specs.declared.refusal.Refusal.{Refusal}
 use Rattle.journal_record.specs.Entry.{Entry, content_digest_of}
-use Rattle.journal_record.specs.Request.{occult_request_digest_of}
+use Rattle.journal_record.specs.Request.{occult_request_digest_of, purge_request_digest_of}
 use Rattle.journal_record.specs.declared.approval.Approval.{Approval}
 use Rattle.script_lines.specs.Grammar.{spoken_line}
 use Rattle.script_lines.specs.Limits.{fits_what, fits_approvals}
@@ -22,7 +22,7 @@ use Rattle.script_lines.specs.declared.said.SaidApproval.{SaidApproval}
 use Rattle.script_lines.specs.declared.line.Line.{Line}
 use Rattle.script_lines.specs.declared.line.Line.TheVariants as line
 use Rattle.script_lines.proofs.Fitting.{spoken_fits}
-use Rattle.ledger_model.specs.Appends.{approval_of, append_with, member_job, occult_job, append_header, append_journal, member_header, member_journal, occult_journal}
+use Rattle.ledger_model.specs.Appends.{approval_of, append_with, member_job, occult_job, purge_job, append_header, append_journal, member_header, member_journal, occult_journal, purge_journal}
 use Rattle.ledger_model.specs.Fitting.{fits_approval, fits_job}
 use Rattle.ledger_model.specs.Genesis.{HasKeys, genesis_header, genesis_journal, new_ledger}
 use Rattle.ledger_model.specs.History.{History, history, journals, journals_of, size, id, close_by, close}
@@ -35,8 +35,8 @@ use Rattle.ledger_model.specs.Scheme.{Scheme}
 use Rattle.ledger_model.specs.Step.{Step}
 use Rattle.ledger_model.specs.declared.genesis.Genesis.{Genesis}
 use Rattle.ledger_model.specs.declared.job.Job.{Job}
-use Rattle.ledger_model.specs.declared.job.Job.TheVariants.{Refused, Append, NewMember, Anchor, Occult, Get, Prove, Extend, Clue, Head}
-use Rattle.ledger_model.proofs.AcceptedLaws.{record_next, record_whole, member_next, member_whole, occult_next, occult_whole, time_next, time_whole, stamp_few}
+use Rattle.ledger_model.specs.declared.job.Job.TheVariants.{Refused, Append, NewMember, Anchor, Occult, Purge, Get, Prove, Extend, Clue, Head}
+use Rattle.ledger_model.proofs.AcceptedLaws.{record_next, record_whole, member_next, member_whole, occult_next, occult_whole, purge_next, purge_whole, time_next, time_whole, stamp_few}
 use Rattle.ledger_model.proofs.GrowLaws.{journals_of-push, close_none}
 use Rattle.ledger_model.proofs.LawfulLaws.{lawful_more}
 
@@ -141,6 +141,11 @@ job_lawful h step (Occult target leaf given) fits l =
     let g = close h in
     alone_lawful (close h) (own_refusal real_limits (close h) (Occult target leaf given)) (occult_journal (size (close h)) target leaf given) (close_lawful h l) (close_none h)
     (λ none. lawful_more (journals (close h)) _ (close_lawful h l).journals_are (occult_next real_limits real_within (close h) target leaf given none (close_lawful h l).journals_are))
+job_lawful h step (Purge p told given) fits l =
+    let g = close h in
+    let lawful = (close_lawful h l).journals_are in
+    alone_lawful g (own_refusal real_limits g (Purge p told given)) (purge_journal g p given) (close_lawful h l) (close_none h)
+    (λ none. lawful_more (journals g) _ lawful (purge_next real_limits real_within g p told given none _ lawful))
 job_lawful h step (Get n) fits l = settled_lawful (close h) (Get n) (close_lawful h l)
 job_lawful h step (Prove n) fits l =
     subst (λ g. IsLawful (settled_history (Prove n) g)) (sym (unplaced (own_refusal real_limits (close h) (Prove n)) (close h))) (settled_lawful (close h) (Prove n) (close_lawful h l))
@@ -175,6 +180,8 @@ job_sound h step (NewMember number key by) fits s =
 job_sound h step Anchor fits s = anchor_sound (close h) (own_refusal real_limits (close h) Anchor) (stamp_of step) (close_sound h s)
 job_sound h step (Occult target leaf given) fits s =
     let job = Occult target leaf given in placed_sound (close h) job (own_refusal real_limits (close h) job) _ (close_sound h s) (occult_whole _ target leaf given)
+job_sound h step (Purge p told given) fits s =
+    let job = Purge p told given in placed_sound (close h) job (own_refusal real_limits (close h) job) _ (close_sound h s) (purge_whole (close h) p given)
 job_sound h step (Get n) fits s = settled_sound (close h) (Get n) (close_sound h s)
 job_sound h step (Prove n) fits s =
     subst (λ g. IsSound (settled_history (Prove n) g)) (sym (unplaced (own_refusal real_limits (close h) (Prove n)) (close h))) (settled_sound (close h) (Prove n) (close_sound h s))
@@ -194,18 +201,29 @@ member_fits : (scheme : Scheme) (id : List ℕ) (number : ℕ) (key : Digest) (p
 unfolding member_job
 member_fits scheme id number key proof p = le-leb (length proof) PROOF_LIMIT p
 
-pub occult_fits : (scheme : Scheme) (id : List ℕ) (target : ℕ) (leaf : Digest) (given : List SaidApproval) → fits_approvals given ≡ true → fits_job (occult_job scheme id target leaf given) ≡ true
-unfolding occult_job
-occult_fits scheme id target leaf given fits =
+-- approvals that fit still do with the keys that they show
+shown_fit : (scheme : Scheme) (message : List ℕ) (given : List SaidApproval) → fits_approvals given ≡ true
+    → (nat_le (length (map (λ (by : SaidApproval). approval_of scheme by.member message by.proof) given)) APPROVAL_LIMIT
+    && list_all (λ (by : Approval). nat_le (length by.proof) PROOF_LIMIT) (map (λ (by : SaidApproval). approval_of scheme by.member message by.proof) given))
+    ≡ true
+shown_fit scheme message given fits =
     let parts = and_parts (nat_le (length given) APPROVAL_LIMIT) (list_all (λ (by : SaidApproval). nat_le (length by.proof) PROOF_LIMIT) given) fits in
-    and_from _ _ (ap (λ n. nat_le n APPROVAL_LIMIT) (length-map given (λ (by : SaidApproval). approval_of scheme by.member (occult_request_digest_of id target leaf.0) by.proof)) ∙ parts.0) (proofs_fit given parts.1)
+    and_from _ _ (ap (λ n. nat_le n APPROVAL_LIMIT) (length-map given (λ (by : SaidApproval). approval_of scheme by.member message by.proof)) ∙ parts.0) (proofs_fit given parts.1)
   where
     proofs_fit : (gs : List SaidApproval) → list_all (λ (by : SaidApproval). nat_le (length by.proof) PROOF_LIMIT) gs ≡ true
-        → list_all (λ (by : Approval). nat_le (length by.proof) PROOF_LIMIT) (map (λ (by : SaidApproval). approval_of scheme by.member (occult_request_digest_of id target leaf.0) by.proof) gs) ≡ true
+        → list_all (λ (by : Approval). nat_le (length by.proof) PROOF_LIMIT) (map (λ (by : SaidApproval). approval_of scheme by.member message by.proof) gs) ≡ true
     proofs_fit [] all = refl
     proofs_fit (g ∷ gs) all =
         let both = and_parts (nat_le (length g.proof) PROOF_LIMIT) (list_all (λ (by : SaidApproval). nat_le (length by.proof) PROOF_LIMIT) gs) all in
         and_from _ _ both.0 (proofs_fit gs both.1)
+
+pub occult_fits : (scheme : Scheme) (id : List ℕ) (target : ℕ) (leaf : Digest) (given : List SaidApproval) → fits_approvals given ≡ true → fits_job (occult_job scheme id target leaf given) ≡ true
+unfolding occult_job
+occult_fits scheme id target leaf given fits = shown_fit scheme (occult_request_digest_of id target leaf.0) given fits
+
+pub purge_fits : (scheme : Scheme) (id : List ℕ) (p : ℕ) (told : Digest) (given : List SaidApproval) → fits_approvals given ≡ true → fits_job (purge_job scheme id p told given) ≡ true
+unfolding purge_job
+purge_fits scheme id p told given fits = shown_fit scheme (purge_request_digest_of id p told.0) given fits
 
 for_fits : (scheme : Scheme) (id : List ℕ) (what : Result Line Refusal) → fits_what what ≡ true → fits_job (job_for scheme id what) ≡ true
 for_fits scheme id (Err refusal) fits = fits
@@ -220,6 +238,7 @@ for_fits scheme id (Ok (line.Extend which m)) fits = refl
 for_fits scheme id (Ok (line.Clue name)) fits = refl
 for_fits scheme id (Ok line.Anchor) fits = refl
 for_fits scheme id (Ok (line.Occult target leaf given)) fits = occult_fits scheme id target leaf given fits
+for_fits scheme id (Ok (line.Purge p told given)) fits = purge_fits scheme id p told given fits
 for_fits scheme id (Ok line.Head) fits = refl
 
 pub job_fits : (scheme : Scheme) (id text : List ℕ) → fits_job (job_of scheme id text) ≡ true

@@ -26,7 +26,7 @@ abbrev pub AreFrom : ℕ → List Entry → Type 0
 AreFrom m [] = ⊤
 AreFrom m (e ∷ es) = (e.header.jsn ≡ m) × IsHeader e.header × AreFrom (m + 1) es
 
-next_from : (before es : List Entry) → AreNext before es → AreFrom (length before) es
+pub next_from : (before es : List Entry) → AreNext before es → AreFrom (length before) es
 next_from before [] next = tt
 next_from before (e ∷ es) next =
     (next.0.jsn, next.0.layout, subst (λ n. AreFrom n es) (length-append before (e ∷ [])) (next_from (before ++ e ∷ []) es next.1))
@@ -121,7 +121,7 @@ abbrev pub AreBetween : ℕ → List ℕ → Type 0
 AreBetween n [] = ⊤
 AreBetween n (j ∷ js) = (0 < j) × (j < n) × AreBetween n js
 
-clued_behind : (k : Kind) (clue : Digest) (jsn : ℕ) → not (is_no_clue clue) ≡ true → IsTrue (clue_ok k clue) → IsTrue (jsn_ok k jsn) → 0 < jsn
+pub clued_behind : (k : Kind) (clue : Digest) (jsn : ℕ) → not (is_no_clue clue) ≡ true → IsTrue (clue_ok k clue) → IsTrue (jsn_ok k jsn) → 0 < jsn
 clued_behind kind.Content clue jsn has ok at = ltb-true 0 jsn at
 clued_behind kind.Genesis clue jsn has ok at = absurd (true≢false (sym has ∙ ap not ok))
 clued_behind kind.Member clue jsn has ok at = absurd (true≢false (sym has ∙ ap not ok))
@@ -169,7 +169,7 @@ point_below n m start (e ∷ es) from below low =
     let here = purge_below e.header.kind e.header n from.1.a (omega (arith, from.0, below)) in
     point_below n (m + 1) (max start (purge_point e)) es from.2 (omega (arith, below)) (omega (arith, here, low))
 
-front_from : (m n : ℕ) (es : List Entry) → AreFrom m es → AreFrom m (take n es)
+pub front_from : (m n : ℕ) (es : List Entry) → AreFrom m es → AreFrom m (take n es)
 front_from m zero es from = tt
 front_from m (suc n) [] from = tt
 front_from m (suc n) (e ∷ es) from = (from.0, from.1, front_from (m + 1) n es from.2)
@@ -178,10 +178,14 @@ fold_max : (start : ℕ) (ns : List ℕ) → fold max start ns ≡ max start (fo
 fold_max start [] = omega arith
 fold_max start (n ∷ ns) = omega (arith, fold_max (max start n) ns, fold_max (max 0 n) ns)
 
-take_few : (n : ℕ) (xs : List Entry) → 0 + length (take n xs) ≤ n
+pub take_few : (n : ℕ) (xs : List Entry) → 0 + length (take n xs) ≤ n
 take_few zero xs = omega arith
 take_few (suc n) [] = omega arith
 take_few (suc n) (x ∷ xs) = omega (arith, take_few n xs)
+
+-- the point of journals in two parts
+pub two_points : (es fs : List Entry) → greatest_point (es ++ fs) ≡ max (greatest_point es) (greatest_point fs)
+two_points es fs = ap (fold max 0) (map-append purge_point es fs) ∙ fold-append max 0 (map purge_point es) (map purge_point fs) ∙ fold_max (greatest_point es) (map purge_point fs)
 
 pub all_seen : (h : History) → seen_point 0 h ≡ point h
 unfolding point seen_point
@@ -193,8 +197,7 @@ unfolding point seen_point
 later_seen h floor lawful reaches =
     let es = journals h in
     let parts : greatest_point es ≡ max (greatest_point (take floor es)) (greatest_point (drop floor es)) =
-    ap greatest_point (sym (take-append-drop floor es)) ∙ ap (fold max 0) (map-append purge_point (take floor es) (drop floor es))
-    ∙ fold-append max 0 (map purge_point (take floor es)) (map purge_point (drop floor es)) ∙ fold_max (greatest_point (take floor es)) (map purge_point (drop floor es)) in
+    ap greatest_point (sym (take-append-drop floor es)) ∙ two_points (take floor es) (drop floor es) in
     by_floor floor refl parts
   where
     by_floor : (n : ℕ) → n ≡ floor → greatest_point (journals h) ≡ max (greatest_point (take floor (journals h))) (greatest_point (drop floor (journals h))) → greatest_point (drop floor (journals h)) ≡ greatest_point (journals h)
@@ -202,6 +205,19 @@ later_seen h floor lawful reaches =
     by_floor (suc n) is parts =
         let low : greatest_point (take floor (journals h)) < floor = point_below floor 0 0 (take floor (journals h)) (front_from 0 floor (journals h) (lawful_from (journals h) lawful)) (take_few floor (journals h)) (omega (arith, is)) in
         omega (arith, low, reaches, parts)
+
+-- the purge that has the point stands behind it
+pub point_seen : (h : History) → AreLawful (journals h) → seen_point (point h) h ≡ point h
+unfolding point seen_point
+point_seen h lawful = by_point (greatest_point (journals h)) refl where
+  by_point : (p : ℕ) → p ≡ greatest_point (journals h) → greatest_point (drop (greatest_point (journals h)) (journals h)) ≡ greatest_point (journals h)
+  by_point zero is = ap (λ n. greatest_point (drop n (journals h))) (sym is)
+  by_point (suc p) is =
+      let at = greatest_point (journals h) in
+      let parts : greatest_point (journals h) ≡ max (greatest_point (take at (journals h))) (greatest_point (drop at (journals h))) =
+      ap greatest_point (sym (take-append-drop at (journals h))) ∙ two_points (take at (journals h)) (drop at (journals h)) in
+      let low : greatest_point (take at (journals h)) < at = point_below at 0 0 (take at (journals h)) (front_from 0 at (journals h) (lawful_from (journals h) lawful)) (take_few at (journals h)) (omega (arith, is)) in
+      omega (arith, low, parts)
 
 -- journals of which none hides another hide none
 pub hide_none : (es : List Entry) (target : Option Entry) → ((t : Entry) → list_any (hides t) es ≡ false) → is_hidden_by es target ≡ false

@@ -15,6 +15,9 @@ pub mod HideLaws
 pub mod AcceptedLaws
 pub mod KeepLaws
 pub mod OccultLaws
+pub mod PurgeLaws
+pub mod NeedLaws
+pub mod ApproveLaws
 pub mod ByteLaws
 pub mod FitLaws
 pub mod CountLaws
@@ -22,3 +25,10 @@ pub mod TookLaws
 pub mod PegLaws
 pub mod BoundLaws
 pub mod ProveLaws
+pub mod PointLaws
+pub mod ClueLaws
+pub mod MarkLaws
+pub mod EarlyLaws
+pub mod StateLaws
+pub mod BaseLaws
+pub mod NumberLaws

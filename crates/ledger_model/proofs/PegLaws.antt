@@ -19,22 +19,24 @@ use Rattle.journal_record.specs.declared.rules.TheConstants.{NOTARY_LIMIT}
 use Rattle.journal_record.specs.declared.stamp.Stamp.{Stamp}
 use Rattle.time_peg.specs.Entries.{IsList, HasOneMore, NotaryState, entry_of, peg_string, time_in}
 use Rattle.ledger_model.specs.Anchors.{peg_at, time_header, time_journal, stamp_from, stamp_of, is_full_list}
-use Rattle.ledger_model.specs.Appends.{append_header, append_journal, member_header, member_journal, occult_header, occult_journal}
+use Rattle.ledger_model.specs.Appends.{append_header, append_journal, member_header, member_journal, occult_header, occult_journal, purge_header, purge_journal}
 use Rattle.ledger_model.specs.Genesis.{genesis_header, new_ledger}
+use Rattle.ledger_model.specs.Growing.{Grows}
 use Rattle.ledger_model.specs.History.{History, journals, size, id, root, point, first_leaf_digest, purge_point, greatest_point, close}
 use Rattle.ledger_model.specs.Judgements.{own_refusal}
 use Rattle.ledger_model.specs.Limits.{real_limits}
 use Rattle.ledger_model.specs.Notary.{asks, MayStamp, Changes, ChangesBy}
 use Rattle.ledger_model.specs.Outcomes.{with_waiting, after_judgement, with_job}
-use Rattle.ledger_model.specs.Pegs.{Pegged}
+use Rattle.ledger_model.specs.Pegs.{PeggedFrom, Pegged}
 use Rattle.ledger_model.specs.Rules.{closes_before, closes_after, job_of, judged_at, settled_history, after_job, after_step, after_steps, after}
 use Rattle.ledger_model.specs.Scheme.{Scheme}
 use Rattle.ledger_model.specs.Step.{Step}
 use Rattle.ledger_model.specs.Took.{notary_after, Took, TookAll}
 use Rattle.ledger_model.specs.declared.genesis.Genesis.{Genesis}
 use Rattle.ledger_model.specs.declared.job.Job.{Job}
-use Rattle.ledger_model.specs.declared.job.Job.TheVariants.{Refused, Append, NewMember, Anchor, Occult, Get, Prove, Extend, Clue, Head}
-use Rattle.ledger_model.proofs.GrowLaws.{root_kept, grows_asked, grows_with, grows_job, grows_size}
+use Rattle.ledger_model.specs.declared.job.Job.TheVariants.{Refused, Append, NewMember, Anchor, Occult, Purge, Get, Prove, Extend, Clue, Head}
+use Rattle.ledger_model.proofs.DueLaws.{grows_steps, grows_windows}
+use Rattle.ledger_model.proofs.GrowLaws.{root_kept, grows_asked, grows_close, grows_with, grows_job, grows_size}
 use Rattle.ledger_model.proofs.KeepLaws.{journals_close, journals_wider}
 use Rattle.ledger_model.proofs.WaitLaws.{slice_get-more, slice_get-last}
 
@@ -74,26 +76,34 @@ last_or (y ∷ xs) x (suc j) e is = elim (last_or xs x j e is) [ inl p ↦ inl (
 
 -- ---- the same journals, a longer list, fewer journals
 
--- a history of which another one has the first journals, where no point is seen behind
-pub pegged_fewer : (k g : History) (more : List Entry) (es : List (List ℕ)) → journals g ≡ journals k ++ more → 0 < size k → point g ≤ point k → Pegged g es → Pegged k es
-pegged_fewer k g more es is some seen p = record {
+-- a history of which another one has the first journals
+pub from_fewer : {q : ℕ} (k g : History) (more : List Entry) (es : List (List ℕ)) → journals g ≡ journals k ++ more → 0 < size k → PeggedFrom q g es → PeggedFrom q k es
+from_fewer k g more es is some p = record {
   list = p.list;
   each = λ j e at is_e time.
       let below = slice_get_within (journals k) j e is_e in
-      p.each j e (omega (arith, seen, at)) (there j e is_e) time ∙ ap (λ peg. Some (entry_of e.header.b peg e.header.link.0)) (peg_kept k g more j is some (omega (arith, below)));
-  rises = λ i j d e less at is_d time_d is_e time_e. p.rises i j d e less (omega (arith, seen, at)) (there i d is_d) time_d (there j e is_e) time_e;
+      p.each j e at (there j e is_e) time ∙ ap (λ peg. Some (entry_of e.header.b peg e.header.link.0)) (peg_kept k g more j is some (omega (arith, below)));
+  rises = λ i j d e less at is_d time_d is_e time_e. p.rises i j d e less at (there i d is_d) time_d (there j e is_e) time_e;
 } where
   there : (j : ℕ) (e : Entry) → slice_get (journals k) j ≡ Some e → slice_get (journals g) j ≡ Some e
   there j e is_e = ap (λ js. slice_get js j) is ∙ slice_get-more (journals k) more j e is_e
 
-same_point : (k g : History) → journals g ≡ journals k → point g ≡ point k
-unfolding point
-same_point k g is = ap greatest_point is
+-- from a later journal on
+pub from_later : {q : ℕ} (r : ℕ) (h : History) (es : List (List ℕ)) → q ≤ r → PeggedFrom q h es → PeggedFrom r h es
+from_later r h es le p = record {
+  list = p.list;
+  each = λ j e at is_e time. p.each j e (omega (arith, le, at)) is_e time;
+  rises = λ i j d e less at is_d time_d is_e time_e. p.rises i j d e less (omega (arith, le, at)) is_d time_d is_e time_e;
+}
 
-pub pegged_same : (k g : History) (es : List (List ℕ)) → journals g ≡ journals k → 0 < size k → Pegged g es → Pegged k es
-pegged_same k g es is some p = pegged_fewer k g [] es (is ∙ sym (append-nil (journals k))) some (omega (arith, same_point k g is)) p
+-- .. where no point is seen behind them
+pub pegged_fewer : (k g : History) (more : List Entry) (es : List (List ℕ)) → journals g ≡ journals k ++ more → 0 < size k → point g ≤ point k → Pegged g es → Pegged k es
+pegged_fewer k g more es is some seen p = from_later (point k) k es seen (from_fewer k g more es is some p)
 
-pub pegged_longer : (h : History) (es more : List (List ℕ)) → IsList (es ++ more) → Pegged h es → Pegged h (es ++ more)
+from_same : {q : ℕ} (k g : History) (es : List (List ℕ)) → journals g ≡ journals k → 0 < size k → PeggedFrom q g es → PeggedFrom q k es
+from_same k g es is some p = from_fewer k g [] es (is ∙ sym (append-nil (journals k))) some p
+
+pub pegged_longer : {q : ℕ} (h : History) (es more : List (List ℕ)) → IsList (es ++ more) → PeggedFrom q h es → PeggedFrom q h (es ++ more)
 pegged_longer h es more list p = record {
   list = list;
   each = λ j e at is time. slice_get-more es more e.header.a _ (p.each j e at is time);
@@ -103,25 +113,22 @@ pegged_longer h es more list p = record {
 -- ---- a journal more
 
 -- it is no time journal, or has its entry behind those of the others
-abbrev HasEntry : History → Entry → List (List ℕ) → Type 0
-HasEntry h x es =
+abbrev HasEntry : ℕ → History → Entry → List (List ℕ) → Type 0
+HasEntry q h x es =
     (slice_get es x.header.a ≡ Some (entry_of x.header.b (peg_at h (size h)) x.header.link.0))
-    × ((i : ℕ) (d : Entry) → point h ≤ i → slice_get (journals h) i ≡ Some d → d.header.kind ≡ kind.Time → d.header.a < x.header.a)
+    × ((i : ℕ) (d : Entry) → q ≤ i → slice_get (journals h) i ≡ Some d → d.header.kind ≡ kind.Time → d.header.a < x.header.a)
 
-module _ (h g : History) (x : Entry) (es : List (List ℕ)) (is : journals g ≡ journals h ++ x ∷ []) (some : 0 < size h) (p : Pegged h es) (new : x.header.kind ≡ kind.Time → HasEntry h x es) where
-  seen : point h ≤ point g
-  seen = point_kept h g (x ∷ []) is
-
+module _ (q : ℕ) (h g : History) (x : Entry) (es : List (List ℕ)) (is : journals g ≡ journals h ++ x ∷ []) (some : 0 < size h) (p : PeggedFrom q h es) (new : x.header.kind ≡ kind.Time → HasEntry q h x es) where
   place : (j : ℕ) (e : Entry) → slice_get (journals g) j ≡ Some e → ((j < size h) × (slice_get (journals h) j ≡ Some e)) ⊎ ((j ≡ size h) × (x ≡ e))
   place j e is_e = last_or (journals h) x j e (sym (ap (λ js. slice_get js j) is) ∙ is_e)
 
   is_time : (e : Entry) → x ≡ e → e.header.kind ≡ kind.Time → x.header.kind ≡ kind.Time
   is_time e same time = ap (λ (y : Entry). y.header.kind) same ∙ time
 
-  each_on : (j : ℕ) (e : Entry) → point g ≤ j → slice_get (journals g) j ≡ Some e → e.header.kind ≡ kind.Time → slice_get es e.header.a ≡ Some (entry_of e.header.b (peg_at g j) e.header.link.0)
+  each_on : (j : ℕ) (e : Entry) → q ≤ j → slice_get (journals g) j ≡ Some e → e.header.kind ≡ kind.Time → slice_get es e.header.a ≡ Some (entry_of e.header.b (peg_at g j) e.header.link.0)
   each_on j e at is_e time = elim (place j e is_e) [
     | inl old ↦
-        p.each j e (omega (arith, seen, at)) old.1 time
+        p.each j e at old.1 time
         ∙ ap (λ peg. Some (entry_of e.header.b peg e.header.link.0)) (sym (peg_kept h g (x ∷ []) j is some (omega (arith, old.0))))
     | inr last ↦
         subst (λ (y : Entry). slice_get es y.header.a ≡ Some (entry_of y.header.b (peg_at g j) y.header.link.0)) last.1
@@ -129,56 +136,56 @@ module _ (h g : History) (x : Entry) (es : List (List ℕ)) (is : journals g ≡
         ∙ ap (λ peg. Some (entry_of x.header.b peg x.header.link.0)) (sym (ap (peg_at g) last.0 ∙ peg_kept h g (x ∷ []) (size h) is some (omega arith))))
   ]
 
-  rises_on : (i j : ℕ) (d e : Entry) → i < j → point g ≤ i → slice_get (journals g) i ≡ Some d → d.header.kind ≡ kind.Time → slice_get (journals g) j ≡ Some e → e.header.kind ≡ kind.Time → d.header.a < e.header.a
+  rises_on : (i j : ℕ) (d e : Entry) → i < j → q ≤ i → slice_get (journals g) i ≡ Some d → d.header.kind ≡ kind.Time → slice_get (journals g) j ≡ Some e → e.header.kind ≡ kind.Time → d.header.a < e.header.a
   rises_on i j d e less at is_d time_d is_e time_e = elim (place i d is_d) [
     | inl old ↦ elim (place j e is_e) [
-      | inl also ↦ p.rises i j d e less (omega (arith, seen, at)) old.1 time_d also.1 time_e
+      | inl also ↦ p.rises i j d e less at old.1 time_d also.1 time_e
       | inr last ↦
           subst (λ (y : Entry). d.header.a < y.header.a) last.1
-          ((new (is_time e last.1 time_e)).1 i d (omega (arith, seen, at)) old.1 time_d)
+          ((new (is_time e last.1 time_e)).1 i d at old.1 time_d)
     ]
     | inr first ↦
         let few = slice_get_within (journals g) j e is_e in
         absurd (omega (arith, few, less, first.0, ap length is, length-append (journals h) (x ∷ [])))
   ]
 
-  pub pegged_on : Pegged g es
+  pub pegged_on : PeggedFrom q g es
   pegged_on = record { list = p.list; each = each_on; rises = rises_on }
 
 -- ---- a job
 
 -- the list goes on
-changes_on : (h : History) (asked failed : Bool) (peg : List ℕ) (before after : List (List ℕ)) → Changes asked failed peg before after → Pegged h before → Pegged h after
-changes_on h false failed peg before after same p = subst (Pegged h) (sym same) p
-changes_on h true false peg before after more p =
+changes_on : {q : ℕ} (h : History) (asked failed : Bool) (peg : List ℕ) (before after : List (List ℕ)) → Changes asked failed peg before after → PeggedFrom q h before → PeggedFrom q h after
+changes_on {q} h false failed peg before after same p = subst (PeggedFrom q h) (sym same) p
+changes_on {q} h true false peg before after more p =
     let es = entry_of more.0.0 peg more.0.1 ∷ [] in
-    subst (Pegged h) (sym more.0.3) (pegged_longer h before es (subst IsList more.0.3 more.1) p)
-changes_on h true true peg before after (inl same) p = subst (Pegged h) (sym same) p
-changes_on h true true peg before after (inr more) p =
+    subst (PeggedFrom q h) (sym more.0.3) (pegged_longer h before es (subst IsList more.0.3 more.1) p)
+changes_on {q} h true true peg before after (inl same) p = subst (PeggedFrom q h) (sym same) p
+changes_on {q} h true true peg before after (inr more) p =
     let es = entry_of more.0.0 peg more.0.1 ∷ [] in
-    subst (Pegged h) (sym more.0.3) (pegged_longer h before es (subst IsList more.0.3 more.1) p)
+    subst (PeggedFrom q h) (sym more.0.3) (pegged_longer h before es (subst IsList more.0.3 more.1) p)
 
-pub pegged_close : (h : History) (es : List (List ℕ)) → 0 < size h → Pegged h es → Pegged (close h) es
-pegged_close h es some p = pegged_same (close h) h es (sym (journals_close h)) (omega (arith, some, ap length (journals_close h))) p
+pub from_close : {q : ℕ} (h : History) (es : List (List ℕ)) → 0 < size h → PeggedFrom q h es → PeggedFrom q (close h) es
+from_close h es some p = from_same (close h) h es (sym (journals_close h)) (omega (arith, some, ap length (journals_close h))) p
 
-pegged_settled : (h : History) (job : Job) (es : List (List ℕ)) → 0 < size h → Pegged h es → Pegged (settled_history job h) es
-pegged_settled h job es some p = elim (closes_after job || nat_le 64 (length h.waiting)) as (λ full. Pegged (cond full (close h) h) es) [ true ↦ pegged_close h es some p | false ↦ p ]
+from_settled : {q : ℕ} (h : History) (job : Job) (es : List (List ℕ)) → 0 < size h → PeggedFrom q h es → PeggedFrom q (settled_history job h) es
+from_settled {q} h job es some p = elim (closes_after job || nat_le 64 (length h.waiting)) as (λ full. PeggedFrom q (cond full (close h) h) es) [ true ↦ from_close h es some p | false ↦ p ]
 
-pegged_judged : (h : History) (job : Job) (es : List (List ℕ)) → 0 < size h → Pegged h es → Pegged (judged_at h job) es
-pegged_judged h job es some p = elim (closes_before job) as (λ first. Pegged (cond first (close h) h) es) [ true ↦ pegged_close h es some p | false ↦ p ]
+from_judged : {q : ℕ} (h : History) (job : Job) (es : List (List ℕ)) → 0 < size h → PeggedFrom q h es → PeggedFrom q (judged_at h job) es
+from_judged {q} h job es some p = elim (closes_before job) as (λ first. PeggedFrom q (cond first (close h) h) es) [ true ↦ from_close h es some p | false ↦ p ]
 
 -- what a judgement leaves
-unplaced : (refusal : Option Refusal) (h : History) (es : List (List ℕ)) → Pegged h es → Pegged (after_judgement refusal None h) es
+unplaced : {q : ℕ} (refusal : Option Refusal) (h : History) (es : List (List ℕ)) → PeggedFrom q h es → PeggedFrom q (after_judgement refusal None h) es
 unplaced (Some refusal) h es p = p
 unplaced None h es p = p
 
-module _ (h : History) (es : List (List ℕ)) (some : 0 < size h) (p : Pegged h es) where
+module _ (q : ℕ) (h : History) (es : List (List ℕ)) (some : 0 < size h) (p : PeggedFrom q h es) where
   -- a journal that is placed, or refused
-  placed : (refusal : Option Refusal) (x : Entry) → (refusal ≡ None → x.header.kind ≡ kind.Time → HasEntry h x es) → Pegged (after_judgement refusal (Some x) h) es
+  placed : (refusal : Option Refusal) (x : Entry) → (refusal ≡ None → x.header.kind ≡ kind.Time → HasEntry q h x es) → PeggedFrom q (after_judgement refusal (Some x) h) es
   placed (Some refusal) x new = p
-  placed None x new = pegged_on h (with_waiting (Some x) h) x es (journals_wider h x) some p (new refl)
+  placed None x new = pegged_on q h (with_waiting (Some x) h) x es (journals_wider h x) some p (new refl)
 
-  untimed : (refusal : Option Refusal) (x : Entry) → (x.header.kind ≡ kind.Time → ⊥) → Pegged (after_judgement refusal (Some x) h) es
+  untimed : (refusal : Option Refusal) (x : Entry) → (x.header.kind ≡ kind.Time → ⊥) → PeggedFrom q (after_judgement refusal (Some x) h) es
   untimed refusal x not_time = placed refusal x (λ none time. absurd (not_time time))
 
 -- the stamp that a step gave
@@ -256,11 +263,11 @@ stamped_fits h step s accepted is changes =
     )
 
 -- an anchor, where nothing waits
-module _ (h : History) (step : Step) (some : 0 < size h) (before : Pegged h step.before) (attends : ChangesBy h step Anchor) where
-  after_is : Pegged h step.after
+module _ (q : ℕ) (h : History) (step : Step) (some : 0 < size h) (before : PeggedFrom q h step.before) (attends : ChangesBy h step Anchor) where
+  after_is : PeggedFrom q h step.after
   after_is = changes_on h (asks h step.before Anchor) step.failed (peg_at h (size h)) step.before step.after attends before
 
-  has_entry : (s : Stamp) → own_refusal real_limits h Anchor ≡ None → HasStamp step s → HasEntry h (time_journal (size h) s) step.after
+  has_entry : (s : Stamp) → own_refusal real_limits h Anchor ≡ None → HasStamp step s → HasEntry q h (time_journal (size h) s) step.after
   unfolding time_header
   has_entry s accepted has =
       let changed = stamped_by h step s accepted has attends in (
@@ -268,36 +275,38 @@ module _ (h : History) (step : Step) (some : 0 < size h) (before : Pegged h step
         λ i d at is time. omega (arith, index_is step s has (peg_at h (size h)) (peg_wide h (size h)) changed.0, slice_get_within step.before d.header.a _ (before.each i d at is time)),
       )
 
-  anchor_pegged : (refusal : Option Refusal) (stamp : Option Stamp) → own_refusal real_limits h Anchor ≡ refusal → stamp_of step ≡ stamp → Pegged (after_judgement refusal (option_map (time_journal (size h)) stamp) h) step.after
+  anchor_pegged : (refusal : Option Refusal) (stamp : Option Stamp) → own_refusal real_limits h Anchor ≡ refusal → stamp_of step ≡ stamp → PeggedFrom q (after_judgement refusal (option_map (time_journal (size h)) stamp) h) step.after
   anchor_pegged (Some refusal) stamp r is = after_is
   anchor_pegged None None r is = after_is
-  anchor_pegged None (Some s) r is = placed h step.after some after_is None (time_journal (size h) s) (λ none time. has_entry s r (has_stamp step s is))
+  anchor_pegged None (Some s) r is = placed q h step.after some after_is None (time_journal (size h) s) (λ none time. has_entry s r (has_stamp step s is))
 
 -- what is judged against a history
-judged_pegged : (h : History) (step : Step) (job : Job) → 0 < size h → Pegged h step.before → ChangesBy h step job → Pegged (with_job real_limits (stamp_of step) h job) step.after
-unfolding with_job append_header member_header occult_header
-judged_pegged h step (Refused refusal) some p attends = subst (Pegged h) (sym attends) p
-judged_pegged h step (Append member clue content content_digest request by) some p attends =
-    untimed h step.after some (subst (Pegged h) (sym attends) p) (own_refusal real_limits h (Append member clue content content_digest request by)) (append_journal h member clue content content_digest request by) (λ time. cc)
-judged_pegged h step (NewMember number key by) some p attends =
-    untimed h step.after some (subst (Pegged h) (sym attends) p) (own_refusal real_limits h (NewMember number key by)) (member_journal (size h) number key by) (λ time. cc)
-judged_pegged h step Anchor some p attends = anchor_pegged h step some p attends (own_refusal real_limits h Anchor) (stamp_of step) refl refl
-judged_pegged h step (Occult target leaf given) some p attends =
-    untimed h step.after some (subst (Pegged h) (sym attends) p) (own_refusal real_limits h (Occult target leaf given)) (occult_journal (size h) target leaf given) (λ time. cc)
-judged_pegged h step (Get n) some p attends = unplaced (own_refusal real_limits h (Get n)) h step.after (subst (Pegged h) (sym attends) p)
-judged_pegged h step (Prove n) some p attends = unplaced (own_refusal real_limits h (Prove n)) h step.after (subst (Pegged h) (sym attends) p)
-judged_pegged h step (Extend which m) some p attends = unplaced (own_refusal real_limits h (Extend which m)) h step.after (subst (Pegged h) (sym attends) p)
-judged_pegged h step (Clue clue) some p attends = unplaced (own_refusal real_limits h (Clue clue)) h step.after (subst (Pegged h) (sym attends) p)
-judged_pegged h step Head some p attends = unplaced (own_refusal real_limits h Head) h step.after (subst (Pegged h) (sym attends) p)
+judged_pegged : {q : ℕ} (h : History) (step : Step) (job : Job) → 0 < size h → PeggedFrom q h step.before → ChangesBy h step job → PeggedFrom q (with_job real_limits (stamp_of step) h job) step.after
+unfolding with_job append_header member_header occult_header purge_header
+judged_pegged {q} h step (Refused refusal) some p attends = subst (PeggedFrom q h) (sym attends) p
+judged_pegged {q} h step (Append member clue content content_digest request by) some p attends =
+    untimed q h step.after some (subst (PeggedFrom q h) (sym attends) p) (own_refusal real_limits h (Append member clue content content_digest request by)) (append_journal h member clue content content_digest request by) (λ time. cc)
+judged_pegged {q} h step (NewMember number key by) some p attends =
+    untimed q h step.after some (subst (PeggedFrom q h) (sym attends) p) (own_refusal real_limits h (NewMember number key by)) (member_journal (size h) number key by) (λ time. cc)
+judged_pegged {q} h step Anchor some p attends = anchor_pegged q h step some p attends (own_refusal real_limits h Anchor) (stamp_of step) refl refl
+judged_pegged {q} h step (Occult target leaf given) some p attends =
+    untimed q h step.after some (subst (PeggedFrom q h) (sym attends) p) (own_refusal real_limits h (Occult target leaf given)) (occult_journal (size h) target leaf given) (λ time. cc)
+judged_pegged {q} h step (Purge to told given) some p attends =
+    untimed q h step.after some (subst (PeggedFrom q h) (sym attends) p) (own_refusal real_limits h (Purge to told given)) (purge_journal h to given) (λ time. cc)
+judged_pegged {q} h step (Get n) some p attends = unplaced (own_refusal real_limits h (Get n)) h step.after (subst (PeggedFrom q h) (sym attends) p)
+judged_pegged {q} h step (Prove n) some p attends = unplaced (own_refusal real_limits h (Prove n)) h step.after (subst (PeggedFrom q h) (sym attends) p)
+judged_pegged {q} h step (Extend which m) some p attends = unplaced (own_refusal real_limits h (Extend which m)) h step.after (subst (PeggedFrom q h) (sym attends) p)
+judged_pegged {q} h step (Clue clue) some p attends = unplaced (own_refusal real_limits h (Clue clue)) h step.after (subst (PeggedFrom q h) (sym attends) p)
+judged_pegged {q} h step Head some p attends = unplaced (own_refusal real_limits h Head) h step.after (subst (PeggedFrom q h) (sym attends) p)
 
-pub pegged_job : (h : History) (step : Step) (job : Job) → 0 < size h → Pegged h step.before → ChangesBy (judged_at h job) step job → Pegged (after_job h step job) step.after
+pub from_job : {q : ℕ} (h : History) (step : Step) (job : Job) → 0 < size h → PeggedFrom q h step.before → ChangesBy (judged_at h job) step job → PeggedFrom q (after_job h step job) step.after
 unfolding after_job
-pegged_job h step job some p attends =
+from_job h step job some p attends =
     let g = judged_at h job in
     let k = with_job real_limits (stamp_of step) g job in
     let here : 0 < size g = omega (arith, some, grows_size h g (grows_asked h job)) in
-    pegged_settled k job step.after (omega (arith, here, grows_size g k (grows_with real_limits (stamp_of step) g job)))
-    (judged_pegged g step job here (pegged_judged h job step.before some p) attends)
+    from_settled k job step.after (omega (arith, here, grows_size g k (grows_with real_limits (stamp_of step) g job)))
+    (judged_pegged g step job here (from_judged h job step.before some p) attends)
 
 -- ---- steps and windows
 
@@ -306,27 +315,62 @@ module _ (scheme : Scheme) where
   unfolding after_step
   step_some h step some = omega (arith, some, grows_size h (after_step scheme h step) (grows_job h step (job_of scheme (id h) step.line)))
 
-  pegged_step : (h : History) (step : Step) → 0 < size h → Pegged h step.before → ChangesBy (judged_at h (job_of scheme (id h) step.line)) step (job_of scheme (id h) step.line) → Pegged (after_step scheme h step) step.after
+  from_step : {q : ℕ} (h : History) (step : Step) → 0 < size h → PeggedFrom q h step.before → ChangesBy (judged_at h (job_of scheme (id h) step.line)) step (job_of scheme (id h) step.line) → PeggedFrom q (after_step scheme h step) step.after
   unfolding after_step
-  pegged_step h step some p attends = pegged_job h step (job_of scheme (id h) step.line) some p attends
+  from_step h step some p attends = from_job h step (job_of scheme (id h) step.line) some p attends
 
-  pub pegged_steps : (h : History) (n m : NotaryState) (steps : List Step) → 0 < size h → Took scheme h n steps m → Pegged h n.entries → Pegged (after_steps scheme h steps) m.entries
-  pegged_steps h n m [] some took p = subst (λ (x : NotaryState). Pegged h x.entries) (sym took) p
-  pegged_steps h n m (step ∷ steps) some took p =
-      pegged_steps (after_step scheme h step) (notary_after n step) m steps (step_some h step some) took.2
-      (pegged_step h step some (subst (Pegged h) (sym took.0) p) took.1.list)
+  pub from_steps : {q : ℕ} (h : History) (n m : NotaryState) (steps : List Step) → 0 < size h → Took scheme h n steps m → PeggedFrom q h n.entries → PeggedFrom q (after_steps scheme h steps) m.entries
+  from_steps {q} h n m [] some took p = subst (λ (x : NotaryState). PeggedFrom q h x.entries) (sym took) p
+  from_steps {q} h n m (step ∷ steps) some took p =
+      from_steps (after_step scheme h step) (notary_after n step) m steps (step_some h step some) took.2
+      (from_step h step some (subst (PeggedFrom q h) (sym took.0) p) took.1.list)
 
-  steps_some : (h : History) (steps : List Step) → 0 < size h → 0 < size (after_steps scheme h steps)
+  pub steps_some : (h : History) (steps : List Step) → 0 < size h → 0 < size (after_steps scheme h steps)
   steps_some h [] some = some
   steps_some h (step ∷ steps) some = steps_some (after_step scheme h step) steps (step_some h step some)
 
-  pub pegged_windows : (h : History) (n m : NotaryState) (windows : List (List Step)) → 0 < size h → TookAll scheme h n windows m → Pegged h n.entries → Pegged (after scheme h windows) m.entries
-  pegged_windows h n m [] some took p = subst (λ (x : NotaryState). Pegged h x.entries) (sym took) p
-  pegged_windows h n m (window ∷ windows) some took p =
+  pub from_windows : {q : ℕ} (h : History) (n m : NotaryState) (windows : List (List Step)) → 0 < size h → TookAll scheme h n windows m → PeggedFrom q h n.entries → PeggedFrom q (after scheme h windows) m.entries
+  from_windows {q} h n m [] some took p = subst (λ (x : NotaryState). PeggedFrom q h x.entries) (sym took) p
+  from_windows {q} h n m (window ∷ windows) some took p =
       let g = after_steps scheme h window in
       let here : 0 < size g = steps_some h window some in
-      pegged_windows (close g) took.0 m windows (omega (arith, here, ap length (journals_close g))) took.2
-      (pegged_close g took.0.entries here (pegged_steps h n took.0 window some took.1 p))
+      from_windows (close g) took.0 m windows (omega (arith, here, ap length (journals_close g))) took.2
+      (from_close g took.0.entries here (from_steps h n took.0 window some took.1 p))
+
+  windows_some : (h : History) (windows : List (List Step)) → 0 < size h → 0 < size (after scheme h windows)
+  windows_some h windows some = omega (arith, some, grows_size h (after scheme h windows) (grows_windows scheme h windows))
+
+-- ---- .. from the point on
+
+-- the point never falls
+pub grows_point : (h g : History) → Grows h g → point h ≤ point g
+grows_point h g more = point_kept h g more.more more.journals_are
+
+pub pegged_grown : (h g : History) (es : List (List ℕ)) → Grows h g → PeggedFrom (point h) g es → Pegged g es
+pegged_grown h g es more p = from_later (point g) g es (grows_point h g more) p
+
+pub pegged_close : (h : History) (es : List (List ℕ)) → 0 < size h → Pegged h es → Pegged (close h) es
+pegged_close h es some p = pegged_grown h (close h) es (grows_close h) (from_close h es some p)
+
+pub pegged_job : (h : History) (step : Step) (job : Job) → 0 < size h → Pegged h step.before → ChangesBy (judged_at h job) step job → Pegged (after_job h step job) step.after
+pegged_job h step job some p attends = pegged_grown h (after_job h step job) step.after (grows_job h step job) (from_job h step job some p attends)
+
+module _ (scheme : Scheme) where
+  pub pegged_steps : (h : History) (n m : NotaryState) (steps : List Step) → 0 < size h → Took scheme h n steps m → Pegged h n.entries → Pegged (after_steps scheme h steps) m.entries
+  pegged_steps h n m steps some took p = pegged_grown h (after_steps scheme h steps) m.entries (grows_steps scheme h steps) (from_steps scheme h n m steps some took p)
+
+  pub pegged_windows : (h : History) (n m : NotaryState) (windows : List (List Step)) → 0 < size h → TookAll scheme h n windows m → Pegged h n.entries → Pegged (after scheme h windows) m.entries
+  pegged_windows h n m windows some took p = pegged_grown h (after scheme h windows) m.entries (grows_windows scheme h windows) (from_windows scheme h n m windows some took p)
+
+  -- each history on the way from the first to the last
+  pub pegged_between : (h k : History) (n mid m : NotaryState) (windows : List (List Step)) (steps : List Step) (placed more : List Entry) → 0 < size h
+      → TookAll scheme h n windows mid → Took scheme (after scheme h windows) mid steps m → Pegged h n.entries
+      → journals k ≡ journals h ++ placed → journals (after_steps scheme (after scheme h windows) steps) ≡ journals k ++ more → Pegged k m.entries
+  pegged_between h k n mid m windows steps placed more some took now p is last =
+      let g = after scheme h windows in
+      from_later (point k) k m.entries (point_kept h k placed is)
+      (from_fewer k (after_steps scheme g steps) more m.entries last (omega (arith, some, ap length is, length-append (journals h) placed))
+      (from_steps scheme g mid m steps (windows_some scheme h windows some) now (from_windows scheme h n mid windows some took p)))
 
 -- ---- a new ledger
 

@@ -10,7 +10,7 @@ use Rattle.ledger_bytes.specs.declared.digest.Digest.{Digest}
 use Rattle.ledger_bytes.specs.declared.refusal.Refusal.{Refusal}
 use Rattle.journal_record.specs.Entry.{Entry}
 use Rattle.script_lines.specs.Replies.{reply_text}
-use Rattle.ledger_model.specs.Appends.{append_journal, member_journal, occult_journal}
+use Rattle.ledger_model.specs.Appends.{append_journal, member_journal, occult_journal, purge_journal}
 use Rattle.ledger_model.specs.Dues.{IsWithin, due_line, due_lines, due_text, dues_text, digests_of, HasLeaf, IsWaiting, AllWaiting, IsIn, AllIn}
 use Rattle.ledger_model.specs.Growing.{Grows}
 use Rattle.ledger_model.specs.History.{History, history, id, blocks, point, journals, journals_of, size, root, close, leaf_digest}
@@ -32,7 +32,7 @@ use Rattle.ledger_model.specs.declared.answer.Answer.{Answer}
 use Rattle.ledger_model.specs.declared.answer.Answer.TheVariants.{Reply, Receipt}
 use Rattle.ledger_model.specs.declared.due.Due.{Due}
 use Rattle.ledger_model.specs.declared.job.Job.{Job}
-use Rattle.ledger_model.specs.declared.job.Job.TheVariants.{Refused, Append, NewMember, Anchor, Occult, Get, Prove, Extend, Clue, Head}
+use Rattle.ledger_model.specs.declared.job.Job.TheVariants.{Refused, Append, NewMember, Anchor, Occult, Purge, Get, Prove, Extend, Clue, Head}
 use Rattle.ledger_model.proofs.DueLaws.{answer_kept, answer_ended}
 use Rattle.ledger_model.specs.declared.outcome.Outcome.TheVariants.{Reading}
 use Rattle.ledger_model.specs.declared.outcome.Query.{Query}
@@ -141,6 +141,7 @@ answer_waits h step (Append member clue content content_digest request by) =
 answer_waits h step (NewMember number key by) = placed_waits h step (own_refusal real_limits h (NewMember number key by)) (member_journal (size h) number key by)
 answer_waits h step Anchor = anchor_waits h step (own_refusal real_limits h Anchor) (stamp_of step)
 answer_waits h step (Occult target leaf given) = placed_waits h step (own_refusal real_limits h (Occult target leaf given)) (occult_journal (size h) target leaf given)
+answer_waits h step (Purge p told given) = placed_waits h step (own_refusal real_limits h (Purge p told given)) (purge_journal h p given)
 answer_waits h step (Get n) = get_no_receipt (λ jsn leaf. ⊥) h n
 answer_waits h step (Prove n) = asked_waits h step (own_refusal real_limits h (Prove n)) (query.Prove n) (told_proof (OfReceipt (λ jsn leaf. ⊥)) h step n tt (λ m leaf lo hi bytes. tt))
 answer_waits h step (Extend which m) = asked_waits h step (own_refusal real_limits h (Extend which m)) (query.Extend which m) (told_extension (OfReceipt (λ jsn leaf. ⊥)) h step which m tt tt (λ tree k size root bytes. tt))

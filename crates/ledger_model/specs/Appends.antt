@@ -1,20 +1,21 @@
--- The journals of members' records, of new members and of occults.
+-- The journals of members' records, of new members, of occults and of purges.
 use Rattle.std.specs.Prelude.{ℕ, List, [], ◌∷◌, length, map}
 use Rattle.std.specs.Option.{option_map}
 use Rattle.ledger_bytes.specs.Digests.{digest, zero_digest}
 use Rattle.ledger_bytes.specs.declared.digest.Digest.{Digest}
 use Rattle.journal_record.specs.Approval.{who_of}
 use Rattle.journal_record.specs.Entry.{Entry, content_digest_of, who_digest_of}
-use Rattle.journal_record.specs.Request.{request_digest_of, member_request_digest_of, occult_request_digest_of, clue_digest_of}
+use Rattle.journal_record.specs.Request.{request_digest_of, member_request_digest_of, occult_request_digest_of, purge_request_digest_of, clue_digest_of}
 use Rattle.journal_record.specs.declared.approval.Approval.{Approval}
 use Rattle.journal_record.specs.declared.header.Header.{Header}
 use Rattle.journal_record.specs.declared.header.Kind.TheVariants as kind
 use Rattle.script_lines.specs.declared.said.SaidApproval.{SaidApproval}
+use Rattle.ledger_model.specs.Bases.{base_of, digest_of_base}
 use Rattle.ledger_model.specs.Clues.{next_ordinal, last_journal}
 use Rattle.ledger_model.specs.History.{History, size}
 use Rattle.ledger_model.specs.Scheme.{Scheme}
 use Rattle.ledger_model.specs.declared.job.Job.{Job}
-use Rattle.ledger_model.specs.declared.job.Job.TheVariants.{Append, NewMember, Occult}
+use Rattle.ledger_model.specs.declared.job.Job.TheVariants.{Append, NewMember, Occult, Purge}
 
 -- the digest that a member approves, for a record with this clue
 abbrev pub request_with : List ℕ → ℕ → Digest → List ℕ → List ℕ
@@ -43,6 +44,12 @@ unfoldable pub occult_job : Scheme → List ℕ → ℕ → Digest → List Said
 occult_job scheme id target leaf given =
     let request = occult_request_digest_of id target leaf.0 in
     Occult target leaf (map (λ by. approval_of scheme by.member request by.proof) given)
+
+-- the job of a purge on the ledger with this id: each approval is one of its request
+unfoldable pub purge_job : Scheme → List ℕ → ℕ → Digest → List SaidApproval → Job
+purge_job scheme id p told given =
+    let request = purge_request_digest_of id p told.0 in
+    Purge p told (map (λ by. approval_of scheme by.member request by.proof) given)
 
 -- the header of a record that is journal jsn, with its clue, its number among the clue's journals, and the clue's journal before it
 unfoldable pub append_header : ℕ → ℕ → Digest → ℕ → ℕ → List ℕ → Digest → Digest → Approval → Header
@@ -118,6 +125,32 @@ occult_header jsn target leaf given = record {
 abbrev pub occult_journal : ℕ → ℕ → Digest → List Approval → Entry
 occult_journal jsn target leaf given = record {
   header = occult_header jsn target leaf given;
+  content = [];
+  who = who_of given;
+}
+
+-- the header of a purge to journal p that is journal jsn, where the base at p has this digest
+unfoldable pub purge_header : ℕ → ℕ → Digest → List Approval → Header
+purge_header jsn p link given = record {
+  version = 1;
+  kind = kind.Purge;
+  jsn = jsn;
+  member = 0;
+  clue = zero_digest;
+  clue_ord = 0;
+  clue_prev = 0;
+  a = p;
+  b = 0;
+  link = link;
+  content_len = 0;
+  content_digest = digest (content_digest_of []);
+  who_digest = digest (who_digest_of (who_of given));
+}
+
+-- a purge to journal p as the next journal of a history: it names the digest of the base that it leaves
+abbrev pub purge_journal : History → ℕ → List Approval → Entry
+purge_journal h p given = record {
+  header = purge_header (size h) p (digest (digest_of_base (base_of h p))) given;
   content = [];
   who = who_of given;
 }

@@ -1,10 +1,13 @@
 -- The base of a history at a journal: what a purge leaves of the journals in front of it.
-use Rattle.std.specs.Prelude.{ℕ, List, [], map, filter, take, length, nat_le}
+use Rattle.std.specs.Prelude.{ℕ, List, [], ◌∷◌, map, filter, take, length, nat_le}
 use Rattle.sha2.specs.Sha256.{sha256}
 use Rattle.tree_model.specs.Peaks.{peaks}
 use Rattle.ledger_bytes.specs.Digests.{digest}
+use Rattle.ledger_bytes.specs.Tags.{byte_of}
+use Rattle.ledger_bytes.specs.declared.tag.Tag.TheVariants as tag
 use Rattle.clue_index.specs.Added.{Mark, Added, states_at}
 use Rattle.journal_record.specs.Entry.{Entry}
+use Rattle.pseudo_genesis.specs.Bases.{spelling}
 use Rattle.pseudo_genesis.specs.declared.base.Base.{Base}
 use Rattle.ledger_model.specs.Clues.{has_clue}
 use Rattle.ledger_model.specs.History.{History, history, journals, leaf_digest, id, ends}
@@ -34,3 +37,7 @@ base_of h p =
       keys = map (λ member. member.key) (members (front h p));
       clues = states_at p (clues_added 0 (take p (journals h)));
     }
+
+-- the digest of a base: that of the byte 07 and the base's bytes
+abbrev pub digest_of_base : Base → List ℕ
+digest_of_base base = sha256 (byte_of tag.Base ∷ spelling base)

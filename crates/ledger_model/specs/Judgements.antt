@@ -7,15 +7,16 @@ use Rattle.ledger_bytes.specs.declared.refusal.Refusal.TheVariants.{Full, Unknow
 use Rattle.journal_record.specs.Members.{is_known, is_key_of, number_refusal}
 use Rattle.journal_record.specs.Rules.{is_no_clue}
 use Rattle.journal_record.specs.declared.approval.Approval.{Approval}
-use Rattle.member_book.specs.Erasures.{occult_row, first_refusal}
+use Rattle.member_book.specs.Erasures.{occult_row, purge_row, first_refusal}
 use Rattle.script_lines.specs.declared.said.Which.TheVariants.{Ledger, Notary}
 use Rattle.ledger_model.specs.Clues.{jsns_with, clue_count}
-use Rattle.ledger_model.specs.History.{History, size, point}
+use Rattle.ledger_model.specs.History.{History, size, point, root}
 use Rattle.ledger_model.specs.Members.{members, keys}
+use Rattle.ledger_model.specs.Needs.{purge_needs}
 use Rattle.ledger_model.specs.Proofs.{prove_refusal, extend_refusal}
 use Rattle.ledger_model.specs.Targets.{kind_at, leaf_at, hider}
 use Rattle.ledger_model.specs.declared.job.Job.{Job}
-use Rattle.ledger_model.specs.declared.job.Job.TheVariants.{Refused, Append, NewMember, Anchor, Occult, Get, Prove, Extend, Clue, Head}
+use Rattle.ledger_model.specs.declared.job.Job.TheVariants.{Refused, Append, NewMember, Anchor, Occult, Purge, Get, Prove, Extend, Clue, Head}
 use Rattle.ledger_model.specs.declared.limits.Limits.{Limits}
 
 -- how many journals are kept
@@ -33,6 +34,10 @@ fullness limits h = if is_full limits.soft limits h then Some (Full (kept_count 
 -- there is no room for a journal of the operator
 unfoldable pub hard_fullness : Limits → History → Option Refusal
 hard_fullness limits h = if is_full limits.hard limits h then Some (Full (kept_count h) (size h)) else None
+
+-- there is no room for a journal over the whole life; how many are kept isn't looked at
+unfoldable pub life_fullness : Limits → History → Option Refusal
+life_fullness limits h = if nat_le limits.size (size h) then Some (Full (kept_count h) (size h)) else None
 
 -- among members with these keys there is none with this number
 abbrev pub unknown_in : List (List ℕ) → ℕ → Option Refusal
@@ -65,6 +70,13 @@ occult_judgements limits h target leaf given =
     hard_fullness limits h
     ∷ occult_row (size h) (point h) (kind_at h target) (hider h target) (digest (leaf_at h target)) (keys h) target leaf given
 
+-- a purge to journal p, where the root over the journals in front of it is told to be this one, with these approvals; it takes
+-- more journals than it places, so there is room for it as long as there is over the whole life
+abbrev pub purge_judgements : Limits → History → ℕ → Digest → List Approval → List (Option Refusal)
+purge_judgements limits h p told given =
+    life_fullness limits h
+    ∷ purge_row (size h) (point h) (kind_at h p) (digest (root h p)) (keys h) (purge_needs h p) p told given
+
 -- what may refuse a job by the history alone
 abbrev pub own_judgements : Limits → History → Job → List (Option Refusal)
 own_judgements limits h (Refused refusal) = Some refusal ∷ []
@@ -72,6 +84,7 @@ own_judgements limits h (Append member clue content content_digest request by) =
 own_judgements limits h (NewMember number key by) = member_judgements limits h number by.key
 own_judgements limits h Anchor = hard_fullness limits h ∷ []
 own_judgements limits h (Occult target leaf given) = occult_judgements limits h target leaf given
+own_judgements limits h (Purge p told given) = purge_judgements limits h p told given
 own_judgements limits h (Get n) = []
 own_judgements limits h (Prove n) = prove_refusal h n ∷ []
 own_judgements limits h (Extend Ledger m) = extend_refusal h m ∷ []

@@ -29,14 +29,20 @@ pub record IsNextOccult (h : History) (x : Header) : Type 0 where
   pub shown : is_hidden h x.a ≡ false
   pub leaf_is : x.link.0 ≡ leaf_at h x.a
 
--- what the next journal must be by its kind; no job places a purge so far
+-- a purge: it names a time journal that lies behind the point so far
+pub record IsNextPurge (h : History) (x : Header) : Type 0 where
+  pub above : point h < x.a
+  pub before : x.a < size h
+  pub target_is : kind_at h x.a ≡ kind.Time
+
+-- what the next journal must be by its kind
 abbrev pub IsNextOf : History → Header → Kind → Type 0
 IsNextOf h x kind.Genesis = ⊤
 IsNextOf h x kind.Content = IsNextRecord h x
 IsNextOf h x kind.Member = x.a ≡ length (members h)
 IsNextOf h x kind.Time = ⊤
 IsNextOf h x kind.Occult = IsNextOccult h x
-IsNextOf h x kind.Purge = ⊥
+IsNextOf h x kind.Purge = IsNextPurge h x
 
 -- a header that may be the next one: it obeys its layout, by which it is a genesis exactly where it is the first
 pub record IsNext (h : History) (x : Header) : Type 0 where

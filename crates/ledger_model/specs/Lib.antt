@@ -9,6 +9,7 @@ pub mod Clues
 pub mod Bases
 pub mod Scheme
 pub mod Appends
+pub mod Needs
 pub mod Anchors
 pub mod Judgements
 pub mod Fitting

@@ -6,11 +6,15 @@ use Rattle.time_peg.specs.Entries.{IsList, entry_of}
 use Rattle.ledger_model.specs.Anchors.{peg_at}
 use Rattle.ledger_model.specs.History.{History, journals, point}
 
--- Each time journal from the point on has its entry in the list, at its index: its time, the peg over the journals in front
+-- Each time journal from journal p on has its entry in the list, at its index: its time, the peg over the journals in front
 -- of it, and its salt. The indexes rise along the history.
-pub record Pegged (h : History) (es : List (List ℕ)) : Type 0 where
+pub record PeggedFrom (p : ℕ) (h : History) (es : List (List ℕ)) : Type 0 where
   pub list : IsList es
-  pub each : (j : ℕ) (e : Entry) → point h ≤ j → slice_get (journals h) j ≡ Some e → e.header.kind ≡ kind.Time
+  pub each : (j : ℕ) (e : Entry) → p ≤ j → slice_get (journals h) j ≡ Some e → e.header.kind ≡ kind.Time
       → slice_get es e.header.a ≡ Some (entry_of e.header.b (peg_at h j) e.header.link.0)
-  pub rises : (i j : ℕ) (d e : Entry) → i < j → point h ≤ i → slice_get (journals h) i ≡ Some d → d.header.kind ≡ kind.Time
+  pub rises : (i j : ℕ) (d e : Entry) → i < j → p ≤ i → slice_get (journals h) i ≡ Some d → d.header.kind ≡ kind.Time
       → slice_get (journals h) j ≡ Some e → e.header.kind ≡ kind.Time → d.header.a < e.header.a
+
+-- each time journal that is kept has
+abbrev pub Pegged : History → List (List ℕ) → Type 0
+Pegged h es = PeggedFrom (point h) h es

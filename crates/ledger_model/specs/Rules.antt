@@ -6,14 +6,14 @@ use Rattle.script_lines.specs.Grammar.{spoken_line}
 use Rattle.script_lines.specs.declared.line.Line.{Line}
 use Rattle.script_lines.specs.declared.line.Line.TheVariants as line
 use Rattle.ledger_model.specs.Anchors.{stamp_of}
-use Rattle.ledger_model.specs.Appends.{append_with, member_job, occult_job, clue_of}
+use Rattle.ledger_model.specs.Appends.{append_with, member_job, occult_job, purge_job, clue_of}
 use Rattle.ledger_model.specs.History.{History, id, close}
 use Rattle.ledger_model.specs.Limits.{real_limits}
 use Rattle.ledger_model.specs.Outcomes.{with_job}
 use Rattle.ledger_model.specs.Scheme.{Scheme}
 use Rattle.ledger_model.specs.Step.{Step}
 use Rattle.ledger_model.specs.declared.job.Job.{Job}
-use Rattle.ledger_model.specs.declared.job.Job.TheVariants.{Refused, Append, NewMember, Anchor, Occult, Get, Prove, Extend, Clue, Head}
+use Rattle.ledger_model.specs.declared.job.Job.TheVariants.{Refused, Append, NewMember, Anchor, Occult, Purge, Get, Prove, Extend, Clue, Head}
 
 -- what a line that was read asks for, on the ledger with this id
 abbrev pub job_for : Scheme → List ℕ → Result Line Refusal → Job
@@ -22,6 +22,7 @@ job_for scheme id (Ok (line.Append member clue content proof)) = append_with sch
 job_for scheme id (Ok (line.NewMember number key proof)) = member_job scheme id number key proof
 job_for scheme id (Ok line.Anchor) = Anchor
 job_for scheme id (Ok (line.Occult target leaf given)) = occult_job scheme id target leaf given
+job_for scheme id (Ok (line.Purge p told given)) = purge_job scheme id p told given
 job_for scheme id (Ok (line.Get n)) = Get n
 job_for scheme id (Ok (line.Prove n)) = Prove n
 job_for scheme id (Ok (line.Extend which m)) = Extend which m
@@ -43,6 +44,7 @@ closes_before other = true
 abbrev pub closes_after : Job → Bool
 closes_after Anchor = true
 closes_after (Occult target leaf given) = true
+closes_after (Purge p told given) = true
 closes_after other = false
 
 -- the history that a job is judged against

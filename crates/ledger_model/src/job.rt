@@ -43,6 +43,15 @@ pub enum Job {
         /// Who approves it, in the order in which they were given.
         given: Items<Approval>,
     },
+    /// A purge: all journals in front of a time journal are given up.
+    Purge {
+        /// The time journal's number.
+        point: u64,
+        /// The root of the tree over the journals in front of it.
+        root: Digest,
+        /// Who approves it, in the order in which they were given.
+        given: Items<Approval>,
+    },
     /// A journal.
     Get {
         /// The journal's number.
@@ -77,6 +86,7 @@ impl Job {
             Job::Refused(_) | Job::Append { .. } | Job::NewMember { .. } => false,
             Job::Anchor
             | Job::Occult { .. }
+            | Job::Purge { .. }
             | Job::Get { .. }
             | Job::Prove { .. }
             | Job::Extend { .. }
@@ -90,7 +100,7 @@ impl Job {
         ensures { result ≡ closes_after self.now }
     {
         match self {
-            Job::Anchor | Job::Occult { .. } => true,
+            Job::Anchor | Job::Occult { .. } | Job::Purge { .. } => true,
             Job::Refused(_)
             | Job::Append { .. }
             | Job::NewMember { .. }

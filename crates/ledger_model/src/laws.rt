@@ -1,11 +1,12 @@
 ghost use Rattle.std.specs.Prelude.{◌≡◌, ◌≢◌, ℕ, ◌+◌, ◌^◌, ◌<◌, ◌≤◌, List, ◌++◌, length, All, Some, None, slice_get, true, false};
-ghost use Rattle.std.specs.List.{flat_map};
+ghost use Rattle.std.specs.List.{flat_map, list_all};
 ghost use Rattle.ledger_bytes.specs.declared.digest.Digest.{Digest};
 ghost use Rattle.journal_record.specs.Entry.{Entry};
 ghost use Rattle.journal_record.specs.Header.{spelling};
 ghost use Rattle.journal_record.specs.Rules.{IsHeader};
 ghost use Rattle.journal_record.specs.declared.approval.Approval.{Approval};
 ghost use Rattle.journal_record.specs.declared.header.Kind.TheVariants as kinds;
+ghost use Rattle.member_book.specs.Approvals.{approves, least_missing, shows_key};
 ghost use Rattle.script_lines.specs.Receipts.{AllFit, IsReceipted};
 ghost use Rattle.script_lines.specs.declared.reply.Reply.TheVariants as replies;
 ghost use Rattle.script_lines.specs.declared.said.Which.TheVariants.{Ledger, Notary};
@@ -24,6 +25,8 @@ ghost use Rattle.ledger_model.specs.InOrder.{steps_of};
 ghost use Rattle.ledger_model.specs.Judgements.{own_refusal};
 ghost use Rattle.ledger_model.specs.Lawful.{IsLawful, IsSound};
 ghost use Rattle.ledger_model.specs.Limits.{real_limits};
+ghost use Rattle.ledger_model.specs.Members.{keys};
+ghost use Rattle.ledger_model.specs.Needs.{HaveSame};
 ghost use Rattle.ledger_model.specs.Outcomes.{view};
 ghost use Rattle.ledger_model.specs.Pegs.{Pegged};
 ghost use Rattle.ledger_model.specs.Prepared.{prepared_items, after_jobs, job_dues};
@@ -123,6 +126,51 @@ pub fn an_occult_hides_its_target()
         → view (after_job h step (jobs.Occult target leaf given)) n ≡ view h n }
 {}
 
+/// A purge that is accepted, up to a journal p, takes the journals in front of p: none of them can be shown any more. What
+/// can be shown of those from p on stays as it was, the purge's own journal is whole, and p is the point.
+pub fn a_purge_takes_what_is_in_front()
+    ensures front { (h : History) (step : Step) (p : ℕ) (told : Digest) (given : List Approval) (n : ℕ)
+        → IsLawful h
+        → own_refusal real_limits (close h) (jobs.Purge p told given) ≡ None
+        → n < p
+        → view (after_job h step (jobs.Purge p told given)) n ≡ views.Purged p }
+    ensures kept { (h : History) (step : Step) (p : ℕ) (told : Digest) (given : List Approval) (n : ℕ)
+        → IsLawful h
+        → own_refusal real_limits (close h) (jobs.Purge p told given) ≡ None
+        → p ≤ n → n < size h
+        → view (after_job h step (jobs.Purge p told given)) n ≡ view h n }
+    ensures own { (h : History) (step : Step) (p : ℕ) (told : Digest) (given : List Approval)
+        → IsLawful h
+        → own_refusal real_limits (close h) (jobs.Purge p told given) ≡ None
+        → view (after_job h step (jobs.Purge p told given)) (size h) ≡ views.Whole }
+    ensures point { (h : History) (step : Step) (p : ℕ) (told : Digest) (given : List Approval)
+        → IsLawful h
+        → own_refusal real_limits (close h) (jobs.Purge p told given) ≡ None
+        → point (after_job h step (jobs.Purge p told given)) ≡ p }
+{}
+
+/// A purge that is accepted, up to a journal p, is approved by the operator and by the member of each record that it takes, and
+/// each of its approvals shows the key of its member.
+pub fn a_purge_is_approved()
+    ensures operator { (h : History) (p : ℕ) (told : Digest) (given : List Approval)
+        → own_refusal real_limits h (jobs.Purge p told given) ≡ None
+        → approves given 0 ≡ true }
+    ensures owners { (h : History) (p : ℕ) (told : Digest) (given : List Approval) (n : ℕ) (e : Entry)
+        → own_refusal real_limits h (jobs.Purge p told given) ≡ None
+        → IsLawful h → slice_get (journals h) n ≡ Some e → e.header.kind ≡ kinds.Content
+        → point h ≤ n → n < p
+        → approves given e.header.member ≡ true }
+    ensures keys { (h : History) (p : ℕ) (told : Digest) (given : List Approval)
+        → own_refusal real_limits h (jobs.Purge p told given) ≡ None
+        → list_all (shows_key (keys h)) given ≡ true }
+{}
+
+/// Whose approval is missing depends on who is needed alone: not on how often or in which order they are named.
+pub fn needs_are_a_set()
+    ensures { (given : List Approval) (xs ys : List ℕ) → HaveSame xs ys
+        → least_missing given xs ≡ least_missing given ys }
+{}
+
 /// In a lawful history only records are hidden, so the first journal never is.
 pub fn only_records_are_hidden()
     ensures records { (h : History) (n : ℕ) → IsLawful h → is_hidden h n ≡ true
@@ -190,7 +238,8 @@ pub fn the_notary_is_attended()
 {}
 
 /// Whatever lines are run, the notary's list keeps the entry of each kept time journal, with its time and its salt: along
-/// steps, at a block's end, where the list alone grows, and for a beginning of the history.
+/// steps, at a block's end, where the list alone grows, for each history on the way from the first to the last, whose point may
+/// be an earlier one, and for a beginning of a history with the same point.
 pub fn a_run_keeps_its_pegs()
     ensures steps { (scheme : Scheme) (h : History) (n m : NotaryState) (steps : List Step) → 0 < size h
         → Took scheme h n steps m → Pegged h n.entries → Pegged (after_steps scheme h steps) m.entries }
@@ -199,6 +248,12 @@ pub fn a_run_keeps_its_pegs()
     ensures ended { (h : History) (es : List (List ℕ)) → 0 < size h → Pegged h es → Pegged (close h) es }
     ensures longer { (h : History) (es more : List (List ℕ)) → IsList (es ++ more) → Pegged h es
         → Pegged h (es ++ more) }
+    ensures between { (scheme : Scheme) (h k : History) (n mid m : NotaryState)
+        (windows : List (List Step)) (steps : List Step) (placed more : List Entry) → 0 < size h
+        → TookAll scheme h n windows mid → Took scheme (after scheme h windows) mid steps m
+        → Pegged h n.entries → journals k ≡ journals h ++ placed
+        → journals (after_steps scheme (after scheme h windows) steps) ≡ journals k ++ more
+        → Pegged k m.entries }
     ensures fewer { (k g : History) (more : List Entry) (es : List (List ℕ))
         → journals g ≡ journals k ++ more → 0 < size k → point g ≤ point k → Pegged g es → Pegged k es }
     ensures new { (genesis : Genesis) (es : List (List ℕ)) → IsList es → Pegged (new_ledger genesis) es }
