@@ -14,12 +14,13 @@ use Rattle.journal_record.specs.Entry.{Entry}
 use Rattle.journal_record.specs.Header.{spelling}
 use Rattle.journal_record.specs.declared.approval.Approval.{Approval}
 use Rattle.journal_record.specs.declared.header.Header.{Header}
+use Rattle.journal_record.specs.declared.header.Kind.{Kind}
 use Rattle.journal_record.specs.declared.header.Kind.TheVariants as kind
 use Rattle.journal_record.specs.declared.stamp.Stamp.{Stamp}
 use Rattle.ledger_model.specs.Appends.{append_header, append_journal, member_header, member_journal, occult_header, occult_journal}
 use Rattle.ledger_model.specs.Fitting.{fits_job}
 use Rattle.ledger_model.specs.Clues.{next_ordinal, last_journal}
-use Rattle.ledger_model.specs.History.{History, size, leaf_digest}
+use Rattle.ledger_model.specs.History.{History, size, leaf_digest, is_purge}
 use Rattle.journal_record.specs.declared.rules.TheConstants.{NOTARY_LIMIT}
 use Rattle.ledger_model.specs.Anchors.{time_header, time_journal}
 use Rattle.ledger_model.specs.Members.{is_member}
@@ -145,6 +146,22 @@ anchor_accepted k h s room = sym (anchor_refused k.limits h None (hard_not k h (
 pub content_gathers : (jsn member : ℕ) (clue : Digest) (ordinal previous : ℕ) (content : List ℕ) (content_digest request : Digest) (by : Approval) (header : Header) → header ≡ append_header jsn member clue ordinal previous content content_digest request by → gathers header.kind ≡ true
 unfolding append_header
 content_gathers jsn member clue ordinal previous content content_digest request by header is = ap (λ (x : Header). gathers x.kind) is
+
+pub gathers_no_purge : (k : Kind) → gathers k ≡ true → is_purge k ≡ false
+gathers_no_purge kind.Genesis is = refl
+gathers_no_purge kind.Content is = refl
+gathers_no_purge kind.Member is = refl
+gathers_no_purge kind.Time is = refl
+gathers_no_purge kind.Occult is = refl
+gathers_no_purge kind.Purge is = sym is
+
+pub time_no_purge : (jsn : ℕ) (stamp : Stamp) (header : Header) → header ≡ time_header jsn stamp → is_purge header.kind ≡ false
+unfolding time_header
+time_no_purge jsn stamp header is = ap (λ (x : Header). is_purge x.kind) is
+
+pub occult_no_purge : (jsn target : ℕ) (leaf : Digest) (given : List Approval) (header : Header) → header ≡ occult_header jsn target leaf given → is_purge header.kind ≡ false
+unfolding occult_header
+occult_no_purge jsn target leaf given header is = ap (λ (x : Header). is_purge x.kind) is
 
 pub member_gathers : (jsn number : ℕ) (key : Digest) (by : Approval) (header : Header) → header ≡ member_header jsn number key by → gathers header.kind ≡ true
 unfolding member_header

@@ -1,9 +1,11 @@
 -- Lemmas on the journal that an occult names: what a book tells of it is what the history says.
 use Rattle.std.specs.Prelude.{IsTrue, nat_le, nat_lt, slice_get, get_or}
+use Rattle.std.proofs.lemmas.List.{get_or-drop}
+use Rattle.sha2.specs.Sha256.{sha256}
 use Rattle.std.specs.Result.{result_err}
 use Rattle.std.specs.Option.{is_some, is_none}
-use Rattle.std.proofs.Common.{◌≡◌, ℕ, zero, suc, ◌<◌, ◌≤◌, ◌↔◌, not, Bool, true, false, cond, List, [], ◌∷◌, ◌++◌, length, map, Option, Some, None, refl, sym, ◌∙◌, ap, arith}
-use Rattle.std.proofs.lemmas.Bool.{le-leb, lt-leb, le-ltb, leb-false, ltb-false, true≢false}
+use Rattle.std.proofs.Common.{◌≡◌, ℕ, zero, suc, ◌+◌, ◌-◌, ◌<◌, ◌≤◌, ◌↔◌, not, Bool, true, false, cond, List, [], ◌∷◌, ◌++◌, map, drop, Option, Some, None, refl, sym, ◌∙◌, ap, arith}
+use Rattle.std.proofs.lemmas.Bool.{lt-leb, le-ltb, leb-false, ltb-false, true≢false}
 use Rattle.std.proofs.lemmas.Slice.Eq.{bytes_eq-Decides}
 use Rattle.ledger_bytes.specs.Digests.{digest}
 use Rattle.ledger_bytes.specs.declared.digest.Digest.{Digest}
@@ -16,30 +18,54 @@ use Rattle.journal_record.specs.declared.header.Kind.TheVariants as kind
 use Rattle.member_book.specs.Approvals.{judgement}
 use Rattle.member_book.specs.Erasures.{purged, no_record, hidden_by, other_leaf, target_row, first_refusal}
 use Rattle.erase_rules.specs.declared.occult.OccultFacts.{OccultFacts}
-use Rattle.ledger_model.specs.History.{History, journals, size, point}
+use Rattle.ledger_model.specs.History.{History, history, journals, size, point, leaf_digest}
 use Rattle.ledger_model.specs.Lawful.{IsNextOccult}
 use Rattle.ledger_model.specs.Targets.{hider, kind_at, leaf_at}
 use Rattle.ledger_model.proofs.AcceptedLaws.{target_own}
 use Rattle.ledger_model.proofs.HideLaws.{hidden_is}
+use Rattle.merkle_batch.specs.Over.{StandsOver}
+use Rattle.merkle_batch.specs.Rows.{Levels, StandsFor}
+use Rattle.pseudo_genesis.specs.declared.base.Base.{Base}
+use Rattle.ledger_book.specs.Behind.{first_of}
 use Rattle.ledger_book.specs.Books.{headers}
-use Rattle.ledger_book.specs.Facts.{AreFacts}
+use Rattle.ledger_book.specs.Facts.{AreFacts, kind_in}
+use Rattle.ledger_book.specs.Reading.{HasLeaves}
 
--- the kind of a journal whose header is there
-read_kind : (es : List Entry) (n : ℕ) (x : Header) → Some x ≡ slice_get (map (λ (e : Entry). e.header) es) n → x.kind ≡ get_or (map (λ (e : Entry). e.header.kind) es) n kind.Genesis
-read_kind [] n x is = absurd cc
-read_kind (e ∷ es) zero x is = let same : x ≡ e.header = cc in ap (λ (y : Header). y.kind) same
-read_kind (e ∷ es) (suc n) x is = read_kind es n x is
+-- the kind that a header tells which is there, and of one that isn't
+pub kind_read : (hs : List Header) (n : ℕ) (x : Header) → Some x ≡ slice_get hs n → x.kind ≡ kind_in hs n
+kind_read [] n x is = absurd cc
+kind_read (y ∷ hs) zero x is = let same : x ≡ y = cc in ap (λ (z : Header). z.kind) same
+kind_read (y ∷ hs) (suc n) x is = kind_read hs n x is
 
-read_none : (es : List Entry) (n : ℕ) → (let none : Option Header = None in none ≡ slice_get (map (λ (e : Entry). e.header) es) n) → length es ≤ n
-read_none [] n is = omega arith
-read_none (e ∷ es) zero is = absurd cc
-read_none (e ∷ es) (suc n) is = omega (arith, read_none es n is)
+pub kind_none : (hs : List Header) (n : ℕ) → (let none : Option Header = None in none ≡ slice_get hs n) → kind.Genesis ≡ kind_in hs n
+kind_none [] n is = refl
+kind_none (y ∷ hs) zero is = absurd cc
+kind_none (y ∷ hs) (suc n) is = kind_none hs n is
 
-pub kind_read : (floor : ℕ) (h : History) (n : ℕ) (x : Header) → floor ≤ n → Some x ≡ cond (nat_le floor n) (slice_get (headers h) n) None → x.kind ≡ kind_at h n
-kind_read floor h n x le is = read_kind (journals h) n x (is ∙ ap (λ (v : Bool). cond v (slice_get (headers h) n) None) (le-leb floor n le))
+-- the kept headers tell the kinds of their journals
+kinds_of : (es : List Entry) → map (λ (x : Header). x.kind) (map (λ (e : Entry). e.header) es) ≡ map (λ (e : Entry). e.header.kind) es
+kinds_of [] = refl
+kinds_of (e ∷ es) = ap (λ (l : List Kind). e.header.kind ∷ l) (kinds_of es)
 
-pub kind_none : (floor : ℕ) (h : History) (n : ℕ) → floor ≤ n → n < size h → (let none : Option Header = None in none ≡ cond (nat_le floor n) (slice_get (headers h) n) None) → ⊥
-kind_none floor h n le lt is = omega (arith, lt, read_none (journals h) n (is ∙ ap (λ (v : Bool). cond v (slice_get (headers h) n) None) (le-leb floor n le)))
+kinds_drop : (n : ℕ) (hs : List Header) → map (λ (x : Header). x.kind) (drop n hs) ≡ drop n (map (λ (x : Header). x.kind) hs)
+kinds_drop zero hs = refl
+kinds_drop (suc n) [] = refl
+kinds_drop (suc n) (x ∷ hs) = kinds_drop n hs
+
+pub kind_kept : (hs : List Header) (floor : ℕ) (h : History) (n : ℕ) → hs ≡ drop floor (headers h) → floor ≤ n → kind_in hs (n - floor) ≡ kind_at h n
+kind_kept hs floor h n is le =
+    let from : floor + (n - floor) ≡ n = omega (arith, le) in
+    ap (λ l. kind_in l (n - floor)) is ∙ ap (λ ks. get_or ks (n - floor) kind.Genesis) (kinds_drop floor (headers h) ∙ ap (drop floor) (kinds_of (journals h)))
+    ∙ get_or-drop floor (map (λ (e : Entry). e.header.kind) (journals h)) (n - floor) kind.Genesis ∙ ap (kind_at h) from
+
+pub kind_behind : (hs : List Header) (es : List Entry) (n : ℕ) → hs ≡ map (λ (e : Entry). e.header) es → kind_in hs n ≡ kind_at (history [] es) n
+kind_behind hs es n is = ap (λ l. kind_in l n) is ∙ ap (λ ks. get_or ks n kind.Genesis) (kinds_of es)
+
+-- the leaf of a journal behind a base
+pub leaf_behind : (start : Option Base) (tree : Levels) (es : List Entry) (n : ℕ) (digest : List ℕ) → HasLeaves start tree es → ((ds : List (List ℕ)) → StandsFor sha256 tree ds → digest ≡ get_or ds n [])
+    → ((p : ℕ) (ps xs : List (List ℕ)) → StandsOver sha256 tree p ps xs → digest ≡ get_or xs (n - p) []) → digest ≡ leaf_at (history [] es) (n - first_of start)
+leaf_behind None tree es n digest leaves list over = let none : n ≡ n - 0 = omega arith in list (map leaf_digest es) leaves ∙ ap (λ i. get_or (map leaf_digest es) i []) none
+leaf_behind (Some b) tree es n digest leaves list over = over b.point (map (λ (d : Digest). d.0) b.peaks) (map leaf_digest es) leaves
 
 -- the row over the facts is that over the history
 module _ (h : History) (f : OccultFacts) (n : ℕ) (leaf : Digest) (rest : List (Option Refusal)) (a : AreFacts h f n) where

@@ -1,6 +1,7 @@
 -- Lemmas on the book of a first journal.
-use Rattle.std.proofs.Common.{◌≡◌, ℕ, ◌&&◌, ◌==◌, true, cond, not, option_map, Some, None, List, [], ◌∷◌, ◌++◌, length, take, drop, refl, ap, sym, subst, ◌∙◌, arith}
+use Rattle.std.proofs.Common.{◌≡◌, ℕ, ◌&&◌, ◌||◌, ◌==◌, true, false, cond, not, option_map, Some, None, List, [], ◌∷◌, ◌++◌, length, take, drop, refl, ap, sym, subst, ◌∙◌, arith}
 use Rattle.std.specs.List.{fold}
+use Rattle.std.specs.Option.{is_some}
 use Rattle.std.specs.Prelude.{max, map}
 use Rattle.std.proofs.lemmas.Bool.{eqb-true}
 use Rattle.std.proofs.lemmas.List.{take_at, drop_at}
@@ -35,7 +36,9 @@ use Rattle.ledger_model.specs.declared.limits.Limits.{Limits}
 use Rattle.ledger_model.proofs.KeepLaws.{genesis_lawful}
 use Rattle.ledger_model.specs.Targets.{is_occult}
 use Rattle.ledger_model.proofs.HideLaws.{hider_is}
-use Rattle.ledger_book.specs.Hiders.{Indexes}
+use Rattle.ledger_book.specs.Hiders.{Indexes, hider_in}
+use Rattle.ledger_book.specs.Behind.{IsOwnBehind}
+use Rattle.ledger_book.specs.Reading.{StandsBehind}
 use Rattle.ledger_book.specs.Books.{Kept, Serves, aged_members}
 use Rattle.ledger_model.specs.Bases.{clues_added}
 use Rattle.ledger_book.specs.Replaying.{IsFirst, begun_with}
@@ -127,6 +130,37 @@ module _ (header : Header) (operator regulator : Digest) (j : Entry) (kind_is : 
         };
         seen = omega arith;
       }
+
+-- the book of a first journal keeps it, whatever its content is
+module _ (header : Header) (j : Entry) (kind_is : header.kind ≡ kind.Genesis) (layout : IsHeader header) (is : j.header ≡ header) where
+  abbrev sort : j.header.kind ≡ kind.Genesis
+  sort = ap (λ (x : Header). x.kind) is ∙ kind_is
+
+  pub behind_first : (limits : Limits) (tip : Digest) (encoded : List ℕ) (operator regulator : Digest) (ms : List Member) (clues : index.Kept) (by : List (ℕ × ℕ)) (times : List TimeMark) (hs : List Header) (rows : Levels) (ends : List ℕ)
+      → encoded ≡ spelling header → tip.0 ≡ leaf sha256 encoded → ms ≡ book.founders operator regulator → index.Stands clues (added_at_first []) → by ≡ [] → hs ≡ header ∷ [] → StandsFor sha256 rows (tip.0 ∷ [])
+      → StandsBehind (first_kept limits tip ends ms clues by times hs rows) None (j ∷ [])
+  unfolding members
+  behind_first limits tip encoded operator regulator ms clues by times hs rows ends e l m c bs hss stands = record {
+    begins = tt;
+    are = (
+      record {
+        layout = subst IsHeader (sym is) layout;
+        jsn = eqb-true j.header.jsn 0 (subst (λ k. jsn_ok k j.header.jsn ≡ true) sort (subst IsHeader (sym is) layout).jsn) ∙ omega arith;
+        below = omega (arith, eqb-true j.header.jsn 0 (subst (λ k. jsn_ok k j.header.jsn ≡ true) sort (subst IsHeader (sym is) layout).jsn));
+        begins = tt;
+        own = subst (IsOwnBehind None [] j.header) (sym sort) tt;
+      },
+      tt,
+    );
+    floor = refl;
+    size_is = refl;
+    point = sym (ap (λ (k : Kind). fold max 0 (cond (is_purge k) j.header.a 0 ∷ [])) sort);
+    members = ap length m ∙ ap (λ (k : Kind). length (book.founders operator regulator ++ map member_of (cond (is_member k) (j ∷ []) []))) (sym sort);
+    clues = subst (index.Stands clues) (sym (marks_same 0 [] j (ap not (subst (λ k. clue_ok k j.header.clue ≡ true) sort (subst IsHeader (sym is) layout).clue)))) c;
+    hiders = λ n. ap (λ (x : List (ℕ × ℕ)). is_some (hider_in n x)) bs ∙ sym (ap (λ (k : Kind). (is_occult k && j.header.a == n) || false) sort);
+    headers_are = hss ∙ ap (λ x. x ∷ []) (sym is);
+    leaves = subst (λ x. StandsFor sha256 rows (x ∷ [])) (l ∙ ap (leaf sha256) (e ∙ ap spelling (sym is))) stands;
+  }
 
 -- the first journal of a new ledger
 module _ (genesis : Genesis) where

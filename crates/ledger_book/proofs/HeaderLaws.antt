@@ -11,7 +11,7 @@ use Rattle.journal_record.specs.declared.header.Kind.{Kind}
 use Rattle.journal_record.specs.declared.header.Kind.TheVariants as kind
 use Rattle.journal_record.specs.declared.stamp.Stamp.{Stamp}
 use Rattle.ledger_model.specs.Anchors.{time_header}
-use Rattle.ledger_model.specs.Appends.{append_header, member_header, occult_header}
+use Rattle.ledger_model.specs.Appends.{append_header, member_header, occult_header, purge_header}
 use Rattle.ledger_model.specs.Genesis.{founders_content, genesis_header}
 use Rattle.ledger_model.specs.declared.genesis.Genesis.{Genesis}
 
@@ -62,6 +62,13 @@ unfolding occult_header
 occult_is jsn target leaf content who given c w =
     ap (λ x. header_with kind.Occult jsn 0 zero_digest 0 0 target leaf 0 (digest x) who) c
     ∙ ap (λ x. header_with kind.Occult jsn 0 zero_digest 0 0 target leaf 0 (digest (content_digest_of [])) (digest x)) w
+
+pub purge_is : (jsn point : ℕ) (link content who : Digest) (given : List Approval) → content.0 ≡ content_digest_of [] → who.0 ≡ who_digest_of (who_of given)
+    → header_with kind.Purge jsn 0 zero_digest 0 0 point link 0 content who ≡ purge_header jsn point link given
+unfolding purge_header
+purge_is jsn point link content who given c w =
+    ap (λ x. header_with kind.Purge jsn 0 zero_digest 0 0 point link 0 (digest x) who) c
+    ∙ ap (λ x. header_with kind.Purge jsn 0 zero_digest 0 0 point link 0 (digest (content_digest_of [])) (digest x)) w
 
 pub time_is : (jsn : ℕ) (stamp : Stamp) (content who : Digest) → content.0 ≡ content_digest_of [] → who.0 ≡ who_digest_of []
     → record (header_with kind.Time jsn 0 zero_digest 0 0 stamp.index stamp.salt 0 content who) { b = stamp.time } ≡ time_header jsn stamp

@@ -1,7 +1,11 @@
 -- Lemmas on the index of hiders, where a journal more is placed.
-use Rattle.std.proofs.Common.{◌≡◌, ◌≢◌, ℕ, ◌≤◌, ◌&&◌, ◌==◌, true, false, List, [], ◌∷◌, ◌++◌, refl, sym, ◌∙◌, ap, subst}
+use Rattle.std.proofs.Common.{◌≡◌, ◌≢◌, ℕ, ◌≤◌, ◌&&◌, ◌==◌, true, false, List, [], ◌∷◌, ◌++◌, refl, sym, ◌∙◌, ap, subst, cond, arith}
 use Rattle.std.specs.Option.{is_some}
-use Rattle.std.proofs.lemmas.Bool.{eqb-true, eq-eqb, true≢false, false_from_ne_true}
+use Rattle.std.specs.Prelude.{filter, nat_le, nat_lt, nat_eq, Some}
+use Rattle.std.specs.BTreeMap.{is_at}
+use Rattle.std.specs.Ordering.{nat_cmp, is_eq}
+use Rattle.std.specs.declared.cmp.Ordering.TheVariants.{Less, Equal, Greater}
+use Rattle.std.proofs.lemmas.Bool.{eqb-true, eq-eqb, true≢false, false_from_ne_true, leb-false}
 use Rattle.journal_record.specs.Entry.{Entry}
 use Rattle.journal_record.specs.declared.header.Kind.{Kind}
 use Rattle.journal_record.specs.declared.header.Kind.TheVariants as kind
@@ -54,3 +58,22 @@ module _ (entries new : List (ℕ × ℕ)) (floor : ℕ) (h : History) (j : Entr
 
   pub hiders_more : AddsHider j.header.kind j.header entries new → Indexes new floor more
   hiders_more adds = by_kind j.header.kind refl adds next.own
+
+-- the hiders of those from a later journal on
+same_number : (n k : ℕ) → is_at (nat_cmp n) k ≡ true → n ≡ k
+same_number n k is = elim (nat_lt n k) as (λ v. nat_lt n k ≡ v → is_eq (cond v Less (cond (nat_eq n k) Equal Greater)) ≡ true → n ≡ k) [
+  | true ↦ λ lt no. absurd (true≢false (sym no))
+  | false ↦ λ lt some. elim (nat_eq n k) as (λ v. nat_eq n k ≡ v → is_eq (cond v Equal Greater) ≡ true → n ≡ k) [
+    | true ↦ λ at yes. eqb-true n k at
+    | false ↦ λ at no. absurd (true≢false (sym no))
+  ] refl some
+] refl is
+
+pub hiders_from : (p : ℕ) (entries : List (ℕ × ℕ)) (n : ℕ) → p ≤ n → hider_in n (filter (λ (e : ℕ × ℕ). nat_le p e.0) entries) ≡ hider_in n entries
+hiders_from p [] n le = refl
+hiders_from p (e ∷ es) n le =
+    let later = hiders_from p es n le in
+    elim (nat_le p e.0) as (λ v. nat_le p e.0 ≡ v → hider_in n (cond v (e ∷ filter (λ (x : ℕ × ℕ). nat_le p x.0) es) (filter (λ (x : ℕ × ℕ). nat_le p x.0) es)) ≡ cond (is_at (nat_cmp n) e.0) (Some e.1) (hider_in n es)) [
+      | true ↦ λ low. ap (λ o. cond (is_at (nat_cmp n) e.0) (Some e.1) o) later
+      | false ↦ λ high. later ∙ sym (ap (λ v. cond v (Some e.1) (hider_in n es)) (false_from_ne_true (is_at (nat_cmp n) e.0) (λ at. omega (arith, same_number n e.0 at, leb-false p e.0 high, le))))
+    ] refl

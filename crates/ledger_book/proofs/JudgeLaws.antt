@@ -32,7 +32,7 @@ full_as l h b is = sym (ap (λ v. cond v (Some (Full (kept_count h) (size h))) N
 kept_is : (k : Kept) (h : History) (n : ℕ) → Serves k h → n ≡ k.size - k.point → n ≡ kept_count h
 kept_is k h n s is = omega (arith, is, s.stands.counts.size, point_is k h s)
 
-full_told : (k : Kept) (h : History) (n : ℕ) → Serves k h → n ≡ k.size - k.point → Some (Full n k.size) ≡ Some (Full (kept_count h) (size h))
+pub full_told : (k : Kept) (h : History) (n : ℕ) → Serves k h → n ≡ k.size - k.point → Some (Full n k.size) ≡ Some (Full (kept_count h) (size h))
 full_told k h n s is = ap (λ x. Some (Full x k.size)) (kept_is k h n s is) ∙ ap (λ x. Some (Full (kept_count h) x)) s.stands.counts.size
 
 pub full_by_kept : (k : Kept) (h : History) (n : ℕ) → Serves k h → n ≡ k.size - k.point → k.limits.soft ≤ n → Some (Full n k.size) ≡ fullness k.limits h

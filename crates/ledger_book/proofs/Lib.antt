@@ -6,8 +6,18 @@ pub mod HiderLaws
 pub mod StandsLaws
 pub mod GenesisLaws
 pub mod OpenLaws
+mod RootLaws
 pub mod JudgeLaws
 pub mod ApplyLaws
 pub mod FactLaws
 mod ReplayLaws
 mod AskLaws
+mod DropLaws
+pub mod BehindLaws
+pub mod BaseLaws
+mod NamedLaws
+mod TellLaws
+mod NextLaws
+mod PurgeLaws
+pub mod GroundLaws
+pub mod SeenLaws

@@ -26,8 +26,8 @@ use Rattle.time_peg.specs.Entries.{peg_string}
 use Rattle.time_peg.specs.Times.{marks_from}
 use Rattle.ledger_model.specs.Anchors.{peg_at}
 use Rattle.ledger_model.specs.History as model
-use Rattle.ledger_model.specs.History.{History, history, journals, journals_of, close, leaf_digest, first_leaf_digest, is_purge, purge_point, greatest_point}
-use Rattle.ledger_model.specs.Lawful.{AreLawful, IsNextOf}
+use Rattle.ledger_model.specs.History.{History, history, journals, journals_of, close, leaf_digest, first_leaf_digest, is_purge, greatest_point}
+use Rattle.ledger_model.specs.Lawful.{AreLawful}
 use Rattle.ledger_model.specs.Members.{members, founders, is_member, admits, member_of, admitted_members}
 use Rattle.ledger_model.specs.Outcomes as outcomes
 use Rattle.ledger_model.specs.Targets.{is_hidden, hider_among}
@@ -37,17 +37,17 @@ use Rattle.ledger_model.proofs.GrowLaws.{close_settled, close_ended, size_closed
 use Rattle.ledger_model.proofs.HideLaws.{hidden_is}
 use Rattle.ledger_model.proofs.KeepLaws.{journals_wider}
 use Rattle.ledger_model.proofs.LawfulLaws.{later_seen, lawful_more, some_journal}
-use Rattle.ledger_model.proofs.PlaceLaws.{founders_kept, admitted_more, admitted_same, point_same}
+use Rattle.ledger_model.proofs.PlaceLaws.{founders_kept, admitted_more, admitted_same}
 use Rattle.ledger_book.specs.Hiders.{hider_in, AddsHider}
 use Rattle.ledger_book.specs.Books.{Kept, Stands, Serves, headers, leaf_digests, sealed_size, ends_above, aged_member, aged_members}
 use Rattle.ledger_model.specs.Bases.{clues_added}
 use Rattle.ledger_model.specs.Bounds.{marks_of}
-use Rattle.ledger_book.specs.Steps.{IsAsBefore, MayPlace, IsLeafOf, with_clue_of, with_time_of}
+use Rattle.ledger_book.specs.Steps.{IsAsBefore, MayPlace, IsLeafOf, point_with, with_clue_of, with_time_of}
 use Rattle.ledger_book.specs.Seals.{head_at, sealed_block, seal_of}
 use Rattle.ledger_book.specs.declared.sealed.Sealed.{Sealed}
 use Rattle.ledger_book.proofs.ClueLaws.{marks_more, marks_same, marks_below}
 use Rattle.ledger_book.proofs.HiderLaws.{hiders_more}
-use Rattle.ledger_book.proofs.TimeLaws.{times_more}
+use Rattle.ledger_book.proofs.TimeLaws.{point_more, times_more}
 
 -- how many journals wait
 pub waiting_count : (k : Kept) (h : History) → Stands k h → k.size ≡ k.sealed + length h.waiting
@@ -74,7 +74,7 @@ stands_settled k h s none = subst (Stands k) (close_settled h (none_waits k h s 
 pub point_is : (k : Kept) (h : History) → Serves k h → k.point ≡ model.point h
 point_is k h s = s.stands.counts.point ∙ later_seen h k.floor s.stands.lawful (subst (λ n. k.floor ≤ n) s.stands.counts.point s.seen)
 
-digests_of : (js : List Entry) → map leaf_digest js ≡ map (tree.leaf sha256) (map (λ (j : Entry). spelling j.header) js)
+pub digests_of : (js : List Entry) → map leaf_digest js ≡ map (tree.leaf sha256) (map (λ (j : Entry). spelling j.header) js)
 digests_of [] = refl
 digests_of (j ∷ js) = ap (λ rest. leaf_digest j ∷ rest) (digests_of js)
 
@@ -189,20 +189,11 @@ first_kept : (js more : List Entry) → 0 < length js → first_leaf_digest (js 
 first_kept [] more some = absurd (omega (arith, some))
 first_kept (j ∷ js) more some = refl
 
--- no journal that may be the next one so far is a purge
-no_purge : (h : History) (x : Header) (k : Kind) → IsNextOf h x k → cond (is_purge k) x.a 0 ≡ 0
-no_purge h x kind.Genesis own = refl
-no_purge h x kind.Content own = refl
-no_purge h x kind.Member own = refl
-no_purge h x kind.Time own = refl
-no_purge h x kind.Occult own = refl
-no_purge h x kind.Purge own = absurd own
-
 -- a journal more in the open block
 stands_wider : (k : Kept) (h : History) (j : Entry) (ms : List Member) (t : index.Kept) (by : List (ℕ × ℕ)) (rows : Levels) → Stands k h → MayPlace h j.header → AddsHider j.header.kind j.header k.hiders by
     → aged_members k.floor ms ≡ aged_members k.floor (members (wider h j)) → index.Stands t (clues_added k.floor (journals (wider h j)))
     → StandsFor sha256 rows (leaf_digests h ++ leaf_digest j ∷ [])
-    → Stands (record k { size = k.size + 1; members = ms; clues = t; hiders = by; times = with_time_of k.size j.header k.times; headers = k.headers ++ j.header ∷ []; tree = rows }) (wider h j)
+    → Stands (record k { size = k.size + 1; point = point_with j.header k.point; members = ms; clues = t; hiders = by; times = with_time_of k.size j.header k.times; headers = k.headers ++ j.header ∷ []; tree = rows }) (wider h j)
 unfolding model.seen_point model.id
 stands_wider k h j ms t by rows s next hides same clues leaves =
     let e = journals_wider h j in
@@ -214,7 +205,7 @@ stands_wider k h j ms t by rows s next hides same clues leaves =
         size = omega (arith, s.counts.size, wider_size h j);
         floor = s.counts.floor;
         point =
-            s.counts.point ∙ sym (point_same (drop k.floor (journals h)) j (no_purge (history [] (journals h)) j.header j.header.kind next.own))
+            point_more k h j s next
             ∙ ap greatest_point (sym (ap (drop k.floor) e ∙ drop-append-le k.floor (journals h) (j ∷ []) low));
         blocks = s.counts.blocks;
         sealed_is = s.counts.sealed_is;
@@ -231,7 +222,7 @@ stands_wider k h j ms t by rows s next hides same clues leaves =
       members = same;
       clues = clues;
       hiders = hiders_more k.hiders by k.floor h j s.lawful next s.hiders hides;
-      times = times_more k h j s next.jsn ∙ ap (λ (js : List Entry). marks_from k.point (marks_of (drop k.floor js))) (sym e);
+      times = times_more k h j s next ∙ ap (λ (js : List Entry). marks_from (point_with j.header k.point) (marks_of (drop k.floor js))) (sym e);
     }
 
 -- the clues with a journal more
@@ -266,18 +257,21 @@ pub record Grown (k : Kept) (hs : List Header) (rows : Levels) (ends : List ℕ)
   pub tip_is : IsLeafOf header tip
 
 -- what a book keeps behind a journal
-abbrev pub kept_with : Kept → List Member → index.Kept → List (ℕ × ℕ) → List TimeMark → List Header → Levels → List ℕ → Kept
-kept_with k ms t by times hs rows ends = record k { size = k.size + 1; ends = ends; members = ms; clues = t; hiders = by; times = times; headers = hs; tree = rows }
+abbrev pub kept_with : Kept → ℕ → List Member → index.Kept → List (ℕ × ℕ) → List TimeMark → List Header → Levels → List ℕ → Kept
+kept_with k point ms t by times hs rows ends = record k { size = k.size + 1; point = point; ends = ends; members = ms; clues = t; hiders = by; times = times; headers = hs; tree = rows }
 
 -- with lists that are equal to those
-grown : (k : Kept) (g : History) (j : Entry) (ms : List Member) (t : index.Kept) (by : List (ℕ × ℕ)) (times : List TimeMark) (hs : List Header) (rows : Levels) (ends : List ℕ) (header : Header)
-    → j.header ≡ header → times ≡ with_time_of k.size header k.times → hs ≡ k.headers ++ header ∷ [] → ends ≡ k.ends
-    → Stands (kept_with k ms t by (with_time_of k.size j.header k.times) (k.headers ++ j.header ∷ []) rows k.ends) g → Stands (kept_with k ms t by times hs rows ends) g
-grown k g j ms t by times hs rows ends header is times_are heads_are ends_are s =
+grown : (k : Kept) (g : History) (j : Entry) (point : ℕ) (ms : List Member) (t : index.Kept) (by : List (ℕ × ℕ)) (times : List TimeMark) (hs : List Header) (rows : Levels) (ends : List ℕ) (header : Header)
+    → j.header ≡ header → point ≡ point_with header k.point → times ≡ with_time_of k.size header k.times → hs ≡ k.headers ++ header ∷ [] → ends ≡ k.ends
+    → Stands (kept_with k (point_with j.header k.point) ms t by (with_time_of k.size j.header k.times) (k.headers ++ j.header ∷ []) rows k.ends) g → Stands (kept_with k point ms t by times hs rows ends) g
+grown k g j point ms t by times hs rows ends header is at times_are heads_are ends_are s =
     let heads : k.headers ++ j.header ∷ [] ≡ hs = ap (λ x. k.headers ++ x ∷ []) is ∙ sym heads_are in
     let timed : with_time_of k.size j.header k.times ≡ times = ap (λ x. with_time_of k.size x k.times) is ∙ sym times_are in
-    subst (λ (x : List ℕ). Stands (kept_with k ms t by times hs rows x) g) (sym ends_are)
-    (subst (λ (x : List TimeMark). Stands (kept_with k ms t by x hs rows k.ends) g) timed (subst (λ (x : List Header). Stands (kept_with k ms t by (with_time_of k.size j.header k.times) x rows k.ends) g) heads s))
+    let pointed : point_with j.header k.point ≡ point = ap (λ x. point_with x k.point) is ∙ sym at in
+    subst (λ (x : List ℕ). Stands (kept_with k point ms t by times hs rows x) g) (sym ends_are)
+    (subst (λ (x : List TimeMark). Stands (kept_with k point ms t by x hs rows k.ends) g) timed
+    (subst (λ (x : List Header). Stands (kept_with k point ms t by (with_time_of k.size j.header k.times) x rows k.ends) g) heads
+    (subst (λ (x : ℕ). Stands (kept_with k x ms t by (with_time_of k.size j.header k.times) (k.headers ++ j.header ∷ []) rows k.ends) g) pointed s)))
 
 module _ (k : Kept) (h : History) (j : Entry) (header : Header) (s : Stands k h) (is : j.header ≡ header) (next : MayPlace h header) where
   placing : MayPlace h j.header
@@ -296,18 +290,18 @@ module _ (k : Kept) (h : History) (j : Entry) (header : Header) (s : Stands k h)
       subst (λ d. StandsFor sha256 rows (leaf_digests h ++ d ∷ [])) same (more (leaf_digests h) s.tree.leaves)
 
   -- a journal that is no new member
-  pub stands_record : (t : index.Kept) (by : List (ℕ × ℕ)) (times : List TimeMark) (hs : List Header) (rows : Levels) (ends : List ℕ) (tip : Digest) → is_member header.kind ≡ false → AddsClue k.clues t header → AddsHider header.kind header k.hiders by
-      → times ≡ with_time_of k.size header k.times → Grown k hs rows ends header tip → Stands (kept_with k k.members t by times hs rows ends) (wider h j)
-  stands_record t by times hs rows ends tip content adds hides timed more =
+  pub stands_record : (point : ℕ) (t : index.Kept) (by : List (ℕ × ℕ)) (times : List TimeMark) (hs : List Header) (rows : Levels) (ends : List ℕ) (tip : Digest) → is_member header.kind ≡ false → AddsClue k.clues t header → AddsHider header.kind header k.hiders by
+      → point ≡ point_with header k.point → times ≡ with_time_of k.size header k.times → Grown k hs rows ends header tip → Stands (kept_with k point k.members t by times hs rows ends) (wider h j)
+  stands_record point t by times hs rows ends tip content adds hides at timed more =
       let kind_is : is_member j.header.kind ≡ false = ap (λ (x : Header). is_member x.kind) is ∙ content in
       let told = adds (clues_added k.floor (journals h)) next.layout.clue s.clues (omega (arith, low, next.jsn)) (subst (λ n. All (λ (m : Mark). m.jsn < n) (clues_added k.floor (journals h)).marks) (sym next.jsn) (marks_below k.floor (journals h) s.lawful)) in
       let clues : index.Stands t (clues_added k.floor (journals (wider h j))) = subst (index.Stands t) (ap (λ (x : Header). with_clue_of x (clues_added k.floor (journals h))) (sym is) ∙ wider_clues k.floor h j) told in
-      grown k (wider h j) j k.members t by times hs rows ends header is timed more.headers_are more.ends_are
+      grown k (wider h j) j point k.members t by times hs rows ends header is at timed more.headers_are more.ends_are
       (stands_wider k h j k.members t by rows s placing (subst (λ (x : Header). AddsHider x.kind x k.hiders by) (sym is) hides) (s.members ∙ ap (aged_members k.floor) (sym (wider_members_same h j some_yet kind_is))) clues (leaf_more rows tip more.tip_is more.leaves_are))
 
   -- a new member
   pub stands_member : (ms : List Member) (hs : List Header) (rows : Levels) (ends : List ℕ) (tip : Digest) → header.kind ≡ kind.Member → ms ≡ k.members ++ record { key = header.link; jsn = header.jsn } ∷ []
-      → Grown k hs rows ends header tip → Stands (kept_with k ms k.clues k.hiders k.times hs rows ends) (wider h j)
+      → Grown k hs rows ends header tip → Stands (kept_with k k.point ms k.clues k.hiders k.times hs rows ends) (wider h j)
   stands_member ms hs rows ends tip member added more =
       let kind_is : j.header.kind ≡ kind.Member = ap (λ (x : Header). x.kind) is ∙ member in
       let none_j : is_no_clue j.header.clue ≡ true = ap (λ (x : Header). is_no_clue x.clue) is ∙ subst (λ (x : Kind). clue_ok x header.clue ≡ true) member next.layout.clue in
@@ -316,8 +310,9 @@ module _ (k : Kept) (h : History) (j : Entry) (header : Header) (s : Stands k h)
       ap (aged_members k.floor) (added ∙ ap (λ (x : Header). k.members ++ record { key = x.link; jsn = x.jsn } ∷ []) (sym is)) ∙ map-append (aged_member k.floor) k.members (member_of j ∷ [])
       ∙ ap (λ x. x ++ aged_members k.floor (member_of j ∷ [])) s.members ∙ sym (map-append (aged_member k.floor) (members h) (member_of j ∷ []))
       ∙ ap (aged_members k.floor) (sym (wider_members_more h j some_yet (ap is_member kind_is))) in
-      let timed : k.times ≡ with_time_of k.size header k.times = sym (ap (λ (x : Kind). cond (is_time x) (k.times ++ record { jsn = k.size; index = header.a; time = header.b } ∷ []) k.times) member) in
-      grown k (wider h j) j ms k.clues k.hiders k.times hs rows ends header is timed more.headers_are more.ends_are
+      let timed : k.times ≡ with_time_of k.size header k.times = sym (ap (λ (x : Kind). cond (is_time x) (k.times ++ record { jsn = k.size; index = header.a; time = header.b } ∷ []) (cond (is_purge x) (marks_from header.a k.times) k.times)) member) in
+      let at : k.point ≡ point_with header k.point = sym (ap (λ (x : Kind). cond (is_purge x) header.a k.point) member) in
+      grown k (wider h j) j k.point ms k.clues k.hiders k.times hs rows ends header is at timed more.headers_are more.ends_are
       (stands_wider k h j ms k.clues k.hiders rows s placing (subst (λ (x : Kind). AddsHider x j.header k.hiders k.hiders) (sym kind_is) refl) joined (subst (index.Stands k.clues) same s.clues) (leaf_more rows tip more.tip_is more.leaves_are))
 
 -- more room for the tree changes nothing

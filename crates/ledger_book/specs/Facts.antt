@@ -1,9 +1,21 @@
 -- What is known of the journal that an occult names.
-use Rattle.std.specs.Prelude.{◌≡◌, ℕ, ◌<◌, ◌≤◌}
+use Rattle.std.specs.Prelude.{◌≡◌, ℕ, ◌-◌, ◌<◌, ◌≤◌, List, [], map, get_or, Option}
+use Rattle.std.specs.List.{list_any}
+use Rattle.std.specs.Option.{is_some}
 use Rattle.ledger_bytes.specs.Digests.{digest}
+use Rattle.journal_record.specs.Entry.{Entry}
+use Rattle.journal_record.specs.declared.header.Header.{Header}
+use Rattle.journal_record.specs.declared.header.Kind.{Kind}
+use Rattle.journal_record.specs.declared.header.Kind.TheVariants as kind
 use Rattle.erase_rules.specs.declared.occult.OccultFacts.{OccultFacts}
-use Rattle.ledger_model.specs.History.{History, size, point}
+use Rattle.ledger_model.specs.History.{History, history, size, point, greatest_point}
 use Rattle.ledger_model.specs.Targets.{hider, kind_at, leaf_at}
+use Rattle.pseudo_genesis.specs.declared.base.Base.{Base}
+use Rattle.ledger_book.specs.Behind.{first_of, next_number, names}
+
+-- the kind that header n tells, where there is one
+abbrev pub kind_in : List Header → ℕ → Kind
+kind_in headers n = get_or (map (λ x. x.kind) headers) n kind.Genesis
 
 -- these are the facts of journal n in this history, as far as they are looked at
 pub record AreFacts (h : History) (facts : OccultFacts) (n : ℕ) : Type 0 where
@@ -13,3 +25,12 @@ pub record AreFacts (h : History) (facts : OccultFacts) (n : ℕ) : Type 0 where
   pub kind_is : point h ≤ n → n < size h → facts.kind ≡ kind_at h n
   pub by_is : point h ≤ n → facts.by ≡ hider h n
   pub leaf_is : point h ≤ n → n < size h → facts.leaf ≡ digest (leaf_at h n)
+
+-- .. and of one that stands behind a base, by the journals there
+pub record AreFactsBehind (start : Option Base) (journals : List Entry) (facts : OccultFacts) (n : ℕ) : Type 0 where
+  pub target_is : facts.target ≡ n
+  pub size_is : facts.size ≡ next_number start journals
+  pub point_is : facts.point ≡ greatest_point journals
+  pub kind_is : facts.kind ≡ kind_at (history [] journals) (n - first_of start)
+  pub by_is : is_some facts.by ≡ list_any (names n) journals
+  pub leaf_is : n < next_number start journals → facts.leaf.0 ≡ leaf_at (history [] journals) (n - first_of start)

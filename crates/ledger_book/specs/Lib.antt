@@ -1,6 +1,10 @@
 pub mod Hiders
 pub mod Books
+pub mod Behind
 pub mod Facts
+pub mod Reading
+pub mod Basing
+pub mod Steps
 pub mod Replaying
 pub mod Seals
-pub mod Steps
+pub mod Purges

@@ -1,4 +1,4 @@
-ghost use Rattle.std.specs.Prelude.{◌≡◌, ◌+◌, ◌^◌, ◌≤◌, IfOk, IfNone, IsSome, ◌<◌, [], length, nat_le, slice_get, option_copied, Option, None, true, if◌then◌else◌};
+ghost use Rattle.std.specs.Prelude.{◌≡◌, ◌+◌, ◌-◌, ◌^◌, ◌≤◌, IfOk, IfNone, IfSome, IsSome, ◌<◌, [], length, nat_le, slice_get, option_copied, List, Option, None, true, if◌then◌else◌};
 ghost use Rattle.std.specs.Option.{option_map};
 ghost use Rattle.sha2.specs.Sha256.{sha256};
 ghost use Rattle.merkle_batch.specs.Rows.{StandsFor};
@@ -13,14 +13,19 @@ ghost use Rattle.ledger_model.specs.Judgements.{is_full};
 ghost use Rattle.ledger_model.specs.Limits.{AreWithin};
 ghost use Rattle.ledger_model.specs.Outcomes as outcomes;
 ghost use Rattle.ledger_model.specs.Texts.{kept_with};
+ghost use Rattle.journal_record.specs.Entry.{Entry};
+ghost use Rattle.pseudo_genesis.specs.declared.base.Base.{Base};
 ghost use Rattle.ledger_book.specs.Books.{Stands, Serves, headers, leaf_digests};
-ghost use Rattle.ledger_book.specs.Seals.{head_of, seal_of};
+ghost use Rattle.ledger_book.specs.Reading.{StandsBehind, root_behind};
+ghost use Rattle.ledger_book.specs.Seals.{IsNextSealed, head_of, seal_of};
 ghost use Rattle.ledger_book.specs.Steps.{IsSame};
 
 mod applying;
 mod asking;
+mod basing;
 mod judging;
 mod placing;
+mod purging;
 mod replaying;
 
 use crate::Sealed;
@@ -94,7 +99,7 @@ impl Model for Book {
         × (b.blocks ≤ b.head.size) × (b.head.size ≤ b.size)
         × (b.head.size < b.size → vec_len b.ends < vec_capacity b.ends) × (b.tree.size ≡ b.size)
         × (b.tree.floor ≡ b.floor) × (b.floor + vec_len b.headers ≡ b.size)
-        × AllByRecursion (λ m. m.jsn < b.size) b.times × (b.floor ≤ b.point) };
+        × AllByRecursion (λ m. m.jsn < b.size) b.times };
 }
 
 impl Book {
@@ -119,10 +124,16 @@ impl Book {
     /// each journal was placed.
     pub fn seal(&mut self) -> Option<Sealed>
         ensures stands { (h : History) → Stands self.old h → Stands self.new (close h) }
+        ensures behind { (start : Option Base) (journals : List Entry)
+            → StandsBehind self.old start journals → StandsBehind self.new start journals }
         ensures sealed { (h : History) → Stands self.old h → result ≡ seal_of h }
         ensures none { IfNone result (self.new ≡ self.old) }
         ensures same { IsSame self.old self.new }
         ensures ended { (self.new.size ≡ self.old.size) × (self.new.sealed ≡ self.old.size) }
+        ensures told { IfSome result (λ sealed. IsNextSealed self.old self.new sealed) }
+        ensures root { IfSome result (λ sealed. (start : Option Base) (journals : List Entry)
+            → StandsBehind self.old start journals
+            → sealed.head.root.0 ≡ root_behind start journals) }
     {
         if self.head.size == self.size {
             return None;
@@ -161,6 +172,8 @@ impl Book {
     /// The header of journal `n`, where it is kept.
     pub fn header(&self, n: u64) -> Option<&Header>
         ensures some { self.now.floor ≤ n → n < self.now.size → IsSome result }
+        ensures kept { self.now.floor ≤ n
+            → option_copied result ≡ slice_get self.now.headers (n - self.now.floor) }
         ensures header { (h : History) → Serves self.now h
             → option_copied result
             ≡ (if nat_le self.now.floor n then slice_get (headers h) n else None) }
@@ -205,8 +218,33 @@ impl Book {
         ensures seen { (h : History) → Stands self.now h
             → result ≡ model.seen_point self.now.floor h }
         ensures point { (h : History) → Serves self.now h → result ≡ model.point h }
+        ensures value { result ≡ self.now.point }
     {
         self.point
+    }
+
+    /// The first journal whose header is kept.
+    pub fn floor(&self) -> u64
+        ensures { result ≡ self.now.floor }
+    {
+        self.floor
+    }
+
+    /// How many journals stand in blocks that have ended.
+    pub fn sealed_size(&self) -> u64
+        ensures value { result ≡ self.now.sealed }
+        ensures most { result ≤ self.now.size }
+    {
+        self.head.size
+    }
+
+    /// How many journals there are, with those that wait.
+    pub fn size(&self) -> u64
+        ensures size { result ≡ self.now.size }
+        ensures some { 1 ≤ result }
+        ensures fits { result < 2 ^ 32 }
+    {
+        self.size
     }
 
     /// How many journals wait in the open block.

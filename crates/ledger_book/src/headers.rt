@@ -131,6 +131,29 @@ pub(crate) fn occult_header(jsn: u64, target: u64, leaf: &Digest, given: &[Appro
     }
 }
 
+/// The header of a purge of all journals in front of `point` that is journal `jsn`, where the base at its point has this
+/// digest.
+pub(crate) fn purge_header(jsn: u64, point: u64, link: &Digest, given: &[Approval]) -> Header
+    requires { All (λ a. length a.proof < 2 ^ 16) given.now }
+    ensures { result ≡ appends.purge_header jsn point link.now given.now }
+{
+    Header {
+        version: 1,
+        kind: Kind::Purge,
+        jsn,
+        member: 0,
+        clue: Digest::ZERO,
+        clue_ord: 0,
+        clue_prev: 0,
+        a: point,
+        b: 0,
+        link: *link,
+        content_len: 0,
+        content_digest: content_digest(b""),
+        who_digest: approvals_digest(given),
+    }
+}
+
 /// The header of a time journal that is journal `jsn`.
 pub(crate) fn time_header(jsn: u64, stamp: &Stamp) -> Header
     ensures { result ≡ anchors.time_header jsn stamp.now }

@@ -1,4 +1,4 @@
-ghost use Rattle.std.specs.Prelude.{◌≡◌, [], OnOk, OnErr};
+ghost use Rattle.std.specs.Prelude.{◌≡◌, ℕ, ◌≤◌, [], OnOk, OnErr};
 ghost use Rattle.ledger_book.specs.Hiders.{hider_in, Puts};
 
 use ledger_bytes::NoMemory;
@@ -44,5 +44,12 @@ impl Hiders {
     {
         self.by.insert(target, jsn)?;
         Ok(())
+    }
+
+    /// Keeps the hidden journals from journal `p` on.
+    pub(crate) fn drop_below(&mut self, p: u64)
+        ensures { (n : ℕ) → p ≤ n → hider_in n self.new ≡ hider_in n self.old }
+    {
+        self.by.retain(|target, _| *target >= p);
     }
 }

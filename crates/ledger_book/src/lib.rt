@@ -10,7 +10,9 @@ mod prepared;
 mod sealed;
 
 pub use book::Book;
-pub use laws::room_changes_nothing;
+pub use laws::{
+    room_changes_nothing, the_next_is_seen_from_behind, the_next_is_seen_from_the_first,
+};
 pub use ledger_model::{Genesis, Job, Limits, Outcome, Query, View};
 pub use prepared::Prepared;
 pub use sealed::Sealed;

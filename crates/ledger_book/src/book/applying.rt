@@ -8,7 +8,8 @@ ghost use Rattle.ledger_model.specs.Outcomes.{AsksFor};
 ghost use Rattle.ledger_model.specs.Rules.{closes_after};
 ghost use Rattle.ledger_model.specs.declared.job.Job.TheVariants as asked;
 ghost use Rattle.ledger_book.specs.Books.{Serves};
-ghost use Rattle.ledger_book.specs.Steps.{IsSame, IsAsBefore, HasNumber, PlacesNothing, NeverReads, Applies, OpenGathers, Anchors};
+ghost use Rattle.ledger_book.specs.Purges.{point_after};
+ghost use Rattle.ledger_book.specs.Steps.{IsSame, IsAsBefore, IsLater, HasNumber, PlacesNothing, NeverReads, Applies, OpenGathers, Anchors};
 
 use super::Book;
 use crate::headers::{new_member_header, occult_header, record_header, time_header};
@@ -33,7 +34,8 @@ impl Book {
         ensures anchor { IfOk result (λ outcome. job.now ≡ asked.Anchor
             → Anchors self.old (option_copied stamp.entry) outcome) }
         ensures err { OnErr result (IsAsBefore self.old self.new) }
-        ensures same { IsSame self.old self.new }
+        ensures same { IsLater self.old self.new }
+        ensures point { IfOk result (λ outcome. self.new.point ≡ point_after job.now outcome self.old.point) }
         ensures unchanged { IfOk result (λ outcome. PlacesNothing outcome → self.new ≡ self.old) }
         ensures asked { IfOk result (AsksFor job.now) }
     {
@@ -54,6 +56,7 @@ impl Book {
                 leaf,
                 given,
             } => self.apply_occult(*target, leaf, given.as_slice()),
+            Job::Purge { point, root, given } => self.apply_purge(*point, root, given.as_slice()),
             Job::Get { n } => Ok(Outcome::Reading(Query::Get { n: *n })),
             Job::Prove { n } => match self.prove_refusal(*n) {
                 Some(refusal) => Ok(Outcome::Refused(refusal)),

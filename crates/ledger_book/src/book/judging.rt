@@ -1,15 +1,23 @@
-ghost use Rattle.std.specs.Prelude.{◌≡◌, ◌<◌, ◌≤◌, ◌^◌, [], ◌∷◌, length, IfNone, IfSome, None};
+ghost use Rattle.std.specs.Prelude.{◌≡◌, ◌-◌, ◌<◌, ◌≤◌, ◌^◌, ◌↔◌, List, [], ◌∷◌, length, IsTrue, IfNone, IfSome, Option, None};
 ghost use Rattle.ledger_bytes.specs.declared.limits.TheConstants.{MEMBER_LIMIT};
+ghost use Rattle.std.specs.Option.{is_none};
+ghost use Rattle.clue_index.specs.Added.{Added, trail_of};
+ghost use Rattle.clue_index.specs.Index as index;
+ghost use Rattle.clue_index.specs.Trail.{count_of};
+ghost use Rattle.journal_record.specs.Entry.{Entry};
 ghost use Rattle.journal_record.specs.Members.{keys};
 ghost use Rattle.ledger_bytes.specs.Digests.{digest};
 ghost use Rattle.ledger_model.specs.History as model;
-ghost use Rattle.ledger_model.specs.History.{History};
-ghost use Rattle.ledger_model.specs.Targets.{kind_at, leaf_at};
+ghost use Rattle.ledger_model.specs.History.{History, history};
+ghost use Rattle.ledger_model.specs.Targets.{leaf_at};
+ghost use Rattle.pseudo_genesis.specs.declared.base.Base.{Base};
+ghost use Rattle.ledger_book.specs.Behind.{HasRoomFor, first_of};
 ghost use Rattle.ledger_model.specs.Judgements.{fullness, hard_fullness, unknown_in, wrong_key_in, clues_full, append_judgements, member_judgements, occult_judgements};
 ghost use Rattle.member_book.specs.Erasures.{first_refusal};
 ghost use Rattle.ledger_model.specs.Limits.{AreWithin, real_limits};
 ghost use Rattle.ledger_book.specs.Books.{Stands, Serves};
-ghost use Rattle.ledger_book.specs.Facts.{AreFacts};
+ghost use Rattle.ledger_book.specs.Facts.{AreFacts, AreFactsBehind, kind_in};
+ghost use Rattle.ledger_book.specs.Reading.{StandsBehind};
 ghost use Rattle.ledger_book.specs.Steps.{HasOperatorRoom};
 
 use super::Book;
@@ -106,7 +114,10 @@ impl Book {
     /// Whether the clue is a new one, and there are as many as there may be by these limits.
     pub(super) fn clue_refusal(&self, clue: &Digest, limits: Limits) -> Option<Refusal>
         requires { self.now.size < real_limits.size }
-        ensures { (h : History) → Stands self.now h → result ≡ clues_full limits h clue.now }
+        ensures refusal { (h : History) → Stands self.now h → result ≡ clues_full limits h clue.now }
+        ensures room { (a : Added) → index.Stands self.now.clues a
+            → count_of (trail_of a clue.now.0) < 2 ^ 32 - 1
+            → IsTrue (is_none result) ↔ HasRoomFor limits.clues a clue.now }
     {
         if *clue == Digest::ZERO {
             return None;
@@ -144,7 +155,10 @@ impl Book {
 
     /// What is known of journal `n`, where an occult names it.
     pub(super) fn facts(&self, n: u64) -> OccultFacts
-        ensures { (h : History) → Serves self.now h → AreFacts h result n }
+        ensures facts { (h : History) → Serves self.now h → AreFacts h result n }
+        ensures behind { (start : Option Base) (journals : List Entry)
+            → StandsBehind self.now start journals → self.now.floor ≤ n
+            → AreFactsBehind start journals result n }
     {
         OccultFacts {
             target: n,
@@ -157,9 +171,8 @@ impl Book {
     }
 
     // The kind of a journal that is kept.
-    fn kind_of(&self, n: u64) -> Kind
-        ensures { (h : History) → Serves self.now h → self.now.floor ≤ n → n < model.size h
-            → result ≡ kind_at h n }
+    pub(super) fn kind_of(&self, n: u64) -> Kind
+        ensures { self.now.floor ≤ n → result ≡ kind_in self.now.headers (n - self.now.floor) }
     {
         match self.header(n) {
             Some(header) => header.kind,
@@ -169,8 +182,11 @@ impl Book {
 
     // The leaf digest of a journal that is kept.
     fn leaf_of(&self, n: u64) -> Digest
-        ensures { (h : History) → Serves self.now h → self.now.floor ≤ n → n < model.size h
+        ensures list { (h : History) → Serves self.now h → self.now.floor ≤ n → n < model.size h
             → result ≡ digest (leaf_at h n) }
+        ensures behind { (start : Option Base) (journals : List Entry)
+            → StandsBehind self.now start journals → self.now.floor ≤ n → n < self.now.size
+            → result.0 ≡ leaf_at (history [] journals) (n - first_of start) }
     {
         match self.tree.leaf(n) {
             Ok(leaf) => leaf,

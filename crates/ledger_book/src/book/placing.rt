@@ -1,20 +1,24 @@
-ghost use Rattle.std.specs.Prelude.{◌≡◌, ◌+◌, ◌<◌, ◌≤◌, [], ℕ, All, true, false, Some, length, OnOk, OnErr};
+ghost use Rattle.std.specs.Prelude.{◌≡◌, ◌+◌, ◌-◌, ◌^◌, ◌<◌, ◌≤◌, List, [], ◌∷◌, ◌++◌, ℕ, All, true, false, Option, Some, length, OnOk, OnErr};
 ghost use Rattle.std.specs.List.{AllByRecursion};
 ghost use Rattle.ledger_bytes.specs.declared.limits.TheConstants.{MEMBER_LIMIT};
 ghost use Rattle.journal_record.specs.Entry.{Entry};
 ghost use Rattle.journal_record.specs.Rules.{clue_ok};
 ghost use Rattle.journal_record.specs.declared.header.Kind.TheVariants as kind;
-ghost use Rattle.clue_index.specs.Added.{Added};
+ghost use Rattle.clue_index.specs.Added.{Added, trail_of};
+ghost use Rattle.clue_index.specs.Trail.{count_of};
 ghost use Rattle.clue_index.specs.Index as index;
 ghost use Rattle.ledger_model.specs.Clues.{next_ordinal, last_journal};
-ghost use Rattle.ledger_model.specs.History.{History};
+ghost use Rattle.ledger_model.specs.History.{History, is_purge};
 ghost use Rattle.ledger_model.specs.Lawful.{gathers};
 ghost use Rattle.ledger_model.specs.Limits.{real_limits};
 ghost use Rattle.ledger_model.specs.Members.{is_member};
 ghost use Rattle.ledger_model.specs.Outcomes.{with_waiting};
+ghost use Rattle.pseudo_genesis.specs.declared.base.Base.{Base};
+ghost use Rattle.ledger_book.specs.Behind.{IsNextBehind, ordinal_in, previous_in};
 ghost use Rattle.ledger_book.specs.Books.{Stands};
+ghost use Rattle.ledger_book.specs.Reading.{StandsBehind};
 ghost use Rattle.ledger_book.specs.Hiders.{AddsHider};
-ghost use Rattle.ledger_book.specs.Steps.{IsSame, IsAsBefore, MayPlace, IsLeafOf, OpenGathers, with_clue_of, with_time_of};
+ghost use Rattle.ledger_book.specs.Steps.{IsSame, IsAsBefore, MayPlace, IsLeafOf, OpenGathers, point_with, with_clue_of, with_time_of};
 
 use super::Book;
 use crate::headers::Place;
@@ -34,6 +38,11 @@ impl Book {
             → result.ordinal ≡ next_ordinal h clue.now }
         ensures previous { (h : History) → Stands self.now h
             → result.previous ≡ last_journal h clue.now }
+        ensures ordinal_in { (a : Added) → index.Stands self.now.clues a
+            → count_of (trail_of a clue.now.0) < 2 ^ 32 - 1
+            → result.ordinal ≡ ordinal_in a clue.now }
+        ensures previous_in { (a : Added) → index.Stands self.now.clues a
+            → result.previous ≡ previous_in a clue.now }
     {
         let jsn = self.size;
         if *clue == Digest::ZERO {
@@ -59,12 +68,20 @@ impl Book {
             → journal.header ≡ header.now
             → is_member header.now.kind ≡ false → MayPlace h header.now
             → Stands self.new (with_waiting (Some journal) h)) }
+        ensures behind { OnOk result ((start : Option Base) (journals : List Entry)
+            (journal : Entry) → StandsBehind self.old start journals
+            → journal.header ≡ header.now → is_member header.now.kind ≡ false
+            → IsNextBehind start journals header.now
+            → StandsBehind self.new start (journals ++ journal ∷ [])) }
         ensures size { OnOk result (self.new.size ≡ self.old.size + 1) }
         ensures gathers { OnOk result (gathers header.now.kind ≡ true → OpenGathers self.old
             → OpenGathers self.new) }
         ensures sealed { self.new.sealed ≡ self.old.sealed }
+        ensures blocks { self.new.blocks ≡ self.old.blocks }
         ensures err { OnErr result (IsAsBefore self.old self.new) }
-        ensures same { IsSame self.old self.new }
+        ensures floor { (self.new.limits ≡ self.old.limits) × (self.new.floor ≡ self.old.floor) }
+        ensures point { OnOk result (self.new.point ≡ point_with header.now self.old.point) }
+        ensures same { is_purge header.now.kind ≡ false → IsSame self.old self.new }
     {
         self.headers.reserve(1)?;
         self.tree.reserve(1)?;
@@ -79,6 +96,7 @@ impl Book {
         self.tree.add_leaves(&[leaf]);
         self.headers.push_reserved(*header);
         self.size += 1;
+        self.point = point_behind(header, self.point);
         Ok(())
     }
 
@@ -91,10 +109,16 @@ impl Book {
             → journal.header ≡ header.now
             → header.now.kind ≡ kind.Member → MayPlace h header.now
             → Stands self.new (with_waiting (Some journal) h)) }
+        ensures behind { OnOk result ((start : Option Base) (journals : List Entry)
+            (journal : Entry) → StandsBehind self.old start journals
+            → journal.header ≡ header.now → header.now.kind ≡ kind.Member
+            → IsNextBehind start journals header.now
+            → StandsBehind self.new start (journals ++ journal ∷ [])) }
         ensures size { OnOk result (self.new.size ≡ self.old.size + 1) }
         ensures gathers { OnOk result (gathers header.now.kind ≡ true → OpenGathers self.old
             → OpenGathers self.new) }
         ensures sealed { self.new.sealed ≡ self.old.sealed }
+        ensures blocks { self.new.blocks ≡ self.old.blocks }
         ensures err { OnErr result (IsAsBefore self.old self.new) }
         ensures same { IsSame self.old self.new }
     {
@@ -109,8 +133,19 @@ impl Book {
     }
 }
 
+// The point behind a journal with this header, where it was another before.
+fn point_behind(header: &Header, point: u64) -> u64
+    ensures { result ≡ point_with header.now point }
+{
+    if header.kind == Kind::Purge {
+        header.a
+    } else {
+        point
+    }
+}
+
 // Adds a journal, which has this number, to the times where it is a time journal, to the hiders where it is an occult, and
-// else to its clue, where it has one.
+// else to its clue, where it has one. A purge leaves the times from its point on.
 fn add_to_indexes(
     times: &mut TimeIndex,
     clues: &mut ClueIndex,
@@ -120,6 +155,7 @@ fn add_to_indexes(
 ) -> Result<(), NoMemory>
     requires { AllByRecursion (λ m. m.jsn < jsn) times.old }
     ensures times { OnOk result (times.new ≡ with_time_of jsn header.now times.old) }
+    ensures below { OnOk result (AllByRecursion (λ m. m.jsn < jsn + 1) times.new) }
     ensures clues { OnOk result ((a : Added) → clue_ok header.now.kind header.now.clue ≡ true
         → index.Stands clues.old a → a.floor ≤ header.now.jsn
         → All (λ m. m.jsn < header.now.jsn) a.marks
@@ -137,6 +173,10 @@ fn add_to_indexes(
     }
     if header.kind == Kind::Occult {
         return hiders.add(header.a, header.jsn);
+    }
+    if header.kind == Kind::Purge {
+        times.drop_below(header.a);
+        return Ok(());
     }
     add_clue(clues, header)
 }

@@ -1,15 +1,17 @@
-ghost use Rattle.std.specs.Prelude.{◌≡◌, ◌<◌, ◌⊎◌, ◌↔◌, false, IsTrue, IfOk, OnErr, length};
+ghost use Rattle.std.specs.Prelude.{◌≡◌, ◌<◌, ◌≤◌, ◌↔◌, List, [], ◌∷◌, length, Option, None, IsTrue, IfOk, OnErr};
 ghost use Rattle.ledger_bytes.specs.declared.limits.TheConstants.{MEMBER_LIMIT};
 ghost use Rattle.journal_record.specs.Entry.{Entry};
 ghost use Rattle.journal_record.specs.Rules.{IsHeader};
 ghost use Rattle.journal_record.specs.declared.header.Kind.TheVariants as kind;
 ghost use Rattle.ledger_model.specs.History.{History};
-ghost use Rattle.ledger_model.specs.Lawful.{IsNextRecord};
+ghost use Rattle.ledger_model.specs.Lawful.{IsNextOf, IsNextOccult, IsNextPurge, IsNextRecord};
 ghost use Rattle.ledger_model.specs.Limits.{AreWithin, real_limits};
-ghost use Rattle.ledger_model.specs.Members.{is_member};
+ghost use Rattle.pseudo_genesis.specs.declared.base.Base.{Base};
+ghost use Rattle.ledger_book.specs.Behind.{IsNextBehind, IsOwnBehind, IsRecordBehind, IsOccultBehind, IsPurgeBehind};
 ghost use Rattle.ledger_book.specs.Books.{Stands, Serves};
+ghost use Rattle.ledger_book.specs.Reading.{StandsBehind};
 ghost use Rattle.ledger_book.specs.Replaying.{IsFirst, begun_with, Replays};
-ghost use Rattle.ledger_book.specs.Steps.{IsSame, IsAsBefore, MayPlace, IsLeafOf};
+ghost use Rattle.ledger_book.specs.Steps.{IsAsBefore, IsLater, IsLeafOf, MayPlace, point_with};
 
 use super::Book;
 use crate::hiders::Hiders;
@@ -41,8 +43,11 @@ impl Book {
         ensures serves { IfOk result (λ book. (journal : Entry)
             → IsFirst header.now operator.now regulator.now journal
             → Serves book (begun_with journal)) }
+        ensures behind { IfOk result (λ book. (journal : Entry) → journal.header ≡ header.now
+            → StandsBehind book None (journal ∷ [])) }
         ensures limits { IfOk result (λ book. book.limits ≡ limits) }
         ensures floor { IfOk result (λ book. (book.floor ≡ 0) × (book.point ≡ 0)) }
+        ensures settled { IfOk result (λ book. book.sealed ≡ book.size) }
     {
         let leaf = leaf_of::<Sha>(&header.encode());
         let members = MemberBook::new(alloc, operator, regulator)?;
@@ -74,14 +79,16 @@ impl Book {
 
     /// Places the journal with this header, whose leaf digest is known, in the open block, where it is the next one.
     /// Contents aren't looked at, since they may be hidden. A header that isn't the next one has the damage [`Damage::Entry`] with the number
-    /// that is next, and changes nothing; so does an `Err`. A purge is never the next one, since no job places it
-    /// so far.
+    /// that is next, and changes nothing; so does an `Err`. Behind a base it is judged by what stands there, since nobody
+    /// knows the journals in front of it.
     pub fn replay(&mut self, header: &Header, leaf: &Digest) -> Result<Result<(), Damage>, NoMemory>
         requires layout { IsHeader header.now }
         requires leaf { IsLeafOf header.now leaf.now }
         ensures ok { IfOk result (λ told. Replays self.old header.now told self.new) }
         ensures err { OnErr result (IsAsBefore self.old self.new) }
-        ensures same { IsSame self.old self.new }
+        ensures same { IsLater self.old self.new }
+        ensures ended { (self.new.blocks ≡ self.old.blocks)
+            × (self.new.sealed ≡ self.old.sealed) }
     {
         if !self.is_next(header) {
             return Ok(Err(Damage::Entry { jsn: self.size }));
@@ -97,10 +104,12 @@ impl Book {
     // Whether a header is the next one, by the limits of each ledger but those for trial.
     fn is_next(&self, header: &Header) -> bool
         requires layout { IsHeader header.now }
-        ensures next { (h : History) → Stands self.now h → IsTrue result ↔ MayPlace h header.now }
+        ensures next { (h : History) → Serves self.now h → IsTrue result ↔ MayPlace h header.now }
+        ensures behind { (start : Option Base) (journals : List Entry)
+            → StandsBehind self.now start journals
+            → IsTrue result ↔ IsNextBehind start journals header.now }
         ensures room { IsTrue result → self.now.size < real_limits.size }
-        ensures kinds { IsTrue result → (is_member header.now.kind ≡ false)
-            ⊎ (header.now.kind ≡ kind.Member) }
+        ensures above { IsTrue result → self.now.point ≤ point_with header.now self.now.point }
         ensures few { IsTrue result → header.now.kind ≡ kind.Member
             → length self.now.members < MEMBER_LIMIT }
     {
@@ -108,12 +117,34 @@ impl Book {
         if header.jsn != self.size || self.size >= most {
             return false;
         }
+        // A base's point is a time journal.
+        if self.size == self.floor && header.kind != Kind::Time {
+            return false;
+        }
+        self.is_next_of(header)
+    }
+
+    // Whether a header with the next number is the next one by its kind.
+    fn is_next_of(&self, header: &Header) -> bool
+        requires room { self.now.size < real_limits.size }
+        requires layout { IsHeader header.now }
+        requires jsn { header.now.jsn ≡ self.now.size }
+        ensures next { (h : History) → Serves self.now h
+            → IsTrue result ↔ IsNextOf h header.now header.now.kind }
+        ensures behind { (start : Option Base) (journals : List Entry)
+            → StandsBehind self.now start journals
+            → IsTrue result ↔ IsOwnBehind start journals header.now header.now.kind }
+        ensures above { IsTrue result → self.now.point ≤ point_with header.now self.now.point }
+        ensures few { IsTrue result → header.now.kind ≡ kind.Member
+            → length self.now.members < MEMBER_LIMIT }
+    {
         match header.kind {
             Kind::Content => self.is_next_record(header),
             Kind::Member => header.a == u64::from(self.members.count()),
             Kind::Time => true,
-            Kind::Occult => target_refusal(&self.facts(header.a), &header.link).is_none(),
-            Kind::Genesis | Kind::Purge => false,
+            Kind::Occult => self.is_next_occult(header),
+            Kind::Purge => self.is_next_purge(header),
+            Kind::Genesis => false,
         }
     }
 
@@ -121,16 +152,67 @@ impl Book {
     // next ones, and there is room for the clue.
     fn is_next_record(&self, header: &Header) -> bool
         requires { self.now.size < real_limits.size }
-        ensures { (h : History) → Stands self.now h → IsTrue result ↔ IsNextRecord h header.now }
+        ensures next { (h : History) → Stands self.now h → IsTrue result ↔ IsNextRecord h header.now }
+        ensures behind { (start : Option Base) (journals : List Entry)
+            → StandsBehind self.now start journals
+            → IsTrue result ↔ IsRecordBehind start journals header.now }
     {
         if header.member >= self.members.count() {
             return false;
         }
         let place = self.place_of(&header.clue);
-        if header.clue_ord != place.ordinal || header.clue_prev != place.previous {
+        if header.clue_ord != place.ordinal {
+            return false;
+        }
+        if header.clue_prev != place.previous {
             return false;
         }
         // A clue that has a journal already needs no room, and neither does no clue.
         place.ordinal != 1 || self.clue_refusal(&header.clue, Limits::real()).is_none()
     }
+
+    // Whether an occult is the next one, where its number is. Nothing but its hider is known of a target in front of the
+    // first header that is kept.
+    fn is_next_occult(&self, header: &Header) -> bool
+        ensures next { (h : History) → Serves self.now h → IsTrue result ↔ IsNextOccult h header.now }
+        ensures behind { (start : Option Base) (journals : List Entry)
+            → StandsBehind self.now start journals
+            → IsTrue result ↔ IsOccultBehind start journals header.now }
+    {
+        let target = header.a;
+        if target < self.floor {
+            if self.point >= self.floor {
+                return false;
+            }
+            return self.hiders.of(target).is_none();
+        }
+        target_refusal(&self.facts(target), &header.link).is_none()
+    }
+
+    // Whether a purge is the next one, where its number is. Nothing is known of a point in front of the first header that
+    // is kept.
+    fn is_next_purge(&self, header: &Header) -> bool
+        requires layout { header.now.a < self.now.size }
+        ensures next { (h : History) → Serves self.now h → IsTrue result ↔ IsNextPurge h header.now }
+        ensures behind { (start : Option Base) (journals : List Entry)
+            → StandsBehind self.now start journals
+            → IsTrue result ↔ IsPurgeBehind start journals header.now }
+        ensures above { IsTrue result → self.now.point < header.now.a }
+    {
+        let point = header.a;
+        if point <= self.point {
+            return false;
+        }
+        if point < self.floor {
+            return true;
+        }
+        is_time(self.kind_of(point))
+    }
+}
+
+// Whether a journal of this kind tells a time.
+fn is_time(sort: Kind) -> bool
+    ensures { IsTrue result ↔ (sort ≡ kind.Time) }
+{
+    sort == Kind::Time
 }

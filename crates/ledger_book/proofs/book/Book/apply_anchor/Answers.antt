@@ -11,7 +11,7 @@ use Rattle.ledger_model.specs.declared.outcome.Query.TheVariants as query
 use Rattle.ledger_model.specs.declared.outcome.Outcome.TheVariants.{Placed, Reading}
 use Rattle.ledger_book.specs.Steps.{Applies, Anchors}
 use Rattle.ledger_book.specs.Books.{Kept}
-use Rattle.ledger_book.proofs.ApplyLaws.{applies_refused, applies_placed, applies_reading, serves_after, leaf_is, time_kind, time_may, anchor_refused}
+use Rattle.ledger_book.proofs.ApplyLaws.{applies_refused, applies_placed, applies_reading, serves_after, leaf_is, time_kind, time_may, time_no_purge, anchor_refused}
 use Rattle.ledger_book.proofs.book.Book.apply_anchor.Goals as goal
 
 pub returns-in-Some-clause-ok : goal.returns-in-Some-clause-ok
@@ -42,7 +42,7 @@ returns-clause-ok c = λ h s.
     let stands = c.in_ok-place_record.ensures.ok h journal s.stands is (time_kind h stamp header is) may in
     subst (λ o. Applies k.limits o h Anchor (Placed c.self.inside.size tip) c.place_record.new.self) (sym given)
     (applies_placed k.limits (Some stamp) h Anchor journal c.self.inside.size tip c.place_record.new.self
-    none refl refl at (leaf_is journal header tip is (c.leaf_of-leaf.ensures ∙ ap (leaf sha256) c.encode.ensures.bytes)) (serves_after k c.place_record.new.self h (with_waiting (Some journal) h) s c.in_ok-place_record.ensures.same stands))
+    none refl refl at (leaf_is journal header tip is (c.leaf_of-leaf.ensures ∙ ap (leaf sha256) c.encode.ensures.bytes)) (serves_after k c.place_record.new.self h (with_waiting (Some journal) h) s (c.in_ok-place_record.ensures.same (time_no_purge c.self.inside.size stamp header c.time_header-header.ensures)) stands))
 
 pub returns-in-Some-clause-anchor : goal.returns-in-Some-clause-anchor
 returns-in-Some-clause-anchor c = c.in-Some.ensures.some
@@ -54,3 +54,6 @@ returns-in_default-stamp-clause-anchor c =
 pub returns-clause-anchor : goal.returns-clause-anchor
 returns-clause-anchor c =
     subst (λ o. Anchors c.args.self.now o (Placed c.self.inside.size c.leaf_of-leaf.result)) (sym (ap option_copied c.in-Some-stamp.is)) c.in_default.ensures.none
+
+pub returns-clause-same : goal.returns-clause-same
+returns-clause-same c = c.in_ok-place_record.ensures.same (time_no_purge c.self.inside.size c.in-Some-stamp.stamp.now c.time_header-header.result c.time_header-header.ensures)

@@ -6,7 +6,7 @@ use Rattle.ledger_model.specs.History.{size}
 use Rattle.ledger_model.specs.Outcomes.{with_waiting}
 use Rattle.ledger_model.specs.declared.job.Job.TheVariants.{Occult}
 use Rattle.ledger_book.specs.Books.{Kept}
-use Rattle.ledger_book.proofs.ApplyLaws.{applies_refused, applies_placed, serves_after, leaf_is, occult_kind, occult_may}
+use Rattle.ledger_book.proofs.ApplyLaws.{applies_refused, applies_placed, serves_after, leaf_is, occult_kind, occult_may, occult_no_purge}
 use Rattle.ledger_book.proofs.book.Book.apply_occult.Goals as goal
 
 pub returns-in-Some-clause-ok : goal.returns-in-Some-clause-ok
@@ -27,4 +27,9 @@ returns-clause-ok c = λ stamp h s.
     let may = occult_may h a.target a.leaf.now a.given.now header k.limits k c.occult_refusal.ensures.within none s.stands is in
     let stands = c.in_ok-place_record.ensures.ok h journal s.stands is (occult_kind h a.target a.leaf.now a.given.now header is) may in
     applies_placed k.limits stamp h (Occult a.target a.leaf.now a.given.now) journal c.self.inside.size tip c.place_record.new.self
-    none refl refl at (leaf_is journal header tip is (c.leaf_of-leaf.ensures ∙ ap (leaf sha256) c.encode.ensures.bytes)) (serves_after k c.place_record.new.self h (with_waiting (Some journal) h) s c.in_ok-place_record.ensures.same stands)
+    none refl refl at (leaf_is journal header tip is (c.leaf_of-leaf.ensures ∙ ap (leaf sha256) c.encode.ensures.bytes)) (serves_after k c.place_record.new.self h (with_waiting (Some journal) h) s (c.in_ok-place_record.ensures.same (occult_no_purge c.self.inside.size a.target a.leaf.now a.given.now header c.occult_header-header.ensures)) stands)
+
+pub returns-clause-same : goal.returns-clause-same
+returns-clause-same c =
+    let a = c.args in
+    c.in_ok-place_record.ensures.same (occult_no_purge c.self.inside.size a.target a.leaf.now a.given.now c.occult_header-header.result c.occult_header-header.ensures)

@@ -28,6 +28,6 @@ returns-clause-refusal c = λ h s.
     let same = ap (λ (k : Kept). keys_of k.members) c.self.view_is ∙ known_keys a.self.now.floor a.self.now.members (members h) s.stands.members in
     c.err.ensures.value ∙ ap result_err c.judge_occult.ensures ∙ judged_err (first_refusal (row_of_occult f known a.leaf.now a.given.now))
     ∙ ap (λ ks. first_refusal (row_of_occult f ks a.leaf.now a.given.now)) same
-    ∙ row_told h f a.target a.leaf.now (approvals_refusal (keys h) a.given.now (0 ∷ 1 ∷ []) ∷ []) (c.facts.ensures h s)
+    ∙ row_told h f a.target a.leaf.now (approvals_refusal (keys h) a.given.now (0 ∷ 1 ∷ []) ∷ []) (c.facts.ensures.facts h s)
     ∙ sym (row_after (hard_fullness a.self.now.limits h) (occult_row (size h) (point h) (kind_at h a.target) (hider h a.target) (digest (leaf_at h a.target)) (keys h) a.target a.leaf.now a.given.now)
     (sym c.in_default.is ∙ c.hard_refusal.ensures.refusal h s))
