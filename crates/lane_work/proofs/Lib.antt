@@ -2,6 +2,7 @@ pub mod Chains
 pub mod Makings
 pub mod Paired
 pub mod Lines
+pub mod Sent
 pub mod Merging
 pub mod Setting
 pub mod Ordering

@@ -4,13 +4,13 @@ use Rattle.std.specs.Option.{option_map}
 use Rattle.ledger_bytes.specs.Digests.{digest}
 use Rattle.ledger_bytes.specs.declared.digest.Digest.{Digest}
 use Rattle.journal_record.specs.Entry.{content_digest_of}
-use Rattle.journal_record.specs.Request.{request_digest_of, member_request_digest_of, occult_request_digest_of}
+use Rattle.journal_record.specs.Request.{request_digest_of, member_request_digest_of, occult_request_digest_of, purge_request_digest_of}
 use Rattle.journal_record.specs.declared.approval.Approval.{Approval}
 use Rattle.script_lines.specs.declared.said.SaidApproval.{SaidApproval}
-use Rattle.ledger_model.specs.Appends.{approval_of, append_with, request_with, member_job, occult_job}
+use Rattle.ledger_model.specs.Appends.{approval_of, append_with, request_with, member_job, occult_job, purge_job}
 use Rattle.ledger_model.specs.Scheme.{Scheme}
 use Rattle.ledger_model.specs.declared.job.Job.{Job}
-use Rattle.ledger_model.specs.declared.job.Job.TheVariants.{Append, NewMember, Occult}
+use Rattle.ledger_model.specs.declared.job.Job.TheVariants.{Append, NewMember, Occult, Purge}
 
 -- a digest is that of its bytes
 some_digest : (o : Option Digest) → o ≡ option_map digest (option_map (λ (d : Digest). d.0) o)
@@ -43,3 +43,10 @@ pub occult_is : (scheme : Scheme) (id : List ℕ) (target : ℕ) (leaf : Digest)
 unfolding occult_job
 occult_is scheme id target leaf given request shown r s =
     ap (Occult target leaf) s ∙ ap (λ x. Occult target leaf (map (λ (by : SaidApproval). approval_of scheme by.member x by.proof) given)) r
+
+pub purge_is : (scheme : Scheme) (id : List ℕ) (p : ℕ) (told : Digest) (given : List SaidApproval) (request : List ℕ) (shown : List Approval)
+    → request ≡ purge_request_digest_of id p told.0 → shown ≡ map (λ (by : SaidApproval). approval_of scheme by.member request by.proof) given
+    → Purge p told shown ≡ purge_job scheme id p told given
+unfolding purge_job
+purge_is scheme id p told given request shown r s =
+    ap (Purge p told) s ∙ ap (λ x. Purge p told (map (λ (by : SaidApproval). approval_of scheme by.member x by.proof) given)) r

@@ -4,7 +4,7 @@ ghost use Rattle.script_lines.specs.Limits.{fits_line};
 ghost use Rattle.ledger_model.specs.Fitting.{fits_job};
 ghost use Rattle.ledger_model.specs.Rules.{job_for, job_of};
 
-use crate::requests::{member_job, occult_job, record_job};
+use crate::requests::{member_job, occult_job, purge_job, record_job};
 use journal_record::clue_digest;
 use ledger_book::{Job, Prepared};
 use ledger_bytes::{Digest, NoMemory};
@@ -65,6 +65,9 @@ fn prepare_line<V: Verifier>(
             leaf,
             given,
         } => occult_job(alloc, verifier, id, target, leaf, given.as_slice())?,
+        Line::Purge { point, root, given } => {
+            purge_job(alloc, verifier, id, point, root, given.as_slice())?
+        }
         Line::Get { n } => Job::Get { n },
         Line::Prove { n } => Job::Prove { n },
         Line::Extend { which, m } => Job::Extend { which, m },

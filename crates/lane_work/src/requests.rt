@@ -5,7 +5,8 @@ ghost use Rattle.ledger_model.specs.Appends as appends;
 ghost use Rattle.ledger_model.specs.Fitting.{fits_job};
 
 use journal_record::{
-    Approval, content_digest, member_request_digest, occult_request_digest, request_digest,
+    Approval, content_digest, member_request_digest, occult_request_digest, purge_request_digest,
+    request_digest,
 };
 use ledger_book::Job;
 use ledger_bytes::{Bytes, Digest, Items, NoMemory};
@@ -88,6 +89,30 @@ pub(crate) fn occult_job<V: Verifier>(
     Ok(Job::Occult {
         target,
         leaf,
+        given: Items::of(shown),
+    })
+}
+
+/// The job of a purge to the time journal with this number, where this is the root over the journals in front of it, on the
+/// ledger with this id, with the keys that the proofs of its approvals show to this verifier.
+pub(crate) fn purge_job<V: Verifier>(
+    alloc: Global,
+    verifier: &V,
+    id: &Digest,
+    point: u64,
+    root: Digest,
+    given: &[SaidApproval],
+) -> Result<Job, NoMemory>
+    requires { fits_approvals given.now ≡ true }
+    ensures job { IfOk result (λ job. job ≡ appends.purge_job
+        (V.shows verifier.now) id.now.0 point root given.now) }
+    ensures fits { IfOk result (λ job. fits_job job ≡ true) }
+{
+    let request = purge_request_digest(id, point, &root);
+    let shown = shown_approvals(alloc, verifier, &request, given)?;
+    Ok(Job::Purge {
+        point,
+        root,
         given: Items::of(shown),
     })
 }

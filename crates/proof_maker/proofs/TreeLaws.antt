@@ -9,7 +9,7 @@ use Rattle.merkle_tree.specs.declared.head.Head.{Head}
 use Rattle.journal_record.specs.Entry.{Entry}
 use Rattle.journal_record.specs.Header.{spelling}
 use Rattle.ledger_model.specs.History as model
-use Rattle.ledger_model.specs.History.{History, journals, journals_of, leaf_digest}
+use Rattle.ledger_model.specs.History.{History, journals, leaf_digest}
 use Rattle.ledger_book.specs.Books.{Kept, Stands, Serves, leaf_digests, sealed_size}
 use Rattle.ledger_book.specs.Seals.{head_at, head_of}
 use Rattle.ledger_book.proofs.StandsLaws.{point_is}

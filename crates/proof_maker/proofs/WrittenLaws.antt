@@ -21,7 +21,7 @@ use Rattle.script_lines.specs.Replies.{time_mark}
 use Rattle.script_lines.specs.declared.reply.Reply.TheVariants as reply
 use Rattle.script_lines.specs.declared.said.Which.TheVariants.{Ledger, Notary}
 use Rattle.ledger_model.specs.Anchors.{stamp_of}
-use Rattle.ledger_model.specs.Appends.{append_journal, member_journal, occult_journal}
+use Rattle.ledger_model.specs.Appends.{append_journal, member_journal, occult_journal, purge_journal}
 use Rattle.ledger_model.specs.Getting.{reply_unless}
 use Rattle.ledger_model.specs.History as model
 use Rattle.ledger_model.specs.History.{History, journals, id, close}
@@ -39,7 +39,7 @@ use Rattle.ledger_model.specs.Step.{Step}
 use Rattle.ledger_model.specs.Took.{notary_after, Took, TookAll}
 use Rattle.ledger_model.specs.Texts.{told_mark, proof_reply, extension_reply, told_reply, answer_for, answer_to}
 use Rattle.ledger_model.specs.declared.job.Job.{Job}
-use Rattle.ledger_model.specs.declared.job.Job.TheVariants.{Refused, Append, NewMember, Anchor, Occult, Get, Prove, Extend, Clue, Head}
+use Rattle.ledger_model.specs.declared.job.Job.TheVariants.{Refused, Append, NewMember, Anchor, Occult, Purge, Get, Prove, Extend, Clue, Head}
 use Rattle.ledger_model.specs.declared.outcome.Outcome.TheVariants.{Reading}
 use Rattle.ledger_model.specs.declared.outcome.Query.TheVariants as query
 use Rattle.ledger_model.proofs.FitLaws.{size_few}
@@ -165,6 +165,8 @@ good_answer h step (NewMember number key by) lawful wide pegged changes = placed
 good_answer h step Anchor lawful wide pegged changes = anchor_good (close h) step.after step (own_refusal real_limits (close h) Anchor) (stamp_of step)
 good_answer h step (Occult target leaf given) lawful wide pegged changes =
     placed_good (close h) step.after step (own_refusal real_limits (close h) (Occult target leaf given)) (model.size (close h)) (occult_journal (model.size (close h)) target leaf given)
+good_answer h step (Purge p told given) lawful wide pegged changes =
+    placed_good (close h) step.after step (own_refusal real_limits (close h) (Purge p told given)) (model.size (close h)) (purge_journal (close h) p given)
 good_answer h step (Get n) lawful wide pegged changes = get_told (IsGood (close h) step.after) (close h) n (λ why. tt) (λ header content who. tt) (λ header who. tt)
 good_answer h step (Prove n) lawful wide pegged changes =
     let g = close h in

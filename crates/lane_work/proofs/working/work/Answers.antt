@@ -1,4 +1,6 @@
 use Rattle.std.proofs.Common.{rules, ◌≡◌, ℕ, ◌+◌, List, [], ◌∷◌, ◌++◌, length, length-append, append_assoc, arith, sym, ap, ◌∙◌, subst}
+use denote.Param.Send.{sendable}
+use Rattle.std.proofs.Crossing.{crosses}
 use Rattle.std.specs.Vec.Iter.{into_iter_items}
 use Rattle.intake_queue.specs.declared.view.View.{View}
 use Rattle.intake_queue.specs.Passes.{lane_view}
@@ -7,6 +9,7 @@ use Rattle.lane_work.specs.declared.kinds.Made.{Made}
 use Rattle.lane_work.specs.declared.kinds.LaneLine.{LaneLine}
 use Rattle.lane_work.specs.Making.{IsMadeOf, AllMade}
 use Rattle.lane_work.proofs.Makings.{made_none, made_push}
+use Rattle.lane_work.proofs.Sent.{bytes_send, job_send, prepared_send}
 use Rattle.lane_work.proofs.working.work.Goals as goal
 
 pub loop-said-init : goal.loop-said-init
@@ -47,3 +50,7 @@ loop-said-preserved g c =
       (let e = ap length sent in let f = length-append v.sent (x ∷ []) in let h = length-append c.loop-said.yielded (said ∷ []) in let k = inv.6 in omega (arith, e, f, h, k)),
       subst (λ (l : List Made). AllMade scheme id c.args.start (c.loop-said.yielded ++ said ∷ []) l) (sym sent) (made_push scheme id c.args.start c.loop-said.yielded v.sent said x inv.7 next),
     )
+
+-- what is submitted may cross threads
+pub submit-pass-requires-send-T : goal.submit-pass-requires-send-T
+submit-pass-requires-send-T g c κs within = search (bytes_send, job_send, prepared_send, sendable, crosses) depth 60

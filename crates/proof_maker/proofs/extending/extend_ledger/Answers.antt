@@ -4,7 +4,7 @@ use Rattle.std.proofs.lemmas.Result.{err_from_is_err_and}
 use Rattle.ledger_bytes.specs.Digests.{digest}
 use Rattle.merkle_tree.specs.declared.head.Head.{Head}
 use Rattle.ledger_model.specs.History as model
-use Rattle.ledger_model.specs.History.{History, journals, leaf_digest}
+use Rattle.ledger_model.specs.History.{journals, leaf_digest}
 use Rattle.ledger_book.specs.Books.{leaf_digests}
 use Rattle.ledger_book.proofs.StandsLaws.{point_is}
 use Rattle.script_lines.specs.declared.said.Which.TheVariants.{Ledger}
