@@ -9,24 +9,22 @@ use Rattle.block_file.specs.declared.failure.Damage.{Damage}
 use Rattle.block_file.specs.declared.failure.FileErr.{FileErr}
 use Rattle.block_file.specs.declared.failure.FileErr.TheVariants as files
 use Rattle.journal_record.specs.Entry.{Entry}
-use Rattle.ledger_book.specs.Books.{Kept, Serves, Stands}
-use Rattle.ledger_book.specs.Seals.{head_of}
+use Rattle.ledger_book.specs.Behind.{next_number}
+use Rattle.ledger_book.specs.Books.{Kept}
 use Rattle.ledger_disk.specs.Disk.{State}
-use Rattle.ledger_model.specs.History.{History, history, journals_of}
-use Rattle.merkle_tree.specs.declared.head.Head.{Head}
-use Rattle.ledger_open.specs.Ahead.{WasRead, IsStop, WereRead, place_behind, number_behind, journals_in, blocks_in, AreLeaves, AreNextBlocks, IsAhead, IsStopOf}
-use Rattle.ledger_open.specs.Damages.{Begun, IsDamage}
-use Rattle.ledger_open.specs.Opening.{Known, known_from, HasRead, IsPlain}
+use Rattle.ledger_model.specs.History.{journals_of}
+use Rattle.pseudo_genesis.specs.declared.base.Base.{Base}
+use Rattle.ledger_open.specs.Ahead.{BlockWasRead, IsStop, WereRead, place_behind, number_behind, journals_in, blocks_in, AreLeaves, AreNextBlocks, IsAhead, IsStopOf}
+use Rattle.ledger_open.specs.Damages.{IsDamage, IsReadTo}
+use Rattle.ledger_open.specs.Opening.{Known, known_from, HasRead}
 use Rattle.ledger_open.specs.Places.{place_of_record}
-use Rattle.ledger_open.specs.Standing.{floor_from}
-use Rattle.ledger_open.specs.Taking.{Headed, TakesBlock, IsBadBlock}
+use Rattle.ledger_open.specs.Taking.{Headed, Goes, TakesBlock, IsBadBlock}
 use Rattle.ledger_open.specs.declared.ahead.Ahead.{Ahead}
 use Rattle.ledger_open.specs.declared.ahead.Hashed.{Hashed}
 use Rattle.ledger_open.specs.declared.ahead.Stop.{Stop}
 use Rattle.ledger_open.specs.declared.ahead.Stop.TheVariants as stops
 use Rattle.ledger_open.specs.declared.places.PlaceAt.{PlaceAt}
 use Rattle.ledger_open.proofs.FirstLaws.{headed_read, err_read}
-use Rattle.ledger_open.proofs.KnownLaws.{begun_first}
 use Rattle.ledger_open.proofs.MoreLaws.{few, first_is, MoreHere, more_here, more_bad, more_read, more_count, read_of}
 use Rattle.ledger_open.proofs.TakeLaws.{headed_size}
 
@@ -69,7 +67,7 @@ number_is first (b ∷ bs) =
     let sum : journals_in (b ∷ bs) ≡ length b.records + journals_in bs = refl in
     omega (arith, number_is (first + length b.records) bs, sum, more)
 
-pub read_push : (tells : Bool) (file : List ℕ) (at first : ℕ) (bs : List BlockAt) (b : BlockAt) → WereRead tells file at first bs → WasRead tells file (place_behind at bs) (number_behind first bs) b
+pub read_push : (tells : Bool) (file : List ℕ) (at first : ℕ) (bs : List BlockAt) (b : BlockAt) → WereRead tells file at first bs → BlockWasRead tells file (place_behind at bs) (number_behind first bs) b
     → WereRead tells file at first (bs ++ b ∷ [])
 read_push tells file at first [] b all one = (one, tt)
 read_push tells file at first (c ∷ bs) b all one = (all.0, read_push tells file (at + 1 + c.len) (first + length c.records) bs b all.1 one)
@@ -88,18 +86,18 @@ number_both first (b ∷ bs) cs = number_both (first + length b.records) bs cs
 
 -- the block that was found, where it stands
 pub was_read : (tells : Bool) (old now : State) (at first : ℕ) (found : Option BlockAt) (block : BlockAt) → (IsTrue tells → now ≡ old) → found ≡ Some block → IfSome found (λ b. (es : List Entry) × AreBlock first es × IsRead at es b)
-    → (IsTrue tells → IsNextBlock at now.seen first (Ok found)) → WasRead tells old.seen at first block
+    → (IsTrue tells → IsNextBlock at now.seen first (Ok found)) → BlockWasRead tells old.seen at first block
 was_read tells old now at first found block same is r answer = record {
   read = read_of found block at first is r;
   stands = λ told. subst (λ (s : State). IsNextBlock at s.seen first (Ok (Some block))) (same told) (subst (λ (o : Option BlockAt). IsNextBlock at now.seen first (Ok o)) is (answer told));
 }
 
 pub read_again : (tells : Bool) (file : List ℕ) (at first now next : ℕ) (hs items : List Hashed) (h : Hashed) (block : BlockAt) → WereRead tells file at first (blocks_in hs)
-    → now ≡ place_behind at (blocks_in hs) → next ≡ first + journals_in (blocks_in hs) → items ≡ hs ++ h ∷ [] → h.block ≡ block → WasRead tells file now next block → WereRead tells file at first (blocks_in items)
+    → now ≡ place_behind at (blocks_in hs) → next ≡ first + journals_in (blocks_in hs) → items ≡ hs ++ h ∷ [] → h.block ≡ block → BlockWasRead tells file now next block → WereRead tells file at first (blocks_in items)
 read_again tells file at first now next hs items h block all place number is same one =
     subst (WereRead tells file at first) (sym (listed hs items h block is same))
     (read_push tells file at first (blocks_in hs) block all
-    (subst (λ (n : ℕ). WasRead tells file n (number_behind first (blocks_in hs)) block) place (subst (λ (n : ℕ). WasRead tells file now n block) (number ∙ sym (number_is first (blocks_in hs))) one)))
+    (subst (λ (n : ℕ). BlockWasRead tells file n (number_behind first (blocks_in hs)) block) place (subst (λ (n : ℕ). BlockWasRead tells file now n block) (number ∙ sym (number_is first (blocks_in hs))) one)))
 
 pub place_again : (at now new : ℕ) (hs items : List Hashed) (h : Hashed) (block : BlockAt) → now ≡ place_behind at (blocks_in hs) → items ≡ hs ++ h ∷ [] → h.block ≡ block → new ≡ now + 1 + block.len → new ≡ place_behind at (blocks_in items)
 place_again at now new hs items h block place is same far =
@@ -135,10 +133,10 @@ stop_damaged tells old now place first next e stop hs number same (damage, e_is,
 -- ---- one is taken
 
 pub more_ahead : (k : Known) (block : BlockAt) (book : Kept) (places : List PlaceAt) (place : ℕ) → places ≡ k.places ++ map place_of_record block.records → place ≡ k.place + 1 + block.len
-    → ((ks : List (List Entry)) (es : List Entry) → Headed es block.records → Serves k.book (history ks []) → TakesBlock book ks es block.root.0)
+    → ((start : Option Base) (ks : List (List Entry)) (es : List Entry) → Headed es block.records → Goes k.book start ks [] → TakesBlock book start ks es block.root.0)
     → (tells : Bool) (file : List ℕ) (rest : List BlockAt) (stop : Stop) → IsAhead tells file k (block ∷ rest) stop → IsAhead tells file (known_from book places place) rest stop
 more_ahead k block book places place listed tail takes tells file rest stop a =
-    let first = length (journals_of a.read.blocks) in
+    let first = next_number a.read.start (journals_of a.read.blocks) in
     let here : IsTrue tells → MoreHere file k.place first block = λ told. more_here file k.place first (Some block) block refl (a.ahead.0.stands told) in
     let count = sym (more_count k block book places place first listed tail takes tells file a.read a.ahead.0.read here) in
     record {
@@ -148,12 +146,12 @@ more_ahead k block book places place listed tail takes tells file rest stop a =
           (subst (λ (n : ℕ). IsStop tells file (place_behind n rest) (number_behind (first + length block.records) rest) stop) (sym tail) a.ends);
     }
 
-pub bad_ahead : (tells : Bool) (file : List ℕ) (k : Known) (head : Head) (block : BlockAt) (damage : Damage) (rest : List BlockAt) (stop : Stop) → ((h : History) → Stands k.book h → head ≡ head_of h)
-    → ((ks : List (List Entry)) (es : List Entry) → Headed es block.records → head.size ≡ length (journals_of ks) → Serves k.book (history ks []) → IsBadBlock ks es block.root.0 damage)
-    → IsAhead tells file k (block ∷ rest) stop → IsTrue tells → IsPlain file → IsDamage file damage
-bad_ahead tells file k head block damage rest stop is bad a told plain =
-    more_bad tells file k head block damage a.read is told plain
-    (more_here file k.place head.size (Some block) block refl (subst (λ (n : ℕ). IsNextBlock k.place file n (Ok (Some block))) (sym (first_is tells file k head a.read is)) (a.ahead.0.stands told))) bad
+pub bad_ahead : (tells : Bool) (file : List ℕ) (k : Known) (size : ℕ) (block : BlockAt) (damage : Damage) (rest : List BlockAt) (stop : Stop) → size ≡ k.book.size
+    → ((start : Option Base) (ks : List (List Entry)) (es : List Entry) → Headed es block.records → size ≡ next_number start (journals_of ks) → Goes k.book start ks [] → IsBadBlock start ks es block.root.0 damage)
+    → IsAhead tells file k (block ∷ rest) stop → IsTrue tells → IsDamage file damage
+bad_ahead tells file k size block damage rest stop is bad a told =
+    more_bad tells file k size block damage a.read is told
+    (more_here file k.place size (Some block) block refl (subst (λ (n : ℕ). IsNextBlock k.place file n (Ok (Some block))) (sym (first_is tells file k size a.read is)) (a.ahead.0.stands told))) bad
 
 -- what came of the first of some blocks that were read ahead, where these are left
 pub record Taken (old_book : Kept) (old_places : List PlaceAt) (book : Kept) (places : List PlaceAt) (all rest : List Hashed) : Type 0 where
@@ -191,49 +189,49 @@ taken_all old_book old_places book places all i end t tells file at more stop a 
 
 -- ---- from what is known to what was read ahead, and back
 
-pub ahead_of : (tells : Bool) (file : List ℕ) (k : Known) (head : Head) (bs : List BlockAt) (stop : Stop) → HasRead tells file k → ((h : History) → Stands k.book h → head ≡ head_of h) → WereRead tells file k.place head.size bs
-    → IsStop tells file (place_behind k.place bs) (number_behind head.size bs) stop → IsAhead tells file k bs stop
-ahead_of tells file k head bs stop r is all end = record {
+pub ahead_of : (tells : Bool) (file : List ℕ) (k : Known) (size : ℕ) (bs : List BlockAt) (stop : Stop) → HasRead tells file k → size ≡ k.book.size → WereRead tells file k.place size bs
+    → IsStop tells file (place_behind k.place bs) (number_behind size bs) stop → IsAhead tells file k bs stop
+ahead_of tells file k size bs stop r is all end = record {
   read = r;
-  ahead = subst (λ (n : ℕ). WereRead tells file k.place n bs) (first_is tells file k head r is) all;
-  ends = subst (λ (n : ℕ). IsStop tells file (place_behind k.place bs) (number_behind n bs) stop) (first_is tells file k head r is) end;
+  ahead = subst (λ (n : ℕ). WereRead tells file k.place n bs) (first_is tells file k size r is) all;
+  ends = subst (λ (n : ℕ). IsStop tells file (place_behind k.place bs) (number_behind n bs) stop) (first_is tells file k size r is) end;
 }
 
 -- the number behind those that were read ahead
-pub number_ahead : (tells : Bool) (file : List ℕ) (k : Known) (head : Head) (count : ℕ) (bs : List BlockAt) (stop : Stop) → ((h : History) → Stands k.book h → head ≡ head_of h) → count ≡ journals_in bs → (a : IsAhead tells file k bs stop)
-    → head.size + count ≡ number_behind (length (journals_of a.read.blocks)) bs
-number_ahead tells file k head count bs stop is counted a = ap (λ (n : ℕ). n + count) (first_is tells file k head a.read is) ∙ ap (λ (n : ℕ). length (journals_of a.read.blocks) + n) counted ∙ sym (number_is (length (journals_of a.read.blocks)) bs)
+pub number_ahead : (tells : Bool) (file : List ℕ) (k : Known) (size : ℕ) (count : ℕ) (bs : List BlockAt) (stop : Stop) → size ≡ k.book.size → count ≡ journals_in bs → (a : IsAhead tells file k bs stop)
+    → size + count ≡ number_behind (next_number a.read.start (journals_of a.read.blocks)) bs
+number_ahead tells file k size count bs stop is counted a = ap (λ (n : ℕ). n + count) (first_is tells file k size a.read is) ∙ ap (λ (n : ℕ). next_number a.read.start (journals_of a.read.blocks) + n) counted ∙ sym (number_is (next_number a.read.start (journals_of a.read.blocks)) bs)
 
-pub number_below : (tells : Bool) (file : List ℕ) (k : Known) (head : Head) (count : ℕ) (bs : List BlockAt) (stop : Stop) → ((h : History) → Stands k.book h → head ≡ head_of h) → count ≡ journals_in bs → stop ≡ stops.Full → IsAhead tells file k bs stop
-    → head.size + count < 2 ^ 32
-number_below tells file k head count bs stop is counted full a =
-    subst (λ (n : ℕ). n < 2 ^ 32) (sym (number_ahead tells file k head count bs stop is counted a)) (subst (IsStop tells file (place_behind k.place bs) (number_behind (length (journals_of a.read.blocks)) bs)) full a.ends)
+pub number_below : (tells : Bool) (file : List ℕ) (k : Known) (size : ℕ) (count : ℕ) (bs : List BlockAt) (stop : Stop) → size ≡ k.book.size → count ≡ journals_in bs → stop ≡ stops.Full → IsAhead tells file k bs stop
+    → size + count < 2 ^ 32
+number_below tells file k size count bs stop is counted full a =
+    subst (λ (n : ℕ). n < 2 ^ 32) (sym (number_ahead tells file k size count bs stop is counted a)) (subst (IsStop tells file (place_behind k.place bs) (number_behind (next_number a.read.start (journals_of a.read.blocks)) bs)) full a.ends)
 
 -- the next ones behind those that are ahead
-pub ahead_both : (tells : Bool) (file : List ℕ) (k : Known) (head : Head) (count place : ℕ) (bs cs : List BlockAt) (stop next : Stop) → ((h : History) → Stands k.book h → head ≡ head_of h) → count ≡ journals_in bs → place ≡ place_behind k.place bs → IsAhead tells file k bs stop
-    → WereRead tells file place (head.size + count) cs → IsStop tells file (place_behind place cs) (number_behind (head.size + count) cs) next → IsAhead tells file k (bs ++ cs) next
-ahead_both tells file k head count place bs cs stop next is counted at a more end =
-    let n = length (journals_of a.read.blocks) in
-    let number = number_ahead tells file k head count bs stop is counted a in
+pub ahead_both : (tells : Bool) (file : List ℕ) (k : Known) (size : ℕ) (count place : ℕ) (bs cs : List BlockAt) (stop next : Stop) → size ≡ k.book.size → count ≡ journals_in bs → place ≡ place_behind k.place bs → IsAhead tells file k bs stop
+    → WereRead tells file place (size + count) cs → IsStop tells file (place_behind place cs) (number_behind (size + count) cs) next → IsAhead tells file k (bs ++ cs) next
+ahead_both tells file k size count place bs cs stop next is counted at a more end =
+    let n = next_number a.read.start (journals_of a.read.blocks) in
+    let number = number_ahead tells file k size count bs stop is counted a in
     record {
       read = a.read;
-      ahead = read_both tells file k.place n bs cs a.ahead (subst (λ (m : ℕ). WereRead tells file (place_behind k.place bs) m cs) number (subst (λ (p : ℕ). WereRead tells file p (head.size + count) cs) at more));
+      ahead = read_both tells file k.place n bs cs a.ahead (subst (λ (m : ℕ). WereRead tells file (place_behind k.place bs) m cs) number (subst (λ (p : ℕ). WereRead tells file p (size + count) cs) at more));
       ends = subst (λ (p : ℕ). IsStop tells file p (number_behind n (bs ++ cs)) next) (sym (place_both k.place bs cs))
           (subst (λ (m : ℕ). IsStop tells file (place_behind (place_behind k.place bs) cs) m next) (sym (number_both n bs cs))
-          (subst (λ (m : ℕ). IsStop tells file (place_behind (place_behind k.place bs) cs) (number_behind m cs) next) number (subst (λ (p : ℕ). IsStop tells file (place_behind p cs) (number_behind (head.size + count) cs) next) at end)));
+          (subst (λ (m : ℕ). IsStop tells file (place_behind (place_behind k.place bs) cs) (number_behind m cs) next) number (subst (λ (p : ℕ). IsStop tells file (place_behind p cs) (number_behind (size + count) cs) next) at end)));
     }
 
 -- ---- the end
 
-pub end_bad : (tells : Bool) (file : List ℕ) (k : Known) (damage : Damage) → IsAhead tells file k [] (stops.Damaged damage) → IsTrue tells → IsPlain file → IsDamage file damage
-end_bad tells file k damage a told plain = err_read file a.read.blocks k.place (files.Damaged damage) (record { begun = begun_first a.read told plain; lawful = λ some. a.read.knows.legal }) (a.ends told)
+pub end_bad : (tells : Bool) (file : List ℕ) (k : Known) (damage : Damage) → IsAhead tells file k [] (stops.Damaged damage) → IsTrue tells → IsDamage file damage
+end_bad tells file k damage a told = err_read file a.read.start a.read.blocks k.place (files.Damaged damage) (a.read.begun told) (a.ends told)
 
 pub end_shut : (tells : Bool) (file : List ℕ) (k : Known) → IsAhead tells file k [] stops.Shut → IsTrue tells → get_or file k.place 0 ≢ 1
 end_shut tells file k a told = a.ends told
 
 -- no ledger has so many journals
 pub end_too_long : (tells : Bool) (file : List ℕ) (k : Known) → IsAhead tells file k [] stops.TooLong → ⊥
-end_too_long tells file k a = omega (arith, a.ends, few a.read.blocks a.read.knows.legal)
+end_too_long tells file k a = omega (arith, a.ends, few a.read.start a.read.blocks a.read.taken.goes.base a.read.taken.legal)
 
 -- all were taken, and the file stands behind them
 pub after_all : (tells : Bool) (file : List ℕ) (book : Kept) (places : List PlaceAt) (at place : ℕ) (bs cs : List BlockAt) (stop : Stop) → place ≡ place_behind at bs → cs ≡ bs
@@ -279,9 +277,9 @@ next_again tells old new book places ahead place same n =
       at = n.at;
       place_is = n.place_is;
       are = record {
-        read = record { start = r.start; blocks = r.blocks; knows = r.knows; begun = λ told. subst (λ (f : List ℕ). IsPlain f → Begun (floor_from r.start) f r.blocks n.at) (same told) (r.begun told) };
-        ahead = were_again tells old new n.at (length (journals_of r.blocks)) (blocks_in ahead.blocks.items) same n.are.ahead;
-        ends = stop_again tells old new (place_behind n.at (blocks_in ahead.blocks.items)) (number_behind (length (journals_of r.blocks)) (blocks_in ahead.blocks.items)) ahead.stop same n.are.ends;
+        read = record { start = r.start; blocks = r.blocks; taken = r.taken; begun = λ told. subst (λ (f : List ℕ). IsReadTo f r.start r.blocks n.at) (same told) (r.begun told) };
+        ahead = were_again tells old new n.at (next_number r.start (journals_of r.blocks)) (blocks_in ahead.blocks.items) same n.are.ahead;
+        ends = stop_again tells old new (place_behind n.at (blocks_in ahead.blocks.items)) (number_behind (next_number r.start (journals_of r.blocks)) (blocks_in ahead.blocks.items)) ahead.stop same n.are.ends;
       };
       count_is = n.count_is;
       leaves = n.leaves;

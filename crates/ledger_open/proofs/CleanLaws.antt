@@ -1,212 +1,277 @@
--- A file that was read, cut behind its tail gate, and of which was given up what the last journal hides.
-use Rattle.std.specs.Prelude.{Bool, true, false, Option, Some, None}
-use Rattle.std.proofs.Common.{◌≡◌, ℕ, ◌+◌, List, [], ◌∷◌, ◌++◌, length, take, inl, refl, ap, sym, subst, ◌∙◌, arith, length-append}
-use Rattle.std.proofs.lemmas.List.{nil_from_length, take_all}
-use Rattle.block_file.specs.File.{IsSettled, Stands, open_blocks, tail_of}
-use Rattle.block_file.specs.Head.{generation_of}
+-- A file that was read, cut behind its tail gate, and of which was given up what the last journal hides: as it stays, and
+-- copied from the point on.
+use Rattle.std.specs.Prelude.{All, false, Option, Some, None}
+use Rattle.std.proofs.Common.{◌≡◌, ◌≢◌, inl, inr, ℕ, ◌+◌, ◌-◌, ◌^◌, ◌<◌, ◌≤◌, List, [], ◌∷◌, ◌++◌, length, get_or, take, replicate, refl, sym, ◌∙◌, ap, subst, arith}
+use Rattle.std.proofs.lemmas.List.{nil_from_length, take_all, take_at, get_or-drop}
+use Rattle.std.proofs.lemmas.List.Elements.{All-contains, All-take}
+use Rattle.block_file.proofs.WriteLaws.{tail_shut}
+use Rattle.block_file.specs.File.{IsShutAt, tail_of, whole_file}
+use Rattle.block_file.specs.Head.{front_of, generation_of}
 use Rattle.journal_record.specs.Blocks.{written_blocks}
 use Rattle.journal_record.specs.Entry.{Entry}
-use Rattle.ledger_disk.proofs.Guarding.{settled_image}
-use Rattle.ledger_disk.specs.Disk.{State, MayLeave, settled_state}
-use Rattle.ledger_model.specs.History.{History, history, point}
+use Rattle.ledger_book.proofs.StandsLaws.{point_is}
+use Rattle.ledger_disk.specs.Disk.{overlay}
+use Rattle.ledger_model.proofs.FitLaws.{size_few}
+use Rattle.ledger_model.specs.Bases.{base_of}
+use Rattle.ledger_model.specs.History.{History, journals_of, point, greatest_point}
+use Rattle.ledger_model.specs.Lawful.{IsBlock}
 use Rattle.ledger_model.specs.Targets.{is_hidden}
+use Rattle.pseudo_genesis.specs.Bases.{spelling}
 use Rattle.pseudo_genesis.specs.declared.base.Base.{Base}
-use Rattle.twin_file.specs.Twin.{choice, open_of, other_of, IsTaken}
-use Rattle.ledger_open.specs.Erasing.{EndsAs, IsGivenUp, StandsMeanwhile, LeavesErased, given_up}
-use Rattle.ledger_open.specs.Opening.{Known, Knows, GoesOn, HasFile, HasKept, StandsStill}
+use Rattle.twin_file.specs.Twin.{next_generation}
+use Rattle.ledger_open.specs.Cutting.{first_gate, gate_behind}
+use Rattle.ledger_open.specs.Erasing.{ErasesOne, last_target, given_up}
+use Rattle.ledger_open.specs.Opening.{Known, Knows, GoesOn, HasFile}
 use Rattle.ledger_open.specs.Places.{after_at}
-use Rattle.ledger_open.specs.Standing.{ground, HasBlocks, Keeps, StandsBy, StandsFor, IsErased, IsClean, PairFor, IsCleanPair, floor_behind, hidden_before}
-use Rattle.ledger_open.proofs.AgainLaws.{flat, number_front, blocks_unique}
-use Rattle.ledger_open.proofs.ErasingLaws.{given_keeps, given_erased, given_same, given_alike}
-use Rattle.ledger_open.proofs.GrowLaws.{erased_stands}
-use Rattle.ledger_open.proofs.KnownLaws.{same_self, goes_on, all_kept_on, none_based}
-use Rattle.ledger_open.proofs.OpenLaws.{tail_is, taken_pair, stands_again, cut_has, cut_length}
-use Rattle.ledger_open.proofs.PartLaws.{stands_first, file_first, same_all}
-use Rattle.ledger_open.proofs.PlaceLaws.{places_kept, after_kept}
-use Rattle.ledger_open.proofs.SizeLaws.{mth_size}
+use Rattle.ledger_open.specs.Purging.{copied_file}
+use Rattle.ledger_open.specs.Standing.{Floor, floor_from, floor_behind, Parts, SameButHidden, StandsBy, StandsFor, IsClean, hidden_before, point_before}
+use Rattle.ledger_open.specs.declared.places.PlaceAt.{PlaceAt}
+use Rattle.ledger_open.proofs.ByteLaws.{copied_length, copied_shut}
+use Rattle.ledger_open.proofs.CopyLaws.{Halves, halves, same_count}
+use Rattle.ledger_open.proofs.ErasingLaws.{given_in_file, given_erased, given_same, given_alike, none_is, target_kept, zeros_outside}
+use Rattle.ledger_open.proofs.FinishedLaws.{ends_at, copy_clean}
+use Rattle.ledger_open.proofs.FinishLaws.{places_inside}
+use Rattle.ledger_open.proofs.FloorLaws.{floor_digests}
+use Rattle.ledger_open.proofs.GrowLaws.{erased_stands, erased_floor}
+use Rattle.ledger_open.proofs.HeadLaws.{stands_generation}
+use Rattle.ledger_open.proofs.OpenLaws.{tail_is, cut_has, cut_length}
+use Rattle.ledger_open.proofs.PartLaws.{one_parts, one_split, floor_few}
+use Rattle.ledger_open.proofs.PlaceLaws.{after_kept, tail_place}
+use Rattle.ledger_open.proofs.PlaceMoves.{after_behind, after_most, after_moved}
+use Rattle.ledger_open.proofs.SplitLaws as split
+use Rattle.ledger_open.proofs.StandLaws.{base_there, lower, rest, rest_taken}
+use Rattle.ledger_open.proofs.TargetLaws.{target_is}
+use Rattle.ledger_open.proofs.WholeLaws.{goes_on, floor_same, floor_there}
+use Rattle.ledger_open.proofs.WidthLaws.{spelling_fits}
 
--- every image has the blocks that the file had
-abbrev pub KeepsBlocks : State → State → Type 0
-KeepsBlocks old new =
-    (generation : ℕ) (bs : List (List Entry)) → HasBlocks ground generation bs old.seen → (image : List ℕ) → MayLeave new image → HasBlocks ground generation bs image
+-- ---- a file that was read
 
--- the generation of a file
-generation_here : (generation : ℕ) (bs : List (List Entry)) (file : List ℕ) → HasBlocks ground generation bs file → generation_of file ≡ generation
-generation_here generation bs file x =
-    ap generation_of (flat x.front (written_blocks (ground).root [] bs) file x.stands)
-    ∙ number_front 10 x.front (open_blocks (written_blocks (ground).root [] bs) ++ x.stands.gate ∷ x.stands.rest) (omega (arith, x.head.size)) ∙ x.head.generation_is
+module _ (k : Known) (start : Option Base) (blocks : List (List Entry)) (old : List ℕ) (knows : Knows k start blocks) (has : HasFile start blocks old) where
+  abbrev pub cut : List ℕ
+  cut = take (k.place + 1) old
 
--- how long a file is that has blocks of a history
-ends_at : (floor : ℕ) (gone : ℕ → Bool) (image : List ℕ) (h : History) (x : StandsBy floor gone image h) → floor ≡ 0 → length image ≡ after_at 64 h.closed + 1 + length x.keeps.file.stands.rest
-ends_at floor gone image h x at =
-    let y = file_first floor gone image h x at in
-    let written = written_blocks (ground).root [] x.keeps.blocks in
-    omega (
-      arith,
-      tail_is x.generation x.keeps.blocks image y,
-      after_kept (is_hidden h) gone 64 h.closed x.keeps.blocks (same_all floor gone image h x at),
-      ap length y.stands.is,
-      length-append (y.front ++ open_blocks written) (y.stands.gate ∷ y.stands.rest),
-    )
+  ends : tail_of has.1.front (written_blocks (floor_from start).root [] blocks) ≡ k.place
+  ends = tail_is start knows.base has.0 blocks old has.1 ∙ sym knows.tail
 
-module _ (k : Known) (ks : List (List Entry)) (old : List ℕ) (knows : Knows k None ks) (f : HasFile None ks old) where
-  tail : tail_of f.1.front (written_blocks (ground).root [] ks) ≡ k.place
-  tail = tail_is f.0 ks old f.1 ∙ sym knows.tail
+  -- whatever it stands for, it is cut behind its tail gate
+  pub cut_size : length cut ≡ k.place + 1
+  cut_size = cut_length (floor_from start) has.0 blocks old has.1 k.place ends
 
-  -- whatever the file stands for
-  pub opened_keeps : Keeps ground f.0 (is_hidden (history ks [])) (λ n. false) ks (given_up (history ks []) (take (k.place + 1) old)) × (length (given_up (history ks []) (take (k.place + 1) old)) ≡ k.place + 1)
-  opened_keeps =
-      let g = given_keeps f.0 (history ks []) (take (k.place + 1) old) knows.legal.journals_are refl
-      (record { blocks = ks; file = cut_has f.0 ks old f.1 k.place tail; same = same_self (is_hidden (history ks [])) ks }) in
-      (g.0, g.1 ∙ cut_length f.0 ks old f.1 k.place tail)
+  pub cut_shut : IsShutAt k.place cut
+  cut_shut =
+      let x = cut_has (floor_from start) has.0 blocks old has.1 k.place ends in
+      subst (λ (n : ℕ). IsShutAt n cut) (tail_is start knows.base has.0 blocks cut x ∙ sym knows.tail) (tail_shut x.front (written_blocks (floor_from start).root [] blocks) cut x.stands)
 
-  pub opened_kept : HasKept None ks (given_up (history ks []) (take (k.place + 1) old))
-  opened_kept = let x = (opened_keeps).0 in (x.blocks, (f.0, x.file), x.same)
+  -- .. and erasing leaves that gate
+  module _ (bytes : List ℕ) (one : ErasesOne k.places cut bytes) where
+    pub bytes_size : length bytes ≡ k.place + 1
+    bytes_size = by_case one where
+      by_case : ErasesOne k.places cut bytes → length bytes ≡ k.place + 1
+      by_case (inl same) = ap length same ∙ cut_size
+      by_case (inr (p, there, is)) =
+          let inside : p.content_at + p.content_len ≤ k.place = All-contains (λ (q : PlaceAt). q.content_at + q.content_len ≤ k.place) k.places p (places_inside k blocks knows) there in
+          ap length is ∙ (zeros_outside p.content_at p.content_len cut (omega (arith, inside, cut_size))).0.size ∙ cut_size
 
-  pub opened_generation : generation_of old ≡ generation_of (given_up (history ks []) (take (k.place + 1) old))
-  opened_generation = let x = (opened_keeps).0 in generation_here f.0 ks old f.1 ∙ sym (generation_here f.0 x.blocks (given_up (history ks []) (take (k.place + 1) old)) x.file)
+    pub bytes_shut : IsShutAt k.place bytes
+    bytes_shut = by_case one where
+      by_case : ErasesOne k.places cut bytes → IsShutAt k.place bytes
+      by_case (inl same) = subst (IsShutAt k.place) (sym same) cut_shut
+      by_case (inr (p, there, is)) =
+          let at = p.content_at + p.content_len in
+          let inside : at ≤ k.place = All-contains (λ (q : PlaceAt). q.content_at + q.content_len ≤ k.place) k.places p (places_inside k blocks knows) there in
+          let new = overlay p.content_at (replicate p.content_len 0) cut in
+          let out = (zeros_outside p.content_at p.content_len cut (omega (arith, inside, cut_size))).0 in
+          let split : k.place ≡ at + (k.place - at) = omega (arith, inside) in
+          let gate : get_or new k.place 0 ≡ get_or cut k.place 0 =
+          ap (λ (n : ℕ). get_or new n 0) split ∙ sym (get_or-drop at new (k.place - at) 0) ∙ ap (λ (l : List ℕ). get_or l (k.place - at) 0) out.after ∙ get_or-drop at cut (k.place - at) 0 ∙ ap (λ (n : ℕ). get_or cut n 0) (sym split) in
+          subst (IsShutAt k.place) (sym is) (omega (arith, out.size, cut_size), λ open_now. cut_shut.1 (sym gate ∙ open_now))
 
-  -- where it stands for a history
-  module _ (h : History) (x : StandsFor old h) where
-    on : GoesOn None ks h
-    on = goes_on old h f.0 ks x f.1
+    -- so does a copy
+    module _ (generation : ℕ) (base : List ℕ) (front behind : List (List Entry)) (are : blocks ≡ front ++ behind) where
+      abbrev gate : ℕ
+      gate = gate_behind (floor_from start) front
 
-    pub ends_as : EndsAs k.book k.places h
-    ends_as = record {
-      serves = knows.serves h on;
-      places_are = knows.places ∙ sym (places_kept (is_hidden h) (λ n. false) 64 h.closed ks (all_kept_on ks h on));
-      none = x.file.none;
-    }
+      place_is : 64 + length base + (k.place - gate) ≡ after_at (64 + length base) behind
+      place_is =
+          let tail : k.place ≡ after_at gate behind = knows.tail ∙ ap (gate_behind (floor_from start)) are ∙ after_behind (first_gate (floor_from start)) front behind in
+          omega (arith, tail, after_moved gate (64 + length base) behind, after_most 0 0 gate behind)
 
-    pub tail_at : k.place ≡ after_at 64 h.closed
-    tail_at = knows.tail ∙ sym (after_kept (is_hidden h) (λ n. false) 64 h.closed ks (all_kept_on ks h on))
+      inside : gate ≤ k.place
+      inside =
+          let tail : k.place ≡ after_at gate behind = knows.tail ∙ ap (gate_behind (floor_from start)) are ∙ after_behind (first_gate (floor_from start)) front behind in
+          omega (arith, tail, after_most 0 0 gate behind)
 
-    pub cut_stands : StandsFor (take (k.place + 1) old) h
+      pub copy_size : length (copied_file generation base gate k.place bytes) ≡ after_at (64 + length base) behind + 1
+      copy_size = omega (arith, copied_length generation gate k.place base bytes inside (omega (arith, bytes_size)), place_is)
+
+      pub copy_shut : IsShutAt (after_at (64 + length base) behind) (copied_file generation base gate k.place bytes)
+      copy_shut = subst (λ (n : ℕ). IsShutAt n (copied_file generation base gate k.place bytes)) place_is (copied_shut generation gate k.place base bytes inside (omega (arith, bytes_size)))
+
+  -- ---- .. and a history that it stands for
+
+  module _ (h : History) (s : StandsFor old h) where
+    abbrev x : StandsBy s.floor (hidden_before h) old h
+    x = s.file
+
+    abbrev from : Floor
+    from = floor_behind h x.parts.gone
+
+    pub on : GoesOn start blocks h
+    on = goes_on old h start blocks has.0 s knows.base has.1
+
+    floor_is : from ≡ floor_from start
+    floor_is = floor_same old h s start blocks has.0 knows.base has.1
+
+    first_is : s.floor ≡ (floor_from start).first
+    first_is = floor_there old h s start blocks has.0 knows.base has.1
+
+    -- the point is that of its blocks
+    pub point_known : point h ≡ greatest_point (journals_of blocks)
+    point_known = sym (point_is k.book h (knows.serves h on)) ∙ knows.point
+
+    -- they are what it has of the history
+    kept_same : SameButHidden (is_hidden h) (λ n. false) x.parts.kept blocks
+    kept_same =
+        subst (λ (bs : List (List Entry)). SameButHidden (is_hidden h) (λ n. false) bs blocks)
+        (one_parts (floor_from start).first h x.lawful.blocks_are on.parts (record { gone = x.parts.gone; kept = x.parts.kept; are = x.parts.are; at = x.parts.at ∙ first_is })).1 on.same
+
+    tail_at : k.place ≡ gate_behind from x.parts.kept
+    tail_at = knows.tail ∙ sym (after_kept (is_hidden h) (λ n. false) (first_gate (floor_from start)) x.parts.kept blocks kept_same) ∙ ap (λ (f : Floor). gate_behind f x.parts.kept) (sym floor_is)
+
+    -- .. however that falls into parts
+    gate_at : (p : ℕ) (y : Parts p h) → p ≡ s.floor → gate_behind (floor_behind h y.gone) y.kept ≡ k.place
+    gate_at p y at =
+        let one = one_parts s.floor h x.lawful.blocks_are (record { gone = y.gone; kept = y.kept; are = y.are; at = y.at ∙ at }) x.parts in
+        ap (λ (bs : List (List Entry)). gate_behind (floor_behind h bs) y.kept) one.0 ∙ ap (gate_behind from) one.1 ∙ sym tail_at
+
+    pub own_tail : tail_of x.keeps.file.front (written_blocks from.root [] x.keeps.blocks) ≡ k.place
+    own_tail =
+        tail_place from (floor_digests h x.parts.gone x.parts.kept x.parts.are) x.keeps.file.front (first_gate from) x.keeps.blocks x.keeps.file.lawful x.keeps.file.head.size
+        ∙ sym (after_kept (is_hidden h) (hidden_before h) (first_gate from) x.parts.kept x.keeps.blocks x.keeps.same) ∙ sym tail_at
+
+    -- cut, it stands for it too
+    abbrev pub cut_stands : StandsFor cut h
     cut_stands = record {
-      floor = x.floor;
-      begins = x.begins;
-      file = stands_again x.floor (hidden_before h) old (take (k.place + 1) old) h
-          (λ generation bs y.
-          let same : bs ≡ ks = (blocks_unique ground generation f.0 bs ks old mth_size y f.1).1 in
-          cut_has generation bs old y k.place (tail_is generation bs old y ∙ ap (after_at 64) same ∙ sym knows.tail))
-          (stands_first old h x) x.file;
+      floor = s.floor;
+      begins = s.begins;
+      file = record {
+        generation = x.generation;
+        parts = x.parts;
+        keeps = record { blocks = x.keeps.blocks; file = cut_has from x.generation x.keeps.blocks old x.keeps.file k.place own_tail; same = x.keeps.same };
+        early = x.early;
+        none = x.none;
+        lawful = x.lawful;
+        wide = x.wide;
+      };
     }
 
-    given_is : given_up (history ks []) (take (k.place + 1) old) ≡ given_up h (take (k.place + 1) old)
-    given_is = sym (given_alike (is_hidden h) (λ n. false) h (history ks []) (take (k.place + 1) old) (all_kept_on ks h on) x.file.none refl)
+    -- what the last of its blocks hides is what the last journal hides
+    given_is : (file : List ℕ) → given_up (floor_from start) blocks file ≡ given_up from x.parts.kept file
+    given_is file = ap (λ (f : Floor). given_up f blocks file) (sym floor_is) ∙ sym (given_alike from (is_hidden h) (λ n. false) x.parts.kept blocks file kept_same)
 
-    pub opened_erased : IsErased (given_up (history ks []) (take (k.place + 1) old)) h
-    opened_erased = subst (λ (l : List ℕ). IsErased l h) (sym given_is) (given_erased (take (k.place + 1) old) h cut_stands).0
+    -- where its blocks have no point behind its beginning, it is clean once that is given up
+    module _ (at : greatest_point (journals_of blocks) ≡ (floor_from start).first) where
+      at_point : s.floor ≡ point h
+      at_point = first_is ∙ sym at ∙ sym point_known
 
-    pub opened_clean : IsClean (given_up (history ks []) (take (k.place + 1) old)) h
-    opened_clean =
-        let e = opened_erased in
-        record { erased = e; ends = nil_from_length e.keeps.file.stands.rest (omega (arith, tail_at, (opened_keeps).1, ends_at (point h) (is_hidden h) (given_up (history ks []) (take (k.place + 1) old)) h e e.unpurged)) }
+      pub stays_clean : IsClean (given_up (floor_from start) blocks cut) h
+      stays_clean =
+          let g = given_erased cut h cut_stands at_point in
+          subst (λ (l : List ℕ). IsClean l h) (sym (given_is cut))
+          (record { erased = g.0; ends = nil_from_length g.0.keeps.file.stands.rest (omega (arith, g.1, cut_size, ends_at (point h) (is_hidden h) (given_in_file cut_stands.file cut) h g.0, gate_at (point h) g.0.parts (sym at_point))) })
 
-  -- a clean file ends with its tail gate
-  pub clean_size : (h : History) → IsClean old h → length old ≡ k.place + 1
-  clean_size h c =
-      let e = c.erased in
-      omega (arith, tail_at h (erased_stands old h e), ap length c.ends, ends_at (point h) (is_hidden h) old h e e.unpurged)
+    -- where they have one, the copy from there on is
+    module _ (before : (floor_from start).first < greatest_point (journals_of blocks)) where
+      under : s.floor < point h
+      under = omega (arith, first_is, point_known, before)
 
-  pub clean_whole : (h : History) → IsClean old h → take (k.place + 1) old ≡ old
-  clean_whole h c = take_all (k.place + 1) old (omega (arith, clean_size h c))
+      purge : point_before h ≢ point h
+      purge same = elim s.begins [ inl is ↦ omega (arith, is, under) | inr is ↦ omega (arith, is, same, under) ]
 
-  -- .. and is the same
-  pub opened_same : (h : History) → IsClean old h → given_up (history ks []) (take (k.place + 1) old) ≡ old
-  opened_same h c =
-      let e = c.erased in given_is h (erased_stands old h e) ∙ ap (given_up h) (clean_whole h c) ∙ given_same old h e
+      nothing : last_target h ≡ None
+      nothing = by_target (last_target h) refl where
+        by_target : (t : Option ℕ) → last_target h ≡ t → last_target h ≡ None
+        by_target None is = is
+        by_target (Some n) is = absurd (purge (sym (target_is h x.lawful.journals_are n is).point_is))
 
--- a file that ended with its tail gate does so once what it hides is given up
-pub given_clean : (old new : State) (h : History) (x : StandsFor old.seen h) → x.file.keeps.file.stands.rest ≡ [] → IsGivenUp old new h → IsClean new.seen h
-given_clean old new h x none g =
-    let e = g.erased in
-    record {
-      erased = e;
-      ends = nil_from_length e.keeps.file.stands.rest
-          (omega (arith, g.size, ap length none, ends_at x.floor (hidden_before h) old.seen h x.file (stands_first old.seen h x), ends_at (point h) (is_hidden h) new.seen h e e.unpurged));
-    }
+      none_given : given_up (floor_from start) blocks cut ≡ cut
+      none_given = given_is cut ∙ none_is from x.parts.kept cut (target_kept s.floor h x.none x.parts (floor_few old h s) ∙ nothing)
 
--- ---- a clean file isn't written
+      abbrev y : StandsBy s.floor (hidden_before h) cut h
+      y = cut_stands.file
 
--- nothing stands behind its tail gate
-pub clean_trim : (old mid new : State) (k : Known) (start : Option Base) (ks : List (List Entry)) → mid ≡ old → Knows k start ks → HasFile start ks old.seen → (length mid.seen ≡ k.place + 1 → new ≡ mid) → (h : History) → IsClean old.seen h → new ≡ old
-clean_trim old mid new k (Some b) ks same knows has idle h c = none_based knows
-clean_trim old mid new k None ks same knows has idle h c = idle (ap (λ (s : State). length s.seen) same ∙ clean_size k ks old.seen knows has h c) ∙ same
+      abbrev left_out : List (List Entry)
+      left_out = split.front h x.lawful x.none s.floor x.parts under
 
--- .. and all that is hidden is gone
-pub clean_erase : (old mid new : State) (k : Known) (start : Option Base) (ks : List (List Entry)) → Knows k start ks → HasFile start ks old.seen → mid ≡ settled_state (take (k.place + 1) old.seen) → LeavesErased k.book k.places mid new → IsSettled old
-    → (h : History) → IsClean old.seen h → new ≡ old
-clean_erase old mid new k (Some b) ks knows has is idle quiet h c = none_based knows
-clean_erase old mid new k None ks knows has is idle quiet h c =
-    let e = c.erased in
-    let same : mid ≡ old = is ∙ ap settled_state (clean_whole k ks old.seen knows has h c) ∙ sym quiet in
-    idle h (ends_as k ks old.seen knows has h (erased_stands old.seen h e)) (subst IsSettled (sym same) quiet) (subst (λ (s : State). IsErased s.seen h) (sym same) e) ∙ same
+      abbrev stays : List (List Entry)
+      stays = split.behind h x.lawful x.none s.floor x.parts under
 
--- a clean pair stands for its history
-pair_clean : (a b : List ℕ) (h : History) → IsCleanPair a b h → PairFor a b h
-pair_clean a b h c = record { in_a = c.in_a; stands = erased_stands (open_of c.in_a a b) h c.clean.erased; beside = inl c.empty }
+      two : Halves (is_hidden h) (λ n. false) left_out stays blocks
+      two = halves (is_hidden h) (λ n. false) left_out stays blocks (subst (λ (bs : List (List Entry)). SameButHidden (is_hidden h) (λ n. false) bs blocks) (split.kept_are h x.lawful x.none s.floor x.parts under) kept_same)
 
--- the file of a clean pair that is taken is the clean one
-pub clean_taken : (x : Bool) (a b : List ℕ) (h : History) → IsTaken x a b → (c : IsCleanPair a b h) → IsClean (choice x a b) h × (length (choice x b a) ≡ 0)
-clean_taken x a b h taken c = by x c.in_a c.clean c.empty (taken_pair x a b h taken (pair_clean a b h c)).1 where
-  some_bytes : (file : List ℕ) → IsClean file h → length file ≡ 0 → ⊥
-  some_bytes file f none =
-      let s = f.erased.keeps.file.stands in
-      omega (arith, none, ap length s.is, length-append (f.erased.keeps.file.front ++ open_blocks (written_blocks (floor_behind h f.erased.parts.gone).root [] f.erased.keeps.blocks)) (s.gate ∷ s.rest))
+      module _ (front behind : List (List Entry)) (base : Base) (are : blocks ≡ front ++ behind) (point_at : base.point ≡ greatest_point (journals_of blocks)) (at : (floor_from start).first + length (journals_of front) ≡ base.point) (based : base_of h base.point ≡ base) where
+        first_blocks : (bs cs : List (List Entry)) → blocks ≡ bs ++ cs → All IsBlock bs
+        first_blocks bs cs is = subst (All IsBlock) (ap (take (length bs)) is ∙ take_at bs cs (length bs) refl) (All-take IsBlock (length bs) blocks knows.legal.blocks_are)
 
-  by : (x y : Bool) → IsClean (open_of y a b) h → length (other_of y a b) ≡ 0 → length (choice x b a) ≡ 0 → IsClean (choice x a b) h × (length (choice x b a) ≡ 0)
-  by true true f none other = (f, none)
-  by false false f none other = (f, none)
-  by true false f none other = absurd (some_bytes b f other)
-  by false true f none other = absurd (some_bytes a f other)
+        same_front : front ≡ two.first
+        same_front =
+            (one_split front two.first behind two.second (first_blocks front behind are) (first_blocks two.first two.second two.are) (sym are ∙ two.are)
+            (omega (arith, at, point_at, point_known, first_is, split.front_at h x.lawful x.none s.floor x.parts under, same_count (is_hidden h) (λ n. false) left_out two.first two.one))).0
 
--- so neither file of a clean pair is written, where the taken one isn't and the other is empty
-pub clean_open : (x : Bool) (a b a_now b_now taken other : State) (h : History) → a_now ≡ a → b_now ≡ b → IsSettled a → IsSettled b → IsTaken x a_now.seen b_now.seen → IsCleanPair a.seen b.seen h
-    → (IsSettled (choice x a_now b_now) → (k : History) → IsClean (choice x a_now b_now).seen k → taken ≡ choice x a_now b_now) → ((choice x b_now a_now).seen ≡ [] → other ≡ choice x b_now a_now)
-    → (choice x taken other ≡ a) × (choice x other taken ≡ b)
-clean_open true a b a_now b_now taken other h ea eb qa qb t c stays idle =
-    let p = clean_taken true a_now.seen b_now.seen h t (subst (λ (s : State × State). IsCleanPair s.0.seen s.1.seen h) (λ i. (sym ea i, sym eb i)) c) in
-    (stays (subst IsSettled (sym ea) qa) h p.0 ∙ ea, idle (nil_from_length b_now.seen p.1) ∙ eb)
-clean_open false a b a_now b_now taken other h ea eb qa qb t c stays idle =
-    let p = clean_taken false a_now.seen b_now.seen h t (subst (λ (s : State × State). IsCleanPair s.0.seen s.1.seen h) (λ i. (sym ea i, sym eb i)) c) in
-    (idle (nil_from_length a_now.seen p.1) ∙ ea, stays (subst IsSettled (sym eb) qb) h p.0 ∙ eb)
+        gate_is : gate_behind (floor_from start) front ≡ gate_behind from left_out
+        gate_is =
+            ap (λ (f : Floor). gate_behind f front) (sym floor_is) ∙ ap (gate_behind from) same_front ∙ sym (after_kept (is_hidden h) (λ n. false) (first_gate from) left_out two.first two.one)
 
--- ---- each image
+        base_is : base ≡ base_of h (point h)
+        base_is = sym based ∙ ap (base_of h) (point_at ∙ sym point_known)
 
-pub same_still : (old new : State) → new ≡ old → IsSettled old → StandsStill old new
-same_still old new same quiet h x image left = subst (λ (l : List ℕ). StandsFor l h) (sym (settled_image old.seen image (subst (λ (s : State). MayLeave s image) (same ∙ quiet) left))) x
+        abbrev generation : ℕ
+        generation = next_generation (generation_of old)
 
-keeps_still : (old new : State) → KeepsBlocks old new → StandsStill old new
-keeps_still old new keeps h x image left = record {
-  floor = x.floor;
-  begins = x.begins;
-  file = stands_again x.floor (hidden_before h) old.seen image h (λ generation bs y. keeps generation bs y image left) (stands_first old.seen h x) x.file;
-}
+        next_is : generation ≡ x.generation + 1
+        next_is = omega (arith, stands_generation old h s, lower s.floor (hidden_before h) old h x under, size_few h x.lawful)
 
--- of a file that is being cut
-pub trim_still : (old mid new : State) (k : Known) (start : Option Base) (ks : List (List Entry)) → mid ≡ old → Knows k start ks → HasFile start ks old.seen
-    → (IsSettled mid → (front : List ℕ) (blocks : List (List ℕ)) → Stands front blocks mid.seen → tail_of front blocks ≡ k.place → (image : List ℕ) → MayLeave new image → Stands front blocks image)
-    → IsSettled old → StandsStill old new
-trim_still old mid new k (Some b) ks same knows has images quiet = none_based knows
-trim_still old mid new k None ks same knows has images quiet =
-    keeps_still old new (λ generation bs x image left.
-    let one = (blocks_unique ground has.0 generation ks bs old.seen mth_size has.1 x).1 in
-    let tail : tail_of x.front (written_blocks (ground).root [] bs) ≡ k.place = tail_is generation bs old.seen x ∙ ap (after_at 64) (sym one) ∙ sym knows.tail in
-    record {
-      front = x.front;
-      head = x.head;
-      lawful = x.lawful;
-      stands = images (subst IsSettled (sym same) quiet) x.front (written_blocks (ground).root [] bs) (subst (λ (s : State). Stands x.front (written_blocks (ground).root [] bs) s.seen) (sym same) x.stands) tail image left;
-    })
+        copy_is : copied_file generation (spelling base) (gate_behind (floor_from start) front) k.place cut ≡ whole_file (front_of 1 generation (spelling base)) (rest s.floor (hidden_before h) cut h y under)
+        copy_is =
+            ap (λ (n : ℕ). copied_file generation (spelling base) n k.place cut) gate_is ∙ ap (λ (n : ℕ). copied_file generation (spelling base) (gate_behind from left_out) n cut) tail_at
+            ∙ ap (λ (bs : List ℕ). (front_of 1 generation (spelling base) ++ bs) ++ 0 ∷ []) (rest_taken s.floor (hidden_before h) cut h y under)
 
--- .. and of one in which a content is being given up
-pub erase_still : (old mid new : State) (k : Known) (start : Option Base) (ks : List (List Entry)) → Knows k start ks → HasFile start ks old.seen → mid ≡ settled_state (take (k.place + 1) old.seen) → StandsMeanwhile k.book k.places mid new → StandsStill old new
-erase_still old mid new k (Some b) ks knows has is still = none_based knows
-erase_still old mid new k None ks knows has is still = λ h x image left.
-    let seen : mid.seen ≡ take (k.place + 1) old.seen = ap (λ (s : State). s.seen) is in
-    still h (ends_as k ks old.seen knows has h x) (is ∙ ap settled_state (sym seen)) (subst (λ (l : List ℕ). StandsFor l h) (sym seen) (cut_stands k ks old.seen knows has h x)) image left
+        pub moved_clean : IsClean (copied_file generation (spelling base) (gate_behind (floor_from start) front) k.place (given_up (floor_from start) blocks cut)) h
+        moved_clean =
+            let rules = base_there s.floor (hidden_before h) cut h y under in
+            let fits : length (spelling base) < 2 ^ 64 = subst (λ (b : Base). length (spelling b) < 2 ^ 64) (sym base_is) (spelling_fits (base_of h (point h)) rules.0 rules.1) in
+            subst (λ (l : List ℕ). IsClean (copied_file generation (spelling base) (gate_behind (floor_from start) front) k.place l) h) (sym none_given)
+            (subst (λ (l : List ℕ). IsClean l h) (sym copy_is)
+            (copy_clean s.floor cut h y under (spelling base) generation (ap spelling base_is) next_is (omega (arith, next_is, lower s.floor (hidden_before h) old h x under, size_few h x.lawful)) fits purge))
 
--- the same of what was read
-pub trimmed_is : (before read : ℕ) (old mid new : State) → before ≡ read → mid ≡ old → new ≡ settled_state (take (before + 1) mid.seen) → new ≡ settled_state (take (read + 1) old.seen)
-trimmed_is before read old mid new at same is = is ∙ ap (λ (s : State). settled_state (take (before + 1) s.seen)) same ∙ ap (λ (n : ℕ). settled_state (take (n + 1) old.seen)) at
+  -- ---- a clean one
+
+  module _ (h : History) (c : IsClean old h) where
+    abbrev clean_stands : StandsFor old h
+    clean_stands = erased_stands old h c.erased
+
+    clean_at : point h ≡ clean_stands.floor
+    clean_at = sym (erased_floor old h c.erased)
+
+    -- it begins at its blocks' point
+    pub clean_point : greatest_point (journals_of blocks) ≡ (floor_from start).first
+    clean_point = sym (point_known h clean_stands) ∙ clean_at ∙ first_is h clean_stands
+
+    -- .. ends with its tail gate
+    pub clean_size : length old ≡ k.place + 1
+    clean_size = omega (arith, ends_at (point h) (is_hidden h) old h c.erased, gate_at h clean_stands (point h) c.erased.parts clean_at, ap length c.ends)
+
+    clean_whole : cut ≡ old
+    clean_whole = take_all (k.place + 1) old (omega (arith, clean_size))
+
+    own_parts : (c.erased.parts.gone ≡ clean_stands.file.parts.gone) × (c.erased.parts.kept ≡ clean_stands.file.parts.kept)
+    own_parts =
+        let e = c.erased.parts in
+        one_parts clean_stands.floor h c.erased.lawful.blocks_are (record { gone = e.gone; kept = e.kept; are = e.are; at = e.at ∙ clean_at }) clean_stands.file.parts
+
+    -- .. and is the same once what its last journal hides is given up
+    pub clean_same : given_up (floor_from start) blocks cut ≡ old
+    clean_same =
+        ap (given_up (floor_from start) blocks) clean_whole ∙ given_is h clean_stands old
+        ∙ sym (ap (λ (bs : List (List Entry)). given_up (floor_behind h bs) c.erased.parts.kept old) own_parts.0 ∙ ap (λ (bs : List (List Entry)). given_up (floor_behind h clean_stands.file.parts.gone) bs old) own_parts.1)
+        ∙ given_same old h c.erased

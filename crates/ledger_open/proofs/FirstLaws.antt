@@ -16,27 +16,30 @@ use Rattle.block_file.specs.declared.block.RecordAt.{RecordAt}
 use Rattle.journal_record.specs.Blocks.{record_bytes, leaves_of}
 use Rattle.journal_record.specs.Entry.{Entry, content_digest_of}
 use Rattle.journal_record.specs.Header.{spelling}
-use Rattle.journal_record.specs.Records.{AreReadable}
+use Rattle.journal_record.specs.Records.{IsReadable, AreReadable}
 use Rattle.journal_record.specs.Rules.{IsHeader, jsn_ok, content_len_ok}
 use Rattle.journal_record.specs.declared.header.Header.{Header}
 use Rattle.journal_record.specs.declared.header.Kind.{Kind}
 use Rattle.journal_record.specs.declared.header.Kind.TheVariants as kind
+use Rattle.ledger_book.specs.Behind.{next_number, IsOwnBehind, AreBehind}
 use Rattle.ledger_book.specs.Books.{Kept, Serves}
+use Rattle.ledger_book.specs.Reading.{StandsBehind}
 use Rattle.ledger_book.specs.Replaying.{begun_with}
 use Rattle.ledger_bytes.specs.declared.digest.Digest.{Digest}
-use Rattle.ledger_model.specs.History.{history, journals_of}
+use Rattle.ledger_model.specs.History.{journals_of}
 use Rattle.ledger_model.specs.Lawful as lawful
-use Rattle.ledger_model.specs.Lawful.{IsNext, AreNext, IsLawful}
+use Rattle.pseudo_genesis.specs.declared.base.Base.{Base}
 use Rattle.ledger_open.specs.Damages.{IsNotNext, IsOtherRoot, Begun, IsReadTo, IsNextHere, IsDamage}
-use Rattle.ledger_open.specs.Opening.{known_from, Knows, HasRead, IsPlain, IsReadErr, as_open}
-use Rattle.ledger_open.specs.Places.{place_at, place_of_record, places_in, after_at, entry_at}
+use Rattle.ledger_open.specs.Opening.{known_from, HasTaken, HasRead, IsReadErr, as_open}
+use Rattle.ledger_open.specs.Places.{place_at, place_of_record, places_in, entry_at}
 use Rattle.ledger_open.specs.Standing.{ground}
+use Rattle.ledger_open.specs.Starts.{IsStart}
 use Rattle.ledger_open.specs.Taking.{Headed, IsBadBlock}
 use Rattle.ledger_open.specs.declared.places.PlaceAt.{PlaceAt}
-use Rattle.ledger_open.proofs.BegunLaws.{begun_none, begun_more}
-use Rattle.ledger_open.proofs.KnownLaws.{knows_whole}
+use Rattle.ledger_open.proofs.BegunLaws.{begun_start, readto_start, begun_more}
+use Rattle.ledger_open.proofs.GoesLaws.{first_goes}
 use Rattle.ledger_open.proofs.PlaceLaws.{AreHere, open_here}
-use Rattle.ledger_open.proofs.SizeLaws.{record_size}
+use Rattle.ledger_open.proofs.SizeLaws.{mth_size, record_size}
 
 -- ---- what was read of a block
 
@@ -56,7 +59,7 @@ layout_read at es block a r = subst (All (λ (r : RecordAt). IsHeader r.header))
 
 -- ---- journal 0
 
-genesis_first : (k : Kind) (jsn : ℕ) → IsTrue (jsn_ok k jsn) → jsn ≡ 0 → k ≡ kind.Genesis
+pub genesis_first : (k : Kind) (jsn : ℕ) → IsTrue (jsn_ok k jsn) → jsn ≡ 0 → k ≡ kind.Genesis
 genesis_first kind.Genesis jsn ok is = refl
 genesis_first kind.Content jsn ok is = let lt = ltb-true 0 jsn ok in absurd (omega (arith, lt, is))
 genesis_first kind.Member jsn ok is = let lt = ltb-true 0 jsn ok in absurd (omega (arith, lt, is))
@@ -67,19 +70,20 @@ genesis_first kind.Purge jsn ok is = let lt = ltb-true 0 jsn ok in absurd (omega
 pub genesis_of : (e : Entry) (es : List Entry) → AreBlock 0 (e ∷ es) → e.header.kind ≡ kind.Genesis
 genesis_of e es b = genesis_first e.header.kind e.header.jsn b.readable.0.rules.jsn b.begins
 
-pub first_next : (e : Entry) (es : List Entry) → AreBlock 0 (e ∷ es) → AreNext [] (e ∷ [])
+pub first_next : (e : Entry) (es : List Entry) → AreBlock 0 (e ∷ es) → AreBehind None [] (e ∷ [])
 first_next e es b = (
   record {
     layout = b.readable.0.rules;
     jsn = b.begins;
     below = omega (arith, b.begins);
-    own = subst (lawful.IsNextOf (history [] []) e.header) (sym (genesis_of e es b)) tt;
+    begins = tt;
+    own = subst (IsOwnBehind None [] e.header) (sym (genesis_of e es b)) tt;
   },
   tt,
 )
 
 -- a second journal beside it
-pub second_other : (es : List Entry) → AreBlock 0 es → 1 < length es → IsNotNext [] es 1
+pub second_other : (es : List Entry) → AreBlock 0 es → 1 < length es → IsNotNext None [] es 1
 second_other [] b more = absurd (omega (arith, more))
 second_other (e ∷ []) b more = absurd (omega (arith, more))
 second_other (e ∷ x ∷ es) b more = record {
@@ -98,7 +102,7 @@ unfolding root root_at
 root_one x = refl
 
 -- another root than that over its leaf
-pub first_root : (es : List Entry) (rs : List RecordAt) (first : RecordAt) (kept found : List ℕ) → AreBlock 0 es → Headed es rs → rs ≡ first ∷ [] → found ≡ leaf sha256 (spelling first.header) → found ≢ kept → IsOtherRoot [] es kept found
+pub first_root : (es : List Entry) (rs : List RecordAt) (first : RecordAt) (kept found : List ℕ) → AreBlock 0 es → Headed es rs → rs ≡ first ∷ [] → found ≡ leaf sha256 (spelling first.header) → found ≢ kept → IsOtherRoot None [] es kept found
 first_root [] rs first kept found b h one is other = absurd (omega (arith, b.some))
 first_root (e ∷ x ∷ es) rs first kept found b h one is other = absurd (omega (arith, ap length (h ∙ ap (map (λ (r : RecordAt). r.header)) one)))
 first_root (e ∷ []) rs first kept found b h one is other = record {
@@ -115,40 +119,37 @@ single (x ∷ y ∷ rs) r some most is = absurd (omega (arith, most))
 
 -- ---- why a file is read no further
 
-readto_none : (file : List ℕ) → IsPlain file → IsReadTo file [] 64
-readto_none file plain = record { begun = begun_none file plain; lawful = λ some. absurd (some refl) }
+pub none_read : (file : List ℕ) (at : ℕ) → at ≡ 64 → IsStart file None → get_or file at 0 ≢ 1 → IsDamage file (damages.Entry 0)
+none_read file at place s shut = inl (None, [], 64, refl, record { read = readto_start file None s; shut = (omega (arith, s.0.is_open.long), subst (λ (n : ℕ). get_or file n 0 ≢ 1) place shut); early = refl })
 
-pub none_read : (file : List ℕ) (at : ℕ) → at ≡ 64 → IsPlain file → get_or file at 0 ≢ 1 → IsDamage file (damages.Entry 0)
-none_read file at place plain shut = inl (refl, readto_none file plain, subst (λ (n : ℕ). get_or file n 0 ≢ 1) place shut)
+pub err_read : (file : List ℕ) (start : Option Base) (ks : List (List Entry)) (at : ℕ) (e : FileErr) → IsReadTo file start ks at → IsBlockErr at file (next_number start (journals_of ks)) e → IsReadErr file (as_open e)
+err_read file start ks at files.DiskFault r why = tt
+err_read file start ks at files.NoMemory r why = tt
+err_read file start ks at (files.NewerFormat found) r why = absurd why
+err_read file start ks at (files.Damaged damages.Magic) r (gate, inl why) = absurd why
+err_read file start ks at (files.Damaged damages.Magic) r (gate, inr why) = absurd why.1
+err_read file start ks at (files.Damaged (damages.BaseForm place)) r (gate, inl why) = absurd why
+err_read file start ks at (files.Damaged (damages.BaseForm place)) r (gate, inr why) = absurd why.1
+err_read file start ks at (files.Damaged (damages.Base kept found)) r (gate, inl why) = absurd why
+err_read file start ks at (files.Damaged (damages.Base kept found)) r (gate, inr why) = absurd why.1
+err_read file start ks at (files.Damaged (damages.Length place kept found)) r why = (start, ks, at, record { read = r; why = why })
+err_read file start ks at (files.Damaged (damages.Entry jsn)) r why = inr (inl (start, ks, at, record { read = r; why = why }))
+err_read file start ks at (files.Damaged (damages.Root block kept found)) r (gate, inl why) = absurd why
+err_read file start ks at (files.Damaged (damages.Root block kept found)) r (gate, inr why) = absurd why.1
+err_read file start ks at (files.Damaged (damages.Content jsn kept found)) r (gate, inl why) = absurd why
+err_read file start ks at (files.Damaged (damages.Content jsn kept found)) r (gate, inr why) = absurd why.1
 
-pub err_read : (file : List ℕ) (ks : List (List Entry)) (at : ℕ) (e : FileErr) → IsReadTo file ks at → IsBlockErr at file (length (journals_of ks)) e → IsReadErr file (as_open e)
-err_read file ks at files.DiskFault r why = tt
-err_read file ks at files.NoMemory r why = tt
-err_read file ks at (files.NewerFormat found) r why = absurd why
-err_read file ks at (files.Damaged damages.Magic) r (gate, inl why) = absurd why
-err_read file ks at (files.Damaged damages.Magic) r (gate, inr why) = absurd why.1
-err_read file ks at (files.Damaged (damages.BaseForm place)) r (gate, inl why) = absurd why
-err_read file ks at (files.Damaged (damages.BaseForm place)) r (gate, inr why) = absurd why.1
-err_read file ks at (files.Damaged (damages.Base kept found)) r (gate, inl why) = absurd why
-err_read file ks at (files.Damaged (damages.Base kept found)) r (gate, inr why) = absurd why.1
-err_read file ks at (files.Damaged (damages.Length place kept found)) r why = (ks, at, record { read = r; why = why })
-err_read file ks at (files.Damaged (damages.Entry jsn)) r why = inr (inl (ks, at, record { read = r; why = why }))
-err_read file ks at (files.Damaged (damages.Root block kept found)) r (gate, inl why) = absurd why
-err_read file ks at (files.Damaged (damages.Root block kept found)) r (gate, inr why) = absurd why.1
-err_read file ks at (files.Damaged (damages.Content jsn kept found)) r (gate, inl why) = absurd why
-err_read file ks at (files.Damaged (damages.Content jsn kept found)) r (gate, inr why) = absurd why.1
+pub first_err : (file : List ℕ) (at : ℕ) (e : FileErr) → at ≡ 64 → IsStart file None → IsBlockErr at file 0 e → IsReadErr file (as_open e)
+first_err file at e place s why = err_read file None [] 64 e (readto_start file None s) (subst (λ (n : ℕ). IsBlockErr n file 0 e) place why)
 
-pub first_err : (file : List ℕ) (at : ℕ) (e : FileErr) → at ≡ 64 → IsPlain file → IsBlockErr at file 0 e → IsReadErr file (as_open e)
-first_err file at e place plain why = err_read file [] 64 e (readto_none file plain) (subst (λ (n : ℕ). IsBlockErr n file 0 e) place why)
-
-pub bad_read : (file : List ℕ) (ks : List (List Entry)) (at : ℕ) (root : List ℕ) (es : List Entry) (damage : Damage) → IsNextHere file ks at root es → IsBadBlock ks es root damage → IsDamage file damage
-bad_read file ks at root es damages.Magic n bad = bad
-bad_read file ks at root es (damages.BaseForm place) n bad = absurd bad
-bad_read file ks at root es (damages.Base kept found) n bad = absurd bad
-bad_read file ks at root es (damages.Length place kept found) n bad = absurd bad
-bad_read file ks at root es (damages.Entry jsn) n bad = inr (inr (ks, at, root, es, n, bad))
-bad_read file ks at root es (damages.Root block kept found) n bad = (ks, at, es, bad.0, subst (λ (r : List ℕ). IsNextHere file ks at r es) (sym bad.1) n, bad.2)
-bad_read file ks at root es (damages.Content jsn kept found) n bad = absurd bad
+pub bad_read : (file : List ℕ) (start : Option Base) (ks : List (List Entry)) (at : ℕ) (root : List ℕ) (es : List Entry) (damage : Damage) → IsNextHere file start ks at root es → IsBadBlock start ks es root damage → IsDamage file damage
+bad_read file start ks at root es damages.Magic n bad = bad
+bad_read file start ks at root es (damages.BaseForm place) n bad = absurd bad
+bad_read file start ks at root es (damages.Base kept found) n bad = absurd bad
+bad_read file start ks at root es (damages.Length place kept found) n bad = absurd bad
+bad_read file start ks at root es (damages.Entry jsn) n bad = inr (inr (start, ks, at, root, es, n, bad))
+bad_read file start ks at root es (damages.Root block kept found) n bad = (start, ks, at, es, bad.0, subst (λ (r : List ℕ). IsNextHere file start ks at r es) (sym bad.1) n, bad.2)
+bad_read file start ks at root es (damages.Content jsn kept found) n bad = absurd bad
 
 -- ---- the first block where it stands
 
@@ -163,11 +164,11 @@ first_here file at found block place is answer =
     let r = subst (λ (n : ℕ). IsNextBlock n file 0 (Ok (Some block))) place (subst (λ (o : Option BlockAt). IsNextBlock at file 0 (Ok o)) is answer) in
     record { es = r.0; are = r.1; read = r.2; stands = r.3 }
 
-next_here : (file : List ℕ) (block : BlockAt) → IsPlain file → (f : FirstHere file block) → IsNextHere file [] 64 block.root.0 f.es
-next_here file block plain f = record { read = readto_none file plain; are = f.are; stands = f.stands }
+next_here : (file : List ℕ) (block : BlockAt) → IsStart file None → (f : FirstHere file block) → IsNextHere file None [] 64 block.root.0 f.es
+next_here file block s f = record { read = readto_start file None s; are = f.are; stands = f.stands }
 
-pub first_bad : (file : List ℕ) (block : BlockAt) (damage : Damage) → IsPlain file → (f : FirstHere file block) → ((es : List Entry) → AreBlock 0 es → Headed es block.records → IsBadBlock [] es block.root.0 damage) → IsDamage file damage
-first_bad file block damage plain f bad = bad_read file [] 64 block.root.0 f.es damage (next_here file block plain f) (bad f.es f.are (headed_read 64 f.es block f.read))
+pub first_bad : (file : List ℕ) (block : BlockAt) (damage : Damage) → IsStart file None → (f : FirstHere file block) → ((es : List Entry) → AreBlock 0 es → Headed es block.records → IsBadBlock None [] es block.root.0 damage) → IsDamage file damage
+first_bad file block damage plain f bad = bad_read file None [] 64 block.root.0 f.es damage (next_here file block plain f) (bad f.es f.are (headed_read 64 f.es block f.read))
 
 -- journal 0, of which there is this record
 record IsSingle (es : List Entry) (first : RecordAt) : Type 0 where
@@ -190,7 +191,7 @@ content_here file root e b o =
     let one : entry_at file e.header (place_at 109 e) ≡ e = whole.0 in
     ap (λ (n : ℕ). take n (drop 287 file)) (sym (keys_len e [] b)) ∙ ap (λ (x : Entry). x.content) one
 
-pub other_content : (file : List ℕ) (block : BlockAt) (first : RecordAt) (found : Digest) → IsPlain file → (f : FirstHere file block) → block.records ≡ first ∷ [] → block.root.0 ≡ leaf sha256 (spelling first.header)
+pub other_content : (file : List ℕ) (block : BlockAt) (first : RecordAt) (found : Digest) → IsStart file None → (f : FirstHere file block) → block.records ≡ first ∷ [] → block.root.0 ≡ leaf sha256 (spelling first.header)
     → found.0 ≢ first.header.content_digest.0 → found.0 ≡ content_digest_of (take 64 (drop first.content_at file)) → IsDamage file (damages.Content 0 first.header.content_digest found)
 other_content file block first found plain f one root_is other is =
     let s = single_of f.es block first f.are.some f.read one in
@@ -218,40 +219,51 @@ with_content content e = record { header = e.header; content = content; who = e.
 
 module _ (block : BlockAt) (first : RecordAt) (content : List ℕ) (book : Kept) (places : List PlaceAt) (place : ℕ)
     (one : block.records ≡ first ∷ []) (size : length content ≡ 64) (listed : places ≡ place_of_record first ∷ []) (tail : place ≡ 65 + block.len)
-    (serves : (j : Entry) → j.header ≡ first.header → j.content ≡ content → Serves book (begun_with j)) where
-  first_known : (e : Entry) → AreBlock 0 (e ∷ []) → IsRead 64 (e ∷ []) block → first ≡ record_at 109 e → Knows (known_from book places place) None ((with_content content e ∷ []) ∷ [])
-  first_known e b r at =
-      let s = serves (with_content content e) (ap (λ (x : RecordAt). x.header) (sym at)) refl in
-      let behind : place ≡ after_at 64 ((with_content content e ∷ []) ∷ []) = omega (arith, tail, r.len, record_size e b.readable.0, length-append (record_bytes e) []) in
-      knows_whole (known_from book places place) ((with_content content e ∷ []) ∷ [])
-      (record { some = omega arith; most = omega arith; entries = (record { jsn = b.begins; rules = b.readable.0.rules; widths = b.readable.0.widths; content = size ∙ sym (keys_len e [] b); who = b.readable.0.who }, tt) }, tt)
-      (record {
-        journals_are = s.stands.lawful;
-        blocks_are = All-cons lawful.IsBlock (with_content content e ∷ []) [] (record { some = omega arith; most = omega arith; gathered = λ more. absurd (more refl) }) (All-nil lawful.IsBlock);
-        waiting_is = record { room = omega arith; gathered = refl };
-      }) s (listed ∙ ap (λ (x : RecordAt). place_of_record x ∷ []) at) behind
+    (begun : (j : Entry) → j.header ≡ first.header → j.content ≡ content → Serves book (begun_with j) × StandsBehind book None (j ∷ [])) where
+  first_taken : (e : Entry) → AreBlock 0 (e ∷ []) → IsRead 64 (e ∷ []) block → first ≡ record_at 109 e → HasTaken (known_from book places place) None ((with_content content e ∷ []) ∷ [])
+  first_taken e b r at =
+      let both = begun (with_content content e) (ap (λ (x : RecordAt). x.header) (sym at)) refl in
+      let s = both.0 in
+      record {
+        legal = record {
+          next = first_next (with_content content e) [] (record { some = b.some; most = b.most; readable = (with_readable, tt); begins = b.begins });
+          blocks_are = All-cons lawful.IsBlock (with_content content e ∷ []) [] (record { some = omega arith; most = omega arith; gathered = λ more. absurd (more refl) }) (All-nil lawful.IsBlock);
+          founded = s.stands.lawful.founded;
+        };
+        lawful = (record { some = omega arith; most = omega arith; entries = (record { jsn = b.begins; rules = b.readable.0.rules; widths = b.readable.0.widths; content = size ∙ sym (keys_len e [] b); who = b.readable.0.who }, tt) }, tt);
+        goes = first_goes book (with_content content e) s both.1;
+        places = listed ∙ ap (λ (x : RecordAt). place_of_record x ∷ []) at;
+        tail = omega (arith, tail, r.len, record_size e b.readable.0, length-append (record_bytes e) []);
+        settled = omega (arith, s.stands.counts.size, s.stands.counts.sealed_is);
+      }
+    where
+      with_readable : IsReadable (with_content content e)
+      with_readable = record { rules = b.readable.0.rules; widths = b.readable.0.widths; content = size ∙ sym (keys_len e [] b); who = b.readable.0.who }
 
-  pub first_read : (tells : Bool) (file : List ℕ) → (es : List Entry) × AreBlock 0 es × IsRead 64 es block → (IsTrue tells → FirstHere file block) → (IsTrue tells → content ≡ take 64 (drop first.content_at file))
+  pub first_read : (tells : Bool) (file : List ℕ) → (es : List Entry) × AreBlock 0 es × IsRead 64 es block → (IsTrue tells → IsStart file None) → (IsTrue tells → FirstHere file block) → (IsTrue tells → content ≡ take 64 (drop first.content_at file))
       → block.root.0 ≡ leaf sha256 (spelling first.header) → HasRead tells file (known_from book places place)
-  first_read false file read here told root_is =
+  first_read false file read start here told root_is =
       let s = single_of read.0 block first read.1.some read.2 one in
-      record { start = None; blocks = (with_content content s.entry ∷ []) ∷ []; knows = first_known s.entry (subst (AreBlock 0) s.is read.1) (subst (λ (l : List Entry). IsRead 64 l block) s.is read.2) s.place; begun = λ t. absurd (true≢false (sym t)) }
-  first_read true file read here told root_is =
+      record { start = None; blocks = (with_content content s.entry ∷ []) ∷ []; taken = first_taken s.entry (subst (AreBlock 0) s.is read.1) (subst (λ (l : List Entry). IsRead 64 l block) s.is read.2) s.place; begun = λ t. absurd (true≢false (sym t)) }
+  first_read true file read start here told root_is =
       let f = here refl in
       let s = single_of f.es block first f.are.some f.read one in
       let b = subst (AreBlock 0) s.is f.are in
       let o = subst (λ (l : List Entry). IsOpenBlock 64 block.root.0 l file) s.is f.stands in
-      let k = first_known s.entry b (subst (λ (l : List Entry). IsRead 64 l block) s.is f.read) s.place in
+      let k = first_taken s.entry b (subst (λ (l : List Entry). IsRead 64 l block) s.is f.read) s.place in
       let same : with_content content s.entry ≡ s.entry =
       ap (λ (c : List ℕ). with_content c s.entry) (told refl ∙ ap (λ (n : ℕ). take 64 (drop n file)) (ap (λ (r : RecordAt). r.content_at) s.place) ∙ content_here file block.root.0 s.entry b o) in
       record {
         start = None;
         blocks = (with_content content s.entry ∷ []) ∷ [];
-        knows = k;
-        begun = λ t plain.
-            subst (Begun ground file ((with_content content s.entry ∷ []) ∷ [])) (sym k.tail)
-            (begun_more file [] 64 block.root.0 (with_content content s.entry ∷ []) (begun_none file plain) (subst (λ (x : Entry). IsOpenBlock 64 block.root.0 (x ∷ []) file) (sym same) o)
-            (root_is ∙ ap (λ (r : RecordAt). leaf sha256 (spelling r.header)) s.place ∙ sym (root_one (spelling s.entry.header))) (k.lawful.0));
+        taken = k;
+        begun = λ t. record {
+          begins = start refl;
+          begun = subst (Begun ground file ((with_content content s.entry ∷ []) ∷ [])) (sym k.tail)
+              (begun_more ground mth_size file [] 64 block.root.0 (with_content content s.entry ∷ []) (begun_start file None (start refl)) (subst (λ (x : Entry). IsOpenBlock 64 block.root.0 (x ∷ []) file) (sym same) o)
+              (root_is ∙ ap (λ (r : RecordAt). leaf sha256 (spelling r.header)) s.place ∙ sym (root_one (spelling s.entry.header))) (k.lawful.0));
+          legal = λ some. k.legal;
+        };
       }
 
 -- what is said of the value of an option

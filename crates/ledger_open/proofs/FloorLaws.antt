@@ -1,8 +1,7 @@
 -- The root of a file that begins behind a base is that over all journals of its history.
-use Rattle.std.proofs.Common.{◌≡◌, List, [], ◌∷◌, ◌++◌, length, map, take, refl, sym, ◌∙◌, ap, append_assoc}
-use Rattle.std.proofs.lemmas.List.{map-append, length-map, take_at}
-use Rattle.std.proofs.lemmas.List.Concat.{flat_map-append}
-use Rattle.std.specs.Prelude.{ℕ}
+use Rattle.std.proofs.Common.{◌≡◌, List, [], ◌∷◌, ◌++◌, length, map, take, refl, sym, ◌∙◌, ap}
+use Rattle.std.proofs.lemmas.List.{map-append, length-map}
+use Rattle.std.specs.Prelude.{ℕ, ◌<◌, ◌≤◌}
 use Rattle.sha2.specs.Sha256.{sha256}
 use Rattle.tree_model.specs.Tree.{mth, root, leaf}
 use Rattle.tree_model.specs.Peaks.{peaks}
@@ -12,25 +11,10 @@ use Rattle.ledger_bytes.specs.Digests.{digest}
 use Rattle.ledger_bytes.specs.declared.digest.Digest.{Digest}
 use Rattle.journal_record.specs.Blocks.{leaves_of}
 use Rattle.journal_record.specs.Entry.{Entry}
-use Rattle.ledger_model.specs.History.{History, journals, journals_of, leaf_digest}
-use Rattle.ledger_open.specs.Standing.{floor_behind}
+use Rattle.ledger_model.specs.History.{History, history, journals, journals_of, size, leaf_digest}
+use Rattle.ledger_model.proofs.BaseLaws.{digests, front_digests, base_kept}
+use Rattle.ledger_open.specs.Standing.{floor_of, floor_behind}
 use Rattle.ledger_open.proofs.SizeLaws.{GivesDigests, mth_size}
-
--- the journals of a history of which the first blocks are these
-journals_split : (h : History) (gone rest : List (List Entry)) → h.closed ≡ gone ++ rest → journals h ≡ journals_of gone ++ (journals_of rest ++ h.waiting)
-journals_split h gone rest are =
-    ap (λ (bs : List (List Entry)). journals_of bs ++ h.waiting) are ∙ ap (λ (js : List Entry). js ++ h.waiting) (flat_map-append (λ (b : List Entry). b) gone rest)
-    ∙ append_assoc (journals_of gone) (journals_of rest) h.waiting
-
-abbrev digests : List Entry → List (List ℕ)
-digests js = map leaf_digest js
-
--- the leaf digests of the first blocks
-front_digests : (h : History) (gone rest : List (List Entry)) → h.closed ≡ gone ++ rest → take (length (journals_of gone)) (map leaf_digest (journals h)) ≡ digests (journals_of gone)
-front_digests h gone rest are =
-    ap (λ (js : List Entry). take (length (journals_of gone)) (map leaf_digest js)) (journals_split h gone rest are)
-    ∙ ap (take (length (journals_of gone))) (map-append leaf_digest (journals_of gone) (journals_of rest ++ h.waiting))
-    ∙ take_at (digests (journals_of gone)) (map leaf_digest (journals_of rest ++ h.waiting)) (length (journals_of gone)) (length-map (journals_of gone) leaf_digest)
 
 -- digests are told as their bytes
 bytes_again : (xs : List (List ℕ)) → map (λ (d : Digest). d.0) (map digest xs) ≡ xs
@@ -40,6 +24,16 @@ bytes_again (x ∷ xs) = ap (λ (l : List (List ℕ)). x ∷ l) (bytes_again xs)
 leaves_again : (js : List Entry) → digests js ≡ map (leaf sha256) (leaves_of js)
 leaves_again [] = refl
 leaves_again (j ∷ js) = ap (λ (l : List (List ℕ)). leaf_digest j ∷ l) (leaves_again js)
+
+-- the first journal behind some blocks
+pub floor_first : (h : History) (gone : List (List Entry)) → (floor_behind h gone).first ≡ length (journals_of gone)
+floor_first h [] = refl
+floor_first h (b ∷ bs) = refl
+
+-- a block more leaves it as it is
+pub floor_kept : (h : History) (b : List Entry) → h.waiting ≡ [] → 1 ≤ length b → (gone : List (List Entry)) → length (journals_of gone) ≤ size h → 0 < size h → floor_behind (history (h.closed ++ b ∷ []) []) gone ≡ floor_behind h gone
+floor_kept h b none one [] le some = refl
+floor_kept h b none one (g ∷ gs) le some = ap floor_of (base_kept h b none one (length (journals_of (g ∷ gs))) le some)
 
 -- the root behind a base is that over all journals
 pub floor_root : (h : History) (gone rest : List (List Entry)) → h.closed ≡ gone ++ rest → (xs : List (List ℕ)) → (floor_behind h gone).root xs ≡ mth sha256 (leaves_of (journals_of gone) ++ xs)

@@ -4,7 +4,7 @@ use Rattle.std.proofs.lemmas.Bool.{true≢false}
 use Rattle.sha2.proofs.Facts256.{length-sha256}
 use Rattle.journal_record.specs.Entry.{Entry}
 use Rattle.ledger_model.specs.Genesis.{genesis_header, genesis_journal, new_ledger}
-use Rattle.ledger_model.specs.History.{point, size}
+use Rattle.ledger_model.specs.History.{point, size, root}
 use Rattle.ledger_model.specs.Targets.{is_hidden}
 use Rattle.ledger_model.specs.declared.genesis.Genesis.{Genesis}
 use Rattle.journal_record.specs.Blocks.{IsEntry, written_blocks, body_of, block_bytes, leaves_of}
@@ -17,7 +17,11 @@ use Rattle.std.proofs.lemmas.List.Elements.{All-nil}
 use Rattle.std.proofs.lemmas.List.Sums.{sum_by-cons}
 use Rattle.journal_record.specs.Header.{HasWidths, spelling}
 use Rattle.journal_record.specs.Records.{AreReadable}
-use Rattle.ledger_book.specs.Books.{Kept, Stands, Serves}
+use Rattle.ledger_book.specs.Books.{Kept, Stands, Serves, sealed_size}
+use Rattle.ledger_open.proofs.SeenLaws.{all_ground}
+use Rattle.sha2.specs.Sha256.{sha256}
+use Rattle.tree_model.specs.Tree.{mth}
+use Rattle.ledger_open.specs.Starts.{AreLegal}
 use Rattle.ledger_book.specs.Seals.{head_of}
 use Rattle.ledger_model.specs.History.{History}
 use Rattle.merkle_tree.specs.declared.head.Head.{Head}
@@ -33,7 +37,6 @@ use Rattle.ledger_open.proofs.GrowLaws.{erased_stands}
 use Rattle.ledger_open.proofs.KnownLaws.{knows_whole}
 use Rattle.ledger_open.proofs.PartLaws.{early_at, sides_pair}
 use Rattle.ledger_open.proofs.SizeLaws.{body_size, block_size, mth_size}
-use Rattle.ledger_open.proofs.TakeLaws.{root_is}
 use Rattle.twin_file.proofs.HeadLaws.{tail_size}
 use Rattle.std.proofs.lemmas.List.{drop_all}
 use Rattle.ledger_model.proofs.KeepLaws.{founded_lawful}
@@ -98,7 +101,6 @@ module _ (genesis : Genesis) (operator : length genesis.operator.0 ≡ 32) (regu
     erased = record {
       generation = 1;
       parts = record { gone = []; kept = (new_ledger genesis).closed; are = refl; at = sym floor_is };
-      unpurged = floor_is;
       keeps = record {
         blocks = blocks;
         file = record {
@@ -147,16 +149,22 @@ module _ (genesis : Genesis) (operator : length genesis.operator.0 ≡ 32) (regu
   pub first_block_size : (root : List ℕ) → length root ≡ 32 → length (block_bytes root (genesis_journal genesis ∷ [])) ≡ 286
   first_block_size root size = block_size root (genesis_journal genesis ∷ []) size block_readable ∙ ap (λ (n : ℕ). 44 + n) len_is
 
-  pub first_knows : (book : Kept) (places : List PlaceAt) → Serves book (new_ledger genesis) → places ≡ record { content_at = 287; who_at = 351; content_len = 64; who_len = 0 } ∷ []
+  pub first_knows : (book : Kept) (places : List PlaceAt) → Serves book (new_ledger genesis) → book.floor ≡ 0 → places ≡ record { content_at = 287; who_at = 351; content_len = 64; who_len = 0 } ∷ []
       → Knows (known_from book places 351) None (new_ledger genesis).closed
   unfolding genesis_header
-  first_knows book places serves listed =
+  first_knows book places serves floor listed =
       let tail : 351 ≡ after_at 64 blocks = omega (arith, len_is) in
-      knows_whole (known_from book places 351) blocks (record { some = omega arith; most = omega arith; entries = (entry_is, tt) }, tt) (founded_lawful genesis) serves listed tail
+      let lawful = founded_lawful genesis in
+      let legal : AreLegal None blocks = record { next = all_ground (genesis_journal genesis ∷ []) lawful.journals_are; blocks_are = lawful.blocks_are; founded = lawful.journals_are.founded } in
+      knows_whole (known_from book places 351) blocks (record { some = omega arith; most = omega arith; entries = (entry_is, tt) }, tt) legal serves floor listed tail
 
 -- the root of block 0
+root_first : (genesis : Genesis) → root (new_ledger genesis) (sealed_size (new_ledger genesis)) ≡ mth sha256 (leaves_of (genesis_journal genesis ∷ []))
+unfolding root
+root_first genesis = refl
+
 pub first_root_is : (book : Kept) (head : Head) (genesis : Genesis) → Serves book (new_ledger genesis) → ((h : History) → Stands book h → head ≡ head_of h) → head.root.0 ≡ (ground).root (leaves_of (genesis_journal genesis ∷ []))
-first_root_is book head genesis serves is = ap (λ (x : Head). x.root.0) (is (new_ledger genesis) serves.stands) ∙ root_is [] (genesis_journal genesis ∷ [])
+first_root_is book head genesis serves is = ap (λ (x : Head). x.root.0) (is (new_ledger genesis) serves.stands) ∙ root_first genesis
 
 -- what a crash may leave of a new ledger
 pub made_images : (genesis : Genesis) (block image_a image_b : List ℕ) → HasKeys genesis → block ≡ block_bytes ((ground).root (leaves_of (genesis_journal genesis ∷ []))) (genesis_journal genesis ∷ []) → IsMadeOrShut block image_a image_b → IsFoundedOrShut genesis image_a image_b

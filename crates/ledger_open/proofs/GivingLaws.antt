@@ -16,7 +16,7 @@ use Rattle.ledger_open.proofs.AgainLaws.{flat}
 use Rattle.ledger_open.specs.Standing.{Floor, HasBlocks, AreZeros, IsKept, AllKept, SameButHidden, Keeps}
 use Rattle.ledger_open.proofs.SizeLaws.{GivesDigests}
 use Rattle.ledger_open.proofs.KeptLaws.{all_kept, header_map_same}
-use Rattle.ledger_open.proofs.HoleLaws.{record_places, places_from, lengths_of, contents_of, with_content, put_in, put, Hole, hole_read, hole_outside, blocks_hole, put_here, put_behind, put_below, put_above, from_put}
+use Rattle.ledger_open.proofs.HoleLaws.{record_places, content_places, lengths_of, contents_of, with_content, put_in, put, Hole, hole_read, hole_outside, blocks_hole, put_here, put_behind, put_below, put_above, from_put}
 use Rattle.ledger_open.proofs.HidingLaws.{from_blocks}
 
 -- places and lengths are those of what is kept
@@ -31,15 +31,15 @@ record_places_kept hid gone at (e ∷ es) (f ∷ fs) a =
       omega (arith, same, more.1, sum_by-cons record_len e es, sum_by-cons record_len f fs),
     )
 
-pub places_kept : (hid gone : ℕ → Bool) (at : ℕ) (bs cs : List (List Entry)) → SameButHidden hid gone bs cs → places_from at bs ≡ places_from at cs
+pub places_kept : (hid gone : ℕ → Bool) (at : ℕ) (bs cs : List (List Entry)) → SameButHidden hid gone bs cs → content_places at bs ≡ content_places at cs
 places_kept hid gone at [] [] s = refl
 places_kept hid gone at [] (c ∷ cs) s = absurd s
 places_kept hid gone at (b ∷ bs) [] s = absurd s
 places_kept hid gone at (b ∷ bs) (c ∷ cs) s =
     let one = record_places_kept hid gone (at + 45) b c s.0 in
-    ap (λ (l : List ℕ). l ++ places_from (at + 45 + sum_by record_len b) bs) one.0
+    ap (λ (l : List ℕ). l ++ content_places (at + 45 + sum_by record_len b) bs) one.0
     ∙ ap (λ (l : List ℕ). record_places (at + 45) c ++ l) (places_kept hid gone (at + 45 + sum_by record_len b) bs cs s.1)
-    ∙ ap (λ (n : ℕ). record_places (at + 45) c ++ places_from (at + 45 + n) cs) one.1
+    ∙ ap (λ (n : ℕ). record_places (at + 45) c ++ content_places (at + 45 + n) cs) one.1
 
 pub lengths_kept : (hid gone : ℕ → Bool) (bs cs : List (List Entry)) → SameButHidden hid gone bs cs → lengths_of (journals_of bs) ≡ lengths_of (journals_of cs)
 lengths_kept hid gone bs cs s = header_map_same hid gone (λ (h : Header). h.content_len) (journals_of bs) (journals_of cs) (all_kept hid gone bs cs s)
@@ -143,7 +143,7 @@ blocks_put n m i c (b ∷ bs) a is lt size =
 -- the bytes of a file that keeps blocks, with a hole for a content
 module _ (floor : Floor) (digests : GivesDigests floor.root) (generation : ℕ) (blocks : List (List Entry)) (image : List ℕ) (x : HasBlocks floor generation blocks image) (n i : ℕ) (is : n ≡ floor.first + i) (lt : i < length (journals_of blocks)) where
   abbrev place : ℕ
-  place = get_or (places_from (64 + length floor.base) blocks) i 0
+  place = get_or (content_places (64 + length floor.base) blocks) i 0
 
   abbrev len : ℕ
   len = get_or (lengths_of (journals_of blocks)) i 0
@@ -199,7 +199,7 @@ contents_gone hid gone n m (suc j) (x ∷ xs) (y ∷ ys) a f is lt z = contents_
 -- a file that keeps blocks of a history: all by places of the history
 module _ (floor : Floor) (digests : GivesDigests floor.root) (generation : ℕ) (hid gone : ℕ → Bool) (bs : List (List Entry)) (image : List ℕ) (x : Keeps floor generation hid gone bs image) (n i : ℕ) (is : n ≡ floor.first + i) (lt : i < length (journals_of bs)) where
   abbrev at : ℕ
-  at = get_or (places_from (64 + length floor.base) bs) i 0
+  at = get_or (content_places (64 + length floor.base) bs) i 0
 
   abbrev size_at : ℕ
   size_at = get_or (lengths_of (journals_of bs)) i 0
@@ -207,7 +207,7 @@ module _ (floor : Floor) (digests : GivesDigests floor.root) (generation : ℕ) 
   there : i < length (journals_of x.blocks)
   there = omega (arith, lt, count_kept hid gone bs x.blocks x.same)
 
-  at_is : get_or (places_from (64 + length floor.base) x.blocks) i 0 ≡ at
+  at_is : get_or (content_places (64 + length floor.base) x.blocks) i 0 ≡ at
   at_is = ap (λ (l : List ℕ). get_or l i 0) (sym (places_kept hid gone (64 + length floor.base) bs x.blocks x.same))
 
   size_is : get_or (lengths_of (journals_of x.blocks)) i 0 ≡ size_at
@@ -215,11 +215,11 @@ module _ (floor : Floor) (digests : GivesDigests floor.root) (generation : ℕ) 
 
   read_is : take size_at (drop at image) ≡ get_or (contents_of (journals_of x.blocks)) i []
   read_is =
-      sym (ap (λ (k : ℕ). take k (drop (get_or (places_from (64 + length floor.base) x.blocks) i 0) image)) size_is ∙ ap (λ (k : ℕ). take size_at (drop k image)) at_is)
+      sym (ap (λ (k : ℕ). take k (drop (get_or (content_places (64 + length floor.base) x.blocks) i 0) image)) size_is ∙ ap (λ (k : ℕ). take size_at (drop k image)) at_is)
       ∙ own_read floor digests generation x.blocks image x.file n i is there
 
   pub within : at + size_at ≤ length image
-  within = subst (λ (k : ℕ). k + size_at ≤ length image) at_is (subst (λ (k : ℕ). get_or (places_from (64 + length floor.base) x.blocks) i 0 + k ≤ length image) size_is (own_within floor digests generation x.blocks image x.file n i is there))
+  within = subst (λ (k : ℕ). k + size_at ≤ length image) at_is (subst (λ (k : ℕ). get_or (content_places (64 + length floor.base) x.blocks) i 0 + k ≤ length image) size_is (own_within floor digests generation x.blocks image x.file n i is there))
 
   -- What is read at a journal's place is its content, where that isn't hidden ..
   pub shown_read : hid n ≡ false → take size_at (drop at image) ≡ get_or (contents_of (journals_of bs)) i []
@@ -236,8 +236,8 @@ module _ (floor : Floor) (digests : GivesDigests floor.root) (generation : ℕ) 
   given_up gone′ new hides out zeroed = record {
     blocks = put n (take size_at (drop at new)) x.blocks;
     file = subst (λ (c : List ℕ). HasBlocks floor generation (put n c x.blocks) new)
-        (ap (λ (k : ℕ). take k (drop (get_or (places_from (64 + length floor.base) x.blocks) i 0) new)) size_is ∙ ap (λ (k : ℕ). take size_at (drop k new)) at_is)
+        (ap (λ (k : ℕ). take k (drop (get_or (content_places (64 + length floor.base) x.blocks) i 0) new)) size_is ∙ ap (λ (k : ℕ). take size_at (drop k new)) at_is)
         (changed floor digests generation x.blocks image x.file n i is there new
-        (subst (λ (k : ℕ). Outside (get_or (places_from (64 + length floor.base) x.blocks) i 0) k image new) (sym size_is) (subst (λ (k : ℕ). Outside k size_at image new) (sym at_is) out)));
+        (subst (λ (k : ℕ). Outside (get_or (content_places (64 + length floor.base) x.blocks) i 0) k image new) (sym size_is) (subst (λ (k : ℕ). Outside k size_at image new) (sym at_is) out)));
     same = same_put hid gone gone′ n (take size_at (drop at new)) hides zeroed bs x.blocks x.same;
   }

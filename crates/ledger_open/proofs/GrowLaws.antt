@@ -1,57 +1,37 @@
--- What a file stands for, when it is read, when a block is added, and when a hidden content is given up.
+-- What a file stands for when it is read, and when a block is added.
 use Rattle.std.specs.List.{list_any, list_all}
-use Rattle.std.specs.Prelude.{◌==◌, slice_get}
-use Rattle.std.proofs.Common.{◌≡◌, ◌≢◌, inl, ℕ, zero, suc, ◌+◌, ◌-◌, ◌≤◌, Bool, true, false, ◌&&◌, ◌||◌, List, [], ◌∷◌, ◌++◌, length, map, take, Option, Some, refl, sym, ◌∙◌, ap, subst, arith, append_assoc, append-nil, length-append}
+use Rattle.std.specs.Prelude.{◌==◌, cond, max, slice_get}
+use Rattle.std.proofs.Common.{◌≡◌, ◌≢◌, ◌⊎◌, inl, inr, ℕ, zero, suc, ◌+◌, ◌-◌, ◌≤◌, Bool, true, false, ◌&&◌, ◌||◌, List, [], ◌∷◌, ◌++◌, length, take, drop, Option, refl, sym, ◌∙◌, ap, subst, arith, append_assoc, append-nil, length-append}
 use Rattle.std.proofs.lemmas.Bool.{eqb-true, eq-eqb, true≢false, and_parts}
-use Rattle.std.proofs.lemmas.List.Elements.{All-nil, All-push}
+use Rattle.std.proofs.lemmas.List.{map-append, take-append-drop}
+use Rattle.std.proofs.lemmas.List.Elements.{All-push}
 use Rattle.std.proofs.lemmas.Option.{slice_get_past}
+use Rattle.block_file.specs.File.{Stands}
+use Rattle.journal_record.specs.Blocks.{block_bytes, leaves_of, AreFrom, IsBlock, AreBlocks, written_blocks}
+use Rattle.journal_record.specs.Entry.{Entry}
+use Rattle.journal_record.specs.Header.{spelling}
 use Rattle.journal_record.specs.declared.header.Kind.{Kind}
 use Rattle.journal_record.specs.declared.header.Kind.TheVariants.{Genesis, Content, Member, Time, Occult, Purge}
+use Rattle.ledger_model.specs.History.{History, history, journals_of, journals, size, point, greatest_point, is_purge}
 use Rattle.ledger_model.specs.Lawful as lawful
 use Rattle.ledger_model.specs.Lawful.{AreNext, gathers, AllGather, IsFounded, IsLawful}
-use Rattle.std.proofs.lemmas.List.{map-append}
-use Rattle.journal_record.specs.Entry.{Entry}
-use Rattle.journal_record.specs.Header.{HasWidths, spelling}
-use Rattle.journal_record.specs.declared.header.Header.{Header}
-use Rattle.ledger_model.specs.History.{History, history, journals_of, journals, size, point}
-use Rattle.ledger_model.proofs.LawfulLaws.{hide_none}
 use Rattle.ledger_model.specs.Targets.{is_occult, hides, is_hidden_by, is_hidden}
-use Rattle.journal_record.specs.Blocks.{block_bytes, leaves_of, AreFrom, IsBlock, AreBlocks, written_blocks}
-use Rattle.block_file.specs.File.{Stands}
+use Rattle.ledger_model.proofs.BaseLaws.{more_journals}
+use Rattle.ledger_model.proofs.HideLaws.{named_before}
+use Rattle.ledger_model.proofs.LawfulLaws.{hide_none, lawful_from, some_journal, two_points}
 use Rattle.ledger_open.specs.Growing.{HasBlockMore}
-use Rattle.ledger_open.specs.Standing.{Floor, ground, HasBlocks, AllKept, SameButHidden, hidden_before, StandsFor, IsErased, Alike, StandsBy, Reads}
-use Rattle.ledger_open.proofs.SizeLaws.{mth_size}
-use Rattle.ledger_open.proofs.AgainLaws.{blocks_unique}
-use Rattle.ledger_open.proofs.KeptLaws.{all_kept, same_more, same_weaker, header_map_same, same_alike}
-use Rattle.ledger_open.proofs.PartLaws.{whole_parts, same_all, stands_first, stands_whole, floor_none, file_first, early_at, early_most}
-use Rattle.ledger_open.proofs.HidingLaws.{from_blocks, none_above, hidden_among, kept_hide, journals_closed, journals_push, hidden_by, hidden_push, before_push, before_hidden}
-
--- Histories that one image has agree but for hidden contents.
-one_history : (floor floor′ : ℕ) (gone gone′ : ℕ → Bool) (image : List ℕ) (h k : History) → StandsBy floor gone image h → StandsBy floor′ gone′ image k → floor ≡ 0 → floor′ ≡ 0 → Alike h k
-one_history floor floor′ gone gone′ image h k x y at at′ =
-    let kept = same_all floor gone image h x at in
-    let same = (blocks_unique ground x.generation y.generation x.keeps.blocks y.keeps.blocks image mth_size (file_first floor gone image h x at) (file_first floor′ gone′ image k y at′)).1 in
-    let there : SameButHidden (is_hidden k) gone′ k.closed x.keeps.blocks = subst (λ (bs : List (List Entry)). SameButHidden (is_hidden k) gone′ k.closed bs) (sym same) (same_all floor′ gone′ image k y at′) in
-    let hide : (n : ℕ) → is_hidden h n ≡ is_hidden k n = λ n. hidden_by (is_hidden h) gone h x.keeps.blocks n x.none kept ∙ sym (hidden_by (is_hidden k) gone′ k x.keeps.blocks n y.none there) in
-    record {
-      floor = 0;
-      begins = inl (sym x.unpurged);
-      first = whole_parts h;
-      second = whole_parts k;
-      base = λ some. absurd (some refl);
-      blocks = same_alike (is_hidden h) gone gone′ h.closed k.closed x.keeps.blocks kept
-          (same_weaker (is_hidden k) gone′ (is_hidden h) gone′ (λ n s. sym (hide n) ∙ s) (λ n z. z) k.closed x.keeps.blocks there);
-    }
-
-pub one_image : (image : List ℕ) (h k : History) → StandsFor image h → StandsFor image k → Alike h k
-one_image image h k s t = one_history s.floor t.floor (hidden_before h) (hidden_before k) image h k s.file t.file (stands_first image h s) (stands_first image k t)
+use Rattle.ledger_open.specs.Standing.{Floor, floor_behind, HasBlocks, AllKept, SameButHidden, hidden_before, point_before, StandsFor, IsErased, StandsBy, Reads}
+use Rattle.ledger_open.proofs.FloorLaws.{floor_first, floor_kept}
+use Rattle.ledger_open.proofs.HidingLaws.{hidden_among, journals_closed, hidden_push, take_over, before_push, before_hidden}
+use Rattle.ledger_open.proofs.KeptLaws.{all_kept, same_more, same_weaker}
+use Rattle.ledger_open.proofs.LikeLaws.{count_kept}
+use Rattle.ledger_open.proofs.PartLaws.{size_parts, stands_whole, early_most}
 
 -- an image that has a history with more zeros has it with fewer
 pub stands_weaker : (floor : ℕ) (gone gone′ : ℕ → Bool) (image : List ℕ) (h : History) → ((n : ℕ) → gone′ n ≡ true → gone n ≡ true) → StandsBy floor gone image h → StandsBy floor gone′ image h
 stands_weaker floor gone gone′ image h fewer x = record {
   generation = x.generation;
   parts = x.parts;
-  unpurged = x.unpurged;
   keeps = record {
     blocks = x.keeps.blocks;
     file = x.keeps.file;
@@ -70,9 +50,14 @@ reads gone image h x = stands_weaker (point h) gone (λ n. false) image h (λ n 
 pub erased_stands : (image : List ℕ) (h : History) → IsErased image h → StandsFor image h
 erased_stands image h x = record { floor = point h; begins = inl refl; file = stands_weaker (point h) (is_hidden h) (hidden_before h) image h (λ n z. before_hidden h n z) x }
 
--- an image is clean where the last journal hides nothing new
-pub stands_erased : (image : List ℕ) (h : History) → StandsFor image h → ((n : ℕ) → is_hidden h n ≡ true → hidden_before h n ≡ true) → IsErased image h
-stands_erased image h x old = stands_weaker (point h) (hidden_before h) (is_hidden h) image h old (stands_whole image h x)
+-- .. from the point on
+pub erased_floor : (image : List ℕ) (h : History) (x : IsErased image h) → (erased_stands image h x).floor ≡ point h
+unfolding erased_stands
+erased_floor image h x = refl
+
+-- an image that begins at the point is clean where the last journal hides nothing new
+pub stands_erased : (image : List ℕ) (h : History) (x : StandsFor image h) → x.floor ≡ point h → ((n : ℕ) → is_hidden h n ≡ true → hidden_before h n ≡ true) → IsErased image h
+stands_erased image h x at old = stands_weaker (point h) (hidden_before h) (is_hidden h) image h old (stands_whole image h x at)
 
 -- the leaves of more blocks
 leaves_from : (seen : List (List ℕ)) (b : List Entry) (bs : List (List Entry)) → (seen ++ leaves_of b) ++ leaves_of (journals_of bs) ≡ seen ++ leaves_of (journals_of (b ∷ bs))
@@ -132,6 +117,26 @@ hides_last target b alone = elim (length b == 1) as (λ v. (length b == 1) ≡ v
   | false ↦ λ is. all_shows target (length b - 1) b (alone (λ one. let no : ⊥ = true≢false (sym (eq-eqb (length b) 1 one) ∙ is) in no))
 ] refl
 
+-- ---- points
+
+gathers_none : (k : Kind) (a : ℕ) → gathers k ≡ true → cond (is_purge k) a 0 ≡ 0
+gathers_none Genesis a g = refl
+gathers_none Content a g = refl
+gathers_none Member a g = refl
+gathers_none Time a g = refl
+gathers_none Occult a g = refl
+gathers_none Purge a g = absurd (true≢false (sym g))
+
+-- journals that gather purge nothing
+no_points : (es : List Entry) → AllGather es → greatest_point es ≡ 0
+no_points [] g = refl
+no_points (e ∷ es) g =
+    let both = and_parts (gathers e.header.kind) (list_all (λ (x : Entry). gathers x.header.kind) es) g in
+    let here = gathers_none e.header.kind e.header.a both.0 in
+    omega (arith, two_points (e ∷ []) es, ap (λ n. max 0 n) here, no_points es both.1)
+
+-- ---- a block more
+
 founded_more : (es fs : List Entry) → IsFounded es → IsFounded (es ++ fs)
 founded_more [] fs f = absurd f
 founded_more (e ∷ es) fs f = f
@@ -140,41 +145,34 @@ pub next_more : (before es fs : List Entry) → AreNext before es → AreNext (b
 next_more before [] fs a b = subst (λ (l : List Entry). AreNext l fs) (append-nil before) b
 next_more before (e ∷ es) fs a b = (a.0, next_more (before ++ e ∷ []) es fs a.1 (subst (λ (l : List Entry). AreNext l fs) (sym (append_assoc before (e ∷ []) es)) b))
 
-module _ (image new : List ℕ) (h : History) (b : List Entry) (x : IsErased image h) (bb : IsBlock (size h) b) (alone : lawful.IsBlock b) (next : AreNext (journals h) b) (floor : point (history (h.closed ++ b ∷ []) []) ≡ 0) where
+module _ (image new : List ℕ) (h : History) (b : List Entry) (x : IsErased image h) (bb : IsBlock (size h) b) (alone : lawful.IsBlock b) (next : AreNext (journals h) b) where
   rule : (target : Option Entry) → is_hidden_by (take (length b - 1) b) target ≡ false
   rule target = hide_none (take (length b - 1) b) target (λ t. hides_last t b alone.gathered)
 
-  lawful_then : IsLawful (history (h.closed ++ b ∷ []) [])
+  abbrev more : History
+  more = history (h.closed ++ b ∷ []) []
+
+  joined : journals more ≡ journals h ++ b
+  joined = more_journals h b x.none bb.some
+
+  lawful_then : IsLawful more
   lawful_then = record {
     journals_are = record {
-      next = subst (λ (l : List Entry). AreNext [] l) (ap (λ (l : List Entry). l ++ b) (journals_closed h x.none) ∙ sym (journals_push h.closed b)) (next_more [] (journals h) b x.lawful.journals_are.next next);
-      founded = subst IsFounded (ap (λ (l : List Entry). l ++ b) (journals_closed h x.none) ∙ sym (journals_push h.closed b)) (founded_more (journals h) b x.lawful.journals_are.founded);
+      next = subst (AreNext []) (sym joined) (next_more [] (journals h) b x.lawful.journals_are.next next);
+      founded = subst IsFounded (sym joined) (founded_more (journals h) b x.lawful.journals_are.founded);
     };
     blocks_are = All-push lawful.IsBlock h.closed b x.lawful.blocks_are alone;
     waiting_is = record { room = omega arith; gathered = refl };
   }
 
-  abbrev more : History
-  more = history (h.closed ++ b ∷ []) []
-
-  all_same : SameButHidden (is_hidden h) (is_hidden h) h.closed x.keeps.blocks
-  all_same = same_all (point h) (is_hidden h) image h x x.unpurged
-
-  file : HasBlocks ground x.generation x.keeps.blocks image
-  file = file_first (point h) (is_hidden h) image h x x.unpurged
-
-  count : size h ≡ length (journals_of x.keeps.blocks)
-  count = ap length (journals_closed h x.none) ∙ sym (length-map (journals_of h.closed)) ∙ ap length (header_map_same (is_hidden h) (is_hidden h) (λ (y : Header). y.jsn) (journals_of h.closed) (journals_of x.keeps.blocks) (all_kept (is_hidden h) (is_hidden h) h.closed x.keeps.blocks all_same)) ∙ length-map (journals_of x.keeps.blocks) where
-    length-map : (es : List Entry) → length (map (λ (e : Entry). e.header.jsn) es) ≡ length es
-    length-map es = Rattle.std.proofs.lemmas.List.length-map es (λ (e : Entry). e.header.jsn)
+  -- ---- what is hidden
 
   abbrev target : ℕ → Option Entry
   target n = slice_get (journals_of h.closed ++ b) n
 
   none_later : (t : Entry) → size h ≤ t.header.jsn → list_any (hides t) (journals_of h.closed) ≡ false
   none_later t le =
-      kept_hide (is_hidden h) (is_hidden h) (Some t) (journals_of h.closed) (journals_of x.keeps.blocks) (all_kept (is_hidden h) (is_hidden h) h.closed x.keeps.blocks all_same)
-      ∙ none_above 0 t (journals_of x.keeps.blocks) (from_blocks 0 x.keeps.blocks file.lawful) (omega (arith, le, count))
+      ap (list_any (hides t)) (sym (journals_closed h x.none)) ∙ named_before 0 t.header.jsn (journals h) (lawful_from (journals h) x.lawful.journals_are) (omega (arith, le))
 
   old : (n : ℕ) → is_hidden_by (journals_of h.closed) (target n) ≡ is_hidden h n
   old n =
@@ -196,43 +194,83 @@ module _ (image new : List ℕ) (h : History) (b : List Entry) (x : IsErased ima
   none_new : (n : ℕ) → size h ≤ n → is_hidden h n ≡ false
   none_new n le = ap (is_hidden_by (journals h)) (slice_get_past (journals h) n le)
 
-  same_then : SameButHidden (is_hidden more) (hidden_before more) (h.closed ++ b ∷ []) (x.keeps.blocks ++ b ∷ [])
+  same_then : SameButHidden (is_hidden more) (hidden_before more) (x.parts.kept ++ b ∷ []) (x.keeps.blocks ++ b ∷ [])
   same_then =
-      same_more (is_hidden more) (hidden_before more) h.closed x.keeps.blocks b b
-      (same_weaker (is_hidden h) (is_hidden h) (is_hidden more) (hidden_before more) new_hidden (λ n z. sym (new_before n) ∙ z) h.closed x.keeps.blocks all_same)
+      same_more (is_hidden more) (hidden_before more) x.parts.kept x.keeps.blocks b b
+      (same_weaker (is_hidden h) (is_hidden h) (is_hidden more) (hidden_before more) new_hidden (λ n z. sym (new_before n) ∙ z) x.parts.kept x.keeps.blocks x.keeps.same)
       (all_self (is_hidden more) (hidden_before more) (size h) b bb.entries (λ n le. new_before n ∙ none_new n le))
 
-  -- A block more behind a clean file: the image stands for the history with the block, where at most its last journal hides another.
-  pub grows_first : Stands x.keeps.file.front (written_blocks (ground).root [] x.keeps.blocks ++ block_bytes ((ground).root (leaves_of (journals_of x.keeps.blocks) ++ leaves_of b)) b ∷ []) new → StandsFor new more
-  grows_first stands = record {
-    floor = point more;
-    begins = inl refl;
-    file = record {
-      generation = x.generation;
-      parts = record { gone = []; kept = more.closed; are = refl; at = sym floor };
-      unpurged = floor;
-      keeps = record {
-        blocks = x.keeps.blocks ++ b ∷ [];
-        file = file_more ground x.generation x.keeps.blocks b image new (file_first (point h) (is_hidden h) image h x x.unpurged) (subst (λ (m : ℕ). IsBlock m b) (omega (arith, count)) bb) stands;
-        same = same_then;
-      };
-      early = early_at (point more) (point more) x.generation (size more) refl
-          (omega (arith, early_most (point h == point h) x.generation (size h) x.early, ap length (journals_push h.closed b), ap length (journals_closed h x.none), length-append (journals_of h.closed) b));
-      none = refl;
-      lawful = lawful_then;
-      wide = record { headers = All-nil (λ (e : Entry). HasWidths e.header); founders = tt };
-    };
-  }
+  -- ---- where the file begins
 
-  -- .. behind whatever floor the file has
+  count : length (journals_of x.keeps.blocks) ≡ length (journals_of x.parts.kept)
+  count = sym (count_kept (is_hidden h) (is_hidden h) (journals_of x.parts.kept) (journals_of x.keeps.blocks) (all_kept (is_hidden h) (is_hidden h) x.parts.kept x.keeps.blocks x.keeps.same))
+
+  number : (floor_behind h x.parts.gone).first + length (journals_of x.keeps.blocks) ≡ size h
+  number = omega (arith, floor_first h x.parts.gone, x.parts.at, count, size_parts (point h) h x.none x.parts)
+
+  new_point : point more ≡ max (point h) (greatest_point b)
+  unfolding point
+  new_point = ap greatest_point joined ∙ two_points (journals h) b
+
+  before_is : point_before more ≡ max (point h) (greatest_point (take (length b - 1) b))
+  unfolding point
+  before_is =
+      let less : size more - 1 ≡ length (journals h) + (length b - 1) = omega (arith, bb.some, ap length joined, length-append (journals h) b) in
+      ap (λ n. greatest_point (take n (journals more))) less ∙ ap (λ (l : List Entry). greatest_point (take (length (journals h) + (length b - 1)) l)) joined
+      ∙ ap greatest_point (take_over (journals h) b (length b - 1)) ∙ two_points (journals h) (take (length b - 1) b)
+
+  -- which is the point, or the point before a purge
+  pub begins : (point h ≡ point more) ⊎ (point h ≡ point_before more)
+  begins = elim (length b == 1) as (λ v. (length b == 1) ≡ v → (point h ≡ point more) ⊎ (point h ≡ point_before more)) [
+    | true ↦ λ is.
+        let less : length b - 1 ≡ 0 = omega (arith, eqb-true (length b) 1 is) in
+        inr (sym (before_is ∙ ap (λ n. max (point h) (greatest_point (take n b))) less ∙ omega arith))
+    | false ↦ λ is.
+        let none = no_points b (alone.gathered (λ one. let no : ⊥ = true≢false (sym (eq-eqb (length b) 1 one) ∙ is) in no)) in
+        inl (omega (arith, new_point, none))
+  ] refl
+
+  early_then : x.generation + cond (point h == point more) 0 1 ≤ size more
+  early_then =
+      let before = early_most (point h == point h) x.generation (size h) x.early in
+      omega (arith, bb.some, ap length joined, length-append (journals h) b, before, most (point h == point more)) where
+        most : (v : Bool) → cond v 0 1 ≤ 1
+        most true = omega arith
+        most false = omega arith
+
+  floor_same : floor_behind more x.parts.gone ≡ floor_behind h x.parts.gone
+  floor_same = floor_kept h b x.none bb.some x.parts.gone (omega (arith, x.parts.at, size_parts (point h) h x.none x.parts)) (omega (arith, some_journal (journals h) x.lawful.journals_are))
+
+  -- A block more behind a file of which all is gone that was purged or is hidden: the image has the history with the block from
+  -- where it began on, and only what the last journal hides may stand in it still.
+  pub grown : HasBlockMore x.keeps.file b new → StandsBy (point h) (hidden_before more) new more
+  grown stands =
+      let floor = floor_behind h x.parts.gone in
+      let has : HasBlocks (floor_behind h x.parts.gone) x.generation (x.keeps.blocks ++ b ∷ []) new =
+      file_more (floor_behind h x.parts.gone) x.generation x.keeps.blocks b image new x.keeps.file (subst (λ (m : ℕ). IsBlock m b) (sym number) bb) stands in
+      record {
+        generation = x.generation;
+        parts = record { gone = x.parts.gone; kept = x.parts.kept ++ b ∷ []; are = ap (λ (l : List (List Entry)). l ++ b ∷ []) x.parts.are ∙ append_assoc x.parts.gone x.parts.kept (b ∷ []); at = x.parts.at };
+        keeps = record { blocks = x.keeps.blocks ++ b ∷ []; file = subst (λ (f : Floor). HasBlocks f x.generation (x.keeps.blocks ++ b ∷ []) new) (sym floor_same) has; same = same_then };
+        early = early_then;
+        none = refl;
+        lawful = lawful_then;
+        wide = x.wide;
+      }
+
+  -- .. so it stands for it
   pub grows : HasBlockMore x.keeps.file b new → StandsFor new more
-  grows stands = grows_first
-      (subst (λ (f : Floor). Stands x.keeps.file.front (written_blocks f.root [] x.keeps.blocks ++ block_bytes (f.root (leaves_of (journals_of x.keeps.blocks) ++ leaves_of b)) b ∷ []) new)
-      (floor_none (point h) (is_hidden h) image h x x.unpurged) stands)
+  grows stands = record { floor = point h; begins = begins; file = grown stands }
 
-  -- .. and it is clean, where no journal of the block hides another
-  pub grows_erased : ((target : Entry) → list_any (hides target) b ≡ false) → StandsFor new more → IsErased new more
-  grows_erased none y = stands_erased new more y (λ n t. new_before n ∙ shown n t) where
+  at_point : point more ≡ point h → (floor : ℕ) → (floor ≡ point more) ⊎ (floor ≡ point_before more) → floor ≡ point more
+  at_point same floor (inl at) = at
+  at_point same floor (inr at) = at ∙ omega (arith, same, before_is, new_point, parts) where
+    parts : greatest_point b ≡ max (greatest_point (take (length b - 1) b)) (greatest_point (drop (length b - 1) b))
+    parts = ap greatest_point (sym (take-append-drop (length b - 1) b)) ∙ two_points (take (length b - 1) b) (drop (length b - 1) b)
+
+  -- .. and it is clean, where no journal of the block hides another or purges
+  pub grows_erased : ((target : Entry) → list_any (hides target) b ≡ false) → point more ≡ point h → StandsFor new more → IsErased new more
+  grows_erased none same y = stands_erased new more y (at_point same y.floor y.begins) (λ n t. new_before n ∙ shown n t) where
     shown : (n : ℕ) → is_hidden more n ≡ true → is_hidden h n ≡ true
     shown n t = sym (old n) ∙ right_none (is_hidden_by (journals_of h.closed) (target n)) (is_hidden_by b (target n)) (hide_none b (target n) none) (sym (hidden_push h.closed b n) ∙ t) where
       right_none : (v w : Bool) → w ≡ false → (v || w) ≡ true → v ≡ true

@@ -1,20 +1,14 @@
 -- What hides a content, as a history grows.
 use Rattle.std.specs.List.{list_any}
-use Rattle.std.specs.Prelude.{IsTrue, ◌==◌, slice_get}
-use Rattle.std.proofs.Common.{◌≡◌, ℕ, zero, suc, ◌+◌, ◌-◌, ◌≤◌, Bool, true, false, ◌&&◌, ◌||◌, List, [], ◌∷◌, ◌++◌, length, take, drop, Option, None, Some, refl, sym, ◌∙◌, ap, subst, arith, append-nil, length-append, take-append-drop}
-use Rattle.std.proofs.lemmas.Bool.{eqb-true, ltb-true, false_from_ne_true}
+use Rattle.std.specs.Prelude.{slice_get}
+use Rattle.std.proofs.Common.{◌≡◌, ℕ, zero, suc, ◌+◌, ◌-◌, ◌≤◌, Bool, true, false, ◌||◌, List, [], ◌∷◌, ◌++◌, length, take, drop, Option, None, Some, refl, sym, ◌∙◌, ap, subst, arith, append-nil, length-append, take-append-drop}
 use Rattle.std.proofs.lemmas.List.Concat.{flat_map-append}
 use Rattle.std.proofs.lemmas.List.Folds.{list_any-append}
 use Rattle.journal_record.specs.Entry.{Entry}
-use Rattle.journal_record.specs.Rules.{a_ok}
-use Rattle.journal_record.specs.declared.header.Header.{Header}
-use Rattle.journal_record.specs.declared.header.Kind.{Kind}
-use Rattle.journal_record.specs.declared.header.Kind.TheVariants.{Genesis, Content, Member, Time, Occult, Purge}
 use Rattle.ledger_model.specs.History.{History, history, journals_of, journals, size}
-use Rattle.ledger_model.specs.Targets.{is_occult, hides, is_hidden_by, is_hidden}
+use Rattle.ledger_model.specs.Targets.{hides, is_hidden_by, is_hidden}
 use Rattle.journal_record.specs.Blocks.{AreFrom, AreBlocks}
-use Rattle.ledger_open.specs.Standing.{AllKept, SameButHidden, hidden_before}
-use Rattle.ledger_open.proofs.KeptLaws.{all_kept, header_any_same}
+use Rattle.ledger_open.specs.Standing.{hidden_before}
 
 pub from_more : (m : ℕ) (es fs : List Entry) → AreFrom m es → AreFrom (m + length es) fs → AreFrom m (es ++ fs)
 from_more m [] fs a b = subst (λ (n : ℕ). AreFrom n fs) (omega arith) b
@@ -23,21 +17,6 @@ from_more m (e ∷ es) fs a b = (a.0, from_more (m + 1) es fs a.1 (subst (λ (n 
 pub from_blocks : (m : ℕ) (bs : List (List Entry)) → AreBlocks m bs → AreFrom m (journals_of bs)
 from_blocks m [] a = tt
 from_blocks m (b ∷ bs) a = from_more m b (journals_of bs) a.0.entries (from_blocks (m + length b) bs a.1)
-
--- a journal hides none that isn't before it
-hides_below : (kind : Kind) (jsn a n : ℕ) → IsTrue (a_ok kind jsn a) → jsn ≤ n → (is_occult kind && a == n) ≡ false
-hides_below Genesis jsn a n ok le = refl
-hides_below Content jsn a n ok le = refl
-hides_below Member jsn a n ok le = refl
-hides_below Time jsn a n ok le = refl
-hides_below Occult jsn a n ok le = false_from_ne_true (a == n) (λ is. omega (arith, eqb-true a n is, ltb-true a jsn ok, le))
-hides_below Purge jsn a n ok le = refl
-
-pub none_above : (m : ℕ) (target : Entry) (es : List Entry) → AreFrom m es → m + length es ≤ target.header.jsn → list_any (hides target) es ≡ false
-none_above m target [] a le = refl
-none_above m target (e ∷ es) a le =
-    ap (λ (v : Bool). v || list_any (hides target) es) (hides_below e.header.kind e.header.jsn e.header.a target.header.jsn a.0.rules.a (omega (arith, a.0.jsn, le)))
-    ∙ none_above (m + 1) target es a.1 (omega (arith, le))
 
 -- journals that hide none from this number on hide as much among more journals as among those below it
 module _ (hiders : List Entry) (low : ℕ) (none : (t : Entry) → low ≤ t.header.jsn → list_any (hides t) hiders ≡ false) where
@@ -58,26 +37,6 @@ journals_closed h none = ap (λ (l : List Entry). journals_of h.closed ++ l) non
 pub journals_push : (bs : List (List Entry)) (b : List Entry) → journals (history (bs ++ b ∷ []) []) ≡ journals_of bs ++ b
 journals_push bs b = append-nil (journals_of (bs ++ b ∷ [])) ∙ flat_map-append (λ (x : List Entry). x) bs (b ∷ []) ∙ ap (λ (l : List Entry). journals_of bs ++ l) (append-nil b)
 
--- the same is hidden by what is kept, and of what is kept
-pub kept_hide : (hid gone : ℕ → Bool) (target : Option Entry) (es fs : List Entry) → AllKept hid gone es fs → is_hidden_by es target ≡ is_hidden_by fs target
-kept_hide hid gone None es fs a = refl
-kept_hide hid gone (Some t) es fs a = header_any_same hid gone (λ (x : Header). is_occult x.kind && x.a == t.header.jsn) es fs a
-
-pub kept_hidden : (hid gone : ℕ → Bool) (hiders es fs : List Entry) (n : ℕ) → AllKept hid gone es fs → is_hidden_by hiders (slice_get es n) ≡ is_hidden_by hiders (slice_get fs n)
-kept_hidden hid gone hiders [] [] n a = refl
-kept_hidden hid gone hiders [] (f ∷ fs) n a = absurd a
-kept_hidden hid gone hiders (e ∷ es) [] n a = absurd a
-kept_hidden hid gone hiders (e ∷ es) (f ∷ fs) zero a = ap (λ (x : Header). list_any (λ (j : Entry). is_occult j.header.kind && j.header.a == x.jsn) hiders) (sym a.0.header)
-kept_hidden hid gone hiders (e ∷ es) (f ∷ fs) (suc n) a = kept_hidden hid gone hiders es fs n a.1
-
--- .. by what the file has
-pub hidden_by : (hid gone : ℕ → Bool) (h : History) (cs : List (List Entry)) (n : ℕ) → h.waiting ≡ [] → SameButHidden hid gone h.closed cs → is_hidden h n ≡ is_hidden_by (journals_of cs) (slice_get (journals_of cs) n)
-hidden_by hid gone h cs n none s =
-    let kept = all_kept hid gone h.closed cs s in
-    ap (λ (l : List Entry). is_hidden_by l (slice_get l n)) (journals_closed h none)
-    ∙ kept_hide hid gone (slice_get (journals_of h.closed) n) (journals_of h.closed) (journals_of cs) kept
-    ∙ kept_hidden hid gone (journals_of cs) (journals_of h.closed) (journals_of cs) n kept
-
 -- by more journals
 hidden_more : (target : Option Entry) (xs ys : List Entry) → is_hidden_by (xs ++ ys) target ≡ (is_hidden_by xs target || is_hidden_by ys target)
 hidden_more None xs ys = refl
@@ -87,7 +46,7 @@ hidden_more (Some t) xs ys = list_any-append (hides t) xs ys
 pub hidden_push : (bs : List (List Entry)) (b : List Entry) (n : ℕ) → is_hidden (history (bs ++ b ∷ []) []) n ≡ (is_hidden_by (journals_of bs) (slice_get (journals_of bs ++ b) n) || is_hidden_by b (slice_get (journals_of bs ++ b) n))
 hidden_push bs b n = ap (λ (l : List Entry). is_hidden_by l (slice_get l n)) (journals_push bs b) ∙ hidden_more (slice_get (journals_of bs ++ b) n) (journals_of bs) b
 
-take_over : (xs ys : List Entry) (k : ℕ) → take (length xs + k) (xs ++ ys) ≡ xs ++ take k ys
+pub take_over : (xs ys : List Entry) (k : ℕ) → take (length xs + k) (xs ++ ys) ≡ xs ++ take k ys
 take_over [] ys k = let e : 0 + k ≡ k = omega arith in ap (λ (n : ℕ). take n ys) e
 take_over (x ∷ xs) ys k = let e : length (x ∷ xs) + k ≡ suc (length xs + k) = omega arith in ap (λ (n : ℕ). take n (x ∷ (xs ++ ys))) e ∙ ap (λ (l : List Entry). x ∷ l) (take_over xs ys k)
 

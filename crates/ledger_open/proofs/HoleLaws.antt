@@ -23,9 +23,9 @@ record_places at [] = []
 record_places at (e ∷ es) = (at + 178) ∷ record_places (at + record_len e) es
 
 -- .. of blocks, where the first gate stands at this place
-abbrev pub places_from : ℕ → List (List Entry) → List ℕ
-places_from at [] = []
-places_from at (b ∷ bs) = record_places (at + 45) b ++ places_from (at + 45 + sum_by record_len b) bs
+abbrev pub content_places : ℕ → List (List Entry) → List ℕ
+content_places at [] = []
+content_places at (b ∷ bs) = record_places (at + 45) b ++ content_places (at + 45 + sum_by record_len b) bs
 
 abbrev pub lengths_of : List Entry → List ℕ
 lengths_of es = map (λ (e : Entry). e.header.content_len) es
@@ -180,20 +180,20 @@ module _ (root : List (List ℕ) → List ℕ) (digests : GivesDigests root) whe
   record_places_size at (e ∷ es) = omega (arith, record_places_size (at + record_len e) es)
 
   here : (i n m at : ℕ) (seen : List (List ℕ)) (pre post : List ℕ) (b : List Entry) (bs : List (List Entry)) → length pre ≡ at → AreBlocks m (b ∷ bs) → n ≡ m + i → i < length b
-      → Hole (λ c. pre ++ (open_blocks (written_blocks root seen (put n c (b ∷ bs))) ++ post)) (get_or (lengths_of (journals_of (b ∷ bs))) i 0) (get_or (places_from at (b ∷ bs)) i 0)
+      → Hole (λ c. pre ++ (open_blocks (written_blocks root seen (put n c (b ∷ bs))) ++ post)) (get_or (lengths_of (journals_of (b ∷ bs))) i 0) (get_or (content_places at (b ∷ bs)) i 0)
   here i n m at seen pre post b bs place a is lt =
       hole_to (λ c. pre ++ (open_blocks (written_blocks root seen (put n c (b ∷ bs))) ++ post)) (get_or (lengths_of b) i 0) _ (get_or (record_places (at + 45) b) i 0) _
       (sym (ap (λ (l : List ℕ). get_or l i 0) (map-append (λ (e : Entry). e.header.content_len) b (journals_of bs)) ∙ get_or_append_left (lengths_of b) (lengths_of (journals_of bs)) 0 i (omega (arith, lt, length-map b (λ (e : Entry). e.header.content_len)))))
-      (sym (get_or_append_left (record_places (at + 45) b) (places_from (at + 45 + sum_by record_len b) bs) 0 i (omega (arith, lt, record_places_size (at + 45) b))))
+      (sym (get_or_append_left (record_places (at + 45) b) (content_places (at + 45 + sum_by record_len b) bs) 0 i (omega (arith, lt, record_places_size (at + 45) b))))
       (block_hole i n m at seen pre post b bs place a is lt)
 
   behind : (i n m at : ℕ) (seen : List (List ℕ)) (pre post : List ℕ) (b : List Entry) (bs : List (List Entry)) → AreBlocks m (b ∷ bs) → n ≡ m + i → length b ≤ i
-      → Hole (λ c. (pre ++ (1 ∷ block_bytes (root (seen ++ leaves_of b)) b)) ++ (open_blocks (written_blocks root (seen ++ leaves_of b) (put n c bs)) ++ post)) (get_or (lengths_of (journals_of bs)) (i - length b) 0) (get_or (places_from (at + 45 + sum_by record_len b) bs) (i - length b) 0)
-      → Hole (λ c. pre ++ (open_blocks (written_blocks root seen (put n c (b ∷ bs))) ++ post)) (get_or (lengths_of (journals_of (b ∷ bs))) i 0) (get_or (places_from at (b ∷ bs)) i 0)
+      → Hole (λ c. (pre ++ (1 ∷ block_bytes (root (seen ++ leaves_of b)) b)) ++ (open_blocks (written_blocks root (seen ++ leaves_of b) (put n c bs)) ++ post)) (get_or (lengths_of (journals_of bs)) (i - length b) 0) (get_or (content_places (at + 45 + sum_by record_len b) bs) (i - length b) 0)
+      → Hole (λ c. pre ++ (open_blocks (written_blocks root seen (put n c (b ∷ bs))) ++ post)) (get_or (lengths_of (journals_of (b ∷ bs))) i 0) (get_or (content_places at (b ∷ bs)) i 0)
   behind i n m at seen pre post b bs a is past h =
-      hole_to (λ c. pre ++ (open_blocks (written_blocks root seen (put n c (b ∷ bs))) ++ post)) (get_or (lengths_of (journals_of bs)) (i - length b) 0) _ (get_or (places_from (at + 45 + sum_by record_len b) bs) (i - length b) 0) _
+      hole_to (λ c. pre ++ (open_blocks (written_blocks root seen (put n c (b ∷ bs))) ++ post)) (get_or (lengths_of (journals_of bs)) (i - length b) 0) _ (get_or (content_places (at + 45 + sum_by record_len b) bs) (i - length b) 0) _
       (sym (ap (λ (l : List ℕ). get_or l i 0) (map-append (λ (e : Entry). e.header.content_len) b (journals_of bs)) ∙ get_or-append_right (lengths_of b) (lengths_of (journals_of bs)) (length b) i 0 (length-map b (λ (e : Entry). e.header.content_len)) past))
-      (sym (get_or-append_right (record_places (at + 45) b) (places_from (at + 45 + sum_by record_len b) bs) (length b) i 0 (record_places_size (at + 45) b) past))
+      (sym (get_or-append_right (record_places (at + 45) b) (content_places (at + 45 + sum_by record_len b) bs) (length b) i 0 (record_places_size (at + 45) b) past))
       (hole_as (λ c. (pre ++ (1 ∷ block_bytes (root (seen ++ leaves_of b)) b)) ++ (open_blocks (written_blocks root (seen ++ leaves_of b) (put n c bs)) ++ post)) (λ c. pre ++ (open_blocks (written_blocks root seen (put n c (b ∷ bs))) ++ post)) (get_or (lengths_of (journals_of bs)) (i - length b) 0) _ _ refl
       (λ c size.
       ap (λ (l : List Entry). pre ++ (open_blocks (written_blocks root seen (l ∷ put n c bs)) ++ post)) (put_above n m c b a.0.entries (omega (arith, is, past)))
@@ -202,10 +202,10 @@ module _ (root : List (List ℕ) → List ℕ) (digests : GivesDigests root) whe
       h)
 
   pub blocks_hole : (i n m at : ℕ) (seen : List (List ℕ)) (pre post : List ℕ) (bs : List (List Entry)) → length pre ≡ at → AreBlocks m bs → n ≡ m + i → i < length (journals_of bs)
-      → Hole (λ c. pre ++ (open_blocks (written_blocks root seen (put n c bs)) ++ post)) (get_or (lengths_of (journals_of bs)) i 0) (get_or (places_from at bs) i 0)
+      → Hole (λ c. pre ++ (open_blocks (written_blocks root seen (put n c bs)) ++ post)) (get_or (lengths_of (journals_of bs)) i 0) (get_or (content_places at bs) i 0)
   blocks_hole i n m at seen pre post [] place a is lt = absurd (omega (arith, lt))
   blocks_hole i n m at seen pre post (b ∷ bs) place a is lt =
-      elim (nat_lt i (length b)) as (λ v. nat_lt i (length b) ≡ v → Hole (λ c. pre ++ (open_blocks (written_blocks root seen (put n c (b ∷ bs))) ++ post)) (get_or (lengths_of (journals_of (b ∷ bs))) i 0) (get_or (places_from at (b ∷ bs)) i 0)) [
+      elim (nat_lt i (length b)) as (λ v. nat_lt i (length b) ≡ v → Hole (λ c. pre ++ (open_blocks (written_blocks root seen (put n c (b ∷ bs))) ++ post)) (get_or (lengths_of (journals_of (b ∷ bs))) i 0) (get_or (content_places at (b ∷ bs)) i 0)) [
         | true ↦ λ e. here i n m at seen pre post b bs place a is (ltb-true i (length b) e)
         | false ↦ λ e. behind i n m at seen pre post b bs a is (ltb-false i (length b) e)
             (blocks_hole (i - length b) n (m + length b) (at + 45 + sum_by record_len b) (seen ++ leaves_of b) (pre ++ (1 ∷ block_bytes (root (seen ++ leaves_of b)) b)) post bs

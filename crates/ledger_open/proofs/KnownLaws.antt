@@ -1,24 +1,24 @@
--- What is known of a ledger, where no file has a base.
-use Rattle.std.specs.Prelude.{Bool, false, IsTrue, Option, Some, None}
-use Rattle.std.proofs.Common.{◌≡◌, ℕ, List, [], ◌∷◌, length, refl, sym, ap, subst, arith, append-nil}
+-- What is known of a ledger.
+use Rattle.std.specs.Prelude.{Bool, false, Option, None}
+use Rattle.std.proofs.Common.{◌≡◌, ℕ, ◌≤◌, List, [], ◌∷◌, ◌++◌, drop, length, refl, sym, ◌∙◌, ap, subst, arith, append-nil}
 use Rattle.std.proofs.lemmas.Bool.{true≢false}
 use Rattle.journal_record.specs.Blocks.{AreBlocks}
 use Rattle.journal_record.specs.Entry.{Entry}
 use Rattle.pseudo_genesis.specs.declared.base.Base.{Base}
 use Rattle.ledger_book.specs.Books.{Kept, Serves}
 use Rattle.ledger_model.proofs.HideLaws.{first_shown}
-use Rattle.ledger_model.specs.History.{History, history, journals_of}
-use Rattle.ledger_model.specs.Lawful.{IsLawful}
+use Rattle.ledger_model.specs.History.{History, history, journals_of, greatest_point, seen_point}
 use Rattle.ledger_model.specs.Targets.{is_hidden}
-use Rattle.ledger_open.specs.Damages.{Begun}
-use Rattle.ledger_open.specs.Opening.{Known, Knows, GoesOn, HasRead, IsPlain}
+use Rattle.ledger_open.specs.Opening.{Known, Knows, GoesOn, HasTaken}
 use Rattle.ledger_open.specs.Places.{places_at, after_at}
-use Rattle.ledger_open.specs.Standing.{AllKept, SameButHidden, HasBlocks, StandsFor, floor_from, ground, hidden_before}
-use Rattle.ledger_open.proofs.PartLaws.{all_there, whole_parts, same_all, stands_first, file_first}
-use Rattle.ledger_open.proofs.AgainLaws.{blocks_unique}
-use Rattle.ledger_open.proofs.KeptLaws.{same_back, same_weaker}
+use Rattle.ledger_open.specs.Standing.{AllKept, SameButHidden, floor_from}
+use Rattle.ledger_open.specs.Starts.{AreLegal, HasOwnPurge, IsReached}
+use Rattle.ledger_open.proofs.GoesLaws.{goes_as}
+use Rattle.ledger_open.proofs.KeptLaws.{same_back}
 use Rattle.ledger_open.proofs.LikeLaws.{serves_alike}
-use Rattle.ledger_open.proofs.SizeLaws.{mth_size}
+use Rattle.ledger_open.proofs.OwnPurges.{first_reached, reached_own}
+use Rattle.ledger_open.proofs.PartLaws.{none_gone}
+use Rattle.ledger_open.proofs.StartLaws.{first_same}
 
 module _ (hid : ℕ → Bool) where
   all_self : (es : List Entry) → AllKept hid (λ n. false) es es
@@ -33,51 +33,51 @@ module _ (hid : ℕ → Bool) where
 
 -- what of a history that goes on with these blocks they are
 pub all_kept_on : (blocks : List (List Entry)) (h : History) → GoesOn None blocks h → SameButHidden (is_hidden h) (λ n. false) h.closed blocks
-all_kept_on blocks h g = subst (λ (bs : List (List Entry)). SameButHidden (is_hidden h) (λ n. false) bs blocks) (all_there 0 h g.lawful.blocks_are refl g.parts) g.same
+all_kept_on blocks h g =
+    let whole : g.parts.kept ≡ h.closed = sym (g.parts.are ∙ ap (λ (l : List (List Entry)). l ++ g.parts.kept) (none_gone h g.lawful.blocks_are g.parts)) in
+    subst (λ (bs : List (List Entry)). SameButHidden (is_hidden h) (λ n. false) bs blocks) whole g.same
 
 -- a book of these blocks is one of each history that goes on with them
 serves_on : (blocks : List (List Entry)) (h : History) (b : Kept) → GoesOn None blocks h → Serves b (history blocks []) → Serves b h
 serves_on blocks h b g s =
     serves_alike (is_hidden h) (λ n. false) (history blocks []) h (same_back (is_hidden h) (λ n. false) h.closed blocks (all_kept_on blocks h g)) refl g.none (first_shown h g.lawful.journals_are) g.lawful.journals_are b s
 
-pub knows_whole : (k : Known) (blocks : List (List Entry)) → AreBlocks 0 blocks → IsLawful (history blocks []) → Serves k.book (history blocks []) → k.places ≡ places_at 64 blocks → k.place ≡ after_at 64 blocks → Knows k None blocks
-knows_whole k blocks lawful legal serves places tail = record {
+pub knows_whole : (k : Known) (blocks : List (List Entry)) → AreBlocks 0 blocks → AreLegal None blocks → Serves k.book (history blocks []) → k.book.floor ≡ 0 → k.places ≡ places_at 64 blocks → k.place ≡ after_at 64 blocks → Knows k None blocks
+unfolding seen_point
+knows_whole k blocks lawful legal serves floor places tail = record {
   base = tt;
-  unbased = refl;
   legal = legal;
+  reached = tt;
   lawful = lawful;
   serves = λ h g. serves_on blocks h k.book g serves;
+  floor = floor;
+  point = serves.stands.counts.point ∙ ap (λ (n : ℕ). greatest_point (drop n (journals_of blocks ++ []))) floor ∙ ap greatest_point (append-nil (journals_of blocks));
   places = places;
   tail = tail;
+  size = omega (arith, serves.stands.counts.size, ap length (append-nil (journals_of blocks)));
   settled = omega (arith, serves.stands.counts.size, serves.stands.counts.sealed_is, ap length (append-nil (journals_of blocks)));
 }
 
-pub knows_none : {start : Option Base} {k : Known} {blocks : List (List Entry)} → Knows k start blocks → Knows k None blocks
-knows_none {start} {k} {blocks} n = subst (λ (s : Option Base). Knows k s blocks) n.unbased n
+-- the purge to the base's point is among the blocks that were taken, where the book tells so
+pub own_read : (k : Known) (start : Option Base) (blocks : List (List Entry)) → HasTaken k start blocks → IsReached k.book → HasOwnPurge start (journals_of blocks)
+own_read k start blocks t reached = subst (HasOwnPurge start) (append-nil (journals_of blocks)) (reached_own k.book start (journals_of blocks ++ []) t.goes.behind reached)
 
-pub serves_whole : {start : Option Base} {k : Known} {blocks : List (List Entry)} → Knows k start blocks → Serves k.book (history blocks [])
-serves_whole {start} {k} {blocks} n =
-    (knows_none n).serves (history blocks []) (record { lawful = n.legal; none = refl; parts = record { gone = []; kept = blocks; are = refl; at = refl }; base = tt; same = same_self (is_hidden (history blocks [])) blocks })
-
--- a history that a file with these blocks stands for goes on with them
-pub goes_on : (image : List ℕ) (h : History) (generation : ℕ) (blocks : List (List Entry)) → StandsFor image h → HasBlocks ground generation blocks image → GoesOn None blocks h
-goes_on image h generation blocks x has =
-    let first = stands_first image h x in
-    let one : x.file.keeps.blocks ≡ blocks = (blocks_unique ground x.file.generation generation x.file.keeps.blocks blocks image mth_size (file_first x.floor (hidden_before h) image h x.file first) has).1 in
+-- what was taken, once that purge was read
+pub knows_taken : (k : Known) (start : Option Base) (blocks : List (List Entry)) → HasTaken k start blocks → HasOwnPurge start (journals_of blocks) → Knows k start blocks
+knows_taken k start blocks t own =
+    let b = t.goes.behind in
+    let point : k.book.point ≡ greatest_point (journals_of blocks) = b.point ∙ ap greatest_point (append-nil (journals_of blocks)) in
+    let first : (floor_from start).first ≤ greatest_point (journals_of blocks) = first_reached start (journals_of blocks) own in
     record {
-      lawful = x.file.lawful;
-      none = x.file.none;
-      parts = whole_parts h;
-      base = tt;
-      same = subst (λ (bs : List (List Entry)). SameButHidden (is_hidden h) (λ n. false) h.closed bs) one
-          (same_weaker (is_hidden h) (hidden_before h) (is_hidden h) (λ n. false) (λ n s. s) (λ n z. let no : ⊥ = true≢false (sym z) in absurd no) h.closed x.file.keeps.blocks (same_all x.floor (hidden_before h) image h x.file first));
+      base = t.goes.base;
+      legal = t.legal;
+      reached = own;
+      lawful = t.lawful;
+      serves = λ h g. record { stands = t.goes.stands h (goes_as start blocks h g); seen = omega (arith, first, point, b.floor, first_same start) };
+      floor = b.floor ∙ first_same start;
+      point = point;
+      places = t.places;
+      tail = t.tail;
+      size = omega (arith, b.size_is, ap length (append-nil (journals_of blocks)), first_same start);
+      settled = t.settled;
     }
-
--- no file has a base
-pub none_based : {A : Type 0} {k : Known} {b : Base} {blocks : List (List Entry)} → Knows k (Some b) blocks → A
-none_based n = let no : ⊥ = cc n.unbased in absurd no
-
--- ---- what was read
-
-pub begun_first : {tells : Bool} {file : List ℕ} {k : Known} (r : HasRead tells file k) → IsTrue tells → IsPlain file → Begun (floor_from None) file r.blocks k.place
-begun_first {tells} {file} {k} r told plain = subst (λ (s : Option Base). Begun (floor_from s) file r.blocks k.place) r.knows.unbased (r.begun told plain)

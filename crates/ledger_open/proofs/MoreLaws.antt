@@ -1,63 +1,72 @@
 -- A block more is read.
-use Rattle.std.specs.Prelude.{Bool, true, false, IsTrue, IfSome, IsSomeAnd, Option, Ok, Some, None, sum_by, ◌^◌, ◌==◌}
+use Rattle.std.specs.Prelude.{Bool, true, false, IsTrue, IfSome, IsSomeAnd, Option, Ok, Err, Some, None, sum_by, ◌^◌, ◌==◌}
 use Rattle.std.proofs.Common.{◌≡◌, ◌≢◌, ◌⊎◌, ◌-◌, cond, inl, inr, ℕ, ◌+◌, ◌<◌, ◌≤◌, List, [], ◌∷◌, ◌++◌, length, get_or, map, take, drop, refl, sym, ◌∙◌, ap, subst, arith, append_assoc, append-nil, length-append}
-use Rattle.std.proofs.lemmas.Bool.{true≢false, eq-eqb}
+use Rattle.std.proofs.lemmas.Bool.{true≢false, and_parts, leb-true}
+use Rattle.std.proofs.lemmas.List.Concat.{flat_map-append}
 use Rattle.std.proofs.lemmas.List.Elements.{All-push}
 use Rattle.block_file.specs.Blocks.{AreBlock, IsRead, IsOpenBlock, IsNextBlock}
+use Rattle.block_file.specs.File.{IsShutAt}
+use Rattle.block_file.specs.Head.{digest_of, number_at, IsBaseErr}
+use Rattle.block_file.specs.Place.{base_len_of, base_digest_of}
 use Rattle.block_file.specs.declared.block.BlockAt.{BlockAt}
 use Rattle.block_file.specs.declared.failure.Damage.{Damage}
+use Rattle.block_file.specs.declared.failure.Damage.TheVariants as damages
 use Rattle.block_file.specs.declared.failure.FileErr.{FileErr}
+use Rattle.block_file.specs.declared.failure.FileErr.TheVariants as files
+use Rattle.block_file.specs.declared.file.BlockFile.{BlockFile}
 use Rattle.journal_record.specs.Blocks.{AreFrom, IsBlock}
 use Rattle.journal_record.specs.Entry.{Entry}
 use Rattle.journal_record.specs.Records.{AreReadable}
-use Rattle.ledger_book.specs.Books.{Kept, Serves, Stands}
-use Rattle.ledger_book.specs.Seals.{head_of}
-use Rattle.ledger_model.specs.History.{History, history, journals_of}
+use Rattle.ledger_book.specs.Behind.{next_number, AreBehind}
+use Rattle.ledger_book.specs.Books.{Kept}
+use Rattle.ledger_bytes.specs.declared.failure.Bad.{Bad}
+use Rattle.ledger_model.specs.History.{journals_of}
 use Rattle.ledger_model.specs.Lawful as lawful
-use Rattle.ledger_model.specs.Lawful.{AreNext, IsLawful}
-use Rattle.merkle_tree.specs.declared.head.Head.{Head}
-use Rattle.ledger_open.specs.Damages.{Begun, IsReadTo, IsDamage, HasBase}
-use Rattle.ledger_open.specs.Opening.{Known, known_from, Knows, HasRead, HasKnown, HasFile, IsHeadOf, IsPlain, IsReadErr, as_open}
+use Rattle.pseudo_genesis.specs.Bases.{IsBase, HasWidths, spelling}
+use Rattle.pseudo_genesis.specs.Reading.{base_of}
+use Rattle.pseudo_genesis.specs.declared.base.Base.{Base}
+use Rattle.ledger_open.specs.Damages.{Begun, IsReadTo, IsDamage, EndsEarly}
+use Rattle.ledger_open.specs.Opening.{Known, known_from, HasTaken, HasRead, HasKnown, HasFile, IsHeadOf, IsReadErr, as_open}
 use Rattle.ledger_open.specs.Places.{record_len, place_of_record, places_in, places_at, after_at}
-use Rattle.ledger_open.specs.Standing.{ground}
-use Rattle.ledger_open.specs.Taking.{Headed, TakesBlock, IsBadBlock}
+use Rattle.ledger_open.specs.Standing.{floor_from}
+use Rattle.ledger_open.specs.Starts.{IsDecoded, AreFounded, AreLegal, HasBase, HasDigest, HasOwnPurge, IsReached, IsStart, IsFormErr, base_in}
+use Rattle.ledger_open.specs.Taking.{Headed, Goes, TakesBlock, IsBadBlock}
 use Rattle.ledger_open.specs.declared.places.PlaceAt.{PlaceAt}
-use Rattle.block_file.specs.Head.{digest_of, number_at, IsBaseErr}
-use Rattle.block_file.specs.Place.{base_len_of, base_digest_of}
-use Rattle.block_file.specs.declared.file.BlockFile.{BlockFile}
-use Rattle.block_file.specs.declared.failure.Damage.TheVariants as damages
-use Rattle.block_file.specs.declared.failure.FileErr.TheVariants as files
-use Rattle.ledger_open.proofs.BegunLaws.{begun_more, begun_ends}
+use Rattle.ledger_open.proofs.BegunLaws.{readto_start, begun_more, begun_ends}
 use Rattle.ledger_open.proofs.FirstLaws.{headed_read, bad_read, some_of}
 use Rattle.ledger_open.proofs.GrowLaws.{blocks_more}
 use Rattle.ledger_open.proofs.HidingLaws.{journals_push}
-use Rattle.ledger_open.proofs.KnownLaws.{knows_whole, knows_none, serves_whole, begun_first}
+use Rattle.ledger_open.proofs.KnownLaws.{knows_taken, own_read}
+use Rattle.ledger_open.proofs.NextLaws.{behind_more}
+use Rattle.ledger_open.proofs.OwnPurges.{own_reached, headers_all}
 use Rattle.ledger_open.proofs.PlaceLaws.{places_same}
 use Rattle.ledger_open.proofs.SizeLaws.{body_size}
+use Rattle.ledger_open.proofs.StartLaws.{digests_from, first_same}
 use Rattle.ledger_open.proofs.TakeLaws.{headed_size}
 
 -- ---- how many journals there are
 
-few_from : (before es : List Entry) → AreNext before es → length before ≤ 4_294_967_295 → length (before ++ es) ≤ 4_294_967_295
-few_from before [] n few = omega (arith, few, length-append before [])
-few_from before (e ∷ es) n few =
-    subst (λ (l : List Entry). length l ≤ 4_294_967_295) (append_assoc before (e ∷ []) es)
-    (few_from (before ++ e ∷ []) es n.1 (omega (arith, n.0.jsn, n.0.below, length-append before (e ∷ []))))
+few_from : (start : Option Base) (before es : List Entry) → AreBehind start before es → next_number start before ≤ 4_294_967_295 → next_number start (before ++ es) ≤ 4_294_967_295
+few_from start before [] n few = omega (arith, few, length-append before [])
+few_from start before (e ∷ es) n few =
+    subst (λ (l : List Entry). next_number start l ≤ 4_294_967_295) (append_assoc before (e ∷ []) es)
+    (few_from start (before ++ e ∷ []) es n.1 (omega (arith, n.0.jsn, n.0.below, length-append before (e ∷ []))))
 
-pub few : (ks : List (List Entry)) → IsLawful (history ks []) → length (journals_of ks) ≤ 4_294_967_295
-few ks l = omega (arith, few_from [] (journals_of ks ++ []) l.journals_are.next (omega arith), length-append (journals_of ks) [])
+few_first : (start : Option Base) → IsDecoded start → next_number start [] ≤ 4_294_967_295
+few_first None d = omega arith
+few_first (Some b) d = omega (arith, leb-true b.point 4_294_967_294 (and_parts _ _ d.0.point).1)
 
--- the next journal's number, as the head tells it
-pub first_is : (tells : Bool) (file : List ℕ) (k : Known) (head : Head) (r : HasRead tells file k) → ((h : History) → Stands k.book h → head ≡ head_of h) → head.size ≡ length (journals_of r.blocks)
-first_is tells file k head r is = ap (λ (x : Head). x.size) (is (history r.blocks []) (serves_whole r.knows).stands)
+pub few : (start : Option Base) (ks : List (List Entry)) → IsDecoded start → AreLegal start ks → next_number start (journals_of ks) ≤ 4_294_967_295
+few start ks d l = few_from start [] (journals_of ks) l.next (few_first start d)
 
-pub first_below : (tells : Bool) (file : List ℕ) (k : Known) (head : Head) → HasRead tells file k → ((h : History) → Stands k.book h → head ≡ head_of h) → head.size < 2 ^ 32
-first_below tells file k head r is = omega (arith, first_is tells file k head r is, few r.blocks r.knows.legal)
+-- the next journal's number, as the book tells it
+pub first_is : (tells : Bool) (file : List ℕ) (k : Known) (size : ℕ) (r : HasRead tells file k) → size ≡ k.book.size → size ≡ next_number r.start (journals_of r.blocks)
+first_is tells file k size r is = is ∙ r.taken.goes.behind.size_is ∙ ap (next_number r.start) (append-nil (journals_of r.blocks))
+
+pub first_below : (tells : Bool) (file : List ℕ) (k : Known) (size : ℕ) → HasRead tells file k → size ≡ k.book.size → size < 2 ^ 32
+first_below tells file k size r is = omega (arith, first_is tells file k size r is, few r.start r.blocks r.taken.goes.base r.taken.legal)
 
 -- ---- why a file is read no further
-
-readto : (tells : Bool) (file : List ℕ) (k : Known) (r : HasRead tells file k) → IsTrue tells → IsPlain file → IsReadTo file r.blocks k.place
-readto tells file k r told plain = record { begun = begun_first r told plain; lawful = λ some. r.knows.legal }
 
 -- the block where it stands
 pub record MoreHere (file : List ℕ) (at first : ℕ) (block : BlockAt) : Type 0 where
@@ -71,20 +80,20 @@ more_here file at first found block is answer =
     let r = subst (λ (o : Option BlockAt). IsNextBlock at file first (Ok o)) is answer in
     record { es = r.0; are = r.1; read = r.2; stands = r.3 }
 
-pub more_bad : (tells : Bool) (file : List ℕ) (k : Known) (head : Head) (block : BlockAt) (damage : Damage) (r : HasRead tells file k) → ((h : History) → Stands k.book h → head ≡ head_of h) → IsTrue tells → IsPlain file → MoreHere file k.place head.size block
-    → ((ks : List (List Entry)) (es : List Entry) → Headed es block.records → head.size ≡ length (journals_of ks) → Serves k.book (history ks []) → IsBadBlock ks es block.root.0 damage) → IsDamage file damage
-more_bad tells file k head block damage r is told plain m bad =
-    let n = first_is tells file k head r is in
-    bad_read file r.blocks k.place block.root.0 m.es damage (record { read = readto tells file k r told plain; are = subst (λ (i : ℕ). AreBlock i m.es) n m.are; stands = m.stands })
-    (bad r.blocks m.es (headed_read k.place m.es block m.read) n (serves_whole r.knows))
+pub more_bad : (tells : Bool) (file : List ℕ) (k : Known) (size : ℕ) (block : BlockAt) (damage : Damage) (r : HasRead tells file k) → size ≡ k.book.size → IsTrue tells → MoreHere file k.place size block
+    → ((start : Option Base) (ks : List (List Entry)) (es : List Entry) → Headed es block.records → size ≡ next_number start (journals_of ks) → Goes k.book start ks [] → IsBadBlock start ks es block.root.0 damage) → IsDamage file damage
+more_bad tells file k size block damage r is told m bad =
+    let n = first_is tells file k size r is in
+    bad_read file r.start r.blocks k.place block.root.0 m.es damage (record { read = r.begun told; are = subst (λ (i : ℕ). AreBlock i m.es) n m.are; stands = m.stands })
+    (bad r.start r.blocks m.es (headed_read k.place m.es block m.read) n r.taken.goes)
 
 -- ---- the block behind those that were read
 
-from_next : (before es : List Entry) → AreNext before es → AreReadable es → AreFrom (length before) es
-from_next before [] n r = tt
-from_next before (e ∷ es) n r = (
+from_next : (start : Option Base) (before es : List Entry) → AreBehind start before es → AreReadable es → AreFrom (next_number start before) es
+from_next start before [] n r = tt
+from_next start before (e ∷ es) n r = (
   record { jsn = n.0.jsn; rules = r.0.rules; widths = r.0.widths; content = r.0.content; who = r.0.who },
-  subst (λ (m : ℕ). AreFrom m es) (length-append before (e ∷ [])) (from_next (before ++ e ∷ []) es n.1 r.1),
+  subst (λ (m : ℕ). AreFrom m es) (omega (arith, length-append before (e ∷ []))) (from_next start (before ++ e ∷ []) es n.1 r.1),
 )
 
 places_push : (at : ℕ) (bs : List (List Entry)) (b : List Entry) → places_at at (bs ++ b ∷ []) ≡ places_at at bs ++ places_in (after_at at bs + 45) b
@@ -98,52 +107,73 @@ after_push at [] b = refl
 after_push at (c ∷ bs) b = after_push (at + 45 + sum_by record_len c) bs b
 
 module _ (k : Known) (block : BlockAt) (book : Kept) (places : List PlaceAt) (place first : ℕ) (listed : places ≡ k.places ++ map place_of_record block.records) (tail : place ≡ k.place + 1 + block.len)
-    (takes : (ks : List (List Entry)) (es : List Entry) → Headed es block.records → Serves k.book (history ks []) → TakesBlock book ks es block.root.0) where
-  block_of : (ks : List (List Entry)) (es : List Entry) → AreBlock first es → TakesBlock book ks es block.root.0 → IsBlock (length (journals_of ks)) es
-  block_of ks es b t = record { some = b.some; most = b.most; entries = from_next (journals_of ks) es t.next b.readable }
+    (takes : (start : Option Base) (ks : List (List Entry)) (es : List Entry) → Headed es block.records → Goes k.book start ks [] → TakesBlock book start ks es block.root.0) where
+  block_of : (start : Option Base) (ks : List (List Entry)) (es : List Entry) → AreBlock first es → TakesBlock book start ks es block.root.0 → IsBlock ((floor_from start).first + length (journals_of ks)) es
+  block_of start ks es b t =
+      record { some = b.some; most = b.most; entries = subst (λ (n : ℕ). AreFrom n es) (omega (arith, first_same start)) (from_next start (journals_of ks) es t.next b.readable) }
 
-  more_known : (ks : List (List Entry)) (es : List Entry) → Knows k None ks → AreBlock first es → IsRead k.place es block → Knows (known_from book places place) None (ks ++ es ∷ [])
-  more_known ks es n b r =
-      let t = takes ks es (headed_read k.place es block r) (serves_whole n) in
-      let behind : place ≡ after_at 64 (ks ++ es ∷ []) = omega (arith, tail, r.len, body_size es b.readable, n.tail, after_push 64 ks es) in
-      knows_whole (known_from book places place) (ks ++ es ∷ [])
-      (blocks_more 0 ks es n.lawful (subst (λ (m : ℕ). IsBlock m es) (omega arith) (block_of ks es b t)))
-      (record {
-        journals_are = t.serves.stands.lawful;
-        blocks_are = All-push lawful.IsBlock ks es n.legal.blocks_are (record { some = b.some; most = b.most; gathered = t.share });
-        waiting_is = n.legal.waiting_is;
-      }) t.serves
-      (listed ∙ ap (λ (l : List PlaceAt). l ++ map place_of_record block.records) n.places
-      ∙ ap (λ (l : List PlaceAt). places_at 64 ks ++ l) (ap (map place_of_record) r.records ∙ places_same (k.place + 45) es b.readable ∙ ap (λ (m : ℕ). places_in (m + 45) es) n.tail) ∙ sym (places_push 64 ks es))
-      behind
+  founded_more : (start : Option Base) (js es : List Entry) → AreFounded start js → AreFounded start (js ++ es)
+  founded_more None [] es f = absurd f
+  founded_more None (j ∷ js) es f = f
+  founded_more (Some b) js es f = tt
+
+  legal_more : (start : Option Base) (ks : List (List Entry)) (es : List Entry) → AreLegal start ks → AreBlock first es → TakesBlock book start ks es block.root.0 → AreLegal start (ks ++ es ∷ [])
+  legal_more start ks es l b t =
+      let parts : journals_of (ks ++ es ∷ []) ≡ journals_of ks ++ es = flat_map-append (λ (x : List Entry). x) ks (es ∷ []) ∙ ap (λ (l : List Entry). journals_of ks ++ l) (append-nil es) in
+      record {
+        next = subst (AreBehind start []) (sym parts) (behind_more start [] (journals_of ks) es l.next t.next);
+        blocks_are = All-push lawful.IsBlock ks es l.blocks_are (record { some = b.some; most = b.most; gathered = t.share });
+        founded = subst (AreFounded start) (sym parts) (founded_more start (journals_of ks) es l.founded);
+      }
+
+  more_taken : (start : Option Base) (ks : List (List Entry)) (es : List Entry) → HasTaken k start ks → AreBlock first es → IsRead k.place es block → HasTaken (known_from book places place) start (ks ++ es ∷ [])
+  more_taken start ks es n b r =
+      let t = takes start ks es (headed_read k.place es block r) n.goes in
+      let at : ℕ = 64 + length (floor_from start).base in
+      record {
+        legal = legal_more start ks es n.legal b t;
+        lawful = blocks_more (floor_from start).first ks es n.lawful (block_of start ks es b t);
+        goes = t.goes;
+        places =
+            listed ∙ ap (λ (l : List PlaceAt). l ++ map place_of_record block.records) n.places
+            ∙ ap (λ (l : List PlaceAt). places_at at ks ++ l) (ap (map place_of_record) r.records ∙ places_same (k.place + 45) es b.readable ∙ ap (λ (m : ℕ). places_in (m + 45) es) n.tail) ∙ sym (places_push at ks es);
+        tail = omega (arith, tail, r.len, body_size es b.readable, n.tail, after_push at ks es);
+        settled = t.settled;
+      }
 
   pub more_read : (tells : Bool) (file : List ℕ) → HasRead tells file k → (es : List Entry) × AreBlock first es × IsRead k.place es block → (IsTrue tells → MoreHere file k.place first block) → HasRead tells file (known_from book places place)
   more_read false file r read here =
-      record { start = None; blocks = r.blocks ++ read.0 ∷ []; knows = more_known r.blocks read.0 (knows_none r.knows) read.1 read.2; begun = λ t. absurd (true≢false (sym t)) }
+      record { start = r.start; blocks = r.blocks ++ read.0 ∷ []; taken = more_taken r.start r.blocks read.0 r.taken read.1 read.2; begun = λ t. absurd (true≢false (sym t)) }
   more_read true file r read here =
       let m = here refl in
-      let n = more_known r.blocks m.es (knows_none r.knows) m.are m.read in
-      let t = takes r.blocks m.es (headed_read k.place m.es block m.read) (serves_whole r.knows) in
+      let t = takes r.start r.blocks m.es (headed_read k.place m.es block m.read) r.taken.goes in
       let at : k.place + 45 + sum_by record_len m.es ≡ place = omega (arith, tail, m.read.len, body_size m.es m.are.readable) in
       record {
-        start = None;
+        start = r.start;
         blocks = r.blocks ++ m.es ∷ [];
-        knows = n;
-        begun = λ told plain. subst (Begun ground file (r.blocks ++ m.es ∷ [])) at (begun_more file r.blocks k.place block.root.0 m.es (begun_first r told plain) m.stands t.root_is (block_of r.blocks m.es m.are t));
+        taken = more_taken r.start r.blocks m.es r.taken m.are m.read;
+        begun = λ told.
+            let b = r.begun told in
+            record {
+              begins = b.begins;
+              begun = subst (Begun (floor_from r.start) file (r.blocks ++ m.es ∷ [])) at
+                  (begun_more (floor_from r.start) (digests_from r.start r.taken.goes.base) file r.blocks k.place block.root.0 m.es b.begun m.stands t.root_is (block_of r.start r.blocks m.es m.are t));
+              legal = λ some. legal_more r.start r.blocks m.es r.taken.legal m.are t;
+            };
       }
 
-count_push : (ks : List (List Entry)) (es : List Entry) (block : BlockAt) → Headed es block.records → length (journals_of (ks ++ es ∷ [])) ≡ length (journals_of ks) + length block.records
-count_push ks es block h =
+count_push : (start : Option Base) (ks : List (List Entry)) (es : List Entry) (block : BlockAt) → Headed es block.records → next_number start (journals_of (ks ++ es ∷ [])) ≡ next_number start (journals_of ks) + length block.records
+count_push start ks es block h =
     omega (arith, ap (λ (l : List Entry). length l) (journals_push ks es), length-append (journals_of (ks ++ es ∷ [])) [], length-append (journals_of ks) es, headed_size es block.records h)
 
 -- it has as many journals more as the block
 pub more_count : (k : Known) (block : BlockAt) (book : Kept) (places : List PlaceAt) (place first : ℕ) (listed : places ≡ k.places ++ map place_of_record block.records) (tail : place ≡ k.place + 1 + block.len)
-    (takes : (ks : List (List Entry)) (es : List Entry) → Headed es block.records → Serves k.book (history ks []) → TakesBlock book ks es block.root.0) (tells : Bool) (file : List ℕ) (r : HasRead tells file k)
+    (takes : (start : Option Base) (ks : List (List Entry)) (es : List Entry) → Headed es block.records → Goes k.book start ks [] → TakesBlock book start ks es block.root.0) (tells : Bool) (file : List ℕ) (r : HasRead tells file k)
     (read : (es : List Entry) × AreBlock first es × IsRead k.place es block) (here : IsTrue tells → MoreHere file k.place first block)
-    → length (journals_of (more_read k block book places place first listed tail takes tells file r read here).blocks) ≡ length (journals_of r.blocks) + length block.records
+    → next_number (more_read k block book places place first listed tail takes tells file r read here).start (journals_of (more_read k block book places place first listed tail takes tells file r read here).blocks) ≡ next_number r.start (journals_of r.blocks) + length block.records
 unfolding more_read
-more_count k block book places place first listed tail takes false file r read here = count_push r.blocks read.0 block (headed_read k.place read.0 block read.2)
-more_count k block book places place first listed tail takes true file r read here = count_push r.blocks (here refl).es block (headed_read k.place (here refl).es block (here refl).read)
+more_count k block book places place first listed tail takes false file r read here = count_push r.start r.blocks read.0 block (headed_read k.place read.0 block read.2)
+more_count k block book places place first listed tail takes true file r read here = count_push r.start r.blocks (here refl).es block (headed_read k.place (here refl).es block (here refl).read)
 
 pub read_of : (o : Option BlockAt) (block : BlockAt) (at first : ℕ) → o ≡ Some block → IfSome o (λ b. (es : List Entry) × AreBlock first es × IsRead at es b) → (es : List Entry) × AreBlock first es × IsRead at es block
 read_of o block at first is r = some_of (λ (b : BlockAt). (es : List Entry) × AreBlock first es × IsRead at es b) o block is r
@@ -178,20 +208,72 @@ base_err file taken e fits h why =
       by_err (files.Damaged (damages.Root block kept found)) why = absurd why
       by_err (files.Damaged (damages.Content jsn kept found)) why = absurd why
 
-pub base_form : (file base : List ℕ) (taken : BlockFile) → HasBase file → IsHeadOf file taken → length base ≢ 0 → (length base ≡ base_len_of taken) × ((base_len_of taken ≡ 0) ⊎ (base_digest_of taken ≡ digest_of base)) → base ≡ take (base_len_of taken) (drop 64 file)
-    → IsDamage file (damages.BaseForm 0)
-base_form file base taken fits h some (size, inl none) is = absurd (some (size ∙ none))
-base_form file base taken fits h some (size, inr digest) is =
-    (refl, λ none. some (size ∙ h.base_len ∙ none), sym h.base_digest ∙ digest ∙ ap digest_of (is ∙ ap (λ (n : ℕ). take n (drop 64 file)) h.base_len), fits)
+-- what was read is the base that the head names, and it isn't empty
+module _ (file base : List ℕ) (taken : BlockFile) (fits : HasBase file) (h : IsHeadOf file taken) (some : length base ≢ 0)
+    (named : (length base ≡ base_len_of taken) × ((base_len_of taken ≡ 0) ⊎ (base_digest_of taken ≡ digest_of base))) (is : base ≡ take (base_len_of taken) (drop 64 file)) where
+  pub bytes_are : base ≡ base_in file
+  bytes_are = is ∙ ap (λ (n : ℕ). take n (drop 64 file)) h.base_len
+
+  pub has_digest : HasDigest file
+  has_digest = record {
+    some = λ none. some (named.0 ∙ h.base_len ∙ none);
+    there = fits;
+    digest = elim named.1 [ inl none ↦ absurd (some (named.0 ∙ none)) | inr digest ↦ sym h.base_digest ∙ digest ∙ ap digest_of bytes_are ];
+  }
+
+  -- it doesn't decode
+  pub bad_form : (e : Bad) (place : ℕ) → base_of base ≡ Err e → IsFormErr e place → IsDamage file (damages.BaseForm place)
+  bad_form e place broken told = (has_digest, (e, ap base_of (sym bytes_are) ∙ broken, told))
+
+  -- or it is this one
+  pub begins_behind : (b : Base) → IsBase b × HasWidths b × (base ≡ spelling b) → IsStart file (Some b)
+  begins_behind b f = (h.head, has_digest, (f.0, f.1), sym bytes_are ∙ f.2)
+
+pub begins_first : (file base : List ℕ) (taken : BlockFile) → IsHeadOf file taken → length base ≡ 0 → length base ≡ base_len_of taken → IsStart file None
+begins_first file base taken h none size = (h.head, sym h.base_len ∙ sym size ∙ none)
+
+-- a book behind it, of which no block was taken
+pub read_behind : (tells : Bool) (file : List ℕ) (start : Option Base) (b : Base) (book : Kept) (places : List PlaceAt) (place : ℕ) → start ≡ Some b → place ≡ 64 + length (floor_from start).base → (IsTrue tells → IsStart file start)
+    → HasTaken (known_from book places (64 + length (floor_from (Some b)).base)) (Some b) [] → HasRead tells file (known_from book places place)
+read_behind tells file start b book places place is place_is begins t =
+    let at : place ≡ 64 + length (floor_from (Some b)).base = place_is ∙ ap (λ (s : Option Base). 64 + length (floor_from s).base) is in
+    record {
+      start = Some b;
+      blocks = [];
+      taken = subst (λ (n : ℕ). HasTaken (known_from book places n) (Some b) []) (sym at) t;
+      begun = λ told. subst (λ (n : ℕ). IsReadTo file (Some b) [] n) (sym at) (readto_start file (Some b) (subst (IsStart file) is (begins told)));
+    }
 
 -- ---- the whole file
 
-pub known_of : (tells : Bool) (file : List ℕ) (k : Known) → HasRead tells file k → (IsTrue tells → IsPlain file) → (IsTrue tells → get_or file k.place 0 ≢ 1) → (IsTrue tells → k.place + 1 ≤ length file) → HasKnown tells file k
-known_of tells file k r plain shut inside =
-    record { start = None; blocks = r.blocks; knows = knows_none r.knows; has = λ told. begun_ends file r.blocks k.place (begun_first r told (plain told)) (shut told) (inside told) }
+-- the purge to the base's point was read
+pub known_of : (tells : Bool) (file : List ℕ) (k : Known) → HasRead tells file k → IsReached k.book → (IsTrue tells → get_or file k.place 0 ≢ 1) → (IsTrue tells → k.place + 1 ≤ length file) → HasKnown tells file k
+known_of tells file k r reached shut inside = record {
+  start = r.start;
+  blocks = r.blocks;
+  knows = knows_taken k r.start r.blocks r.taken (own_read k r.start r.blocks r.taken reached);
+  has = λ told. begun_ends r.start file r.blocks k.place (r.begun told).begun (shut told) (inside told);
+}
 
-pub some_bytes : (base slice : List ℕ) (empty : Bool) → slice ≡ base → empty ≡ (length slice == 0) → empty ≡ false → length base ≢ 0
-some_bytes base slice empty same is full none = true≢false (sym (eq-eqb (length slice) 0 (ap length same ∙ none)) ∙ sym is ∙ full)
+-- .. or it wasn't, and the blocks end
+early_of : (k : Known) (start : Option Base) (blocks : List (List Entry)) → HasTaken k start blocks → (IsReached k.book → ⊥) → EndsEarly start blocks
+early_of k None blocks t not = absurd (not (own_reached k.book None (journals_of blocks ++ []) t.goes.behind tt))
+early_of k (Some b) blocks t not =
+    λ own. not (own_reached k.book (Some b) (journals_of blocks ++ []) t.goes.behind (subst (HasOwnPurge (Some b)) (sym (append-nil (journals_of blocks))) own))
+
+pub cut_short : (tells : Bool) (file : List ℕ) (k : Known) (size : ℕ) (r : HasRead tells file k) → size ≡ k.book.size → (IsReached k.book → ⊥) → IsTrue tells → IsShutAt k.place file → IsDamage file (damages.Entry size)
+cut_short tells file k size r is not told shut =
+    inl (
+      r.start,
+      r.blocks,
+      k.place,
+      first_is tells file k size r is,
+      record { read = r.begun told; shut = shut; early = early_of k r.start r.blocks r.taken not },
+    )
+
+-- as many headers are kept as there are journals from the first on
+pub all_headers : (tells : Bool) (file : List ℕ) (k : Known) → HasRead tells file k → k.book.size ≡ k.book.floor + length k.book.headers
+all_headers tells file k r = headers_all k.book r.start (journals_of r.blocks ++ []) r.taken.goes.behind
 
 pub known_again : (tells : Bool) (old new : List ℕ) (k : Known) → (IsTrue tells → old ≡ new) → HasKnown tells old k → HasKnown tells new k
 known_again tells old new k same h = record { start = h.start; blocks = h.blocks; knows = h.knows; has = λ told. subst (HasFile h.start h.blocks) (same told) (h.has told) }

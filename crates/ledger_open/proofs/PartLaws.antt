@@ -1,57 +1,65 @@
--- Which blocks a file has of a history, and which of two files has them, while no purge has a point above 0.
-use Rattle.std.specs.List.{fold}
-use Rattle.std.specs.Prelude.{All, Bool, true, false, ◌==◌, if◌then◌else◌, drop, max}
-use Rattle.std.proofs.Common.{◌≡◌, ◌⊎◌, inl, inr, ℕ, ◌+◌, ◌-◌, ◌≤◌, List, [], ◌∷◌, ◌++◌, length, map, take, refl, sym, ◌∙◌, ap, subst, arith, length-append}
+-- Which blocks a file has of a history, and which of two files has them.
+use Rattle.std.specs.Prelude.{All, Bool, true, false, ◌==◌, if◌then◌else◌, max}
+use Rattle.std.proofs.Common.{◌≡◌, ◌⊎◌, inl, inr, ℕ, ◌+◌, ◌-◌, ◌<◌, ◌≤◌, List, [], ◌∷◌, ◌++◌, length, take, drop, refl, sym, ◌∙◌, ap, subst, arith, append-nil, length-append}
 use Rattle.std.proofs.lemmas.Bool.{eq-eqb, true≢false}
-use Rattle.std.proofs.lemmas.List.{map-append, take_at, take-append-drop}
-use Rattle.std.proofs.lemmas.List.Elements.{All-head, All-take}
-use Rattle.std.proofs.lemmas.List.Sums.{fold-append}
-use Rattle.block_file.specs.File.{open_blocks}
-use Rattle.journal_record.specs.Blocks.{AreBlocks, written_blocks}
+use Rattle.std.proofs.lemmas.List.{take_at, drop_at, take-append-drop}
+use Rattle.std.proofs.lemmas.List.Concat.{flat_map-append}
+use Rattle.std.proofs.lemmas.List.Elements.{All-head, All-tail, All-take}
 use Rattle.journal_record.specs.Entry.{Entry}
-use Rattle.ledger_model.specs.History.{History, journals, journals_of, size, point, greatest_point, purge_point}
-use Rattle.ledger_model.specs.Lawful.{IsBlock}
-use Rattle.ledger_model.specs.Targets.{is_hidden}
-use Rattle.twin_file.specs.Twin.{open_of, other_of}
-use Rattle.ledger_open.specs.Heads.{IsFront}
-use Rattle.ledger_open.specs.Standing.{Floor, ground, floor_behind, HasBlocks, Parts, SameButHidden, StandsBy, StandsFor, PairFor, IsBeside, hidden_before, point_before}
+use Rattle.ledger_model.specs.History.{History, journals, journals_of, size, point, greatest_point}
+use Rattle.ledger_model.specs.Lawful.{IsBlock, IsLawful}
+use Rattle.ledger_model.proofs.LawfulLaws.{two_points}
+use Rattle.ledger_model.proofs.PointLaws.{points_few, splits_at_point}
+use Rattle.twin_file.specs.Twin.{other_of}
+use Rattle.ledger_open.specs.Standing.{Parts, StandsBy, StandsFor, PairFor, IsBeside, hidden_before, point_before}
 
 -- ---- the parts of a history
 
+-- its journals are those of both parts
+pub halves : (floor : ℕ) (h : History) → h.waiting ≡ [] → (x : Parts floor h) → journals h ≡ journals_of x.gone ++ journals_of x.kept
+halves floor h none x =
+    ap (λ (l : List Entry). journals_of h.closed ++ l) none ∙ append-nil (journals_of h.closed) ∙ ap (λ (bs : List (List Entry)). journals_of bs) x.are
+    ∙ flat_map-append (λ (b : List Entry). b) x.gone x.kept
+
+-- .. and those that are kept are the ones from the floor on
+pub kept_from : (floor : ℕ) (h : History) → h.waiting ≡ [] → (x : Parts floor h) → journals_of x.kept ≡ drop floor (journals h)
+kept_from floor h none x = sym (ap (drop floor) (halves floor h none x) ∙ drop_at (journals_of x.gone) (journals_of x.kept) floor x.at)
+
+pub size_parts : (floor : ℕ) (h : History) → h.waiting ≡ [] → (x : Parts floor h) → size h ≡ floor + length (journals_of x.kept)
+size_parts floor h none x = omega (arith, x.at, ap length (halves floor h none x), length-append (journals_of x.gone) (journals_of x.kept))
+
+-- the blocks that are gone are blocks, and so each of them has a journal
+pub first_ones : (floor : ℕ) (h : History) → All IsBlock h.closed → (x : Parts floor h) → All IsBlock x.gone
+first_ones floor h all x = subst (All IsBlock) (ap (take (length x.gone)) x.are ∙ take_at x.gone x.kept (length x.gone) refl) (All-take IsBlock (length x.gone) h.closed all)
+
+-- blocks fall into two parts with so many journals in one way
+pub one_split : (g i k l : List (List Entry)) → All IsBlock g → All IsBlock i → g ++ k ≡ i ++ l → length (journals_of g) ≡ length (journals_of i) → (g ≡ i) × (k ≡ l)
+one_split [] [] k l all other is at = (refl, is)
+one_split [] (c ∷ cs) k l all other is at = absurd (omega (arith, at, (All-head IsBlock c cs other).some, length-append c (journals_of cs)))
+one_split (b ∷ bs) [] k l all other is at = absurd (omega (arith, at, (All-head IsBlock b bs all).some, length-append b (journals_of bs)))
+one_split (b ∷ bs) (c ∷ cs) k l all other is at =
+    let same : b ≡ c = cc is in
+    let more = one_split bs cs k l (All-tail IsBlock b bs all) (All-tail IsBlock c cs other) (ap (drop 1) is)
+    (omega (arith, at, ap length same, length-append b (journals_of bs), length-append c (journals_of cs))) in
+    (ap (λ (x : List Entry). x ∷ bs) same ∙ ap (λ (xs : List (List Entry)). c ∷ xs) more.0, more.1)
+
+-- a history has its parts in one way
+pub one_parts : (floor : ℕ) (h : History) → All IsBlock h.closed → (x y : Parts floor h) → (x.gone ≡ y.gone) × (x.kept ≡ y.kept)
+one_parts floor h all x y = one_split x.gone y.gone x.kept y.kept (first_ones floor h all x) (first_ones floor h all y) (sym x.are ∙ y.are) (x.at ∙ sym y.at)
+
+-- .. at the point there are such
+pub parts_at_point : (h : History) → IsLawful h → h.waiting ≡ [] → Parts (point h) h
+parts_at_point h lawful none =
+    let s = splits_at_point h lawful none in
+    record { gone = s.front; kept = s.behind; are = s.are; at = s.at }
+
 -- no block is gone in front of journal 0
 pub none_gone : (h : History) → All IsBlock h.closed → (x : Parts 0 h) → x.gone ≡ []
-none_gone h all x = by_gone x.gone refl where
-  first_ones : All IsBlock x.gone
-  first_ones = subst (All IsBlock) (ap (take (length x.gone)) x.are ∙ take_at x.gone x.kept (length x.gone) refl) (All-take IsBlock (length x.gone) h.closed all)
-
-  by_gone : (bs : List (List Entry)) → x.gone ≡ bs → x.gone ≡ []
-  by_gone [] is = is
-  by_gone (b ∷ bs) is =
-      let one = (All-head IsBlock b bs (subst (All IsBlock) is first_ones)).some in
-      let none : length (journals_of (b ∷ bs)) ≡ 0 = ap (λ (l : List (List Entry)). length (journals_of l)) (sym is) ∙ x.at in
-      absurd (omega (arith, one, none, length-append b (journals_of bs)))
-
-pub gone_none : (floor : ℕ) (h : History) → All IsBlock h.closed → floor ≡ 0 → (x : Parts floor h) → x.gone ≡ []
-gone_none floor h all at x = none_gone h all (record { gone = x.gone; kept = x.kept; are = x.are; at = x.at ∙ at })
-
--- and so all are there
-pub all_there : (floor : ℕ) (h : History) → All IsBlock h.closed → floor ≡ 0 → (x : Parts floor h) → x.kept ≡ h.closed
-all_there floor h all at x = sym (x.are ∙ ap (λ (bs : List (List Entry)). bs ++ x.kept) (gone_none floor h all at x))
-
--- all of a history's blocks
-abbrev pub whole_parts : (h : History) → Parts 0 h
-whole_parts h = record { gone = []; kept = h.closed; are = refl; at = refl }
+none_gone h all x = (one_parts 0 h all x (record { gone = []; kept = h.closed; are = refl; at = refl })).0
 
 -- ---- where a file begins
 
-fold_max : (start : ℕ) (ns : List ℕ) → fold max start ns ≡ max start (fold max 0 ns)
-fold_max start [] = omega arith
-fold_max start (n ∷ ns) = omega (arith, fold_max (max start n) ns, fold_max (max 0 n) ns)
-
-two_points : (es fs : List Entry) → greatest_point (es ++ fs) ≡ max (greatest_point es) (greatest_point fs)
-two_points es fs = ap (fold max 0) (map-append purge_point es fs) ∙ fold-append max 0 (map purge_point es) (map purge_point fs) ∙ fold_max (greatest_point es) (map purge_point fs)
-
-none_before : (h : History) → point h ≡ 0 → point_before h ≡ 0
+pub none_before : (h : History) → point h ≡ 0 → point_before h ≡ 0
 unfolding point
 none_before h none =
     let all : greatest_point (journals h) ≡ 0 = none in
@@ -63,41 +71,20 @@ pub begins_first : (floor : ℕ) (h : History) → point h ≡ 0 → (floor ≡ 
 begins_first floor h none (inl at) = at ∙ none
 begins_first floor h none (inr at) = at ∙ none_before h none
 
--- a file that stands for a history begins with journal 0
-pub stands_first : (image : List ℕ) (h : History) (s : StandsFor image h) → s.floor ≡ 0
-stands_first image h s = begins_first s.floor h s.file.unpurged s.begins
+-- a file that stands for a history begins before its end
+pub floor_few : (image : List ℕ) (h : History) (s : StandsFor image h) → s.floor < size h
+floor_few image h s = by_floor s.begins where
+  few : (point h < size h) × (point_before h < size h)
+  few = points_few h (size h - 1) s.file.lawful.journals_are
 
--- .. which is its point
-pub stands_whole : (image : List ℕ) (h : History) → StandsFor image h → StandsBy (point h) (hidden_before h) image h
-stands_whole image h s = subst (λ (n : ℕ). StandsBy n (hidden_before h) image h) (stands_first image h s ∙ sym s.file.unpurged) s.file
+  by_floor : (s.floor ≡ point h) ⊎ (s.floor ≡ point_before h) → s.floor < size h
+  by_floor (inl at) = omega (arith, at, few.0)
+  by_floor (inr at) = omega (arith, at, few.1)
 
--- the file keeps all blocks
-pub same_all : (floor : ℕ) (gone : ℕ → Bool) (image : List ℕ) (h : History) (x : StandsBy floor gone image h) → floor ≡ 0 → SameButHidden (is_hidden h) gone h.closed x.keeps.blocks
-same_all floor gone image h x at =
-    subst (λ (bs : List (List Entry)). SameButHidden (is_hidden h) gone bs x.keeps.blocks) (all_there floor h x.lawful.blocks_are at x.parts) x.keeps.same
+pub stands_whole : (image : List ℕ) (h : History) (s : StandsFor image h) → s.floor ≡ point h → StandsBy (point h) (hidden_before h) image h
+stands_whole image h s at = subst (λ (n : ℕ). StandsBy n (hidden_before h) image h) at s.file
 
 -- ---- what the floor of a file is
-
--- the blocks of a file, where its floor is another's
-abbrev pub file_at : (from to : Floor) → from ≡ to → (generation : ℕ) (bs : List (List Entry)) (image : List ℕ) → HasBlocks from generation bs image → HasBlocks to generation bs image
-file_at from to same generation bs image x = record {
-  front = x.front;
-  head = subst (λ (f : Floor). IsFront generation f.base x.front) same x.head;
-  lawful = subst (λ (f : Floor). AreBlocks f.first bs) same x.lawful;
-  stands = record {
-    gate = x.stands.gate;
-    rest = x.stands.rest;
-    is = subst (λ (f : Floor). image ≡ (x.front ++ open_blocks (written_blocks f.root [] bs)) ++ x.stands.gate ∷ x.stands.rest) same x.stands.is;
-    shut = x.stands.shut;
-  };
-}
-
--- a file that begins with journal 0 has no base
-pub floor_none : (floor : ℕ) (gone : ℕ → Bool) (image : List ℕ) (h : History) (x : StandsBy floor gone image h) → floor ≡ 0 → floor_behind h x.parts.gone ≡ ground
-floor_none floor gone image h x at = ap (floor_behind h) (gone_none floor h x.lawful.blocks_are at x.parts)
-
-abbrev pub file_first : (floor : ℕ) (gone : ℕ → Bool) (image : List ℕ) (h : History) (x : StandsBy floor gone image h) → floor ≡ 0 → HasBlocks ground x.generation x.keeps.blocks image
-file_first floor gone image h x at = file_at (floor_behind h x.parts.gone) ground (floor_none floor gone image h x at) x.generation x.keeps.blocks image x.keeps.file
 
 -- ---- the generation of a file
 
@@ -118,15 +105,9 @@ beside_none : (h : History) (generation : ℕ) (other : List ℕ) → point h �
 beside_none h generation other none (inl empty) = empty
 beside_none h generation other none (inr passed) = absurd (passed.0 (none_before h none ∙ sym none))
 
-pub is_alone : (a b : List ℕ) (h : History) (p : PairFor a b h) → length (other_of p.in_a a b) ≡ 0
-is_alone a b h p = beside_none h p.stands.file.generation (other_of p.in_a a b) p.stands.file.unpurged p.beside
-
--- one file stands for the history, and the other is empty
-pub pair_sides : (a b : List ℕ) (h : History) → PairFor a b h → (StandsFor a h × (length b ≡ 0)) ⊎ (StandsFor b h × (length a ≡ 0))
-pair_sides a b h p = by_side p.in_a p.stands (is_alone a b h p) where
-  by_side : (in_a : Bool) → StandsFor (open_of in_a a b) h → length (other_of in_a a b) ≡ 0 → (StandsFor a h × (length b ≡ 0)) ⊎ (StandsFor b h × (length a ≡ 0))
-  by_side true stands empty = inl (stands, empty)
-  by_side false stands empty = inr (stands, empty)
+-- the other file is empty where no purge has a point above 0
+pub is_alone : (a b : List ℕ) (h : History) → point h ≡ 0 → (p : PairFor a b h) → length (other_of p.in_a a b) ≡ 0
+is_alone a b h none p = beside_none h p.stands.file.generation (other_of p.in_a a b) none p.beside
 
 pub sides_pair : (a b : List ℕ) (h : History) → (StandsFor a h × (length b ≡ 0)) ⊎ (StandsFor b h × (length a ≡ 0)) → PairFor a b h
 sides_pair a b h (inl x) = record { in_a = true; stands = x.0; beside = inl x.1 }

@@ -12,16 +12,14 @@ use Rattle.journal_record.specs.Entry.{Entry}
 use Rattle.journal_record.specs.Header.{spelling}
 use Rattle.journal_record.specs.Records.{IsReadable, AreReadable}
 use Rattle.journal_record.specs.declared.header.Header.{Header}
-use Rattle.ledger_model.specs.History.{History, journals_of, journals, point}
+use Rattle.ledger_model.specs.History.{History, journals_of}
 use Rattle.ledger_model.specs.Targets.{is_hidden}
-use Rattle.ledger_open.specs.Places.{record_len, place_at, place_of_record, places_in, places_at, after_at, entry_at, AllAt, places_of}
+use Rattle.ledger_open.specs.Places.{record_len, place_at, place_of_record, places_in, places_at, after_at, entry_at, AllAt, places_from}
 use Rattle.ledger_open.specs.Standing.{Floor, floor_behind, HasBlocks, IsKept, AllKept, SameButHidden, StandsBy}
 use Rattle.ledger_open.specs.declared.places.PlaceAt.{PlaceAt}
 use Rattle.ledger_open.proofs.AgainLaws.{entry_is, flat}
 use Rattle.ledger_open.proofs.FloorLaws.{floor_digests}
-use Rattle.ledger_open.proofs.HidingLaws.{journals_closed}
 use Rattle.ledger_open.proofs.KeptLaws.{all_kept}
-use Rattle.ledger_open.proofs.PartLaws.{all_there, floor_none}
 use Rattle.ledger_open.proofs.SizeLaws.{GivesDigests, record_size, body_size, block_size, readable}
 
 -- the places of a block's journals, by their headers and by their bytes
@@ -155,7 +153,7 @@ kept_here hid gone file (e ∷ es) (f ∷ fs) (p ∷ ps) a h =
     (subst (λ (x : Header). IsKept hid gone e (entry_at file x p)) a.0.header (subst (IsKept hid gone e) (sym h.0) a.0), kept_here hid gone file es fs ps a.1 h.1)
 
 -- each journal that a file has stands at its place, as far as it is kept
-pub kept_at : (floor : ℕ) (gone : ℕ → Bool) (image : List ℕ) (h : History) (x : StandsBy floor gone image h) → AllAt (is_hidden h) gone image (journals_of x.parts.kept) (places_at (64 + length (floor_behind h x.parts.gone).base) x.parts.kept)
+pub kept_at : (floor : ℕ) (gone : ℕ → Bool) (image : List ℕ) (h : History) (x : StandsBy floor gone image h) → AllAt (is_hidden h) gone image (journals_of x.parts.kept) (places_from (floor_behind h x.parts.gone) x.parts.kept)
 kept_at floor gone image h x =
     let from = floor_behind h x.parts.gone in
     let at = 64 + length from.base in
@@ -163,13 +161,6 @@ kept_at floor gone image h x =
     (all_kept (is_hidden h) gone x.parts.kept x.keeps.blocks x.keeps.same)
     (subst (AreHere image (journals_of x.keeps.blocks)) (sym (places_kept (is_hidden h) gone at x.parts.kept x.keeps.blocks x.keeps.same))
     (file_here from (floor_digests h x.parts.gone x.parts.kept x.parts.are) x.generation x.keeps.blocks image x.keeps.file))
-
--- .. and so does each of the history
-pub history_here : (gone : ℕ → Bool) (image : List ℕ) (h : History) → StandsBy (point h) gone image h → AllAt (is_hidden h) gone image (journals h) (places_of h)
-history_here gone image h x =
-    subst (λ (l : List Entry). AllAt (is_hidden h) gone image l (places_of h)) (sym (journals_closed h x.none))
-    (subst (λ (bs : List (List Entry)). AllAt (is_hidden h) gone image (journals_of bs) (places_at 64 bs)) (all_there (point h) h x.lawful.blocks_are x.unpurged x.parts)
-    (subst (λ (f : Floor). AllAt (is_hidden h) gone image (journals_of x.parts.kept) (places_at (64 + length f.base) x.parts.kept)) (floor_none (point h) gone image h x x.unpurged) (kept_at (point h) gone image h x)))
 
 -- ---- where blocks end
 

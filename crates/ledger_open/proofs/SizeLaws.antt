@@ -18,7 +18,7 @@ use Rattle.journal_record.specs.Records.{IsReadable, AreReadable}
 abbrev pub GivesDigests : (List (List ℕ) → List ℕ) → Type 0
 GivesDigests root = (xs : List (List ℕ)) → length (root xs) ≡ 32
 
-root_at_size : (h : ℕ) (ds : List (List ℕ)) → All (λ d. length d ≡ 32) ds → length (root_at sha256 h ds) ≡ 32
+pub root_at_size : (h : ℕ) (ds : List (List ℕ)) → All (λ d. length d ≡ 32) ds → length (root_at sha256 h ds) ≡ 32
 unfolding root_at
 root_at_size zero [] all = length-sha256 []
 root_at_size zero (d ∷ ds) all = all 0 d (omega arith)
@@ -28,7 +28,7 @@ root_at_size (suc h) ds all =
       | false ↦ length-sha256 (1 ∷ root_at sha256 h (take (2 ^ h) ds) ++ root_at sha256 h (drop (2 ^ h) ds))
     ]
 
-leaves_size : (xs : List (List ℕ)) → All (λ d. length d ≡ 32) (map (leaf sha256) xs)
+pub leaves_size : (xs : List (List ℕ)) → All (λ d. length d ≡ 32) (map (leaf sha256) xs)
 leaves_size xs = All-map (λ d. length d ≡ 32) (leaf sha256) xs (λ k d lt. length-sha256 (0 ∷ get_or xs k d))
 
 pub mth_size : (xs : List (List ℕ)) → length (mth sha256 xs) ≡ 32

@@ -1,12 +1,13 @@
 -- The journals of a block, taken one after the other.
 use Rattle.std.specs.List.{list_all}
-use Rattle.std.specs.Prelude.{not, bytes_eq, max, false, ◌==◌, Result, Ok, Err}
-use Rattle.std.proofs.Common.{◌≡◌, ◌≢◌, inl, inr, ℕ, zero, suc, ◌+◌, ◌<◌, ◌≤◌, Bool, true, ◌&&◌, List, [], ◌∷◌, ◌++◌, length, get_or, take, drop, map, refl, sym, ◌∙◌, ap, subst, arith, append-nil, length-append, get_or-take}
+use Rattle.std.specs.Prelude.{not, bytes_eq, max, false, ◌==◌, IfSome, Option, Some, None, Result, Ok, Err}
+use Rattle.std.proofs.Common.{◌≡◌, ◌≢◌, inl, inr, ℕ, zero, suc, ◌+◌, ◌<◌, ◌≤◌, Bool, true, ◌&&◌, List, [], ◌∷◌, ◌++◌, length, get_or, take, drop, map, refl, sym, ◌∙◌, ap, subst, arith, length-append, get_or-take}
 use Rattle.std.proofs.lemmas.Bool.{true≢false, and_parts, eqb-true, eq-eqb}
 use Rattle.std.proofs.lemmas.List.{length-map, take_all, map-append, take-take}
 use Rattle.std.proofs.lemmas.Slice.Eq.{bytes_eq-Decides}
 use Rattle.sha2.specs.Sha256.{sha256}
-use Rattle.tree_model.specs.Tree.{mth}
+use Rattle.tree_model.specs.Tree.{leaf, root}
+use Rattle.tree_model.specs.RootFrom.{root_from}
 use Rattle.block_file.specs.declared.block.RecordAt.{RecordAt}
 use Rattle.block_file.specs.declared.failure.Damage.{Damage}
 use Rattle.block_file.specs.declared.failure.Damage.TheVariants as damages
@@ -14,19 +15,21 @@ use Rattle.journal_record.specs.Blocks.{leaves_of}
 use Rattle.journal_record.specs.Entry.{Entry}
 use Rattle.journal_record.specs.Header.{spelling}
 use Rattle.journal_record.specs.declared.header.Header.{Header}
-use Rattle.ledger_book.specs.Books.{Kept, Stands, Serves, sealed_size}
-use Rattle.ledger_book.specs.Seals.{head_of}
-use Rattle.ledger_book.specs.Steps.{IsSame}
+use Rattle.ledger_book.specs.Behind.{next_number, IsNextBehind, AreBehind}
+use Rattle.ledger_book.specs.Books.{Kept, Stands}
+use Rattle.ledger_book.specs.Reading.{StandsBehind, root_behind}
+use Rattle.ledger_book.specs.Replaying.{IsPlaced, IsNotPlaced, Replays}
+use Rattle.ledger_book.specs.Seals.{IsNextSealed}
+use Rattle.ledger_book.specs.declared.sealed.Sealed.{Sealed}
 use Rattle.ledger_bytes.specs.declared.digest.Digest.{Digest}
-use Rattle.merkle_tree.specs.declared.head.Head.{Head}
-use Rattle.ledger_book.specs.Replaying.{IsPlaced, Replays}
-use Rattle.ledger_model.specs.History.{History, history, journals, journals_of, root, leaves, close, blocks as count_of}
-use Rattle.ledger_model.specs.Lawful.{IsNext, AreNext, AllGather, gathers}
+use Rattle.ledger_model.specs.History.{History, journals_of, close, leaf_digest}
+use Rattle.ledger_model.specs.Lawful.{AllGather, gathers}
+use Rattle.pseudo_genesis.specs.declared.base.Base.{Base}
 use Rattle.ledger_open.specs.Damages.{CanShare, IsNotNext}
-use Rattle.ledger_open.specs.Taking.{Headed, Goes, IsOther, TakesBlock, IsBadBlock}
-use Rattle.ledger_open.proofs.GrowLaws.{next_more}
-use Rattle.ledger_open.proofs.HidingLaws.{journals_push}
-use Rattle.ledger_open.proofs.NextLaws.{gather_take}
+use Rattle.ledger_open.specs.Standing.{floor_from}
+use Rattle.ledger_open.specs.Taking.{Headed, Goes, IsOther, TakesAllOf, TakesBlock, IsBadBlock}
+use Rattle.ledger_open.proofs.GoesLaws.{goes_more, goes_closed}
+use Rattle.ledger_open.proofs.NextLaws.{gather_take, behind_more}
 
 -- the journal of this record
 pub record Here (es : List Entry) (r : RecordAt) (i : ℕ) : Type 0 where
@@ -137,41 +140,41 @@ max_share (suc i) rs es all some h = let e : suc i ≡ max (suc i) 1 = omega ari
 -- ---- one journal more in the book
 
 pub record Went (old now : Kept) (rs : List RecordAt) (i : ℕ) : Type 0 where
-  pub goes : (blocks : List (List Entry)) (es : List Entry) → Headed es rs → Serves old (history blocks []) → Goes now blocks (take i es)
+  pub goes : (start : Option Base) (blocks : List (List Entry)) (es : List Entry) → Headed es rs → Goes old start blocks [] → TakesAllOf now start blocks (take i es)
 
 pub went_more : (old now next : Kept) (rs : List RecordAt) (i : ℕ) (r : RecordAt) → i < length rs → get_or rs i r ≡ r → Went old now rs i
-    → IsSame now next → ((k : History) → Stands now k → IsPlaced now r.header next k)
-    → Went old next rs (i + 1)
-went_more old now next rs i r lt is w same step = record {
-  goes = λ blocks es h s.
+    → IsPlaced now r.header next → next.blocks ≡ now.blocks → Went old next rs (i + 1)
+went_more old now next rs i r lt is w placed count = record {
+  goes = λ start blocks es h g.
       let f = here es rs i r h lt is in
-      let g = w.goes blocks es h s in
-      let both = step (history blocks (take i es)) g.serves.stands in
+      let t = w.goes start blocks es h g in
       record {
-        serves = subst (λ (l : List Entry). Serves next (history blocks l)) (sym f.more) (record { stands = both.stands f.entry f.header; seen = omega (arith, g.serves.seen, same.floor, same.point) });
-        next = subst (λ (l : List Entry). AreNext (journals_of blocks) l) (sym f.more) (next_more (journals_of blocks) (take i es) (f.entry ∷ []) g.next (subst (λ (x : Header). IsNext (history [] (journals_of blocks ++ take i es)) x) (sym f.header) both.next, tt));
+        goes = subst (Goes next start blocks) (sym f.more)
+            (goes_more start blocks (take i es) g.base g.some now next f.entry t.goes (subst (λ (x : Header). IsPlaced now x next) (sym f.header) placed) count);
+        next = subst (AreBehind start (journals_of blocks)) (sym f.more)
+            (behind_more start (journals_of blocks) (take i es) (f.entry ∷ []) t.next (subst (IsNextBehind start (journals_of blocks ++ take i es)) (sym f.header) (placed.next_behind start (journals_of blocks ++ take i es) t.goes.behind), tt));
       };
 }
 
 pub went_other : (old now : Kept) (rs : List RecordAt) (i n : ℕ) (r : RecordAt) → i < length rs → get_or rs i r ≡ r → Went old now rs i
-    → ((k : History) → Stands now k → IsNext (history [] (journals k)) r.header → ⊥) → n ≡ now.size
-    → (blocks : List (List Entry)) (es : List Entry) → Headed es rs → Serves old (history blocks []) → IsOther (journals_of blocks) es n
-went_other old now rs i n r lt is w refused count blocks es h s =
+    → ((start : Option Base) (js : List Entry) → StandsBehind now start js → IsNextBehind start js r.header → ⊥) → n ≡ now.size
+    → (start : Option Base) (blocks : List (List Entry)) (es : List Entry) → Headed es rs → Goes old start blocks [] → IsOther start (journals_of blocks) es n
+went_other old now rs i n r lt is w refused count start blocks es h g =
     let f = here es rs i r h lt is in
-    let g = w.goes blocks es h s in
+    let t = w.goes start blocks es h g in
     let size : length es ≡ length rs = headed_size es rs h in
     record {
       index = i;
       inside = f.inside;
-      number = count ∙ g.serves.stands.counts.size ∙ length-append (journals_of blocks) (take i es) ∙ ap (λ (k : ℕ). length (journals_of blocks) + k) (take_size i es (omega (arith, size, lt)));
-      next = g.next;
-      other = λ e y. refused (history blocks (take i es)) g.serves.stands (subst (λ (x : Header). IsNext (history [] (journals_of blocks ++ take i es)) x) (ap (λ (x : Entry). x.header) (f.is e) ∙ f.header) y);
+      number = omega (arith, count, t.goes.behind.size_is, length-append (journals_of blocks) (take i es), take_size i es (omega (arith, size, lt)));
+      next = t.next;
+      other = λ e y. refused start (journals_of blocks ++ take i es) t.goes.behind (subst (IsNextBehind start (journals_of blocks ++ take i es)) (ap (λ (x : Entry). x.header) (f.is e) ∙ f.header) y);
     }
 
-pub went_all : (old now : Kept) (rs : List RecordAt) (i : ℕ) → i ≡ length rs → Went old now rs i → (blocks : List (List Entry)) (es : List Entry) → Headed es rs → Serves old (history blocks []) → Goes now blocks es
-went_all old now rs i all w blocks es h s =
+pub went_all : (old now : Kept) (rs : List RecordAt) (i : ℕ) → i ≡ length rs → Went old now rs i → (start : Option Base) (blocks : List (List Entry)) (es : List Entry) → Headed es rs → Goes old start blocks [] → TakesAllOf now start blocks es
+went_all old now rs i all w start blocks es h g =
     let size : length es ≡ i = headed_size es rs h ∙ sym all in
-    subst (λ (l : List Entry). Goes now blocks l) (ap (λ (k : ℕ). take k es) (sym size) ∙ take_all (length es) es (omega arith)) (w.goes blocks es h s)
+    subst (TakesAllOf now start blocks) (ap (λ (k : ℕ). take k es) (sym size) ∙ take_all (length es) es (omega arith)) (w.goes start blocks es h g)
 
 pub at_any : (rs : List RecordAt) (i : ℕ) (d e : RecordAt) → i < length rs → get_or rs i e ≡ get_or rs i d
 at_any [] i d e lt = absurd (omega (arith, lt))
@@ -180,72 +183,99 @@ at_any (x ∷ xs) (suc i) d e lt = at_any xs i d e (omega (arith, lt))
 
 -- ---- the block's end
 
-close_is : (blocks : List (List Entry)) (es : List Entry) → 1 ≤ length es → close (history blocks es) ≡ history (blocks ++ es ∷ []) []
-unfolding close
-close_is blocks [] some = absurd (omega (arith, some))
-close_is blocks (e ∷ es) some = refl
+leaves_again : (js : List Entry) → map leaf_digest js ≡ map (leaf sha256) (leaves_of js)
+leaves_again [] = refl
+leaves_again (j ∷ js) = ap (λ (l : List (List ℕ)). leaf_digest j ∷ l) (leaves_again js)
 
-pub root_is : (blocks : List (List Entry)) (es : List Entry) → root (history (blocks ++ es ∷ []) []) (sealed_size (history (blocks ++ es ∷ []) [])) ≡ mth sha256 (leaves_of (journals_of blocks) ++ leaves_of es)
-unfolding root
-root_is blocks es =
-    let parts : journals_of (blocks ++ es ∷ []) ++ [] ≡ journals_of blocks ++ es = journals_push blocks es in
-    let size : length (leaves (history (blocks ++ es ∷ []) [])) ≡ sealed_size (history (blocks ++ es ∷ []) []) =
-    length-map (journals_of (blocks ++ es ∷ []) ++ []) (λ (e : Entry). spelling e.header) ∙ ap length (append-nil (journals_of (blocks ++ es ∷ []))) in
-    ap (mth sha256) (take_all (sealed_size (history (blocks ++ es ∷ []) [])) (leaves (history (blocks ++ es ∷ []) [])) (omega (arith, size)))
-    ∙ ap (λ (l : List Entry). mth sha256 (leaves_of l)) parts ∙ ap (mth sha256) (map-append (λ (e : Entry). spelling e.header) (journals_of blocks) es)
+-- the root that the book has is that of the file
+root_floor : (start : Option Base) (js : List Entry) → root_behind start js ≡ (floor_from start).root (leaves_of js)
+root_floor None js = ap (root sha256) (leaves_again js)
+root_floor (Some b) js = ap (root_from sha256 (map (λ (d : Digest). d.0) b.peaks) b.point) (leaves_again js)
 
--- what the end of a block tells
-record Ends (mid new : Kept) (found : List ℕ) (blocks : List (List Entry)) (es : List Entry) : Type 0 where
-  pub serves : Serves new (history (blocks ++ es ∷ []) [])
-  pub found_is : found ≡ mth sha256 (leaves_of (journals_of blocks) ++ leaves_of es)
+root_of_block : (start : Option Base) (blocks : List (List Entry)) (es : List Entry) → root_behind start (journals_of blocks ++ es) ≡ (floor_from start).root (leaves_of (journals_of blocks) ++ leaves_of es)
+root_of_block start blocks es = root_floor start (journals_of blocks ++ es) ∙ ap (floor_from start).root (map-append (λ (e : Entry). spelling e.header) (journals_of blocks) es)
 
-ends : (mid new : Kept) (head : Head) (blocks : List (List Entry)) (es : List Entry) → 1 ≤ length es → Goes mid blocks es → ((h : History) → Stands mid h → Stands new (close h)) → IsSame mid new
-    → ((h : History) → Stands new h → head ≡ head_of h) → Ends mid new head.root.0 blocks es
-ends mid new head blocks es some g closes same tells =
-    let stands : Stands new (history (blocks ++ es ∷ []) []) = subst (Stands new) (close_is blocks es some) (closes (history blocks es) g.serves.stands) in
+-- what ending a block tells
+pub record IsSealed (mid new : Kept) (block : ℕ) (found : Digest) : Type 0 where
+  pub closes : (h : History) → Stands mid h → Stands new (close h)
+  pub behind : (start : Option Base) (js : List Entry) → StandsBehind mid start js → StandsBehind new start js
+  pub size : new.size ≡ mid.size
+  pub all : new.sealed ≡ mid.size
+  pub number : block ≡ mid.blocks
+  pub count : new.blocks ≡ mid.blocks + 1
+  pub root : (start : Option Base) (js : List Entry) → StandsBehind mid start js → found.0 ≡ root_behind start js
+
+-- .. as the call's clauses say it
+pub sealed_of : (mid new : Kept) (told : Option Sealed) (sealed : Sealed) → told ≡ Some sealed → ((h : History) → Stands mid h → Stands new (close h)) → ((start : Option Base) (js : List Entry) → StandsBehind mid start js → StandsBehind new start js)
+    → (new.size ≡ mid.size) × (new.sealed ≡ mid.size) → IfSome told (λ s. IsNextSealed mid new s) → IfSome told (λ s. (start : Option Base) (js : List Entry) → StandsBehind mid start js → s.head.root.0 ≡ root_behind start js)
+    → IsSealed mid new sealed.block sealed.head.root
+sealed_of mid new told sealed is closes behind ended next root =
+    let n = subst (λ (o : Option Sealed). IfSome o (λ s. IsNextSealed mid new s)) is next in
     record {
-      serves = record { stands = stands; seen = omega (arith, g.serves.seen, same.floor, same.point) };
-      found_is = ap (λ (x : Head). x.root.0) (tells (history (blocks ++ es ∷ []) []) stands) ∙ root_is blocks es;
+      closes = closes;
+      behind = behind;
+      size = ended.0;
+      all = ended.1;
+      number = n.block;
+      count = n.count;
+      root = subst (λ (o : Option Sealed). IfSome o (λ s. (start : Option Base) (js : List Entry) → StandsBehind mid start js → s.head.root.0 ≡ root_behind start js)) is root;
     }
 
 share_all : (es : List Entry) (rs : List RecordAt) (share : ℕ) → Headed es rs → share ≡ length rs → take share es ≡ es
 share_all es rs share h all = take_all share es (omega (arith, all, headed_size es rs h))
 
 module _ (old mid : Kept) (rs : List RecordAt) (share : ℕ) (some : 1 ≤ share) (shares : (es : List Entry) → Headed es rs → CanShare (take share es))
-    (goes : (blocks : List (List Entry)) (es : List Entry) → Headed es (take share rs) → Serves old (history blocks []) → Goes mid blocks es) where
-  pub takes_block : (new : Kept) (head : Head) (kept : List ℕ) → share ≡ length rs → ((h : History) → Stands mid h → Stands new (close h)) → IsSame mid new
-      → ((h : History) → Stands new h → head ≡ head_of h) → head.root.0 ≡ kept
-      → (blocks : List (List Entry)) (es : List Entry) → Headed es rs → Serves old (history blocks []) → TakesBlock new blocks es kept
-  takes_block new head kept all closes same tells root_same blocks es h s =
-      let whole : take share es ≡ es = share_all es rs share h all in
-      let g : Goes mid blocks es = subst (Goes mid blocks) whole (goes blocks (take share es) (headed_take share es rs h) s) in
-      let e = ends mid new head blocks es (omega (arith, some, all, headed_size es rs h)) g closes same tells in
-      record { serves = e.serves; next = g.next; share = subst CanShare whole (shares es h); root_is = sym root_same ∙ e.found_is }
+    (goes : (start : Option Base) (blocks : List (List Entry)) (es : List Entry) → Headed es (take share rs) → Goes old start blocks [] → TakesAllOf mid start blocks es) where
+  whole : share ≡ length rs → (start : Option Base) (blocks : List (List Entry)) (es : List Entry) → Headed es rs → Goes old start blocks [] → TakesAllOf mid start blocks es
+  whole all start blocks es h g = subst (TakesAllOf mid start blocks) (share_all es rs share h all) (goes start blocks (take share es) (headed_take share es rs h) g)
 
-  pub other_root : (new : Kept) (head : Head) (number : ℕ) (kept : Digest) → share ≡ length rs → ((h : History) → Stands mid h → Stands new (close h)) → IsSame mid new
-      → ((h : History) → Stands new h → head ≡ head_of h) → head.root.0 ≢ kept.0 → ((h : History) → Stands old h → number ≡ count_of h)
-      → (blocks : List (List Entry)) (es : List Entry) → Headed es rs → Serves old (history blocks []) → IsBadBlock blocks es kept.0 (damages.Root number kept head.root)
-  other_root new head number kept all closes same tells other count blocks es h s =
-      let whole : take share es ≡ es = share_all es rs share h all in
-      let g : Goes mid blocks es = subst (Goes mid blocks) whole (goes blocks (take share es) (headed_take share es rs h) s) in
-      let e = ends mid new head blocks es (omega (arith, some, all, headed_size es rs h)) g closes same tells in
-      (count (history blocks []) s.stands, refl, record { next = g.next; share = subst CanShare whole (shares es h); found_is = e.found_is; other = other })
+  can_share : share ≡ length rs → (es : List Entry) → Headed es rs → CanShare es
+  can_share all es h = subst CanShare (share_all es rs share h all) (shares es h)
+
+  pub takes_block : (new : Kept) (block : ℕ) (found kept : Digest) → share ≡ length rs → IsSealed mid new block found → found.0 ≡ kept.0
+      → (start : Option Base) (blocks : List (List Entry)) (es : List Entry) → Headed es rs → Goes old start blocks [] → TakesBlock new start blocks es kept.0
+  takes_block new block found kept all s same start blocks es h g =
+      let t = whole all start blocks es h g in
+      record {
+        goes = goes_closed start blocks es g.base mid new t.goes s.closes (s.behind start (journals_of blocks ++ es) t.goes.behind) s.count;
+        settled = s.size ∙ sym s.all;
+        next = t.next;
+        share = can_share all es h;
+        root_is = sym same ∙ s.root start (journals_of blocks ++ es) t.goes.behind ∙ root_of_block start blocks es;
+      }
+
+  pub other_root : (new : Kept) (block : ℕ) (found kept : Digest) → share ≡ length rs → IsSealed mid new block found → found.0 ≢ kept.0
+      → (start : Option Base) (blocks : List (List Entry)) (es : List Entry) → Headed es rs → Goes old start blocks [] → IsBadBlock start blocks es kept.0 (damages.Root block kept found)
+  other_root new block found kept all s other start blocks es h g =
+      let t = whole all start blocks es h g in (
+        s.number ∙ t.goes.number,
+        refl,
+        record { next = t.next; share = can_share all es h; found_is = s.root start (journals_of blocks ++ es) t.goes.behind ∙ root_of_block start blocks es; other = other },
+      )
+
+  -- the block has a journal, so it ends
+  pub never_none : (new : Kept) → share ≡ length rs → old.size ≡ old.sealed → mid.sealed ≡ old.sealed → new ≡ mid → new.sealed ≡ mid.size
+      → (start : Option Base) (blocks : List (List Entry)) (es : List Entry) → Headed es rs → Goes old start blocks [] → ⊥
+  never_none new all settled sealed same ended start blocks es h g =
+      let t = whole all start blocks es h g in
+      let at : new.sealed ≡ mid.sealed = ap (λ (k : Kept). k.sealed) same in
+      omega (arith, some, all, settled, sealed, at, ended, t.goes.behind.size_is, g.behind.size_is, length-append (journals_of blocks) es, length-append (journals_of blocks) [], headed_size es rs h)
 
   pub not_alone : (first : ℕ) → share < length rs → ((es : List Entry) → Headed es rs → CanShare (take (share + 1) es) → ⊥)
-      → (blocks : List (List Entry)) (es : List Entry) → Headed es rs → first ≡ length (journals_of blocks) → Serves old (history blocks []) → IsNotNext (journals_of blocks) es (first + share)
-  not_alone first less refused blocks es h number s = record {
+      → (start : Option Base) (blocks : List (List Entry)) (es : List Entry) → Headed es rs → first ≡ next_number start (journals_of blocks) → Goes old start blocks [] → IsNotNext start (journals_of blocks) es (first + share)
+  not_alone first less refused start blocks es h number g = record {
     index = share;
     inside = omega (arith, less, headed_size es rs h);
     number = omega (arith, number);
-    next = (goes blocks (take share es) (headed_take share es rs h) s).next;
+    next = (goes start blocks (take share es) (headed_take share es rs h) g).next;
     share = shares es h;
     why = inr (refused es h);
   }
 
 -- the first that isn't the next one among those that can share
-pub other_first : (rs : List RecordAt) (share jsn : ℕ) (blocks : List (List Entry)) (es : List Entry) → share ≤ length rs → Headed es rs → CanShare (take share es)
-    → IsOther (journals_of blocks) (take share es) jsn → IsNotNext (journals_of blocks) es jsn
-other_first rs share jsn blocks es le h can o =
+pub other_first : (rs : List RecordAt) (share jsn : ℕ) (start : Option Base) (blocks : List (List Entry)) (es : List Entry) → share ≤ length rs → Headed es rs → CanShare (take share es)
+    → IsOther start (journals_of blocks) (take share es) jsn → IsNotNext start (journals_of blocks) es jsn
+other_first rs share jsn start blocks es le h can o =
     let size : length (take share es) ≡ share = take_size share es (omega (arith, le, headed_size es rs h)) in
     let less : o.index < share = omega (arith, o.inside, size) in
     let same : take o.index (take share es) ≡ take o.index es = take-take o.index share es (omega (arith, less)) in
@@ -253,9 +283,9 @@ other_first rs share jsn blocks es le h can o =
       index = o.index;
       inside = omega (arith, less, le, headed_size es rs h);
       number = o.number;
-      next = subst (AreNext (journals_of blocks)) same o.next;
+      next = subst (AreBehind start (journals_of blocks)) same o.next;
       share = share_less o.index share es less can;
-      why = inl (λ e next. o.other e (subst (λ (l : List Entry). IsNext (history [] (journals_of blocks ++ l)) (get_or (take share es) o.index e).header) (sym same) (subst (λ (x : Entry). IsNext (history [] (journals_of blocks ++ take o.index es)) x.header) (sym (get_or-take share es o.index e less)) next)));
+      why = inl (λ e next. o.other e (subst (λ (l : List Entry). IsNextBehind start (journals_of blocks ++ l) (get_or (take share es) o.index e).header) (sym same) (subst (λ (x : Entry). IsNextBehind start (journals_of blocks ++ take o.index es) x.header) (sym (get_or-take share es o.index e less)) next)));
     }
 
 pub same_bytes : (a b : List ℕ) → not (bytes_eq a b) ≡ false → a ≡ b
@@ -268,12 +298,11 @@ pub other_bytes : (a b : List ℕ) → not (bytes_eq a b) ≡ true → a ≢ b
 other_bytes a b e same = true≢false (sym ((bytes_eq-Decides a b).1 same) ∙ not_true (bytes_eq a b) e)
 
 -- what replaying told
-pub replayed : (old new : Kept) (header : Header) (told : Result Unit Damage) (done : Unit) → told ≡ Ok done → Replays old header told new → (h : History) → Stands old h → IsPlaced old header new h
+pub replayed : (old new : Kept) (header : Header) (told : Result Unit Damage) (done : Unit) → told ≡ Ok done → Replays old header told new → IsPlaced old header new
 replayed old new header told done is r = subst (λ (t : Result Unit Damage). Replays old header t new) is r
 
-pub refused : (old new : Kept) (header : Header) (told : Result Unit Damage) (damage : Damage) → told ≡ Err damage → Replays old header told new
-    → (damage ≡ damages.Entry old.size) × ((h : History) → Stands old h → IsNext (history [] (journals h)) header → ⊥)
-refused old new header told damage is r = let e = subst (λ (t : Result Unit Damage). Replays old header t new) is r in (e.0, e.1)
+pub refused : (old new : Kept) (header : Header) (told : Result Unit Damage) (damage : Damage) → told ≡ Err damage → Replays old header told new → IsNotPlaced old header damage new
+refused old new header told damage is r = subst (λ (t : Result Unit Damage). Replays old header t new) is r
 
 pub headed_by : (es : List Entry) (rs ss : List RecordAt) → ss ≡ rs → Headed es rs → Headed es ss
 headed_by es rs ss is h = h ∙ ap (map (λ (r : RecordAt). r.header)) (sym is)

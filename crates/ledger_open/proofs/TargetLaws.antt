@@ -1,6 +1,6 @@
 -- What the last journal hides, by its header.
 use Rattle.std.specs.List.{list_any}
-use Rattle.std.specs.Prelude.{◌==◌, slice_get}
+use Rattle.std.specs.Prelude.{◌==◌, max, slice_get}
 use Rattle.std.proofs.Common.{◌≡◌, ◌⊎◌, inl, inr, ℕ, zero, suc, ◌+◌, ◌-◌, ◌<◌, ◌≤◌, Bool, true, false, cond, ◌&&◌, ◌||◌, List, [], ◌∷◌, ◌++◌, length, take, Option, None, Some, refl, sym, ◌∙◌, ap, subst, arith, length-append}
 use Rattle.std.proofs.lemmas.Bool.{eqb-true, eq-eqb, true≢false}
 use Rattle.std.proofs.lemmas.List.{take_at}
@@ -9,17 +9,20 @@ use Rattle.std.proofs.lemmas.Option.{none-some}
 use Rattle.journal_record.specs.Entry.{Entry}
 use Rattle.journal_record.specs.declared.header.Kind.{Kind}
 use Rattle.journal_record.specs.declared.header.Kind.TheVariants.{Genesis, Content, Member, Time, Occult, Purge}
-use Rattle.ledger_model.proofs.LawfulLaws.{AreFrom, lawful_from, some_journal}
-use Rattle.ledger_model.specs.History.{History, history, journals, size}
-use Rattle.ledger_model.specs.Lawful.{AreLawful, AreNext, IsNext, IsNextOf}
+use Rattle.ledger_model.proofs.LawfulLaws.{AreFrom, lawful_from, some_journal, two_points}
+use Rattle.ledger_model.specs.History.{History, history, journals, size, point, greatest_point, is_purge}
+use Rattle.ledger_model.specs.Lawful.{AreLawful, AreNext, IsNext, IsNextOf, IsNextOccult}
 use Rattle.ledger_model.specs.Targets.{is_occult, hides, is_hidden_by, is_hidden}
 use Rattle.ledger_open.specs.Erasing.{target_of, last_target}
-use Rattle.ledger_open.specs.Standing.{hidden_before}
-use Rattle.ledger_open.proofs.NextLaws.{next_behind}
+use Rattle.ledger_open.specs.Standing.{hidden_before, point_before}
+use Rattle.ledger_open.proofs.NextLaws.{next_one}
 
 -- the last journal hides the content of this one, and only it does
 pub record IsTarget (h : History) (n : ℕ) : Type 0 where
   pub within : n < size h
+  -- no purge has taken it, and the last journal, which hides it, is none
+  pub kept : point_before h ≤ n
+  pub point_is : point h ≡ point_before h
   pub hidden : is_hidden h n ≡ true
   pub first : hidden_before h n ≡ false
   pub only : (m : ℕ) → is_hidden h m ≡ true → (m ≡ n) ⊎ (hidden_before h m ≡ true)
@@ -141,16 +144,26 @@ module _ (h : History) (lawful : AreLawful (journals h)) where
 
   -- the last journal is the next one behind the others
   last_next : IsNext (history [] l.before) l.last.header
-  last_next = (next_behind [] l.before (l.last ∷ []) (subst (λ (es : List Entry). AreNext [] es) l.is lawful.next)).0
+  last_next = next_one [] l.before l.last [] (subst (λ (es : List Entry). AreNext [] es) l.is lawful.next)
 
-  -- an occult that may be the next journal hides one that is there, and that no other hides
-  occult_next : (x : Kind) → x ≡ Occult → IsNextOf (history [] l.before) l.last.header x → (l.last.header.a < length l.before) × (is_hidden (history [] l.before) l.last.header.a ≡ false)
+  -- an occult that may be the next journal hides one that is kept, and that no other hides
+  occult_next : (x : Kind) → x ≡ Occult → IsNextOf (history [] l.before) l.last.header x → IsNextOccult (history [] l.before) l.last.header
   occult_next Genesis is own = absurd (true≢false (sym (ap is_occult is)))
   occult_next Content is own = absurd (true≢false (sym (ap is_occult is)))
   occult_next Member is own = absurd (true≢false (sym (ap is_occult is)))
   occult_next Time is own = absurd (true≢false (sym (ap is_occult is)))
-  occult_next Occult is own = (own.before, own.shown)
-  occult_next Purge is own = absurd own
+  occult_next Occult is own = own
+  occult_next Purge is own = absurd (true≢false (sym (ap is_occult is)))
+
+  before_point : point_before h ≡ point (history [] l.before)
+  unfolding point
+  before_point = ap greatest_point front_is
+
+  -- an occult purges nothing
+  last_shown : l.last.header.kind ≡ Occult → point h ≡ point_before h
+  unfolding point
+  last_shown is =
+      ap greatest_point l.is ∙ two_points l.before (l.last ∷ []) ∙ ap (λ (k : Kind). max (greatest_point l.before) (max 0 (cond (is_purge k) l.last.header.a 0))) is ∙ omega arith ∙ sym (ap greatest_point front_is)
 
   -- .. and where it hides one, that one was shown before, and it is the only one
   pub target_is : (n : ℕ) → last_target h ≡ Some n → IsTarget h n
@@ -160,18 +173,20 @@ module _ (h : History) (lawful : AreLawful (journals h)) where
     by_kind true kind =
         let a_is : l.last.header.a ≡ n = cc (sym (target_is_last ∙ ap (λ (v : Bool). cond v (Some l.last.header.a) None) kind) ∙ is) in
         let own = occult_next l.last.header.kind (occult_is l.last.header.kind kind) last_next.own in
-        let within : n < size h = omega (arith, own.0, a_is, size_is) in
+        let within : n < size h = omega (arith, own.before, a_is, size_is) in
         let there = got_there n (journals h) within in
         record {
           within = within;
+          kept = omega (arith, own.kept, a_is, before_point);
+          point_is = last_shown (occult_is l.last.header.kind kind);
           hidden =
               hidden_is n there.0 there.1
               ∙ ap (λ (v : Bool). hidden_before h n || (v && l.last.header.a == there.0.header.jsn)) kind
               ∙ ap (λ (v : Bool). hidden_before h n || v) (eq-eqb l.last.header.a there.0.header.jsn (a_is ∙ sym (jsn_is n there.0 there.1))) ∙ or_true (hidden_before h n);
           first =
               ap (λ (es : List Entry). is_hidden_by es (slice_get (journals h) n)) front_is ∙ ap (λ (es : List Entry). is_hidden_by l.before (slice_get es n)) l.is
-              ∙ ap (λ (t : Option Entry). is_hidden_by l.before t) (got_front n l.before (l.last ∷ []) (omega (arith, own.0, a_is)))
-              ∙ subst (λ (m : ℕ). is_hidden (history [] l.before) m ≡ false) a_is own.1;
+              ∙ ap (λ (t : Option Entry). is_hidden_by l.before t) (got_front n l.before (l.last ∷ []) (omega (arith, own.before, a_is)))
+              ∙ subst (λ (m : ℕ). is_hidden (history [] l.before) m ≡ false) a_is own.shown;
           only = λ m z.
               let other = hidden_there m z in
               elim (or_parts (hidden_before h m) (hides other.0 l.last) (sym (hidden_is m other.0 other.1) ∙ z)) [

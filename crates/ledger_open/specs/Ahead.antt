@@ -7,12 +7,13 @@ use Rattle.block_file.specs.declared.failure.Damage.{Damage}
 use Rattle.block_file.specs.declared.failure.FileErr.{FileErr}
 use Rattle.block_file.specs.declared.failure.FileErr.TheVariants.{Damaged}
 use Rattle.journal_record.specs.Entry.{Entry}
+use Rattle.ledger_book.specs.Behind.{next_number}
 use Rattle.ledger_book.specs.Books.{Kept}
 use Rattle.ledger_book.specs.Steps.{IsLeafOf}
 use Rattle.ledger_bytes.specs.declared.digest.Digest.{Digest}
 use Rattle.ledger_model.specs.History.{journals_of}
 use Rattle.ledger_open.specs.Damages.{IsDamage}
-use Rattle.ledger_open.specs.Opening.{Known, known_from, HasRead, IsPlain, as_open}
+use Rattle.ledger_open.specs.Opening.{Known, known_from, HasRead, as_open}
 use Rattle.ledger_open.specs.declared.ahead.Ahead.{Ahead}
 use Rattle.ledger_open.specs.declared.ahead.Hashed.{Hashed}
 use Rattle.ledger_open.specs.declared.ahead.Stop.{Stop}
@@ -27,7 +28,7 @@ pub record AreLeaves (rs : List RecordAt) (leaves : List Digest) : Type 0 where
 
 -- a block was read behind the gate at this place, and its first journal has this number; where the disk tells its
 -- bytes, it stands there
-pub record WasRead (tells : Bool) (file : List ℕ) (at first : ℕ) (block : BlockAt) : Type 0 where
+pub record BlockWasRead (tells : Bool) (file : List ℕ) (at first : ℕ) (block : BlockAt) : Type 0 where
   pub read : (es : List Entry) × AreBlock first es × IsRead at es block
   pub stands : IsTrue tells → IsNextBlock at file first (Ok (Some block))
 
@@ -35,7 +36,7 @@ pub record WasRead (tells : Bool) (file : List ℕ) (at first : ℕ) (block : Bl
 abbrev pub WereRead : Bool → List ℕ → ℕ → ℕ → List BlockAt → Type 0
 WereRead tells file at first [] = ⊤
 WereRead tells file at first (b ∷ bs) =
-    WasRead tells file at first b × WereRead tells file (at + 1 + b.len) (first + length b.records) bs
+    BlockWasRead tells file at first b × WereRead tells file (at + 1 + b.len) (first + length b.records) bs
 
 -- where the gate behind some blocks stands
 abbrev pub place_behind : ℕ → List BlockAt → ℕ
@@ -65,8 +66,8 @@ blocks_in hs = map (λ h. h.block) hs
 -- what of a file was read and taken, the blocks that were read behind it, and why no more were
 pub record IsAhead (tells : Bool) (file : List ℕ) (k : Known) (blocks : List BlockAt) (stop : Stop) : Type 0 where
   pub read : HasRead tells file k
-  pub ahead : WereRead tells file k.place (length (journals_of read.blocks)) blocks
-  pub ends : IsStop tells file (place_behind k.place blocks) (number_behind (length (journals_of read.blocks)) blocks) stop
+  pub ahead : WereRead tells file k.place (next_number read.start (journals_of read.blocks)) blocks
+  pub ends : IsStop tells file (place_behind k.place blocks) (number_behind (next_number read.start (journals_of read.blocks)) blocks) stop
 
 -- these blocks were read behind those that a book has
 abbrev pub HasAhead : Kept → List PlaceAt → List BlockAt → Type 0
@@ -83,8 +84,7 @@ pub record TakesAll (old : Kept) (old_places : List PlaceAt) (new : Kept) (new_p
 -- the file from which these blocks were read has this damage
 pub record IsBadAhead (book : Kept) (places : List PlaceAt) (blocks : List BlockAt) (damage : Damage) : Type 0 where
   pub bad : (tells : Bool) (file : List ℕ) (at : ℕ) (rest : List BlockAt) (stop : Stop)
-      → IsAhead tells file (known_from book places at) (blocks ++ rest) stop → IsTrue tells → IsPlain file
-      → IsDamage file damage
+      → IsAhead tells file (known_from book places at) (blocks ++ rest) stop → IsTrue tells → IsDamage file damage
 
 -- Blocks with their leaf digests, behind those that a book has; the next gate stands at this place.
 pub record AreNextBlocks (tells : Bool) (file : List ℕ) (book : Kept) (places : List PlaceAt) (ahead : Ahead) (place : ℕ) : Type 0 where

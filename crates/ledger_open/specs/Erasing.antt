@@ -1,14 +1,15 @@
 -- How the content that the last journal hides is given up.
-use Rattle.std.specs.Prelude.{◌≡◌, ℕ, ◌+◌, ◌-◌, ◌≤◌, if◌then◌else◌, All, List, [], length, map, get_or, replicate, slice_get, Option, None, Some}
+use Rattle.std.specs.List.{Contains}
+use Rattle.std.specs.Prelude.{◌≡◌, ◌⊎◌, ℕ, ◌+◌, ◌-◌, ◌≤◌, if◌then◌else◌, All, List, [], Bool, length, map, take, drop, get_or, replicate, slice_get, Option, None, Some}
 use Rattle.block_file.specs.File.{IsSettled}
 use Rattle.journal_record.specs.Entry.{Entry}
 use Rattle.ledger_book.specs.Books.{Kept, Serves}
 use Rattle.ledger_disk.specs.Disk.{State, MayLeave, overlay, settled_state}
 use Rattle.ledger_disk.specs.Guards.{Outside}
-use Rattle.ledger_model.specs.History.{History, journals, size}
+use Rattle.ledger_model.specs.History.{History, history, journals, size, point}
 use Rattle.ledger_model.specs.Targets.{is_occult}
-use Rattle.ledger_open.specs.Places.{places_of}
-use Rattle.ledger_open.specs.Standing.{StandsFor, IsErased}
+use Rattle.ledger_open.specs.Places.{places_from}
+use Rattle.ledger_open.specs.Standing.{Floor, floor_behind, point_before, Parts, AreZeros, StandsBy, StandsFor, IsErased}
 use Rattle.ledger_open.specs.declared.places.PlaceAt.{PlaceAt}
 
 -- ---- contents in a file
@@ -21,12 +22,22 @@ AllInside end places = All (λ p. p.content_at + p.content_len ≤ end) places
 abbrev pub AreBetween : ℕ → ℕ → List PlaceAt → Type 0
 AreBetween low high places = All (λ p. (low ≤ p.content_at) × (p.content_at + p.content_len ≤ high)) places
 
--- where the content of journal n stands in a file that begins with journal 0, and how long it is
-abbrev pub content_place : History → ℕ → ℕ
-content_place h n = get_or (map (λ p. p.content_at) (places_of h)) n 0
+-- where the content of journal n stands in a file that has these blocks and begins at this floor, and how long it is
+abbrev pub content_place : Floor → List (List Entry) → ℕ → ℕ
+content_place floor blocks n = get_or (map (λ p. p.content_at) (places_from floor blocks)) (n - floor.first) 0
 
-abbrev pub content_size : History → ℕ → ℕ
-content_size h n = get_or (map (λ p. p.content_len) (places_of h)) n 0
+abbrev pub content_size : Floor → List (List Entry) → ℕ → ℕ
+content_size floor blocks n = get_or (map (λ p. p.content_len) (places_from floor blocks)) (n - floor.first) 0
+
+-- this file reads like one that stands for the history outside the content of journal n
+abbrev pub IsOutsideOf : {floor : ℕ} {zeros : ℕ → Bool} {image : List ℕ} {h : History} → StandsBy floor zeros image h → ℕ → List ℕ → Type 0
+IsOutsideOf {image = image} {h = h} file n new =
+    Outside (content_place (floor_behind h file.parts.gone) file.parts.kept n) (content_size (floor_behind h file.parts.gone) file.parts.kept n) image new
+
+-- .. and zeros stand where that one has it
+abbrev pub IsZeroedIn : {floor : ℕ} {zeros : ℕ → Bool} {image : List ℕ} {h : History} → StandsBy floor zeros image h → ℕ → List ℕ → Type 0
+IsZeroedIn {h = h} file n new =
+    AreZeros (take (content_size (floor_behind h file.parts.gone) file.parts.kept n) (drop (content_place (floor_behind h file.parts.gone) file.parts.kept n) new))
 
 -- ---- the content that the last journal hides
 
@@ -38,28 +49,40 @@ target_of (Some e) = if is_occult e.header.kind then Some e.header.a else None
 abbrev pub last_target : History → Option ℕ
 last_target h = target_of (slice_get (journals h) (size h - 1))
 
--- the file with zeros in place of the content of this journal
-abbrev pub with_zeros : History → Option ℕ → List ℕ → List ℕ
-with_zeros h None file = file
-with_zeros h (Some n) file = overlay (content_place h n) (replicate (content_size h n) 0) file
+-- a file that has these blocks and begins at this floor, with zeros in place of the content of this journal
+abbrev pub with_zeros : Floor → List (List Entry) → Option ℕ → List ℕ → List ℕ
+with_zeros floor blocks None file = file
+with_zeros floor blocks (Some n) file = overlay (content_place floor blocks n) (replicate (content_size floor blocks n) 0) file
 
--- the file with zeros in place of the content that the last journal hides
-abbrev pub given_up : History → List ℕ → List ℕ
-given_up h file = with_zeros h (last_target h) file
+-- .. with zeros in place of the content that the last journal of its blocks hides
+abbrev pub given_up : Floor → List (List Entry) → List ℕ → List ℕ
+given_up floor blocks file = with_zeros floor blocks (last_target (history blocks [])) file
 
 -- ---- a ledger in memory
 
--- The book and the places are those of this history, none of whose journals waits.
+-- The book and the places are those of this history, none of whose journals waits, in a file that begins where the book
+-- does: at the point, or at the point before the last journal.
 pub record EndsAs (book : Kept) (places : List PlaceAt) (h : History) : Type 0 where
   pub serves : Serves book h
-  pub places_are : places ≡ places_of h
+  pub begins : (book.floor ≡ point h) ⊎ (book.floor ≡ point_before h)
+  pub parts : Parts book.floor h
+  pub places_are : places ≡ places_from (floor_behind h parts.gone) parts.kept
   pub none : h.waiting ≡ []
 
--- there stands the content that the last journal hides; or it hides none
-abbrev pub IsOpenContent : History → Option PlaceAt → Type 0
-IsOpenContent h None = last_target h ≡ None
-IsOpenContent h (Some p) =
-    (n : ℕ) × (last_target h ≡ Some n) × (p.content_at ≡ content_place h n) × (p.content_len ≡ content_size h n)
+-- .. in a file that begins where the book does, wherever that is
+pub record AreOf (book : Kept) (places : List PlaceAt) (h : History) : Type 0 where
+  pub serves : Serves book h
+  pub parts : Parts book.floor h
+  pub places_are : places ≡ places_from (floor_behind h parts.gone) parts.kept
+  pub none : h.waiting ≡ []
+
+-- there stands the content that the last journal of these blocks hides, in a file that begins at this floor; or it hides
+-- none
+abbrev pub IsOpenContent : Floor → List (List Entry) → Option PlaceAt → Type 0
+IsOpenContent floor blocks None = last_target (history blocks []) ≡ None
+IsOpenContent floor blocks (Some p) =
+    (n : ℕ) × (last_target (history blocks []) ≡ Some n) × (p.content_at ≡ content_place floor blocks n)
+    × (p.content_len ≡ content_size floor blocks n)
 
 -- of a file that stood for this history all that it hides is gone, for good
 pub record IsGivenUp (old new : State) (h : History) : Type 0 where
@@ -69,21 +92,27 @@ pub record IsGivenUp (old new : State) (h : History) : Type 0 where
 
 -- ---- the disk of an open file with this book and these places, before and after what the last journal hides is given up
 
--- all that is hidden is gone
+-- in a file that begins at the point all that is hidden is gone
 abbrev pub GivesUp : Kept → List PlaceAt → State → State → Type 0
 GivesUp book places old new =
-    (h : History) → EndsAs book places h → IsSettled old → StandsFor old.seen h → IsGivenUp old new h
+    (h : History) → EndsAs book places h → IsSettled old → (stands : StandsFor old.seen h) → stands.floor ≡ point h
+    → IsGivenUp old new h
 
 -- zeros stand in that place, and nothing else was written
 abbrev pub WritesZeros : Kept → List PlaceAt → State → State → Type 0
 WritesZeros book places old new =
-    (h : History) → EndsAs book places h → IsSettled old → new ≡ settled_state (given_up h old.seen)
+    (h : History) (are : AreOf book places h) → IsSettled old
+    → new ≡ settled_state (given_up (floor_behind h are.parts.gone) are.parts.kept old.seen)
 
 -- a crash at any time leaves a file that stands for the history
 abbrev pub StandsMeanwhile : Kept → List PlaceAt → State → State → Type 0
 StandsMeanwhile book places old new =
     (h : History) → EndsAs book places h → IsSettled old → StandsFor old.seen h
     → (image : List ℕ) → MayLeave new image → StandsFor image h
+
+-- where the last journal hides nothing, nothing was written
+abbrev pub LeavesShown : Kept → List PlaceAt → State → State → Type 0
+LeavesShown book places old new = (h : History) → AreOf book places h → last_target h ≡ None → new ≡ old
 
 -- where all that is hidden was gone, nothing was written
 abbrev pub LeavesErased : Kept → List PlaceAt → State → State → Type 0
@@ -93,3 +122,11 @@ LeavesErased book places old new =
 -- whatever the book says, a file reads as before in front of and behind all contents
 abbrev pub LeavesRest : List PlaceAt → State → State → Type 0
 LeavesRest places old new = (low high : ℕ) → AreBetween low high places → Outside low (high - low) old.seen new.seen
+
+-- the file as it was, or with zeros for one of the contents at these places
+abbrev pub ErasesOne : List PlaceAt → List ℕ → List ℕ → Type 0
+ErasesOne places old new = (new ≡ old) ⊎ ((p : PlaceAt) × Contains places p × (new ≡ overlay p.content_at (replicate p.content_len 0) old))
+
+-- so it is with the disk, and nothing is pending
+abbrev pub WritesOne : List PlaceAt → State → State → Type 0
+WritesOne places old new = IsSettled old → (file : List ℕ) × ErasesOne places old.seen file × (new ≡ settled_state file)

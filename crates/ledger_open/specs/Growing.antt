@@ -27,7 +27,6 @@ pub record IsNextBlock (h : History) (block : List Entry) : Type 0 where
   pub entries : record_.IsBlock (size h) block
   pub shape : IsBlock block
   pub next : AreNext (journals h) block
-  pub floor : point (with_block block h) ≡ 0
 
 abbrev pub Grows : Type 0
 Grows =
@@ -37,7 +36,7 @@ Grows =
 abbrev pub GrowsErased : Type 0
 GrowsErased =
     (image new : List ℕ) (h : History) (block : List Entry) → IsErased image h → IsNextBlock h block
-    → ((target : Entry) → list_any (hides target) block ≡ false)
+    → ((target : Entry) → list_any (hides target) block ≡ false) → point (with_block block h) ≡ point h
     → StandsFor new (with_block block h) → IsErased new (with_block block h)
 
 -- the file of a new ledger: a head of generation 1 without a base, block 0 and a tail gate

@@ -1,4 +1,5 @@
 pub mod Heads
+pub mod Starts
 pub mod Standing
 pub mod Places
 pub mod PlaceList
@@ -9,3 +10,7 @@ pub mod Opening
 pub mod Ahead
 pub mod Taking
 pub mod Erasing
+pub mod Order
+pub mod Cutting
+pub mod Purging
+pub mod Reopened

@@ -1,5 +1,5 @@
 -- What is known of a ledger that was made or opened, and what making and opening leave.
-use Rattle.std.specs.Prelude.{◌≡◌, ◌⊎◌, ℕ, ◌+◌, Bool, false, IsTrue, List, [], length, take, drop, Option, Some, None, Result, Err, MatchResult, ⊤}
+use Rattle.std.specs.Prelude.{◌≡◌, ◌⊎◌, ℕ, ◌+◌, ◌≤◌, Bool, false, IsTrue, List, [], length, take, drop, Option, Result, Err, MatchResult}
 use Rattle.block_file.specs.File.{IsSettled}
 use Rattle.block_file.specs.Head.{IsShut, HasHead, number_at}
 use Rattle.block_file.specs.Place.{base_len_of, base_digest_of}
@@ -10,18 +10,17 @@ use Rattle.journal_record.specs.Blocks.{AreBlocks}
 use Rattle.journal_record.specs.Entry.{Entry}
 use Rattle.ledger_book.specs.Books.{Kept, Serves}
 use Rattle.ledger_bytes.specs.Causes.{count_after}
-use Rattle.ledger_disk.specs.Disk.{State, MayLeave, OneMore, settled_state}
-use Rattle.ledger_model.specs.Bases.{base_of}
-use Rattle.ledger_model.specs.History.{History, history}
+use Rattle.ledger_disk.specs.Disk.{State, OneMore, settled_state}
+use Rattle.ledger_model.specs.History.{History, journals_of, greatest_point}
 use Rattle.ledger_model.specs.Lawful.{IsLawful}
 use Rattle.ledger_model.specs.Targets.{is_hidden}
-use Rattle.pseudo_genesis.specs.Bases.{IsBase, HasWidths}
 use Rattle.pseudo_genesis.specs.declared.base.Base.{Base}
-use Rattle.twin_file.specs.Twin.{open_of, other_of, IsTaken, IsReopenErr}
-use Rattle.ledger_open.specs.Damages.{Begun, IsDamage}
-use Rattle.ledger_open.specs.Erasing.{given_up}
+use Rattle.twin_file.specs.Twin.{open_of, IsTaken, IsReopenErr}
+use Rattle.ledger_open.specs.Damages.{IsDamage, IsReadTo}
 use Rattle.ledger_open.specs.Places.{places_at, after_at}
-use Rattle.ledger_open.specs.Standing.{ground, floor_from, HasBlocks, Parts, SameButHidden, StandsFor, PairFor, IsClean, IsCleanPair}
+use Rattle.ledger_open.specs.Starts.{IsDecoded, IsBaseOf, AreLegal, HasOwnPurge}
+use Rattle.ledger_open.specs.Standing.{floor_from, HasBlocks, Parts, SameButHidden}
+use Rattle.ledger_open.specs.Taking.{Goes}
 use Rattle.ledger_open.specs.declared.failure.OpenErr.{OpenErr}
 use Rattle.ledger_open.specs.declared.places.PlaceAt.{PlaceAt}
 use Rattle.ledger_open.specs.declared.failure.OpenErr.TheVariants.{DiskFault, Damaged, Empty, Exists, NewerFormat, NoMemory}
@@ -37,16 +36,6 @@ pub record Known : Type 0 where
 abbrev pub known_from : Kept → List PlaceAt → ℕ → Known
 known_from book places place = record { book = book; places = places; place = place }
 
--- a base that keeps its rules, where there is one
-abbrev pub IsDecoded : Option Base → Type 0
-IsDecoded None = ⊤
-IsDecoded (Some b) = IsBase b × HasWidths b
-
--- it is that of this history at its point
-abbrev pub IsBaseOf : Option Base → History → Type 0
-IsBaseOf None h = ⊤
-IsBaseOf (Some b) h = base_of h b.point ≡ b
-
 -- This history goes on from the base, or begins, with these blocks, but for contents that are hidden: it is one of those
 -- that a file with this base and these blocks may be of.
 pub record GoesOn (start : Option Base) (blocks : List (List Entry)) (h : History) : Type 0 where
@@ -59,33 +48,49 @@ pub record GoesOn (start : Option Base) (blocks : List (List Entry)) (h : Histor
 -- They are those of this base, or of none, and of these blocks, for each history that goes on so. No disk is in it.
 pub record Knows (k : Known) (start : Option Base) (blocks : List (List Entry)) : Type 0 where
   pub base : IsDecoded start
-  -- no file has a base so far, and so the blocks are a whole history
-  pub unbased : start ≡ None
-  pub legal : IsLawful (history blocks [])
+  pub legal : AreLegal start blocks
+  pub reached : HasOwnPurge start (journals_of blocks)
   pub lawful : AreBlocks (floor_from start).first blocks
   pub serves : (h : History) → GoesOn start blocks h → Serves k.book h
+  pub floor : k.book.floor ≡ (floor_from start).first
+  pub point : k.book.point ≡ greatest_point (journals_of blocks)
   pub places : k.places ≡ places_at (64 + length (floor_from start).base) blocks
   pub tail : k.place ≡ after_at (64 + length (floor_from start).base) blocks
+  pub size : k.book.size ≡ (floor_from start).first + length (journals_of blocks)
   -- no journal waits
   pub settled : k.book.size ≡ k.book.sealed
 
 -- ---- what was read
 
--- a file with a head that is known, which names no base
-pub record IsPlain (file : List ℕ) : Type 0 where
-  pub head : HasHead file
-  pub none : number_at 18 file ≡ 0
+-- What was taken so far is that of this base, or of none, and of these blocks, whether a purge up to the base was met or not.
+-- No disk is in it.
+pub record HasTaken (k : Known) (start : Option Base) (blocks : List (List Entry)) : Type 0 where
+  pub legal : AreLegal start blocks
+  pub lawful : AreBlocks (floor_from start).first blocks
+  pub goes : Goes k.book start blocks []
+  pub places : k.places ≡ places_at (64 + length (floor_from start).base) blocks
+  pub tail : k.place ≡ after_at (64 + length (floor_from start).base) blocks
+  pub settled : k.book.size ≡ k.book.sealed
 
--- some blocks are known; and where the disk tells its bytes, the file begins with them
+-- some blocks were taken; and where the disk tells its bytes, the file begins with them
 pub record HasRead (tells : Bool) (file : List ℕ) (k : Known) : Type 0 where
   pub start : Option Base
   pub blocks : List (List Entry)
-  pub knows : Knows k start blocks
-  pub begun : IsTrue tells → IsPlain file → Begun (floor_from start) file blocks k.place
+  pub taken : HasTaken k start blocks
+  pub begun : IsTrue tells → IsReadTo file start blocks k.place
 
--- an open file has lawful blocks, of some generation, and so no damage
+-- An open file has this base, or none, and lawful blocks, of some generation, and so no damage: none of its journals is
+-- missing or wrong.
+pub record HasWhole (file : List ℕ) (start : Option Base) (blocks : List (List Entry)) : Type 0 where
+  pub generation : ℕ
+  pub has : HasBlocks (floor_from start) generation blocks file
+  pub base : IsDecoded start
+  pub legal : AreLegal start blocks
+  pub reached : HasOwnPurge start (journals_of blocks)
+
+-- .. this base, or none, and these blocks
 abbrev pub HasLawfulBlocks : List ℕ → Type 0
-HasLawfulBlocks file = (generation : ℕ) × (blocks : List (List Entry)) × HasBlocks ground generation blocks file × IsLawful (history blocks [])
+HasLawfulBlocks file = (start : Option Base) × (blocks : List (List Entry)) × HasWhole file start blocks
 
 -- an open file has this base, or none, and these blocks, of some generation
 abbrev pub HasFile : Option Base → List (List Entry) → List ℕ → Type 0
@@ -185,66 +190,6 @@ AreSettled a b a_new b_new = (a_new ≡ settled_state a.seen) × (b_new ≡ sett
 abbrev pub WereSettled : {T : Type 0} → Result T OpenErr → State → State → Type 0
 WereSettled result a b = result ≡ Err DiskFault → IsSettled a × IsSettled b
 
--- every pair of images stands for what the pair stood for
-abbrev pub PairStandsStill : State → State → State → State → Type 0
-PairStandsStill a b a_new b_new =
-    (h : History) → PairFor a.seen b.seen h
-    → (image_a image_b : List ℕ) → MayLeave a_new image_a → MayLeave b_new image_b → PairFor image_a image_b h
-
 -- nothing was written to two files
 abbrev pub AreUnchanged : State → State → State → State → Type 0
 AreUnchanged a b a_new b_new = (a_new ≡ a) × (b_new ≡ b)
-
--- a pair that was clean, and of which nothing was pending, is the same
-abbrev pub IsCleanStill : State → State → State → State → Type 0
-IsCleanStill a b a_new b_new = IsSettled a → IsSettled b → (h : History) → IsCleanPair a.seen b.seen h → AreUnchanged a b a_new b_new
-
--- .. so is a file
-abbrev pub IsCleanFileStill : State → State → Type 0
-IsCleanFileStill old new = IsSettled old → (h : History) → IsClean old.seen h → new ≡ old
-
--- every image of the file stands for what it stood for
-abbrev pub StandsStill : State → State → Type 0
-StandsStill old new =
-    (h : History) → StandsFor old.seen h → (image : List ℕ) → MayLeave new image → StandsFor image h
-
--- An open file is cut behind its tail gate, which stands at this place, and what the last journal of its blocks hides is
--- zeros in it. Nothing else is changed, and nothing is pending.
-abbrev pub IsCutAndErased : List (List Entry) → ℕ → State → State → Type 0
-IsCutAndErased blocks place old new = new ≡ settled_state (given_up (history blocks []) (take (place + 1) old.seen))
-
--- what is known of the open file, which is cut and erased, and of the other one, which is emptied
-pub record IsOpenedAs (tells : Bool) (k : Known) (open_old other_old open_new other_new : State) : Type 0 where
-  pub start : Option Base
-  pub blocks : List (List Entry)
-  pub knows : Knows k start blocks
-  pub has : IsTrue tells → HasFile start blocks open_old.seen
-  pub open_is : IsTrue tells → IsCutAndErased blocks k.place open_old open_new
-  pub other_is : IsTrue tells → IsSettled other_old → other_new ≡ settled_state []
-
--- The file that is taken was read as this base, or none, and these blocks, it is cut and erased, and the other is empty.
--- Nothing is pending.
-pub record IsReopened (in_a : Bool) (place : ℕ) (start : Option Base) (blocks : List (List Entry)) (a b a_new b_new : State) : Type 0 where
-  pub taken : IsTaken in_a a.seen b.seen
-  pub has : HasFile start blocks (open_of in_a a b).seen
-  pub open_is : IsCutAndErased blocks place (open_of in_a a b) (open_of in_a a_new b_new)
-  pub other_is : other_of in_a a_new b_new ≡ settled_state []
-
--- some blocks are known; and where the disks tell their bytes, the pair was reopened as these
-abbrev pub KnowsReopened : Bool → Bool → Known → State → State → State → State → Type 0
-KnowsReopened tells in_a k a b a_new b_new =
-    (start : Option Base) × (blocks : List (List Entry)) × Knows k start blocks
-    × (IsTrue tells → IsReopened in_a k.place start blocks a b a_new b_new)
-
--- an open file has this base, or none, and these blocks, but for contents that they hide
-abbrev pub HasKept : Option Base → List (List Entry) → List ℕ → Type 0
-HasKept start blocks file =
-    (now : List (List Entry)) × HasFile start now file × SameButHidden (is_hidden (history blocks [])) (λ n. false) blocks now
-
--- Nothing is pending, the open file has this base, or none, and these blocks but for contents that they hide, it ends with
--- its tail gate, which stands at this place, and the other file is empty.
-pub record IsTidyAt (in_a : Bool) (place : ℕ) (start : Option Base) (blocks : List (List Entry)) (a b : State) : Type 0 where
-  pub quiet : IsSettled (open_of in_a a b)
-  pub empty : other_of in_a a b ≡ settled_state []
-  pub has : HasKept start blocks (open_of in_a a b).seen
-  pub ends : length (open_of in_a a b).seen ≡ place + 1

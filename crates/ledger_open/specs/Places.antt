@@ -1,10 +1,10 @@
 -- Where journals stand in a file.
-use Rattle.std.specs.Prelude.{◌≡◌, ◌⊎◌, ℕ, ◌+◌, Bool, sum_by, List, [], ◌∷◌, ◌++◌, length, take, drop, ⊤}
+use Rattle.std.specs.Prelude.{◌≡◌, ℕ, ◌+◌, Bool, sum_by, List, [], ◌∷◌, ◌++◌, length, take, drop, ⊤}
 use Rattle.block_file.specs.declared.block.RecordAt.{RecordAt}
 use Rattle.journal_record.specs.Entry.{Entry}
 use Rattle.journal_record.specs.declared.header.Header.{Header}
-use Rattle.ledger_model.specs.History.{History, journals_of, point}
-use Rattle.ledger_open.specs.Standing.{IsKept, StandsBy, floor_behind, point_before}
+use Rattle.ledger_model.specs.History.{History, journals, journals_of}
+use Rattle.ledger_open.specs.Standing.{Floor, floor_behind, IsKept, StandsBy}
 use Rattle.ledger_open.specs.declared.places.PlaceAt.{PlaceAt}
 use Rattle.ledger_model.specs.Targets.{is_hidden}
 
@@ -64,19 +64,19 @@ AllAt hid gone file (e ∷ es) (p ∷ ps) =
     IsKept hid gone e (entry_at file e.header p) × AllAt hid gone file es ps
 AllAt hid gone file _ _ = ⊥
 
--- the places of the journals of a history in a file that begins with journal 0
-abbrev pub places_of : History → List PlaceAt
-places_of h = places_at 64 h.closed
+-- the places of the journals of these blocks in a file that has them and begins at this floor
+abbrev pub places_from : Floor → List (List Entry) → List PlaceAt
+places_from floor blocks = places_at (64 + length floor.base) blocks
 
 -- At its place stands each journal that a file has of a history, but for contents that are hidden, and zeros where they
 -- are gone.
 abbrev pub AreAtPlaces : Type 0
 AreAtPlaces =
     (floor : ℕ) (zeros : ℕ → Bool) (image : List ℕ) (h : History) (x : StandsBy floor zeros image h)
-    → AllAt (is_hidden h) zeros image (journals_of x.parts.kept) (places_at (64 + length (floor_behind h x.parts.gone).base) x.parts.kept)
+    → AllAt (is_hidden h) zeros image (journals_of x.parts.kept) (places_from (floor_behind h x.parts.gone) x.parts.kept)
 
--- the blocks that a file has of a history are all of them, since no purge has a point above 0 so far
+-- the journals that a file has of a history are all those from its floor on
 abbrev pub AreAllThere : Type 0
 AreAllThere =
     (floor : ℕ) (zeros : ℕ → Bool) (image : List ℕ) (h : History) (x : StandsBy floor zeros image h)
-    → (floor ≡ point h) ⊎ (floor ≡ point_before h) → x.parts.kept ≡ h.closed
+    → journals_of x.parts.kept ≡ drop floor (journals h)

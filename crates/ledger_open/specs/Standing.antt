@@ -119,8 +119,6 @@ pub record AreWide (es : List Entry) : Type 0 where
 pub record StandsBy (floor : ℕ) (zeros : ℕ → Bool) (image : List ℕ) (h : History) : Type 0 where
   pub generation : ℕ
   pub parts : Parts floor h
-  -- no purge has a point above 0 so far, so each file begins with journal 0, and no block is gone
-  pub unpurged : point h ≡ 0
   pub keeps : Keeps (floor_behind h parts.gone) generation (is_hidden h) zeros parts.kept image
   pub early : generation + (if floor == point h then 0 else 1) ≤ size h
   pub none : h.waiting ≡ []
@@ -180,7 +178,3 @@ IsOneHistory = (image : List ℕ) (h k : History) → StandsFor image h → Stan
 -- a pair of files stands for one history at most, but for what isn't kept
 abbrev pub IsOnePair : Type 0
 IsOnePair = (a b : List ℕ) (h k : History) → PairFor a b h → PairFor a b k → Alike h k
-
--- the other file of a pair is empty, since no purge has a point above 0 so far
-abbrev pub IsAlone : Type 0
-IsAlone = (a b : List ℕ) (h : History) (p : PairFor a b h) → length (other_of p.in_a a b) ≡ 0

@@ -1,6 +1,7 @@
 //! What the last journal hides is given up.
 
 ghost use Rattle.std.specs.Prelude.{◌≡◌, ◌+◌, ◌≤◌, ℕ, IsTrue, IfSome, IfErr, OnOk};
+ghost use Rattle.std.specs.List.{Contains};
 ghost use Rattle.block_file.specs.Head.{CountsAlone};
 ghost use Rattle.block_file.specs.Place.{place_of};
 ghost use Rattle.ledger_disk.specs.Disk.{KeepsLength};
@@ -8,8 +9,9 @@ ghost use Rattle.ledger_model.specs.History.{History};
 ghost use Rattle.twin_file.specs.Places.{HasTail};
 ghost use Rattle.twin_file.specs.Twin.{open_of, other_of};
 ghost use Rattle.twin_file.specs.Which.{in_a_of, file_of};
-ghost use Rattle.ledger_open.specs.Erasing.{AllInside, AreBetween, EndsAs, IsOpenContent, GivesUp, WritesZeros, StandsMeanwhile, LeavesErased, LeavesRest};
+ghost use Rattle.ledger_open.specs.Erasing.{AllInside, AreBetween, AreOf, IsOpenContent, GivesUp, WritesZeros, StandsMeanwhile, LeavesShown, LeavesErased, LeavesRest, WritesOne};
 ghost use Rattle.ledger_open.specs.Opening.{CountsOpen};
+ghost use Rattle.ledger_open.specs.Standing.{floor_behind};
 ghost use Rattle.ledger_open.specs.declared.failure.OpenErr.TheVariants as errors;
 
 use crate::{OpenErr, Opened, PlaceAt, Places};
@@ -24,7 +26,9 @@ fn open_content(book: &Book, places: &Places) -> Option<PlaceAt>
         → IfSome result (λ place. place.content_at + place.content_len ≤ end) }
     ensures between { (low high : ℕ) → AreBetween low high places.now.list
         → IfSome result (λ place. (low ≤ place.content_at) × (place.content_at + place.content_len ≤ high)) }
-    ensures content { (h : History) → EndsAs book.now places.now.list h → IsOpenContent h result }
+    ensures listed { IfSome result (λ place. Contains places.now.list place) }
+    ensures content { (h : History) (are : AreOf book.now places.now.list h)
+        → IsOpenContent (floor_behind h are.parts.gone) are.parts.kept result }
 {
     let size = book.head().size;
     if size == 0 {
@@ -34,10 +38,13 @@ fn open_content(book: &Book, places: &Places) -> Option<PlaceAt>
         return None;
     };
     match last.kind {
-        Kind::Occult => match places.as_slice().get(last.a as usize) {
-            Some(place) => Some(*place),
-            None => None,
-        },
+        Kind::Occult => {
+            let index = last.a.checked_sub(book.tree().floor())?;
+            match places.as_slice().get(index as usize) {
+                Some(place) => Some(*place),
+                None => None,
+            }
+        }
         _ => None,
     }
 }
@@ -55,10 +62,14 @@ pub(crate) fn finish_in<D: Disk>(
         (D.state disk.old).bytes (D.state disk.new).bytes) }
     ensures images { IsTrue D.tells → StandsMeanwhile book.now places.now.list
         (D.state disk.old).bytes (D.state disk.new).bytes }
+    ensures shown { IsTrue D.tells → LeavesShown book.now places.now.list
+        (D.state disk.old).bytes (D.state disk.new).bytes }
     ensures idle { IsTrue D.tells → LeavesErased book.now places.now.list
         (D.state disk.old).bytes (D.state disk.new).bytes }
     ensures rest { IsTrue D.tells → LeavesRest places.now.list
         (D.state disk.old).bytes (D.state disk.new).bytes }
+    ensures one { OnOk result (IsTrue D.tells → WritesOne places.now.list
+        (D.state disk.old).bytes (D.state disk.new).bytes) }
     ensures same { file.new ≡ file.old }
     ensures length { KeepsLength (D.state disk.old).told (D.state disk.new).told }
     ensures faults { CountsAlone result (D.state disk.old).faults (D.state disk.new).faults }
@@ -84,12 +95,18 @@ pub fn finish_erasures<D: Disk>(a: &mut D, b: &mut D, opened: &mut Opened) -> Re
     ensures images { IsTrue D.tells → StandsMeanwhile opened.old.book opened.old.places.list
         (open_of (in_a_of opened.old.twin) (D.state a.old) (D.state b.old)).bytes
         (open_of (in_a_of opened.old.twin) (D.state a.new) (D.state b.new)).bytes }
+    ensures shown { IsTrue D.tells → LeavesShown opened.old.book opened.old.places.list
+        (open_of (in_a_of opened.old.twin) (D.state a.old) (D.state b.old)).bytes
+        (open_of (in_a_of opened.old.twin) (D.state a.new) (D.state b.new)).bytes }
     ensures idle { IsTrue D.tells → LeavesErased opened.old.book opened.old.places.list
         (open_of (in_a_of opened.old.twin) (D.state a.old) (D.state b.old)).bytes
         (open_of (in_a_of opened.old.twin) (D.state a.new) (D.state b.new)).bytes }
     ensures rest { IsTrue D.tells → LeavesRest opened.old.places.list
         (open_of (in_a_of opened.old.twin) (D.state a.old) (D.state b.old)).bytes
         (open_of (in_a_of opened.old.twin) (D.state a.new) (D.state b.new)).bytes }
+    ensures one { OnOk result (IsTrue D.tells → WritesOne opened.old.places.list
+        (open_of (in_a_of opened.old.twin) (D.state a.old) (D.state b.old)).bytes
+        (open_of (in_a_of opened.old.twin) (D.state a.new) (D.state b.new)).bytes) }
     ensures other { other_of (in_a_of opened.old.twin) (D.state a.new) (D.state b.new)
         ≡ other_of (in_a_of opened.old.twin) (D.state a.old) (D.state b.old) }
     ensures told { HasTail (open_of (in_a_of opened.old.twin) (D.state a.new) (D.state b.new)).told

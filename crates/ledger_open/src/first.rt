@@ -1,6 +1,6 @@
 //! The first block of a file.
 
-ghost use Rattle.std.specs.Prelude.{◌≡◌, ◌≢◌, ◌⊎◌, ◌+◌, ◌++◌, ◌≤◌, [], ◌∷◌, List, length, take, drop, IsTrue, IfOk, IfErr, IsSomeAnd, OnOk};
+ghost use Rattle.std.specs.Prelude.{◌≡◌, ◌≢◌, ◌⊎◌, ◌+◌, ◌++◌, ◌≤◌, [], ◌∷◌, List, length, take, drop, None, IsTrue, IfOk, IfErr, IsSomeAnd, OnOk};
 ghost use Rattle.sha2.specs.Sha256.{sha256};
 ghost use Rattle.tree_model.specs.Tree.{leaf};
 ghost use Rattle.block_file.specs.Blocks.{AreBlock, IsRead};
@@ -12,12 +12,14 @@ ghost use Rattle.journal_record.specs.Header.{spelling};
 ghost use Rattle.journal_record.specs.Rules.{IsHeader};
 ghost use Rattle.journal_record.specs.declared.header.Kind.TheVariants as kind;
 ghost use Rattle.ledger_book.specs.Books.{Serves};
+ghost use Rattle.ledger_book.specs.Reading.{StandsBehind};
 ghost use Rattle.ledger_book.specs.Replaying.{begun_with};
 ghost use Rattle.ledger_bytes.specs.declared.digest.Digest.{Digest};
 ghost use Rattle.ledger_disk.specs.Disk.{KeepsLength};
 ghost use Rattle.ledger_model.specs.Limits.{AreWithin};
-ghost use Rattle.ledger_open.specs.Opening.{HasRead, IsPlain, IsReadErr, CountsRead, known_from};
+ghost use Rattle.ledger_open.specs.Opening.{HasRead, IsReadErr, CountsRead, known_from};
 ghost use Rattle.ledger_open.specs.Places.{place_of_record};
+ghost use Rattle.ledger_open.specs.Starts.{IsStart};
 ghost use Rattle.ledger_open.specs.Taking.{Headed, IsBadBlock};
 ghost use Rattle.ledger_open.specs.declared.failure.OpenErr.TheVariants as errors;
 
@@ -57,7 +59,7 @@ fn check_first(block: &BlockAt) -> Result<RecordAt, OpenErr>
     ensures inside { IfOk result (λ first. first.content_at + 64 ≤ 65 + block.now.len) }
     ensures err { IfErr result (λ e. (damage : Damage) × (e ≡ errors.Damaged damage)
         × ((es : List Entry) → AreBlock 0 es → Headed es block.now.records
-        → IsBadBlock [] es block.now.root.0 damage)) }
+        → IsBadBlock None [] es block.now.root.0 damage)) }
 {
     let records = block.records.as_slice();
     if records.len() > 1 {
@@ -124,7 +126,7 @@ fn begin_book(
     requires limits { AreWithin limits }
     ensures ok { IfOk result (λ read. (read.places.list ≡ place_of_record first.now ∷ [])
         × ((e : Entry) → e.header ≡ first.now.header → e.content ≡ content.now
-        → Serves read.book (begun_with e))) }
+        → Serves read.book (begun_with e) × StandsBehind read.book None (e ∷ []))) }
     ensures limits { IfOk result (λ read. read.book.limits ≡ limits) }
     ensures err { IfErr result (λ e. e ≡ errors.NoMemory) }
 {
@@ -139,7 +141,7 @@ fn begin_book(
     Ok(Read { book, places })
 }
 
-/// Reads the first block, and begins a book with it. Of its damages the first is told: a length, journal 0, a second
+/// Reads the first block of a file without a base, and begins a book with it. Of its damages the first is told: a length, journal 0, a second
 /// journal beside it, the root, and the digest of the content of journal 0.
 pub fn read_first<D: Disk>(
     alloc: Global,
@@ -150,11 +152,12 @@ pub fn read_first<D: Disk>(
 ) -> Result<Read, OpenErr>
     requires told { IsSomeAnd (D.state disk.old).told (λ n. place_of file.old + 1 ≤ n) }
     requires place { place_of file.old ≡ 64 }
+    requires start { IsTrue D.tells → IsStart (D.state disk.old).bytes.seen None }
     requires limits { AreWithin limits }
     ensures ok { IfOk result (λ read. HasRead D.tells (D.state disk.old).bytes.seen
         (known_from read.book read.places.list (place_of file.new))) }
     ensures limits { IfOk result (λ read. read.book.limits ≡ limits) }
-    ensures err { IfErr result (λ e. IsTrue D.tells → IsPlain (D.state disk.old).bytes.seen
+    ensures err { IfErr result (λ e. IsTrue D.tells
         → IsReadErr (D.state disk.old).bytes.seen e) }
     ensures only { IfErr result (λ e. (e ≢ errors.Empty) × (e ≢ errors.Exists)) }
     ensures told { OnOk result (IsSomeAnd (D.state disk.new).told

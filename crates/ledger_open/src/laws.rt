@@ -1,31 +1,29 @@
-ghost use Rattle.std.specs.Prelude.{◌≡◌, ◌⊎◌, [], Bool, List, ℕ, Option, Some, None, take, drop};
+ghost use Rattle.std.specs.Prelude.{◌≡◌, ◌⊎◌, [], Bool, List, ℕ, Option, Some, None};
 ghost use Rattle.block_file.specs.declared.failure.Damage.{Damage};
 ghost use Rattle.ledger_model.specs.Genesis.{HasKeys, new_ledger};
-ghost use Rattle.ledger_model.specs.History.{History};
+ghost use Rattle.ledger_model.specs.History.{History, point};
 ghost use Rattle.ledger_model.specs.declared.genesis.Genesis.{Genesis};
 ghost use Rattle.pseudo_genesis.specs.declared.base.Base.{Base};
 ghost use Rattle.ledger_open.specs.Damages.{IsDamage};
-ghost use Rattle.ledger_open.specs.Erasing.{AllInside, IsGivenUp, content_place, content_size, last_target};
+ghost use Rattle.ledger_open.specs.Erasing.{AllInside, IsGivenUp, IsOutsideOf, IsZeroedIn, last_target};
 ghost use Rattle.ledger_open.specs.Founding.{IsFounded};
 ghost use Rattle.ledger_open.specs.Growing.{Grows, GrowsErased, IsNewClean};
 ghost use Rattle.ledger_open.specs.Places.{AreAtPlaces, AreAllThere};
-ghost use Rattle.ledger_open.specs.Opening.{Known, Knows, IsOpenErr, IsOutside, IsReopened, IsTidyAt};
-ghost use Rattle.ledger_open.specs.Standing.{IsOneHistory, IsOnePair, IsAlone, AreZeros, StandsFor, IsErased, PairFor, IsClean, IsCleanPair};
+ghost use Rattle.ledger_open.specs.Opening.{Known, Knows, IsOpenErr, IsOutside, AreSettled};
+ghost use Rattle.ledger_open.specs.Reopened.{Remembers, IsReopened, IsTidyAt};
+ghost use Rattle.ledger_open.specs.Standing.{IsOneHistory, IsOnePair, StandsFor, IsErased, PairFor, IsClean, IsCleanPair};
 ghost use Rattle.ledger_open.specs.declared.failure.OpenErr.{OpenErr};
 ghost use Rattle.ledger_open.specs.declared.failure.OpenErr.TheVariants as errors;
 ghost use Rattle.block_file.specs.Head.{IsShut};
 ghost use Rattle.ledger_book.specs.Books.{Serves};
 ghost use Rattle.ledger_disk.specs.Disk.{State, settled_state};
-ghost use Rattle.ledger_disk.specs.Guards.{Outside};
 ghost use Rattle.journal_record.specs.Entry.{Entry};
 ghost use Rattle.twin_file.specs.Twin.{open_of};
 
-/// Histories that one image stands for agree but for what isn't kept, and so do those of a pair. The other file of a pair
-/// is empty.
+/// Histories that one image stands for agree but for what isn't kept, and so do those of a pair.
 pub fn a_pair_stands_for_one_history()
     ensures image { IsOneHistory }
     ensures pair { IsOnePair }
-    ensures alone { IsAlone }
 {}
 
 /// A file that stands for a history is read without any damage.
@@ -34,14 +32,15 @@ pub fn a_standing_file_has_no_damage()
         → IsDamage image damage → ⊥ }
 {}
 
-/// Each journal of a history that a file has stands at its place there, as far as it is kept, and none is missing.
+/// Each journal of a history that a file has stands at its place there, as far as it is kept, and from the first of them on
+/// none is missing.
 pub fn journals_stand_at_their_places()
     ensures kept { AreAtPlaces }
     ensures all { AreAllThere }
 {}
 
-/// A block more behind a file whose hidden contents are gone: the file stands for the history with the block, and its
-/// hidden contents are gone where no journal of the block hides another.
+/// A block more behind a file of which all is gone that was purged or is hidden: the file stands for the history with the
+/// block, and all of that is gone where no journal of the block hides another or purges.
 pub fn a_block_more_is_one_more()
     ensures stands { Grows }
     ensures erased { GrowsErased }
@@ -61,8 +60,8 @@ pub fn a_standing_pair_opens()
 /// The book of a ledger that was opened stands for each history that the pair stands for.
 pub fn an_opened_book_stands_for_the_history()
     ensures { (k : Known) (in_a : Bool) (start : Option Base) (blocks : List (List Entry))
-        (a b a_new b_new : State) (h : History) → Knows k start blocks
-        → IsReopened in_a k.place start blocks a b a_new b_new
+        (a b a_new b_new : State) (h : History) → Remembers k start blocks
+        → IsReopened in_a k start blocks a b a_new b_new
         → PairFor a.seen b.seen h → Serves k.book h }
 {}
 
@@ -70,17 +69,16 @@ pub fn an_opened_book_stands_for_the_history()
 /// its tail gate, and the other is empty. Of one that was clean no byte has changed.
 pub fn an_opened_pair_is_clean()
     ensures history { (k : Known) (in_a : Bool) (start : Option Base) (blocks : List (List Entry))
-        (a b a_new b_new : State) (h : History) → Knows k start blocks
-        → IsReopened in_a k.place start blocks a b a_new b_new → PairFor a.seen b.seen h
+        (a b a_new b_new : State) (h : History) → Remembers k start blocks
+        → IsReopened in_a k start blocks a b a_new b_new → PairFor a.seen b.seen h
         → IsCleanPair a_new.seen b_new.seen h }
     ensures tidy { (k : Known) (in_a : Bool) (start : Option Base) (blocks : List (List Entry))
-        (a b a_new b_new : State) → Knows k start blocks
-        → IsReopened in_a k.place start blocks a b a_new b_new
-        → IsTidyAt in_a k.place start blocks a_new b_new }
+        (a b a_new b_new : State) → Remembers k start blocks
+        → IsReopened in_a k start blocks a b a_new b_new
+        → IsTidyAt in_a k.place a_new b_new }
     ensures left { (k : Known) (in_a : Bool) (start : Option Base) (blocks : List (List Entry))
-        (a b a_new b_new : State) (h : History) → Knows k start blocks
-        → IsReopened in_a k.place start blocks a b a_new b_new → IsClean (open_of in_a a b).seen h
-        → open_of in_a a_new b_new ≡ settled_state (open_of in_a a b).seen }
+        (a b a_new b_new : State) (h : History) → IsReopened in_a k start blocks a b a_new b_new
+        → IsCleanPair a.seen b.seen h → AreSettled a b a_new b_new }
 {}
 
 /// The pair that making a ledger leaves is clean for the history of its genesis.
@@ -92,8 +90,8 @@ pub fn a_new_pair_is_clean()
 /// Where a pair was opened, it has no damage, and is neither empty nor of another version.
 pub fn an_opened_pair_has_no_damage()
     ensures { (k : Known) (in_a : Bool) (start : Option Base) (blocks : List (List Entry))
-        (a b a_new b_new : State) (e : OpenErr) → Knows k start blocks
-        → IsReopened in_a k.place start blocks a b a_new b_new
+        (a b a_new b_new : State) (e : OpenErr)
+        → IsReopened in_a k start blocks a b a_new b_new
         → IsOpenErr a.seen b.seen e → IsOutside e }
 {}
 
@@ -111,19 +109,19 @@ pub fn a_pair_has_one_cause_of_refusal()
 {}
 
 /// Where the last journal hides the content of another, a file stands for the history whatever bytes stand in that
-/// content's place; and where zeros do, all that is hidden is gone. Where it hides none, all that is hidden was gone. A
-/// file that ended with its tail gate is clean once that is given up.
+/// content's place; and where zeros do, all that is hidden is gone. Where it hides none, all that is hidden was gone in a
+/// file that begins at the point. One that ended with its tail gate is clean once all is given up.
 pub fn a_content_may_be_given_up()
-    ensures meanwhile { (image new : List ℕ) (h : History) (n : ℕ) → StandsFor image h
-        → last_target h ≡ Some n → Outside (content_place h n) (content_size h n) image new
-        → StandsFor new h }
-    ensures erased { (image new : List ℕ) (h : History) (n : ℕ) → StandsFor image h
-        → last_target h ≡ Some n → Outside (content_place h n) (content_size h n) image new
-        → AreZeros (take (content_size h n) (drop (content_place h n) new)) → IsErased new h }
-    ensures other { (image : List ℕ) (h : History) → StandsFor image h → last_target h ≡ None
-        → IsErased image h }
+    ensures meanwhile { (image new : List ℕ) (h : History) (n : ℕ) (stands : StandsFor image h)
+        → last_target h ≡ Some n → IsOutsideOf stands.file n new → StandsFor new h }
+    ensures erased { (image new : List ℕ) (h : History) (n : ℕ) (stands : StandsFor image h)
+        → last_target h ≡ Some n → IsOutsideOf stands.file n new → IsZeroedIn stands.file n new
+        → IsErased new h }
+    ensures other { (image : List ℕ) (h : History) (stands : StandsFor image h)
+        → last_target h ≡ None → stands.floor ≡ point h → IsErased image h }
     ensures clean { (old new : State) (h : History) (stands : StandsFor old.seen h)
-        → stands.file.keeps.file.stands.rest ≡ [] → IsGivenUp old new h → IsClean new.seen h }
+        → stands.file.keeps.file.stands.rest ≡ [] → stands.floor ≡ point h
+        → IsGivenUp old new h → IsClean new.seen h }
 {}
 
 /// In a ledger that was made or opened each content ends before the tail gate.

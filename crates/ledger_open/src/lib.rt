@@ -2,6 +2,7 @@
 #![tactic(auto)]
 
 mod ahead;
+mod base;
 mod erasing;
 mod failure;
 mod first;
@@ -9,6 +10,7 @@ mod founding;
 mod laws;
 mod opened;
 mod places;
+pub mod purging;
 mod reading;
 mod reopening;
 mod taking;
@@ -25,4 +27,5 @@ pub use laws::{
 };
 pub use opened::Opened;
 pub use places::{PlaceAt, Places};
+pub use purging::finish_purge;
 pub use reopening::reopen;

@@ -1,5 +1,7 @@
-ghost use Rattle.std.specs.Prelude.{◌≡◌, ◌≤◌, ◌-◌, ◌+◌, ◌++◌, [], ◌∷◌, map, OnOk, OnErr, vec_len, vec_capacity};
-ghost use Rattle.ledger_open.specs.Places.{place_of_record};
+ghost use Rattle.std.specs.Prelude.{◌≡◌, ◌≤◌, ◌<◌, ◌-◌, ◌+◌, ◌^◌, ◌++◌, [], ◌∷◌, List, drop, length, map, OnOk, OnErr, vec_len, vec_capacity};
+ghost use Rattle.journal_record.specs.Entry.{Entry};
+ghost use Rattle.ledger_open.specs.PlaceList.{moved_place};
+ghost use Rattle.ledger_open.specs.Places.{after_at, place_of_record, places_at};
 
 use block_file::RecordAt;
 use ledger_bytes::NoMemory;
@@ -30,6 +32,18 @@ impl PlaceAt {
             who_at: journal.who_at,
             content_len: journal.header.content_len,
             who_len: journal.who_len,
+        }
+    }
+
+    // The same where what stood at one offset stands at another. Offsets of a file are far below the greatest number.
+    fn moved(&self, old: u64, new: u64) -> Self
+        ensures { result ≡ moved_place old new self.now }
+    {
+        PlaceAt {
+            content_at: self.content_at.saturating_sub(old).saturating_add(new),
+            who_at: self.who_at.saturating_sub(old).saturating_add(new),
+            content_len: self.content_len,
+            who_len: self.who_len,
         }
     }
 }
@@ -97,5 +111,19 @@ impl Places {
             self.push(PlaceAt::of(record));
         }
         Ok(())
+    }
+
+    /// The first ones fall away, and the others move: the gate in front of them stood at one offset, and now stands at
+    /// another.
+    pub(crate) fn drop_front(&mut self, count: usize, old: u64, new: u64)
+        requires { count ≤ length self.old.list }
+        ensures moved { self.new.list ≡ map (moved_place old new) (drop count self.old.list) }
+        ensures placed { (blocks : List (List Entry)) → drop count self.old.list ≡ places_at old blocks
+            → after_at new blocks < 2 ^ 64 → self.new.list ≡ places_at new blocks }
+    {
+        self.kept.drain(..count);
+        for index in 0..self.kept.len() {
+            self.kept[index] = self.kept[index].moved(old, new);
+        }
     }
 }

@@ -1,25 +1,32 @@
 //! The open file, read from its first block to its tail gate.
 
-ghost use Rattle.std.specs.Prelude.{◌≡◌, ◌≢◌, ◌⊎◌, ◌+◌, ◌≤◌, ℕ, Bool, List, get_or, IsTrue, IfOk, IfErr, IsSomeAnd, OnOk};
-ghost use Rattle.block_file.specs.Head.{HasHead, number_at};
+ghost use Rattle.std.specs.Prelude.{◌≡◌, ◌≢◌, ◌⊎◌, ◌+◌, ◌≤◌, ℕ, Bool, List, get_or, length, IsTrue, IfOk, IfErr, IsSomeAnd, OnOk};
+ghost use Rattle.std.specs.List.{list_any};
 ghost use Rattle.block_file.specs.Place.{place_of, base_len_of, base_digest_of};
 ghost use Rattle.block_file.specs.declared.failure.Damage.{Damage};
+ghost use Rattle.block_file.specs.declared.failure.Damage.TheVariants as damages;
 ghost use Rattle.ledger_disk.specs.Disk.{KeepsLength};
+ghost use Rattle.ledger_model.specs.History as model;
 ghost use Rattle.ledger_model.specs.Limits.{AreWithin};
 ghost use Rattle.ledger_open.specs.Ahead.{AreNextBlocks};
 ghost use Rattle.ledger_open.specs.Damages.{IsDamage};
-ghost use Rattle.ledger_open.specs.Opening.{HasRead, HasKnown, IsHeadOf, IsPlain, IsReadErr, CountsRead, known_from};
+ghost use Rattle.ledger_open.specs.Opening.{HasRead, HasKnown, IsHeadOf, IsReadErr, CountsRead, known_from};
+ghost use Rattle.ledger_open.specs.Standing.{floor_from};
+ghost use Rattle.ledger_open.specs.Starts.{IsDecoded, IsReached, IsStart, is_purge_to};
 ghost use Rattle.ledger_open.specs.declared.ahead.Stop.TheVariants as stops;
 ghost use Rattle.ledger_open.specs.declared.failure.OpenErr.TheVariants as errors;
 
 use crate::ahead::{Ahead, Stop, read_ahead};
+use crate::base::{begin_behind, read_base};
 use crate::first::read_first;
 use crate::taking::{take_all, take_beside};
 use crate::{OpenErr, Places};
 use block_file::{BlockFile, Damage};
+use journal_record::{Header, Kind};
 use ledger_book::Book;
 use ledger_disk::Disk;
 use ledger_model::Limits;
+use pseudo_genesis::Base;
 use std::alloc::Global;
 use std::thread::Threads;
 
@@ -49,7 +56,7 @@ fn read_more<R: Threads, D: Disk>(
     ensures limits { OnOk result (read.new.book.limits ≡ read.old.book.limits) }
     ensures nearer { IfOk result (λ next. (next.stop ≡ stops.Full
         → place_of file.old + 1 ≤ place_of file.new) × (place_of file.old ≤ place_of file.new)) }
-    ensures err { IfErr result (λ e. IsTrue D.tells → IsPlain (D.state disk.old).bytes.seen
+    ensures err { IfErr result (λ e. IsTrue D.tells
         → IsReadErr (D.state disk.old).bytes.seen e) }
     ensures only { IfErr result (λ e. (e ≢ errors.Empty) × (e ≢ errors.Exists)) }
     ensures told { OnOk result (IsSomeAnd (D.state disk.new).told
@@ -58,7 +65,7 @@ fn read_more<R: Threads, D: Disk>(
     ensures length { KeepsLength (D.state disk.old).told (D.state disk.new).told }
     ensures faults { CountsRead result (D.state disk.old).faults (D.state disk.new).faults }
 {
-    let first = read.book.head().size + ahead.count;
+    let first = read.book.size() + ahead.count;
     let mut next = match read_ahead(alloc, file, disk, buffer, first) {
         Ok(next) => next,
         Err(e) => return Err(e),
@@ -70,20 +77,68 @@ fn read_more<R: Threads, D: Disk>(
     }
 }
 
-// What is known once the last blocks are taken.
+// Whether journals of this kind are purges.
+fn is_purge(kind: Kind) -> bool
+    ensures { result ≡ model.is_purge kind }
+{
+    match kind {
+        Kind::Purge => true,
+        Kind::Genesis | Kind::Content | Kind::Member | Kind::Time | Kind::Occult => false,
+    }
+}
+
+// Whether this is the header of the purge to this point.
+fn leads_to(header: &Header, point: u64) -> bool
+    ensures { result ≡ is_purge_to point header.now }
+{
+    is_purge(header.kind) && header.a == point
+}
+
+// Whether the purge to this point is among the journals whose headers are kept.
+fn has_purge_to(book: &Book, point: u64) -> bool
+    requires all { book.now.size ≡ book.now.floor + length book.now.headers }
+    ensures { result ≡ list_any (is_purge_to point) book.now.headers }
+{
+    for number in book.floor()..book.size() {
+        if let Some(header) = book.header(number) {
+            if leads_to(header, point) {
+                return true;
+            }
+        }
+    }
+    false
+}
+
+// What was read up to the tail gate. Behind a base the purge to its point has to be there.
+fn end_at_tail(read: Read) -> Result<Read, OpenErr>
+    requires all { read.book.size ≡ read.book.floor + length read.book.headers }
+    ensures ok { IfOk result (λ known. (known ≡ read) × IsReached read.book) }
+    ensures err { IfErr result (λ e. (e ≡ errors.Damaged (damages.Entry read.book.size))
+        × (IsReached read.book → ⊥)) }
+{
+    let floor = read.book.floor();
+    if floor > 0 && !has_purge_to(&read.book, floor) {
+        return Err(OpenErr::Damaged(Damage::Entry {
+            jsn: read.book.size(),
+        }));
+    }
+    Ok(read)
+}
+
+// What is known once the last blocks are taken. Behind a base they have to have the purge to its point.
 fn read_last(read: Read, ahead: Ahead) -> Result<Read, OpenErr>
     requires end { ahead.stop ≢ stops.Full }
     requires ahead { (tells : Bool) × (file : List ℕ) × (place : ℕ)
         × AreNextBlocks tells file read.book read.places.list ahead place }
-    ensures ok { IfOk result (λ known. (tells : Bool) (file : List ℕ) (place : ℕ)
+    ensures ok { IfOk result (λ known. IsReached known.book × ((tells : Bool) (file : List ℕ) (place : ℕ)
         → AreNextBlocks tells file read.book read.places.list ahead place
         → HasRead tells file (known_from known.book known.places.list place)
-        × (IsTrue tells → get_or file place 0 ≢ 1)) }
+        × (IsTrue tells → get_or file place 0 ≢ 1))) }
     ensures limits { IfOk result (λ known. known.book.limits ≡ read.book.limits) }
     ensures err { IfErr result (λ e. (e ≡ errors.NoMemory) ⊎ ((damage : Damage)
         × (e ≡ errors.Damaged damage) × ((tells : Bool) (file : List ℕ) (place : ℕ)
         → AreNextBlocks tells file read.book read.places.list ahead place → IsTrue tells
-        → IsPlain file → IsDamage file damage))) }
+        → place + 1 ≤ length file → IsDamage file damage))) }
 {
     let Read {
         mut book,
@@ -93,7 +148,7 @@ fn read_last(read: Read, ahead: Ahead) -> Result<Read, OpenErr>
         return Err(e);
     }
     match ahead.stop {
-        Stop::Shut => Ok(Read { book, places }),
+        Stop::Shut => end_at_tail(Read { book, places }),
         Stop::Damaged(damage) => Err(OpenErr::Damaged(damage)),
         Stop::Full | Stop::TooLong => unreachable!(),
     }
@@ -109,7 +164,6 @@ fn read_rest<R: Threads, D: Disk>(
     read: Read,
 ) -> Result<Read, OpenErr>
     requires told { IsSomeAnd (D.state disk.old).told (λ n. place_of file.old + 1 ≤ n) }
-    requires plain { IsTrue D.tells → IsPlain (D.state disk.old).bytes.seen }
     requires known { HasRead D.tells (D.state disk.old).bytes.seen
         (known_from read.book read.places.list (place_of file.old)) }
     ensures ok { IfOk result (λ read. HasKnown D.tells (D.state disk.old).bytes.seen
@@ -124,7 +178,7 @@ fn read_rest<R: Threads, D: Disk>(
     ensures faults { CountsRead result (D.state disk.old).faults (D.state disk.new).faults }
 {
     let mut read = read;
-    let first = read.book.head().size;
+    let first = read.book.size();
     let mut ahead = match read_ahead(alloc, file, disk, buffer, first) {
         Ok(ahead) => ahead,
         Err(e) => return Err(e),
@@ -139,26 +193,36 @@ fn read_rest<R: Threads, D: Disk>(
     read_last(read, ahead)
 }
 
-// Looks at the base: there is none so far, so each that has its digest breaks at its first byte.
-fn check_base<D: Disk>(alloc: Global, file: &BlockFile, disk: &mut D) -> Result<(), OpenErr>
-    requires told { IsSomeAnd (D.state disk.old).told (λ n. 64 + base_len_of file.now ≤ n) }
-    requires room { IsSomeAnd (D.state disk.old).told (λ n. 64 + base_len_of file.now + 1 ≤ n) }
-    requires head { IsTrue D.tells → IsHeadOf (D.state disk.old).bytes.seen file.now }
-    ensures ok { OnOk result (base_len_of file.now ≡ 0) }
-    ensures err { IfErr result (λ e. IsTrue D.tells → IsReadErr (D.state disk.old).bytes.seen e) }
+// Begins a book where the file begins: with its first block, or behind its base.
+fn begin_read<D: Disk>(
+    alloc: Global,
+    file: &mut BlockFile,
+    disk: &mut D,
+    buffer: &mut Vec<u8>,
+    base: &Option<Base>,
+    limits: Limits,
+) -> Result<Read, OpenErr>
+    requires told { IsSomeAnd (D.state disk.old).told (λ n. place_of file.old + 1 ≤ n) }
+    requires place { place_of file.old ≡ 64 + length (floor_from base.now).base }
+    requires decoded { IsDecoded base.now }
+    requires start { IsTrue D.tells → IsStart (D.state disk.old).bytes.seen base.now }
+    requires limits { AreWithin limits }
+    ensures ok { IfOk result (λ read. HasRead D.tells (D.state disk.old).bytes.seen
+        (known_from read.book read.places.list (place_of file.new))) }
+    ensures limits { IfOk result (λ read. read.book.limits ≡ limits) }
+    ensures err { IfErr result (λ e. IsTrue D.tells
+        → IsReadErr (D.state disk.old).bytes.seen e) }
     ensures only { IfErr result (λ e. (e ≢ errors.Empty) × (e ≢ errors.Exists)) }
+    ensures told { OnOk result (IsSomeAnd (D.state disk.new).told
+        (λ n. place_of file.new + 1 ≤ n)) }
     ensures state { IsTrue D.tells → (D.state disk.new).bytes ≡ (D.state disk.old).bytes }
     ensures length { KeepsLength (D.state disk.old).told (D.state disk.new).told }
     ensures faults { CountsRead result (D.state disk.old).faults (D.state disk.new).faults }
 {
-    let base = match file.base(alloc, disk) {
-        Ok(base) => base,
-        Err(e) => return Err(OpenErr::from(e)),
-    };
-    if !base.as_slice().is_empty() {
-        return Err(OpenErr::Damaged(Damage::BaseForm { at: 0 }));
+    match base {
+        None => read_first(alloc, file, disk, buffer, limits),
+        Some(base) => begin_behind(alloc, base, limits),
     }
-    Ok(())
 }
 
 /// Reads the open file, which stands at its first block: once, in order, with the bytes of one block and the headers of
@@ -185,11 +249,12 @@ pub(crate) fn read_file<R: Threads, D: Disk>(
     ensures length { KeepsLength (D.state disk.old).told (D.state disk.new).told }
     ensures faults { CountsRead result (D.state disk.old).faults (D.state disk.new).faults }
 {
-    if let Err(e) = check_base(alloc, file, disk) {
-        return Err(e);
-    }
+    let base = match read_base(alloc, file, disk) {
+        Ok(base) => base,
+        Err(e) => return Err(e),
+    };
     let mut buffer = Vec::new(alloc);
-    let read = match read_first(alloc, file, disk, &mut buffer, limits) {
+    let read = match begin_read(alloc, file, disk, &mut buffer, &base, limits) {
         Ok(read) => read,
         Err(e) => return Err(e),
     };

@@ -1,19 +1,24 @@
 //! A ledger that was made before is opened again.
 
-ghost use Rattle.std.specs.Prelude.{◌≡◌, ◌≢◌, ◌⊎◌, ◌+◌, [], None, Err, IsTrue, IfOk, IfErr, OnOk};
+ghost use Rattle.std.specs.Prelude.{◌≡◌, ◌≢◌, ◌⊎◌, ◌+◌, [], None, take, length, IsTrue, IfOk, IfErr, OnOk, OnErr};
 ghost use Rattle.block_file.specs.File.{IsSettled};
 ghost use Rattle.block_file.specs.Head.{generation_of};
 ghost use Rattle.block_file.specs.Place.{place_of, base_len_of};
 ghost use Rattle.ledger_disk.specs.Disk.{settled_state, CountsFault};
 ghost use Rattle.ledger_model.specs.Limits.{AreWithin};
+ghost use Rattle.twin_file.specs.Images.{KeepsPassed};
 ghost use Rattle.twin_file.specs.Places.{HasTail};
-ghost use Rattle.twin_file.specs.Twin.{open_of};
+ghost use Rattle.twin_file.specs.Twin.{open_of, other_of};
 ghost use Rattle.twin_file.specs.Which.{in_a_of, generation_in, file_of, copy_of};
-ghost use Rattle.ledger_open.specs.Opening.{known_from, IsHeadOf, HasLawfulBlocks, IsOpenedAs, IsOutside, IsReadErr, IsOpenErr, KnowsReopened, AreSettled, AreUnchanged, StandAsRead, WereSettled, PairStandsStill, IsCleanStill, IsCleanFileStill, StandsStill, CountsOpen};
+ghost use Rattle.ledger_open.specs.Cutting.{IsPrepared};
+ghost use Rattle.ledger_open.specs.Opening.{known_from, IsHeadOf, HasKnown, HasLawfulBlocks, IsOutside, IsReadErr, IsOpenErr, AreSettled, AreUnchanged, StandAsRead, WereSettled, CountsRead, CountsOpen};
+ghost use Rattle.ledger_open.specs.Purging.{ledger_at};
+ghost use Rattle.ledger_open.specs.Reopened.{KnowsReopened, WasReadHere, IsHere, IsCleanStill, PairStandsStill, StandsTrimmed};
 ghost use Rattle.ledger_open.specs.declared.failure.OpenErr.{OpenErr as OpenErrRecord};
 ghost use Rattle.ledger_open.specs.declared.failure.OpenErr.TheVariants as errors;
 
-use crate::erasing::finish_in;
+use crate::erasing::finish_erasures;
+use crate::purging::{Purge, complete, prepare};
 use crate::reading::read_file;
 use crate::{OpenErr, Opened};
 use ledger_disk::Disk;
@@ -28,6 +33,7 @@ fn clear<D: Disk>(disk: &mut D) -> Result<(), OpenErr>
         → (D.state disk.new).bytes ≡ settled_state []) }
     ensures idle { IsTrue D.tells → (D.state disk.old).bytes.seen ≡ []
         → (D.state disk.new).bytes ≡ (D.state disk.old).bytes }
+    ensures passed { IsTrue D.tells → KeepsPassed (D.state disk.old).bytes (D.state disk.new).bytes }
     ensures err { IfErr result (λ e. e ≡ errors.DiskFault) }
     ensures faults { CountsFault result (D.state disk.old).faults (D.state disk.new).faults }
 {
@@ -38,61 +44,50 @@ fn clear<D: Disk>(disk: &mut D) -> Result<(), OpenErr>
     Ok(())
 }
 
-// Reads the file that was taken, cuts what stands behind its tail gate, gives up what the last journal hides, and empties
-// the other one.
-fn open_file<R: Threads, D: Disk>(
+// Clears the file that isn't the open one.
+fn clear_other<D: Disk>(in_a: bool, a: &mut D, b: &mut D) -> Result<(), OpenErr>
+    ensures ok { OnOk result (IsTrue D.tells → IsSettled (other_of in_a (D.state a.old).bytes (D.state b.old).bytes)
+        → (other_of in_a (D.state a.new).bytes (D.state b.new).bytes) ≡ settled_state []) }
+    ensures idle { IsTrue D.tells → (other_of in_a (D.state a.old).bytes (D.state b.old).bytes).seen ≡ []
+        → (other_of in_a (D.state a.new).bytes (D.state b.new).bytes)
+        ≡ (other_of in_a (D.state a.old).bytes (D.state b.old).bytes) }
+    ensures passed { IsTrue D.tells → KeepsPassed (other_of in_a (D.state a.old).bytes (D.state b.old).bytes)
+        (other_of in_a (D.state a.new).bytes (D.state b.new).bytes) }
+    ensures open_stays { open_of in_a (D.state a.new) (D.state b.new)
+        ≡ open_of in_a (D.state a.old) (D.state b.old) }
+    ensures err { IfErr result (λ e. e ≡ errors.DiskFault) }
+    ensures faults { CountsOpen result (D.state a.old).faults (D.state a.new).faults
+        (D.state b.old).faults (D.state b.new).faults }
+{
+    if in_a { clear(b) } else { clear(a) }
+}
+
+// Reads the file that was taken, which stands on this disk.
+fn read_twin<R: Threads, D: Disk>(
     rt: &R,
     alloc: Global,
     twin: Twin,
-    taken: &mut D,
-    other: &mut D,
+    disk: &mut D,
     limits: Limits,
 ) -> Result<Opened, OpenErr>
-    requires told { HasTail (D.state taken.old).told (file_of twin) }
+    requires told { HasTail (D.state disk.old).told (file_of twin) }
     requires place { place_of (file_of twin) ≡ 64 + base_len_of (file_of twin) }
-    requires head { IsTrue D.tells → IsHeadOf (D.state taken.old).bytes.seen (file_of twin) }
+    requires head { IsTrue D.tells → IsHeadOf (D.state disk.old).bytes.seen (file_of twin) }
     requires limits { AreWithin limits }
-    ensures ok { IfOk result (λ opened. (in_a_of opened.twin ≡ in_a_of twin) × IsOpenedAs D.tells
-        (known_from opened.book opened.places.list (place_of (file_of opened.twin)))
-        (D.state taken.old).bytes (D.state other.old).bytes (D.state taken.new).bytes (D.state other.new).bytes) }
+    ensures ok { IfOk result (λ opened. HasKnown D.tells (D.state disk.old).bytes.seen
+        (known_from opened.book opened.places.list (place_of (file_of opened.twin)))) }
+    ensures same { IfOk result (λ opened. (in_a_of opened.twin ≡ in_a_of twin)
+        × (generation_in opened.twin ≡ generation_in twin) × (copy_of opened.twin ≡ copy_of twin)) }
     ensures limits { IfOk result (λ opened. opened.book.limits ≡ limits) }
-    ensures told { IfOk result (λ opened. HasTail (D.state taken.new).told
-        (file_of opened.twin)) }
-    ensures err { IfErr result (λ e. IsTrue D.tells → IsReadErr (D.state taken.old).bytes.seen e) }
+    ensures told { IfOk result (λ opened. HasTail (D.state disk.new).told (file_of opened.twin)) }
+    ensures err { IfErr result (λ e. IsTrue D.tells → IsReadErr (D.state disk.old).bytes.seen e) }
     ensures only { IfErr result (λ e. (e ≢ errors.Empty) × (e ≢ errors.Exists)) }
-    ensures same { IfErr result (λ e. e ≢ errors.DiskFault → IsTrue D.tells
-        → AreUnchanged (D.state taken.old).bytes (D.state other.old).bytes
-        (D.state taken.new).bytes (D.state other.new).bytes) }
-
-    // So it is whatever is answered, unless the file that is taken is whole.
-    ensures kept { IsTrue D.tells → HasLawfulBlocks (D.state taken.old).bytes.seen
-        ⊎ AreUnchanged (D.state taken.old).bytes (D.state other.old).bytes
-        (D.state taken.new).bytes (D.state other.new).bytes }
-    ensures which { IfOk result (λ opened. (generation_in opened.twin ≡ generation_in twin)
-        × (copy_of opened.twin ≡ copy_of twin)) }
-
-    // At every exit each image of the open file stands for what it stood for, and an empty other file is left alone.
-    ensures images { IsTrue D.tells → IsSettled (D.state taken.old).bytes
-        → StandsStill (D.state taken.old).bytes (D.state taken.new).bytes }
-    ensures idle { IsTrue D.tells → (D.state other.old).bytes.seen ≡ []
-        → (D.state other.new).bytes ≡ (D.state other.old).bytes }
-    ensures clean { IsTrue D.tells → IsCleanFileStill (D.state taken.old).bytes (D.state taken.new).bytes }
-    ensures faults { CountsOpen result (D.state taken.old).faults (D.state taken.new).faults
-        (D.state other.old).faults (D.state other.new).faults }
+    ensures state { IsTrue D.tells → (D.state disk.new).bytes ≡ (D.state disk.old).bytes }
+    ensures faults { CountsRead result (D.state disk.old).faults (D.state disk.new).faults }
 {
     let mut twin = twin;
-    let read = match read_file(rt, alloc, twin.file(), taken, limits) {
-        Ok(read) => read,
-        Err(e) => return Err(e),
-    };
-    if let Err(e) = twin.file().trim(taken) {
-        return Err(OpenErr::from(e));
-    }
-    if let Err(e) = finish_in(&read.book, &read.places, twin.file(), taken) {
-        return Err(OpenErr::from(e));
-    }
-    match clear(other) {
-        Ok(()) => Ok(Opened {
+    match read_file(rt, alloc, twin.file(), disk, limits) {
+        Ok(read) => Ok(Opened {
             book: read.book,
             twin,
             places: read.places,
@@ -101,10 +96,171 @@ fn open_file<R: Threads, D: Disk>(
     }
 }
 
+// Reads the file that was taken.
+fn read_pair<R: Threads, D: Disk>(
+    rt: &R,
+    alloc: Global,
+    twin: Twin,
+    a: &mut D,
+    b: &mut D,
+    limits: Limits,
+) -> Result<Opened, OpenErr>
+    requires told { HasTail (open_of (in_a_of twin) (D.state a.old).told (D.state b.old).told) (file_of twin) }
+    requires place { place_of (file_of twin) ≡ 64 + base_len_of (file_of twin) }
+    requires head { IsTrue D.tells
+        → IsHeadOf (open_of (in_a_of twin) (D.state a.old).bytes (D.state b.old).bytes).seen (file_of twin) }
+    requires limits { AreWithin limits }
+    ensures ok { IfOk result (λ opened. HasKnown D.tells
+        (open_of (in_a_of twin) (D.state a.old).bytes (D.state b.old).bytes).seen
+        (known_from opened.book opened.places.list (place_of (file_of opened.twin)))) }
+    ensures same { IfOk result (λ opened. (in_a_of opened.twin ≡ in_a_of twin)
+        × (generation_in opened.twin ≡ generation_in twin) × (copy_of opened.twin ≡ copy_of twin)) }
+    ensures limits { IfOk result (λ opened. opened.book.limits ≡ limits) }
+    ensures told { IfOk result (λ opened. HasTail
+        (open_of (in_a_of twin) (D.state a.new).told (D.state b.new).told) (file_of opened.twin)) }
+    ensures err { IfErr result (λ e. IsTrue D.tells
+        → IsReadErr (open_of (in_a_of twin) (D.state a.old).bytes (D.state b.old).bytes).seen e) }
+    ensures only { IfErr result (λ e. (e ≢ errors.Empty) × (e ≢ errors.Exists)) }
+    ensures state { IsTrue D.tells → AreUnchanged (D.state a.old).bytes (D.state b.old).bytes
+        (D.state a.new).bytes (D.state b.new).bytes }
+    ensures faults { CountsOpen result (D.state a.old).faults (D.state a.new).faults
+        (D.state b.old).faults (D.state b.new).faults }
+{
+    if twin.in_a() {
+        read_twin(rt, alloc, twin, a, limits)
+    } else {
+        read_twin(rt, alloc, twin, b, limits)
+    }
+}
+
+// Cuts what stands behind the open file's tail gate.
+fn trim_open<D: Disk>(a: &mut D, b: &mut D, twin: &mut Twin) -> Result<(), OpenErr>
+    requires told { HasTail (open_of (in_a_of twin.old) (D.state a.old).told (D.state b.old).told)
+        (file_of twin.old) }
+    ensures ok { OnOk result (IsTrue D.tells
+        → (open_of (in_a_of twin.old) (D.state a.new).bytes (D.state b.new).bytes)
+        ≡ settled_state (take (place_of (file_of twin.old) + 1)
+        (open_of (in_a_of twin.old) (D.state a.old).bytes (D.state b.old).bytes).seen)) }
+    ensures images { IsTrue D.tells → StandsTrimmed (place_of (file_of twin.old))
+        (open_of (in_a_of twin.old) (D.state a.old).bytes (D.state b.old).bytes)
+        (open_of (in_a_of twin.old) (D.state a.new).bytes (D.state b.new).bytes) }
+    ensures idle { OnErr result (IsTrue D.tells
+        → length (open_of (in_a_of twin.old) (D.state a.old).bytes (D.state b.old).bytes).seen
+        ≡ place_of (file_of twin.old) + 1
+        → (open_of (in_a_of twin.old) (D.state a.new).bytes (D.state b.new).bytes)
+        ≡ (open_of (in_a_of twin.old) (D.state a.old).bytes (D.state b.old).bytes)) }
+    ensures other { other_of (in_a_of twin.old) (D.state a.new) (D.state b.new)
+        ≡ other_of (in_a_of twin.old) (D.state a.old) (D.state b.old) }
+    ensures told { OnOk result (HasTail (open_of (in_a_of twin.old) (D.state a.new).told (D.state b.new).told)
+        (file_of twin.old)) }
+    ensures same { twin.new ≡ twin.old }
+    ensures only { IfErr result (λ e. e ≡ errors.DiskFault) }
+    ensures faults { CountsOpen result (D.state a.old).faults (D.state a.new).faults
+        (D.state b.old).faults (D.state b.new).faults }
+{
+    let trimmed = if twin.in_a() {
+        twin.file().trim(a)
+    } else {
+        twin.file().trim(b)
+    };
+    match trimmed {
+        Ok(()) => Ok(()),
+        Err(_) => Err(OpenErr::DiskFault),
+    }
+}
+
+// Does what a crash left undone in a ledger that was read: cuts what stands behind the tail gate, gives up what the last
+// journal hides, finishes the purge, and clears the other file.
+fn finish_open<D: Disk>(
+    a: &mut D,
+    b: &mut D,
+    opened: &mut Opened,
+    purge: Option<Purge>,
+) -> Result<(), OpenErr>
+    requires read { WasReadHere D.tells (ledger_at opened.old (D.state a.old).bytes (D.state b.old).bytes) }
+    requires told { HasTail (open_of (in_a_of opened.old.twin) (D.state a.old).told (D.state b.old).told)
+        (file_of opened.old.twin) }
+    requires prepared { IsPrepared opened.old.book opened.old.places.list purge }
+    ensures ok { OnOk result (KnowsReopened D.tells (in_a_of opened.new.twin)
+        (known_from opened.new.book opened.new.places.list (place_of (file_of opened.new.twin)))
+        (D.state a.old).bytes (D.state b.old).bytes (D.state a.new).bytes (D.state b.new).bytes) }
+    ensures limits { opened.new.book.limits ≡ opened.old.book.limits }
+    ensures told { OnOk result (HasTail (open_of (in_a_of opened.new.twin) (D.state a.new).told (D.state b.new).told)
+        (file_of opened.new.twin)) }
+    ensures generation { OnOk result (IsTrue D.tells → generation_in opened.new.twin
+        ≡ generation_of (open_of (in_a_of opened.new.twin)
+        (D.state a.new).bytes (D.state b.new).bytes).seen) }
+    ensures copy { OnOk result (copy_of opened.old.twin ≡ None → copy_of opened.new.twin ≡ None) }
+    ensures images { IsTrue D.tells → PairStandsStill
+        (D.state a.old).bytes (D.state b.old).bytes (D.state a.new).bytes (D.state b.new).bytes }
+    ensures clean { IsTrue D.tells → IsCleanStill
+        (D.state a.old).bytes (D.state b.old).bytes (D.state a.new).bytes (D.state b.new).bytes }
+    ensures only { IfErr result (λ e. e ≡ errors.DiskFault) }
+    ensures faults { CountsOpen result (D.state a.old).faults (D.state a.new).faults
+        (D.state b.old).faults (D.state b.new).faults }
+{
+    trim_open(a, b, &mut opened.twin)?;
+    finish_erasures(a, b, opened)?;
+    complete(a, b, opened, purge)?;
+    clear_other(opened.twin.in_a(), a, b)
+}
+
+// Reads the file that was taken, and does what a crash left undone. All memory is taken before the first write.
+fn open_pair<R: Threads, D: Disk>(
+    rt: &R,
+    alloc: Global,
+    twin: Twin,
+    a: &mut D,
+    b: &mut D,
+    limits: Limits,
+) -> Result<Opened, OpenErr>
+    requires told { HasTail (open_of (in_a_of twin) (D.state a.old).told (D.state b.old).told) (file_of twin) }
+    requires place { place_of (file_of twin) ≡ 64 + base_len_of (file_of twin) }
+    requires head { IsTrue D.tells
+        → IsHeadOf (open_of (in_a_of twin) (D.state a.old).bytes (D.state b.old).bytes).seen (file_of twin) }
+    requires here { IsTrue D.tells → IsHere (in_a_of twin) (generation_in twin)
+        (D.state a.old).bytes (D.state b.old).bytes }
+    requires limits { AreWithin limits }
+    ensures ok { IfOk result (λ opened. KnowsReopened D.tells (in_a_of opened.twin)
+        (known_from opened.book opened.places.list (place_of (file_of opened.twin)))
+        (D.state a.old).bytes (D.state b.old).bytes (D.state a.new).bytes (D.state b.new).bytes) }
+    ensures limits { IfOk result (λ opened. opened.book.limits ≡ limits) }
+    ensures told { IfOk result (λ opened. HasTail
+        (open_of (in_a_of opened.twin) (D.state a.new).told (D.state b.new).told) (file_of opened.twin)) }
+    ensures generation { IfOk result (λ opened. IsTrue D.tells → generation_in opened.twin
+        ≡ generation_of (open_of (in_a_of opened.twin)
+        (D.state a.new).bytes (D.state b.new).bytes).seen) }
+    ensures copy { IfOk result (λ opened. copy_of twin ≡ None → copy_of opened.twin ≡ None) }
+    ensures err { IfErr result (λ e. IsTrue D.tells
+        → IsReadErr (open_of (in_a_of twin) (D.state a.old).bytes (D.state b.old).bytes).seen e) }
+    ensures only { IfErr result (λ e. (e ≢ errors.Empty) × (e ≢ errors.Exists)) }
+    ensures same { IfErr result (λ e. e ≢ errors.DiskFault → IsTrue D.tells → AreUnchanged
+        (D.state a.old).bytes (D.state b.old).bytes (D.state a.new).bytes (D.state b.new).bytes) }
+    ensures kept { IsTrue D.tells
+        → HasLawfulBlocks (open_of (in_a_of twin) (D.state a.old).bytes (D.state b.old).bytes).seen
+        ⊎ AreUnchanged (D.state a.old).bytes (D.state b.old).bytes (D.state a.new).bytes (D.state b.new).bytes }
+    ensures images { IsTrue D.tells → PairStandsStill
+        (D.state a.old).bytes (D.state b.old).bytes (D.state a.new).bytes (D.state b.new).bytes }
+    ensures clean { IsTrue D.tells → IsCleanStill
+        (D.state a.old).bytes (D.state b.old).bytes (D.state a.new).bytes (D.state b.new).bytes }
+    ensures faults { CountsOpen result (D.state a.old).faults (D.state a.new).faults
+        (D.state b.old).faults (D.state b.new).faults }
+{
+    let mut opened = match read_pair(rt, alloc, twin, a, b, limits) {
+        Ok(opened) => opened,
+        Err(e) => return Err(e),
+    };
+    let purge = prepare(alloc, &opened.book, &opened.places)?;
+    match finish_open(a, b, &mut opened, purge) {
+        Ok(()) => Ok(opened),
+        Err(e) => Err(e),
+    }
+}
+
 /// Opens a ledger from its two disks. Both are synced before they are looked at. The open file is read once, from its
 /// first block on, and the leaf digests of a long ledger's journals are made in a thread beside; what stands behind its tail gate
-/// is cut off, what the last journal hides is given up where a crash left that undone, and the other file is emptied where
-/// it isn't.
+/// is cut off, what the last journal hides is given up and what it purges falls away where a crash left that undone, and the
+/// other file is emptied where it isn't. All memory is taken before the first write.
 pub fn reopen<R: Threads, D: Disk>(
     rt: &R,
     alloc: Global,
@@ -147,13 +303,7 @@ pub fn reopen<R: Threads, D: Disk>(
     a.sync()?;
     b.sync()?;
     match Twin::reopen(a, b) {
-        Ok(Some(twin)) => {
-            if twin.in_a() {
-                open_file(rt, alloc, twin, a, b, limits)
-            } else {
-                open_file(rt, alloc, twin, b, a, limits)
-            }
-        }
+        Ok(Some(twin)) => open_pair(rt, alloc, twin, a, b, limits),
         Ok(None) => Err(OpenErr::Empty),
         Err(e) => Err(OpenErr::from(e)),
     }

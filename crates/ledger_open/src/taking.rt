@@ -1,14 +1,15 @@
-ghost use Rattle.std.specs.Prelude.{◌≡◌, ◌⊎◌, ◌+◌, ◌^◌, ◌<◌, ◌≤◌, [], ◌∷◌, ℕ, All, List, length, take, IfErr, OnOk, vec_len};
+ghost use Rattle.std.specs.Prelude.{◌≡◌, ◌⊎◌, ◌+◌, ◌^◌, ◌<◌, ◌≤◌, [], ◌∷◌, ℕ, All, List, length, take, IfErr, OnOk, Option, vec_len};
 ghost use Rattle.block_file.specs.declared.failure.Damage.{Damage};
 ghost use Rattle.block_file.specs.declared.failure.Damage.TheVariants as damages;
 ghost use Rattle.journal_record.specs.Entry.{Entry};
 ghost use Rattle.journal_record.specs.Rules.{IsHeader};
-ghost use Rattle.ledger_book.specs.Books.{Serves};
-ghost use Rattle.ledger_model.specs.History.{history, journals_of};
+ghost use Rattle.ledger_book.specs.Behind.{next_number};
+ghost use Rattle.ledger_model.specs.History.{journals_of};
 ghost use Rattle.ledger_model.specs.Lawful as lawful;
+ghost use Rattle.pseudo_genesis.specs.declared.base.Base.{Base};
 ghost use Rattle.ledger_open.specs.Ahead.{AreLeaves, HasAhead, IsBadAhead, TakesAll, blocks_in};
 ghost use Rattle.ledger_open.specs.Damages.{CanShare};
-ghost use Rattle.ledger_open.specs.Taking.{Headed, Goes, IsOther, TakesBlock, IsBadBlock};
+ghost use Rattle.ledger_open.specs.Taking.{Headed, Goes, IsOther, TakesAllOf, TakesBlock, IsBadBlock};
 ghost use Rattle.ledger_open.specs.declared.failure.OpenErr.TheVariants as errors;
 
 use crate::ahead::{Ahead, Hashed};
@@ -50,13 +51,16 @@ fn share_len(records: &[RecordAt]) -> usize
 fn replay_records(book: &mut Book, records: &[RecordAt], leaves: &[Digest]) -> Result<(), OpenErr>
     requires layout { All (λ r. IsHeader r.header) records.now }
     requires leaves { AreLeaves records.now leaves.now }
-    ensures ok { OnOk result ((blocks : List (List Entry)) (es : List Entry) → Headed es records.now
-        → Serves book.old (history blocks []) → Goes book.new blocks es) }
-    ensures limits { OnOk result (book.new.limits ≡ book.old.limits) }
+    ensures ok { OnOk result ((start : Option Base) (blocks : List (List Entry)) (es : List Entry)
+        → Headed es records.now → Goes book.old start blocks []
+        → TakesAllOf book.new start blocks es) }
+    ensures kept { OnOk result ((book.new.limits ≡ book.old.limits)
+        × (book.new.floor ≡ book.old.floor) × (book.new.sealed ≡ book.old.sealed)) }
     ensures err { IfErr result (λ e. (e ≡ errors.NoMemory) ⊎ ((jsn : ℕ)
         × (e ≡ errors.Damaged (damages.Entry jsn))
-        × ((blocks : List (List Entry)) (es : List Entry) → Headed es records.now
-        → Serves book.old (history blocks []) → IsOther (journals_of blocks) es jsn))) }
+        × ((start : Option Base) (blocks : List (List Entry)) (es : List Entry)
+        → Headed es records.now → Goes book.old start blocks []
+        → IsOther start (journals_of blocks) es jsn))) }
 {
     for index in 0..records.len() {
         match book.replay(&records[index].header, &leaves[index]) {
@@ -77,20 +81,21 @@ fn take_block(
     first: u64,
 ) -> Result<(), OpenErr>
     requires number { first < 2 ^ 32 }
+    requires settled { book.old.size ≡ book.old.sealed }
     requires some { 1 ≤ length block.now.records }
     requires layout { All (λ r. IsHeader r.header) block.now.records }
     requires leaves { AreLeaves block.now.records leaves.now }
-    ensures ok { OnOk result ((blocks : List (List Entry)) (es : List Entry)
-        → Headed es block.now.records
-        → Serves book.old (history blocks []) → TakesBlock book.new blocks es block.now.root.0) }
+    ensures ok { OnOk result ((start : Option Base) (blocks : List (List Entry)) (es : List Entry)
+        → Headed es block.now.records → Goes book.old start blocks []
+        → TakesBlock book.new start blocks es block.now.root.0) }
     ensures limits { OnOk result (book.new.limits ≡ book.old.limits) }
     ensures err { IfErr result (λ e. (e ≡ errors.NoMemory) ⊎ ((damage : Damage)
         × (e ≡ errors.Damaged damage)
-        × ((blocks : List (List Entry)) (es : List Entry) → Headed es block.now.records
-        → first ≡ length (journals_of blocks) → Serves book.old (history blocks [])
-        → IsBadBlock blocks es block.now.root.0 damage))) }
+        × ((start : Option Base) (blocks : List (List Entry)) (es : List Entry)
+        → Headed es block.now.records → first ≡ next_number start (journals_of blocks)
+        → Goes book.old start blocks []
+        → IsBadBlock start blocks es block.now.root.0 damage))) }
 {
-    let number = book.blocks();
     let records = block.records.as_slice();
     let share = share_len(records);
     if let Err(e) = replay_records(book, &records[..share], &leaves[..share]) {
@@ -101,13 +106,15 @@ fn take_block(
             jsn: first + share as u64,
         }));
     }
-    book.seal();
-    let found = book.head().root;
-    if found != block.root {
+    // The block has a journal, so it ends.
+    let Some(sealed) = book.seal() else {
+        return Ok(());
+    };
+    if sealed.head.root != block.root {
         return Err(OpenErr::Damaged(Damage::Root {
-            block: number,
+            block: sealed.block,
             kept: block.root,
-            found,
+            found: sealed.head.root,
         }));
     }
     Ok(())
@@ -124,7 +131,7 @@ fn take_next(book: &mut Book, places: &mut Places, next: &Hashed) -> Result<(), 
         × (e ≡ errors.Damaged damage)
         × IsBadAhead book.old places.old.list (next.now.block ∷ []) damage)) }
 {
-    let first = book.head().size;
+    let first = book.size();
     if let Err(e) = take_block(book, &next.block, next.leaves.as_slice(), first) {
         return Err(e);
     }

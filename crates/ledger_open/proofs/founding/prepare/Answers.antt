@@ -7,7 +7,7 @@ use Rattle.ledger_open.proofs.founding.prepare.Goals as goal
 
 pub returns-clause-known : goal.returns-clause-known
 returns-clause-known c =
-    first_knows c.args.genesis.now c.in_ok-block.ensures.keys.operator c.in_ok-block.ensures.keys.regulator c.in_ok-book.book c.push.new.self.list c.in_ok-book.ensures.serves
+    first_knows c.args.genesis.now c.in_ok-block.ensures.keys.operator c.in_ok-block.ensures.keys.regulator c.in_ok-book.book c.push.new.self.list c.in_ok-book.ensures.serves c.in_ok-book.ensures.floor.0
     (c.push.ensures.list ∙ ap (λ (l : List PlaceAt). l ++ record { content_at = 287; who_at = 351; content_len = 64; who_len = 0 } ∷ []) (c.reserve.ensures.list ∙ c.new-places.ensures))
 
 pub returns-clause-block : goal.returns-clause-block

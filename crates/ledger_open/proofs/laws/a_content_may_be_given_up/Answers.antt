@@ -1,5 +1,5 @@
-use Rattle.ledger_open.proofs.CleanLaws.{given_clean}
 use Rattle.ledger_open.proofs.ErasingLaws.{meanwhile, erased_by, nothing_open}
+use Rattle.ledger_open.proofs.FinishLaws.{given_clean}
 use Rattle.ledger_open.proofs.laws.a_content_may_be_given_up.Goals as goal
 
 pub returns-clause-meanwhile : goal.returns-clause-meanwhile

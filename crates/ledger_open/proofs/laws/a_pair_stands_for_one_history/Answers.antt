@@ -1,6 +1,4 @@
-use Rattle.ledger_open.proofs.GrowLaws.{one_image}
-use Rattle.ledger_open.proofs.PairLaws.{one_pair}
-use Rattle.ledger_open.proofs.PartLaws.{is_alone}
+use Rattle.ledger_open.proofs.PairLaws.{one_image, one_pair}
 use Rattle.ledger_open.proofs.laws.a_pair_stands_for_one_history.Goals as goal
 
 pub returns-clause-image : goal.returns-clause-image
@@ -8,6 +6,3 @@ returns-clause-image c = one_image
 
 pub returns-clause-pair : goal.returns-clause-pair
 returns-clause-pair c = one_pair
-
-pub returns-clause-alone : goal.returns-clause-alone
-returns-clause-alone c = is_alone

@@ -8,5 +8,5 @@ use Rattle.ledger_open.proofs.reading.read_file.Goals as goal
 
 pub returns-clause-ok : goal.returns-clause-ok
 returns-clause-ok g c = IfOk-weaker c.read_rest.result _ _ (λ read has.
-    known_again g.D.Disk.tells (g.D.Disk.state c.read_first.new.disk).bytes.seen (g.D.Disk.state c.args.disk.now).bytes.seen (known_from read.book read.places.list (place_of c.read_rest.new.file))
-    (λ told. ap (λ (s : State). s.seen) (c.in-Ok.ensures.state told ∙ c.in_default.ensures.state told)) has) c.read_rest.ensures.ok
+    known_again g.D.Disk.tells (g.D.Disk.state c.begin_read.new.disk).bytes.seen (g.D.Disk.state c.args.disk.now).bytes.seen (known_from read.book read.places.list (place_of c.read_rest.new.file))
+    (λ told. ap (λ (s : State). s.seen) (c.in-Ok-begin_read.ensures.state told ∙ c.in-Ok.ensures.state told)) has) c.read_rest.ensures.ok

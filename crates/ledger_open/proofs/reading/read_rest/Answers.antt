@@ -10,7 +10,7 @@ use Rattle.ledger_open.proofs.reading.read_rest.Goals as goal
 
 pub read_ahead-requires-clause-number : goal.read_ahead-requires-clause-number
 read_ahead-requires-clause-number g c =
-    first_below g.D.Disk.tells (g.D.Disk.state c.args.disk.now).bytes.seen (known_from c.args.read.book c.args.read.places.list (place_of c.args.file.now)) c.head-first.result c.requires.known c.head-first.ensures
+    first_below g.D.Disk.tells (g.D.Disk.state c.args.disk.now).bytes.seen (known_from c.args.read.book c.args.read.places.list (place_of c.args.file.now)) c.size-first.result c.requires.known c.size-first.ensures.size
 
 pub loop-alloc-init : goal.loop-alloc-init
 loop-alloc-init g c =
@@ -20,8 +20,8 @@ loop-alloc-init g c =
     let k = known_from c.args.read.book c.args.read.places.list at in
     let o = c.in-Ok.ensures in
     let cs = blocks_in c.in-Ok.ahead.blocks.items in
-    let a = ahead_of tells file k c.head-first.result cs c.in-Ok.ahead.stop c.requires.known c.head-first.ensures o.read
-    (subst (λ (p : _). IsStop tells file p (number_behind c.head-first.result.size cs) c.in-Ok.ahead.stop) o.place o.stop) in
+    let a = ahead_of tells file k c.size-first.result cs c.in-Ok.ahead.stop c.requires.known c.size-first.ensures.size o.read
+    (subst (λ (p : _). IsStop tells file p (number_behind c.size-first.result cs) c.in-Ok.ahead.stop) o.place o.stop) in
     record {
       ahead = next_blocks tells file c.args.read.book c.args.read.places.list at at (place_of c.read_ahead.new.file) [] [] c.in-Ok.ahead c.hash.new.self refl refl o.place o.count c.hash.ensures.blocks c.hash.ensures.count c.hash.ensures.stop c.hash.ensures.leaves a;
       limits = refl;
@@ -58,16 +58,17 @@ returns-clause-ok g c =
     let i = c.loop-alloc.invariant in
     let place = place_of c.loop-alloc.file in
     IfOk-weaker c.read_last.result _ _ (λ read has.
-    let both = has tells file place i.ahead in
-    known_of tells file (known_from read.book read.places.list place) both.0 c.requires.plain both.1
+    let both = has.1 tells file place i.ahead in
+    known_of tells file (known_from read.book read.places.list place) both.0 has.0 both.1
     (λ told. subst (λ (s : State). place + 1 ≤ length s.seen) (i.same told) (told_inside _ (place + 1) _ (g.met.D.Disk.length_is c.loop-alloc.disk told) i.told)))
     c.read_last.ensures.ok
 
 pub returns-clause-err : goal.returns-clause-err
 returns-clause-err g c =
     let file = (g.D.Disk.state c.args.disk.now).bytes.seen in
+    let i = c.loop-alloc.invariant in
     IfErr-weaker c.read_last.result _ _ (λ e why told. elim why [
       | inl none ↦ subst (IsReadErr file) (sym none) tt
-      | inr bad ↦ subst (IsReadErr file) (sym bad.1) (bad.2 g.D.Disk.tells file (place_of c.loop-alloc.file) c.loop-alloc.invariant.ahead told (c.requires.plain told))
+      | inr bad ↦ subst (IsReadErr file) (sym bad.1) (bad.2 g.D.Disk.tells file (place_of c.loop-alloc.file) i.ahead told (subst (λ (s : State). place_of c.loop-alloc.file + 1 ≤ length s.seen) (i.same told) (told_inside _ (place_of c.loop-alloc.file + 1) _ (g.met.D.Disk.length_is c.loop-alloc.disk told) i.told)))
     ])
     c.read_last.ensures.err

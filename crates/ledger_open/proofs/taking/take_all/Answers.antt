@@ -20,10 +20,10 @@ returns-in-Err-clause-err c = elim c.in-Err.ensures.err [
     why.0,
     why.1,
     record {
-      bad = λ tells file at more stop a told plain.
+      bad = λ tells file at more stop a told.
           let t = taken_here c.args.book.now c.args.places.now.list c.loop-block.book c.loop-block.places.list c.args.blocks.now c.loop-block.block-index c.block-item.result c.loop-block-test.true c.block-item.is c.loop-block.invariant.taken in
           let g = t.goes tells file at more stop a in
-          why.2.bad tells file g.0 (blocks_in (drop (c.loop-block.block-index + 1) c.args.blocks.now) ++ more) stop g.2 told plain;
+          why.2.bad tells file g.0 (blocks_in (drop (c.loop-block.block-index + 1) c.args.blocks.now) ++ more) stop g.2 told;
     },
   )
 ]

@@ -10,7 +10,12 @@ use Rattle.ledger_open.proofs.taking.take_next.Goals as goal
 pub take_block-requires-clause-number : goal.take_block-requires-clause-number
 take_block-requires-clause-number c =
     let a = c.requires.ahead in
-    first_below a.0 a.1 (known_from c.args.book.now c.args.places.now.list a.2) c.head-first.result a.5.read c.head-first.ensures
+    first_below a.0 a.1 (known_from c.args.book.now c.args.places.now.list a.2) c.size-first.result a.5.read c.size-first.ensures.size
+
+pub take_block-requires-clause-settled : goal.take_block-requires-clause-settled
+take_block-requires-clause-settled c =
+    let a = c.requires.ahead in
+    a.5.read.taken.settled
 
 pub take_block-requires-clause-layout : goal.take_block-requires-clause-layout
 take_block-requires-clause-layout c =
@@ -26,7 +31,7 @@ returns-in-Err-clause-err c = elim c.in-Err.ensures.err [
     why.1,
     record {
       bad = λ tells file at rest stop a.
-          bad_ahead tells file (known_from c.args.book.now c.args.places.now.list at) c.head-first.result c.args.next.now.block why.0 rest stop c.head-first.ensures why.2 a;
+          bad_ahead tells file (known_from c.args.book.now c.args.places.now.list at) c.size-first.result c.args.next.now.block why.0 rest stop c.size-first.ensures.size why.2 a;
     },
   )
 ]

@@ -1,0 +1,81 @@
+-- What falls away from a file by a purge, and the base behind which the rest of it stands.
+use Rattle.std.specs.Prelude.{◌≡◌, ℕ, ◌+◌, ◌^◌, ◌<◌, ◌≤◌, List, [], ◌∷◌, ◌++◌, length, drop, Option, Some, None, ⊤}
+use Rattle.journal_record.specs.Entry.{Entry}
+use Rattle.ledger_book.specs.Books.{Kept, Serves}
+use Rattle.ledger_model.specs.Bases.{base_of}
+use Rattle.ledger_model.specs.History.{History, journals_of}
+use Rattle.pseudo_genesis.specs.Bases.{HasCounts, spelling}
+use Rattle.pseudo_genesis.specs.declared.base.Base.{Base}
+use Rattle.ledger_open.specs.Erasing.{AllInside}
+use Rattle.ledger_open.specs.Opening.{Known, known_from}
+use Rattle.ledger_open.specs.Order.{AreInOrder}
+use Rattle.ledger_open.specs.Places.{after_at, places_from}
+use Rattle.ledger_open.specs.Standing.{Floor}
+use Rattle.ledger_open.specs.declared.places.PlaceAt.{PlaceAt}
+use Rattle.ledger_open.specs.declared.purging.Cut.{Cut}
+use Rattle.ledger_open.specs.declared.purging.Purge.{Purge}
+
+-- ---- what falls away
+
+-- where the first gate of a file stands
+abbrev pub first_gate : Floor → ℕ
+first_gate floor = 64 + length floor.base
+
+-- .. and the gate behind some blocks of it
+abbrev pub gate_behind : Floor → List (List Entry) → ℕ
+gate_behind floor blocks = after_at (first_gate floor) blocks
+
+-- blocks of which the first has a journal
+abbrev pub BeginsSome : List (List Entry) → Type 0
+BeginsSome [] = ⊥
+BeginsSome ([] ∷ bs) = ⊥
+BeginsSome ((e ∷ es) ∷ bs) = ⊤
+
+-- Of a file that begins at this floor and has the blocks of both lists the first ones fall away: the book's point is where
+-- the others begin. Book and places are those of such a file.
+pub record FallsAway (known : Known) (floor : Floor) (front behind : List (List Entry)) : Type 0 where
+  pub first : known.book.floor ≡ floor.first
+  pub point : floor.first + length (journals_of front) ≡ known.book.point
+  pub most : known.book.point ≤ known.book.sealed
+  pub some : BeginsSome behind
+  pub places : known.places ≡ places_from floor (front ++ behind)
+  pub tail : known.place ≡ gate_behind floor (front ++ behind)
+
+-- this is where they end
+pub record IsCutAt (floor : Floor) (front : List (List Entry)) (cut : Cut) : Type 0 where
+  pub count : cut.count ≡ length (journals_of front)
+  pub gate : cut.gate ≡ gate_behind floor front
+
+-- the point lies behind the first journal of the file, and the cut inside of it
+pub record IsCutInside (book : Kept) (places : List PlaceAt) (cut : Cut) : Type 0 where
+  pub before : book.floor < book.point
+  pub point : cut.point ≡ book.point
+  pub most : book.point ≤ book.sealed
+  pub size : book.point ≤ book.size
+  pub count : cut.count < length places
+  pub gate : (end : ℕ) → AllInside end places → cut.gate ≤ end
+  pub behind : (from to : ℕ) → AreInOrder from to places → AreInOrder cut.gate to (drop cut.count places)
+
+-- where the rest of the file begins; or nothing of it falls away
+abbrev pub IsCutOf : Kept → List PlaceAt → Option Cut → Type 0
+IsCutOf book places None =
+    (place : ℕ) (floor : Floor) (front behind : List (List Entry)) → FallsAway (known_from book places place) floor front behind
+    → floor.first < book.point → ⊥
+IsCutOf book places (Some cut) =
+    IsCutInside book places cut
+    × ((place : ℕ) (floor : Floor) (front behind : List (List Entry)) → FallsAway (known_from book places place) floor front behind
+    → IsCutAt floor front cut)
+
+-- these bytes spell the base at a journal of each history that the book is one of
+pub record IsBaseAt (book : Kept) (p : ℕ) (bytes : List ℕ) : Type 0 where
+  pub base : Base
+  pub spelled : bytes ≡ spelling base
+  pub short : length bytes < 2 ^ 64
+  pub counts : HasCounts base
+  pub point : base.point ≡ p
+  pub base_is : (h : History) → Serves book h → base ≡ base_of h p
+
+-- .. where the rest of the file begins, and what stands in front of it
+abbrev pub IsPrepared : Kept → List PlaceAt → Option Purge → Type 0
+IsPrepared book places None = IsCutOf book places None
+IsPrepared book places (Some purge) = IsCutOf book places (Some purge.cut) × IsBaseAt book book.point purge.base
