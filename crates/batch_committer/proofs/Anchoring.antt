@@ -20,14 +20,13 @@ use Rattle.ledger_model.specs.Step.{Step}
 use Rattle.ledger_model.specs.Texts.{answer_for, told_reply}
 use Rattle.ledger_model.specs.declared.answer.Answer.TheVariants.{Reply}
 use Rattle.ledger_model.specs.declared.job.Job.{Job}
-use Rattle.ledger_model.specs.declared.job.Job.TheVariants.{Refused, Append, NewMember, Anchor, Occult, Get, Prove, Extend, Clue, Head}
+use Rattle.ledger_model.specs.declared.job.Job.TheVariants.{Refused, Append, NewMember, Anchor, Occult, Purge, Get, Prove, Extend, Clue, Head}
 use Rattle.ledger_model.specs.declared.limits.Limits.{Limits}
 use Rattle.ledger_model.specs.declared.outcome.Outcome.{Outcome}
 use Rattle.ledger_model.specs.declared.outcome.Outcome.TheVariants as came
 use Rattle.ledger_model.specs.declared.outcome.Query.{Query}
 use Rattle.ledger_model.specs.declared.outcome.Query.TheVariants as query
 use Rattle.ledger_book.specs.Books as books
-use Rattle.ledger_book.specs.Books.{Serves}
 use Rattle.ledger_book.proofs.ApplyLaws.{anchor_accepted}
 use Rattle.ledger_book.specs.Steps.{Applies, Anchors, HasOperatorRoom, PlacesNothing}
 use Rattle.batch_committer.specs.Steps.{Gathers, Judged}
@@ -117,6 +116,7 @@ asked_by (Append member clue content content_digest request by) q is = absurd (l
 asked_by (NewMember number key by) q is = absurd (let no : ⊥ = cc is in no)
 asked_by Anchor q is = let e : query.Stamp ≡ q = cc is in ap job_asking e
 asked_by (Occult target leaf given) q is = absurd (let no : ⊥ = cc is in no)
+asked_by (Purge p told given) q is = absurd (let no : ⊥ = cc is in no)
 asked_by (Get n) q is = let e : query.Get n ≡ q = cc is in ap job_asking e
 asked_by (Prove n) q is = let e : query.Prove n ≡ q = cc is in ap job_asking e
 asked_by (Extend which m) q is = let e : query.Extend which m ≡ q = cc is in ap job_asking e

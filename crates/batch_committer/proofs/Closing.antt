@@ -1,7 +1,8 @@
 -- What a block's end does to a history, to what is kept of it, and to what the disks may leave.
-use Rattle.std.specs.Prelude.{Bool, true, false, IsTrue, sum_by}
+use Rattle.std.specs.Prelude.{All, Bool, true, false, sum_by}
 use Rattle.std.proofs.Common.{◌≡◌, ◌⊎◌, inl, inr, ℕ, ◌+◌, ◌≤◌, List, [], ◌∷◌, ◌++◌, length, map, refl, ap, sym, subst, ◌∙◌, arith, append_assoc, append-nil, length-append}
 use Rattle.std.proofs.lemmas.List.{map-append, length-map, nil_from_length, take_all}
+use Rattle.std.proofs.lemmas.List.Concat.{flat_map-append}
 use Rattle.std.proofs.lemmas.List.Sums.{sum_by-cons}
 use Rattle.sha2.specs.Sha256.{sha256}
 use Rattle.tree_model.specs.Tree.{mth}
@@ -9,39 +10,32 @@ use Rattle.ledger_bytes.specs.declared.limits.TheConstants.{BLOCK_LIMIT}
 use Rattle.journal_record.specs.Blocks.{body_of, block_bytes, leaves_of, written_blocks, AreFrom}
 use Rattle.journal_record.specs.Entry.{Entry}
 use Rattle.journal_record.specs.Header.{spelling}
-use Rattle.journal_record.specs.declared.header.Header.{Header}
-use Rattle.journal_record.specs.declared.header.Kind.{Kind}
-use Rattle.journal_record.specs.declared.header.Kind.TheVariants.{Genesis, Content, Member, Time, Occult, Purge}
-use Rattle.block_file.specs.File.{Stands, tail_of, open_blocks, IsSettled}
+use Rattle.block_file.specs.File.{Stands, tail_of, open_blocks, IsSettled, HasBlock}
 use Rattle.ledger_disk.proofs.Guarding.{settled_image}
-use Rattle.ledger_disk.specs.Disk.{DiskState, State, MayLeave, settled_state}
+use Rattle.ledger_disk.specs.Disk.{State, MayLeave, settled_state}
 use Rattle.ledger_model.specs.declared.due.Due.{Due}
-use Rattle.ledger_model.specs.History.{History, history, journals, journals_of, size, leaves, root, point, greatest_point, purge_point, is_purge, close, close_by}
+use Rattle.ledger_model.specs.History.{History, history, journals, journals_of, size, leaves, root, point, close, close_by}
 use Rattle.ledger_model.specs.Targets.{is_hidden}
-use Rattle.ledger_model.specs.Lawful.{AreNext, IsNextOf}
+use Rattle.ledger_model.specs.Lawful.{AreNext, IsBlock}
 use Rattle.ledger_model.proofs.GrowLaws.{close_none, size_closed}
 use Rattle.ledger_model.proofs.KeepLaws.{journals_close}
-use Rattle.ledger_model.proofs.PlaceLaws.{point_same}
-use Rattle.ledger_book.specs.Books as books
 use Rattle.ledger_book.specs.Books.{sealed_size}
-use Rattle.ledger_open.specs.Erasing.{EndsAs}
 use Rattle.twin_file.specs.Twin.{open_of, other_of}
+use Rattle.ledger_open.specs.Cutting.{gate_behind}
 use Rattle.ledger_open.specs.Growing.{with_block, IsNextBlock}
-use Rattle.ledger_open.specs.Places.{record_len, place_at, places_in, places_at, after_at}
+use Rattle.ledger_open.specs.Places.{record_len, place_at, places_in, places_at, places_from, after_at}
 use Rattle.ledger_open.specs.declared.places.PlaceAt.{PlaceAt}
-use Rattle.ledger_open.specs.Standing.{ground, floor_behind, HasBlocks, SameButHidden, StandsFor, IsErased, IsClean, PairFor, IsCleanPair}
-use Rattle.ledger_open.proofs.GrowLaws.{erased_stands, grows_first}
-use Rattle.ledger_open.proofs.HidingLaws.{journals_push}
+use Rattle.ledger_open.specs.Standing.{Floor, floor_behind, hidden_before, point_before, Parts, StandsBy, StandsFor, IsErased, IsClean, PairFor, IsCleanPair}
+use Rattle.ledger_open.proofs.FloorLaws.{floor_root, floor_digests, floor_kept}
+use Rattle.ledger_open.proofs.GrowLaws.{erased_stands, grown, begins}
 use Rattle.ledger_open.proofs.KeptLaws.{header_map_same, all_kept}
-use Rattle.ledger_open.proofs.NextLaws.{next_behind}
-use Rattle.ledger_open.proofs.OpenLaws.{tail_is}
-use Rattle.ledger_open.proofs.PartLaws.{file_at, file_first, floor_none, same_all}
-use Rattle.ledger_open.proofs.PlaceLaws.{after_kept}
+use Rattle.ledger_open.proofs.PlaceLaws.{after_kept, tail_place}
 use Rattle.ledger_open.proofs.SizeLaws.{mth_size, block_size, body_size, readable}
-use Rattle.batch_committer.specs.Committed.{IsCommitted, IsUncommitted, HasGivenUp, HasNotGivenUp}
+use Rattle.batch_committer.specs.Committed.{IsCommitted, IsUncommitted, open_bytes}
 use Rattle.batch_committer.specs.declared.end.End.{End}
 use Rattle.batch_committer.specs.declared.end.End.TheVariants.{DiskFault, WriteFault, NoMemory, Closed}
-use Rattle.batch_committer.specs.World.{Kept, World, Pair, Located, Keeps, IsCleanFor, Holds, IsErasedPair, IsLeftClean, sealed_part}
+use Rattle.batch_committer.specs.World.{Kept, World, Pair, Keeps, IsCleanFor, Holds, IsErasedPair, IsLeftClean, sealed_part}
+use Rattle.batch_committer.proofs.Parting.{TailsAt, tails_at, gone_few}
 
 -- ---- the history
 
@@ -86,70 +80,36 @@ root_closed h =
     (take_all (sealed_size g) (leaves g) (omega (arith, sealed_all g (close_none h), length-map (journals g) (λ (j : Entry). spelling j.header)))
     ∙ ap (map (λ (j : Entry). spelling j.header)) (journals_close h))
 
--- ---- no journal that may be the next one purges
-
-kind_purges : (h : History) (x : Header) (k : Kind) → IsNextOf h x k → is_purge k ≡ false
-kind_purges h x Genesis own = refl
-kind_purges h x Content own = refl
-kind_purges h x Member own = refl
-kind_purges h x Time own = refl
-kind_purges h x Occult own = refl
-kind_purges h x Purge own = absurd own
-
-point_none : (e : Entry) (v : Bool) → is_purge e.header.kind ≡ v → v ≡ false → purge_point e ≡ 0
-point_none e v is none = rw (is ∙ none)
-
-pub next_point : (before es : List Entry) → AreNext before es → greatest_point (before ++ es) ≡ greatest_point before
-next_point before [] next = ap greatest_point (append-nil before)
-next_point before (e ∷ es) next =
-    ap greatest_point (sym (append_assoc before (e ∷ []) es)) ∙ next_point (before ++ e ∷ []) es next.1
-    ∙ point_same before e (point_none e (is_purge e.header.kind) refl (kind_purges (history [] before) e.header e.header.kind next.0.own))
-
-point_block : (h : History) → AreNext (journals_of h.closed) h.waiting → point (sealed_part h) ≡ 0 → point (with_block h.waiting (sealed_part h)) ≡ 0
-unfolding point
-point_block h next none =
-    ap greatest_point (journals_push h.closed h.waiting) ∙ next_point (journals_of h.closed) h.waiting next
-    ∙ ap greatest_point (sym (journals_sealed h)) ∙ none
-
 -- ---- the open block may be the next one
 
-module _ (k : Kept) (h : History) (p : Keeps k h) where
-  waiting_next : AreNext (journals_of h.closed) h.waiting
-  waiting_next = next_behind [] (journals_of h.closed) h.waiting p.serves.stands.lawful.next
+pub next_rest : (before es fs : List Entry) → AreNext before (es ++ fs) → AreNext (before ++ es) fs
+next_rest before [] fs next = subst (λ (l : List Entry). AreNext l fs) (sym (append-nil before)) next
+next_rest before (e ∷ es) fs next = subst (λ (l : List Entry). AreNext l fs) (append_assoc before (e ∷ []) es) (next_rest (before ++ e ∷ []) es fs next.1)
 
-  pub next_block_is : 1 ≤ length h.waiting → length h.waiting ≤ BLOCK_LIMIT → point (sealed_part h) ≡ 0 → IsNextBlock (sealed_part h) h.waiting
-  next_block_is some most floor = record {
-    entries = record { some = some; most = most; entries = subst (λ (n : ℕ). AreFrom n h.waiting) (sym (size_sealed h)) p.next };
-    shape = record { some = some; most = most; gathered = p.gathered };
-    next = subst (λ (l : List Entry). AreNext l h.waiting) (sym (journals_sealed h)) waiting_next;
-    floor = point_block h waiting_next floor;
-  }
+pub next_block_is : (k : Kept) (h : History) → Keeps k h → 1 ≤ length h.waiting → length h.waiting ≤ BLOCK_LIMIT → IsNextBlock (sealed_part h) h.waiting
+next_block_is k h p some most = record {
+  entries = record { some = some; most = most; entries = subst (λ (n : ℕ). AreFrom n h.waiting) (sym (size_sealed h)) p.next };
+  shape = record { some = some; most = most; gathered = p.gathered };
+  next = subst (λ (l : List Entry). AreNext l h.waiting) (sym (journals_sealed h)) (next_rest [] (journals_of h.closed) h.waiting p.serves.stands.lawful.next);
+}
 
 -- ---- the open file
 
--- the file begins with journal 0
-abbrev pub first_file : (image : List ℕ) (h : History) (x : IsErased image h) → HasBlocks ground x.generation x.keeps.blocks image
-first_file image h x = file_first (point h) (is_hidden h) image h x x.unpurged
-
--- the file keeps the blocks of the history, but for hidden contents
-same_kept : (image : List ℕ) (h : History) (x : IsErased image h) → SameButHidden (is_hidden h) (is_hidden h) h.closed x.keeps.blocks
-same_kept image h x = same_all (point h) (is_hidden h) image h x x.unpurged
-
-pub tail_at : (image : List ℕ) (h : History) (x : IsErased image h) → tail_of x.keeps.file.front (written_blocks (ground).root [] x.keeps.blocks) ≡ after_at 64 h.closed
-tail_at image h x =
-    tail_is x.generation x.keeps.blocks image (first_file image h x)
-    ∙ sym (after_kept (is_hidden h) (is_hidden h) 64 h.closed x.keeps.blocks (same_kept image h x))
+-- where the tail gate of a file stands that stands for a history
+pub tail_at : (floor : ℕ) (zeros : ℕ → Bool) (image : List ℕ) (h : History) (x : StandsBy floor zeros image h) → tail_of x.keeps.file.front (written_blocks (floor_behind h x.parts.gone).root [] x.keeps.blocks) ≡ gate_behind (floor_behind h x.parts.gone) x.parts.kept
+tail_at floor zeros image h x =
+    let from = floor_behind h x.parts.gone in
+    tail_place from (floor_digests h x.parts.gone x.parts.kept x.parts.are) x.keeps.file.front (64 + length from.base) x.keeps.blocks x.keeps.file.lawful x.keeps.file.head.size
+    ∙ sym (after_kept (is_hidden h) zeros (64 + length from.base) x.parts.kept x.keeps.blocks x.keeps.same)
 
 -- another image with the same front and blocks
-pub stands_by : (image new : List ℕ) (h : History) (x : IsErased image h) → Stands x.keeps.file.front (written_blocks (ground).root [] x.keeps.blocks) new → IsErased new h
+pub stands_by : (image new : List ℕ) (h : History) (x : IsErased image h) → Stands x.keeps.file.front (written_blocks (floor_behind h x.parts.gone).root [] x.keeps.blocks) new → IsErased new h
 stands_by image new h x stands = record {
   generation = x.generation;
   parts = x.parts;
-  unpurged = x.unpurged;
   keeps = record {
     blocks = x.keeps.blocks;
-    file = file_at ground (floor_behind h x.parts.gone) (sym (floor_none (point h) (is_hidden h) image h x x.unpurged)) x.generation x.keeps.blocks new
-        (record { front = x.keeps.file.front; head = (first_file image h x).head; lawful = (first_file image h x).lawful; stands = stands });
+    file = record { front = x.keeps.file.front; head = x.keeps.file.head; lawful = x.keeps.file.lawful; stands = stands };
     same = x.keeps.same;
   };
   early = x.early;
@@ -162,28 +122,39 @@ stands_by image new h x stands = record {
 abbrev pub next_bytes : History → List ℕ
 next_bytes h = block_bytes (mth sha256 (leaves h)) h.waiting
 
-bytes_behind : (image : List ℕ) (h : History) (x : IsErased image (sealed_part h)) → next_bytes h ≡ block_bytes ((ground).root (leaves_of (journals_of x.keeps.blocks) ++ leaves_of h.waiting)) h.waiting
+bytes_behind : (image : List ℕ) (h : History) (x : IsErased image (sealed_part h)) → next_bytes h ≡ block_bytes ((floor_behind (sealed_part h) x.parts.gone).root (leaves_of (journals_of x.keeps.blocks) ++ leaves_of h.waiting)) h.waiting
 bytes_behind image h x =
+    let g = sealed_part h in
+    let all : leaves_of (journals_of h.closed) ≡ leaves_of (journals_of x.parts.gone) ++ leaves_of (journals_of x.keeps.blocks) =
+    ap (λ (bs : List (List Entry)). leaves_of (journals_of bs)) x.parts.are ∙ ap leaves_of (flat_map-append (λ (l : List Entry). l) x.parts.gone x.parts.kept)
+    ∙ map-append (λ (e : Entry). spelling e.header) (journals_of x.parts.gone) (journals_of x.parts.kept)
+    ∙ ap (λ (l : List (List ℕ)). leaves_of (journals_of x.parts.gone) ++ l)
+    (header_map_same (is_hidden g) (is_hidden g) spelling (journals_of x.parts.kept) (journals_of x.keeps.blocks) (all_kept (is_hidden g) (is_hidden g) x.parts.kept x.keeps.blocks x.keeps.same)) in
     ap (λ (l : List (List ℕ)). block_bytes (mth sha256 l) h.waiting)
-    (leaves_parts h
-    ∙ ap (λ (l : List (List ℕ)). l ++ leaves_of h.waiting)
-    (header_map_same (is_hidden (sealed_part h)) (is_hidden (sealed_part h)) spelling (journals_of h.closed) (journals_of x.keeps.blocks)
-    (all_kept (is_hidden (sealed_part h)) (is_hidden (sealed_part h)) h.closed x.keeps.blocks (same_kept image (sealed_part h) x))))
+    (leaves_parts h ∙ ap (λ (l : List (List ℕ)). l ++ leaves_of h.waiting) all
+    ∙ append_assoc (leaves_of (journals_of x.parts.gone)) (leaves_of (journals_of x.keeps.blocks)) (leaves_of h.waiting))
+    ∙ ap (λ (r : List ℕ). block_bytes r h.waiting) (sym (floor_root g x.parts.gone x.parts.kept x.parts.are (leaves_of (journals_of x.keeps.blocks) ++ leaves_of h.waiting)))
 
-module _ (k : Kept) (h : History) (p : Keeps k h) (some : 1 ≤ length h.waiting) (most : length h.waiting ≤ BLOCK_LIMIT) (image new : List ℕ) (x : IsErased image (sealed_part h))
-    (stands : Stands x.keeps.file.front (written_blocks (ground).root [] x.keeps.blocks ++ next_bytes h ∷ []) new) where
-  n : IsNextBlock (sealed_part h) h.waiting
-  n = next_block_is k h p some most x.unpurged
+-- the image stands for the history with the open block ended, and begins where it began
+pub block_stands : (k : Kept) (h : History) → Keeps k h → 1 ≤ length h.waiting → length h.waiting ≤ BLOCK_LIMIT → (image new : List ℕ) (x : IsErased image (sealed_part h))
+    → Stands x.keeps.file.front (written_blocks (floor_behind (sealed_part h) x.parts.gone).root [] x.keeps.blocks ++ next_bytes h ∷ []) new
+    → StandsBy (point (sealed_part h)) (hidden_before (sealed_part (close h))) new (sealed_part (close h))
+block_stands k h p some most image new x stands =
+    let n = next_block_is k h p some most in
+    subst (λ (g : History). StandsBy (point (sealed_part h)) (hidden_before g) new g) (sealed_close h some)
+    (grown image new (sealed_part h) h.waiting x n.entries n.shape n.next
+    (subst (λ (b : List ℕ). Stands x.keeps.file.front (written_blocks (floor_behind (sealed_part h) x.parts.gone).root [] x.keeps.blocks ++ b ∷ []) new) (bytes_behind image h x) stands))
 
-  -- the image stands for the history with the open block ended
-  more_stands : StandsFor new (with_block h.waiting (sealed_part h))
-  more_stands =
-      let n = next_block_is k h p some most x.unpurged in
-      grows_first image new (sealed_part h) h.waiting x n.entries n.shape n.next n.floor
-      (subst (λ (b : List ℕ). Stands x.keeps.file.front (written_blocks (ground).root [] x.keeps.blocks ++ b ∷ []) new) (bytes_behind image h x) stands)
+-- .. where that is the point, or the point before a purge
+pub block_begins : (k : Kept) (h : History) → Keeps k h → 1 ≤ length h.waiting → length h.waiting ≤ BLOCK_LIMIT → (image : List ℕ) → IsErased image (sealed_part h)
+    → (point (sealed_part h) ≡ point (sealed_part (close h))) ⊎ (point (sealed_part h) ≡ point_before (sealed_part (close h)))
+block_begins k h p some most image x =
+    let n = next_block_is k h p some most in
+    subst (λ (g : History). (point (sealed_part h) ≡ point g) ⊎ (point (sealed_part h) ≡ point_before g)) (sealed_close h some)
+    (begins image image (sealed_part h) h.waiting x n.entries n.shape n.next)
 
-  pub block_stands : StandsFor new (sealed_part (close h))
-  block_stands = subst (StandsFor new) (sealed_close h some) more_stands
+pub stands_from : (floor : ℕ) (image : List ℕ) (h : History) → (floor ≡ point h) ⊎ (floor ≡ point_before h) → StandsBy floor (hidden_before h) image h → StandsFor image h
+stands_from floor image h begins x = record { floor = floor; begins = begins; file = x }
 
 -- ---- images of a pair
 
@@ -207,33 +178,33 @@ clean_image in_a place h a b i j x left_a left_b =
     pair_of in_a a b i j h x.empty left_a left_b (subst (λ (l : List ℕ). StandsFor l h) (sym is) (erased_stands seen h x.erased))
 
 -- how long a clean file is
-pub clean_length : (image : List ℕ) (h : History) (place : ℕ) (x : IsErased image h) → x.keeps.file.stands.rest ≡ [] → place ≡ after_at 64 h.closed → length image ≡ place + 1
-clean_length image h place x none at =
-    let f = first_file image h x in
-    let written = written_blocks (ground).root [] x.keeps.blocks in
-    omega (arith, at, tail_at image h x, ap length none, ap length f.stands.is, length-append (f.front ++ open_blocks written) (f.stands.gate ∷ f.stands.rest))
+pub clean_length : (floor : ℕ) (zeros : ℕ → Bool) (image : List ℕ) (h : History) (place : ℕ) (x : StandsBy floor zeros image h) → x.keeps.file.stands.rest ≡ [] → place ≡ gate_behind (floor_behind h x.parts.gone) x.parts.kept → length image ≡ place + 1
+clean_length floor zeros image h place x none at =
+    let f = x.keeps.file in
+    let written = written_blocks (floor_behind h x.parts.gone).root [] x.keeps.blocks in
+    omega (arith, at, tail_at floor zeros image h x, ap length none, ap length f.stands.is, length-append (f.front ++ open_blocks written) (f.stands.gate ∷ f.stands.rest))
 
 -- .. and that one of such a length is clean
-pub length_clean : (image : List ℕ) (h : History) (place : ℕ) (x : IsErased image h) → length image ≡ place + 1 → place ≡ after_at 64 h.closed → x.keeps.file.stands.rest ≡ []
-length_clean image h place x long at =
-    let f = first_file image h x in
-    let written = written_blocks (ground).root [] x.keeps.blocks in
-    nil_from_length f.stands.rest (omega (arith, at, tail_at image h x, long, ap length f.stands.is, length-append (f.front ++ open_blocks written) (f.stands.gate ∷ f.stands.rest)))
+pub length_clean : (floor : ℕ) (zeros : ℕ → Bool) (image : List ℕ) (h : History) (place : ℕ) (x : StandsBy floor zeros image h) → length image ≡ place + 1 → place ≡ gate_behind (floor_behind h x.parts.gone) x.parts.kept → x.keeps.file.stands.rest ≡ []
+length_clean floor zeros image h place x long at =
+    let f = x.keeps.file in
+    let written = written_blocks (floor_behind h x.parts.gone).root [] x.keeps.blocks in
+    nil_from_length f.stands.rest (omega (arith, at, tail_at floor zeros image h x, long, ap length f.stands.is, length-append (f.front ++ open_blocks written) (f.stands.gate ∷ f.stands.rest)))
 
 -- .. and so are the images that it leaves
-pub clean_pair : (in_a : Bool) (place : ℕ) (h : History) (a b : State) (i j : List ℕ) → place ≡ after_at 64 h.closed → IsCleanFor in_a place h a b → MayLeave a i → MayLeave b j → IsCleanPair i j h
+pub clean_pair : (in_a : Bool) (place : ℕ) (h : History) (a b : State) (i j : List ℕ) → TailsAt place h → IsCleanFor in_a place h a b → MayLeave a i → MayLeave b j → IsCleanPair i j h
 clean_pair true place h a b i j at x left_a left_b =
     let is : i ≡ a.seen = settled_image a.seen i (subst (λ (s : State). MayLeave s i) x.quiet left_a) in
     record {
       in_a = true;
-      clean = subst (λ (l : List ℕ). IsClean l h) (sym is) (record { erased = x.erased; ends = length_clean a.seen h place x.erased x.ends at });
+      clean = subst (λ (l : List ℕ). IsClean l h) (sym is) (record { erased = x.erased; ends = length_clean (point h) (is_hidden h) a.seen h place x.erased x.ends (at x.erased.parts) });
       empty = empty_image b j x.empty left_b;
     }
 clean_pair false place h a b i j at x left_a left_b =
     let is : j ≡ b.seen = settled_image b.seen j (subst (λ (s : State). MayLeave s j) x.quiet left_b) in
     record {
       in_a = false;
-      clean = subst (λ (l : List ℕ). IsClean l h) (sym is) (record { erased = x.erased; ends = length_clean b.seen h place x.erased x.ends at });
+      clean = subst (λ (l : List ℕ). IsClean l h) (sym is) (record { erased = x.erased; ends = length_clean (point h) (is_hidden h) b.seen h place x.erased x.ends (at x.erased.parts) });
       empty = empty_image a i x.empty left_a;
     }
 
@@ -250,29 +221,28 @@ left_clean Closed h kept done a b c = c
 
 -- ---- a commit
 
--- Nothing is pending, and the pair stands for a history where no journal waits, but for what its last journal hides: the open
--- file has it and ends with its tail gate, which stands at this place, and the other file is empty.
-pub record IsStanding (in_a : Bool) (place : ℕ) (h : History) (a b : State) : Type 0 where
-  pub quiet : IsSettled (open_of in_a a b)
-  pub empty : other_of in_a a b ≡ settled_state []
-  pub stands : StandsFor (open_of in_a a b).seen h
-  pub ends : length (open_of in_a a b).seen ≡ place + 1
+-- where the tail gate stands of what is kept
+pub tails_kept : (k : Kept) (h : History) → Keeps k h → All IsBlock h.closed → TailsAt k.place (sealed_part h)
+tails_kept k h p all = tails_at (sealed_part h) k.place k.book.floor p.located.parts all p.floor p.located.tail
 
 module _ (tells : Bool) (w : World) (h : History) (p : Holds tells w h) (some : 1 ≤ length h.waiting) (most : length h.waiting ≤ BLOCK_LIMIT) (disks : Pair) where
-  tail : tail_of p.disks.erased.keeps.file.front (written_blocks (ground).root [] p.disks.erased.keeps.blocks) ≡ w.kept.place
-  tail = tail_at _ (sealed_part h) p.disks.erased ∙ sym p.keeps.located.tail
+  abbrev from : Floor
+  from = floor_behind (sealed_part h) p.disks.erased.parts.gone
+
+  tail : tail_of p.disks.erased.keeps.file.front (written_blocks (from).root [] p.disks.erased.keeps.blocks) ≡ w.kept.place
+  tail = tail_at (point (sealed_part h)) (is_hidden (sealed_part h)) _ (sealed_part h) p.disks.erased ∙ sym (tails_kept w.kept h p.keeps p.disks.erased.lawful.blocks_are p.disks.erased.parts)
+
+  has_block : IsCommitted tells w.kept.in_a w.kept.place (next_bytes h) w.disks disks
+      → HasBlock p.disks.erased.keeps.file.front (written_blocks (from).root [] p.disks.erased.keeps.blocks) (next_bytes h) (open_bytes w.kept.in_a disks)
+  has_block c = c.has p.told p.disks.erased.keeps.file.front (written_blocks (from).root [] p.disks.erased.keeps.blocks) p.disks.erased.keeps.file.stands tail
 
   -- that was done
-  pub commit_stands : (next : ℕ) → next ≡ w.kept.place + 1 + length (next_bytes h) → IsCommitted tells w.kept.in_a w.kept.place (next_bytes h) w.disks disks
-      → IsStanding w.kept.in_a next (sealed_part (close h)) disks.a.bytes disks.b.bytes
-  commit_stands next at c =
-      let has = c.has p.told p.disks.erased.keeps.file.front (written_blocks (ground).root [] p.disks.erased.keeps.blocks) (first_file _ (sealed_part h) p.disks.erased).stands tail in
-      record {
-        quiet = has.nothing_pending;
-        empty = c.other ∙ p.disks.empty;
-        stands = block_stands w.kept h p.keeps some most _ _ p.disks.erased has.stands;
-        ends = c.ends p.told p.disks.ends ∙ ap (λ (n : ℕ). n + 1) (sym at);
-      }
+  pub commit_quiet : IsCommitted tells w.kept.in_a w.kept.place (next_bytes h) w.disks disks → IsSettled (open_bytes w.kept.in_a disks)
+  commit_quiet c = (has_block c).nothing_pending
+
+  pub commit_stands : IsCommitted tells w.kept.in_a w.kept.place (next_bytes h) w.disks disks
+      → StandsBy (point (sealed_part h)) (hidden_before (sealed_part (close h))) (open_bytes w.kept.in_a disks).seen (sealed_part (close h))
+  commit_stands c = block_stands w.kept h p.keeps some most _ _ p.disks.erased (has_block c).stands
 
   -- .. or that failed
   pub commit_left : (i j : List ℕ) → IsUncommitted tells w.kept.in_a w.kept.place (next_bytes h) w.disks disks → MayLeave disks.a.bytes i → MayLeave disks.b.bytes j
@@ -281,31 +251,14 @@ module _ (tells : Bool) (w : World) (h : History) (p : Holds tells w h) (some : 
       let in_a = w.kept.in_a in
       let x = p.disks.erased in
       let empty : other_of in_a disks.a.bytes disks.b.bytes ≡ settled_state [] = c.other ∙ p.disks.empty in
-      elim (c.may p.told p.disks.quiet x.keeps.file.front (written_blocks (ground).root [] x.keeps.blocks) (first_file _ (sealed_part h) x).stands tail (open_of in_a i j) (open_left in_a disks.a.bytes disks.b.bytes i j left_a left_b)) [
+      elim (c.may p.told p.disks.quiet x.keeps.file.front (written_blocks (from).root [] x.keeps.blocks) x.keeps.file.stands tail (open_of in_a i j) (open_left in_a disks.a.bytes disks.b.bytes i j left_a left_b)) [
         | inl s ↦
             let erased = stands_by _ (open_of in_a i j) (sealed_part h) x s in
             inl (pair_of in_a disks.a.bytes disks.b.bytes i j (sealed_part h) empty left_a left_b (erased_stands _ (sealed_part h) erased), erased_of in_a disks.a.bytes disks.b.bytes i j (sealed_part h) empty left_a left_b erased)
-        | inr s ↦ inr (pair_of in_a disks.a.bytes disks.b.bytes i j (sealed_part (close h)) empty left_a left_b (block_stands w.kept h p.keeps some most _ (open_of in_a i j) x s))
+        | inr s ↦
+            let g = sealed_part (close h) in
+            inr (pair_of in_a disks.a.bytes disks.b.bytes i j g empty left_a left_b (stands_from (point (sealed_part h)) (open_of in_a i j) g (block_begins w.kept h p.keeps some most _ x) (block_stands w.kept h p.keeps some most _ (open_of in_a i j) x s)))
       ]
-
--- ---- what the last journal hides is given up
-
-module _ (tells : Bool) (place : ℕ) (book : books.Kept) (places : List PlaceAt) (h : History) (told : IsTrue tells) (e : EndsAs book places h) (mid disks : Pair) where
-  -- that was done
-  pub give_clean : (in_a : Bool) → IsStanding in_a place h mid.a.bytes mid.b.bytes → HasGivenUp tells in_a place book places mid disks → IsCleanFor in_a place h disks.a.bytes disks.b.bytes
-  give_clean true s c =
-      let g = c.gives told h e s.quiet s.stands in
-      record { quiet = g.quiet; empty = ap (λ (d : DiskState). d.bytes) c.other ∙ s.empty; erased = g.erased; ends = g.size ∙ s.ends }
-  give_clean false s c =
-      let g = c.gives told h e s.quiet s.stands in
-      record { quiet = g.quiet; empty = ap (λ (d : DiskState). d.bytes) c.other ∙ s.empty; erased = g.erased; ends = g.size ∙ s.ends }
-
-  -- .. or that failed
-  pub give_left : (in_a : Bool) (i j : List ℕ) → IsStanding in_a place h mid.a.bytes mid.b.bytes → HasNotGivenUp tells in_a book places mid disks → MayLeave disks.a.bytes i → MayLeave disks.b.bytes j → PairFor i j h
-  give_left true i j s c left_a left_b =
-      pair_of true disks.a.bytes disks.b.bytes i j h (ap (λ (d : DiskState). d.bytes) c.other ∙ s.empty) left_a left_b (c.meanwhile told h e s.quiet s.stands i left_a)
-  give_left false i j s c left_a left_b =
-      pair_of false disks.a.bytes disks.b.bytes i j h (ap (λ (d : DiskState). d.bytes) c.other ∙ s.empty) left_a left_b (c.meanwhile told h e s.quiet s.stands j left_b)
 
 -- ---- places
 
@@ -332,15 +285,31 @@ body_len n es a = body_size es (readable n es a)
 pub bytes_len : (h : History) → AreFrom (sealed_size h) h.waiting → length (next_bytes h) ≡ 44 + sum_by record_len h.waiting
 bytes_len h a = block_size (mth sha256 (leaves h)) h.waiting (mth_size (leaves h)) (readable (sealed_size h) h.waiting a)
 
--- where the tail gate stands then
-pub tail_close : (k : Kept) (h : History) (next : ℕ) → 1 ≤ length h.waiting → next ≡ k.place + 1 + length (next_bytes h) → AreFrom (sealed_size h) h.waiting → Located k h → next ≡ after_at 64 (close h).closed
-tail_close k h next some at from l = omega (arith, at, bytes_len h from, l.tail, after_more 64 h.closed h.waiting, ap (after_at 64) (closed_is h some))
+-- ---- what is kept of the blocks, with the open block behind them
 
--- the places of what is kept once the open block has ended
-pub located_close : (k new : Kept) (h : History) → 1 ≤ length h.waiting → new.places ≡ k.places → new.place ≡ k.place + 1 + length (next_bytes h) → AreFrom (sealed_size h) h.waiting → Located k h → Located new (close h)
-located_close k new h some places place from l =
-    let closed = closed_is h some in record {
-      places = places ∙ l.places ∙ ap (λ (n : ℕ). places_at 64 h.closed ++ places_in (n + 45) h.waiting) l.tail ∙ sym (places_more 64 h.closed h.waiting) ∙ ap (places_at 64) (sym closed)
-          ∙ sym (append-nil (places_at 64 (close h).closed)) ∙ ap (λ (es : List Entry). places_at 64 (close h).closed ++ places_in (new.place + 45) es) (sym (close_none h));
-      tail = tail_close k h new.place some place from l;
-    }
+module _ (k : Kept) (h : History) (p : Keeps k h) (some : 1 ≤ length h.waiting) (begun : 1 ≤ size (sealed_part h)) where
+  abbrev pub parts_close : Parts k.book.floor (sealed_part (close h))
+  parts_close = record {
+    gone = p.located.parts.gone;
+    kept = p.located.parts.kept ++ h.waiting ∷ [];
+    are = closed_is h some ∙ ap (λ (l : List (List Entry)). l ++ h.waiting ∷ []) p.located.parts.are ∙ append_assoc p.located.parts.gone p.located.parts.kept (h.waiting ∷ []);
+    at = p.located.parts.at;
+  }
+
+  -- the file begins where it began
+  same_floor : floor_behind (sealed_part (close h)) p.located.parts.gone ≡ floor_behind (sealed_part h) p.located.parts.gone
+  same_floor =
+      ap (λ (g : History). floor_behind g p.located.parts.gone) (sym (sealed_close h some))
+      ∙ floor_kept (sealed_part h) h.waiting refl some p.located.parts.gone (omega (arith, p.located.parts.at, gone_few k.book.floor (sealed_part h) refl p.located.parts)) (omega (arith, begun))
+
+  pub places_close : k.places ≡ places_from (floor_behind (sealed_part (close h)) p.located.parts.gone) (p.located.parts.kept ++ h.waiting ∷ [])
+  places_close =
+      let from = floor_behind (sealed_part h) p.located.parts.gone in
+      p.located.places ∙ ap (λ (n : ℕ). places_from from p.located.parts.kept ++ places_in (n + 45) h.waiting) p.located.tail
+      ∙ sym (places_more (64 + length from.base) p.located.parts.kept h.waiting) ∙ ap (λ (f : Floor). places_from f (p.located.parts.kept ++ h.waiting ∷ [])) (sym (same_floor))
+
+  pub tail_close : (next : ℕ) → next ≡ k.place + 1 + length (next_bytes h) → next ≡ gate_behind (floor_behind (sealed_part (close h)) p.located.parts.gone) (p.located.parts.kept ++ h.waiting ∷ [])
+  tail_close next at =
+      let from = floor_behind (sealed_part h) p.located.parts.gone in
+      let is : next ≡ gate_behind from (p.located.parts.kept ++ h.waiting ∷ []) = omega (arith, at, bytes_len h p.next, p.located.tail, after_more (64 + length from.base) p.located.parts.kept h.waiting) in
+      is ∙ ap (λ (f : Floor). gate_behind f (p.located.parts.kept ++ h.waiting ∷ [])) (sym (same_floor))

@@ -2,12 +2,10 @@
 use Rattle.std.specs.Prelude.{Bool, true, false, IsTrue, None}
 use Rattle.std.specs.Int.{w32, w64, to_be_bytes, from_be_bytes}
 use Rattle.std.specs.Io.KnownBytes.{Appends}
-use Rattle.std.proofs.Common.{◌≡◌, inl, inr, ℕ, ◌+◌, ◌-◌, ◌<◌, ◌≤◌, List, [], ◌∷◌, ◌++◌, length, get_or, take, drop, refl, ap, sym, subst, ◌∙◌, arith, append_assoc, length-append, length-take, take-append-drop}
+use Rattle.std.proofs.Common.{◌≡◌, inl, inr, ℕ, ◌+◌, ◌<◌, ◌≤◌, List, [], ◌∷◌, ◌++◌, length, take, drop, refl, ap, sym, subst, ◌∙◌, arith, append_assoc, length-append, length-take, take-append-drop}
 use Rattle.std.proofs.KnownBytes.{Appends-nil}
-use Rattle.std.proofs.lemmas.List.{nil_from_length, drop-take, take-take, get_or-drop}
-use Rattle.std.proofs.lemmas.List.Elements.{All-weaker}
+use Rattle.std.proofs.lemmas.List.{nil_from_length, drop-take, take-take}
 use Rattle.block_file.specs.File.{IsShutAt}
-use Rattle.ledger_disk.specs.Guards.{Outside}
 use Rattle.journal_record.specs.Entry.{Entry}
 use Rattle.sha2.specs.Sha256.{sha256}
 use Rattle.tree_model.specs.Tree.{mth}
@@ -23,6 +21,7 @@ use Rattle.ledger_model.specs.Dues.{due_lines, AllWaiting, AllIn}
 use Rattle.ledger_model.specs.Growing.{Grows}
 use Rattle.ledger_model.specs.History.{History, journals_of, leaves, root, close}
 use Rattle.ledger_model.specs.Lawful.{AllGather}
+use Rattle.ledger_model.specs.Limits.{real_limits}
 use Rattle.ledger_model.specs.declared.due.Due.{Due}
 use Rattle.ledger_model.proofs.GrowLaws.{grows_close, close_none, close_settled}
 use Rattle.ledger_model.proofs.WaitLaws.{begins_closed, lines_ended, all_in_ended}
@@ -31,17 +30,27 @@ use Rattle.ledger_book.specs.Books.{Stands, Serves, sealed_size}
 use Rattle.ledger_book.specs.Seals as seals
 use Rattle.ledger_book.specs.Steps.{IsSame}
 use Rattle.twin_file.specs.Twin.{open_of}
-use Rattle.ledger_open.specs.Erasing.{AreBetween, EndsAs}
-use Rattle.ledger_open.specs.Places.{places_in, places_at, after_at}
+use Rattle.ledger_open.specs.Opening.{known_from}
+use Rattle.ledger_open.specs.Places.{places_in, places_from}
+use Rattle.ledger_open.specs.Purging.{Ledger, IsCleanOpen, IsAtGate}
+use Rattle.ledger_open.specs.Standing.{floor_behind}
+use Rattle.ledger_open.specs.Order.{AreInOrder}
 use Rattle.ledger_open.specs.declared.places.PlaceAt.{PlaceAt}
-use Rattle.batch_committer.specs.Committed.{IsCommitted, IsUncommitted, HasGivenUp, HasNotGivenUp, open_bytes}
+use Rattle.batch_committer.specs.Committed.{IsCommitted, IsUncommitted, IsStanding, IsFinished, IsUnfinished, open_bytes}
 use Rattle.batch_committer.specs.Spelled as spell
 use Rattle.batch_committer.specs.Steps.{settled_text}
-use Rattle.batch_committer.specs.World.{Kept, World, Pair, world, Reads, Fits, Located, Keeps, IsCleanFor, Holds, Writes, Goes, Says, Stops, Ended, IsUnanswered, AreInside, sealed_part}
+use Rattle.batch_committer.specs.World.{Kept, World, Pair, world, Fits, Located, Keeps, IsCleanFor, Holds, Writes, Goes, Says, Stops, Ended, IsUnanswered, sealed_part}
 use Rattle.batch_committer.specs.declared.end.End.{End}
 use Rattle.batch_committer.specs.declared.end.End.TheVariants.{DiskFault, WriteFault, NoMemory}
-use Rattle.batch_committer.proofs.Closing.{next_bytes, root_closed, closed_is, clean_image, clean_pair, left_clean, IsStanding, commit_stands, commit_left, give_clean, give_left, places_more, tail_close, located_close, sealed_same}
+use Rattle.batch_committer.proofs.Closing.{next_bytes, root_closed, closed_is, clean_image, clean_pair, left_clean, commit_left, tails_kept, sealed_same}
+use Rattle.batch_committer.proofs.Finishing.{held_ledger, tails_clean, clean_for, located_clean, standing}
+use Rattle.batch_committer.proofs.Ordering.{order_wider}
+use Rattle.batch_committer.proofs.Parting.{TailsAt}
 use Rattle.batch_committer.proofs.WayLaws.{begins_not, failed_from}
+
+-- where the tail gate stands of a history that is held
+tails_held : (tells : Bool) (w : World) (h : History) → Holds tells w h → TailsAt w.kept.place (sealed_part h)
+tails_held tells w h p = tails_kept w.kept h p.keeps p.disks.erased.lawful.blocks_are
 
 -- nothing was written yet, and the disks are what they were
 pub stops_before : (tells : Bool) (w : World) (h whole : History) (ds : List Due) (end : End) → Says end [] [] → Grows h whole → Holds tells w h → Stops h whole ds end [] w.disks
@@ -56,7 +65,7 @@ stops_before tells w h whole ds end says x p = record {
     no_shorter = begins_not h.closed;
     no_longer = begins_closed h whole x;
     receipts = tt;
-    clean = left_clean end h (sealed_part h) [] i j (clean_pair w.kept.in_a w.kept.place (sealed_part h) w.disks.a.bytes w.disks.b.bytes i j p.keeps.located.tail p.disks left_a left_b);
+    clean = left_clean end h (sealed_part h) [] i j (clean_pair w.kept.in_a w.kept.place (sealed_part h) w.disks.a.bytes w.disks.b.bytes i j (tails_held tells w h p) p.disks left_a left_b);
   };
 }
 
@@ -90,18 +99,18 @@ says_first h f ds text taken waits is few y =
 
 -- ---- a block that is committed
 
--- what is kept once the open block has ended
-pub keeps_closed : (k new : Kept) (h : History) → 1 ≤ length h.waiting → Keeps k h → Serves new.book (close h) → IsSame k.book new.book → new.places ≡ k.places → new.place ≡ k.place + 1 + length (next_bytes h) → new.body ≡ [] → new.dues ≡ [] → Keeps new (close h)
-keeps_closed k new h some p serves same places place body dues =
+-- what is kept once the open block has ended, and what its journal hides or purges was given up
+pub keeps_closed : (k : Kept) (disks : Pair) (h : History) → k.book.limits ≡ real_limits → k.body ≡ [] → k.dues ≡ [] → IsCleanOpen (held_ledger k disks) (sealed_part (close h)) → Keeps k (close h)
+keeps_closed k disks h limits body dues c =
     let none = close_none h in record {
-      serves = serves;
-      limits = same.limits ∙ p.limits;
-      floor = same.floor ∙ p.floor;
+      serves = subst (Serves k.book) (sealed_same (close h) none) c.ends.serves;
+      limits = limits;
+      floor = c.floor;
       dues = subst (AllWaiting (close h)) (sym dues) tt;
       body = body ∙ sym (ap body_of none);
       next = subst (AreFrom (sealed_size (close h))) (sym none) tt;
       gathered = λ more. subst AllGather (sym none) refl;
-      located = located_close k new h some places place p.next p.located;
+      located = located_clean k disks (close h) none c;
     }
 
 -- the bytes and the lines of the open block, at its end
@@ -111,52 +120,24 @@ pub record AtEnd (tells : Bool) (w : World) (block text : List ℕ) : Type 0 whe
   pub block_is : (h : History) → Holds tells w h → block ≡ next_bytes h
   pub text_is : (h : History) → Holds tells w h → text ≡ settled_text (close h) w.kept.dues
 
+-- an open ledger by its parts
+abbrev pub ledger_of : books.Kept → List PlaceAt → Pair → ℕ → Bool → ℕ → Ledger
+ledger_of book places disks place in_a generation = record { known = known_from book places place; in_a = in_a; generation = generation; a = disks.a.bytes; b = disks.b.bytes }
+
+-- the ledger in front of what is given up: the block stands behind its file
+abbrev pub mid_ledger : World → books.Kept → List ℕ → Pair → Ledger
+mid_ledger w book block mid = held_ledger (record w.kept { book = book; place = w.kept.place + 1 + length block }) mid
+
+-- .. and nothing else than that has happened
+pub record IsAtEnd (tells : Bool) (w : World) (book : books.Kept) (block : List ℕ) (mid : Pair) : Type 0 where
+  pub serves : (h : History) → Serves w.kept.book h → Serves book (close h)
+  pub same : IsSame w.kept.book book
+  pub committed : IsCommitted tells w.kept.in_a w.kept.place block w.disks mid
+  pub named : IsTrue tells → w.kept.generation ≡ generation_of (open_bytes w.kept.in_a mid).seen
+
 module _ (tells : Bool) (w : World) (block text : List ℕ) (e : AtEnd tells w block text) where
-  stands_then : (h : History) (next : ℕ) (mid : Pair) → Holds tells w h → next ≡ w.kept.place + 1 + length block → IsCommitted tells w.kept.in_a w.kept.place block w.disks mid
-      → IsStanding w.kept.in_a next (sealed_part (close h)) mid.a.bytes mid.b.bytes
-  stands_then h next mid p at c =
-      let is = e.block_is h p in
-      commit_stands tells w h p (e.some h p) (e.most h p) mid next (at ∙ ap (λ (l : List ℕ). w.kept.place + 1 + length l) is)
-      (subst (λ (l : List ℕ). IsCommitted tells w.kept.in_a w.kept.place l w.disks mid) is c)
-
-  -- where the tail gate stands, and what the book and the places are of
-  tail_then : (h : History) → Holds tells w h → w.kept.place + 1 + length block ≡ after_at 64 (sealed_part (close h)).closed
-  tail_then h p = tail_close w.kept h (w.kept.place + 1 + length block) (e.some h p) (ap (λ (l : List ℕ). w.kept.place + 1 + length l) (e.block_is h p)) p.keeps.next p.keeps.located
-
-  ends_then : (h : History) (book : books.Kept) → Holds tells w h → Serves book (close h) → EndsAs book w.kept.places (sealed_part (close h))
-  ends_then h book p serves = record {
-    serves = subst (Serves book) (sym (sealed_same (close h) (close_none h))) serves;
-    places_are = p.keeps.located.places ∙ ap (λ (n : ℕ). places_at 64 h.closed ++ places_in (n + 45) h.waiting) p.keeps.located.tail
-        ∙ sym (places_more 64 h.closed h.waiting) ∙ ap (places_at 64) (sym (closed_is h (e.some h p)));
-    none = refl;
-  }
-
-  clean_then : (h : History) (book : books.Kept) (mid disks : Pair) → Holds tells w h → Serves book (close h) → IsCommitted tells w.kept.in_a w.kept.place block w.disks mid
-      → HasGivenUp tells w.kept.in_a (w.kept.place + 1 + length block) book w.kept.places mid disks → IsCleanFor w.kept.in_a (w.kept.place + 1 + length block) (sealed_part (close h)) disks.a.bytes disks.b.bytes
-  clean_then h book mid disks p serves c g =
-      let next = w.kept.place + 1 + length block in
-      give_clean tells next book w.kept.places (sealed_part (close h)) p.told (ends_then h book p serves) mid disks w.kept.in_a (stands_then h next mid p refl c) g
-
-  -- all went well
-  pub end_goes : (k : Kept) (book : books.Kept) (mid disks : Pair) (sink : SinkState) → k.book ≡ book → ((h : History) → Serves w.kept.book h → Serves book (close h)) → IsSame w.kept.book book → k.places ≡ w.kept.places → k.in_a ≡ w.kept.in_a → k.place ≡ w.kept.place + 1 + length block → k.body ≡ [] → k.dues ≡ []
-      → IsCommitted tells w.kept.in_a w.kept.place block w.disks mid → HasGivenUp tells w.kept.in_a (w.kept.place + 1 + length block) book w.kept.places mid disks
-      → Appends w.sink.held sink.held text → MeetsNone w.sink sink → Goes tells w close (λ h. []) (world k disks sink)
-  end_goes k book mid disks sink is serves same places in_a place body dues c g appended none = record {
-    holds = λ h p. record {
-      told = p.told;
-      keeps = keeps_closed w.kept k h (e.some h p) p.keeps (subst (λ (b : books.Kept). Serves b (close h)) (sym is) (serves h p.keeps.serves)) (subst (IsSame w.kept.book) (sym is) same) places (place ∙ ap (λ (l : List ℕ). w.kept.place + 1 + length l) (e.block_is h p)) body dues;
-      disks = subst (λ n. IsCleanFor k.in_a n (sealed_part (close h)) disks.a.bytes disks.b.bytes) (sym place)
-          (subst (λ v. IsCleanFor v (w.kept.place + 1 + length block) (sealed_part (close h)) disks.a.bytes disks.b.bytes) (sym in_a) (clean_then h book mid disks p (serves h p.keeps.serves) c g));
-    };
-    grows = λ h p. grows_close h;
-    sofar = text;
-    appended = appended;
-    writes = λ h p. subst (λ (new : List Due). Writes (close h) w.kept.dues [] new text) (sym dues) (writes_ended h w.kept.dues text p.keeps.dues (e.text_is h p));
-    no_fault = record { a = g.faults_a ∙ c.faults_a; b = g.faults_b ∙ c.faults_b; sink = none };
-  }
-
   -- the block is a new one, and nothing that is due was written
-  unanswered : (h : History) → Holds tells w h → IsUnanswered h (sealed_part (close h)) []
+  pub unanswered : (h : History) → Holds tells w h → IsUnanswered h (sealed_part (close h)) []
   unanswered h p = record {
     added = omega (arith, ap (λ (bs : List (List Entry)). length bs) (closed_is h (e.some h p)), length-append h.closed (h.waiting ∷ []));
     unanswered = tt;
@@ -182,61 +163,86 @@ module _ (tells : Bool) (w : World) (block text : List ℕ) (e : AtEnd tells w b
     cause = (c.failed, (refl, refl));
   }
 
-  -- the block is on the disk, and what its journal hides couldn't be given up
-  pub end_ungiven : (k : Kept) (book : books.Kept) (mid disks : Pair) → ((h : History) → Serves w.kept.book h → Serves book (close h)) → IsCommitted tells w.kept.in_a w.kept.place block w.disks mid
-      → HasNotGivenUp tells w.kept.in_a book w.kept.places mid disks → Ended tells w close (λ h. []) DiskFault (world k disks w.sink)
-  end_ungiven k book mid disks serves c g = record {
-    grows = λ h p. grows_close h;
-    part = [];
-    appended = Appends-nil w.sink.held;
-    stops = λ h p. record {
-      done = [];
-      rest = w.kept.dues ++ [];
-      split = refl;
-      said = λ f y none. refl;
-      images = λ i j left_a left_b. record {
-        kept = sealed_part (close h);
-        stands =
-            let next = w.kept.place + 1 + length block in
-            give_left tells next book w.kept.places (sealed_part (close h)) p.told (ends_then h book p (serves h p.keeps.serves)) mid disks w.kept.in_a i j (stands_then h next mid p refl c) g left_a left_b;
-        no_shorter = begins_closed h (close h) (grows_close h);
-        no_longer = begins_not (close h).closed;
-        receipts = tt;
-        clean = inr (unanswered h p);
-      };
-    };
-    cause = (failed_from w.disks mid disks c.faults_a c.faults_b g.failed, (refl, refl));
-  }
+  module _ (book : books.Kept) (mid : Pair) (at : IsAtEnd tells w book block mid) where
+    -- the file with the block stands for the history with its open block ended
+    stands_then : (h : History) → Holds tells w h → IsStanding (mid_ledger w book block mid) (sealed_part (close h))
+    stands_then h p =
+        let is = e.block_is h p in
+        standing tells w h p (e.some h p) (e.most h p) book (at.serves h p.keeps.serves) at.same mid (subst (λ (l : List ℕ). IsCommitted tells w.kept.in_a w.kept.place l w.disks mid) is at.committed)
+        (w.kept.place + 1 + length block) (ap (λ (l : List ℕ). w.kept.place + 1 + length l) is) (at.named p.told)
 
-  -- the sink failed
-  pub end_unwritten : (k : Kept) (book : books.Kept) (mid disks : Pair) (sink : SinkState) (taken : ℕ) → ((h : History) → Serves w.kept.book h → Serves book (close h)) → IsCommitted tells w.kept.in_a w.kept.place block w.disks mid
-      → HasGivenUp tells w.kept.in_a (w.kept.place + 1 + length block) book w.kept.places mid disks → taken < length text → Appends w.sink.held sink.held (take taken text)
-      → MeetsOne w.sink sink → Ended tells w close (λ h. []) WriteFault (world k disks sink)
-  end_unwritten k book mid disks sink taken serves c g few appended one = record {
-    grows = λ h p. grows_close h;
-    part = take taken text;
-    appended = appended;
-    stops = λ h p. record {
-      done = w.kept.dues;
-      rest = [];
-      split = refl;
-      said = λ f y none. says_first h f w.kept.dues text taken p.keeps.dues (e.text_is h p) few y;
-      images = λ i j left_a left_b. record {
-        kept = sealed_part (close h);
-        stands = clean_image w.kept.in_a (w.kept.place + 1 + length block) (sealed_part (close h)) disks.a.bytes disks.b.bytes i j (clean_then h book mid disks p (serves h p.keeps.serves) c g) left_a left_b;
-        no_shorter = begins_closed h (close h) (grows_close h);
-        no_longer = begins_not (close h).closed;
-        receipts = all_in_ended h w.kept.dues p.keeps.dues;
-        clean = clean_pair w.kept.in_a (w.kept.place + 1 + length block) (sealed_part (close h)) disks.a.bytes disks.b.bytes i j (tail_then h p) (clean_then h book mid disks p (serves h p.keeps.serves) c g) left_a left_b;
+    module _ (k : Kept) (disks : Pair) (f : IsFinished tells (mid_ledger w book block mid) (held_ledger k disks) mid disks) where
+      clean_then : (h : History) → Holds tells w h → IsCleanOpen (held_ledger k disks) (sealed_part (close h))
+      clean_then h p = f.clean p.told (sealed_part (close h)) (stands_then h p)
+
+      -- all went well
+      pub end_goes : (sink : SinkState) → k.body ≡ [] → k.dues ≡ [] → Appends w.sink.held sink.held text → MeetsNone w.sink sink → Goes tells w close (λ h. []) (world k disks sink)
+      end_goes sink body dues appended none = record {
+        holds = λ h p. record {
+          told = p.told;
+          keeps = keeps_closed k disks h (f.limits ∙ at.same.limits ∙ p.keeps.limits) body dues (clean_then h p);
+          disks = clean_for (held_ledger k disks) (sealed_part (close h)) (clean_then h p);
+        };
+        grows = λ h p. grows_close h;
+        sofar = text;
+        appended = appended;
+        writes = λ h p. subst (λ (new : List Due). Writes (close h) w.kept.dues [] new text) (sym dues) (writes_ended h w.kept.dues text p.keeps.dues (e.text_is h p));
+        no_fault = record { a = f.faults_a ∙ at.committed.faults_a; b = f.faults_b ∙ at.committed.faults_b; sink = none };
+      }
+
+      -- the sink failed
+      pub end_unwritten : (sink : SinkState) (taken : ℕ) → taken < length text → Appends w.sink.held sink.held (take taken text) → MeetsOne w.sink sink → Ended tells w close (λ h. []) WriteFault (world k disks sink)
+      end_unwritten sink taken few appended one = record {
+        grows = λ h p. grows_close h;
+        part = take taken text;
+        appended = appended;
+        stops = λ h p.
+            let c = clean_then h p in
+            let x = clean_for (held_ledger k disks) (sealed_part (close h)) c in record {
+              done = w.kept.dues;
+              rest = [];
+              split = refl;
+              said = λ f y none. says_first h f w.kept.dues text taken p.keeps.dues (e.text_is h p) few y;
+              images = λ i j left_a left_b. record {
+                kept = sealed_part (close h);
+                stands = clean_image k.in_a k.place (sealed_part (close h)) disks.a.bytes disks.b.bytes i j x left_a left_b;
+                no_shorter = begins_closed h (close h) (grows_close h);
+                no_longer = begins_not (close h).closed;
+                receipts = all_in_ended h w.kept.dues p.keeps.dues;
+                clean = clean_pair k.in_a k.place (sealed_part (close h)) disks.a.bytes disks.b.bytes i j (tails_clean (held_ledger k disks) (sealed_part (close h)) c) x left_a left_b;
+              };
+            };
+        cause = (f.faults_a ∙ at.committed.faults_a, f.faults_b ∙ at.committed.faults_b, one);
+      }
+
+    -- the block is on the disk, and what its journal hides or purges couldn't be given up
+    pub end_unfinished : (k : Kept) (disks : Pair) → IsUnfinished tells (mid_ledger w book block mid) mid disks → Ended tells w close (λ h. []) DiskFault (world k disks w.sink)
+    end_unfinished k disks u = record {
+      grows = λ h p. grows_close h;
+      part = [];
+      appended = Appends-nil w.sink.held;
+      stops = λ h p. record {
+        done = [];
+        rest = w.kept.dues ++ [];
+        split = refl;
+        said = λ f y none. refl;
+        images = λ i j left_a left_b. record {
+          kept = sealed_part (close h);
+          stands = u.meanwhile p.told (sealed_part (close h)) (stands_then h p) i j left_a left_b;
+          no_shorter = begins_closed h (close h) (grows_close h);
+          no_longer = begins_not (close h).closed;
+          receipts = tt;
+          clean = inr (unanswered h p);
+        };
       };
-    };
-    cause = (g.faults_a ∙ c.faults_a, g.faults_b ∙ c.faults_b, one);
-  }
+      cause = (failed_from w.disks mid disks at.committed.faults_a at.committed.faults_b u.failed, (refl, refl));
+    }
 
 -- the places, where nothing that counts has changed
-pub located_same : (old new : Kept) (h : History) → new.places ≡ old.places → new.place ≡ old.place → Located old h → Located new h
-located_same old new h places place l = record {
-  places = places ∙ l.places ∙ ap (λ (n : ℕ). places_at 64 h.closed ++ places_in (n + 45) h.waiting) (sym place);
+pub located_same : (old new : Kept) (h : History) → new.book.floor ≡ old.book.floor → new.places ≡ old.places → new.place ≡ old.place → Located old h → Located new h
+located_same old new h floor places place l = record {
+  parts = record { gone = l.parts.gone; kept = l.parts.kept; are = l.parts.are; at = l.parts.at ∙ sym floor };
+  places = places ∙ l.places ∙ ap (λ (n : ℕ). places_from (floor_behind (sealed_part h) l.parts.gone) l.parts.kept ++ places_in (n + 45) h.waiting) (sym place);
   tail = place ∙ l.tail;
 }
 
@@ -259,7 +265,7 @@ module _ (tells : Bool) (w : World) (text : List ℕ) (none : (h : History) → 
         body = body ∙ p.keeps.body;
         next = p.keeps.next;
         gathered = p.keeps.gathered;
-        located = located_same w.kept k h places place p.keeps.located;
+        located = located_same w.kept k h (ap (λ (b : books.Kept). b.floor) book) places place p.keeps.located;
       };
       disks = subst (λ v. IsCleanFor v k.place (sealed_part h) w.disks.a.bytes w.disks.b.bytes) (sym in_a) (subst (λ at. IsCleanFor w.kept.in_a at (sealed_part h) w.disks.a.bytes w.disks.b.bytes) (sym place) p.disks);
     });
@@ -287,7 +293,7 @@ module _ (tells : Bool) (w : World) (text : List ℕ) (none : (h : History) → 
         no_shorter = begins_not h.closed;
         no_longer = begins_closed h (close h) (grows_close h);
         receipts = subst (λ (g : History). AllIn g.closed w.kept.dues) (sym (close_settled h (none h p))) (all_in_ended h w.kept.dues p.keeps.dues);
-        clean = clean_pair w.kept.in_a w.kept.place (sealed_part h) w.disks.a.bytes w.disks.b.bytes i j p.keeps.located.tail p.disks left_a left_b;
+        clean = clean_pair w.kept.in_a w.kept.place (sealed_part h) w.disks.a.bytes w.disks.b.bytes i j (tails_held tells w h p) p.disks left_a left_b;
       };
     };
     cause = (refl, refl, one);
@@ -331,7 +337,7 @@ none_waits k h same s = nil_from_length h.waiting (omega (arith, same, s.stands.
 generation_part : (file : List ℕ) → take 8 (drop 10 (take 64 file)) ≡ take 8 (drop 10 file)
 generation_part file = ap (λ (l : List ℕ). take 8 l) (drop-take 10 54 file) ∙ take-take 8 54 (drop 10 file) (omega arith)
 
-by_head : (new old : List ℕ) → take 64 new ≡ take 64 old → generation_of new ≡ generation_of old
+pub by_head : (new old : List ℕ) → take 64 new ≡ take 64 old → generation_of new ≡ generation_of old
 by_head new old is = ap (λ (l : List ℕ). from_be_bytes w64 l) (sym (generation_part new) ∙ ap (λ (l : List ℕ). take 8 (drop 10 l)) is ∙ generation_part old)
 
 -- a commit leaves the open file's generation
@@ -342,55 +348,49 @@ generation_stays tells in_a place block before after c told = by in_a (c.head to
   by true is = by_head after.a.bytes.seen before.a.bytes.seen is
   by false is = by_head after.b.bytes.seen before.b.bytes.seen is
 
--- a gate is still shut behind all contents that may be given up
-still_shut : (place : ℕ) (old new : List ℕ) → Outside 0 (place - 0) old new → IsShutAt place old → IsShutAt place new
-still_shut place old new o s =
-    let whole : 0 + (place - 0) ≡ place = omega arith in
-    let behind : drop place new ≡ drop place old = ap (λ (n : ℕ). drop n new) (sym whole) ∙ o.after ∙ ap (λ (n : ℕ). drop n old) whole in
-    let first : (file : List ℕ) → get_or file place 0 ≡ get_or (drop place file) 0 0 = λ file. ap (λ (n : ℕ). get_or file n 0) (omega arith) ∙ sym (get_or-drop place file 0 0) in (
-      omega (arith, o.size, s.0),
-      λ open_gate. s.1 (first old ∙ ap (λ (l : List ℕ). get_or l 0 0) (sym behind) ∙ sym (first new) ∙ open_gate),
-    )
-
-inside_all : (end : ℕ) (places : List PlaceAt) → AreInside end places → AreBetween 0 end places
-inside_all end places all =
-    All-weaker (λ (p : PlaceAt). (64 ≤ p.content_at) × (p.content_at + p.content_len ≤ end)) (λ (p : PlaceAt). (0 ≤ p.content_at) × (p.content_at + p.content_len ≤ end)) (λ p is. (omega arith, is.1)) places all
-
--- what is left of the open file where contents were given up
-pub given_reads : (tells : Bool) (in_a : Bool) (place : ℕ) (book : books.Kept) (places : List PlaceAt) (mid disks : Pair) → AreInside place places → HasGivenUp tells in_a place book places mid disks → Reads tells place (open_of in_a mid.a mid.b) → Reads tells place (open_of in_a disks.a disks.b)
-given_reads tells in_a place book places mid disks inside g r = record {
-  told = g.told;
-  shut = λ t. still_shut place (open_of in_a mid.a mid.b).bytes.seen (open_of in_a disks.a disks.b).bytes.seen (g.rest t 0 place (inside_all place places inside)) (r.shut t);
-}
-
-pub given_generation : (tells : Bool) (in_a : Bool) (place : ℕ) (book : books.Kept) (places : List PlaceAt) (mid disks : Pair) → AreInside place places → HasGivenUp tells in_a place book places mid disks → IsTrue tells
-    → generation_of (open_of in_a disks.a disks.b).bytes.seen ≡ generation_of (open_of in_a mid.a mid.b).bytes.seen
-given_generation tells in_a place book places mid disks inside g t =
-    by_head (open_of in_a disks.a disks.b).bytes.seen (open_of in_a mid.a mid.b).bytes.seen (g.rest t 64 place inside).before
-
 -- where the contents of the open block end, once it has ended
-pub inside_ended : (k : Kept) (block head : List ℕ) → block ≡ head ++ k.body → length head ≡ 44 → AreInside (k.place + 45 + length k.body) k.places → AreInside (k.place + 1 + length block) k.places
-inside_ended k block head is size all =
-    subst (λ (n : ℕ). AreInside n k.places) (omega (arith, ap length is, size, length-append head k.body)) all
+pub order_ended : (k : Kept) (block head : List ℕ) → block ≡ head ++ k.body → length head ≡ 44 → AreInOrder 64 (k.place + 45 + length k.body) k.places → AreInOrder 64 (k.place + 1 + length block) k.places
+order_ended k block head is size all =
+    subst (λ (n : ℕ). AreInOrder 64 n k.places) (omega (arith, ap length is, size, length-append head k.body)) all
 
-pub fits_ended : (tells : Bool) (k : Kept) (old : Bool) (disks : Pair) (sink : SinkState) (place : ℕ) → k.book.size ≡ k.book.sealed → k.place ≡ place → Reads tells place (open_of old disks.a disks.b) → k.in_a ≡ old
-    → (IsTrue tells → k.generation ≡ generation_of (open_of old disks.a disks.b).bytes.seen) → k.copy ≡ None → AreInside place k.places → Fits tells (world k disks sink)
-fits_ended tells k old disks sink place none at reads in_a generation copy inside = record {
-  reads = subst (λ v. Reads tells k.place (open_of v disks.a disks.b)) (sym in_a) (subst (λ n. Reads tells n (open_of old disks.a disks.b)) (sym at) reads);
-  generation = λ told. generation told ∙ sym (ap (λ v. generation_of (open_of v disks.a disks.b).bytes.seen) in_a);
+shut_at : (in_a : Bool) (place : ℕ) (disks : Pair) → IsShutAt place (open_of in_a disks.a.bytes disks.b.bytes).seen → IsShutAt place (open_of in_a disks.a disks.b).bytes.seen
+shut_at true place disks s = s
+shut_at false place disks s = s
+
+pub shut_bytes : (in_a : Bool) (place : ℕ) (disks : Pair) → IsShutAt place (open_of in_a disks.a disks.b).bytes.seen → IsShutAt place (open_bytes in_a disks).seen
+shut_bytes true place disks s = s
+shut_bytes false place disks s = s
+
+pub named_at : (in_a : Bool) (generation : ℕ) (disks : Pair) → generation ≡ generation_of (open_of in_a disks.a disks.b).bytes.seen → generation ≡ generation_of (open_bytes in_a disks).seen
+named_at true generation disks is = is
+named_at false generation disks is = is
+
+generation_at : (in_a : Bool) (generation : ℕ) (disks : Pair) → generation ≡ generation_of (open_bytes in_a disks).seen → generation ≡ generation_of (open_of in_a disks.a disks.b).bytes.seen
+generation_at true generation disks is = is
+generation_at false generation disks is = is
+
+-- what the next call asks for, whatever stands in the files
+pub fits_finished : (tells : Bool) (k : Kept) (old : Ledger) (mid disks : Pair) (sink : SinkState) → (IsTrue tells → IsAtGate old) → AreInOrder 64 old.known.place old.known.places → old.known.book.size ≡ old.known.book.sealed → k.copy ≡ None
+    → IsFinished tells old (held_ledger k disks) mid disks → Fits tells (world k disks sink)
+fits_finished tells k old mid disks sink gate order none copy f = record {
+  reads = record { told = f.told; shut = λ told. shut_at k.in_a k.place disks (f.gate told (gate told)).shut };
+  generation = λ told. generation_at k.in_a k.generation disks (f.gate told (gate told)).generation;
   copy = copy;
-  few = omega (arith, none);
-  inside =
-      All-weaker (λ (p : PlaceAt). (64 ≤ p.content_at) × (p.content_at + p.content_len ≤ place)) (λ (p : PlaceAt). (64 ≤ p.content_at) × (p.content_at + p.content_len ≤ k.place + 45 + length k.body)) (λ p is. (is.0, omega (arith, is.1, at))) k.places inside;
+  few = omega (arith, none, f.size, f.sealed);
+  order = order_wider 64 k.place (k.place + 45 + length k.body) k.places (f.order order) (omega arith);
 }
 
--- the same for an open file and a place that are known by equations
-pub given_as : (tells in_a in_b : Bool) (at to : ℕ) (book : books.Kept) (places : List PlaceAt) (mid disks : Pair) → in_a ≡ in_b → at ≡ to → HasGivenUp tells in_a at book places mid disks → HasGivenUp tells in_b to book places mid disks
-given_as tells in_a in_b at to book places mid disks same is g =
-    subst (λ (n : ℕ). HasGivenUp tells in_b n book places mid disks) is (subst (λ (v : Bool). HasGivenUp tells v at book places mid disks) same g)
+-- the same for an open ledger that is known by equations
+pub finished_as : (tells : Bool) (l0 l1 new : Ledger) (before after : Pair) → l0 ≡ l1 → IsFinished tells l0 new before after → IsFinished tells l1 new before after
+finished_as tells l0 l1 new before after is f = subst (λ (l : Ledger). IsFinished tells l new before after) is f
 
-pub not_given_as : (tells in_a in_b : Bool) (book : books.Kept) (places : List PlaceAt) (mid disks : Pair) → in_a ≡ in_b → HasNotGivenUp tells in_a book places mid disks → HasNotGivenUp tells in_b book places mid disks
-not_given_as tells in_a in_b book places mid disks same g = subst (λ (v : Bool). HasNotGivenUp tells v book places mid disks) same g
+pub unfinished_as : (tells : Bool) (l0 l1 : Ledger) (before after : Pair) → l0 ≡ l1 → IsUnfinished tells l0 before after → IsUnfinished tells l1 before after
+unfinished_as tells l0 l1 before after is u = subst (λ (l : Ledger). IsUnfinished tells l before after) is u
+
+pub ledger_is : (book : books.Kept) (places : List PlaceAt) (disks : Pair) (place0 place1 : ℕ) (in_a0 in_a1 : Bool) (generation0 generation1 : ℕ) → place0 ≡ place1 → in_a0 ≡ in_a1 → generation0 ≡ generation1
+    → ledger_of book places disks place0 in_a0 generation0 ≡ ledger_of book places disks place1 in_a1 generation1
+ledger_is book places disks place0 place1 in_a0 in_a1 generation0 generation1 place in_a generation =
+    ap (λ (n : ℕ). ledger_of book places disks n in_a0 generation0) place ∙ ap (λ (v : Bool). ledger_of book places disks place1 v generation0) in_a ∙ ap (ledger_of book places disks place1 in_a1) generation
 
 -- how far a fault of the sink let the lines be written
 pub first_of_text : (old new : SinkState) (text : List ℕ) (e : WriteErr) → WritesFirst old.held new.held text e → (taken : ℕ) × (taken < length text) × Appends old.held new.held (take taken text)

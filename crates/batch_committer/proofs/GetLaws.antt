@@ -1,8 +1,8 @@
 -- What is told of a journal that was read is what the history says of it.
-use Rattle.std.specs.Prelude.{◌<◌, ◌≤◌, if◌then◌else◌, nat_le, nat_lt, slice_get, get_or}
-use Rattle.std.proofs.Common.{◌≡◌, ◌⊎◌, inl, inr, ℕ, zero, suc, ◌+◌, Bool, true, false, cond, List, [], ◌∷◌, length, map, Option, Some, None, refl, sym, ◌∙◌, ap, subst, arith}
-use Rattle.std.proofs.lemmas.Bool.{le-leb}
-use Rattle.std.proofs.lemmas.Option.{none-some, slice_get_read, slice_get_past}
+use Rattle.std.specs.Prelude.{◌≤◌, ◌-◌, if◌then◌else◌, nat_le, nat_lt, slice_get}
+use Rattle.std.proofs.Common.{◌≡◌, ◌⊎◌, inl, inr, ℕ, zero, suc, ◌+◌, Bool, true, false, cond, List, [], ◌∷◌, drop, map, Option, Some, None, refl, sym, ◌∙◌, ap, subst, arith}
+use Rattle.std.proofs.lemmas.Bool.{le-leb, ltb-false}
+use Rattle.std.proofs.lemmas.Option.{none-some}
 use Rattle.ledger_bytes.specs.declared.refusal.Refusal.{Refusal}
 use Rattle.ledger_bytes.specs.declared.refusal.Refusal.TheVariants.{NoJournal, Purged as PurgedBelow}
 use Rattle.journal_record.specs.Entry.{Entry}
@@ -11,7 +11,7 @@ use Rattle.journal_record.specs.declared.header.Header.{Header}
 use Rattle.script_lines.specs.declared.reply.Reply.{Reply}
 use Rattle.script_lines.specs.declared.reply.Reply.TheVariants as reply
 use Rattle.ledger_model.specs.Getting.{content_damage, who_damage, reply_unless, whole_reply, occulted_reply, reply_on, shown_reply, get_reply}
-use Rattle.ledger_model.specs.History.{History, journals, size, point}
+use Rattle.ledger_model.specs.History.{History, journals, journals_of, size, point}
 use Rattle.member_book.specs.Erasures.{first_refusal}
 use Rattle.ledger_model.specs.Outcomes.{view}
 use Rattle.ledger_model.specs.Targets.{is_hidden}
@@ -19,13 +19,15 @@ use Rattle.ledger_model.specs.declared.view.View.{View}
 use Rattle.ledger_model.specs.declared.view.View.TheVariants.{Absent, Purged, Occulted, Whole}
 use Rattle.ledger_model.proofs.LawfulLaws.{AreFrom, lawful_from}
 use Rattle.ledger_book.specs.Books as books
-use Rattle.ledger_book.specs.Books.{Serves, headers}
-use Rattle.ledger_open.specs.Places.{entry_at, AllAt, places_of}
-use Rattle.ledger_open.specs.Standing.{IsKept, IsErased}
+use Rattle.ledger_book.specs.Books.{headers}
+use Rattle.ledger_open.specs.Places.{entry_at, AllAt}
+use Rattle.ledger_open.specs.Standing.{IsKept}
 use Rattle.ledger_open.specs.declared.places.PlaceAt.{PlaceAt}
-use Rattle.ledger_open.proofs.PlaceLaws.{history_here}
+use Rattle.ledger_open.proofs.PlaceLaws.{kept_at}
+use Rattle.ledger_open.proofs.PartLaws.{kept_from}
+use Rattle.batch_committer.specs.Read.{IsReadAs}
 use Rattle.batch_committer.proofs.Judging.{header_is}
-use Rattle.batch_committer.proofs.Opening.{floor_none}
+use Rattle.batch_committer.proofs.Parting.{places_one}
 
 -- ---- the parts of a journal, compared
 
@@ -45,12 +47,6 @@ unfolding occulted_reply
 occulted_as header who damage is = ap (λ o. reply_unless o (reply.Occulted (spelling header) who)) is
 
 -- ---- what stands at a journal's place
-
-pub found_in : {A : Type 0} (list xs : List A) (n : ℕ) (x : A) → xs ≡ list → n < length xs → x ≡ get_or xs n x → slice_get list n ≡ Some x
-found_in list xs n x is inside at = ap (λ l. slice_get l n) (sym is) ∙ slice_get_read xs (length xs) n x refl inside at
-
-pub past_in : {A : Type 0} (list xs : List A) (n : ℕ) → xs ≡ list → length xs ≤ n → (let none : Option A = None in slice_get list n ≡ none)
-past_in list xs n is past = ap (λ l. slice_get l n) (sym is) ∙ slice_get_past xs n past
 
 -- a journal of which this is kept at a place
 record IsThere (hid gone : ℕ → Bool) (file : List ℕ) (es : List Entry) (n : ℕ) (p : PlaceAt) : Type 0 where
@@ -108,46 +104,87 @@ told_absent h n r v absent shown is = by_view h n Absent r (sym absent ∙ shown
 pub told_purged : (h : History) (n p : ℕ) (v : View) → v ≡ Purged p → v ≡ view h n → reply.Refused (PurgedBelow p) ≡ get_reply h n
 told_purged h n p v purged shown = by_view h n (Purged p) (reply.Refused (PurgedBelow p)) (sym purged ∙ shown) refl
 
-module _ (image : List ℕ) (h : History) (n : ℕ) (stands : IsErased image h) (book : books.Kept) (serves : Serves book h) (places : List PlaceAt) (are : places ≡ places_of h) (v : View) (shown : v ≡ view h n) where
-  at_places : AllAt (is_hidden h) (is_hidden h) image (journals h) (places_of h)
-  at_places = history_here (is_hidden h) image h stands
+-- a journal that can be shown lies at the point or behind it
+shown_low : (h : History) (n : ℕ) (v : View) → (v ≡ Whole) ⊎ (v ≡ Occulted) → v ≡ view h n → point h ≤ n
+unfolding view
+shown_low h n v kind shown = by_tests (nat_le (size h) n) (nat_lt n (point h)) (is_hidden h n) refl (elim kind [ inl whole ↦ inl (sym whole ∙ shown) | inr occulted ↦ inr (sym occulted ∙ shown) ]) where
+  by_tests : (absent purged hidden : Bool) → nat_lt n (point h) ≡ purged
+      → (Whole ≡ cond absent Absent (cond purged (Purged (point h)) (cond hidden Occulted Whole))) ⊎ (Occulted ≡ cond absent Absent (cond purged (Purged (point h)) (cond hidden Occulted Whole))) → point h ≤ n
+  by_tests true purged hidden is (inl e) = absurd cc
+  by_tests true purged hidden is (inr e) = absurd cc
+  by_tests false true hidden is (inl e) = absurd cc
+  by_tests false true hidden is (inr e) = absurd cc
+  by_tests false false hidden is e = ltb-false n (point h) is
 
-  there : (p : PlaceAt) → slice_get places n ≡ Some p → IsThere (is_hidden h) (is_hidden h) image (journals h) n p
-  there p found = there_at (is_hidden h) (is_hidden h) image (journals h) (places_of h) n p at_places (ap (λ ps. slice_get ps n) (sym are) ∙ found)
+-- from a number on
+get_drop : {A : Type 0} (k n : ℕ) (xs : List A) → k ≤ n → slice_get (drop k xs) (n - k) ≡ slice_get xs n
+get_drop zero n xs le = ap (slice_get xs) (omega arith)
+get_drop (suc k) zero xs le = absurd (omega (arith, le))
+get_drop (suc k) (suc n) [] le = refl
+get_drop (suc k) (suc n) (x ∷ xs) le = ap (slice_get (drop k xs)) (omega arith) ∙ get_drop k n xs (omega (arith, le))
 
-  -- the book keeps each header
-  low : book.floor ≤ n
-  low = omega (arith, floor_none book h serves stands.unpurged)
+module _ (image : List ℕ) (h : History) (n : ℕ) (book : books.Kept) (places : List PlaceAt) (r : IsReadAs book places image h) (v : View) (shown : v ≡ view h n) where
+  abbrev kept : List Entry
+  kept = journals_of r.erased.parts.kept
 
   abbrev told_header : Option Header
   told_header = if nat_le book.floor n then slice_get (headers h) n else None
 
+  abbrev told_place : Option PlaceAt
+  told_place = if nat_le book.floor n then slice_get places (n - book.floor) else None
+
+  at_places : AllAt (is_hidden h) (is_hidden h) image (kept) places
+  at_places =
+      subst (AllAt (is_hidden h) (is_hidden h) image (kept))
+      (places_one h r.erased.lawful.blocks_are (point h) book.floor (sym r.floor) r.erased.parts r.ends.parts ∙ sym r.ends.places_are)
+      (kept_at (point h) (is_hidden h) image h r.erased)
+
+  -- the file has the journals from the point on
+  from_point : book.floor ≤ n → slice_get (kept) (n - book.floor) ≡ slice_get (journals h) n
+  from_point low =
+      ap (λ (es : List Entry). slice_get es (n - book.floor)) (kept_from (point h) h r.erased.none r.erased.parts ∙ ap (λ (p : ℕ). drop p (journals h)) (sym r.floor))
+      ∙ get_drop book.floor n (journals h) low
+
+  low : (v ≡ Whole) ⊎ (v ≡ Occulted) → book.floor ≤ n
+  low kind = omega (arith, r.floor, shown_low h n v kind shown)
+
+  place_there : book.floor ≤ n → (o : Option PlaceAt) → o ≡ told_place → o ≡ slice_get places (n - book.floor)
+  place_there low o is = is ∙ ap (λ b. cond b (slice_get places (n - book.floor)) None) (le-leb book.floor n low)
+
+  there : (p : PlaceAt) → book.floor ≤ n → slice_get places (n - book.floor) ≡ Some p → IsThere (is_hidden h) (is_hidden h) image (kept) (n - book.floor) p
+  there p low found = there_at (is_hidden h) (is_hidden h) image (kept) places (n - book.floor) p (at_places) found
+
   -- what was read of a whole journal
-  pub told_whole : (header : Header) (p : PlaceAt) → v ≡ Whole → Some header ≡ told_header → slice_get places n ≡ Some p → whole_reply header (entry_at image header p).content (entry_at image header p).who ≡ get_reply h n
+  pub told_whole : (header : Header) (p : PlaceAt) → v ≡ Whole → Some header ≡ told_header → Some p ≡ told_place → whole_reply header (entry_at image header p).content (entry_at image header p).who ≡ get_reply h n
   told_whole header p whole is found =
-      let t = there p found in
-      let number : t.e.header.jsn ≡ n = omega (arith, numbered 0 (journals h) n t.e (lawful_from (journals h) stands.lawful.journals_are) t.there) in
-      let content : (entry_at image header p).content ≡ t.e.content = t.kept.shown (ap (is_hidden h) number ∙ shown_at h n (sym whole ∙ shown)) in
+      let above = low (inl whole) in
+      let t = there p above (sym (place_there above (Some p) found)) in
+      let there_is : slice_get (journals h) n ≡ Some t.e = sym (from_point above) ∙ t.there in
+      let number : t.e.header.jsn ≡ n = omega (arith, numbered 0 (journals h) n t.e (lawful_from (journals h) r.erased.lawful.journals_are) there_is) in
+      let content : (entry_at image t.e.header p).content ≡ t.e.content = t.kept.shown (ap (is_hidden h) number ∙ shown_at h n (sym whole ∙ shown)) in
+      let same : header ≡ t.e.header = header_is book h n t.e header above there_is is in
       by_view h n Whole (whole_reply header (entry_at image header p).content (entry_at image header p).who) (sym whole ∙ shown)
-      (ap (λ x. whole_reply x (entry_at image header p).content (entry_at image header p).who) (header_is book h n t.e header low t.there is)
-      ∙ ap (λ x. whole_reply t.e.header x (entry_at image header p).who) content
+      (ap (λ x. whole_reply x (entry_at image x p).content (entry_at image x p).who) same
+      ∙ ap (λ x. whole_reply t.e.header x (entry_at image t.e.header p).who) content
       ∙ ap (λ x. whole_reply t.e.header t.e.content x) t.kept.who
-      ∙ ap (reply_on (size h) (λ (e : Entry). whole_reply e.header e.content e.who)) (sym t.there))
+      ∙ ap (reply_on (size h) (λ (e : Entry). whole_reply e.header e.content e.who)) (sym there_is))
 
   -- .. and of one whose content is hidden
-  pub told_occulted : (header : Header) (p : PlaceAt) → v ≡ Occulted → Some header ≡ told_header → slice_get places n ≡ Some p → occulted_reply header (entry_at image header p).who ≡ get_reply h n
+  pub told_occulted : (header : Header) (p : PlaceAt) → v ≡ Occulted → Some header ≡ told_header → Some p ≡ told_place → occulted_reply header (entry_at image header p).who ≡ get_reply h n
   told_occulted header p occulted is found =
-      let t = there p found in
+      let above = low (inr occulted) in
+      let t = there p above (sym (place_there above (Some p) found)) in
+      let there_is : slice_get (journals h) n ≡ Some t.e = sym (from_point above) ∙ t.there in
       by_view h n Occulted (occulted_reply header (entry_at image header p).who) (sym occulted ∙ shown)
-      (ap (λ x. occulted_reply x (entry_at image header p).who) (header_is book h n t.e header low t.there is)
+      (ap (λ x. occulted_reply x (entry_at image x p).who) (header_is book h n t.e header above there_is is)
       ∙ ap (occulted_reply t.e.header) t.kept.who
-      ∙ ap (reply_on (size h) (λ (e : Entry). occulted_reply e.header e.who)) (sym t.there))
+      ∙ ap (reply_on (size h) (λ (e : Entry). occulted_reply e.header e.who)) (sym there_is))
 
-  not_there : (let none : Option Header = None in none ≡ told_header) ⊎ (slice_get places n ≡ None) → (let none : Option Entry = None in slice_get (journals h) n ≡ none)
-  not_there (inl none) = no_header (journals h) n (sym (none ∙ ap (λ b. cond b (slice_get (headers h) n) None) (le-leb book.floor n low)))
-  not_there (inr none) = none_at (is_hidden h) (is_hidden h) image (journals h) (places_of h) n at_places (ap (λ ps. slice_get ps n) (sym are) ∙ none)
+  not_there : book.floor ≤ n → (let none : Option Header = None in none ≡ told_header) ⊎ (let none : Option PlaceAt = None in none ≡ told_place) → (let none : Option Entry = None in slice_get (journals h) n ≡ none)
+  not_there above (inl none) = no_header (journals h) n (sym (none ∙ ap (λ b. cond b (slice_get (headers h) n) None) (le-leb book.floor n above)))
+  not_there above (inr none) = sym (from_point above) ∙ none_at (is_hidden h) (is_hidden h) image (kept) places (n - book.floor) (at_places) (sym (place_there above None none))
 
   -- nothing is read of a journal that has no header or no place, and there is none
-  pub told_none : (r : Reply) → (v ≡ Whole) ⊎ (v ≡ Occulted) → (let none : Option Header = None in none ≡ told_header) ⊎ (slice_get places n ≡ None) → r ≡ reply.Refused (NoJournal (size h)) → r ≡ get_reply h n
-  told_none r (inl whole) none is = by_view h n Whole r (sym whole ∙ shown) (is ∙ ap (reply_on (size h) (λ (e : Entry). whole_reply e.header e.content e.who)) (sym (not_there none)))
-  told_none r (inr occulted) none is = by_view h n Occulted r (sym occulted ∙ shown) (is ∙ ap (reply_on (size h) (λ (e : Entry). occulted_reply e.header e.who)) (sym (not_there none)))
+  pub told_none : (reply_is : Reply) → (v ≡ Whole) ⊎ (v ≡ Occulted) → (let none : Option Header = None in none ≡ told_header) ⊎ (let none : Option PlaceAt = None in none ≡ told_place) → reply_is ≡ reply.Refused (NoJournal (size h)) → reply_is ≡ get_reply h n
+  told_none reply_is (inl whole) none is = by_view h n Whole reply_is (sym whole ∙ shown) (is ∙ ap (reply_on (size h) (λ (e : Entry). whole_reply e.header e.content e.who)) (sym (not_there (low (inl whole)) none)))
+  told_none reply_is (inr occulted) none is = by_view h n Occulted reply_is (sym occulted ∙ shown) (is ∙ ap (reply_on (size h) (λ (e : Entry). occulted_reply e.header e.who)) (sym (not_there (low (inr occulted)) none)))

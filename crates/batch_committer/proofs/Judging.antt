@@ -2,10 +2,9 @@
 use Rattle.std.specs.Prelude.{Bool, true, false, IsTrue, ◌↔◌, Result, Ok, Err, OnOk, nat_le, ◌==◌, bytes_eq, slice_get, if◌then◌else◌, sum_by}
 use Rattle.std.specs.Int.{w16, w32, to_be_bytes}
 use Rattle.std.specs.List.{list_all}
-use Rattle.std.proofs.Common.{◌≡◌, ◌≢◌, ℕ, zero, suc, ◌+◌, ◌*◌, ◌≤◌, ◌&&◌, cond, List, [], ◌∷◌, ◌++◌, length, map, Option, Some, None, refl, ap, sym, subst, ◌∙◌, arith, append_assoc, append-nil, length-append}
+use Rattle.std.proofs.Common.{◌≡◌, ◌≢◌, ◌⊎◌, inl, inr, ℕ, zero, suc, ◌+◌, ◌*◌, ◌≤◌, ◌&&◌, cond, List, [], ◌∷◌, ◌++◌, length, map, Option, Some, None, refl, ap, sym, subst, ◌∙◌, arith, append_assoc, append-nil, length-append}
 use Rattle.std.proofs.lemmas.Bool.{true≢false, le-leb, leb-true, eqb-true, and_parts}
 use Rattle.std.proofs.lemmas.List.Concat.{flat_map-append}
-use Rattle.std.proofs.lemmas.List.Elements.{All-push, All-weaker}
 use Rattle.std.proofs.lemmas.Option.{none-some}
 use Rattle.ledger_bytes.specs.declared.digest.Digest.{Digest}
 use Rattle.ledger_bytes.specs.declared.limits.TheConstants.{APPROVAL_LIMIT, CONTENT_LIMIT, PROOF_LIMIT}
@@ -20,7 +19,7 @@ use Rattle.journal_record.specs.declared.approval.TheConstants.{WHO_LIMIT}
 use Rattle.journal_record.specs.declared.header.Header.{Header}
 use Rattle.journal_record.specs.declared.stamp.Stamp.{Stamp}
 use Rattle.ledger_model.specs.Anchors.{stamp_of, time_header, time_journal}
-use Rattle.ledger_model.specs.Appends.{append_journal, member_journal, occult_journal, append_header, member_header, occult_header}
+use Rattle.ledger_model.specs.Appends.{append_journal, member_journal, occult_journal, purge_journal, append_header, member_header, occult_header, purge_header}
 use Rattle.ledger_model.specs.Fitting.{fits_approval, fits_job}
 use Rattle.ledger_model.specs.History.{History, history, journals, journals_of, size}
 use Rattle.ledger_model.specs.Judgements.{own_refusal}
@@ -33,22 +32,25 @@ use Rattle.ledger_model.specs.Texts.{answer_for}
 use Rattle.ledger_model.specs.declared.answer.Answer.{Answer}
 use Rattle.ledger_model.specs.declared.due.Due.{Due}
 use Rattle.ledger_model.specs.declared.job.Job.{Job}
-use Rattle.ledger_model.specs.declared.job.Job.TheVariants.{Refused, Append, NewMember, Anchor, Occult, Get, Prove, Extend, Clue, Head}
+use Rattle.ledger_model.specs.declared.job.Job.TheVariants.{Refused, Append, NewMember, Anchor, Occult, Purge, Get, Prove, Extend, Clue, Head}
 use Rattle.ledger_model.specs.declared.limits.Limits.{Limits}
 use Rattle.ledger_model.specs.declared.outcome.Outcome.{Outcome}
 use Rattle.ledger_model.specs.declared.outcome.Outcome.TheVariants as came
 use Rattle.ledger_model.specs.declared.outcome.Query.{Query}
 use Rattle.ledger_book.specs.Books as books
 use Rattle.ledger_book.specs.Books.{Serves, headers, sealed_size}
-use Rattle.ledger_book.specs.Steps.{IsSame, PlacesNothing, Applies, HasNumber}
+use Rattle.ledger_book.specs.Steps.{PlacesNothing, Applies, HasNumber}
 use Rattle.ledger_open.proofs.AgainLaws.{entry_is}
 use Rattle.ledger_open.proofs.HidingLaws.{from_more}
-use Rattle.ledger_open.proofs.NextLaws.{next_behind}
-use Rattle.ledger_open.specs.Places.{record_len, place_at, places_in, places_at}
+use Rattle.ledger_open.specs.Places.{record_len, place_at, places_in, places_from}
+use Rattle.ledger_open.specs.Standing.{floor_behind}
+use Rattle.ledger_open.specs.Order.{AreInOrder}
 use Rattle.ledger_open.specs.declared.places.PlaceAt.{PlaceAt}
 use Rattle.batch_committer.specs.Steps.{HasParts, HasJournal, IsGathered, Gathers, Judged}
-use Rattle.batch_committer.specs.World.{Kept, Keeps, AreInside}
-use Rattle.batch_committer.proofs.Closing.{places_in_more, body_len}
+use Rattle.batch_committer.specs.World.{Kept, Keeps, sealed_part}
+use Rattle.batch_committer.proofs.Closing.{next_rest, places_in_more, body_len}
+use Rattle.batch_committer.proofs.Ending.{located_same}
+use Rattle.batch_committer.proofs.Ordering.{order_then}
 
 -- ---- what came of a job
 
@@ -61,6 +63,7 @@ judged_same stamp h (NewMember number key by) None o none is = absurd (subst Pla
 judged_same None h Anchor None o none is = refl
 judged_same (Some stamp) h Anchor None o none is = absurd (subst PlacesNothing is none)
 judged_same stamp h (Occult target leaf given) None o none is = absurd (subst PlacesNothing is none)
+judged_same stamp h (Purge p told given) None o none is = absurd (subst PlacesNothing is none)
 judged_same stamp h (Get n) None o none is = refl
 judged_same stamp h (Prove n) None o none is = refl
 judged_same stamp h (Extend which m) None o none is = refl
@@ -93,6 +96,7 @@ judged_as stamp h (NewMember number key by) None jsn leaf is = record { accepted
 judged_as None h Anchor None jsn leaf is = absurd (let no : ⊥ = cc is in no)
 judged_as (Some stamp) h Anchor None jsn leaf is = record { accepted = refl; journal = time_journal (size h) stamp; jsn_is = cc is; placed_is = refl }
 judged_as stamp h (Occult target named given) None jsn leaf is = record { accepted = refl; journal = occult_journal (size h) target named given; jsn_is = cc is; placed_is = refl }
+judged_as stamp h (Purge p told given) None jsn leaf is = record { accepted = refl; journal = purge_journal h p given; jsn_is = cc is; placed_is = refl }
 judged_as stamp h (Get n) None jsn leaf is = absurd (let no : ⊥ = cc is in no)
 judged_as stamp h (Prove n) None jsn leaf is = absurd (let no : ⊥ = cc is in no)
 judged_as stamp h (Extend which m) None jsn leaf is = absurd (let no : ⊥ = cc is in no)
@@ -130,6 +134,12 @@ whos_few given fits =
     let both = and_parts (nat_le (length given) APPROVAL_LIMIT) (list_all (λ (a : Approval). nat_le (length a.proof) PROOF_LIMIT) given) fits in
     omega (arith, leb-true (length given) APPROVAL_LIMIT both.0, whos_length given both.1)
 
+-- the parts of an occult and of a purge
+pub given_parts : (job : Job) (content : List ℕ) (given approvals : List Approval) → ((target : ℕ) × (leaf : Digest) × (job ≡ Occult target leaf approvals)) ⊎ ((p : ℕ) × (told : Digest) × (job ≡ Purge p told approvals)) → HasParts job content given
+    → (content ≡ []) × (given ≡ approvals)
+given_parts job content given approvals (inl x) parts = subst (λ (j : Job). HasParts j content given) x.2 parts
+given_parts job content given approvals (inr x) parts = subst (λ (j : Job). HasParts j content given) x.2 parts
+
 -- its parts
 pub record IsMade (job : Job) (journal : Entry) : Type 0 where
   pub content : List ℕ
@@ -145,7 +155,7 @@ made_as : (job : Job) (got journal : Entry) → got ≡ journal → IsMade job g
 made_as job got journal is m = subst (IsMade job) is m
 
 pub is_made : (stamp : Option Stamp) (h : History) (job : Job) (journal : Entry) → fits_job job ≡ true → placed_journal h stamp job ≡ Some journal → IsMade job journal
-unfolding append_header member_header time_header occult_header
+unfolding append_header member_header time_header occult_header purge_header
 is_made stamp h (Refused why) journal fits is = absurd (none-some journal is)
 is_made stamp h (Append member clue content content_digest request by) journal fits is =
     made_as (Append member clue content content_digest request by) (append_journal h member clue content content_digest request by) journal (cc is)
@@ -159,6 +169,9 @@ is_made (Some s) h Anchor journal fits is =
     (record { content = []; given = []; parts = (refl, refl); content_is = refl; who_is = refl; len = refl; few = omega arith; gathers_is = λ other. absurd (true≢false other) })
 is_made stamp h (Occult target leaf given) journal fits is =
     made_as (Occult target leaf given) (occult_journal (size h) target leaf given) journal (cc is)
+    (record { content = []; given = given; parts = (refl, refl); content_is = refl; who_is = refl; len = refl; few = whos_few given fits; gathers_is = λ other. absurd (true≢false other) })
+is_made stamp h (Purge p told given) journal fits is =
+    made_as (Purge p told given) (purge_journal h p given) journal (cc is)
     (record { content = []; given = given; parts = (refl, refl); content_is = refl; who_is = refl; len = refl; few = whos_few given fits; gathers_is = λ other. absurd (true≢false other) })
 is_made stamp h (Get n) journal fits is = absurd (none-some journal is)
 is_made stamp h (Prove n) journal fits is = absurd (none-some journal is)
@@ -181,13 +194,13 @@ last_journal_is h journal = ap (λ js. slice_get js (size h)) (journals_more h j
 -- the journal that was placed last is the next one
 last_next : (k : books.Kept) (h : History) (journal : Entry) → Serves k (with_waiting (Some journal) h) → IsNext (history [] (journals h)) journal.header
 last_next k h journal s =
-    (next_behind [] (journals h) (journal ∷ []) (subst (AreNext []) (journals_more h journal) s.stands.lawful.next)).0
+    (next_rest [] (journals h) (journal ∷ []) (subst (AreNext []) (journals_more h journal) s.stands.lawful.next)).0
 
 -- the book has the journal that it placed for a job
-pub has_placed : (old new : books.Kept) (o : Outcome) (jsn : ℕ) (leaf : Digest) → IsSame old new → HasNumber old new o → o ≡ came.Placed jsn leaf → HasJournal new jsn
-has_placed old new o jsn leaf same number is =
+pub has_placed : (old new : books.Kept) (o : Outcome) (jsn : ℕ) (leaf : Digest) → new.floor ≡ old.floor → HasNumber old new o → o ≡ came.Placed jsn leaf → HasJournal new jsn
+has_placed old new o jsn leaf floor number is =
     let n = subst (HasNumber old new) is number in
-    record { kept = omega (arith, same.floor, n.0); below = omega (arith, n.1, n.2) }
+    record { kept = omega (arith, floor, n.0); below = omega (arith, n.1, n.2) }
 
 -- the header that the book keeps of a journal
 get_header : (js : List Entry) (n : ℕ) (journal : Entry) → slice_get js n ≡ Some journal → slice_get (map (λ (j : Entry). j.header) js) n ≡ Some journal.header
@@ -218,22 +231,20 @@ gathered_at k0 k1 new journal is g = subst (λ k. IsGathered k new journal) is g
 -- ---- where contents end
 
 -- with the place of a record more
-pub inside_more : (old : Kept) (tail : ℕ) (gathered : List ℕ) (all_places : List PlaceAt) (place : PlaceAt) (header : Header) (content : List ℕ) (given : List Approval) → HasWidths header → place.content_at ≡ old.place + 45 + length old.body + 178 → place.content_len ≡ length content
-    → tail ≡ old.place → gathered ≡ old.body ++ record_bytes (record { header = header; content = content; who = who_of given }) → all_places ≡ old.places ++ place ∷ [] → AreInside (old.place + 45 + length old.body) old.places → AreInside (tail + 45 + length gathered) all_places
-inside_more old tail gathered all_places place header content given widths at len place_is body places = λ all.
+pub order_more : (old : Kept) (tail : ℕ) (gathered : List ℕ) (all_places : List PlaceAt) (place : PlaceAt) (header : Header) (content : List ℕ) (given : List Approval) → HasWidths header → place.content_at ≡ old.place + 45 + length old.body + 178 → place.content_len ≡ length content
+    → tail ≡ old.place → gathered ≡ old.body ++ record_bytes (record { header = header; content = content; who = who_of given }) → all_places ≡ old.places ++ place ∷ [] → AreInOrder 64 (old.place + 45 + length old.body) old.places → AreInOrder 64 (tail + 45 + length gathered) all_places
+order_more old tail gathered all_places place header content given widths at len place_is body places = λ all.
     let who = who_of given in
     let four : length (to_be_bytes w32 (length who)) ≡ 4 = refl in
     let size : length gathered ≡ length old.body + (178 + length content + length who) =
     omega (arith, ap length body, four, length-spelling header widths, length-append old.body (record_bytes (record { header = header; content = content; who = who })), length-append (spelling header) (to_be_bytes w32 (length who) ++ (content ++ who)), length-append (to_be_bytes w32 (length who)) (content ++ who), length-append content who) in
     let end = tail + 45 + length gathered in
-    subst (AreInside end) (sym places)
-    (All-push (λ (p : PlaceAt). (64 ≤ p.content_at) × (p.content_at + p.content_len ≤ end)) old.places place
-    (All-weaker (λ (p : PlaceAt). (64 ≤ p.content_at) × (p.content_at + p.content_len ≤ old.place + 45 + length old.body)) (λ (p : PlaceAt). (64 ≤ p.content_at) × (p.content_at + p.content_len ≤ end)) (λ p is. (is.0, omega (arith, is.1, place_is, size))) old.places all)
-    (omega (arith, at), omega (arith, at, len, place_is, size)))
+    subst (AreInOrder 64 end) (sym places)
+    (order_then 64 (old.place + 45 + length old.body) end old.places (place ∷ []) all (omega (arith, at), omega (arith, at, len, place_is, size)))
 
 -- .. by a value that is known by an equation
-pub inside_at : (k0 k1 : Kept) → k0 ≡ k1 → AreInside (k1.place + 45 + length k1.body) k1.places → AreInside (k0.place + 45 + length k0.body) k0.places
-inside_at k0 k1 is all = subst (λ (k : Kept). AreInside (k.place + 45 + length k.body) k.places) (sym is) all
+pub order_at : (k0 k1 : Kept) → k0 ≡ k1 → AreInOrder 64 (k1.place + 45 + length k1.body) k1.places → AreInOrder 64 (k0.place + 45 + length k0.body) k0.places
+order_at k0 k1 is all = subst (λ (k : Kept). AreInOrder 64 (k.place + 45 + length k.body) k.places) (sym is) all
 
 -- ---- what is kept after a job
 
@@ -249,7 +260,7 @@ gathers_same old new h book body places place g = record {
   body = body ∙ g.body;
   next = g.next;
   gathered = g.gathered;
-  located = record { places = places ∙ g.located.places ∙ ap (λ (n : ℕ). places_at 64 h.closed ++ places_in (n + 45) h.waiting) (sym place); tail = place ∙ g.located.tail };
+  located = located_same old new h (ap (λ (b : books.Kept). b.floor) book) places place g.located;
 }
 
 gather_more : (es : List Entry) (e : Entry) → AllGather es → gathers e.header.kind ≡ true → AllGather (es ++ e ∷ [])
@@ -266,9 +277,9 @@ waits_so job waiting e all none is more = by (closes_after job) refl where
   by false other = gather_more waiting e (all other) (is other)
 
 -- with a journal more
-pub gathers_more : (old mid new : Kept) (h : History) (journal : Entry) → Keeps old h → length journal.content ≡ journal.header.content_len → length journal.who ≤ WHO_LIMIT → (length (h.waiting ++ journal ∷ []) ≢ 1 → AllGather (h.waiting ++ journal ∷ [])) → Serves new.book (with_waiting (Some journal) h) → IsSame old.book new.book → mid.body ≡ old.body → mid.places ≡ old.places → mid.place ≡ old.place
+pub gathers_more : (old mid new : Kept) (h : History) (journal : Entry) → Keeps old h → length journal.content ≡ journal.header.content_len → length journal.who ≤ WHO_LIMIT → (length (h.waiting ++ journal ∷ []) ≢ 1 → AllGather (h.waiting ++ journal ∷ [])) → Serves new.book (with_waiting (Some journal) h) → new.book.limits ≡ old.book.limits → new.book.floor ≡ old.book.floor → mid.body ≡ old.body → mid.places ≡ old.places → mid.place ≡ old.place
     → new.place ≡ old.place → IsGathered mid new journal → Gathers new (with_waiting (Some journal) h)
-gathers_more old mid new h journal p len few shape serves same body places place new_place g =
+gathers_more old mid new h journal p len few shape serves limits floor body places place new_place g =
     let next = last_next new.book h journal serves in
     let entry : IsEntry (sealed_size h + length h.waiting) journal = record {
       jsn = next.jsn ∙ length-append (journals_of h.closed) h.waiting;
@@ -279,19 +290,22 @@ gathers_more old mid new h journal p len few shape serves same body places place
     } in
     record {
       serves = serves;
-      limits = same.limits ∙ p.limits;
-      floor = same.floor ∙ p.floor;
+      limits = limits ∙ p.limits;
+      floor = floor ∙ p.floor;
       body = g.body ∙ ap (λ (l : List ℕ). l ++ record_bytes journal) (body ∙ p.body) ∙ ap (λ (l : List ℕ). body_of h.waiting ++ l) (sym (append-nil (record_bytes journal))) ∙ sym (flat_map-append record_bytes h.waiting (journal ∷ []));
       next = from_more (sealed_size h) h.waiting (journal ∷ []) p.next (entry, tt);
       gathered = shape;
-      located = record {
-        places = g.places ∙ ap (λ (l : List PlaceAt). l ++ place_at (mid.place + 45 + length mid.body) journal ∷ []) (places ∙ p.located.places)
-            ∙ ap (λ (n : ℕ). (places_at 64 h.closed ++ places_in (old.place + 45) h.waiting) ++ place_at n journal ∷ []) (omega (arith, place, ap length body, ap length p.body, body_len (sealed_size h) h.waiting p.next))
-            ∙ append_assoc (places_at 64 h.closed) (places_in (old.place + 45) h.waiting) (place_at (old.place + 45 + sum_by record_len h.waiting) journal ∷ [])
-            ∙ ap (λ (l : List PlaceAt). places_at 64 h.closed ++ l) (sym (places_in_more (old.place + 45) h.waiting journal))
-            ∙ ap (λ (n : ℕ). places_at 64 h.closed ++ places_in (n + 45) (h.waiting ++ journal ∷ [])) (sym new_place);
-        tail = new_place ∙ p.located.tail;
-      };
+      located =
+          let parts = p.located.parts in
+          let before = places_from (floor_behind (sealed_part h) parts.gone) parts.kept in record {
+            parts = record { gone = parts.gone; kept = parts.kept; are = parts.are; at = parts.at ∙ sym floor };
+            places = g.places ∙ ap (λ (l : List PlaceAt). l ++ place_at (mid.place + 45 + length mid.body) journal ∷ []) (places ∙ p.located.places)
+                ∙ ap (λ (n : ℕ). (before ++ places_in (old.place + 45) h.waiting) ++ place_at n journal ∷ []) (omega (arith, place, ap length body, ap length p.body, body_len (sealed_size h) h.waiting p.next))
+                ∙ append_assoc before (places_in (old.place + 45) h.waiting) (place_at (old.place + 45 + sum_by record_len h.waiting) journal ∷ [])
+                ∙ ap (λ (l : List PlaceAt). before ++ l) (sym (places_in_more (old.place + 45) h.waiting journal))
+                ∙ ap (λ (n : ℕ). before ++ places_in (n + 45) (h.waiting ++ journal ∷ [])) (sym new_place);
+            tail = new_place ∙ p.located.tail;
+          };
     }
 
 -- ---- the judgement
@@ -309,18 +323,18 @@ judged_same_kept old new h step job o answer p applies none book body places pla
     }
 
 -- a journal was placed
-pub judged_placed : (stamp : Option Stamp) (old mid new : Kept) (h : History) (step : Step) (job : Job) (o : Outcome) (jsn : ℕ) (leaf : Digest) (answer : Answer) → Keeps old h → (closes_after job ≡ false → AllGather h.waiting) → (closes_after job ≡ true → h.waiting ≡ []) → fits_job job ≡ true → Applies old.book.limits stamp h job o new.book → IsSame old.book new.book → o ≡ came.Placed jsn leaf
+pub judged_placed : (stamp : Option Stamp) (old mid new : Kept) (h : History) (step : Step) (job : Job) (o : Outcome) (jsn : ℕ) (leaf : Digest) (answer : Answer) → Keeps old h → (closes_after job ≡ false → AllGather h.waiting) → (closes_after job ≡ true → h.waiting ≡ []) → fits_job job ≡ true → Applies old.book.limits stamp h job o new.book → new.book.limits ≡ old.book.limits → new.book.floor ≡ old.book.floor → o ≡ came.Placed jsn leaf
     → ((g : History) (journal : Entry) (content : List ℕ) (given : List Approval) → HasParts job content given → Serves new.book g → slice_get (journals g) jsn ≡ Some journal → new.book.floor ≤ jsn → length content ≡ journal.header.content_len → journal.content ≡ content → journal.who ≡ who_of given → IsGathered mid new journal)
     → mid.body ≡ old.body → mid.places ≡ old.places → mid.place ≡ old.place → new.place ≡ old.place → answer ≡ answer_for h step o → stamp_of step ≡ stamp → Judged new h step job answer
-judged_placed stamp old mid new h step job o jsn leaf answer p all none fits applies same is gathered body places place new_place answer_is stamped =
+judged_placed stamp old mid new h step job o jsn leaf answer p all none fits applies limits floor is gathered body places place new_place answer_is stamped =
     let a = real_applies stamp old.book new.book h job o p.limits applies in
     let w = was_placed stamp real_limits h job jsn leaf (sym is ∙ a.outcome_is) in
     let m = is_made stamp h job w.journal fits w.placed_is in
     let s : Serves new.book (with_waiting (Some w.journal) h) = subst (Serves new.book) w.after a.serves in
     let there : slice_get (journals (with_waiting (Some w.journal) h)) jsn ≡ Some w.journal = ap (slice_get (journals (with_waiting (Some w.journal) h))) w.jsn_is ∙ last_journal_is h w.journal in
-    let g = gathered (with_waiting (Some w.journal) h) w.journal m.content m.given m.parts s there (omega (arith, same.floor, p.floor)) (ap length (sym m.content_is) ∙ m.len) m.content_is m.who_is in record {
+    let g = gathered (with_waiting (Some w.journal) h) w.journal m.content m.given m.parts s there (omega (arith, floor, w.jsn_is, p.serves.stands.counts.floor, length-append (journals_of h.closed) h.waiting)) (ap length (sym m.content_is) ∙ m.len) m.content_is m.who_is in record {
       answer_is = answer_is ∙ ap (answer_for h step) a.outcome_is ∙ ap (λ o. answer_for h step (outcome real_limits o h job)) (sym stamped);
-      gathers = subst (λ o. Gathers new (with_job real_limits o h job)) (sym stamped) (subst (Gathers new) (sym w.after) (gathers_more old mid new h w.journal p m.len m.few (waits_so job h.waiting w.journal all none m.gathers_is) s same body places place new_place g));
+      gathers = subst (λ o. Gathers new (with_job real_limits o h job)) (sym stamped) (subst (Gathers new) (sym w.after) (gathers_more old mid new h w.journal p m.len m.few (waits_so job h.waiting w.journal all none m.gathers_is) s limits floor body places place new_place g));
     }
 
 -- a job that asks for something ends the open block first
@@ -330,6 +344,7 @@ asks_closes (Append member clue content content_digest request by) q is = absurd
 asks_closes (NewMember number key by) q is = absurd (let no : ⊥ = cc is in no)
 asks_closes Anchor q is = refl
 asks_closes (Occult target leaf given) q is = absurd (let no : ⊥ = cc is in no)
+asks_closes (Purge p told given) q is = absurd (let no : ⊥ = cc is in no)
 asks_closes (Get n) q is = refl
 asks_closes (Prove n) q is = refl
 asks_closes (Extend which m) q is = refl
@@ -343,6 +358,7 @@ alone_first (Append member clue content content_digest request by) alone = absur
 alone_first (NewMember number key by) alone = absurd (true≢false (sym alone))
 alone_first Anchor alone = refl
 alone_first (Occult target leaf given) alone = refl
+alone_first (Purge p told given) alone = refl
 alone_first (Get n) alone = refl
 alone_first (Prove n) alone = refl
 alone_first (Extend which m) alone = refl
@@ -364,7 +380,7 @@ judged_dues k0 k1 ds g step job answer is j =
     let m = subst (λ k. Judged k g step job answer) (sym is) j in
     let x = m.gathers in record {
       answer_is = m.answer_is;
-      gathers = record { serves = x.serves; limits = x.limits; floor = x.floor; body = x.body; next = x.next; gathered = x.gathered; located = record { places = x.located.places; tail = x.located.tail } };
+      gathers = record { serves = x.serves; limits = x.limits; floor = x.floor; body = x.body; next = x.next; gathered = x.gathered; located = record { parts = x.located.parts; places = x.located.places; tail = x.located.tail } };
     }
 
 -- none of some is left exactly where their number is 0

@@ -1,8 +1,13 @@
 pub mod Heads
 pub mod WayLaws
+pub mod Parting
+pub mod Ordering
 pub mod Closing
+pub mod Finishing
+pub mod OpenEnds
 pub mod Opening
 pub mod Ending
+pub mod GivenUp
 pub mod Committing
 pub mod ReadLaws
 pub mod Judging

@@ -25,7 +25,7 @@ use Rattle.ledger_book.specs.Books.{Serves}
 use Rattle.ledger_book.proofs.OpenLaws.{opens_empty}
 use Rattle.block_file.specs.Head.{generation_of}
 use Rattle.twin_file.specs.Twin.{open_of}
-use Rattle.batch_committer.specs.Steps.{due_by, Judged, KeepsFile, HasGrown, StaysInside}
+use Rattle.batch_committer.specs.Steps.{due_by, Judged, KeepsFile, HasGrown, StaysInOrder}
 use Rattle.batch_committer.specs.Read.{WereRead, NoneFailed, ReadingEnds}
 use Rattle.batch_committer.specs.World.{Kept, World, Pair, world, Reads, Fits, HasRoom, IsCleanFor, Holds, Goes, Ended, sealed_part}
 use Rattle.batch_committer.specs.declared.end.End.{End}
@@ -142,13 +142,13 @@ unjudged_ended tells k t old new sink step job end read e =
 
 -- ---- sizes
 
-pub fits_gathered : (tells : Bool) (old new : Kept) (disks : Pair) (sink : SinkState) → Fits tells (world old disks sink) → HasRoom old → HasGrown old new → StaysInside old new → KeepsFile old new → Fits tells (world new disks sink)
-fits_gathered tells old new disks sink f room grown inside file = record {
+pub fits_gathered : (tells : Bool) (old new : Kept) (disks : Pair) (sink : SinkState) → Fits tells (world old disks sink) → HasRoom old → HasGrown old new → StaysInOrder old new → KeepsFile old new → Fits tells (world new disks sink)
+fits_gathered tells old new disks sink f room grown order file = record {
   reads = subst (λ v. Reads tells new.place (open_of v disks.a disks.b)) (sym file.in_a) (subst (λ at. Reads tells at (open_of old.in_a disks.a disks.b)) (sym file.place) f.reads);
   generation = λ told. file.generation ∙ f.generation told ∙ sym (ap (λ v. generation_of (open_of v disks.a disks.b).bytes.seen) file.in_a);
   copy = file.copy ∙ f.copy;
   few = omega (arith, room.0, grown.0, grown.1);
-  inside = inside f.inside;
+  order = order f.order;
 }
 
 pub room_empty : (k : Kept) → k.book.size ≡ k.book.sealed → HasRoom k

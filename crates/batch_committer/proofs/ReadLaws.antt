@@ -1,6 +1,6 @@
 -- Reading changes nothing that counts.
 use Rattle.std.specs.Prelude.{Bool, true, false, IsTrue, IsSomeAnd, Option, Some, None}
-use Rattle.std.proofs.Common.{◌≡◌, ℕ, ◌+◌, ◌≤◌, List, [], ◌++◌, refl, ap, sym, subst, ◌∙◌, append-nil}
+use Rattle.std.proofs.Common.{◌≡◌, inl, ℕ, ◌+◌, ◌≤◌, List, [], ◌++◌, refl, ap, sym, subst, ◌∙◌, append-nil}
 use Rattle.std.proofs.KnownBytes.{Appends-nil}
 use Rattle.block_file.specs.File.{IsShutAt}
 use Rattle.block_file.specs.Head.{generation_of}
@@ -8,17 +8,19 @@ use Rattle.journal_record.specs.Entry.{Entry}
 use Rattle.ledger_disk.specs.Disk.{DiskState, State, KeepsLength}
 use Rattle.ledger_io.specs.Outside.{SinkState}
 use Rattle.ledger_model.specs.Growing.{Grows}
-use Rattle.ledger_model.specs.History.{History, history}
+use Rattle.ledger_model.specs.History.{History}
 use Rattle.ledger_model.specs.declared.due.Due.{Due}
 use Rattle.ledger_model.proofs.GrowLaws.{grows_not}
 use Rattle.ledger_book.specs.Books as books
 use Rattle.twin_file.specs.Twin.{open_of}
-use Rattle.ledger_open.specs.Places.{places_at, places_in, places_of}
-use Rattle.ledger_open.specs.Standing.{IsErased}
-use Rattle.batch_committer.specs.Read.{WasRead, WereRead, NoneFailed, ReadingEnds}
+use Rattle.ledger_book.specs.Books.{Serves}
+use Rattle.ledger_open.specs.Places.{places_in, places_from}
+use Rattle.ledger_open.specs.Standing.{floor_behind, IsErased}
+use Rattle.batch_committer.specs.Read.{IsReadAs, WasRead, WereRead, NoneFailed, ReadingEnds}
 use Rattle.batch_committer.specs.World.{Pair, Kept, world, Reads, Fits, IsCleanFor, Holds, Goes, Says, EndsBy, Ended, sealed_part}
 use Rattle.batch_committer.specs.declared.end.End.{End}
 use Rattle.batch_committer.specs.declared.end.End.TheVariants.{DiskFault, WriteFault, NoMemory, Closed}
+use Rattle.batch_committer.proofs.Closing.{sealed_same}
 use Rattle.batch_committer.proofs.Ending.{stops_before}
 
 -- ---- nothing was read
@@ -60,7 +62,7 @@ module _ (tells : Bool) (old new : Pair) (read : WereRead tells old new) where
   generation_by false t = ap (λ (b : State). generation_of b.seen) (read.b.bytes t)
 
   pub fits_read : (k : Kept) (sink : SinkState) → Fits tells (world k old sink) → Fits tells (world k new sink)
-  fits_read k sink f = record { reads = reads_by k.in_a k.place f.reads; generation = λ t. f.generation t ∙ sym (generation_by k.in_a t); copy = f.copy; few = f.few; inside = f.inside }
+  fits_read k sink f = record { reads = reads_by k.in_a k.place f.reads; generation = λ t. f.generation t ∙ sym (generation_by k.in_a t); copy = f.copy; few = f.few; order = f.order }
 
   -- reading leads to the same history, and nothing becomes due by it
   pub goes_read : (k : Kept) (sink : SinkState) → NoneFailed old new → Goes tells (world k old sink) (λ h. h) (λ h. []) (world k new sink)
@@ -99,16 +101,22 @@ module _ (tells : Bool) (old new : Pair) (read : WereRead tells old new) where
 pub holds_book : (tells : Bool) (k : Kept) (book : books.Kept) (disks : Pair) (sink : SinkState) (h : History) → book ≡ k.book → Holds tells (world k disks sink) h → Holds tells (world (record k { book = book }) disks sink) h
 holds_book tells k book disks sink h is p = subst (λ b. Holds tells (world (record k { book = b }) disks sink) h) (sym is) p
 
--- ---- where the journals of a history stand that is held, where none waits
+-- ---- what is read of a history that is held, where none of its journals waits
 
-module _ (tells : Bool) (k : Kept) (disks : Pair) (sink : SinkState) (h : History) (p : Holds tells (world k disks sink) h) (none : h.waiting ≡ []) where
-  pub places_held : k.places ≡ places_of h
-  places_held = p.keeps.located.places ∙ ap (λ (w : List Entry). places_at 64 h.closed ++ places_in (k.place + 45) w) none ∙ append-nil (places_at 64 h.closed)
-
-  whole_held : sealed_part h ≡ h
-  whole_held = ap (history h.closed) (sym none)
-
-  pub erased_held : (in_a : Bool) → k.in_a ≡ in_a → IsErased (open_of in_a disks.a.bytes disks.b.bytes).seen h
-  erased_held in_a is =
-      subst (IsErased (open_of in_a disks.a.bytes disks.b.bytes).seen) whole_held
-      (subst (λ (v : Bool). IsErased (open_of v disks.a.bytes disks.b.bytes).seen (sealed_part h)) is p.disks.erased)
+pub read_as_held : (tells : Bool) (k : Kept) (disks : Pair) (sink : SinkState) (h : History) → Holds tells (world k disks sink) h → h.waiting ≡ [] → (in_a : Bool) → k.in_a ≡ in_a → IsReadAs k.book k.places (open_of in_a disks.a.bytes disks.b.bytes).seen h
+read_as_held tells k disks sink h p none in_a is =
+    let g = sealed_part h in
+    let parts = p.keeps.located.parts in
+    let from = floor_behind g parts.gone in
+    subst (IsReadAs k.book k.places (open_of in_a disks.a.bytes disks.b.bytes).seen) (sealed_same h none)
+    (record {
+      ends = record {
+        serves = subst (Serves k.book) (sym (sealed_same h none)) p.keeps.serves;
+        begins = inl p.keeps.floor;
+        parts = parts;
+        places_are = p.keeps.located.places ∙ ap (λ (w : List Entry). places_from from parts.kept ++ places_in (k.place + 45) w) none ∙ append-nil (places_from from parts.kept);
+        none = refl;
+      };
+      floor = p.keeps.floor;
+      erased = subst (λ (v : Bool). IsErased (open_of v disks.a.bytes disks.b.bytes).seen g) is p.disks.erased;
+    })

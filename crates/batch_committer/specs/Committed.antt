@@ -1,10 +1,12 @@
--- What committing a block does to the two disks, and what giving up the content does that its journal hides.
+-- What committing a block does to the two disks, and what giving up does what its journal hides or purges.
 use Rattle.std.specs.Prelude.{◌≡◌, ◌⊎◌, ℕ, ◌+◌, ◌≤◌, Bool, IsTrue, IsSomeAnd, List, [], ◌∷◌, ◌++◌, length, take}
 use Rattle.block_file.specs.File.{Stands, tail_of, IsSettled, HasBlock}
-use Rattle.ledger_book.specs.Books as books
-use Rattle.ledger_disk.specs.Disk.{State, MayLeave}
-use Rattle.ledger_open.specs.Erasing.{GivesUp, StandsMeanwhile, LeavesRest}
-use Rattle.ledger_open.specs.declared.places.PlaceAt.{PlaceAt}
+use Rattle.ledger_disk.specs.Disk.{State, MayLeave, settled_state}
+use Rattle.ledger_model.specs.History.{History}
+use Rattle.ledger_open.specs.Purging.{Ledger, ledger_at, open_disk, other_disk, StandsOpen, IsCleanOpen, IsAtGate}
+use Rattle.ledger_open.specs.Standing.{PairFor}
+use Rattle.ledger_open.specs.Order.{AreInOrder}
+use Rattle.ledger_open.specs.declared.opened.Opened.{Opened}
 use Rattle.twin_file.specs.Twin.{open_of, other_of}
 use Rattle.batch_committer.specs.World.{Pair, Reads, OneFailed}
 
@@ -36,17 +38,34 @@ pub record IsUncommitted (tells : Bool) (in_a : Bool) (place : ℕ) (block : Lis
   pub other : other_bytes in_a after ≡ other_bytes in_a before
   pub failed : OneFailed before after
 
--- what the last journal of this book hides was given up in the open file, for good, and no disk failed
-pub record HasGivenUp (tells : Bool) (in_a : Bool) (place : ℕ) (book : books.Kept) (places : List PlaceAt) (before after : Pair) : Type 0 where
-  pub gives : IsTrue tells → GivesUp book places (open_of in_a before.a before.b).bytes (open_of in_a after.a after.b).bytes
-  pub rest : IsTrue tells → LeavesRest places (open_of in_a before.a before.b).bytes (open_of in_a after.a after.b).bytes
-  pub told : IsSomeAnd (open_of in_a after.a after.b).told (λ n. place + 1 ≤ n)
-  pub other : other_of in_a after.a after.b ≡ other_of in_a before.a before.b
+-- ---- what the last journal hides or purges is given up
+
+-- an open ledger, with what these disks hold
+abbrev pub ledger_on : Opened → Pair → Ledger
+ledger_on opened disks = ledger_at opened disks.a.bytes disks.b.bytes
+
+-- Nothing is pending, and the book, the places and the files stand for this history, as far as its last journal leaves something
+-- undone: the open file ends with its tail gate, and the other one is empty.
+pub record IsStanding (l : Ledger) (h : History) : Type 0 where
+  pub stands : StandsOpen l h
+  pub ends : length (open_disk l).seen ≡ l.known.place + 1
+  pub empty : other_disk l ≡ settled_state []
+
+-- What is to be given up is gone, for good, and no disk failed. Whatever the history is, the open file reads as the calls leave
+-- it, and the book has as many journals as before.
+pub record IsFinished (tells : Bool) (old new : Ledger) (before after : Pair) : Type 0 where
+  pub clean : IsTrue tells → (h : History) → IsStanding old h → IsCleanOpen new h
+  pub gate : IsTrue tells → IsAtGate old → IsAtGate new
+  pub told : IsSomeAnd (open_of new.in_a after.a after.b).told (λ n. new.known.place + 1 ≤ n)
+  pub order : AreInOrder 64 old.known.place old.known.places → AreInOrder 64 new.known.place new.known.places
+  pub limits : new.known.book.limits ≡ old.known.book.limits
+  pub size : new.known.book.size ≡ old.known.book.size
+  pub sealed : new.known.book.sealed ≡ old.known.book.sealed
   pub faults_a : after.a.faults ≡ before.a.faults
   pub faults_b : after.b.faults ≡ before.b.faults
 
--- the open file's disk failed: each image stands for the history still
-pub record HasNotGivenUp (tells : Bool) (in_a : Bool) (book : books.Kept) (places : List PlaceAt) (before after : Pair) : Type 0 where
-  pub meanwhile : IsTrue tells → StandsMeanwhile book places (open_of in_a before.a before.b).bytes (open_of in_a after.a after.b).bytes
-  pub other : other_of in_a after.a after.b ≡ other_of in_a before.a before.b
+-- a disk failed: each pair of images stands for the history still
+pub record IsUnfinished (tells : Bool) (old : Ledger) (before after : Pair) : Type 0 where
+  pub meanwhile : IsTrue tells → (h : History) → IsStanding old h
+      → (image_a image_b : List ℕ) → MayLeave after.a.bytes image_a → MayLeave after.b.bytes image_b → PairFor image_a image_b h
   pub failed : OneFailed before after

@@ -6,7 +6,8 @@ use Rattle.ledger_disk.specs.Disk.{MayLeave}
 use Rattle.ledger_model.specs.History.{History}
 use Rattle.twin_file.specs.Twin.{open_of}
 use Rattle.pseudo_genesis.specs.declared.base.Base.{Base}
-use Rattle.ledger_open.specs.Opening.{Known, Knows}
+use Rattle.ledger_open.specs.Opening.{Known}
+use Rattle.ledger_open.specs.Reopened.{Remembers}
 use Rattle.ledger_open.specs.Standing.{PairFor, IsCleanPair}
 use Rattle.batch_committer.specs.World.{Kept, Pair, first_kept}
 
@@ -16,7 +17,7 @@ kept_from known in_a generation = first_kept known.book known.places known.place
 
 -- the ledger was made or opened: its file has this base, or none, and these blocks, and the length of that file is told
 pub record IsOpened (known : Known) (in_a : Bool) (disks : Pair) (start : Option Base) (blocks : List (List Entry)) : Type 0 where
-  pub knows : Knows known start blocks
+  pub knows : Remembers known start blocks
   pub told : IsSomeAnd (open_of in_a disks.a disks.b).told (λ n. known.place + 1 ≤ n)
 
 -- nothing is pending, the pair is clean for this history, and so is each pair of images

@@ -5,7 +5,7 @@ use Rattle.journal_record.specs.Entry.{Entry}
 use Rattle.journal_record.specs.Header.{HasWidths}
 use Rattle.journal_record.specs.declared.approval.Approval.{Approval}
 use Rattle.ledger_model.specs.Dues.{dues_text}
-use Rattle.ledger_model.specs.History.{History, size, root}
+use Rattle.ledger_model.specs.History.{History, size, root, point}
 use Rattle.ledger_model.specs.Anchors.{stamp_of}
 use Rattle.ledger_model.specs.Lawful.{AllGather}
 use Rattle.ledger_model.specs.Limits.{real_limits}
@@ -16,14 +16,15 @@ use Rattle.ledger_model.specs.Texts.{answer_for}
 use Rattle.ledger_model.specs.declared.answer.Answer.{Answer}
 use Rattle.ledger_model.specs.declared.due.Due.{Due}
 use Rattle.ledger_model.specs.declared.job.Job.{Job}
-use Rattle.ledger_model.specs.declared.job.Job.TheVariants.{Refused, Append, NewMember, Anchor, Occult, Get, Prove, Extend, Clue, Head}
+use Rattle.ledger_model.specs.declared.job.Job.TheVariants.{Refused, Append, NewMember, Anchor, Occult, Purge, Get, Prove, Extend, Clue, Head}
 use Rattle.ledger_model.specs.declared.outcome.Query.{Query}
 use Rattle.ledger_model.specs.declared.outcome.Query.TheVariants as query
 use Rattle.ledger_book.specs.Books as books
 use Rattle.ledger_book.specs.Books.{Serves, sealed_size}
 use Rattle.ledger_book.specs.Steps.{OpenGathers}
 use Rattle.ledger_open.specs.Places.{place_at}
-use Rattle.batch_committer.specs.World.{Kept, Located, AreInside}
+use Rattle.ledger_open.specs.Order.{AreInOrder}
+use Rattle.batch_committer.specs.World.{Kept, Located, sealed_part}
 
 -- what is due for a job that is judged against g, by what came of it
 abbrev pub due_by : History → Step → Job → Due
@@ -40,6 +41,7 @@ HasParts (Append member clue record_content content_digest request by) content g
 HasParts (NewMember number key by) content given = (content ≡ []) × (given ≡ by ∷ [])
 HasParts Anchor content given = (content ≡ []) × (given ≡ [])
 HasParts (Occult target leaf approvals) content given = (content ≡ []) × (given ≡ approvals)
+HasParts (Purge p told approvals) content given = (content ≡ []) × (given ≡ approvals)
 HasParts (Get n) content given = ⊥
 HasParts (Prove n) content given = ⊥
 HasParts (Extend which m) content given = ⊥
@@ -61,7 +63,7 @@ pub record IsGathered (old new : Kept) (journal : Entry) : Type 0 where
 pub record Gathers (k : Kept) (h : History) : Type 0 where
   pub serves : Serves k.book h
   pub limits : k.book.limits ≡ real_limits
-  pub floor : k.book.floor ≡ 0
+  pub floor : k.book.floor ≡ point (sealed_part h)
   pub body : k.body ≡ body_of h.waiting
   pub next : AreFrom (sealed_size h) h.waiting
   pub gathered : length h.waiting ≢ 1 → AllGather h.waiting
@@ -92,9 +94,9 @@ HasGrown old new = (new.book.size ≤ old.book.size + 1) × (new.book.sealed ≡
 abbrev pub StaysGathered : Kept → Kept → Job → Type 0
 StaysGathered old new job = closes_after job ≡ false → OpenGathers old.book → OpenGathers new.book
 
--- each content still ends before the place of the next gate
-abbrev pub StaysInside : Kept → Kept → Type 0
-StaysInside old new = AreInside (old.place + 45 + length old.body) old.places → AreInside (new.place + 45 + length new.body) new.places
+-- the contents still stand in their order in front of the place of the next gate
+abbrev pub StaysInOrder : Kept → Kept → Type 0
+StaysInOrder old new = AreInOrder 64 (old.place + 45 + length old.body) old.places → AreInOrder 64 (new.place + 45 + length new.body) new.places
 
 -- a query that asks for no proof, and that the ledger answers without its notary
 abbrev pub IsOfLedger : Query → Type 0

@@ -1,5 +1,5 @@
 -- What a committer, its disks and its sink tell, and how a call leads from one to the next.
-use Rattle.std.specs.Prelude.{◌≡◌, ◌≢◌, ◌⊎◌, ℕ, ◌+◌, ◌-◌, ◌<◌, ◌≤◌, Bool, IsTrue, IsSomeAnd, All, List, [], ◌++◌, length, take, Option, None}
+use Rattle.std.specs.Prelude.{◌≡◌, ◌≢◌, ◌⊎◌, ℕ, ◌+◌, ◌-◌, ◌<◌, ◌≤◌, Bool, IsTrue, IsSomeAnd, List, [], ◌++◌, length, take, Option, None}
 use Rattle.std.specs.Io.KnownBytes.{Appends}
 use Rattle.ledger_bytes.specs.Begins.{Begins}
 use Rattle.ledger_bytes.specs.declared.limits.TheConstants.{BLOCK_LIMIT}
@@ -12,7 +12,7 @@ use Rattle.ledger_disk.specs.Disk.{DiskState, State, MayLeave, OneMore, settled_
 use Rattle.ledger_io.specs.Outside.{SinkState, MeetsNone, MeetsOne}
 use Rattle.ledger_model.specs.Dues.{due_lines, AllWaiting, AllIn}
 use Rattle.ledger_model.specs.Growing.{Grows}
-use Rattle.ledger_model.specs.History.{History, history}
+use Rattle.ledger_model.specs.History.{History, history, point}
 use Rattle.ledger_model.specs.Lawful.{AllGather}
 use Rattle.ledger_model.specs.Limits.{real_limits}
 use Rattle.ledger_model.specs.declared.due.Due.{Due}
@@ -20,8 +20,10 @@ use Rattle.ledger_book.specs.Books as books
 use Rattle.ledger_book.specs.Books.{Serves, sealed_size}
 use Rattle.ledger_book.specs.Steps.{OpenGathers}
 use Rattle.twin_file.specs.Twin.{open_of, other_of}
-use Rattle.ledger_open.specs.Places.{places_in, places_at, after_at}
-use Rattle.ledger_open.specs.Standing.{IsErased, PairFor, IsCleanPair}
+use Rattle.ledger_open.specs.Cutting.{gate_behind}
+use Rattle.ledger_open.specs.Places.{places_in, places_from}
+use Rattle.ledger_open.specs.Standing.{floor_behind, Parts, IsErased, PairFor, IsCleanPair}
+use Rattle.ledger_open.specs.Order.{AreInOrder}
 use Rattle.ledger_open.specs.declared.places.PlaceAt.{PlaceAt}
 use Rattle.batch_committer.specs.declared.end.End.{End}
 use Rattle.batch_committer.specs.declared.end.End.TheVariants.{DiskFault, WriteFault, NoMemory, Closed}
@@ -84,19 +86,15 @@ pub record Reads (tells : Bool) (place : ℕ) (d : DiskState) : Type 0 where
   pub told : IsSomeAnd d.told (λ n. place + 1 ≤ n)
   pub shut : IsTrue tells → IsShutAt place d.bytes.seen
 
--- each content at these places stands behind the head of its file, and ends here or before
-abbrev pub AreInside : ℕ → List PlaceAt → Type 0
-AreInside end places = All (λ p. (64 ≤ p.content_at) × (p.content_at + p.content_len ≤ end)) places
-
 -- What each call asks for, also where the disks tell nothing: the open file reads as the calls left it, the generation that
--- is kept is its own, no copy of it was begun, the open block has no more journals than a block may have, and each content
--- ends before the place of the next gate.
+-- is kept is its own, no copy of it was begun, the open block has no more journals than a block may have, and the contents
+-- stand in their order between the head of their file and the place of the next gate.
 pub record Fits (tells : Bool) (w : World) : Type 0 where
   pub reads : Reads tells w.kept.place (open_of w.kept.in_a w.disks.a w.disks.b)
   pub generation : IsTrue tells → w.kept.generation ≡ generation_of (open_of w.kept.in_a w.disks.a w.disks.b).bytes.seen
   pub copy : w.kept.copy ≡ None
   pub few : w.kept.book.size ≤ w.kept.book.sealed + BLOCK_LIMIT
-  pub inside : AreInside (w.kept.place + 45 + length w.kept.body) w.kept.places
+  pub order : AreInOrder 64 (w.kept.place + 45 + length w.kept.body) w.kept.places
 
 -- a journal more has room in the open block, and may share it with those that wait there
 abbrev pub HasRoom : Kept → Type 0
@@ -108,16 +106,19 @@ HasRoom k = (k.book.size < k.book.sealed + BLOCK_LIMIT) × OpenGathers k.book
 abbrev pub sealed_part : History → History
 sealed_part h = history h.closed []
 
--- the places are those of this history's journals, and the tail gate stands behind its blocks
+-- The places are those of the journals of the open file's blocks, which are this history's from where the book begins, and of
+-- those that will stand behind them. The tail gate stands behind the blocks.
 pub record Located (k : Kept) (h : History) : Type 0 where
-  pub places : k.places ≡ places_at 64 h.closed ++ places_in (k.place + 45) h.waiting
-  pub tail : k.place ≡ after_at 64 h.closed
+  pub parts : Parts k.book.floor (sealed_part h)
+  pub places : k.places ≡ places_from (floor_behind (sealed_part h) parts.gone) parts.kept ++ places_in (k.place + 45) h.waiting
+  pub tail : k.place ≡ gate_behind (floor_behind (sealed_part h) parts.gone) parts.kept
 
--- the committer keeps what this history says
+-- The committer keeps what this history says. The book begins where the file does: at the point of its blocks, behind which a
+-- purge may wait.
 pub record Keeps (k : Kept) (h : History) : Type 0 where
   pub serves : Serves k.book h
   pub limits : k.book.limits ≡ real_limits
-  pub floor : k.book.floor ≡ 0
+  pub floor : k.book.floor ≡ point (sealed_part h)
   pub dues : AllWaiting h k.dues
   pub body : k.body ≡ body_of h.waiting
   pub next : AreFrom (sealed_size h) h.waiting

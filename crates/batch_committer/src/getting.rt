@@ -1,10 +1,9 @@
-ghost use Rattle.std.specs.Prelude.{◌≡◌, [], IsTrue, IfOk, IfErr, OnOk, take, drop};
+ghost use Rattle.std.specs.Prelude.{◌≡◌, ◌-◌, [], None, IsTrue, IfOk, IfErr, OnOk, if◌then◌else◌, nat_le, slice_get, take, drop};
 ghost use Rattle.ledger_book.specs.Books.{Serves};
 ghost use Rattle.ledger_model.specs.Getting as spec;
 ghost use Rattle.ledger_model.specs.History.{History, size};
-ghost use Rattle.ledger_open.specs.Places.{entry_at, places_of};
-ghost use Rattle.ledger_open.specs.Standing.{IsErased};
-ghost use Rattle.batch_committer.specs.Read.{WasRead, ReadEnds};
+ghost use Rattle.ledger_open.specs.Places.{entry_at};
+ghost use Rattle.batch_committer.specs.Read.{IsReadAs, WasRead, ReadEnds};
 
 use crate::End;
 use journal_record::{Header, content_digest, who_digest};
@@ -25,8 +24,8 @@ pub(crate) fn get<D: Disk>(
     file: &mut D,
     n: u64,
 ) -> Result<Reply, End>
-    ensures told { IfOk result (λ reply. IsTrue D.tells → (h : History) → Serves book.now h
-        → places.now.list ≡ places_of h → IsErased (D.state file.old).bytes.seen h
+    ensures told { IfOk result (λ reply. IsTrue D.tells → (h : History)
+        → IsReadAs book.now places.now.list (D.state file.old).bytes.seen h
         → reply ≡ spec.get_reply h n) }
     ensures read { WasRead D.tells
         (D.state file.old)
@@ -35,18 +34,29 @@ pub(crate) fn get<D: Disk>(
     ensures err { IfErr result (λ end. ReadEnds end (D.state file.old).faults (D.state file.new).faults) }
 {
     let header = book.header(n);
-    let place = places.as_slice().get(n as usize);
+    let place = kept_place(book, places, n);
     match book.view(n) {
         View::Absent => Ok(no_journal(book)),
         View::Purged { point } => Ok(Reply::Refused(Refusal::Purged { point })),
         View::Occulted => match (header, place) {
-            (Some(header), Some(place)) => occulted(alloc, file, header, place),
+            (Some(header), Some(place)) => occulted(alloc, file, header, &place),
             _ => Ok(no_journal(book)),
         },
         View::Whole => match (header, place) {
-            (Some(header), Some(place)) => whole(alloc, file, header, place),
+            (Some(header), Some(place)) => whole(alloc, file, header, &place),
             _ => Ok(no_journal(book)),
         },
+    }
+}
+
+// Where journal `n` stands, where the file has it. The file begins with the book's first journal.
+fn kept_place(book: &Book, places: &Places, n: u64) -> Option<PlaceAt>
+    ensures { result ≡ (if nat_le book.now.floor n then slice_get places.now.list (n - book.now.floor) else None) }
+{
+    let index = n.checked_sub(book.floor())?;
+    match places.as_slice().get(index as usize) {
+        Some(place) => Some(*place),
+        None => None,
     }
 }
 

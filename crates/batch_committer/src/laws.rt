@@ -11,7 +11,8 @@ ghost use Rattle.ledger_model.specs.declared.genesis.Genesis.{Genesis};
 ghost use Rattle.twin_file.specs.Twin.{open_of};
 ghost use Rattle.pseudo_genesis.specs.declared.base.Base.{Base};
 ghost use Rattle.ledger_open.specs.Founding.{IsFounded};
-ghost use Rattle.ledger_open.specs.Opening.{Known, IsReopened};
+ghost use Rattle.ledger_open.specs.Opening.{Known};
+ghost use Rattle.ledger_open.specs.Reopened.{IsReopened};
 ghost use Rattle.ledger_open.specs.Standing.{PairFor};
 ghost use Rattle.batch_committer.specs.Opened.{kept_from, IsOpened, IsQuietFor};
 ghost use Rattle.batch_committer.specs.World.{World, Pair, world, Fits, HasRoom, Holds};
@@ -23,14 +24,14 @@ pub fn an_opened_ledger_is_held()
         (start : Option Base) (blocks : List (List Entry))
         (a b : State) (disks : Pair) (sink : SinkState) (h : History)
         → IsOpened k in_a disks start blocks → k.book.limits ≡ real_limits → IsTrue tells
-        → IsReopened in_a k.place start blocks a b disks.a.bytes disks.b.bytes
+        → IsReopened in_a k start blocks a b disks.a.bytes disks.b.bytes
         → PairFor a.seen b.seen h
         → Holds tells (world (kept_from k in_a generation) disks sink) h }
     ensures fits { (tells : Bool) (k : Known) (in_a : Bool) (generation : ℕ)
         (start : Option Base) (blocks : List (List Entry))
         (a b : State) (disks : Pair) (sink : SinkState)
         → IsOpened k in_a disks start blocks
-        → (IsTrue tells → IsReopened in_a k.place start blocks a b disks.a.bytes disks.b.bytes)
+        → (IsTrue tells → IsReopened in_a k start blocks a b disks.a.bytes disks.b.bytes)
         → (IsTrue tells → generation ≡ generation_of (open_of in_a disks.a.bytes disks.b.bytes).seen)
         → Fits tells (world (kept_from k in_a generation) disks sink) }
     ensures room { (k : Known) (in_a : Bool) (generation : ℕ) (start : Option Base)

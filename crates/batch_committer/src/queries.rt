@@ -7,9 +7,7 @@ ghost use Rattle.batch_committer.specs.Attending.{step_in, Attended, FailsAtMost
 ghost use Rattle.batch_committer.specs.Steps.{IsOfLedger};
 ghost use Rattle.ledger_model.specs.declared.outcome.Query.TheVariants as query;
 ghost use Rattle.ledger_book.specs.Books.{Serves};
-ghost use Rattle.ledger_open.specs.Places.{places_of};
-ghost use Rattle.ledger_open.specs.Standing.{IsErased};
-ghost use Rattle.batch_committer.specs.Read.{WasRead, ReadEnds};
+ghost use Rattle.batch_committer.specs.Read.{IsReadAs, WasRead, ReadEnds};
 
 use crate::End;
 use crate::getting::get;
@@ -32,7 +30,7 @@ pub(crate) fn reply_to<D: Disk>(
 ) -> Result<Reply, End>
     requires { IsOfLedger query.now }
     ensures told { IfOk result (λ reply. IsTrue D.tells → (h : History) (step : Step)
-        → Serves book.now h → places.now.list ≡ places_of h → IsErased (D.state file.old).bytes.seen h
+        → IsReadAs book.now places.now.list (D.state file.old).bytes.seen h
         → reply ≡ told_reply h step query.now) }
     ensures read { WasRead D.tells
         (D.state file.old)

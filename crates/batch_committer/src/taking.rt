@@ -17,14 +17,14 @@ ghost use Rattle.twin_file.specs.Which.{in_a_of, generation_in, file_of, copy_of
 ghost use Rattle.ledger_open.specs.Places.{place_at};
 ghost use Rattle.batch_committer.specs.Read.{WereRead, NoneFailed, ReadingEnds};
 ghost use Rattle.batch_committer.specs.Attending.{step_in, FailsAtMostOnce, Takes, EndsTaking, TakesIn, EndsIn, JudgedBy, EndsAsking};
-ghost use Rattle.batch_committer.specs.Steps.{IsOfLedger, HasParts, HasJournal, IsGathered, KeepsFile, KeepsRest, HasGrown, StaysGathered, StaysInside};
+ghost use Rattle.batch_committer.specs.Steps.{IsOfLedger, HasParts, HasJournal, IsGathered, KeepsFile, KeepsRest, HasGrown, StaysGathered, StaysInOrder};
 ghost use Rattle.batch_committer.specs.World.{Pair, pair, world, first_kept, Reads, Fits, HasRoom, Keeps, Holds, Goes, Ended};
 
 use crate::End;
 use crate::block::{OpenBlock, who_len};
 use crate::commit::commit;
 use crate::dues::spell;
-use crate::erasing::give_up;
+use crate::giving::give_up;
 use crate::proving::{extension_of, proof_of};
 use crate::queries::{head_reply, reply_to};
 use journal_record::Approval;
@@ -33,6 +33,7 @@ use ledger_bytes::{BLOCK_LIMIT, Digest, NoMemory, Refusal};
 use ledger_disk::Disk;
 use ledger_io::{Sink, write_all};
 use ledger_model::{Answer, Due};
+use ledger_open::purging::prepare;
 use ledger_open::{Opened, PlaceAt};
 use script_lines::Reply;
 use std::alloc::Global;
@@ -153,7 +154,7 @@ impl Taking {
     }
 
     /// Writes all that is due. Where a journal waits the open block ends before that: it is committed, and what its journal
-    /// hides is given up. All memory is taken before the first call of a disk.
+    /// hides or purges is given up. All memory is taken before the first call of a disk.
     pub(crate) fn settle<D: Disk, K: Sink>(
         &mut self,
         a: &mut D,
@@ -187,8 +188,9 @@ impl Taking {
             self.dues.as_slice(),
         )?;
         self.block.finish(count, &self.opened.book.head().root)?;
+        let purge = prepare(self.alloc, &self.opened.book, &self.opened.places)?;
         commit(&mut self.opened.twin, a, b, self.block.as_slice())?;
-        give_up(&mut self.opened, a, b)?;
+        give_up(&mut self.opened, a, b, purge)?;
         write_all(sink, self.text.as_slice())?;
         self.block.clear();
         self.dues.clear();
@@ -314,7 +316,7 @@ impl Taking {
             (pair (D.state a.old) (D.state b.old)) (pair (D.state a.new) (D.state b.new)) }
         ensures grown { OnOk result (HasGrown self.old self.new) }
         ensures gathers { OnOk result (StaysGathered self.old self.new item.now.job) }
-        ensures inside { OnOk result (StaysInside self.old self.new) }
+        ensures order { OnOk result (StaysInOrder self.old self.new) }
         ensures file { KeepsFile self.old self.new }
         ensures once { FailsAtMostOnce (N.state notary.old) (N.state notary.new) }
     {
@@ -353,7 +355,7 @@ impl Taking {
         ensures once { FailsAtMostOnce (N.state notary.old) (N.state notary.new) }
         ensures grown { OnOk result (HasGrown self.old self.new) }
         ensures gathers { OnOk result (StaysGathered self.old self.new job.now) }
-        ensures inside { OnOk result (StaysInside self.old self.new) }
+        ensures order { OnOk result (StaysInOrder self.old self.new) }
         ensures rest { KeepsRest self.old self.new }
         ensures read { WereRead D.tells
             (pair (D.state a.old) (D.state b.old)) (pair (D.state a.new) (D.state b.new)) }
@@ -403,7 +405,7 @@ impl Taking {
             (N.state notary.new) jobs.Anchor) }
         ensures once { FailsAtMostOnce (N.state notary.old) (N.state notary.new) }
         ensures grown { OnOk result (HasGrown self.old self.new) }
-        ensures inside { OnOk result (StaysInside self.old self.new) }
+        ensures order { OnOk result (StaysInOrder self.old self.new) }
         ensures rest { KeepsRest self.old self.new }
         ensures only { IfErr result (λ end. end ≡ End.NoMemory) }
     {
@@ -462,7 +464,7 @@ impl Taking {
             → length content ≡ journal.header.content_len
             → journal.content ≡ content → journal.who ≡ who_of given
             → IsGathered self.old self.new journal) }
-        ensures inside { OnOk result (StaysInside self.old self.new) }
+        ensures order { OnOk result (StaysInOrder self.old self.new) }
         ensures book { self.new.book ≡ self.old.book }
         ensures rest { KeepsRest self.old self.new }
     {
@@ -472,7 +474,9 @@ impl Taking {
             }
             Job::NewMember { by, .. } => self.gather(jsn, &[], slice::from_ref(by)),
             Job::Anchor => self.gather(jsn, &[], &[]),
-            Job::Occult { given, .. } => self.gather(jsn, &[], given.as_slice()),
+            Job::Occult { given, .. } | Job::Purge { given, .. } => {
+                self.gather(jsn, &[], given.as_slice())
+            }
             Job::Refused(_)
             | Job::Get { .. }
             | Job::Prove { .. }
@@ -493,7 +497,7 @@ impl Taking {
             → length content.now ≡ journal.header.content_len
             → journal.content ≡ content.now → journal.who ≡ who_of given.now
             → IsGathered self.old self.new journal) }
-        ensures inside { OnOk result (StaysInside self.old self.new) }
+        ensures order { OnOk result (StaysInOrder self.old self.new) }
         ensures book { self.new.book ≡ self.old.book }
         ensures rest { KeepsRest self.old self.new }
     {

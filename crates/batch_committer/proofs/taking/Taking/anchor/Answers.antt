@@ -1,14 +1,14 @@
-use Rattle.std.proofs.Common.{◌∙◌, ap, inl, inr, ◌≤◌, false, true, Some, refl, sym, subst}
+use Rattle.std.proofs.Common.{◌≡◌, ◌∙◌, ap, inl, inr, ◌≤◌, false, true, Some, refl, sym, subst}
 use Rattle.ledger_bytes.specs.declared.refusal.Refusal.TheVariants.{NotaryFault, NotaryFull}
 use Rattle.ledger_model.specs.declared.job.Job.TheVariants.{Anchor}
 use Rattle.ledger_book.specs.Books as books
 use Rattle.ledger_book.specs.Books.{Serves}
-use Rattle.ledger_book.specs.Steps.{Applies, IsSame, HasOperatorRoom}
+use Rattle.ledger_book.specs.Steps.{Applies, HasOperatorRoom}
 use Rattle.batch_committer.specs.Attending.{step_in}
 use Rattle.batch_committer.specs.World.{Kept, Keeps}
 use Rattle.batch_committer.proofs.Attends.{attends_full, full_stamp, full_why, attends_failed, failed_stamp, failed_why, attends_stamped, stamped}
 use Rattle.batch_committer.proofs.Anchoring.{on_err_all, unstamped_judged, stamped_placed, accepted_real, full_of, failed_of, failed_not_full, memory_of}
-use Rattle.batch_committer.proofs.Judging.{has_placed, judged_placed, inside_at}
+use Rattle.batch_committer.proofs.Judging.{has_placed, judged_placed, order_at}
 use Rattle.batch_committer.specs.contracts.taking.Taking.{the_view}
 use Rattle.std.proofs.lemmas.Bool.{true≢false}
 use Rattle.ledger_model.specs.Texts.{answer_for}
@@ -50,7 +50,7 @@ returns-in-Err-Failed-clause-judged g c =
 
 pub gather_placed-requires-clause-has : goal.gather_placed-requires-clause-has
 gather_placed-requires-clause-has g c =
-    has_placed c.self.inside.opened.book c.apply.new.self _ c.in-Placed.jsn c.in-Placed.leaf c.apply.ensures.same c.in_ok-jsn.ensures.number c.in-Placed.is
+    has_placed c.self.inside.opened.book c.apply.new.self _ c.in-Placed.jsn c.in-Placed.leaf c.apply.ensures.same.floor c.in_ok-jsn.ensures.number c.in-Placed.is
 
 pub returns-in-Err-NoMemory-clause-unasked : goal.returns-in-Err-NoMemory-clause-unasked
 returns-in-Err-NoMemory-clause-unasked g c =
@@ -103,7 +103,8 @@ returns-clause-judged g c =
           record {
             judged = judged_placed (Some c.in-Ok.stamp) _ _ c.gather_placed.new.self h (step_in n m false lane index line) Anchor c.in_ok-jsn.field-0 c.in-Placed.jsn c.in-Placed.leaf _ p (λ other. absurd (true≢false other)) (λ alone. c.requires.settled h keeps.serves) refl
                 (subst (λ b. Applies c.self.inside.opened.book.limits (Some c.in-Ok.stamp) h Anchor c.in_ok-jsn.field-0 b) (sym x.book) (c.in_ok-jsn.ensures.ok h p.serves))
-                (subst (IsSame c.self.inside.opened.book) (sym x.book) c.apply.ensures.same) c.in-Placed.is
+                (subst (λ (b : books.Kept). b.limits ≡ c.self.inside.opened.book.limits) (sym x.book) c.apply.ensures.same.limits)
+                (subst (λ (b : books.Kept). b.floor ≡ c.self.inside.opened.book.floor) (sym x.book) c.apply.ensures.same.floor) c.in-Placed.is
                 (λ f journal content given parts serves there floor. x.gathered f journal content given parts (subst (λ b. Serves b f) x.book serves) there (subst (λ (b : books.Kept). b.floor ≤ c.in-Placed.jsn) x.book floor))
                 refl refl refl x.rest.file.place
                 (ap (Receipt c.in-Placed.jsn c.in-Placed.leaf) (sym given) ∙ sym (ap (answer_for h (step_in n m false lane index line)) c.in-Placed.is)) given;
@@ -112,5 +113,5 @@ returns-clause-judged g c =
           },
     )
 
-pub returns-clause-inside : goal.returns-clause-inside
-returns-clause-inside g c = λ all. c.in_ok-gather_placed-in-Placed.ensures.inside (inside_at (the_view c.self.inside) c.args.self.now c.self.view_is all)
+pub returns-clause-order : goal.returns-clause-order
+returns-clause-order g c = λ all. c.in_ok-gather_placed-in-Placed.ensures.order (order_at (the_view c.self.inside) c.args.self.now c.self.view_is all)

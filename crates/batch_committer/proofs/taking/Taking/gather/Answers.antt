@@ -5,7 +5,7 @@ use Rattle.ledger_book.specs.Books.{Serves}
 use Rattle.ledger_open.specs.Places.{place_at}
 use Rattle.batch_committer.specs.contracts.taking.Taking.{the_view}
 use Rattle.batch_committer.specs.World.{Kept}
-use Rattle.batch_committer.proofs.Judging.{header_is, gathered_by, gathered_at, inside_more, inside_at, on_ok_both}
+use Rattle.batch_committer.proofs.Judging.{header_is, gathered_by, gathered_at, order_more, order_at, on_ok_both}
 use Rattle.batch_committer.proofs.taking.Taking.gather.Goals as goal
 
 pub returns-clause-gathered : goal.returns-clause-gathered
@@ -23,14 +23,14 @@ returns-clause-gathered c =
     (c.place_of_record.ensures.place journal (sym len) who_is ∙ ap (λ n. place_at n journal) at)))
     c.put.ensures.body c.put.ensures.widths
 
-pub returns-clause-inside : goal.returns-clause-inside
-returns-clause-inside c =
+pub returns-clause-order : goal.returns-clause-order
+returns-clause-order c =
     on_ok_both c.put.result
     (λ body widths all.
     let at : c.tail.result + 45 + c.len.result ≡ place_of c.self.inside.opened.twin.file + 45 + length c.self.inside.block.body =
     omega (arith, c.tail.ensures, ap place_of c.file.ensures.value, c.len.ensures.len) in
-    inside_more (the_view c.self.inside) _ _ _ c.place_of_record.result c.in-Some.header.now c.args.content.now c.args.given.now widths
+    order_more (the_view c.self.inside) _ _ _ c.place_of_record.result c.in-Some.header.now c.args.content.now c.args.given.now widths
     (omega (arith, at, c.place_of_record.ensures.content.0)) c.place_of_record.ensures.content.1 (ap place_of c.file.ensures.value) body
     (c.push.ensures.list ∙ ap (λ ps. ps ++ c.place_of_record.result ∷ []) c.in_ok-reserve.ensures.list)
-    (inside_at (the_view c.self.inside) c.args.self.now c.self.view_is all))
+    (order_at (the_view c.self.inside) c.args.self.now c.self.view_is all))
     c.put.ensures.body c.put.ensures.widths

@@ -1,7 +1,7 @@
 use Rattle.std.proofs.Common.{length, sym, ap, subst, ◌∙◌}
 use Rattle.journal_record.specs.Approval.{who_of}
 use Rattle.batch_committer.specs.Steps.{HasParts}
-use Rattle.batch_committer.proofs.Judging.{on_ok_then}
+use Rattle.batch_committer.proofs.Judging.{given_parts, on_ok_then}
 use Rattle.batch_committer.proofs.taking.Taking.gather_placed.Goals as goal
 
 pub returns-in-Append-clause-gathered : goal.returns-in-Append-clause-gathered
@@ -32,6 +32,6 @@ pub returns-in-Occult-clause-gathered : goal.returns-in-Occult-clause-gathered
 returns-in-Occult-clause-gathered c =
     on_ok_then c.gather-in-Occult.result
     (λ gathered h journal content given parts serves there floor len content_is who_is.
-    let p = subst (λ j. HasParts j content given) c.in-Occult.is parts in
+    let p = given_parts c.args.job.now content given _ c.in-Occult.is parts in
     gathered h journal serves there floor (ap length (sym p.0) ∙ len) (content_is ∙ p.0) (who_is ∙ ap who_of (p.1 ∙ sym c.as_slice-in-Occult.ensures)))
     c.gather-in-Occult.ensures.gathered

@@ -5,7 +5,7 @@ use Rattle.ledger_book.specs.Books.{Serves}
 use Rattle.ledger_book.proofs.OpenLaws.{opens_gather}
 use Rattle.ledger_book.proofs.StandsLaws.{none_waits}
 use Rattle.ledger_book.proofs.ApplyLaws.{on_ok_all}
-use Rattle.ledger_book.specs.Steps.{IsSame, PlacesNothing, Applies, OpenGathers}
+use Rattle.ledger_book.specs.Steps.{PlacesNothing, Applies, OpenGathers}
 use Rattle.ledger_model.specs.Rules.{closes_after}
 use Rattle.ledger_model.specs.Outcomes.{AsksFor}
 use Rattle.ledger_model.specs.Judgements.{own_refusal}
@@ -19,14 +19,14 @@ use Rattle.batch_committer.specs.Attending.{step_in, Attended, JudgedBy, EndsAsk
 use Rattle.batch_committer.specs.World.{Kept, Keeps, Holds, world, pair}
 use Rattle.batch_committer.proofs.Anchoring.{asked_room, asked_anchor, asked_head, asked_prove, asked_extend, asked_accepted, anchor_asks, keeps_book, on_err_all, told_judged}
 use Rattle.batch_committer.proofs.Attends.{unstamped, unstamped_same, attends_other, ends_untouched}
-use Rattle.batch_committer.proofs.Judging.{real_applies, has_placed, judged_same_kept, judged_placed, asks_closes, alone_first, inside_at, on_ok_then}
+use Rattle.batch_committer.proofs.Judging.{real_applies, has_placed, judged_same_kept, judged_placed, asks_closes, alone_first, order_at, on_ok_then}
 use Rattle.batch_committer.specs.contracts.taking.Taking.{the_view}
 use Rattle.batch_committer.proofs.ReadLaws.{holds_book}
 use Rattle.batch_committer.proofs.taking.Taking.judge.Goals as goal
 
 pub gather_placed-requires-clause-has : goal.gather_placed-requires-clause-has
 gather_placed-requires-clause-has g c =
-    has_placed c.self.inside.opened.book c.apply.new.self _ c.in-Placed.jsn c.in-Placed.leaf c.apply.ensures.same c.in_ok-refusal.ensures.number c.in-Placed.is
+    has_placed c.self.inside.opened.book c.apply.new.self _ c.in-Placed.jsn c.in-Placed.leaf c.apply.ensures.same.floor c.in_ok-refusal.ensures.number c.in-Placed.is
 
 pub anchor-requires-clause-room : goal.anchor-requires-clause-room
 anchor-requires-clause-room g c =
@@ -66,7 +66,8 @@ returns-in_ok-gather_placed-in-Placed-clause-judged g c =
             judged = judged_placed None _ _ c.gather_placed.new.self h step c.args.job.now _ c.in-Placed.jsn c.in-Placed.leaf _ p (λ other. opens_gather c.args.self.now.book h holds.keeps.serves.stands c.requires.room.1)
                 (λ alone. none_waits _ h holds.keeps.serves.stands (sym (c.requires.settled (alone_first c.args.job.now alone)))) c.requires.fits
                 (subst (λ b. Applies c.self.inside.opened.book.limits None h c.args.job.now c.in_ok-refusal.field-0 b) (sym e.book) a)
-                (subst (IsSame c.self.inside.opened.book) (sym e.book) c.apply.ensures.same) c.in-Placed.is
+                (subst (λ (b : books.Kept). b.limits ≡ c.self.inside.opened.book.limits) (sym e.book) c.apply.ensures.same.limits)
+                (subst (λ (b : books.Kept). b.floor ≡ c.self.inside.opened.book.floor) (sym e.book) c.apply.ensures.same.floor) c.in-Placed.is
                 (λ f journal content given parts serves there floor. e.gathered f journal content given parts (subst (λ b. Serves b f) e.book serves) there (subst (λ (b : books.Kept). b.floor ≤ c.in-Placed.jsn) e.book floor))
                 refl refl refl e.rest.file.place (ap (Receipt c.in-Placed.jsn c.in-Placed.leaf) (sym (unstamped n false lane index line)) ∙ sym (ap (answer_for h step) c.in-Placed.is)) (unstamped n false lane index line);
             attended = attends_other n h lane index line c.args.job.now (λ is none. let asks = anchor_asks _ h c.args.job.now _ _ (real_applies None c.self.inside.opened.book _ h c.args.job.now _ p.limits a) is none in let no : ⊥ = cc (asks, c.in-Placed.is) in no);
@@ -242,10 +243,10 @@ returns-in_err-reply-in-Extend-clause-unasked g c =
     on_err_all c.from_residual-in_err-reply-in-Extend.result
     (inl (false, λ h lane index line p. subst (λ (j : Job). Attended n m h (step_in n m false lane index line) j) (sym job) (c.in_err-reply-in-Extend.ensures.err h lane index line)))
 
-pub returns-in_ok-gather_placed-in-Placed-clause-inside : goal.returns-in_ok-gather_placed-in-Placed-clause-inside
-returns-in_ok-gather_placed-in-Placed-clause-inside g c = λ all.
-    c.in_ok-gather_placed-in-Placed.ensures.inside (inside_at (the_view c.self.inside) c.args.self.now c.self.view_is all)
+pub returns-in_ok-gather_placed-in-Placed-clause-order : goal.returns-in_ok-gather_placed-in-Placed-clause-order
+returns-in_ok-gather_placed-in-Placed-clause-order g c = λ all.
+    c.in_ok-gather_placed-in-Placed.ensures.order (order_at (the_view c.self.inside) c.args.self.now c.self.view_is all)
 
-pub returns-in-Stamp-clause-inside : goal.returns-in-Stamp-clause-inside
-returns-in-Stamp-clause-inside g c =
-    on_ok_then c.anchor.result (λ inside all. inside (inside_at (the_view c.self.inside) c.args.self.now c.self.view_is all)) c.anchor.ensures.inside
+pub returns-in-Stamp-clause-order : goal.returns-in-Stamp-clause-order
+returns-in-Stamp-clause-order g c =
+    on_ok_then c.anchor.result (λ order all. order (order_at (the_view c.self.inside) c.args.self.now c.self.view_is all)) c.anchor.ensures.order

@@ -1,13 +1,12 @@
 use Rattle.std.proofs.Common.{[], ◌++◌, length, sym, ap, subst, ◌∙◌, arith}
-use Rattle.ledger_model.specs.History.{close}
-use Rattle.block_file.specs.Place.{place_of}
-use Rattle.twin_file.specs.Which.{in_a_of, generation_in, file_of, copy_of}
-use Rattle.ledger_open.specs.declared.opened.Opened.{Opened}
+use Rattle.ledger_model.specs.History.{History, close}
+use Rattle.ledger_book.specs.Books.{Serves}
+use Rattle.ledger_open.specs.Order.{AreInOrder}
 use Rattle.batch_committer.specs.Spelled.{head_of}
-use Rattle.batch_committer.specs.World.{AreInside}
+use Rattle.batch_committer.specs.World.{pair}
 use Rattle.batch_committer.specs.contracts.taking.Taking.{the_view}
 use Rattle.batch_committer.specs.Steps.{settled_text}
-use Rattle.batch_committer.proofs.Ending.{end_unspelled, at_end, end_goes, end_uncommitted, end_ungiven, end_unwritten, serves_closed, count_few, fits_ended, inside_ended, given_as, not_given_as, given_reads, given_generation, generation_stays, fits_at, goes_at, ended_at, first_of_text}
+use Rattle.batch_committer.proofs.Ending.{end_unspelled, at_end, end_goes, end_uncommitted, end_unfinished, end_unwritten, serves_closed, count_few, fits_finished, order_ended, finished_as, unfinished_as, ledger_is, named_at, shut_bytes, generation_stays, fits_at, goes_at, ended_at, first_of_text}
 use Rattle.batch_committer.proofs.WayLaws.{err_is, ended_by}
 use Rattle.batch_committer.proofs.taking.Taking.settle.Goals as goal
 
@@ -16,6 +15,15 @@ returns-in_err-spell-clause-err g c = err_is _ c.from_residual.result _ c.from_r
 
 pub returns-in_err-finish-clause-err : goal.returns-in_err-finish-clause-err
 returns-in_err-finish-clause-err g c = err_is _ c.from_residual-in_err-finish.result _ c.from_residual-in_err-finish.ensures.1 (end_unspelled g.D.Disk.tells _ _)
+
+pub returns-in_err-purge-clause-err : goal.returns-in_err-purge-clause-err
+returns-in_err-purge-clause-err g c = err_is _ c.from_residual-in_err-purge.result _ c.from_residual-in_err-purge.ensures.1 (end_unspelled g.D.Disk.tells _ _)
+
+pub give_up-requires-clause-order : goal.give_up-requires-clause-order
+give_up-requires-clause-order g c =
+    let f = fits_at g.D.Disk.tells _ _ c.self.view_is _ _ c.requires.fits in
+    subst (λ n. AreInOrder 64 n c.self.inside.opened.places.list) (sym c.in_ok-commit.ensures.place)
+    (order_ended (the_view c.self.inside) c.as_slice-2.result.now c.finish.new.self.head (c.as_slice-2.ensures ∙ ap (λ l. c.finish.new.self.head ++ l) c.in_ok-finish.ensures.body) c.in_ok-finish.ensures.size f.order)
 
 pub returns-in_err-commit-clause-err : goal.returns-in_err-commit-clause-err
 returns-in_err-commit-clause-err g c =
@@ -40,17 +48,20 @@ returns-in_err-give_up-clause-err g c =
     let is = sym c.waiting_count-count.ensures.number in
     let e = c.in_ok-commit.ensures in
     let u = c.in_err-give_up.ensures in
+    let closed = λ (h : History) (s : Serves c.self.inside.opened.book h). serves_closed c.self.inside.opened.book c.seal.new.self h s (c.seal.ensures.stands h s.stands) c.seal.ensures.same in
+    let mid = pair (g.D.Disk.state c.commit.new.a) (g.D.Disk.state c.commit.new.b) in
     err_is _ c.from_residual-in_err-give_up.result _ c.from_residual-in_err-give_up.ensures.1
     (ended_by g.D.Disk.tells _ _ close (λ h. []) _ _ u.only
     (ended_at g.D.Disk.tells _ _ c.self.view_is _ (g.K.Sink.state c.args.sink.now) _ close (λ h. []) _
-    (end_ungiven g.D.Disk.tells _ c.as_slice-2.result.now c.spell.new.text.items
-    (at_end g.D.Disk.tells _ c.seal.new.self c.waiting_count-count.result c.head.result _ _
-    (λ h s. serves_closed c.self.inside.opened.book c.seal.new.self h s (c.seal.ensures.stands h s.stands) c.seal.ensures.same)
+    (end_unfinished g.D.Disk.tells _ c.as_slice-2.result.now c.spell.new.text.items
+    (at_end g.D.Disk.tells _ c.seal.new.self c.waiting_count-count.result c.head.result _ _ closed
     (λ h s. c.waiting_count-count.ensures.count h s.stands) (λ h s. c.head.ensures h s.stands)
     (c.as_slice-2.ensures ∙ ap (λ l. l ++ c.finish.new.self.body) c.in_ok-finish.ensures.head ∙ ap (λ l. head_of c.waiting_count-count.result (length c.self.inside.block.body) c.head.result.root.0 ++ l) c.in_ok-finish.ensures.body)
     (λ h s none. c.in_ok-spell.ensures h s none ∙ ap (settled_text h) c.as_slice.ensures.value)
     (omega (arith, c.if-count-eq0.false)) (count_few c.self.inside.opened.book c.waiting_count-count.result is f.few))
-    _ c.seal.new.self _ _ (λ h s. serves_closed c.self.inside.opened.book c.seal.new.self h s (c.seal.ensures.stands h s.stands) c.seal.ensures.same) e.ok (not_given_as g.D.Disk.tells _ _ _ _ _ _ e.in_a u.err))))
+    c.seal.new.self mid
+    (record { serves = closed; same = c.seal.ensures.same; committed = e.ok; named = λ told. named_at _ _ mid (f.generation told ∙ sym (generation_stays g.D.Disk.tells _ _ _ _ _ e.ok told)) })
+    _ _ (unfinished_as g.D.Disk.tells _ _ mid _ (ledger_is c.seal.new.self c.self.inside.opened.places.list mid _ _ _ _ _ _ e.place e.in_a e.generation) u.err))))
 
 pub returns-in_err-write_all-clause-err : goal.returns-in_err-write_all-clause-err
 returns-in_err-write_all-clause-err g c =
@@ -59,17 +70,20 @@ returns-in_err-write_all-clause-err g c =
     let e = c.in_ok-commit.ensures in
     let u = c.in_ok-give_up.ensures in
     let o = c.in_err-write_all.ensures in
+    let closed = λ (h : History) (s : Serves c.self.inside.opened.book h). serves_closed c.self.inside.opened.book c.seal.new.self h s (c.seal.ensures.stands h s.stands) c.seal.ensures.same in
+    let mid = pair (g.D.Disk.state c.commit.new.a) (g.D.Disk.state c.commit.new.b) in
     let t = first_of_text (g.K.Sink.state c.args.sink.now) (g.K.Sink.state c.write_all.new.sink) c.as_slice-3.result.now c.in_err-write_all.field-0.0 o.taken in
     err_is _ c.from_residual-in_err-write_all.result _ c.from_residual-in_err-write_all.ensures.1
     (ended_at g.D.Disk.tells _ _ c.self.view_is _ _ _ close (λ h. []) _
     (end_unwritten g.D.Disk.tells _ c.as_slice-2.result.now c.as_slice-3.result.now
-    (at_end g.D.Disk.tells _ c.seal.new.self c.waiting_count-count.result c.head.result _ _
-    (λ h s. serves_closed c.self.inside.opened.book c.seal.new.self h s (c.seal.ensures.stands h s.stands) c.seal.ensures.same)
+    (at_end g.D.Disk.tells _ c.seal.new.self c.waiting_count-count.result c.head.result _ _ closed
     (λ h s. c.waiting_count-count.ensures.count h s.stands) (λ h s. c.head.ensures h s.stands)
     (c.as_slice-2.ensures ∙ ap (λ l. l ++ c.finish.new.self.body) c.in_ok-finish.ensures.head ∙ ap (λ l. head_of c.waiting_count-count.result (length c.self.inside.block.body) c.head.result.root.0 ++ l) c.in_ok-finish.ensures.body)
     (λ h s none. c.as_slice-3.ensures.value ∙ c.in_ok-spell.ensures h s none ∙ ap (settled_text h) c.as_slice.ensures.value)
     (omega (arith, c.if-count-eq0.false)) (count_few c.self.inside.opened.book c.waiting_count-count.result is f.few))
-    _ c.seal.new.self _ _ _ t.0 (λ h s. serves_closed c.self.inside.opened.book c.seal.new.self h s (c.seal.ensures.stands h s.stands) c.seal.ensures.same) e.ok (given_as g.D.Disk.tells _ _ _ _ _ _ _ _ e.in_a e.place u.ok) t.1 t.2 o.once))
+    c.seal.new.self mid
+    (record { serves = closed; same = c.seal.ensures.same; committed = e.ok; named = λ told. named_at _ _ mid (f.generation told ∙ sym (generation_stays g.D.Disk.tells _ _ _ _ _ e.ok told)) })
+    _ _ (finished_as g.D.Disk.tells _ _ _ mid _ (ledger_is c.seal.new.self c.self.inside.opened.places.list mid _ _ _ _ _ _ e.place e.in_a e.generation) u.ok) _ t.0 t.1 t.2 o.once))
 
 pub returns-clause-ok : goal.returns-clause-ok
 returns-clause-ok g c =
@@ -78,34 +92,32 @@ returns-clause-ok g c =
     let e = c.in_ok-commit.ensures in
     let u = c.in_ok-give_up.ensures in
     let o = c.in_ok-write_all.ensures in
+    let closed = λ (h : History) (s : Serves c.self.inside.opened.book h). serves_closed c.self.inside.opened.book c.seal.new.self h s (c.seal.ensures.stands h s.stands) c.seal.ensures.same in
+    let mid = pair (g.D.Disk.state c.commit.new.a) (g.D.Disk.state c.commit.new.b) in
     goes_at g.D.Disk.tells _ _ c.self.view_is _ _ _ close (λ h. [])
     (end_goes g.D.Disk.tells _ c.as_slice-2.result.now c.as_slice-3.result.now
-    (at_end g.D.Disk.tells _ c.seal.new.self c.waiting_count-count.result c.head.result _ _
-    (λ h s. serves_closed c.self.inside.opened.book c.seal.new.self h s (c.seal.ensures.stands h s.stands) c.seal.ensures.same)
+    (at_end g.D.Disk.tells _ c.seal.new.self c.waiting_count-count.result c.head.result _ _ closed
     (λ h s. c.waiting_count-count.ensures.count h s.stands) (λ h s. c.head.ensures h s.stands)
     (c.as_slice-2.ensures ∙ ap (λ l. l ++ c.finish.new.self.body) c.in_ok-finish.ensures.head ∙ ap (λ l. head_of c.waiting_count-count.result (length c.self.inside.block.body) c.head.result.root.0 ++ l) c.in_ok-finish.ensures.body)
     (λ h s none. c.as_slice-3.ensures.value ∙ c.in_ok-spell.ensures h s none ∙ ap (settled_text h) c.as_slice.ensures.value)
     (omega (arith, c.if-count-eq0.false)) (count_few c.self.inside.opened.book c.waiting_count-count.result is f.few))
-    _ c.seal.new.self _ _ _ (ap (λ (x : Opened). x.book) u.same) (λ h s. serves_closed c.self.inside.opened.book c.seal.new.self h s (c.seal.ensures.stands h s.stands) c.seal.ensures.same) c.seal.ensures.same
-    (ap (λ (x : Opened). x.places.list) u.same) (ap (λ (x : Opened). in_a_of x.twin) u.same ∙ e.in_a) (ap (λ (x : Opened). place_of (file_of x.twin)) u.same ∙ e.place) c.clear.ensures c.clear-2.ensures.items
-    e.ok (given_as g.D.Disk.tells _ _ _ _ _ _ _ _ e.in_a e.place u.ok) o.ok o.once)
+    c.seal.new.self mid
+    (record { serves = closed; same = c.seal.ensures.same; committed = e.ok; named = λ told. named_at _ _ mid (f.generation told ∙ sym (generation_stays g.D.Disk.tells _ _ _ _ _ e.ok told)) })
+    _ _ (finished_as g.D.Disk.tells _ _ _ mid _ (ledger_is c.seal.new.self c.self.inside.opened.places.list mid _ _ _ _ _ _ e.place e.in_a e.generation) u.ok) _ c.clear.ensures c.clear-2.ensures.items o.ok o.once)
 
 pub returns-clause-fits : goal.returns-clause-fits
 returns-clause-fits g c =
     let f = fits_at g.D.Disk.tells _ _ c.self.view_is _ _ c.requires.fits in
     let e = c.in_ok-commit.ensures in
     let u = c.in_ok-give_up.ensures in
-    let given = given_as g.D.Disk.tells _ _ _ _ _ _ _ _ e.in_a e.place u.ok in
-    let inside = inside_ended (the_view c.self.inside) c.as_slice-2.result.now c.finish.new.self.head (c.as_slice-2.ensures ∙ ap (λ l. c.finish.new.self.head ++ l) c.in_ok-finish.ensures.body) c.in_ok-finish.ensures.size f.inside in
-    fits_ended g.D.Disk.tells _ (in_a_of c.self.inside.opened.twin) _ _ _
-    (ap (λ (x : Opened). x.book.size) u.same ∙ c.seal.ensures.ended.0 ∙ sym c.seal.ensures.ended.1 ∙ sym (ap (λ (x : Opened). x.book.sealed) u.same))
-    (ap (λ (x : Opened). place_of (file_of x.twin)) u.same ∙ e.place)
-    (given_reads g.D.Disk.tells _ _ _ _ _ _ inside given e.ok.reads) (ap (λ (x : Opened). in_a_of x.twin) u.same ∙ e.in_a)
-    (λ told. ap (λ (x : Opened). generation_in x.twin) u.same ∙ e.generation ∙ f.generation told ∙ sym (generation_stays g.D.Disk.tells _ _ _ _ _ e.ok told) ∙ sym (given_generation g.D.Disk.tells _ _ _ _ _ _ inside given told))
-    (ap (λ (x : Opened). copy_of x.twin) u.same ∙ e.copy ∙ f.copy)
-    (subst (AreInside _) (sym (ap (λ (x : Opened). x.places.list) u.same)) inside)
+    let mid = pair (g.D.Disk.state c.commit.new.a) (g.D.Disk.state c.commit.new.b) in
+    let order = order_ended (the_view c.self.inside) c.as_slice-2.result.now c.finish.new.self.head (c.as_slice-2.ensures ∙ ap (λ l. c.finish.new.self.head ++ l) c.in_ok-finish.ensures.body) c.in_ok-finish.ensures.size f.order in
+    fits_finished g.D.Disk.tells _ _ mid _ _
+    (λ told. record { shut = shut_bytes _ _ mid (e.ok.reads.shut told); generation = named_at _ _ mid (f.generation told ∙ sym (generation_stays g.D.Disk.tells _ _ _ _ _ e.ok told)) })
+    order (c.seal.ensures.ended.0 ∙ sym c.seal.ensures.ended.1) (u.copy (e.copy ∙ f.copy))
+    (finished_as g.D.Disk.tells _ _ _ mid _ (ledger_is c.seal.new.self c.self.inside.opened.places.list mid _ _ _ _ _ _ e.place e.in_a e.generation) u.ok)
 
 pub returns-clause-empty : goal.returns-clause-empty
 returns-clause-empty g c =
-    let same = c.in_ok-give_up.ensures.same in
-    (ap (λ (x : Opened). x.book.size) same ∙ c.seal.ensures.ended.0 ∙ sym c.seal.ensures.ended.1 ∙ sym (ap (λ (x : Opened). x.book.sealed) same), c.clear-2.ensures.items)
+    let u = c.in_ok-give_up.ensures.ok in
+    (u.size ∙ c.seal.ensures.ended.0 ∙ sym c.seal.ensures.ended.1 ∙ sym u.sealed, c.clear-2.ensures.items)

@@ -1,0 +1,50 @@
+ghost use Rattle.std.specs.Prelude.{◌≡◌, None, IfErr, OnOk, OnErr};
+ghost use Rattle.block_file.specs.Place.{place_of};
+ghost use Rattle.twin_file.specs.Places.{HasTail};
+ghost use Rattle.twin_file.specs.Twin.{open_of};
+ghost use Rattle.twin_file.specs.Which.{in_a_of, file_of, copy_of};
+ghost use Rattle.ledger_open.specs.Cutting.{IsPrepared};
+ghost use Rattle.ledger_open.specs.Order.{AreInOrder};
+ghost use Rattle.batch_committer.specs.Committed.{ledger_on, IsFinished, IsUnfinished};
+ghost use Rattle.batch_committer.specs.World.{pair};
+ghost use Rattle.batch_committer.specs.declared.end.End.TheVariants as ends;
+
+use crate::End;
+use ledger_disk::Disk;
+use ledger_open::purging::{Purge, complete};
+use ledger_open::{Opened, finish_erasures};
+
+/// Gives up what the last journal hides or purges, for good. What a purge needs was prepared, where one is left undone: then it
+/// is a block of its own, and hides nothing.
+pub(crate) fn give_up<D: Disk>(
+    opened: &mut Opened,
+    a: &mut D,
+    b: &mut D,
+    purge: Option<Purge>,
+) -> Result<(), End>
+    requires told { HasTail (open_of (in_a_of opened.old.twin) (D.state a.old) (D.state b.old)).told
+        (file_of opened.old.twin) }
+    requires order { AreInOrder 64 (place_of (file_of opened.old.twin)) opened.old.places.list }
+    requires prepared { IsPrepared opened.old.book opened.old.places.list purge }
+    ensures ok { OnOk result (IsFinished D.tells
+        (ledger_on opened.old (pair (D.state a.old) (D.state b.old)))
+        (ledger_on opened.new (pair (D.state a.new) (D.state b.new)))
+        (pair (D.state a.old) (D.state b.old)) (pair (D.state a.new) (D.state b.new))) }
+    ensures copy { OnOk result (copy_of opened.old.twin ≡ None → copy_of opened.new.twin ≡ None) }
+    ensures err { OnErr result (IsUnfinished D.tells
+        (ledger_on opened.old (pair (D.state a.old) (D.state b.old)))
+        (pair (D.state a.old) (D.state b.old)) (pair (D.state a.new) (D.state b.new))) }
+    ensures only { IfErr result (λ end. end ≡ ends.DiskFault) }
+{
+    if purge.is_some() {
+        match complete(a, b, opened, purge) {
+            Ok(()) => Ok(()),
+            Err(_) => Err(End::DiskFault),
+        }
+    } else {
+        match finish_erasures(a, b, opened) {
+            Ok(()) => Ok(()),
+            Err(_) => Err(End::DiskFault),
+        }
+    }
+}
