@@ -12,10 +12,10 @@ use Rattle.batch_committer.proofs.WayLaws.{begins_not}
 use Rattle.ledger_io.specs.Runs.{SomeAnswer}
 use Rattle.ledger_model.specs.Dues.{dues, all_dues, due_lines, due_replies, AllIn}
 use Rattle.ledger_model.specs.Growing.{Grows}
-use Rattle.ledger_model.specs.History.{History, id, journals, journals_of, close}
+use Rattle.ledger_model.specs.History.{History, id, journals, journals_of, close, point}
 use Rattle.ledger_model.specs.Lawful.{IsLawful}
 use Rattle.ledger_model.specs.Merge.{said_by, IsMerge}
-use Rattle.ledger_model.specs.Pegs.{Pegged}
+use Rattle.ledger_model.specs.Pegs.{PeggedFrom, Pegged}
 use Rattle.ledger_model.specs.Rules.{job_of, judged_at, after_job, after_step, after}
 use Rattle.ledger_model.specs.Scheme.{Scheme}
 use Rattle.ledger_model.specs.Step.{Step}
@@ -29,7 +29,7 @@ use Rattle.ledger_model.proofs.FitLaws.{run_fits, underway_fits}
 use Rattle.ledger_model.proofs.DueLaws.{grows_steps, text-append}
 use Rattle.ledger_model.proofs.GrowLaws.{close_settled, grows_after, grows_close, grows_not, grows_then}
 use Rattle.ledger_model.proofs.KeepLaws.{run_lawful}
-use Rattle.ledger_model.proofs.PegLaws.{pegged_windows}
+use Rattle.ledger_model.proofs.PegLaws.{from_windows, pegged_windows}
 use Rattle.ledger_model.proofs.RunLaws.{run_lines}
 use Rattle.ledger_model.proofs.WaitLaws.{begins_closed}
 use Rattle.ledger_model.proofs.WrittenLaws.{receipt_kept_in}
@@ -157,8 +157,8 @@ module _ (scheme : Scheme) (tells : Bool) (w : World) (h : History) (p : Holds t
       images_now =
           let now_lawful = run_lawful scheme h (taken done current) lawful in
           stop_stands h (x.next h) now_last (owed scheme done current h) end x.ended.part t.disks first n stops_so closes_now settled_now
-          (fits_in now_last (subst (Grows (reached scheme done current h)) (closes_so scheme h done current) (grows_close (reached scheme done current h))) now_lawful) now_lawful
-          (pegged_windows scheme h first n (taken done current) (some_journal h lawful) took_all)
+          (fits_in now_last (subst (Grows (reached scheme done current h)) (closes_so scheme h done current) (grows_close (reached scheme done current h))) now_lawful) none
+          (from_windows scheme h first n (taken done current) (some_journal h lawful) took_all)
 
       pub stopped : (tail : List (List ℕ)) → SomeAnswer (StopsOn scheme h x.ended.part t.disks first n (CleanBy end h x.ended.part) (SaidOf end x.ended.part)) (script ++ tail) (SaidOf end x.ended.part)
       stopped tail =
@@ -188,7 +188,7 @@ module _ (scheme : Scheme) (tells : Bool) (w : World) (h : History) (p : Holds t
               took = all_took;
               text_is = refl;
               written = written_now;
-              images = stop_stands h (x.next h) f (owed scheme done current h) end x.ended.part t.disks first n s grows settled (fits_in f goes_on all_lawful) all_lawful
+              images = stop_stands h (x.next h) f (owed scheme done current h) end x.ended.part t.disks first n s grows settled (fits_in f goes_on all_lawful) none
                   (pegged_some scheme h first n steps (some_journal h lawful) all_took);
               proofs = good_windows scheme h first n (taken done current) lawful wide took_all;
               heads = heads_lead_on scheme h first n (taken done current) lawful list took_all;
@@ -215,6 +215,9 @@ module _ (scheme : Scheme) (tells : Bool) (w : World) (h : History) (p : Holds t
           (run_fits scheme h last steps (counted_all scheme h first n steps list (merge_numbered (windows (said_lines script)) steps merge (script_counted script few)) (took_end scheme h first done current n took)) lawful (run_lawful scheme h steps lawful) (grows_not last))
 
       -- each time journal has its entry
+      from_last : Pegged h first.entries → PeggedFrom (point h) last n.entries
+      from_last = from_windows scheme h first n steps (some_journal h lawful) (took_end scheme h first done current n took)
+
       pegged_last : Pegged h first.entries → Pegged last n.entries
       pegged_last = pegged_windows scheme h first n steps (some_journal h lawful) (took_end scheme h first done current n took)
 
@@ -238,7 +241,7 @@ module _ (scheme : Scheme) (tells : Bool) (w : World) (h : History) (p : Holds t
           let all : due_lines last (s.done ++ s.rest) ≡ text scheme h steps = ap (due_lines last) (sym s.split) ∙ text_last in
           let said : SaidOf end e.part (text scheme h steps) = said_of end last e.part (text scheme h steps) s.done s.rest (s.said last g settled) all in
           let stand : AllStand h last first n e.part (CleanBy end h e.part) t.disks =
-          stop_stands h (close (reached scheme done current h)) last (owed scheme done current h) end e.part t.disks first n s g settled fits_last (run_lawful scheme h steps lawful) pegged_last in (
+          stop_stands h (close (reached scheme done current h)) last (owed scheme done current h) end e.part t.disks first n s g settled fits_last none from_last in (
             text scheme h steps,
             record {
               steps = steps;

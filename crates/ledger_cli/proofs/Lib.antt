@@ -8,6 +8,7 @@ pub mod FailureLaws
 pub mod OpeningLaws
 pub mod SessionLaws
 pub mod PegLaws
+pub mod LastLaws
 pub mod StopLaws
 pub mod TakeLaws
 pub mod TopLaws

@@ -19,8 +19,13 @@ use Rattle.ledger_model.specs.Limits.{real_limits}
 use Rattle.ledger_model.specs.Scheme.{Scheme}
 use Rattle.ledger_model.specs.declared.genesis.Genesis.{Genesis}
 use Rattle.pseudo_genesis.specs.declared.base.Base.{Base}
+use Rattle.ledger_book.specs.Books.{Serves}
+use Rattle.ledger_model.specs.Targets.{is_hidden}
+use Rattle.ledger_model.proofs.KeepLaws.{founded_lawful}
+use Rattle.ledger_open.proofs.KnownLaws.{same_self}
 use Rattle.ledger_open.specs.Founding.{IsFounded, IsFoundedOrShut, IsOneOpen}
-use Rattle.ledger_open.specs.Opening.{Known, IsReopened, IsOpenErr, IsOutside, StandsAsRead, CountsTwoErr}
+use Rattle.ledger_open.specs.Opening.{Known, Knows, IsOpenErr, IsOutside, StandsAsRead, CountsTwoErr}
+use Rattle.ledger_open.specs.Reopened.{Remembers, IsReopened}
 use Rattle.ledger_open.specs.Standing.{PairFor, IsCleanPair}
 use Rattle.ledger_open.specs.declared.failure.OpenErr.{OpenErr}
 use Rattle.ledger_open.specs.declared.failure.OpenErr.TheVariants as open_err
@@ -140,7 +145,7 @@ module _ (scheme : Scheme) (tells : Bool) (source : SourceState) (sink : SinkSta
 
   -- it is opened, and a committer begins with it
   module _ (k : Known) (in_a : Bool) (generation : ℕ) (start : Option Base) (blocks : List (List Entry)) (opened : IsOpened k in_a now start blocks) (kept : Kept) (kept_is : kept ≡ kept_from k in_a generation) where
-    pub again_fits : (IsTrue tells → IsReopened in_a k.place start blocks old.a.bytes old.b.bytes now.a.bytes now.b.bytes) → (IsTrue tells → generation ≡ generation_of (open_of in_a now.a.bytes now.b.bytes).seen) → Fits tells (world kept now sink)
+    pub again_fits : (IsTrue tells → IsReopened in_a k start blocks old.a.bytes old.b.bytes now.a.bytes now.b.bytes) → (IsTrue tells → generation ≡ generation_of (open_of in_a now.a.bytes now.b.bytes).seen) → Fits tells (world kept now sink)
     again_fits r is = subst (λ (x : Kept). Fits tells (world x now sink)) (sym kept_is) (opened_fits tells k in_a generation start blocks old.a.bytes old.b.bytes now sink opened r is)
 
     pub begins_room : HasRoom kept
@@ -149,7 +154,7 @@ module _ (scheme : Scheme) (tells : Bool) (source : SourceState) (sink : SinkSta
     pub begins_none : kept.dues ≡ []
     begins_none = ap (λ (x : Kept). x.dues) kept_is
 
-    pub ran_again : (limits : k.book.limits ≡ real_limits) (r : IsTrue tells → IsReopened in_a k.place start blocks old.a.bytes old.b.bytes now.a.bytes now.b.bytes) (a : now.a.faults ≡ old.a.faults) (b : now.b.faults ≡ old.b.faults)
+    pub ran_again : (limits : k.book.limits ≡ real_limits) (r : IsTrue tells → IsReopened in_a k start blocks old.a.bytes old.b.bytes now.a.bytes now.b.bytes) (a : now.a.faults ≡ old.a.faults) (b : now.b.faults ≡ old.b.faults)
         (ending : LedgerEnding) (last : Handed) → Runs scheme tells (world kept now sink) ending (handed source sink now n) last → IsOfLines ending → RunsAgain scheme tells ending (handed source sink old n) last
     ran_again limits r a b ending last ran started = record {
       serves = λ t h p l q.
@@ -157,12 +162,27 @@ module _ (scheme : Scheme) (tells : Bool) (source : SourceState) (sink : SinkSta
           (ran.serves h (subst (λ (x : Kept). Holds tells (world x now sink) h) (sym kept_is) (opened_held tells k in_a generation start blocks old.a.bytes old.b.bytes now sink h opened limits t (r t) p)) (none_waits old.a.bytes.seen old.b.bytes.seen h p) l));
       unstarted = λ some. absurd (no_refusal ending started some);
       refused = λ t. of_lines ending _ started;
-      exact = λ t e cause not. absurd (not (reopened_only k in_a start blocks old.a.bytes old.b.bytes now.a.bytes now.b.bytes e opened.knows (r t) cause));
+      exact = λ t e cause not. absurd (not (reopened_only k in_a start blocks old.a.bytes old.b.bytes now.a.bytes now.b.bytes e (r t) cause));
       faults = faults_from source sink n now old last a b ending ran.faults;
       failures = ran.failures;
     }
 
 -- ---- a ledger that is made
+
+-- what is known of it is what is known of one that was opened
+pub known_remembered : {k : Known} {start : Option Base} {blocks : List (List Entry)} → Knows k start blocks → Remembers k start blocks
+known_remembered n = record { serves = λ none. n.serves; lawful = n.lawful; floor = n.floor; places = n.places; tail = n.tail; settled = n.settled }
+
+-- its book is one of the new ledger
+pub new_serves : (genesis : Genesis) {k : Known} → Knows k None (new_ledger genesis).closed → Serves k.book (new_ledger genesis)
+new_serves genesis n =
+    n.serves (new_ledger genesis) (record {
+      lawful = founded_lawful genesis;
+      none = refl;
+      parts = record { gone = []; kept = (new_ledger genesis).closed; are = refl; at = refl };
+      base = tt;
+      same = same_self (is_hidden (new_ledger genesis)) (new_ledger genesis).closed;
+    })
 
 shut_open : (file : List ℕ) → IsShut file → IsOpen file → ⊥
 shut_open file (inl short) open_ = omega (arith, short, open_.long)

@@ -11,7 +11,7 @@ use Rattle.batch_committer.proofs.Ending.{no_memory}
 use Rattle.batch_committer.proofs.Opening.{held_lawful}
 use Rattle.batch_committer.proofs.WayLaws.{goes_same, goes_then, goes_as, ended_then, ended_as}
 use Rattle.lane_work.specs.Offering as lanes
-use Rattle.lane_work.specs.Offering.{Stops, GoesSome, OffersLine, RunsAll, RunsSome}
+use Rattle.lane_work.specs.Offering.{Stops, OffersLine, RunsAll, RunsSome}
 use Rattle.std.specs.Prelude.{slice_index}
 use Rattle.lane_work.specs.Making.{IsItemOf, lines_of}
 use Rattle.lane_work.specs.Orders.{numbered, IsOrderOf}

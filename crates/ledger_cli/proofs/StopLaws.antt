@@ -1,5 +1,5 @@
 -- Lemmas on what is left, and what was written, where a call stopped a run.
-use Rattle.std.proofs.Common.{◌≡◌, ℕ, suc, ◌-◌, ◌<◌, inl, inr, List, [], ◌∷◌, ◌++◌, length, take, Option, None, Some, refl, ap, sym, subst, ◌∙◌, arith, append_assoc, append-nil, length-append}
+use Rattle.std.proofs.Common.{◌≡◌, ℕ, suc, ◌-◌, ◌<◌, inl, inr, Bool, true, false, List, [], ◌∷◌, ◌++◌, length, take, refl, ap, sym, subst, ◌∙◌, arith, append_assoc, append-nil, length-append}
 use Rattle.std.specs.Prelude.{⊤, All, decimal, codes}
 use Rattle.std.proofs.lemmas.List.{length-map}
 use Rattle.std.proofs.lemmas.Option.{slice_get_within}
@@ -8,12 +8,8 @@ use Rattle.batch_committer.specs.World.{Pair, Stops, Says, before_last, IsLeftCl
 use Rattle.journal_record.specs.Entry.{Entry}
 use Rattle.ledger_bytes.specs.Digests.{digest}
 use Rattle.ledger_bytes.specs.declared.digest.Digest.{Digest}
-use Rattle.ledger_open.specs.Erasing.{last_target}
 use Rattle.ledger_open.specs.Standing.{PairFor}
-use Rattle.ledger_open.proofs.ErasingLaws.{nothing_open}
-use Rattle.ledger_open.proofs.PartLaws.{is_alone}
-use Rattle.twin_file.specs.Twin.{open_of}
-use Rattle.ledger_cli.specs.Leaving.{AreClean, AreErased}
+use Rattle.ledger_cli.specs.Leaving.{AreClean, AreErased, ends_in_erasure}
 use Rattle.batch_committer.specs.declared.end.End.{End}
 use Rattle.batch_committer.specs.declared.end.End.TheVariants.{DiskFault, WriteFault, NoMemory, Closed}
 use Rattle.batch_committer.proofs.WayLaws.{begins_then}
@@ -22,9 +18,9 @@ use Rattle.ledger_io.specs.Runs.{FallsShort, AreWhole}
 use Rattle.ledger_io.proofs.RunLaws.{whole_append}
 use Rattle.ledger_model.specs.Dues.{AllIn, digests_of, due_line, due_lines, due_replies}
 use Rattle.ledger_model.specs.Growing.{Grows}
-use Rattle.ledger_model.specs.History.{History, size, journals_of, leaf_digest}
+use Rattle.ledger_model.specs.History.{History, size, journals_of, leaf_digest, point}
 use Rattle.ledger_model.specs.Lawful.{IsLawful, IsBlock}
-use Rattle.ledger_model.specs.Pegs.{Pegged}
+use Rattle.ledger_model.specs.Pegs.{PeggedFrom, Pegged}
 use Rattle.ledger_model.specs.Texts.{reply_in}
 use Rattle.ledger_model.specs.declared.due.Due.{Due}
 use Rattle.ledger_model.proofs.FitLaws.{fit-first}
@@ -36,6 +32,7 @@ use Rattle.script_lines.specs.Replies.{reply_words}
 use Rattle.script_lines.specs.Words.{spaced_words}
 use Rattle.time_peg.specs.Entries.{NotaryState}
 use Rattle.ledger_cli.specs.Runs.{AllStand}
+use Rattle.ledger_cli.proofs.LastLaws.{erased_then}
 use Rattle.ledger_cli.proofs.PegLaws.{pegged_kept, some_journal}
 
 -- ---- what was written
@@ -116,14 +113,16 @@ none_written f kept done part rest lawful none some is fit all leaf r =
 
 left_clean : (end : End) (h f kept : History) (done : List Due) (part rest a b : List ℕ) → PairFor a b kept → part ++ rest ≡ due_lines f done → AllFit (due_replies f done) → IsLeftClean end h kept done a b → CleanBy end h part kept a b
 left_clean DiskFault h f kept done part rest a b stands is fit (inl erased) = inl erased
-left_clean DiskFault h f kept done part rest a b stands is fit (inr u) = by (last_target kept) refl where
-  by : (t : Option ℕ) → last_target kept ≡ t → AreErased h part kept a b
-  by None none = inl (record { in_a = stands.in_a; erased = nothing_open (open_of stands.in_a a b) kept stands.stands none; empty = is_alone a b kept stands })
-  by (Some n) hides = inr (record {
-    target = n;
-    hides = hides;
+left_clean DiskFault h f kept done part rest a b stands is fit (inr u) = by (ends_in_erasure kept) refl where
+  lawful : IsLawful kept
+  lawful = stands.stands.file.lawful
+
+  by : (v : Bool) → ends_in_erasure kept ≡ v → AreErased h part kept a b
+  by false none = inl (erased_then a b kept (some_journal kept lawful) none stands)
+  by true erases = inr (record {
+    erases = erases;
     added = u.added;
-    unwritten = none_written f kept done part rest stands.stands.file.lawful stands.stands.file.none (let more = u.added in omega (arith, more)) is fit u.unanswered;
+    unwritten = none_written f kept done part rest lawful stands.stands.file.none (let more = u.added in omega (arith, more)) is fit u.unanswered;
   })
 left_clean WriteFault h f kept done part rest a b stands is fit clean = clean
 left_clean NoMemory h f kept done part rest a b stands is fit clean = clean
@@ -131,8 +130,8 @@ left_clean Closed h f kept done part rest a b stands is fit clean = clean
 
 -- where a call stopped the run, all images stand for a beginning of each later history
 pub stop_stands : (h whole f : History) (ds : List Due) (end : End) (part : List ℕ) (disks : Pair) (first last : NotaryState) → Stops h whole ds end part disks → Grows whole f → f.waiting ≡ [] → AllFit (due_replies f ds)
-    → IsLawful f → (Pegged h first.entries → Pegged f last.entries) → AllStand h f first last part (CleanBy end h part) disks
-stop_stands h whole f ds end part disks first last s g none fit lawful pegs = λ a b x y.
+    → h.waiting ≡ [] → (Pegged h first.entries → PeggedFrom (point h) f last.entries) → AllStand h f first last part (CleanBy end h part) disks
+stop_stands h whole f ds end part disks first last s g none fit settled pegs = λ a b x y.
     let l = s.images a b x y in
     let file = l.stands.stands.file in
     let longer = begins_then l.kept.closed whole.closed f.closed l.no_longer (begins_closed whole f g) in
@@ -142,6 +141,6 @@ stop_stands h whole f ds end part disks first last s g none fit lawful pegs = λ
       no_shorter = l.no_shorter;
       no_longer = longer;
       receipts = λ jsn leaf r. receipt_kept_in f l.kept.closed s.done part begun.rest jsn leaf (sym begun.is) (fit-first f s.done s.rest (subst (λ d. AllFit (due_replies f d)) s.split fit)) l.receipts r;
-      pegs = λ p. pegged_kept l.kept f last.entries lawful (some_journal l.kept file.lawful) file.none longer (pegs p);
+      pegs = λ p. pegged_kept h l.kept f last.entries (some_journal l.kept file.lawful) settled file.none l.no_shorter longer (pegs p);
       clean = left_clean end h f l.kept s.done part begun.rest a b l.stands (sym begun.is) (fit-first f s.done s.rest (subst (λ d. AllFit (due_replies f d)) s.split fit)) l.clean;
     }
