@@ -14,6 +14,8 @@ mod members;
 #[cfg(test)]
 mod occults;
 #[cfg(test)]
+mod purges;
+#[cfg(test)]
 mod replies;
 #[cfg(test)]
 mod verbs;

@@ -118,3 +118,25 @@ fn keeps_who_approves_an_occult(rt: HostRuntime) -> Result<(), Fail> {
     assert_eq!(rt; regulator.proof.as_slice(), b"".as_slice());
     Ok(())
 }
+
+#[test]
+fn keeps_who_approves_a_purge(rt: HostRuntime) -> Result<(), Fail> {
+    let mut text = b"1 purge 3 ".to_vec(rt.alloc())?;
+    text.resize(10 + 64, b'7')?;
+    text.extend_from_slice(b" 0:01,2:03")?;
+    let Spoken { lane, what } = read_line(rt.alloc(), text.as_slice())?;
+    assert_eq!(rt; lane, 1);
+    let Ok(Line::Purge { point, root, given }) = what else {
+        return Err("not a purge".into());
+    };
+    assert_eq!(rt; point, 3);
+    assert_eq!(rt; root, Digest([0x77; 32]));
+    let [operator, owner] = given.as_slice() else {
+        return Err("not two approvals".into());
+    };
+    assert_eq!(rt; operator.member, 0);
+    assert_eq!(rt; operator.proof.as_slice(), [0x01].as_slice());
+    assert_eq!(rt; owner.member, 2);
+    assert_eq!(rt; owner.proof.as_slice(), [0x03].as_slice());
+    Ok(())
+}

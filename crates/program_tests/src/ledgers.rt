@@ -18,6 +18,7 @@ mod lanes;
 mod notaries;
 mod occults;
 mod proofs;
+mod purges;
 mod words;
 
 // The keys of the operator and the regulator of a ledger for trial: 32 bytes 1, and 32 bytes 2.

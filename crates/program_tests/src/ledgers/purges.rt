@@ -1,0 +1,199 @@
+//! Disks that stop in a session with a purge: what each crash leaves, and what stands there once it is opened again, wherever
+//! that is stopped too.
+
+use super::*;
+use ledger_disk::{FuseDisk, Pick};
+
+// The lines place journals 1 to 7: member 2, two of its records, an anchor, a record of the operator, the purge of all in front
+// of the anchor, and a record of the operator.
+const SESSION: [&str; 7] = [
+    "0 member 2 0303030303030303030303030303030303030303030303030303030303030303 \
+    0101010101010101010101010101010101010101010101010101010101010101\
+    6e2700604cd288e681c238fa71ae802ef173e93907477f0111a56a7be4890e8c\n",
+    "0 append 2 inv 616263 0303030303030303030303030303030303030303030303030303030303030303\
+    1c73656160873b10becb5d4a75a046056d790b17f79672513778ab540c22c6df\n",
+    "0 append 2 c 78797a 0303030303030303030303030303030303030303030303030303030303030303\
+    670bc87de87a4d2dc823d029fec29573459c8a94361e427a8df50ceffa0c5f65\n",
+    "0 anchor\n",
+    EMPTY,
+    "0 purge 4 9b09a5042286cffaec35a9716332d05f6c96c4d87600453e41b5226f5a7c53f1 \
+    0:0101010101010101010101010101010101010101010101010101010101010101\
+    138ffcfaa9be62c97587f34427973b1a888d5111ae9d95a18751d77c8d669331,\
+    2:0303030303030303030303030303030303030303030303030303030303030303\
+    c109e620dc5656bbf48b19ac761e6880b811472968782d872a31116588c48354\n",
+    EMPTY,
+];
+
+// The contents that the purge takes, and the size of the ledger with its journal.
+const TAKEN: [&str; 2] = ["abc", "xyz"];
+
+const PURGED: usize = 7;
+
+// What asks for these journals.
+const GETS: &[u8] = b"0 get 1\n0 get 2\n0 get 3\n0 get 4\n0 get 5\n0 get 6\n0 get 7\n";
+
+// The size of the ledger behind each of its blocks; the second words of what the session writes where the receipts of these
+// journals are its last, and of what is answered to the lines that ask for them.
+const BLOCKS: [(usize, &str, &str); 6] = [
+    (1, "4 ", "no no no no no no no "),
+    (4, "ok ok ok 4 ", "whole whole whole no no no no "),
+    (5, "ok ok ok ok 4 ", "whole whole whole whole no no no "),
+    (
+        6,
+        "ok ok ok ok ok 4 ",
+        "whole whole whole whole whole no no ",
+    ),
+    (7, "ok ok ok ok ok ok 4 ", "no no no whole whole whole no "),
+    (
+        8,
+        "ok ok ok ok ok ok ok ",
+        "no no no whole whole whole whole ",
+    ),
+];
+
+const PICKS: [Pick; 3] = [Pick::AllWritten, Pick::NoneWritten, Pick::Torn(1)];
+
+// More calls of write, cut and sync than either disk takes in the session, or where the ledger is opened.
+const CALLS: u64 = 30;
+
+// More room than the ledger takes.
+const ROOM: usize = 16_384;
+
+/// The size up to which receipts were written, and the two disks, where each stops after so many calls.
+fn stopped<R: Threads + Wait + Sync>(
+    rt: &R,
+    alloc: Global,
+    calls: (u64, u64),
+) -> Result<(usize, MemDisk, MemDisk), NoMemory> {
+    let mut a = MemDisk::new(alloc, ROOM, Vec::new(alloc))?;
+    let mut b = MemDisk::new(alloc, ROOM, Vec::new(alloc))?;
+    run_on(rt, alloc, &INIT, b"", NO_FAULTS, &mut a, &mut b)?;
+    let script = bytes_of(alloc, &SESSION)?;
+    let mut a = FuseDisk::new(a, calls.0);
+    let mut b = FuseDisk::new(b, calls.1);
+    let (_, written) = run_on(rt, alloc, &RUN, &script, NO_FAULTS, &mut a, &mut b)?;
+    let size = size_told(alloc, &written)?.unwrap_or(usize::MAX);
+    Ok((size, a.into_inner(), b.into_inner()))
+}
+
+/// The size that these replies tell, of the session or of the lines that ask for its journals. None for others.
+fn size_told(alloc: Global, replies: &[u8]) -> Result<Option<usize>, NoMemory> {
+    let mut verbs = Vec::new(alloc);
+    for line in replies.split(|byte| *byte == b'\n') {
+        for word in line.split(|byte| *byte == b' ').skip(1).take(1) {
+            verbs.extend_from_slice(word)?;
+            verbs.push(b' ')?;
+        }
+    }
+    for (size, session, gets) in &BLOCKS {
+        if verbs.as_slice() == session.as_bytes() || verbs.as_slice() == gets.as_bytes() {
+            return Ok(Some(*size));
+        }
+    }
+    Ok(None)
+}
+
+/// Whether nothing that the purge takes stands on these disks, and one of them is empty.
+fn is_gone(a: &MemDisk, b: &MemDisk) -> Result<bool, NoMemory> {
+    let (a, b) = (a.bytes()?, b.bytes()?);
+    for content in &TAKEN {
+        let content = content.as_bytes();
+        if stands_in(a.as_slice(), content) || stands_in(b.as_slice(), content) {
+            return Ok(false);
+        }
+    }
+    Ok(a.as_slice().is_empty() || b.as_slice().is_empty())
+}
+
+fn stands_in(bytes: &[u8], piece: &[u8]) -> bool {
+    for at in 0..bytes.len() {
+        if bytes.get(at..).unwrap_or_default().starts_with(piece) {
+            return true;
+        }
+    }
+    false
+}
+
+/// The size that is told where the ledger is opened on these disks, and what they hold for good from then on.
+fn reopened<R: Threads + Wait + Sync>(
+    rt: &R,
+    alloc: Global,
+    a: &MemDisk,
+    b: &MemDisk,
+) -> Result<(usize, MemDisk, MemDisk), NoMemory> {
+    let (mut a, mut b) = (a.crash(Pick::AllWritten)?, b.crash(Pick::AllWritten)?);
+    let (_, replies) = run_on(rt, alloc, &RUN, GETS, NO_FAULTS, &mut a, &mut b)?;
+    let size = size_told(alloc, &replies)?.unwrap_or_default();
+    Ok((
+        size,
+        a.crash(Pick::NoneWritten)?,
+        b.crash(Pick::NoneWritten)?,
+    ))
+}
+
+/// What a crash leaves where opening the ledger on these disks is stopped after so many calls of each.
+fn stopped_opening<R: Threads + Wait + Sync>(
+    rt: &R,
+    alloc: Global,
+    a: &MemDisk,
+    b: &MemDisk,
+    calls: (u64, u64),
+) -> Result<(MemDisk, MemDisk), NoMemory> {
+    let mut a = FuseDisk::new(a.crash(Pick::AllWritten)?, calls.0);
+    let mut b = FuseDisk::new(b.crash(Pick::AllWritten)?, calls.1);
+    run_on(rt, alloc, &RUN, b"", NO_FAULTS, &mut a, &mut b)?;
+    let (a, b) = (a.into_inner(), b.into_inner());
+    Ok((a.crash(Pick::Torn(1))?, b.crash(Pick::Torn(1))?))
+}
+
+// Each receipt that was written holds. What the purge takes is gone before its receipt is written, and where a crash came
+// before that, once the ledger is opened; wherever that is stopped too, it opens with the same journals.
+#[test]
+fn gives_up_before_the_receipt(rt: HostRuntime) -> Result<(), Fail> {
+    let (mut whole, mut undone) = (false, false);
+    for at in 0..CALLS {
+        for calls in [(at, NEVER), (NEVER, at)] {
+            let (told, a, b) = stopped(&rt, rt.alloc(), calls)?;
+            whole = whole || told == 8;
+            for pick in PICKS {
+                let (a, b) = (a.crash(pick)?, b.crash(pick)?);
+                assert!(rt; told < PURGED || is_gone(&a, &b)?, "at {calls:?} {pick:?}");
+                let (size, new_a, new_b) = reopened(&rt, rt.alloc(), &a, &b)?;
+                assert!(rt;
+                    told <= size && (size < PURGED || is_gone(&new_a, &new_b)?),
+                    "at {calls:?} {pick:?}"
+                );
+                if size < PURGED || !matches!(pick, Pick::Torn(_)) || is_gone(&a, &b)? {
+                    continue;
+                }
+                undone = true;
+                assert!(rt;
+                    opens_alike(&rt, rt.alloc(), &a, &b, size)?,
+                    "at {calls:?} {pick:?}"
+                );
+            }
+        }
+    }
+    assert!(rt; whole && undone);
+    Ok(())
+}
+
+/// Whether the ledger opens with this size, and what its purge takes is gone, wherever an opening before that is stopped.
+fn opens_alike<R: Threads + Wait + Sync>(
+    rt: &R,
+    alloc: Global,
+    a: &MemDisk,
+    b: &MemDisk,
+    size: usize,
+) -> Result<bool, NoMemory> {
+    for at in 0..CALLS {
+        for calls in [(at, NEVER), (NEVER, at)] {
+            let (a, b) = stopped_opening(rt, alloc, a, b, calls)?;
+            let (found, a, b) = reopened(rt, alloc, &a, &b)?;
+            if found != size || !is_gone(&a, &b)? {
+                return Ok(false);
+            }
+        }
+    }
+    Ok(true)
+}
