@@ -38,6 +38,40 @@ def record(program, ledger, content="6869"):
     return f"0 append 0 - {content} {proof}\n".encode()
 
 
+# A key's proof of a message.
+def proof(key, message):
+    return (key + hashlib.sha256(b"\x40" + key + message).digest()).hex()
+
+
+# The same line, made without the program.
+def append_line(ledger, content):
+    key = bytes.fromhex(OPERATOR)
+    digest = hashlib.sha256(b"\x02" + content).digest()
+    message = hashlib.sha256(b"\x03" + ledger + bytes(4) + bytes(32) + len(content).to_bytes(4, "big") + digest).digest()
+    return f"0 append 0 - {content.hex()} {proof(key, message)}\n".encode()
+
+
+# A line that purges all journals in front of a point over which this is the root, with the operator's approval.
+def purge_line(ledger, point, root):
+    message = hashlib.sha256(b"\x05" + ledger + point.to_bytes(8, "big") + bytes.fromhex(root)).digest()
+    return f"0 purge {point} {root} 0:{proof(bytes.fromhex(OPERATOR), message)}\n".encode()
+
+
+# The words of the next whole line that a run writes, which is added to what it printed.
+def answer(run, printed):
+    line = run.stdout.readline()
+    if not line.endswith(b"\n"):
+        raise EOFError
+    printed.append(line)
+    return line.split()
+
+
+# How many of these contents stand in one of the two files of a ledger.
+def searched(folder, contents):
+    files = b"\0".join(open(os.path.join(folder, name), "rb").read() for name in ("ledger.a", "ledger.b"))
+    return sum(content in files for content in contents)
+
+
 # Runs a script on a ledger, and answers what was printed, with the status.
 def run_script(program, folder, script):
     return subprocess.run([program, "run", folder], input=script, capture_output=True)

@@ -16,7 +16,7 @@ import sys
 import tempfile
 import threading
 
-from common import OPERATOR, REGULATOR, WRAPPER, made_ledger, missing, receipts_in, run_script, words_of
+from common import OPERATOR, REGULATOR, WRAPPER, answer, append_line, made_ledger, missing, proof, receipts_in, run_script, searched, words_of
 
 
 def main():
@@ -46,18 +46,6 @@ def main():
         return 0 if hidden and not lost and not found else 1
     finally:
         shutil.rmtree(folder)
-
-
-# A key's proof of a message.
-def proof(key, message):
-    return (key + hashlib.sha256(b"\x40" + key + message).digest()).hex()
-
-
-def append_line(ledger, content):
-    key = bytes.fromhex(OPERATOR)
-    digest = hashlib.sha256(b"\x02" + content).digest()
-    message = hashlib.sha256(b"\x03" + ledger + bytes(4) + bytes(32) + len(content).to_bytes(4, "big") + digest).digest()
-    return f"0 append 0 - {content.hex()} {proof(key, message)}\n".encode()
 
 
 def occult_line(ledger, number, leaf):
@@ -91,21 +79,6 @@ def killed_run(program, folder, ledger, chance):
     run.kill()
     run.wait()
     return placed, hidden, b"".join(printed)
-
-
-# The words of the next whole line.
-def answer(run, printed):
-    line = run.stdout.readline()
-    if not line.endswith(b"\n"):
-        raise EOFError
-    printed.append(line)
-    return line.split()
-
-
-# How many of these contents stand in one of the two files.
-def searched(folder, contents):
-    files = b"\0".join(open(os.path.join(folder, name), "rb").read() for name in ("ledger.a", "ledger.b"))
-    return sum(content in files for content in contents)
 
 
 # The numbers of those journals whose content the ledger tells to be hidden.
