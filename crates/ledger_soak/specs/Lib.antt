@@ -1,0 +1,9 @@
+pub mod Draws
+pub mod Tasks
+pub mod Lines
+pub mod Turns
+pub mod Soaks
+pub mod Posts
+pub mod Auditing
+pub mod Runs
+pub mod Soaking
