@@ -14,11 +14,14 @@ use Rattle.ledger_io.specs.declared.writer.WriteErr.TheVariants.{WriteFault}
 use Rattle.ledger_model.specs.Scheme.{Scheme}
 use Rattle.ledger_model.specs.declared.genesis.Genesis.{Genesis}
 use Rattle.ledger_open.specs.Founding.{IsFoundedOrShut}
+use Rattle.ledger_soak.specs.Soaking.{Soaked}
+use Rattle.ledger_soak.specs.declared.running.SoakEnd.{SoakEnd}
+use Rattle.ledger_soak.specs.declared.running.SoakEnd.TheVariants as soak
 use Rattle.time_peg.specs.Entries.{NotaryState}
 use Rattle.twin_file.specs.Images.{AreShut}
 use Rattle.ledger_disk.specs.Disk.{MayLeave}
 use Rattle.ledger_cli.specs.Endings.{status_of, last_line, HasWords}
-use Rattle.ledger_cli.specs.Runs.{Handed, handed, DiskFailed, FaultsBy, NothingFailed, ServedBy, Finishes}
+use Rattle.ledger_cli.specs.Runs.{Handed, handed, DiskFailed, FaultsBy, NothingFailed, ServedBy, Finishes, ending_of_soak}
 use Rattle.ledger_cli.specs.declared.ending.LedgerEnding.{LedgerEnding}
 use Rattle.ledger_cli.specs.declared.ending.LedgerEnding.TheVariants.{Run, DiskFault, Damaged, Empty, Exists, NewerFormat}
 use Rattle.ledger_cli.specs.declared.words.Command.{Command}
@@ -75,8 +78,21 @@ unstarted_by scheme tells (Some (command.Sign signing)) x some = record {
   disks_are = refl;
   notary_is = refl;
 }
+unstarted_by scheme tells (Some (command.Soak seed count stop)) x some = record { end = soak.NoMemory; ending_is = refl; soaked = refl; source_is = refl; disks_are = refl; notary_is = refl }
 
 -- ---- faults of a whole run
+
+-- a soak met what its ending tells
+soaked_faults : (seed count stop : ℕ) (end : SoakEnd) (before now : Handed) → Soaked seed count stop end before.sink now.sink → now.source ≡ before.source → now.disks ≡ before.disks → FaultsBy (Run (ending_of_soak end)) before now
+soaked_faults seed count stop soak.Done before now s source disks =
+    record { source_is = ap (λ (x : SourceState). x.faults) source; sink_is = s.no_fault; disks_are = record { a = ap (λ (d : Pair). d.a.faults) disks; b = ap (λ (d : Pair). d.b.faults) disks } }
+soaked_faults seed count stop soak.WriteFault before now s source disks =
+    record { source_is = inl (ap (λ (x : SourceState). x.faults) source); sink_is = s.one_fault; disks_are = record { a = ap (λ (d : Pair). d.a.faults) disks; b = ap (λ (d : Pair). d.b.faults) disks } }
+soaked_faults seed count stop soak.NoMemory before now s source disks = record {
+  source_is = inl (ap (λ (x : SourceState). x.faults) source);
+  sink_is = subst (MeetsNone before.sink) (sym s) (refl, refl);
+  disks_are = record { a = ap (λ (d : Pair). d.a.faults) disks; b = ap (λ (d : Pair). d.b.faults) disks };
+}
 
 -- a text that was written met what its ending tells
 signed_faults : (written_text : List ℕ) (plain : Ending) (before now : Handed) → Wrote written_text plain (outside before.source before.sink) (outside now.source now.sink) → now.disks ≡ before.disks → FaultsBy (Run plain) before now
@@ -95,6 +111,7 @@ served_faults scheme tells (Some (command.Dry genesis)) met before now s = inr s
 served_faults scheme tells (Some (command.Init genesis)) met before now s = inr s.faults
 served_faults scheme tells (Some command.Run) met before now s = inr s.faults
 served_faults scheme tells (Some (command.Sign signing)) met before now s = inr (subst (λ e. FaultsBy e before now) (sym s.ending_is) (signed_faults _ s.plain before now s.wrote s.disks_are))
+served_faults scheme tells (Some (command.Soak seed count stop)) met before now s = inr (subst (λ e. FaultsBy e before now) (sym s.ending_is) (soaked_faults seed count stop s.end before now s.soaked s.source_is s.disks_are))
 
 -- an ending by its status
 is_usage : (e : LedgerEnding) → status_of e ≡ 1 → e ≡ Run run.Usage

@@ -45,6 +45,7 @@ names_folder (Some (command.Dry genesis)) = false
 names_folder (Some (command.Init genesis)) = true
 names_folder (Some command.Run) = true
 names_folder (Some (command.Sign signing)) = false
+names_folder (Some (command.Soak seed count stop)) = false
 
 -- how a run ends whose notary can't be taken up
 abbrev pub ending_of_keeper : FileErr → LedgerEnding

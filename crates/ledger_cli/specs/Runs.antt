@@ -32,6 +32,9 @@ use Rattle.ledger_open.specs.Founding.{IsFounded, IsFoundedOrShut, IsOneOpen}
 use Rattle.ledger_open.specs.Opening.{IsOpenErr, IsOutside, StandsAsRead}
 use Rattle.ledger_open.specs.Standing.{PairFor, IsCleanPair}
 use Rattle.ledger_open.specs.declared.failure.OpenErr.{OpenErr}
+use Rattle.ledger_soak.specs.Soaking.{Soaked}
+use Rattle.ledger_soak.specs.declared.running.SoakEnd.{SoakEnd}
+use Rattle.ledger_soak.specs.declared.running.SoakEnd.TheVariants as soak
 use Rattle.proof_maker.specs.Written.{AllGood}
 use Rattle.time_peg.specs.Entries.{NotaryState, IsList}
 use Rattle.twin_file.specs.Images.{AreShut}
@@ -383,6 +386,21 @@ pub record Signs (written_text : List ℕ) (ending : LedgerEnding) (before after
   pub disks_are : after_all.disks ≡ before.disks
   pub notary_is : after_all.notary ≡ before.notary
 
+-- how a run ends that is a soak
+abbrev pub ending_of_soak : SoakEnd → Ending
+ending_of_soak soak.Done = run.Done
+ending_of_soak soak.WriteFault = run.WriteFault
+ending_of_soak soak.NoMemory = run.NoMemory
+
+-- `soak`: the line of a soak with these numbers is written
+pub record Soaks (seed count stop : ℕ) (ending : LedgerEnding) (before after_all : Handed) : Type 0 where
+  pub end : SoakEnd
+  pub ending_is : ending ≡ Run (ending_of_soak end)
+  pub soaked : Soaked seed count stop end before.sink after_all.sink
+  pub source_is : after_all.source ≡ before.source
+  pub disks_are : after_all.disks ≡ before.disks
+  pub notary_is : after_all.notary ≡ before.notary
+
 -- everything but the last line, by the command
 abbrev pub ServedBy : Scheme → Bool → Option Command → LedgerEnding → Handed → Handed → Type 0
 ServedBy scheme tells None ending before after_all = (ending ≡ Run run.Usage) × (after_all ≡ before)
@@ -390,6 +408,7 @@ ServedBy scheme tells (Some (command.Dry genesis)) ending before after_all = Run
 ServedBy scheme tells (Some (command.Init genesis)) ending before after_all = Makes genesis tells ending before after_all
 ServedBy scheme tells (Some command.Run) ending before after_all = RunsAgain scheme tells ending before after_all
 ServedBy scheme tells (Some (command.Sign signing)) ending before after_all = Signs (signed_text signing) ending before after_all
+ServedBy scheme tells (Some (command.Soak seed count stop)) ending before after_all = Soaks seed count stop ending before after_all
 
 -- The last line was written by one attempt, and this is the status. Where the line is made of words and there is no memory for them,
 -- the run ends for want of memory.

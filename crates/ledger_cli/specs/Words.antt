@@ -1,11 +1,11 @@
 -- The words of the command line.
-use Rattle.std.specs.Prelude.{ℕ, nat_eq, if◌then◌else◌, List, [], ◌∷◌, codes, Option, Some, None, option_map}
+use Rattle.std.specs.Prelude.{ℕ, ◌-◌, ◌^◌, nat_eq, if◌then◌else◌, List, [], ◌∷◌, codes, Option, Some, None, option_map}
 use Rattle.ledger_model.specs.declared.genesis.Genesis.{Genesis}
 use Rattle.std.specs.Cmp.Lexicographic.{pointwise}
-use Rattle.script_lines.specs.Spellings.{◌>>=◌, digest_of, name_of}
+use Rattle.script_lines.specs.Spellings.{◌>>=◌, digest_of, name_of, number_of}
 use Rattle.ledger_cli.specs.Signing.{request_of}
 use Rattle.ledger_cli.specs.declared.words.Command.{Command}
-use Rattle.ledger_cli.specs.declared.words.Command.TheVariants.{Dry, Init, Run, Sign}
+use Rattle.ledger_cli.specs.declared.words.Command.TheVariants.{Dry, Init, Run, Sign, Soak}
 
 -- the ledger that a name and two keys make, where they are of their forms
 abbrev pub genesis_of : List ℕ → List ℕ → List ℕ → Option Genesis
@@ -37,6 +37,18 @@ sign_of id_word key_word verb words = do
   request ← request_of verb words
   Some (Sign (record { id = id; key = key; request = request }))
 
+-- so many jobs from a seed on, at least one, on disks that stop after so many calls
+abbrev pub soak_from : ℕ → ℕ → ℕ → Option Command
+soak_from seed count stop = if nat_eq count 0 then None else Some (Soak seed count stop)
+
+-- `SEED COUNT STOP`: random jobs on a new ledger in memory, at most 100,000, with at most 1,000,000 calls to a stop
+unfoldable pub soak_of : List ℕ → List ℕ → List ℕ → Option Command
+soak_of seed_word count_word stop_word = do
+  seed ← number_of (2 ^ 64 - 1) seed_word
+  count ← number_of 100000 count_word
+  stop ← number_of 1000000 stop_word
+  soak_from seed count stop
+
 -- `init` has five words
 abbrev pub init_from : List ℕ → List ℕ → List ℕ → List (List ℕ) → Option Command
 init_from folder name operator [] = None
@@ -48,8 +60,11 @@ abbrev pub of_two : List ℕ → List ℕ → Option Command
 of_two verb folder = if pointwise nat_eq verb (codes "run") then run_of folder else None
 
 -- what four words ask for
-abbrev pub of_four : List ℕ → List ℕ → List ℕ → List ℕ → Option Command
-of_four verb name operator regulator = if pointwise nat_eq verb (codes "dry") then dry_of name operator regulator else None
+unfoldable pub of_four : List ℕ → List ℕ → List ℕ → List ℕ → Option Command
+of_four verb second third fourth =
+    if pointwise nat_eq verb (codes "dry") then dry_of second third fourth
+    else if pointwise nat_eq verb (codes "soak") then soak_of second third fourth
+    else None
 
 -- what five words and more ask for
 abbrev pub of_more : List ℕ → List ℕ → List ℕ → List ℕ → List (List ℕ) → Option Command
@@ -58,7 +73,8 @@ of_more verb second third fourth words =
     else if pointwise nat_eq verb (codes "init") then init_from second third fourth words
     else None
 
--- what the words ask for: `run DIR`, `dry NAME OPKEY REGKEY`, `init DIR NAME OPKEY REGKEY`, or `sign ID KEY` and then a request
+-- what the words ask for: `run DIR`, `dry NAME OPKEY REGKEY`, `soak SEED COUNT STOP`, `init DIR NAME OPKEY REGKEY`, or
+-- `sign ID KEY` and then a request
 abbrev pub command_of : List (List ℕ) → Option Command
 command_of [] = None
 command_of (verb ∷ []) = None

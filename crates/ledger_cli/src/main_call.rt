@@ -129,6 +129,6 @@ fn wants_notary(alloc: Global, words: &[String]) -> Result<bool, NoMemory>
 {
     match Command::read(alloc, words)? {
         Some(Command::Init(_) | Command::Run) => Ok(true),
-        Some(Command::Dry(_) | Command::Sign(_)) | None => Ok(false),
+        Some(Command::Dry(_) | Command::Sign(_) | Command::Soak { .. }) | None => Ok(false),
     }
 }

@@ -3,7 +3,7 @@ ghost use Rattle.batch_committer.specs.World.{Pair, pair};
 ghost use Rattle.ledger_bytes.specs.Causes.{count_after};
 ghost use Rattle.ledger_io.specs.Outside.{SourceState, MeetsOne};
 ghost use Rattle.time_peg.specs.Entries.{NotaryState};
-ghost use Rattle.ledger_cli.specs.Runs.{handed, DiskFailed, Finishes, Makes, NothingFailed, RanProgram, RunsAgain, RunsNew, ServedBy, Signs};
+ghost use Rattle.ledger_cli.specs.Runs.{handed, DiskFailed, Finishes, Makes, NothingFailed, RanProgram, RunsAgain, RunsNew, ServedBy, Signs, Soaks};
 ghost use Rattle.ledger_cli.specs.Signing.{signed_text};
 ghost use Rattle.ledger_cli.specs.Words.{command_of};
 
@@ -18,6 +18,7 @@ use ledger_disk::Disk;
 use ledger_io::{Ending, Sink, Source, finish, write_all, write_last};
 use ledger_model::{Genesis, Limits};
 use ledger_open::{init, reopen};
+use ledger_soak::{SoakEnd, soak};
 use member_book::Verifier;
 use script_lines::Word;
 use std::alloc::Global;
@@ -28,7 +29,7 @@ use time_peg::Notary;
 /// The program: runs the command that the words after the program's name make. `init` makes a ledger of the two disks.
 /// `run` opens the ledger that is there, and runs the script that `source` gives on it; its replies are written to `sink`,
 /// a receipt once its block is on the disk for good. `dry` does both with a new ledger. `sign` reads nothing, uses no disk
-/// and writes one text. Whose key a proof shows is what the verifier says. Anchors are stamped by `notary`; where that fails
+/// and writes one text. `soak` reads nothing and uses no disk that is handed in. Whose key a proof shows is what the verifier says. Anchors are stamped by `notary`; where that fails
 /// the line is refused and the run goes on. It answers the exit status:
 ///
 /// | Status | Comes | Last line |
@@ -138,6 +139,9 @@ fn run_words<
         Ok(Some(Command::Init(genesis))) => make(alloc, &genesis, sink, a, b),
         Ok(Some(Command::Run)) => run_again(rt, alloc, source, sink, a, b, notary, verifier, gate),
         Ok(Some(Command::Sign(signing))) => sign(&signing, sink),
+        Ok(Some(Command::Soak { seed, count, stop })) => run_soak(
+            rt, alloc, seed, count, stop, sink,
+        ),
         Ok(None) => LedgerEnding::Run(Ending::Usage),
         Err(NoMemory) => LedgerEnding::Run(Ending::NoMemory),
     }
@@ -259,5 +263,24 @@ fn sign<K: Sink>(signing: &Signing, sink: &mut K) -> LedgerEnding
     match write_all(sink, &signing.text()) {
         Ok(()) => LedgerEnding::Run(Ending::Done),
         Err(_) => LedgerEnding::Run(Ending::WriteFault),
+    }
+}
+
+// Runs random jobs on a new ledger in memory, and writes the line that sums them up.
+fn run_soak<R: Threads, K: Sink>(
+    rt: &R,
+    alloc: Global,
+    seed: u64,
+    count: u64,
+    stop: u64,
+    sink: &mut K,
+) -> LedgerEnding
+    ensures { (source : SourceState) (disks : Pair) (notary : NotaryState) → Soaks seed count stop result
+        (handed source (K.state sink.old) disks notary) (handed source (K.state sink.new) disks notary) }
+{
+    match soak(rt, alloc, seed, count, stop, sink) {
+        SoakEnd::Done => LedgerEnding::Run(Ending::Done),
+        SoakEnd::WriteFault => LedgerEnding::Run(Ending::WriteFault),
+        SoakEnd::NoMemory => LedgerEnding::Run(Ending::NoMemory),
     }
 }

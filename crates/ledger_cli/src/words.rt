@@ -1,10 +1,10 @@
 ghost use Rattle.std.specs.Prelude.{◌≡◌, map, string_bytes, IfOk, OnErr, IsSome};
-ghost use Rattle.ledger_cli.specs.Words.{dry_of, genesis_of, init_of, of_four, of_more, of_two, sign_of};
+ghost use Rattle.ledger_cli.specs.Words.{dry_of, genesis_of, init_of, of_four, of_more, of_two, sign_of, soak_of};
 
 use crate::signing::{Signing, read_request};
 use ledger_bytes::{Bytes, NoMemory};
 use ledger_model::Genesis;
-use script_lines::{read_digest, read_name};
+use script_lines::{read_digest, read_name, read_number};
 use std::alloc::Global;
 
 /// What the words of the command line ask for.
@@ -18,7 +18,23 @@ pub enum Command {
     Run,
     /// `sign ID KEY` and a request: the request's message, and the key's proof of it. It reads no input.
     Sign(Signing),
+    /// `soak SEED COUNT STOP`: so many random jobs on a new ledger in memory, whose disks stop after so many calls each where
+    /// that isn't 0, and a line that sums them up. It reads no input.
+    Soak {
+        /// With which state the generator begins.
+        seed: u64,
+        /// How many jobs, from 1 to 100,000.
+        count: u64,
+        /// After how many calls of `write`, `cut` and `sync` each disk stops, up to 1,000,000. For 0 none does.
+        stop: u64,
+    },
 }
+
+/// The most jobs of a `soak`.
+const SOAK_JOBS: u64 = 100_000;
+
+/// After how many calls of `write`, `cut` and `sync` the disks of a `soak` may stop at the latest.
+const SOAK_CALLS: u64 = 1_000_000;
 
 impl Command {
     ghost use Rattle.ledger_cli.specs.Words.{command_of};
@@ -61,6 +77,7 @@ fn read_two(verb: &str, folder: &str) -> Option<Command>
     }
 }
 
+#[tactic(auto, unfolding(crate::specs::Words::of_four))]
 fn read_four(
     alloc: Global,
     verb: &str,
@@ -74,9 +91,24 @@ fn read_four(
 {
     if verb == "dry" {
         read_dry(alloc, name, operator, regulator)
+    } else if verb == "soak" {
+        Ok(read_soak(name, operator, regulator))
     } else {
         Ok(None)
     }
+}
+
+#[tactic(auto, unfolding(crate::specs::Words::soak_of))]
+fn read_soak(seed: &str, count: &str, stop: &str) -> Option<Command>
+    ensures { result ≡ soak_of seed.now count.now stop.now }
+{
+    let seed = read_number(seed.as_bytes(), u64::MAX)?;
+    let count = read_number(count.as_bytes(), SOAK_JOBS)?;
+    let stop = read_number(stop.as_bytes(), SOAK_CALLS)?;
+    if count == 0 {
+        return None;
+    }
+    Some(Command::Soak { seed, count, stop })
 }
 
 // Five words and more.
