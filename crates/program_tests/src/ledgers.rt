@@ -19,6 +19,7 @@ mod notaries;
 mod occults;
 mod proofs;
 mod purges;
+mod soaks;
 mod words;
 
 // The keys of the operator and the regulator of a ledger for trial: 32 bytes 1, and 32 bytes 2.
