@@ -10,5 +10,5 @@ returns-clause-serves c = λ h s0 at.
     let k = the_view c.self.inside in
     let s = subst (λ (k : Kept). Serves k h) (sym c.self.view_is) s0 in
     let p = c.args.p in
-    serves_cut k h p s at (subst (λ (k : Kept). k.floor ≤ p) (sym c.self.view_is) c.requires.low) (subst (λ (k : Kept). p ≤ k.sealed) (sym c.self.view_is) c.requires.high) c.retain.new.self.items c.drop_below.new.self c.drop_below-2.new.self c.drop-drain.new.self.0.items c.forget_below.new.self
+    serves_cut k h p s at (subst (λ (k : Kept). k.floor ≤ p) (sym c.self.view_is) c.requires.low) (subst (λ (k : Kept). p ≤ k.sealed) (sym c.self.view_is) c.requires.high) c.retain.new.self.items c.drop_below.new.self c.drop_below-2.new.self c.keep_from.new.values.items c.forget_below.new.self
     (filter_same _ (λ end. nat_lt p end) _ (λ x b f' called. search rules) _ _ c.retain.ensures.filtered) c.drop_below.ensures c.drop_below-2.ensures (search rules) c.forget_below.ensures.stands
