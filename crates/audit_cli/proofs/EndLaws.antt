@@ -6,7 +6,7 @@ use Rattle.std.proofs.lemmas.List.{take-append-drop, length-take-le}
 use Rattle.ledger_bytes.specs.Begins.{Begins}
 use Rattle.ledger_io.specs.Endings.{ending_of}
 use Rattle.ledger_io.specs.Outside.{SourceState, SinkState, MeetsOne, Outside, outside}
-use Rattle.ledger_io.specs.Reading.{Reading, Reads, GivesLine, GivesNone, Fails, Gives, faults_next}
+use Rattle.ledger_io.specs.Reading.{Reading, ReadsBytes, GivesLine, GivesNone, Fails, Gives, faults_next}
 use Rattle.ledger_io.specs.Runs.{FallsShort, SomeAnswer}
 use Rattle.ledger_io.specs.Writing.{WritesFirst}
 use Rattle.ledger_io.specs.declared.ending.Ending.TheVariants as ending
@@ -20,7 +20,7 @@ use Rattle.tree_model.specs.Tree.{Hash}
 use Rattle.audit_core.specs.Trust.{Trust}
 use Rattle.audit_cli.specs.Answers.{answer_to}
 use Rattle.audit_cli.specs.Replies.{reply_text}
-use Rattle.audit_cli.specs.Runs.{Answers, ServedScript}
+use Rattle.audit_cli.specs.Runs.{AnswersScript, ServedScript}
 use Rattle.audit_cli.specs.Texts.{audit_text, next_text}
 use Rattle.tree_model.proofs.PathClashes.{Makes}
 use Rattle.audit_cli.proofs.SoundLaws.{answered}
@@ -41,25 +41,25 @@ part_begins hash lines tail line taken fewer =
     omega (arith, fewer, ap length all, ap length whole, length-append text reply, length-append text (take taken reply), length-append (text ++ take taken reply) (drop taken reply ++ more.rest), length-append (drop taken reply) more.rest, length-append (text ++ take taken reply) (drop taken reply), length-take-le taken reply (omega (arith, fewer))) in
     (record { rest = drop taken reply ++ more.rest; is = all }, short)
 
-module _ (hash : Hash) (makes : Makes hash) (before now : Outside) (source : SourceState) (old new : Reading) (bytes : List ℕ) (trust : Trust) (count : ℕ) (s : SoFar hash before now old trust count) (r : Reads now.source source old new bytes) where
+module _ (hash : Hash) (makes : Makes hash) (before now : Outside) (source : SourceState) (old new : Reading) (bytes : List ℕ) (trust : Trust) (count : ℕ) (s : SoFar hash before now old trust count) (r : ReadsBytes now.source source old new bytes) where
   read_consumed : Consumes before.source.left source.left (s.input.read ++ bytes)
   read_consumed = given_consumed before.source now.source source old new bytes s.lines s.input r
 
   -- the session is done
   pub served_done : source.faults ≡ now.source.faults → GivesNone now.source source old new bytes → ServedScript hash ending.Done before (outside source now.sink)
   served_done k g =
-      served_end (Answers hash) before None source now.sink (s.input.read ++ bytes) (audit_text hash s.lines) s.lines read_consumed
+      served_end (AnswersScript hash) before None source now.sink (s.input.read ++ bytes) (audit_text hash s.lines) s.lines read_consumed
       (ended_whole before.source now.source source old new bytes s.lines s.input r k g) (answered hash makes s.lines) s.output.appended s.output.none
 
   -- the text that was written begins that of the lines that were given and any that follow
-  begun : (tail : List (List ℕ)) → SomeAnswer (Answers hash) (s.lines ++ tail) (Begins (audit_text hash s.lines))
+  begun : (tail : List (List ℕ)) → SomeAnswer (AnswersScript hash) (s.lines ++ tail) (Begins (audit_text hash s.lines))
   begun tail = (audit_text hash (s.lines ++ tail), answered hash makes (s.lines ++ tail), text_begins hash s.lines tail)
 
   -- an error of reading ends the session
   failed : (error : LineErr) → error ≢ NoMemory → source.faults ≡ faults_next {T = Option (List ℕ)} (Err error) old.failed now.source.faults → Fails now.source source old new bytes error
       → ServedScript hash (ending_of error) before (outside source now.sink)
   failed error other k f =
-      served_end (Answers hash) before (Some error) source now.sink (s.input.read ++ bytes) (audit_text hash s.lines) s.lines read_consumed
+      served_end (AnswersScript hash) before (Some error) source now.sink (s.input.read ++ bytes) (audit_text hash s.lines) s.lines read_consumed
       (ended_failed before.source now.source source old new bytes s.lines s.input r error other k f) (answered hash makes s.lines) s.output.appended s.output.none
 
   served_failed : (error : LineErr) → source.faults ≡ faults_next {T = Option (List ℕ)} (Err error) old.failed now.source.faults → Fails now.source source old new bytes error
@@ -72,7 +72,7 @@ module _ (hash : Hash) (makes : Makes hash) (before now : Outside) (source : Sou
     replies = audit_text hash s.lines;
     consumed = read_consumed;
     appended = s.output.appended;
-    replied = (s.output.none, text_whole hash s.lines, some_at_failure before.source now.source source old new bytes s.lines s.input r (Answers hash) (Begins (audit_text hash s.lines)) k f begun);
+    replied = (s.output.none, text_whole hash s.lines, some_at_failure before.source now.source source old new bytes s.lines s.input r (AnswersScript hash) (Begins (audit_text hash s.lines)) k f begun);
   }
 
   pub served_error : (error : LineErr) → source.faults ≡ faults_next {T = Option (List ℕ)} (Err error) old.failed now.source.faults → Gives now.source source old new bytes (Err error)
@@ -97,8 +97,8 @@ module _ (hash : Hash) (makes : Makes hash) (before now : Outside) (source : Sou
       replied = (
         s.output.none,
         text_whole hash s.lines,
-        some_of_given (Answers hash) before.source source new (s.lines ++ line ∷ []) more (Begins (audit_text hash s.lines))
-            (λ tail. subst (λ all. SomeAnswer (Answers hash) all (Begins (audit_text hash s.lines))) (sym (append_assoc s.lines (line ∷ []) tail)) (begun (line ∷ tail))),
+        some_of_given (AnswersScript hash) before.source source new (s.lines ++ line ∷ []) more (Begins (audit_text hash s.lines))
+            (λ tail. subst (λ all. SomeAnswer (AnswersScript hash) all (Begins (audit_text hash s.lines))) (sym (append_assoc s.lines (line ∷ []) tail)) (begun (line ∷ tail))),
       );
     }
 
@@ -114,7 +114,7 @@ module _ (hash : Hash) (makes : Makes hash) (before now : Outside) (source : Sou
           appended = Appends-trans before.sink.held now.sink.held sink.held (audit_text hash s.lines) (take taken (next_text hash s.lines line)) s.output.appended part;
           replied = (
             rw (none.0, none.1) at one,
-            some_of_given (Answers hash) before.source source new (s.lines ++ line ∷ []) more (FallsShort replies)
+            some_of_given (AnswersScript hash) before.source source new (s.lines ++ line ∷ []) more (FallsShort replies)
                 (λ tail. (audit_text hash ((s.lines ++ line ∷ []) ++ tail), answered hash makes ((s.lines ++ line ∷ []) ++ tail), part_begins hash s.lines tail line taken fewer)),
           );
         }

@@ -11,7 +11,7 @@ use Rattle.ledger_bytes.specs.declared.digest.Digest.{Digest}
 use Rattle.ledger_bytes.specs.declared.refusal.Refusal.{Refusal}
 use Rattle.ledger_io.specs.Lines.{line_limit}
 use Rattle.proof_codec.specs.declared.claim.Claim.{Claim}
-use Rattle.script_lines.specs.Fields.{Left, fields_of, read_or_bad, field_from, field_at, end_from, end_at}
+use Rattle.script_lines.specs.Fields.{UnreadFields, fields_of, read_or_bad, field_from, field_at, end_from, end_at}
 use Rattle.script_lines.specs.Grammar.{◌>>=◌}
 use Rattle.script_lines.specs.Spellings.{text_of, number_of, bytes_of, digest_of, which_of, mark_of, is_dash}
 use Rattle.script_lines.specs.declared.said.Which.{Which}
@@ -35,32 +35,32 @@ Gives (Ok (Judge id headers entries claim proof)) = Judgeable headers proof
 Gives (Err refusal) = ⊤
 
 -- what a field reads as keeps to a rule
-abbrev Reads : {A : Type 0} → (A → Type 0) → Result (A × Left) Refusal → Type 0
+abbrev Reads : {A : Type 0} → (A → Type 0) → Result (A × UnreadFields) Refusal → Type 0
 Reads P (Ok read) = P read.0
 Reads P (Err refusal) = ⊤
 
-reads_or : {A : Type 0} (P : A → Type 0) (column : ℕ) (read : Option A) (rest : Left) → ((x : A) → read ≡ Some x → P x) → Reads P (read_or_bad column read rest)
+reads_or : {A : Type 0} (P : A → Type 0) (column : ℕ) (read : Option A) (rest : UnreadFields) → ((x : A) → read ≡ Some x → P x) → Reads P (read_or_bad column read rest)
 reads_or P column None rest keeps = tt
 reads_or P column (Some x) rest keeps = keeps x refl
 
-field_reads : {A : Type 0} (P : A → Type 0) (read : List ℕ → Option A) (left : Left) → ((text : List ℕ) (x : A) → read text ≡ Some x → P x) → Reads P (field_at read left)
+field_reads : {A : Type 0} (P : A → Type 0) (read : List ℕ → Option A) (left : UnreadFields) → ((text : List ℕ) (x : A) → read text ≡ Some x → P x) → Reads P (field_at read left)
 field_reads P read left keeps = by left.fields where
   by : (fields : List (List ℕ)) → Reads P (field_from read left.column fields)
   by [] = tt
   by (field ∷ fields) = reads_or P left.column (read field) _ (keeps field)
 
 -- the rest of a line behind a field
-then_gives : {A : Type 0} (P : A → Type 0) (first : Result (A × Left) Refusal) (second : A × Left → Result Line Refusal)
-    → Reads P first → ((x : A × Left) → P x.0 → Gives (second x)) → Gives (first >>= second)
+then_gives : {A : Type 0} (P : A → Type 0) (first : Result (A × UnreadFields) Refusal) (second : A × UnreadFields → Result Line Refusal)
+    → Reads P first → ((x : A × UnreadFields) → P x.0 → Gives (second x)) → Gives (first >>= second)
 then_gives P (Ok x) second first_reads gives = gives x first_reads
 then_gives P (Err refusal) second first_reads gives = tt
 
 -- .. of which nothing is asked
-any_gives : {A : Type 0} (read : List ℕ → Option A) (left : Left) (second : A × Left → Result Line Refusal) → ((x : A × Left) → Gives (second x)) → Gives (field_at read left >>= second)
+any_gives : {A : Type 0} (read : List ℕ → Option A) (left : UnreadFields) (second : A × UnreadFields → Result Line Refusal) → ((x : A × UnreadFields) → Gives (second x)) → Gives (field_at read left >>= second)
 any_gives read left second gives = then_gives (λ x. ⊤) (field_at read left) second (field_reads (λ x. ⊤) read left (λ text x is. tt)) (λ x any. gives x)
 
 -- .. and its end
-end_gives : (left : Left) (line : Line) → Gives (Ok line) → Gives (end_at left >>= (λ end. Ok line))
+end_gives : (left : UnreadFields) (line : Line) → Gives (Ok line) → Gives (end_at left >>= (λ end. Ok line))
 end_gives left line gives = by left.fields where
   by : (fields : List (List ℕ)) → Gives (end_from left.column fields >>= (λ end. Ok line))
   by [] = gives
@@ -94,7 +94,7 @@ pieces_are width text bytes is = by (bytes_of line_limit text) refl is where
   by None read e = absurd cc
   by (Some given) read e = subst IsBytes (kept (length given % width == 0) given e) (bytes_are line_limit text given read)
 
-judge_gives : (fields : Left) → Gives (judge_at fields)
+judge_gives : (fields : UnreadFields) → Gives (judge_at fields)
 unfolding judge_at
 judge_gives fields =
     any_gives digest_of fields _ (λ id.
@@ -108,28 +108,28 @@ judge_gives fields =
     end_gives proof.1 (Judge id.0 headers.0 entries.0 (record { n = n.0; leaf = leaf.0; lo = lo.0; hi = hi.0 }) proof.0)
     (record { headers_are = headers_are; proof_is = proof_is })))))))))
 
-trust_ledger_gives : (fields : Left) → Gives (trust_ledger_at fields)
+trust_ledger_gives : (fields : UnreadFields) → Gives (trust_ledger_at fields)
 unfolding trust_ledger_at
 trust_ledger_gives fields =
     any_gives digest_of fields _ (λ id.
     any_gives (number_of (2 ^ 64 - 1)) id.1 _ (λ size.
     any_gives digest_of size.1 _ (λ root. end_gives root.1 (TrustLedger id.0 (record { size = size.0; root = root.0 })) tt)))
 
-trust_notary_gives : (fields : Left) → Gives (trust_notary_at fields)
+trust_notary_gives : (fields : UnreadFields) → Gives (trust_notary_at fields)
 unfolding trust_notary_at
 trust_notary_gives fields =
     any_gives (number_of (2 ^ 64 - 1)) fields _ (λ size.
     any_gives digest_of size.1 _ (λ root. end_gives root.1 (TrustNotary (record { size = size.0; root = root.0 })) tt))
 
-trust_of_gives : (which : Which) (fields : Left) → Gives (trust_of which fields)
+trust_of_gives : (which : Which) (fields : UnreadFields) → Gives (trust_of which fields)
 trust_of_gives Ledger fields = trust_ledger_gives fields
 trust_of_gives Notary fields = trust_notary_gives fields
 
-trust_gives : (fields : Left) → Gives (trust_at fields)
+trust_gives : (fields : UnreadFields) → Gives (trust_at fields)
 unfolding trust_at
 trust_gives fields = any_gives which_of fields _ (λ which. trust_of_gives which.0 which.1)
 
-extend_gives : (fields : Left) → Gives (extend_at fields)
+extend_gives : (fields : UnreadFields) → Gives (extend_at fields)
 unfolding extend_at
 extend_gives fields =
     any_gives which_of fields _ (λ which.
@@ -139,7 +139,7 @@ extend_gives fields =
     any_gives (bytes_of line_limit) root.1 _ (λ proof.
     end_gives proof.1 (Extend which.0 m.0 (record { size = size.0; root = root.0 }) proof.0) tt)))))
 
-check_gives : (fields : Left) → Gives (check_at fields)
+check_gives : (fields : UnreadFields) → Gives (check_at fields)
 unfolding check_at
 check_gives fields =
     any_gives (number_of (2 ^ 64 - 1)) fields _ (λ n.
@@ -154,14 +154,14 @@ either_gives : (b : Bool) (x y : Result Line Refusal) → Gives x → Gives y �
 either_gives true x y first second = first
 either_gives false x y first second = second
 
-verb_gives : (verb : List ℕ) (fields : Left) → Gives (verb_at verb fields)
+verb_gives : (verb : List ℕ) (fields : UnreadFields) → Gives (verb_at verb fields)
 verb_gives verb fields =
     either_gives (bytes_eq verb (codes "trust")) _ _ (trust_gives fields)
     (either_gives (bytes_eq verb (codes "extend")) _ _ (extend_gives fields)
     (either_gives (bytes_eq verb (codes "check")) _ _ (check_gives fields)
     (either_gives (bytes_eq verb (codes "judge")) _ _ (judge_gives fields) tt)))
 
-line_gives : (fields : Left) → Gives (line_at fields)
+line_gives : (fields : UnreadFields) → Gives (line_at fields)
 unfolding line_at
 line_gives fields = any_gives text_of fields _ (λ verb. verb_gives verb.0 verb.1)
 

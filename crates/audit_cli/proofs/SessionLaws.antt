@@ -3,7 +3,7 @@ use Rattle.std.proofs.Common.{◌≡◌, ℕ, ◌+◌, false, List, [], ◌∷�
 use Rattle.std.specs.Io.KnownBytes.{Appends}
 use Rattle.std.proofs.KnownBytes.{Appends-nil, Appends-trans}
 use Rattle.ledger_io.specs.Outside.{SourceState, SinkState, Outside, outside, MeetsNone}
-use Rattle.ledger_io.specs.Reading.{Reading, Reads, GivesLine}
+use Rattle.ledger_io.specs.Reading.{Reading, ReadsBytes, GivesLine}
 use Rattle.ledger_io.proofs.ReadingLaws.{HasGiven, read_none, read_more}
 use Rattle.tree_model.specs.Tree.{Hash}
 use Rattle.audit_core.specs.Trust.{Trust, nothing_trusted}
@@ -47,7 +47,7 @@ next_is hash before now reading trust count line s =
 
 -- a session goes on: a line was given, and its answer written
 pub sofar_more : (hash : Hash) (before now : Outside) (source : SourceState) (sink : SinkState) (old new : Reading) (bytes line : List ℕ) (trust trust' : Trust) (count : ℕ)
-    → SoFar hash before now old trust count → Reads now.source source old new bytes → source.faults ≡ now.source.faults → GivesLine source old new bytes line
+    → SoFar hash before now old trust count → ReadsBytes now.source source old new bytes → source.faults ≡ now.source.faults → GivesLine source old new bytes line
     → Appends now.sink.held sink.held (reply_text (count + 1) (answer_to hash trust line)) → MeetsNone now.sink sink
     → trust' ≡ trust_after hash trust line
     → SoFar hash before (outside source sink) new trust' (count + 1)

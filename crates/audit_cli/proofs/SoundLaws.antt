@@ -27,8 +27,8 @@ use Rattle.audit_cli.specs.declared.reply.Reply.TheVariants as reply
 use Rattle.audit_cli.specs.Answers.{reply_to}
 use Rattle.audit_cli.specs.Replies.{reply_words, reply_text}
 use Rattle.audit_cli.specs.Texts.{audit_text, trusted_behind, reply_behind}
-use Rattle.audit_cli.specs.Sound.{SaysYes, Extends, ScriptLeads, IsLed, AreLed, IsTrueInTime, IsSound}
-use Rattle.audit_cli.specs.Runs.{Answers}
+use Rattle.audit_cli.specs.Sound.{SaysYes, Extends, ScriptLeads, IsLed, AreLed, IsTrueInTime, IsSoundText}
+use Rattle.audit_cli.specs.Runs.{AnswersScript}
 use Rattle.audit_cli.proofs.JudgedLines.{checked_line}
 use Rattle.audit_cli.proofs.LineLaws.{text_line}
 use Rattle.audit_cli.proofs.YesLaws.{told_yes, accepted, unrefused}
@@ -85,12 +85,12 @@ module _ (hash : Hash) (lines : List (List ℕ)) (text : List ℕ) (text_is : te
           | inr clashes ↦ inr clashes
         ]
 
-    pub text_sound : IsSound hash lines text
+    pub text_sound : IsSoundText hash lines text
     text_sound = record {
       checked = checked_true;
       extended = λ which m old es list led. chain_true hash makes m old es (length list) (mth hash list) list (leads which m old es (length list) (mth hash list) led) refl refl;
     }
 
 -- the text of a script answers it
-pub answered : (hash : Hash) (makes : Makes hash) (lines : List (List ℕ)) → Answers hash lines (audit_text hash lines)
+pub answered : (hash : Hash) (makes : Makes hash) (lines : List (List ℕ)) → AnswersScript hash lines (audit_text hash lines)
 answered hash makes lines = record { text = refl; sound = text_sound hash lines (audit_text hash lines) refl makes }

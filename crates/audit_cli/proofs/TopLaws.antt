@@ -10,8 +10,8 @@ use Rattle.ledger_io.specs.declared.ending.Ending.{Ending}
 use Rattle.ledger_io.specs.declared.ending.Ending.TheVariants.{Done, Usage, ReadFault, WriteFault, NoMemory, LineTooLong, ScriptTooLong}
 use Rattle.ledger_io.proofs.RunLaws.{served_usage}
 use Rattle.tree_model.specs.Tree.{Hash}
-use Rattle.audit_cli.specs.Sound.{IsSound, SoundRun}
-use Rattle.audit_cli.specs.Runs.{Answers, RanProgram}
+use Rattle.audit_cli.specs.Sound.{IsSoundText, SoundRun}
+use Rattle.audit_cli.specs.Runs.{AnswersScript, RanProgram}
 use Rattle.audit_cli.specs.declared.words.Command.{Command}
 use Rattle.audit_cli.specs.declared.words.Command.TheVariants.{Script}
 
@@ -25,7 +25,7 @@ ran_usage hash asked status source before after none is l = record {
   ending = Usage;
   status_is = is;
   usage = (λ e. none, λ e. refl);
-  ran = record { sink = before; served = served_usage (Answers hash) (outside source before); last = l };
+  ran = record { sink = before; served = served_usage (AnswersScript hash) (outside source before); last = l };
 }
 
 -- ---- a run that is done
@@ -35,7 +35,7 @@ nil_front : (xs ys : List ℕ) → [] ≡ xs ++ ys → xs ≡ []
 nil_front [] ys e = refl
 nil_front (x ∷ xs) ys e = absurd cc
 
-done_sound : (hash : Hash) (before after : Outside) → Ran (Answers hash) Done before after → SoundRun hash before after
+done_sound : (hash : Hash) (before after : Outside) → Ran (AnswersScript hash) Done before after → SoundRun hash before after
 done_sound hash before after ran =
     let served = ran.served in
     let told = served.replied in
@@ -47,10 +47,10 @@ done_sound hash before after ran =
       consumed = served.consumed;
       at_end = told.ended.1;
       written = subst (Appends before.sink.held after.sink.held) (ap (λ last. served.replies ++ last) none ∙ append-nil served.replies) written;
-      sound = subst (λ lines. IsSound hash lines served.replies) told.ended.3 told.answered.sound;
+      sound = subst (λ lines. IsSoundText hash lines served.replies) told.ended.3 told.answered.sound;
     }
 
-ending_sound : (hash : Hash) (ending : Ending) (before after : Outside) → status_of ending ≡ 0 → Ran (Answers hash) ending before after → SoundRun hash before after
+ending_sound : (hash : Hash) (ending : Ending) (before after : Outside) → status_of ending ≡ 0 → Ran (AnswersScript hash) ending before after → SoundRun hash before after
 ending_sound hash Done before after e ran = done_sound hash before after ran
 ending_sound hash Usage before after e ran = absurd cc
 ending_sound hash ReadFault before after e ran = absurd cc

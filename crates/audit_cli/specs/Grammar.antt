@@ -4,7 +4,7 @@ use Rattle.std.specs.Str.{bytes_eq}
 use Rattle.ledger_bytes.specs.declared.refusal.Refusal.{Refusal}
 use Rattle.ledger_bytes.specs.declared.refusal.Refusal.TheVariants.{BadVerb}
 use Rattle.ledger_io.specs.Lines.{line_limit}
-use Rattle.script_lines.specs.Fields.{Left, fields_of, field_at, end_at}
+use Rattle.script_lines.specs.Fields.{UnreadFields, fields_of, field_at, end_at}
 use Rattle.script_lines.specs.Grammar.{◌>>=◌}
 use Rattle.script_lines.specs.Spellings.{text_of, number_of, bytes_of, digest_of, which_of, mark_of}
 use Rattle.script_lines.specs.declared.said.Which.{Which}
@@ -13,7 +13,7 @@ use Rattle.audit_cli.specs.declared.line.Line.{Line}
 use Rattle.audit_cli.specs.declared.line.Line.TheVariants.{TrustLedger, TrustNotary, Extend, Check, Judge}
 
 -- a head of a ledger that is to be trusted: its id, its size and its root
-unfoldable pub trust_ledger_at : Left → Result Line Refusal
+unfoldable pub trust_ledger_at : UnreadFields → Result Line Refusal
 trust_ledger_at fields = do
   id ← field_at digest_of fields
   size ← field_at (number_of (2 ^ 64 - 1)) id.1
@@ -22,7 +22,7 @@ trust_ledger_at fields = do
   Ok (TrustLedger id.0 (record { size = size.0; root = root.0 }))
 
 -- a head of a notary that is to be trusted: its size and its root
-unfoldable pub trust_notary_at : Left → Result Line Refusal
+unfoldable pub trust_notary_at : UnreadFields → Result Line Refusal
 trust_notary_at fields = do
   size ← field_at (number_of (2 ^ 64 - 1)) fields
   root ← field_at digest_of size.1
@@ -30,19 +30,19 @@ trust_notary_at fields = do
   Ok (TrustNotary (record { size = size.0; root = root.0 }))
 
 -- a head of one of the two
-abbrev pub trust_of : Which → Left → Result Line Refusal
+abbrev pub trust_of : Which → UnreadFields → Result Line Refusal
 trust_of Ledger fields = trust_ledger_at fields
 trust_of Notary fields = trust_notary_at fields
 
 -- a head that is to be trusted: the word `ledger` or `notary`, and what it asks for
-unfoldable pub trust_at : Left → Result Line Refusal
+unfoldable pub trust_at : UnreadFields → Result Line Refusal
 trust_at fields = do
   which ← field_at which_of fields
   trust_of which.0 which.1
 
 -- a head that is to be trusted since it goes on from a trusted one: which tree it is of, the trusted size, the size and the
 -- root, and the bytes of the proof, which are as many as a line has room for
-unfoldable pub extend_at : Left → Result Line Refusal
+unfoldable pub extend_at : UnreadFields → Result Line Refusal
 extend_at fields = do
   which ← field_at which_of fields
   m ← field_at (number_of (2 ^ 64 - 1)) which.1
@@ -54,7 +54,7 @@ extend_at fields = do
 
 -- a proof that is to be checked: a journal's number, its leaf digest, the marks in front of it and behind it, and the
 -- proof's bytes, which are as many as a line has room for
-unfoldable pub check_at : Left → Result Line Refusal
+unfoldable pub check_at : UnreadFields → Result Line Refusal
 check_at fields = do
   n ← field_at (number_of (2 ^ 64 - 1)) fields
   leaf ← field_at digest_of n.1
@@ -75,7 +75,7 @@ pieces_of width text = pieces_from width (bytes_of line_limit text)
 
 -- a proof that is to be judged by the whole lists: the ledger's id, the headers of all its journals, all entries of its
 -- notary, a claim as `check` has it, and the proof's bytes
-unfoldable pub judge_at : Left → Result Line Refusal
+unfoldable pub judge_at : UnreadFields → Result Line Refusal
 judge_at fields = do
   id ← field_at digest_of fields
   headers ← field_at (pieces_of 174) id.1
@@ -89,7 +89,7 @@ judge_at fields = do
   Ok (Judge id.0 headers.0 entries.0 (record { n = n.0; leaf = leaf.0; lo = lo.0; hi = hi.0 }) proof.0)
 
 -- a line by its verb and the fields behind that
-abbrev pub verb_at : List ℕ → Left → Result Line Refusal
+abbrev pub verb_at : List ℕ → UnreadFields → Result Line Refusal
 verb_at verb fields =
     if bytes_eq verb (codes "trust") then trust_at fields
     else if bytes_eq verb (codes "extend") then extend_at fields
@@ -98,7 +98,7 @@ verb_at verb fields =
     else Err BadVerb
 
 -- a line by all its fields, of which the first is the verb
-unfoldable pub line_at : Left → Result Line Refusal
+unfoldable pub line_at : UnreadFields → Result Line Refusal
 line_at fields = do
   verb ← field_at text_of fields
   verb_at verb.0 verb.1

@@ -8,20 +8,20 @@ use Rattle.ledger_io.specs.declared.ending.Ending.{Ending}
 use Rattle.ledger_io.specs.declared.ending.Ending.TheVariants.{Usage}
 use Rattle.audit_cli.specs.declared.words.Command.{Command}
 use Rattle.audit_cli.specs.Texts.{audit_text}
-use Rattle.audit_cli.specs.Sound.{IsSound}
+use Rattle.audit_cli.specs.Sound.{IsSoundText}
 
 -- what is answered to the lines of a script: its text, of which all that it says is so
-pub record Answers (hash : Hash) (lines : List (List ℕ)) (replies : List ℕ) : Type 0 where
+pub record AnswersScript (hash : Hash) (lines : List (List ℕ)) (replies : List ℕ) : Type 0 where
   pub text : replies ≡ audit_text hash lines
-  pub sound : IsSound hash lines replies
+  pub sound : IsSoundText hash lines replies
 
 -- a script from its first line to its ending: everything but the last line
 abbrev pub ServedScript : Hash → Ending → Outside → Outside → Type 0
-ServedScript hash ending before after = Served (Answers hash) ending before after
+ServedScript hash ending before after = Served (AnswersScript hash) ending before after
 
 -- a run of what was asked for, to its exit status
 pub record RanProgram (hash : Hash) (asked : Option Command) (status : ℕ) (before after : Outside) : Type 0 where
   pub ending : Ending
   pub status_is : status ≡ status_of ending
   pub usage : (ending ≡ Usage) ↔ (asked ≡ None)
-  pub ran : Ran (Answers hash) ending before after
+  pub ran : Ran (AnswersScript hash) ending before after

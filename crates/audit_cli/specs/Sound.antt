@@ -70,7 +70,7 @@ pub record IsTrueInTime (hash : Hash) (lists : Lists) (claim : Claim) : Type 0 w
   pub moments : (moments : List ℕ) → IsHonest hash lists moments → AreMoments moments claim
 
 -- what a text says of the lines of a script is so, or two different strings with one digest are shown
-pub record IsSound (hash : Hash) (lines : List (List ℕ)) (text : List ℕ) : Type 0 where
+pub record IsSoundText (hash : Hash) (lines : List (List ℕ)) (text : List ℕ) : Type 0 where
   -- A claim that was checked is true of all lists under the heads that its proof names, and under those that the script's
   -- extensions lead to from these.
   pub checked : (before : List (List ℕ)) (claim : Claim) (bytes : List ℕ) (p : Shown) (ledger notary : List Extension) (lists : Lists)
@@ -89,4 +89,4 @@ pub record SoundRun (hash : Hash) (before after : Outside) : Type 0 where
   pub consumed : Consumes before.source.left after.source.left read
   pub at_end : IsAtEnd after.source.left
   pub written : Appends before.sink.held after.sink.held text
-  pub sound : IsSound hash (lines_of read) text
+  pub sound : IsSoundText hash (lines_of read) text

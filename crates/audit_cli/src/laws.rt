@@ -19,7 +19,7 @@ ghost use Rattle.audit_cli.specs.declared.reply.Reply.TheVariants.{Yes, True, Cl
 ghost use Rattle.audit_cli.specs.Grammar.{line_of};
 ghost use Rattle.audit_cli.specs.Replies.{reply_text, IsOneLine};
 ghost use Rattle.audit_cli.specs.Answers.{answer_to};
-ghost use Rattle.audit_cli.specs.Sound.{IsSound};
+ghost use Rattle.audit_cli.specs.Sound.{IsSoundText};
 ghost use Rattle.audit_cli.specs.Texts.{audit_text, text_from, trusted_behind, reply_behind, next_text};
 
 /// The text of a script tells the reply to each line in its place: behind the text of the lines in front of it, with its
@@ -107,5 +107,5 @@ pub fn extended_heads_go_on()
 /// bounds are moments where the notary is honest. This holds for every hash whose digests have 32 bytes.
 pub fn scripts_are_sound()
     ensures { (hash : Hash) (lines : List (List ℕ)) → ((message : List ℕ) → length (hash message) ≡ 32)
-        → IsSound hash lines (audit_text hash lines) }
+        → IsSoundText hash lines (audit_text hash lines) }
 {}

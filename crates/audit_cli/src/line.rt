@@ -1,6 +1,6 @@
 ghost use Rattle.std.specs.Prelude.{◌≡◌, ◌<◌, ◌%◌, length, IfOk};
 ghost use Rattle.script_lines.specs.Fields.{field_at};
-ghost use Rattle.script_lines.specs.Reading.{Reads, Takes};
+ghost use Rattle.script_lines.specs.Reading.{ReadsLine, TakesFields};
 ghost use Rattle.audit_cli.specs.Grammar.{trust_ledger_at, trust_notary_at, trust_at, extend_at, check_at};
 ghost use Rattle.audit_cli.specs.Grammar.{pieces_of, judge_at, line_at, line_of, IsFit};
 
@@ -60,7 +60,7 @@ pub(crate) enum Line {
 /// is `ledger` or `notary`. LO and HI are `-` or `JSN:INDEX:TIME`, and HEX is `-` for no bytes or two hexadecimal digits
 /// for each. HEADERS and ENTRIES are such digits of whole headers and whole entries.
 pub(crate) fn read_line(alloc: Global, line: &[u8]) -> Result<Line, Stop>
-    ensures reads { Reads result (line_of line.now) }
+    ensures reads { ReadsLine result (line_of line.now) }
     ensures fit { IfOk result IsFit }
 {
     read_fields(alloc, Fields::of(line))
@@ -68,7 +68,7 @@ pub(crate) fn read_line(alloc: Global, line: &[u8]) -> Result<Line, Stop>
 
 #[tactic(auto, unfolding(crate::specs::Grammar::line_at))]
 fn read_fields(alloc: Global, mut fields: Fields) -> Result<Line, Stop>
-    ensures reads { Reads result (line_at fields.entry) }
+    ensures reads { ReadsLine result (line_at fields.entry) }
     ensures fit { IfOk result IsFit }
 {
     let verb = fields.text()?;
@@ -122,7 +122,7 @@ fn trust_notary(mut fields: Fields) -> Result<Line, Refusal>
 
 #[tactic(auto, unfolding(crate::specs::Grammar::extend_at))]
 fn extend(alloc: Global, mut fields: Fields) -> Result<Line, Stop>
-    ensures reads { Reads result (extend_at fields.entry) }
+    ensures reads { ReadsLine result (extend_at fields.entry) }
     ensures fit { IfOk result IsFit }
 {
     let which = fields.which()?;
@@ -141,7 +141,7 @@ fn extend(alloc: Global, mut fields: Fields) -> Result<Line, Stop>
 
 #[tactic(auto, unfolding(crate::specs::Grammar::check_at))]
 fn check(alloc: Global, mut fields: Fields) -> Result<Line, Stop>
-    ensures reads { Reads result (check_at fields.entry) }
+    ensures reads { ReadsLine result (check_at fields.entry) }
     ensures fit { IfOk result IsFit }
 {
     let n = fields.number(u64::MAX)?;
@@ -158,7 +158,7 @@ fn check(alloc: Global, mut fields: Fields) -> Result<Line, Stop>
 
 #[tactic(auto, unfolding(crate::specs::Grammar::judge_at))]
 fn judge(alloc: Global, mut fields: Fields) -> Result<Line, Stop>
-    ensures reads { Reads result (judge_at fields.entry) }
+    ensures reads { ReadsLine result (judge_at fields.entry) }
     ensures fit { IfOk result IsFit }
 {
     let id = fields.digest()?;
@@ -183,7 +183,7 @@ fn judge(alloc: Global, mut fields: Fields) -> Result<Line, Stop>
 // The bytes of a field that are whole pieces of this width.
 fn pieces(alloc: Global, fields: &mut Fields, width: usize) -> Result<Bytes, Stop>
     requires { 0 < width }
-    ensures takes { Takes fields.new result (field_at (pieces_of width) fields.old) }
+    ensures takes { TakesFields fields.new result (field_at (pieces_of width) fields.old) }
     ensures whole { IfOk result (λ bytes. length bytes % width ≡ 0) }
 {
     let column = fields.column();

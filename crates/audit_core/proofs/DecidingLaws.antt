@@ -10,7 +10,7 @@ use Rattle.ledger_bytes.specs.declared.digest.Digest.{Digest}
 use Rattle.ledger_bytes.specs.declared.failure.Bad.{Bad}
 use Rattle.ledger_bytes.specs.declared.failure.Bad.TheVariants.{Trailing}
 use Rattle.ledger_bytes.specs.declared.mark.TimeMark.{TimeMark}
-use Rattle.ledger_bytes.specs.Fields.{Left, left_from, end_at, IsBytes}
+use Rattle.ledger_bytes.specs.Fields.{Unread, left_from, end_at, IsBytes}
 use Rattle.ledger_bytes.proofs.Fields.{bind_ok, check_ok, IsBytes-take, IsBytes-drop}
 use Rattle.journal_record.specs.declared.header.Header.{Header}
 use Rattle.journal_record.specs.declared.header.Kind.{Kind}
@@ -40,7 +40,7 @@ time_kind Purge e = absurd cc
 whole_header : (bytes : List ℕ) (h : Header) → IsBytes bytes → header_of bytes ≡ Ok h → IsWhole h × (bytes ≡ journals.spelling h)
 unfolding header_of
 whole_header bytes h fits e =
-    let start : Left = left_from (length bytes) bytes in
+    let start : Unread = left_from (length bytes) bytes in
     let b = bind_ok (header_at start) (λ read. end_at read.0 read.1) h e in
     let c = check_ok (eqb (length b.0.1.rest) 0) (Trailing (b.0.1.whole - length b.0.1.rest)) b.0.0 h b.2 in
     let took = header_back.takes start b.0.0 b.0.1 fits b.1 in

@@ -8,7 +8,7 @@ use Rattle.script_lines.specs.declared.reply.Reply.TheVariants as reply
 use Rattle.script_lines.specs.declared.said.Which.{Which}
 use Rattle.ledger_bytes.specs.Causes.{count_after}
 use Rattle.journal_record.specs.declared.rules.TheConstants.{NOTARY_LIMIT}
-use Rattle.time_peg.specs.Entries.{NotaryState, IsStamped, HasOneMore, Counts}
+use Rattle.time_peg.specs.Entries.{NotaryState, IsStamped, HasOneMore, CountsFailures}
 use Rattle.time_peg.specs.declared.notary.NotaryErr.{NotaryErr}
 use Rattle.time_peg.specs.declared.notary.NotaryErr.TheVariants.{Failed, Full, NoMemory}
 use Rattle.ledger_model.specs.Anchors.{stamp_of, no_stamp}
@@ -30,7 +30,7 @@ use Rattle.ledger_book.specs.Books as books
 use Rattle.ledger_book.proofs.ApplyLaws.{anchor_accepted}
 use Rattle.ledger_book.specs.Steps.{Applies, Anchors, HasOperatorRoom, PlacesNothing}
 use Rattle.batch_committer.specs.Steps.{Gathers, Judged}
-use Rattle.batch_committer.specs.World.{Kept, Keeps}
+use Rattle.batch_committer.specs.World.{CommitterState, Keeps}
 use Rattle.batch_committer.specs.Attending.{Attended, JudgedBy}
 use Rattle.batch_committer.proofs.Judging.{gathers_kept, judged_same_kept}
 
@@ -50,7 +50,7 @@ unfolding with_job
 unplaced limits h = none_placed h (own_refusal limits h Anchor)
 
 -- the notary gave no stamp: nothing changes, and that is told
-pub unstamped_judged : (k : Kept) (h : History) (step : Step) (why : Refusal) → Keeps k h → own_refusal real_limits h Anchor ≡ None → stamp_of step ≡ None → no_stamp step ≡ why → Judged k h step Anchor (Reply (reply.Refused why))
+pub unstamped_judged : (k : CommitterState) (h : History) (step : Step) (why : Refusal) → Keeps k h → own_refusal real_limits h Anchor ≡ None → stamp_of step ≡ None → no_stamp step ≡ why → Judged k h step Anchor (Reply (reply.Refused why))
 unfolding outcome
 unstamped_judged k h step why p accepted none is = record {
   answer_is =
@@ -68,21 +68,21 @@ stamped_placed k s o room told (inr x) = subst (Anchors k (Some s)) x.1 told
 
 -- ---- from the clauses of a notary
 
-pub accepted_real : (k : Kept) (h : History) → Keeps k h → HasOperatorRoom k.book → own_refusal real_limits h Anchor ≡ None
+pub accepted_real : (k : CommitterState) (h : History) → Keeps k h → HasOperatorRoom k.book → own_refusal real_limits h Anchor ≡ None
 accepted_real k h p room = subst (λ limits. own_refusal limits h Anchor ≡ None) p.limits (anchor_accepted k.book h p.serves room)
 
-pub full_of : (peg : List ℕ) (old new : List (List ℕ)) (before now : ℕ) (e : NotaryErr) → e ≡ Full → IsStamped peg old new (Err e) → Counts {T = Stamp} (Err e) before now → (new ≡ old) × (length old ≡ NOTARY_LIMIT) × (now ≡ before)
+pub full_of : (peg : List ℕ) (old new : List (List ℕ)) (before now : ℕ) (e : NotaryErr) → e ≡ Full → IsStamped peg old new (Err e) → CountsFailures {T = Stamp} (Err e) before now → (new ≡ old) × (length old ≡ NOTARY_LIMIT) × (now ≡ before)
 full_of peg old new before now e is list count =
-    let l = subst (λ x. IsStamped peg old new (Err x)) is list in (l.0, l.1, subst (λ x. Counts {T = Stamp} (Err x) before now) is count)
+    let l = subst (λ x. IsStamped peg old new (Err x)) is list in (l.0, l.1, subst (λ x. CountsFailures {T = Stamp} (Err x) before now) is count)
 
-pub failed_of : (peg : List ℕ) (old new : List (List ℕ)) (before now : ℕ) (e : NotaryErr) → e ≡ Failed → IsStamped peg old new (Err e) → Counts {T = Stamp} (Err e) before now → ((new ≡ old) ⊎ HasOneMore peg old new) × (now ≡ count_after before)
-failed_of peg old new before now e is list count = (subst (λ x. IsStamped peg old new (Err x)) is list, subst (λ x. Counts {T = Stamp} (Err x) before now) is count)
+pub failed_of : (peg : List ℕ) (old new : List (List ℕ)) (before now : ℕ) (e : NotaryErr) → e ≡ Failed → IsStamped peg old new (Err e) → CountsFailures {T = Stamp} (Err e) before now → ((new ≡ old) ⊎ HasOneMore peg old new) × (now ≡ count_after before)
+failed_of peg old new before now e is list count = (subst (λ x. IsStamped peg old new (Err x)) is list, subst (λ x. CountsFailures {T = Stamp} (Err x) before now) is count)
 
 -- where memory was short nothing changed
-pub memory_of : (peg : List ℕ) (n m : NotaryState) (e : NotaryErr) → e ≡ NoMemory → IsStamped peg n.entries m.entries (Err e) → Counts {T = Stamp} (Err e) n.faults m.faults → m ≡ n
+pub memory_of : (peg : List ℕ) (n m : NotaryState) (e : NotaryErr) → e ≡ NoMemory → IsStamped peg n.entries m.entries (Err e) → CountsFailures {T = Stamp} (Err e) n.faults m.faults → m ≡ n
 memory_of peg n m e is list count =
     let entries : m.entries ≡ n.entries = subst (λ x. IsStamped peg n.entries m.entries (Err x)) is list in
-    let faults : m.faults ≡ n.faults = subst (λ x. Counts {T = Stamp} (Err x) n.faults m.faults) is count in
+    let faults : m.faults ≡ n.faults = subst (λ x. CountsFailures {T = Stamp} (Err x) n.faults m.faults) is count in
     λ i. record { entries = entries i; faults = faults i }
 
 result_full : Result Stamp NotaryErr → Type 0
@@ -150,11 +150,11 @@ unfolding outcome
 anchor_asks limits h job o new a is none =
     a.outcome_is ∙ ap (λ x. judged_outcome x (accepted_outcome h None job)) none ∙ ap (λ (j : Job). accepted_outcome h None j) is
 
-pub keeps_book : (k : Kept) (book : books.Kept) (h : History) → book ≡ k.book → Keeps k h → Keeps (record k { book = book }) h
+pub keeps_book : (k : CommitterState) (book : books.Kept) (h : History) → book ≡ k.book → Keeps k h → Keeps (record k { book = book }) h
 keeps_book k book h is p = subst (λ b. Keeps (record k { book = b }) h) (sym is) p
 
 -- what was told to a job that only asks is due for it, and nothing changes
-pub told_judged : (old : Kept) (book : books.Kept) (n m : NotaryState) (h : History) (step : Step) (job asked : Job) (o : Outcome) (q known : Query) (said : AnyReply) → Keeps old h → Applies old.book.limits None h job o book → (PlacesNothing o → book ≡ old.book) → o ≡ came.Reading q → q ≡ known → job ≡ asked
+pub told_judged : (old : CommitterState) (book : books.Kept) (n m : NotaryState) (h : History) (step : Step) (job asked : Job) (o : Outcome) (q known : Query) (said : AnyReply) → Keeps old h → Applies old.book.limits None h job o book → (PlacesNothing o → book ≡ old.book) → o ≡ came.Reading q → q ≡ known → job ≡ asked
     → stamp_of step ≡ None → (said ≡ told_reply h step known) × Attended n m h step asked → JudgedBy (record old { book = book }) n m h step job (Reply said)
 told_judged old book n m h step job asked o q known said p applies same is at which none told = record {
   judged = judged_same_kept old (record old { book = book }) h step job o (Reply said) p applies (subst PlacesNothing (sym is) tt) same refl refl refl

@@ -12,7 +12,7 @@ use Rattle.ledger_bytes.specs.declared.refusal.Refusal.TheVariants.{NotaryFault,
 use Rattle.ledger_bytes.specs.Causes.{count_after}
 use Rattle.journal_record.specs.declared.rules.TheConstants.{NOTARY_LIMIT}
 use Rattle.journal_record.specs.declared.stamp.Stamp.{Stamp}
-use Rattle.time_peg.specs.Entries.{NotaryState, IsList, HasOneMore, Counts, entry_of, time_in}
+use Rattle.time_peg.specs.Entries.{NotaryState, IsList, HasOneMore, CountsFailures, entry_of, time_in}
 use Rattle.time_peg.specs.declared.notary.NotaryErr.{NotaryErr}
 use Rattle.time_peg.specs.declared.notary.NotaryErr.TheVariants.{Failed}
 use Rattle.ledger_model.specs.Anchors.{peg_at, is_full_list, stamp_from, stamp_of, no_stamp}
@@ -23,7 +23,7 @@ use Rattle.ledger_model.specs.Notary.{asks, Changes}
 use Rattle.ledger_model.specs.declared.job.Job.{Job}
 use Rattle.ledger_model.specs.declared.job.Job.TheVariants.{Refused, Append, NewMember, Anchor, Occult, Purge, Get, Prove, Extend, Clue, Head}
 use Rattle.batch_committer.specs.Attending.{step_in, Attended, EndsAsking}
-use Rattle.batch_committer.specs.World.{Kept}
+use Rattle.batch_committer.specs.World.{CommitterState}
 
 drop_own : (es : List (List ℕ)) → drop (length es) es ≡ []
 drop_own [] = refl
@@ -87,15 +87,15 @@ untouched_by n (Clue clue) = inl (λ h lane index line. untouched n h lane index
 untouched_by n Head = inl (λ h lane index line. untouched n h lane index line Head false refl refl)
 
 -- a job that wasn't judged, where the notary wasn't used
-pub ends_untouched : (old : Kept) (n : NotaryState) (job : Job) → EndsAsking old n n job
+pub ends_untouched : (old : CommitterState) (n : NotaryState) (job : Job) → EndsAsking old n n job
 ends_untouched old n job = elim (untouched_by n job) [ inl f ↦ inl (false, λ h lane index line p. f h lane index line) | inr is ↦ inr (is, refl) ]
 
 -- the head of its list was asked for
 pub attends_head : (n m : NotaryState) (h : History) (lane index : ℕ) (line : List ℕ) → m.entries ≡ n.entries → m.faults ≡ n.faults → Attended n m h (step_in n m false lane index line) Head
 attends_head n m h lane index line same count = record { list = record { list = same; called = unfailed }; count = count }
 
-pub attends_headless : (n m : NotaryState) (h : History) (lane index : ℕ) (line : List ℕ) (e : NotaryErr) → e ≡ Failed → m.entries ≡ n.entries → Counts {T = Unit {0}} (Err e) n.faults m.faults → Attended n m h (step_in n m true lane index line) Head
-attends_headless n m h lane index line e is same count = record { list = record { list = same; called = λ failed. refl }; count = subst (λ x. Counts {T = Unit {0}} (Err x) n.faults m.faults) is count }
+pub attends_headless : (n m : NotaryState) (h : History) (lane index : ℕ) (line : List ℕ) (e : NotaryErr) → e ≡ Failed → m.entries ≡ n.entries → CountsFailures {T = Unit {0}} (Err e) n.faults m.faults → Attended n m h (step_in n m true lane index line) Head
+attends_headless n m h lane index line e is same count = record { list = record { list = same; called = λ failed. refl }; count = subst (λ x. CountsFailures {T = Unit {0}} (Err x) n.faults m.faults) is count }
 
 -- ---- a stamp
 

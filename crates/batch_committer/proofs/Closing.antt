@@ -10,7 +10,7 @@ use Rattle.ledger_bytes.specs.declared.limits.TheConstants.{BLOCK_LIMIT}
 use Rattle.journal_record.specs.Blocks.{body_of, block_bytes, leaves_of, written_blocks, AreFrom}
 use Rattle.journal_record.specs.Entry.{Entry}
 use Rattle.journal_record.specs.Header.{spelling}
-use Rattle.block_file.specs.File.{Stands, tail_of, open_blocks, IsSettled, HasBlock}
+use Rattle.block_file.specs.File.{IsFileOf, tail_of, open_blocks, IsSettled, HasBlock}
 use Rattle.ledger_disk.proofs.Guarding.{settled_image}
 use Rattle.ledger_disk.specs.Disk.{State, MayLeave, settled_state}
 use Rattle.ledger_model.specs.declared.due.Due.{Due}
@@ -34,7 +34,7 @@ use Rattle.ledger_open.proofs.SizeLaws.{mth_size, block_size, body_size, readabl
 use Rattle.batch_committer.specs.Committed.{IsCommitted, IsUncommitted, open_bytes}
 use Rattle.batch_committer.specs.declared.end.End.{End}
 use Rattle.batch_committer.specs.declared.end.End.TheVariants.{DiskFault, WriteFault, NoMemory, Closed}
-use Rattle.batch_committer.specs.World.{Kept, World, Pair, Keeps, IsCleanFor, Holds, IsErasedPair, IsLeftClean, sealed_part}
+use Rattle.batch_committer.specs.World.{CommitterState, World, Pair, Keeps, IsCleanFor, Holds, IsErasedPair, IsLeftClean, sealed_part}
 use Rattle.batch_committer.proofs.Parting.{TailsAt, tails_at, gone_few}
 
 -- ---- the history
@@ -86,7 +86,7 @@ pub next_rest : (before es fs : List Entry) → AreNext before (es ++ fs) → Ar
 next_rest before [] fs next = subst (λ (l : List Entry). AreNext l fs) (sym (append-nil before)) next
 next_rest before (e ∷ es) fs next = subst (λ (l : List Entry). AreNext l fs) (append_assoc before (e ∷ []) es) (next_rest (before ++ e ∷ []) es fs next.1)
 
-pub next_block_is : (k : Kept) (h : History) → Keeps k h → 1 ≤ length h.waiting → length h.waiting ≤ BLOCK_LIMIT → IsNextBlock (sealed_part h) h.waiting
+pub next_block_is : (k : CommitterState) (h : History) → Keeps k h → 1 ≤ length h.waiting → length h.waiting ≤ BLOCK_LIMIT → IsNextBlock (sealed_part h) h.waiting
 next_block_is k h p some most = record {
   entries = record { some = some; most = most; entries = subst (λ (n : ℕ). AreFrom n h.waiting) (sym (size_sealed h)) p.next };
   shape = record { some = some; most = most; gathered = p.gathered };
@@ -103,7 +103,7 @@ tail_at floor zeros image h x =
     ∙ sym (after_kept (is_hidden h) zeros (64 + length from.base) x.parts.kept x.keeps.blocks x.keeps.same)
 
 -- another image with the same front and blocks
-pub stands_by : (image new : List ℕ) (h : History) (x : IsErased image h) → Stands x.keeps.file.front (written_blocks (floor_behind h x.parts.gone).root [] x.keeps.blocks) new → IsErased new h
+pub stands_by : (image new : List ℕ) (h : History) (x : IsErased image h) → IsFileOf x.keeps.file.front (written_blocks (floor_behind h x.parts.gone).root [] x.keeps.blocks) new → IsErased new h
 stands_by image new h x stands = record {
   generation = x.generation;
   parts = x.parts;
@@ -136,17 +136,17 @@ bytes_behind image h x =
     ∙ ap (λ (r : List ℕ). block_bytes r h.waiting) (sym (floor_root g x.parts.gone x.parts.kept x.parts.are (leaves_of (journals_of x.keeps.blocks) ++ leaves_of h.waiting)))
 
 -- the image stands for the history with the open block ended, and begins where it began
-pub block_stands : (k : Kept) (h : History) → Keeps k h → 1 ≤ length h.waiting → length h.waiting ≤ BLOCK_LIMIT → (image new : List ℕ) (x : IsErased image (sealed_part h))
-    → Stands x.keeps.file.front (written_blocks (floor_behind (sealed_part h) x.parts.gone).root [] x.keeps.blocks ++ next_bytes h ∷ []) new
+pub block_stands : (k : CommitterState) (h : History) → Keeps k h → 1 ≤ length h.waiting → length h.waiting ≤ BLOCK_LIMIT → (image new : List ℕ) (x : IsErased image (sealed_part h))
+    → IsFileOf x.keeps.file.front (written_blocks (floor_behind (sealed_part h) x.parts.gone).root [] x.keeps.blocks ++ next_bytes h ∷ []) new
     → StandsBy (point (sealed_part h)) (hidden_before (sealed_part (close h))) new (sealed_part (close h))
 block_stands k h p some most image new x stands =
     let n = next_block_is k h p some most in
     subst (λ (g : History). StandsBy (point (sealed_part h)) (hidden_before g) new g) (sealed_close h some)
     (grown image new (sealed_part h) h.waiting x n.entries n.shape n.next
-    (subst (λ (b : List ℕ). Stands x.keeps.file.front (written_blocks (floor_behind (sealed_part h) x.parts.gone).root [] x.keeps.blocks ++ b ∷ []) new) (bytes_behind image h x) stands))
+    (subst (λ (b : List ℕ). IsFileOf x.keeps.file.front (written_blocks (floor_behind (sealed_part h) x.parts.gone).root [] x.keeps.blocks ++ b ∷ []) new) (bytes_behind image h x) stands))
 
 -- .. where that is the point, or the point before a purge
-pub block_begins : (k : Kept) (h : History) → Keeps k h → 1 ≤ length h.waiting → length h.waiting ≤ BLOCK_LIMIT → (image : List ℕ) → IsErased image (sealed_part h)
+pub block_begins : (k : CommitterState) (h : History) → Keeps k h → 1 ≤ length h.waiting → length h.waiting ≤ BLOCK_LIMIT → (image : List ℕ) → IsErased image (sealed_part h)
     → (point (sealed_part h) ≡ point (sealed_part (close h))) ⊎ (point (sealed_part h) ≡ point_before (sealed_part (close h)))
 block_begins k h p some most image x =
     let n = next_block_is k h p some most in
@@ -222,7 +222,7 @@ left_clean Closed h kept done a b c = c
 -- ---- a commit
 
 -- where the tail gate stands of what is kept
-pub tails_kept : (k : Kept) (h : History) → Keeps k h → All IsBlock h.closed → TailsAt k.place (sealed_part h)
+pub tails_kept : (k : CommitterState) (h : History) → Keeps k h → All IsBlock h.closed → TailsAt k.place (sealed_part h)
 tails_kept k h p all = tails_at (sealed_part h) k.place k.book.floor p.located.parts all p.floor p.located.tail
 
 module _ (tells : Bool) (w : World) (h : History) (p : Holds tells w h) (some : 1 ≤ length h.waiting) (most : length h.waiting ≤ BLOCK_LIMIT) (disks : Pair) where
@@ -287,7 +287,7 @@ bytes_len h a = block_size (mth sha256 (leaves h)) h.waiting (mth_size (leaves h
 
 -- ---- what is kept of the blocks, with the open block behind them
 
-module _ (k : Kept) (h : History) (p : Keeps k h) (some : 1 ≤ length h.waiting) (begun : 1 ≤ size (sealed_part h)) where
+module _ (k : CommitterState) (h : History) (p : Keeps k h) (some : 1 ≤ length h.waiting) (begun : 1 ≤ size (sealed_part h)) where
   abbrev pub parts_close : Parts k.book.floor (sealed_part (close h))
   parts_close = record {
     gone = p.located.parts.gone;

@@ -1,7 +1,7 @@
 -- A block couldn't be committed.
 use Rattle.std.specs.Prelude.{Bool, true, false, IsTrue, Result, Ok, Err, OnErr}
 use Rattle.std.proofs.Common.{◌≡◌, ◌⊎◌, inl, inr, ℕ, List, [], ◌∷◌, ◌++◌, refl, sym, subst}
-use Rattle.block_file.specs.File.{Stands, tail_of, IsSettled}
+use Rattle.block_file.specs.File.{IsFileOf, tail_of, IsSettled}
 use Rattle.ledger_bytes.specs.Causes.{count_after}
 use Rattle.ledger_disk.specs.Disk.{DiskState, State, MayLeave}
 use Rattle.batch_committer.specs.Committed.{IsUncommitted}
@@ -10,8 +10,8 @@ use Rattle.batch_committer.specs.World.{pair}
 -- each image of a file has the block behind the gate at this place whole or not at all
 abbrev pub AllOrNone : Bool → ℕ → List ℕ → State → State → Type 0
 AllOrNone tells place block old new =
-    IsTrue tells → IsSettled old → (front : List ℕ) (blocks : List (List ℕ)) → Stands front blocks old.seen → tail_of front blocks ≡ place
-    → (image : List ℕ) → MayLeave new image → Stands front blocks image ⊎ Stands front (blocks ++ block ∷ []) image
+    IsTrue tells → IsSettled old → (front : List ℕ) (blocks : List (List ℕ)) → IsFileOf front blocks old.seen → tail_of front blocks ≡ place
+    → (image : List ℕ) → MayLeave new image → IsFileOf front blocks image ⊎ IsFileOf front (blocks ++ block ∷ []) image
 
 module _ {T E : Type 0} (result : Result T E) (tells in_a : Bool) (place : ℕ) (block : List ℕ) where
   pub uncommitted_a : (a b now : DiskState) → in_a ≡ true → OnErr result (AllOrNone tells place block a.bytes now.bytes) → OnErr result (now.faults ≡ count_after a.faults)

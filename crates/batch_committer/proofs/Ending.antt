@@ -39,7 +39,7 @@ use Rattle.ledger_open.specs.declared.places.PlaceAt.{PlaceAt}
 use Rattle.batch_committer.specs.Committed.{IsCommitted, IsUncommitted, IsStanding, IsFinished, IsUnfinished, open_bytes}
 use Rattle.batch_committer.specs.Spelled as spell
 use Rattle.batch_committer.specs.Steps.{settled_text}
-use Rattle.batch_committer.specs.World.{Kept, World, Pair, world, Fits, Located, Keeps, IsCleanFor, Holds, Writes, Goes, Says, Stops, Ended, IsUnanswered, sealed_part}
+use Rattle.batch_committer.specs.World.{CommitterState, World, Pair, world, Fits, Located, Keeps, IsCleanFor, Holds, Writes, Goes, Says, Stops, Ended, IsUnanswered, sealed_part}
 use Rattle.batch_committer.specs.declared.end.End.{End}
 use Rattle.batch_committer.specs.declared.end.End.TheVariants.{DiskFault, WriteFault, NoMemory}
 use Rattle.batch_committer.proofs.Closing.{next_bytes, root_closed, closed_is, clean_image, clean_pair, left_clean, commit_left, tails_kept, sealed_same}
@@ -70,7 +70,7 @@ stops_before tells w h whole ds end says x p = record {
 }
 
 -- memory was short before anything was done on the way to a history
-pub no_memory : (tells : Bool) (w : World) (k : Kept) (f : History → History) (d : History → List Due) → ((h : History) → Holds tells w h → Grows h (f h)) → Ended tells w f d NoMemory (world k w.disks w.sink)
+pub no_memory : (tells : Bool) (w : World) (k : CommitterState) (f : History → History) (d : History → List Due) → ((h : History) → Holds tells w h → Grows h (f h)) → Ended tells w f d NoMemory (world k w.disks w.sink)
 no_memory tells w k f d grows = record {
   grows = grows;
   part = [];
@@ -79,7 +79,7 @@ no_memory tells w k f d grows = record {
   cause = record { a = refl; b = refl; sink = (refl, refl) };
 }
 
-pub end_unspelled : (tells : Bool) (w : World) (k : Kept) → Ended tells w close (λ h. []) NoMemory (world k w.disks w.sink)
+pub end_unspelled : (tells : Bool) (w : World) (k : CommitterState) → Ended tells w close (λ h. []) NoMemory (world k w.disks w.sink)
 end_unspelled tells w k = no_memory tells w k close (λ h. []) (λ h p. grows_close h)
 
 -- all that was due is written
@@ -100,7 +100,7 @@ says_first h f ds text taken waits is few y =
 -- ---- a block that is committed
 
 -- what is kept once the open block has ended, and what its journal hides or purges was given up
-pub keeps_closed : (k : Kept) (disks : Pair) (h : History) → k.book.limits ≡ real_limits → k.body ≡ [] → k.dues ≡ [] → IsCleanOpen (held_ledger k disks) (sealed_part (close h)) → Keeps k (close h)
+pub keeps_closed : (k : CommitterState) (disks : Pair) (h : History) → k.book.limits ≡ real_limits → k.body ≡ [] → k.dues ≡ [] → IsCleanOpen (held_ledger k disks) (sealed_part (close h)) → Keeps k (close h)
 keeps_closed k disks h limits body dues c =
     let none = close_none h in record {
       serves = subst (Serves k.book) (sealed_same (close h) none) c.ends.serves;
@@ -144,7 +144,7 @@ module _ (tells : Bool) (w : World) (block text : List ℕ) (e : AtEnd tells w b
   }
 
   -- the commit failed
-  pub end_uncommitted : (k : Kept) (disks : Pair) → IsUncommitted tells w.kept.in_a w.kept.place block w.disks disks → Ended tells w close (λ h. []) DiskFault (world k disks w.sink)
+  pub end_uncommitted : (k : CommitterState) (disks : Pair) → IsUncommitted tells w.kept.in_a w.kept.place block w.disks disks → Ended tells w close (λ h. []) DiskFault (world k disks w.sink)
   end_uncommitted k disks c = record {
     grows = λ h p. grows_close h;
     part = [];
@@ -171,7 +171,7 @@ module _ (tells : Bool) (w : World) (block text : List ℕ) (e : AtEnd tells w b
         standing tells w h p (e.some h p) (e.most h p) book (at.serves h p.keeps.serves) at.same mid (subst (λ (l : List ℕ). IsCommitted tells w.kept.in_a w.kept.place l w.disks mid) is at.committed)
         (w.kept.place + 1 + length block) (ap (λ (l : List ℕ). w.kept.place + 1 + length l) is) (at.named p.told)
 
-    module _ (k : Kept) (disks : Pair) (f : IsFinished tells (mid_ledger w book block mid) (held_ledger k disks) mid disks) where
+    module _ (k : CommitterState) (disks : Pair) (f : IsFinished tells (mid_ledger w book block mid) (held_ledger k disks) mid disks) where
       clean_then : (h : History) → Holds tells w h → IsCleanOpen (held_ledger k disks) (sealed_part (close h))
       clean_then h p = f.clean p.told (sealed_part (close h)) (stands_then h p)
 
@@ -216,7 +216,7 @@ module _ (tells : Bool) (w : World) (block text : List ℕ) (e : AtEnd tells w b
       }
 
     -- the block is on the disk, and what its journal hides or purges couldn't be given up
-    pub end_unfinished : (k : Kept) (disks : Pair) → IsUnfinished tells (mid_ledger w book block mid) mid disks → Ended tells w close (λ h. []) DiskFault (world k disks w.sink)
+    pub end_unfinished : (k : CommitterState) (disks : Pair) → IsUnfinished tells (mid_ledger w book block mid) mid disks → Ended tells w close (λ h. []) DiskFault (world k disks w.sink)
     end_unfinished k disks u = record {
       grows = λ h p. grows_close h;
       part = [];
@@ -239,7 +239,7 @@ module _ (tells : Bool) (w : World) (block text : List ℕ) (e : AtEnd tells w b
     }
 
 -- the places, where nothing that counts has changed
-pub located_same : (old new : Kept) (h : History) → new.book.floor ≡ old.book.floor → new.places ≡ old.places → new.place ≡ old.place → Located old h → Located new h
+pub located_same : (old new : CommitterState) (h : History) → new.book.floor ≡ old.book.floor → new.places ≡ old.places → new.place ≡ old.place → Located old h → Located new h
 located_same old new h floor places place l = record {
   parts = record { gone = l.parts.gone; kept = l.parts.kept; are = l.parts.are; at = l.parts.at ∙ sym floor };
   places = places ∙ l.places ∙ ap (λ (n : ℕ). places_from (floor_behind (sealed_part h) l.parts.gone) l.parts.kept ++ places_in (n + 45) h.waiting) (sym place);
@@ -252,7 +252,7 @@ module _ (tells : Bool) (w : World) (text : List ℕ) (none : (h : History) → 
   text_then : (h : History) → Holds tells w h → text ≡ settled_text (close h) w.kept.dues
   text_then h p = text_is h p ∙ ap (λ (g : History). settled_text g w.kept.dues) (close_settled h (none h p))
 
-  pub write_goes : (k : Kept) (sink : SinkState) → k.book ≡ w.kept.book → k.place ≡ w.kept.place → k.in_a ≡ w.kept.in_a → k.body ≡ w.kept.body → k.places ≡ w.kept.places → k.dues ≡ []
+  pub write_goes : (k : CommitterState) (sink : SinkState) → k.book ≡ w.kept.book → k.place ≡ w.kept.place → k.in_a ≡ w.kept.in_a → k.body ≡ w.kept.body → k.places ≡ w.kept.places → k.dues ≡ []
       → Appends w.sink.held sink.held text → MeetsNone w.sink sink → Goes tells w close (λ h. []) (world k w.disks sink)
   write_goes k sink book place in_a body places dues appended met = record {
     holds = λ h p. subst (Holds tells (world k w.disks sink)) (close_settled h (none h p)) (record {
@@ -276,7 +276,7 @@ module _ (tells : Bool) (w : World) (text : List ℕ) (none : (h : History) → 
     no_fault = record { a = refl; b = refl; sink = met };
   }
 
-  pub write_unwritten : (k : Kept) (sink : SinkState) (taken : ℕ) → taken < length text → Appends w.sink.held sink.held (take taken text)
+  pub write_unwritten : (k : CommitterState) (sink : SinkState) (taken : ℕ) → taken < length text → Appends w.sink.held sink.held (take taken text)
       → MeetsOne w.sink sink → Ended tells w close (λ h. []) WriteFault (world k w.disks sink)
   write_unwritten k sink taken few appended one = record {
     grows = λ h p. grows_close h;
@@ -349,7 +349,7 @@ generation_stays tells in_a place block before after c told = by in_a (c.head to
   by false is = by_head after.b.bytes.seen before.b.bytes.seen is
 
 -- where the contents of the open block end, once it has ended
-pub order_ended : (k : Kept) (block head : List ℕ) → block ≡ head ++ k.body → length head ≡ 44 → AreInOrder 64 (k.place + 45 + length k.body) k.places → AreInOrder 64 (k.place + 1 + length block) k.places
+pub order_ended : (k : CommitterState) (block head : List ℕ) → block ≡ head ++ k.body → length head ≡ 44 → AreInOrder 64 (k.place + 45 + length k.body) k.places → AreInOrder 64 (k.place + 1 + length block) k.places
 order_ended k block head is size all =
     subst (λ (n : ℕ). AreInOrder 64 n k.places) (omega (arith, ap length is, size, length-append head k.body)) all
 
@@ -370,7 +370,7 @@ generation_at true generation disks is = is
 generation_at false generation disks is = is
 
 -- what the next call asks for, whatever stands in the files
-pub fits_finished : (tells : Bool) (k : Kept) (old : Ledger) (mid disks : Pair) (sink : SinkState) → (IsTrue tells → IsAtGate old) → AreInOrder 64 old.known.place old.known.places → old.known.book.size ≡ old.known.book.sealed → k.copy ≡ None
+pub fits_finished : (tells : Bool) (k : CommitterState) (old : Ledger) (mid disks : Pair) (sink : SinkState) → (IsTrue tells → IsAtGate old) → AreInOrder 64 old.known.place old.known.places → old.known.book.size ≡ old.known.book.sealed → k.copy ≡ None
     → IsFinished tells old (held_ledger k disks) mid disks → Fits tells (world k disks sink)
 fits_finished tells k old mid disks sink gate order none copy f = record {
   reads = record { told = f.told; shut = λ told. shut_at k.in_a k.place disks (f.gate told (gate told)).shut };
@@ -398,7 +398,7 @@ first_of_text old new text (failed.WriteFault taken) x = (taken, x.0, x.1)
 
 -- ---- the same for a value that is known by an equation
 
-module _ (tells : Bool) (k0 k1 : Kept) (is : k0 ≡ k1) (disks : Pair) (sink : SinkState) where
+module _ (tells : Bool) (k0 k1 : CommitterState) (is : k0 ≡ k1) (disks : Pair) (sink : SinkState) where
   pub fits_at : Fits tells (world k1 disks sink) → Fits tells (world k0 disks sink)
   fits_at f = subst (λ k. Fits tells (world k disks sink)) (sym is) f
 

@@ -19,7 +19,7 @@ use Rattle.ledger_open.specs.Places.{places_in, places_from}
 use Rattle.ledger_open.specs.Purging.{Ledger, open_disk, other_disk, IsCleanOpen}
 use Rattle.ledger_open.specs.Standing.{floor_behind, point_before}
 use Rattle.batch_committer.specs.Committed.{IsCommitted, IsStanding, open_bytes, other_bytes}
-use Rattle.batch_committer.specs.World.{Kept, World, Pair, Located, IsCleanFor, Holds, sealed_part}
+use Rattle.batch_committer.specs.World.{CommitterState, World, Pair, Located, IsCleanFor, Holds, sealed_part}
 use Rattle.batch_committer.proofs.Closing.{next_bytes, sealed_same, block_begins, commit_quiet, commit_stands, clean_length, parts_close, places_close, tail_close}
 use Rattle.batch_committer.proofs.Parting.{TailsAt, tails_at}
 
@@ -44,7 +44,7 @@ quiet_other false a b x y = x
 -- ---- a ledger where nothing is left undone
 
 -- what a committer keeps, with what its disks hold
-abbrev pub held_ledger : Kept → Pair → Ledger
+abbrev pub held_ledger : CommitterState → Pair → Ledger
 held_ledger k disks = record { known = known_from k.book k.places k.place; in_a = k.in_a; generation = k.generation; a = disks.a.bytes; b = disks.b.bytes }
 
 pub tails_clean : (l : Ledger) (h : History) → IsCleanOpen l h → TailsAt l.known.place h
@@ -59,7 +59,7 @@ clean_for l h c = record {
 }
 
 -- the places of a history of which no journal waits
-pub located_clean : (k : Kept) (disks : Pair) (h : History) → h.waiting ≡ [] → IsCleanOpen (held_ledger k disks) (sealed_part h) → Located k h
+pub located_clean : (k : CommitterState) (disks : Pair) (h : History) → h.waiting ≡ [] → IsCleanOpen (held_ledger k disks) (sealed_part h) → Located k h
 located_clean k disks h none c =
     let from = floor_behind (sealed_part h) c.ends.parts.gone in record {
       parts = c.ends.parts;

@@ -47,7 +47,7 @@ use Rattle.ledger_open.specs.Standing.{floor_behind}
 use Rattle.ledger_open.specs.Order.{AreInOrder}
 use Rattle.ledger_open.specs.declared.places.PlaceAt.{PlaceAt}
 use Rattle.batch_committer.specs.Steps.{HasParts, HasJournal, IsGathered, Gathers, Judged}
-use Rattle.batch_committer.specs.World.{Kept, Keeps, sealed_part}
+use Rattle.batch_committer.specs.World.{CommitterState, Keeps, sealed_part}
 use Rattle.batch_committer.proofs.Closing.{next_rest, places_in_more, body_len}
 use Rattle.batch_committer.proofs.Ending.{located_same}
 use Rattle.batch_committer.proofs.Ordering.{order_then}
@@ -217,7 +217,7 @@ header_is k h n journal header floor is got =
     cc same
 
 -- the journal was gathered
-pub gathered_by : (old new : Kept) (header : Header) (content : List ℕ) (given : List Approval) (place : PlaceAt) (journal : Entry) → header ≡ journal.header → journal.content ≡ content → journal.who ≡ who_of given → HasWidths header
+pub gathered_by : (old new : CommitterState) (header : Header) (content : List ℕ) (given : List Approval) (place : PlaceAt) (journal : Entry) → header ≡ journal.header → journal.content ≡ content → journal.who ≡ who_of given → HasWidths header
     → new.body ≡ old.body ++ record_bytes (record { header = header; content = content; who = who_of given }) → new.places ≡ old.places ++ place ∷ [] → place ≡ place_at (old.place + 45 + length old.body) journal → IsGathered old new journal
 gathered_by old new header content given place journal header_is content_is who_is widths body places place_is = record {
   widths = subst HasWidths header_is widths;
@@ -225,13 +225,13 @@ gathered_by old new header content given place journal header_is content_is who_
   places = places ∙ ap (λ p. old.places ++ p ∷ []) place_is;
 }
 
-pub gathered_at : (k0 k1 new : Kept) (journal : Entry) → k0 ≡ k1 → IsGathered k0 new journal → IsGathered k1 new journal
+pub gathered_at : (k0 k1 new : CommitterState) (journal : Entry) → k0 ≡ k1 → IsGathered k0 new journal → IsGathered k1 new journal
 gathered_at k0 k1 new journal is g = subst (λ k. IsGathered k new journal) is g
 
 -- ---- where contents end
 
 -- with the place of a record more
-pub order_more : (old : Kept) (tail : ℕ) (gathered : List ℕ) (all_places : List PlaceAt) (place : PlaceAt) (header : Header) (content : List ℕ) (given : List Approval) → HasWidths header → place.content_at ≡ old.place + 45 + length old.body + 178 → place.content_len ≡ length content
+pub order_more : (old : CommitterState) (tail : ℕ) (gathered : List ℕ) (all_places : List PlaceAt) (place : PlaceAt) (header : Header) (content : List ℕ) (given : List Approval) → HasWidths header → place.content_at ≡ old.place + 45 + length old.body + 178 → place.content_len ≡ length content
     → tail ≡ old.place → gathered ≡ old.body ++ record_bytes (record { header = header; content = content; who = who_of given }) → all_places ≡ old.places ++ place ∷ [] → AreInOrder 64 (old.place + 45 + length old.body) old.places → AreInOrder 64 (tail + 45 + length gathered) all_places
 order_more old tail gathered all_places place header content given widths at len place_is body places = λ all.
     let who = who_of given in
@@ -243,16 +243,16 @@ order_more old tail gathered all_places place header content given widths at len
     (order_then 64 (old.place + 45 + length old.body) end old.places (place ∷ []) all (omega (arith, at), omega (arith, at, len, place_is, size)))
 
 -- .. by a value that is known by an equation
-pub order_at : (k0 k1 : Kept) → k0 ≡ k1 → AreInOrder 64 (k1.place + 45 + length k1.body) k1.places → AreInOrder 64 (k0.place + 45 + length k0.body) k0.places
-order_at k0 k1 is all = subst (λ (k : Kept). AreInOrder 64 (k.place + 45 + length k.body) k.places) (sym is) all
+pub order_at : (k0 k1 : CommitterState) → k0 ≡ k1 → AreInOrder 64 (k1.place + 45 + length k1.body) k1.places → AreInOrder 64 (k0.place + 45 + length k0.body) k0.places
+order_at k0 k1 is all = subst (λ (k : CommitterState). AreInOrder 64 (k.place + 45 + length k.body) k.places) (sym is) all
 
 -- ---- what is kept after a job
 
-pub gathers_kept : (k : Kept) (h : History) → Keeps k h → Gathers k h
+pub gathers_kept : (k : CommitterState) (h : History) → Keeps k h → Gathers k h
 gathers_kept k h p = record { serves = p.serves; limits = p.limits; floor = p.floor; body = p.body; next = p.next; gathered = p.gathered; located = p.located }
 
 -- by another value where nothing that counts has changed
-gathers_same : (old new : Kept) (h : History) → new.book ≡ old.book → new.body ≡ old.body → new.places ≡ old.places → new.place ≡ old.place → Gathers old h → Gathers new h
+gathers_same : (old new : CommitterState) (h : History) → new.book ≡ old.book → new.body ≡ old.body → new.places ≡ old.places → new.place ≡ old.place → Gathers old h → Gathers new h
 gathers_same old new h book body places place g = record {
   serves = subst (λ b. Serves b h) (sym book) g.serves;
   limits = ap (λ (b : books.Kept). b.limits) book ∙ g.limits;
@@ -277,7 +277,7 @@ waits_so job waiting e all none is more = by (closes_after job) refl where
   by false other = gather_more waiting e (all other) (is other)
 
 -- with a journal more
-pub gathers_more : (old mid new : Kept) (h : History) (journal : Entry) → Keeps old h → length journal.content ≡ journal.header.content_len → length journal.who ≤ WHO_LIMIT → (length (h.waiting ++ journal ∷ []) ≢ 1 → AllGather (h.waiting ++ journal ∷ [])) → Serves new.book (with_waiting (Some journal) h) → new.book.limits ≡ old.book.limits → new.book.floor ≡ old.book.floor → mid.body ≡ old.body → mid.places ≡ old.places → mid.place ≡ old.place
+pub gathers_more : (old mid new : CommitterState) (h : History) (journal : Entry) → Keeps old h → length journal.content ≡ journal.header.content_len → length journal.who ≤ WHO_LIMIT → (length (h.waiting ++ journal ∷ []) ≢ 1 → AllGather (h.waiting ++ journal ∷ [])) → Serves new.book (with_waiting (Some journal) h) → new.book.limits ≡ old.book.limits → new.book.floor ≡ old.book.floor → mid.body ≡ old.body → mid.places ≡ old.places → mid.place ≡ old.place
     → new.place ≡ old.place → IsGathered mid new journal → Gathers new (with_waiting (Some journal) h)
 gathers_more old mid new h journal p len few shape serves limits floor body places place new_place g =
     let next = last_next new.book h journal serves in
@@ -314,7 +314,7 @@ pub real_applies : (stamp : Option Stamp) (old new : books.Kept) (h : History) (
 real_applies stamp old new h job o is a = subst (λ limits. Applies limits stamp h job o new) is a
 
 -- nothing was placed: what was told is due
-pub judged_same_kept : (old new : Kept) (h : History) (step : Step) (job : Job) (o : Outcome) (answer : Answer) → Keeps old h → Applies old.book.limits None h job o new.book → PlacesNothing o → (PlacesNothing o → new.book ≡ old.book)
+pub judged_same_kept : (old new : CommitterState) (h : History) (step : Step) (job : Job) (o : Outcome) (answer : Answer) → Keeps old h → Applies old.book.limits None h job o new.book → PlacesNothing o → (PlacesNothing o → new.book ≡ old.book)
     → new.body ≡ old.body → new.places ≡ old.places → new.place ≡ old.place → answer ≡ answer_for h step o → stamp_of step ≡ None → Judged new h step job answer
 judged_same_kept old new h step job o answer p applies none book body places place is unstamped =
     let a = real_applies None old.book new.book h job o p.limits applies in record {
@@ -323,7 +323,7 @@ judged_same_kept old new h step job o answer p applies none book body places pla
     }
 
 -- a journal was placed
-pub judged_placed : (stamp : Option Stamp) (old mid new : Kept) (h : History) (step : Step) (job : Job) (o : Outcome) (jsn : ℕ) (leaf : Digest) (answer : Answer) → Keeps old h → (closes_after job ≡ false → AllGather h.waiting) → (closes_after job ≡ true → h.waiting ≡ []) → fits_job job ≡ true → Applies old.book.limits stamp h job o new.book → new.book.limits ≡ old.book.limits → new.book.floor ≡ old.book.floor → o ≡ came.Placed jsn leaf
+pub judged_placed : (stamp : Option Stamp) (old mid new : CommitterState) (h : History) (step : Step) (job : Job) (o : Outcome) (jsn : ℕ) (leaf : Digest) (answer : Answer) → Keeps old h → (closes_after job ≡ false → AllGather h.waiting) → (closes_after job ≡ true → h.waiting ≡ []) → fits_job job ≡ true → Applies old.book.limits stamp h job o new.book → new.book.limits ≡ old.book.limits → new.book.floor ≡ old.book.floor → o ≡ came.Placed jsn leaf
     → ((g : History) (journal : Entry) (content : List ℕ) (given : List Approval) → HasParts job content given → Serves new.book g → slice_get (journals g) jsn ≡ Some journal → new.book.floor ≤ jsn → length content ≡ journal.header.content_len → journal.content ≡ content → journal.who ≡ who_of given → IsGathered mid new journal)
     → mid.body ≡ old.body → mid.places ≡ old.places → mid.place ≡ old.place → new.place ≡ old.place → answer ≡ answer_for h step o → stamp_of step ≡ stamp → Judged new h step job answer
 judged_placed stamp old mid new h step job o jsn leaf answer p all none fits applies limits floor is gathered body places place new_place answer_is stamped =
@@ -375,7 +375,7 @@ on_ok_both (Ok value) f x y = f x y
 on_ok_both (Err error) f x y = tt
 
 -- .. by a value that is known by an equation, and what is due came behind
-pub judged_dues : (k0 k1 : Kept) (ds : List Due) (g : History) (step : Step) (job : Job) (answer : Answer) → k1 ≡ k0 → Judged k0 g step job answer → Judged (record k1 { dues = ds }) g step job answer
+pub judged_dues : (k0 k1 : CommitterState) (ds : List Due) (g : History) (step : Step) (job : Job) (answer : Answer) → k1 ≡ k0 → Judged k0 g step job answer → Judged (record k1 { dues = ds }) g step job answer
 judged_dues k0 k1 ds g step job answer is j =
     let m = subst (λ k. Judged k g step job answer) (sym is) j in
     let x = m.gathers in record {

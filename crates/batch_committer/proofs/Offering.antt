@@ -27,7 +27,7 @@ use Rattle.block_file.specs.Head.{generation_of}
 use Rattle.twin_file.specs.Twin.{open_of}
 use Rattle.batch_committer.specs.Steps.{due_by, Judged, KeepsFile, HasGrown, StaysInOrder}
 use Rattle.batch_committer.specs.Read.{WereRead, NoneFailed, ReadingEnds}
-use Rattle.batch_committer.specs.World.{Kept, World, Pair, world, Reads, Fits, HasRoom, IsCleanFor, Holds, Goes, Ended, sealed_part}
+use Rattle.batch_committer.specs.World.{CommitterState, World, Pair, world, ReadsAsLeft, Fits, HasRoom, IsCleanFor, Holds, Goes, Ended, sealed_part}
 use Rattle.batch_committer.specs.declared.end.End.{End}
 use Rattle.batch_committer.proofs.ReadLaws.{goes_read, read_ended}
 use Rattle.batch_committer.proofs.WayLaws.{goes_then, ended_then, goes_as, ended_as, ended_wider, goes_same}
@@ -90,7 +90,7 @@ due_at step answer = record { lane = step.lane; index = step.index; answer = ans
 sealed_with : (g : History) (step : Step) (job : Job) → sealed_part (with_job real_limits (stamp_of step) g job) ≡ sealed_part g
 sealed_with g step job = ap (λ (bs : List (List Entry)). history bs []) (waits_closed g (with_job real_limits (stamp_of step) g job) (waits_job g step job))
 
-pub judged_goes : (tells : Bool) (w : World) (k : Kept) (step : Step) (job : Job) (answer : Answer) → k.place ≡ w.kept.place → k.in_a ≡ w.kept.in_a → k.dues ≡ w.kept.dues ++ due_at step answer ∷ []
+pub judged_goes : (tells : Bool) (w : World) (k : CommitterState) (step : Step) (job : Job) (answer : Answer) → k.place ≡ w.kept.place → k.in_a ≡ w.kept.in_a → k.dues ≡ w.kept.dues ++ due_at step answer ∷ []
     → (closes_before job ≡ true → (h : History) → Serves w.kept.book h → h.waiting ≡ [])
     → ((g : History) → Holds tells w g → (closes_before job ≡ true → g.waiting ≡ []) → Judged k g step job answer)
     → Goes tells w (λ g. with_job real_limits (stamp_of step) g job) (λ g. due_by g step job ∷ []) (world k w.disks w.sink)
@@ -128,30 +128,30 @@ judged_goes tells w k step job answer place in_a dues settled judged = record {
 }
 
 -- .. while the disks were read
-pub judged_read : (tells : Bool) (k t : Kept) (old new : Pair) (sink : SinkState) (step : Step) (job : Job) → WereRead tells old new → NoneFailed old new
+pub judged_read : (tells : Bool) (k t : CommitterState) (old new : Pair) (sink : SinkState) (step : Step) (job : Job) → WereRead tells old new → NoneFailed old new
     → Goes tells (world k old sink) (λ g. with_job real_limits (stamp_of step) g job) (λ g. due_by g step job ∷ []) (world t old sink)
     → Goes tells (world k old sink) (λ g. with_job real_limits (stamp_of step) g job) (λ g. due_by g step job ∷ []) (world t new sink)
 judged_read tells k t old new sink step job read none x =
     goes_then tells (world k old sink) (world t old sink) (world t new sink) (λ g. with_job real_limits (stamp_of step) g job) (λ g. g) (λ g. due_by g step job ∷ []) (λ g. []) x (goes_read tells old new read t sink none)
 
 -- .. and one for which a disk failed or memory was short
-pub unjudged_ended : (tells : Bool) (k t : Kept) (old new : Pair) (sink : SinkState) (step : Step) (job : Job) (end : End) → WereRead tells old new → ReadingEnds end old new
+pub unjudged_ended : (tells : Bool) (k t : CommitterState) (old new : Pair) (sink : SinkState) (step : Step) (job : Job) (end : End) → WereRead tells old new → ReadingEnds end old new
     → Ended tells (world k old sink) (λ g. with_job real_limits (stamp_of step) g job) (λ g. due_by g step job ∷ []) end (world t new sink)
 unjudged_ended tells k t old new sink step job end read e =
     read_ended tells old new read k t sink (λ g. with_job real_limits (stamp_of step) g job) (λ g. due_by g step job ∷ []) end (λ g. grows_with real_limits (stamp_of step) g job) e
 
 -- ---- sizes
 
-pub fits_gathered : (tells : Bool) (old new : Kept) (disks : Pair) (sink : SinkState) → Fits tells (world old disks sink) → HasRoom old → HasGrown old new → StaysInOrder old new → KeepsFile old new → Fits tells (world new disks sink)
+pub fits_gathered : (tells : Bool) (old new : CommitterState) (disks : Pair) (sink : SinkState) → Fits tells (world old disks sink) → HasRoom old → HasGrown old new → StaysInOrder old new → KeepsFile old new → Fits tells (world new disks sink)
 fits_gathered tells old new disks sink f room grown order file = record {
-  reads = subst (λ v. Reads tells new.place (open_of v disks.a disks.b)) (sym file.in_a) (subst (λ at. Reads tells at (open_of old.in_a disks.a disks.b)) (sym file.place) f.reads);
+  reads = subst (λ v. ReadsAsLeft tells new.place (open_of v disks.a disks.b)) (sym file.in_a) (subst (λ at. ReadsAsLeft tells at (open_of old.in_a disks.a disks.b)) (sym file.place) f.reads);
   generation = λ told. file.generation ∙ f.generation told ∙ sym (ap (λ v. generation_of (open_of v disks.a disks.b).bytes.seen) file.in_a);
   copy = file.copy ∙ f.copy;
   few = omega (arith, room.0, grown.0, grown.1);
   order = order f.order;
 }
 
-pub room_empty : (k : Kept) → k.book.size ≡ k.book.sealed → HasRoom k
+pub room_empty : (k : CommitterState) → k.book.size ≡ k.book.sealed → HasRoom k
 room_empty k empty = (omega (arith, empty), opens_empty k.book empty)
 
 -- ---- before a job

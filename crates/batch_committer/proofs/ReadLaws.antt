@@ -17,7 +17,7 @@ use Rattle.ledger_book.specs.Books.{Serves}
 use Rattle.ledger_open.specs.Places.{places_in, places_from}
 use Rattle.ledger_open.specs.Standing.{floor_behind, IsErased}
 use Rattle.batch_committer.specs.Read.{IsReadAs, WasRead, WereRead, NoneFailed, ReadingEnds}
-use Rattle.batch_committer.specs.World.{Pair, Kept, world, Reads, Fits, IsCleanFor, Holds, Goes, Says, EndsBy, Ended, sealed_part}
+use Rattle.batch_committer.specs.World.{Pair, CommitterState, world, ReadsAsLeft, Fits, IsCleanFor, Holds, Goes, Says, EndsBy, Ended, sealed_part}
 use Rattle.batch_committer.specs.declared.end.End.{End}
 use Rattle.batch_committer.specs.declared.end.End.TheVariants.{DiskFault, WriteFault, NoMemory, Closed}
 use Rattle.batch_committer.proofs.Closing.{sealed_same}
@@ -38,7 +38,7 @@ unread tells disks = record { a = unread_one tells disks.a; b = unread_one tells
 -- ---- what is held, where the disks were read
 
 module _ (tells : Bool) (old new : Pair) (read : WereRead tells old new) where
-  holds_read : (k : Kept) (sink : SinkState) (h : History) → Holds tells (world k old sink) h → Holds tells (world k new sink) h
+  holds_read : (k : CommitterState) (sink : SinkState) (h : History) → Holds tells (world k old sink) h → Holds tells (world k new sink) h
   holds_read k sink h p = record {
     told = p.told;
     keeps = p.keeps;
@@ -50,10 +50,10 @@ module _ (tells : Bool) (old new : Pair) (read : WereRead tells old new) where
   told_still place None n keeps is = absurd is
   told_still place (Some m) n keeps is = subst (λ (x : Option ℕ). IsSomeAnd x (λ (y : ℕ). place + 1 ≤ y)) (sym keeps) is
 
-  reads_one : (place : ℕ) (d x : DiskState) → WasRead tells d x → Reads tells place d → Reads tells place x
+  reads_one : (place : ℕ) (d x : DiskState) → WasRead tells d x → ReadsAsLeft tells place d → ReadsAsLeft tells place x
   reads_one place d x r s = record { told = told_still place d.told x.told r.told s.told; shut = λ t. subst (λ (b : State). IsShutAt place b.seen) (sym (r.bytes t)) (s.shut t) }
 
-  reads_by : (in_a : Bool) (place : ℕ) → Reads tells place (open_of in_a old.a old.b) → Reads tells place (open_of in_a new.a new.b)
+  reads_by : (in_a : Bool) (place : ℕ) → ReadsAsLeft tells place (open_of in_a old.a old.b) → ReadsAsLeft tells place (open_of in_a new.a new.b)
   reads_by true place s = reads_one place old.a new.a read.a s
   reads_by false place s = reads_one place old.b new.b read.b s
 
@@ -61,11 +61,11 @@ module _ (tells : Bool) (old new : Pair) (read : WereRead tells old new) where
   generation_by true t = ap (λ (b : State). generation_of b.seen) (read.a.bytes t)
   generation_by false t = ap (λ (b : State). generation_of b.seen) (read.b.bytes t)
 
-  pub fits_read : (k : Kept) (sink : SinkState) → Fits tells (world k old sink) → Fits tells (world k new sink)
+  pub fits_read : (k : CommitterState) (sink : SinkState) → Fits tells (world k old sink) → Fits tells (world k new sink)
   fits_read k sink f = record { reads = reads_by k.in_a k.place f.reads; generation = λ t. f.generation t ∙ sym (generation_by k.in_a t); copy = f.copy; few = f.few; order = f.order }
 
   -- reading leads to the same history, and nothing becomes due by it
-  pub goes_read : (k : Kept) (sink : SinkState) → NoneFailed old new → Goes tells (world k old sink) (λ h. h) (λ h. []) (world k new sink)
+  pub goes_read : (k : CommitterState) (sink : SinkState) → NoneFailed old new → Goes tells (world k old sink) (λ h. h) (λ h. []) (world k new sink)
   goes_read k sink none = record {
     holds = λ h p. holds_read k sink h p;
     grows = λ h p. grows_not h;
@@ -81,14 +81,14 @@ module _ (tells : Bool) (old new : Pair) (read : WereRead tells old new) where
   says_none NoMemory e = refl
   says_none Closed e = absurd e
 
-  ends_by : (end : End) (k t : Kept) (sink : SinkState) → ReadingEnds end old new → EndsBy end (world k old sink) (world t new sink)
+  ends_by : (end : End) (k t : CommitterState) (sink : SinkState) → ReadingEnds end old new → EndsBy end (world k old sink) (world t new sink)
   ends_by DiskFault k t sink e = (e, (refl, refl))
   ends_by WriteFault k t sink e = absurd e
   ends_by NoMemory k t sink e = record { a = e.0; b = e.1; sink = (refl, refl) }
   ends_by Closed k t sink e = absurd e
 
   -- a run that reading ended, on the way to a history
-  pub read_ended : (k t : Kept) (sink : SinkState) (f : History → History) (d : History → List Due) (end : End) → ((h : History) → Grows h (f h)) → ReadingEnds end old new → Ended tells (world k old sink) f d end (world t new sink)
+  pub read_ended : (k t : CommitterState) (sink : SinkState) (f : History → History) (d : History → List Due) (end : End) → ((h : History) → Grows h (f h)) → ReadingEnds end old new → Ended tells (world k old sink) f d end (world t new sink)
   read_ended k t sink f d end grows e = record {
     grows = λ h p. grows h;
     part = [];
@@ -98,12 +98,12 @@ module _ (tells : Bool) (old new : Pair) (read : WereRead tells old new) where
   }
 
 -- the same for a book that is known by an equation
-pub holds_book : (tells : Bool) (k : Kept) (book : books.Kept) (disks : Pair) (sink : SinkState) (h : History) → book ≡ k.book → Holds tells (world k disks sink) h → Holds tells (world (record k { book = book }) disks sink) h
+pub holds_book : (tells : Bool) (k : CommitterState) (book : books.Kept) (disks : Pair) (sink : SinkState) (h : History) → book ≡ k.book → Holds tells (world k disks sink) h → Holds tells (world (record k { book = book }) disks sink) h
 holds_book tells k book disks sink h is p = subst (λ b. Holds tells (world (record k { book = b }) disks sink) h) (sym is) p
 
 -- ---- what is read of a history that is held, where none of its journals waits
 
-pub read_as_held : (tells : Bool) (k : Kept) (disks : Pair) (sink : SinkState) (h : History) → Holds tells (world k disks sink) h → h.waiting ≡ [] → (in_a : Bool) → k.in_a ≡ in_a → IsReadAs k.book k.places (open_of in_a disks.a.bytes disks.b.bytes).seen h
+pub read_as_held : (tells : Bool) (k : CommitterState) (disks : Pair) (sink : SinkState) (h : History) → Holds tells (world k disks sink) h → h.waiting ≡ [] → (in_a : Bool) → k.in_a ≡ in_a → IsReadAs k.book k.places (open_of in_a disks.a.bytes disks.b.bytes).seen h
 read_as_held tells k disks sink h p none in_a is =
     let g = sealed_part h in
     let parts = p.keeps.located.parts in

@@ -12,8 +12,8 @@ use Rattle.ledger_model.specs.declared.job.Job.{Job}
 use Rattle.ledger_model.specs.declared.job.Job.TheVariants.{Anchor}
 use Rattle.ledger_model.proofs.GrowLaws.{grows_after, grows_settled}
 use Rattle.time_peg.specs.Entries.{NotaryState}
-use Rattle.batch_committer.specs.Attending.{step_in, Attended, Takes, EndsTaking, TakesIn, EndsIn}
-use Rattle.batch_committer.specs.World.{Kept, Pair, World, world, Goes, Ended}
+use Rattle.batch_committer.specs.Attending.{step_in, Attended, TakesJob, EndsTaking, TakesIn, EndsIn}
+use Rattle.batch_committer.specs.World.{CommitterState, Pair, World, world, Goes, Ended}
 use Rattle.batch_committer.specs.declared.end.End.TheVariants.{Closed}
 use Rattle.batch_committer.specs.declared.end.End.{End}
 use Rattle.batch_committer.proofs.Attends.{untouched_by}
@@ -22,7 +22,7 @@ use Rattle.batch_committer.proofs.WayLaws.{ended_then, ended_wider, ended_as, ne
 
 module _ (tells : Bool) (w m n t : World) (p q : NotaryState) (lane index : ℕ) (job : Job) (x : Goes tells w (λ h. judged_at h job) (λ h. []) m) where
   -- it is done
-  pub taken : (failed : Bool) (line : List ℕ) → TakesIn tells m n p q (step_in p q failed lane index line) job → Goes tells n (settled_history job) (λ g. []) t → Takes tells w t p q (step_in p q failed lane index line) job
+  pub taken : (failed : Bool) (line : List ℕ) → TakesIn tells m n p q (step_in p q failed lane index line) job → Goes tells n (settled_history job) (λ g. []) t → TakesJob tells w t p q (step_in p q failed lane index line) job
   taken failed line y z = record {
     goes = offer_goes tells w m n t (step_in p q failed lane index line) job x y.goes z;
     attended = λ h held. y.attended (judged_at h job) (x.holds h held);
@@ -74,10 +74,10 @@ unended tells w t p lane index job end x = by (untouched_by p job) where
   })
 
 -- the same for what is kept, by an equation
-pub takes_at : (tells : Bool) (k0 k1 : Kept) → k0 ≡ k1 → (disks : Pair) (sink : SinkState) (t : World) (p q : NotaryState) (step : Step) (job : Job) → Takes tells (world k0 disks sink) t p q step job → Takes tells (world k1 disks sink) t p q step job
-takes_at tells k0 k1 is disks sink t p q step job x = subst (λ k. Takes tells (world k disks sink) t p q step job) is x
+pub takes_at : (tells : Bool) (k0 k1 : CommitterState) → k0 ≡ k1 → (disks : Pair) (sink : SinkState) (t : World) (p q : NotaryState) (step : Step) (job : Job) → TakesJob tells (world k0 disks sink) t p q step job → TakesJob tells (world k1 disks sink) t p q step job
+takes_at tells k0 k1 is disks sink t p q step job x = subst (λ k. TakesJob tells (world k disks sink) t p q step job) is x
 
-pub ends_at : (tells : Bool) (k0 k1 : Kept) → k0 ≡ k1 → (disks : Pair) (sink : SinkState) (t : World) (p q : NotaryState) (lane index : ℕ) (job : Job) (end : End) → EndsTaking tells (world k0 disks sink) t p q lane index job end → EndsTaking tells (world k1 disks sink) t p q lane index job end
+pub ends_at : (tells : Bool) (k0 k1 : CommitterState) → k0 ≡ k1 → (disks : Pair) (sink : SinkState) (t : World) (p q : NotaryState) (lane index : ℕ) (job : Job) (end : End) → EndsTaking tells (world k0 disks sink) t p q lane index job end → EndsTaking tells (world k1 disks sink) t p q lane index job end
 ends_at tells k0 k1 is disks sink t p q lane index job end x = subst (λ k. EndsTaking tells (world k disks sink) t p q lane index job end) is x
 
 pub never_ends_closed : (tells : Bool) (w t : World) (p q : NotaryState) (lane index : ℕ) (job : Job) → EndsTaking tells w t p q lane index job Closed → ⊥

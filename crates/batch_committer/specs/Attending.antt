@@ -14,7 +14,7 @@ use Rattle.ledger_model.specs.Step.{Step}
 use Rattle.ledger_model.specs.declared.job.Job.{Job}
 use Rattle.ledger_model.specs.declared.job.Job.TheVariants.{Anchor}
 use Rattle.batch_committer.specs.Steps.{due_by, Judged}
-use Rattle.batch_committer.specs.World.{Kept, World, Keeps, Holds, Goes, Ended}
+use Rattle.batch_committer.specs.World.{CommitterState, World, Keeps, Holds, Goes, Ended}
 use Rattle.batch_committer.specs.declared.end.End.{End}
 
 -- the step of a line of a lane with this number there, where the notary went from one state to the other, and failed or not
@@ -33,7 +33,7 @@ abbrev pub FailsAtMostOnce : NotaryState → NotaryState → Type 0
 FailsAtMostOnce n m = (m.faults ≡ n.faults) ⊎ (m.faults ≡ count_after n.faults)
 
 -- a call took a job: it led from each history to the one after the job's step, and the notary took part in that step
-pub record Takes (tells : Bool) (w t : World) (n m : NotaryState) (step : Step) (job : Job) : Type 0 where
+pub record TakesJob (tells : Bool) (w t : World) (n m : NotaryState) (step : Step) (job : Job) : Type 0 where
   pub goes : Goes tells w (λ h. after_job h step job) (λ h. due_of h step job ∷ []) t
   pub attended : (h : History) → Holds tells w h → Attended n m (judged_at h job) step job
 
@@ -57,7 +57,7 @@ EndsTaking tells w t n m lane index job end =
 -- ---- within a call: the judgement of a job, in front of which the open block has ended where the job asks for that
 
 -- a job was judged against h, and the notary took part
-pub record JudgedBy (new : Kept) (n m : NotaryState) (h : History) (step : Step) (job : Job) (answer : Answer) : Type 0 where
+pub record JudgedBy (new : CommitterState) (n m : NotaryState) (h : History) (step : Step) (job : Job) (answer : Answer) : Type 0 where
   pub judged : Judged new h step job answer
   pub attended : Attended n m h step job
 
@@ -67,7 +67,7 @@ pub record TakesIn (tells : Bool) (w t : World) (n m : NotaryState) (step : Step
   pub attended : (g : History) → Holds tells w g → Attended n m g step job
 
 -- memory was short, or a disk failed, before a job's answer was there: the notary took part, or it didn't answer to an anchor
-abbrev pub EndsAsking : Kept → NotaryState → NotaryState → Job → Type 0
+abbrev pub EndsAsking : CommitterState → NotaryState → NotaryState → Job → Type 0
 EndsAsking old n m job =
     ((failed : Bool) × ((h : History) (lane index : ℕ) (line : List ℕ) → Keeps old h → Attended n m h (step_in n m failed lane index line) job))
     ⊎ ((job ≡ Anchor) × (m ≡ n))

@@ -1,6 +1,6 @@
 -- What committing a block does to the two disks, and what giving up does what its journal hides or purges.
 use Rattle.std.specs.Prelude.{◌≡◌, ◌⊎◌, ℕ, ◌+◌, ◌≤◌, Bool, IsTrue, IsSomeAnd, List, [], ◌∷◌, ◌++◌, length, take}
-use Rattle.block_file.specs.File.{Stands, tail_of, IsSettled, HasBlock}
+use Rattle.block_file.specs.File.{IsFileOf, tail_of, IsSettled, HasBlock}
 use Rattle.ledger_disk.specs.Disk.{State, MayLeave, settled_state}
 use Rattle.ledger_model.specs.History.{History}
 use Rattle.ledger_open.specs.Purging.{Ledger, ledger_at, open_disk, other_disk, StandsOpen, IsCleanOpen, IsAtGate}
@@ -8,7 +8,7 @@ use Rattle.ledger_open.specs.Standing.{PairFor}
 use Rattle.ledger_open.specs.Order.{AreInOrder}
 use Rattle.ledger_open.specs.declared.opened.Opened.{Opened}
 use Rattle.twin_file.specs.Twin.{open_of, other_of}
-use Rattle.batch_committer.specs.World.{Pair, Reads, OneFailed}
+use Rattle.batch_committer.specs.World.{Pair, ReadsAsLeft, OneFailed}
 
 -- the contents of the open file, and those of the other one
 abbrev pub open_bytes : Bool → Pair → State
@@ -19,11 +19,11 @@ other_bytes in_a disks = other_of in_a disks.a.bytes disks.b.bytes
 
 -- the open file has the block behind the gate at this place, for good, and no disk failed
 pub record IsCommitted (tells : Bool) (in_a : Bool) (place : ℕ) (block : List ℕ) (before after : Pair) : Type 0 where
-  pub has : IsTrue tells → (front : List ℕ) (blocks : List (List ℕ)) → Stands front blocks (open_bytes in_a before).seen
+  pub has : IsTrue tells → (front : List ℕ) (blocks : List (List ℕ)) → IsFileOf front blocks (open_bytes in_a before).seen
       → tail_of front blocks ≡ place → HasBlock front blocks block (open_bytes in_a after)
   pub ends : IsTrue tells → length (open_bytes in_a before).seen ≡ place + 1
       → length (open_bytes in_a after).seen ≡ place + 1 + length block + 1
-  pub reads : Reads tells (place + 1 + length block) (open_of in_a after.a after.b)
+  pub reads : ReadsAsLeft tells (place + 1 + length block) (open_of in_a after.a after.b)
   pub head : IsTrue tells → take 64 (open_bytes in_a after).seen ≡ take 64 (open_bytes in_a before).seen
   pub other : other_bytes in_a after ≡ other_bytes in_a before
   pub faults_a : after.a.faults ≡ before.a.faults
@@ -32,9 +32,9 @@ pub record IsCommitted (tells : Bool) (in_a : Bool) (place : ℕ) (block : List 
 -- the open file's disk failed: each image has the block whole or not at all
 pub record IsUncommitted (tells : Bool) (in_a : Bool) (place : ℕ) (block : List ℕ) (before after : Pair) : Type 0 where
   pub may : IsTrue tells → IsSettled (open_bytes in_a before) → (front : List ℕ) (blocks : List (List ℕ))
-      → Stands front blocks (open_bytes in_a before).seen → tail_of front blocks ≡ place
+      → IsFileOf front blocks (open_bytes in_a before).seen → tail_of front blocks ≡ place
       → (image : List ℕ) → MayLeave (open_bytes in_a after) image
-      → Stands front blocks image ⊎ Stands front (blocks ++ block ∷ []) image
+      → IsFileOf front blocks image ⊎ IsFileOf front (blocks ++ block ∷ []) image
   pub other : other_bytes in_a after ≡ other_bytes in_a before
   pub failed : OneFailed before after
 

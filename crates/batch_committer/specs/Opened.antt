@@ -9,10 +9,10 @@ use Rattle.pseudo_genesis.specs.declared.base.Base.{Base}
 use Rattle.ledger_open.specs.Opening.{Known}
 use Rattle.ledger_open.specs.Reopened.{Remembers}
 use Rattle.ledger_open.specs.Standing.{PairFor, IsCleanPair}
-use Rattle.batch_committer.specs.World.{Kept, Pair, first_kept}
+use Rattle.batch_committer.specs.World.{CommitterState, Pair, first_kept}
 
 -- what is kept of a ledger of which this is known
-abbrev pub kept_from : Known → Bool → ℕ → Kept
+abbrev pub kept_from : Known → Bool → ℕ → CommitterState
 kept_from known in_a generation = first_kept known.book known.places known.place in_a generation None
 
 -- the ledger was made or opened: its file has this base, or none, and these blocks, and the length of that file is told

@@ -24,7 +24,7 @@ use Rattle.ledger_book.specs.Books.{Serves, sealed_size}
 use Rattle.ledger_book.specs.Steps.{OpenGathers}
 use Rattle.ledger_open.specs.Places.{place_at}
 use Rattle.ledger_open.specs.Order.{AreInOrder}
-use Rattle.batch_committer.specs.World.{Kept, Located, sealed_part}
+use Rattle.batch_committer.specs.World.{CommitterState, Located, sealed_part}
 
 -- what is due for a job that is judged against g, by what came of it
 abbrev pub due_by : History → Step → Job → Due
@@ -54,13 +54,13 @@ pub record HasJournal (book : books.Kept) (jsn : ℕ) : Type 0 where
   pub below : jsn < book.size
 
 -- a journal was gathered behind those of the open block
-pub record IsGathered (old new : Kept) (journal : Entry) : Type 0 where
+pub record IsGathered (old new : CommitterState) (journal : Entry) : Type 0 where
   pub widths : HasWidths journal.header
   pub body : new.body ≡ old.body ++ record_bytes journal
   pub places : new.places ≡ old.places ++ place_at (old.place + 45 + length old.body) journal ∷ []
 
 -- but for what is due, what is kept is what this history says
-pub record Gathers (k : Kept) (h : History) : Type 0 where
+pub record Gathers (k : CommitterState) (h : History) : Type 0 where
   pub serves : Serves k.book h
   pub limits : k.book.limits ≡ real_limits
   pub floor : k.book.floor ≡ point (sealed_part h)
@@ -70,32 +70,32 @@ pub record Gathers (k : Kept) (h : History) : Type 0 where
   pub located : Located k h
 
 -- a job was judged against g and its journal gathered: this is due for it, and all else is kept as the history after it says
-pub record Judged (new : Kept) (g : History) (step : Step) (job : Job) (answer : Answer) : Type 0 where
+pub record Judged (new : CommitterState) (g : History) (step : Step) (job : Job) (answer : Answer) : Type 0 where
   pub answer_is : answer ≡ answer_for g step (outcome real_limits (stamp_of step) g job)
   pub gathers : Gathers new (with_job real_limits (stamp_of step) g job)
 
 -- the open file is as before, and its tail gate stands where it stood
-pub record KeepsFile (old new : Kept) : Type 0 where
+pub record KeepsFile (old new : CommitterState) : Type 0 where
   pub place : new.place ≡ old.place
   pub in_a : new.in_a ≡ old.in_a
   pub generation : new.generation ≡ old.generation
   pub copy : new.copy ≡ old.copy
 
 -- the open file and what is due are as before
-pub record KeepsRest (old new : Kept) : Type 0 where
+pub record KeepsRest (old new : CommitterState) : Type 0 where
   pub file : KeepsFile old new
   pub dues : new.dues ≡ old.dues
 
 -- at most one journal was placed, and no block ended
-abbrev pub HasGrown : Kept → Kept → Type 0
+abbrev pub HasGrown : CommitterState → CommitterState → Type 0
 HasGrown old new = (new.book.size ≤ old.book.size + 1) × (new.book.sealed ≡ old.book.sealed)
 
 -- the journals that wait may share their block as before, where the job's own isn't a block of its own
-abbrev pub StaysGathered : Kept → Kept → Job → Type 0
+abbrev pub StaysGathered : CommitterState → CommitterState → Job → Type 0
 StaysGathered old new job = closes_after job ≡ false → OpenGathers old.book → OpenGathers new.book
 
 -- the contents still stand in their order in front of the place of the next gate
-abbrev pub StaysInOrder : Kept → Kept → Type 0
+abbrev pub StaysInOrder : CommitterState → CommitterState → Type 0
 StaysInOrder old new = AreInOrder 64 (old.place + 45 + length old.body) old.places → AreInOrder 64 (new.place + 45 + length new.body) new.places
 
 -- a query that asks for no proof, and that the ledger answers without its notary

@@ -38,7 +38,7 @@ abbrev pub pair : DiskState → DiskState → Pair
 pair a b = record { a = a; b = b }
 
 -- what a committer keeps
-pub record Kept : Type 0 where
+pub record CommitterState : Type 0 where
   pub book : books.Kept
   -- where the open file's tail gate stands, whether that file is the first, which generation it is, and the copy of it that
   -- was begun
@@ -54,7 +54,7 @@ pub record Kept : Type 0 where
   pub dues : List Due
 
 -- what is kept of a ledger that was made or opened just now
-abbrev pub first_kept : books.Kept → List PlaceAt → ℕ → Bool → ℕ → Option BlockFile → Kept
+abbrev pub first_kept : books.Kept → List PlaceAt → ℕ → Bool → ℕ → Option BlockFile → CommitterState
 first_kept book places place in_a generation copy = record {
   book = book;
   place = place;
@@ -68,21 +68,21 @@ first_kept book places place in_a generation copy = record {
 
 -- what a committer keeps, and whether a call has ended its run
 pub record Held : Type 0 where
-  pub kept : Kept
+  pub kept : CommitterState
   pub ended : Bool
 
 pub record World : Type 0 where
-  pub kept : Kept
+  pub kept : CommitterState
   pub disks : Pair
   pub sink : SinkState
 
-abbrev pub world : Kept → Pair → SinkState → World
+abbrev pub world : CommitterState → Pair → SinkState → World
 world kept disks sink = record { kept = kept; disks = disks; sink = sink }
 
 -- ---- what a call asks for
 
 -- the open file reads as the calls left it: the length that is told reaches behind its tail gate, and that gate is shut
-pub record Reads (tells : Bool) (place : ℕ) (d : DiskState) : Type 0 where
+pub record ReadsAsLeft (tells : Bool) (place : ℕ) (d : DiskState) : Type 0 where
   pub told : IsSomeAnd d.told (λ n. place + 1 ≤ n)
   pub shut : IsTrue tells → IsShutAt place d.bytes.seen
 
@@ -90,14 +90,14 @@ pub record Reads (tells : Bool) (place : ℕ) (d : DiskState) : Type 0 where
 -- is kept is its own, no copy of it was begun, the open block has no more journals than a block may have, and the contents
 -- stand in their order between the head of their file and the place of the next gate.
 pub record Fits (tells : Bool) (w : World) : Type 0 where
-  pub reads : Reads tells w.kept.place (open_of w.kept.in_a w.disks.a w.disks.b)
+  pub reads : ReadsAsLeft tells w.kept.place (open_of w.kept.in_a w.disks.a w.disks.b)
   pub generation : IsTrue tells → w.kept.generation ≡ generation_of (open_of w.kept.in_a w.disks.a w.disks.b).bytes.seen
   pub copy : w.kept.copy ≡ None
   pub few : w.kept.book.size ≤ w.kept.book.sealed + BLOCK_LIMIT
   pub order : AreInOrder 64 (w.kept.place + 45 + length w.kept.body) w.kept.places
 
 -- a journal more has room in the open block, and may share it with those that wait there
-abbrev pub HasRoom : Kept → Type 0
+abbrev pub HasRoom : CommitterState → Type 0
 HasRoom k = (k.book.size < k.book.sealed + BLOCK_LIMIT) × OpenGathers k.book
 
 -- ---- which history it is
@@ -108,14 +108,14 @@ sealed_part h = history h.closed []
 
 -- The places are those of the journals of the open file's blocks, which are this history's from where the book begins, and of
 -- those that will stand behind them. The tail gate stands behind the blocks.
-pub record Located (k : Kept) (h : History) : Type 0 where
+pub record Located (k : CommitterState) (h : History) : Type 0 where
   pub parts : Parts k.book.floor (sealed_part h)
   pub places : k.places ≡ places_from (floor_behind (sealed_part h) parts.gone) parts.kept ++ places_in (k.place + 45) h.waiting
   pub tail : k.place ≡ gate_behind (floor_behind (sealed_part h) parts.gone) parts.kept
 
 -- The committer keeps what this history says. The book begins where the file does: at the point of its blocks, behind which a
 -- purge may wait.
-pub record Keeps (k : Kept) (h : History) : Type 0 where
+pub record Keeps (k : CommitterState) (h : History) : Type 0 where
   pub serves : Serves k.book h
   pub limits : k.book.limits ≡ real_limits
   pub floor : k.book.floor ≡ point (sealed_part h)
@@ -189,7 +189,7 @@ IsLeftClean Closed h kept done a b = IsCleanPair a b kept
 
 -- The images stand for the blocks of h and maybe for more of those of the whole history, every journal whose receipt was begun
 -- is in them, and what such journals hide is gone.
-pub record Left (h whole : History) (done : List Due) (end : End) (a b : List ℕ) : Type 0 where
+pub record LeftStanding (h whole : History) (done : List Due) (end : End) (a b : List ℕ) : Type 0 where
   pub kept : History
   pub stands : PairFor a b kept
   pub no_shorter : Begins h.closed kept.closed
@@ -211,7 +211,7 @@ pub record Stops (h whole : History) (dues : List Due) (end : End) (part : List 
   pub rest : List Due
   pub split : dues ≡ done ++ rest
   pub said : (f : History) → Grows whole f → f.waiting ≡ [] → Says end part (due_lines f done)
-  pub images : (a b : List ℕ) → MayLeave disks.a.bytes a → MayLeave disks.b.bytes b → Left h whole done end a b
+  pub images : (a b : List ℕ) → MayLeave disks.a.bytes a → MayLeave disks.b.bytes b → LeftStanding h whole done end a b
 
 -- one call of one of the two disks failed
 abbrev pub OneFailed : Pair → Pair → Type 0

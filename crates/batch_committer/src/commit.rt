@@ -1,12 +1,12 @@
 ghost use Rattle.std.specs.Prelude.{◌≡◌, ◌⊎◌, ◌+◌, ◌++◌, [], ◌∷◌, ℕ, List, length, take, IsTrue, IfErr, OnOk, OnErr, IsSomeAnd};
-ghost use Rattle.block_file.specs.File.{Stands, tail_of, IsSettled, HasBlock};
+ghost use Rattle.block_file.specs.File.{IsFileOf, tail_of, IsSettled, HasBlock};
 ghost use Rattle.block_file.specs.Place.{place_of};
 ghost use Rattle.ledger_disk.specs.Disk.{MayLeave};
 ghost use Rattle.twin_file.specs.Twin.{open_of};
 ghost use Rattle.twin_file.specs.Which.{in_a_of, generation_in, file_of, copy_of};
 ghost use Rattle.batch_committer.specs.Committed.{IsCommitted, IsUncommitted};
 ghost use Rattle.ledger_bytes.specs.Causes.{count_after};
-ghost use Rattle.batch_committer.specs.World.{pair, Reads};
+ghost use Rattle.batch_committer.specs.World.{pair, ReadsAsLeft};
 ghost use Rattle.batch_committer.specs.declared.end.End.TheVariants as ends;
 
 use crate::End;
@@ -20,7 +20,7 @@ pub(crate) fn commit<D: Disk>(
     b: &mut D,
     block: &[u8],
 ) -> Result<(), End>
-    requires { Reads D.tells (place_of (file_of twin.old)) (open_of (in_a_of twin.old)
+    requires { ReadsAsLeft D.tells (place_of (file_of twin.old)) (open_of (in_a_of twin.old)
         (D.state a.old)
         (D.state b.old)) }
     ensures ok { OnOk result (IsCommitted D.tells (in_a_of twin.old)
@@ -45,16 +45,16 @@ pub(crate) fn commit<D: Disk>(
 
 // Commits a block in the open file, whose disk this is.
 fn commit_in<D: Disk>(twin: &mut Twin, file: &mut D, block: &[u8]) -> Result<(), End>
-    requires { Reads D.tells (place_of (file_of twin.old))
+    requires { ReadsAsLeft D.tells (place_of (file_of twin.old))
         (D.state file.old) }
     ensures ok { OnOk result (IsTrue D.tells → (front : List ℕ) (blocks : List (List ℕ))
-        → Stands front blocks (D.state file.old).bytes.seen
+        → IsFileOf front blocks (D.state file.old).bytes.seen
         → tail_of front blocks ≡ place_of (file_of twin.old)
         → HasBlock front blocks block.now (D.state file.new).bytes) }
     ensures ends { OnOk result (IsTrue D.tells
         → length (D.state file.old).bytes.seen ≡ place_of (file_of twin.old) + 1
         → length (D.state file.new).bytes.seen ≡ place_of (file_of twin.new) + 1) }
-    ensures reads { OnOk result (Reads D.tells (place_of (file_of twin.new))
+    ensures reads { OnOk result (ReadsAsLeft D.tells (place_of (file_of twin.new))
         (D.state file.new)) }
     ensures place { OnOk result (place_of (file_of twin.new)
         ≡ place_of (file_of twin.old) + 1 + length block.now) }
@@ -65,10 +65,10 @@ fn commit_in<D: Disk>(twin: &mut Twin, file: &mut D, block: &[u8]) -> Result<(),
     ensures copy { copy_of twin.new ≡ copy_of twin.old }
     ensures err { OnErr result (IsTrue D.tells → IsSettled (D.state file.old).bytes
         → (front : List ℕ) (blocks : List (List ℕ))
-        → Stands front blocks (D.state file.old).bytes.seen
+        → IsFileOf front blocks (D.state file.old).bytes.seen
         → tail_of front blocks ≡ place_of (file_of twin.old)
         → (image : List ℕ) → MayLeave (D.state file.new).bytes image
-        → Stands front blocks image ⊎ Stands front (blocks ++ block.now ∷ []) image) }
+        → IsFileOf front blocks image ⊎ IsFileOf front (blocks ++ block.now ∷ []) image) }
     ensures counts { OnOk result ((D.state file.new).faults ≡ (D.state file.old).faults) }
     ensures failed { OnErr result ((D.state file.new).faults
         ≡ count_after (D.state file.old).faults) }

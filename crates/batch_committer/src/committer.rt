@@ -2,7 +2,7 @@ ghost use Rattle.std.specs.Prelude.{◌≡◌, ◌↔◌, [], Bool, List, ℕ, t
 ghost use Rattle.block_file.specs.Place.{place_of};
 ghost use Rattle.ledger_model.specs.History.{History, id, close};
 ghost use Rattle.twin_file.specs.Which.{in_a_of, generation_in, file_of, copy_of};
-ghost use Rattle.batch_committer.specs.Attending.{step_in, FailsAtMostOnce, Takes, EndsTaking};
+ghost use Rattle.batch_committer.specs.Attending.{step_in, FailsAtMostOnce, TakesJob, EndsTaking};
 ghost use Rattle.batch_committer.specs.World.{pair, world, first_kept, Fits, HasRoom, Keeps, Goes, Ended};
 
 use crate::End;
@@ -93,7 +93,7 @@ impl Committer {
         requires room { self.old.ended ≡ false → HasRoom self.old.kept }
 
         // The line plays no part once its job is there.
-        ensures ok { OnOk result ((failed : Bool) × ((line : List ℕ) → Takes D.tells
+        ensures ok { OnOk result ((failed : Bool) × ((line : List ℕ) → TakesJob D.tells
             (world self.old.kept (pair (D.state a.old) (D.state b.old)) (K.state sink.old))
             (world self.new.kept (pair (D.state a.new) (D.state b.new)) (K.state sink.new))
             (N.state notary.old) (N.state notary.new)

@@ -16,9 +16,9 @@ ghost use Rattle.ledger_book.specs.Steps.{OpenGathers, HasOperatorRoom};
 ghost use Rattle.twin_file.specs.Which.{in_a_of, generation_in, file_of, copy_of};
 ghost use Rattle.ledger_open.specs.Places.{place_at};
 ghost use Rattle.batch_committer.specs.Read.{WereRead, NoneFailed, ReadingEnds};
-ghost use Rattle.batch_committer.specs.Attending.{step_in, FailsAtMostOnce, Takes, EndsTaking, TakesIn, EndsIn, JudgedBy, EndsAsking};
+ghost use Rattle.batch_committer.specs.Attending.{step_in, FailsAtMostOnce, TakesJob, EndsTaking, TakesIn, EndsIn, JudgedBy, EndsAsking};
 ghost use Rattle.batch_committer.specs.Steps.{IsOfLedger, HasParts, HasJournal, IsGathered, KeepsFile, KeepsRest, HasGrown, StaysGathered, StaysInOrder};
-ghost use Rattle.batch_committer.specs.World.{Pair, pair, world, first_kept, Reads, Fits, HasRoom, Keeps, Holds, Goes, Ended};
+ghost use Rattle.batch_committer.specs.World.{Pair, pair, world, first_kept, ReadsAsLeft, Fits, HasRoom, Keeps, Holds, Goes, Ended};
 
 use crate::End;
 use crate::block::{OpenBlock, who_len};
@@ -63,9 +63,9 @@ pub(crate) struct Taking {
 impl Model for Taking {
     ghost use Rattle.block_file.specs.Place.{place_of};
     ghost use Rattle.twin_file.specs.Which.{in_a_of, generation_in, file_of, copy_of};
-    ghost use Rattle.batch_committer.specs.World.{Kept};
+    ghost use Rattle.batch_committer.specs.World.{CommitterState};
 
-    ghost Value = { Kept };
+    ghost Value = { CommitterState };
 
     ghost view = { λ t. record {
       book = t.opened.book;
@@ -133,7 +133,7 @@ impl Taking {
         requires fits { Fits D.tells (world self.old (pair (D.state a.old) (D.state b.old))
             (K.state sink.old)) }
         requires room { HasRoom self.old }
-        ensures ok { OnOk result ((failed : Bool) × ((line : List ℕ) → Takes D.tells
+        ensures ok { OnOk result ((failed : Bool) × ((line : List ℕ) → TakesJob D.tells
             (world self.old (pair (D.state a.old) (D.state b.old)) (K.state sink.old))
             (world self.new (pair (D.state a.new) (D.state b.new)) (K.state sink.new))
             (N.state notary.old) (N.state notary.new)

@@ -4,7 +4,7 @@ use Rattle.std.proofs.lemmas.List.{take_at, drop_at, drop-drop, take-append-drop
 use Rattle.std.proofs.lemmas.List.Concat.{flat_map-append}
 use Rattle.ledger_disk.specs.Disk.{overlay}
 use Rattle.ledger_disk.specs.Guards.{Outside}
-use Rattle.block_file.specs.File.{Stands, open_blocks, tail_of}
+use Rattle.block_file.specs.File.{IsFileOf, open_blocks, tail_of}
 
 -- a file in three parts, of which the middle one is changed
 outside_parts : (a c b image : List ℕ) (at n : ℕ) → length a ≡ at → length c ≡ n → Outside at n (a ++ c ++ b) image → image ≡ a ++ take n (drop at image) ++ b
@@ -33,8 +33,8 @@ module _ (front : List ℕ) (before after : List (List ℕ)) (head rest : List �
   size_up_to = omega (arith, length-append (front ++ open_blocks before) (1 ∷ head))
 
   -- an image with all else as before has the same blocks, but for that content
-  pub changed : (content file image : List ℕ) (at n : ℕ) → Stands front (before ++ (head ++ content ++ rest) ∷ after) file → tail_of front before + 1 + length head ≡ at → length content ≡ n
-      → Outside at n file image → Stands front (before ++ (head ++ take n (drop at image) ++ rest) ∷ after) image
+  pub changed : (content file image : List ℕ) (at n : ℕ) → IsFileOf front (before ++ (head ++ content ++ rest) ∷ after) file → tail_of front before + 1 + length head ≡ at → length content ≡ n
+      → Outside at n file image → IsFileOf front (before ++ (head ++ take n (drop at image) ++ rest) ∷ after) image
   changed content file image at n stands place size outside =
       let tail = stands.gate ∷ stands.rest in
       let is = stands.is ∙ parts content tail in
@@ -42,8 +42,8 @@ module _ (front : List ℕ) (before after : List (List ℕ)) (head rest : List �
       record { gate = stands.gate; rest = stands.rest; is = image_is ∙ sym (parts (take n (drop at image)) tail); shut = stands.shut }
 
   -- and where zeros stand there now, it is zeros
-  pub zeroed : (content file : List ℕ) (at n : ℕ) → Stands front (before ++ (head ++ content ++ rest) ∷ after) file → tail_of front before + 1 + length head ≡ at → length content ≡ n
-      → Stands front (before ++ (head ++ replicate n 0 ++ rest) ∷ after) (overlay at (replicate n 0) file)
+  pub zeroed : (content file : List ℕ) (at n : ℕ) → IsFileOf front (before ++ (head ++ content ++ rest) ∷ after) file → tail_of front before + 1 + length head ≡ at → length content ≡ n
+      → IsFileOf front (before ++ (head ++ replicate n 0 ++ rest) ∷ after) (overlay at (replicate n 0) file)
   zeroed content file at n stands place size =
       let tail = stands.gate ∷ stands.rest in
       let behind = rest ++ (open_blocks after ++ tail) in
@@ -58,8 +58,8 @@ module _ (front : List ℕ) (before after : List (List ℕ)) (head rest : List �
         shut = stands.shut;
       }
 
-  pub changed_some : (content file image : List ℕ) (at n : ℕ) → Stands front (before ++ (head ++ content ++ rest) ∷ after) file → tail_of front before + 1 + length head ≡ at → length content ≡ n
-      → Outside at n file image → (other : List ℕ) × (length other ≡ n) × Stands front (before ++ (head ++ other ++ rest) ∷ after) image
+  pub changed_some : (content file image : List ℕ) (at n : ℕ) → IsFileOf front (before ++ (head ++ content ++ rest) ∷ after) file → tail_of front before + 1 + length head ≡ at → length content ≡ n
+      → Outside at n file image → (other : List ℕ) × (length other ≡ n) × IsFileOf front (before ++ (head ++ other ++ rest) ∷ after) image
   changed_some content file image at n stands place size outside =
       let tail = stands.gate ∷ stands.rest in
       let is = stands.is ∙ parts content tail in

@@ -17,7 +17,7 @@ use Rattle.journal_record.specs.declared.header.Header.{Header}
 use Rattle.journal_record.proofs.ReadingLaws.{header_of_only}
 use Rattle.journal_record.proofs.Spelling.{length-spelling}
 use Rattle.block_file.specs.Blocks.{AreBlock, BeginsAt, IsRead, IsOpenBlock, room_at, head_at, body_at, count_in, body_len_in, HasBodyAt, IsNoEntry, IsHeadDamage, IsBodyErr, IsNextBlock, IsOutside, GivesBlock, GivesEnd}
-use Rattle.block_file.specs.File.{Stands, open_blocks, tail_of}
+use Rattle.block_file.specs.File.{IsFileOf, open_blocks, tail_of}
 use Rattle.block_file.specs.declared.block.BlockAt.{BlockAt}
 use Rattle.block_file.specs.declared.failure.Damage.{Damage}
 use Rattle.block_file.specs.declared.failure.Damage.TheVariants as damage
@@ -276,7 +276,7 @@ behind_block [] gate rest = (gate, rest, refl)
 behind_block (b ∷ bs) gate rest = (1, (b ++ open_blocks bs) ++ gate ∷ rest, refl)
 
 -- where a block stands in a file that stands for blocks, it is open
-pub stands_open : (front : List ℕ) (before after : List (List ℕ)) (root : List ℕ) (es : List Entry) (file : List ℕ) (at : ℕ) → Stands front (before ++ block_bytes root es ∷ after) file → tail_of front before ≡ at → length root ≡ 32 → IsOpenBlock at root es file
+pub stands_open : (front : List ℕ) (before after : List (List ℕ)) (root : List ℕ) (es : List Entry) (file : List ℕ) (at : ℕ) → IsFileOf front (before ++ block_bytes root es ∷ after) file → tail_of front before ≡ at → length root ≡ 32 → IsOpenBlock at root es file
 stands_open front before after root es file at stands place digest =
     let next = behind_block after stands.gate stands.rest in
     let split : file ≡ (front ++ open_blocks before) ++ (1 ∷ (block_bytes root es ++ (open_blocks after ++ stands.gate ∷ stands.rest))) =

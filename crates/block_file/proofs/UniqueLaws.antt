@@ -3,7 +3,7 @@ use Rattle.std.specs.Int.{from_be_bytes, w64}
 use Rattle.std.proofs.Common.{◌≡◌, ◌≢◌, ℕ, ◌≤◌, List, [], ◌∷◌, ◌++◌, length, take, drop, refl, sym, ◌∙◌, ap, arith, append_assoc, length-drop}
 use Rattle.std.proofs.lemmas.List.{drop_at, take_at, take-append-le, drop-append-le}
 use Rattle.journal_record.specs.Records.{number_8}
-use Rattle.block_file.specs.File.{Stands, open_blocks, IsWhole, AreWhole}
+use Rattle.block_file.specs.File.{IsFileOf, open_blocks, IsWhole, AreWhole}
 
 -- blocks, and a shut gate behind them
 record Follows (blocks : List (List ℕ)) (bytes : List ℕ) : Type 0 where
@@ -12,7 +12,7 @@ record Follows (blocks : List (List ℕ)) (bytes : List ℕ) : Type 0 where
   pub is : bytes ≡ open_blocks blocks ++ gate ∷ rest
   pub shut : gate ≢ 1
 
-follows : (front : List ℕ) (blocks : List (List ℕ)) (file : List ℕ) → Stands front blocks file → Follows blocks (drop (length front) file)
+follows : (front : List ℕ) (blocks : List (List ℕ)) (file : List ℕ) → IsFileOf front blocks file → Follows blocks (drop (length front) file)
 follows front blocks file stands =
     record {
       gate = stands.gate;
@@ -44,5 +44,5 @@ follows_same (a ∷ xs) (b ∷ ys) bytes wx wy x y =
     let rest = follows_same xs ys (open_blocks xs ++ x.gate ∷ x.rest) wx.1 wy.1 (record { gate = x.gate; rest = x.rest; is = refl; shut = x.shut }) (record { gate = y.gate; rest = y.rest; is = one.1; shut = y.shut }) in
     ap (λ (z : List ℕ). z ∷ xs) one.0 ∙ ap (λ (l : List (List ℕ)). b ∷ l) rest
 
-pub one_parse : (front : List ℕ) (blocks others : List (List ℕ)) (file : List ℕ) → AreWhole blocks → AreWhole others → Stands front blocks file → Stands front others file → blocks ≡ others
+pub one_parse : (front : List ℕ) (blocks others : List (List ℕ)) (file : List ℕ) → AreWhole blocks → AreWhole others → IsFileOf front blocks file → IsFileOf front others file → blocks ≡ others
 one_parse front blocks others file whole_blocks whole_others x y = follows_same blocks others (drop (length front) file) whole_blocks whole_others (follows front blocks file x) (follows front others file y)

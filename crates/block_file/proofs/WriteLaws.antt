@@ -6,13 +6,13 @@ use Rattle.std.proofs.lemmas.List.{take_at, drop_at, take-append-drop, take-appe
 use Rattle.ledger_disk.specs.Disk.{State, MayLeave, settled_state, overlay}
 use Rattle.ledger_disk.specs.Guards.{Guards}
 use Rattle.ledger_disk.proofs.Guarding.{guards_settled, guards_image}
-use Rattle.block_file.specs.File.{Stands, IsSettled, IsShutAt, open_blocks, tail_of, staged_file}
+use Rattle.block_file.specs.File.{IsFileOf, IsSettled, IsShutAt, open_blocks, tail_of, staged_file}
 
 pub on_err : {T E : Type 0} (r : Result T E) (P : Type 0) → P → OnErr r P
 on_err (Ok x) P p = tt
 on_err (Err e) P p = p
 
-module _ (front : List ℕ) (blocks : List (List ℕ)) (file : List ℕ) (at : ℕ) (stands : Stands front blocks file) (place : tail_of front blocks ≡ at) where
+module _ (front : List ℕ) (blocks : List (List ℕ)) (file : List ℕ) (at : ℕ) (stands : IsFileOf front blocks file) (place : tail_of front blocks ≡ at) where
   done : List ℕ
   done = front ++ open_blocks blocks
 
@@ -26,7 +26,7 @@ module _ (front : List ℕ) (blocks : List (List ℕ)) (file : List ℕ) (at : �
   long = omega (arith, ap length stands.is, place, length-append (front ++ open_blocks blocks) (stands.gate ∷ stands.rest))
 
   -- a file that begins like this one, up to its tail gate
-  pub kept : (image : List ℕ) → take (at + 1) image ≡ take (at + 1) file → Stands front blocks image
+  pub kept : (image : List ℕ) → take (at + 1) image ≡ take (at + 1) file → IsFileOf front blocks image
   kept image same = record {
     gate = stands.gate;
     rest = drop (at + 1) image;
@@ -34,7 +34,7 @@ module _ (front : List ℕ) (blocks : List (List ℕ)) (file : List ℕ) (at : �
     shut = stands.shut;
   }
 
-  pub kept_image : (s : State) → IsSettled s → s.seen ≡ file → (new : State) (image : List ℕ) → ((begin : List ℕ) → Guards s begin → length begin ≤ at + 1 → Guards new begin) → MayLeave new image → Stands front blocks image
+  pub kept_image : (s : State) → IsSettled s → s.seen ≡ file → (new : State) (image : List ℕ) → ((begin : List ℕ) → Guards s begin → length begin ≤ at + 1 → Guards new begin) → MayLeave new image → IsFileOf front blocks image
   kept_image s quiet seen new image keeps left =
       let size : length (take (at + 1) file) ≡ at + 1 = omega (arith, long, length-take (at + 1) file) in
       let is : s ≡ settled_state file = quiet ∙ ap settled_state seen in
@@ -69,7 +69,7 @@ module _ (front : List ℕ) (blocks : List (List ℕ)) (file : List ℕ) (at : �
     with_gate gate image is = is ∙ ap (λ (l : List ℕ). l ++ gate ∷ drop (at + 1) (staged_file at block file)) staged_before ∙ ap (λ (l : List ℕ). (front ++ open_blocks blocks) ++ gate ∷ l) staged_behind
 
     -- behind an open gate it counts
-    pub with_block : (image : List ℕ) → image ≡ take at (staged_file at block file) ++ 1 ∷ drop (at + 1) (staged_file at block file) → Stands front (blocks ++ block ∷ []) image
+    pub with_block : (image : List ℕ) → image ≡ take at (staged_file at block file) ++ 1 ∷ drop (at + 1) (staged_file at block file) → IsFileOf front (blocks ++ block ∷ []) image
     with_block image is = record {
       gate = 0;
       rest = drop (at + 2 + length block) file;
@@ -78,7 +78,7 @@ module _ (front : List ℕ) (blocks : List (List ℕ)) (file : List ℕ) (at : �
     }
 
     -- behind any other it doesn't
-    pub either : (gate : ℕ) (image : List ℕ) → image ≡ take at (staged_file at block file) ++ gate ∷ drop (at + 1) (staged_file at block file) → Stands front blocks image ⊎ Stands front (blocks ++ block ∷ []) image
+    pub either : (gate : ℕ) (image : List ℕ) → image ≡ take at (staged_file at block file) ++ gate ∷ drop (at + 1) (staged_file at block file) → IsFileOf front blocks image ⊎ IsFileOf front (blocks ++ block ∷ []) image
     either gate image is = elim (cases_eq gate 1) [
       | inl one ↦ inr (with_block image (is ∙ ap (λ (g : ℕ). take at (staged_file at block file) ++ g ∷ drop (at + 1) (staged_file at block file)) one))
       | inr other ↦ inl (record { gate = gate; rest = block ++ (0 ∷ drop (at + 2 + length block) file); is = with_gate gate image is; shut = other })
@@ -90,13 +90,13 @@ told_within None n m is within = cc
 told_within (Some k) n m is within = let same : k ≡ n = cc in omega arith
 
 -- the tail gate of a file that stands is shut
-pub tail_shut : (front : List ℕ) (blocks : List (List ℕ)) (file : List ℕ) → Stands front blocks file → IsShutAt (tail_of front blocks) file
+pub tail_shut : (front : List ℕ) (blocks : List (List ℕ)) (file : List ℕ) → IsFileOf front blocks file → IsShutAt (tail_of front blocks) file
 tail_shut front blocks file stands =
     let gate : get_or file (tail_of front blocks) 0 ≡ stands.gate = ap (λ (l : List ℕ). get_or l (tail_of front blocks) 0) stands.is ∙ get_or_at (front ++ open_blocks blocks) stands.gate stands.rest 0 (tail_of front blocks) refl in
     (long front blocks file (tail_of front blocks) stands refl, λ one. stands.shut (sym gate ∙ one))
 
 -- a file with a shut gate, as one without blocks
-shut_stands : (at : ℕ) (file : List ℕ) → IsShutAt at file → Stands (take at file) [] file
+shut_stands : (at : ℕ) (file : List ℕ) → IsShutAt at file → IsFileOf (take at file) [] file
 shut_stands at file shut = record {
   gate = get_or file at 0;
   rest = drop (at + 1) file;

@@ -10,7 +10,7 @@ abbrev pub open_blocks : List (List ℕ) → List ℕ
 open_blocks blocks = flat_map (λ block. 1 ∷ block) blocks
 
 -- The file is this front and these blocks, and then a gate that is shut. What is behind it doesn't count.
-pub record Stands (front : List ℕ) (blocks : List (List ℕ)) (file : List ℕ) : Type 0 where
+pub record IsFileOf (front : List ℕ) (blocks : List (List ℕ)) (file : List ℕ) : Type 0 where
   pub gate : ℕ
   pub rest : List ℕ
   pub is : file ≡ front ++ open_blocks blocks ++ gate ∷ rest
@@ -33,7 +33,7 @@ AreWhole (block ∷ blocks) = IsWhole block × AreWhole blocks
 abbrev pub IsOneParse : Type 0
 IsOneParse =
     (front : List ℕ) (blocks others : List (List ℕ)) (file : List ℕ) → AreWhole blocks → AreWhole others
-    → Stands front blocks file → Stands front others file → blocks ≡ others
+    → IsFileOf front blocks file → IsFileOf front others file → blocks ≡ others
 
 -- where its tail gate stands
 abbrev pub tail_of : List ℕ → List (List ℕ) → ℕ
@@ -70,4 +70,4 @@ staged_file at block file = take (at + 1) file ++ block ++ 0 ∷ drop (at + 2 + 
 -- this block was added, in each image, and nothing is pending
 pub record HasBlock (front : List ℕ) (blocks : List (List ℕ)) (block : List ℕ) (s : State) : Type 0 where
   pub nothing_pending : IsSettled s
-  pub stands : Stands front (blocks ++ block ∷ []) s.seen
+  pub stands : IsFileOf front (blocks ++ block ∷ []) s.seen

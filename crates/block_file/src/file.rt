@@ -5,7 +5,7 @@ ghost use Rattle.block_file.specs.Head.{Counts, CountsAlone, CountsTwoAlone, dig
 ghost use Rattle.block_file.specs.Blocks.{AreBlock, IsRead, IsNextBlock, GivesBlock, GivesEnd};
 ghost use Rattle.journal_record.specs.Blocks.{block_bytes};
 ghost use Rattle.journal_record.specs.Entry.{Entry};
-ghost use Rattle.block_file.specs.File.{Stands, HasBlock, IsSettled, IsShutAt, IsZeros, IsVeiled, IsScrapOf, tail_of, whole_file, open_blocks, with_content};
+ghost use Rattle.block_file.specs.File.{IsFileOf, HasBlock, IsSettled, IsShutAt, IsZeros, IsVeiled, IsScrapOf, tail_of, whole_file, open_blocks, with_content};
 
 use crate::copying::put_copy;
 use crate::head::{base_digest, check_form, read_fields};
@@ -272,19 +272,19 @@ impl BlockFile {
         // Where the range is a content in a block, that content is zeros, and all else stands.
         ensures zeroed { OnOk result (IsTrue D.tells
             → (front : List ℕ) (before after : List (List ℕ)) (head rest content : List ℕ)
-            → Stands front (with_content before after head rest content) (D.state disk.old).bytes.seen
+            → IsFileOf front (with_content before after head rest content) (D.state disk.old).bytes.seen
             → tail_of front before + 1 + length head ≡ at → length content ≡ len
-            → Stands front (with_content before after head rest (replicate len 0))
+            → IsFileOf front (with_content before after head rest (replicate len 0))
             (D.state disk.new).bytes.seen) }
 
         // A crash leaves the same blocks, but for that content.
         ensures kept { IsTrue D.tells → IsSettled (D.state disk.old).bytes
             → (front : List ℕ) (before after : List (List ℕ)) (head rest content : List ℕ)
-            → Stands front (with_content before after head rest content) (D.state disk.old).bytes.seen
+            → IsFileOf front (with_content before after head rest content) (D.state disk.old).bytes.seen
             → tail_of front before + 1 + length head ≡ at → length content ≡ len
             → (image : List ℕ) → MayLeave (D.state disk.new).bytes image
             → (other : List ℕ) × (length other ≡ len)
-            × Stands front (with_content before after head rest other) image }
+            × IsFileOf front (with_content before after head rest other) image }
 
         // Where zeros stand there, nothing is written.
         ensures idle { OnErr result (IsTrue D.tells → IsZeros at len (D.state disk.old).bytes.seen
@@ -309,9 +309,9 @@ impl BlockFile {
         // An image has the same blocks.
         ensures images { IsTrue D.tells → IsSettled (D.state disk.old).bytes
             → (front : List ℕ) (blocks : List (List ℕ))
-            → Stands front blocks (D.state disk.old).bytes.seen
+            → IsFileOf front blocks (D.state disk.old).bytes.seen
             → tail_of front blocks ≡ place_of self.old → (image : List ℕ)
-            → MayLeave (D.state disk.new).bytes image → Stands front blocks image }
+            → MayLeave (D.state disk.new).bytes image → IsFileOf front blocks image }
 
         // Where it ends there already, nothing is cut.
         ensures idle { OnErr result (IsTrue D.tells
@@ -366,11 +366,11 @@ impl BlockFile {
         // The block that stands there is the one that is read, and none is where the blocks end.
         ensures parse { IsTrue D.tells
             → (front : List ℕ) (before after : List (List ℕ)) (root : List ℕ) (es : List Entry)
-            → Stands front (before ++ block_bytes root es ∷ after) (D.state disk.old).bytes.seen
+            → IsFileOf front (before ++ block_bytes root es ∷ after) (D.state disk.old).bytes.seen
             → tail_of front before ≡ place_of self.old → length root ≡ 32 → AreBlock first es
             → GivesBlock (place_of self.old) root es result }
         ensures ends { IsTrue D.tells → (front : List ℕ) (blocks : List (List ℕ))
-            → Stands front blocks (D.state disk.old).bytes.seen → tail_of front blocks ≡ place_of self.old
+            → IsFileOf front blocks (D.state disk.old).bytes.seen → tail_of front blocks ≡ place_of self.old
             → GivesEnd result }
 
         // Also where the disk doesn't tell what it holds.
@@ -406,22 +406,22 @@ impl BlockFile {
 
         // Each image has it from then on.
         ensures ok { OnOk result (IsTrue D.tells → (front : List ℕ) (blocks : List (List ℕ))
-            → Stands front blocks (D.state disk.old).bytes.seen
+            → IsFileOf front blocks (D.state disk.old).bytes.seen
             → tail_of front blocks ≡ place_of self.old
             → HasBlock front blocks block.now (D.state disk.new).bytes) }
 
         ensures images { OnOk result (IsTrue D.tells → (front : List ℕ) (blocks : List (List ℕ))
-            → Stands front blocks (D.state disk.old).bytes.seen → tail_of front blocks ≡ place_of self.old
+            → IsFileOf front blocks (D.state disk.old).bytes.seen → tail_of front blocks ≡ place_of self.old
             → (image : List ℕ) → MayLeave (D.state disk.new).bytes image
-            → Stands front (blocks ++ block.now ∷ []) image) }
+            → IsFileOf front (blocks ++ block.now ∷ []) image) }
 
         // An image has it whole or not at all.
         ensures err { OnErr result (IsTrue D.tells → IsSettled (D.state disk.old).bytes
             → (front : List ℕ) (blocks : List (List ℕ))
-            → Stands front blocks (D.state disk.old).bytes.seen
+            → IsFileOf front blocks (D.state disk.old).bytes.seen
             → tail_of front blocks ≡ place_of self.old → (image : List ℕ)
-            → MayLeave (D.state disk.new).bytes image → Stands front blocks image
-            ⊎ Stands front (blocks ++ block.now ∷ []) image) }
+            → MayLeave (D.state disk.new).bytes image → IsFileOf front blocks image
+            ⊎ IsFileOf front (blocks ++ block.now ∷ []) image) }
         ensures place { OnOk result (place_of self.new ≡ place_of self.old + 1 + length block.now) }
         ensures stays { OnErr result (self.new ≡ self.old) }
         ensures base { KeepsBase self.old self.new }

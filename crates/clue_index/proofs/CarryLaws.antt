@@ -9,7 +9,7 @@ use Rattle.std.proofs.lemmas.List.Folds.{list_any-append}
 use Rattle.std.proofs.lemmas.Map.Text.{is_eq-slice_cmp}
 use Rattle.std.proofs.lemmas.Slice.Eq.{bytes_eq-Decides}
 use Rattle.clue_index.specs.Added.{Added, Mark, with_floor, from_point, no_clue, state_of, jsns_of, trail_of, clues_of, table_of, different_clues, state_below, begun_states, states_at}
-use Rattle.clue_index.specs.Index.{Kept, Stands}
+use Rattle.clue_index.specs.Index.{KeptTrails, StandsForTrails}
 use Rattle.clue_index.specs.Trail.{Trail, no_trail, below, seen_from, count_of, last_of, Ascends}
 use Rattle.clue_index.specs.declared.state.ClueState.{ClueState}
 use Rattle.clue_index.proofs.IndexLaws.{cond_alike, Ascends-jsns_of}
@@ -196,8 +196,8 @@ module _ (p : ℕ) (a : Added) where
         ∙ sym (ap (option_map (seen_from p)) (get-table_of a q))))
 
 -- an index that begins with the states at p, and was given the journals from p on, stands for all journals from p on
-pub stands_carried : (k : Kept) (a : Added) (p : ℕ) → Ascends (map (λ m. m.jsn) a.marks) → get (table_of a) no_clue ≡ None → All (λ s. 0 < s.count) a.states
-    → Stands k (from_point p a) → Stands k (with_floor p a)
+pub stands_carried : (k : KeptTrails) (a : Added) (p : ℕ) → Ascends (map (λ m. m.jsn) a.marks) → get (table_of a) no_clue ≡ None → All (λ s. 0 < s.count) a.states
+    → StandsForTrails k (from_point p a) → StandsForTrails k (with_floor p a)
 stands_carried k a p rises clear counted st =
     let counted' = recursion_from_All (λ s. 0 < s.count) a.states counted in
     record {

@@ -8,7 +8,7 @@ use Rattle.std.proofs.lemmas.List.{map-append}
 use Rattle.std.proofs.lemmas.List.Elements.{recursion_from_All, All-map}
 use Rattle.std.proofs.lemmas.Option.{cond_some}
 use Rattle.clue_index.specs.Added.{Added, Mark, added_at_first, with_mark, with_floor, no_clue, jsns_of, trail_of, table_of}
-use Rattle.clue_index.specs.Index.{Kept, Stands, trail_in}
+use Rattle.clue_index.specs.Index.{KeptTrails, StandsForTrails, trail_in}
 use Rattle.clue_index.specs.Trail.{Trail, no_trail, grown_trail, seen_from, kept_from, count_of, last_of, Ascends}
 use Rattle.clue_index.specs.declared.state.ClueState.{ClueState}
 use Rattle.clue_index.proofs.TableLaws.{tie, tie_apart, get-table_of, trail_from_get, get-with_mark, trail_from, get-begun}
@@ -41,7 +41,7 @@ Ascends-jsns_of q (m ∷ marks) rise =
       | false ↦ Ascends-jsns_of q marks rise.1
     ]
 
-module _ (k : Kept) (a : Added) (st : Stands k a) (q : List ℕ) where
+module _ (k : KeptTrails) (a : Added) (st : StandsForTrails k a) (q : List ℕ) where
   -- the journals of a clue ascend
   pub rising : Ascends (trail_of a q).jsns
   rising = Ascends-jsns_of q a.marks st.rises
@@ -80,10 +80,10 @@ cond_alike f true s t x y same rest = ap Some same
 cond_alike f false s t x y same rest = rest
 
 -- an index and what was added, changed alike at one clue
-pub stands_changed : (k l : Kept) (a b : Added) (clue : List ℕ) (s t : Trail) → Stands k a → l.floor ≡ k.floor → b.floor ≡ a.floor
+pub stands_changed : (k l : KeptTrails) (a b : Added) (clue : List ℕ) (s t : Trail) → StandsForTrails k a → l.floor ≡ k.floor → b.floor ≡ a.floor
     → ((q : List ℕ) → trail_in q l.trails ≡ cond (tie clue q) (Some s) (trail_in q k.trails))
     → ((q : List ℕ) → get (table_of b) q ≡ cond (tie clue q) (Some t) (get (table_of a) q))
-    → seen_from a.floor s ≡ seen_from a.floor t → Ascends s.jsns → Ascends (map (λ m. m.jsn) b.marks) → clue ≢ no_clue → Stands l b
+    → seen_from a.floor s ≡ seen_from a.floor t → Ascends s.jsns → Ascends (map (λ m. m.jsn) b.marks) → clue ≢ no_clue → StandsForTrails l b
 stands_changed k l a b clue s t st l-floor b-floor trails table alike rise rises named =
     let at_floor : (q : List ℕ) → option_map (seen_from a.floor) (trail_in q k.trails) ≡ option_map (seen_from a.floor) (get (table_of a) q) =
     λ q. ap (λ f. option_map (seen_from f) (trail_in q k.trails)) (sym st.floor) ∙ st.at q in
@@ -104,16 +104,16 @@ stands_changed k l a b clue s t st l-floor b-floor trails table alike rise rises
     }
 
 -- what a look-up found, or no journals, is what was added, as it is seen from the floor
-old_alike : (k : Kept) (a : Added) (clue : List ℕ) (o : Option Trail) → Stands k a → trail_in clue k.trails ≡ o
+old_alike : (k : KeptTrails) (a : Added) (clue : List ℕ) (o : Option Trail) → StandsForTrails k a → trail_in clue k.trails ≡ o
     → (seen_from a.floor (unwrap_or o no_trail) ≡ seen_from a.floor (trail_of a clue)) × Ascends (unwrap_or o no_trail).jsns
 old_alike k a clue None st is = (ap (seen_from a.floor) (sym (absent k a st clue is)), tt)
 old_alike k a clue (Some t) st is = (found k a st clue t is, st.ascend clue t is)
 
 -- a journal more in an index
-pub stands_added : (k l : Kept) (a : Added) (clue : List ℕ) (jsn : ℕ) (o : Option Trail) (s : Trail) → trail_in clue k.trails ≡ o
+pub stands_added : (k l : KeptTrails) (a : Added) (clue : List ℕ) (jsn : ℕ) (o : Option Trail) (s : Trail) → trail_in clue k.trails ≡ o
     → s ≡ grown_trail jsn (unwrap_or o no_trail) → l.floor ≡ k.floor
     → ((q : List ℕ) → trail_in q l.trails ≡ cond (tie clue q) (Some s) (trail_in q k.trails))
-    → Stands k a → clue ≢ no_clue → a.floor ≤ jsn → All (λ m. m.jsn < jsn) a.marks → Stands l (with_mark clue jsn a)
+    → StandsForTrails k a → clue ≢ no_clue → a.floor ≤ jsn → All (λ m. m.jsn < jsn) a.marks → StandsForTrails l (with_mark clue jsn a)
 stands_added k l a clue jsn o s is s-is l-floor trails st named le above =
     let old : Trail = unwrap_or o no_trail in
     let alike = old_alike k a clue o st is in
@@ -131,9 +131,9 @@ stands_added k l a clue jsn o s is s-is l-floor trails st named le above =
     stands_changed k l a (with_mark clue jsn a) clue s (grown_trail jsn (trail_of a clue)) st l-floor refl trails (get-with_mark clue jsn a) seen rise rises named
 
 -- a state more in an index that begins
-pub stands_begun : (k l : Kept) (states : List ClueState) (s : ClueState) → l.floor ≡ k.floor
+pub stands_begun : (k l : KeptTrails) (states : List ClueState) (s : ClueState) → l.floor ≡ k.floor
     → ((q : List ℕ) → trail_in q l.trails ≡ cond (tie s.clue.0 q) (Some (trail_from s)) (trail_in q k.trails))
-    → Stands k (added_at_first states) → s.clue.0 ≢ no_clue → Stands l (added_at_first (states ++ s ∷ []))
+    → StandsForTrails k (added_at_first states) → s.clue.0 ≢ no_clue → StandsForTrails l (added_at_first (states ++ s ∷ []))
 stands_begun k l states s l-floor trails st named =
     stands_changed k l (added_at_first states) (added_at_first (states ++ s ∷ [])) s.clue.0 (trail_from s) (trail_from s) st l-floor refl trails (get-begun states s) refl tt tt named
 
@@ -148,13 +148,13 @@ later_alike p q (Some t) (Some u) le rise rise' same =
     ap Some (sym (seen_later p q t le (rise t refl)) ∙ (ap (seen_from q) seen ∙ seen_later p q u le (rise' u refl)))
 
 -- what the table has ascends
-rising_in : (k : Kept) (a : Added) → Stands k a → (q : List ℕ) (t : Trail) → get (table_of a) q ≡ Some t → Ascends t.jsns
+rising_in : (k : KeptTrails) (a : Added) → StandsForTrails k a → (q : List ℕ) (t : Trail) → get (table_of a) q ≡ Some t → Ascends t.jsns
 rising_in k a st q t is =
     let same = (cond_some _ _ _ (sym (get-table_of a q) ∙ is)).1 in
     subst (λ t. Ascends t.jsns) same (rising k a st q)
 
 -- an index that keeps journals from a later one on
-pub stands_dropped : (k l : Kept) (a : Added) (p : ℕ) → l.floor ≡ max k.floor p → l.trails ≡ k.trails → Stands k a → Stands l (with_floor (max a.floor p) a)
+pub stands_dropped : (k l : KeptTrails) (a : Added) (p : ℕ) → l.floor ≡ max k.floor p → l.trails ≡ k.trails → StandsForTrails k a → StandsForTrails l (with_floor (max a.floor p) a)
 stands_dropped k l a p l-floor l-trails st =
     let le : a.floor ≤ max a.floor p = omega arith in
     let floors : l.floor ≡ max a.floor p = l-floor ∙ ap (λ f. max f p) st.floor in
@@ -171,7 +171,7 @@ stands_dropped k l a p l-floor l-trails st =
     }
 
 -- an index without a clue
-pub stands_empty : (k : Kept) → k.floor ≡ 0 → k.trails ≡ [] → Stands k (added_at_first [])
+pub stands_empty : (k : KeptTrails) → k.floor ≡ 0 → k.trails ≡ [] → StandsForTrails k (added_at_first [])
 stands_empty k floor none = record {
   floor = floor;
   at = λ q. ap (λ ts. option_map (seen_from k.floor) (trail_in q ts)) none ∙ sym (ap (option_map (seen_from 0)) (get-table_of (added_at_first []) q));

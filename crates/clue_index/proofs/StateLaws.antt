@@ -14,7 +14,7 @@ use Rattle.std.proofs.lemmas.Cmp.{nat_list_cmp_total}
 use Rattle.std.proofs.lemmas.List.{append-nil, map-append}
 use Rattle.std.proofs.lemmas.List.Elements.{recursion_from_All, filter-append}
 use Rattle.clue_index.specs.Added.{Added, trail_of, table_of, different_clues, state_below, begun_states, states_at}
-use Rattle.clue_index.specs.Index.{Kept, Stands, trail_in}
+use Rattle.clue_index.specs.Index.{KeptTrails, StandsForTrails, trail_in}
 use Rattle.clue_index.specs.Trail.{Trail, seen_from, below, count_of, last_of, Ascends}
 use Rattle.clue_index.specs.declared.state.ClueState.{ClueState}
 use Rattle.clue_index.proofs.IndexLaws.{found, rising, count_found}
@@ -58,7 +58,7 @@ trail_in-find q [] = refl
 trail_in-find q (e ∷ es) = ap (cond (eq_by_cmp (slice_cmp nat_cmp) q e.0) (Some e.1)) (trail_in-find q es)
 
 -- the clues of an index are those that were given
-pub keys-trails : (k : Kept) (a : Added) → Stands k a → IsStrictlySortedBy (slice_cmp nat_cmp) (keys_of k.trails) → keys_of k.trails ≡ different_clues a
+pub keys-trails : (k : KeptTrails) (a : Added) → StandsForTrails k a → IsStrictlySortedBy (slice_cmp nat_cmp) (keys_of k.trails) → keys_of k.trails ≡ different_clues a
 keys-trails k a st rise =
     let f : Trail → Trail = seen_from a.floor in
     let es : List (List ℕ × Trail) = entries (table_of a) in
@@ -77,7 +77,7 @@ abbrev pub states_of : ℕ → List (List ℕ × Trail) → List ClueState
 states_of p es = map (λ e. state_below p e.0 e.1) es
 
 -- the states of what is found are those of what was added
-states_found : (k : Kept) (a : Added) (p : ℕ) → Stands k a → a.floor ≤ p → (es : List (List ℕ × Trail)) → AllByRecursion (λ e. trail_in e.0 k.trails ≡ Some e.1) es
+states_found : (k : KeptTrails) (a : Added) (p : ℕ) → StandsForTrails k a → a.floor ≤ p → (es : List (List ℕ × Trail)) → AllByRecursion (λ e. trail_in e.0 k.trails ≡ Some e.1) es
     → states_of p es ≡ map (λ clue. state_below p clue (trail_of a clue)) (keys_of es)
 states_found k a p st le [] all = refl
 states_found k a p st le (e ∷ es) all =
@@ -93,7 +93,7 @@ IsFit p t = Ascends t.jsns × (count_of (below p t) < 2 ^ 32)
 abbrev pub Fit : ℕ → List (List ℕ × Trail) → Type 0
 Fit p es = AllByRecursion (λ e. IsFit p e.1) es
 
-fit_found : (k : Kept) (a : Added) (p : ℕ) → Stands k a → ((clue : List ℕ) → count_of (trail_of a clue) < 2 ^ 32) → (es : List (List ℕ × Trail))
+fit_found : (k : KeptTrails) (a : Added) (p : ℕ) → StandsForTrails k a → ((clue : List ℕ) → count_of (trail_of a clue) < 2 ^ 32) → (es : List (List ℕ × Trail))
     → AllByRecursion (λ e. trail_in e.0 k.trails ≡ Some e.1) es → Fit p es
 fit_found k a p st fits [] all = tt
 fit_found k a p st fits (e ∷ es) all =
@@ -102,7 +102,7 @@ fit_found k a p st fits (e ∷ es) all =
     ((st.ascend e.0 e.1 all.0, omega (arith, count_below p e.1)), fit_found k a p st fits es all.1)
 
 -- what the states of all that is kept are
-pub states_told : (k : Kept) (a : Added) (p : ℕ) (states : List ClueState) → Stands k a → a.floor ≤ p → ((clue : List ℕ) → count_of (trail_of a clue) < 2 ^ 32)
+pub states_told : (k : KeptTrails) (a : Added) (p : ℕ) (states : List ClueState) → StandsForTrails k a → a.floor ≤ p → ((clue : List ℕ) → count_of (trail_of a clue) < 2 ^ 32)
     → IsStrictlySortedBy (slice_cmp nat_cmp) (keys_of k.trails) → All (λ e. trail_in e.0 k.trails ≡ Some e.1) k.trails
     → (Fit p k.trails → states ≡ begun_states (states_of p k.trails)) → states ≡ states_at p a
 states_told k a p states st le fits rise all told =

@@ -9,7 +9,7 @@ use Rattle.clue_index.specs.Added.{Added, no_clue, table_of}
 use Rattle.clue_index.specs.Trail.{Trail, seen_from, Ascends}
 
 -- the clues' journals, and the first journal that is kept
-pub record Kept : Type 0 where
+pub record KeptTrails : Type 0 where
   pub trails : List (List ℕ × Trail)
   pub floor : ℕ
 
@@ -19,7 +19,7 @@ trail_in clue trails = lookup (is_at (slice_cmp nat_cmp clue)) trails
 
 -- what is kept of a clue's journals, where it has any: those from the floor on, how many there were before them, and the
 -- last of these
-abbrev pub kept_trail : Kept → List ℕ → Option Trail
+abbrev pub kept_trail : KeptTrails → List ℕ → Option Trail
 kept_trail k clue = option_map (seen_from k.floor) (trail_in clue k.trails)
 
 -- the same of the journals that were added
@@ -27,7 +27,7 @@ abbrev pub added_trail : Added → List ℕ → Option Trail
 added_trail a clue = option_map (seen_from a.floor) (get (table_of a) clue)
 
 -- the index keeps what was added, of each clue
-pub record Stands (k : Kept) (a : Added) : Type 0 where
+pub record StandsForTrails (k : KeptTrails) (a : Added) : Type 0 where
   pub floor : k.floor ≡ a.floor
   pub at : (clue : List ℕ) → kept_trail k clue ≡ added_trail a clue
   pub ascend : (clue : List ℕ) (t : Trail) → trail_in clue k.trails ≡ Some t → Ascends t.jsns

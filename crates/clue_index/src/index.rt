@@ -1,6 +1,6 @@
 ghost use Rattle.std.specs.Prelude.{◌≡◌, ◌≢◌, [], ◌+◌, ◌-◌, ◌^◌, ◌<◌, ◌≤◌, ℕ, List, length, max, All, IfOk, OnOk, OnErr};
 ghost use Rattle.clue_index.specs.Added.{Added, Mark, added_at_first, with_mark, with_floor, no_clue, trail_of, different_clues, states_at};
-ghost use Rattle.clue_index.specs.Index.{Stands};
+ghost use Rattle.clue_index.specs.Index.{StandsForTrails};
 ghost use Rattle.clue_index.specs.Trail.{count_of, last_of, kept_from, Ascends};
 ghost use Rattle.clue_index.specs.declared.index.TheConstants.{CLUE_ROOM};
 
@@ -27,10 +27,10 @@ pub struct ClueIndex {
 impl Model for ClueIndex {
     ghost use Rattle.std.specs.Prelude.{◌≤◌};
     ghost use Rattle.std.specs.BTreeMap.{btree_map_len};
-    ghost use Rattle.clue_index.specs.Index.{Kept};
+    ghost use Rattle.clue_index.specs.Index.{KeptTrails};
     ghost use Rattle.clue_index.specs.declared.index.TheConstants.{CLUE_ROOM};
 
-    ghost Value = { Kept };
+    ghost Value = { KeptTrails };
 
     ghost view = { λ x. record { trails = x.slots.entries; floor = x.floor } };
 
@@ -40,7 +40,7 @@ impl Model for ClueIndex {
 impl ClueIndex {
     /// The index of a ledger without a clue.
     pub fn new(alloc: Global) -> Self
-        ensures { Stands result (added_at_first []) }
+        ensures { StandsForTrails result (added_at_first []) }
     {
         ClueIndex {
             alloc,
@@ -53,7 +53,7 @@ impl ClueIndex {
     pub fn from_states(alloc: Global, states: &[ClueState]) -> Result<Self, NoMemory>
         requires { length states.now ≤ CLUE_ROOM }
         ensures { IfOk result (λ index. All (λ s. s.clue.0 ≢ no_clue) states.now
-            → Stands index (added_at_first states.now)) }
+            → StandsForTrails index (added_at_first states.now)) }
     {
         let mut slots = BTreeMap::new(alloc);
         for state in states {
@@ -68,10 +68,10 @@ impl ClueIndex {
 
     /// The ordinal of the clue's next journal, and the number of the one before it or 0. The next ordinal is a `u32`.
     pub fn next_of(&self, clue: &Digest) -> (u32, u64)
-        ensures ordinal { (a : Added) → Stands self.now a
+        ensures ordinal { (a : Added) → StandsForTrails self.now a
             → count_of (trail_of a clue.now.0) < 2 ^ 32 - 1
             → result.0 ≡ count_of (trail_of a clue.now.0) + 1 }
-        ensures previous { (a : Added) → Stands self.now a
+        ensures previous { (a : Added) → StandsForTrails self.now a
             → result.1 ≡ last_of (trail_of a clue.now.0) }
     {
         match self.slots.get(&clue.0) {
@@ -82,7 +82,7 @@ impl ClueIndex {
 
     /// How many different clues there were over the whole history.
     pub fn clues(&self) -> u64
-        ensures { (a : Added) → Stands self.now a → result ≡ length (different_clues a) }
+        ensures { (a : Added) → StandsForTrails self.now a → result ≡ length (different_clues a) }
     {
         self.slots.len() as u64
     }
@@ -90,10 +90,10 @@ impl ClueIndex {
     /// Adds the next journal of a clue. The clue isn't zero, and the number is above those of all journals that were
     /// added, and not below the first journal that is kept. After an `Err` the index is as before.
     pub fn add(&mut self, clue: &Digest, jsn: u64) -> Result<(), NoMemory>
-        ensures ok { OnOk result ((a : Added) → Stands self.old a → clue.now.0 ≢ no_clue
+        ensures ok { OnOk result ((a : Added) → StandsForTrails self.old a → clue.now.0 ≢ no_clue
             → a.floor ≤ jsn
             → All (λ m. m.jsn < jsn) a.marks
-            → Stands self.new (with_mark clue.now.0 jsn a)) }
+            → StandsForTrails self.new (with_mark clue.now.0 jsn a)) }
         ensures err { OnErr result (self.new ≡ self.old) }
     {
         let room = self.slots.len() < CLUE_ROOM;
@@ -114,15 +114,15 @@ impl ClueIndex {
     /// How many journals the clue has over the whole history, where that is a `u32`, and the numbers of those that are
     /// kept, ascending.
     pub fn of(&self, clue: &Digest) -> Result<(u32, Vec<u64>), NoMemory>
-        ensures count { IfOk result (λ r. (a : Added) → Stands self.now a
+        ensures count { IfOk result (λ r. (a : Added) → StandsForTrails self.now a
             → count_of (trail_of a clue.now.0) < 2 ^ 32
             → r.0 ≡ count_of (trail_of a clue.now.0)) }
-        ensures kept { IfOk result (λ r. (a : Added) → Stands self.now a
+        ensures kept { IfOk result (λ r. (a : Added) → StandsForTrails self.now a
             → r.1.items ≡ kept_from a.floor (trail_of a clue.now.0)) }
-        ensures ascending { IfOk result (λ r. (a : Added) → Stands self.now a → Ascends r.1.items) }
+        ensures ascending { IfOk result (λ r. (a : Added) → StandsForTrails self.now a → Ascends r.1.items) }
         // Zeros are no clue, and have no journal.
         ensures none { clue.now.0 ≡ no_clue
-            → IfOk result (λ r. (a : Added) → Stands self.now a → (r.0 ≡ 0) × (r.1.items ≡ [])) }
+            → IfOk result (λ r. (a : Added) → StandsForTrails self.now a → (r.0 ≡ 0) × (r.1.items ≡ [])) }
     {
         match self.slots.get(&clue.0) {
             Some(slot) => Ok((slot.count(), slot.kept_jsns(self.alloc, self.floor)?)),
@@ -133,7 +133,7 @@ impl ClueIndex {
     /// The states of all clues when the journals below `p` had been placed, ascending by clue; a clue without a journal
     /// by then isn't among them. `p` isn't below the first journal that is kept, and each count is a `u32`.
     pub fn state_at(&self, p: u64) -> Result<Vec<ClueState>, NoMemory>
-        ensures states { IfOk result (λ states. (a : Added) → Stands self.now a → a.floor ≤ p
+        ensures states { IfOk result (λ states. (a : Added) → StandsForTrails self.now a → a.floor ≤ p
             → ((clue : List ℕ) → count_of (trail_of a clue) < 2 ^ 32)
             → states.items ≡ states_at p a) }
         ensures few { IfOk result (λ states. length states.items ≤ CLUE_ROOM) }
@@ -150,7 +150,7 @@ impl ClueIndex {
 
     /// Keeps the numbers of journals from `p` on alone. A lower `p` than before changes nothing.
     pub fn drop_below(&mut self, p: u64)
-        ensures { (a : Added) → Stands self.old a → Stands self.new (with_floor (max a.floor p) a) }
+        ensures { (a : Added) → StandsForTrails self.old a → StandsForTrails self.new (with_floor (max a.floor p) a) }
     {
         self.floor = self.floor.max(p);
     }

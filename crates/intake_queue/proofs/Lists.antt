@@ -4,7 +4,7 @@ use Rattle.std.proofs.lemmas.List.Sums.{sum_by-cons}
 use Rattle.std.proofs.lemmas.List.Elements.{filter-append}
 use mathlib.Core.Logic.{dite}
 use native.Mathlib.Decide.{ℕ_discrete}
-use Rattle.intake_queue.specs.Lanes.{Plan, first_in, quota_in, plan_of, room, of_lane, Counts, Below}
+use Rattle.intake_queue.specs.Lanes.{Plan, first_in, quota_in, plan_of, room, of_lane, CountsOn, Below}
 
 module _ {T : Type 0} (lane : T → ℕ) where
   pub of_append : (k : ℕ) (xs ys : List T) → of_lane lane k (xs ++ ys) ≡ of_lane lane k xs ++ of_lane lane k ys
@@ -115,17 +115,17 @@ module _ {T : Type 0} (lane : T → ℕ) where
       omega (arith, e, r)
 
 module _ {T : Type 0} (index : T → ℕ) where
-  pub counts_nil : (n : ℕ) → Counts index n []
-  unfolding Counts
+  pub counts_nil : (n : ℕ) → CountsOn index n []
+  unfolding CountsOn
   counts_nil n = tt
 
-  pub counts_push : (n : ℕ) (xs : List T) (x : T) → Counts index n xs → index x ≡ n + length xs → Counts index n (xs ++ x ∷ [])
-  unfolding Counts
+  pub counts_push : (n : ℕ) (xs : List T) (x : T) → CountsOn index n xs → index x ≡ n + length xs → CountsOn index n (xs ++ x ∷ [])
+  unfolding CountsOn
   counts_push n [] x c e = ((omega (arith, e)), tt)
   counts_push n (y ∷ ys) x c e = (c.0, counts_push (n + 1) ys x c.1 (omega (arith, e)))
 
-  pub counts_at : (n : ℕ) (xs : List T) (x : T) (ys : List T) → Counts index n (xs ++ x ∷ ys) → index x ≡ n + length xs
-  unfolding Counts
+  pub counts_at : (n : ℕ) (xs : List T) (x : T) (ys : List T) → CountsOn index n (xs ++ x ∷ ys) → index x ≡ n + length xs
+  unfolding CountsOn
   counts_at n [] x ys c = let e = c.0 in omega (arith, e)
   counts_at n (y ∷ xs) x ys c = let e = counts_at (n + 1) xs x ys c.1 in omega (arith, e)
 

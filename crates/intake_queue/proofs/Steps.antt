@@ -8,7 +8,7 @@ use native.Mathlib.Decide.{ℕ_discrete}
 use Rattle.crossbeam_queue.specs.Fifo.{Pushes, Pops, Forks, Merges, Learns}
 use Rattle.crossbeam_queue.proofs.Lists.{at_set}
 use Rattle.intake_queue.specs.declared.view.View.{View}
-use Rattle.intake_queue.specs.Lanes.{Plan, first_in, quota_in, room, unopened, taker, sender, spent, of_lane, Counts, Below, FitsLane, FitsTaker, Kept, Took, Stood, Settled}
+use Rattle.intake_queue.specs.Lanes.{Plan, first_in, quota_in, room, unopened, taker, sender, spent, of_lane, CountsOn, Below, FitsLane, FitsTaker, KeepsRule, Took, Stood, Settled}
 use Rattle.intake_queue.proofs.Lists.{of_append, of_nil, of_cons_here, grown_here, grown_else, below_push, below_at, below_none, below_nil, has_room, counts_nil, counts_push, counts_at}
 
 module _ {T : Type 0} where
@@ -43,7 +43,7 @@ at_the_end [] a = refl
 at_the_end (x ∷ xs) a = at_the_end xs a
 
 module _ {T : Type 0} (lane index : T → ℕ) where
-  pub begins : Kept lane index [] (unopened ∷ [])
+  pub begins : KeepsRule lane index [] (unopened ∷ [])
   begins = record {
     plan = [];
     seat = λ _. 0;
@@ -56,7 +56,7 @@ module _ {T : Type 0} (lane index : T → ℕ) where
     ordered = omega arith;
     fewer = omega arith;
     lanes = below_nil lane 0;
-    counts = λ k. subst (λ (l : List T). Counts index 0 l) (sym (of_nil lane k)) (counts_nil index 0);
+    counts = λ k. subst (λ (l : List T). CountsOn index 0 l) (sym (of_nil lane k)) (counts_nil index 0);
     within = λ k. let e = ap length (of_nil lane k) in omega (arith, e);
     lane_fits = each_one (λ port v. v.sends ≡ true → FitsLane lane index [] (λ _. 0) 0 0 [] port v) unopened (λ p. absurd (true≢false (sym p)));
     taker_fits = each_one (λ port v. v.gets ≡ true → FitsTaker lane index [] 0 0 0 [] [] port v) unopened
@@ -64,7 +64,7 @@ module _ {T : Type 0} (lane index : T → ℕ) where
   }
 
   pub sends : (n port : ℕ) (v : View T) (x : T) → v.sends ≡ true → lane x ≡ v.lane → index x ≡ first_in v.plan v.lane + length v.sent → length v.sent < quota_in v.plan v.lane
-      → Pushes (Kept lane index) n port v x (λ w. w ≡ sender v.plan v.lane (v.sent ++ x ∷ []))
+      → Pushes (KeepsRule lane index) n port v x (λ w. w ≡ sender v.plan v.lane (v.sent ++ x ∷ []))
   sends n port v x may same next left items views _ h at =
       let mine = h.lane_fits port v at may in
       let plan_is : v.plan ≡ h.plan = ap (λ (y : View T). y.plan) mine.is in
@@ -91,9 +91,9 @@ module _ {T : Type 0} (lane index : T → ℕ) where
           fewer = h.fewer;
           lanes = below_push lane (length h.plan) h.all x h.lanes below;
           counts = λ k. dite (ℕ_discrete v.lane k)
-              (λ (e : v.lane ≡ k). subst (λ (k : ℕ). Counts index (first_in h.plan k) (of_lane lane k all)) e
-              (subst (λ (l : List T). Counts index (first_in h.plan v.lane) l) (sym here) (counts_push index (first_in h.plan v.lane) (of_lane lane v.lane h.all) x (h.counts v.lane) next')))
-              (λ e. subst (λ (l : List T). Counts index (first_in h.plan k) l) (sym (grown_else lane k h.all x (λ p. e (sym same ∙ p)))) (h.counts k));
+              (λ (e : v.lane ≡ k). subst (λ (k : ℕ). CountsOn index (first_in h.plan k) (of_lane lane k all)) e
+              (subst (λ (l : List T). CountsOn index (first_in h.plan v.lane) l) (sym here) (counts_push index (first_in h.plan v.lane) (of_lane lane v.lane h.all) x (h.counts v.lane) next')))
+              (λ e. subst (λ (l : List T). CountsOn index (first_in h.plan k) l) (sym (grown_else lane k h.all x (λ p. e (sym same ∙ p)))) (h.counts k));
           within = λ k. dite (ℕ_discrete v.lane k)
               (λ (e : v.lane ≡ k). subst (λ (k : ℕ). length (of_lane lane k all) ≤ quota_in h.plan k) e
               (let a = ap length here in let b = length-append (of_lane lane v.lane h.all) (x ∷ []) in omega (arith, a, b, left')))
@@ -129,7 +129,7 @@ module _ {T : Type 0} (lane index : T → ℕ) where
         refl,
       )
 
-  pub has_room_left : (port : ℕ) (v : View T) → v.sends ≡ true → length v.sent < quota_in v.plan v.lane → Learns (Kept lane index) port v (λ items. length items < room v.plan)
+  pub has_room_left : (port : ℕ) (v : View T) → v.sends ≡ true → length v.sent < quota_in v.plan v.lane → Learns (KeepsRule lane index) port v (λ items. length items < room v.plan)
   has_room_left port v may left items views h at =
       let mine = h.lane_fits port v at may in
       let plan_is : v.plan ≡ h.plan = ap (λ (y : View T). y.plan) mine.is in
@@ -141,7 +141,7 @@ module _ {T : Type 0} (lane index : T → ℕ) where
       let less : length items < room h.plan = omega (arith, all_less, e, f) in
       subst (λ (p : Plan). length items < room p) (sym plan_is) less
 
-  pub takes : (port : ℕ) (v : View T) → v.gets ≡ true → Pops (Kept lane index) port v (Took lane index v)
+  pub takes : (port : ℕ) (v : View T) → v.gets ≡ true → Pops (KeepsRule lane index) port v (Took lane index v)
   takes port v may x items views h at =
       let mine = h.taker_fits port v at may in
       let plan_is : v.plan ≡ h.plan = ap (λ (y : View T). y.plan) mine.is in
@@ -153,7 +153,7 @@ module _ {T : Type 0} (lane index : T → ℕ) where
       let picked : of_lane lane (lane x) h.all ≡ of_lane lane (lane x) h.got ++ x ∷ of_lane lane (lane x) items =
       ap (λ (l : List T). of_lane lane (lane x) l) h.whole ∙ of_append lane (lane x) h.got (x ∷ items) ∙ ap (λ (l : List T). of_lane lane (lane x) h.got ++ l) (of_cons_here lane (lane x) x items refl) in
       let next : index x ≡ first_in h.plan (lane x) + length (of_lane lane (lane x) h.got) =
-      counts_at index (first_in h.plan (lane x)) (of_lane lane (lane x) h.got) x (of_lane lane (lane x) items) (subst (λ (l : List T). Counts index (first_in h.plan (lane x)) l) picked (h.counts (lane x))) in (
+      counts_at index (first_in h.plan (lane x)) (of_lane lane (lane x) h.got) x (of_lane lane (lane x) items) (subst (λ (l : List T). CountsOn index (first_in h.plan (lane x)) l) picked (h.counts (lane x))) in (
         w,
         record {
           plan = h.plan;
@@ -189,10 +189,10 @@ module _ {T : Type 0} (lane index : T → ℕ) where
         ),
       )
 
-  pub stands : (port : ℕ) (v : View T) → Learns (Kept lane index) port v (Stood lane index v)
+  pub stands : (port : ℕ) (v : View T) → Learns (KeepsRule lane index) port v (Stood lane index v)
   stands port v items views h at = (views, port, h, at)
 
-  pub opens : (port : ℕ) (v : View T) (plan : Plan) → v ≡ unopened → Forks (Kept lane index) port v (taker plan [] 0 []) spent
+  pub opens : (port : ℕ) (v : View T) (plan : Plan) → v ≡ unopened → Forks (KeepsRule lane index) port v (taker plan [] 0 []) spent
   opens port v plan blank items views h at =
       let gets : v.gets ≡ true = ap (λ (y : View T). y.gets) blank in
       let mine = h.taker_fits port v at gets in
@@ -214,7 +214,7 @@ module _ {T : Type 0} (lane index : T → ℕ) where
         ordered = omega arith;
         fewer = omega arith;
         lanes = subst (λ (l : List T). Below lane (length plan) l) (sym empty) (below_nil lane (length plan));
-        counts = λ k. subst (λ (l : List T). Counts index (first_in plan k) l) (sym (of_none k)) (counts_nil index (first_in plan k));
+        counts = λ k. subst (λ (l : List T). CountsOn index (first_in plan k) l) (sym (of_none k)) (counts_nil index (first_in plan k));
         within = λ k. let e = ap length (of_none k) in omega (arith, e);
         lane_fits = each_more (λ port u. u.sends ≡ true → FitsLane lane index plan h.seat 0 0 h.all port u) (set views port w) spent (λ p. absurd (true≢false (sym p)))
             (each_set (λ port u. u.sends ≡ true → FitsLane lane index plan h.seat 0 0 h.all port u) views port w (λ p. absurd (true≢false (sym p)))
@@ -231,7 +231,7 @@ module _ {T : Type 0} (lane index : T → ℕ) where
             (λ j u apart e p. absurd (apart ((h.taker_fits j u e p).here ∙ sym mine.here))));
       }
 
-  pub lends : (port : ℕ) (v : View T) → v.gets ≡ true → v.lent < length v.plan → Forks (Kept lane index) port v (taker v.plan v.got (v.lent + 1) v.back) (sender v.plan v.lent [])
+  pub lends : (port : ℕ) (v : View T) → v.gets ≡ true → v.lent < length v.plan → Forks (KeepsRule lane index) port v (taker v.plan v.got (v.lent + 1) v.back) (sender v.plan v.lent [])
   lends port v may left items views h at =
       let mine = h.taker_fits port v at may in
       let plan_is : v.plan ≡ h.plan = ap (λ (y : View T). y.plan) mine.is in
@@ -283,7 +283,7 @@ module _ {T : Type 0} (lane index : T → ℕ) where
       }
 
   pub returns : (port : ℕ) (v : View T) (other : ℕ) (u : View T) → v.gets ≡ true → u.sends ≡ true → u.lane ≡ length v.back
-      → Merges (Kept lane index) port v other u (taker v.plan v.got v.lent (v.back ++ u.sent ∷ [])) spent
+      → Merges (KeepsRule lane index) port v other u (taker v.plan v.got v.lent (v.back ++ u.sent ∷ [])) spent
   returns port v other u may theirs next items views h at two at' =
       let mine = h.taker_fits port v at may in
       let plan_is : v.plan ≡ h.plan = ap (λ (y : View T). y.plan) mine.is in
@@ -338,7 +338,7 @@ module _ {T : Type 0} (lane index : T → ℕ) where
             j y e);
       }
 
-  pub settles : (port : ℕ) (v : View T) → v.gets ≡ true → length v.back ≡ length v.plan → Learns (Kept lane index) port v (λ items. Settled lane index v.plan v.back v.got items)
+  pub settles : (port : ℕ) (v : View T) → v.gets ≡ true → length v.back ≡ length v.plan → Learns (KeepsRule lane index) port v (λ items. Settled lane index v.plan v.back v.got items)
   settles port v may full items views h at =
       let mine = h.taker_fits port v at may in
       let plan_is : v.plan ≡ h.plan = ap (λ (y : View T). y.plan) mine.is in

@@ -47,9 +47,9 @@ module _ {T : Type 0} where
   of_lane lane k xs = filter (λ x. lane x == k) xs
 
   -- their indexes go on from n
-  unfoldable pub Counts : (T → ℕ) → ℕ → List T → Type 0
-  Counts index n [] = ⊤
-  Counts index n (x ∷ xs) = (index x ≡ n) × Counts index (n + 1) xs
+  unfoldable pub CountsOn : (T → ℕ) → ℕ → List T → Type 0
+  CountsOn index n [] = ⊤
+  CountsOn index n (x ∷ xs) = (index x ≡ n) × CountsOn index (n + 1) xs
 
   -- each is of a lane below n
   unfoldable pub Below : (T → ℕ) → ℕ → List T → Type 0
@@ -74,7 +74,7 @@ module _ {T : Type 0} (lane index : T → ℕ) where
 
   -- The rule. What was sent in all is what was got and then what the queue holds. Each lane's items count on from its first index, and keep to
   -- its quota. Each pass knows what it says
-  pub record Kept (items : List T) (views : List (View T)) : Type 0 where
+  pub record KeepsRule (items : List T) (views : List (View T)) : Type 0 where
     pub plan : Plan
     pub seat : ℕ → ℕ
     pub reader : ℕ
@@ -86,7 +86,7 @@ module _ {T : Type 0} (lane index : T → ℕ) where
     pub ordered : back ≤ lent
     pub fewer : lent ≤ length plan
     pub lanes : Below lane (length plan) all
-    pub counts : (k : ℕ) → Counts index (first_in plan k) (of_lane lane k all)
+    pub counts : (k : ℕ) → CountsOn index (first_in plan k) (of_lane lane k all)
     pub within : (k : ℕ) → length (of_lane lane k all) ≤ quota_in plan k
     pub lane_fits : (port : ℕ) (v : View T) → get_elem? views port ≡ some v → v.sends ≡ true → FitsLane plan seat back lent all port v
     pub taker_fits : (port : ℕ) (v : View T) → get_elem? views port ≡ some v → v.gets ≡ true → FitsTaker plan reader back lent all got port v
@@ -100,7 +100,7 @@ module _ {T : Type 0} (lane index : T → ℕ) where
 
   -- what a pop that finds nothing tells: the queue held these items, under the rule
   abbrev pub Stood : View T → List T → Type 0
-  Stood v items = (views : List (View T)) × (port : ℕ) × Kept items views × (get_elem? views port ≡ some v)
+  Stood v items = (views : List (View T)) × (port : ℕ) × KeepsRule items views × (get_elem? views port ≡ some v)
 
   -- what a lane sent is what was got of it, and then what the queue holds of it
   abbrev pub Settled : Plan → List (List T) → List T → List T → Type 0

@@ -18,9 +18,9 @@ use std::marker::{Brand, PhantomData};
 pub struct ByLane;
 
 impl<T: Piece> Protocol<T, View<T>> for ByLane {
-    ghost use Rattle.intake_queue.specs.Lanes.{Kept, unopened};
+    ghost use Rattle.intake_queue.specs.Lanes.{KeepsRule, unopened};
 
-    ghost holds = { Kept T.lane_of T.index_of };
+    ghost holds = { KeepsRule T.lane_of T.index_of };
 
     ghost first = { unopened };
 }

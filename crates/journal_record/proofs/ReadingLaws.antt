@@ -7,7 +7,7 @@ use Rattle.std.proofs.lemmas.List.{append-nil, nil_from_length}
 use Rattle.ledger_bytes.specs.declared.digest.Digest.{Digest}
 use Rattle.ledger_bytes.specs.declared.failure.Bad.{Bad}
 use Rattle.ledger_bytes.specs.declared.failure.Bad.TheVariants.{BadFixedField, NewerFormat, Short, Trailing}
-use Rattle.ledger_bytes.specs.Fields.{Left, left_from, ◌>>=◌, number_at, digest_at, end_at, IsBytes, Took, ReadsBack}
+use Rattle.ledger_bytes.specs.Fields.{Unread, left_from, ◌>>=◌, number_at, digest_at, end_at, IsBytes, Took, ReadsBack}
 use Rattle.ledger_bytes.proofs.Fields.{bind_ok, check_ok, Took-then, wide32, wide64, number_back, byte_back, digest_back, IsTextOf, text_none, text_then, digest_text, number_text, byte_text, cut_told, trailing_told}
 use Rattle.journal_record.specs.declared.header.Header.{Header}
 use Rattle.journal_record.specs.declared.header.Kind.{Kind}
@@ -42,22 +42,22 @@ record IsFront (x : Front) : Type 0 where
   jsn : jsn_ok x.kind x.jsn ≡ true
   member : member_ok x.kind x.member ≡ true
 
-abbrev from_member : ℕ → Kind → ℕ → ℕ × Left → Result (Front × Left) Bad
+abbrev from_member : ℕ → Kind → ℕ → ℕ × Unread → Result (Front × Unread) Bad
 from_member version kind jsn member = Ok (record { version = version; kind = kind; jsn = jsn; member = member.0 }, member.1)
 
-abbrev from_jsn : ℕ → Kind → ℕ × Left → Result (Front × Left) Bad
+abbrev from_jsn : ℕ → Kind → ℕ × Unread → Result (Front × Unread) Bad
 from_jsn version kind jsn = number_at w32 jsn.1 >>= ruled (member_ok kind) (at_place 10) (from_member version kind jsn.0)
 
-abbrev from_kind : ℕ → Left → Kind → Result (Front × Left) Bad
+abbrev from_kind : ℕ → Unread → Kind → Result (Front × Unread) Bad
 from_kind version l kind = number_at w64 l >>= ruled (jsn_ok kind) (at_place 2) (from_jsn version kind)
 
-abbrev from_code : ℕ → ℕ × Left → Result (Front × Left) Bad
+abbrev from_code : ℕ → ℕ × Unread → Result (Front × Unread) Bad
 from_code version code = known_kind code.0 >>= from_kind version code.1
 
-abbrev from_version : ℕ × Left → Result (Front × Left) Bad
+abbrev from_version : ℕ × Unread → Result (Front × Unread) Bad
 from_version version = number_at w8 version.1 >>= from_code version.0
 
-front_takes : (l : Left) (x : Front) (after : Left) → IsBytes l.rest → front_at l ≡ Ok (x, after) → Took l (front_text x) after × IsFront x
+front_takes : (l : Unread) (x : Front) (after : Unread) → IsBytes l.rest → front_at l ≡ Ok (x, after) → Took l (front_text x) after × IsFront x
 unfolding front_at
 front_takes l x after bytes e =
     let v = field_takes (number_at w8) (λ n. n ∷ []) (λ n. n < 2 ^ 8) byte_back version_ok NewerFormat from_version l (x, after) bytes e in
@@ -102,16 +102,16 @@ record IsClue (kind : Kind) (jsn : ℕ) (x : ClueFields) : Type 0 where
   ord : clue_ord_ok x.clue x.ordinal ≡ true
   prev : clue_prev_ok jsn x.ordinal x.previous ≡ true
 
-abbrev from_prev : Digest → ℕ → ℕ × Left → Result (ClueFields × Left) Bad
+abbrev from_prev : Digest → ℕ → ℕ × Unread → Result (ClueFields × Unread) Bad
 from_prev clue ord prev = Ok (record { clue = clue; ordinal = ord; previous = prev.0 }, prev.1)
 
-abbrev from_ord : ℕ → Digest → ℕ × Left → Result (ClueFields × Left) Bad
+abbrev from_ord : ℕ → Digest → ℕ × Unread → Result (ClueFields × Unread) Bad
 from_ord jsn clue ord = number_at w64 ord.1 >>= ruled (clue_prev_ok jsn ord.0) (at_place 50) (from_prev clue ord.0)
 
-abbrev from_clue : ℕ → Digest × Left → Result (ClueFields × Left) Bad
+abbrev from_clue : ℕ → Digest × Unread → Result (ClueFields × Unread) Bad
 from_clue jsn clue = number_at w32 clue.1 >>= ruled (clue_ord_ok clue.0) (at_place 46) (from_ord jsn clue.0)
 
-clue_takes : (kind : Kind) (jsn : ℕ) (l : Left) (x : ClueFields) (after : Left) → IsBytes l.rest → clue_at kind jsn l ≡ Ok (x, after) → Took l (clue_text x) after × IsClue kind jsn x
+clue_takes : (kind : Kind) (jsn : ℕ) (l : Unread) (x : ClueFields) (after : Unread) → IsBytes l.rest → clue_at kind jsn l ≡ Ok (x, after) → Took l (clue_text x) after × IsClue kind jsn x
 unfolding clue_at
 clue_takes kind jsn l x after bytes e =
     let c = field_takes digest_at (λ d. d.0) (λ d. length d.0 ≡ 32) digest_back (clue_ok kind) (at_place 14) (from_clue jsn) l (x, after) bytes e in
@@ -147,16 +147,16 @@ record IsOwn (kind : Kind) (jsn : ℕ) (x : OwnFields) : Type 0 where
   a : a_ok kind jsn x.a ≡ true
   b : b_ok kind x.b ≡ true
 
-abbrev from_link : ℕ → ℕ → Digest × Left → Result (OwnFields × Left) Bad
+abbrev from_link : ℕ → ℕ → Digest × Unread → Result (OwnFields × Unread) Bad
 from_link a b link = Ok (record { a = a; b = b; link = link.0 }, link.1)
 
-abbrev from_b : ℕ → ℕ × Left → Result (OwnFields × Left) Bad
+abbrev from_b : ℕ → ℕ × Unread → Result (OwnFields × Unread) Bad
 from_b a b = digest_at b.1 >>= from_link a b.0
 
-abbrev from_a : Kind → ℕ × Left → Result (OwnFields × Left) Bad
+abbrev from_a : Kind → ℕ × Unread → Result (OwnFields × Unread) Bad
 from_a kind a = number_at w64 a.1 >>= ruled (b_ok kind) (at_place 66) (from_b a.0)
 
-own_takes : (kind : Kind) (jsn : ℕ) (l : Left) (x : OwnFields) (after : Left) → IsBytes l.rest → own_at kind jsn l ≡ Ok (x, after) → Took l (own_text x) after × IsOwn kind jsn x
+own_takes : (kind : Kind) (jsn : ℕ) (l : Unread) (x : OwnFields) (after : Unread) → IsBytes l.rest → own_at kind jsn l ≡ Ok (x, after) → Took l (own_text x) after × IsOwn kind jsn x
 unfolding own_at
 own_takes kind jsn l x after bytes e =
     let a = field_takes (number_at w64) (to_be_bytes w64) (λ n. n < 2 ^ 64) back64 (a_ok kind jsn) (at_place 58) (from_a kind) l (x, after) bytes e in
@@ -188,16 +188,16 @@ record IsParts (kind : Kind) (x : Parts) : Type 0 where
   who_width : length x.who_digest.0 ≡ 32
   len : content_len_ok kind x.content_len ≡ true
 
-abbrev from_who : ℕ → Digest → Digest × Left → Result (Parts × Left) Bad
+abbrev from_who : ℕ → Digest → Digest × Unread → Result (Parts × Unread) Bad
 from_who len content who = Ok (record { content_len = len; content_digest = content; who_digest = who.0 }, who.1)
 
-abbrev from_content : ℕ → Digest × Left → Result (Parts × Left) Bad
+abbrev from_content : ℕ → Digest × Unread → Result (Parts × Unread) Bad
 from_content len content = digest_at content.1 >>= from_who len content.0
 
-abbrev from_len : ℕ × Left → Result (Parts × Left) Bad
+abbrev from_len : ℕ × Unread → Result (Parts × Unread) Bad
 from_len len = digest_at len.1 >>= from_content len.0
 
-parts_takes : (kind : Kind) (l : Left) (x : Parts) (after : Left) → IsBytes l.rest → parts_at kind l ≡ Ok (x, after) → Took l (parts_text x) after × IsParts kind x
+parts_takes : (kind : Kind) (l : Unread) (x : Parts) (after : Unread) → IsBytes l.rest → parts_at kind l ≡ Ok (x, after) → Took l (parts_text x) after × IsParts kind x
 unfolding parts_at
 parts_takes kind l x after bytes e =
     let n = field_takes (number_at w32) (to_be_bytes w32) (λ n. n < 2 ^ 32) back32 (content_len_ok kind) (at_place 106) from_len l (x, after) bytes e in
@@ -238,16 +238,16 @@ header_from f c o p = record {
   who_digest = p.who_digest;
 }
 
-abbrev from_parts : Front → ClueFields → OwnFields → Parts × Left → Result (Header × Left) Bad
+abbrev from_parts : Front → ClueFields → OwnFields → Parts × Unread → Result (Header × Unread) Bad
 from_parts front clue own parts = Ok (header_from front clue own parts.0, parts.1)
 
-abbrev from_own : Front → ClueFields → OwnFields × Left → Result (Header × Left) Bad
+abbrev from_own : Front → ClueFields → OwnFields × Unread → Result (Header × Unread) Bad
 from_own front clue own = parts_at front.kind own.1 >>= from_parts front clue own.0
 
-abbrev from_clue_on : Front → ClueFields × Left → Result (Header × Left) Bad
+abbrev from_clue_on : Front → ClueFields × Unread → Result (Header × Unread) Bad
 from_clue_on front clue = own_at front.kind front.jsn clue.1 >>= from_own front clue.0
 
-abbrev from_front : Front × Left → Result (Header × Left) Bad
+abbrev from_front : Front × Unread → Result (Header × Unread) Bad
 from_front front = clue_at front.0.kind front.0.jsn front.1 >>= from_clue_on front.0
 
 abbrev front_of : Header → Front
@@ -298,13 +298,13 @@ whole_from h f c o p = record {
   };
 }
 
-whole_answered : (l : Left) (f : Front) (c : ClueFields) (o : OwnFields) (p : Parts) (b : Left) (h : Header) (after : Left) → ended (header_from f c o p) b ≡ ended h after → Took l (front_text f ++ clue_text c ++ own_text o ++ parts_text p) b → IsFront f → IsClue f.kind f.jsn c → IsOwn f.kind f.jsn o → IsParts f.kind p → Took l (spelling h) after × IsWhole h
+whole_answered : (l : Unread) (f : Front) (c : ClueFields) (o : OwnFields) (p : Parts) (b : Unread) (h : Header) (after : Unread) → ended (header_from f c o p) b ≡ ended h after → Took l (front_text f ++ clue_text c ++ own_text o ++ parts_text p) b → IsFront f → IsClue f.kind f.jsn c → IsOwn f.kind f.jsn o → IsParts f.kind p → Took l (spelling h) after × IsWhole h
 whole_answered l f c o p b h after e took front clue own parts =
     answered spelling IsWhole l (header_from f c o p) h b after e
     (subst (λ (t : List ℕ). Took l t b) (sym (spelling_groups (header_from f c o p))) took)
     (whole_from (header_from f c o p) front clue own parts)
 
-header_takes : (l : Left) (h : Header) (after : Left) → IsBytes l.rest → header_at l ≡ Ok (h, after) → Took l (spelling h) after × IsWhole h
+header_takes : (l : Unread) (h : Header) (after : Unread) → IsBytes l.rest → header_at l ≡ Ok (h, after) → Took l (spelling h) after × IsWhole h
 unfolding header_at
 header_takes l h after bytes e =
     let f = bind_ok (front_at l) from_front (h, after) e in
@@ -349,7 +349,7 @@ header_back = record { again = λ h whole rest fits. (header_is h whole fits).ag
 header_of_takes : (bytes : List ℕ) (h : Header) → IsBytes bytes → header_of bytes ≡ Ok h → IsHeader h × (bytes ≡ spelling h)
 unfolding header_of
 header_of_takes bytes h fits e =
-    let start : Left = left_from (length bytes) bytes in
+    let start : Unread = left_from (length bytes) bytes in
     let b = bind_ok (header_at start) (λ read. end_at read.0 read.1) h e in
     let c = check_ok (eqb (length b.0.1.rest) 0) (Trailing (b.0.1.whole - length b.0.1.rest)) b.0.0 h b.2 in
     let took = header_takes start b.0.0 b.0.1 fits b.1 in

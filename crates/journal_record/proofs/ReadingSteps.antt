@@ -2,7 +2,7 @@
 use Rattle.std.proofs.Common.{◌≡◌, ℕ, zero, suc, Bool, true, cond, List, ◌++◌, Option, Some, None, Result, Ok, Err, refl, sym, ap, subst}
 use Rattle.std.specs.Prelude.{ok_or}
 use Rattle.ledger_bytes.specs.declared.failure.Bad.{Bad}
-use Rattle.ledger_bytes.specs.Fields.{Left, ◌>>=◌, IsBytes, Took, ReadsBack}
+use Rattle.ledger_bytes.specs.Fields.{Unread, ◌>>=◌, IsBytes, Took, ReadsBack}
 use Rattle.ledger_bytes.proofs.Fields.{bind_ok, check_ok, ok_is, IsTextOf, text_then}
 use Rattle.journal_record.specs.declared.header.Kind.{Kind}
 use Rattle.journal_record.specs.declared.header.Kind.TheVariants.{Genesis, Content, Member, Time, Occult, Purge}
@@ -11,7 +11,7 @@ use Rattle.journal_record.specs.Rules.{kind_of}
 use Rattle.journal_record.specs.Reading.{known_kind}
 
 -- a reading's answer
-abbrev pub ended : {A : Type 0} → A → Left → Result (A × Left) Bad
+abbrev pub ended : {A : Type 0} → A → Unread → Result (A × Unread) Bad
 ended x after = Ok (x, after)
 
 -- a test that ends the reading where it fails
@@ -19,12 +19,12 @@ abbrev pub test : Bool → Bad → Result (Unit {0}) Bad
 test ok bad = cond ok (Ok tt) (Err bad)
 
 -- what follows a field that has a rule
-abbrev pub ruled : {A B : Type 0} → (A → Bool) → (A → Bad) → (A × Left → Result B Bad) → A × Left → Result B Bad
+abbrev pub ruled : {A B : Type 0} → (A → Bool) → (A → Bad) → (A × Unread → Result B Bad) → A × Unread → Result B Bad
 ruled ok bad f v = test (ok v.0) (bad v.0) >>= λ _. f v
 
-module _ {A B : Type 0} (read : Left → Result (A × Left) Bad) (spell : A → List ℕ) (fits : A → Type 0) (back : ReadsBack read spell fits) where
+module _ {A B : Type 0} (read : Unread → Result (A × Unread) Bad) (spell : A → List ℕ) (fits : A → Type 0) (back : ReadsBack read spell fits) where
   -- a field, whatever it is
-  pub plain_takes : (f : A × Left → Result B Bad) (l : Left) (y : B) → IsBytes l.rest → (read l >>= f) ≡ Ok y → (v : A × Left) × Took l (spell v.0) v.1 × fits v.0 × (f v ≡ Ok y)
+  pub plain_takes : (f : A × Unread → Result B Bad) (l : Unread) (y : B) → IsBytes l.rest → (read l >>= f) ≡ Ok y → (v : A × Unread) × Took l (spell v.0) v.1 × fits v.0 × (f v ≡ Ok y)
   plain_takes f l y bytes e =
       let a = bind_ok (read l) f y e in
       let t = back.takes l a.0.0 a.0.1 bytes a.1 in
@@ -32,7 +32,7 @@ module _ {A B : Type 0} (read : Left → Result (A × Left) Bad) (spell : A → 
 
   module _ (ok : A → Bool) (bad : A → Bad) where
     -- a field that has a rule
-    pub field_takes : (f : A × Left → Result B Bad) (l : Left) (y : B) → IsBytes l.rest → (read l >>= ruled ok bad f) ≡ Ok y → (v : A × Left) × Took l (spell v.0) v.1 × fits v.0 × (ok v.0 ≡ true) × (f v ≡ Ok y)
+    pub field_takes : (f : A × Unread → Result B Bad) (l : Unread) (y : B) → IsBytes l.rest → (read l >>= ruled ok bad f) ≡ Ok y → (v : A × Unread) × Took l (spell v.0) v.1 × fits v.0 × (ok v.0 ≡ true) × (f v ≡ Ok y)
     field_takes f l y bytes e =
         let a = plain_takes (ruled ok bad f) l y bytes e in
         let b = bind_ok (test (ok a.0.0) (bad a.0.0)) (λ _. f a.0) y a.3 in
@@ -40,13 +40,13 @@ module _ {A B : Type 0} (read : Left → Result (A × Left) Bad) (spell : A → 
         (a.0, a.1, a.2, rule.0, b.2)
 
 -- a field that keeps its rule, and what follows it
-pub field_text : {A B : Type 0} (read : Left → Result (A × Left) Bad) (ok : A → Bool) (bad : A → Bad) (f : A × Left → Result (B × Left) Bad) (whole : ℕ) (t u : List ℕ) (x : A) (y : B)
+pub field_text : {A B : Type 0} (read : Unread → Result (A × Unread) Bad) (ok : A → Bool) (bad : A → Bad) (f : A × Unread → Result (B × Unread) Bad) (whole : ℕ) (t u : List ℕ) (x : A) (y : B)
     → IsTextOf read whole t x → ok x ≡ true → IsTextOf (λ l. f (x, l)) whole u y → IsTextOf (λ l. read l >>= ruled ok bad f) whole (t ++ u) y
 field_text read ok bad f whole t u x y first rule second =
     text_then read (ruled ok bad f) whole t u x y first (subst (λ b. IsTextOf (λ l. test b (bad x) >>= λ _. f (x, l)) whole u y) (sym rule) second)
 
 -- what was taken is what is answered
-pub answered : {A : Type 0} (text : A → List ℕ) (fits : A → Type 0) (l : Left) (x y : A) (b c : Left) → ended x b ≡ ended y c → Took l (text x) b → fits x → Took l (text y) c × fits y
+pub answered : {A : Type 0} (text : A → List ℕ) (fits : A → Type 0) (l : Unread) (x y : A) (b c : Unread) → ended x b ≡ ended y c → Took l (text x) b → fits x → Took l (text y) c × fits y
 answered text fits l x y b c e took fit =
     subst (λ z. Took l (text z.0) z.1 × fits z.0) (ok_is (x, b) (y, c) e) (took, fit)
 

@@ -3,7 +3,7 @@ use Rattle.std.specs.Prelude.{ℕ, List, length, Result, Ok, Err, if◌then◌el
 use Rattle.std.specs.Int.{w8, w32, w64}
 use Rattle.ledger_bytes.specs.declared.failure.Bad.{Bad}
 use Rattle.ledger_bytes.specs.declared.failure.Bad.TheVariants.{BadKind, NewerFormat}
-use Rattle.ledger_bytes.specs.Fields.{Left, left_from, ◌>>=◌, number_at, digest_at, check, end_at}
+use Rattle.ledger_bytes.specs.Fields.{Unread, left_from, ◌>>=◌, number_at, digest_at, check, end_at}
 use Rattle.journal_record.specs.declared.header.Header.{Header}
 use Rattle.journal_record.specs.declared.header.Kind.{Kind}
 use Rattle.journal_record.specs.declared.reading.Front.{Front}
@@ -21,7 +21,7 @@ abbrev pub known_kind : ℕ → Result Kind Bad
 known_kind code = ok_or (kind_of code) (BadKind code)
 
 -- version, kind, number and member
-unfoldable pub front_at : Left → Result (Front × Left) Bad
+unfoldable pub front_at : Unread → Result (Front × Unread) Bad
 front_at l = do
   version ← number_at w8 l
   _ ← known_version version.0
@@ -34,7 +34,7 @@ front_at l = do
   Ok (record { version = version.0; kind = kind; jsn = jsn.0; member = member.0 }, member.1)
 
 -- the clue, and the journal's place among its journals
-unfoldable pub clue_at : Kind → ℕ → Left → Result (ClueFields × Left) Bad
+unfoldable pub clue_at : Kind → ℕ → Unread → Result (ClueFields × Unread) Bad
 clue_at kind jsn l = do
   clue ← digest_at l
   _ ← check (clue_ok kind clue.0) 14
@@ -45,7 +45,7 @@ clue_at kind jsn l = do
   Ok (record { clue = clue.0; ordinal = ord.0; previous = prev.0 }, prev.1)
 
 -- what goes by the kind: two numbers and a link
-unfoldable pub own_at : Kind → ℕ → Left → Result (OwnFields × Left) Bad
+unfoldable pub own_at : Kind → ℕ → Unread → Result (OwnFields × Unread) Bad
 own_at kind jsn l = do
   a ← number_at w64 l
   _ ← check (a_ok kind jsn a.0) 58
@@ -55,7 +55,7 @@ own_at kind jsn l = do
   Ok (record { a = a.0; b = b.0; link = link.0 }, link.1)
 
 -- the content's length, and the digests of content and who
-unfoldable pub parts_at : Kind → Left → Result (Parts × Left) Bad
+unfoldable pub parts_at : Kind → Unread → Result (Parts × Unread) Bad
 parts_at kind l = do
   len ← number_at w32 l
   _ ← check (content_len_ok kind len.0) 106
@@ -64,7 +64,7 @@ parts_at kind l = do
   Ok (record { content_len = len.0; content_digest = content.0; who_digest = who.0 }, who.1)
 
 -- a header
-unfoldable pub header_at : Left → Result (Header × Left) Bad
+unfoldable pub header_at : Unread → Result (Header × Unread) Bad
 header_at l = do
   front ← front_at l
   clue ← clue_at front.0.kind front.0.jsn front.1

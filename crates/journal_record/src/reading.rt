@@ -1,7 +1,7 @@
 //! Reading a header field by field.
 
 ghost use Rattle.std.specs.Prelude.{◌≡◌};
-ghost use Rattle.ledger_bytes.specs.Fields.{Fits, ReadsBack};
+ghost use Rattle.ledger_bytes.specs.Fields.{ReadsFields, ReadsBack};
 ghost use Rattle.journal_record.specs.Header.{spelling, HasWidths};
 ghost use Rattle.journal_record.specs.Rules.{IsHeader};
 ghost use Rattle.journal_record.specs.Reading as reading;
@@ -72,7 +72,7 @@ fn read_by_fields(bytes: &[u8]) -> Result<Header, Bad>
 /// Takes the next header, as [`Header::decode`] reads it; places of fields count from the header's first byte.
 #[tactic(auto, unfolding(crate::specs::Reading::header_at))]
 pub fn take_header(reader: &mut FieldReader) -> Result<Header, Bad>
-    ensures { Fits result reader.new (reading.header_at reader.old) }
+    ensures { ReadsFields result reader.new (reading.header_at reader.old) }
 {
     let front = take_front(reader)?;
     let clue = take_clue(reader, front.kind, front.jsn)?;
@@ -98,7 +98,7 @@ pub fn take_header(reader: &mut FieldReader) -> Result<Header, Bad>
 /// Version, kind, number and member.
 #[tactic(auto, unfolding(crate::specs::Reading::front_at))]
 fn take_front(reader: &mut FieldReader) -> Result<Front, Bad>
-    ensures { Fits result reader.new (reading.front_at reader.old) }
+    ensures { ReadsFields result reader.new (reading.front_at reader.old) }
 {
     let version = reader.take_u8()?;
     known_version(version)?;
@@ -119,7 +119,7 @@ fn take_front(reader: &mut FieldReader) -> Result<Front, Bad>
 /// The clue, and the journal's place among its journals.
 #[tactic(auto, unfolding(crate::specs::Reading::clue_at))]
 fn take_clue(reader: &mut FieldReader, kind: Kind, jsn: u64) -> Result<ClueFields, Bad>
-    ensures { Fits result reader.new (reading.clue_at kind jsn reader.old) }
+    ensures { ReadsFields result reader.new (reading.clue_at kind jsn reader.old) }
 {
     let clue = reader.take_digest()?;
     check_field(clue_ok(kind, &clue), 14)?;
@@ -137,7 +137,7 @@ fn take_clue(reader: &mut FieldReader, kind: Kind, jsn: u64) -> Result<ClueField
 /// What goes by the kind: two numbers and a link.
 #[tactic(auto, unfolding(crate::specs::Reading::own_at))]
 fn take_own(reader: &mut FieldReader, kind: Kind, jsn: u64) -> Result<OwnFields, Bad>
-    ensures { Fits result reader.new (reading.own_at kind jsn reader.old) }
+    ensures { ReadsFields result reader.new (reading.own_at kind jsn reader.old) }
 {
     let a = reader.take_u64()?;
     check_field(a_ok(kind, jsn, a), 58)?;
@@ -150,7 +150,7 @@ fn take_own(reader: &mut FieldReader, kind: Kind, jsn: u64) -> Result<OwnFields,
 /// The content's length, and the digests of content and who.
 #[tactic(auto, unfolding(crate::specs::Reading::parts_at))]
 fn take_parts(reader: &mut FieldReader, kind: Kind) -> Result<Parts, Bad>
-    ensures { Fits result reader.new (reading.parts_at kind reader.old) }
+    ensures { ReadsFields result reader.new (reading.parts_at kind reader.old) }
 {
     let content_len = reader.take_u32()?;
     check_field(content_len_ok(kind, content_len), 106)?;

@@ -49,7 +49,7 @@ pub record IsBased (b : Base) (k : Kept) : Type 0 where
   pub ends : k.ends ≡ []
   pub id : k.id ≡ b.id
   pub members_are : k.members ≡ map member_with b.keys
-  pub clues : index.Stands k.clues (with_floor b.point (added_at_first b.clues))
+  pub clues : index.StandsForTrails k.clues (with_floor b.point (added_at_first b.clues))
   pub hiders : k.hiders ≡ []
   pub times : k.times ≡ []
   pub headers_are : k.headers ≡ []
@@ -163,13 +163,13 @@ module _ (b : Base) (k : Kept) (h : History) (x : IsBased b k) (e : EndsWith b h
   abbrev given : Added
   given = clues_added 0 (journals h)
 
-  from_clues : index.Stands k.clues (clues_added p (journals h))
+  from_clues : index.StandsForTrails k.clues (clues_added p (journals h))
   from_clues =
       let from = lawful_from (journals h) e.lawful in
       let states : b.clues ≡ states_at p given = ap (λ (x : Base). x.clues) (sym e.base_is) ∙ ap (λ (js : List Entry). states_at p (clues_added 0 js)) whole_front in
       let none : filter (λ (m : Mark). nat_le p m.jsn) (marks (journals h)) ≡ [] = marks_low 0 p (journals h) from (omega (arith, e.size_is)) in
-      let start : index.Stands k.clues (from_point p given) =
-      subst (index.Stands k.clues) (ap (λ (s : List ClueState). with_floor p (added_at_first s)) states ∙ ap (λ (ms : List Mark). record { states = states_at p given; marks = ms; floor = p }) (sym none)) x.clues in
+      let start : index.StandsForTrails k.clues (from_point p given) =
+      subst (index.StandsForTrails k.clues) (ap (λ (s : List ClueState). with_floor p (added_at_first s)) states ∙ ap (λ (ms : List Mark). record { states = states_at p given; marks = ms; floor = p }) (sym none)) x.clues in
       stands_carried k.clues given p (marks_ascend 0 (journals h) from) (marks_clear 0 (journals h)) (All-nil (λ (s : ClueState). 0 < s.count)) start
 
   pub based_stands : Stands k h
@@ -194,7 +194,7 @@ module _ (b : Base) (k : Kept) (h : History) (x : IsBased b k) (e : EndsWith b h
         let keys : b.keys ≡ map (λ (m : Member). m.key) (members h) = ap (λ (x : Base). x.keys) (sym e.base_is) ∙ ap (map (λ (m : Member). m.key)) members_front in
         ap (aged_members k.floor) (x.members_are ∙ ap (map member_with) keys) ∙ aged_with k.floor (members h)
         ∙ sym (aged_low k.floor (members h) (subst (λ n. All (λ (m : Member). m.jsn < n) (members h)) (sym x.floor) (members_low p h e.lawful some (omega (arith, e.size_is)))));
-    clues = subst (λ n. index.Stands k.clues (clues_added n (journals h))) (sym x.floor) from_clues;
+    clues = subst (λ n. index.StandsForTrails k.clues (clues_added n (journals h))) (sym x.floor) from_clues;
     hiders = λ n le. ap (hider_in n) x.hiders ∙ sym (ap (hider_among (journals h)) (none_there (journals h) n (omega (arith, le, x.floor, e.size_is))));
     times = x.times ∙ sym (ap (λ (js : List Entry). marks_from k.point (marks_of js)) (drop_all k.floor (journals h) (omega (arith, x.floor, e.size_is))));
   }

@@ -166,7 +166,7 @@ pub record IsMore (old new : Kept) (start : Option Base) (es : List Entry) (x : 
   pub size_is : new.size ≡ old.size + 1
   pub point : new.point ≡ point_with x old.point
   pub members : length new.members ≡ length old.members + cond (is_member x.kind) 1 0
-  pub clues : (a : Added) → clue_ok x.kind x.clue ≡ true → index.Stands old.clues a → a.floor ≤ x.jsn → All (λ (m : Mark). m.jsn < x.jsn) a.marks → index.Stands new.clues (with_clue_of x a)
+  pub clues : (a : Added) → clue_ok x.kind x.clue ≡ true → index.StandsForTrails old.clues a → a.floor ≤ x.jsn → All (λ (m : Mark). m.jsn < x.jsn) a.marks → index.StandsForTrails new.clues (with_clue_of x a)
   pub hiders : AddsHider x.kind x old.hiders new.hiders
   pub headers_are : new.headers ≡ old.headers ++ x ∷ []
   pub list : (ds : List (List ℕ)) → StandsFor sha256 old.tree ds → StandsFor sha256 new.tree (ds ++ leaf sha256 (spelling x) ∷ [])
@@ -181,7 +181,7 @@ more_here old new start es j some s m = record {
   size_is = omega (arith, m.size_is, s.size_is, length-append es (j ∷ []));
   point = m.point ∙ ap (λ p. cond (is_purge j.header.kind) j.header.a p) s.point ∙ risen start es j.header j.header.kind m.next.own ∙ sym (points_more es j);
   members = omega (arith, m.members, s.members, count_next start es j (omega (arith, some, s.size_is)));
-  clues = subst (index.Stands new.clues) (clues_next start es j)
+  clues = subst (index.StandsForTrails new.clues) (clues_next start es j)
       (m.clues (clues_behind start es) m.next.layout.clue s.clues (omega (arith, clues_low start es, m.next.jsn)) (clues_under start es j.header.jsn s.are (sym m.next.jsn)));
   hiders = hiders_next old.hiders new.hiders es j j.header.kind refl s.hiders m.hiders;
   headers_are = m.headers_are ∙ ap (λ l. l ++ j.header ∷ []) s.headers_are ∙ sym (map-append (λ (e : Entry). e.header) es (j ∷ []));
@@ -192,7 +192,7 @@ pub more_behind : (old new : Kept) (start : Option Base) (es : List Entry) (j : 
 more_behind old new start es j header some s is m = more_here old new start es j some s (subst (IsMore old new start es) (sym is) m)
 
 -- a new member has no clue
-pub member_clue : (a : Added) (k : index.Kept) (x : Header) → x.kind ≡ kind.Member → clue_ok x.kind x.clue ≡ true → index.Stands k a → index.Stands k (with_clue_of x a)
+pub member_clue : (a : Added) (k : index.KeptTrails) (x : Header) → x.kind ≡ kind.Member → clue_ok x.kind x.clue ≡ true → index.StandsForTrails k a → index.StandsForTrails k (with_clue_of x a)
 member_clue a k x member ok stands =
     let none : is_no_clue x.clue ≡ true = subst (λ (y : Kind). clue_ok y x.clue ≡ true) member ok in
-    subst (index.Stands k) (sym (ap (λ v. cond v a (with_mark x.clue.0 x.jsn a)) none)) stands
+    subst (index.StandsForTrails k) (sym (ap (λ v. cond v a (with_mark x.clue.0 x.jsn a)) none)) stands

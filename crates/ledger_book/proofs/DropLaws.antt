@@ -47,7 +47,7 @@ aged_twice floor p (m ∷ ms) le =
     zero_is false = refl
 
 -- what a book keeps from the point on
-abbrev pub cut : Kept → ℕ → List ℕ → index.Kept → List (ℕ × ℕ) → List Header → Levels → Kept
+abbrev pub cut : Kept → ℕ → List ℕ → index.KeptTrails → List (ℕ × ℕ) → List Header → Levels → Kept
 cut k p ends clues hiders hs rows = record k { floor = p; ends = ends; clues = clues; hiders = hiders; headers = hs; tree = rows }
 
 module _ (k : Kept) (h : History) (p : ℕ) (s : Serves k h) (at : p ≡ model.point h) (low : k.floor ≤ p) (within : p ≤ k.sealed) where
@@ -65,8 +65,8 @@ module _ (k : Kept) (h : History) (p : ℕ) (s : Serves k h) (at : p ≡ model.p
       stands.times ∙ later_marks_same k.floor 0 k.point (journals h) from early ∙ sym (later_marks_same p 0 k.point (journals h) from reach)
 
   -- .. serves the same history
-  pub serves_cut : (ends : List ℕ) (clues : index.Kept) (hiders : List (ℕ × ℕ)) (hs : List Header) (rows : Levels)
-      → ends ≡ filter (λ end. nat_lt p end) k.ends → ((a : Added) → index.Stands k.clues a → index.Stands clues (with_floor (max a.floor p) a))
+  pub serves_cut : (ends : List ℕ) (clues : index.KeptTrails) (hiders : List (ℕ × ℕ)) (hs : List Header) (rows : Levels)
+      → ends ≡ filter (λ end. nat_lt p end) k.ends → ((a : Added) → index.StandsForTrails k.clues a → index.StandsForTrails clues (with_floor (max a.floor p) a))
       → ((n : ℕ) → p ≤ n → hider_in n hiders ≡ hider_in n k.hiders) → hs ≡ drop (p - k.floor) k.headers
       → ((ds : List (List ℕ)) → StandsFor sha256 k.tree ds → StandsFor sha256 rows ds)
       → Serves (cut k p ends clues hiders hs rows) h
@@ -90,7 +90,7 @@ module _ (k : Kept) (h : History) (p : ℕ) (s : Serves k h) (at : p ≡ model.p
             leaves = tree_is (leaf_digests h) stands.tree.leaves;
           };
           members = sym (aged_twice k.floor p k.members low) ∙ ap (aged_members p) stands.members ∙ aged_twice k.floor p (member.members h) low;
-          clues = subst (λ n. index.Stands clues (clues_added n (journals h))) most (clues_are (clues_added k.floor (journals h)) stands.clues);
+          clues = subst (λ n. index.StandsForTrails clues (clues_added n (journals h))) most (clues_are (clues_added k.floor (journals h)) stands.clues);
           hiders = λ n le. hiders_are n le ∙ stands.hiders n (omega (arith, low, le));
           times = times_cut;
         };

@@ -45,7 +45,7 @@ use Rattle.ledger_book.specs.Replaying.{IsFirst, begun_with}
 use Rattle.ledger_book.proofs.ClueLaws.{marks_same}
 
 -- what the book of a first journal keeps
-abbrev pub first_kept : Limits → Digest → List ℕ → List Member → index.Kept → List (ℕ × ℕ) → List TimeMark → List Header → Levels → Kept
+abbrev pub first_kept : Limits → Digest → List ℕ → List Member → index.KeptTrails → List (ℕ × ℕ) → List TimeMark → List Header → Levels → Kept
 first_kept limits leaf ends members clues hiders times headers tree = record {
   limits = limits;
   floor = 0;
@@ -114,8 +114,8 @@ module _ (header : Header) (operator regulator : Digest) (j : Entry) (kind_is : 
   first_id = refl
 
   -- its book stands for the history that has it alone
-  pub serves_first : (limits : Limits) (tip : Digest) (encoded : List ℕ) (ms : List Member) (clues : index.Kept) (by : List (ℕ × ℕ)) (times : List TimeMark) (hs : List Header) (rows : Levels) (ends : List ℕ)
-      → encoded ≡ spelling header → tip.0 ≡ leaf sha256 encoded → ms ≡ book.founders operator regulator → index.Stands clues (added_at_first []) → by ≡ [] → times ≡ [] → hs ≡ header ∷ [] → StandsFor sha256 rows (tip.0 ∷ []) → ends ≡ 1 ∷ []
+  pub serves_first : (limits : Limits) (tip : Digest) (encoded : List ℕ) (ms : List Member) (clues : index.KeptTrails) (by : List (ℕ × ℕ)) (times : List TimeMark) (hs : List Header) (rows : Levels) (ends : List ℕ)
+      → encoded ≡ spelling header → tip.0 ≡ leaf sha256 encoded → ms ≡ book.founders operator regulator → index.StandsForTrails clues (added_at_first []) → by ≡ [] → times ≡ [] → hs ≡ header ∷ [] → StandsFor sha256 rows (tip.0 ∷ []) → ends ≡ 1 ∷ []
       → Serves (first_kept limits tip ends ms clues by times hs rows) (begun_with j)
   serves_first limits tip encoded ms clues by times hs rows ends e l m c bs ts hss stands es =
       let told : tip.0 ≡ leaf sha256 (spelling j.header) = l ∙ ap (leaf sha256) (e ∙ ap spelling (sym first.header_is)) in record {
@@ -124,7 +124,7 @@ module _ (header : Header) (operator regulator : Digest) (j : Entry) (kind_is : 
           counts = record { size = refl; floor = omega arith; point = sym first_point; blocks = refl; sealed_is = refl; ends = es };
           tree = record { root = told ∙ sym first_root; id = told ∙ sym first_id; headers_are = hss ∙ ap (λ x. x ∷ []) (sym first.header_is); leaves = subst (λ x. StandsFor sha256 rows (x ∷ [])) told stands };
           members = ap (aged_members 0) (m ∙ first_members);
-          clues = subst (index.Stands clues) (sym first_clues) c;
+          clues = subst (index.StandsForTrails clues) (sym first_clues) c;
           hiders = subst (λ (x : List (ℕ × ℕ)). Indexes x 0 (begun_with j)) (sym bs) first_hiders;
           times = ts ∙ sym first_times;
         };
@@ -136,8 +136,8 @@ module _ (header : Header) (j : Entry) (kind_is : header.kind ≡ kind.Genesis) 
   abbrev sort : j.header.kind ≡ kind.Genesis
   sort = ap (λ (x : Header). x.kind) is ∙ kind_is
 
-  pub behind_first : (limits : Limits) (tip : Digest) (encoded : List ℕ) (operator regulator : Digest) (ms : List Member) (clues : index.Kept) (by : List (ℕ × ℕ)) (times : List TimeMark) (hs : List Header) (rows : Levels) (ends : List ℕ)
-      → encoded ≡ spelling header → tip.0 ≡ leaf sha256 encoded → ms ≡ book.founders operator regulator → index.Stands clues (added_at_first []) → by ≡ [] → hs ≡ header ∷ [] → StandsFor sha256 rows (tip.0 ∷ [])
+  pub behind_first : (limits : Limits) (tip : Digest) (encoded : List ℕ) (operator regulator : Digest) (ms : List Member) (clues : index.KeptTrails) (by : List (ℕ × ℕ)) (times : List TimeMark) (hs : List Header) (rows : Levels) (ends : List ℕ)
+      → encoded ≡ spelling header → tip.0 ≡ leaf sha256 encoded → ms ≡ book.founders operator regulator → index.StandsForTrails clues (added_at_first []) → by ≡ [] → hs ≡ header ∷ [] → StandsFor sha256 rows (tip.0 ∷ [])
       → StandsBehind (first_kept limits tip ends ms clues by times hs rows) None (j ∷ [])
   unfolding members
   behind_first limits tip encoded operator regulator ms clues by times hs rows ends e l m c bs hss stands = record {
@@ -156,7 +156,7 @@ module _ (header : Header) (j : Entry) (kind_is : header.kind ≡ kind.Genesis) 
     size_is = refl;
     point = sym (ap (λ (k : Kind). fold max 0 (cond (is_purge k) j.header.a 0 ∷ [])) sort);
     members = ap length m ∙ ap (λ (k : Kind). length (book.founders operator regulator ++ map member_of (cond (is_member k) (j ∷ []) []))) (sym sort);
-    clues = subst (index.Stands clues) (sym (marks_same 0 [] j (ap not (subst (λ k. clue_ok k j.header.clue ≡ true) sort (subst IsHeader (sym is) layout).clue)))) c;
+    clues = subst (index.StandsForTrails clues) (sym (marks_same 0 [] j (ap not (subst (λ k. clue_ok k j.header.clue ≡ true) sort (subst IsHeader (sym is) layout).clue)))) c;
     hiders = λ n. ap (λ (x : List (ℕ × ℕ)). is_some (hider_in n x)) bs ∙ sym (ap (λ (k : Kind). (is_occult k && j.header.a == n) || false) sort);
     headers_are = hss ∙ ap (λ x. x ∷ []) (sym is);
     leaves = subst (λ x. StandsFor sha256 rows (x ∷ [])) (l ∙ ap (leaf sha256) (e ∙ ap spelling (sym is))) stands;

@@ -94,12 +94,12 @@ clue_known l h clue n is more =
     let test : (length (jsns_with h clue) == 0) ≡ false = ne_eqb (length (jsns_with h clue)) 0 (λ none. let no : ⊥ = omega (arith, is, more, none) in no) in
     clues_as l h clue false (and_left (not (is_no_clue clue) && length (jsns_with h clue) == 0) _ (and_right (not (is_no_clue clue)) _ test))
 
-pub clue_room : (limits : Limits) (k : Kept) (h : History) (clue : Digest) (n : ℕ) → Stands k h → ((a : Added) → index.Stands k.clues a → n ≡ length (different_clues a)) → n < limits.clues → NoRefusal (clues_full limits h clue)
+pub clue_room : (limits : Limits) (k : Kept) (h : History) (clue : Digest) (n : ℕ) → Stands k h → ((a : Added) → index.StandsForTrails k.clues a → n ≡ length (different_clues a)) → n < limits.clues → NoRefusal (clues_full limits h clue)
 clue_room limits k h clue n s told room =
     let is = told_clues k h n s told in
     clues_as limits h clue false (and_right (not (is_no_clue clue) && length (jsns_with h clue) == 0) _ (lt-leb limits.clues (clue_count h) (omega (arith, is, room))))
 
-pub clue_full : (limits : Limits) (k : Kept) (h : History) (clue : Digest) (ordinal n : ℕ) → Stands k h → is_no_clue clue ≡ false → ordinal ≡ length (jsns_with h clue) + 1 → ordinal ≤ 1 → ((a : Added) → index.Stands k.clues a → n ≡ length (different_clues a)) → limits.clues ≤ n → Some CluesFull ≡ clues_full limits h clue
+pub clue_full : (limits : Limits) (k : Kept) (h : History) (clue : Digest) (ordinal n : ℕ) → Stands k h → is_no_clue clue ≡ false → ordinal ≡ length (jsns_with h clue) + 1 → ordinal ≤ 1 → ((a : Added) → index.StandsForTrails k.clues a → n ≡ length (different_clues a)) → limits.clues ≤ n → Some CluesFull ≡ clues_full limits h clue
 clue_full limits k h clue ordinal n s some next first told fullness =
     let is = told_clues k h n s told in
     let none : (length (jsns_with h clue) == 0) ≡ true = eq-eqb (length (jsns_with h clue)) 0 (omega (arith, next, first)) in
@@ -176,7 +176,7 @@ above floor point (n ∷ ns) low =
 
 -- which journals of a clue are kept
 pub told_from_point : (k : Kept) (h : History) (clue : Digest) (ns : List ℕ) → Serves k h
-    → ((a : Added) → index.Stands k.clues a → ns ≡ kept_from a.floor (trail_of a clue.0)) → filter (λ n. nat_le k.point n) ns ≡ kept_with h clue
+    → ((a : Added) → index.StandsForTrails k.clues a → ns ≡ kept_from a.floor (trail_of a clue.0)) → filter (λ n. nat_le k.point n) ns ≡ kept_with h clue
 told_from_point k h clue ns s told =
     ap (filter (λ n. nat_le k.point n)) (told_kept k h clue ns s.stands told) ∙ above k.floor k.point (jsns_with h clue) s.seen
     ∙ ap (λ p. filter (λ n. nat_le p n) (jsns_with h clue)) (point_is k h s)

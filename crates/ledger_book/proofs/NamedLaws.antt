@@ -35,9 +35,9 @@ base_named : (b : Base) → IsBase b → HasWidths b → All (λ (s : ClueState)
 base_named b rules widths = named b.point zero_digest b.clues refl widths.clues rules.clues
 
 -- an index that begins with them, and keeps no journal in front of the base's point
-pub clues_begun : (b : Base) (given : List ClueState) (old new : index.Kept) → IsBase b → HasWidths b → given ≡ b.clues → (All (λ (s : ClueState). s.clue.0 ≢ no_clue) given → index.Stands old (added_at_first given))
-    → ((a : Added) → index.Stands old a → index.Stands new (with_floor (max a.floor b.point) a)) → index.Stands new (with_floor b.point (added_at_first b.clues))
+pub clues_begun : (b : Base) (given : List ClueState) (old new : index.KeptTrails) → IsBase b → HasWidths b → given ≡ b.clues → (All (λ (s : ClueState). s.clue.0 ≢ no_clue) given → index.StandsForTrails old (added_at_first given))
+    → ((a : Added) → index.StandsForTrails old a → index.StandsForTrails new (with_floor (max a.floor b.point) a)) → index.StandsForTrails new (with_floor b.point (added_at_first b.clues))
 clues_begun b given old new rules widths is begun dropped =
     let most : max 0 b.point ≡ b.point = omega arith in
-    let start : index.Stands old (added_at_first b.clues) = subst (λ (l : List ClueState). index.Stands old (added_at_first l)) is (begun (subst (All (λ (s : ClueState). s.clue.0 ≢ no_clue)) (sym is) (base_named b rules widths))) in
-    subst (λ n. index.Stands new (with_floor n (added_at_first b.clues))) most (dropped (added_at_first b.clues) start)
+    let start : index.StandsForTrails old (added_at_first b.clues) = subst (λ (l : List ClueState). index.StandsForTrails old (added_at_first l)) is (begun (subst (All (λ (s : ClueState). s.clue.0 ≢ no_clue)) (sym is) (base_named b rules widths))) in
+    subst (λ n. index.StandsForTrails new (with_floor n (added_at_first b.clues))) most (dropped (added_at_first b.clues) start)

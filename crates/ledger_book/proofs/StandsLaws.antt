@@ -135,7 +135,7 @@ stands_shut k h root ends s some r more =
         leaves = subst (λ (js : List Entry). StandsFor sha256 k.tree (map leaf_digest js)) (sym e) s.tree.leaves;
       };
       members = s.members ∙ ap (λ js. aged_members k.floor (founders js ++ admitted_members js)) (sym e);
-      clues = subst (λ (js : List Entry). index.Stands k.clues (clues_added k.floor js)) (sym e) s.clues;
+      clues = subst (λ (js : List Entry). index.StandsForTrails k.clues (clues_added k.floor js)) (sym e) s.clues;
       hiders = λ n le. s.hiders n le ∙ ap (λ (js : List Entry). hider_among js (slice_get js n)) (sym e);
       times = s.times ∙ ap (λ (js : List Entry). marks_from k.point (marks_of (drop k.floor js))) (sym e);
     }
@@ -190,8 +190,8 @@ first_kept [] more some = absurd (omega (arith, some))
 first_kept (j ∷ js) more some = refl
 
 -- a journal more in the open block
-stands_wider : (k : Kept) (h : History) (j : Entry) (ms : List Member) (t : index.Kept) (by : List (ℕ × ℕ)) (rows : Levels) → Stands k h → MayPlace h j.header → AddsHider j.header.kind j.header k.hiders by
-    → aged_members k.floor ms ≡ aged_members k.floor (members (wider h j)) → index.Stands t (clues_added k.floor (journals (wider h j)))
+stands_wider : (k : Kept) (h : History) (j : Entry) (ms : List Member) (t : index.KeptTrails) (by : List (ℕ × ℕ)) (rows : Levels) → Stands k h → MayPlace h j.header → AddsHider j.header.kind j.header k.hiders by
+    → aged_members k.floor ms ≡ aged_members k.floor (members (wider h j)) → index.StandsForTrails t (clues_added k.floor (journals (wider h j)))
     → StandsFor sha256 rows (leaf_digests h ++ leaf_digest j ∷ [])
     → Stands (record k { size = k.size + 1; point = point_with j.header k.point; members = ms; clues = t; hiders = by; times = with_time_of k.size j.header k.times; headers = k.headers ++ j.header ∷ []; tree = rows }) (wider h j)
 unfolding model.seen_point model.id
@@ -246,8 +246,8 @@ wider_members_more h j some one =
     ∙ ap (λ x. founders (journals h) ++ x) (admitted_more (journals h) j one) ∙ sym (append_assoc (founders (journals h)) (admitted_members (journals h)) (member_of j ∷ []))
 
 -- what an index of clues that was given a journal's clue tells
-abbrev pub AddsClue : index.Kept → index.Kept → Header → Type 0
-AddsClue old new header = (a : Added) → clue_ok header.kind header.clue ≡ true → index.Stands old a → a.floor ≤ header.jsn → All (λ m. m.jsn < header.jsn) a.marks → index.Stands new (with_clue_of header a)
+abbrev pub AddsClue : index.KeptTrails → index.KeptTrails → Header → Type 0
+AddsClue old new header = (a : Added) → clue_ok header.kind header.clue ≡ true → index.StandsForTrails old a → a.floor ≤ header.jsn → All (λ m. m.jsn < header.jsn) a.marks → index.StandsForTrails new (with_clue_of header a)
 
 -- the lists with a header more
 pub record Grown (k : Kept) (hs : List Header) (rows : Levels) (ends : List ℕ) (header : Header) (tip : Digest) : Type 0 where
@@ -257,11 +257,11 @@ pub record Grown (k : Kept) (hs : List Header) (rows : Levels) (ends : List ℕ)
   pub tip_is : IsLeafOf header tip
 
 -- what a book keeps behind a journal
-abbrev pub kept_with : Kept → ℕ → List Member → index.Kept → List (ℕ × ℕ) → List TimeMark → List Header → Levels → List ℕ → Kept
+abbrev pub kept_with : Kept → ℕ → List Member → index.KeptTrails → List (ℕ × ℕ) → List TimeMark → List Header → Levels → List ℕ → Kept
 kept_with k point ms t by times hs rows ends = record k { size = k.size + 1; point = point; ends = ends; members = ms; clues = t; hiders = by; times = times; headers = hs; tree = rows }
 
 -- with lists that are equal to those
-grown : (k : Kept) (g : History) (j : Entry) (point : ℕ) (ms : List Member) (t : index.Kept) (by : List (ℕ × ℕ)) (times : List TimeMark) (hs : List Header) (rows : Levels) (ends : List ℕ) (header : Header)
+grown : (k : Kept) (g : History) (j : Entry) (point : ℕ) (ms : List Member) (t : index.KeptTrails) (by : List (ℕ × ℕ)) (times : List TimeMark) (hs : List Header) (rows : Levels) (ends : List ℕ) (header : Header)
     → j.header ≡ header → point ≡ point_with header k.point → times ≡ with_time_of k.size header k.times → hs ≡ k.headers ++ header ∷ [] → ends ≡ k.ends
     → Stands (kept_with k (point_with j.header k.point) ms t by (with_time_of k.size j.header k.times) (k.headers ++ j.header ∷ []) rows k.ends) g → Stands (kept_with k point ms t by times hs rows ends) g
 grown k g j point ms t by times hs rows ends header is at times_are heads_are ends_are s =
@@ -290,12 +290,12 @@ module _ (k : Kept) (h : History) (j : Entry) (header : Header) (s : Stands k h)
       subst (λ d. StandsFor sha256 rows (leaf_digests h ++ d ∷ [])) same (more (leaf_digests h) s.tree.leaves)
 
   -- a journal that is no new member
-  pub stands_record : (point : ℕ) (t : index.Kept) (by : List (ℕ × ℕ)) (times : List TimeMark) (hs : List Header) (rows : Levels) (ends : List ℕ) (tip : Digest) → is_member header.kind ≡ false → AddsClue k.clues t header → AddsHider header.kind header k.hiders by
+  pub stands_record : (point : ℕ) (t : index.KeptTrails) (by : List (ℕ × ℕ)) (times : List TimeMark) (hs : List Header) (rows : Levels) (ends : List ℕ) (tip : Digest) → is_member header.kind ≡ false → AddsClue k.clues t header → AddsHider header.kind header k.hiders by
       → point ≡ point_with header k.point → times ≡ with_time_of k.size header k.times → Grown k hs rows ends header tip → Stands (kept_with k point k.members t by times hs rows ends) (wider h j)
   stands_record point t by times hs rows ends tip content adds hides at timed more =
       let kind_is : is_member j.header.kind ≡ false = ap (λ (x : Header). is_member x.kind) is ∙ content in
       let told = adds (clues_added k.floor (journals h)) next.layout.clue s.clues (omega (arith, low, next.jsn)) (subst (λ n. All (λ (m : Mark). m.jsn < n) (clues_added k.floor (journals h)).marks) (sym next.jsn) (marks_below k.floor (journals h) s.lawful)) in
-      let clues : index.Stands t (clues_added k.floor (journals (wider h j))) = subst (index.Stands t) (ap (λ (x : Header). with_clue_of x (clues_added k.floor (journals h))) (sym is) ∙ wider_clues k.floor h j) told in
+      let clues : index.StandsForTrails t (clues_added k.floor (journals (wider h j))) = subst (index.StandsForTrails t) (ap (λ (x : Header). with_clue_of x (clues_added k.floor (journals h))) (sym is) ∙ wider_clues k.floor h j) told in
       grown k (wider h j) j point k.members t by times hs rows ends header is at timed more.headers_are more.ends_are
       (stands_wider k h j k.members t by rows s placing (subst (λ (x : Header). AddsHider x.kind x k.hiders by) (sym is) hides) (s.members ∙ ap (aged_members k.floor) (sym (wider_members_same h j some_yet kind_is))) clues (leaf_more rows tip more.tip_is more.leaves_are))
 
@@ -313,7 +313,7 @@ module _ (k : Kept) (h : History) (j : Entry) (header : Header) (s : Stands k h)
       let timed : k.times ≡ with_time_of k.size header k.times = sym (ap (λ (x : Kind). cond (is_time x) (k.times ++ record { jsn = k.size; index = header.a; time = header.b } ∷ []) (cond (is_purge x) (marks_from header.a k.times) k.times)) member) in
       let at : k.point ≡ point_with header k.point = sym (ap (λ (x : Kind). cond (is_purge x) header.a k.point) member) in
       grown k (wider h j) j k.point ms k.clues k.hiders k.times hs rows ends header is at timed more.headers_are more.ends_are
-      (stands_wider k h j ms k.clues k.hiders rows s placing (subst (λ (x : Kind). AddsHider x j.header k.hiders k.hiders) (sym kind_is) refl) joined (subst (index.Stands k.clues) same s.clues) (leaf_more rows tip more.tip_is more.leaves_are))
+      (stands_wider k h j ms k.clues k.hiders rows s placing (subst (λ (x : Kind). AddsHider x j.header k.hiders k.hiders) (sym kind_is) refl) joined (subst (index.StandsForTrails k.clues) same s.clues) (leaf_more rows tip more.tip_is more.leaves_are))
 
 -- more room for the tree changes nothing
 pub as_before_stands : (old new : Kept) (h : History) → IsAsBefore old new → Stands old h → Stands new h

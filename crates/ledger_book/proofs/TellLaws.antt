@@ -190,7 +190,7 @@ pub record IsTold (k : Kept) (p : ℕ) (b : Base) : Type 0 where
   pub blocks : b.blocks ≡ k.blocks - length (filter (λ end. nat_lt p end) k.ends)
   pub peaks_are : (ds : List (List ℕ)) → StandsFor sha256 k.tree ds → map (λ (d : Digest). d.0) b.peaks ≡ peaks sha256 (take p ds)
   pub keys_are : b.keys ≡ map (λ (m : Member). m.key) (take (count_below p k.members) k.members)
-  pub clues_are : (a : Added) → index.Stands k.clues a → a.floor ≤ p → ((clue : List ℕ) → count_of (trail_of a clue) < 2 ^ 32) → b.clues ≡ states_at p a
+  pub clues_are : (a : Added) → index.StandsForTrails k.clues a → a.floor ≤ p → ((clue : List ℕ) → count_of (trail_of a clue) < 2 ^ 32) → b.clues ≡ states_at p a
 
 pub base_told : (k : Kept) (h : History) (p : ℕ) (b : Base) → Stands k h → k.size < 2 ^ 32 → IsTold k p b → k.floor ≤ p → 1 ≤ p → b ≡ base_of h p
 base_told k h p b s few t le some =

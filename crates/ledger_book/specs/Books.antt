@@ -55,7 +55,7 @@ pub record Kept : Type 0 where
   pub root : Digest
   pub id : Digest
   pub members : List Member
-  pub clues : index.Kept
+  pub clues : index.KeptTrails
   -- of hidden journals, which journal hides each
   pub hiders : List (ℕ × ℕ)
   -- the marks of the time journals from the point on, in order
@@ -85,7 +85,7 @@ pub record Stands (k : Kept) (h : History) : Type 0 where
   pub counts : HasCounts k h
   pub tree : HasTree k h
   pub members : aged_members k.floor k.members ≡ aged_members k.floor (member.members h)
-  pub clues : index.Stands k.clues (clues_added k.floor (journals h))
+  pub clues : index.StandsForTrails k.clues (clues_added k.floor (journals h))
   pub hiders : Indexes k.hiders k.floor h
   -- the marks of the kept time journals, as far as the point is seen
   pub times : k.times ≡ marks_from k.point (marks_of (drop k.floor (journals h)))

@@ -41,7 +41,7 @@ pub record StandsBehind (k : Kept) (start : Option Base) (journals : List Entry)
   pub size_is : k.size ≡ next_number start journals
   pub point : k.point ≡ greatest_point journals
   pub members : length k.members ≡ count_behind start journals
-  pub clues : index.Stands k.clues (clues_behind start journals)
+  pub clues : index.StandsForTrails k.clues (clues_behind start journals)
   pub hiders : (n : ℕ) → is_some (hider_in n k.hiders) ≡ list_any (names n) journals
   pub headers_are : k.headers ≡ map (λ journal. journal.header) journals
   pub leaves : HasLeaves start k.tree journals

@@ -4,7 +4,7 @@ use Rattle.std.specs.Prelude.{◌||◌}
 use Rattle.std.proofs.Common.{◌≡◌, ℕ, ◌^◌, ◌<◌, Bool, true, false, cond, List, [], ◌∷◌, ◌++◌, inl, inr, length, drop, None, refl, ap, sym, subst, ◌∙◌, arith}
 use Rattle.std.proofs.lemmas.List.{take_at, drop_at}
 use Rattle.std.proofs.lemmas.Nat.{from_be_bytes-to_be_bytes_8}
-use Rattle.script_lines.specs.Receipts.{Fits, StampFits}
+use Rattle.script_lines.specs.Receipts.{FitsWord, StampFits}
 use Rattle.time_peg.specs.Entries.{NotaryState, IsList, entry_of, time_in}
 use Rattle.ledger_model.specs.Anchors.{peg_at, is_full_list, stamp_from, stamp_of}
 use Rattle.ledger_model.specs.Dues.{IsCounted, AllCounted, EachCounted}
@@ -21,7 +21,7 @@ use Rattle.ledger_cli.proofs.NotaryLaws.{TookOn}
 
 -- a step in which it took part keeps a lawful list, and its numbers fit
 record IsTold (step : Step) : Type 0 where
-  counted : Fits step.lane × Fits step.index → IsCounted step
+  counted : FitsWord step.lane × FitsWord step.index → IsCounted step
   list : IsList step.after
 
 -- ---- what a stamp tells
@@ -38,7 +38,7 @@ none_fits : (b : Bool) (index : ℕ) → StampFits (told_stamp (cond b None (sta
 none_fits true index = tt
 none_fits false index = tt
 
-one_fits : (b : Bool) (index : ℕ) (e : List ℕ) → Fits index → Fits (time_in e) → StampFits (told_stamp (cond b None (stamp_from index (e ∷ []))))
+one_fits : (b : Bool) (index : ℕ) (e : List ℕ) → FitsWord index → FitsWord (time_in e) → StampFits (told_stamp (cond b None (stamp_from index (e ∷ []))))
 one_fits true index e i t = tt
 one_fits false index e i t = (i, t)
 
@@ -58,7 +58,7 @@ change_fits true false peg before after list c =
     let o = c.0 in
     let e = entry_of o.0 peg o.1 in
     subst (λ (es : List (List ℕ)). StampFits (told_stamp (cond (is_full_list before) None (stamp_from (length before) es)))) (sym (ap (drop (length before)) o.3 ∙ drop_at before (e ∷ []) (length before) refl))
-    (one_fits (is_full_list before) (length before) e (let few = list.few in omega (arith, few)) (subst Fits (sym (time_is o.0 peg o.1 o.2)) o.2))
+    (one_fits (is_full_list before) (length before) e (let few = list.few in omega (arith, few)) (subst FitsWord (sym (time_is o.0 peg o.1 o.2)) o.2))
 
 attends_told : (scheme : Scheme) (h : History) (step : Step) → IsList step.before → Attends scheme h step → IsTold step
 unfolding stamp_of

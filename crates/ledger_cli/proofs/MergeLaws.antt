@@ -4,7 +4,7 @@ use Rattle.std.proofs.Common.{◌≡◌, ℕ, ◌+◌, ◌==◌, Bool, true, fal
 use Rattle.std.specs.List.{flat_map}
 use Rattle.std.proofs.lemmas.List.Elements.{filter-append, All-head, All-tail}
 use Rattle.script_lines.specs.Grammar.{spoken_line}
-use Rattle.script_lines.specs.Receipts.{Fits}
+use Rattle.script_lines.specs.Receipts.{FitsWord}
 use Rattle.time_peg.specs.Entries.{NotaryState}
 use Rattle.ledger_model.specs.Dues.{AllCounted, EachCounted}
 use Rattle.ledger_model.specs.InOrder.{step_of, steps_of}
@@ -122,7 +122,7 @@ order_all P window order o a = said_all P order (λ k. subst (AllSaid P) (sym (o
 
 -- a line's numbers are as programs have them
 pub Numbered : Said → Type 0
-Numbered x = Fits x.lane × Fits x.index
+Numbered x = FitsWord x.lane × FitsWord x.index
 
 counted_said : (window : List Said) → AllCounted (map step_of window) → AllSaid Numbered window
 unfolding AllSaid Numbered
@@ -131,7 +131,7 @@ counted_said (x ∷ xs) c = ((c.0.lane, c.0.index), counted_said xs c.1)
 
 abbrev pub AllNumbered : List Step → Type 0
 AllNumbered [] = ⊤
-AllNumbered (step ∷ steps) = (Fits step.lane × Fits step.index) × AllNumbered steps
+AllNumbered (step ∷ steps) = (FitsWord step.lane × FitsWord step.index) × AllNumbered steps
 
 abbrev pub EachNumbered : List (List Step) → Type 0
 EachNumbered [] = ⊤

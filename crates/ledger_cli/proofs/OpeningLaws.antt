@@ -4,7 +4,7 @@ use Rattle.std.specs.Prelude.{IsTrue, Option, None, codes, decimal}
 use Rattle.std.specs.Io.KnownBytes.{Appends}
 use Rattle.std.proofs.KnownBytes.{Appends-nil}
 use Rattle.batch_committer.specs.Opened.{kept_from, IsOpened}
-use Rattle.batch_committer.specs.World.{Pair, Kept, world, Fits, HasRoom, Holds}
+use Rattle.batch_committer.specs.World.{Pair, CommitterState, world, Fits, HasRoom, Holds}
 use Rattle.batch_committer.proofs.Opening.{opened_held, opened_fits, opened_room, founded_held, founded_fits}
 use Rattle.journal_record.specs.Entry.{Entry}
 use Rattle.block_file.specs.File.{IsSettled}
@@ -144,22 +144,22 @@ module _ (scheme : Scheme) (tells : Bool) (source : SourceState) (sink : SinkSta
       })
 
   -- it is opened, and a committer begins with it
-  module _ (k : Known) (in_a : Bool) (generation : ℕ) (start : Option Base) (blocks : List (List Entry)) (opened : IsOpened k in_a now start blocks) (kept : Kept) (kept_is : kept ≡ kept_from k in_a generation) where
+  module _ (k : Known) (in_a : Bool) (generation : ℕ) (start : Option Base) (blocks : List (List Entry)) (opened : IsOpened k in_a now start blocks) (kept : CommitterState) (kept_is : kept ≡ kept_from k in_a generation) where
     pub again_fits : (IsTrue tells → IsReopened in_a k start blocks old.a.bytes old.b.bytes now.a.bytes now.b.bytes) → (IsTrue tells → generation ≡ generation_of (open_of in_a now.a.bytes now.b.bytes).seen) → Fits tells (world kept now sink)
-    again_fits r is = subst (λ (x : Kept). Fits tells (world x now sink)) (sym kept_is) (opened_fits tells k in_a generation start blocks old.a.bytes old.b.bytes now sink opened r is)
+    again_fits r is = subst (λ (x : CommitterState). Fits tells (world x now sink)) (sym kept_is) (opened_fits tells k in_a generation start blocks old.a.bytes old.b.bytes now sink opened r is)
 
     pub begins_room : HasRoom kept
     begins_room = subst HasRoom (sym kept_is) (opened_room k in_a generation start blocks now opened)
 
     pub begins_none : kept.dues ≡ []
-    begins_none = ap (λ (x : Kept). x.dues) kept_is
+    begins_none = ap (λ (x : CommitterState). x.dues) kept_is
 
     pub ran_again : (limits : k.book.limits ≡ real_limits) (r : IsTrue tells → IsReopened in_a k start blocks old.a.bytes old.b.bytes now.a.bytes now.b.bytes) (a : now.a.faults ≡ old.a.faults) (b : now.b.faults ≡ old.b.faults)
         (ending : LedgerEnding) (last : Handed) → Runs scheme tells (world kept now sink) ending (handed source sink now n) last → IsOfLines ending → RunsAgain scheme tells ending (handed source sink old n) last
     ran_again limits r a b ending last ran started = record {
       serves = λ t h p l q.
           inl (serves_from scheme h ending source sink n now old last
-          (ran.serves h (subst (λ (x : Kept). Holds tells (world x now sink) h) (sym kept_is) (opened_held tells k in_a generation start blocks old.a.bytes old.b.bytes now sink h opened limits t (r t) p)) (none_waits old.a.bytes.seen old.b.bytes.seen h p) l));
+          (ran.serves h (subst (λ (x : CommitterState). Holds tells (world x now sink) h) (sym kept_is) (opened_held tells k in_a generation start blocks old.a.bytes old.b.bytes now sink h opened limits t (r t) p)) (none_waits old.a.bytes.seen old.b.bytes.seen h p) l));
       unstarted = λ some. absurd (no_refusal ending started some);
       refused = λ t. of_lines ending _ started;
       exact = λ t e cause not. absurd (not (reopened_only k in_a start blocks old.a.bytes old.b.bytes now.a.bytes now.b.bytes e (r t) cause));
@@ -327,24 +327,24 @@ module _ (genesis : Genesis) (tells : Bool) (source : SourceState) (sink : SinkS
     made_failed later (WriteFault taken) piece is first one = made_cut later (take taken piece) (first_short (ledger_line genesis) piece taken is first.0) first.1 one
 
     -- .. and a committer begins with it
-    module _ (k : Known) (keys : HasKeys genesis) (opened : IsOpened k true now None (new_ledger genesis).closed) (in_a : Bool) (first : in_a ≡ true) (generation : ℕ) (one : generation ≡ 1) (kept : Kept) (kept_is : kept ≡ kept_from k in_a generation) where
+    module _ (k : Known) (keys : HasKeys genesis) (opened : IsOpened k true now None (new_ledger genesis).closed) (in_a : Bool) (first : in_a ≡ true) (generation : ℕ) (one : generation ≡ 1) (kept : CommitterState) (kept_is : kept ≡ kept_from k in_a generation) where
       here : kept ≡ kept_from k true 1
       here = kept_is ∙ ap (λ v. kept_from k v generation) first ∙ ap (kept_from k true) one
 
       pub new_fits : Fits tells (world kept now sink)
-      new_fits = subst (λ (x : Kept). Fits tells (world x now sink)) (sym here) (founded_fits tells k genesis now sink keys opened founded)
+      new_fits = subst (λ (x : CommitterState). Fits tells (world x now sink)) (sym here) (founded_fits tells k genesis now sink keys opened founded)
 
       pub new_room : HasRoom kept
       new_room = subst HasRoom (sym here) (opened_room k true 1 None (new_ledger genesis).closed now opened)
 
       pub new_none : kept.dues ≡ []
-      new_none = ap (λ (x : Kept). x.dues) here
+      new_none = ap (λ (x : CommitterState). x.dues) here
 
       pub ran_new : (scheme : Scheme) (limits : k.book.limits ≡ real_limits) (ending : LedgerEnding) (last : Handed) → Runs scheme tells (world kept now sink) ending (handed source sink now n) last → IsOfLines ending → RunsNew scheme genesis tells ending (handed source sink old n) last
       ran_new scheme limits ending last ran started = record {
         serves = λ t none l.
             inl (serves_from scheme (new_ledger genesis) ending source sink n now old last
-            (ran.serves (new_ledger genesis) (subst (λ (x : Kept). Holds tells (world x now sink) (new_ledger genesis)) (sym here) (founded_held tells k genesis now sink keys opened limits t (founded t))) refl l));
+            (ran.serves (new_ledger genesis) (subst (λ (x : CommitterState). Holds tells (world x now sink) (new_ledger genesis)) (sym here) (founded_held tells k genesis now sink keys opened limits t (founded t))) refl l));
         unstarted = λ some. absurd (no_refusal ending started some);
         left = λ t o. never t o;
         faults = faults_from source sink n now old last a b ending ran.faults;

@@ -3,7 +3,7 @@ use Rattle.std.specs.Prelude.{◌||◌}
 use Rattle.std.specs.Option.{option_map}
 use Rattle.std.proofs.Common.{◌≡◌, ℕ, ◌+◌, ◌≤◌, ◌⊎◌, Bool, true, cond, List, [], ◌∷◌, ◌++◌, length, drop, map, Option, None, Some, inl, inr, refl, ap, sym, subst, ◌∙◌, arith, append_assoc, append-nil, length-append}
 use Rattle.std.proofs.lemmas.List.{map-append}
-use Rattle.batch_committer.specs.Attending.{step_in, Attended, FailsAtMostOnce, Takes, EndsAt, EndsUnasked, EndsTaking}
+use Rattle.batch_committer.specs.Attending.{step_in, Attended, FailsAtMostOnce, TakesJob, EndsAt, EndsUnasked, EndsTaking}
 use Rattle.batch_committer.specs.World.{Keeps, Holds, HasRoom, Goes, Ended}
 use Rattle.batch_committer.specs.declared.end.End.{End}
 use Rattle.batch_committer.specs.declared.end.End.TheVariants as end
@@ -103,11 +103,11 @@ module _ (scheme : Scheme) (key : List ℕ) (tells : Bool) where
   notary_is n m failed lane index line g job a = λ i. record { entries = m.entries; faults = sym a.count i }
 
   item_goes : (s t : At) (x : Said) (item : Prepared) → IsItemOf scheme key x item
-      → ((failed : Bool) × ((line : List ℕ) → Takes tells (world_at s) (world_at t) s.notary t.notary (step_in s.notary t.notary failed item.lane item.index line) item.job))
+      → ((failed : Bool) × ((line : List ℕ) → TakesJob tells (world_at s) (world_at t) s.notary t.notary (step_in s.notary t.notary failed item.lane item.index line) item.job))
       → ItemGoes s t x
   item_goes s t x item is g =
       let step = step_in s.notary t.notary g.0 x.lane x.index x.line in
-      let takes = subst (λ (y : ℕ × ℕ × Job). Takes tells (world_at s) (world_at t) s.notary t.notary (step_in s.notary t.notary g.0 y.0 y.1 x.line) y.2)
+      let takes = subst (λ (y : ℕ × ℕ × Job). TakesJob tells (world_at s) (world_at t) s.notary t.notary (step_in s.notary t.notary g.0 y.0 y.1 x.line) y.2)
       (λ i. (is.0 i, is.1 i, is.2 i)) (g.1 x.line) in record {
         step = step;
         said = refl;

@@ -17,7 +17,7 @@ use Rattle.lane_work.specs.Making.{lines_of}
 use Rattle.lane_work.specs.Orders.{numbered, IsOrderOf}
 use Rattle.lane_work.specs.declared.kinds.LaneLine.{LaneLine}
 use Rattle.ledger_io.specs.Outside.{SourceState}
-use Rattle.ledger_io.specs.Reading.{Reading, Reads, GivesLine, GivesNone, Gives, faults_next}
+use Rattle.ledger_io.specs.Reading.{Reading, ReadsBytes, GivesLine, GivesNone, Gives, faults_next}
 use Rattle.ledger_io.specs.Runs.{EndsReading, SomeAnswer, ending_after}
 use Rattle.ledger_io.specs.declared.ending.Ending.TheVariants as run
 use Rattle.ledger_io.specs.declared.failure.LineErr.{LineErr}
@@ -394,7 +394,7 @@ module _ (scheme : Scheme) (tells : Bool) (first_w w : World) (first_n n : Notar
       let e = i.few in let f = i.total in let g = i.bounded in
       (omega (arith, a, b, c, e, f, g), omega (arith, a, b, c, e, f, g))
 
-  module _ (after_read : SourceState) (new : Reading) (bytes : List ℕ) (r : Reads now after_read reading new bytes) where
+  module _ (after_read : SourceState) (new : Reading) (bytes : List ℕ) (r : ReadsBytes now after_read reading new bytes) where
     abbrev read : List ℕ
     read = s.input.read ++ bytes
 

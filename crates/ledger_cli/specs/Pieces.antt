@@ -7,7 +7,7 @@ use Rattle.lane_work.specs.declared.kinds.LaneLine.{LaneLine}
 use Rattle.lane_work.specs.declared.taker.Flow.{Flow}
 use Rattle.lane_work.specs.declared.taker.Flow.TheVariants.{GoOn, Stop}
 use Rattle.ledger_book.specs.declared.prepared.Prepared.{Prepared}
-use Rattle.batch_committer.specs.Attending.{step_in, FailsAtMostOnce, Takes, EndsTaking}
+use Rattle.batch_committer.specs.Attending.{step_in, FailsAtMostOnce, TakesJob, EndsTaking}
 use Rattle.ledger_io.specs.Outside.{SinkState}
 use Rattle.ledger_model.specs.Dues.{dues}
 use Rattle.ledger_model.specs.History.{History, id, close}
@@ -98,7 +98,7 @@ told names end at = record { names = names; end = end; at = at }
 abbrev pub Answered : Bool → Told → Prepared → Flow → Told → Type 0
 Answered tells s item GoOn t =
     (t.names ≡ s.names) × (t.end ≡ s.end) × IsOpen tells t.at × FailsAtMostOnce s.at.notary t.at.notary
-    × ((failed : Bool) × ((line : List ℕ) → Takes tells (world_at s.at) (world_at t.at) s.at.notary t.at.notary (step_in s.at.notary t.at.notary failed item.lane item.index line) item.job))
+    × ((failed : Bool) × ((line : List ℕ) → TakesJob tells (world_at s.at) (world_at t.at) s.at.notary t.at.notary (step_in s.at.notary t.at.notary failed item.lane item.index line) item.job))
 Answered tells s item Stop t =
     (t.names ≡ s.names) × FailsAtMostOnce s.at.notary t.at.notary
     × ((end : End) × (t.end ≡ Some end)

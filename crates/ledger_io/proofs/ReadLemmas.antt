@@ -7,13 +7,13 @@ use Rattle.std.specs.Io.KnownBytes.{IsAtEnd}
 use Rattle.std.proofs.KnownBytes.{Consumes-trans}
 use Rattle.ledger_io.specs.Outside.{SourceState}
 use Rattle.ledger_io.specs.Lines.{script_limit, IsUnbroken, IsLine, BreaksAt}
-use Rattle.ledger_io.specs.Reading.{Reading, Reads, Gives}
-use Rattle.ledger_io.specs.Steps.{reading_after, HasRead, Fetched, TakesLine, TakesRest, IsSound}
+use Rattle.ledger_io.specs.Reading.{Reading, ReadsBytes, Gives}
+use Rattle.ledger_io.specs.Steps.{reading_after, HasRead, Fetched, TakesLine, TakesRest, IsSoundReader}
 use Rattle.ledger_io.specs.declared.failure.LineErr.{LineErr}
 use Rattle.ledger_io.specs.declared.failure.LineErr.TheVariants.{ReadFault, LineTooLong, ScriptTooLong, NoMemory}
 
 -- all held bytes were searched
-pub IsSound-all : (held : List ℕ) (looked n total : ℕ) (ended : Bool) → IsSound held looked total ended → n ≡ length held → IsUnbroken held → IsSound held n total ended
+pub IsSound-all : (held : List ℕ) (looked n total : ℕ) (ended : Bool) → IsSoundReader held looked total ended → n ≡ length held → IsUnbroken held → IsSoundReader held n total ended
 IsSound-all held looked n total ended s e h = record {
   within = omega arith;
   unbroken = All-same (λ b. b ≢ 10) (take n held) held (take_all n held (omega arith)) h;
@@ -23,7 +23,7 @@ IsSound-all held looked n total ended s e h = record {
 }
 
 -- the bytes before the first newline were searched
-pub IsSound-before : (held : List ℕ) (looked n total : ℕ) (ended : Bool) → IsSound held looked total ended → BreaksAt held n → IsSound held n total ended
+pub IsSound-before : (held : List ℕ) (looked n total : ℕ) (ended : Bool) → IsSoundReader held looked total ended → BreaksAt held n → IsSoundReader held n total ended
 IsSound-before held looked n total ended s b = record {
   within = let inside = b.within in omega arith;
   unbroken = b.unbroken;
@@ -33,8 +33,8 @@ IsSound-before held looked n total ended s b = record {
 }
 
 -- bytes came behind those that are held
-pub IsSound-more : (held now bytes : List ℕ) (looked total more : ℕ) (ended : Bool) → IsSound held looked total ended → ended ≡ false → now ≡ held ++ bytes
-    → total + more ≤ script_limit → IsSound now looked (total + more) ended
+pub IsSound-more : (held now bytes : List ℕ) (looked total more : ℕ) (ended : Bool) → IsSoundReader held looked total ended → ended ≡ false → now ≡ held ++ bytes
+    → total + more ≤ script_limit → IsSoundReader now looked (total + more) ended
 IsSound-more held now bytes looked total more ended s unended e few = record {
   within = let w = s.within in let l = ap length e ∙ length-append held bytes in omega arith;
   unbroken = All-same (λ b. b ≢ 10) (take looked now) (take looked held) (ap (take looked) e ∙ take-append-le looked held bytes s.within) s.unbroken;
@@ -57,7 +57,7 @@ HasRead-trans a b c old mid new xs ys p q = record {
 -- what is answered at the end of the source
 rest_given : (a c : SourceState) (old last new : Reading) (bytes : List ℕ) (answer : Result (Option (List ℕ)) LineErr) → old.ended ≡ false → old.failed ≡ None
     → HasRead a c old last bytes → IsAtEnd c.left → IsLine last.held → last.total < script_limit → TakesRest last new answer
-    → (x : List ℕ) × Reads a c old new x × Gives a c old (reading_after new answer) x answer
+    → (x : List ℕ) × ReadsBytes a c old new x × Gives a c old (reading_after new answer) x answer
 rest_given a c old last new bytes (Ok (Some line)) unended sound h end fits short t = (
   bytes,
   record { consumed = h.consumed; total = ap (λ (r : Reading). r.total) t.2 ∙ h.total; bounded = let e = ap (λ (r : Reading). r.total) t.2 in omega arith },
@@ -109,7 +109,7 @@ rest_given a c old last new bytes (Err NoMemory) unended sound h end fits short 
 pub end_given : (a b c : SourceState) (old mid same last new : Reading) (bytes ys : List ℕ) (most n : ℕ) (answer : Result (Option (List ℕ)) LineErr)
     → old.ended ≡ false → old.failed ≡ None → HasRead a b old mid bytes → TakesLine mid same (Ok None) → same.total ≢ script_limit
     → HasRead b c same last ys → 0 < most → Fetched b c most ys (Ok n) → n ≡ 0 → TakesRest last new answer
-    → (x : List ℕ) × Reads a c old new x × Gives a c old (reading_after new answer) x answer
+    → (x : List ℕ) × ReadsBytes a c old new x × Gives a c old (reading_after new answer) x answer
 end_given a b c old mid same last new bytes ys most n answer unended sound h kept few more some fetched zero t =
     let none : ys ≡ [] = nil_from_length ys (sym fetched.0 ∙ zero) in
     let held : last.held ≡ mid.held = more.held ∙ ap (λ l. same.held ++ l) none ∙ append-nil same.held ∙ ap (λ (r : Reading). r.held) kept.1 in

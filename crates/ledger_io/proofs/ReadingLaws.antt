@@ -6,7 +6,7 @@ use Rattle.std.proofs.KnownBytes.{Consumes-nil, Consumes-trans}
 use Rattle.std.proofs.lemmas.List.Elements.{All-weaker, All-push, All-nil}
 use Rattle.ledger_io.specs.Outside.{SourceState}
 use Rattle.ledger_io.specs.Lines.{lines_of, text_of_lines, IsUnbroken, IsLine, Splits, script_limit}
-use Rattle.ledger_io.specs.Reading.{Reading, Reads, GivesLine, GivesNone, IsBrokenOff, IsLast, Fails}
+use Rattle.ledger_io.specs.Reading.{Reading, ReadsBytes, GivesLine, GivesNone, IsBrokenOff, IsLast, Fails}
 use Rattle.ledger_io.specs.declared.failure.LineErr.{LineErr}
 use Rattle.ledger_io.proofs.LineLemmas.{lines_of-broken, lines_of-rest, broken-push}
 
@@ -58,7 +58,7 @@ pub read_on : (before now : SourceState) (reading : Reading) (lines : List (List
 read_on before now reading lines bytes h e = ap (λ x. x ++ bytes) (h.unended e) ∙ append_assoc (text_of_lines lines) reading.held bytes
 
 -- a line more that a newline ended
-read_broken : (before mid after : SourceState) (old new : Reading) (bytes line : List ℕ) (lines : List (List ℕ)) → HasGiven before mid old lines → Reads mid after old new bytes → after.faults ≡ mid.faults → GivesLine after old new bytes line → IsBrokenOff old new bytes line → HasGiven before after new (lines ++ line ∷ [])
+read_broken : (before mid after : SourceState) (old new : Reading) (bytes line : List ℕ) (lines : List (List ℕ)) → HasGiven before mid old lines → ReadsBytes mid after old new bytes → after.faults ≡ mid.faults → GivesLine after old new bytes line → IsBrokenOff old new bytes line → HasGiven before after new (lines ++ line ∷ [])
 read_broken before mid after old new bytes line lines h r k g b = record {
   read = h.read ++ bytes;
   consumed = Consumes-trans before.left mid.left after.left h.read bytes h.consumed r.consumed;
@@ -79,7 +79,7 @@ some_length [] none = absurd (none refl)
 some_length (x ∷ xs) some = omega arith
 
 -- a line more that the end of the source ended
-read_last : (before mid after : SourceState) (old new : Reading) (bytes line : List ℕ) (lines : List (List ℕ)) → HasGiven before mid old lines → Reads mid after old new bytes → after.faults ≡ mid.faults → GivesLine after old new bytes line → IsLast after old new bytes line → HasGiven before after new (lines ++ line ∷ [])
+read_last : (before mid after : SourceState) (old new : Reading) (bytes line : List ℕ) (lines : List (List ℕ)) → HasGiven before mid old lines → ReadsBytes mid after old new bytes → after.faults ≡ mid.faults → GivesLine after old new bytes line → IsLast after old new bytes line → HasGiven before after new (lines ++ line ∷ [])
 read_last before mid after old new bytes line lines h r k g b =
     let some : 0 < length line = some_length line b.some in
     let held : length new.held ≡ 0 = ap length b.none_held in record {
@@ -98,7 +98,7 @@ read_last before mid after old new bytes line lines h r k g b =
     }
 
 -- a line more
-pub read_more : (before mid after : SourceState) (old new : Reading) (bytes line : List ℕ) (lines : List (List ℕ)) → HasGiven before mid old lines → Reads mid after old new bytes → after.faults ≡ mid.faults → GivesLine after old new bytes line → HasGiven before after new (lines ++ line ∷ [])
+pub read_more : (before mid after : SourceState) (old new : Reading) (bytes line : List ℕ) (lines : List (List ℕ)) → HasGiven before mid old lines → ReadsBytes mid after old new bytes → after.faults ≡ mid.faults → GivesLine after old new bytes line → HasGiven before after new (lines ++ line ∷ [])
 read_more before mid after old new bytes line lines h r k g =
     elim g.rest [
       | inl b ↦ read_broken before mid after old new bytes line lines h r k g b
@@ -106,7 +106,7 @@ read_more before mid after old new bytes line lines h r k g =
     ]
 
 -- a line brings the end nearer: less may be read yet, or less is held
-pub line_smaller : (mid after : SourceState) (old new : Reading) (bytes line : List ℕ) → Reads mid after old new bytes → GivesLine after old new bytes line → 2 * (script_limit - new.total) + length new.held < 2 * (script_limit - old.total) + length old.held
+pub line_smaller : (mid after : SourceState) (old new : Reading) (bytes line : List ℕ) → ReadsBytes mid after old new bytes → GivesLine after old new bytes line → 2 * (script_limit - new.total) + length new.held < 2 * (script_limit - old.total) + length old.held
 line_smaller mid after old new bytes line r g =
     elim g.rest [
       | inl b ↦ omega (arith, r.total, r.bounded, length-append old.held bytes, length-append line (10 ∷ new.held), ap length b.given)
@@ -117,7 +117,7 @@ line_smaller mid after old new bytes line r g =
     last_smaller b none some = omega (arith, r.total, r.bounded, none, some, length-append old.held bytes, ap length b.given)
 
 -- a line takes at least one byte of what was held and read
-pub line_counted : (mid after : SourceState) (old new : Reading) (bytes line : List ℕ) → Reads mid after old new bytes → GivesLine after old new bytes line → length new.held + 1 ≤ length old.held + length bytes
+pub line_counted : (mid after : SourceState) (old new : Reading) (bytes line : List ℕ) → ReadsBytes mid after old new bytes → GivesLine after old new bytes line → length new.held + 1 ≤ length old.held + length bytes
 line_counted mid after old new bytes line r g =
     elim g.rest [
       | inl b ↦ omega (arith, length-append old.held bytes, length-append line (10 ∷ new.held), ap length b.given)
@@ -128,7 +128,7 @@ line_counted mid after old new bytes line r g =
     last_counted b none some = omega (arith, none, some, length-append old.held bytes, ap length b.given)
 
 -- a call of `next` behind the lines that were given
-module _ (before mid after : SourceState) (old new : Reading) (bytes : List ℕ) (lines : List (List ℕ)) (h : HasGiven before mid old lines) (r : Reads mid after old new bytes) where
+module _ (before mid after : SourceState) (old new : Reading) (bytes : List ℕ) (lines : List (List ℕ)) (h : HasGiven before mid old lines) (r : ReadsBytes mid after old new bytes) where
   pub given_consumed : Consumes before.left after.left (h.read ++ bytes)
   given_consumed = Consumes-trans before.left mid.left after.left h.read bytes h.consumed r.consumed
 

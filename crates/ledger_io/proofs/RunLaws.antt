@@ -7,7 +7,7 @@ use Rattle.ledger_bytes.specs.Begins.{Begins}
 use Rattle.ledger_io.specs.Lines.{lines_of, script_limit, IsLine, BeginsTooLong}
 use Rattle.ledger_bytes.specs.Causes.{count_after}
 use Rattle.ledger_io.specs.Outside.{SourceState, SinkState, Outside, outside, MeetsNone}
-use Rattle.ledger_io.specs.Reading.{Reading, Reads, GivesNone, Fails, faults_next}
+use Rattle.ledger_io.specs.Reading.{Reading, ReadsBytes, GivesNone, Fails, faults_next}
 use Rattle.ledger_io.specs.Runs.{EndsBehind, EndsReading, ending_after, SomeAnswer, SomeOfScript, AreWhole, Served}
 use Rattle.std.specs.Prelude.{IfErr}
 use Rattle.std.specs.Result.{IsErrAnd}
@@ -26,7 +26,7 @@ whole_append front back whole more =
       | inr last ↦ inr (front ++ last.0, ap (λ x. front ++ x) last.1 ∙ sym (append_assoc front last.0 (10 ∷ [])))
     ]
 
-module _ (before mid after : SourceState) (old new : Reading) (bytes : List ℕ) (lines : List (List ℕ)) (h : HasGiven before mid old lines) (r : Reads mid after old new bytes) where
+module _ (before mid after : SourceState) (old new : Reading) (bytes : List ℕ) (lines : List (List ℕ)) (h : HasGiven before mid old lines) (r : ReadsBytes mid after old new bytes) where
   -- at the end of the source all lines are answered
   pub ended_whole : after.faults ≡ mid.faults → GivesNone mid after old new bytes → EndsReading None before after (h.read ++ bytes) lines
   ended_whole k g =

@@ -15,7 +15,7 @@ pub record Reading : Type 0 where
   pub failed : Option LineErr
 
 -- what a call reads, whatever it answers
-pub record Reads (before after : SourceState) (old new : Reading) (bytes : List ℕ) : Type 0 where
+pub record ReadsBytes (before after : SourceState) (old new : Reading) (bytes : List ℕ) : Type 0 where
   pub consumed : Consumes before.left after.left bytes
   pub total : new.total ≡ old.total + length bytes
   pub bounded : new.total ≤ script_limit

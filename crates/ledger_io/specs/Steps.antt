@@ -14,7 +14,7 @@ reading_after reader (Ok line) = reader
 reading_after reader (Err error) = record reader { failed = Some error }
 
 -- what a reader keeps to: `looked` of the held bytes were searched for a newline, with none found
-pub record IsSound (held : List ℕ) (looked total : ℕ) (ended : Bool) : Type 0 where
+pub record IsSoundReader (held : List ℕ) (looked total : ℕ) (ended : Bool) : Type 0 where
   pub within : looked ≤ length held
   pub unbroken : IsUnbroken (take looked held)
   pub bounded : total ≤ script_limit

@@ -1,6 +1,6 @@
 ghost use Rattle.std.specs.Prelude.{◌≡◌, ◌≢◌, ℕ, ◌<◌, ◌≤◌, List, [], false, None, length, IsTrue, ◌↔◌, MatchOption};
 ghost use Rattle.ledger_io.specs.Lines.{line_limit, script_limit, IsUnbroken, IsLine, BreaksAt, HoldsLine};
-ghost use Rattle.ledger_io.specs.Reading.{Reads, Gives, faults_next};
+ghost use Rattle.ledger_io.specs.Reading.{ReadsBytes, Gives, faults_next};
 ghost use Rattle.ledger_io.specs.Steps.{reading_after, HasRead, Fetched, TakesLine, TakesRest};
 
 use crate::buffer::Buffer;
@@ -37,7 +37,7 @@ pub struct Lines {
 
 impl Model for Lines {
     ghost use Rattle.ledger_io.specs.Reading.{Reading};
-    ghost use Rattle.ledger_io.specs.Steps.{IsSound};
+    ghost use Rattle.ledger_io.specs.Steps.{IsSoundReader};
 
     ghost Value = { Reading };
 
@@ -48,7 +48,7 @@ impl Model for Lines {
       failed = l.failed;
     } };
 
-    ghost invariant = { λ l. IsSound l.buffer l.looked l.total l.ended };
+    ghost invariant = { λ l. IsSoundReader l.buffer l.looked l.total l.ended };
 }
 
 impl Lines {
@@ -78,7 +78,7 @@ impl Lines {
     /// call answers the same. Lines that a newline ended before a fault come before the error.
     pub fn next<S: Source>(&mut self, source: &mut S) -> Result<Option<Bytes>, LineErr>
         ensures gives { (bytes : List ℕ)
-            × Reads (S.state source.old) (S.state source.new) self.old self.new bytes
+            × ReadsBytes (S.state source.old) (S.state source.new) self.old self.new bytes
             × Gives (S.state source.old) (S.state source.new) self.old self.new bytes result }
         // The source failed once where that is answered for the first time, and else not at all.
         ensures counts { (S.state source.new).faults
@@ -112,7 +112,7 @@ impl Lines {
         requires sound { self.old.failed ≡ None }
         requires bounded { self.old.total ≤ script_limit }
         ensures gives { (bytes : List ℕ)
-            × Reads (S.state source.old) (S.state source.new) self.old self.new bytes
+            × ReadsBytes (S.state source.old) (S.state source.new) self.old self.new bytes
             × Gives (S.state source.old) (S.state source.new) self.old
             (reading_after self.new result) bytes result }
         ensures counts { (S.state source.new).faults

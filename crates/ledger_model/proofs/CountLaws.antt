@@ -2,7 +2,7 @@
 use Rattle.std.specs.Prelude.{⊤, filter}
 use Rattle.std.proofs.Common.{ℕ, ◌+◌, ◌^◌, ◌<◌, ◌≤◌, ◌==◌, Bool, true, false, cond, List, [], ◌∷◌, ◌++◌, length, map, arith, length-append}
 use Rattle.script_lines.specs.Grammar.{spoken_line}
-use Rattle.script_lines.specs.Receipts.{Fits}
+use Rattle.script_lines.specs.Receipts.{FitsWord}
 use Rattle.ledger_model.specs.Anchors.{stamp_of}
 use Rattle.ledger_model.specs.Dues.{IsCounted, AllCounted, EachCounted}
 use Rattle.ledger_model.specs.InOrder.{step_of, steps_of}
@@ -11,7 +11,7 @@ use Rattle.ledger_model.specs.Windows.{Said, said_after, said_lines, fills_windo
 use Rattle.ledger_model.proofs.LineLaws.{spoken-low}
 
 abbrev SaidFits : Said → Type 0
-SaidFits x = Fits x.lane × Fits x.index
+SaidFits x = FitsWord x.lane × FitsWord x.index
 
 abbrev AllSaid : List Said → Type 0
 AllSaid [] = ⊤

@@ -22,7 +22,7 @@ use Rattle.journal_record.specs.declared.member.Member.{Member}
 use Rattle.member_book.specs.Approvals.{neighbours, order_refusal, unknown_refusal, shows_key, key_refusal, approves, approvals_refusal}
 use Rattle.std.specs.Option.{option_or}
 use Rattle.script_lines.specs.Grammar.{spoken_line}
-use Rattle.script_lines.specs.Receipts.{Told, Fits, AllFits, StampFits, RefusalFits, ReplyFits, AllFit}
+use Rattle.script_lines.specs.Receipts.{Told, FitsWord, AllFits, StampFits, RefusalFits, ReplyFits, AllFit}
 use Rattle.script_lines.specs.declared.line.Line.{Line}
 use Rattle.script_lines.specs.declared.line.Line.TheVariants as line
 use Rattle.script_lines.specs.Limits.{fits_what, fits_approvals}
@@ -128,7 +128,7 @@ kept_fit : (h : History) (clue : Digest) → IsLawful h → AllFits (kept_with h
 unfolding jsns_with
 kept_fit h clue l = between_fit (size h) (λ jsn. nat_le (point h) jsn) (numbers_of clue (journals h)) (size_few h l) (numbers_between (size h) 0 clue (journals h) (lawful_from (journals h) l.journals_are) (omega arith))
 
-count_fits : (h : History) (clue : Digest) → IsLawful h → Fits (length (jsns_with h clue))
+count_fits : (h : History) (clue : Digest) → IsLawful h → FitsWord (length (jsns_with h clue))
 unfolding jsns_with
 count_fits h clue l = omega (arith, numbers_few clue (journals h), size_few h l)
 
@@ -157,10 +157,10 @@ unfolding hard_fullness
 hard_fits h l =
     elim (is_full real_limits.hard real_limits h) as (λ v. MayFit (cond v (Some (refusals.Full (kept_count h) (size h))) None)) [ true ↦ (omega (arith, size_few h l), omega (arith, size_few h l)) | false ↦ tt ]
 
-unknown_fits : (known : List (List ℕ)) (member : ℕ) → Fits member → MayFit (unknown_in known member)
+unknown_fits : (known : List (List ℕ)) (member : ℕ) → FitsWord member → MayFit (unknown_in known member)
 unknown_fits known member f = elim (is_known known member) as (λ v. MayFit (cond v None (Some (refusals.UnknownMember member)))) [ true ↦ tt | false ↦ f ]
 
-wrong_fits : (known : List (List ℕ)) (member : ℕ) (shown : Option Digest) → Fits member → MayFit (wrong_key_in known member shown)
+wrong_fits : (known : List (List ℕ)) (member : ℕ) (shown : Option Digest) → FitsWord member → MayFit (wrong_key_in known member shown)
 wrong_fits known member shown f =
     elim (is_key_of shown (slice_get known member)) as (λ v. MayFit (cond v None (Some (refusals.WrongKey member)))) [ true ↦ tt | false ↦ f ]
 
@@ -169,7 +169,7 @@ unfolding clues_full
 clues_fit h clue =
     elim (not (is_no_clue clue) && length (jsns_with h clue) == 0 && nat_le real_limits.clues (clue_count h)) as (λ v. MayFit (cond v (Some refusals.CluesFull) None)) [ true ↦ tt | false ↦ tt ]
 
-number_fits : (ms : List Member) (number : ℕ) → Fits (length ms) → MayFit (number_refusal ms number)
+number_fits : (ms : List Member) (number : ℕ) → FitsWord (length ms) → MayFit (number_refusal ms number)
 number_fits ms number f =
     elim (nat_le MEMBER_LIMIT (length ms)) as (λ v. MayFit (cond v (Some refusals.MembersFull) (cond (number == length ms) None (Some (refusals.MemberNumber (length ms)))))) [
       | true ↦ tt
@@ -198,13 +198,13 @@ either_fits : (a b : Option Refusal) → MayFit a → MayFit b → MayFit (optio
 either_fits (Some x) b f g = f
 either_fits None b f g = g
 
-absent_fits : (size n : ℕ) → Fits size → MayFit (absent size n)
+absent_fits : (size n : ℕ) → FitsWord size → MayFit (absent size n)
 absent_fits size n f = elim (nat_le size n) as (λ v. MayFit (cond v (Some (refusals.NoJournal size)) None)) [ true ↦ f | false ↦ tt ]
 
-purged_fits : (p n : ℕ) → Fits p → MayFit (purged p n)
+purged_fits : (p n : ℕ) → FitsWord p → MayFit (purged p n)
 purged_fits p n f = elim (nat_lt n p) as (λ v. MayFit (cond v (Some (refusals.Purged p)) None)) [ true ↦ f | false ↦ tt ]
 
-code_fits : (k : Kind) → Fits (code_of k)
+code_fits : (k : Kind) → FitsWord (code_of k)
 code_fits kind.Genesis = omega arith
 code_fits kind.Content = omega arith
 code_fits kind.Member = omega arith
@@ -234,9 +234,9 @@ hider_fits h n l = by_target (slice_get (journals h) n) where
 -- the members of approvals
 abbrev pub MembersFit : List Approval → Type 0
 MembersFit [] = ⊤
-MembersFit (g ∷ gs) = Fits g.member × MembersFit gs
+MembersFit (g ∷ gs) = FitsWord g.member × MembersFit gs
 
-member_found : (said : ℕ → Refusal) (fit : (m : ℕ) → Fits m → RefusalFits (said m)) (p : Approval → Bool) (given : List Approval) → MembersFit given → MayFit (option_map (λ (g : Approval). said g.member) (find p given))
+member_found : (said : ℕ → Refusal) (fit : (m : ℕ) → FitsWord m → RefusalFits (said m)) (p : Approval → Bool) (given : List Approval) → MembersFit given → MayFit (option_map (λ (g : Approval). said g.member) (find p given))
 member_found said fit p [] f = tt
 member_found said fit p (g ∷ gs) f = elim (p g) as (λ v. MayFit (option_map (λ (x : Approval). said x.member) (cond v (Some g) (find p gs)))) [ true ↦ fit g.member f.0 | false ↦ member_found said fit p gs f.1 ]
 
@@ -249,7 +249,7 @@ order_fits given few =
     ] refl
 
 -- the least of some numbers
-least_fits : (start : ℕ) (ns : List ℕ) → Fits start → Fits (fold min start ns)
+least_fits : (start : ℕ) (ns : List ℕ) → FitsWord start → FitsWord (fold min start ns)
 least_fits start [] f = f
 least_fits start (n ∷ ns) f = least_fits (min start n) ns (omega (arith, f))
 
@@ -275,7 +275,7 @@ unfolding life_fullness
 life_fits h l =
     elim (nat_le real_limits.size (size h)) as (λ v. MayFit (cond v (Some (refusals.Full (kept_count h) (size h))) None)) [ true ↦ (omega (arith, size_few h l), omega (arith, size_few h l)) | false ↦ tt ]
 
-purged_up_fits : (p n : ℕ) → Fits p → MayFit (purged_up_to p n)
+purged_up_fits : (p n : ℕ) → FitsWord p → MayFit (purged_up_to p n)
 purged_up_fits p n f = elim (nat_lt 0 p && nat_le n p) as (λ v. MayFit (cond v (Some (refusals.Purged p)) None)) [ true ↦ f | false ↦ tt ]
 
 no_time_fits : (k : Kind) → MayFit (no_time k)
@@ -284,7 +284,7 @@ no_time_fits k = elim (is_time k) as (λ v. MayFit (cond v None (Some (refusals.
 other_root_fits : (kept told : Digest) → MayFit (other_root kept told)
 other_root_fits kept told = elim (bytes_eq told.0 kept.0) as (λ v. MayFit (cond v None (Some (refusals.RootDiffers kept)))) [ true ↦ tt | false ↦ tt ]
 
-member_small : (k : Kind) (member : ℕ) → IsTrue (member_ok k member) → Fits member
+member_small : (k : Kind) (member : ℕ) → IsTrue (member_ok k member) → FitsWord member
 member_small kind.Content member ok = omega (arith, ltb-true member MEMBER_LIMIT ok)
 member_small kind.Genesis member ok = omega (arith, eqb-true member 0 ok)
 member_small kind.Member member ok = omega (arith, eqb-true member 0 ok)
@@ -304,7 +304,7 @@ needs_fit h p l = (omega arith, owners_fit 0 (point h) p (journals h) (lawful_fr
 -- the numbers of a job that a refusal may tell
 abbrev pub JobFits : Job → Type 0
 JobFits (Refused refusal) = RefusalFits refusal
-JobFits (Append member clue content content_digest request by) = Fits member
+JobFits (Append member clue content content_digest request by) = FitsWord member
 JobFits (NewMember number key by) = ⊤
 JobFits Anchor = ⊤
 JobFits (Occult target leaf given) = (length given ≤ APPROVAL_LIMIT) × MembersFit given
@@ -355,11 +355,11 @@ own_fits h (Extend Notary m) l f = tt
 own_fits h (Clue clue) l f = tt
 own_fits h Head l f = tt
 
-said_fit : (scheme : Scheme) (message : List ℕ) (gs : List SaidApproval) → All (λ by. Fits by.member) gs → MembersFit (map (λ (by : SaidApproval). approval_of scheme by.member message by.proof) gs)
+said_fit : (scheme : Scheme) (message : List ℕ) (gs : List SaidApproval) → All (λ by. FitsWord by.member) gs → MembersFit (map (λ (by : SaidApproval). approval_of scheme by.member message by.proof) gs)
 said_fit scheme message [] all = tt
 said_fit scheme message (g ∷ gs) all = (all 0 g (omega arith), said_fit scheme message gs (λ k d lt. all (suc k) d (omega (arith, lt))))
 
-given_fit : (scheme : Scheme) (message : List ℕ) (given : List SaidApproval) → fits_approvals given ≡ true → All (λ by. Fits by.member) given
+given_fit : (scheme : Scheme) (message : List ℕ) (given : List SaidApproval) → fits_approvals given ≡ true → All (λ by. FitsWord by.member) given
     → (length (map (λ (by : SaidApproval). approval_of scheme by.member message by.proof) given) ≤ APPROVAL_LIMIT) × MembersFit (map (λ (by : SaidApproval). approval_of scheme by.member message by.proof) given)
 given_fit scheme message given fits f = (
   omega (arith, length-map given (λ (by : SaidApproval). approval_of scheme by.member message by.proof), leb-true (length given) APPROVAL_LIMIT (and_parts (nat_le (length given) APPROVAL_LIMIT) (list_all (λ (by : SaidApproval). nat_le (length by.proof) PROOF_LIMIT) given) fits).0),

@@ -9,7 +9,7 @@ use Rattle.ledger_bytes.specs.declared.refusal.Refusal.TheVariants as refusals
 use Rattle.journal_record.specs.Entry.{Entry, content_digest_of, who_digest_of}
 use Rattle.journal_record.specs.Header.{spelling}
 use Rattle.journal_record.specs.declared.header.Header.{Header}
-use Rattle.script_lines.specs.Receipts.{Fits, OfReceipt, ReplyFits}
+use Rattle.script_lines.specs.Receipts.{FitsWord, OfReceipt, ReplyFits}
 use Rattle.script_lines.specs.declared.reply.Reply.{Reply}
 use Rattle.script_lines.specs.declared.reply.Reply.TheVariants as reply
 use Rattle.ledger_model.specs.Getting.{damage, content_damage, who_damage, reply_unless, whole_reply, occulted_reply, reply_on, shown_reply, get_reply}
@@ -83,7 +83,7 @@ purged_at h n p is = by_tests (nat_le (size h) n) (nat_lt n (point h)) (is_hidde
   by_tests false false false e = absurd cc
 
 -- its numbers fit
-pub get_fits : (h : History) (n : ℕ) → Fits (size h) → Fits (point h) → ReplyFits (get_reply h n)
+pub get_fits : (h : History) (n : ℕ) → FitsWord (size h) → FitsWord (point h) → ReplyFits (get_reply h n)
 unfolding get_reply
 get_fits h n few low =
     of_shown ReplyFits (λ kept found. tt) (λ header content who. tt) (λ header who. tt) h n (view h n) few (λ p is. omega (arith, purged_at h n p is, low))

@@ -13,7 +13,7 @@ use Rattle.journal_record.proofs.ReadingLaws.{header_of_only}
 use Rattle.journal_record.specs.Blocks.{record_bytes, body_of, block_bytes, leaves_of, AreBlocks, written_blocks}
 use Rattle.journal_record.specs.Records.{IsReadable, AreReadable}
 use Rattle.ledger_bytes.specs.declared.limits.TheConstants.{BLOCK_LIMIT}
-use Rattle.block_file.specs.File.{open_blocks, Stands}
+use Rattle.block_file.specs.File.{open_blocks, IsFileOf}
 use Rattle.block_file.specs.Head.{number_at}
 use Rattle.ledger_open.specs.Heads.{IsFront}
 use Rattle.ledger_open.specs.Standing.{Floor, HasBlocks}
@@ -111,7 +111,7 @@ front_again g i b c f e r s ff ee is =
     (sym ff.generation_is ∙ ap (number_at 10) one.0 ∙ ee.generation_is, sym ff.base_is ∙ ap (λ (l : List ℕ). drop 64 l) one.0 ∙ ee.base_is, one.1)
 
 -- a file by its front, and what is behind it
-pub flat : (front : List ℕ) (blocks : List (List ℕ)) (file : List ℕ) (s : Stands front blocks file) → file ≡ front ++ (open_blocks blocks ++ s.gate ∷ s.rest)
+pub flat : (front : List ℕ) (blocks : List (List ℕ)) (file : List ℕ) (s : IsFileOf front blocks file) → file ≡ front ++ (open_blocks blocks ++ s.gate ∷ s.rest)
 flat front blocks file s = s.is ∙ append_assoc front (open_blocks blocks) (s.gate ∷ s.rest)
 
 -- a file has one list of blocks

@@ -4,7 +4,7 @@ use Rattle.std.proofs.Common.{◌≡◌, ◌≢◌, ℕ, ◌+◌, ◌≤◌, Lis
 use Rattle.std.proofs.lemmas.List.{drop_at, get_or-drop, take-append-le, drop-append-le, drop-take}
 use Rattle.std.proofs.lemmas.List.Concat.{flat_map-append}
 use Rattle.block_file.specs.Blocks.{IsOpenBlock}
-use Rattle.block_file.specs.File.{Stands, open_blocks}
+use Rattle.block_file.specs.File.{IsFileOf, open_blocks}
 use Rattle.block_file.specs.Head.{HasHead, digest_of, number_at, generation_of}
 use Rattle.journal_record.specs.Blocks.{block_bytes, leaves_of, IsBlock, written_blocks}
 use Rattle.journal_record.specs.Entry.{Entry}
@@ -112,7 +112,7 @@ begun_more floor digests file ks at root es b o root_is block = record {
 -- the next gate is shut: the file has the blocks that were read
 pub begun_ends : (start : Option Base) (file : List ℕ) (ks : List (List Entry)) (at : ℕ) → Begun (floor_from start) file ks at → get_or file at 0 ≢ 1 → at + 1 ≤ length file → HasFile start ks file
 begun_ends start file ks at b shut inside = (b.generation, record { front = b.front; head = b.head; lawful = b.lawful; stands = by_rest b.rest b.is }) where
-  by_rest : (rest : List ℕ) → file ≡ (b.front ++ open_blocks (written_blocks (floor_from start).root [] ks)) ++ rest → Stands b.front (written_blocks (floor_from start).root [] ks) file
+  by_rest : (rest : List ℕ) → file ≡ (b.front ++ open_blocks (written_blocks (floor_from start).root [] ks)) ++ rest → IsFileOf b.front (written_blocks (floor_from start).root [] ks) file
   by_rest [] is = absurd (omega (arith, inside, b.place, ap length is, length-append (b.front ++ open_blocks (written_blocks (floor_from start).root [] ks)) []))
   by_rest (g ∷ gs) is = record {
     gate = g;

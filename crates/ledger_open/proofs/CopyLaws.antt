@@ -7,7 +7,7 @@ use Rattle.tree_model.specs.Tree.{mth}
 use Rattle.journal_record.specs.Entry.{Entry}
 use Rattle.journal_record.specs.Header.{spelling}
 use Rattle.journal_record.specs.Blocks.{block_bytes, leaves_of, AreBlocks, written_blocks}
-use Rattle.block_file.specs.File.{Stands}
+use Rattle.block_file.specs.File.{IsFileOf}
 use Rattle.ledger_model.specs.History.{History, journals_of}
 use Rattle.ledger_open.specs.Heads.{IsFront}
 use Rattle.ledger_open.specs.Standing.{HasBlocks, SameButHidden, floor_behind}
@@ -75,13 +75,13 @@ module _ (h : History) (gone mid kept : List (List Entry)) (are : h.closed ≡ g
 
     pub copied : (generation next : ℕ) (image new front : List ℕ) → (x : HasBlocks (floor_behind h gone) generation (fs ++ ks) image)
         → length (journals_of fs) ≡ length (journals_of mid) → IsFront next (floor_behind h (gone ++ mid)).base front
-        → Stands front (drop (length fs) (written_blocks (floor_behind h gone).root [] (fs ++ ks))) new
+        → IsFileOf front (drop (length fs) (written_blocks (floor_behind h gone).root [] (fs ++ ks))) new
         → HasBlocks (floor_behind h (gone ++ mid)) next ks new
     copied generation next image new front x count head stands = record {
       front = front;
       head = head;
       lawful = subst (λ (n : ℕ). AreBlocks n ks) (omega (arith, floor_first h gone, floor_first h (gone ++ mid), journals_more gone mid, count)) (blocks_behind (floor_behind h gone).first fs ks x.lawful);
-      stands = subst (λ (l : List (List ℕ)). Stands front l new) parts stands;
+      stands = subst (λ (l : List (List ℕ)). IsFileOf front l new) parts stands;
     } where
       parts : drop (length fs) (written_blocks (floor_behind h gone).root [] (fs ++ ks)) ≡ written_blocks (floor_behind h (gone ++ mid)).root [] ks
       parts =

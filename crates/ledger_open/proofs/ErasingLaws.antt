@@ -12,7 +12,7 @@ use Rattle.ledger_model.specs.Targets.{is_occult, is_hidden}
 use Rattle.ledger_model.proofs.PointLaws.{points_few}
 use Rattle.ledger_open.specs.Erasing.{content_place, content_size, IsOutsideOf, IsZeroedIn, target_of, last_target, with_zeros, given_up}
 use Rattle.ledger_open.specs.Places.{record_len, places_in, places_at}
-use Rattle.ledger_open.specs.Standing.{Floor, floor_behind, Parts, AreZeros, AllKept, SameButHidden, Keeps, StandsBy, StandsFor, IsErased, hidden_before, point_before}
+use Rattle.ledger_open.specs.Standing.{Floor, floor_behind, Parts, AreZeros, AllKept, SameButHidden, KeepsBlocks, StandsBy, StandsFor, IsErased, hidden_before, point_before}
 use Rattle.ledger_open.specs.declared.places.PlaceAt.{PlaceAt}
 use Rattle.ledger_open.proofs.FloorLaws.{floor_first, floor_digests}
 use Rattle.ledger_open.proofs.GivingLaws.{gone_read, within as within_file, given_up as given_in}
@@ -73,7 +73,7 @@ module _ (floor : Floor) (bs : List (List Entry)) (n : ℕ) where
   size_is : content_size floor bs n ≡ get_or (lengths_of (journals_of bs)) (n - floor.first) 0
   size_is = ap (λ (l : List ℕ). get_or l (n - floor.first) 0) (lens_from (64 + length floor.base) bs)
 
-  module _ (digests : GivesDigests floor.root) (generation : ℕ) (hid gone : ℕ → Bool) (image : List ℕ) (keeps : Keeps floor generation hid gone bs image) (here : IsIn floor bs n) where
+  module _ (digests : GivesDigests floor.root) (generation : ℕ) (hid gone : ℕ → Bool) (image : List ℕ) (keeps : KeepsBlocks floor generation hid gone bs image) (here : IsIn floor bs n) where
     is : n ≡ floor.first + (n - floor.first)
     is = omega (arith, here.first)
 
@@ -97,7 +97,7 @@ module _ (floor : Floor) (bs : List (List Entry)) (n : ℕ) where
     -- other bytes there change nothing else
     pub content_other : (gone′ : ℕ → Bool) (new : List ℕ) → hid n ≡ true → Outside (content_place floor bs n) (content_size floor bs n) image new
         → ((m : ℕ) → gone′ m ≡ true → ((m ≡ n) × AreZeros (take (content_size floor bs n) (drop (content_place floor bs n) new))) ⊎ ((m ≢ n) × (gone m ≡ true)))
-        → Keeps floor generation hid gone′ bs new
+        → KeepsBlocks floor generation hid gone′ bs new
     content_other gone′ new hides out zeroed =
         given_in floor digests generation hid gone bs image keeps n (n - floor.first) is lt gone′ new hides
         (subst (λ (m : ℕ). Outside (get_or (content_places (64 + length floor.base) bs) (n - floor.first) 0) m image new) size_is (subst (λ (m : ℕ). Outside m (content_size floor bs n) image new) place_is out))
@@ -174,7 +174,7 @@ target_at floor h n (inr at) t = at ∙ sym t.point_is
 -- ---- an image that stands for a history
 
 -- the same blocks, of which other contents are gone
-again : (floor : ℕ) (gone gone′ : ℕ → Bool) (image new : List ℕ) (h : History) (x : StandsBy floor gone image h) → Keeps (floor_behind h x.parts.gone) x.generation (is_hidden h) gone′ x.parts.kept new → StandsBy floor gone′ new h
+again : (floor : ℕ) (gone gone′ : ℕ → Bool) (image new : List ℕ) (h : History) (x : StandsBy floor gone image h) → KeepsBlocks (floor_behind h x.parts.gone) x.generation (is_hidden h) gone′ x.parts.kept new → StandsBy floor gone′ new h
 again floor gone gone′ image new h x keeps = record { generation = x.generation; parts = x.parts; keeps = keeps; early = x.early; none = x.none; lawful = x.lawful; wide = x.wide }
 
 abbrev floor_in : {floor : ℕ} {gone : ℕ → Bool} {image : List ℕ} {h : History} → StandsBy floor gone image h → Floor

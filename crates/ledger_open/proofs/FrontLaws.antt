@@ -5,7 +5,7 @@ use Rattle.std.proofs.Common.{◌≡◌, ℕ, ◌<◌, ◌^◌, List, [], ◌∷
 use Rattle.std.proofs.lemmas.List.{take_at, drop_at}
 use Rattle.std.proofs.lemmas.Nat.{from_be_bytes-to_be_bytes_8}
 use Rattle.sha2.proofs.Facts256.{length-sha256}
-use Rattle.block_file.specs.File.{Stands, whole_file}
+use Rattle.block_file.specs.File.{IsFileOf, whole_file}
 use Rattle.block_file.specs.Head.{front_of, digest_of, magic}
 use Rattle.ledger_open.specs.Heads.{IsFront}
 use Rattle.twin_file.proofs.HeadLaws.{tail_size}
@@ -56,5 +56,5 @@ module _ (gate generation : ℕ) (base : List ℕ) where
     base_is = sym (drop-drop 6 58 (front_of gate generation base)) ∙ ap (drop 6) behind_digest ∙ drop_at z base 6 refl;
   }
 
-pub whole_stands : (front : List ℕ) (blocks : List (List ℕ)) → Stands front blocks (whole_file front blocks)
+pub whole_stands : (front : List ℕ) (blocks : List (List ℕ)) → IsFileOf front blocks (whole_file front blocks)
 whole_stands front blocks = record { gate = 0; rest = []; is = refl; shut = λ one. omega (arith, one) }

@@ -13,7 +13,7 @@ use Rattle.block_file.specs.File.{open_blocks}
 use Rattle.ledger_disk.specs.Guards.{Outside}
 use Rattle.ledger_open.specs.Places.{record_len}
 use Rattle.ledger_open.proofs.AgainLaws.{flat}
-use Rattle.ledger_open.specs.Standing.{Floor, HasBlocks, AreZeros, IsKept, AllKept, SameButHidden, Keeps}
+use Rattle.ledger_open.specs.Standing.{Floor, HasBlocks, AreZeros, IsKept, AllKept, SameButHidden, KeepsBlocks}
 use Rattle.ledger_open.proofs.SizeLaws.{GivesDigests}
 use Rattle.ledger_open.proofs.KeptLaws.{all_kept, header_map_same}
 use Rattle.ledger_open.proofs.HoleLaws.{record_places, content_places, lengths_of, contents_of, with_content, put_in, put, Hole, hole_read, hole_outside, blocks_hole, put_here, put_behind, put_below, put_above, from_put}
@@ -197,7 +197,7 @@ contents_gone hid gone n m zero (x ∷ xs) (y ∷ ys) a f is lt z = a.0.zeroed (
 contents_gone hid gone n m (suc j) (x ∷ xs) (y ∷ ys) a f is lt z = contents_gone hid gone n (m + 1) j xs ys a.1 f.1 (omega (arith, is)) (omega (arith, lt)) z
 
 -- a file that keeps blocks of a history: all by places of the history
-module _ (floor : Floor) (digests : GivesDigests floor.root) (generation : ℕ) (hid gone : ℕ → Bool) (bs : List (List Entry)) (image : List ℕ) (x : Keeps floor generation hid gone bs image) (n i : ℕ) (is : n ≡ floor.first + i) (lt : i < length (journals_of bs)) where
+module _ (floor : Floor) (digests : GivesDigests floor.root) (generation : ℕ) (hid gone : ℕ → Bool) (bs : List (List Entry)) (image : List ℕ) (x : KeepsBlocks floor generation hid gone bs image) (n i : ℕ) (is : n ≡ floor.first + i) (lt : i < length (journals_of bs)) where
   abbrev at : ℕ
   at = get_or (content_places (64 + length floor.base) bs) i 0
 
@@ -232,7 +232,7 @@ module _ (floor : Floor) (digests : GivesDigests floor.root) (generation : ℕ) 
   -- Other bytes at the place of a hidden content: the file keeps the same.
   pub given_up : (gone′ : ℕ → Bool) (new : List ℕ) → hid n ≡ true → Outside at size_at image new
       → ((m : ℕ) → gone′ m ≡ true → ((m ≡ n) × AreZeros (take size_at (drop at new))) ⊎ ((m ≢ n) × (gone m ≡ true)))
-      → Keeps floor generation hid gone′ bs new
+      → KeepsBlocks floor generation hid gone′ bs new
   given_up gone′ new hides out zeroed = record {
     blocks = put n (take size_at (drop at new)) x.blocks;
     file = subst (λ (c : List ℕ). HasBlocks floor generation (put n c x.blocks) new)

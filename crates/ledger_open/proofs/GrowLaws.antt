@@ -6,7 +6,7 @@ use Rattle.std.proofs.lemmas.Bool.{eqb-true, eq-eqb, true≢false, and_parts}
 use Rattle.std.proofs.lemmas.List.{map-append, take-append-drop}
 use Rattle.std.proofs.lemmas.List.Elements.{All-push}
 use Rattle.std.proofs.lemmas.Option.{slice_get_past}
-use Rattle.block_file.specs.File.{Stands}
+use Rattle.block_file.specs.File.{IsFileOf}
 use Rattle.journal_record.specs.Blocks.{block_bytes, leaves_of, AreFrom, IsBlock, AreBlocks, written_blocks}
 use Rattle.journal_record.specs.Entry.{Entry}
 use Rattle.journal_record.specs.Header.{spelling}
@@ -77,13 +77,13 @@ blocks_more n (c ∷ cs) b a bb = (a.0, blocks_more (n + length c) cs b a.1 (sub
 -- a file that has a block more
 pub file_more : (floor : Floor) (generation : ℕ) (bs : List (List Entry)) (b : List Entry) (image new : List ℕ) (x : HasBlocks floor generation bs image)
     → IsBlock (floor.first + length (journals_of bs)) b
-    → Stands x.front (written_blocks floor.root [] bs ++ block_bytes (floor.root (leaves_of (journals_of bs) ++ leaves_of b)) b ∷ []) new
+    → IsFileOf x.front (written_blocks floor.root [] bs ++ block_bytes (floor.root (leaves_of (journals_of bs) ++ leaves_of b)) b ∷ []) new
     → HasBlocks floor generation (bs ++ b ∷ []) new
 file_more floor generation bs b image new x bb stands = record {
   front = x.front;
   head = x.head;
   lawful = blocks_more floor.first bs b x.lawful bb;
-  stands = subst (λ (bs : List (List ℕ)). Stands x.front bs new) (sym (written_more floor.root [] bs b)) stands;
+  stands = subst (λ (bs : List (List ℕ)). IsFileOf x.front bs new) (sym (written_more floor.root [] bs b)) stands;
 }
 
 -- a block whose contents are all kept

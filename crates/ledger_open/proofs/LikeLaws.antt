@@ -221,7 +221,7 @@ module _ (hid gone : ℕ → Bool) (h k : History) (same : SameButHidden hid gon
           leaves = subst (λ (l : List (List ℕ)). StandsFor sha256 b.tree l) digests_alike s.stands.tree.leaves;
         };
         members = s.stands.members ∙ ap (aged_members b.floor) members_alike;
-        clues = subst (λ (l : List Mark). index.Stands b.clues (record { states = []; marks = l; floor = b.floor })) (marks_kept hid gone (journals h) (journals k) journals_alike) s.stands.clues;
+        clues = subst (λ (l : List Mark). index.StandsForTrails b.clues (record { states = []; marks = l; floor = b.floor })) (marks_kept hid gone (journals h) (journals k) journals_alike) s.stands.clues;
         hiders = λ n le. s.stands.hiders n le ∙ hider_alike n;
         times = s.stands.times ∙ ap (marks_from b.point) (times_kept hid gone (drop b.floor (journals h)) (drop b.floor (journals k)) (kept_drop hid gone b.floor (journals h) (journals k) journals_alike));
       };

@@ -6,7 +6,7 @@ use Rattle.std.proofs.lemmas.Bool.{cases_lt}
 use Rattle.std.proofs.lemmas.List.{nil_from_length, drop-take, take-take, take_all}
 use Rattle.std.proofs.lemmas.List.Elements.{All-nil, All-cons, All-append}
 use Rattle.std.proofs.lemmas.List.Sums.{sum_by-cons}
-use Rattle.block_file.specs.File.{IsSettled, Stands, tail_of}
+use Rattle.block_file.specs.File.{IsSettled, IsFileOf, tail_of}
 use Rattle.block_file.specs.Head.{generation_of}
 use Rattle.journal_record.specs.Entry.{Entry}
 use Rattle.ledger_disk.proofs.Guarding.{settled_image}
@@ -163,7 +163,7 @@ module _ (k : Known) (start : Option Base) (blocks : List (List Entry)) (knows :
     tail_read = tail_goes h goes
 
     -- an image of it that has the same blocks behind the same front
-    again : (other image_now : List ℕ) → IsBeside h s.file.generation other → ((front : List ℕ) (ws : List (List ℕ)) → Stands front ws image → tail_of front ws ≡ k.place → Stands front ws image_now) → StandsIn k.book.floor h other image_now
+    again : (other image_now : List ℕ) → IsBeside h s.file.generation other → ((front : List ℕ) (ws : List (List ℕ)) → IsFileOf front ws image → tail_of front ws ≡ k.place → IsFileOf front ws image_now) → StandsIn k.book.floor h other image_now
     again other image_now beside same =
         let x = s.file in
         let f = x.keeps.file in

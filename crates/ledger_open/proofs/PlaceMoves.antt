@@ -4,7 +4,7 @@ use Rattle.std.proofs.Common.{◌≡◌, ℕ, ◌+◌, ◌-◌, ◌^◌, ◌<◌
 use Rattle.std.proofs.lemmas.List.{take_at, drop_at, take_all, drop_all, map-append}
 use Rattle.std.proofs.lemmas.List.Concat.{flat_map-append}
 use Rattle.std.proofs.lemmas.List.Sums.{sum_by-cons}
-use Rattle.block_file.specs.File.{Stands, open_blocks, tail_of}
+use Rattle.block_file.specs.File.{IsFileOf, open_blocks, tail_of}
 use Rattle.journal_record.specs.Entry.{Entry}
 use Rattle.ledger_model.specs.History.{journals_of}
 use Rattle.ledger_open.specs.Cutting.{BeginsSome}
@@ -107,7 +107,7 @@ after_moved old new (b ∷ bs) = omega (arith, after_moved (old + 45 + sum_by re
 
 -- ---- the bytes that are copied
 
-pub copied_bytes : (front file : List ℕ) (as_ bs : List (List ℕ)) → Stands front (as_ ++ bs) file
+pub copied_bytes : (front file : List ℕ) (as_ bs : List (List ℕ)) → IsFileOf front (as_ ++ bs) file
     → take (tail_of front (as_ ++ bs) - tail_of front as_) (drop (tail_of front as_) file) ≡ open_blocks bs
 copied_bytes front file as_ bs s =
     let all : open_blocks (as_ ++ bs) ≡ open_blocks as_ ++ open_blocks bs = flat_map-append (λ (b : List ℕ). 1 ∷ b) as_ bs in

@@ -4,7 +4,7 @@ use Rattle.std.proofs.Common.{◌≡◌, ℕ, ◌+◌, ◌-◌, ◌^◌, ◌<◌
 use Rattle.std.proofs.lemmas.Bool.{eqb-true}
 use Rattle.std.proofs.lemmas.List.{take_at, drop_at}
 use Rattle.std.proofs.lemmas.List.Elements.{All-take}
-use Rattle.block_file.specs.File.{Stands, open_blocks, tail_of, whole_file}
+use Rattle.block_file.specs.File.{IsFileOf, open_blocks, tail_of, whole_file}
 use Rattle.block_file.specs.Head.{front_of}
 use Rattle.journal_record.specs.Blocks as blocks
 use Rattle.journal_record.specs.Blocks.{AreBlocks, leaves_of, written_blocks}
@@ -121,8 +121,8 @@ module _ (floor : ℕ) (zeros : ℕ → Bool) (image : List ℕ) (h : History) (
       let new_floor = split.floor_there h x.lawful x.none floor x.parts below in
       let file : HasBlocks old x.generation (t.first ++ t.second) image = subst (λ (l : List (List Entry)). HasBlocks old x.generation l image) t.are x.keeps.file in
       let new = whole_file (front_of 1 next base) (drop (length t.first) (written_blocks old.root [] x.keeps.blocks)) in
-      let stands : Stands (front_of 1 next base) (drop (length t.first) (written_blocks old.root [] (t.first ++ t.second))) new =
-      subst (λ (l : List (List Entry)). Stands (front_of 1 next base) (drop (length t.first) (written_blocks old.root [] l)) new) t.are (whole_stands (front_of 1 next base) (drop (length t.first) (written_blocks old.root [] x.keeps.blocks))) in
+      let stands : IsFileOf (front_of 1 next base) (drop (length t.first) (written_blocks old.root [] (t.first ++ t.second))) new =
+      subst (λ (l : List (List Entry)). IsFileOf (front_of 1 next base) (drop (length t.first) (written_blocks old.root [] l)) new) t.are (whole_stands (front_of 1 next base) (drop (length t.first) (written_blocks old.root [] x.keeps.blocks))) in
       let head : IsFront next (floor_behind h (x.parts.gone ++ front)).base (front_of 1 next base) =
       subst (λ (l : List ℕ). IsFront next l (front_of 1 next base)) (spelled ∙ ap (λ (f : Floor). f.base) (sym new_floor)) (front_is 1 next base refl fits short) in
       record {
@@ -157,5 +157,5 @@ module _ (floor : ℕ) (zeros : ℕ → Bool) (image : List ℕ) (h : History) (
       ap (tail_of f.front) (sym cut) ∙ tail_place old digests f.front (first_gate old) x.keeps.blocks f.lawful f.head.size ∙ sym (after_kept hid zeros (first_gate old) x.parts.kept x.keeps.blocks x.keeps.same) in
       ap (λ (n : ℕ). take (n - gate_behind old front) (drop (gate_behind old front) image)) (sym high)
       ∙ ap (λ (n : ℕ). take (tail_of f.front (as_ ++ bs) - n) (drop n image)) (sym low)
-      ∙ copied_bytes f.front image as_ bs (subst (λ (l : List (List ℕ)). Stands f.front l image) cut f.stands)
+      ∙ copied_bytes f.front image as_ bs (subst (λ (l : List (List ℕ)). IsFileOf f.front l image) cut f.stands)
       ∙ ap open_blocks (sym rest_is)

@@ -1,7 +1,7 @@
 -- A file with a block more, and the file of a new ledger.
 use Rattle.std.specs.Prelude.{◌≡◌, ℕ, false, List, [], ◌∷◌, ◌++◌}
 use Rattle.std.specs.List.{list_any}
-use Rattle.block_file.specs.File.{Stands, whole_file}
+use Rattle.block_file.specs.File.{IsFileOf, whole_file}
 use Rattle.block_file.specs.Head.{front_of}
 use Rattle.journal_record.specs.Blocks as record_
 use Rattle.journal_record.specs.Blocks.{block_bytes, leaves_of, written_blocks}
@@ -20,7 +20,7 @@ with_block block h = history (h.closed ++ block ∷ []) []
 -- the file has this block more behind the blocks that it had
 abbrev pub HasBlockMore : {floor : Floor} {generation : ℕ} {blocks : List (List Entry)} {image : List ℕ} → HasBlocks floor generation blocks image → List Entry → List ℕ → Type 0
 HasBlockMore {floor = floor} {blocks = blocks} x block new =
-    Stands x.front (written_blocks floor.root [] blocks ++ block_bytes (floor.root (leaves_of (journals_of blocks) ++ leaves_of block)) block ∷ []) new
+    IsFileOf x.front (written_blocks floor.root [] blocks ++ block_bytes (floor.root (leaves_of (journals_of blocks) ++ leaves_of block)) block ∷ []) new
 
 -- a block that may be the next one of this history
 pub record IsNextBlock (h : History) (block : List Entry) : Type 0 where

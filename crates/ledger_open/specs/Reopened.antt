@@ -1,6 +1,6 @@
 -- What opening a ledger again leaves.
 use Rattle.std.specs.Prelude.{◌≡◌, ◌⊎◌, ℕ, ◌+◌, ◌<◌, Bool, IsTrue, not, List, [], ◌++◌, length, take, Option, Some, None}
-use Rattle.block_file.specs.File.{IsSettled, IsShutAt, Stands, tail_of}
+use Rattle.block_file.specs.File.{IsSettled, IsShutAt, IsFileOf, tail_of}
 use Rattle.block_file.specs.Head.{generation_of}
 use Rattle.journal_record.specs.Blocks.{AreBlocks}
 use Rattle.journal_record.specs.Entry.{Entry}
@@ -136,5 +136,5 @@ IsCleanStill a b a_new b_new = IsSettled a → IsSettled b → (h : History) →
 -- every image of a file that is being cut behind its tail gate, which stands at this place, has the blocks that it had
 abbrev pub StandsTrimmed : ℕ → State → State → Type 0
 StandsTrimmed place old new =
-    IsSettled old → (front : List ℕ) (blocks : List (List ℕ)) → Stands front blocks old.seen → tail_of front blocks ≡ place
-    → (image : List ℕ) → MayLeave new image → Stands front blocks image
+    IsSettled old → (front : List ℕ) (blocks : List (List ℕ)) → IsFileOf front blocks old.seen → tail_of front blocks ≡ place
+    → (image : List ℕ) → MayLeave new image → IsFileOf front blocks image

@@ -3,7 +3,7 @@ use Rattle.std.specs.Prelude.{◌≡◌, ◌≢◌, ◌⊎◌, ℕ, ◌+◌, ◌
 use Rattle.sha2.specs.Sha256.{sha256}
 use Rattle.tree_model.specs.RootFrom.{root_from}
 use Rattle.tree_model.specs.Tree.{mth, leaf}
-use Rattle.block_file.specs.File.{Stands}
+use Rattle.block_file.specs.File.{IsFileOf}
 use Rattle.journal_record.specs.Blocks.{AreBlocks, written_blocks}
 use Rattle.journal_record.specs.Entry.{Entry}
 use Rattle.journal_record.specs.Header.{HasWidths}
@@ -53,7 +53,7 @@ pub record HasBlocks (floor : Floor) (generation : ℕ) (blocks : List (List Ent
   pub front : List ℕ
   pub head : IsFront generation floor.base front
   pub lawful : AreBlocks floor.first blocks
-  pub stands : Stands front (written_blocks floor.root [] blocks) image
+  pub stands : IsFileOf front (written_blocks floor.root [] blocks) image
 
 -- ---- from the blocks of a file to those of a history
 
@@ -81,7 +81,7 @@ SameButHidden hid gone (b ∷ bs) (c ∷ cs) = AllKept hid gone b c × SameButHi
 SameButHidden hid gone _ _ = ⊥
 
 -- the file keeps these blocks of a history that hides and has given up these contents
-pub record Keeps (floor : Floor) (generation : ℕ) (hid gone : ℕ → Bool) (bs : List (List Entry)) (image : List ℕ) : Type 0 where
+pub record KeepsBlocks (floor : Floor) (generation : ℕ) (hid gone : ℕ → Bool) (bs : List (List Entry)) (image : List ℕ) : Type 0 where
   pub blocks : List (List Entry)
   pub file : HasBlocks floor generation blocks image
   pub same : SameButHidden hid gone bs blocks
@@ -119,7 +119,7 @@ pub record AreWide (es : List Entry) : Type 0 where
 pub record StandsBy (floor : ℕ) (zeros : ℕ → Bool) (image : List ℕ) (h : History) : Type 0 where
   pub generation : ℕ
   pub parts : Parts floor h
-  pub keeps : Keeps (floor_behind h parts.gone) generation (is_hidden h) zeros parts.kept image
+  pub keeps : KeepsBlocks (floor_behind h parts.gone) generation (is_hidden h) zeros parts.kept image
   pub early : generation + (if floor == point h then 0 else 1) ≤ size h
   pub none : h.waiting ≡ []
   pub lawful : IsLawful h

@@ -17,7 +17,7 @@ use Rattle.ledger_open.specs.Reopened.{Remembers, IsReopened}
 use Rattle.ledger_open.specs.Standing.{PairFor}
 use Rattle.twin_file.specs.Twin.{open_of}
 use Rattle.batch_committer.specs.Opened.{kept_from, IsOpened}
-use Rattle.batch_committer.specs.World.{Kept, Pair, World, world, first_kept, Fits, HasRoom, Holds, Reads}
+use Rattle.batch_committer.specs.World.{CommitterState, Pair, World, world, first_kept, Fits, HasRoom, Holds, ReadsAsLeft}
 use Rattle.batch_committer.specs.declared.end.End.{End}
 use Rattle.batch_committer.specs.declared.end.End.TheVariants as ends
 use Rattle.batch_committer.proofs.Opening.{opened_held, opened_fits, opened_room, founded_held, founded_fits, told_at}
@@ -50,7 +50,7 @@ pub record WasMade (k : Known) (genesis : Genesis) (disks : Pair) (in_a : Bool) 
   pub founded : IsFounded genesis disks.a.bytes disks.b.bytes
 
 module _ (k : Known) (genesis : Genesis) (disks : Pair) (in_a : Bool) (generation : ℕ) (copy : Option BlockFile) (sink : SinkState) (x : WasMade k genesis disks in_a generation copy)
-    (kept : Kept) (is : kept ≡ first_kept k.book k.places k.place in_a generation copy) where
+    (kept : CommitterState) (is : kept ≡ first_kept k.book k.places k.place in_a generation copy) where
   made : kept ≡ kept_from k true 1
   made = is ∙ ap (λ v. first_kept k.book k.places k.place v generation copy) x.first ∙ ap (λ n. first_kept k.book k.places k.place true n copy) x.one ∙ ap (first_kept k.book k.places k.place true 1) x.none
 
@@ -58,16 +58,16 @@ module _ (k : Known) (genesis : Genesis) (disks : Pair) (in_a : Bool) (generatio
   made_opened = record { knows = remembered x.knows; told = x.told }
 
   pub made_holds : Holds true (world kept disks sink) (new_ledger genesis)
-  made_holds = subst (λ (y : Kept). Holds true (world y disks sink) (new_ledger genesis)) (sym made) (founded_held true k genesis disks sink x.keys made_opened x.limits refl x.founded)
+  made_holds = subst (λ (y : CommitterState). Holds true (world y disks sink) (new_ledger genesis)) (sym made) (founded_held true k genesis disks sink x.keys made_opened x.limits refl x.founded)
 
   pub made_fits : Fits true (world kept disks sink) × HasRoom kept
   made_fits = (
-    subst (λ (y : Kept). Fits true (world y disks sink)) (sym made) (founded_fits true k genesis disks sink x.keys made_opened (λ told. x.founded)),
+    subst (λ (y : CommitterState). Fits true (world y disks sink)) (sym made) (founded_fits true k genesis disks sink x.keys made_opened (λ told. x.founded)),
     subst HasRoom (sym made) (opened_room k true 1 None (new_ledger genesis).closed disks made_opened),
   )
 
   pub made_none : kept.dues ≡ []
-  made_none = ap (λ (y : Kept). y.dues) made
+  made_none = ap (λ (y : CommitterState). y.dues) made
 
 -- ---- one that is opened again
 
@@ -82,7 +82,7 @@ pub record WasOpened (k : Known) (a b : State) (disks : Pair) (in_a : Bool) (gen
   pub limits : k.book.limits ≡ real_limits
 
 module _ (k : Known) (a b : State) (disks : Pair) (in_a : Bool) (generation : ℕ) (copy : Option BlockFile) (sink : SinkState) (x : WasOpened k a b disks in_a generation copy)
-    (kept : Kept) (is : kept ≡ first_kept k.book k.places k.place in_a generation copy) where
+    (kept : CommitterState) (is : kept ≡ first_kept k.book k.places k.place in_a generation copy) where
   again : kept ≡ kept_from k in_a generation
   again = is ∙ ap (first_kept k.book k.places k.place in_a generation) x.none
 
@@ -91,15 +91,15 @@ module _ (k : Known) (a b : State) (disks : Pair) (in_a : Bool) (generation : �
 
   pub again_fits : Fits true (world kept disks sink) × HasRoom kept
   again_fits = (
-    subst (λ (y : Kept). Fits true (world y disks sink)) (sym again) (opened_fits true k in_a generation x.start x.blocks a b disks sink again_opened (λ told. x.reopened) (λ told. x.generation_is)),
+    subst (λ (y : CommitterState). Fits true (world y disks sink)) (sym again) (opened_fits true k in_a generation x.start x.blocks a b disks sink again_opened (λ told. x.reopened) (λ told. x.generation_is)),
     subst HasRoom (sym again) (opened_room k in_a generation x.start x.blocks disks again_opened),
   )
 
   pub again_none : kept.dues ≡ []
-  again_none = ap (λ (y : Kept). y.dues) again
+  again_none = ap (λ (y : CommitterState). y.dues) again
 
   pub again_holds : (h : History) → PairFor a.seen b.seen h → Holds true (world kept disks sink) h
-  again_holds h p = subst (λ (y : Kept). Holds true (world y disks sink) h) (sym again) (opened_held true k in_a generation x.start x.blocks a b disks sink h again_opened x.limits refl x.reopened p)
+  again_holds h p = subst (λ (y : CommitterState). Holds true (world y disks sink) h) (sym again) (opened_held true k in_a generation x.start x.blocks a b disks sink h again_opened x.limits refl x.reopened p)
 
 -- ---- the counts of faults play no part
 
@@ -111,7 +111,7 @@ holds_same w t same h p = record {
 }
 
 -- what is asked of a file doesn't depend on the counts either
-pub fits_same : (kept : Kept) (p q : Pair) (sink : SinkState) → q.a.bytes ≡ p.a.bytes → q.a.told ≡ p.a.told → q.b.bytes ≡ p.b.bytes → q.b.told ≡ p.b.told → Fits true (world kept p sink) → Fits true (world kept q sink)
+pub fits_same : (kept : CommitterState) (p q : Pair) (sink : SinkState) → q.a.bytes ≡ p.a.bytes → q.a.told ≡ p.a.told → q.b.bytes ≡ p.b.bytes → q.b.told ≡ p.b.told → Fits true (world kept p sink) → Fits true (world kept q sink)
 fits_same kept p q sink a at b bt f = record {
   reads = reads_so kept.in_a f.reads;
   generation = λ t. f.generation t ∙ bytes_so kept.in_a;
@@ -119,7 +119,7 @@ fits_same kept p q sink a at b bt f = record {
   few = f.few;
   order = f.order;
 } where
-  reads_so : (in_a : Bool) → Reads true kept.place (open_of in_a p.a p.b) → Reads true kept.place (open_of in_a q.a q.b)
+  reads_so : (in_a : Bool) → ReadsAsLeft true kept.place (open_of in_a p.a p.b) → ReadsAsLeft true kept.place (open_of in_a q.a q.b)
   reads_so true r = record { told = rw at r.told; shut = λ t. rw a (r.shut t) }
   reads_so false r = record { told = rw bt r.told; shut = λ t. rw b (r.shut t) }
 

@@ -21,7 +21,7 @@ use Rattle.ledger_model.proofs.DueLaws.{grows_steps}
 use Rattle.ledger_model.proofs.PreparedLaws.{id_kept}
 use Rattle.ledger_open.specs.Standing.{PairFor}
 use Rattle.ledger_model.specs.declared.job.Job.{Job}
-use Rattle.batch_committer.specs.Attending.{step_in, Takes}
+use Rattle.batch_committer.specs.Attending.{step_in, TakesJob}
 use Rattle.batch_committer.specs.World.{World, Holds, Goes}
 use Rattle.script_lines.specs.declared.reply.Reply.{Reply as AnyReply}
 use Rattle.ledger_soak.specs.Auditing.{IsHeadOfFirst, IsListHead, Follows, is_found, is_lost}
@@ -325,7 +325,7 @@ begun_so seed run n ready draws entries faults ledger notary receipts taken stop
 
 -- a member is placed by the job of its line
 pub placed_so : (w t : World) (n m : NotaryState) (member : ℕ) (h : History) → Holds true w h → (line : List ℕ) → line ≡ member_line (id h) member → (job : Job) → job ≡ job_of tag_key_of (id h) line → (failed : Bool)
-    → Takes true w t n m (step_in n m failed 0 1 line) job → IsPlaced w t n m member h
+    → TakesJob true w t n m (step_in n m failed 0 1 line) job → IsPlaced w t n m member h
 unfolding after_step
 placed_so w t n m member h held line line_is job job_is failed takes =
     let step : Step = step_in n m failed 0 1 line in

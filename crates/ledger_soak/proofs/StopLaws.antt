@@ -25,8 +25,8 @@ use Rattle.ledger_open.specs.Standing.{PairFor}
 use Rattle.time_peg.specs.Entries.{NotaryState}
 use Rattle.batch_committer.proofs.Attends.{unstamped}
 use Rattle.batch_committer.proofs.WayLaws.{goes_then, ended_then, ended_wider}
-use Rattle.batch_committer.specs.Attending.{step_in, Takes, EndsAt, EndsUnasked, EndsTaking}
-use Rattle.batch_committer.specs.World.{World, Pair, Kept, world, Holds, Goes, Ended, Left}
+use Rattle.batch_committer.specs.Attending.{step_in, TakesJob, EndsAt, EndsUnasked, EndsTaking}
+use Rattle.batch_committer.specs.World.{World, Pair, CommitterState, world, Holds, Goes, Ended, LeftStanding}
 use Rattle.batch_committer.specs.declared.end.End.{End}
 use Rattle.batch_committer.specs.declared.end.End.TheVariants.{DiskFault}
 use Rattle.ledger_soak.specs.Posts.{TakesWindow, StopsInWindow, StopsBefore, StopsTaking}
@@ -87,7 +87,7 @@ one_of_two h g k none ended waits few no_shorter no_longer = by_rest no_shorter.
   by_rest (b ∷ bs) (c ∷ cs) is then = absurd (omega (arith, few, ap length is, ap length then, length-append h.closed (b ∷ bs), length-append k.closed (c ∷ cs)))
 
 -- what is left on the way stands for the history before or for the one behind
-pub either_left : (h g : History) (done : List Due) (end : End) (i j : List ℕ) → h.waiting ≡ [] → g.waiting ≡ [] → length g.closed ≤ length h.closed + 1 → Left h g done end i j → PairFor i j h ⊎ PairFor i j g
+pub either_left : (h g : History) (done : List Due) (end : End) (i j : List ℕ) → h.waiting ≡ [] → g.waiting ≡ [] → length g.closed ≤ length h.closed + 1 → LeftStanding h g done end i j → PairFor i j h ⊎ PairFor i j g
 either_left h g done end i j none ended few l =
     let waits : l.kept.waiting ≡ [] = l.stands.stands.file.none in
     elim (one_of_two h g l.kept none ended waits few l.no_shorter l.no_longer) [
@@ -97,12 +97,12 @@ either_left h g done end i j none ended few l =
 
 -- ---- the history doesn't depend on the sink
 
-pub holds_sink : (k : Kept) (disks : Pair) (old new : SinkState) (h : History) → Holds true (world k disks old) h → Holds true (world k disks new) h
+pub holds_sink : (k : CommitterState) (disks : Pair) (old new : SinkState) (h : History) → Holds true (world k disks old) h → Holds true (world k disks new) h
 holds_sink k disks old new h p = record { told = p.told; keeps = p.keeps; disks = p.disks }
 
 -- ---- a window of one job
 
-module _ (w : World) (sink : SinkState) (mid t : World) (n m : NotaryState) (job : Job) (failed : Bool) (line : List ℕ) (takes : Takes true (world w.kept w.disks sink) mid n m (step_in n m failed 0 1 line) job) where
+module _ (w : World) (sink : SinkState) (mid t : World) (n m : NotaryState) (job : Job) (failed : Bool) (line : List ℕ) (takes : TakesJob true (world w.kept w.disks sink) mid n m (step_in n m failed 0 1 line) job) where
   abbrev v : World
   v = world w.kept w.disks sink
 

@@ -1,7 +1,7 @@
 //! A ledger in memory with its committer.
 
 ghost use Rattle.std.specs.Prelude.{◌≡◌, ℕ, Bool, true, false, List, [], IfOk, OnOk, IfErr, Some};
-ghost use Rattle.batch_committer.specs.Attending.{step_in, Takes};
+ghost use Rattle.batch_committer.specs.Attending.{step_in, TakesJob};
 ghost use Rattle.batch_committer.specs.World.{Holds, Keeps, Goes};
 ghost use Rattle.journal_record.specs.Tags.{tag_key_of};
 ghost use Rattle.ledger_model.specs.Genesis.{new_ledger};
@@ -158,7 +158,7 @@ impl Post {
     /// Takes a job that ends no window.
     pub(crate) fn offer(&mut self, notary: &mut MemNotary, item: Prepared) -> Result<(), Halt>
         requires { self.old.ended ≡ false }
-        ensures ok { OnOk result ((failed : Bool) × ((line : List ℕ) → Takes true self.old.world self.new.world
+        ensures ok { OnOk result ((failed : Bool) × ((line : List ℕ) → TakesJob true self.old.world self.new.world
             (notary_state notary.old) (notary_state notary.new)
             (step_in (notary_state notary.old) (notary_state notary.new) failed item.lane item.index line)
             item.job)) }

@@ -7,7 +7,7 @@ use Rattle.tree_model.specs.Halves.{pairs, edge, joined_node}
 use Rattle.tree_model.specs.Peaks.{peaks}
 use Rattle.tree_model.proofs.Halves.{length-pairs, root-halve}
 use Rattle.tree_model.proofs.Peaks.{peaks-pairs, pairs-take, pairs-drop}
-use Rattle.merkle_batch.specs.Rows.{Row, first_of, Keeps}
+use Rattle.merkle_batch.specs.Rows.{Row, first_of, KeepsNodes}
 use Rattle.merkle_batch.proofs.Keeping.{join_even, join_odd}
 use Rattle.merkle_batch.proofs.Peaking.{same_front, same_back}
 
@@ -39,8 +39,8 @@ module _ (p : ℕ) (ds : List (List ℕ)) (floor : p ≤ length ds) where
   above_floor hash = sym (pairs-drop hash (p / 2) ds)
 
 -- lists that the same rows keep have the same peaks before the floor
-pub same_peaks : (hash : Hash) (p : ℕ) (rows : List Row) (ds es : List (List ℕ)) → p ≤ length ds → p ≤ length es → Keeps hash p rows ds → Keeps hash p rows es → peaks hash (take p ds) ≡ peaks hash (take p es)
-unfolding Keeps
+pub same_peaks : (hash : Hash) (p : ℕ) (rows : List Row) (ds es : List (List ℕ)) → p ≤ length ds → p ≤ length es → KeepsNodes hash p rows ds → KeepsNodes hash p rows es → peaks hash (take p ds) ≡ peaks hash (take p es)
+unfolding KeepsNodes
 same_peaks hash p [] ds es fits within one two = ap (λ t. peaks hash (take p t)) (one ∙ sym two)
 same_peaks hash p (row ∷ rows) ds es fits within one two =
     front_peaks p ds fits hash
@@ -50,8 +50,8 @@ same_peaks hash p (row ∷ rows) ds es fits within one two =
     ∙ sym (front_peaks p es within hash)
 
 -- and the same root
-pub same_roots : (hash : Hash) (p : ℕ) (rows : List Row) (ds es : List (List ℕ)) (behind : Option (List ℕ)) → p ≤ length ds → p ≤ length es → Keeps hash p rows ds → Keeps hash p rows es → root hash (take p ds ++ edge behind) ≡ root hash (take p es ++ edge behind)
-unfolding Keeps
+pub same_roots : (hash : Hash) (p : ℕ) (rows : List Row) (ds es : List (List ℕ)) (behind : Option (List ℕ)) → p ≤ length ds → p ≤ length es → KeepsNodes hash p rows ds → KeepsNodes hash p rows es → root hash (take p ds ++ edge behind) ≡ root hash (take p es ++ edge behind)
+unfolding KeepsNodes
 same_roots hash p [] ds es behind fits within one two = ap (λ t. root hash (take p t ++ edge behind)) (one ∙ sym two)
 same_roots hash p (row ∷ rows) ds es behind fits within one two =
     let fits_up : p / 2 ≤ length (pairs hash ds) = omega (arith, length-pairs hash ds) in
@@ -71,8 +71,8 @@ same_roots hash p (row ∷ rows) ds es behind fits within one two =
     ∙ sym (root-halve hash (take p es ++ edge behind))
 
 -- a list with the same leaves from the floor on and the same peaks before it is kept as well
-pub same_keeps : (hash : Hash) (p : ℕ) (rows : List Row) (ds es : List (List ℕ)) → p ≤ length ds → length ds ≡ length es → drop p ds ≡ drop p es → peaks hash (take p ds) ≡ peaks hash (take p es) → Keeps hash p rows ds → Keeps hash p rows es
-unfolding Keeps
+pub same_keeps : (hash : Hash) (p : ℕ) (rows : List Row) (ds es : List (List ℕ)) → p ≤ length ds → length ds ≡ length es → drop p ds ≡ drop p es → peaks hash (take p ds) ≡ peaks hash (take p es) → KeepsNodes hash p rows ds → KeepsNodes hash p rows es
+unfolding KeepsNodes
 same_keeps hash p [] ds es fits len leaves tops one = nil_from_length es (sym len ∙ ap length one)
 same_keeps hash p (row ∷ rows) ds es fits len leaves tops one =
     let within : p ≤ length es = omega arith in
@@ -90,8 +90,8 @@ same_keeps hash p (row ∷ rows) ds es fits len leaves tops one =
     )
 
 -- they have the same leaves from the floor on
-pub same_leaves : (hash : Hash) (p : ℕ) (rows : List Row) (ds es : List (List ℕ)) → Keeps hash p rows ds → Keeps hash p rows es → drop p ds ≡ drop p es
-unfolding Keeps
+pub same_leaves : (hash : Hash) (p : ℕ) (rows : List Row) (ds es : List (List ℕ)) → KeepsNodes hash p rows ds → KeepsNodes hash p rows es → drop p ds ≡ drop p es
+unfolding KeepsNodes
 same_leaves hash p [] ds es one two = ap (drop p) (one ∙ sym two)
 same_leaves hash p (row ∷ rows) ds es one two =
     let sum : first_of p + (p - first_of p) ≡ p = omega arith in

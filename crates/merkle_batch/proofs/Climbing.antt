@@ -13,7 +13,7 @@ use Rattle.tree_model.proofs.ProofHalves.{proof-halve, proof-odd}
 use Rattle.tree_model.proofs.Levels.{root_one, root_none}
 use Rattle.tree_model.proofs.Paths.{path_one}
 use Rattle.tree_model.proofs.Halves.{length-halve, root-halve, path-halve}
-use Rattle.merkle_batch.specs.Rows.{Row, first_of, Keeps, HasNodes, root_of}
+use Rattle.merkle_batch.specs.Rows.{Row, first_of, KeepsNodes, HasNodes, root_of}
 
 -- the rows behind the first
 abbrev pub above : List Row → List Row
@@ -36,18 +36,18 @@ module _ (rows : List Row) (row : Row) (some : 1 ≤ length rows) (is : row ≡ 
   nodes_above p count there = let both = subst (HasNodes p count) (parts rows row some is) there in both.1
 
   -- the first row keeps nodes of this level
-  pub keeps_here : (hash : Hash) (p : ℕ) (ds : List (List ℕ)) → Keeps hash p rows ds → row.nodes ≡ drop (first_of p) ds
-  unfolding Keeps
-  keeps_here hash p ds keeps = let both = subst (λ t. Keeps hash p t ds) (parts rows row some is) keeps in both.0
+  pub keeps_here : (hash : Hash) (p : ℕ) (ds : List (List ℕ)) → KeepsNodes hash p rows ds → row.nodes ≡ drop (first_of p) ds
+  unfolding KeepsNodes
+  keeps_here hash p ds keeps = let both = subst (λ t. KeepsNodes hash p t ds) (parts rows row some is) keeps in both.0
 
   -- those behind it keep nodes of the levels above
-  pub keeps_above : (hash : Hash) (p : ℕ) (ds : List (List ℕ)) → Keeps hash p rows ds → Keeps hash (p / 2) (above rows) (pairs hash ds)
-  unfolding Keeps
-  keeps_above hash p ds keeps = let both = subst (λ t. Keeps hash p t ds) (parts rows row some is) keeps in both.1
+  pub keeps_above : (hash : Hash) (p : ℕ) (ds : List (List ℕ)) → KeepsNodes hash p rows ds → KeepsNodes hash (p / 2) (above rows) (pairs hash ds)
+  unfolding KeepsNodes
+  keeps_above hash p ds keeps = let both = subst (λ t. KeepsNodes hash p t ds) (parts rows row some is) keeps in both.1
 
 -- where there are no rows there are no digests
-pub no_digests : (hash : Hash) (p : ℕ) (rows : List Row) (ds : List (List ℕ)) → length rows < 1 → Keeps hash p rows ds → ds ≡ []
-unfolding Keeps
+pub no_digests : (hash : Hash) (p : ℕ) (rows : List Row) (ds : List (List ℕ)) → length rows < 1 → KeepsNodes hash p rows ds → ds ≡ []
+unfolding KeepsNodes
 no_digests hash p [] ds few keeps = keeps
 no_digests hash p (row ∷ rows) ds few keeps = absurd (omega arith)
 

@@ -3,13 +3,13 @@ use Rattle.std.proofs.Common.{◌≡◌, ℕ, ◌+◌, ◌-◌, ◌*◌, ◌/◌
 use Rattle.std.proofs.lemmas.List.{drop_all, drop-set-lt, drop-map}
 use Rattle.tree_model.specs.Tree.{Hash}
 use Rattle.tree_model.specs.Halves.{pairs}
-use Rattle.merkle_batch.specs.Rows.{Row, first_of, Keeps, Counts, HasRoom, HasNodes, Levels, StandsFor, Forgot}
+use Rattle.merkle_batch.specs.Rows.{Row, first_of, KeepsNodes, HasCounted, HasRoom, HasNodes, Levels, StandsFor, Forgot}
 use Rattle.merkle_batch.proofs.Keeping.{row_room, above_room, both_room, stands_size, stands_keeps, stands_of}
 use Rattle.merkle_batch.proofs.Placing.{at_level, after_set, below_set}
 
 -- they keep what is from the higher floor on
-pub forgot_keeps : (hash : Hash) (p to : ℕ) (old rows : List Row) (ds : List (List ℕ)) → p ≤ to → Forgot p to old rows → Keeps hash p old ds → Keeps hash to rows ds
-unfolding Forgot Keeps
+pub forgot_keeps : (hash : Hash) (p to : ℕ) (old rows : List Row) (ds : List (List ℕ)) → p ≤ to → Forgot p to old rows → KeepsNodes hash p old ds → KeepsNodes hash to rows ds
+unfolding Forgot KeepsNodes
 forgot_keeps hash p to [] [] ds le forgot keeps = keeps
 forgot_keeps hash p to [] (row ∷ rows) ds le forgot keeps = absurd forgot
 forgot_keeps hash p to (old ∷ olds) [] ds le forgot keeps = absurd forgot
@@ -20,8 +20,8 @@ forgot_keeps hash p to (old ∷ olds) (row ∷ rows) ds le forgot keeps =
     )
 
 -- they count what they did
-pub forgot_counts : (p to count : ℕ) (old rows : List Row) → p ≤ to → to ≤ count → Forgot p to old rows → Counts p count old → Counts to count rows
-unfolding Forgot Counts
+pub forgot_counts : (p to count : ℕ) (old rows : List Row) → p ≤ to → to ≤ count → Forgot p to old rows → HasCounted p count old → HasCounted to count rows
+unfolding Forgot HasCounted
 forgot_counts p to count [] [] le within forgot counts = counts
 forgot_counts p to count [] (row ∷ rows) le within forgot counts = absurd forgot
 forgot_counts p to count (old ∷ olds) [] le within forgot counts = absurd forgot

@@ -5,7 +5,7 @@ use Rattle.std.proofs.Math.Seq.{drop-nil}
 use Rattle.std.proofs.lemmas.Bool.{cases_eq}
 use Rattle.tree_model.specs.Tree.{Hash}
 use Rattle.tree_model.specs.Halves.{pairs}
-use Rattle.merkle_batch.specs.Rows.{Row, first_of, Keeps, Counts, HasRoom, Levels, StandsFor, Grown, IsNil}
+use Rattle.merkle_batch.specs.Rows.{Row, first_of, KeepsNodes, HasCounted, HasRoom, Levels, StandsFor, Grown, IsNil}
 use Rattle.merkle_batch.proofs.Keeping.{both_room, above_room, stands_size, stands_keeps, stands_of}
 use Rattle.merkle_batch.proofs.Placing.{at_level, after_set, below_set}
 
@@ -36,8 +36,8 @@ grown_twice (x ∷ a) (y ∷ b) [] one two = absurd two
 grown_twice (x ∷ a) (y ∷ b) (z ∷ c) one two = (two.0 ∙ one.0, omega (arith, one.1, two.1), grown_twice a b c one.2 two.2)
 
 -- they keep what they did
-pub grown_keeps : (hash : Hash) (p : ℕ) (old rows : List Row) (ds : List (List ℕ)) → Grown old rows → Keeps hash p old ds → Keeps hash p rows ds
-unfolding Grown Keeps pairs
+pub grown_keeps : (hash : Hash) (p : ℕ) (old rows : List Row) (ds : List (List ℕ)) → Grown old rows → KeepsNodes hash p old ds → KeepsNodes hash p rows ds
+unfolding Grown KeepsNodes pairs
 grown_keeps hash p [] [] ds grown keeps = keeps
 grown_keeps hash p [] (row ∷ rows) ds grown keeps =
     let none : drop (first_of p) ds ≡ [] = ap (drop (first_of p)) keeps ∙ drop-nil (first_of p) in
@@ -46,8 +46,8 @@ grown_keeps hash p (old ∷ olds) [] ds grown keeps = absurd grown
 grown_keeps hash p (old ∷ olds) (row ∷ rows) ds grown keeps = (grown.0 ∙ keeps.0, grown_keeps hash (p / 2) olds rows (pairs hash ds) grown.2 keeps.1)
 
 -- they count what they did
-pub grown_counts : (p count : ℕ) (old rows : List Row) → p ≤ count → Grown old rows → Counts p count old → Counts p count rows
-unfolding Grown Counts
+pub grown_counts : (p count : ℕ) (old rows : List Row) → p ≤ count → Grown old rows → HasCounted p count old → HasCounted p count rows
+unfolding Grown HasCounted
 grown_counts p count [] [] floor grown counts = counts
 grown_counts p count [] (row ∷ rows) floor grown counts =
     let none : count / 2 ≡ 0 = omega (arith, counts) in
@@ -128,7 +128,7 @@ module _ (rows mid after : List Row) (level : ℕ) (within : level < length mid)
 pub stands_grown : (hash : Hash) (old new : Levels) → new.size ≡ old.size → new.floor ≡ old.floor → Grown old.rows new.rows → (ds : List (List ℕ)) → StandsFor hash old ds → StandsFor hash new ds
 stands_grown hash old new size floor grown ds stands =
     stands_of hash new ds (stands_size hash old ds stands ∙ sym size)
-    (subst (λ p. Keeps hash p new.rows ds) (sym floor) (grown_keeps hash old.floor old.rows new.rows ds grown (stands_keeps hash old ds stands)))
+    (subst (λ p. KeepsNodes hash p new.rows ds) (sym floor) (grown_keeps hash old.floor old.rows new.rows ds grown (stands_keeps hash old ds stands)))
 
 -- the work that is left becomes less from level to level
 pub less_left : (len mid level n more over : ℕ) → level ≤ len → mid ≡ max (level + 1) len → (len ≡ level → n ≡ 0) → over ≡ (n % 2 + more) / 2 → (more ≡ 0 → ⊥) → (mid - (level + 1)) + over < (len - level) + more

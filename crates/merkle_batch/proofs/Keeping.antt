@@ -6,7 +6,7 @@ use Rattle.tree_model.specs.Tree.{Hash, node}
 use Rattle.tree_model.specs.Halves.{pairs, halve, edge, joined_node}
 use Rattle.tree_model.proofs.Halves.{length-pairs}
 use Rattle.tree_model.proofs.Rising.{pairs_more, pairs_next, halve_even, halve_odd}
-use Rattle.merkle_batch.specs.Rows.{Row, first_of, Keeps, Counts, HasNodes, HasRoom, Levels, StandsFor}
+use Rattle.merkle_batch.specs.Rows.{Row, first_of, KeepsNodes, HasCounted, HasNodes, HasRoom, Levels, StandsFor}
 
 -- no rows have room for nothing
 pub none_room : (rows : List Row) → rows ≡ [] → HasRoom 0 rows
@@ -59,24 +59,24 @@ module _ (row new : Row) (d : List ℕ) (push : new.nodes ≡ row.nodes ++ d ∷
 
 module _ (p count : ℕ) (floor : p ≤ count) (row new : Row) (len : length new.nodes ≡ suc (length row.nodes)) (rows : List Row) where
   -- the count of nodes where a digest has no other beside it
-  pub counts_stay : length new.nodes % 2 ≡ 1 → Counts p count (row ∷ rows) → Counts p (suc count) (new ∷ rows)
-  unfolding Counts
+  pub counts_stay : length new.nodes % 2 ≡ 1 → HasCounted p count (row ∷ rows) → HasCounted p (suc count) (new ∷ rows)
+  unfolding HasCounted
   counts_stay odd counts =
       let here : first_of p + length row.nodes ≡ count = counts.0 in
       let same : count / 2 ≡ suc count / 2 = omega arith in
-      (omega arith, subst (λ j. Counts (p / 2) j rows) same counts.1)
+      (omega arith, subst (λ j. HasCounted (p / 2) j rows) same counts.1)
 
   -- and where it makes a pair
-  pub counts_go : (after : List Row) → length new.nodes % 2 ≡ 0 → ((q n : ℕ) → q ≤ n → Counts q n rows → Counts q (suc n) after) → Counts p count (row ∷ rows) → Counts p (suc count) (new ∷ after)
-  unfolding Counts
+  pub counts_go : (after : List Row) → length new.nodes % 2 ≡ 0 → ((q n : ℕ) → q ≤ n → HasCounted q n rows → HasCounted q (suc n) after) → HasCounted p count (row ∷ rows) → HasCounted p (suc count) (new ∷ after)
+  unfolding HasCounted
   counts_go after even above counts =
       let here : first_of p + length row.nodes ≡ count = counts.0 in
       let more : suc (count / 2) ≡ suc count / 2 = omega arith in
-      (omega arith, subst (λ j. Counts (p / 2) j after) more (above (p / 2) (count / 2) (omega arith) counts.1))
+      (omega arith, subst (λ j. HasCounted (p / 2) j after) more (above (p / 2) (count / 2) (omega arith) counts.1))
 
 -- the first nodes of all are there
-pub has_nodes : (p size m : ℕ) (rows : List Row) → m ≤ size → Counts p size rows → HasNodes p m rows
-unfolding Counts HasNodes
+pub has_nodes : (p size m : ℕ) (rows : List Row) → m ≤ size → HasCounted p size rows → HasNodes p m rows
+unfolding HasCounted HasNodes
 has_nodes p size m [] le counts = omega arith
 has_nodes p size m (row ∷ rows) le counts = (omega (arith, counts.0), has_nodes (p / 2) (size / 2) (m / 2) rows (omega arith) counts.1)
 
@@ -118,17 +118,17 @@ module _ (hash : Hash) (p : ℕ) (ds : List (List ℕ)) (floor : p ≤ length ds
     first_more is = push ∙ ap (λ t. t ++ d ∷ []) is ∙ sym (drop-append-le (first_of p) ds (d ∷ []) (omega arith))
 
     -- a digest without another beside it changes its row alone
-    pub keeps_stay : length new.nodes % 2 ≡ 1 → Keeps hash p (row ∷ rows) ds → Keeps hash p (new ∷ rows) (ds ++ d ∷ [])
-    unfolding Keeps
+    pub keeps_stay : length new.nodes % 2 ≡ 1 → KeepsNodes hash p (row ∷ rows) ds → KeepsNodes hash p (new ∷ rows) (ds ++ d ∷ [])
+    unfolding KeepsNodes
     keeps_stay odd keeps =
         let even : length ds % 2 ≡ 0 = omega (arith, ap length push, length-append row.nodes (d ∷ []), kept_len row keeps.0) in
-        (first_more keeps.0, subst (λ t. Keeps hash (p / 2) rows t) (sym (pairs_more hash ds d even)) keeps.1)
+        (first_more keeps.0, subst (λ t. KeepsNodes hash (p / 2) rows t) (sym (pairs_more hash ds d even)) keeps.1)
 
     -- one that makes a pair adds its node above
     pub keeps_go : (after : List Row) (x : List ℕ) → length new.nodes % 2 ≡ 0 → x ≡ node hash (get_or new.nodes (length new.nodes - 2) []) d
-        → ((q : ℕ) (es : List (List ℕ)) → q ≤ length es → Keeps hash q rows es → Keeps hash q after (es ++ x ∷ []))
-        → Keeps hash p (row ∷ rows) ds → Keeps hash p (new ∷ after) (ds ++ d ∷ [])
-    unfolding Keeps
+        → ((q : ℕ) (es : List (List ℕ)) → q ≤ length es → KeepsNodes hash q rows es → KeepsNodes hash q after (es ++ x ∷ []))
+        → KeepsNodes hash p (row ∷ rows) ds → KeepsNodes hash p (new ∷ after) (ds ++ d ∷ [])
+    unfolding KeepsNodes
     keeps_go after x even is above keeps =
         let kept : length row.nodes + first_of p ≡ length ds = kept_len row keeps.0 in
         let len : length new.nodes ≡ suc (length row.nodes) = omega (arith, ap length push, length-append row.nodes (d ∷ [])) in
@@ -138,7 +138,7 @@ module _ (hash : Hash) (p : ℕ) (ds : List (List ℕ)) (floor : p ≤ length ds
         ∙ kept_at row (length new.nodes - 2) (length ds - 1) keeps.0 (omega arith) in
         let next : pairs hash (ds ++ d ∷ []) ≡ pairs hash ds ++ x ∷ [] = pairs_next hash ds d odd ∙ ap (λ t. pairs hash ds ++ t ∷ []) (ap (λ l. node hash l d) (sym last) ∙ sym is) in
         let low : p / 2 ≤ length (pairs hash ds) = omega (arith, length-pairs hash ds) in
-        (first_more keeps.0, subst (λ t. Keeps hash (p / 2) after t) (sym next) (above (p / 2) (pairs hash ds) low keeps.1))
+        (first_more keeps.0, subst (λ t. KeepsNodes hash (p / 2) after t) (sym next) (above (p / 2) (pairs hash ds) low keeps.1))
 
   module _ (row : Row) (count : ℕ) (le : count ≤ length ds) (is : row.nodes ≡ drop (first_of p) ds) (behind : Option (List ℕ)) where
     -- an even number in front of the edge
@@ -158,12 +158,12 @@ module _ (hash : Hash) (p : ℕ) (ds : List (List ℕ)) (floor : p ≤ length ds
 
 -- a tree over no leaves
 pub new_stands : (hash : Hash) (rows : List Row) → rows ≡ [] → StandsFor hash (record { rows = rows; size = 0; floor = 0; spare = 0 }) []
-unfolding StandsFor Keeps
+unfolding StandsFor KeepsNodes
 new_stands hash rows is = rw is (refl, refl)
 
 -- a tree over no leaves has no rows, which count none
-pub none_counts : (rows : List Row) → rows ≡ [] → Counts 0 0 rows
-unfolding Counts
+pub none_counts : (rows : List Row) → rows ≡ [] → HasCounted 0 0 rows
+unfolding HasCounted
 none_counts rows is = rw is refl
 
 -- a list that a tree stands for has the tree's size
@@ -172,23 +172,23 @@ unfolding StandsFor
 stands_size hash tree ds stands = stands.0
 
 -- and its nodes are kept
-pub stands_keeps : (hash : Hash) (tree : Levels) (ds : List (List ℕ)) → StandsFor hash tree ds → Keeps hash tree.floor tree.rows ds
+pub stands_keeps : (hash : Hash) (tree : Levels) (ds : List (List ℕ)) → StandsFor hash tree ds → KeepsNodes hash tree.floor tree.rows ds
 unfolding StandsFor
 stands_keeps hash tree ds stands = stands.1
 
 -- a tree stands for each list with its size whose nodes are kept
-pub stands_of : (hash : Hash) (tree : Levels) (ds : List (List ℕ)) → length ds ≡ tree.size → Keeps hash tree.floor tree.rows ds → StandsFor hash tree ds
+pub stands_of : (hash : Hash) (tree : Levels) (ds : List (List ℕ)) → length ds ≡ tree.size → KeepsNodes hash tree.floor tree.rows ds → StandsFor hash tree ds
 unfolding StandsFor
 stands_of hash tree ds size keeps = (size, keeps)
 
 -- one leaf more
 pub stands_more : (hash : Hash) (old new : Levels) (x : List ℕ) → old.floor ≤ old.size → new.size ≡ old.size + 1 → new.floor ≡ old.floor
-    → ((p : ℕ) (ds : List (List ℕ)) → p ≤ length ds → Keeps hash p old.rows ds → Keeps hash p new.rows (ds ++ x ∷ []))
+    → ((p : ℕ) (ds : List (List ℕ)) → p ≤ length ds → KeepsNodes hash p old.rows ds → KeepsNodes hash p new.rows (ds ++ x ∷ []))
     → (ds : List (List ℕ)) → StandsFor hash old ds → StandsFor hash new (ds ++ x ∷ [])
 stands_more hash old new x floor size same keeps ds stands =
     let len = stands_size hash old ds stands in
     stands_of hash new (ds ++ x ∷ []) (omega (arith, len, size, length-append ds (x ∷ [])))
-    (subst (λ p. Keeps hash p new.rows (ds ++ x ∷ [])) (sym same) (keeps old.floor ds (omega (arith, len)) (stands_keeps hash old ds stands)))
+    (subst (λ p. KeepsNodes hash p new.rows (ds ++ x ∷ [])) (sym same) (keeps old.floor ds (omega (arith, len)) (stands_keeps hash old ds stands)))
 
 -- a vector with as many new items has these
 pub all_items : {A : Type 0} (n : ℕ) (xs ys : List A) → length ys ≡ n → length xs ≡ length ys → take n (xs ++ drop (length xs) ys) ≡ xs

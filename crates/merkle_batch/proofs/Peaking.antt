@@ -7,7 +7,7 @@ use Rattle.tree_model.specs.Halves.{pairs}
 use Rattle.tree_model.specs.Peaks.{peaks}
 use Rattle.tree_model.proofs.Peaks.{peaks-pairs, pairs-take, peaks_none}
 use Rattle.tree_model.proofs.Halves.{length-pairs}
-use Rattle.merkle_batch.specs.Rows.{Row, Keeps, Counts, HasRoom, Levels, StandsFor}
+use Rattle.merkle_batch.specs.Rows.{Row, KeepsNodes, HasCounted, HasRoom, Levels, StandsFor}
 use Rattle.merkle_batch.proofs.Keeping.{stands_of}
 
 -- no peaks above the last row
@@ -38,16 +38,16 @@ same_back a b c d is len =
 pub no_rows : (rows : List Row) → drop (length rows) rows ≡ []
 no_rows rows = drop_all (length rows) rows (omega arith)
 
-pub none_counts : (p : ℕ) (rows : List Row) → p ≡ 0 → Counts p p (drop (length rows) rows)
-unfolding Counts
+pub none_counts : (p : ℕ) (rows : List Row) → p ≡ 0 → HasCounted p p (drop (length rows) rows)
+unfolding HasCounted
 none_counts p rows none = rw (no_rows rows) none
 
 pub none_room : (rows : List Row) → HasRoom 0 (drop (length rows) rows)
 unfolding HasRoom
 none_room rows = rw (no_rows rows) refl
 
-pub none_keeps : (hash : Hash) (p : ℕ) (rows : List Row) (ds : List (List ℕ)) → p ≡ 0 → length ds ≡ p → Keeps hash p (drop (length rows) rows) ds
-unfolding Keeps
+pub none_keeps : (hash : Hash) (p : ℕ) (rows : List Row) (ds : List (List ℕ)) → p ≡ 0 → length ds ≡ p → KeepsNodes hash p (drop (length rows) rows) ds
+unfolding KeepsNodes
 none_keeps hash p rows ds none len = rw (no_rows rows) (nil_from_length ds (len ∙ none))
 
 module _ (old mid after : List Row) (row : Row) (push : mid ≡ old ++ row ∷ []) (front : take (length mid) after ≡ mid) where
@@ -66,9 +66,9 @@ module _ (old mid after : List Row) (row : Row) (push : mid ≡ old ++ row ∷ [
 
   module _ (p : ℕ) (len : length row.nodes ≡ p % 2) where
     -- the row and those above it count
-    pub more_counts : Counts (p / 2) (p / 2) (drop (length mid) after) → Counts p p (drop (length old) after)
-    unfolding Counts
-    more_counts above = subst (Counts p p) (sym behind) (omega (arith, len), above)
+    pub more_counts : HasCounted (p / 2) (p / 2) (drop (length mid) after) → HasCounted p p (drop (length old) after)
+    unfolding HasCounted
+    more_counts above = subst (HasCounted p p) (sym behind) (omega (arith, len), above)
 
     -- and have room
     pub more_room : length row.nodes ≤ row.room → HasRoom 0 (drop (length mid) after) → HasRoom 0 (drop (length old) after)
@@ -79,8 +79,8 @@ module _ (old mid after : List Row) (row : Row) (push : mid ≡ old ++ row ∷ [
 
     -- and keep the nodes over each list with these peaks
     pub more_keeps : (hash : Hash) (ds all rest : List (List ℕ)) → length ds ≡ p → all ≡ peaks hash ds → (p % 2 ≤ length all → all ≡ rest ++ row.nodes)
-        → (length (pairs hash ds) ≡ p / 2 → rest ≡ peaks hash (pairs hash ds) → Keeps hash (p / 2) (drop (length mid) after) (pairs hash ds)) → Keeps hash p (drop (length old) after) ds
-    unfolding Keeps
+        → (length (pairs hash ds) ≡ p / 2 → rest ≡ peaks hash (pairs hash ds) → KeepsNodes hash (p / 2) (drop (length mid) after) (pairs hash ds)) → KeepsNodes hash p (drop (length old) after) ds
+    unfolding KeepsNodes
     more_keeps hash ds all rest size is parts above =
         let back : length (drop (2 * (length ds / 2)) ds) ≡ p % 2 = omega (arith, length-drop (2 * (length ds / 2)) ds, size) in
         let both = is ∙ peaks-pairs hash ds in
@@ -89,9 +89,9 @@ module _ (old mid after : List Row) (row : Row) (push : mid ≡ old ++ row ∷ [
         let same : length row.nodes ≡ length (drop (2 * (length ds / 2)) ds) = omega (arith, len, back) in
         let here = same_back rest row.nodes (peaks hash (pairs hash ds)) (drop (2 * (length ds / 2)) ds) cut same in
         let up = same_front rest row.nodes (peaks hash (pairs hash ds)) (drop (2 * (length ds / 2)) ds) cut same in
-        subst (λ t. Keeps hash p t ds) (sym behind)
+        subst (λ t. KeepsNodes hash p t ds) (sym behind)
         (here ∙ ap (λ j. drop (2 * (j / 2)) ds) size, above (omega (arith, length-pairs hash ds, size)) up)
 
 -- a tree made from peaks
-pub stands_peaks : (hash : Hash) (tree : Levels) (p : ℕ) (ds : List (List ℕ)) → tree.size ≡ p → tree.floor ≡ p → length ds ≡ p → Keeps hash p tree.rows ds → StandsFor hash tree ds
-stands_peaks hash tree p ds size floor len keeps = stands_of hash tree ds (len ∙ sym size) (subst (λ q. Keeps hash q tree.rows ds) (sym floor) keeps)
+pub stands_peaks : (hash : Hash) (tree : Levels) (p : ℕ) (ds : List (List ℕ)) → tree.size ≡ p → tree.floor ≡ p → length ds ≡ p → KeepsNodes hash p tree.rows ds → StandsFor hash tree ds
+stands_peaks hash tree p ds size floor len keeps = stands_of hash tree ds (len ∙ sym size) (subst (λ q. KeepsNodes hash q tree.rows ds) (sym floor) keeps)

@@ -2,7 +2,7 @@
 use Rattle.std.proofs.Common.{◌≡◌, ℕ, suc, ◌+◌, ◌-◌, ◌%◌, ◌<◌, ◌≤◌, List, [], ◌∷◌, ◌++◌, length, get_or, set, take, drop, sym, ap, ◌∙◌, subst, arith, length-take-le, append_assoc, drop_at, take-append-drop, take-take}
 use Rattle.std.proofs.lemmas.List.{drop_all, drop_more, drop-set, drop-set-lt, take-set, take_more_set}
 use Rattle.tree_model.specs.Tree.{Hash, node}
-use Rattle.merkle_batch.specs.Rows.{Row, Keeps, Counts, HasRoom}
+use Rattle.merkle_batch.specs.Rows.{Row, KeepsNodes, HasCounted, HasRoom}
 use Rattle.merkle_batch.proofs.Keeping.{none_full, row_room, len_push, counts_stay, counts_go, room_stay, room_go, room_above, keeps_stay, keeps_go}
 
 -- above the last row there is no room
@@ -46,10 +46,10 @@ module _ (rows : List Row) (level : ℕ) (within : level < length rows) (default
         (room_above (get_or rows level default) new x push same (drop (level + 1) rows) even (subst (HasRoom 1) at_level room))
 
     -- a digest without another beside it
-    pub stay_keeps : (hash : Hash) → length new.nodes % 2 ≡ 1 → (p : ℕ) (ds : List (List ℕ)) → p ≤ length ds → Keeps hash p (drop level rows) ds → Keeps hash p (drop level (set rows level new)) (ds ++ x ∷ [])
+    pub stay_keeps : (hash : Hash) → length new.nodes % 2 ≡ 1 → (p : ℕ) (ds : List (List ℕ)) → p ≤ length ds → KeepsNodes hash p (drop level rows) ds → KeepsNodes hash p (drop level (set rows level new)) (ds ++ x ∷ [])
     stay_keeps hash odd p ds floor keeps =
-        subst (λ t. Keeps hash p t (ds ++ x ∷ [])) (sym (drop-set rows level new within))
-        (keeps_stay hash p ds floor (get_or rows level default) new x push (drop (level + 1) rows) odd (subst (λ t. Keeps hash p t ds) at_level keeps))
+        subst (λ t. KeepsNodes hash p t (ds ++ x ∷ [])) (sym (drop-set rows level new within))
+        (keeps_stay hash p ds floor (get_or rows level default) new x push (drop (level + 1) rows) odd (subst (λ t. KeepsNodes hash p t ds) at_level keeps))
 
     -- and the room that it takes
     pub stay_room : length new.nodes % 2 ≡ 1 → (more : ℕ) → HasRoom (suc more) (drop level rows) → HasRoom more (drop level (set rows level new))
@@ -58,10 +58,10 @@ module _ (rows : List Row) (level : ℕ) (within : level < length rows) (default
         (room_stay (get_or rows level default) new x push same more (drop (level + 1) rows) odd (subst (HasRoom (suc more)) at_level room))
 
     -- and what it counts
-    pub stay_counts : length new.nodes % 2 ≡ 1 → (p count : ℕ) → p ≤ count → Counts p count (drop level rows) → Counts p (suc count) (drop level (set rows level new))
+    pub stay_counts : length new.nodes % 2 ≡ 1 → (p count : ℕ) → p ≤ count → HasCounted p count (drop level rows) → HasCounted p (suc count) (drop level (set rows level new))
     stay_counts odd p count floor counts =
-        subst (Counts p (suc count)) (sym (drop-set rows level new within))
-        (counts_stay p count floor (get_or rows level default) new (len_push (get_or rows level default) new x push same) (drop (level + 1) rows) odd (subst (Counts p count) at_level counts))
+        subst (HasCounted p (suc count)) (sym (drop-set rows level new within))
+        (counts_stay p count floor (get_or rows level default) new (len_push (get_or rows level default) new x push same) (drop (level + 1) rows) odd (subst (HasCounted p count) at_level counts))
 
     module _ (after : List Row) (front : take (level + 1) after ≡ take (level + 1) (set rows level new)) where
       -- the rows below the level stay
@@ -70,13 +70,13 @@ module _ (rows : List Row) (level : ℕ) (within : level < length rows) (default
 
       -- a digest that makes a pair
       pub go_keeps : (hash : Hash) (y : List ℕ) → length new.nodes % 2 ≡ 0 → y ≡ node hash (get_or new.nodes (length new.nodes - 2) []) x
-          → ((q : ℕ) (es : List (List ℕ)) → q ≤ length es → Keeps hash q (drop (level + 1) (set rows level new)) es → Keeps hash q (drop (level + 1) after) (es ++ y ∷ []))
-          → (p : ℕ) (ds : List (List ℕ)) → p ≤ length ds → Keeps hash p (drop level rows) ds → Keeps hash p (drop level after) (ds ++ x ∷ [])
+          → ((q : ℕ) (es : List (List ℕ)) → q ≤ length es → KeepsNodes hash q (drop (level + 1) (set rows level new)) es → KeepsNodes hash q (drop (level + 1) after) (es ++ y ∷ []))
+          → (p : ℕ) (ds : List (List ℕ)) → p ≤ length ds → KeepsNodes hash p (drop level rows) ds → KeepsNodes hash p (drop level after) (ds ++ x ∷ [])
       go_keeps hash y even is above p ds floor keeps =
-          subst (λ t. Keeps hash p t (ds ++ x ∷ [])) (sym (after_set rows level within new after front))
+          subst (λ t. KeepsNodes hash p t (ds ++ x ∷ [])) (sym (after_set rows level within new after front))
           (keeps_go hash p ds floor (get_or rows level default) new x push (drop (level + 1) rows) (drop (level + 1) after) y even is
-          (λ q es low k. above q es low (subst (λ t. Keeps hash q t es) (sym set_above) k))
-          (subst (λ t. Keeps hash p t ds) at_level keeps))
+          (λ q es low k. above q es low (subst (λ t. KeepsNodes hash q t es) (sym set_above) k))
+          (subst (λ t. KeepsNodes hash p t ds) at_level keeps))
 
       -- and the room that it takes
       pub go_room : length new.nodes % 2 ≡ 0 → ((j : ℕ) → HasRoom (suc j) (drop (level + 1) (set rows level new)) → HasRoom j (drop (level + 1) after))
@@ -88,10 +88,10 @@ module _ (rows : List Row) (level : ℕ) (within : level < length rows) (default
           (subst (HasRoom (suc more)) at_level room))
 
       -- and what it counts
-      pub go_counts : length new.nodes % 2 ≡ 0 → ((q n : ℕ) → q ≤ n → Counts q n (drop (level + 1) (set rows level new)) → Counts q (suc n) (drop (level + 1) after))
-          → (p count : ℕ) → p ≤ count → Counts p count (drop level rows) → Counts p (suc count) (drop level after)
+      pub go_counts : length new.nodes % 2 ≡ 0 → ((q n : ℕ) → q ≤ n → HasCounted q n (drop (level + 1) (set rows level new)) → HasCounted q (suc n) (drop (level + 1) after))
+          → (p count : ℕ) → p ≤ count → HasCounted p count (drop level rows) → HasCounted p (suc count) (drop level after)
       go_counts even above p count floor counts =
-          subst (Counts p (suc count)) (sym (after_set rows level within new after front))
+          subst (HasCounted p (suc count)) (sym (after_set rows level within new after front))
           (counts_go p count floor (get_or rows level default) new (len_push (get_or rows level default) new x push same) (drop (level + 1) rows) (drop (level + 1) after) even
-          (λ q n low k. above q n low (subst (Counts q n) (sym set_above) k))
-          (subst (Counts p count) at_level counts))
+          (λ q n low k. above q n low (subst (HasCounted q n) (sym set_above) k))
+          (subst (HasCounted p count) at_level counts))

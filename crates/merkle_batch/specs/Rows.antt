@@ -14,9 +14,9 @@ abbrev pub first_of : ℕ → ℕ
 first_of p = 2 * (p / 2)
 
 -- the rows keep the whole nodes over these digests, from the first that a floor leaves on, level by level
-unfoldable pub Keeps : Hash → ℕ → List Row → List (List ℕ) → Type 0
-Keeps hash p [] ds = ds ≡ []
-Keeps hash p (row ∷ rows) ds = (row.nodes ≡ drop (first_of p) ds) × Keeps hash (p / 2) rows (pairs hash ds)
+unfoldable pub KeepsNodes : Hash → ℕ → List Row → List (List ℕ) → Type 0
+KeepsNodes hash p [] ds = ds ≡ []
+KeepsNodes hash p (row ∷ rows) ds = (row.nodes ≡ drop (first_of p) ds) × KeepsNodes hash (p / 2) rows (pairs hash ds)
 
 -- there is room for so many leaves more, and for the nodes above them
 unfoldable pub HasRoom : ℕ → List Row → Type 0
@@ -24,9 +24,9 @@ HasRoom more [] = more ≡ 0
 HasRoom more (row ∷ rows) = (length row.nodes + more ≤ row.room) × HasRoom ((length row.nodes % 2 + more) / 2) rows
 
 -- so many of a level's nodes are whole: the row of each level has those from the first that a floor leaves on
-unfoldable pub Counts : ℕ → ℕ → List Row → Type 0
-Counts p count [] = count ≡ 0
-Counts p count (row ∷ rows) = (first_of p + length row.nodes ≡ count) × Counts (p / 2) (count / 2) rows
+unfoldable pub HasCounted : ℕ → ℕ → List Row → Type 0
+HasCounted p count [] = count ≡ 0
+HasCounted p count (row ∷ rows) = (first_of p + length row.nodes ≡ count) × HasCounted (p / 2) (count / 2) rows
 
 -- the rows have at least the first so many of them
 unfoldable pub HasNodes : ℕ → ℕ → List Row → Type 0
@@ -67,4 +67,4 @@ pub record Levels : Type 0 where
 
 -- a tree stands for each list of leaf digests that has its size, its kept leaves and its kept nodes
 unfoldable pub StandsFor : Hash → Levels → List (List ℕ) → Type 0
-StandsFor hash tree ds = (length ds ≡ tree.size) × Keeps hash tree.floor tree.rows ds
+StandsFor hash tree ds = (length ds ≡ tree.size) × KeepsNodes hash tree.floor tree.rows ds

@@ -5,7 +5,7 @@ ghost use Rattle.tree_model.specs.Extension.{proof, proof_length};
 ghost use Rattle.tree_model.specs.Halves.{halve, pairs, edge, beside, own_part};
 ghost use Rattle.tree_model.specs.Peaks.{peaks as peaks_of};
 ghost use Rattle.merkle_batch.specs.Over.{KeepsOver, root_over};
-ghost use Rattle.merkle_batch.specs.Rows.{first_of, Keeps, Counts, HasRoom, HasNodes, Grown, Forgot, IsNil, root_of};
+ghost use Rattle.merkle_batch.specs.Rows.{first_of, KeepsNodes, HasCounted, HasRoom, HasNodes, Grown, Forgot, IsNil, root_of};
 
 use crate::row::Row;
 use ledger_bytes::{Digest, NoMemory, TreeHash};
@@ -17,13 +17,13 @@ pub(crate) fn add<H: TreeHash>(rows: &mut [Row], level: usize, digest: Digest)
     requires { HasRoom 1 (drop level rows.old) }
     ensures below { take level rows.new ≡ take level rows.old }
     ensures keeps { (p : ℕ) (ds : List (List ℕ)) → p ≤ length ds
-        → Keeps H.of p (drop level rows.old) ds
-        → Keeps H.of p (drop level rows.new) (ds ++ digest.0 ∷ []) }
+        → KeepsNodes H.of p (drop level rows.old) ds
+        → KeepsNodes H.of p (drop level rows.new) (ds ++ digest.0 ∷ []) }
     ensures over { (p floor : ℕ) (ps xs : List (List ℕ)) → length ps ≡ count_ones p
         → p ≤ floor → floor ≤ p + length xs → KeepsOver H.of p floor (drop level rows.old) ps xs
         → KeepsOver H.of p floor (drop level rows.new) ps (xs ++ digest.0 ∷ []) }
-    ensures counts { (p count : ℕ) → p ≤ count → Counts p count (drop level rows.old)
-        → Counts p (suc count) (drop level rows.new) }
+    ensures counts { (p count : ℕ) → p ≤ count → HasCounted p count (drop level rows.old)
+        → HasCounted p (suc count) (drop level rows.new) }
     ensures room { (more : ℕ) → HasRoom (suc more) (drop level rows.old)
         → HasRoom more (drop level rows.new) }
 {
@@ -64,7 +64,7 @@ pub(crate) fn climb<H: TreeHash>(
 ) -> Option<Digest>
     requires floor { p ≤ count }
     requires there { HasNodes p count rows.now }
-    ensures list { (ds : List (List ℕ)) → Keeps H.of p rows.now ds
+    ensures list { (ds : List (List ℕ)) → KeepsNodes H.of p rows.now ds
         → p ≤ length ds → count ≤ length ds
         → option_map (λ d. d.0) result
         ≡ root_of H.of (take count ds ++ edge (option_map (λ d. d.0) behind)) }
@@ -96,7 +96,7 @@ pub(crate) fn add_path<H: TreeHash>(
     requires there { HasNodes p count rows.now }
     requires small { n + 1 < 2 ^ 64 }
     requires leaf { n ≤ count }
-    ensures list { OnOk result ((ds : List (List ℕ)) → Keeps H.of p rows.now ds
+    ensures list { OnOk result ((ds : List (List ℕ)) → KeepsNodes H.of p rows.now ds
         → p ≤ length ds → count ≤ length ds
         → n < length (take count ds ++ edge (option_map (λ d. d.0) behind))
         → map (λ d. d.0) digests.new.items ≡ map (λ d. d.0) digests.old.items
@@ -190,7 +190,7 @@ fn extend(alloc: Global, rows: &mut Vec<Row>, level: usize) -> Result<(), NoMemo
 pub(crate) fn leaf_at(rows: &[Row], p: u64, n: u64) -> Digest
     requires first { first_of p ≤ n }
     requires there { HasNodes p (n + 1) rows.now }
-    ensures list { (hash : Hash) (ds : List (List ℕ)) → Keeps hash p rows.now ds
+    ensures list { (hash : Hash) (ds : List (List ℕ)) → KeepsNodes hash p rows.now ds
         → result.0 ≡ get_or ds n [] }
     ensures over { (hash : Hash) (q : ℕ) (ps xs : List (List ℕ)) → length ps ≡ count_ones q
         → q ≤ p → p ≤ n → KeepsOver hash q p rows.now ps xs → result.0 ≡ get_or xs (n - q) [] }
@@ -227,7 +227,7 @@ pub(crate) fn add_peaks(
 ) -> Result<(), NoMemory>
     requires floor { p ≤ count }
     requires there { HasNodes p count rows.now }
-    ensures list { OnOk result ((hash : Hash) (ds : List (List ℕ)) → Keeps hash p rows.now ds
+    ensures list { OnOk result ((hash : Hash) (ds : List (List ℕ)) → KeepsNodes hash p rows.now ds
         → p ≤ length ds → count ≤ length ds
         → map (λ d. d.0) digests.new.items
         ≡ map (λ d. d.0) digests.old.items ++ peaks_of hash (take count ds)) }
@@ -266,11 +266,11 @@ pub(crate) fn rows_of<H: TreeHash>(
     peaks: &[Digest],
 ) -> Result<(), NoMemory>
     ensures front { OnOk result (take (length rows.old.items) rows.new.items ≡ rows.old.items) }
-    ensures counts { OnOk result (Counts p p (drop (length rows.old.items) rows.new.items)) }
+    ensures counts { OnOk result (HasCounted p p (drop (length rows.old.items) rows.new.items)) }
     ensures room { OnOk result (HasRoom 0 (drop (length rows.old.items) rows.new.items)) }
     ensures keeps { OnOk result ((hash : Hash) (ds : List (List ℕ)) → length ds ≡ p
         → map (λ d. d.0) peaks.now ≡ peaks_of hash ds
-        → Keeps hash p (drop (length rows.old.items) rows.new.items) ds) }
+        → KeepsNodes hash p (drop (length rows.old.items) rows.new.items) ds) }
     ensures over { OnOk result ((hash : Hash) → length peaks.now ≡ count_ones p
         → KeepsOver hash p p (drop (length rows.old.items) rows.new.items)
         (map (λ d. d.0) peaks.now) []) }
@@ -325,7 +325,7 @@ pub(crate) fn add_proof<H: TreeHash>(
     requires floor { p ≤ m }
     requires within { m ≤ count }
     requires there { HasNodes p count rows.now }
-    ensures list { OnOk result ((ds : List (List ℕ)) → Keeps H.of p rows.now ds
+    ensures list { OnOk result ((ds : List (List ℕ)) → KeepsNodes H.of p rows.now ds
         → p ≤ length ds → count ≤ length ds
         → m < length (take count ds ++ edge (option_map (λ d. d.0) behind))
         → map (λ d. d.0) digests.new.items ≡ map (λ d. d.0) digests.old.items

@@ -52,7 +52,7 @@ pub struct Tree<H> {
 
 impl<H> Model for Tree<H> {
     ghost use Rattle.std.specs.Prelude.{◌≤◌, ◌<◌, ◌^◌};
-    ghost use Rattle.merkle_batch.specs.Rows.{Levels, Counts, HasRoom};
+    ghost use Rattle.merkle_batch.specs.Rows.{Levels, HasCounted, HasRoom};
 
     ghost Value = { Levels };
 
@@ -63,7 +63,7 @@ impl<H> Model for Tree<H> {
       spare = t.spare;
     } };
 
-    ghost invariant = { λ t. (t.floor ≤ t.size) × Counts t.floor t.size t.rows.items
+    ghost invariant = { λ t. (t.floor ≤ t.size) × HasCounted t.floor t.size t.rows.items
         × HasRoom t.spare t.rows.items × (t.spare < 2 ^ 63) };
 }
 

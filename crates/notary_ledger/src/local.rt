@@ -5,7 +5,7 @@ ghost use Rattle.tree_model.specs.Tree.{mth, leaf};
 ghost use Rattle.tree_model.specs.Path as paths;
 ghost use Rattle.tree_model.specs.Extension as extensions;
 ghost use Rattle.journal_record.specs.declared.rules.TheConstants.{NOTARY_LIMIT};
-ghost use Rattle.time_peg.specs.Entries.{IsList, IsStamped, Counts, entry_of, last_time};
+ghost use Rattle.time_peg.specs.Entries.{IsList, IsStamped, CountsFailures, entry_of, last_time};
 ghost use Rattle.notary_ledger.specs.Clocks.{HasAdvanced};
 ghost use Rattle.notary_ledger.specs.Salts.{salt_of};
 ghost use Rattle.notary_ledger.specs.Slots.{Lists, MayList};
@@ -113,7 +113,7 @@ impl<D: Disk, C: Clock> Notary for LocalNotary<D, C> {
         ensures list { IsStamped peg.now.0 self.old.entries self.new.entries result }
         ensures full { length self.old.entries ≡ NOTARY_LIMIT → result ≡ Err NotaryErr.Full }
         ensures lawful { IsList self.new.entries }
-        ensures faults { Counts result (D.state self.old.disk).faults (D.state self.new.disk).faults }
+        ensures faults { CountsFailures result (D.state self.old.disk).faults (D.state self.new.disk).faults }
         // A stamp that failed leaves the list.
         ensures same { OnErr result (self.new.entries ≡ self.old.entries) }
         ensures time { IfOk result (λ s. IsTrue C.tells

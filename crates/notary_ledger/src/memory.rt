@@ -5,7 +5,7 @@ ghost use Rattle.tree_model.specs.Tree.{mth, leaf};
 ghost use Rattle.tree_model.specs.Path as paths;
 ghost use Rattle.tree_model.specs.Extension as extensions;
 ghost use Rattle.journal_record.specs.declared.rules.TheConstants.{NOTARY_LIMIT};
-ghost use Rattle.time_peg.specs.Entries.{IsList, IsStamped, Counts};
+ghost use Rattle.time_peg.specs.Entries.{IsList, IsStamped, CountsFailures};
 ghost use Rattle.notary_ledger.specs.Salts.{salt_of};
 
 use crate::entry::{new_entry, salt_for};
@@ -64,7 +64,7 @@ impl Notary for MemNotary {
         ensures list { IsStamped peg.now.0 self.old.entries self.new.entries result }
         ensures full { length self.old.entries ≡ NOTARY_LIMIT → result ≡ Err NotaryErr.Full }
         ensures lawful { IsList self.new.entries }
-        ensures faults { Counts result self.old.faults self.new.faults }
+        ensures faults { CountsFailures result self.old.faults self.new.faults }
         ensures same { OnErr result (self.new.entries ≡ self.old.entries) }
         ensures time { IfOk result (λ s. s.time ≡ 1000 * (s.index + 1)) }
         ensures salt { IfOk result (λ s. s.salt.0 ≡ salt_of (replicate 32 0) s.index) }

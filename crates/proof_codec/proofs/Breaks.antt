@@ -9,7 +9,7 @@ use Rattle.std.proofs.lemmas.List.{length-take, take_at}
 use Rattle.ledger_bytes.specs.declared.failure.Bad.{Bad}
 use Rattle.ledger_bytes.specs.declared.failure.NoMemory.{NoMemory}
 use Rattle.ledger_bytes.specs.declared.failure.Bad.TheVariants.{Short, Trailing, BadKind, BadFixedField, NewerFormat, TooLong}
-use Rattle.ledger_bytes.specs.Fields.{Left, left_from, ◌>>=◌, bytes_at, number_at, digest_at, check, end_at}
+use Rattle.ledger_bytes.specs.Fields.{Unread, left_from, ◌>>=◌, bytes_at, number_at, digest_at, check, end_at}
 use Rattle.ledger_bytes.proofs.Fields.{byte_again, cut_told, trailing_told}
 use Rattle.journal_record.specs.Reading.{header_at}
 use Rattle.journal_record.proofs.Spelling.{length-spelling as length-header}
@@ -37,19 +37,19 @@ end_breaks : {A : Type 0} (b : Bool) (at : ℕ) (x : A) → IfErr (cond b (Ok x)
 end_breaks true at x = tt
 end_breaks false at x = tt
 
-number_breaks : (w : Width) (l : Left) → IfErr (number_at w l) IsBreak
+number_breaks : (w : Width) (l : Unread) → IfErr (number_at w l) IsBreak
 number_breaks w l = short_breaks (ltb (length l.rest) (byte_len w)) l.whole _
 
-digest_breaks : (l : Left) → IfErr (digest_at l) IsBreak
+digest_breaks : (l : Unread) → IfErr (digest_at l) IsBreak
 digest_breaks l = short_breaks (ltb (length l.rest) 32) l.whole _
 
-digests_breaks : (l : Left) → IfErr (digests_at l) IsBreak
+digests_breaks : (l : Unread) → IfErr (digests_at l) IsBreak
 unfolding digests_at
 digests_breaks l =
     then_breaks (number_at w8 l) (λ count. bytes_at (32 * count.0) count.1) (number_breaks w8 l)
     (λ count. short_breaks (ltb (length count.1.rest) (32 * count.0)) count.1.whole _)
 
-flag_breaks : (at : ℕ) (l : Left) → IfErr (flag_at at l) IsBreak
+flag_breaks : (at : ℕ) (l : Unread) → IfErr (flag_at at l) IsBreak
 unfolding flag_at
 flag_breaks at l =
     then_breaks (number_at w8 l) (λ flag. check (nat_le flag.0 1) at >>= λ _. Ok (eqb flag.0 1, flag.1)) (number_breaks w8 l)
@@ -64,13 +64,13 @@ placed_breaks at (Err (BadFixedField place)) = tt
 placed_breaks at (Err (NewerFormat found)) = tt
 placed_breaks at (Err TooLong) = tt
 
-time_breaks : (at : ℕ) (l : Left) → IfErr (time_at at l) IsBreak
+time_breaks : (at : ℕ) (l : Unread) → IfErr (time_at at l) IsBreak
 unfolding time_at
 time_breaks at l =
     then_breaks (header_break at (header_at l)) (λ header. check (is_time header.0.kind) at >>= λ _. Ok header) (placed_breaks at (header_at l))
     (λ header. then_breaks (check (is_time header.0.kind) at) (λ _. Ok header) (check_breaks (is_time header.0.kind) at) (λ _. tt))
 
-some_lower_breaks : (at : ℕ) (l : Left) → IfErr (some_lower_at at l) IsBreak
+some_lower_breaks : (at : ℕ) (l : Unread) → IfErr (some_lower_at at l) IsBreak
 unfolding some_lower_at
 some_lower_breaks at l =
     then_breaks (time_at at l) _ (time_breaks at l)
@@ -78,22 +78,22 @@ some_lower_breaks at l =
     (λ path. then_breaks (digest_at path.1) _ (digest_breaks path.1)
     (λ root. then_breaks (digests_at root.1) _ (digests_breaks root.1) (λ ext. tt))))
 
-lower_flag_breaks : (at : ℕ) (b : Bool) (l : Left) → IfErr (lower_from_flag at (b, l)) IsBreak
+lower_flag_breaks : (at : ℕ) (b : Bool) (l : Unread) → IfErr (lower_from_flag at (b, l)) IsBreak
 lower_flag_breaks at true l = some_lower_breaks (at + 1) l
 lower_flag_breaks at false l = tt
 
-lower_breaks : (at : ℕ) (l : Left) → IfErr (lower_at at l) IsBreak
+lower_breaks : (at : ℕ) (l : Unread) → IfErr (lower_at at l) IsBreak
 unfolding lower_at
 lower_breaks at l = then_breaks (flag_at at l) (lower_from_flag at) (flag_breaks at l) (λ flag. lower_flag_breaks at flag.0 flag.1)
 
-mark_breaks : (l : Left) → IfErr (mark_at l) IsBreak
+mark_breaks : (l : Unread) → IfErr (mark_at l) IsBreak
 unfolding mark_at
 mark_breaks l =
     then_breaks (number_at w64 l) _ (number_breaks w64 l)
     (λ jsn. then_breaks (number_at w64 jsn.1) _ (number_breaks w64 jsn.1)
     (λ index. then_breaks (number_at w64 index.1) _ (number_breaks w64 index.1) (λ time. tt)))
 
-some_upper_breaks : (l : Left) → IfErr (some_upper_at l) IsBreak
+some_upper_breaks : (l : Unread) → IfErr (some_upper_at l) IsBreak
 unfolding some_upper_at
 some_upper_breaks l =
     then_breaks (mark_at l) _ (mark_breaks l)
@@ -101,25 +101,25 @@ some_upper_breaks l =
     (λ salt. then_breaks (digest_at salt.1) _ (digest_breaks salt.1)
     (λ root. then_breaks (digests_at root.1) _ (digests_breaks root.1) (λ ext. tt))))
 
-upper_flag_breaks : (b : Bool) (l : Left) → IfErr (upper_from_flag (b, l)) IsBreak
+upper_flag_breaks : (b : Bool) (l : Unread) → IfErr (upper_from_flag (b, l)) IsBreak
 upper_flag_breaks true l = some_upper_breaks l
 upper_flag_breaks false l = tt
 
-upper_breaks : (at : ℕ) (l : Left) → IfErr (upper_at at l) IsBreak
+upper_breaks : (at : ℕ) (l : Unread) → IfErr (upper_at at l) IsBreak
 unfolding upper_at
 upper_breaks at l = then_breaks (flag_at at l) upper_from_flag (flag_breaks at l) (λ flag. upper_flag_breaks flag.0 flag.1)
 
-size_breaks : (there : Bool) (l : Left) → IfErr (size_if there l) IsBreak
+size_breaks : (there : Bool) (l : Unread) → IfErr (size_if there l) IsBreak
 unfolding size_if
 size_breaks true l = number_breaks w64 l
 size_breaks false l = tt
 
-path_breaks : (there : Bool) (l : Left) → IfErr (path_if there l) IsBreak
+path_breaks : (there : Bool) (l : Unread) → IfErr (path_if there l) IsBreak
 unfolding path_if
 path_breaks true l = digests_breaks l
 path_breaks false l = tt
 
-front_breaks : (l : Left) → IfErr (front_at l) IsBreak
+front_breaks : (l : Unread) → IfErr (front_at l) IsBreak
 unfolding front_at
 front_breaks l =
     then_breaks (number_at w8 l) _ (number_breaks w8 l)
@@ -129,7 +129,7 @@ front_breaks l =
     (λ n. then_breaks (digest_at n.1) _ (digest_breaks n.1)
     (λ leaf. then_breaks (digests_at leaf.1) _ (digests_breaks leaf.1) (λ path. tt))))))
 
-proof_breaks : (l : Left) → IfErr (proof_at l) IsBreak
+proof_breaks : (l : Unread) → IfErr (proof_at l) IsBreak
 unfolding proof_at
 proof_breaks l =
     then_breaks (front_at l) from_front (front_breaks l)
@@ -146,7 +146,7 @@ long_breaks false r breaks = breaks
 proof_of_breaks : (bytes : List ℕ) → IfErr (proof_of bytes) IsBreak
 unfolding proof_of
 proof_of_breaks bytes =
-    let start : Left = left_from (length bytes) bytes in
+    let start : Unread = left_from (length bytes) bytes in
     long_breaks (ltb 8192 (length bytes)) (proof_at start >>= λ read. end_at read.0 read.1)
     (then_breaks (proof_at start) (λ read. end_at read.0 read.1) (proof_breaks start)
     (λ read. end_breaks (eqb (length read.1.rest) 0) (read.1.whole - length read.1.rest) read.0))

@@ -7,7 +7,7 @@ use Rattle.std.proofs.lemmas.List.{append-nil}
 use Rattle.ledger_bytes.specs.declared.digest.Digest.{Digest}
 use Rattle.ledger_bytes.specs.declared.failure.Bad.{Bad}
 use Rattle.ledger_bytes.specs.declared.failure.Bad.TheVariants.{Short, Trailing, BadKind, BadFixedField, NewerFormat, TooLong}
-use Rattle.ledger_bytes.specs.Fields.{Left, left_from, ◌>>=◌, bytes_at, number_at, digest_at, check, IsBytes, Took, ReadsBack}
+use Rattle.ledger_bytes.specs.Fields.{Unread, left_from, ◌>>=◌, bytes_at, number_at, digest_at, check, IsBytes, Took, ReadsBack}
 use Rattle.ledger_bytes.proofs.Fields.{bind_ok, check_ok, ok_is, Took-then, wide64, number_back, byte_back, digest_back, byte_takes, bytes_takes, IsTextOf, text_none, text_then, bytes_text, digest_text, number_text, byte_text}
 use Rattle.journal_record.specs.declared.header.Header.{Header}
 use Rattle.journal_record.specs.declared.header.Kind.{Kind}
@@ -23,7 +23,7 @@ use Rattle.proof_codec.specs.Reading.{digests_at, flag_at, header_break, is_time
 -- ---- steps
 
 -- a text whose reading ends the whole reading
-pub text_last : {A B : Type 0} (read : Left → Result (A × Left) Bad) (f : A × Left → Result (B × Left) Bad) (whole : ℕ) (t : List ℕ) (x : A) (y : B)
+pub text_last : {A B : Type 0} (read : Unread → Result (A × Unread) Bad) (f : A × Unread → Result (B × Unread) Bad) (whole : ℕ) (t : List ℕ) (x : A) (y : B)
     → IsTextOf read whole t x → IsTextOf (λ l. f (x, l)) whole [] y → IsTextOf (λ l. read l >>= f) whole t y
 text_last read f whole t x y first second =
     subst (λ (s : List ℕ). IsTextOf (λ l. read l >>= f) whole s y) (append-nil t) (text_then read f whole t [] x y first second)
@@ -32,18 +32,18 @@ pub check_holds : (ok : Bool) (at : ℕ) (x : Unit {0}) → check ok at ≡ Ok x
 check_holds ok at x e = (check_ok ok (BadFixedField at) tt x e).0
 
 -- what was taken is what is answered as being there
-there_answered : {A : Type 0} (text : A → List ℕ) (fits : A → Type 0) (l : Left) (x : A) (b : Left) (o : Option A) (after : Left) → ended (Some x) b ≡ ended o after
+there_answered : {A : Type 0} (text : A → List ℕ) (fits : A → Type 0) (l : Unread) (x : A) (b : Unread) (o : Option A) (after : Unread) → ended (Some x) b ≡ ended o after
     → Took l (text x) b → fits x → (y : A) × (o ≡ Some y) × Took l (text y) after × fits y
 there_answered {A} text fits l x b o after e took fit =
     let same = ok_is (Some x, b) (o, after) e in
-    (x, sym (ap (λ (y : Option A × Left). y.0) same), subst (λ (y : Option A × Left). Took l (text x) y.1) same took, fit)
+    (x, sym (ap (λ (y : Option A × Unread). y.0) same), subst (λ (y : Option A × Unread). Took l (text x) y.1) same took, fit)
 
 abbrev pub back64 : ReadsBack (number_at w64) (to_be_bytes w64) (λ n. n < 2 ^ 64)
 back64 = number_back w64 (2 ^ 64) wide64
 
 -- ---- digests behind their count
 
-digests_takes : (l : Left) (path : List ℕ) (after : Left) → IsBytes l.rest → digests_at l ≡ Ok (path, after) → Took l (with_count path) after × IsDigests path
+digests_takes : (l : Unread) (path : List ℕ) (after : Unread) → IsBytes l.rest → digests_at l ≡ Ok (path, after) → Took l (with_count path) after × IsDigests path
 unfolding digests_at
 digests_takes l path after fits e =
     let a = bind_ok (number_at w8 l) (λ count. bytes_at (32 * count.0) count.1) (path, after) e in
@@ -77,15 +77,15 @@ flag_is (suc (suc k)) low = absurd (omega (arith, leb-true (suc (suc k)) 1 low))
 abbrev at_place : {A : Type 0} → ℕ → A → Bad
 at_place at v = BadFixedField at
 
-abbrev from_byte : ℕ × Left → Result (Bool × Left) Bad
+abbrev from_byte : ℕ × Unread → Result (Bool × Unread) Bad
 from_byte flag = Ok (eqb flag.0 1, flag.1)
 
-flag_takes : (at : ℕ) (l : Left) (flag : Bool) (after : Left) → IsBytes l.rest → flag_at at l ≡ Ok (flag, after) → Took l (flag_byte flag ∷ []) after × ⊤
+flag_takes : (at : ℕ) (l : Unread) (flag : Bool) (after : Unread) → IsBytes l.rest → flag_at at l ≡ Ok (flag, after) → Took l (flag_byte flag ∷ []) after × ⊤
 unfolding flag_at
 flag_takes at l flag after bytes e =
     let v = field_takes (number_at w8) (λ n. n ∷ []) (λ n. n < 2 ^ 8) byte_back (λ k. nat_le k 1) (at_place at) from_byte l (flag, after) bytes e in
     let took : Took l (flag_byte (eqb v.0.0 1) ∷ []) v.0.1 = subst (λ (k : ℕ). Took l (k ∷ []) v.0.1) (sym (flag_is v.0.0 v.3)) v.1 in
-    (subst (λ (p : Bool × Left). Took l (flag_byte p.0 ∷ []) p.1) (ok_is (eqb v.0.0 1, v.0.1) (flag, after) v.4) took, tt)
+    (subst (λ (p : Bool × Unread). Took l (flag_byte p.0 ∷ []) p.1) (ok_is (eqb v.0.0 1, v.0.1) (flag, after) v.4) took, tt)
 
 pub flag_text : (at whole : ℕ) (flag : Bool) → IsTextOf (flag_at at) whole (flag_byte flag ∷ []) flag
 unfolding flag_at
@@ -116,10 +116,10 @@ time_kind Time e = refl
 time_kind Occult e = absurd cc
 time_kind Purge e = absurd cc
 
-abbrev from_kind : ℕ → Header × Left → Result (Header × Left) Bad
+abbrev from_kind : ℕ → Header × Unread → Result (Header × Unread) Bad
 from_kind at header = check (is_time header.0.kind) at >>= λ _. Ok header
 
-time_takes : (at : ℕ) (l : Left) (h : Header) (after : Left) → IsBytes l.rest → time_at at l ≡ Ok (h, after) → Took l (headers.spelling h) after × IsTimeHeader h
+time_takes : (at : ℕ) (l : Unread) (h : Header) (after : Unread) → IsBytes l.rest → time_at at l ≡ Ok (h, after) → Took l (headers.spelling h) after × IsTimeHeader h
 unfolding time_at
 time_takes at l h after bytes e =
     let a = bind_ok (header_break at (header_at l)) (from_kind at) (h, after) e in
@@ -149,19 +149,19 @@ some_lower_text x = headers.spelling x.header ++ (with_count x.path ++ (x.root.0
 abbrev lower_from : Header → List ℕ → Digest → List ℕ → ShownLower
 lower_from header path root ext = record { header = header; path = path; root = root; ext = ext }
 
-abbrev from_ext : Header → List ℕ → Digest → List ℕ × Left → Result (Option ShownLower × Left) Bad
+abbrev from_ext : Header → List ℕ → Digest → List ℕ × Unread → Result (Option ShownLower × Unread) Bad
 from_ext header path root ext = Ok (Some (lower_from header path root ext.0), ext.1)
 
-abbrev from_root : Header → List ℕ → Digest × Left → Result (Option ShownLower × Left) Bad
+abbrev from_root : Header → List ℕ → Digest × Unread → Result (Option ShownLower × Unread) Bad
 from_root header path root = digests_at root.1 >>= from_ext header path root.0
 
-abbrev from_path : Header → List ℕ × Left → Result (Option ShownLower × Left) Bad
+abbrev from_path : Header → List ℕ × Unread → Result (Option ShownLower × Unread) Bad
 from_path header path = digest_at path.1 >>= from_root header path.0
 
-abbrev from_header : Header × Left → Result (Option ShownLower × Left) Bad
+abbrev from_header : Header × Unread → Result (Option ShownLower × Unread) Bad
 from_header header = digests_at header.1 >>= from_path header.0
 
-some_lower_takes : (at : ℕ) (l : Left) (o : Option ShownLower) (after : Left) → IsBytes l.rest → some_lower_at at l ≡ Ok (o, after) → (x : ShownLower) × (o ≡ Some x) × Took l (some_lower_text x) after × HasLower x
+some_lower_takes : (at : ℕ) (l : Unread) (o : Option ShownLower) (after : Unread) → IsBytes l.rest → some_lower_at at l ≡ Ok (o, after) → (x : ShownLower) × (o ≡ Some x) × Took l (some_lower_text x) after × HasLower x
 unfolding some_lower_at
 some_lower_takes at l o after bytes e =
     let h = plain_takes (time_at at) headers.spelling IsTimeHeader (time_back at) from_header l (o, after) bytes e in
@@ -183,18 +183,18 @@ some_lower_is at whole x fits =
     let path = text_then digests_at (from_path x.header) whole (with_count x.path) (x.root.0 ++ with_count x.ext) x.path (Some x) (digests_text x.path whole fits.path) root in
     text_then (time_at at) from_header whole (headers.spelling x.header) (with_count x.path ++ (x.root.0 ++ with_count x.ext)) x.header (Some x) (time_text at whole x.header fits.header) path
 
-abbrev pub lower_from_flag : ℕ → Bool × Left → Result (Option ShownLower × Left) Bad
+abbrev pub lower_from_flag : ℕ → Bool × Unread → Result (Option ShownLower × Unread) Bad
 lower_from_flag at flag = cond flag.0 (some_lower_at (at + 1) flag.1) (Ok (None, flag.1))
 
-lower_by : (at : ℕ) (flag : Bool) (l b : Left) (o : Option ShownLower) (after : Left) → Took l (flag_byte flag ∷ []) b → lower_from_flag at (flag, b) ≡ Ok (o, after) → Took l (lower_text o) after × IfSome o HasLower
+lower_by : (at : ℕ) (flag : Bool) (l b : Unread) (o : Option ShownLower) (after : Unread) → Took l (flag_byte flag ∷ []) b → lower_from_flag at (flag, b) ≡ Ok (o, after) → Took l (lower_text o) after × IfSome o HasLower
 unfolding lower_text
 lower_by at true l b o after took e =
     let x = some_lower_takes (at + 1) b o after took.bytes e in
     subst (λ (y : Option ShownLower). Took l (lower_text y) after × IfSome y HasLower) (sym x.1) (Took-then l (1 ∷ []) b (some_lower_text x.0) after took x.2, x.3)
 lower_by at false l b o after took e =
-    subst (λ (y : Option ShownLower × Left). Took l (lower_text y.0) y.1 × IfSome y.0 HasLower) (ok_is (None, b) (o, after) e) (took, tt)
+    subst (λ (y : Option ShownLower × Unread). Took l (lower_text y.0) y.1 × IfSome y.0 HasLower) (ok_is (None, b) (o, after) e) (took, tt)
 
-pub lower_takes : (at : ℕ) (l : Left) (o : Option ShownLower) (after : Left) → IsBytes l.rest → lower_at at l ≡ Ok (o, after) → Took l (lower_text o) after × IfSome o HasLower
+pub lower_takes : (at : ℕ) (l : Unread) (o : Option ShownLower) (after : Unread) → IsBytes l.rest → lower_at at l ≡ Ok (o, after) → Took l (lower_text o) after × IfSome o HasLower
 unfolding lower_at
 lower_takes at l o after bytes e =
     let f = plain_takes (flag_at at) (λ flag. flag_byte flag ∷ []) (λ flag. ⊤) (flag_back at) (lower_from_flag at) l (o, after) bytes e in
@@ -212,16 +212,16 @@ lower_is at whole (Some x) fits =
 abbrev mark_from : ℕ → ℕ → ℕ → TimeMark
 mark_from jsn index time = record { jsn = jsn; index = index; time = time }
 
-abbrev from_time : ℕ → ℕ → ℕ × Left → Result (TimeMark × Left) Bad
+abbrev from_time : ℕ → ℕ → ℕ × Unread → Result (TimeMark × Unread) Bad
 from_time jsn index time = Ok (mark_from jsn index time.0, time.1)
 
-abbrev from_index : ℕ → ℕ × Left → Result (TimeMark × Left) Bad
+abbrev from_index : ℕ → ℕ × Unread → Result (TimeMark × Unread) Bad
 from_index jsn index = number_at w64 index.1 >>= from_time jsn index.0
 
-abbrev from_jsn : ℕ × Left → Result (TimeMark × Left) Bad
+abbrev from_jsn : ℕ × Unread → Result (TimeMark × Unread) Bad
 from_jsn jsn = number_at w64 jsn.1 >>= from_index jsn.0
 
-mark_takes : (l : Left) (m : TimeMark) (after : Left) → IsBytes l.rest → mark_at l ≡ Ok (m, after) → Took l (mark_text m) after × IsMark m
+mark_takes : (l : Unread) (m : TimeMark) (after : Unread) → IsBytes l.rest → mark_at l ≡ Ok (m, after) → Took l (mark_text m) after × IsMark m
 unfolding mark_at mark_text
 mark_takes l m after bytes e =
     let j = plain_takes (number_at w64) (to_be_bytes w64) (λ n. n < 2 ^ 64) back64 from_jsn l (m, after) bytes e in
@@ -247,19 +247,19 @@ some_upper_text x = mark_text x.mark ++ (x.salt.0 ++ (x.root.0 ++ with_count x.e
 abbrev upper_from : TimeMark → Digest → Digest → List ℕ → ShownUpper
 upper_from mark salt root ext = record { mark = mark; salt = salt; root = root; ext = ext }
 
-abbrev upper_from_ext : TimeMark → Digest → Digest → List ℕ × Left → Result (Option ShownUpper × Left) Bad
+abbrev upper_from_ext : TimeMark → Digest → Digest → List ℕ × Unread → Result (Option ShownUpper × Unread) Bad
 upper_from_ext mark salt root ext = Ok (Some (upper_from mark salt root ext.0), ext.1)
 
-abbrev upper_from_root : TimeMark → Digest → Digest × Left → Result (Option ShownUpper × Left) Bad
+abbrev upper_from_root : TimeMark → Digest → Digest × Unread → Result (Option ShownUpper × Unread) Bad
 upper_from_root mark salt root = digests_at root.1 >>= upper_from_ext mark salt root.0
 
-abbrev from_salt : TimeMark → Digest × Left → Result (Option ShownUpper × Left) Bad
+abbrev from_salt : TimeMark → Digest × Unread → Result (Option ShownUpper × Unread) Bad
 from_salt mark salt = digest_at salt.1 >>= upper_from_root mark salt.0
 
-abbrev from_mark : TimeMark × Left → Result (Option ShownUpper × Left) Bad
+abbrev from_mark : TimeMark × Unread → Result (Option ShownUpper × Unread) Bad
 from_mark mark = digest_at mark.1 >>= from_salt mark.0
 
-some_upper_takes : (l : Left) (o : Option ShownUpper) (after : Left) → IsBytes l.rest → some_upper_at l ≡ Ok (o, after) → (x : ShownUpper) × (o ≡ Some x) × Took l (some_upper_text x) after × HasUpper x
+some_upper_takes : (l : Unread) (o : Option ShownUpper) (after : Unread) → IsBytes l.rest → some_upper_at l ≡ Ok (o, after) → (x : ShownUpper) × (o ≡ Some x) × Took l (some_upper_text x) after × HasUpper x
 unfolding some_upper_at
 some_upper_takes l o after bytes e =
     let m = plain_takes mark_at mark_text IsMark mark_back from_mark l (o, after) bytes e in
@@ -281,18 +281,18 @@ some_upper_is whole x fits =
     let salt = text_then digest_at (from_salt x.mark) whole x.salt.0 (x.root.0 ++ with_count x.ext) x.salt (Some x) (digest_text x.salt whole fits.salt) root in
     text_then mark_at from_mark whole (mark_text x.mark) (x.salt.0 ++ (x.root.0 ++ with_count x.ext)) x.mark (Some x) (mark_is x.mark whole fits.mark) salt
 
-abbrev pub upper_from_flag : Bool × Left → Result (Option ShownUpper × Left) Bad
+abbrev pub upper_from_flag : Bool × Unread → Result (Option ShownUpper × Unread) Bad
 upper_from_flag flag = cond flag.0 (some_upper_at flag.1) (Ok (None, flag.1))
 
-upper_by : (flag : Bool) (l b : Left) (o : Option ShownUpper) (after : Left) → Took l (flag_byte flag ∷ []) b → upper_from_flag (flag, b) ≡ Ok (o, after) → Took l (upper_text o) after × IfSome o HasUpper
+upper_by : (flag : Bool) (l b : Unread) (o : Option ShownUpper) (after : Unread) → Took l (flag_byte flag ∷ []) b → upper_from_flag (flag, b) ≡ Ok (o, after) → Took l (upper_text o) after × IfSome o HasUpper
 unfolding upper_text
 upper_by true l b o after took e =
     let x = some_upper_takes b o after took.bytes e in
     subst (λ (y : Option ShownUpper). Took l (upper_text y) after × IfSome y HasUpper) (sym x.1) (Took-then l (1 ∷ []) b (some_upper_text x.0) after took x.2, x.3)
 upper_by false l b o after took e =
-    subst (λ (y : Option ShownUpper × Left). Took l (upper_text y.0) y.1 × IfSome y.0 HasUpper) (ok_is (None, b) (o, after) e) (took, tt)
+    subst (λ (y : Option ShownUpper × Unread). Took l (upper_text y.0) y.1 × IfSome y.0 HasUpper) (ok_is (None, b) (o, after) e) (took, tt)
 
-pub upper_takes : (at : ℕ) (l : Left) (o : Option ShownUpper) (after : Left) → IsBytes l.rest → upper_at at l ≡ Ok (o, after) → Took l (upper_text o) after × IfSome o HasUpper
+pub upper_takes : (at : ℕ) (l : Unread) (o : Option ShownUpper) (after : Unread) → IsBytes l.rest → upper_at at l ≡ Ok (o, after) → Took l (upper_text o) after × IfSome o HasUpper
 unfolding upper_at
 upper_takes at l o after bytes e =
     let f = plain_takes (flag_at at) (λ flag. flag_byte flag ∷ []) (λ flag. ⊤) (flag_back at) upper_from_flag l (o, after) bytes e in
@@ -307,22 +307,22 @@ upper_is at whole (Some x) fits =
 
 -- ---- what is there only with a bound
 
-pub size_takes : (there : Bool) (l : Left) (size : ℕ) (after : Left) → IsBytes l.rest → size_if there l ≡ Ok (size, after) → Took l (text_if there (to_be_bytes w64 size)) after × IsSizeIf there size
+pub size_takes : (there : Bool) (l : Unread) (size : ℕ) (after : Unread) → IsBytes l.rest → size_if there l ≡ Ok (size, after) → Took l (text_if there (to_be_bytes w64 size)) after × IsSizeIf there size
 unfolding size_if
 size_takes true l size after bytes e = back64.takes l size after bytes e
 size_takes false l size after bytes e =
-    subst (λ (y : ℕ × Left). Took l [] y.1 × (y.0 ≡ 0)) (ok_is (0, l) (size, after) e) (record { whole = refl; parts = refl; bytes = bytes }, refl)
+    subst (λ (y : ℕ × Unread). Took l [] y.1 × (y.0 ≡ 0)) (ok_is (0, l) (size, after) e) (record { whole = refl; parts = refl; bytes = bytes }, refl)
 
 pub size_is : (there : Bool) (whole size : ℕ) → IsSizeIf there size → IsTextOf (size_if there) whole (text_if there (to_be_bytes w64 size)) size
 unfolding size_if
 size_is true whole size fits = number_text w64 (2 ^ 64) wide64 size whole fits
 size_is false whole size fits = subst (λ (n : ℕ). IsTextOf (λ l. Ok (0, l)) whole [] n) (sym fits) (text_none whole 0)
 
-pub path_takes : (there : Bool) (l : Left) (path : List ℕ) (after : Left) → IsBytes l.rest → path_if there l ≡ Ok (path, after) → Took l (text_if there (with_count path)) after × IsPathIf there path
+pub path_takes : (there : Bool) (l : Unread) (path : List ℕ) (after : Unread) → IsBytes l.rest → path_if there l ≡ Ok (path, after) → Took l (text_if there (with_count path)) after × IsPathIf there path
 unfolding path_if
 path_takes true l path after bytes e = digests_takes l path after bytes e
 path_takes false l path after bytes e =
-    subst (λ (y : List ℕ × Left). Took l [] y.1 × (y.0 ≡ [])) (ok_is ([], l) (path, after) e) (record { whole = refl; parts = refl; bytes = bytes }, refl)
+    subst (λ (y : List ℕ × Unread). Took l [] y.1 × (y.0 ≡ [])) (ok_is ([], l) (path, after) e) (record { whole = refl; parts = refl; bytes = bytes }, refl)
 
 pub path_is : (there : Bool) (whole : ℕ) (path : List ℕ) → IsPathIf there path → IsTextOf (path_if there) whole (text_if there (with_count path)) path
 unfolding path_if

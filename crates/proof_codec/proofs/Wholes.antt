@@ -9,7 +9,7 @@ use Rattle.ledger_bytes.specs.declared.digest.Digest.{Digest}
 use Rattle.ledger_bytes.specs.declared.failure.Bad.{Bad}
 use Rattle.ledger_bytes.specs.declared.failure.NoMemory.{NoMemory}
 use Rattle.ledger_bytes.specs.declared.failure.Bad.TheVariants.{BadFixedField, TooLong, Trailing}
-use Rattle.ledger_bytes.specs.Fields.{Left, left_from, ◌>>=◌, number_at, digest_at, end_at, IsBytes, Took}
+use Rattle.ledger_bytes.specs.Fields.{Unread, left_from, ◌>>=◌, number_at, digest_at, end_at, IsBytes, Took}
 use Rattle.ledger_bytes.proofs.Fields.{bind_ok, check_ok, Took-then, wide64, byte_back, digest_back, IsTextOf, text_none, text_then, digest_text, number_text, byte_text}
 use Rattle.journal_record.proofs.ReadingSteps.{plain_takes, field_takes, field_text, answered}
 use Rattle.proof_codec.specs.Proofs.{ShownLower, ShownUpper, Shown, is_bounded, with_count, lower_text, upper_text, text_if, notary_text, front_text, spelling, IsDigests, HasFields, IsProof}
@@ -40,22 +40,22 @@ is_version version = eqb version 1
 abbrev pub bad_version : ℕ → Bad
 bad_version version = BadFixedField 0
 
-abbrev from_path : ℕ → ℕ → Digest → List ℕ × Left → Result (Front × Left) Bad
+abbrev from_path : ℕ → ℕ → Digest → List ℕ × Unread → Result (Front × Unread) Bad
 from_path size n leaf path = Ok ((size, n, leaf, path.0), path.1)
 
-abbrev from_leaf : ℕ → ℕ → Digest × Left → Result (Front × Left) Bad
+abbrev from_leaf : ℕ → ℕ → Digest × Unread → Result (Front × Unread) Bad
 from_leaf size n leaf = digests_at leaf.1 >>= from_path size n leaf.0
 
-abbrev from_n : ℕ → ℕ × Left → Result (Front × Left) Bad
+abbrev from_n : ℕ → ℕ × Unread → Result (Front × Unread) Bad
 from_n size n = digest_at n.1 >>= from_leaf size n.0
 
-abbrev from_size : ℕ × Left → Result (Front × Left) Bad
+abbrev from_size : ℕ × Unread → Result (Front × Unread) Bad
 from_size size = number_at w64 size.1 >>= from_n size.0
 
-abbrev pub from_version : ℕ × Left → Result (Front × Left) Bad
+abbrev pub from_version : ℕ × Unread → Result (Front × Unread) Bad
 from_version version = number_at w64 version.1 >>= from_size
 
-front_takes : (l : Left) (f : Front) (after : Left) → IsBytes l.rest → front_at l ≡ Ok (f, after) → Took l (front_bytes f) after × IsFront f
+front_takes : (l : Unread) (f : Front) (after : Unread) → IsBytes l.rest → front_at l ≡ Ok (f, after) → Took l (front_bytes f) after × IsFront f
 unfolding front_at
 front_takes l f after bytes e =
     let v = field_takes (number_at w8) (λ n. n ∷ []) (λ n. n < 2 ^ 8) byte_back is_version bad_version from_version l (f, after) bytes e in
@@ -87,25 +87,25 @@ front_is f whole fits =
 abbrev pub shown : Front → Option ShownLower → Option ShownUpper → ℕ → List ℕ → List ℕ → Shown
 shown f lo hi size lo_path hi_path = record { size = f.0; n = f.1; leaf = f.2; path = f.3; lo = lo; hi = hi; notary_size = size; lo_path = lo_path; hi_path = hi_path }
 
-abbrev from_hi_path : Front → Option ShownLower → Option ShownUpper → ℕ → List ℕ → List ℕ × Left → Result (Shown × Left) Bad
+abbrev from_hi_path : Front → Option ShownLower → Option ShownUpper → ℕ → List ℕ → List ℕ × Unread → Result (Shown × Unread) Bad
 from_hi_path f lo hi size lo_path hi_path = Ok (shown f lo hi size lo_path hi_path.0, hi_path.1)
 
-abbrev from_lo_path : Front → Option ShownLower → Option ShownUpper → ℕ → List ℕ × Left → Result (Shown × Left) Bad
+abbrev from_lo_path : Front → Option ShownLower → Option ShownUpper → ℕ → List ℕ × Unread → Result (Shown × Unread) Bad
 from_lo_path f lo hi size lo_path = path_if (is_some hi) lo_path.1 >>= from_hi_path f lo hi size lo_path.0
 
-abbrev from_notary : Front → Option ShownLower → Option ShownUpper → ℕ × Left → Result (Shown × Left) Bad
+abbrev from_notary : Front → Option ShownLower → Option ShownUpper → ℕ × Unread → Result (Shown × Unread) Bad
 from_notary f lo hi size = path_if (is_some lo) size.1 >>= from_lo_path f lo hi size.0
 
-abbrev pub from_hi : Front → Option ShownLower → Option ShownUpper × Left → Result (Shown × Left) Bad
+abbrev pub from_hi : Front → Option ShownLower → Option ShownUpper × Unread → Result (Shown × Unread) Bad
 from_hi f lo hi = size_if (is_bounded lo hi.0) hi.1 >>= from_notary f lo hi.0
 
-abbrev pub from_lo : Front → Option ShownLower × Left → Result (Shown × Left) Bad
+abbrev pub from_lo : Front → Option ShownLower × Unread → Result (Shown × Unread) Bad
 from_lo f lo = upper_at (50 + length f.3 + lower_len lo.0) lo.1 >>= from_hi f lo.0
 
-abbrev pub from_front : Front × Left → Result (Shown × Left) Bad
+abbrev pub from_front : Front × Unread → Result (Shown × Unread) Bad
 from_front f = lower_at (50 + length f.0.3) f.1 >>= from_lo f.0
 
-proof_takes : (l : Left) (p : Shown) (after : Left) → IsBytes l.rest → proof_at l ≡ Ok (p, after) → Took l (spelling p) after × HasFields p
+proof_takes : (l : Unread) (p : Shown) (after : Unread) → IsBytes l.rest → proof_at l ≡ Ok (p, after) → Took l (spelling p) after × HasFields p
 unfolding proof_at spelling front_text notary_text
 proof_takes l p after bytes e =
     let f = bind_ok (front_at l) from_front (p, after) e in
@@ -172,7 +172,7 @@ guard_then false d r y e = (refl, e)
 pub proof_of_takes : (bytes : List ℕ) (p : Shown) → IsBytes bytes → proof_of bytes ≡ Ok p → IsProof p × (bytes ≡ spelling p)
 unfolding proof_of
 proof_of_takes bytes p fits e =
-    let start : Left = left_from (length bytes) bytes in
+    let start : Unread = left_from (length bytes) bytes in
     let a = guard_then (ltb 8192 (length bytes)) TooLong (proof_at start >>= λ read. end_at read.0 read.1) p e in
     let b = bind_ok (proof_at start) (λ read. end_at read.0 read.1) p a.1 in
     let c = check_ok (eqb (length b.0.1.rest) 0) (Trailing (b.0.1.whole - length b.0.1.rest)) b.0.0 p b.2 in

@@ -5,7 +5,7 @@ use Rattle.std.specs.Option.{is_some}
 use Rattle.ledger_bytes.specs.declared.digest.Digest.{Digest}
 use Rattle.ledger_bytes.specs.declared.failure.Bad.{Bad}
 use Rattle.ledger_bytes.specs.declared.failure.Bad.TheVariants.{Short, Trailing, BadKind, BadFixedField, NewerFormat, TooLong}
-use Rattle.ledger_bytes.specs.Fields.{Left, left_from, ◌>>=◌, number_at, digest_at, bytes_at, check, end_at}
+use Rattle.ledger_bytes.specs.Fields.{Unread, left_from, ◌>>=◌, number_at, digest_at, bytes_at, check, end_at}
 use Rattle.journal_record.specs.declared.header.Header.{Header}
 use Rattle.journal_record.specs.declared.header.Kind.{Kind}
 use Rattle.journal_record.specs.declared.header.Kind.TheVariants.{Time}
@@ -14,13 +14,13 @@ use Rattle.journal_record.specs.Reading.{header_at}
 use Rattle.proof_codec.specs.Proofs.{ShownLower, ShownUpper, Shown, is_bounded, lower_len}
 
 -- digests behind their count
-unfoldable pub digests_at : Left → Result (List ℕ × Left) Bad
+unfoldable pub digests_at : Unread → Result (List ℕ × Unread) Bad
 digests_at l = do
   count ← number_at w8 l
   bytes_at (32 * count.0) count.1
 
 -- the flag of a bound: is it there?
-unfoldable pub flag_at : ℕ → Left → Result (Bool × Left) Bad
+unfoldable pub flag_at : ℕ → Unread → Result (Bool × Unread) Bad
 flag_at at l = do
   flag ← number_at w8 l
   _ ← check (nat_le flag.0 1) at
@@ -38,14 +38,14 @@ is_time Time = true
 is_time kind = false
 
 -- the header of a time journal
-unfoldable pub time_at : ℕ → Left → Result (Header × Left) Bad
+unfoldable pub time_at : ℕ → Unread → Result (Header × Unread) Bad
 time_at at l = do
   header ← header_break at (header_at l)
   _ ← check (is_time header.0.kind) at
   Ok header
 
 -- a lower bound that is there
-unfoldable pub some_lower_at : ℕ → Left → Result (Option ShownLower × Left) Bad
+unfoldable pub some_lower_at : ℕ → Unread → Result (Option ShownLower × Unread) Bad
 some_lower_at at l = do
   header ← time_at at l
   path ← digests_at header.1
@@ -54,13 +54,13 @@ some_lower_at at l = do
   Ok (Some (record { header = header.0; path = path.0; root = root.0; ext = ext.0 }), ext.1)
 
 -- a lower bound behind its flag
-unfoldable pub lower_at : ℕ → Left → Result (Option ShownLower × Left) Bad
+unfoldable pub lower_at : ℕ → Unread → Result (Option ShownLower × Unread) Bad
 lower_at at l = do
   flag ← flag_at at l
   if flag.0 then some_lower_at (at + 1) flag.1 else Ok (None, flag.1)
 
 -- a time mark
-unfoldable pub mark_at : Left → Result (TimeMark × Left) Bad
+unfoldable pub mark_at : Unread → Result (TimeMark × Unread) Bad
 mark_at l = do
   jsn ← number_at w64 l
   index ← number_at w64 jsn.1
@@ -68,7 +68,7 @@ mark_at l = do
   Ok (record { jsn = jsn.0; index = index.0; time = time.0 }, time.1)
 
 -- an upper bound that is there
-unfoldable pub some_upper_at : Left → Result (Option ShownUpper × Left) Bad
+unfoldable pub some_upper_at : Unread → Result (Option ShownUpper × Unread) Bad
 some_upper_at l = do
   mark ← mark_at l
   salt ← digest_at mark.1
@@ -77,21 +77,21 @@ some_upper_at l = do
   Ok (Some (record { mark = mark.0; salt = salt.0; root = root.0; ext = ext.0 }), ext.1)
 
 -- an upper bound behind its flag
-unfoldable pub upper_at : ℕ → Left → Result (Option ShownUpper × Left) Bad
+unfoldable pub upper_at : ℕ → Unread → Result (Option ShownUpper × Unread) Bad
 upper_at at l = do
   flag ← flag_at at l
   if flag.0 then some_upper_at flag.1 else Ok (None, flag.1)
 
 -- the size of the notary's tree, where there is a bound
-unfoldable pub size_if : Bool → Left → Result (ℕ × Left) Bad
+unfoldable pub size_if : Bool → Unread → Result (ℕ × Unread) Bad
 size_if there l = if there then number_at w64 l else Ok (0, l)
 
 -- the path of a bound's entry, where it is there
-unfoldable pub path_if : Bool → Left → Result (List ℕ × Left) Bad
+unfoldable pub path_if : Bool → Unread → Result (List ℕ × Unread) Bad
 path_if there l = if there then digests_at l else Ok ([], l)
 
 -- the fields in front of the bounds: the ledger's size, the journal, its leaf and its path
-unfoldable pub front_at : Left → Result ((ℕ × ℕ × Digest × List ℕ) × Left) Bad
+unfoldable pub front_at : Unread → Result ((ℕ × ℕ × Digest × List ℕ) × Unread) Bad
 front_at l = do
   version ← number_at w8 l
   _ ← check (version.0 == 1) 0
@@ -102,7 +102,7 @@ front_at l = do
   Ok ((size.0, n.0, leaf.0, path.0), path.1)
 
 -- the fields of a proof
-unfoldable pub proof_at : Left → Result (Shown × Left) Bad
+unfoldable pub proof_at : Unread → Result (Shown × Unread) Bad
 proof_at l = do
   front ← front_at l
   lo ← lower_at (50 + length front.0.3) front.1
@@ -142,6 +142,6 @@ IsBreak (NewerFormat found) = ⊥
 
 -- A call on a reader answers what the reading of several fields gives, seen by view. Where the reader stands
 -- after an error is left open.
-abbrev pub Reads : {A B : Type 0} → (A → B) → Result A Bad → Left → Result (B × Left) Bad → Type 0
-Reads view (Ok x) after read = read ≡ Ok (view x, after)
-Reads view (Err e) after read = read ≡ Err e
+abbrev pub ReadsSeen : {A B : Type 0} → (A → B) → Result A Bad → Unread → Result (B × Unread) Bad → Type 0
+ReadsSeen view (Ok x) after read = read ≡ Ok (view x, after)
+ReadsSeen view (Err e) after read = read ≡ Err e

@@ -1,7 +1,7 @@
 //! Reading a proof field by field.
 
 ghost use Rattle.std.specs.Prelude.{◌≡◌, ◌≤◌, length, IfOk};
-ghost use Rattle.ledger_bytes.specs.Fields.{Fits};
+ghost use Rattle.ledger_bytes.specs.Fields.{ReadsFields};
 ghost use Rattle.proof_codec.specs.Proofs.{lower_len, HasShortLower};
 ghost use Rattle.proof_codec.specs.Reading as reading;
 
@@ -28,7 +28,7 @@ pub(crate) fn read(bytes: &[u8]) -> Result<Proof<'_>, Bad>
 
 #[tactic(auto, unfolding(crate::specs::Reading::proof_at))]
 fn take_proof<'a>(reader: &mut FieldReader<'a>) -> Result<Proof<'a>, Bad>
-    ensures { Fits result reader.new (reading.proof_at reader.old) }
+    ensures { ReadsFields result reader.new (reading.proof_at reader.old) }
 {
     let (size, n, leaf, path) = take_front(reader)?;
     let lo_flag = 50 + path.len() as u64;
@@ -53,7 +53,7 @@ fn take_proof<'a>(reader: &mut FieldReader<'a>) -> Result<Proof<'a>, Bad>
 /// The ledger's size, the journal's number, its leaf and its path.
 #[tactic(auto, unfolding(crate::specs::Reading::front_at))]
 fn take_front<'a>(reader: &mut FieldReader<'a>) -> Result<(u64, u64, Digest, &'a [u8]), Bad>
-    ensures front { reading.Reads (λ x. (x.0, x.1, x.2, x.3.now)) result reader.new
+    ensures front { reading.ReadsSeen (λ x. (x.0, x.1, x.2, x.3.now)) result reader.new
         (reading.front_at reader.old) }
     ensures few { IfOk result (λ x. length x.3.now ≤ 8160) }
 {
@@ -69,7 +69,7 @@ fn take_front<'a>(reader: &mut FieldReader<'a>) -> Result<(u64, u64, Digest, &'a
 /// Digests behind their count.
 #[tactic(auto, unfolding(crate::specs::Reading::digests_at))]
 fn take_digests<'a>(reader: &mut FieldReader<'a>) -> Result<&'a [u8], Bad>
-    ensures digests { reading.Reads (λ x. x.now) result reader.new (reading.digests_at reader.old) }
+    ensures digests { reading.ReadsSeen (λ x. x.now) result reader.new (reading.digests_at reader.old) }
     ensures few { IfOk result (λ x. length x.now ≤ 8160) }
 {
     let count = reader.take_u8()?;
@@ -79,7 +79,7 @@ fn take_digests<'a>(reader: &mut FieldReader<'a>) -> Result<&'a [u8], Bad>
 /// The flag of a bound: is it there?
 #[tactic(auto, unfolding(crate::specs::Reading::flag_at))]
 fn take_flag(reader: &mut FieldReader, at: u64) -> Result<bool, Bad>
-    ensures { Fits result reader.new (reading.flag_at at reader.old) }
+    ensures { ReadsFields result reader.new (reading.flag_at at reader.old) }
 {
     let flag = reader.take_u8()?;
     check_field(flag <= 1, at)?;
@@ -90,7 +90,7 @@ fn take_flag(reader: &mut FieldReader, at: u64) -> Result<bool, Bad>
 #[tactic(auto, unfolding(crate::specs::Reading::lower_at))]
 fn take_lower<'a>(reader: &mut FieldReader<'a>, at: u64) -> Result<Option<Lower<'a>>, Bad>
     requires { at ≤ 8210 }
-    ensures lower { Fits result reader.new (reading.lower_at at reader.old) }
+    ensures lower { ReadsFields result reader.new (reading.lower_at at reader.old) }
     ensures few { IfOk result HasShortLower }
 {
     if take_flag(reader, at)? {
@@ -103,7 +103,7 @@ fn take_lower<'a>(reader: &mut FieldReader<'a>, at: u64) -> Result<Option<Lower<
 /// A lower bound, whose header stands at this place.
 #[tactic(auto, unfolding(crate::specs::Reading::some_lower_at))]
 fn take_some_lower<'a>(reader: &mut FieldReader<'a>, at: u64) -> Result<Option<Lower<'a>>, Bad>
-    ensures lower { Fits result reader.new (reading.some_lower_at at reader.old) }
+    ensures lower { ReadsFields result reader.new (reading.some_lower_at at reader.old) }
     ensures few { IfOk result HasShortLower }
 {
     let header = take_time(reader, at)?;
@@ -121,7 +121,7 @@ fn take_some_lower<'a>(reader: &mut FieldReader<'a>, at: u64) -> Result<Option<L
 /// The header of a time journal, which stands at this place.
 #[tactic(auto, unfolding(crate::specs::Reading::time_at))]
 fn take_time(reader: &mut FieldReader, at: u64) -> Result<Header, Bad>
-    ensures { Fits result reader.new (reading.time_at at reader.old) }
+    ensures { ReadsFields result reader.new (reading.time_at at reader.old) }
 {
     let header = header_break(take_header(reader), at)?;
     check_field(is_time(header.kind), at)?;
@@ -159,7 +159,7 @@ fn len_of(lower: &Option<Lower>) -> u64
 /// An upper bound behind its flag, which stands at this place.
 #[tactic(auto, unfolding(crate::specs::Reading::upper_at))]
 fn take_upper<'a>(reader: &mut FieldReader<'a>, at: u64) -> Result<Option<Upper<'a>>, Bad>
-    ensures { Fits result reader.new (reading.upper_at at reader.old) }
+    ensures { ReadsFields result reader.new (reading.upper_at at reader.old) }
 {
     if take_flag(reader, at)? {
         take_some_upper(reader)
@@ -170,7 +170,7 @@ fn take_upper<'a>(reader: &mut FieldReader<'a>, at: u64) -> Result<Option<Upper<
 
 #[tactic(auto, unfolding(crate::specs::Reading::some_upper_at))]
 fn take_some_upper<'a>(reader: &mut FieldReader<'a>) -> Result<Option<Upper<'a>>, Bad>
-    ensures { Fits result reader.new (reading.some_upper_at reader.old) }
+    ensures { ReadsFields result reader.new (reading.some_upper_at reader.old) }
 {
     let mark = take_mark(reader)?;
     let salt = reader.take_digest()?;
@@ -186,7 +186,7 @@ fn take_some_upper<'a>(reader: &mut FieldReader<'a>) -> Result<Option<Upper<'a>>
 
 #[tactic(auto, unfolding(crate::specs::Reading::mark_at))]
 fn take_mark(reader: &mut FieldReader) -> Result<TimeMark, Bad>
-    ensures { Fits result reader.new (reading.mark_at reader.old) }
+    ensures { ReadsFields result reader.new (reading.mark_at reader.old) }
 {
     let jsn = reader.take_u64()?;
     let index = reader.take_u64()?;
@@ -197,7 +197,7 @@ fn take_mark(reader: &mut FieldReader) -> Result<TimeMark, Bad>
 /// The size of the notary's list, where there is a bound.
 #[tactic(auto, unfolding(crate::specs::Reading::size_if))]
 fn take_size(reader: &mut FieldReader, is_bounded: bool) -> Result<u64, Bad>
-    ensures { Fits result reader.new (reading.size_if is_bounded reader.old) }
+    ensures { ReadsFields result reader.new (reading.size_if is_bounded reader.old) }
 {
     if is_bounded { reader.take_u64() } else { Ok(0) }
 }
@@ -205,7 +205,7 @@ fn take_size(reader: &mut FieldReader, is_bounded: bool) -> Result<u64, Bad>
 /// The path of a bound's entry, where it is there.
 #[tactic(auto, unfolding(crate::specs::Reading::path_if))]
 fn take_path<'a>(reader: &mut FieldReader<'a>, is_there: bool) -> Result<&'a [u8], Bad>
-    ensures { reading.Reads (λ x. x.now) result reader.new (reading.path_if is_there reader.old) }
+    ensures { reading.ReadsSeen (λ x. x.now) result reader.new (reading.path_if is_there reader.old) }
 {
     if is_there {
         take_digests(reader)

@@ -5,12 +5,12 @@ use Rattle.std.specs.Int.{Width, w8, w16, w32, w64, byte_len}
 use Rattle.ledger_bytes.specs.Digests.{zero_digest}
 use Rattle.ledger_bytes.specs.declared.failure.Bad.{Bad}
 use Rattle.ledger_bytes.specs.declared.failure.Bad.TheVariants.{Short, Trailing, NewerFormat}
-use Rattle.ledger_bytes.specs.Fields.{Left, left_from, number_at, digest_at, check, end_at}
+use Rattle.ledger_bytes.specs.Fields.{Unread, left_from, number_at, digest_at, check, end_at}
 use Rattle.pseudo_genesis.specs.declared.base.Base.{Base}
 use Rattle.pseudo_genesis.specs.declared.base.BaseErr.{BaseErr}
 use Rattle.pseudo_genesis.specs.declared.base.BaseErr.TheVariants as base_err
 use Rattle.pseudo_genesis.specs.Bases.{version_ok, point_ok, blocks_ok, members_ok, clues_ok, is_behind, is_inside}
-use Rattle.pseudo_genesis.specs.Reading.{any_digest_at, still, digests_at, known_version, front_at, keys_at, Before, state_at, behind, states_at, clues_at, base_at, base_of, Reads, IsBreak, IsFailure}
+use Rattle.pseudo_genesis.specs.Reading.{any_digest_at, still, digests_at, known_version, front_at, keys_at, Before, state_at, behind, states_at, clues_at, base_at, base_of, ReadsBase, IsBreak, IsFailure}
 use Rattle.pseudo_genesis.proofs.Many.{then_breaks, many_breaks}
 
 short_breaks : {A : Type 0} (b : Bool) (at : ℕ) (x : A) → IfErr (cond b (Err (Short at)) (Ok x)) IsBreak
@@ -25,13 +25,13 @@ end_breaks : {A : Type 0} (b : Bool) (at : ℕ) (x : A) → IfErr (cond b (Ok x)
 end_breaks true at x = tt
 end_breaks false at x = tt
 
-number_breaks : (w : Width) (l : Left) → IfErr (number_at w l) IsBreak
+number_breaks : (w : Width) (l : Unread) → IfErr (number_at w l) IsBreak
 number_breaks w l = short_breaks (ltb (length l.rest) (byte_len w)) l.whole _
 
-digest_breaks : (l : Left) → IfErr (digest_at l) IsBreak
+digest_breaks : (l : Unread) → IfErr (digest_at l) IsBreak
 digest_breaks l = short_breaks (ltb (length l.rest) 32) l.whole _
 
-digests_breaks : (n : ℕ) (l : Left) → IfErr (digests_at n l) IsBreak
+digests_breaks : (n : ℕ) (l : Unread) → IfErr (digests_at n l) IsBreak
 unfolding digests_at
 digests_breaks n l = many_breaks any_digest_at still (λ known. digest_breaks) n tt l
 
@@ -45,7 +45,7 @@ test_breaks false version = tt
 version_breaks : (version : ℕ) → IfErr (known_version version) IsBreak
 version_breaks version = test_breaks (version_ok version) version
 
-front_breaks : (l : Left) → IfErr (front_at l) IsBreak
+front_breaks : (l : Unread) → IfErr (front_at l) IsBreak
 unfolding front_at
 front_breaks l =
     then_breaks (number_at w8 l) _ (number_breaks w8 l)
@@ -56,13 +56,13 @@ front_breaks l =
     (λ _. then_breaks (number_at w64 point.1) _ (number_breaks w64 point.1)
     (λ blocks. then_breaks (check (blocks_ok point.0 blocks.0) 41) _ (check_breaks (blocks_ok point.0 blocks.0) 41) (λ _. tt)))))))
 
-keys_breaks : (at : ℕ) (l : Left) → IfErr (keys_at at l) IsBreak
+keys_breaks : (at : ℕ) (l : Unread) → IfErr (keys_at at l) IsBreak
 unfolding keys_at
 keys_breaks at l =
     then_breaks (number_at w16 l) _ (number_breaks w16 l)
     (λ count. then_breaks (check (members_ok count.0) at) _ (check_breaks (members_ok count.0) at) (λ _. digests_breaks count.0 count.1))
 
-state_breaks : (point : ℕ) (before : Before) (l : Left) → IfErr (state_at point before l) IsBreak
+state_breaks : (point : ℕ) (before : Before) (l : Unread) → IfErr (state_at point before l) IsBreak
 unfolding state_at
 state_breaks point before l =
     then_breaks (digest_at l) _ (digest_breaks l)
@@ -72,14 +72,14 @@ state_breaks point before l =
     (λ _. then_breaks (number_at w64 count.1) _ (number_breaks w64 count.1)
     (λ last. then_breaks (check (is_inside point last.0) (before.place + 36)) _ (check_breaks (is_inside point last.0) (before.place + 36)) (λ _. tt))))))
 
-clues_breaks : (point at : ℕ) (l : Left) → IfErr (clues_at point at l) IsBreak
+clues_breaks : (point at : ℕ) (l : Unread) → IfErr (clues_at point at l) IsBreak
 unfolding clues_at states_at
 clues_breaks point at l =
     then_breaks (number_at w32 l) _ (number_breaks w32 l)
     (λ count. then_breaks (check (clues_ok count.0) at) _ (check_breaks (clues_ok count.0) at)
     (λ _. many_breaks (state_at point) behind (state_breaks point) count.0 (record { clue = zero_digest; place = at + 4 }) count.1))
 
-base_breaks : (l : Left) → IfErr (base_at l) IsBreak
+base_breaks : (l : Unread) → IfErr (base_at l) IsBreak
 unfolding base_at
 base_breaks l =
     then_breaks (front_at l) _ (front_breaks l)
@@ -90,14 +90,14 @@ base_breaks l =
 base_of_breaks : (bytes : List ℕ) → IfErr (base_of bytes) IsBreak
 unfolding base_of
 base_of_breaks bytes =
-    let start : Left = left_from (length bytes) bytes in
+    let start : Unread = left_from (length bytes) bytes in
     then_breaks (base_at start) (λ read. end_at read.0 read.1) (base_breaks start)
     (λ read. end_breaks (eqb (length read.1.rest) 0) (read.1.whole - length read.1.rest) read.0)
 
 broken : (read : Result Base Bad) (bad : Bad) → IfErr read IsBreak → read ≡ Err bad → IsBreak bad
 broken read bad breaks e = subst (λ r. IfErr r IsBreak) e breaks
 
-pub read_breaks : (bytes : List ℕ) (read : Result Base BaseErr) → Reads read (base_of bytes) → IfErr read IsFailure
+pub read_breaks : (bytes : List ℕ) (read : Result Base BaseErr) → ReadsBase read (base_of bytes) → IfErr read IsFailure
 read_breaks bytes (Ok b) e = tt
 read_breaks bytes (Err (base_err.Bad bad)) e = broken (base_of bytes) bad (base_of_breaks bytes) e
 read_breaks bytes (Err base_err.NoMemory) e = tt

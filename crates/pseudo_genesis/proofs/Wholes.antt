@@ -12,7 +12,7 @@ use Rattle.ledger_bytes.specs.Digests.{zero_digest}
 use Rattle.ledger_bytes.specs.declared.digest.Digest.{Digest}
 use Rattle.ledger_bytes.specs.declared.failure.Bad.{Bad}
 use Rattle.ledger_bytes.specs.declared.failure.Bad.TheVariants.{Short, Trailing, BadFixedField, NewerFormat}
-use Rattle.ledger_bytes.specs.Fields.{Left, left_from, ◌>>=◌, number_at, digest_at, end_at, IsBytes, Took, ReadsBack}
+use Rattle.ledger_bytes.specs.Fields.{Unread, left_from, ◌>>=◌, number_at, digest_at, end_at, IsBytes, Took, ReadsBack}
 use Rattle.ledger_bytes.proofs.Fields.{bind_ok, check_ok, Took-then, wide16, wide32, wide64, number_back, byte_back, digest_back, IsTextOf, text_none, text_then, digest_text, number_text, byte_text, cut_told, trailing_told}
 use Rattle.journal_record.proofs.ReadingSteps.{ruled, plain_takes, field_takes, field_text, answered}
 use Rattle.clue_index.specs.declared.state.ClueState.{ClueState}
@@ -20,7 +20,7 @@ use Rattle.pseudo_genesis.specs.declared.base.Base.{Base}
 use Rattle.pseudo_genesis.specs.Bases.{version_ok, point_ok, blocks_ok, members_ok, clues_ok, is_behind, is_inside, IsState, AreStates, IsBase, digests_text, state_text, states_text, front_text, keys_text, clues_text, spelling, IsWide, HasStateWidths, HasWidths}
 use Rattle.pseudo_genesis.specs.declared.base.BaseErr.{BaseErr}
 use Rattle.pseudo_genesis.specs.declared.base.BaseErr.TheVariants as base_err
-use Rattle.pseudo_genesis.specs.Reading.{any_digest_at, still, digests_at, front_at, keys_at, Before, state_at, behind, states_at, clues_at, base_at, base_of, Reads}
+use Rattle.pseudo_genesis.specs.Reading.{any_digest_at, still, digests_at, front_at, keys_at, Before, state_at, behind, states_at, clues_at, base_at, base_of, ReadsBase}
 use Rattle.pseudo_genesis.proofs.Many.{AreFit, many_takes, many_text, text_last, text_end}
 
 abbrev back16 : ReadsBack (number_at w16) (to_be_bytes w16) (λ n. n < 2 ^ 16)
@@ -48,7 +48,7 @@ fit_wide : (digests : List Digest) → All IsWide digests → AreFit any_digest_
 fit_wide [] wide = tt
 fit_wide (d ∷ digests) wide = (All-head IsWide d digests wide, fit_wide digests (All-tail IsWide d digests wide))
 
-digests_takes : (n : ℕ) (l : Left) (digests : List Digest) (after : Left) → IsBytes l.rest → digests_at n l ≡ Ok (digests, after) → Took l (digests_text digests) after × All IsWide digests × (length digests ≡ n)
+digests_takes : (n : ℕ) (l : Unread) (digests : List Digest) (after : Unread) → IsBytes l.rest → digests_at n l ≡ Ok (digests, after) → Took l (digests_text digests) after × All IsWide digests × (length digests ≡ n)
 unfolding digests_at
 digests_takes n l digests after bytes e =
     let t = many_takes any_digest_at still (λ (d : Digest). d.0) fits_digest (λ known. digest_back.takes) n tt l digests after bytes e in (t.0, are_wide digests t.1, t.2)
@@ -72,19 +72,19 @@ record IsFront (f : Front) : Type 0 where
 abbrev front_bytes : Front → List ℕ
 front_bytes f = 1 ∷ (f.0.0 ++ (to_be_bytes w64 f.1 ++ to_be_bytes w64 f.2))
 
-abbrev from_blocks : Digest → ℕ → ℕ × Left → Result (Front × Left) Bad
+abbrev from_blocks : Digest → ℕ → ℕ × Unread → Result (Front × Unread) Bad
 from_blocks id point blocks = Ok ((id, point, blocks.0), blocks.1)
 
-abbrev from_point : Digest → ℕ × Left → Result (Front × Left) Bad
+abbrev from_point : Digest → ℕ × Unread → Result (Front × Unread) Bad
 from_point id point = number_at w64 point.1 >>= ruled (blocks_ok point.0) (at_place 41) (from_blocks id point.0)
 
-abbrev from_id : Digest × Left → Result (Front × Left) Bad
+abbrev from_id : Digest × Unread → Result (Front × Unread) Bad
 from_id id = number_at w64 id.1 >>= ruled point_ok (at_place 33) (from_point id.0)
 
-abbrev from_version : ℕ × Left → Result (Front × Left) Bad
+abbrev from_version : ℕ × Unread → Result (Front × Unread) Bad
 from_version version = digest_at version.1 >>= from_id
 
-front_takes : (l : Left) (f : Front) (after : Left) → IsBytes l.rest → front_at l ≡ Ok (f, after) → Took l (front_bytes f) after × IsFront f
+front_takes : (l : Unread) (f : Front) (after : Unread) → IsBytes l.rest → front_at l ≡ Ok (f, after) → Took l (front_bytes f) after × IsFront f
 unfolding front_at
 front_takes l f after bytes e =
     let v = field_takes (number_at w8) (λ n. n ∷ []) (λ n. n < 2 ^ 8) byte_back version_ok NewerFormat from_version l (f, after) bytes e in
@@ -116,7 +116,7 @@ record AreKeys (keys : List Digest) : Type 0 where
   count : length keys < 2 ^ 16
   members : members_ok (length keys) ≡ true
 
-keys_takes : (at : ℕ) (l : Left) (keys : List Digest) (after : Left) → IsBytes l.rest → keys_at at l ≡ Ok (keys, after) → Took l (keys_text keys) after × (members_ok (length keys) ≡ true) × All IsWide keys
+keys_takes : (at : ℕ) (l : Unread) (keys : List Digest) (after : Unread) → IsBytes l.rest → keys_at at l ≡ Ok (keys, after) → Took l (keys_text keys) after × (members_ok (length keys) ≡ true) × All IsWide keys
 unfolding keys_at keys_text
 keys_takes at l keys after bytes e =
     let n = field_takes (number_at w16) (to_be_bytes w16) (λ n. n < 2 ^ 16) back16 members_ok (at_place at) (λ count. digests_at count.0 count.1) l (keys, after) bytes e in
@@ -136,16 +136,16 @@ record FitsState (point : ℕ) (before : Before) (s : ClueState) : Type 0 where
   rules : IsState point before.clue s
   widths : HasStateWidths s
 
-abbrev from_last : Digest → ℕ → ℕ × Left → Result (ClueState × Left) Bad
+abbrev from_last : Digest → ℕ → ℕ × Unread → Result (ClueState × Unread) Bad
 from_last clue count last = Ok (record { clue = clue; count = count; last = last.0 }, last.1)
 
-abbrev from_count : ℕ → Before → Digest → ℕ × Left → Result (ClueState × Left) Bad
+abbrev from_count : ℕ → Before → Digest → ℕ × Unread → Result (ClueState × Unread) Bad
 from_count point before clue count = number_at w64 count.1 >>= ruled (is_inside point) (at_place (before.place + 36)) (from_last clue count.0)
 
-abbrev from_clue : ℕ → Before → Digest × Left → Result (ClueState × Left) Bad
+abbrev from_clue : ℕ → Before → Digest × Unread → Result (ClueState × Unread) Bad
 from_clue point before clue = number_at w32 clue.1 >>= ruled (is_inside point) (at_place (before.place + 32)) (from_count point before clue.0)
 
-state_takes : (point : ℕ) (before : Before) (l : Left) (s : ClueState) (after : Left) → IsBytes l.rest → state_at point before l ≡ Ok (s, after) → Took l (state_text s) after × FitsState point before s
+state_takes : (point : ℕ) (before : Before) (l : Unread) (s : ClueState) (after : Unread) → IsBytes l.rest → state_at point before l ≡ Ok (s, after) → Took l (state_text s) after × FitsState point before s
 unfolding state_at
 state_takes point before l s after bytes e =
     let c = field_takes digest_at (λ d. d.0) (λ d. length d.0 ≡ 32) digest_back (is_behind before.clue) (at_place before.place) (from_clue point before) l (s, after) bytes e in
@@ -187,7 +187,7 @@ record AreClues (point : ℕ) (states : List ClueState) : Type 0 where
 abbrev first_before : ℕ → Before
 first_before at = record { clue = zero_digest; place = at + 4 }
 
-clues_takes : (point at : ℕ) (l : Left) (states : List ClueState) (after : Left) → IsBytes l.rest → clues_at point at l ≡ Ok (states, after)
+clues_takes : (point at : ℕ) (l : Unread) (states : List ClueState) (after : Unread) → IsBytes l.rest → clues_at point at l ≡ Ok (states, after)
     → Took l (clues_text states) after × (clues_ok (length states) ≡ true) × AreStates point zero_digest states × All HasStateWidths states
 unfolding clues_at clues_text states_at
 clues_takes point at l states after bytes e =
@@ -208,23 +208,23 @@ clues_is point at whole states fits =
 abbrev base_from : Front → List Digest → List Digest → List ClueState → Base
 base_from f peaks keys clues = record { id = f.0; point = f.1; blocks = f.2; peaks = peaks; keys = keys; clues = clues }
 
-abbrev from_clues : Front → List Digest → List Digest → List ClueState × Left → Result (Base × Left) Bad
+abbrev from_clues : Front → List Digest → List Digest → List ClueState × Unread → Result (Base × Unread) Bad
 from_clues f peaks keys clues = Ok (base_from f peaks keys clues.0, clues.1)
 
-abbrev from_keys : Front → List Digest → List Digest × Left → Result (Base × Left) Bad
+abbrev from_keys : Front → List Digest → List Digest × Unread → Result (Base × Unread) Bad
 from_keys f peaks keys = clues_at f.1 (51 + 32 * count_ones f.1 + 32 * length keys.0) keys.1 >>= from_clues f peaks keys.0
 
-abbrev from_peaks : Front → List Digest × Left → Result (Base × Left) Bad
+abbrev from_peaks : Front → List Digest × Unread → Result (Base × Unread) Bad
 from_peaks f peaks = keys_at (49 + 32 * count_ones f.1) peaks.1 >>= from_keys f peaks.0
 
-abbrev from_front : Front × Left → Result (Base × Left) Bad
+abbrev from_front : Front × Unread → Result (Base × Unread) Bad
 from_front front = digests_at (count_ones front.0.1) front.1 >>= from_peaks front.0
 
 record IsSpelled (b : Base) : Type 0 where
   rules : IsBase b
   widths : HasWidths b
 
-base_takes : (l : Left) (b : Base) (after : Left) → IsBytes l.rest → base_at l ≡ Ok (b, after) → Took l (spelling b) after × IsSpelled b
+base_takes : (l : Unread) (b : Base) (after : Unread) → IsBytes l.rest → base_at l ≡ Ok (b, after) → Took l (spelling b) after × IsSpelled b
 unfolding base_at spelling front_text
 base_takes l b after bytes e =
     let f = bind_ok (front_at l) from_front (b, after) e in
@@ -272,7 +272,7 @@ base_text b whole rules widths =
 base_of_takes : (bytes : List ℕ) (b : Base) → IsBytes bytes → base_of bytes ≡ Ok b → IsBase b × HasWidths b × (bytes ≡ spelling b)
 unfolding base_of
 base_of_takes bytes b fits e =
-    let start : Left = left_from (length bytes) bytes in
+    let start : Unread = left_from (length bytes) bytes in
     let r = bind_ok (base_at start) (λ read. end_at read.0 read.1) b e in
     let c = check_ok (eqb (length r.0.1.rest) 0) (Trailing (r.0.1.whole - length r.0.1.rest)) r.0.0 b r.2 in
     let took = base_takes start r.0.0 r.0.1 fits r.1 in
@@ -297,11 +297,11 @@ base_of_trailing bytes b rest rules widths some e = trailing_told base_at bytes 
 
 -- ---- what a call that reads answers
 
-pub read_found : (bytes : List ℕ) (read : Result Base BaseErr) → IsBytes bytes → Reads read (base_of bytes) → IfOk read (λ b. IsBase b × HasWidths b × (bytes ≡ spelling b))
+pub read_found : (bytes : List ℕ) (read : Result Base BaseErr) → IsBytes bytes → ReadsBase read (base_of bytes) → IfOk read (λ b. IsBase b × HasWidths b × (bytes ≡ spelling b))
 read_found bytes (Ok b) fits e = base_of_takes bytes b fits e
 read_found bytes (Err failure) fits e = tt
 
-pub read_only : (bytes : List ℕ) (read : Result Base BaseErr) (b : Base) → base_of bytes ≡ Ok b → Reads read (base_of bytes) → (read ≡ Ok b) ⊎ (read ≡ Err base_err.NoMemory)
+pub read_only : (bytes : List ℕ) (read : Result Base BaseErr) (b : Base) → base_of bytes ≡ Ok b → ReadsBase read (base_of bytes) → (read ≡ Ok b) ⊎ (read ≡ Err base_err.NoMemory)
 read_only bytes (Ok x) b is e = inl (let same : x ≡ b = cc in ap (λ y. Ok y) same)
 read_only bytes (Err (base_err.Bad bad)) b is e = absurd cc
 read_only bytes (Err base_err.NoMemory) b is e = inr refl

@@ -5,7 +5,7 @@ use Rattle.ledger_bytes.specs.Digests.{zero_digest}
 use Rattle.ledger_bytes.specs.declared.digest.Digest.{Digest}
 use Rattle.ledger_bytes.specs.declared.failure.Bad.{Bad}
 use Rattle.ledger_bytes.specs.declared.failure.Bad.TheVariants as bad
-use Rattle.ledger_bytes.specs.Fields.{Left, left_from, ◌>>=◌, number_at, digest_at, check, end_at}
+use Rattle.ledger_bytes.specs.Fields.{Unread, left_from, ◌>>=◌, number_at, digest_at, check, end_at}
 use Rattle.clue_index.specs.declared.state.ClueState.{ClueState}
 use Rattle.pseudo_genesis.specs.declared.base.Base.{Base}
 use Rattle.pseudo_genesis.specs.declared.base.BaseErr.{BaseErr}
@@ -13,7 +13,7 @@ use Rattle.pseudo_genesis.specs.declared.base.BaseErr.TheVariants as base_err
 use Rattle.pseudo_genesis.specs.Bases.{version_ok, point_ok, blocks_ok, members_ok, clues_ok, is_behind, is_inside}
 
 -- n items one after the other, each read by what is known in front of it
-abbrev pub many_at : {S A : Type 0} → (S → Left → Result (A × Left) Bad) → (S → A → S) → ℕ → S → Left → Result (List A × Left) Bad
+abbrev pub many_at : {S A : Type 0} → (S → Unread → Result (A × Unread) Bad) → (S → A → S) → ℕ → S → Unread → Result (List A × Unread) Bad
 many_at read next zero known l = Ok ([], l)
 many_at read next (suc n) known l = do
   item ← read known l
@@ -21,14 +21,14 @@ many_at read next (suc n) known l = do
   Ok (item.0 ∷ more.0, more.1)
 
 -- nothing needs to be known for the next digest
-abbrev pub any_digest_at : ⊤ → Left → Result (Digest × Left) Bad
+abbrev pub any_digest_at : ⊤ → Unread → Result (Digest × Unread) Bad
 any_digest_at known l = digest_at l
 
 abbrev pub still : ⊤ → Digest → ⊤
 still known digest = known
 
 -- n digests
-unfoldable pub digests_at : ℕ → Left → Result (List Digest × Left) Bad
+unfoldable pub digests_at : ℕ → Unread → Result (List Digest × Unread) Bad
 digests_at n l = many_at any_digest_at still n tt l
 
 -- a version that is known
@@ -36,7 +36,7 @@ abbrev pub known_version : ℕ → Result (Unit {0}) Bad
 known_version version = if version_ok version then Ok tt else Err (bad.NewerFormat version)
 
 -- version, id, point and blocks
-unfoldable pub front_at : Left → Result ((Digest × ℕ × ℕ) × Left) Bad
+unfoldable pub front_at : Unread → Result ((Digest × ℕ × ℕ) × Unread) Bad
 front_at l = do
   version ← number_at w8 l
   _ ← known_version version.0
@@ -48,7 +48,7 @@ front_at l = do
   Ok ((id.0, point.0, blocks.0), blocks.1)
 
 -- keys behind their count, which stands at a place
-unfoldable pub keys_at : ℕ → Left → Result (List Digest × Left) Bad
+unfoldable pub keys_at : ℕ → Unread → Result (List Digest × Unread) Bad
 keys_at at l = do
   count ← number_at w16 l
   _ ← check (members_ok count.0) at
@@ -60,7 +60,7 @@ pub record Before : Type 0 where
   pub place : ℕ
 
 -- the state of a clue
-unfoldable pub state_at : ℕ → Before → Left → Result (ClueState × Left) Bad
+unfoldable pub state_at : ℕ → Before → Unread → Result (ClueState × Unread) Bad
 state_at point before l = do
   clue ← digest_at l
   _ ← check (is_behind before.clue clue.0) before.place
@@ -75,18 +75,18 @@ abbrev pub behind : Before → ClueState → Before
 behind before state = record { clue = state.clue; place = before.place + 44 }
 
 -- n states of clues behind a clue
-unfoldable pub states_at : ℕ → ℕ → Before → Left → Result (List ClueState × Left) Bad
+unfoldable pub states_at : ℕ → ℕ → Before → Unread → Result (List ClueState × Unread) Bad
 states_at point n before l = many_at (state_at point) behind n before l
 
 -- the states of clues behind their count, which stands at a place
-unfoldable pub clues_at : ℕ → ℕ → Left → Result (List ClueState × Left) Bad
+unfoldable pub clues_at : ℕ → ℕ → Unread → Result (List ClueState × Unread) Bad
 clues_at point at l = do
   count ← number_at w32 l
   _ ← check (clues_ok count.0) at
   states_at point count.0 (record { clue = zero_digest; place = at + 4 }) count.1
 
 -- the fields of a base
-unfoldable pub base_at : Left → Result (Base × Left) Bad
+unfoldable pub base_at : Unread → Result (Base × Unread) Bad
 base_at l = do
   front ← front_at l
   peaks ← digests_at (count_ones front.0.1) front.1
@@ -111,17 +111,17 @@ base_of bytes = do
   end_at read.0 read.1
 
 -- A call answers what a reading gives, or that memory was wanted.
-abbrev pub Reads : {A : Type 0} → Result A BaseErr → Result A Bad → Type 0
-Reads (Ok x) read = read ≡ Ok x
-Reads (Err (base_err.Bad bad)) read = read ≡ Err bad
-Reads (Err base_err.NoMemory) read = ⊤
+abbrev pub ReadsBase : {A : Type 0} → Result A BaseErr → Result A Bad → Type 0
+ReadsBase (Ok x) read = read ≡ Ok x
+ReadsBase (Err (base_err.Bad bad)) read = read ≡ Err bad
+ReadsBase (Err base_err.NoMemory) read = ⊤
 
 -- A call on a reader answers what the reading of several fields gives, or that memory was wanted. Where the
 -- reader stands after an error is left open.
-abbrev pub Takes : {A : Type 0} → Result A BaseErr → Left → Result (A × Left) Bad → Type 0
-Takes (Ok x) after read = read ≡ Ok (x, after)
-Takes (Err (base_err.Bad bad)) after read = read ≡ Err bad
-Takes (Err base_err.NoMemory) after read = ⊤
+abbrev pub TakesBase : {A : Type 0} → Result A BaseErr → Unread → Result (A × Unread) Bad → Type 0
+TakesBase (Ok x) after read = read ≡ Ok (x, after)
+TakesBase (Err (base_err.Bad bad)) after read = read ≡ Err bad
+TakesBase (Err base_err.NoMemory) after read = ⊤
 
 -- how the bytes of a base can break
 abbrev pub IsBreak : Bad → Type 0

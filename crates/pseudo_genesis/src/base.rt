@@ -81,14 +81,14 @@ impl Base {
     ghost use Rattle.pseudo_genesis.specs.declared.base.BaseErr.TheVariants as base_err;
     ghost use Rattle.ledger_bytes.specs.declared.failure.Bad.TheVariants as bad;
     ghost use Rattle.pseudo_genesis.specs.Bases.{IsBase, HasWidths, HasCounts, spelling};
-    ghost use Rattle.pseudo_genesis.specs.Reading.{base_of, Reads, IsFailure};
+    ghost use Rattle.pseudo_genesis.specs.Reading.{base_of, ReadsBase, IsFailure};
 
     /// Reads a base. The first break in the order of the bytes is told: `NewerFormat` for another version,
     /// `BadFixedField` with its offset for a number or a clue that breaks its rule, `Short` with the input's length
     /// where a field isn't whole, and at last `Trailing`.
     pub fn decode(alloc: Global, bytes: &[u8]) -> Result<Base, BaseErr>
         // Which answer it is, and at a break which break and where.
-        ensures exact { Reads result (base_of bytes.now) }
+        ensures exact { ReadsBase result (base_of bytes.now) }
         // What is read keeps every rule and is spelled so, each byte of it.
         ensures found { IfOk result (λ b. IsBase b × HasWidths b × (bytes.now ≡ spelling b)) }
         // What keeps every rule and is spelled so is read.
@@ -98,11 +98,11 @@ impl Base {
         ensures breaks { IfErr result IsFailure }
         // What is left of a base when its end is cut off is too short.
         ensures cut { (b : BaseRecord) (k : ℕ) → IsBase b → HasWidths b → k < length (spelling b)
-            → bytes.now ≡ take k (spelling b) → Reads result (Err (bad.Short k)) }
+            → bytes.now ≡ take k (spelling b) → ReadsBase result (Err (bad.Short k)) }
         // Bytes behind a base are told by the place of the first.
         ensures trailing { (b : BaseRecord) (rest : List ℕ) → IsBase b → HasWidths b → rest ≢ []
             → bytes.now ≡ spelling b ++ rest
-            → Reads result (Err (bad.Trailing (length (spelling b)))) }
+            → ReadsBase result (Err (bad.Trailing (length (spelling b)))) }
     {
         read(alloc, bytes)
     }

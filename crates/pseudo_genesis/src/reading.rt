@@ -1,7 +1,7 @@
 //! Reading a base field by field.
 
 ghost use Rattle.std.specs.Prelude.{◌≡◌, ◌≤◌, ◌<◌, ◌^◌, ◌++◌, [], ◌∷◌, length, IfOk, OnOk};
-ghost use Rattle.ledger_bytes.specs.Fields.{Fits};
+ghost use Rattle.ledger_bytes.specs.Fields.{ReadsFields};
 ghost use Rattle.ledger_bytes.specs.Digests.{zero_digest};
 ghost use Rattle.pseudo_genesis.specs.Bases.{is_behind, is_inside};
 ghost use Rattle.pseudo_genesis.specs.Reading as reading;
@@ -17,7 +17,7 @@ const VERSION: u8 = 1;
 /// The base that all the bytes spell.
 #[tactic(auto, unfolding(crate::specs::Reading::base_of))]
 pub(crate) fn read(alloc: Global, bytes: &[u8]) -> Result<Base, BaseErr>
-    ensures { reading.Reads result (reading.base_of bytes.now) }
+    ensures { reading.ReadsBase result (reading.base_of bytes.now) }
 {
     let mut reader = FieldReader::new(bytes);
     let base = take_base(alloc, &mut reader)?;
@@ -27,7 +27,7 @@ pub(crate) fn read(alloc: Global, bytes: &[u8]) -> Result<Base, BaseErr>
 
 #[tactic(auto, unfolding(crate::specs::Reading::base_at))]
 fn take_base(alloc: Global, reader: &mut FieldReader) -> Result<Base, BaseErr>
-    ensures { reading.Takes result reader.new (reading.base_at reader.old) }
+    ensures { reading.TakesBase result reader.new (reading.base_at reader.old) }
 {
     let (id, point, blocks) = take_front(reader)?;
     let count = point.count_ones();
@@ -49,7 +49,7 @@ fn take_base(alloc: Global, reader: &mut FieldReader) -> Result<Base, BaseErr>
 /// The ledger's id, the point and the number of blocks.
 #[tactic(auto, unfolding(crate::specs::Reading::front_at))]
 fn take_front(reader: &mut FieldReader) -> Result<(Digest, u64, u64), Bad>
-    ensures { Fits result reader.new (reading.front_at reader.old) }
+    ensures { ReadsFields result reader.new (reading.front_at reader.old) }
 {
     let version = reader.take_u8()?;
     if version != VERSION {
@@ -68,7 +68,7 @@ fn take_digests(
     reader: &mut FieldReader,
     count: u32,
 ) -> Result<Items<Digest>, BaseErr>
-    ensures digests { reading.Takes result reader.new (reading.digests_at count reader.old) }
+    ensures digests { reading.TakesBase result reader.new (reading.digests_at count reader.old) }
     ensures number { IfOk result (λ digests. length digests ≡ count) }
 {
     let mut digests = Vec::new(alloc);
@@ -82,7 +82,7 @@ fn take_digests(
 /// Keys behind their count, which stands at this place.
 #[tactic(auto, unfolding(crate::specs::Reading::keys_at))]
 fn take_keys(alloc: Global, reader: &mut FieldReader, at: u64) -> Result<Items<Digest>, BaseErr>
-    ensures keys { reading.Takes result reader.new (reading.keys_at at reader.old) }
+    ensures keys { reading.TakesBase result reader.new (reading.keys_at at reader.old) }
     ensures few { IfOk result (λ keys. length keys ≤ MEMBER_LIMIT) }
 {
     let count = u32::from(reader.take_u16()?);
@@ -99,7 +99,7 @@ fn take_clues(
     at: u64,
 ) -> Result<Items<ClueState>, BaseErr>
     requires { at < 2 ^ 40 }
-    ensures { reading.Takes result reader.new (reading.clues_at point at reader.old) }
+    ensures { reading.TakesBase result reader.new (reading.clues_at point at reader.old) }
 {
     let count = reader.take_u32()?;
     check_field(count <= CLUE_LIMIT, at)?;
@@ -115,7 +115,7 @@ fn take_states(
     at: u64,
 ) -> Result<Items<ClueState>, BaseErr>
     requires { at < 2 ^ 41 }
-    ensures { reading.Takes result reader.new
+    ensures { reading.TakesBase result reader.new
         (reading.states_at point count (record { clue = zero_digest; place = at }) reader.old) }
 {
     let mut states = Vec::new(alloc);
@@ -137,7 +137,7 @@ fn take_state(
     at: u64,
 ) -> Result<ClueState, Bad>
     requires { at < 2 ^ 63 }
-    ensures { Fits result reader.new
+    ensures { ReadsFields result reader.new
         (reading.state_at point (record { clue = before.now; place = at }) reader.old) }
 {
     let clue = reader.take_digest()?;

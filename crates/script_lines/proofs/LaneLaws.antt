@@ -1,7 +1,7 @@
 -- The lane that a line belongs to, by its first bytes.
 use Rattle.std.proofs.Common.{◌≡◌, ◌≢◌, ℕ, ◌+◌, ◌-◌, ◌<◌, ◌≤◌, ◌==◌, ◌&&◌, nat_le, nat_lt, Bool, true, false, List, [], ◌∷◌, length, slice_index_or, cond, refl, sym, arith, Some, None}
 use Rattle.std.specs.List.{slice_split, onto_first}
-use Rattle.script_lines.specs.Fields.{Left, field_at}
+use Rattle.script_lines.specs.Fields.{UnreadFields, field_at}
 use Rattle.script_lines.specs.Spellings.{text_of}
 use Rattle.script_lines.specs.Grammar.{lane_or_zero, spoken_by, spoken_at, spoken_line, lanes}
 
@@ -9,7 +9,7 @@ use Rattle.script_lines.specs.Grammar.{lane_or_zero, spoken_by, spoken_at, spoke
 abbrev lane_by : List (List ℕ) → ℕ
 lane_by fields = (spoken_at (field_at text_of (record { column = 1; fields = fields }))).0
 
-served : (b : Bool) (lane : ℕ) (fields : Left) → (spoken_by (cond b (Some lane) None) fields).0 ≡ cond b lane 0
+served : (b : Bool) (lane : ℕ) (fields : UnreadFields) → (spoken_by (cond b (Some lane) None) fields).0 ≡ cond b lane 0
 served true lane fields = refl
 served false lane fields = refl
 

@@ -5,12 +5,12 @@ use Rattle.ledger_bytes.specs.declared.refusal.Refusal.TheVariants.{BadField}
 use Rattle.script_lines.specs.Parts.{parts}
 
 -- the fields of a line that are still to be read, and the column of the first of them
-pub record Left : Type 0 where
+pub record UnreadFields : Type 0 where
   pub column : ℕ
   pub fields : List (List ℕ)
 
 -- all fields of a line, which stand around single spaces; their columns count from 1
-abbrev pub fields_of : List ℕ → Left
+abbrev pub fields_of : List ℕ → UnreadFields
 fields_of line = record { column = 1; fields = parts 32 line }
 
 -- the column behind another; 4,294,967,295 is the last that is told, and those behind it count as that
@@ -18,27 +18,27 @@ abbrev pub next_column : ℕ → ℕ
 next_column column = min (column + 1) (2 ^ 32 - 1)
 
 -- what stands behind the first of some fields
-abbrev pub behind_first : ℕ → List (List ℕ) → Left
+abbrev pub behind_first : ℕ → List (List ℕ) → UnreadFields
 behind_first column [] = record { column = column; fields = [] }
 behind_first column (field ∷ fields) = record { column = next_column column; fields = fields }
 
 -- the fields behind the first
-abbrev pub behind : Left → Left
+abbrev pub behind : UnreadFields → UnreadFields
 behind left = behind_first left.column left.fields
 
 -- what was read, or a refusal that names the column
-abbrev pub read_or_bad : {A : Type 0} → ℕ → Option A → Left → Result (A × Left) Refusal
+abbrev pub read_or_bad : {A : Type 0} → ℕ → Option A → UnreadFields → Result (A × UnreadFields) Refusal
 read_or_bad column None left = Err (BadField column)
 read_or_bad column (Some x) left = Ok (x, left)
 
 -- what the first of some fields reads as, and the fields behind it
-abbrev pub field_from : {A : Type 0} → (List ℕ → Option A) → ℕ → List (List ℕ) → Result (A × Left) Refusal
+abbrev pub field_from : {A : Type 0} → (List ℕ → Option A) → ℕ → List (List ℕ) → Result (A × UnreadFields) Refusal
 field_from read column [] = Err (BadField column)
 field_from read column (field ∷ fields) =
     read_or_bad column (read field) (record { column = next_column column; fields = fields })
 
 -- what the first field reads as, and the fields behind it; one that is missing or ill-formed is refused with its column
-abbrev pub field_at : {A : Type 0} → (List ℕ → Option A) → Left → Result (A × Left) Refusal
+abbrev pub field_at : {A : Type 0} → (List ℕ → Option A) → UnreadFields → Result (A × UnreadFields) Refusal
 field_at read left = field_from read left.column left.fields
 
 -- no field is left; else the first is refused with its column
@@ -47,10 +47,10 @@ end_from column [] = Ok tt
 end_from column (field ∷ fields) = Err (BadField column)
 
 -- no field is left; one that is extra is refused with its column
-abbrev pub end_at : Left → Result (Unit {0}) Refusal
+abbrev pub end_at : UnreadFields → Result (Unit {0}) Refusal
 end_at left = end_from left.column left.fields
 
 -- what was read and what is left behind it, or the refusal
-abbrev pub taken_field : {A : Type 0} → Result A Refusal → Left → Result (A × Left) Refusal
+abbrev pub taken_field : {A : Type 0} → Result A Refusal → UnreadFields → Result (A × UnreadFields) Refusal
 taken_field (Ok x) left = Ok (x, left)
 taken_field (Err refusal) left = Err refusal

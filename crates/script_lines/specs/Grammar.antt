@@ -4,7 +4,7 @@ use Rattle.std.specs.Str.{bytes_eq}
 use Rattle.ledger_bytes.specs.declared.limits.TheConstants.{CONTENT_LIMIT, PROOF_LIMIT}
 use Rattle.ledger_bytes.specs.declared.refusal.Refusal.{Refusal}
 use Rattle.ledger_bytes.specs.declared.refusal.Refusal.TheVariants.{BadVerb, BadLane}
-use Rattle.script_lines.specs.Fields.{Left, fields_of, field_at, end_at}
+use Rattle.script_lines.specs.Fields.{UnreadFields, fields_of, field_at, end_at}
 use Rattle.script_lines.specs.Spellings.{text_of, number_of, bytes_of, digest_of, clue_of, which_of, approvals_of}
 use Rattle.script_lines.specs.declared.line.Line.{Line}
 use Rattle.script_lines.specs.declared.line.Line.TheVariants.{Append, NewMember, Anchor, Occult, Purge, Get, Prove, Extend, Clue, Head}
@@ -16,7 +16,7 @@ Ok x >>= second = second x
 Err refusal >>= second = Err refusal
 
 -- `append MEMBER CLUE CONTENT PROOF`
-unfoldable pub append_at : Left → Result Line Refusal
+unfoldable pub append_at : UnreadFields → Result Line Refusal
 append_at fields = do
   member ← field_at (number_of (2 ^ 32 - 1)) fields
   clue ← field_at clue_of member.1
@@ -26,7 +26,7 @@ append_at fields = do
   Ok (Append member.0 clue.0 content.0 proof.0)
 
 -- `member NUMBER KEY PROOF`
-unfoldable pub member_at : Left → Result Line Refusal
+unfoldable pub member_at : UnreadFields → Result Line Refusal
 member_at fields = do
   number ← field_at (number_of (2 ^ 32 - 1)) fields
   key ← field_at digest_of number.1
@@ -35,13 +35,13 @@ member_at fields = do
   Ok (NewMember number.0 key.0 proof.0)
 
 -- `anchor`
-unfoldable pub anchor_at : Left → Result Line Refusal
+unfoldable pub anchor_at : UnreadFields → Result Line Refusal
 anchor_at fields = do
   end ← end_at fields
   Ok Anchor
 
 -- `occult TARGET LEAF APPROVALS`
-unfoldable pub occult_at : Left → Result Line Refusal
+unfoldable pub occult_at : UnreadFields → Result Line Refusal
 occult_at fields = do
   target ← field_at (number_of (2 ^ 64 - 1)) fields
   leaf ← field_at digest_of target.1
@@ -50,7 +50,7 @@ occult_at fields = do
   Ok (Occult target.0 leaf.0 given.0)
 
 -- `purge POINT ROOT APPROVALS`
-unfoldable pub purge_at : Left → Result Line Refusal
+unfoldable pub purge_at : UnreadFields → Result Line Refusal
 purge_at fields = do
   point ← field_at (number_of (2 ^ 64 - 1)) fields
   root ← field_at digest_of point.1
@@ -59,21 +59,21 @@ purge_at fields = do
   Ok (Purge point.0 root.0 given.0)
 
 -- `get N`
-unfoldable pub get_at : Left → Result Line Refusal
+unfoldable pub get_at : UnreadFields → Result Line Refusal
 get_at fields = do
   n ← field_at (number_of (2 ^ 64 - 1)) fields
   end ← end_at n.1
   Ok (Get n.0)
 
 -- `prove N`
-unfoldable pub prove_at : Left → Result Line Refusal
+unfoldable pub prove_at : UnreadFields → Result Line Refusal
 prove_at fields = do
   n ← field_at (number_of (2 ^ 64 - 1)) fields
   end ← end_at n.1
   Ok (Prove n.0)
 
 -- `extend ledger M` or `extend notary M`
-unfoldable pub extend_at : Left → Result Line Refusal
+unfoldable pub extend_at : UnreadFields → Result Line Refusal
 extend_at fields = do
   which ← field_at which_of fields
   m ← field_at (number_of (2 ^ 64 - 1)) which.1
@@ -81,20 +81,20 @@ extend_at fields = do
   Ok (Extend which.0 m.0)
 
 -- `clue NAME`, where NAME is a clue's name, or `-` for no clue
-unfoldable pub clue_at : Left → Result Line Refusal
+unfoldable pub clue_at : UnreadFields → Result Line Refusal
 clue_at fields = do
   name ← field_at clue_of fields
   end ← end_at name.1
   Ok (Clue name.0)
 
 -- `head`
-unfoldable pub head_at : Left → Result Line Refusal
+unfoldable pub head_at : UnreadFields → Result Line Refusal
 head_at fields = do
   end ← end_at fields
   Ok Head
 
 -- a line by its verb and the fields behind that
-abbrev pub verb_at : List ℕ → Left → Result Line Refusal
+abbrev pub verb_at : List ℕ → UnreadFields → Result Line Refusal
 verb_at verb fields =
     if bytes_eq verb (codes "append") then append_at fields
     else if bytes_eq verb (codes "member") then member_at fields
@@ -109,7 +109,7 @@ verb_at verb fields =
     else Err BadVerb
 
 -- a line by the fields behind its lane; one without a verb has no verb that is read
-abbrev pub asked_by : Result (List ℕ × Left) Refusal → Result Line Refusal
+abbrev pub asked_by : Result (List ℕ × UnreadFields) Refusal → Result Line Refusal
 asked_by (Ok verb) = verb_at verb.0 verb.1
 asked_by (Err refusal) = Err BadVerb
 
@@ -128,12 +128,12 @@ abbrev pub lane_or_zero : ℕ → ℕ
 lane_or_zero digit = if nat_le 48 digit && nat_lt digit (48 + lanes) then digit - 48 else 0
 
 -- a line by its lane and the fields behind that; one whose lane isn't served belongs to lane 0
-abbrev pub spoken_by : Option ℕ → Left → ℕ × Result Line Refusal
+abbrev pub spoken_by : Option ℕ → UnreadFields → ℕ × Result Line Refusal
 spoken_by None fields = (0, Err BadLane)
 spoken_by (Some lane) fields = (lane, asked_by (field_at text_of fields))
 
 -- a line by its first field and those behind it
-abbrev pub spoken_at : Result (List ℕ × Left) Refusal → ℕ × Result Line Refusal
+abbrev pub spoken_at : Result (List ℕ × UnreadFields) Refusal → ℕ × Result Line Refusal
 spoken_at (Ok first) = spoken_by (lane_of first.0) first.1
 spoken_at (Err refusal) = (0, Err BadLane)
 

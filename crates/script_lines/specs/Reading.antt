@@ -2,23 +2,23 @@
 use Rattle.std.specs.Prelude.{◌≡◌, ℕ, Bool, true, Result, Ok, Err, ⊤}
 use Rattle.ledger_bytes.specs.declared.refusal.Refusal.{Refusal}
 use Rattle.ledger_bytes.specs.declared.refusal.Refusal.TheVariants.{BadField}
-use Rattle.script_lines.specs.Fields.{Left}
+use Rattle.script_lines.specs.Fields.{UnreadFields}
 use Rattle.script_lines.specs.Limits.{fits_what}
 use Rattle.script_lines.specs.declared.line.Line.{Line}
 use Rattle.script_lines.specs.declared.stop.Stop.{Stop}
 use Rattle.script_lines.specs.declared.stop.Stop.TheVariants.{Refused, NoMemory}
 
 -- the reader answers what the grammar reads, unless memory is out
-abbrev pub Reads : {A : Type 0} → Result A Stop → Result A Refusal → Type 0
-Reads (Ok x) read = read ≡ Ok x
-Reads (Err (Refused refusal)) read = read ≡ Err refusal
-Reads (Err NoMemory) read = ⊤
+abbrev pub ReadsLine : {A : Type 0} → Result A Stop → Result A Refusal → Type 0
+ReadsLine (Ok x) read = read ≡ Ok x
+ReadsLine (Err (Refused refusal)) read = read ≡ Err refusal
+ReadsLine (Err NoMemory) read = ⊤
 
 -- the same for a reader that goes on behind what it read, with these fields left
-abbrev pub Takes : {A : Type 0} → Left → Result A Stop → Result (A × Left) Refusal → Type 0
-Takes left (Ok x) read = read ≡ Ok (x, left)
-Takes left (Err (Refused refusal)) read = read ≡ Err refusal
-Takes left (Err NoMemory) read = ⊤
+abbrev pub TakesFields : {A : Type 0} → UnreadFields → Result A Stop → Result (A × UnreadFields) Refusal → Type 0
+TakesFields left (Ok x) read = read ≡ Ok (x, left)
+TakesFields left (Err (Refused refusal)) read = read ≡ Err refusal
+TakesFields left (Err NoMemory) read = ⊤
 
 -- a field's refusal names its column
 abbrev pub IsStopAt : ℕ → Stop → Type 0

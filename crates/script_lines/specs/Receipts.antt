@@ -80,60 +80,60 @@ AreWords [] = ⊤
 AreWords (word ∷ words) = IsWord word × AreWords words
 
 -- a number as programs have it
-abbrev pub Fits : ℕ → Type 0
-Fits n = n < 2 ^ 64
+abbrev pub FitsWord : ℕ → Type 0
+FitsWord n = n < 2 ^ 64
 
 abbrev pub AllFits : List ℕ → Type 0
 AllFits [] = ⊤
-AllFits (n ∷ ns) = Fits n × AllFits ns
+AllFits (n ∷ ns) = FitsWord n × AllFits ns
 
 abbrev pub StampFits : Option (ℕ × ℕ) → Type 0
 StampFits None = ⊤
-StampFits (Some stamp) = Fits stamp.0 × Fits stamp.1
+StampFits (Some stamp) = FitsWord stamp.0 × FitsWord stamp.1
 
 -- A refusal's numbers are as programs have them. Of its digests nothing is asked: no hexadecimal digit breaks a line.
 abbrev pub RefusalFits : Refusal → Type 0
 RefusalFits refusals.BadVerb = ⊤
-RefusalFits (refusals.BadField column) = Fits column
+RefusalFits (refusals.BadField column) = FitsWord column
 RefusalFits refusals.BadLane = ⊤
 RefusalFits (refusals.Damaged kept found) = ⊤
-RefusalFits (refusals.UnknownMember member) = Fits member
-RefusalFits (refusals.WrongKey member) = Fits member
-RefusalFits (refusals.MissingApproval member) = Fits member
-RefusalFits (refusals.ApprovalOrder at) = Fits at
-RefusalFits (refusals.MemberNumber next) = Fits next
+RefusalFits (refusals.UnknownMember member) = FitsWord member
+RefusalFits (refusals.WrongKey member) = FitsWord member
+RefusalFits (refusals.MissingApproval member) = FitsWord member
+RefusalFits (refusals.ApprovalOrder at) = FitsWord at
+RefusalFits (refusals.MemberNumber next) = FitsWord next
 RefusalFits refusals.MembersFull = ⊤
-RefusalFits (refusals.NoJournal size) = Fits size
-RefusalFits (refusals.Purged point) = Fits point
-RefusalFits (refusals.NotData kind) = Fits kind
-RefusalFits (refusals.NotTime kind) = Fits kind
-RefusalFits (refusals.AlreadyOcculted by) = Fits by
+RefusalFits (refusals.NoJournal size) = FitsWord size
+RefusalFits (refusals.Purged point) = FitsWord point
+RefusalFits (refusals.NotData kind) = FitsWord kind
+RefusalFits (refusals.NotTime kind) = FitsWord kind
+RefusalFits (refusals.AlreadyOcculted by) = FitsWord by
 RefusalFits (refusals.LeafDiffers kept) = ⊤
 RefusalFits (refusals.RootDiffers kept) = ⊤
 RefusalFits refusals.NotaryFault = ⊤
 RefusalFits refusals.NotaryFull = ⊤
-RefusalFits (refusals.Full kept size) = Fits kept × Fits size
-RefusalFits (refusals.BadSize size) = Fits size
+RefusalFits (refusals.Full kept size) = FitsWord kept × FitsWord size
+RefusalFits (refusals.BadSize size) = FitsWord size
 RefusalFits refusals.CluesFull = ⊤
 
 -- A reply's numbers are as programs have them, and so is the leaf digest of a receipt. Nothing is asked of a proof: it is no
 -- receipt, whatever its numbers.
 abbrev pub ReplyFits : Reply → Type 0
 ReplyFits (Placed jsn leaf block size root stamp) =
-    Fits jsn × IsBytes leaf.0 × Fits block × Fits size × StampFits stamp
+    FitsWord jsn × IsBytes leaf.0 × FitsWord block × FitsWord size × StampFits stamp
 ReplyFits (Whole header content who) = ⊤
 ReplyFits (Occulted header who) = ⊤
 ReplyFits (Proof n leaf lo hi proof) = ⊤
 ReplyFits (Extension which m size root proof) = ⊤
-ReplyFits (Clue count kept) = Fits count × AllFits kept
+ReplyFits (Clue count kept) = FitsWord count × AllFits kept
 ReplyFits (Head id size root blocks point notary_size notary_root) =
-    Fits size × Fits blocks × Fits point × Fits notary_size
+    FitsWord size × FitsWord blocks × FitsWord point × FitsWord notary_size
 ReplyFits (Refused refusal) = RefusalFits refusal
 
 -- a reply that fits, with its line as programs have it
 pub record FitsReply (told : Told) : Type 0 where
-  pub lane : Fits told.lane
-  pub index : Fits told.index
+  pub lane : FitsWord told.lane
+  pub index : FitsWord told.index
   pub reply : ReplyFits told.reply
 
 abbrev pub AllFit : List Told → Type 0

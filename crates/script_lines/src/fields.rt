@@ -1,7 +1,7 @@
 ghost use Rattle.std.specs.Prelude.{◌≡◌, ◌≤◌, length, All, Ok, Err, IfErr, IfOk, MatchResult};
 ghost use Rattle.ledger_bytes.specs.declared.limits.TheConstants.{APPROVAL_LIMIT, NAME_LIMIT, PROOF_LIMIT};
 ghost use Rattle.script_lines.specs.Fields.{fields_of, behind, field_at, end_at, taken_field};
-ghost use Rattle.script_lines.specs.Reading.{IsStopAt, Takes};
+ghost use Rattle.script_lines.specs.Reading.{IsStopAt, TakesFields};
 ghost use Rattle.script_lines.specs.Spellings.{text_of, word_of, number_of, bytes_of, digest_of, clue_of, which_of, approvals_of, mark_of};
 
 use crate::said::{SaidApproval, Which};
@@ -27,10 +27,10 @@ pub struct Fields<'a> {
 
 impl<'a> Model for Fields<'a> {
     ghost use Rattle.std.specs.Prelude.{option_map};
-    ghost use Rattle.script_lines.specs.Fields.{Left};
+    ghost use Rattle.script_lines.specs.Fields.{UnreadFields};
     ghost use Rattle.script_lines.specs.Parts.{parts_left};
 
-    ghost Value = { Left };
+    ghost Value = { UnreadFields };
 
     ghost view = { λ f. record {
       column = f.column;
@@ -110,7 +110,7 @@ impl<'a> Fields<'a> {
 
     /// No bytes as `-`, or 1 to `most` bytes as two hexadecimal digits each, of either case.
     pub fn bytes(&mut self, alloc: Global, most: usize) -> Result<Bytes, Stop>
-        ensures takes { Takes self.new result (field_at (bytes_of most) self.old) }
+        ensures takes { TakesFields self.new result (field_at (bytes_of most) self.old) }
         ensures goes_on { self.new ≡ behind self.old }
         ensures refused { IfErr result (IsStopAt self.old.column) }
         ensures long { IfOk result (λ bytes. length bytes ≤ most) }
@@ -125,7 +125,7 @@ impl<'a> Fields<'a> {
 
     /// No clue as `-`, or a clue's name of 1 to 64 bytes. No clue is the empty name.
     pub fn clue(&mut self, alloc: Global) -> Result<Bytes, Stop>
-        ensures takes { Takes self.new result (field_at clue_of self.old) }
+        ensures takes { TakesFields self.new result (field_at clue_of self.old) }
         ensures goes_on { self.new ≡ behind self.old }
         ensures refused { IfErr result (IsStopAt self.old.column) }
         ensures long { IfOk result (λ name. length name ≤ NAME_LIMIT) }
@@ -150,7 +150,7 @@ impl<'a> Fields<'a> {
     /// No approvals as `-`, or 1 to 256 of them as `MEMBER:PROOF` with commas between. A proof is no bytes as `-`, or 1
     /// to 4,096 bytes as hexadecimal digits.
     pub fn approvals(&mut self, alloc: Global) -> Result<Items<SaidApproval>, Stop>
-        ensures takes { Takes self.new result (field_at approvals_of self.old) }
+        ensures takes { TakesFields self.new result (field_at approvals_of self.old) }
         ensures goes_on { self.new ≡ behind self.old }
         ensures refused { IfErr result (IsStopAt self.old.column) }
         ensures few { IfOk result (λ given. length given ≤ APPROVAL_LIMIT) }

@@ -1,7 +1,7 @@
 ghost use Rattle.std.specs.Prelude.{◌≡◌, ◌≤◌, true, IfOk, IfSome};
 ghost use Rattle.script_lines.specs.Grammar.{append_at, member_at, anchor_at, occult_at, purge_at, get_at, prove_at, extend_at, clue_at, head_at, asked_by, lane_of, lane_or_zero, spoken_line};
 ghost use Rattle.script_lines.specs.Fields.{field_at};
-ghost use Rattle.script_lines.specs.Reading.{Reads, fits_read};
+ghost use Rattle.script_lines.specs.Reading.{ReadsLine, fits_read};
 ghost use Rattle.script_lines.specs.Spellings.{text_of};
 
 use crate::fields::Fields;
@@ -80,7 +80,7 @@ fn read_lane(text: &[u8]) -> Option<u8>
 }
 
 fn read_asked(alloc: Global, mut fields: Fields) -> Result<Line, Stop>
-    ensures reads { Reads result (asked_by (field_at text_of fields.entry)) }
+    ensures reads { ReadsLine result (asked_by (field_at text_of fields.entry)) }
     ensures fits { fits_read result ≡ true }
 {
     let Ok(verb) = fields.text() else {
@@ -113,7 +113,7 @@ fn read_asked(alloc: Global, mut fields: Fields) -> Result<Line, Stop>
 
 #[tactic(auto, unfolding(crate::specs::Grammar::append_at))]
 fn read_append(alloc: Global, mut fields: Fields) -> Result<Line, Stop>
-    ensures reads { Reads result (append_at fields.entry) }
+    ensures reads { ReadsLine result (append_at fields.entry) }
     ensures fits { fits_read result ≡ true }
 {
     let member = fields.number(u64::from(u32::MAX))?;
@@ -131,7 +131,7 @@ fn read_append(alloc: Global, mut fields: Fields) -> Result<Line, Stop>
 
 #[tactic(auto, unfolding(crate::specs::Grammar::member_at))]
 fn read_member(alloc: Global, mut fields: Fields) -> Result<Line, Stop>
-    ensures reads { Reads result (member_at fields.entry) }
+    ensures reads { ReadsLine result (member_at fields.entry) }
     ensures fits { fits_read result ≡ true }
 {
     let number = fields.number(u64::from(u32::MAX))?;
@@ -147,7 +147,7 @@ fn read_member(alloc: Global, mut fields: Fields) -> Result<Line, Stop>
 
 #[tactic(auto, unfolding(crate::specs::Grammar::anchor_at))]
 fn read_anchor(fields: Fields) -> Result<Line, Stop>
-    ensures reads { Reads result (anchor_at fields.entry) }
+    ensures reads { ReadsLine result (anchor_at fields.entry) }
     ensures fits { fits_read result ≡ true }
 {
     fields.end()?;
@@ -156,7 +156,7 @@ fn read_anchor(fields: Fields) -> Result<Line, Stop>
 
 #[tactic(auto, unfolding(crate::specs::Grammar::occult_at))]
 fn read_occult(alloc: Global, mut fields: Fields) -> Result<Line, Stop>
-    ensures reads { Reads result (occult_at fields.entry) }
+    ensures reads { ReadsLine result (occult_at fields.entry) }
     ensures fits { fits_read result ≡ true }
 {
     let target = fields.number(u64::MAX)?;
@@ -172,7 +172,7 @@ fn read_occult(alloc: Global, mut fields: Fields) -> Result<Line, Stop>
 
 #[tactic(auto, unfolding(crate::specs::Grammar::purge_at))]
 fn read_purge(alloc: Global, mut fields: Fields) -> Result<Line, Stop>
-    ensures reads { Reads result (purge_at fields.entry) }
+    ensures reads { ReadsLine result (purge_at fields.entry) }
     ensures fits { fits_read result ≡ true }
 {
     let point = fields.number(u64::MAX)?;
@@ -184,7 +184,7 @@ fn read_purge(alloc: Global, mut fields: Fields) -> Result<Line, Stop>
 
 #[tactic(auto, unfolding(crate::specs::Grammar::get_at))]
 fn read_get(mut fields: Fields) -> Result<Line, Stop>
-    ensures reads { Reads result (get_at fields.entry) }
+    ensures reads { ReadsLine result (get_at fields.entry) }
     ensures fits { fits_read result ≡ true }
 {
     let n = fields.number(u64::MAX)?;
@@ -194,7 +194,7 @@ fn read_get(mut fields: Fields) -> Result<Line, Stop>
 
 #[tactic(auto, unfolding(crate::specs::Grammar::prove_at))]
 fn read_prove(mut fields: Fields) -> Result<Line, Stop>
-    ensures reads { Reads result (prove_at fields.entry) }
+    ensures reads { ReadsLine result (prove_at fields.entry) }
     ensures fits { fits_read result ≡ true }
 {
     let n = fields.number(u64::MAX)?;
@@ -204,7 +204,7 @@ fn read_prove(mut fields: Fields) -> Result<Line, Stop>
 
 #[tactic(auto, unfolding(crate::specs::Grammar::extend_at))]
 fn read_extend(mut fields: Fields) -> Result<Line, Stop>
-    ensures reads { Reads result (extend_at fields.entry) }
+    ensures reads { ReadsLine result (extend_at fields.entry) }
     ensures fits { fits_read result ≡ true }
 {
     let which = fields.which()?;
@@ -215,7 +215,7 @@ fn read_extend(mut fields: Fields) -> Result<Line, Stop>
 
 #[tactic(auto, unfolding(crate::specs::Grammar::clue_at))]
 fn read_clue(alloc: Global, mut fields: Fields) -> Result<Line, Stop>
-    ensures reads { Reads result (clue_at fields.entry) }
+    ensures reads { ReadsLine result (clue_at fields.entry) }
     ensures fits { fits_read result ≡ true }
 {
     let name = fields.clue(alloc)?;
@@ -225,7 +225,7 @@ fn read_clue(alloc: Global, mut fields: Fields) -> Result<Line, Stop>
 
 #[tactic(auto, unfolding(crate::specs::Grammar::head_at))]
 fn read_head(fields: Fields) -> Result<Line, Stop>
-    ensures reads { Reads result (head_at fields.entry) }
+    ensures reads { ReadsLine result (head_at fields.entry) }
     ensures fits { fits_read result ≡ true }
 {
     fields.end()?;

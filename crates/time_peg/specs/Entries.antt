@@ -56,8 +56,8 @@ IsStamped peg old new (Err Full) = (new ≡ old) × (length old ≡ NOTARY_LIMIT
 IsStamped peg old new (Err NoMemory) = new ≡ old
 
 -- the count of failed calls rises by one exactly where a failure is answered; at the end of its type it stays
-abbrev pub Counts : {T : Type 0} → Result T NotaryErr → ℕ → ℕ → Type 0
-Counts (Ok x) before now = now ≡ before
-Counts (Err Failed) before now = now ≡ count_after before
-Counts (Err Full) before now = now ≡ before
-Counts (Err NoMemory) before now = now ≡ before
+abbrev pub CountsFailures : {T : Type 0} → Result T NotaryErr → ℕ → ℕ → Type 0
+CountsFailures (Ok x) before now = now ≡ before
+CountsFailures (Err Failed) before now = now ≡ count_after before
+CountsFailures (Err Full) before now = now ≡ before
+CountsFailures (Err NoMemory) before now = now ≡ before

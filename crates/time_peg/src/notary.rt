@@ -4,7 +4,7 @@ ghost use Rattle.tree_model.specs.Tree.{mth, leaf};
 ghost use Rattle.tree_model.specs.Path as paths;
 ghost use Rattle.tree_model.specs.Extension as extensions;
 ghost use Rattle.journal_record.specs.declared.rules.TheConstants.{NOTARY_LIMIT};
-ghost use Rattle.time_peg.specs.Entries.{NotaryState, IsList, IsStamped, Counts};
+ghost use Rattle.time_peg.specs.Entries.{NotaryState, IsList, IsStamped, CountsFailures};
 
 use crate::ENTRY_LEN;
 use journal_record::Stamp;
@@ -38,7 +38,7 @@ pub trait Notary {
         ensures list { IsStamped peg.now.0 (state self.old).entries (state self.new).entries result }
         ensures full { length (state self.old).entries ≡ NOTARY_LIMIT → result ≡ Err NotaryErr.Full }
         ensures lawful { IsList (state self.new).entries }
-        ensures faults { Counts result (state self.old).faults (state self.new).faults };
+        ensures faults { CountsFailures result (state self.old).faults (state self.new).faults };
 
     /// The number of entries, and the root over them.
     fn head(&mut self) -> Result<Head, NotaryErr>
@@ -47,7 +47,7 @@ pub trait Notary {
         ensures err { IfErr result (λ e. e ≡ NotaryErr.Failed) }
         ensures same { (state self.new).entries ≡ (state self.old).entries }
         ensures lawful { IsList (state self.new).entries }
-        ensures faults { Counts result (state self.old).faults (state self.new).faults };
+        ensures faults { CountsFailures result (state self.old).faults (state self.new).faults };
 
     /// Entry k.
     fn entry(&mut self, k: u64) -> Result<[u8; ENTRY_LEN], NotaryErr>
@@ -55,7 +55,7 @@ pub trait Notary {
         ensures entry { IfOk result (λ entry. slice_get (state self.old).entries k ≡ Some entry) }
         ensures err { IfErr result (λ e. e ≡ NotaryErr.Failed) }
         ensures same { (state self.new).entries ≡ (state self.old).entries }
-        ensures faults { Counts result (state self.old).faults (state self.new).faults };
+        ensures faults { CountsFailures result (state self.old).faults (state self.new).faults };
 
     /// The path of entry k in the tree over all entries.
     fn path(&mut self, alloc: Global, k: u64) -> Result<Vec<Digest>, NotaryErr>
@@ -64,7 +64,7 @@ pub trait Notary {
             ≡ paths.path sha256 k (map (leaf sha256) (state self.old).entries)) }
         ensures err { IfErr result (λ e. e ≢ NotaryErr.Full) }
         ensures same { (state self.new).entries ≡ (state self.old).entries }
-        ensures faults { Counts result (state self.old).faults (state self.new).faults };
+        ensures faults { CountsFailures result (state self.old).faults (state self.new).faults };
 
     /// The proof that the tree over all entries goes on from the tree over the first m.
     fn proof(&mut self, alloc: Global, m: u64) -> Result<Vec<Digest>, NotaryErr>
@@ -74,7 +74,7 @@ pub trait Notary {
             ≡ extensions.proof sha256 m (map (leaf sha256) (state self.old).entries)) }
         ensures err { IfErr result (λ e. e ≢ NotaryErr.Full) }
         ensures same { (state self.new).entries ≡ (state self.old).entries }
-        ensures faults { Counts result (state self.old).faults (state self.new).faults };
+        ensures faults { CountsFailures result (state self.old).faults (state self.new).faults };
 
     /// How many calls failed. The count stays at 2^64 - 1 once it is there.
     fn faults(&self) -> u64

@@ -115,7 +115,7 @@ impl Book {
     pub(super) fn clue_refusal(&self, clue: &Digest, limits: Limits) -> Option<Refusal>
         requires { self.now.size < real_limits.size }
         ensures refusal { (h : History) → Stands self.now h → result ≡ clues_full limits h clue.now }
-        ensures room { (a : Added) → index.Stands self.now.clues a
+        ensures room { (a : Added) → index.StandsForTrails self.now.clues a
             → count_of (trail_of a clue.now.0) < 2 ^ 32 - 1
             → IsTrue (is_none result) ↔ HasRoomFor limits.clues a clue.now }
     {

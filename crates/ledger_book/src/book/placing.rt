@@ -38,10 +38,10 @@ impl Book {
             → result.ordinal ≡ next_ordinal h clue.now }
         ensures previous { (h : History) → Stands self.now h
             → result.previous ≡ last_journal h clue.now }
-        ensures ordinal_in { (a : Added) → index.Stands self.now.clues a
+        ensures ordinal_in { (a : Added) → index.StandsForTrails self.now.clues a
             → count_of (trail_of a clue.now.0) < 2 ^ 32 - 1
             → result.ordinal ≡ ordinal_in a clue.now }
-        ensures previous_in { (a : Added) → index.Stands self.now.clues a
+        ensures previous_in { (a : Added) → index.StandsForTrails self.now.clues a
             → result.previous ≡ previous_in a clue.now }
     {
         let jsn = self.size;
@@ -157,9 +157,9 @@ fn add_to_indexes(
     ensures times { OnOk result (times.new ≡ with_time_of jsn header.now times.old) }
     ensures below { OnOk result (AllByRecursion (λ m. m.jsn < jsn + 1) times.new) }
     ensures clues { OnOk result ((a : Added) → clue_ok header.now.kind header.now.clue ≡ true
-        → index.Stands clues.old a → a.floor ≤ header.now.jsn
+        → index.StandsForTrails clues.old a → a.floor ≤ header.now.jsn
         → All (λ m. m.jsn < header.now.jsn) a.marks
-        → index.Stands clues.new (with_clue_of header.now a)) }
+        → index.StandsForTrails clues.new (with_clue_of header.now a)) }
     ensures hiders { OnOk result (AddsHider header.now.kind header.now hiders.old hiders.new) }
     ensures err { OnErr result ((times.new ≡ times.old) × (clues.new ≡ clues.old)
         × (hiders.new ≡ hiders.old)) }
@@ -183,9 +183,9 @@ fn add_to_indexes(
 
 // Adds a journal to its clue, where it has one.
 fn add_clue(clues: &mut ClueIndex, header: &Header) -> Result<(), NoMemory>
-    ensures ok { OnOk result ((a : Added) → index.Stands clues.old a → a.floor ≤ header.now.jsn
+    ensures ok { OnOk result ((a : Added) → index.StandsForTrails clues.old a → a.floor ≤ header.now.jsn
         → All (λ m. m.jsn < header.now.jsn) a.marks
-        → index.Stands clues.new (with_clue_of header.now a)) }
+        → index.StandsForTrails clues.new (with_clue_of header.now a)) }
     ensures err { OnErr result (clues.new ≡ clues.old) }
 {
     if header.clue == Digest::ZERO {

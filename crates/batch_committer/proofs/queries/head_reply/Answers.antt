@@ -2,7 +2,7 @@ use Rattle.std.specs.Prelude.{Err}
 use Rattle.std.proofs.Common.{false, true, inl, inr, refl, sym, ap, subst, ◌∙◌, length}
 use Rattle.sha2.specs.Sha256.{sha256}
 use Rattle.tree_model.specs.Tree.{mth}
-use Rattle.time_peg.specs.Entries.{Counts}
+use Rattle.time_peg.specs.Entries.{CountsFailures}
 use Rattle.time_peg.specs.declared.notary.NotaryErr.{NotaryErr}
 use Rattle.batch_committer.specs.Attending.{step_in}
 use Rattle.batch_committer.proofs.Attends.{attends_head, attends_headless}
@@ -31,4 +31,4 @@ returns-in-Err g c =
     let e = c.in-Err.ensures in
     let n = g.N.Notary.state c.args.notary.now in
     let m = g.N.Notary.state c.head.new.self in
-    record { told = (true, λ h lane index line s none. (refl, attends_headless n m h lane index line c.in-Err.field-0 e.err e.same e.faults)); once = inr (subst (λ (x : NotaryErr). Counts {T = Unit {0}} (Err x) n.faults m.faults) e.err e.faults) }
+    record { told = (true, λ h lane index line s none. (refl, attends_headless n m h lane index line c.in-Err.field-0 e.err e.same e.faults)); once = inr (subst (λ (x : NotaryErr). CountsFailures {T = Unit {0}} (Err x) n.faults m.faults) e.err e.faults) }

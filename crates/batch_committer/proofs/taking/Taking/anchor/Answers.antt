@@ -5,7 +5,7 @@ use Rattle.ledger_book.specs.Books as books
 use Rattle.ledger_book.specs.Books.{Serves}
 use Rattle.ledger_book.specs.Steps.{Applies, HasOperatorRoom}
 use Rattle.batch_committer.specs.Attending.{step_in}
-use Rattle.batch_committer.specs.World.{Kept, Keeps}
+use Rattle.batch_committer.specs.World.{CommitterState, Keeps}
 use Rattle.batch_committer.proofs.Attends.{attends_full, full_stamp, full_why, attends_failed, failed_stamp, failed_why, attends_stamped, stamped}
 use Rattle.batch_committer.proofs.Anchoring.{on_err_all, unstamped_judged, stamped_placed, accepted_real, full_of, failed_of, failed_not_full, memory_of}
 use Rattle.batch_committer.proofs.Judging.{has_placed, judged_placed, order_at}
@@ -41,7 +41,7 @@ returns-in-Err-Failed-clause-judged g c =
       true,
       λ h lane index line p.
           let own = accepted_real c.args.self.now h p c.requires.room in
-          let pegs = c.peg-peg.ensures.peg h (subst (λ (k : Kept). books.Stands k.book h) (sym c.self.view_is) p.serves.stands) (c.requires.settled h p.serves) in
+          let pegs = c.peg-peg.ensures.peg h (subst (λ (k : CommitterState). books.Stands k.book h) (sym c.self.view_is) p.serves.stands) (c.requires.settled h p.serves) in
           record {
             judged = unstamped_judged c.args.self.now h (step_in n m true lane index line) NotaryFault p own (failed_stamp n m peg f.0 e.lawful not_full lane index line) (failed_why n m peg f.0 e.lawful not_full lane index line);
             attended = attends_failed n m peg f.0 e.lawful not_full h lane index line own pegs f.1;
@@ -67,7 +67,7 @@ returns-in_err-jsn-clause-unasked g c =
       false,
       λ h lane index line p.
           attends_stamped n m c.peg-peg.result.0 c.peg-peg.ensures.wide c.in-Ok.stamp e.list.1 e.list.2 e.lawful h lane index line (accepted_real c.args.self.now h p c.requires.room)
-          (c.peg-peg.ensures.peg h (subst (λ (k : Kept). books.Stands k.book h) (sym c.self.view_is) p.serves.stands) (c.requires.settled h p.serves)) e.faults,
+          (c.peg-peg.ensures.peg h (subst (λ (k : CommitterState). books.Stands k.book h) (sym c.self.view_is) p.serves.stands) (c.requires.settled h p.serves)) e.faults,
     ))
 
 pub returns-in_err-gather_placed-in-Placed-clause-unasked : goal.returns-in_err-gather_placed-in-Placed-clause-unasked
@@ -80,13 +80,13 @@ returns-in_err-gather_placed-in-Placed-clause-unasked g c =
       false,
       λ h lane index line p.
           attends_stamped n m c.peg-peg.result.0 c.peg-peg.ensures.wide c.in-Ok.stamp e.list.1 e.list.2 e.lawful h lane index line (accepted_real c.args.self.now h p c.requires.room)
-          (c.peg-peg.ensures.peg h (subst (λ (k : Kept). books.Stands k.book h) (sym c.self.view_is) p.serves.stands) (c.requires.settled h p.serves)) e.faults,
+          (c.peg-peg.ensures.peg h (subst (λ (k : CommitterState). books.Stands k.book h) (sym c.self.view_is) p.serves.stands) (c.requires.settled h p.serves)) e.faults,
     ))
 
 pub unreachable-requires : goal.unreachable-requires
 unreachable-requires g c =
     stamped_placed c.self.inside.opened.book c.in-Ok.stamp c.in_ok-jsn.field-0
-    (subst (λ (k : Kept). HasOperatorRoom k.book) (sym c.self.view_is) c.requires.room) (c.in_ok-jsn.ensures.anchor refl) c.in-Refused.is
+    (subst (λ (k : CommitterState). HasOperatorRoom k.book) (sym c.self.view_is) c.requires.room) (c.in_ok-jsn.ensures.anchor refl) c.in-Refused.is
 
 pub returns-clause-judged : goal.returns-clause-judged
 returns-clause-judged g c =
@@ -96,7 +96,7 @@ returns-clause-judged g c =
     let peg = c.peg-peg.result.0 in (
       false,
       λ h lane index line keeps.
-          let p = subst (λ (k : Kept). Keeps k h) (sym c.self.view_is) keeps in
+          let p = subst (λ (k : CommitterState). Keeps k h) (sym c.self.view_is) keeps in
           let own = accepted_real c.args.self.now h keeps c.requires.room in
           let x = c.in_ok-gather_placed-in-Placed.ensures in
           let given = stamped n m peg c.peg-peg.ensures.wide c.in-Ok.stamp e.list.1 e.list.2 e.lawful lane index line e.list.0 in

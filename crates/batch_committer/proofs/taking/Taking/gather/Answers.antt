@@ -4,7 +4,7 @@ use Rattle.block_file.specs.Place.{place_of}
 use Rattle.ledger_book.specs.Books.{Serves}
 use Rattle.ledger_open.specs.Places.{place_at}
 use Rattle.batch_committer.specs.contracts.taking.Taking.{the_view}
-use Rattle.batch_committer.specs.World.{Kept}
+use Rattle.batch_committer.specs.World.{CommitterState}
 use Rattle.batch_committer.proofs.Judging.{header_is, gathered_by, gathered_at, order_more, order_at, on_ok_both}
 use Rattle.batch_committer.proofs.taking.Taking.gather.Goals as goal
 
@@ -12,8 +12,8 @@ pub returns-clause-gathered : goal.returns-clause-gathered
 returns-clause-gathered c =
     on_ok_both c.put.result
     (λ body widths h journal serves there floor len content_is who_is.
-    let s = subst (λ (k : Kept). Serves k.book h) (sym c.self.view_is) serves in
-    let low = subst (λ (k : Kept). k.book.floor ≤ c.args.jsn) (sym c.self.view_is) floor in
+    let s = subst (λ (k : CommitterState). Serves k.book h) (sym c.self.view_is) serves in
+    let low = subst (λ (k : CommitterState). k.book.floor ≤ c.args.jsn) (sym c.self.view_is) floor in
     let is = header_is c.self.inside.opened.book h c.args.jsn journal c.in-Some.header.now low there (ap option_copied (sym c.in-Some.is) ∙ c.header.ensures.header h s) in
     let at : c.tail.result + 45 + c.len.result ≡ place_of c.self.inside.opened.twin.file + 45 + length c.self.inside.block.body =
     omega (arith, c.tail.ensures, ap place_of c.file.ensures.value, c.len.ensures.len) in

@@ -16,7 +16,7 @@ use Rattle.ledger_model.specs.declared.job.Job.{Job}
 use Rattle.ledger_model.specs.declared.job.Job.TheVariants.{Prove, Extend, Head}
 use Rattle.ledger_model.specs.declared.outcome.Query.TheVariants as query
 use Rattle.batch_committer.specs.Attending.{step_in, Attended, JudgedBy, EndsAsking}
-use Rattle.batch_committer.specs.World.{Kept, Keeps, Holds, world, pair}
+use Rattle.batch_committer.specs.World.{CommitterState, Keeps, Holds, world, pair}
 use Rattle.batch_committer.proofs.Anchoring.{asked_room, asked_anchor, asked_head, asked_prove, asked_extend, asked_accepted, anchor_asks, keeps_book, on_err_all, told_judged}
 use Rattle.batch_committer.proofs.Attends.{unstamped, unstamped_same, attends_other, ends_untouched}
 use Rattle.batch_committer.proofs.Judging.{real_applies, has_placed, judged_same_kept, judged_placed, asks_closes, alone_first, order_at, on_ok_then}
@@ -37,14 +37,14 @@ pub anchor-requires-clause-settled : goal.anchor-requires-clause-settled
 anchor-requires-clause-settled g c = λ h s.
     let asked = subst (AsksFor c.args.job.now) c.in-Reading.is c.in_ok-refusal.ensures.asked in
     let same = c.in_ok-refusal.ensures.unchanged (subst PlacesNothing (sym c.in-Reading.is) tt) in
-    none_waits _ h (subst (λ b. Serves b h) same s).stands (sym (subst (λ (k : Kept). k.book.size ≡ k.book.sealed) (sym c.self.view_is) (c.requires.settled (asks_closes c.args.job.now c.in-Reading.query asked))))
+    none_waits _ h (subst (λ b. Serves b h) same s).stands (sym (subst (λ (k : CommitterState). k.book.size ≡ k.book.sealed) (sym c.self.view_is) (c.requires.settled (asks_closes c.args.job.now c.in-Reading.query asked))))
 
 pub returns-in-Refused-clause-judged : goal.returns-in-Refused-clause-judged
 returns-in-Refused-clause-judged g c =
     let n = g.N.Notary.state c.args.notary.now in (
       false,
       λ h lane index line sink holds.
-          let p = subst (λ (k : Kept). Keeps k h) (sym c.self.view_is) holds.keeps in
+          let p = subst (λ (k : CommitterState). Keeps k h) (sym c.self.view_is) holds.keeps in
           let step = step_in n n false lane index line in
           let a = c.in_ok-refusal.ensures.ok h p.serves in
           record {
@@ -59,7 +59,7 @@ returns-in_ok-gather_placed-in-Placed-clause-judged g c =
     let e = c.in_ok-gather_placed-in-Placed.ensures in (
       false,
       λ h lane index line sink holds.
-          let p = subst (λ (k : Kept). Keeps k h) (sym c.self.view_is) holds.keeps in
+          let p = subst (λ (k : CommitterState). Keeps k h) (sym c.self.view_is) holds.keeps in
           let step = step_in n n false lane index line in
           let a = c.in_ok-refusal.ensures.ok h p.serves in
           record {
@@ -84,7 +84,7 @@ returns-in-Stamp-clause-judged g c =
     (λ answer x. (
       x.0,
       λ h lane index line sink holds.
-          let p = subst (λ (k : Kept). Keeps k h) (sym c.self.view_is) holds.keeps in
+          let p = subst (λ (k : CommitterState). Keeps k h) (sym c.self.view_is) holds.keeps in
           let y = x.1 h lane index line (keeps_book _ c.apply.new.self h (c.in_ok-refusal.ensures.unchanged nothing) p) in
           subst (λ (j : Job). JudgedBy c.anchor.new.self n m h (step_in n m x.0 lane index line) j answer) (sym job) y,
     ))
@@ -97,7 +97,7 @@ returns-in-Stamp-clause-unasked g c =
     on_err_weaker c.anchor.result
     (λ x. subst (EndsAsking c.args.self.now (g.N.Notary.state c.args.notary.now) (g.N.Notary.state c.anchor.new.notary)) (sym job)
     (elim x [
-      | inl y ↦ inl (y.0, λ h lane index line p. y.1 h lane index line (keeps_book _ c.apply.new.self h (c.in_ok-refusal.ensures.unchanged nothing) (subst (λ (k : Kept). Keeps k h) (sym c.self.view_is) p)))
+      | inl y ↦ inl (y.0, λ h lane index line p. y.1 h lane index line (keeps_book _ c.apply.new.self h (c.in_ok-refusal.ensures.unchanged nothing) (subst (λ (k : CommitterState). Keeps k h) (sym c.self.view_is) p)))
       | inr y ↦ inr y
     ]))
     c.anchor.ensures.unasked
@@ -112,7 +112,7 @@ returns-in-Head-clause-judged g c =
     let x = c.head_reply.ensures.told in (
       x.0,
       λ h lane index line sink holds.
-          let p = subst (λ (k : Kept). Keeps k h) (sym c.self.view_is) holds.keeps in
+          let p = subst (λ (k : CommitterState). Keeps k h) (sym c.self.view_is) holds.keeps in
           let none = none_waits _ h holds.keeps.serves.stands (sym (c.requires.settled (asks_closes c.args.job.now c.in-Reading.query asked))) in
           let y = x.1 h lane index line (subst (λ b. Serves b h) (sym (e.unchanged (subst PlacesNothing (sym c.in-Reading.is) tt))) p.serves) none in
           told_judged _ _ n m h (step_in n m x.0 lane index line) c.args.job.now Head c.in_ok-refusal.field-0 c.in-Reading.query query.Head _ p (e.ok h p.serves) e.unchanged c.in-Reading.is c.in-Head.is job (unstamped_same n m x.0 lane index line y.1.list.list) y,
@@ -126,7 +126,7 @@ returns-in_ok-tell-in-Get-clause-judged g c =
     let nothing : PlacesNothing c.in_ok-refusal.field-0 = subst PlacesNothing (sym c.in-Reading.is) tt in (
       false,
       λ h lane index line sink holds.
-          let p = subst (λ (k : Kept). Holds g.D.Disk.tells (world k disks sink) h) (sym c.self.view_is) holds in
+          let p = subst (λ (k : CommitterState). Holds g.D.Disk.tells (world k disks sink) h) (sym c.self.view_is) holds in
           let step = step_in n n false lane index line in
           let none = none_waits _ h holds.keeps.serves.stands (sym (c.requires.settled (asks_closes c.args.job.now c.in-Reading.query asked))) in
           let there = holds_book g.D.Disk.tells _ c.apply.new.self disks sink h (c.in_ok-refusal.ensures.unchanged nothing) p in
@@ -146,7 +146,7 @@ returns-in_ok-tell-in-Clue-clause-judged g c =
     let nothing : PlacesNothing c.in_ok-refusal.field-0 = subst PlacesNothing (sym c.in-Reading.is) tt in (
       false,
       λ h lane index line sink holds.
-          let p = subst (λ (k : Kept). Holds g.D.Disk.tells (world k disks sink) h) (sym c.self.view_is) holds in
+          let p = subst (λ (k : CommitterState). Holds g.D.Disk.tells (world k disks sink) h) (sym c.self.view_is) holds in
           let step = step_in n n false lane index line in
           let none = none_waits _ h holds.keeps.serves.stands (sym (c.requires.settled (asks_closes c.args.job.now c.in-Reading.query asked))) in
           let there = holds_book g.D.Disk.tells _ c.apply.new.self disks sink h (c.in_ok-refusal.ensures.unchanged nothing) p in
@@ -160,23 +160,23 @@ returns-in_ok-tell-in-Clue-clause-judged g c =
 
 pub returns-in-Refused-clause-gathers : goal.returns-in-Refused-clause-gathers
 returns-in-Refused-clause-gathers g c = λ other all.
-    subst OpenGathers (sym (c.in_ok-refusal.ensures.unchanged (subst PlacesNothing (sym c.in-Refused.is) tt))) (subst (λ (k : Kept). OpenGathers k.book) (sym c.self.view_is) all)
+    subst OpenGathers (sym (c.in_ok-refusal.ensures.unchanged (subst PlacesNothing (sym c.in-Refused.is) tt))) (subst (λ (k : CommitterState). OpenGathers k.book) (sym c.self.view_is) all)
 
 pub returns-in-Head-clause-gathers : goal.returns-in-Head-clause-gathers
 returns-in-Head-clause-gathers g c = λ other all.
-    subst OpenGathers (sym (c.in_ok-refusal.ensures.unchanged (subst PlacesNothing (sym c.in-Reading.is) tt))) (subst (λ (k : Kept). OpenGathers k.book) (sym c.self.view_is) all)
+    subst OpenGathers (sym (c.in_ok-refusal.ensures.unchanged (subst PlacesNothing (sym c.in-Reading.is) tt))) (subst (λ (k : CommitterState). OpenGathers k.book) (sym c.self.view_is) all)
 
 pub returns-in_ok-tell-in-Get-clause-gathers : goal.returns-in_ok-tell-in-Get-clause-gathers
 returns-in_ok-tell-in-Get-clause-gathers g c = λ other all.
-    subst OpenGathers (sym (c.in_ok-refusal.ensures.unchanged (subst PlacesNothing (sym c.in-Reading.is) tt))) (subst (λ (k : Kept). OpenGathers k.book) (sym c.self.view_is) all)
+    subst OpenGathers (sym (c.in_ok-refusal.ensures.unchanged (subst PlacesNothing (sym c.in-Reading.is) tt))) (subst (λ (k : CommitterState). OpenGathers k.book) (sym c.self.view_is) all)
 
 pub returns-in_ok-tell-in-Clue-clause-gathers : goal.returns-in_ok-tell-in-Clue-clause-gathers
 returns-in_ok-tell-in-Clue-clause-gathers g c = λ other all.
-    subst OpenGathers (sym (c.in_ok-refusal.ensures.unchanged (subst PlacesNothing (sym c.in-Reading.is) tt))) (subst (λ (k : Kept). OpenGathers k.book) (sym c.self.view_is) all)
+    subst OpenGathers (sym (c.in_ok-refusal.ensures.unchanged (subst PlacesNothing (sym c.in-Reading.is) tt))) (subst (λ (k : CommitterState). OpenGathers k.book) (sym c.self.view_is) all)
 
 pub returns-in_ok-gather_placed-in-Placed-clause-gathers : goal.returns-in_ok-gather_placed-in-Placed-clause-gathers
 returns-in_ok-gather_placed-in-Placed-clause-gathers g c = λ other all.
-    subst OpenGathers (sym c.in_ok-gather_placed-in-Placed.ensures.book) (c.in_ok-refusal.ensures.gathers other (subst (λ (k : Kept). OpenGathers k.book) (sym c.self.view_is) all))
+    subst OpenGathers (sym c.in_ok-gather_placed-in-Placed.ensures.book) (c.in_ok-refusal.ensures.gathers other (subst (λ (k : CommitterState). OpenGathers k.book) (sym c.self.view_is) all))
 
 pub returns-in-Stamp-clause-gathers : goal.returns-in-Stamp-clause-gathers
 returns-in-Stamp-clause-gathers g c =
@@ -204,7 +204,7 @@ returns-in_ok-reply-in-Prove-clause-judged g c =
     let x = c.in_ok-reply-in-Prove.ensures.told in (
       x.0,
       λ h lane index line sink holds.
-          let p = subst (λ (k : Kept). Keeps k h) (sym c.self.view_is) holds.keeps in
+          let p = subst (λ (k : CommitterState). Keeps k h) (sym c.self.view_is) holds.keeps in
           let a = e.ok h p.serves in
           let accepted = asked_accepted real_limits h c.args.job.now _ c.in-Reading.query _ (real_applies None c.self.inside.opened.book _ h c.args.job.now _ p.limits a) c.in-Reading.is in
           let y = x.1 h lane index line (subst (λ b. Serves b h) (sym (e.unchanged (subst PlacesNothing (sym c.in-Reading.is) tt))) p.serves) (subst (λ (j : Job). own_refusal real_limits h j ≡ None) job accepted) in
@@ -228,7 +228,7 @@ returns-in_ok-reply-in-Extend-clause-judged g c =
     let x = c.in_ok-reply-in-Extend.ensures.told in (
       x.0,
       λ h lane index line sink holds.
-          let p = subst (λ (k : Kept). Keeps k h) (sym c.self.view_is) holds.keeps in
+          let p = subst (λ (k : CommitterState). Keeps k h) (sym c.self.view_is) holds.keeps in
           let a = e.ok h p.serves in
           let accepted = asked_accepted real_limits h c.args.job.now _ c.in-Reading.query _ (real_applies None c.self.inside.opened.book _ h c.args.job.now _ p.limits a) c.in-Reading.is in
           let y = x.1 h lane index line (subst (λ b. Serves b h) (sym (e.unchanged (subst PlacesNothing (sym c.in-Reading.is) tt))) p.serves) (subst (λ (j : Job). own_refusal real_limits h j ≡ None) job accepted) in

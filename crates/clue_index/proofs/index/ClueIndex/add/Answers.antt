@@ -4,7 +4,7 @@ use Rattle.std.specs.Cmp.Lexicographic.{slice_cmp}
 use Rattle.std.specs.Map.{set_value}
 use Rattle.std.specs.Ordering.{nat_cmp}
 use Rattle.std.proofs.lemmas.Map.Steps.{set_value_same}
-use Rattle.clue_index.specs.Index.{Stands, trail_in}
+use Rattle.clue_index.specs.Index.{StandsForTrails, trail_in}
 use Rattle.clue_index.proofs.IndexLaws.{stands_added}
 use Rattle.clue_index.proofs.TableLaws.{tie}
 use Rattle.clue_index.proofs.index.ClueIndex.add.Goals as goal
@@ -23,7 +23,7 @@ returns-in-Some-clause-ok c =
     let w = c.get_mut.follows.holds c.grow.new.self in
     let is = sym c.in-Some.ensures.value in
     on_ok c.grow.result c.grow.ensures.ok (λ grown_is a st named le above.
-    stands_added _ _ a c.args.clue.now.0 c.args.jsn (Some c.in-Some.slot.now) c.grow.new.self is grown_is refl (w.3 (subst IsSome (sym is) refl)).0 (subst (λ k. Stands k a) (sym c.self.view_is) st) named le above)
+    stands_added _ _ a c.args.clue.now.0 c.args.jsn (Some c.in-Some.slot.now) c.grow.new.self is grown_is refl (w.3 (subst IsSome (sym is) refl)).0 (subst (λ k. StandsForTrails k a) (sym c.self.view_is) st) named le above)
 
 pub returns-in-Some-clause-err : goal.returns-in-Some-clause-err
 returns-in-Some-clause-err c =
@@ -37,7 +37,7 @@ returns-in-Some-clause-err c =
 
 pub returns-in_ok-insert-in-None-clause-ok : goal.returns-in_ok-insert-in-None-clause-ok
 returns-in_ok-insert-in-None-clause-ok c a st named le above =
-    let st' = subst (λ k. Stands k a) (sym c.self.view_is) st in
+    let st' = subst (λ k. StandsForTrails k a) (sym c.self.view_is) st in
     let is = sym c.in-None.ensures.value in
     let h = c.get_mut.follows.holds-at-none in
     let slot = c.in_ok-slot-in-None.slot in

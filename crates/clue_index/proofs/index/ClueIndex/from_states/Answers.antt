@@ -2,7 +2,7 @@ use Rattle.std.proofs.Common.{◌≡◌, List, [], ℕ, cond, take, get_or, ap, 
 use Rattle.std.proofs.lemmas.List.{take_more}
 use Rattle.clue_index.specs.Added.{added_at_first}
 use Rattle.clue_index.specs.declared.state.ClueState.{ClueState}
-use Rattle.clue_index.specs.Index.{Stands, trail_in}
+use Rattle.clue_index.specs.Index.{StandsForTrails, trail_in}
 use Rattle.clue_index.proofs.IndexLaws.{stands_empty, stands_begun}
 use Rattle.clue_index.proofs.TableLaws.{tie, trail_from}
 use Rattle.clue_index.proofs.index.ClueIndex.from_states.Goals as goal
@@ -20,6 +20,6 @@ loop-state-preserved c = (
       let s : ClueState = get_or states i none in
       let trails : (q : List ℕ) → trail_in q c.insert.new.self.entries ≡ cond (tie s.clue.0 q) (Some (trail_from s)) (trail_in q c.loop-state.slots.entries) =
       λ q. c.in_ok-insert.ensures.updates.0 q ∙ ap (λ t. cond (tie s.clue.0 q) (Some t) (trail_in q c.loop-state.slots.entries)) c.of_state.ensures in
-      subst (λ xs. Stands (record { trails = c.insert.new.self.entries; floor = 0 }) (added_at_first xs)) (sym (take_more states i none c.loop-state-test.true))
+      subst (λ xs. StandsForTrails (record { trails = c.insert.new.self.entries; floor = 0 }) (added_at_first xs)) (sym (take_more states i none c.loop-state-test.true))
       (stands_begun (record { trails = c.loop-state.slots.entries; floor = 0 }) _ (take i states) s refl trails (c.loop-state.invariant.1 named) (named i none c.loop-state-test.true)),
 )

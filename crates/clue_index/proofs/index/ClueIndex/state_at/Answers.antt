@@ -3,7 +3,7 @@ use Rattle.std.proofs.lemmas.List.{map-append, length-append}
 use Rattle.std.proofs.lemmas.Map.Iter.{iter_end}
 use Rattle.std.specs.Map.Iter.{deref_pair}
 use Rattle.clue_index.specs.Added.{begun_states}
-use Rattle.clue_index.specs.Index.{Stands}
+use Rattle.clue_index.specs.Index.{StandsForTrails}
 use Rattle.clue_index.proofs.StateLaws.{Fit, states_of, states_told, state_pushed, state_passed}
 use Rattle.clue_index.proofs.index.ClueIndex.state_at.Goals as goal
 
@@ -29,7 +29,7 @@ loop-clue-preserved c = (
 
 pub returns-clause-states : goal.returns-clause-states
 returns-clause-states c a st le fits =
-    let st' = subst (λ k. Stands k a) (sym c.self.view_is) st in
+    let st' = subst (λ k. StandsForTrails k a) (sym c.self.view_is) st in
     let all : map deref_pair c.loop-clue.yielded ≡ c.self.inside.slots.entries = search (rules, iter_end) in
     states_told _ a c.args.p c.loop-clue.states.items st' le fits c.iter-clue-items.ensures.ordered c.iter-clue-items.ensures.found
     (λ fit. c.loop-clue.invariant.1 (subst (Fit c.args.p) (sym all) fit) ∙ ap (λ es. begun_states (states_of c.args.p es)) all)

@@ -12,7 +12,7 @@ use Rattle.ledger_book.proofs.book.Book.from_base.Goals as goal
 pub returns-clause-stands : goal.returns-clause-stands
 returns-clause-stands c = λ h ends.
     let b = c.args.base.now in
-    let clues : index.Stands c.drop_below.new.self (with_floor b.point (added_at_first b.clues)) =
+    let clues : index.StandsForTrails c.drop_below.new.self (with_floor b.point (added_at_first b.clues)) =
     clues_begun b c.as_slice-2.result.now c.in_ok-clues.clues c.drop_below.new.self c.requires.base c.requires.widths c.as_slice-2.ensures c.in_ok-clues.ensures c.drop_below.ensures in
     based_stands b _ h (record {
       floor = refl;
@@ -34,7 +34,7 @@ returns-clause-stands c = λ h ends.
 pub returns-clause-behind : goal.returns-clause-behind
 returns-clause-behind c =
     let b = c.args.base.now in
-    let clues : index.Stands c.drop_below.new.self (with_floor b.point (added_at_first b.clues)) =
+    let clues : index.StandsForTrails c.drop_below.new.self (with_floor b.point (added_at_first b.clues)) =
     clues_begun b c.as_slice-2.result.now c.in_ok-clues.clues c.drop_below.new.self c.requires.base c.requires.widths c.as_slice-2.ensures c.in_ok-clues.ensures c.drop_below.ensures in
     based_behind b _ c.requires.base (record {
       floor = refl;

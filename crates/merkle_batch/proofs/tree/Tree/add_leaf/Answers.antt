@@ -1,5 +1,5 @@
 use Rattle.std.proofs.Common.{arith, ◌≡◌, suc, ◌+◌, ◌-◌, ◌++◌, length, [], ◌∷◌, ap, subst, sym, ◌∙◌}
-use Rattle.merkle_batch.specs.Rows.{Keeps, HasRoom}
+use Rattle.merkle_batch.specs.Rows.{KeepsNodes, HasRoom}
 use Rattle.merkle_batch.proofs.Keeping.{room_one, stands_more, all_items}
 use Rattle.merkle_batch.specs.Over.{KeepsOver}
 use Rattle.merkle_batch.proofs.Over.{over_more}
@@ -18,8 +18,8 @@ returns-clause-stands g c =
     let hash = g.H.TreeHash.of in
     stands_more hash c.args.self.now _ c.args.leaf.0 (omega (arith, c.self.invariant.0, ap (λ t. t.floor) view, ap (λ t. t.size) view)) (ap (λ t. t.size + 1) view) (ap (λ t. t.floor) view)
     (λ p ds floor keeps.
-    let old = subst (λ t. Keeps hash p t ds) (sym (ap (λ t. t.rows) view) ∙ sym c.deref_mut.ensures.value) keeps in
-    subst (λ t. Keeps hash p t (ds ++ c.args.leaf.0 ∷ []))
+    let old = subst (λ t. KeepsNodes hash p t ds) (sym (ap (λ t. t.rows) view) ∙ sym c.deref_mut.ensures.value) keeps in
+    subst (λ t. KeepsNodes hash p t (ds ++ c.args.leaf.0 ∷ []))
     (sym (all_items c.self.inside.rows.len c.add.new.rows c.self.inside.rows.items (sym (ap length c.deref_mut.ensures.value) ∙ c.deref_mut.ensures.len) (c.add.auto.rows ∙ ap length c.deref_mut.ensures.value)))
     (c.add.ensures.keeps p ds floor old))
 

@@ -1,5 +1,5 @@
 use Rattle.std.proofs.Common.{arith, ◌≤◌, length, ap, subst, sym, ◌∙◌}
-use Rattle.merkle_batch.specs.Rows.{Counts, HasRoom, Forgot}
+use Rattle.merkle_batch.specs.Rows.{HasCounted, HasRoom, Forgot}
 use Rattle.merkle_batch.proofs.Keeping.{has_nodes, all_items}
 use Rattle.merkle_batch.proofs.Forgetting.{forgot_counts, stands_forgot}
 use Rattle.merkle_batch.proofs.Over.{over_forgot}
@@ -19,7 +19,7 @@ invariant_of-self g c =
     let all = all_items c.self.inside.rows.len c.forget.new.rows c.self.inside.rows.items (sym (ap length value) ∙ c.deref_mut.ensures.len) (c.forget.auto.rows ∙ ap length value) in
     let forgot = subst (λ t. Forgot c.self.inside.floor c.args.p t c.forget.new.rows) value c.forget.ensures.forgot in (
       c.in_ok-check_front.ensures.within.1,
-      subst (Counts c.args.p c.self.inside.size) (sym all) (forgot_counts c.self.inside.floor c.args.p c.self.inside.size c.self.inside.rows.items c.forget.new.rows low c.in_ok-check_front.ensures.within.1 forgot c.self.invariant.1),
+      subst (HasCounted c.args.p c.self.inside.size) (sym all) (forgot_counts c.self.inside.floor c.args.p c.self.inside.size c.self.inside.rows.items c.forget.new.rows low c.in_ok-check_front.ensures.within.1 forgot c.self.invariant.1),
       subst (HasRoom c.self.inside.spare) (sym all) c.forget.ensures.room,
       c.self.invariant.3,
     )

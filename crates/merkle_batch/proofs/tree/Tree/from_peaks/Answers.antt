@@ -1,5 +1,5 @@
 use Rattle.std.proofs.Common.{refl, ap, subst, ◌∙◌, map, [], length, drop}
-use Rattle.merkle_batch.specs.Rows.{Keeps}
+use Rattle.merkle_batch.specs.Rows.{KeepsNodes}
 use Rattle.merkle_batch.proofs.Peaking.{stands_peaks}
 use Rattle.std.proofs.lemmas.List.{length-map}
 use Rattle.merkle_batch.specs.Over.{KeepsOver}
@@ -10,7 +10,7 @@ pub returns-clause-stands : goal.returns-clause-stands
 returns-clause-stands g c ds len is =
     let hash = g.H.TreeHash.of in
     stands_peaks hash _ c.args.p ds refl refl len
-    (subst (λ n. Keeps hash c.args.p (drop n c.rows_of.new.rows.items) ds) (ap length c.new-rows.ensures.items) (c.in_ok-rows_of.ensures.keeps hash ds len is))
+    (subst (λ n. KeepsNodes hash c.args.p (drop n c.rows_of.new.rows.items) ds) (ap length c.new-rows.ensures.items) (c.in_ok-rows_of.ensures.keeps hash ds len is))
 
 pub returns-clause-over : goal.returns-clause-over
 returns-clause-over g c ones =

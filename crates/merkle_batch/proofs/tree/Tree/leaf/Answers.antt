@@ -1,6 +1,6 @@
 use Rattle.std.proofs.Common.{arith, ap, ◌∙◌, ◌+◌, ◌≤◌, subst, sym}
 use Rattle.merkle_batch.specs.Over.{KeepsOver}
-use Rattle.merkle_batch.specs.Rows.{Keeps}
+use Rattle.merkle_batch.specs.Rows.{KeepsNodes}
 use Rattle.merkle_batch.proofs.Keeping.{has_nodes, stands_keeps}
 use Rattle.merkle_batch.proofs.Over.{over_ones, over_floor, over_keeps}
 use Rattle.merkle_batch.proofs.tree.Tree.leaf.Goals as goal
@@ -14,7 +14,7 @@ returns-clause-leaf g c ds stands =
     let hash = g.H.TreeHash.of in
     let view = c.self.view_is in
     let kept = stands_keeps hash c.args.self.now ds stands in
-    c.leaf_at.ensures.list hash ds (subst (λ t. Keeps hash c.self.inside.floor t ds) (sym (ap (λ t. t.rows) view) ∙ sym c.deref.ensures.value) (subst (λ p. Keeps hash p c.args.self.now.rows ds) (sym (ap (λ t. t.floor) view)) kept))
+    c.leaf_at.ensures.list hash ds (subst (λ t. KeepsNodes hash c.self.inside.floor t ds) (sym (ap (λ t. t.rows) view) ∙ sym c.deref.ensures.value) (subst (λ p. KeepsNodes hash p c.args.self.now.rows ds) (sym (ap (λ t. t.floor) view)) kept))
 
 pub returns-clause-over : goal.returns-clause-over
 returns-clause-over g c p ps xs stands =

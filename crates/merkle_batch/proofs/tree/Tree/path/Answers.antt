@@ -1,7 +1,7 @@
 use Rattle.std.proofs.Common.{arith, ◌≡◌, ◌+◌, map, ap, ap₂, ◌∙◌, ◌++◌, length, take, subst, sym, length-take-le}
 use Rattle.std.proofs.lemmas.List.{append-nil}
 use Rattle.tree_model.specs.Path.{path, path_length}
-use Rattle.merkle_batch.specs.Rows.{Keeps}
+use Rattle.merkle_batch.specs.Rows.{KeepsNodes}
 use Rattle.merkle_batch.proofs.Keeping.{has_nodes, stands_size, stands_keeps}
 use Rattle.merkle_batch.proofs.tree.Tree.path.Goals as goal
 
@@ -15,7 +15,7 @@ returns-in-Ok-clause-path g c ds stands =
     let view = c.self.view_is in
     let len = stands_size hash c.args.self.now ds stands in
     let kept = stands_keeps hash c.args.self.now ds stands in
-    let keeps = subst (λ t. Keeps hash c.self.inside.floor t ds) (sym (ap (λ t. t.rows) view) ∙ sym c.deref.ensures.value) (subst (λ p. Keeps hash p c.args.self.now.rows ds) (sym (ap (λ t. t.floor) view)) kept) in
+    let keeps = subst (λ t. KeepsNodes hash c.self.inside.floor t ds) (sym (ap (λ t. t.rows) view) ∙ sym c.deref.ensures.value) (subst (λ p. KeepsNodes hash p c.args.self.now.rows ds) (sym (ap (λ t. t.floor) view)) kept) in
     let all = append-nil (take c.args.size ds) in
     let count : length (take c.args.size ds) ≡ c.args.size = length-take-le c.args.size ds (omega (arith, len, c.if-size-self.false, ap (λ t. t.size) view)) in
     let is = c.in-Ok.ensures.list ds keeps (omega (arith, len, c.self.invariant.0, ap (λ t. t.size) view)) (omega (arith, len, c.if-size-self.false, ap (λ t. t.size) view)) (omega (arith, ap length all, count, c.in_ok-check_leaf.ensures.within.1)) in

@@ -1,6 +1,6 @@
 use Rattle.std.proofs.Common.{arith, length, map, ap, ◌∙◌, ◌++◌, take, subst, sym}
 use Rattle.tree_model.specs.Peaks.{peaks}
-use Rattle.merkle_batch.specs.Rows.{Keeps}
+use Rattle.merkle_batch.specs.Rows.{KeepsNodes}
 use Rattle.merkle_batch.proofs.Keeping.{has_nodes, stands_size, stands_keeps}
 use Rattle.merkle_batch.proofs.tree.Tree.peaks_at.Goals as goal
 
@@ -14,7 +14,7 @@ returns-in-Ok-clause-peaks g c ds stands =
     let view = c.self.view_is in
     let len = stands_size hash c.args.self.now ds stands in
     let kept = stands_keeps hash c.args.self.now ds stands in
-    let keeps = subst (λ t. Keeps hash c.self.inside.floor t ds) (sym (ap (λ t. t.rows) view) ∙ sym c.deref.ensures.value) (subst (λ p. Keeps hash p c.args.self.now.rows ds) (sym (ap (λ t. t.floor) view)) kept) in
+    let keeps = subst (λ t. KeepsNodes hash c.self.inside.floor t ds) (sym (ap (λ t. t.rows) view) ∙ sym c.deref.ensures.value) (subst (λ p. KeepsNodes hash p c.args.self.now.rows ds) (sym (ap (λ t. t.floor) view)) kept) in
     let is = c.in-Ok.ensures.list hash ds keeps (omega (arith, len, c.self.invariant.0, ap (λ t. t.size) view)) (omega (arith, len, c.in_ok-check_front.ensures.within.1, ap (λ t. t.size) view)) in
     is ∙ ap (λ a. map (λ d. d.0) a ++ peaks hash (take c.args.m ds)) c.new-digests.ensures.items
 

@@ -1,6 +1,6 @@
 use Rattle.std.proofs.Common.{arith, ◌≤◌, ◌+◌, ◌-◌, length, ap, ◌∙◌, take, subst, sym}
 use Rattle.std.proofs.lemmas.List.{append-nil}
-use Rattle.merkle_batch.specs.Rows.{Keeps, root_of}
+use Rattle.merkle_batch.specs.Rows.{KeepsNodes, root_of}
 use Rattle.merkle_batch.proofs.Keeping.{has_nodes, stands_size, stands_keeps}
 use Rattle.merkle_batch.proofs.Climbing.{root_some, root_empty}
 use Rattle.merkle_batch.specs.Over.{KeepsOver, root_over}
@@ -17,7 +17,7 @@ returns-in-Some-clause-list g c ds stands =
     let view = c.self.view_is in
     let len = stands_size hash c.args.self.now ds stands in
     let kept = stands_keeps hash c.args.self.now ds stands in
-    let keeps = subst (λ t. Keeps hash c.self.inside.floor t ds) (sym (ap (λ t. t.rows) view) ∙ sym c.deref.ensures.value) (subst (λ p. Keeps hash p c.args.self.now.rows ds) (sym (ap (λ t. t.floor) view)) kept) in
+    let keeps = subst (λ t. KeepsNodes hash c.self.inside.floor t ds) (sym (ap (λ t. t.rows) view) ∙ sym c.deref.ensures.value) (subst (λ p. KeepsNodes hash p c.args.self.now.rows ds) (sym (ap (λ t. t.floor) view)) kept) in
     let is = c.in-Some.ensures.list ds keeps (omega (arith, len, c.self.invariant.0, ap (λ t. t.size) view)) (omega (arith, len, c.requires.there)) in
     root_some hash (take c.args.count ds) c.in-Some.root.0 (is ∙ ap (root_of hash) (append-nil (take c.args.count ds)))
 
@@ -27,7 +27,7 @@ returns-in-None-clause-list g c ds stands =
     let view = c.self.view_is in
     let len = stands_size hash c.args.self.now ds stands in
     let kept = stands_keeps hash c.args.self.now ds stands in
-    let keeps = subst (λ t. Keeps hash c.self.inside.floor t ds) (sym (ap (λ t. t.rows) view) ∙ sym c.deref.ensures.value) (subst (λ p. Keeps hash p c.args.self.now.rows ds) (sym (ap (λ t. t.floor) view)) kept) in
+    let keeps = subst (λ t. KeepsNodes hash c.self.inside.floor t ds) (sym (ap (λ t. t.rows) view) ∙ sym c.deref.ensures.value) (subst (λ p. KeepsNodes hash p c.args.self.now.rows ds) (sym (ap (λ t. t.floor) view)) kept) in
     let is = c.in-None.ensures.list ds keeps (omega (arith, len, c.self.invariant.0, ap (λ t. t.size) view)) (omega (arith, len, c.requires.there)) in
     root_empty hash (take c.args.count ds) c.empty.result.0 (is ∙ ap (root_of hash) (append-nil (take c.args.count ds))) c.empty.ensures
 

@@ -1,5 +1,5 @@
 use Rattle.std.proofs.Common.{subst, arith}
-use Rattle.pseudo_genesis.specs.Reading.{Reads}
+use Rattle.pseudo_genesis.specs.Reading.{ReadsBase}
 use Rattle.pseudo_genesis.proofs.Wholes.{read_found, read_only, base_of_only, base_of_cut, base_of_trailing}
 use Rattle.pseudo_genesis.proofs.Breaks.{read_breaks}
 use Rattle.pseudo_genesis.proofs.base.Base.decode.Goals as goal
@@ -14,7 +14,7 @@ pub returns-clause-breaks : goal.returns-clause-breaks
 returns-clause-breaks c = read_breaks c.args.bytes.now c.read.result c.read.ensures
 
 pub returns-clause-cut : goal.returns-clause-cut
-returns-clause-cut c = λ b k rules widths lt e. subst (Reads c.read.result) (base_of_cut c.args.bytes.now b k rules widths lt e) c.read.ensures
+returns-clause-cut c = λ b k rules widths lt e. subst (ReadsBase c.read.result) (base_of_cut c.args.bytes.now b k rules widths lt e) c.read.ensures
 
 pub returns-clause-trailing : goal.returns-clause-trailing
-returns-clause-trailing c = λ b rest rules widths some e. subst (Reads c.read.result) (base_of_trailing c.args.bytes.now b rest rules widths some e) c.read.ensures
+returns-clause-trailing c = λ b rest rules widths some e. subst (ReadsBase c.read.result) (base_of_trailing c.args.bytes.now b rest rules widths some e) c.read.ensures
