@@ -7,7 +7,7 @@ use Rattle.ledger_bytes.specs.Digests.{digest, zero_digest}
 use Rattle.clue_index.specs.Trail.{Trail, no_trail, count_of, last_of, below}
 use Rattle.clue_index.specs.declared.state.ClueState.{ClueState}
 
--- a journal that has a clue
+-- a journal that has a clue, by its number
 pub record Mark : Type 0 where
   pub clue : List ℕ
   pub jsn : ℕ
@@ -18,23 +18,23 @@ pub record Added : Type 0 where
   pub marks : List Mark
   pub floor : ℕ
 
--- what a new index was given
+-- what a new index was given: the states of clues, and no journal
 abbrev pub added_at_first : List ClueState → Added
 added_at_first states = record { states = states; marks = []; floor = 0 }
 
--- with a journal more
+-- what an index was given, and a journal more
 abbrev pub with_mark : List ℕ → ℕ → Added → Added
 with_mark clue jsn a = record { states = a.states; marks = a.marks ++ record { clue = clue; jsn = jsn } ∷ []; floor = a.floor }
 
--- with journals kept from another on
+-- what an index was given, where journals are kept from another one on
 abbrev pub with_floor : ℕ → Added → Added
 with_floor floor a = record { states = a.states; marks = a.marks; floor = floor }
 
--- the bytes that stand for no clue
+-- the 32 zero bytes that stand for no clue
 abbrev pub no_clue : List ℕ
 no_clue = zero_digest.0
 
--- the state of a clue: the last of these that is its own, or none
+-- the state with which an index began for a clue: the last of these that is its own, or none
 abbrev pub state_of : List ℕ → List ClueState → Trail
 state_of clue states =
     fold (λ t s. if bytes_eq clue s.clue.0 then record { count = s.count; last = s.last; jsns = [] } else t) no_trail states
@@ -43,7 +43,7 @@ state_of clue states =
 abbrev pub jsns_of : List ℕ → List Mark → List ℕ
 jsns_of clue marks = map (λ m. m.jsn) (filter (λ m. bytes_eq clue m.clue) marks)
 
--- the journals of a clue
+-- all journals of a clue that an index was given
 abbrev pub trail_of : Added → List ℕ → Trail
 trail_of a clue =
     let state = state_of clue a.states in
@@ -61,15 +61,15 @@ table_of a = from_entries (map (λ clue. (clue, trail_of a clue)) (clues_of a))
 abbrev pub different_clues : Added → List (List ℕ)
 different_clues a = keys (table_of a)
 
--- a clue's state when the journals below p had been placed, from its journals
+-- a clue's state when the journals below p had been placed, from its trail
 abbrev pub state_below : ℕ → List ℕ → Trail → ClueState
 state_below p clue t = record { clue = digest clue; count = count_of (below p t); last = last_of (below p t) }
 
--- a clue's state when the journals below p had been placed
+-- a clue's state when the journals below p had been placed, from all that an index was given
 abbrev pub state_at : ℕ → Added → List ℕ → ClueState
 state_at p a clue = state_below p clue (trail_of a clue)
 
--- those of some states that speak of a journal
+-- those of some states of which the clue had a journal
 abbrev pub begun_states : List ClueState → List ClueState
 begun_states states = filter (λ s. nat_lt 0 s.count) states
 

@@ -8,12 +8,12 @@ use Rattle.std.specs.FinMap.{get}
 use Rattle.clue_index.specs.Added.{Added, no_clue, table_of}
 use Rattle.clue_index.specs.Trail.{Trail, seen_from, Ascends}
 
--- the clues' journals, and the first journal that is kept
+-- what an index keeps: the trails of the clues, and the first journal that is kept
 pub record KeptTrails : Type 0 where
   pub trails : List (List ℕ × Trail)
   pub floor : ℕ
 
--- the journals of a clue, where it has any
+-- the trail of a clue among some, where there is one
 abbrev pub trail_in : List ℕ → List (List ℕ × Trail) → Option Trail
 trail_in clue trails = lookup (is_at (slice_cmp nat_cmp clue)) trails
 
@@ -22,11 +22,11 @@ trail_in clue trails = lookup (is_at (slice_cmp nat_cmp clue)) trails
 abbrev pub kept_trail : KeptTrails → List ℕ → Option Trail
 kept_trail k clue = option_map (seen_from k.floor) (trail_in clue k.trails)
 
--- the same of the journals that were added
+-- the same of all that the index was given
 abbrev pub added_trail : Added → List ℕ → Option Trail
 added_trail a clue = option_map (seen_from a.floor) (get (table_of a) clue)
 
--- the index keeps what was added, of each clue
+-- an index stands for what it was given: of each clue it keeps what is to be kept
 pub record StandsForTrails (k : KeptTrails) (a : Added) : Type 0 where
   pub floor : k.floor ≡ a.floor
   pub at : (clue : List ℕ) → kept_trail k clue ≡ added_trail a clue

@@ -9,7 +9,7 @@ pub record Trail : Type 0 where
   pub last : ℕ
   pub jsns : List ℕ
 
--- no journals
+-- a clue without journals
 abbrev pub no_trail : Trail
 no_trail = record { count = 0; last = 0; jsns = [] }
 
@@ -22,27 +22,27 @@ last_from last (n ∷ ns) = last_from n ns
 abbrev pub count_of : Trail → ℕ
 count_of t = t.count + length t.jsns
 
--- the number of its last journal, or 0
+-- the number of the clue's last journal, or 0 where it has none
 abbrev pub last_of : Trail → ℕ
 last_of t = last_from t.last t.jsns
 
--- the numbers that are kept from journal p on
+-- the numbers of the clue's journals from journal p on
 abbrev pub kept_from : ℕ → Trail → List ℕ
 kept_from p t = filter (λ n. nat_le p n) t.jsns
 
--- the journals below p
+-- a trail without the journals from p on
 abbrev pub below : ℕ → Trail → Trail
 below p t = record { count = t.count; last = t.last; jsns = filter (λ n. nat_lt n p) t.jsns }
 
--- the same journals, of which those from p on are listed
+-- a trail of which only the journals from p on are listed, and those before them counted
 abbrev pub seen_from : ℕ → Trail → Trail
 seen_from p t = record { count = count_of (below p t); last = last_of (below p t); jsns = kept_from p t }
 
--- with a journal more
+-- a trail with a journal more
 abbrev pub grown_trail : ℕ → Trail → Trail
 grown_trail jsn t = record { count = t.count; last = t.last; jsns = t.jsns ++ jsn ∷ [] }
 
--- each number is below those behind it
+-- numbers ascend: each is below those behind it
 abbrev pub Ascends : List ℕ → Type 0
 Ascends [] = ⊤
 Ascends (n ∷ ns) = AllByRecursion (λ m. n < m) ns × Ascends ns

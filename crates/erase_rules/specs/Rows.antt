@@ -7,12 +7,13 @@ use Rattle.member_book.specs.Erasures.{occult_row, purge_row}
 use Rattle.erase_rules.specs.declared.occult.OccultFacts.{OccultFacts}
 use Rattle.erase_rules.specs.declared.purge.PurgeFacts.{PurgeFacts}
 
--- that of an occult, where these are the keys of the members
+-- what an occult is refused for, in its order, by what is known of the journal that it names
 abbrev pub row_of_occult : OccultFacts → List (List ℕ) → Digest → List Approval → List (Option Refusal)
 row_of_occult facts known leaf given =
     occult_row facts.size facts.point facts.kind facts.by facts.leaf known facts.target leaf given
 
--- that of a purge, which needs the approvals of these members
+-- what a purge is refused for, in its order, by what is known of the journal that it names; it needs the approvals of these
+-- members
 abbrev pub row_of_purge : PurgeFacts → List (List ℕ) → Digest → List ℕ → List Approval → List (Option Refusal)
 row_of_purge facts known root needed given =
     purge_row facts.size facts.point facts.kind facts.root known needed facts.asked root given

@@ -4,23 +4,25 @@ use mathlib.Core.Option.{some}
 use lib.ListN.{get_elem?}
 use Rattle.intake_queue.specs.declared.view.View.{View}
 
--- each lane's first index and quota
+-- of each lane the number of its first item, and how many items it may send
 abbrev pub Plan : Type 0
 Plan = List (ℕ × ℕ)
 
+-- the number that the first item of lane k has
 abbrev pub first_in : Plan → ℕ → ℕ
 first_in plan k = (slice_index_or plan k (0, 0)).0
 
+-- how many items lane k may send
 abbrev pub quota_in : Plan → ℕ → ℕ
 quota_in plan k = (slice_index_or plan k (0, 0)).1
 
--- the plan with these first indexes and these quotas
+-- the plan of lanes with these first numbers and these quotas
 unfoldable pub plan_of : List ℕ → List ℕ → Plan
 plan_of [] qs = []
 plan_of (f ∷ fs) [] = []
 plan_of (f ∷ fs) (q ∷ qs) = (f, q) ∷ plan_of fs qs
 
--- all quotas together
+-- how many items all lanes may send together
 unfoldable pub room : Plan → ℕ
 room [] = 0
 room (p ∷ ps) = p.1 + room ps
@@ -38,20 +40,20 @@ module _ {T : Type 0} where
   abbrev pub sender : Plan → ℕ → List T → View T
   sender plan k sent = record { gets = false; sends = true; plan = plan; lane = k; sent = sent; got = []; lent = 0; back = [] }
 
-  -- a pass that was taken in
+  -- what is left of a pass that was handed back
   abbrev pub spent : View T
   spent = record { gets = false; sends = false; plan = []; lane = 0; sent = []; got = []; lent = 0; back = [] }
 
-  -- the items of one lane, in order
+  -- those of some items that are of one lane, in order
   unfoldable pub of_lane : (T → ℕ) → ℕ → List T → List T
   of_lane lane k xs = filter (λ x. lane x == k) xs
 
-  -- their indexes go on from n
+  -- the numbers of these items go on one by one from n
   unfoldable pub CountsOn : (T → ℕ) → ℕ → List T → Type 0
   CountsOn index n [] = ⊤
   CountsOn index n (x ∷ xs) = (index x ≡ n) × CountsOn index (n + 1) xs
 
-  -- each is of a lane below n
+  -- each item is of a lane that there is: one below n
   unfoldable pub Below : (T → ℕ) → ℕ → List T → Type 0
   Below lane n [] = ⊤
   Below lane n (x ∷ xs) = (lane x < n) × Below lane n xs
@@ -102,7 +104,7 @@ module _ {T : Type 0} (lane index : T → ℕ) where
   abbrev pub Stood : View T → List T → Type 0
   Stood v items = (views : List (View T)) × (port : ℕ) × KeepsRule items views × (get_elem? views port ≡ some v)
 
-  -- what a lane sent is what was got of it, and then what the queue holds of it
+  -- of each lane, what it sent is what was got of it and then what the queue holds of it; no item is of another lane
   abbrev pub Settled : Plan → List (List T) → List T → List T → Type 0
   Settled plan sent got items =
       Below lane (length plan) (got ++ items)

@@ -12,10 +12,11 @@ use Rattle.journal_record.specs.Rules.{IsHeader}
 abbrev pub record_bytes : Entry → List ℕ
 record_bytes e = spelling e.header ++ (to_be_bytes w32 (length e.who) ++ (e.content ++ e.who))
 
+-- the bytes of some journals, one after the other
 abbrev pub body_of : List Entry → List ℕ
 body_of es = flat_map record_bytes es
 
--- a block of these journals under this root, without its gate
+-- the bytes of a block of these journals under this root, without its gate
 unfoldable pub block_bytes : List ℕ → List Entry → List ℕ
 block_bytes root es = to_be_bytes w32 (length es) ++ (to_be_bytes w64 (length (body_of es)) ++ (root ++ body_of es))
 
@@ -36,18 +37,18 @@ abbrev pub AreFrom : ℕ → List Entry → Type 0
 AreFrom n [] = ⊤
 AreFrom n (e ∷ es) = IsEntry n e × AreFrom (n + 1) es
 
--- a block whose first journal is journal n
+-- a block: 1 to 64 journals that can be journal n and those behind it
 pub record IsBlock (n : ℕ) (es : List Entry) : Type 0 where
   pub some : 1 ≤ length es
   pub most : length es ≤ BLOCK_LIMIT
   pub entries : AreFrom n es
 
--- blocks of which the first begins with journal n
+-- blocks one behind the other, of which the first begins with journal n
 abbrev pub AreBlocks : ℕ → List (List Entry) → Type 0
 AreBlocks n [] = ⊤
 AreBlocks n (b ∷ bs) = IsBlock n b × AreBlocks (n + length b) bs
 
--- blocks as they are written, where journals with these leaves came before; root gives the root over leaves
+-- the bytes of blocks, each with the root over all leaves up to its end, where these leaves came before
 abbrev pub written_blocks : (List (List ℕ) → List ℕ) → List (List ℕ) → List (List Entry) → List (List ℕ)
 written_blocks root seen [] = []
 written_blocks root seen (b ∷ bs) = block_bytes (root (seen ++ leaves_of b)) b ∷ written_blocks root (seen ++ leaves_of b) bs

@@ -11,10 +11,10 @@ pub record Entry : Type 0 where
   pub content : List ℕ
   pub who : List ℕ
 
--- the digest of a content
+-- the digest of a content, which the header keeps when the content is gone
 abbrev pub content_digest_of : List ℕ → List ℕ
 content_digest_of content = sha256 (byte_of tag.Content ∷ content)
 
--- the digest of the bytes that show who placed a journal
+-- the digest of the bytes that show who placed a journal, which the header keeps
 abbrev pub who_digest_of : List ℕ → List ℕ
 who_digest_of who = sha256 (byte_of tag.Who ∷ who)

@@ -5,7 +5,7 @@ use Rattle.journal_record.specs.declared.header.Header.{Header}
 use Rattle.journal_record.specs.declared.header.Kind.{Kind}
 use Rattle.journal_record.specs.declared.header.Kind.TheVariants.{Genesis, Content, Member, Time, Occult, Purge}
 
--- the number that stands for a kind
+-- the number that stands for a kind in a header
 abbrev pub code_of : Kind → ℕ
 code_of Genesis = 0
 code_of Content = 1
@@ -14,7 +14,7 @@ code_of Time = 3
 code_of Occult = 4
 code_of Purge = 5
 
--- the bytes of a header: its fields one after the other
+-- the 174 bytes of a header: its fields one after the other
 unfoldable pub spelling : Header → List ℕ
 spelling h =
     h.version ∷ []

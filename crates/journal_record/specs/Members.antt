@@ -18,7 +18,7 @@ founders operator regulator = record { key = operator; jsn = 0 } ∷ record { ke
 abbrev pub is_known : List (List ℕ) → ℕ → Bool
 is_known known member = nat_lt member (length known)
 
--- whether a proof shows a key, and it is this one
+-- a proof shows a key, and it is this one
 abbrev pub is_key_of : Option Digest → Option (List ℕ) → Bool
 is_key_of None kept = false
 is_key_of (Some shown) None = false

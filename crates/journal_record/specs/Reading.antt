@@ -12,15 +12,15 @@ use Rattle.journal_record.specs.declared.reading.OwnFields.{OwnFields}
 use Rattle.journal_record.specs.declared.reading.Parts.{Parts}
 use Rattle.journal_record.specs.Rules.{kind_of, version_ok, jsn_ok, member_ok, clue_ok, clue_ord_ok, clue_prev_ok, a_ok, b_ok, content_len_ok}
 
--- a version that is known
+-- a version that is known, or the break that tells another
 abbrev pub known_version : ℕ → Result (Unit {0}) Bad
 known_version version = if version_ok version then Ok tt else Err (NewerFormat version)
 
--- the kind that a number stands for, if there is one
+-- the kind that a number stands for, or the break that tells another
 abbrev pub known_kind : ℕ → Result Kind Bad
 known_kind code = ok_or (kind_of code) (BadKind code)
 
--- version, kind, number and member
+-- version, kind, number and member, each judged as it is met
 unfoldable pub front_at : Unread → Result (Front × Unread) Bad
 front_at l = do
   version ← number_at w8 l
@@ -33,7 +33,7 @@ front_at l = do
   _ ← check (member_ok kind member.0) 10
   Ok (record { version = version.0; kind = kind; jsn = jsn.0; member = member.0 }, member.1)
 
--- the clue, and the journal's place among its journals
+-- the clue, the journal's number among those of the clue, and the number of the one before it
 unfoldable pub clue_at : Kind → ℕ → Unread → Result (ClueFields × Unread) Bad
 clue_at kind jsn l = do
   clue ← digest_at l
@@ -63,7 +63,7 @@ parts_at kind l = do
   who ← digest_at content.1
   Ok (record { content_len = len.0; content_digest = content.0; who_digest = who.0 }, who.1)
 
--- a header
+-- the fields of a header, with the first break that is met
 unfoldable pub header_at : Unread → Result (Header × Unread) Bad
 header_at l = do
   front ← front_at l
@@ -89,7 +89,7 @@ header_at l = do
     parts.1,
   )
 
--- the header that the bytes spell, all of them
+-- the header that the bytes spell, all of them, or their first break
 unfoldable pub header_of : List ℕ → Result Header Bad
 header_of bytes = do
   read ← header_at (left_from (length bytes) bytes)

@@ -9,10 +9,11 @@ use Rattle.journal_record.specs.Header.{HasWidths}
 use Rattle.journal_record.specs.Reading.{header_of}
 use Rattle.journal_record.specs.Rules.{IsHeader}
 
--- the numbers of four and of eight bytes at a place
+-- the number of four bytes at a place
 abbrev pub number_4 : ℕ → List ℕ → ℕ
 number_4 at bytes = from_be_bytes w32 (take 4 (drop at bytes))
 
+-- the number of eight bytes at a place
 abbrev pub number_8 : ℕ → List ℕ → ℕ
 number_8 at bytes = from_be_bytes w64 (take 8 (drop at bytes))
 
@@ -41,11 +42,12 @@ pub record IsReadable (e : Entry) : Type 0 where
   pub content : length e.content ≡ e.header.content_len
   pub who : length e.who ≤ WHO_LIMIT
 
+-- journals of which each can be read from a block
 abbrev pub AreReadable : List Entry → Type 0
 AreReadable [] = ⊤
 AreReadable (e ∷ es) = IsReadable e × AreReadable es
 
--- the journals that fill a body
+-- the bytes of a block's body are those of these journals, which can be read and are so many
 pub record IsBody (count : ℕ) (body : List ℕ) (es : List Entry) : Type 0 where
   pub number : length es ≡ count
   pub readable : AreReadable es

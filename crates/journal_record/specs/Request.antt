@@ -29,6 +29,6 @@ purge_request_digest_of id point root = sha256 (byte_of tag.PurgeRequest ∷ (id
 abbrev pub clue_digest_of : List ℕ → List ℕ
 clue_digest_of name = if length name == 0 then zero_digest.0 else sha256 (byte_of tag.ClueName ∷ name)
 
--- the digest of a ledger's name
+-- the digest of a ledger's name, which its first header keeps
 abbrev pub name_digest_of : List ℕ → List ℕ
 name_digest_of name = sha256 (byte_of tag.LedgerName ∷ name)

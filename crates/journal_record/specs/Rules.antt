@@ -9,7 +9,7 @@ use Rattle.journal_record.specs.declared.header.Header.{Header}
 use Rattle.journal_record.specs.declared.header.Kind.{Kind}
 use Rattle.journal_record.specs.declared.header.Kind.TheVariants.{Genesis, Content, Member, Time, Occult, Purge}
 
--- the kind that a number stands for
+-- the kind that a number in a header stands for, where it stands for one
 abbrev pub kind_of : ℕ → Option Kind
 kind_of zero = Some Genesis
 kind_of (suc zero) = Some Content
@@ -23,7 +23,7 @@ kind_of (suc (suc (suc (suc (suc (suc n)))))) = None
 abbrev pub is_no_clue : Digest → Bool
 is_no_clue clue = bytes_eq clue.0 zero_digest.0
 
--- this layout is version 1
+-- headers of this layout have version 1
 abbrev pub version_ok : ℕ → Bool
 version_ok version = version == 1
 

@@ -1,13 +1,10 @@
-ghost use Rattle.std.specs.Prelude.{◌<◌, ◌^◌, ◌≡◌, length, All, IfOk};
-ghost use Rattle.journal_record.specs.Approval.{who_of};
-
-use ledger_bytes::{Bytes, Digest, FieldWriter, NoMemory};
-use std::alloc::Global;
+use ledger_bytes::{Bytes, Digest};
 
 /// The most bytes that show who placed a journal: those of 256 approvals, each with a proof of 4,096 bytes.
 pub const WHO_LIMIT: u32 = 1_050_112;
 
-/// A member's word for a journal: its number, and the proof that the member gave for what is asked.
+/// A member's word for a journal: its number, and the proof that the member gave for what is asked. In the who bytes of a
+/// journal it is the member's number in 4 bytes, the proof's length in 2 bytes, both unsigned and big-endian, and the proof.
 #[derive(Debug, Drop)]
 pub struct Approval {
     /// The member's number.
@@ -16,20 +13,4 @@ pub struct Approval {
     pub key: Option<Digest>,
     /// The proof as it came.
     pub proof: Bytes,
-}
-
-/// The bytes that show who placed a journal. For each approval: the member's number in 4 bytes, the proof's length in
-/// 2 bytes, both unsigned and big-endian, and the proof.
-pub fn who_bytes(alloc: Global, given: &[Approval]) -> Result<Bytes, NoMemory>
-    requires { All (λ a. length a.proof < 2 ^ 16) given.now }
-    ensures { IfOk result (λ who. who ≡ who_of given.now) }
-{
-    let mut out = FieldWriter::new(alloc);
-    for approval in given {
-        let proof = approval.proof.as_slice();
-        out.put_u32(approval.member)?;
-        out.put_u16(proof.len() as u16)?;
-        out.put_slice(proof)?;
-    }
-    Ok(out.finish())
 }

@@ -22,8 +22,7 @@ pub fn who_digest(who: &[u8]) -> Digest
     tagged_digest(Tag::Who, who)
 }
 
-/// The digest of the bytes that show that one member alone placed a journal: of [`who_bytes`](crate::who_bytes) of its
-/// approval. It takes no memory.
+/// The digest of the bytes that show that one member alone placed a journal: of its approval's. It takes no memory.
 pub fn approval_digest(by: &Approval) -> Digest
     requires { length by.now.proof < 2 ^ 16 }
     ensures { result.0 ≡ who_digest_of (who_of (by.now ∷ [])) }
@@ -31,8 +30,8 @@ pub fn approval_digest(by: &Approval) -> Digest
     approvals_digest(slice::from_ref(by))
 }
 
-/// The digest of the bytes that show which members approved a journal: of [`who_bytes`](crate::who_bytes) of these
-/// approvals, in their order. It takes no memory.
+/// The digest of the bytes that show which members approved a journal: of those of these approvals, in their order. It
+/// takes no memory.
 pub fn approvals_digest(given: &[Approval]) -> Digest
     requires { All (λ a. length a.proof < 2 ^ 16) given.now }
     ensures { result.0 ≡ who_digest_of (who_of given.now) }

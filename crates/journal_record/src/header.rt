@@ -113,7 +113,7 @@ impl Header {
         read(bytes)
     }
 
-    /// The header's bytes.
+    /// The bytes that are the journal's leaf, and stand in front of its content on the disk.
     #[tactic(auto, unfolding(crate::specs::Header::spelling))]
     pub fn encode(&self) -> [u8; HEADER_LEN]
         ensures bytes { result ≡ spelling self.now }

@@ -1,6 +1,6 @@
 use ledger_bytes::Digest;
 
-/// A member of a ledger.
+/// Whoever may place journals, or approve what is done to them.
 #[derive(Clone, Copy, Debug, PartialEq, Eq)]
 pub struct Member {
     /// The key that its proofs show.

@@ -3,7 +3,7 @@ use Rattle.std.specs.Prelude.{ℕ}
 use Rattle.ledger_bytes.specs.declared.refusal.Refusal.{Refusal}
 use Rattle.ledger_bytes.specs.declared.refusal.Refusal.TheVariants.{BadVerb, BadField, BadLane, Damaged, UnknownMember, WrongKey, MissingApproval, ApprovalOrder, MemberNumber, MembersFull, NoJournal, Purged, NotData, NotTime, AlreadyOcculted, LeafDiffers, RootDiffers, NotaryFault, NotaryFull, Full, BadSize, CluesFull}
 
--- the code of a refusal
+-- the number by which replies name a refusal
 abbrev pub refusal_code : Refusal → ℕ
 refusal_code BadVerb = 10
 refusal_code (BadField column) = 11

@@ -2,7 +2,7 @@
 use Rattle.std.specs.Prelude.{ℕ, List, replicate}
 use Rattle.ledger_bytes.specs.declared.digest.Digest.{Digest}
 
--- the digest with these bytes
+-- the digest that has these bytes
 abbrev pub digest : List ℕ → Digest
 digest bytes = record { 0 = bytes }
 

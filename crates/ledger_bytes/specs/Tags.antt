@@ -3,7 +3,8 @@ use Rattle.std.specs.Prelude.{ℕ}
 use Rattle.ledger_bytes.specs.declared.tag.Tag.{Tag}
 use Rattle.ledger_bytes.specs.declared.tag.Tag.TheVariants.{Leaf, Node, Content, AppendRequest, OccultRequest, PurgeRequest, Peg, Base, MemberRequest, Salt, Who, LedgerName, ClueName, Proof}
 
--- a leaf and an inner node of a tree have the bytes of RFC 6962
+-- the byte of each kind of string; those of a leaf and of an inner node are RFC 6962's. `tags_differ` says that no two are the
+-- same
 abbrev pub byte_of : Tag → ℕ
 byte_of Leaf = 0
 byte_of Node = 1

@@ -5,7 +5,7 @@ use Rattle.ledger_io.specs.declared.failure.LineErr.TheVariants as line_err
 use Rattle.ledger_io.specs.declared.ending.Ending.{Ending}
 use Rattle.ledger_io.specs.declared.ending.Ending.TheVariants.{Done, Usage, ReadFault, WriteFault, NoMemory, LineTooLong, ScriptTooLong}
 
--- the exit status
+-- the exit status of an ending: a number that a script can look at
 abbrev pub status_of : Ending → ℕ
 status_of Done = 0
 status_of Usage = 1
@@ -15,7 +15,7 @@ status_of NoMemory = 6
 status_of LineTooLong = 7
 status_of ScriptTooLong = 7
 
--- the last line
+-- the line that tells an ending; there is none where the run went well, or where its output can't be written
 abbrev pub last_line : Ending → List ℕ
 last_line Done = []
 last_line Usage = codes "fail 1 usage\n"

@@ -24,15 +24,15 @@ abbrev pub text_of_lines : List (List ℕ) → List ℕ
 text_of_lines [] = []
 text_of_lines (line ∷ lines) = line ++ 10 ∷ text_of_lines lines
 
--- there is no newline in the bytes
+-- no newline stands in the bytes, so that they are a line or a part of one
 abbrev pub IsUnbroken : List ℕ → Type 0
 IsUnbroken bytes = All (λ b. b ≢ 10) bytes
 
--- the bytes can stand as a line
+-- the bytes can stand as a line: no newline is in them, and they aren't too many
 abbrev pub IsLine : List ℕ → Type 0
 IsLine line = IsUnbroken line × (length line ≤ line_limit)
 
--- the first n bytes are more than a line has, and there is no newline in them
+-- the first n bytes are more than a line has, and no newline is in them
 pub record IsLong (bytes : List ℕ) (n : ℕ) : Type 0 where
   pub above : line_limit < n
   pub within : n ≤ length bytes

@@ -9,7 +9,7 @@ pub record Plan : Type 0 where
   pub fail_at : List ℕ
   pub faults : ℕ
 
--- no call was made
+-- the calls that are to fail, before the first was made
 abbrev pub unused_plan : List ℕ → Plan
 unused_plan fail_at = record { next = 0; fail_at = fail_at; faults = 0 }
 
@@ -22,7 +22,7 @@ pub record Feed : Type 0 where
   pub left : List ℕ
   pub plan : Plan
 
--- what every source tells
+-- what a source in memory tells, as each source does
 abbrev pub source_state : Feed → SourceState
 source_state feed = record { left = Some feed.left; faults = feed.plan.faults }
 
@@ -38,7 +38,7 @@ pub record Store : Type 0 where
   pub plan : Plan
   pub idles : ℕ
 
--- what every sink tells
+-- what a sink in memory tells, as each sink does
 abbrev pub sink_state : Store → SinkState
 sink_state store = record { held = Some store.held; faults = store.plan.faults; idles = store.idles }
 

@@ -40,7 +40,7 @@ MeetsFault before after = Rose before.faults after.faults ⊎ Rose before.idles 
 abbrev pub MeetsNone : SinkState → SinkState → Type 0
 MeetsNone before after = (after.faults ≡ before.faults) × (after.idles ≡ before.idles)
 
--- writing met one fault and no more
+-- writing met exactly one fault: the sink failed, or it was idle
 abbrev pub MeetsOne : SinkState → SinkState → Type 0
 MeetsOne before after = ((after.faults ≡ count_after before.faults) × (after.idles ≡ before.idles)) ⊎ ((after.faults ≡ before.faults) × (after.idles ≡ count_after before.idles))
 
@@ -49,5 +49,6 @@ pub record Outside : Type 0 where
   pub source : SourceState
   pub sink : SinkState
 
+-- a source and a sink, as a run is handed them
 abbrev pub outside : SourceState → SinkState → Outside
 outside source sink = record { source = source; sink = sink }

@@ -14,7 +14,7 @@ pub record Reading : Type 0 where
   pub ended : Bool
   pub failed : Option LineErr
 
--- what a call reads, whatever it answers
+-- a call of `next` took these bytes of the source, whatever it answers, and counted them
 pub record ReadsBytes (before after : SourceState) (old new : Reading) (bytes : List ℕ) : Type 0 where
   pub consumed : Consumes before.left after.left bytes
   pub total : new.total ≡ old.total + length bytes
@@ -44,7 +44,7 @@ pub record IsLast (after : SourceState) (old new : Reading) (bytes line : List �
   pub at_end : IsAtEnd after.left
   pub short : new.total < script_limit
 
--- a line was given
+-- a line was given: one that a newline ended, or one that the end of the source ended
 pub record GivesLine (after : SourceState) (old new : Reading) (bytes line : List ℕ) : Type 0 where
   pub unended : old.ended ≡ false
   pub sound : old.failed ≡ None
@@ -52,13 +52,13 @@ pub record GivesLine (after : SourceState) (old new : Reading) (bytes line : Lis
   pub rest : IsBrokenOff old new bytes line ⊎ IsLast after old new bytes line
   pub unfailed : new.failed ≡ None
 
--- nothing was read, and nothing changed
+-- a call read nothing and changed nothing
 pub record IsAgain (before after : SourceState) (old new : Reading) (bytes : List ℕ) : Type 0 where
   pub none : bytes ≡ []
   pub source : after ≡ before
   pub reader : new ≡ old
 
--- there is no further line
+-- there is no further line: the source has ended, and all lines were given
 pub record GivesNone (before after : SourceState) (old new : Reading) (bytes : List ℕ) : Type 0 where
   pub sound : old.failed ≡ None
   pub given : old.held ++ bytes ≡ []
@@ -75,7 +75,7 @@ BringsAbout before after held total LineTooLong = BeginsTooLong held
 BringsAbout before after held total ScriptTooLong = (total ≡ script_limit) × IsLine held
 BringsAbout before after held total NoMemory = ⊤
 
--- an error for the first time, after which the reader holds all that wasn't given
+-- an error is answered for the first time, with its cause; the reader holds all that wasn't given
 pub record Fails (before after : SourceState) (old new : Reading) (bytes : List ℕ) (error : LineErr) : Type 0 where
   pub unended : old.ended ≡ false
   pub sound : old.failed ≡ None

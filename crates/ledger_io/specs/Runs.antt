@@ -38,19 +38,20 @@ abbrev pub ending_after : Option LineErr → Ending
 ending_after None = Done
 ending_after (Some error) = ending_of error
 
--- some text that answers these lines is so
+-- some text that answers these lines has this property
 abbrev pub SomeAnswer : (List (List ℕ) → List ℕ → Type 0) → List (List ℕ) → (List ℕ → Type 0) → Type 0
 SomeAnswer answers lines IsSo = (text : List ℕ) × answers lines text × IsSo text
 
--- Some text that answers the script is so: of the bytes that were read, some first lines, each with its newline, were taken, and
--- it is so whatever lines follow these; or, where reading ended, some text that answers the lines that are answered then is so.
+-- Some text that answers the script has this property. Of the bytes that were read, some first lines, each with its newline,
+-- were taken, and it has it whatever lines follow these; or, where reading ended, some text has it that answers the lines that
+-- are answered then.
 abbrev pub SomeOfScript : (List (List ℕ) → List ℕ → Type 0) → SourceState → SourceState → List ℕ → (List ℕ → Type 0) → Type 0
 SomeOfScript answers before after read IsSo =
     ((after.faults ≡ before.faults) × ((lines : List (List ℕ)) × (rest : List ℕ) × Splits read lines rest
     × ((further : List (List ℕ)) → SomeAnswer answers (lines ++ further) IsSo)))
     ⊎ ((end : Option LineErr) × (lines : List (List ℕ)) × EndsReading end before after read lines × SomeAnswer answers lines IsSo)
 
--- what is written begins the text, and not all of the text is written
+-- a text was written in part: what is written begins it, and something of it is missing
 abbrev pub FallsShort : List ℕ → List ℕ → Type 0
 FallsShort replies text = Begins replies text × (length replies < length text)
 
@@ -77,7 +78,7 @@ Replies answers NoMemory read replies before after =
 Replies answers LineTooLong read replies before after = Answered answers (Some line_err.LineTooLong) read replies before after
 Replies answers ScriptTooLong read replies before after = Answered answers (Some line_err.ScriptTooLong) read replies before after
 
--- a run from its first line to its ending: everything but the last line
+-- what a run did from its first line to its ending: everything but the last line
 pub record Served (answers : List (List ℕ) → List ℕ → Type 0) (ending : Ending) (before after : Outside) : Type 0 where
   -- the bytes that were read, and those that were written
   pub read : List ℕ
@@ -86,7 +87,7 @@ pub record Served (answers : List (List ℕ) → List ℕ → Type 0) (ending : 
   pub appended : Appends before.sink.held after.sink.held replies
   pub replied : Replies answers ending read replies before after
 
--- a run from its first line to the last line that is written, with the sink as it was in front of that
+-- what a run did to the end, with the line that tells its ending
 pub record Ran (answers : List (List ℕ) → List ℕ → Type 0) (ending : Ending) (before after : Outside) : Type 0 where
   pub sink : SinkState
   pub served : Served answers ending before (outside after.source sink)
@@ -102,7 +103,7 @@ Output text NoMemory written before after = (written ≡ []) × MeetsNone before
 Output text LineTooLong written before after = ⊥
 Output text ScriptTooLong written before after = ⊥
 
--- one text is written, and nothing is read: everything but the last line
+-- what a run did that reads nothing and writes one text: everything but the last line
 pub record Wrote (text : List ℕ) (ending : Ending) (before after : Outside) : Type 0 where
   pub written : List ℕ
   pub unread : after.source ≡ before.source

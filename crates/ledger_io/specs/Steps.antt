@@ -30,7 +30,7 @@ pub record HasRead (before after : SourceState) (old new : Reading) (bytes : Lis
   pub ended : new.ended ≡ old.ended
   pub failed : new.failed ≡ old.failed
 
--- what a single read of at most so many bytes came to
+-- what the answer of a single read means: so many bytes came, or it failed
 abbrev pub Fetched : SourceState → SourceState → ℕ → List ℕ → Result ℕ LineErr → Type 0
 Fetched before after most bytes (Ok n) = (n ≡ length bytes) × (n ≤ most) × (n ≡ 0 → 0 < most → IsAtEnd after.left)
 Fetched before after most bytes (Err ReadFault) = (bytes ≡ []) × (after.faults ≡ count_after before.faults)
@@ -38,12 +38,12 @@ Fetched before after most bytes (Err LineTooLong) = ⊥
 Fetched before after most bytes (Err ScriptTooLong) = ⊥
 Fetched before after most bytes (Err NoMemory) = bytes ≡ []
 
--- how many bytes a read brought
+-- how many bytes a read brought: none where it failed
 abbrev pub gain : Result ℕ LineErr → ℕ
 gain (Ok n) = n
 gain (Err error) = 0
 
--- a read of at most so many bytes behind those that are held
+-- a single read of at most so many bytes, which stand behind those that were held
 pub record Fetches (before after : SourceState) (old new : List ℕ) (most : ℕ) (result : Result ℕ LineErr) : Type 0 where
   pub bytes : List ℕ
   pub consumed : Consumes before.left after.left bytes

@@ -39,7 +39,7 @@ impl Buffer {
         &self.bytes[self.start..self.filled]
     }
 
-    /// Drops bytes from the front.
+    /// Drops bytes from the front, which were given away.
     pub fn consume(&mut self, count: usize)
         requires { count ≤ length self.old }
         ensures { self.new ≡ drop count self.old }

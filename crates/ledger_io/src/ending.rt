@@ -24,7 +24,7 @@ pub enum Ending {
 impl Ending {
     ghost use Rattle.ledger_io.specs.Endings.{status_of, last_line};
 
-    /// The exit status.
+    /// The exit status, by which whoever started the program is told the ending.
     pub fn status(self) -> u8
         ensures { result ≡ status_of self }
     {

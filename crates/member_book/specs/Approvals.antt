@@ -24,7 +24,7 @@ abbrev pub unknown_refusal : List (List ℕ) → List Approval → Option Refusa
 unknown_refusal known given =
     option_map (λ g. UnknownMember g.member) (find (λ g. not (is_known known g.member)) given)
 
--- whether an approval's proof shows the key of its member
+-- an approval's proof shows the key of its member
 abbrev pub shows_key : List (List ℕ) → Approval → Bool
 shows_key known g = is_key_of g.key (slice_get known g.member)
 
@@ -33,7 +33,7 @@ abbrev pub key_refusal : List (List ℕ) → List Approval → Option Refusal
 key_refusal known given =
     option_map (λ g. WrongKey g.member) (find (λ g. not (shows_key known g)) given)
 
--- whether one of the approvals is this member's
+-- one of the approvals is this member's
 abbrev pub approves : List Approval → ℕ → Bool
 approves given member = list_any (λ g. g.member == member) given
 
@@ -41,7 +41,7 @@ approves given member = list_any (λ g. g.member == member) given
 abbrev pub least_missing : List Approval → List ℕ → Option ℕ
 least_missing given needed = reduce min (filter (λ member. not (approves given member)) needed)
 
--- that member's approval is missing
+-- the approval of the least of the needed members that is missing
 abbrev pub missing_refusal : List Approval → List ℕ → Option Refusal
 missing_refusal given needed =
     option_map (λ member. MissingApproval member) (least_missing given needed)

@@ -21,6 +21,7 @@ purged point n = if nat_lt n point then Some (Purged point) else None
 abbrev pub purged_up_to : ℕ → ℕ → Option Refusal
 purged_up_to point n = if nat_lt 0 point && nat_le n point then Some (Purged point) else None
 
+-- a kind is that of a member's record
 abbrev pub is_record : Kind → Bool
 is_record kinds.Content = true
 is_record other = false
@@ -29,6 +30,7 @@ is_record other = false
 abbrev pub no_record : Kind → Option Refusal
 no_record kind = if is_record kind then None else Some (NotData (code_of kind))
 
+-- a kind is that of time journals
 abbrev pub is_time : Kind → Bool
 is_time kinds.Time = true
 is_time other = false
@@ -37,7 +39,7 @@ is_time other = false
 abbrev pub no_time : Kind → Option Refusal
 no_time kind = if is_time kind then None else Some (NotTime (code_of kind))
 
--- a journal hides the content already, and it is this one
+-- the content is hidden already, by this journal
 abbrev pub hidden_by : Option ℕ → Option Refusal
 hidden_by hider = option_map (λ jsn. AlreadyOcculted jsn) hider
 

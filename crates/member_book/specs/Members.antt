@@ -10,7 +10,7 @@ use Rattle.member_book.specs.declared.book.AddErr.TheVariants.{MembersFull, Memb
 abbrev pub count_below : ℕ → List Member → ℕ
 count_below p members = 2 + count_by (λ m. nat_lt m.jsn p) (drop 2 members)
 
--- the refusal that an error tells
+-- the refusal that an error of admitting a member tells
 abbrev pub refusal_of : AddErr → Option Refusal
 refusal_of MembersFull = Some refusal.MembersFull
 refusal_of (MemberNumber next) = Some (refusal.MemberNumber next)

@@ -1,6 +1,6 @@
 -- Rows that have forgotten what a higher floor leaves out keep and count the rest.
-use Rattle.std.proofs.Common.{◌≡◌, ℕ, ◌+◌, ◌-◌, ◌*◌, ◌/◌, ◌%◌, ◌<◌, ◌≤◌, List, [], ◌∷◌, ◌++◌, length, get_or, set, take, drop, sym, ap, ◌∙◌, subst, arith, length-drop, drop-drop, map, take_at}
-use Rattle.std.proofs.lemmas.List.{drop_all, drop-set-lt, drop-map}
+use Rattle.std.proofs.Common.{◌≡◌, ℕ, ◌+◌, ◌-◌, ◌*◌, ◌/◌, ◌%◌, ◌<◌, ◌≤◌, List, [], ◌∷◌, ◌++◌, length, get_or, set, take, drop, sym, ap, ◌∙◌, subst, arith, length-drop, drop-drop}
+use Rattle.std.proofs.lemmas.List.{drop_all, drop-set-lt}
 use Rattle.tree_model.specs.Tree.{Hash}
 use Rattle.tree_model.specs.Halves.{pairs}
 use Rattle.merkle_batch.specs.Rows.{Row, first_of, KeepsNodes, HasCounted, HasRoom, HasNodes, Levels, StandsFor, Forgot}
@@ -87,9 +87,3 @@ pub stands_forgot : (hash : Hash) (old new : Levels) → old.floor ≤ new.floor
 stands_forgot hash old new le size forgot ds stands =
     stands_of hash new ds (stands_size hash old ds stands ∙ sym size)
     (forgot_keeps hash old.floor new.floor old.rows new.rows ds le forgot (stands_keeps hash old ds stands))
-
--- what is behind the first, brought to the front and cut off there
-pub turned : {A : Type 0} (f : A → List ℕ) (xs mid new : List A) (count n : ℕ) → n ≡ length xs → mid ≡ drop count xs ++ take count xs → new ≡ take (n - count) mid → map f new ≡ drop count (map f xs)
-turned f xs mid new count n len is cut =
-    let behind : length (drop count xs) ≡ n - count = omega (arith, length-drop count xs) in
-    ap (map f) (cut ∙ ap (take (n - count)) is ∙ take_at (drop count xs) (take count xs) (n - count) behind) ∙ sym (drop-map f count xs)

@@ -19,6 +19,6 @@ unfoldable pub StandsOver : Hash → Levels → ℕ → List (List ℕ) → List
 StandsOver hash tree p ps xs =
     (length ps ≡ count_ones p) × (p ≤ tree.floor) × (p + length xs ≡ tree.size) × KeepsOver hash p tree.floor tree.rows ps xs
 
--- the root over peaks and digests, where there are any
+-- the root over the leaves that the peaks stand for and the digests behind them, where there are any
 unfoldable pub root_over : Hash → List (List ℕ) → ℕ → List (List ℕ) → Option (List ℕ)
 root_over hash ps p xs = if nat_eq (p + length xs) 0 then None else Some (root_from hash ps p xs)

@@ -3,7 +3,7 @@ use Rattle.std.specs.Prelude.{◌≡◌, ℕ, ◌+◌, ◌-◌, ◌*◌, ◌/◌
 use Rattle.tree_model.specs.Tree.{Hash, root}
 use Rattle.tree_model.specs.Halves.{pairs}
 
--- a row as contracts see it: the digests that it keeps, and how many it has room for
+-- a row as contracts see it: the digests of one level that it keeps, and how many it has room for
 pub record Row : Type 0 where
   pub nodes : List (List ℕ)
   pub room : ℕ
@@ -23,12 +23,12 @@ unfoldable pub HasRoom : ℕ → List Row → Type 0
 HasRoom more [] = more ≡ 0
 HasRoom more (row ∷ rows) = (length row.nodes + more ≤ row.room) × HasRoom ((length row.nodes % 2 + more) / 2) rows
 
--- so many of a level's nodes are whole: the row of each level has those from the first that a floor leaves on
+-- the rows have exactly the nodes of so many leaves: each level those from the first that a floor leaves on
 unfoldable pub HasCounted : ℕ → ℕ → List Row → Type 0
 HasCounted p count [] = count ≡ 0
 HasCounted p count (row ∷ rows) = (first_of p + length row.nodes ≡ count) × HasCounted (p / 2) (count / 2) rows
 
--- the rows have at least the first so many of them
+-- the rows have at least the nodes of so many leaves, level by level
 unfoldable pub HasNodes : ℕ → ℕ → List Row → Type 0
 HasNodes p count [] = count ≡ 0
 HasNodes p count (row ∷ rows) = (count ≤ first_of p + length row.nodes) × HasNodes (p / 2) (count / 2) rows
@@ -45,7 +45,7 @@ Grown [] (row ∷ rows) = (row.nodes ≡ []) × Grown [] rows
 Grown (old ∷ olds) [] = ⊥
 Grown (old ∷ olds) (row ∷ rows) = (row.nodes ≡ old.nodes) × (old.room ≤ row.room) × Grown olds rows
 
--- rows that have forgotten what a higher floor leaves out
+-- rows that have forgotten what a higher floor leaves out, and nothing else
 unfoldable pub Forgot : ℕ → ℕ → List Row → List Row → Type 0
 Forgot p to [] [] = Unit
 Forgot p to [] (row ∷ rows) = ⊥
@@ -53,18 +53,19 @@ Forgot p to (old ∷ olds) [] = ⊥
 Forgot p to (old ∷ olds) (row ∷ rows) =
     (row.nodes ≡ drop (first_of to - first_of p) old.nodes) × Forgot (p / 2) (to / 2) olds rows
 
--- rows of which the first keeps none
+-- there are no rows, or the first keeps no node
 unfoldable pub IsNil : List Row → Type 0
 IsNil [] = Unit
 IsNil (row ∷ rows) = row.nodes ≡ []
 
--- a tree as contracts see it
+-- a tree as contracts see it: its rows, its size, the first leaf that is kept, and for how many more it has room
 pub record Levels : Type 0 where
   pub rows : List Row
   pub size : ℕ
   pub floor : ℕ
   pub spare : ℕ
 
--- a tree stands for each list of leaf digests that has its size, its kept leaves and its kept nodes
+-- a tree stands for each list of leaf digests that has its size and, from the floor on, its nodes. `lists_of_a_tree` says what
+-- such lists have in common, and that nothing else is asked of them
 unfoldable pub StandsFor : Hash → Levels → List (List ℕ) → Type 0
 StandsFor hash tree ds = (length ds ≡ tree.size) × KeepsNodes hash tree.floor tree.rows ds

@@ -1,6 +1,6 @@
 ghost use Rattle.std.specs.Prelude.{◌≡◌, ◌+◌, ◌-◌, ◌/◌, ◌%◌, ◌^◌, ◌<◌, ◌≤◌, [], ◌∷◌, ◌++◌, length, drop, get_or, IfSome, IfNone, IfOk, OnOk};
 
-use ledger_bytes::{Digest, NoMemory};
+use ledger_bytes::{Digest, NoMemory, keep_from};
 use std::alloc::Global;
 use std::marker::Model;
 
@@ -87,10 +87,7 @@ impl Row {
         if count == 0 {
             return self.above(more);
         }
-        let left = self.nodes.len() - count as usize;
-        self.nodes.rotate_left(count as usize);
-        self.nodes.truncate(left);
-        self.nodes.shrink_to(left + more as usize);
+        keep_from(&mut self.nodes, count as usize, more as usize);
         self.above(more)
     }
 

@@ -9,13 +9,14 @@ use Rattle.proof_codec.specs.Proofs.{ShownLower, ShownUpper, Shown}
 abbrev pub mark_of : Header → TimeMark
 mark_of h = record { jsn = h.jsn; index = h.a; time = h.b }
 
--- the marks of the bounds
+-- the mark of the bound in front
 abbrev pub lower_mark : ShownLower → TimeMark
 lower_mark l = mark_of l.header
 
+-- the mark of the bound behind
 abbrev pub upper_mark : ShownUpper → TimeMark
 upper_mark u = u.mark
 
--- the journal, its leaf, and the marks of its bounds
+-- what a proof claims: a journal, its leaf digest, and the marks of its bounds
 abbrev pub claim_of : Shown → Claim
 claim_of p = record { n = p.n; leaf = p.leaf; lo = option_map lower_mark p.lo; hi = option_map upper_mark p.hi }

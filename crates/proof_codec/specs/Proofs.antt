@@ -11,7 +11,8 @@ use Rattle.ledger_bytes.specs.declared.mark.TimeMark.{TimeMark}
 
 -- ---- values; digests that stand one after the other are shown as their bytes
 
--- what a proof shows of the time journal in front
+-- what a proof shows of the time journal in front: its header, its path, the root over the journals in front of it, and the
+-- proof that the ledger goes on from them
 pub record ShownLower : Type 0 where
   -- its header
   pub header : Header
@@ -22,7 +23,8 @@ pub record ShownLower : Type 0 where
   -- the proof that the ledger goes on from them
   pub ext : List ℕ
 
--- what a proof shows of the time journal behind
+-- what a proof shows of the time journal behind: its mark, the salt of the notary's entry, the root over the journals in front
+-- of it, and the proof that the ledger goes on from them
 pub record ShownUpper : Type 0 where
   -- its number, and the index and time of the notary's entry
   pub mark : TimeMark
@@ -33,7 +35,8 @@ pub record ShownUpper : Type 0 where
   -- the proof that the ledger goes on from them
   pub ext : List ℕ
 
--- what a proof shows
+-- what a proof shows: the size of the ledger, the journal's number, leaf digest and path, its bounds in time, and of the notary
+-- its size and the paths of the bounds' entries
 pub record Shown : Type 0 where
   -- the size of the ledger's tree
   pub size : ℕ
@@ -51,36 +54,36 @@ pub record Shown : Type 0 where
   pub lo_path : List ℕ
   pub hi_path : List ℕ
 
--- does a proof have a bound?
+-- a proof has a bound, in front or behind
 abbrev pub is_bounded : Option ShownLower → Option ShownUpper → Bool
 is_bounded lo hi = is_some lo || is_some hi
 
 -- ---- bytes
 
--- digests behind their count
+-- digests behind their count, which is one byte
 abbrev pub with_count : List ℕ → List ℕ
 with_count digests = (length digests / 32) ∷ digests
 
--- a lower bound behind its flag
+-- the bytes of the bound in front, behind a flag that says whether there is one
 unfoldable pub lower_text : Option ShownLower → List ℕ
 lower_text None = 0 ∷ []
 lower_text (Some l) = 1 ∷ (headers.spelling l.header ++ (with_count l.path ++ (l.root.0 ++ with_count l.ext)))
 
--- a mark's number, index and time
+-- the bytes of a mark: number, index and time
 unfoldable pub mark_text : TimeMark → List ℕ
 mark_text m = to_be_bytes w64 m.jsn ++ (to_be_bytes w64 m.index ++ to_be_bytes w64 m.time)
 
--- an upper bound behind its flag
+-- the bytes of the bound behind, behind a flag that says whether there is one
 unfoldable pub upper_text : Option ShownUpper → List ℕ
 upper_text None = 0 ∷ []
 upper_text (Some u) = 1 ∷ (mark_text u.mark ++ (u.salt.0 ++ (u.root.0 ++ with_count u.ext)))
 
--- what stands only where a bound is there
+-- bytes that stand only where a bound is there, else none
 abbrev pub text_if : Bool → List ℕ → List ℕ
 text_if true text = text
 text_if false text = []
 
--- the size of the notary's tree, where there is a bound, and the path of each bound's entry
+-- the bytes of what the notary shows: the size of its tree, where there is a bound, and the path of each bound's entry
 unfoldable pub notary_text : Shown → List ℕ
 notary_text p =
     text_if (is_bounded p.lo p.hi) (to_be_bytes w64 p.notary_size)
@@ -96,28 +99,30 @@ spelling p = front_text p ++ (lower_text p.lo ++ (upper_text p.hi ++ notary_text
 
 -- ---- how long they are
 
--- how many bytes the bounds have with their flags
+-- how many bytes the bound in front has with its flag
 abbrev pub lower_len : Option ShownLower → ℕ
 lower_len None = 1
 lower_len (Some l) = 209 + length l.path + length l.ext
 
+-- how many bytes the bound behind has with its flag
 abbrev pub upper_len : Option ShownUpper → ℕ
 upper_len None = 1
 upper_len (Some u) = 90 + length u.ext
 
--- a lower bound isn't longer than its counts allow
+-- the bound in front isn't longer than its counts allow
 abbrev pub HasShortLower : Option ShownLower → Type 0
 HasShortLower None = ⊤
 HasShortLower (Some l) = (length l.path ≤ 8160) × (length l.ext ≤ 8160)
 
--- where the two flags stand
+-- where the flag of the bound in front stands in a proof
 abbrev pub lower_place : Shown → ℕ
 lower_place p = 50 + length p.path
 
+-- where the flag of the bound behind stands in a proof
 abbrev pub upper_place : Shown → ℕ
 upper_place p = 50 + length p.path + lower_len p.lo
 
--- how many bytes a proof has
+-- how many bytes a proof has in all
 abbrev pub proof_len : Shown → ℕ
 proof_len p =
     50 + length p.path + lower_len p.lo + upper_len p.hi + (if is_bounded p.lo p.hi then 8 else 0)
@@ -130,23 +135,26 @@ pub record IsDigests (digests : List ℕ) : Type 0 where
   pub whole : length digests % 32 ≡ 0
   pub count : length digests / 32 < 256
 
--- the header of a time journal
+-- a header that keeps its rules and is that of a time journal
 pub record IsTimeHeader (h : Header) : Type 0 where
   pub rules : IsHeader h
   pub widths : headers.HasWidths h
   pub kind : h.kind ≡ Time
 
+-- the numbers of a mark fit their fields
 pub record IsMark (m : TimeMark) : Type 0 where
   pub jsn : m.jsn < 2 ^ 64
   pub index : m.index < 2 ^ 64
   pub time : m.time < 2 ^ 64
 
+-- the parts of a bound in front fit their fields
 pub record HasLower (l : ShownLower) : Type 0 where
   pub header : IsTimeHeader l.header
   pub path : IsDigests l.path
   pub root : length l.root.0 ≡ 32
   pub ext : IsDigests l.ext
 
+-- the parts of a bound behind fit their fields
 pub record HasUpper (u : ShownUpper) : Type 0 where
   pub mark : IsMark u.mark
   pub salt : length u.salt.0 ≡ 32
@@ -163,7 +171,8 @@ abbrev pub IsPathIf : Bool → List ℕ → Type 0
 IsPathIf true path = IsDigests path
 IsPathIf false path = path ≡ []
 
--- what has a spelling: each number fits its field, each digest has 32 bytes, and what belongs to a bound is there only with it
+-- the parts of a proof fit their fields: each number, each digest of 32 bytes, and what belongs to a bound is there only with
+-- it
 pub record HasFields (p : Shown) : Type 0 where
   pub size : p.size < 2 ^ 64
   pub n : p.n < 2 ^ 64
@@ -175,7 +184,7 @@ pub record HasFields (p : Shown) : Type 0 where
   pub lo_path : IsPathIf (is_some p.lo) p.lo_path
   pub hi_path : IsPathIf (is_some p.hi) p.hi_path
 
--- what has a spelling that isn't too long
+-- the parts of a proof fit, and its bytes aren't too many
 pub record IsProof (p : Shown) : Type 0 where
   pub fields : HasFields p
   pub room : length (spelling p) ≤ 8192

@@ -13,38 +13,38 @@ use Rattle.ledger_bytes.specs.declared.mark.TimeMark.{TimeMark}
 use Rattle.journal_record.specs.Reading.{header_at}
 use Rattle.proof_codec.specs.Proofs.{ShownLower, ShownUpper, Shown, is_bounded, lower_len}
 
--- digests behind their count
+-- the next digests, behind their count
 unfoldable pub digests_at : Unread → Result (List ℕ × Unread) Bad
 digests_at l = do
   count ← number_at w8 l
   bytes_at (32 * count.0) count.1
 
--- the flag of a bound: is it there?
+-- whether a bound is there, by its flag
 unfoldable pub flag_at : ℕ → Unread → Result (Bool × Unread) Bad
 flag_at at l = do
   flag ← number_at w8 l
   _ ← check (nat_le flag.0 1) at
   Ok (flag.0 == 1, flag.1)
 
--- how a header at a place breaks: it is cut off, or its place is told
+-- how a time journal's header breaks within a proof: the proof is cut off, or the header's place is told
 abbrev pub header_break : {A : Type 0} → ℕ → Result A Bad → Result A Bad
 header_break at (Ok x) = Ok x
 header_break at (Err (Short whole)) = Err (Short whole)
 header_break at (Err bad) = Err (BadFixedField at)
 
--- is it the kind of time journals?
+-- a kind is that of time journals
 abbrev pub is_time : Kind → Bool
 is_time Time = true
 is_time kind = false
 
--- the header of a time journal
+-- the next header, which has to be a time journal's
 unfoldable pub time_at : ℕ → Unread → Result (Header × Unread) Bad
 time_at at l = do
   header ← header_break at (header_at l)
   _ ← check (is_time header.0.kind) at
   Ok header
 
--- a lower bound that is there
+-- the parts of the bound in front, where its flag said that it is there
 unfoldable pub some_lower_at : ℕ → Unread → Result (Option ShownLower × Unread) Bad
 some_lower_at at l = do
   header ← time_at at l
@@ -53,13 +53,13 @@ some_lower_at at l = do
   ext ← digests_at root.1
   Ok (Some (record { header = header.0; path = path.0; root = root.0; ext = ext.0 }), ext.1)
 
--- a lower bound behind its flag
+-- the flag of the bound in front, and its parts where it is there
 unfoldable pub lower_at : ℕ → Unread → Result (Option ShownLower × Unread) Bad
 lower_at at l = do
   flag ← flag_at at l
   if flag.0 then some_lower_at (at + 1) flag.1 else Ok (None, flag.1)
 
--- a time mark
+-- the numbers of a mark
 unfoldable pub mark_at : Unread → Result (TimeMark × Unread) Bad
 mark_at l = do
   jsn ← number_at w64 l
@@ -67,7 +67,7 @@ mark_at l = do
   time ← number_at w64 index.1
   Ok (record { jsn = jsn.0; index = index.0; time = time.0 }, time.1)
 
--- an upper bound that is there
+-- the parts of the bound behind, where its flag said that it is there
 unfoldable pub some_upper_at : Unread → Result (Option ShownUpper × Unread) Bad
 some_upper_at l = do
   mark ← mark_at l
@@ -76,17 +76,17 @@ some_upper_at l = do
   ext ← digests_at root.1
   Ok (Some (record { mark = mark.0; salt = salt.0; root = root.0; ext = ext.0 }), ext.1)
 
--- an upper bound behind its flag
+-- the flag of the bound behind, and its parts where it is there
 unfoldable pub upper_at : ℕ → Unread → Result (Option ShownUpper × Unread) Bad
 upper_at at l = do
   flag ← flag_at at l
   if flag.0 then some_upper_at flag.1 else Ok (None, flag.1)
 
--- the size of the notary's tree, where there is a bound
+-- the size of the notary's tree, which stands only where a bound is there
 unfoldable pub size_if : Bool → Unread → Result (ℕ × Unread) Bad
 size_if there l = if there then number_at w64 l else Ok (0, l)
 
--- the path of a bound's entry, where it is there
+-- the path of a bound's entry, which stands only where the bound is there
 unfoldable pub path_if : Bool → Unread → Result (List ℕ × Unread) Bad
 path_if there l = if there then digests_at l else Ok ([], l)
 
@@ -101,7 +101,7 @@ front_at l = do
   path ← digests_at leaf.1
   Ok ((size.0, n.0, leaf.0, path.0), path.1)
 
--- the fields of a proof
+-- the fields of a proof, from left to right
 unfoldable pub proof_at : Unread → Result (Shown × Unread) Bad
 proof_at l = do
   front ← front_at l
@@ -125,13 +125,13 @@ proof_at l = do
     hi_path.1,
   )
 
--- the proof that the bytes spell, all of them
+-- the proof that the bytes spell, all of them, or their first break
 unfoldable pub proof_of : List ℕ → Result Shown Bad
 proof_of bytes = if nat_lt 8192 (length bytes) then Err TooLong else (do
   read ← proof_at (left_from (length bytes) bytes)
   end_at read.0 read.1)
 
--- how the bytes of a proof can break
+-- how bytes can fail to be a proof; no other error comes
 abbrev pub IsBreak : Bad → Type 0
 IsBreak (Short at) = Unit {0}
 IsBreak (Trailing at) = Unit {0}

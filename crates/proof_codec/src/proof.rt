@@ -106,7 +106,7 @@ impl<'a> Proof<'a> {
         read(bytes)
     }
 
-    /// What the proof claims.
+    /// What the proof claims: the journal, its leaf digest, and its bounds in time.
     pub fn claim(&self) -> Claim
         ensures { result ≡ claim_of self.now }
     {
@@ -118,7 +118,7 @@ impl<'a> Proof<'a> {
         }
     }
 
-    /// The proof's bytes.
+    /// The one spelling of the proof, as a reply tells it.
     pub fn encode(&self, alloc: Global) -> Result<Bytes, NoMemory>
         requires { IsProof self.now }
         ensures text { IfOk result (λ bytes. bytes ≡ spelling self.now) }

@@ -13,23 +13,23 @@ use Rattle.pseudo_genesis.specs.declared.base.TheConstants.{POINT_LIMIT, CLUE_LI
 
 -- ---- rules
 
--- this layout is version 1
+-- a base of this layout has version 1
 abbrev pub version_ok : ℕ → Bool
 version_ok version = version == 1
 
--- at least journal 0 is given up, and behind the point there is room for a journal
+-- what the point may be: at least journal 0 is given up, and behind the point there is room for a journal
 abbrev pub point_ok : ℕ → Bool
 point_ok point = nat_le 1 point && nat_le point POINT_LIMIT
 
--- at least one block is given up, and each had a journal
+-- how many blocks may be given up: at least one, and each had a journal
 abbrev pub blocks_ok : ℕ → ℕ → Bool
 blocks_ok point blocks = nat_le 1 blocks && nat_le blocks point
 
--- the operator and the regulator are there, and no more members than there may be
+-- how many members there may be: the operator and the regulator are there, and no more than 256
 abbrev pub members_ok : ℕ → Bool
 members_ok count = nat_le 2 count && nat_le count MEMBER_LIMIT
 
--- no more clues than there may be
+-- no more clues than a ledger may have
 abbrev pub clues_ok : ℕ → Bool
 clues_ok count = nat_le count CLUE_LIMIT
 
@@ -37,11 +37,11 @@ clues_ok count = nat_le count CLUE_LIMIT
 abbrev pub is_behind : Digest → Digest → Bool
 is_behind before clue = is_lt (slice_cmp nat_cmp before.0 clue.0)
 
--- a count of journals, or the number of one, that isn't journal 0 and stands below the point
+-- a count or a number of journals of a clue is at least 1, since journal 0 has none, and below the point
 abbrev pub is_inside : ℕ → ℕ → Bool
 is_inside point n = nat_le 1 n && nat_lt n point
 
--- the state of a clue that stands behind another
+-- the state of a clue that stands behind another, with numbers below the point
 pub record IsState (point : ℕ) (before : Digest) (s : ClueState) : Type 0 where
   pub clue : IsTrue (is_behind before s.clue)
   pub count : IsTrue (is_inside point s.count)
@@ -63,27 +63,27 @@ pub record IsBase (b : Base) : Type 0 where
 
 -- ---- bytes
 
--- digests one after the other
+-- the bytes of digests, one after the other
 abbrev pub digests_text : List Digest → List ℕ
 digests_text digests = flat_map (λ d. d.0) digests
 
--- the state of a clue
+-- the bytes of a clue's state: clue, count and last number
 abbrev pub state_text : ClueState → List ℕ
 state_text s = s.clue.0 ++ (to_be_bytes w32 s.count ++ to_be_bytes w64 s.last)
 
--- the states of clues one after the other
+-- the bytes of clues' states, one after the other
 abbrev pub states_text : List ClueState → List ℕ
 states_text states = flat_map state_text states
 
--- the fields in front of the lists
+-- the bytes in front of the lists: version, id, point and how many blocks
 unfoldable pub front_text : Digest → ℕ → ℕ → List ℕ
 front_text id point blocks = 1 ∷ (id.0 ++ (to_be_bytes w64 point ++ to_be_bytes w64 blocks))
 
--- keys behind their count
+-- the bytes of the members' keys, behind their count
 unfoldable pub keys_text : List Digest → List ℕ
 keys_text keys = to_be_bytes w16 (length keys) ++ digests_text keys
 
--- the states of clues behind their count
+-- the bytes of the clues' states, behind their count
 unfoldable pub clues_text : List ClueState → List ℕ
 clues_text states = to_be_bytes w32 (length states) ++ states_text states
 
@@ -93,15 +93,17 @@ spelling b = front_text b.id b.point b.blocks ++ (digests_text b.peaks ++ (keys_
 
 -- ---- what a base has by its type
 
+-- a digest has 32 bytes
 abbrev pub IsWide : Digest → Type 0
 IsWide d = length d.0 ≡ 32
 
+-- the numbers of a clue's state fit their fields, and its clue has 32 bytes
 pub record HasStateWidths (s : ClueState) : Type 0 where
   pub clue : IsWide s.clue
   pub count : s.count < 2 ^ 32
   pub last : s.last < 2 ^ 64
 
--- each number fits its field, and each digest has 32 bytes
+-- the numbers of a base fit their fields, and its digests have 32 bytes
 pub record HasWidths (b : Base) : Type 0 where
   pub id : IsWide b.id
   pub point : b.point < 2 ^ 64
@@ -110,7 +112,7 @@ pub record HasWidths (b : Base) : Type 0 where
   pub keys : All IsWide b.keys
   pub clues : All HasStateWidths b.clues
 
--- the numbers of keys and of clues fit their fields
+-- how many keys and clues a base has fits the fields for that
 pub record HasCounts (b : Base) : Type 0 where
   pub keys : length b.keys < 2 ^ 16
   pub clues : length b.clues < 2 ^ 32

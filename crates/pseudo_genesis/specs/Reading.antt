@@ -20,22 +20,23 @@ many_at read next (suc n) known l = do
   more ← many_at read next n (next known item.0) item.1
   Ok (item.0 ∷ more.0, more.1)
 
--- nothing needs to be known for the next digest
+-- the next digest, in a list where nothing needs to be known of those before it
 abbrev pub any_digest_at : ⊤ → Unread → Result (Digest × Unread) Bad
 any_digest_at known l = digest_at l
 
+-- nothing is known behind a digest either
 abbrev pub still : ⊤ → Digest → ⊤
 still known digest = known
 
--- n digests
+-- the next n digests
 unfoldable pub digests_at : ℕ → Unread → Result (List Digest × Unread) Bad
 digests_at n l = many_at any_digest_at still n tt l
 
--- a version that is known
+-- a version that is known, or the break that tells another
 abbrev pub known_version : ℕ → Result (Unit {0}) Bad
 known_version version = if version_ok version then Ok tt else Err (bad.NewerFormat version)
 
--- version, id, point and blocks
+-- version, id, point and how many blocks, each judged as it is met
 unfoldable pub front_at : Unread → Result ((Digest × ℕ × ℕ) × Unread) Bad
 front_at l = do
   version ← number_at w8 l
@@ -47,19 +48,19 @@ front_at l = do
   _ ← check (blocks_ok point.0 blocks.0) 41
   Ok ((id.0, point.0, blocks.0), blocks.1)
 
--- keys behind their count, which stands at a place
+-- the members' keys behind their count, which stands at a place
 unfoldable pub keys_at : ℕ → Unread → Result (List Digest × Unread) Bad
 keys_at at l = do
   count ← number_at w16 l
   _ ← check (members_ok count.0) at
   digests_at count.0 count.1
 
--- the clue in front of a state, and the state's place
+-- what is known where a clue's state begins: the clue in front of it, and its place
 pub record Before : Type 0 where
   pub clue : Digest
   pub place : ℕ
 
--- the state of a clue
+-- the state of a clue, which stands behind the one before
 unfoldable pub state_at : ℕ → Before → Unread → Result (ClueState × Unread) Bad
 state_at point before l = do
   clue ← digest_at l
@@ -70,22 +71,22 @@ state_at point before l = do
   _ ← check (is_inside point last.0) (before.place + 36)
   Ok (record { clue = clue.0; count = count.0; last = last.0 }, last.1)
 
--- what stands in front of the state behind
+-- what is known where the next state begins
 abbrev pub behind : Before → ClueState → Before
 behind before state = record { clue = state.clue; place = before.place + 44 }
 
--- n states of clues behind a clue
+-- the states of n clues, one after the other
 unfoldable pub states_at : ℕ → ℕ → Before → Unread → Result (List ClueState × Unread) Bad
 states_at point n before l = many_at (state_at point) behind n before l
 
--- the states of clues behind their count, which stands at a place
+-- the states of all clues behind their count, which stands at a place
 unfoldable pub clues_at : ℕ → ℕ → Unread → Result (List ClueState × Unread) Bad
 clues_at point at l = do
   count ← number_at w32 l
   _ ← check (clues_ok count.0) at
   states_at point count.0 (record { clue = zero_digest; place = at + 4 }) count.1
 
--- the fields of a base
+-- the fields of a base, from left to right
 unfoldable pub base_at : Unread → Result (Base × Unread) Bad
 base_at l = do
   front ← front_at l
@@ -104,7 +105,7 @@ base_at l = do
     clues.1,
   )
 
--- the base that the bytes spell, all of them
+-- the base that the bytes spell, all of them, or their first break
 unfoldable pub base_of : List ℕ → Result Base Bad
 base_of bytes = do
   read ← base_at (left_from (length bytes) bytes)
@@ -123,7 +124,7 @@ TakesBase (Ok x) after read = read ≡ Ok (x, after)
 TakesBase (Err (base_err.Bad bad)) after read = read ≡ Err bad
 TakesBase (Err base_err.NoMemory) after read = ⊤
 
--- how the bytes of a base can break
+-- how bytes can fail to be a base; no other break comes
 abbrev pub IsBreak : Bad → Type 0
 IsBreak (bad.Short at) = ⊤
 IsBreak (bad.Trailing at) = ⊤
@@ -132,7 +133,7 @@ IsBreak (bad.NewerFormat found) = ⊤
 IsBreak (bad.BadKind found) = ⊥
 IsBreak bad.TooLong = ⊥
 
--- .. or the reading of one
+-- how the reading of a base can fail: by such a break, or for want of memory
 abbrev pub IsFailure : BaseErr → Type 0
 IsFailure (base_err.Bad bad) = IsBreak bad
 IsFailure base_err.NoMemory = ⊤

@@ -12,7 +12,7 @@ use thiserror::Error;
 /// The greatest point: behind it there is room for the journal with the greatest number.
 pub const POINT_LIMIT: u64 = 4_294_967_294;
 
-/// The most clues.
+/// The most clues of which a base has the states: as many as a ledger may have.
 pub const CLUE_LIMIT: u32 = 1_048_576;
 
 /// Why bytes aren't read as a base.
@@ -107,7 +107,7 @@ impl Base {
         read(alloc, bytes)
     }
 
-    /// The base's bytes.
+    /// The one spelling of the base, which stands in front of a file's blocks.
     pub fn encode(&self, alloc: Global) -> Result<Bytes, NoMemory>
         requires { HasCounts self.now }
         ensures text { IfOk result (λ bytes. bytes ≡ spelling self.now) }

@@ -17,21 +17,21 @@ fields_of line = record { column = 1; fields = parts 32 line }
 abbrev pub next_column : ℕ → ℕ
 next_column column = min (column + 1) (2 ^ 32 - 1)
 
--- what stands behind the first of some fields
+-- what stands behind the first of some fields, with its column
 abbrev pub behind_first : ℕ → List (List ℕ) → UnreadFields
 behind_first column [] = record { column = column; fields = [] }
 behind_first column (field ∷ fields) = record { column = next_column column; fields = fields }
 
--- the fields behind the first
+-- what is still to be read behind the first field
 abbrev pub behind : UnreadFields → UnreadFields
 behind left = behind_first left.column left.fields
 
--- what was read, or a refusal that names the column
+-- what a field read as, or a refusal that names its column
 abbrev pub read_or_bad : {A : Type 0} → ℕ → Option A → UnreadFields → Result (A × UnreadFields) Refusal
 read_or_bad column None left = Err (BadField column)
 read_or_bad column (Some x) left = Ok (x, left)
 
--- what the first of some fields reads as, and the fields behind it
+-- what the first of some fields reads as, and the fields behind it; it is refused where there is none
 abbrev pub field_from : {A : Type 0} → (List ℕ → Option A) → ℕ → List (List ℕ) → Result (A × UnreadFields) Refusal
 field_from read column [] = Err (BadField column)
 field_from read column (field ∷ fields) =
@@ -41,16 +41,16 @@ field_from read column (field ∷ fields) =
 abbrev pub field_at : {A : Type 0} → (List ℕ → Option A) → UnreadFields → Result (A × UnreadFields) Refusal
 field_at read left = field_from read left.column left.fields
 
--- no field is left; else the first is refused with its column
+-- no field is left; else the first that is left is refused with its column
 abbrev pub end_from : ℕ → List (List ℕ) → Result (Unit {0}) Refusal
 end_from column [] = Ok tt
 end_from column (field ∷ fields) = Err (BadField column)
 
--- no field is left; one that is extra is refused with its column
+-- no field is left to be read; one that is extra is refused with its column
 abbrev pub end_at : UnreadFields → Result (Unit {0}) Refusal
 end_at left = end_from left.column left.fields
 
--- what was read and what is left behind it, or the refusal
+-- what a reader answers to one field: what was read and what is left behind it, or the refusal
 abbrev pub taken_field : {A : Type 0} → Result A Refusal → UnreadFields → Result (A × UnreadFields) Refusal
 taken_field (Ok x) left = Ok (x, left)
 taken_field (Err refusal) left = Err refusal

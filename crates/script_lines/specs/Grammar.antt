@@ -15,7 +15,7 @@ abbrev pub ◌>>=◌ : {A B : Type 0} → Result A Refusal → (A → Result B R
 Ok x >>= second = second x
 Err refusal >>= second = Err refusal
 
--- `append MEMBER CLUE CONTENT PROOF`
+-- what the fields behind `append` say: `append MEMBER CLUE CONTENT PROOF`
 unfoldable pub append_at : UnreadFields → Result Line Refusal
 append_at fields = do
   member ← field_at (number_of (2 ^ 32 - 1)) fields
@@ -25,7 +25,7 @@ append_at fields = do
   end ← end_at proof.1
   Ok (Append member.0 clue.0 content.0 proof.0)
 
--- `member NUMBER KEY PROOF`
+-- what the fields behind `member` say: `member NUMBER KEY PROOF`
 unfoldable pub member_at : UnreadFields → Result Line Refusal
 member_at fields = do
   number ← field_at (number_of (2 ^ 32 - 1)) fields
@@ -34,13 +34,13 @@ member_at fields = do
   end ← end_at proof.1
   Ok (NewMember number.0 key.0 proof.0)
 
--- `anchor`
+-- what the fields behind `anchor` say: there are none
 unfoldable pub anchor_at : UnreadFields → Result Line Refusal
 anchor_at fields = do
   end ← end_at fields
   Ok Anchor
 
--- `occult TARGET LEAF APPROVALS`
+-- what the fields behind `occult` say: `occult TARGET LEAF APPROVALS`
 unfoldable pub occult_at : UnreadFields → Result Line Refusal
 occult_at fields = do
   target ← field_at (number_of (2 ^ 64 - 1)) fields
@@ -49,7 +49,7 @@ occult_at fields = do
   end ← end_at given.1
   Ok (Occult target.0 leaf.0 given.0)
 
--- `purge POINT ROOT APPROVALS`
+-- what the fields behind `purge` say: `purge POINT ROOT APPROVALS`
 unfoldable pub purge_at : UnreadFields → Result Line Refusal
 purge_at fields = do
   point ← field_at (number_of (2 ^ 64 - 1)) fields
@@ -58,21 +58,21 @@ purge_at fields = do
   end ← end_at given.1
   Ok (Purge point.0 root.0 given.0)
 
--- `get N`
+-- what the field behind `get` says: `get N`
 unfoldable pub get_at : UnreadFields → Result Line Refusal
 get_at fields = do
   n ← field_at (number_of (2 ^ 64 - 1)) fields
   end ← end_at n.1
   Ok (Get n.0)
 
--- `prove N`
+-- what the field behind `prove` says: `prove N`
 unfoldable pub prove_at : UnreadFields → Result Line Refusal
 prove_at fields = do
   n ← field_at (number_of (2 ^ 64 - 1)) fields
   end ← end_at n.1
   Ok (Prove n.0)
 
--- `extend ledger M` or `extend notary M`
+-- what the fields behind `extend` say: `extend ledger M` or `extend notary M`
 unfoldable pub extend_at : UnreadFields → Result Line Refusal
 extend_at fields = do
   which ← field_at which_of fields
@@ -80,20 +80,20 @@ extend_at fields = do
   end ← end_at m.1
   Ok (Extend which.0 m.0)
 
--- `clue NAME`, where NAME is a clue's name, or `-` for no clue
+-- what the field behind `clue` says: `clue NAME`, where NAME is a clue's name, or `-` for no clue
 unfoldable pub clue_at : UnreadFields → Result Line Refusal
 clue_at fields = do
   name ← field_at clue_of fields
   end ← end_at name.1
   Ok (Clue name.0)
 
--- `head`
+-- what the fields behind `head` say: there are none
 unfoldable pub head_at : UnreadFields → Result Line Refusal
 head_at fields = do
   end ← end_at fields
   Ok Head
 
--- a line by its verb and the fields behind that
+-- what a line asks for, by its verb and the fields behind that
 abbrev pub verb_at : List ℕ → UnreadFields → Result Line Refusal
 verb_at verb fields =
     if bytes_eq verb (codes "append") then append_at fields
@@ -108,7 +108,7 @@ verb_at verb fields =
     else if bytes_eq verb (codes "head") then head_at fields
     else Err BadVerb
 
--- a line by the fields behind its lane; one without a verb has no verb that is read
+-- what a line asks for, by the fields behind its lane; one without a verb has no verb that is read
 abbrev pub asked_by : Result (List ℕ × UnreadFields) Refusal → Result Line Refusal
 asked_by (Ok verb) = verb_at verb.0 verb.1
 asked_by (Err refusal) = Err BadVerb
@@ -127,17 +127,17 @@ lane_of (digit ∷ more ∷ text) = None
 abbrev pub lane_or_zero : ℕ → ℕ
 lane_or_zero digit = if nat_le 48 digit && nat_lt digit (48 + lanes) then digit - 48 else 0
 
--- a line by its lane and the fields behind that; one whose lane isn't served belongs to lane 0
+-- a line by the lane that it names and the fields behind that; one whose lane isn't served belongs to lane 0
 abbrev pub spoken_by : Option ℕ → UnreadFields → ℕ × Result Line Refusal
 spoken_by None fields = (0, Err BadLane)
 spoken_by (Some lane) fields = (lane, asked_by (field_at text_of fields))
 
--- a line by its first field and those behind it
+-- a line by its first field, which names the lane, and those behind it
 abbrev pub spoken_at : Result (List ℕ × UnreadFields) Refusal → ℕ × Result Line Refusal
 spoken_at (Ok first) = spoken_by (lane_of first.0) first.1
 spoken_at (Err refusal) = (0, Err BadLane)
 
--- the lane that a line belongs to, and what it asks for or why it is refused. The lane is judged first, then the verb,
--- then the verb's fields from left to right, and a field too many last.
+-- The lane that a line belongs to, and what it asks for or why it is refused. The lane is judged first, then the verb, then the
+-- verb's fields from left to right, and a field too many last.
 unfoldable pub spoken_line : List ℕ → ℕ × Result Line Refusal
 spoken_line line = spoken_at (field_at text_of (fields_of line))

@@ -26,14 +26,14 @@ fits_line (Extend which m) = true
 fits_line (Clue name) = nat_le (length name) NAME_LIMIT
 fits_line Head = true
 
--- the refusal is one of a line's form
+-- a refusal is one of a line's form: of its verb, a field or its lane
 abbrev pub is_of_form : Refusal → Bool
 is_of_form BadVerb = true
 is_of_form (BadField column) = true
 is_of_form BadLane = true
 is_of_form _ = false
 
--- the line keeps to the limits, or its refusal is one of a line's form
+-- a line that was read keeps to its limits, or its refusal is one of a line's form
 abbrev pub fits_what : Result Line Refusal → Bool
 fits_what (Ok line) = fits_line line
 fits_what (Err refusal) = is_of_form refusal

@@ -14,18 +14,18 @@ ReadsLine (Ok x) read = read ≡ Ok x
 ReadsLine (Err (Refused refusal)) read = read ≡ Err refusal
 ReadsLine (Err NoMemory) read = ⊤
 
--- the same for a reader that goes on behind what it read, with these fields left
+-- a reader that goes on behind what it read answers what the grammar reads, unless memory is out, and these fields are left
 abbrev pub TakesFields : {A : Type 0} → UnreadFields → Result A Stop → Result (A × UnreadFields) Refusal → Type 0
 TakesFields left (Ok x) read = read ≡ Ok (x, left)
 TakesFields left (Err (Refused refusal)) read = read ≡ Err refusal
 TakesFields left (Err NoMemory) read = ⊤
 
--- a field's refusal names its column
+-- what a field is refused for names its column
 abbrev pub IsStopAt : ℕ → Stop → Type 0
 IsStopAt column (Refused refusal) = refusal ≡ BadField column
 IsStopAt column NoMemory = ⊤
 
--- what was read keeps to what a line keeps to
+-- what a reader answered keeps to the limits of a line
 abbrev pub fits_read : Result Line Stop → Bool
 fits_read (Ok line) = fits_what (Ok line)
 fits_read (Err (Refused refusal)) = fits_what (Err refusal)

@@ -10,7 +10,7 @@ use Rattle.script_lines.specs.Words.{spaced_words}
 use Rattle.script_lines.specs.declared.reply.Reply.{Reply}
 use Rattle.script_lines.specs.declared.reply.Reply.TheVariants.{Placed, Whole, Occulted, Proof, Extension, Clue, Head, Refused}
 
--- the lines that end in these bytes, where a line was begun
+-- the whole lines of some bytes, where the first of them was begun before
 abbrev pub lines_after : List ℕ → List ℕ → List (List ℕ)
 lines_after begun [] = []
 lines_after begun (b ∷ bs) =
@@ -20,7 +20,7 @@ lines_after begun (b ∷ bs) =
 abbrev pub whole_lines : List ℕ → List (List ℕ)
 whole_lines bytes = lines_after [] bytes
 
--- a line is among some
+-- a line is one of some
 abbrev pub IsAmong : List (List ℕ) → List ℕ → Type 0
 IsAmong [] line = ⊥
 IsAmong (first ∷ lines) line = (first ≡ line) ⊎ IsAmong lines line
@@ -30,7 +30,8 @@ abbrev pub reply_line : ℕ → ℕ → Reply → List ℕ
 reply_line lane index reply =
     decimal lane ++ codes "." ++ decimal index ++ spaced_words (reply_words reply)
 
--- a whole line of these bytes is a receipt of this journal with this leaf digest
+-- a whole line of these bytes is a receipt of this journal with this leaf digest. `a_written_receipt_is_kept` says that its
+-- journal stands in the blocks that the dues are in
 pub record IsReceipted (bytes : List ℕ) (jsn : ℕ) (leaf : Digest) : Type 0 where
   pub lane : ℕ
   pub index : ℕ
@@ -50,11 +51,11 @@ pub record Told : Type 0 where
   pub index : ℕ
   pub reply : Reply
 
--- the text of some replies
+-- the text of replies, one line for each
 abbrev pub told_text : List Told → List ℕ
 told_text replies = flat_map (λ told. reply_text told.lane told.index told.reply) replies
 
--- a receipt has what is said of its journal's number and leaf digest; another reply is no receipt
+-- a receipt has a property of its journal's number and leaf digest; another reply is no receipt
 abbrev pub OfReceipt : (ℕ → Digest → Type 0) → Reply → Type 0
 OfReceipt Holds (Placed jsn leaf block size root stamp) = Holds jsn leaf
 OfReceipt Holds (Whole header content who) = ⊤
@@ -65,7 +66,7 @@ OfReceipt Holds (Clue count kept) = ⊤
 OfReceipt Holds (Head id size root blocks point notary_size notary_root) = ⊤
 OfReceipt Holds (Refused refusal) = ⊤
 
--- each receipt among these replies has it
+-- each receipt among these replies has the property
 abbrev pub EachReceipt : (ℕ → Digest → Type 0) → List Told → Type 0
 EachReceipt Holds [] = ⊤
 EachReceipt Holds (told ∷ replies) = OfReceipt Holds told.reply × EachReceipt Holds replies
@@ -75,23 +76,26 @@ abbrev pub IsWord : List ℕ → Type 0
 IsWord [] = ⊤
 IsWord (b ∷ bs) = (b ≢ 32) × (b ≢ 10) × IsWord bs
 
+-- each of some words is without a space or a newline
 abbrev pub AreWords : List (List ℕ) → Type 0
 AreWords [] = ⊤
 AreWords (word ∷ words) = IsWord word × AreWords words
 
--- a number as programs have it
+-- a number is below 2^64, as programs have it
 abbrev pub FitsWord : ℕ → Type 0
 FitsWord n = n < 2 ^ 64
 
+-- each of some numbers is below 2^64
 abbrev pub AllFits : List ℕ → Type 0
 AllFits [] = ⊤
 AllFits (n ∷ ns) = FitsWord n × AllFits ns
 
+-- the numbers of a stamp are below 2^64, where there is one
 abbrev pub StampFits : Option (ℕ × ℕ) → Type 0
 StampFits None = ⊤
 StampFits (Some stamp) = FitsWord stamp.0 × FitsWord stamp.1
 
--- A refusal's numbers are as programs have them. Of its digests nothing is asked: no hexadecimal digit breaks a line.
+-- The numbers of a refusal are below 2^64. Of its digests nothing is asked: no hexadecimal digit breaks a line.
 abbrev pub RefusalFits : Refusal → Type 0
 RefusalFits refusals.BadVerb = ⊤
 RefusalFits (refusals.BadField column) = FitsWord column
@@ -116,7 +120,7 @@ RefusalFits (refusals.Full kept size) = FitsWord kept × FitsWord size
 RefusalFits (refusals.BadSize size) = FitsWord size
 RefusalFits refusals.CluesFull = ⊤
 
--- A reply's numbers are as programs have them, and so is the leaf digest of a receipt. Nothing is asked of a proof: it is no
+-- The numbers of a reply are below 2^64, and the leaf digest of a receipt is bytes. Nothing is asked of a proof: it is no
 -- receipt, whatever its numbers.
 abbrev pub ReplyFits : Reply → Type 0
 ReplyFits (Placed jsn leaf block size root stamp) =
@@ -130,12 +134,13 @@ ReplyFits (Head id size root blocks point notary_size notary_root) =
     FitsWord size × FitsWord blocks × FitsWord point × FitsWord notary_size
 ReplyFits (Refused refusal) = RefusalFits refusal
 
--- a reply that fits, with its line as programs have it
+-- a reply and the line that it answers have such numbers
 pub record FitsReply (told : Told) : Type 0 where
   pub lane : FitsWord told.lane
   pub index : FitsWord told.index
   pub reply : ReplyFits told.reply
 
+-- all of some replies have such numbers. `the_replies_of_a_run_fit` says that those of a run do
 abbrev pub AllFit : List Told → Type 0
 AllFit [] = ⊤
 AllFit (told ∷ replies) = FitsReply told × AllFit replies

@@ -42,14 +42,15 @@ abbrev pub stamp_words : Option (ℕ × ℕ) → List (List ℕ)
 stamp_words None = []
 stamp_words (Some stamp) = decimal stamp.0 ∷ decimal stamp.1 ∷ []
 
--- a time mark by its three numbers
+-- the mark that three numbers tell: a journal's number, an index and a time
 abbrev pub mark_told : ℕ × ℕ × ℕ → TimeMark
 mark_told said = record { jsn = said.0; index = said.1; time = said.2 }
 
+-- the same where a mark is told at all
 abbrev pub time_mark : Option (ℕ × ℕ × ℕ) → Option TimeMark
 time_mark said = option_map mark_told said
 
--- the words of a reply
+-- the words of a reply behind its lane and number
 abbrev pub reply_words : Reply → List (List ℕ)
 reply_words (Placed jsn leaf block size root stamp) =
     codes "ok" ∷ decimal jsn ∷ hex_of leaf ∷ decimal block ∷ decimal size ∷ hex_of root ∷ stamp_words stamp
@@ -64,7 +65,7 @@ reply_words (Head id size root blocks point notary_size notary_root) =
     codes "head" ∷ hex_of id ∷ decimal size ∷ hex_of root ∷ decimal blocks ∷ decimal point ∷ decimal notary_size ∷ hex_of notary_root ∷ []
 reply_words (Refused refusal) = codes "no" ∷ refusal_words refusal
 
--- the line that answers the line with this index in its lane
+-- the line by which the line with this number in its lane is answered
 abbrev pub reply_text : ℕ → ℕ → Reply → List ℕ
 reply_text lane index reply =
     decimal lane ++ codes "." ++ decimal index ++ spaced_words (reply_words reply) ++ codes "\n"

@@ -40,7 +40,7 @@ line_words (Extend which m) = codes "extend" ∷ which_text which ∷ decimal m 
 line_words (Clue name) = codes "clue" ∷ clue_text name ∷ []
 line_words Head = codes "head" ∷ []
 
--- a line's text on lane 0
+-- a line's text on lane 0, without its newline
 abbrev pub line_text : Line → List ℕ
 line_text line = codes "0" ++ spaced_words (line_words line)
 
@@ -59,16 +59,16 @@ abbrev pub IsClue : List ℕ → Type 0
 IsClue [] = ⊤
 IsClue (byte ∷ name) = IsName (byte ∷ name) × ((byte ∷ name) ≢ codes "-")
 
--- at most so many bytes
+-- a text has at most so many bytes
 abbrev pub IsShort : ℕ → List ℕ → Type 0
 IsShort most bytes = (length bytes ≤ most) × IsBytes bytes
 
--- an approval that a line can say
+-- a line can say this approval: its numbers and its proof keep to their limits
 pub record IsSayableApproval (by : SaidApproval) : Type 0 where
   pub member : by.member < 2 ^ 32
   pub proof : IsShort PROOF_LIMIT by.proof
 
--- what a line can say
+-- a line can say this: its parts keep to their limits. `lines_are_read_back` says that its text is read as the line
 abbrev pub IsSayable : Line → Type 0
 IsSayable (Append member clue content proof) =
     (member < 2 ^ 32) × IsClue clue × IsShort CONTENT_LIMIT content × IsShort PROOF_LIMIT proof

@@ -20,15 +20,15 @@ infixl 10 ◌>>=◌
 abbrev pub ◌>>=◌ : {A B : Type 0} → Option A → (A → Option B) → Option B
 first >>= second = option_and_then second first
 
--- any text, as it is
+-- any text is taken as it is
 abbrev pub text_of : List ℕ → Option (List ℕ)
 text_of text = Some text
 
--- exactly this word
+-- exactly this word, and no other
 abbrev pub word_of : List ℕ → List ℕ → Option (Unit {0})
 word_of word text = if bytes_eq text word then Some tt else None
 
--- the text that stands for nothing
+-- the text `-`, which stands for nothing
 abbrev pub is_dash : List ℕ → Bool
 is_dash text = bytes_eq text (codes "-")
 
@@ -41,7 +41,7 @@ abbrev pub is_decimal : List ℕ → Bool
 is_decimal digits =
     nat_lt 0 (length digits) && list_all is_ascii_digit digits && (length digits == 1 || not (slice_index digits 0 == 48))
 
--- a decimal number that is at most `most`
+-- a decimal number that is at most `most`. `numbers_are_decimal` says which digits are a number
 abbrev pub number_of : ℕ → List ℕ → Option ℕ
 number_of most text =
     if is_decimal text && nat_le (value_behind 0 text) most then Some (value_behind 0 text) else None
@@ -65,7 +65,7 @@ name_of text = if nat_lt 0 (length text) && nat_le (length text) NAME_LIMIT then
 abbrev pub clue_of : List ℕ → Option (List ℕ)
 clue_of text = if is_dash text then Some [] else name_of text
 
--- one of the two trees
+-- the ledger's tree or the notary's, by its name
 abbrev pub which_of : List ℕ → Option Which
 which_of text =
     if bytes_eq text (codes "ledger") then Some Ledger

@@ -32,12 +32,12 @@ abbrev pub list_text : List ℕ → List ℕ
 list_text [] = codes "-"
 list_text (number ∷ numbers) = decimal number ++ behind_commas numbers
 
--- a tree's name
+-- the word for a tree: `ledger` or `notary`
 abbrev pub which_text : Which → List ℕ
 which_text Ledger = codes "ledger"
 which_text Notary = codes "notary"
 
--- a word's bytes
+-- the bytes of one word of a reply: its text, a decimal number, bytes as hexadecimal digits, a mark or a list
 abbrev pub word_text : Word → List ℕ
 word_text (Text text) = text.now
 word_text (Number number) = decimal number
@@ -46,7 +46,7 @@ word_text (Hex bytes) = hex_or_dash bytes.now
 word_text (Mark mark) = mark_text mark
 word_text (Numbers numbers) = list_text numbers.now
 
--- the words, each behind a space
+-- words, each behind a space
 abbrev pub spaced_words : List (List ℕ) → List ℕ
 spaced_words [] = []
 spaced_words (word ∷ words) = 32 ∷ (word ++ spaced_words words)

@@ -10,15 +10,15 @@ use Rattle.journal_record.specs.declared.stamp.Stamp.{Stamp}
 use Rattle.time_peg.specs.declared.notary.NotaryErr.{NotaryErr}
 use Rattle.time_peg.specs.declared.notary.NotaryErr.TheVariants.{Failed, Full, NoMemory}
 
--- what is hashed to a peg: the tag, the ledger's id, the number of journals and the root over them
+-- what is hashed to a peg: the byte 06, the ledger's id, a number of journals and the root over them
 abbrev pub peg_string : List ℕ → ℕ → List ℕ → List ℕ
 peg_string id m root = byte_of tag.Peg ∷ (id ++ to_be_bytes w64 m ++ root)
 
--- the bytes of an entry: its time, the peg and the salt
+-- the 72 bytes of an entry: its time, the peg and the salt
 abbrev pub entry_of : ℕ → List ℕ → List ℕ → List ℕ
 entry_of time peg salt = to_be_bytes w64 time ++ (peg ++ salt)
 
--- the time of an entry
+-- the time that is read from an entry
 unfoldable pub time_in : List ℕ → ℕ
 time_in entry = from_be_bytes w64 (take 8 entry)
 
@@ -27,23 +27,23 @@ abbrev pub last_time : ℕ → List (List ℕ) → ℕ
 last_time least [] = least
 last_time least (e ∷ es) = last_time (time_in e) es
 
--- times never fall, and none is below the least
+-- the times of entries never fall, and none is below the least
 abbrev pub NeverFalls : ℕ → List (List ℕ) → Type 0
 NeverFalls least [] = ⊤
 NeverFalls least (e ∷ es) = (least ≤ time_in e) × NeverFalls (time_in e) es
 
--- a list that a notary may keep
+-- a list that a notary may keep: at most 16,777,216 entries of 72 bytes whose times never fall
 pub record IsList (es : List (List ℕ)) : Type 0 where
   pub few : length es ≤ NOTARY_LIMIT
   pub widths : AllByRecursion (λ e. length e ≡ 72) es
   pub times : NeverFalls 0 es
 
--- what clauses know of a notary: its entries, and how many of its calls failed
+-- all that a clause knows of a notary: its entries, and how many of its calls failed
 pub record NotaryState : Type 0 where
   pub entries : List (List ℕ)
   pub faults : ℕ
 
--- a list has one entry more, with this peg
+-- a list has one entry more, with this peg, whatever its time and salt
 abbrev pub HasOneMore : List ℕ → List (List ℕ) → List (List ℕ) → Type 0
 HasOneMore peg old new = (time : ℕ) × (salt : List ℕ) × (time < 2 ^ 64) × (new ≡ old ++ entry_of time peg salt ∷ [])
 

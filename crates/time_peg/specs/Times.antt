@@ -3,38 +3,43 @@ use Rattle.std.specs.Prelude.{◌≡◌, ◌⊎◌, ℕ, ◌<◌, ◌≤◌, Lis
 use Rattle.std.specs.List.{AllByRecursion}
 use Rattle.ledger_bytes.specs.declared.mark.TimeMark.{TimeMark}
 
--- each number is below those behind it
+-- the numbers of marks rise: each is below those behind it
 abbrev pub Rises : List TimeMark → Type 0
 Rises [] = ⊤
 Rises (m ∷ ms) = AllByRecursion (λ k. m.jsn < k.jsn) ms × Rises ms
 
+-- the first of some marks, where there is one
 abbrev pub first_mark : List TimeMark → Option TimeMark
 first_mark [] = None
 first_mark (m ∷ ms) = Some m
 
+-- the last of some marks, where there is one
 abbrev pub last_mark : List TimeMark → Option TimeMark
 last_mark [] = None
 last_mark (m ∷ []) = Some m
 last_mark (m ∷ k ∷ ms) = last_mark (k ∷ ms)
 
--- the marks in front of journal n, behind it, and from journal p on
+-- the marks of the time journals in front of journal n
 abbrev pub marks_before : ℕ → List TimeMark → List TimeMark
 marks_before n ms = filter (λ m. nat_lt m.jsn n) ms
 
+-- the marks of the time journals behind journal n
 abbrev pub marks_behind : ℕ → List TimeMark → List TimeMark
 marks_behind n ms = filter (λ m. nat_lt n m.jsn) ms
 
+-- the marks of the time journals from journal p on
 abbrev pub marks_from : ℕ → List TimeMark → List TimeMark
 marks_from p ms = filter (λ m. nat_le p m.jsn) ms
 
--- the bounds of journal n in time
+-- the bound of journal n in time from below: the last of the marks in front of it
 abbrev pub lower_bound : ℕ → List TimeMark → Option TimeMark
 lower_bound n ms = last_mark (marks_before n ms)
 
+-- the bound of journal n in time from above: the first of the marks behind it
 abbrev pub upper_bound : ℕ → List TimeMark → Option TimeMark
 upper_bound n ms = first_mark (marks_behind n ms)
 
--- a mark is one of these
+-- a mark is among some
 abbrev pub IsOneOf : TimeMark → List TimeMark → Type 0
 IsOneOf b [] = ⊥
 IsOneOf b (m ∷ ms) = (b ≡ m) ⊎ IsOneOf b ms

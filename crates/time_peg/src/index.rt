@@ -26,7 +26,7 @@ impl Model for TimeIndex {
 }
 
 impl TimeIndex {
-    /// No time journal is kept.
+    /// The index of a ledger without a time journal.
     pub fn new(alloc: Global) -> Self
         ensures { result ≡ [] }
     {

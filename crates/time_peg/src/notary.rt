@@ -49,7 +49,7 @@ pub trait Notary {
         ensures lawful { IsList (state self.new).entries }
         ensures faults { CountsFailures result (state self.old).faults (state self.new).faults };
 
-    /// Entry k.
+    /// The bytes of entry k, which a proof shows of a bound.
     fn entry(&mut self, k: u64) -> Result<[u8; ENTRY_LEN], NotaryErr>
         requires { k < length (state self.old).entries }
         ensures entry { IfOk result (λ entry. slice_get (state self.old).entries k ≡ Some entry) }

@@ -6,12 +6,12 @@ use Rattle.tree_model.specs.Tree.{Hash, root_at, root}
 use Rattle.tree_model.specs.Path.{fold_at}
 use Rattle.tree_model.specs.Extension.{ext_at}
 
--- two strings with one digest
+-- two different strings of bytes have one digest
 pub record IsClash (hash : Hash) (told truth : List ℕ) : Type 0 where
   pub differ : told ≢ truth
   pub one_digest : hash told ≡ hash truth
 
--- a pair of strings is there and clashes
+-- a pair of strings is there, and they are such a clash
 abbrev pub Clashes : Hash → Option (List ℕ × List ℕ) → Type 0
 Clashes hash found = (pair : List ℕ × List ℕ) × (found ≡ Some pair) × IsClash hash pair.0 pair.1
 
@@ -19,7 +19,7 @@ Clashes hash found = (pair : List ℕ × List ℕ) × (found ≡ Some pair) × I
 abbrev pub node_bytes : List ℕ → List ℕ → List ℕ
 node_bytes left right = 1 ∷ left ++ right
 
--- that string of the highest node over a list that splits at k
+-- the string that is hashed for the highest node over a list, which splits behind its first k
 abbrev pub highest_node : Hash → ℕ → List (List ℕ) → List ℕ
 highest_node hash k ds = node_bytes (root hash (take k ds)) (root hash (drop k ds))
 
@@ -27,7 +27,8 @@ highest_node hash k ds = node_bytes (root hash (take k ds)) (root hash (drop k d
 abbrev pub or_below : List ℕ → List ℕ → Option (List ℕ × List ℕ) → Option (List ℕ × List ℕ)
 or_below told truth below = if bytes_eq told truth then below else Some (told, truth)
 
--- of a path from the root down and the digest of the leaf n, for h levels
+-- the strings at the first node that a path, from the root down, and the digest of the leaf n tell otherwise than a list, for h
+-- levels
 unfoldable pub path_clash_at : Hash → ℕ → List ℕ → ℕ → List (List ℕ) → List (List ℕ) → Option (List ℕ × List ℕ)
 path_clash_at hash zero digest n ds p = None
 path_clash_at hash (suc h) digest n ds [] = None
@@ -41,11 +42,13 @@ path_clash_at hash (suc h) digest n ds (side ∷ rest) =
     (λ right. or_below (node_bytes side right) (node_bytes (root_at hash h (take (2 ^ h) ds)) (root_at hash h (drop (2 ^ h) ds))) (path_clash_at hash h digest (n - 2 ^ h) (drop (2 ^ h) ds) rest))
     (fold_at hash h digest (n - 2 ^ h) (length ds - 2 ^ h) rest)
 
--- the strings at the first node, from the root down, that a path tells otherwise than a list of leaf digests
+-- the strings at the first node, from the root down, that a path tells otherwise than a list of leaf digests.
+-- `path_clash_is_first` says it case by case, and `paths_show_clashes` when they clash
 unfoldable pub path_clash : Hash → List ℕ → ℕ → List (List ℕ) → List (List ℕ) → Option (List ℕ × List ℕ)
 path_clash hash digest n ds path = path_clash_at hash (length ds) digest n ds (reverse path)
 
--- of a proof from the root down and the root of the first m leaves, for h levels
+-- the strings at the first node that a proof, from the root down, and the root of the first m leaves tell otherwise than a
+-- list, for h levels
 unfoldable pub proof_clash_at : Hash → ℕ → ℕ → Bool → List ℕ → List (List ℕ) → List (List ℕ) → Option (List ℕ × List ℕ)
 proof_clash_at hash zero m known old ds p = None
 proof_clash_at hash (suc h) m known old ds [] = None
@@ -60,10 +63,12 @@ proof_clash_at hash (suc h) m known old ds (side ∷ rest) =
     (λ roots. or_below (node_bytes side roots.1) (node_bytes (root_at hash h (take (2 ^ h) ds)) (root_at hash h (drop (2 ^ h) ds))) (proof_clash_at hash h (m - 2 ^ h) false old (drop (2 ^ h) ds) rest))
     (ext_at hash h (m - 2 ^ h) (length ds - 2 ^ h) false old rest)
 
--- the strings at the first node of the new tree, from the root down, that digests tell otherwise than a list
+-- the strings at the first node of the new tree, from the root down, that digests tell otherwise than a list; the old root is
+-- one of them, or known
 unfoldable pub sub_clash : Hash → ℕ → Bool → List ℕ → List (List ℕ) → List (List ℕ) → Option (List ℕ × List ℕ)
 sub_clash hash m known old ds digests = proof_clash_at hash (length ds) m known old ds (reverse digests)
 
--- the same of a proof and the old root
+-- the strings at the first node that a proof and the old root tell otherwise than a list. `proof_clash_is_first` says it case
+-- by case, and `proofs_show_clashes` when they clash
 abbrev pub proof_clash : Hash → ℕ → List ℕ → List (List ℕ) → List (List ℕ) → Option (List ℕ × List ℕ)
 proof_clash hash m old ds digests = sub_clash hash m true old ds digests

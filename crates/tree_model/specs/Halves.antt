@@ -8,17 +8,18 @@ pairs hash [] = []
 pairs hash (x ∷ []) = []
 pairs hash (x ∷ y ∷ rest) = node hash x y ∷ pairs hash rest
 
--- the same, where an odd last digest goes up as it is: one level less of the same tree
+-- the digests one level up in the same tree: an odd last digest goes up as it is. `halves_give_the_tree` says that root, paths,
+-- proofs and peaks can be read level by level
 unfoldable pub halve : Hash → List (List ℕ) → List (List ℕ)
 halve hash [] = []
 halve hash (x ∷ []) = x ∷ []
 halve hash (x ∷ y ∷ rest) = node hash x y ∷ halve hash rest
 
--- the number of the digest that stands beside the digest n in its pair
+-- the number of the digest that stands beside another in its pair
 abbrev pub sibling : ℕ → ℕ
 sibling n = n + 1 - 2 * (n % 2)
 
--- the digest beside the digest n, where there is one
+-- the digest that stands beside another in its pair, where there is one
 abbrev pub beside : ℕ → List (List ℕ) → List (List ℕ)
 beside n ds = take 1 (drop (sibling n) ds)
 

@@ -10,6 +10,7 @@ peaks_at hash (suc h) ds =
     if nat_le (2 ^ h) (length ds) then root_at hash h (take (2 ^ h) ds) ∷ peaks_at hash h (drop (2 ^ h) ds)
     else peaks_at hash h ds
 
--- the peaks of a list of leaf digests
+-- the roots of the whole aligned subtrees over a list of leaf digests, the greatest first. `peaks_are_roots` says which they
+-- are and how many
 unfoldable pub peaks : Hash → List (List ℕ) → List (List ℕ)
 peaks hash ds = peaks_at hash (length ds) ds

@@ -11,7 +11,8 @@ root_from_at hash (suc h) ps p xs =
     else if nat_le (2 ^ h) p then node hash (get_or ps 0 []) (root_from_at hash h (drop 1 ps) (p - 2 ^ h) xs)
     else node hash (root_from_at hash h ps p (take (2 ^ h - p) xs)) (root_at hash h (drop (2 ^ h - p) xs))
 
--- the root over p leaves with these peaks, the greatest subtree first, and the leaf digests behind them
+-- the root over p leaves of which only the peaks are known, and the leaf digests behind them. `peaks_give_roots` says case by
+-- case what it is, and that over the peaks of a list it is the root of that list and those digests
 unfoldable pub root_from : Hash → List (List ℕ) → ℕ → List (List ℕ) → List ℕ
 root_from hash ps p xs = root_from_at hash (p + length xs) ps p xs
 
@@ -19,6 +20,6 @@ root_from hash ps p xs = root_from_at hash (p + length xs) ps p xs
 abbrev pub last_peak : ℕ → List (List ℕ) → List (List ℕ)
 last_peak p ps = drop (length ps - p % 2) ps
 
--- the others: one level up, the peaks of half as many
+-- the peaks of p leaves without the last of an odd number: they are those of half as many, one level up
 abbrev pub other_peaks : ℕ → List (List ℕ) → List (List ℕ)
 other_peaks p ps = take (length ps - p % 2) ps
