@@ -7,4 +7,5 @@ pub mod RecordLaws
 pub mod UniqueLaws
 pub mod VeilLaws
 pub mod WriteLaws
+pub mod WriterLaws
 pub mod ZeroLaws

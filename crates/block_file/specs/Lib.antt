@@ -1,4 +1,7 @@
+pub mod Changes
 pub mod File
 pub mod Head
-pub mod Place
+pub mod FileView
 pub mod Blocks
+pub mod Places
+pub mod Writing

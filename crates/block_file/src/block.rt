@@ -7,7 +7,7 @@ use journal_record::Header;
 use ledger_bytes::{Digest, Items};
 
 /// The length of a block's head in bytes.
-pub(crate) const HEAD_LEN: usize = 44;
+pub const BLOCK_HEAD_LEN: usize = 44;
 
 /// Where a journal of a block stands in its file. Offsets are in bytes, from the file's first.
 #[derive(Clone, Copy, Debug)]
@@ -47,7 +47,7 @@ pub(crate) struct BlockHead {
 impl BlockHead {
     /// The head that these bytes spell.
     #[tactic(auto, unfolding(crate::specs::Blocks::count_in, crate::specs::Blocks::body_len_in))]
-    pub(crate) fn of(bytes: &[u8; HEAD_LEN]) -> BlockHead
+    pub(crate) fn of(bytes: &[u8; BLOCK_HEAD_LEN]) -> BlockHead
         ensures count { result.count ≡ count_in bytes.now }
         ensures body_len { result.body_len ≡ body_len_in bytes.now }
         ensures bytes { bytes.now ≡ to_be_bytes w32 result.count

@@ -1,11 +1,10 @@
 ghost use Rattle.std.specs.Prelude.{◌≡◌, ◌≢◌, ◌⊎◌, ◌+◌, ◌^◌, ◌<◌, ◌≤◌, ◌++◌, [], ◌∷◌, ℕ, List, length, get_or, take, drop, replicate, IsTrue, IfSome, IfNone, IsSomeAnd, Some, IfOk, IfErr, OnOk, OnErr};
 ghost use Rattle.ledger_disk.specs.Disk.{MayLeave, settled_state, overlay, KeepsLength};
-ghost use Rattle.ledger_disk.specs.Guards.{Outside};
 ghost use Rattle.block_file.specs.Head.{Counts, CountsAlone, CountsTwoAlone, digest_of, front_of, IsShut, IsHead, IsResumeErr, IsBaseErr};
 ghost use Rattle.block_file.specs.Blocks.{AreBlock, IsRead, IsNextBlock, GivesBlock, GivesEnd};
 ghost use Rattle.journal_record.specs.Blocks.{block_bytes};
 ghost use Rattle.journal_record.specs.Entry.{Entry};
-ghost use Rattle.block_file.specs.File.{IsFileOf, HasBlock, IsSettled, IsShutAt, IsZeros, IsVeiled, IsScrapOf, tail_of, whole_file, open_blocks, with_content};
+ghost use Rattle.block_file.specs.File.{IsFileOf, IsSettled, IsShutAt, IsZeros, IsVeiled, IsScrapOf, tail_of, whole_file, open_blocks};
 
 use crate::copying::put_copy;
 use crate::head::{base_digest, check_form, read_fields};
@@ -33,7 +32,8 @@ pub struct BlockFile {
 }
 
 impl BlockFile {
-    ghost use Rattle.block_file.specs.Place.{place_of, base_len_of, base_digest_of, KeepsBase};
+    ghost use Rattle.block_file.specs.Changes.{AddsBlock, KeepsOutside, MayAddBlock, ZerosContent};
+    ghost use Rattle.block_file.specs.FileView.{gate_of, base_len_of, base_digest_of, KeepsBase};
 
     /// What the head of a file tells, and None where the file is shut. Of an open file the magic is looked at first,
     /// then the version.
@@ -88,11 +88,11 @@ impl BlockFile {
         // A crash leaves it shut.
         ensures images { IsTrue D.tells → (image : List ℕ)
             → MayLeave (D.state disk.new).bytes image → IsShut image }
-        ensures place { IfOk result (λ file. place_of file ≡ 64 + length base.now) }
+        ensures place { IfOk result (λ file. gate_of file ≡ 64 + length base.now) }
         ensures base_len { IfOk result (λ file. base_len_of file ≡ length base.now) }
         ensures base_digest { IfOk result (λ file. base_digest_of file ≡ digest_of base.now) }
         ensures told { IfOk result (λ file. IsSomeAnd (D.state disk.new).told
-            (λ n. place_of file + 1 ≤ n)) }
+            (λ n. gate_of file + 1 ≤ n)) }
         ensures faults { CountsAlone result (D.state disk.old).faults (D.state disk.new).faults }
     {
         add_head(disk, generation, base)?;
@@ -109,10 +109,10 @@ impl BlockFile {
     /// Adds a block, given without its gate, to a file that [`BlockFile::create`] made and that is still shut.
     #[tactic(auto, using(crate::proofs::VeilLaws::veiled_shut))]
     pub fn put_block<D: Disk>(&mut self, disk: &mut D, block: &[u8]) -> Result<(), FileErr>
-        requires length { IsSomeAnd (D.state disk.old).told (λ n. place_of self.old + 1 ≤ n) }
+        requires length { IsSomeAnd (D.state disk.old).told (λ n. gate_of self.old + 1 ≤ n) }
         ensures seen { OnOk result (IsTrue D.tells → (front : List ℕ) (blocks : List (List ℕ))
             → (D.state disk.old).bytes.seen ≡ whole_file front blocks
-            → tail_of front blocks ≡ place_of self.old
+            → tail_of front blocks ≡ gate_of self.old
             → (D.state disk.new).bytes.seen ≡ whole_file front (blocks ++ block.now ∷ [])) }
         ensures veiled { IsTrue D.tells → IsVeiled (D.state disk.old).bytes
             → IsVeiled (D.state disk.new).bytes }
@@ -120,11 +120,11 @@ impl BlockFile {
         // A crash leaves it shut.
         ensures images { IsTrue D.tells → IsVeiled (D.state disk.old).bytes → (image : List ℕ)
             → MayLeave (D.state disk.new).bytes image → IsShut image }
-        ensures place { OnOk result (place_of self.new ≡ place_of self.old + 1 + length block.now) }
+        ensures place { OnOk result (gate_of self.new ≡ gate_of self.old + 1 + length block.now) }
         ensures stays { OnErr result (self.new ≡ self.old) }
         ensures base { KeepsBase self.old self.new }
         ensures told { OnOk result (IsSomeAnd (D.state disk.new).told
-            (λ n. place_of self.new + 1 ≤ n)) }
+            (λ n. gate_of self.new + 1 ≤ n)) }
         ensures faults { CountsAlone result (D.state disk.old).faults (D.state disk.new).faults }
     {
         let next = put(disk, self.at, block)?;
@@ -143,18 +143,18 @@ impl BlockFile {
         len: u64,
     ) -> Result<(), FileErr>
         requires from { IsSomeAnd (D.state from.old).told (λ n. at + len ≤ n) }
-        requires length { IsSomeAnd (D.state disk.old).told (λ n. place_of self.old + 1 ≤ n) }
+        requires length { IsSomeAnd (D.state disk.old).told (λ n. gate_of self.old + 1 ≤ n) }
         ensures seen { OnOk result (IsTrue D.tells
             → (front : List ℕ) (blocks more : List (List ℕ))
             → (D.state disk.old).bytes.seen ≡ whole_file front blocks
-            → tail_of front blocks ≡ place_of self.old
+            → tail_of front blocks ≡ gate_of self.old
             → take len (drop at (D.state from.old).bytes.seen) ≡ open_blocks more
             → (D.state disk.new).bytes.seen ≡ whole_file front (blocks ++ more)) }
 
         // Whatever bytes they are, they stand over the tail gate of a file that ended with it, and a gate behind them.
         ensures copied { OnOk result (IsTrue D.tells
-            → length (D.state disk.old).bytes.seen ≡ place_of self.old + 1
-            → (D.state disk.new).bytes.seen ≡ take (place_of self.old) (D.state disk.old).bytes.seen
+            → length (D.state disk.old).bytes.seen ≡ gate_of self.old + 1
+            → (D.state disk.new).bytes.seen ≡ take (gate_of self.old) (D.state disk.old).bytes.seen
             ++ take len (drop at (D.state from.old).bytes.seen) ++ 0 ∷ []) }
         ensures veiled { IsTrue D.tells → IsVeiled (D.state disk.old).bytes
             → IsVeiled (D.state disk.new).bytes }
@@ -164,11 +164,11 @@ impl BlockFile {
             → MayLeave (D.state disk.new).bytes image → IsShut image }
         ensures same { IsTrue D.tells → (D.state from.new).bytes ≡ (D.state from.old).bytes }
         ensures from { KeepsLength (D.state from.old).told (D.state from.new).told }
-        ensures place { OnOk result (place_of self.new ≡ place_of self.old + len) }
+        ensures place { OnOk result (gate_of self.new ≡ gate_of self.old + len) }
         ensures stays { OnErr result (self.new ≡ self.old) }
         ensures base { KeepsBase self.old self.new }
         ensures told { OnOk result (IsSomeAnd (D.state disk.new).told
-            (λ n. place_of self.new + 1 ≤ n)) }
+            (λ n. gate_of self.new + 1 ≤ n)) }
         ensures faults { CountsTwoAlone result (D.state from.old).faults (D.state from.new).faults
             (D.state disk.old).faults (D.state disk.new).faults }
     {
@@ -179,7 +179,7 @@ impl BlockFile {
 
     /// Opens a file that [`BlockFile::create`] made, for good: syncs, opens the file's gate, and syncs.
     pub fn unveil<D: Disk>(&mut self, disk: &mut D) -> Result<(), FileErr>
-        requires length { IsSomeAnd (D.state disk.old).told (λ n. place_of self.old + 1 ≤ n) }
+        requires length { IsSomeAnd (D.state disk.old).told (λ n. gate_of self.old + 1 ≤ n) }
         ensures ok { OnOk result (IsTrue D.tells
             → (D.state disk.new).bytes ≡ settled_state (1 ∷ drop 1 (D.state disk.old).bytes.seen)) }
 
@@ -189,7 +189,7 @@ impl BlockFile {
             → (get_or image 0 0 ≢ 1) ⊎ (image ≡ 1 ∷ drop 1 (D.state disk.old).bytes.seen)) }
         ensures same { self.new ≡ self.old }
         ensures told { OnOk result (IsSomeAnd (D.state disk.new).told
-            (λ n. place_of self.new + 1 ≤ n)) }
+            (λ n. gate_of self.new + 1 ≤ n)) }
         ensures faults { CountsAlone result (D.state disk.old).faults (D.state disk.new).faults }
     {
         open_for_good(disk)?;
@@ -204,11 +204,11 @@ impl BlockFile {
             → IsResumeErr (D.state disk.old).bytes.seen head.now.base_len e) }
         ensures only { IfErr result (λ e. (e ≢ FileErr.NoMemory)
             × ((found : ℕ) → e ≢ FileErr.NewerFormat found)) }
-        ensures place { IfOk result (λ file. place_of file ≡ 64 + head.now.base_len) }
+        ensures place { IfOk result (λ file. gate_of file ≡ 64 + head.now.base_len) }
         ensures base_len { IfOk result (λ file. base_len_of file ≡ head.now.base_len) }
         ensures base_digest { IfOk result (λ file. base_digest_of file ≡ head.now.base_digest.0) }
         ensures told { IfOk result (λ file. IsSomeAnd (D.state disk.new).told
-            (λ n. place_of file + 1 ≤ n)) }
+            (λ n. gate_of file + 1 ≤ n)) }
         ensures state { IsTrue D.tells → (D.state disk.new).bytes ≡ (D.state disk.old).bytes }
         ensures length { KeepsLength (D.state disk.old).told (D.state disk.new).told }
         ensures faults { Counts result (D.state disk.old).faults (D.state disk.new).faults }
@@ -262,29 +262,12 @@ impl BlockFile {
         ensures ok { OnOk result (IsTrue D.tells
             → (D.state disk.new).bytes
             ≡ settled_state (overlay at (replicate len 0) (D.state disk.old).bytes.seen)) }
-
-        // All else reads as before, and is so in each image where nothing was pending.
-        ensures seen { IsTrue D.tells
-            → Outside at len (D.state disk.old).bytes.seen (D.state disk.new).bytes.seen }
-        ensures images { IsTrue D.tells → IsSettled (D.state disk.old).bytes → (image : List ℕ)
-            → MayLeave (D.state disk.new).bytes image → Outside at len (D.state disk.old).bytes.seen image }
-
-        // Where the range is a content in a block, that content is zeros, and all else stands.
         ensures zeroed { OnOk result (IsTrue D.tells
-            → (front : List ℕ) (before after : List (List ℕ)) (head rest content : List ℕ)
-            → IsFileOf front (with_content before after head rest content) (D.state disk.old).bytes.seen
-            → tail_of front before + 1 + length head ≡ at → length content ≡ len
-            → IsFileOf front (with_content before after head rest (replicate len 0))
-            (D.state disk.new).bytes.seen) }
+            → ZerosContent at len (D.state disk.old).bytes (D.state disk.new).bytes) }
 
-        // A crash leaves the same blocks, but for that content.
-        ensures kept { IsTrue D.tells → IsSettled (D.state disk.old).bytes
-            → (front : List ℕ) (before after : List (List ℕ)) (head rest content : List ℕ)
-            → IsFileOf front (with_content before after head rest content) (D.state disk.old).bytes.seen
-            → tail_of front before + 1 + length head ≡ at → length content ≡ len
-            → (image : List ℕ) → MayLeave (D.state disk.new).bytes image
-            → (other : List ℕ) × (length other ≡ len)
-            × IsFileOf front (with_content before after head rest other) image }
+        // A crash leaves all else.
+        ensures kept { IsTrue D.tells
+            → KeepsOutside at len (D.state disk.old).bytes (D.state disk.new).bytes }
 
         // Where zeros stand there, nothing is written.
         ensures idle { OnErr result (IsTrue D.tells → IsZeros at len (D.state disk.old).bytes.seen
@@ -299,27 +282,27 @@ impl BlockFile {
 
     /// Cuts off what stands behind the tail gate, which is the next gate, and syncs.
     pub fn trim<D: Disk>(&mut self, disk: &mut D) -> Result<(), FileErr>
-        requires length { IsSomeAnd (D.state disk.old).told (λ n. place_of self.old + 1 ≤ n) }
+        requires length { IsSomeAnd (D.state disk.old).told (λ n. gate_of self.old + 1 ≤ n) }
 
         // After it the file ends with its tail gate in every image.
         ensures ok { OnOk result (IsTrue D.tells
             → (D.state disk.new).bytes
-            ≡ settled_state (take (place_of self.old + 1) (D.state disk.old).bytes.seen)) }
+            ≡ settled_state (take (gate_of self.old + 1) (D.state disk.old).bytes.seen)) }
 
         // An image has the same blocks.
         ensures images { IsTrue D.tells → IsSettled (D.state disk.old).bytes
             → (front : List ℕ) (blocks : List (List ℕ))
             → IsFileOf front blocks (D.state disk.old).bytes.seen
-            → tail_of front blocks ≡ place_of self.old → (image : List ℕ)
+            → tail_of front blocks ≡ gate_of self.old → (image : List ℕ)
             → MayLeave (D.state disk.new).bytes image → IsFileOf front blocks image }
 
         // Where it ends there already, nothing is cut.
         ensures idle { OnErr result (IsTrue D.tells
-            → length (D.state disk.old).bytes.seen ≡ place_of self.old + 1
+            → length (D.state disk.old).bytes.seen ≡ gate_of self.old + 1
             → (D.state disk.new).bytes ≡ (D.state disk.old).bytes) }
         ensures same { self.new ≡ self.old }
         ensures told { OnOk result (IsSomeAnd (D.state disk.new).told (λ n. n
-            ≡ place_of self.old + 1)) }
+            ≡ gate_of self.old + 1)) }
         ensures faults { CountsAlone result (D.state disk.old).faults (D.state disk.new).faults }
     {
         cut_for_good(disk, self.at + 1)?;
@@ -341,7 +324,7 @@ impl BlockFile {
 
     /// The offset of the next gate: that of the tail gate once [`BlockFile::next_block`] has answered None.
     pub fn tail(&self) -> u64
-        ensures { result ≡ place_of self.now }
+        ensures { result ≡ gate_of self.now }
     {
         self.at
     }
@@ -358,32 +341,32 @@ impl BlockFile {
         buffer: &mut Vec<u8>,
         first: u64,
     ) -> Result<Option<BlockAt>, FileErr>
-        requires told { IsSomeAnd (D.state disk.old).told (λ n. place_of self.old + 1 ≤ n) }
+        requires told { IsSomeAnd (D.state disk.old).told (λ n. gate_of self.old + 1 ≤ n) }
         requires number { first < 2 ^ 32 }
-        ensures answer { IsTrue D.tells → IsNextBlock (place_of self.old)
+        ensures answer { IsTrue D.tells → IsNextBlock (gate_of self.old)
             (D.state disk.old).bytes.seen first result }
 
         // The block that stands there is the one that is read, and none is where the blocks end.
         ensures parse { IsTrue D.tells
             → (front : List ℕ) (before after : List (List ℕ)) (root : List ℕ) (es : List Entry)
             → IsFileOf front (before ++ block_bytes root es ∷ after) (D.state disk.old).bytes.seen
-            → tail_of front before ≡ place_of self.old → length root ≡ 32 → AreBlock first es
-            → GivesBlock (place_of self.old) root es result }
+            → tail_of front before ≡ gate_of self.old → length root ≡ 32 → AreBlock first es
+            → GivesBlock (gate_of self.old) root es result }
         ensures ends { IsTrue D.tells → (front : List ℕ) (blocks : List (List ℕ))
-            → IsFileOf front blocks (D.state disk.old).bytes.seen → tail_of front blocks ≡ place_of self.old
+            → IsFileOf front blocks (D.state disk.old).bytes.seen → tail_of front blocks ≡ gate_of self.old
             → GivesEnd result }
 
         // Also where the disk doesn't tell what it holds.
         ensures read { IfOk result (λ found. IfSome found (λ block. (es : List Entry)
-            × AreBlock first es × IsRead (place_of self.old) es block)) }
+            × AreBlock first es × IsRead (gate_of self.old) es block)) }
         ensures only { IfErr result (λ e. (found : ℕ) → e ≢ FileErr.NewerFormat found) }
         ensures place { IfOk result (λ found. IfSome found (λ block.
-            place_of self.new ≡ place_of self.old + 1 + block.len)) }
+            gate_of self.new ≡ gate_of self.old + 1 + block.len)) }
         ensures stays { OnErr result (self.new ≡ self.old) }
         ensures ended { IfOk result (λ found. IfNone found (self.new ≡ self.old)) }
         ensures base { KeepsBase self.old self.new }
         ensures told { OnOk result (IsSomeAnd (D.state disk.new).told
-            (λ n. place_of self.new + 1 ≤ n)) }
+            (λ n. gate_of self.new + 1 ≤ n)) }
         ensures state { IsTrue D.tells → (D.state disk.new).bytes ≡ (D.state disk.old).bytes }
         ensures length { KeepsLength (D.state disk.old).told (D.state disk.new).told }
         ensures faults { Counts result (D.state disk.old).faults (D.state disk.new).faults }
@@ -401,43 +384,19 @@ impl BlockFile {
     /// Commits a block, given without its gate. It is written behind the tail gate, by one write, with a new tail gate
     /// behind it; then the disk is synced, the gate is opened by a write of its own, and the disk is synced again.
     pub fn commit_block<D: Disk>(&mut self, disk: &mut D, block: &[u8]) -> Result<(), FileErr>
-        requires length { IfSome (D.state disk.old).told (λ n. place_of self.old + 1 ≤ n) }
-        requires gate { IsTrue D.tells → IsShutAt (place_of self.old) (D.state disk.old).bytes.seen }
+        requires length { IfSome (D.state disk.old).told (λ n. gate_of self.old + 1 ≤ n) }
+        requires gate { IsTrue D.tells → IsShutAt (gate_of self.old) (D.state disk.old).bytes.seen }
 
-        // Each image has it from then on.
-        ensures ok { OnOk result (IsTrue D.tells → (front : List ℕ) (blocks : List (List ℕ))
-            → IsFileOf front blocks (D.state disk.old).bytes.seen
-            → tail_of front blocks ≡ place_of self.old
-            → HasBlock front blocks block.now (D.state disk.new).bytes) }
-
-        ensures images { OnOk result (IsTrue D.tells → (front : List ℕ) (blocks : List (List ℕ))
-            → IsFileOf front blocks (D.state disk.old).bytes.seen → tail_of front blocks ≡ place_of self.old
-            → (image : List ℕ) → MayLeave (D.state disk.new).bytes image
-            → IsFileOf front (blocks ++ block.now ∷ []) image) }
-
-        // An image has it whole or not at all.
-        ensures err { OnErr result (IsTrue D.tells → IsSettled (D.state disk.old).bytes
-            → (front : List ℕ) (blocks : List (List ℕ))
-            → IsFileOf front blocks (D.state disk.old).bytes.seen
-            → tail_of front blocks ≡ place_of self.old → (image : List ℕ)
-            → MayLeave (D.state disk.new).bytes image → IsFileOf front blocks image
-            ⊎ IsFileOf front (blocks ++ block.now ∷ []) image) }
-        ensures place { OnOk result (place_of self.new ≡ place_of self.old + 1 + length block.now) }
+        // Each image has it from then on, or, after an error, an image has it whole or not at all.
+        ensures ok { OnOk result (AddsBlock D.tells self.old self.new block.now
+            (D.state disk.old).bytes (D.state disk.new).bytes) }
+        ensures err { OnErr result (IsTrue D.tells → MayAddBlock (gate_of self.old) block.now
+            (D.state disk.old).bytes (D.state disk.new).bytes) }
+        ensures place { OnOk result (gate_of self.new ≡ gate_of self.old + 1 + length block.now) }
         ensures stays { OnErr result (self.new ≡ self.old) }
         ensures base { KeepsBase self.old self.new }
-        ensures gate { OnOk result (IsTrue D.tells
-            → IsShutAt (place_of self.new) (D.state disk.new).bytes.seen) }
-
-        // The file's head stays.
-        ensures head { OnOk result (IsTrue D.tells
-            → take 64 (D.state disk.new).bytes.seen ≡ take 64 (D.state disk.old).bytes.seen) }
-
-        // A file that ended with its tail gate ends with its new one.
-        ensures ends { OnOk result (IsTrue D.tells
-            → length (D.state disk.old).bytes.seen ≡ place_of self.old + 1
-            → length (D.state disk.new).bytes.seen ≡ place_of self.new + 1) }
         ensures length { OnOk result (IsSomeAnd (D.state disk.new).told
-            (λ n. place_of self.new + 1 ≤ n)) }
+            (λ n. gate_of self.new + 1 ≤ n)) }
         ensures faults { CountsAlone result (D.state disk.old).faults (D.state disk.new).faults }
     {
         stage(disk, self.at, block)?;

@@ -17,7 +17,7 @@
 //! its head, 4 bytes count, 8 bytes body_len and 32 bytes root, and its body: for each journal the header, 4 bytes
 //! who_len, the content and the who. What stands behind the tail gate doesn't count.
 //!
-//! No call takes memory but [`BlockFile::base`] and [`BlockFile::next_block`]. What a crash may leave of a file stands
+//! No call of a file takes memory but [`BlockFile::base`] and [`BlockFile::next_block`]. What a crash may leave of a file stands
 //! in the contract of each call that writes, for each of its answers.
 #![tactic(auto)]
 
@@ -26,13 +26,17 @@ mod copying;
 mod failure;
 mod file;
 mod head;
+mod place;
 mod reading;
 mod records;
 mod tail;
 mod veil;
+mod writer;
 mod zeroing;
 
-pub use block::{BlockAt, RecordAt, a_file_has_one_list_of_blocks};
+pub use block::{BLOCK_HEAD_LEN, BlockAt, RecordAt, a_file_has_one_list_of_blocks};
 pub use failure::{Damage, FileErr};
 pub use file::BlockFile;
 pub use head::FileHead;
+pub use place::{FIRST_GATE, PlaceAt};
+pub use writer::BlockWriter;

@@ -4,7 +4,7 @@ ghost use Rattle.ledger_disk.specs.Disk.{CountsFault, KeepsLength};
 ghost use Rattle.block_file.specs.Head.{Counts, number_at};
 ghost use Rattle.block_file.specs.Blocks.{IsHeadRead, IsBlockHeadErr};
 
-use crate::block::{BlockHead, HEAD_LEN};
+use crate::block::{BLOCK_HEAD_LEN, BlockHead};
 use crate::{Damage, FileErr};
 use ledger_bytes::{BLOCK_LIMIT, Digest, Failed};
 use ledger_disk::Disk;
@@ -128,14 +128,14 @@ pub(crate) fn read_block_head<D: Disk>(disk: &mut D, at: u64) -> Result<Option<B
         return Ok(None);
     }
     let room = disk.len()?.saturating_sub(at + 2);
-    if room < HEAD_LEN as u64 {
+    if room < BLOCK_HEAD_LEN as u64 {
         return Err(FileErr::Damaged(Damage::Length {
             at: at + 1,
-            kept: HEAD_LEN as u64,
+            kept: BLOCK_HEAD_LEN as u64,
             found: room,
         }));
     }
-    let mut bytes = [0; HEAD_LEN];
+    let mut bytes = [0; BLOCK_HEAD_LEN];
     fill(disk, at + 1, &mut bytes)?;
     let head = BlockHead::of(&bytes);
     if head.count == 0 || u64::from(head.count) > BLOCK_LIMIT {
@@ -145,7 +145,7 @@ pub(crate) fn read_block_head<D: Disk>(disk: &mut D, at: u64) -> Result<Option<B
             found: BLOCK_LIMIT,
         }));
     }
-    let body_room = room - HEAD_LEN as u64;
+    let body_room = room - BLOCK_HEAD_LEN as u64;
     if head.body_len > body_room {
         return Err(FileErr::Damaged(Damage::Length {
             at: at + 5,

@@ -1,7 +1,7 @@
 -- What reopening reads.
 use Rattle.std.specs.Prelude.{Option, Some, None}
-use Rattle.std.proofs.Common.{◌≡◌, inl, inr, ℕ, zero, suc, ◌+◌, ◌*◌, ◌<◌, ◌≤◌, max, List, [], ◌∷◌, ◌++◌, length, get_or, take, drop, refl, sym, ◌∙◌, ap, subst, arith, append_assoc, length-append, length-drop}
-use Rattle.std.proofs.lemmas.List.{take_at, drop_at, take-append-drop, drop_more, drop-drop, get_or-drop}
+use Rattle.std.proofs.Common.{◌≡◌, inl, inr, ℕ, zero, suc, ◌+◌, ◌*◌, ◌<◌, ◌≤◌, max, List, [], ◌∷◌, ◌++◌, length, get_or, take, drop, refl, sym, ◌∙◌, ap, subst, arith, append_assoc, append-nil, length-append, length-drop}
+use Rattle.std.proofs.lemmas.List.{take_at, drop_at, take-append-drop, drop_more, drop-drop, drop-take, get_or-drop}
 use Rattle.ledger_disk.specs.Disk.{settled_state, overlay}
 use Rattle.ledger_disk.specs.Guards.{Outside}
 use Rattle.time_peg.specs.Entries.{IsList, last_time, time_in}
@@ -90,3 +90,10 @@ pub inside_of : (l : List ℕ) (i : ℕ) → get_or l i 0 ≡ 1 → i + 1 ≤ le
 inside_of [] i is = absurd (let no : ⊥ = cc in no)
 inside_of (x ∷ l) zero is = omega arith
 inside_of (x ∷ l) (suc i) is = omega (arith, inside_of l i is)
+
+-- what is behind the gate of a slot that was read whole
+pub behind_gate : (file into slot : List ℕ) (at n : ℕ) → n ≡ 73 → length into ≡ 73 → slot ≡ take n (drop at file) ++ drop n into → drop 1 slot ≡ take 72 (drop (at + 1) file)
+behind_gate file into slot at n all size is =
+    let none : drop n into ≡ [] = none_long (drop n into) (omega (arith, length-drop n into, size, all)) in
+    let whole : slot ≡ take 73 (drop at file) = is ∙ ap (λ (l : List ℕ). take n (drop at file) ++ l) none ∙ append-nil (take n (drop at file)) ∙ ap (λ (k : ℕ). take k (drop at file)) all in
+    ap (drop 1) whole ∙ drop-take 1 72 (drop at file) ∙ ap (take 72) (drop-drop 1 at file)

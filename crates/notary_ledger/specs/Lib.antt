@@ -1,3 +1,4 @@
+pub mod Answering
 pub mod Clocks
 pub mod Listing
 pub mod Notaries

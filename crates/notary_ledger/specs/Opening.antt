@@ -14,16 +14,17 @@ IsSlot at least file None =
 IsSlot at least file (Some e) =
     (at + 74 ≤ length file) × (get_or file at 0 ≡ 1) × (e ≡ take 72 (drop (at + 1) file)) × (least ≤ time_in e)
 
--- a notary's file is refused for a fault, which was counted, or for want of memory
+-- why a notary's file isn't opened: for a fault, which was counted, or for want of memory
 abbrev pub CountsOpenAt : FileErr → ℕ → ℕ → Type 0
 CountsOpenAt DiskFault old new = new ≡ count_after old
 CountsOpenAt (Damaged damage) old new = ⊥
 CountsOpenAt (NewerFormat found) old new = ⊥
 CountsOpenAt NoMemory old new = new ≡ old
 
+-- the count of faults behind an opening: one more exactly where a fault is answered
 abbrev pub CountsOpen : {T : Type 0} → Result T FileErr → ℕ → ℕ → Type 0
 CountsOpen result old new = MatchResult result (λ _. new ≡ old) (λ e. CountsOpenAt e old new)
 
--- an image has the list of one that a crash might have left before
+-- an image has the list of some image that a crash might have left before
 abbrev pub KeepsList : State → List ℕ → Type 0
 KeepsList s image = (before : List ℕ) × MayLeave s before × ((es : List (List ℕ)) → Lists es before → Lists es image)

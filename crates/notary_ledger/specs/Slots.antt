@@ -6,11 +6,11 @@ use Rattle.ledger_disk.specs.Disk.{State}
 use Rattle.ledger_disk.specs.Guards.{Guards, Confined}
 use Rattle.time_peg.specs.Entries.{IsList, time_in, last_time}
 
--- slots with these entries, all of them open
+-- the bytes of slots with these entries, each behind an open gate
 abbrev pub opened : List (List ℕ) → List ℕ
 opened es = flat_map (λ e. 1 ∷ e) es
 
--- where the tail gate stands behind them
+-- where the tail gate stands behind the slots of these entries
 abbrev pub tail_of : List (List ℕ) → ℕ
 tail_of es = length (opened es)
 
@@ -20,7 +20,7 @@ abbrev pub IsShutSlot : ℕ → ℕ → List ℕ → Type 0
 IsShutSlot count least rest =
     (count ≡ NOTARY_LIMIT) ⊎ ((length rest < 74) ⊎ ((get_or rest 0 0 ≢ 1) ⊎ (time_in (take 72 (drop 1 rest)) < least)))
 
--- the list of a file: its open slots from the start
+-- the list of a notary's file: its open slots from the start, up to one that isn't open
 pub record Lists (es : List (List ℕ)) (file : List ℕ) : Type 0 where
   pub rest : List ℕ
   pub is : file ≡ opened es ++ rest

@@ -1,7 +1,7 @@
 ghost use Rattle.std.specs.Prelude.{◌≡◌, ◌⊎◌, [], ◌∷◌, ◌++◌, ℕ, List, Some, None};
 ghost use Rattle.notary_ledger.specs.Slots.{Lists, MayList};
 
-/// A file has one list.
+/// Whoever reads a file from the start comes to the same list.
 pub fn a_file_has_one_list()
     ensures { (es fs : List (List ℕ)) (file : List ℕ) → Lists es file → Lists fs file → es ≡ fs }
 {}

@@ -1,10 +1,7 @@
-ghost use Rattle.std.specs.Prelude.{◌≡◌, ◌<◌, ◌≤◌, [], ◌∷◌, ◌++◌, Some, length, map, slice_get, IfOk, OnOk};
-ghost use Rattle.sha2.specs.Sha256.{sha256};
-ghost use Rattle.tree_model.specs.Tree.{mth, leaf};
-ghost use Rattle.tree_model.specs.Path as paths;
-ghost use Rattle.tree_model.specs.Extension as extensions;
+ghost use Rattle.std.specs.Prelude.{◌≡◌, ◌<◌, ◌≤◌, [], ◌∷◌, ◌++◌, Some, Ok, length, slice_get, OnOk};
 ghost use Rattle.journal_record.specs.declared.rules.TheConstants.{NOTARY_LIMIT};
 ghost use Rattle.time_peg.specs.Entries.{last_time};
+ghost use Rattle.notary_ledger.specs.Answering.{AnswersHead, AnswersPath, AnswersProof};
 
 use crate::entry::time_of;
 use ledger_bytes::{Digest, NoMemory, Sha};
@@ -12,7 +9,7 @@ use merkle_batch::Tree;
 use merkle_tree::{Head, leaf_of};
 use std::alloc::Global;
 use std::marker::Model;
-use time_peg::ENTRY_LEN;
+use time_peg::{ENTRY_LEN, NotaryErr};
 
 /// A notary's list in memory, with the tree over its entries. A contract sees the entries, and how many more there
 /// is room for.
@@ -68,8 +65,7 @@ impl Entries {
 
     /// The number of entries, and the root over them.
     pub(crate) fn head(&self) -> Head
-        ensures size { result.size ≡ length self.now.entries }
-        ensures root { result.root.0 ≡ mth sha256 self.now.entries }
+        ensures { AnswersHead self.now.entries (Ok result) }
     {
         Head {
             size: self.len(),
@@ -78,27 +74,25 @@ impl Entries {
     }
 
     /// The path of entry `k` in the tree over all entries. Only memory may be missing.
-    pub(crate) fn path(&self, k: u64) -> Result<Vec<Digest>, NoMemory>
+    pub(crate) fn path(&self, k: u64) -> Result<Vec<Digest>, NotaryErr>
         requires { k < length self.now.entries }
-        ensures { IfOk result (λ digests. map (λ d. d.0) digests.items
-            ≡ paths.path sha256 k (map (leaf sha256) self.now.entries)) }
+        ensures { AnswersPath self.now.entries k result }
     {
         match self.tree.path(k, self.len()) {
             Ok(digests) => Ok(digests),
-            Err(_) => Err(NoMemory),
+            Err(_) => Err(NotaryErr::NoMemory),
         }
     }
 
     /// The proof that the tree over all entries goes on from the tree over the first `m`. Only memory may be missing.
-    pub(crate) fn proof(&self, m: u64) -> Result<Vec<Digest>, NoMemory>
+    pub(crate) fn proof(&self, m: u64) -> Result<Vec<Digest>, NotaryErr>
         requires some { 0 < m }
         requires within { m ≤ length self.now.entries }
-        ensures { IfOk result (λ digests. map (λ d. d.0) digests.items
-            ≡ extensions.proof sha256 m (map (leaf sha256) self.now.entries)) }
+        ensures { AnswersProof self.now.entries m result }
     {
         match self.tree.proof(m, self.len()) {
             Ok(digests) => Ok(digests),
-            Err(_) => Err(NoMemory),
+            Err(_) => Err(NotaryErr::NoMemory),
         }
     }
 

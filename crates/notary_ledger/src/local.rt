@@ -1,13 +1,8 @@
-ghost use Rattle.std.specs.Prelude.{◌≡◌, ◌⊎◌, ◌<◌, ◌≤◌, ℕ, IsTrue, List, Some, None, Err, length, map, max, slice_get, MatchResult, IsOk, IfOk, IfErr, OnOk, OnErr};
+ghost use Rattle.std.specs.Prelude.{◌≡◌, ◌⊎◌, ◌<◌, ◌≤◌, ℕ, IsTrue, List, Some, None, length, max, slice_get, MatchResult, IsOk, IfOk, IfErr, OnOk, OnErr};
 ghost use Rattle.ledger_disk.specs.Disk.{MayLeave};
-ghost use Rattle.sha2.specs.Sha256.{sha256};
-ghost use Rattle.tree_model.specs.Tree.{mth, leaf};
-ghost use Rattle.tree_model.specs.Path as paths;
-ghost use Rattle.tree_model.specs.Extension as extensions;
-ghost use Rattle.journal_record.specs.declared.rules.TheConstants.{NOTARY_LIMIT};
-ghost use Rattle.time_peg.specs.Entries.{IsList, IsStamped, CountsFailures, entry_of, last_time};
+ghost use Rattle.time_peg.specs.Entries.{IsList, CountsFailures, entry_of, last_time};
+ghost use Rattle.notary_ledger.specs.Answering.{AnswersHead, AnswersPath, AnswersProof, Stamps};
 ghost use Rattle.notary_ledger.specs.Clocks.{HasAdvanced};
-ghost use Rattle.notary_ledger.specs.Salts.{salt_of};
 ghost use Rattle.notary_ledger.specs.Slots.{Lists, MayList};
 ghost use Rattle.notary_ledger.specs.Opening.{CountsOpenAt, KeepsList};
 
@@ -110,15 +105,11 @@ impl<D: Disk, C: Clock> Notary for LocalNotary<D, C> {
     ghost state = { λ n. record { entries = n.entries; faults = (D.state n.disk).faults } };
 
     fn stamp(&mut self, _alloc: Global, peg: &Digest) -> Result<Stamp, NotaryErr>
-        ensures list { IsStamped peg.now.0 self.old.entries self.new.entries result }
-        ensures full { length self.old.entries ≡ NOTARY_LIMIT → result ≡ Err NotaryErr.Full }
+        ensures list { Stamps peg.now.0 self.old.seed self.old.entries self.new.entries result }
         ensures lawful { IsList self.new.entries }
         ensures faults { CountsFailures result (D.state self.old.disk).faults (D.state self.new.disk).faults }
-        // A stamp that failed leaves the list.
-        ensures same { OnErr result (self.new.entries ≡ self.old.entries) }
         ensures time { IfOk result (λ s. IsTrue C.tells
             → s.time ≡ max (C.moment self.old.clock 0) (last_time 0 self.old.entries)) }
-        ensures salt { IfOk result (λ s. s.salt.0 ≡ salt_of self.old.seed s.index) }
         // What may stand behind the list after a crash: nothing after Ok. After an error what may have stood there
         // before, or nothing, or an entry with this peg.
         ensures half_ok { OnOk result (self.new.half ≡ None) }
@@ -150,9 +141,7 @@ impl<D: Disk, C: Clock> Notary for LocalNotary<D, C> {
     }
 
     fn head(&mut self) -> Result<Head, NotaryErr>
-        ensures size { IfOk result (λ head. head.size ≡ length self.old.entries) }
-        ensures root { IfOk result (λ head. head.root.0 ≡ mth sha256 self.old.entries) }
-        ensures ok { IsOk result }
+        ensures head { AnswersHead self.old.entries result }
         ensures same { self.new ≡ self.old }
         ensures lawful { IsList self.new.entries }
     {
@@ -170,29 +159,19 @@ impl<D: Disk, C: Clock> Notary for LocalNotary<D, C> {
 
     fn path(&mut self, _alloc: Global, k: u64) -> Result<Vec<Digest>, NotaryErr>
         requires { k < length self.old.entries }
-        ensures path { IfOk result (λ digests. map (λ d. d.0) digests.items
-            ≡ paths.path sha256 k (map (leaf sha256) self.old.entries)) }
-        ensures err { IfErr result (λ e. e ≡ NotaryErr.NoMemory) }
+        ensures path { AnswersPath self.old.entries k result }
         ensures same { self.new ≡ self.old }
     {
-        match self.list.path(k) {
-            Ok(digests) => Ok(digests),
-            Err(_) => Err(NotaryErr::NoMemory),
-        }
+        self.list.path(k)
     }
 
     fn proof(&mut self, _alloc: Global, m: u64) -> Result<Vec<Digest>, NotaryErr>
         requires some { 0 < m }
         requires within { m ≤ length self.old.entries }
-        ensures proof { IfOk result (λ digests. map (λ d. d.0) digests.items
-            ≡ extensions.proof sha256 m (map (leaf sha256) self.old.entries)) }
-        ensures err { IfErr result (λ e. e ≡ NotaryErr.NoMemory) }
+        ensures proof { AnswersProof self.old.entries m result }
         ensures same { self.new ≡ self.old }
     {
-        match self.list.proof(m) {
-            Ok(digests) => Ok(digests),
-            Err(_) => Err(NotaryErr::NoMemory),
-        }
+        self.list.proof(m)
     }
 
     fn faults(&self) -> u64 {

@@ -1,12 +1,8 @@
-ghost use Rattle.std.specs.Prelude.{◌≡◌, ◌+◌, ◌*◌, ◌-◌, ◌^◌, ◌<◌, ◌≤◌, ◌≢◌, [], Err, Some, length, map, min, replicate, slice_get, IsOk, IfOk, IfErr, OnErr};
+ghost use Rattle.std.specs.Prelude.{◌≡◌, ◌+◌, ◌*◌, ◌-◌, ◌^◌, ◌<◌, ◌≤◌, ◌≢◌, [], Err, Some, length, min, replicate, slice_get, IsOk, IfOk};
 ghost use Rattle.std.specs.List.{Contains};
-ghost use Rattle.sha2.specs.Sha256.{sha256};
-ghost use Rattle.tree_model.specs.Tree.{mth, leaf};
-ghost use Rattle.tree_model.specs.Path as paths;
-ghost use Rattle.tree_model.specs.Extension as extensions;
 ghost use Rattle.journal_record.specs.declared.rules.TheConstants.{NOTARY_LIMIT};
-ghost use Rattle.time_peg.specs.Entries.{IsList, IsStamped, CountsFailures};
-ghost use Rattle.notary_ledger.specs.Salts.{salt_of};
+ghost use Rattle.time_peg.specs.Entries.{IsList, CountsFailures};
+ghost use Rattle.notary_ledger.specs.Answering.{AnswersHead, AnswersPath, AnswersProof, Stamps};
 
 use crate::entry::{new_entry, salt_for};
 use crate::list::Entries;
@@ -61,13 +57,10 @@ impl Notary for MemNotary {
     ghost state = { λ n. record { entries = n.entries; faults = n.faults } };
 
     fn stamp(&mut self, _alloc: Global, peg: &Digest) -> Result<Stamp, NotaryErr>
-        ensures list { IsStamped peg.now.0 self.old.entries self.new.entries result }
-        ensures full { length self.old.entries ≡ NOTARY_LIMIT → result ≡ Err NotaryErr.Full }
+        ensures list { Stamps peg.now.0 (replicate 32 0) self.old.entries self.new.entries result }
         ensures lawful { IsList self.new.entries }
         ensures faults { CountsFailures result self.old.faults self.new.faults }
-        ensures same { OnErr result (self.new.entries ≡ self.old.entries) }
         ensures time { IfOk result (λ s. s.time ≡ 1000 * (s.index + 1)) }
-        ensures salt { IfOk result (λ s. s.salt.0 ≡ salt_of (replicate 32 0) s.index) }
         // It fails exactly where its number is in `fail_at`, but for a full list.
         ensures told { Contains self.old.fail_at self.old.calls
             → length self.old.entries < NOTARY_LIMIT → result ≡ Err NotaryErr.Failed }
@@ -97,9 +90,7 @@ impl Notary for MemNotary {
     }
 
     fn head(&mut self) -> Result<Head, NotaryErr>
-        ensures size { IfOk result (λ head. head.size ≡ length self.old.entries) }
-        ensures root { IfOk result (λ head. head.root.0 ≡ mth sha256 self.old.entries) }
-        ensures ok { IsOk result }
+        ensures head { AnswersHead self.old.entries result }
         ensures same { self.new ≡ self.old }
         ensures lawful { IsList self.new.entries }
     {
@@ -117,29 +108,19 @@ impl Notary for MemNotary {
 
     fn path(&mut self, _alloc: Global, k: u64) -> Result<Vec<Digest>, NotaryErr>
         requires { k < length self.old.entries }
-        ensures path { IfOk result (λ digests. map (λ d. d.0) digests.items
-            ≡ paths.path sha256 k (map (leaf sha256) self.old.entries)) }
-        ensures err { IfErr result (λ e. e ≡ NotaryErr.NoMemory) }
+        ensures path { AnswersPath self.old.entries k result }
         ensures same { self.new ≡ self.old }
     {
-        match self.list.path(k) {
-            Ok(digests) => Ok(digests),
-            Err(_) => Err(NotaryErr::NoMemory),
-        }
+        self.list.path(k)
     }
 
     fn proof(&mut self, _alloc: Global, m: u64) -> Result<Vec<Digest>, NotaryErr>
         requires some { 0 < m }
         requires within { m ≤ length self.old.entries }
-        ensures proof { IfOk result (λ digests. map (λ d. d.0) digests.items
-            ≡ extensions.proof sha256 m (map (leaf sha256) self.old.entries)) }
-        ensures err { IfErr result (λ e. e ≡ NotaryErr.NoMemory) }
+        ensures proof { AnswersProof self.old.entries m result }
         ensures same { self.new ≡ self.old }
     {
-        match self.list.proof(m) {
-            Ok(digests) => Ok(digests),
-            Err(_) => Err(NotaryErr::NoMemory),
-        }
+        self.list.proof(m)
     }
 
     fn faults(&self) -> u64 {

@@ -76,43 +76,31 @@ fn read_slot<D: Disk>(
     if len < at + 74 {
         return Ok(None);
     }
-    if read_gate(disk, at)? != 1 {
-        return Ok(None);
-    }
-    let entry = read_entry(disk, at + 1)?;
-    if time_of(&entry) < last {
+    let (gate, entry) = read_whole(disk, at)?;
+    if gate != 1 || time_of(&entry) < last {
         return Ok(None);
     }
     Ok(Some(entry))
 }
 
-/// The gate at a place.
-fn read_gate<D: Disk>(disk: &mut D, at: u64) -> Result<u8, Failed>
-    requires { IsSomeAnd (D.state disk.old).told (λ n. at + 1 ≤ n) }
-    ensures gate { IfOk result (λ gate. IsTrue D.tells
-        → gate ≡ get_or (D.state disk.old).bytes.seen at 0) }
+/// The gate and the entry of the slot at a place, by one call.
+fn read_whole<D: Disk>(disk: &mut D, at: u64) -> Result<(u8, [u8; ENTRY_LEN]), Failed>
+    requires { IsSomeAnd (D.state disk.old).told (λ n. at + 73 ≤ n) }
+    ensures gate { IfOk result (λ slot. IsTrue D.tells
+        → slot.0 ≡ get_or (D.state disk.old).bytes.seen at 0) }
+    ensures entry { IfOk result (λ slot. IsTrue D.tells
+        → slot.1 ≡ take 72 (drop (at + 1) (D.state disk.old).bytes.seen)) }
+    ensures size { IfOk result (λ slot. length slot.1 ≡ 72) }
     ensures state { IsTrue D.tells → (D.state disk.new).bytes ≡ (D.state disk.old).bytes }
     ensures length { KeepsLength (D.state disk.old).told (D.state disk.new).told }
     ensures faults { CountsFault result (D.state disk.old).faults (D.state disk.new).faults }
 {
-    let mut gate = [0u8; 1];
-    disk.read(at, &mut gate)?;
-    Ok(gate[0])
-}
-
-/// The entry at a place.
-fn read_entry<D: Disk>(disk: &mut D, at: u64) -> Result<[u8; ENTRY_LEN], Failed>
-    requires { IsSomeAnd (D.state disk.old).told (λ n. at + 72 ≤ n) }
-    ensures entry { IfOk result (λ entry. IsTrue D.tells
-        → entry ≡ take 72 (drop at (D.state disk.old).bytes.seen)) }
-    ensures size { IfOk result (λ entry. length entry ≡ 72) }
-    ensures state { IsTrue D.tells → (D.state disk.new).bytes ≡ (D.state disk.old).bytes }
-    ensures length { KeepsLength (D.state disk.old).told (D.state disk.new).told }
-    ensures faults { CountsFault result (D.state disk.old).faults (D.state disk.new).faults }
-{
+    let mut slot = [0u8; 73];
+    disk.read(at, &mut slot)?;
+    let (_, bytes) = slot.split_at(1);
     let mut entry = [0u8; ENTRY_LEN];
-    disk.read(at, &mut entry)?;
-    Ok(entry)
+    entry.copy_from_slice(bytes);
+    Ok((slot[0], entry))
 }
 
 /// Shuts the tail gate of a file that is empty, or whose tail gate reads 01.
@@ -151,5 +139,7 @@ fn is_shut<D: Disk>(disk: &mut D, len: u64, at: u64) -> Result<bool, Failed>
     if len == 0 {
         return Ok(false);
     }
-    Ok(read_gate(disk, at)? != 1)
+    let mut gate = [0u8; 1];
+    disk.read(at, &mut gate)?;
+    Ok(gate[0] != 1)
 }

@@ -105,7 +105,7 @@ fn stage<D: Disk>(disk: &mut D, at: u64, entry: &[u8]) -> Result<(), Failed>
     disk.sync()
 }
 
-/// Opens the gate of a staged entry.
+/// Opens the gate of a staged entry, which is on the list from then on.
 fn open_gate<D: Disk>(
     disk: &mut D,
     half: &mut Option<[u8; ENTRY_LEN]>,

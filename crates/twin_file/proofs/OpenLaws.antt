@@ -1,6 +1,6 @@
 -- What a crash leaves of two files.
 use Rattle.std.specs.Prelude.{Bool, true, false, not}
-use Rattle.std.proofs.Common.{◌≡◌, ◌≢◌, ◌⊎◌, inl, inr, ℕ, ◌+◌, ◌-◌, ◌<◌, ◌≤◌, List, ◌∷◌, length, get_or, take, drop, sym, ◌∙◌, ap, subst, arith, length-take}
+use Rattle.std.proofs.Common.{◌≡◌, ◌≢◌, ◌⊎◌, inl, inr, ℕ, ◌+◌, ◌-◌, ◌<◌, ◌≤◌, List, ◌∷◌, length, get_or, take, drop, refl, sym, ◌∙◌, ap, subst, arith, length-take}
 use Rattle.std.proofs.lemmas.Bool.{cases_lt}
 use Rattle.std.proofs.lemmas.List.{get_or-take, drop-take, take-take, take_all}
 use Rattle.std.specs.Int.{from_be_bytes, w64}
@@ -9,8 +9,9 @@ use Rattle.ledger_disk.proofs.Guarding.{settled_image, cut_image}
 use Rattle.block_file.specs.File.{IsSettled, IsVeiled, IsScrapOf}
 use Rattle.block_file.specs.Head.{IsShut, HasHead, generation_of}
 use Rattle.block_file.proofs.VeilLaws.{veiled_gate, veiled_shut}
-use Rattle.twin_file.specs.Twin.{other_of, choice, Yields, IsPassed, OpensTo}
-use Rattle.twin_file.specs.Images.{AllShut, AllOpenTo, IsCopying, IsQuiet, KeepsPassed, AllOpenToEither}
+use Rattle.twin_file.specs.Calls.{SparesOpen, StaysCopying}
+use Rattle.twin_file.specs.Twin.{choice, Yields, IsPassed, OpensTo}
+use Rattle.twin_file.specs.Images.{AllOpenTo, IsCopying, IsNewer, IsQuiet, KeepsPassed, AllOpenToEither}
 
 -- a part of a front
 part_of_front : (at n k : ℕ) (file : List ℕ) → at + n ≤ k → take n (drop at (take k file)) ≡ take n (drop at file)
@@ -47,101 +48,104 @@ cut_scrap old new image quiet (inl same) left =
 cut_scrap old new image quiet (inr cut) left =
     inl (cut_image old.seen image cut.0 cut.2 (subst (λ (s : State). MayLeave s image) (cut.3 ∙ ap (λ (s : State). cut_to cut.0 s) quiet) left))
 
-pair_true : (a : State) (image_a image_b : List ℕ) → IsSettled a → HasHead a.seen → MayLeave a image_a → IsPassed true (generation_of a.seen) image_b → OpensTo true a.seen image_a image_b
-pair_true a image_a image_b quiet has left passed =
-    let is : image_a ≡ a.seen = settled_image a.seen image_a (subst (λ (s : State). MayLeave s image_a) quiet left) in
-    record { taken = record { head = subst HasHead (sym is) has; other = subst (λ (l : List ℕ). IsPassed true (generation_of l) image_b) (sym is) passed }; is = is }
+-- ---- two of a kind
 
-pair_false : (b : State) (image_a image_b : List ℕ) → IsSettled b → HasHead b.seen → MayLeave b image_b → IsPassed false (generation_of b.seen) image_a → OpensTo false b.seen image_a image_b
-pair_false b image_a image_b quiet has left passed =
-    let is : image_b ≡ b.seen = settled_image b.seen image_b (subst (λ (s : State). MayLeave s image_b) quiet left) in
-    record { taken = record { head = subst HasHead (sym is) has; other = subst (λ (l : List ℕ). IsPassed false (generation_of l) image_a) (sym is) passed }; is = is }
+pub chosen : (x : Bool) (a b : State) (image_a image_b : List ℕ) → MayLeave a image_a → MayLeave b image_b → MayLeave (choice x a b) (choice x image_a image_b) × MayLeave (choice x b a) (choice x image_b image_a)
+chosen true a b image_a image_b left_a left_b = (left_a, left_b)
+chosen false a b image_a image_b left_a left_b = (left_b, left_a)
+
+-- the one image of a file that stayed as it was, with nothing pending
+image_is : (old new : State) (image : List ℕ) → IsSettled old → new ≡ old → MayLeave new image → image ≡ old.seen
+image_is old new image quiet same left = settled_image old.seen image (subst (λ (s : State). MayLeave s image) (same ∙ quiet) left)
+
+-- ---- what a pair opens to
+
+opens : (x : Bool) (file image_a image_b : List ℕ) → choice x image_a image_b ≡ file → HasHead file → IsPassed x (generation_of file) (choice x image_b image_a) → OpensTo x file image_a image_b
+opens x file image_a image_b is has passed =
+    record { taken = record { head = subst HasHead (sym is) has; other = subst (λ (l : List ℕ). IsPassed x (generation_of l) (choice x image_b image_a)) (sym is) passed }; is = is }
 
 -- the new file has the greater generation
-new_false : (new image_a image_b : List ℕ) → image_b ≡ new → HasHead image_a → HasHead new → generation_of image_a < generation_of new → OpensTo false new image_a image_b
-new_false new image_a image_b is has has_new less =
-    record { taken = record { head = subst HasHead (sym is) has_new; other = inr (has, omega (arith, less, ap generation_of is)) }; is = is }
+opens_new : (x : Bool) (new image_a image_b : List ℕ) → choice x image_b image_a ≡ new → HasHead (choice x image_a image_b) → HasHead new → generation_of (choice x image_a image_b) < generation_of new → OpensTo (not x) new image_a image_b
+opens_new true new image_a image_b is has has_new less = opens false new image_a image_b is has_new (inr (has, less))
+opens_new false new image_a image_b is has has_new less = opens true new image_a image_b is has_new (inr (has, omega (arith, less)))
 
-new_true : (new image_a image_b : List ℕ) → image_a ≡ new → HasHead image_b → HasHead new → generation_of image_b < generation_of new → OpensTo true new image_a image_b
-new_true new image_a image_b is has has_new less =
-    record { taken = record { head = subst HasHead (sym is) has_new; other = inr (has, omega (arith, less, ap generation_of is)) }; is = is }
+-- ---- the other file was worked on
 
--- the other file was worked on
-pub opens_in_b : (in_a : Bool) → in_a ≡ true → (a b b_new : State) → KeepsPassed b b_new → IsQuiet in_a a b → AllOpenTo in_a (choice in_a a b).seen a b_new
-opens_in_b true is a b b_new keeps quiet image_a image_b left_a left_b = pair_true a image_a image_b quiet.quiet_a quiet.taken.head left_a (keeps quiet.quiet_b true (generation_of a.seen) quiet.taken.other image_b left_b)
-opens_in_b false is a b b_new keeps quiet image_a image_b left_a left_b = absurd (cc is)
-
-pub opens_in_a : (in_a : Bool) → in_a ≡ false → (a b a_new : State) → KeepsPassed a a_new → IsQuiet in_a a b → AllOpenTo in_a (choice in_a a b).seen a_new b
-opens_in_a false is a b a_new keeps quiet image_a image_b left_a left_b = pair_false b image_a image_b quiet.quiet_b quiet.taken.head left_b (keeps quiet.quiet_a false (generation_of b.seen) quiet.taken.other image_a left_a)
-opens_in_a true is a b a_new keeps quiet image_a image_b left_a left_b = absurd (cc is)
+-- what is known where nothing is pending
+quiet_of : (x : Bool) (a b : State) → IsQuiet x a b → IsSettled (choice x a b) × IsSettled (choice x b a) × HasHead (choice x a b).seen × IsPassed x (generation_of (choice x a b).seen) (choice x b a).seen
+quiet_of true a b quiet = (quiet.quiet_a, quiet.quiet_b, quiet.taken.head, quiet.taken.other)
+quiet_of false a b quiet = (quiet.quiet_b, quiet.quiet_a, quiet.taken.head, quiet.taken.other)
 
 -- what is passed over stays so
-pub passed_in_b : (in_a : Bool) → in_a ≡ true → (a b b_new : State) → KeepsPassed b b_new → KeepsPassed (choice in_a b a) (choice in_a b_new a)
-passed_in_b true is a b b_new keeps = keeps
-passed_in_b false is a b b_new keeps = absurd (cc is)
+pub spares : {in_a : Bool} (x : Bool) (a b a_new b_new : State) → in_a ≡ x → choice x a_new b_new ≡ choice x a b → KeepsPassed (choice x b a) (choice x b_new a_new) → SparesOpen in_a a b a_new b_new
+spares x a b a_new b_new here same keeps = subst (λ (y : Bool). SparesOpen y a b a_new b_new) (sym here) (record {
+  images = λ quiet image_a image_b left_a left_b.
+      let both = chosen x a_new b_new image_a image_b left_a left_b in
+      let known = quiet_of x a b quiet in
+      opens x (choice x a b).seen image_a image_b (image_is (choice x a b) (choice x a_new b_new) (choice x image_a image_b) known.0 same both.0) known.2
+      (keeps known.1 x (generation_of (choice x a b).seen) known.3 (choice x image_b image_a) both.1);
+  passed = keeps;
+})
 
-pub passed_in_a : (in_a : Bool) → in_a ≡ false → (a b a_new : State) → KeepsPassed a a_new → KeepsPassed (choice in_a b a) (choice in_a b a_new)
-passed_in_a false is a b a_new keeps = keeps
-passed_in_a true is a b a_new keeps = absurd (cc is)
+-- a copy that is shut in every image
+copying_opens : (x : Bool) (a b : State) → IsCopying x a b → AllOpenTo x (choice x a b).seen a b
+copying_opens x a b copying image_a image_b left_a left_b =
+    let both = chosen x a b image_a image_b left_a left_b in
+    opens x (choice x a b).seen image_a image_b (image_is (choice x a b) (choice x a b) (choice x image_a image_b) copying.quiet refl both.0) copying.head
+    (inl (inr (veiled_gate (choice x b a) (choice x image_b image_a) copying.veiled both.1)))
 
--- while the copy is opened
-either_true : (a : State) (new image_a image_b : List ℕ) → IsSettled a → HasHead a.seen → HasHead new → generation_of a.seen < generation_of new → MayLeave a image_a → (get_or image_b 0 0 ≢ 1) ⊎ (image_b ≡ new)
-    → (OpensTo true a.seen image_a image_b × IsShut image_b) ⊎ OpensTo false new image_a image_b
-either_true a new image_a image_b quiet has has_new less left (inl shut) = inl (pair_true a image_a image_b quiet has left (inl (inr shut)), inr shut)
-either_true a new image_a image_b quiet has has_new less left (inr is) =
-    let is_a : image_a ≡ a.seen = settled_image a.seen image_a (subst (λ (s : State). MayLeave s image_a) quiet left) in
-    inr (new_false new image_a image_b is (subst HasHead (sym is_a) has) has_new (omega (arith, less, ap generation_of is_a)))
+-- while a range is copied
+still_copying : (x : Bool) (a b a_new b_new : State) → choice x a_new b_new ≡ choice x a b → (IsVeiled (choice x b a) → IsVeiled (choice x b_new a_new)) → IsCopying x a b → StaysCopying x a b a_new b_new
+still_copying x a b a_new b_new same veils copying =
+    let now : IsCopying x a_new b_new = record { quiet = subst IsSettled (sym same) copying.quiet; head = subst (λ (s : State). HasHead s.seen) (sym same) copying.head; veiled = veils copying.veiled } in
+    record {
+      shut = λ image left. veiled_shut (choice x b_new a_new) image now.veiled left;
+      copying = now;
+      images = subst (λ (s : State). AllOpenTo x s.seen a_new b_new) same (copying_opens x a_new b_new now);
+    }
 
-either_false : (b : State) (new image_a image_b : List ℕ) → IsSettled b → HasHead b.seen → HasHead new → generation_of b.seen < generation_of new → MayLeave b image_b → (get_or image_a 0 0 ≢ 1) ⊎ (image_a ≡ new)
-    → (OpensTo false b.seen image_a image_b × IsShut image_a) ⊎ OpensTo true new image_a image_b
-either_false b new image_a image_b quiet has has_new less left (inl shut) = inl (pair_false b image_a image_b quiet has left (inl (inr shut)), inr shut)
-either_false b new image_a image_b quiet has has_new less left (inr is) =
-    let is_b : image_b ≡ b.seen = settled_image b.seen image_b (subst (λ (s : State). MayLeave s image_b) quiet left) in
-    inr (new_true new image_a image_b is (subst HasHead (sym is_b) has) has_new (omega (arith, less, ap generation_of is_b)))
+pub stays_copying : {in_a : Bool} (x : Bool) (a b a_new b_new : State) → in_a ≡ x → choice x a_new b_new ≡ choice x a b → (IsVeiled (choice x b a) → IsVeiled (choice x b_new a_new)) → IsCopying in_a a b → StaysCopying in_a a b a_new b_new
+stays_copying x a b a_new b_new here same veils = subst (λ (y : Bool). IsCopying y a b → StaysCopying y a b a_new b_new) (sym here) (still_copying x a b a_new b_new same veils)
+
+-- ---- the copy is opened
 
 -- each image of a copy that is opened
 abbrev IsOpening : State → State → Type 0
 IsOpening old new = IsVeiled old → (image : List ℕ) → MayLeave new image → (get_or image 0 0 ≢ 1) ⊎ (image ≡ 1 ∷ drop 1 old.seen)
 
-either_new : (old new image : List ℕ) → 1 ∷ drop 1 old ≡ new → (get_or image 0 0 ≢ 1) ⊎ (image ≡ 1 ∷ drop 1 old) → (get_or image 0 0 ≢ 1) ⊎ (image ≡ new)
-either_new old new image is (inl shut) = inl shut
-either_new old new image is (inr same) = inr (same ∙ is)
+module _ (x : Bool) (a b a_new b_new : State) (same : choice x a_new b_new ≡ choice x a b) (new : List ℕ) (newer : IsNewer x new a b) (image_a image_b : List ℕ) (left_a : MayLeave a_new image_a) (left_b : MayLeave b_new image_b) where
+  both : MayLeave (choice x a_new b_new) (choice x image_a image_b) × MayLeave (choice x b_new a_new) (choice x image_b image_a)
+  both = chosen x a_new b_new image_a image_b left_a left_b
 
-pub either_in_b : (in_a : Bool) → in_a ≡ true → (a b b_new : State) → IsOpening b b_new → IsCopying in_a a b → (new : List ℕ) → 1 ∷ drop 1 (choice in_a b a).seen ≡ new → HasHead new
-    → generation_of (choice in_a a b).seen < generation_of new → AllOpenToEither in_a (choice in_a a b).seen new a b_new
-either_in_b true is a b b_new each copying new new_is has_new less image_a image_b left_a left_b = either_true a new image_a image_b copying.quiet copying.head has_new less left_a (either_new b.seen new image_b new_is (each copying.veiled image_b left_b))
-either_in_b false is a b b_new each copying new new_is has_new less image_a image_b left_a left_b = absurd (cc is)
+  old_is : choice x image_a image_b ≡ (choice x a b).seen
+  old_is = image_is (choice x a b) (choice x a_new b_new) (choice x image_a image_b) newer.copying.quiet same both.0
 
-pub either_in_a : (in_a : Bool) → in_a ≡ false → (a b a_new : State) → IsOpening a a_new → IsCopying in_a a b → (new : List ℕ) → 1 ∷ drop 1 (choice in_a b a).seen ≡ new → HasHead new
-    → generation_of (choice in_a a b).seen < generation_of new → AllOpenToEither in_a (choice in_a a b).seen new a_new b
-either_in_a false is a b a_new each copying new new_is has_new less image_a image_b left_a left_b = either_false b new image_a image_b copying.quiet copying.head has_new less left_b (either_new a.seen new image_a new_is (each copying.veiled image_a left_a))
-either_in_a true is a b a_new each copying new new_is has_new less image_a image_b left_a left_b = absurd (cc is)
+  -- the new file is there
+  new_opens : choice x image_b image_a ≡ new → OpensTo (not x) new image_a image_b
+  new_opens is = opens_new x new image_a image_b is (subst HasHead (sym old_is) newer.copying.head) newer.head (omega (arith, newer.less, ap generation_of old_is))
 
--- once the copy is open
-pub new_in_b : (in_a : Bool) → in_a ≡ true → (a b b_new : State) → b_new ≡ settled_state (1 ∷ drop 1 b.seen) → IsCopying in_a a b → (new : List ℕ) → 1 ∷ drop 1 (choice in_a b a).seen ≡ new → HasHead new
-    → generation_of (choice in_a a b).seen < generation_of new → AllOpenTo (not in_a) new a b_new
-new_in_b true is a b b_new now copying new new_is has_new less image_a image_b left_a left_b =
-    let is_a : image_a ≡ a.seen = settled_image a.seen image_a (subst (λ (s : State). MayLeave s image_a) copying.quiet left_a) in
-    new_false new image_a image_b (settled_image new image_b (subst (λ (s : State). MayLeave s image_b) (now ∙ ap settled_state new_is) left_b)) (subst HasHead (sym is_a) copying.head) has_new (omega (arith, less, ap generation_of is_a))
-new_in_b false is a b b_new now copying new new_is has_new less image_a image_b left_a left_b = absurd (cc is)
+  either_opens : IsOpening (choice x b a) (choice x b_new a_new) → (OpensTo x (choice x a b).seen image_a image_b × IsShut (choice x image_b image_a)) ⊎ OpensTo (not x) new image_a image_b
+  either_opens each = elim (each newer.copying.veiled (choice x image_b image_a) both.1) [
+    | inl shut ↦ inl (opens x (choice x a b).seen image_a image_b old_is newer.copying.head (inl (inr shut)), inr shut)
+    | inr made ↦ inr (new_opens (made ∙ newer.is))
+  ]
 
-pub new_in_a : (in_a : Bool) → in_a ≡ false → (a b a_new : State) → a_new ≡ settled_state (1 ∷ drop 1 a.seen) → IsCopying in_a a b → (new : List ℕ) → 1 ∷ drop 1 (choice in_a b a).seen ≡ new → HasHead new
-    → generation_of (choice in_a a b).seen < generation_of new → AllOpenTo (not in_a) new a_new b
-new_in_a false is a b a_new now copying new new_is has_new less image_a image_b left_a left_b =
-    let is_b : image_b ≡ b.seen = settled_image b.seen image_b (subst (λ (s : State). MayLeave s image_b) copying.quiet left_b) in
-    new_true new image_a image_b (settled_image new image_a (subst (λ (s : State). MayLeave s image_a) (now ∙ ap settled_state new_is) left_a)) (subst HasHead (sym is_b) copying.head) has_new (omega (arith, less, ap generation_of is_b))
-new_in_a true is a b a_new now copying new new_is has_new less image_a image_b left_a left_b = absurd (cc is)
+  now_opens : choice x b_new a_new ≡ settled_state (1 ∷ drop 1 (choice x b a).seen) → OpensTo (not x) new image_a image_b
+  now_opens now = new_opens (settled_image new (choice x image_b image_a) (subst (λ (s : State). MayLeave s (choice x image_b image_a)) (now ∙ ap settled_state newer.is) both.1))
 
--- while a range is copied
-pub copied_in_b : (in_a : Bool) → in_a ≡ true → (a b a_new b_new : State) → a_new ≡ a → (IsVeiled b → IsVeiled b_new) → IsCopying in_a a b → AllOpenTo in_a (choice in_a a b).seen a_new b_new
-copied_in_b true is a b a_new b_new same veiled copying image_a image_b left_a left_b =
-    pair_true a image_a image_b copying.quiet copying.head (subst (λ (s : State). MayLeave s image_a) same left_a) (inl (inr (veiled_gate b_new image_b (veiled copying.veiled) left_b)))
-copied_in_b false is a b a_new b_new same veiled copying image_a image_b left_a left_b = absurd (cc is)
+-- meanwhile
+pub opening : {in_a : Bool} (x : Bool) (a b a_new b_new : State) → in_a ≡ x → choice x a_new b_new ≡ choice x a b → IsOpening (choice x b a) (choice x b_new a_new) → (new : List ℕ) → IsNewer in_a new a b
+    → AllOpenToEither in_a (choice in_a a b).seen new a_new b_new
+opening x a b a_new b_new here same each = subst (λ (y : Bool). (new : List ℕ) → IsNewer y new a b → AllOpenToEither y (choice y a b).seen new a_new b_new) (sym here)
+    (λ new newer image_a image_b left_a left_b. either_opens x a b a_new b_new same new newer image_a image_b left_a left_b each)
 
-pub copied_in_a : (in_a : Bool) → in_a ≡ false → (a b a_new b_new : State) → b_new ≡ b → (IsVeiled a → IsVeiled a_new) → IsCopying in_a a b → AllOpenTo in_a (choice in_a a b).seen a_new b_new
-copied_in_a false is a b a_new b_new same veiled copying image_a image_b left_a left_b =
-    pair_false b image_a image_b copying.quiet copying.head (subst (λ (s : State). MayLeave s image_b) same left_b) (inl (inr (veiled_gate a_new image_a (veiled copying.veiled) left_a)))
-copied_in_a true is a b a_new b_new same veiled copying image_a image_b left_a left_b = absurd (cc is)
+-- and afterwards
+pub opened : {in_a : Bool} (x : Bool) (a b a_new b_new : State) → in_a ≡ x → choice x a_new b_new ≡ choice x a b → choice x b_new a_new ≡ settled_state (1 ∷ drop 1 (choice x b a).seen) → (new : List ℕ) → IsNewer in_a new a b
+    → AllOpenTo (not in_a) new a_new b_new
+opened x a b a_new b_new here same now = subst (λ (y : Bool). (new : List ℕ) → IsNewer y new a b → AllOpenTo (not y) new a_new b_new) (sym here)
+    (λ new newer image_a image_b left_a left_b. now_opens x a b a_new b_new same new newer image_a image_b left_a left_b now)
+
+-- ---- what was shut, or wasn't touched
 
 passed_shut : (file : List ℕ) → IsPassed false 0 file → IsShut file
 passed_shut file (inl shut) = shut
@@ -158,20 +162,3 @@ same_passed old new same quiet in_a taken passed image left =
 
 pub after_same : (old mid new : State) → mid ≡ old → KeepsPassed mid new → KeepsPassed old new
 after_same old mid new same keeps = subst (λ (s : State). KeepsPassed s new) same keeps
-
--- the copy is shut in every image of the disk that was worked on
-pub begun_in_b : (in_a : Bool) → in_a ≡ true → (a b_new : State) → IsVeiled b_new → AllShut (other_of in_a a b_new)
-begun_in_b true is a b_new veiled image left = veiled_shut b_new image veiled left
-begun_in_b false is a b_new veiled image left = absurd (cc is)
-
-pub begun_in_a : (in_a : Bool) → in_a ≡ false → (a_new b : State) → IsVeiled a_new → AllShut (other_of in_a a_new b)
-begun_in_a false is a_new b veiled image left = veiled_shut a_new image veiled left
-begun_in_a true is a_new b veiled image left = absurd (cc is)
-
-pub shut_in_b : (in_a : Bool) → in_a ≡ true → (a a_new b b_new : State) → (IsVeiled b → IsVeiled b_new) → IsCopying in_a a b → AllShut (other_of in_a a_new b_new)
-shut_in_b true is a a_new b b_new veiled copying image left = veiled_shut b_new image (veiled copying.veiled) left
-shut_in_b false is a a_new b b_new veiled copying image left = absurd (cc is)
-
-pub shut_in_a : (in_a : Bool) → in_a ≡ false → (a a_new b b_new : State) → (IsVeiled a → IsVeiled a_new) → IsCopying in_a a b → AllShut (other_of in_a a_new b_new)
-shut_in_a false is a a_new b b_new veiled copying image left = veiled_shut a_new image (veiled copying.veiled) left
-shut_in_a true is a a_new b b_new veiled copying image left = absurd (cc is)

@@ -5,7 +5,8 @@ use Rattle.block_file.specs.declared.head.FileHead.{FileHead}
 use Rattle.twin_file.specs.Twin.{open_of, IsTaken}
 use Rattle.twin_file.specs.declared.picking.Picked.{Picked}
 
--- which file was taken, its generation, the place of its first block, and what its head says of its base
+-- what a `Twin` shows of the open file: which it is, its generation, the place of its first block, and what its head says of
+-- its base
 pub record View : Type 0 where
   pub in_a : Bool
   pub generation : ℕ
@@ -13,11 +14,13 @@ pub record View : Type 0 where
   pub base_len : ℕ
   pub base_digest : List ℕ
 
+-- the same by its parts
 abbrev pub view : Bool → ℕ → ℕ → ℕ → List ℕ → View
 view in_a generation place base_len base_digest =
     record { in_a = in_a; generation = generation; place = place; base_len = base_len; base_digest = base_digest }
 
--- the open file of the greater generation, and the first where they are equal
+-- which of two heads is picked: the one that is there, of both that of the greater generation, and the first where they are
+-- equal
 abbrev pub IsPicked : Option FileHead → Option FileHead → Option Picked → Type 0
 IsPicked None None picked = picked ≡ None
 IsPicked (Some x) None picked = picked ≡ Some (record { in_a = true; head = x })
@@ -26,7 +29,7 @@ IsPicked (Some x) (Some y) picked =
     ((y.generation ≤ x.generation) × (picked ≡ Some (record { in_a = true; head = x })))
     ⊎ ((x.generation < y.generation) × (picked ≡ Some (record { in_a = false; head = y })))
 
--- none where both are shut; else the file that is taken, at its first block
+-- what opening two files answers: none where both are shut; else the file that is taken, at its first block
 abbrev pub IsReopened : List ℕ → List ℕ → Option View → Type 0
 IsReopened a b None = IsShut a × IsShut b
 IsReopened a b (Some v) =

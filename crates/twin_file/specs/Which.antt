@@ -1,7 +1,7 @@
 -- What a `Twin` shows.
 use Rattle.std.specs.Prelude.{◌≡◌, ℕ, Bool, Option}
 use Rattle.block_file.specs.declared.file.BlockFile.{BlockFile}
-use Rattle.block_file.specs.Place.{place_of, base_len_of, base_digest_of}
+use Rattle.block_file.specs.FileView.{gate_of, base_len_of, base_digest_of}
 use Rattle.twin_file.specs.Picking.{View, view}
 use Rattle.twin_file.specs.declared.twin.Twin.{Twin}
 
@@ -21,9 +21,9 @@ file_of twin = twin.file
 abbrev pub copy_of : Twin → Option BlockFile
 copy_of twin = twin.copy
 
--- what is told of the file that was taken
+-- what a `Twin` shows of its open file: which it is, its generation, and where its blocks begin behind its base
 abbrev pub view_of : Twin → View
-view_of twin = view twin.in_a twin.generation (place_of twin.file) (base_len_of twin.file) (base_digest_of twin.file)
+view_of twin = view twin.in_a twin.generation (gate_of twin.file) (base_len_of twin.file) (base_digest_of twin.file)
 
 -- the open file is the same, in the same place
 pub record SameOpen (old new : Twin) : Type 0 where

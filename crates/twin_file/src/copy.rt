@@ -1,12 +1,12 @@
 //! The copy that is made in the other file.
 
-ghost use Rattle.std.specs.Prelude.{◌≡◌, ◌≢◌, ◌⊎◌, ◌+◌, ◌<◌, ◌≤◌, ◌++◌, ◌∷◌, ℕ, List, not, get_or, take, drop, IsTrue, IsSomeAnd, OnOk, OnErr};
-ghost use Rattle.block_file.specs.File.{IsVeiled, open_blocks};
-ghost use Rattle.block_file.specs.Head.{CountsAlone, CountsTwoAlone, HasHead, generation_of};
-ghost use Rattle.block_file.specs.Place.{place_of};
+ghost use Rattle.std.specs.Prelude.{◌≡◌, ◌≢◌, ◌⊎◌, ◌+◌, ◌<◌, ◌≤◌, ◌∷◌, ℕ, List, not, get_or, take, drop, IsTrue, IsSomeAnd, OnOk, OnErr};
+ghost use Rattle.block_file.specs.File.{IsVeiled};
+ghost use Rattle.block_file.specs.Head.{CountsAlone, CountsTwoAlone};
 ghost use Rattle.ledger_disk.specs.Disk.{MayLeave, settled_state, KeepsLength};
-ghost use Rattle.twin_file.specs.Images.{AllOpenTo, AllOpenToEither, IsCopying};
-ghost use Rattle.twin_file.specs.Places.{HasCopy, IsBuiltCopy, IsLonger};
+ghost use Rattle.twin_file.specs.Calls.{AddsPiece, KeepsOpen};
+ghost use Rattle.twin_file.specs.Images.{AllOpenTo, AllOpenToEither, IsNewer};
+ghost use Rattle.twin_file.specs.Places.{HasCopy};
 ghost use Rattle.twin_file.specs.Twin.{open_of, other_of};
 
 use block_file::{BlockFile, FileErr};
@@ -22,19 +22,12 @@ pub fn extend<D: Disk>(
 ) -> Result<(), FileErr>
     requires from { IsSomeAnd (D.state from.old).told (λ n. at + len ≤ n) }
     requires begun { HasCopy (D.state to.old).told copy.old }
-    ensures seen { OnOk result (IsTrue D.tells → (front : List ℕ) (blocks more : List (List ℕ))
-        → IsBuiltCopy front blocks (D.state to.old).bytes.seen copy.old
-        → take len (drop at (D.state from.old).bytes.seen) ≡ open_blocks more
-        → IsBuiltCopy front (blocks ++ more) (D.state to.new).bytes.seen copy.new) }
-    ensures longer { OnOk result (IsTrue D.tells → IsLonger (take len (drop at (D.state from.old).bytes.seen))
-        (D.state to.old).bytes.seen (D.state to.new).bytes.seen copy.old) }
+    ensures extended { OnOk result (AddsPiece D.tells (take len (drop at (D.state from.old).bytes.seen)) len
+        (D.state to.old).bytes.seen (D.state to.new).bytes.seen (D.state to.new).told copy.old copy.new) }
     ensures veiled { IsTrue D.tells → IsVeiled (D.state to.old).bytes → IsVeiled (D.state to.new).bytes }
     ensures same { IsTrue D.tells → (D.state from.new).bytes ≡ (D.state from.old).bytes }
     ensures from { KeepsLength (D.state from.old).told (D.state from.new).told }
-    ensures begun { OnOk result (HasCopy (D.state to.new).told copy.new) }
     ensures stays { OnErr result (copy.new ≡ copy.old) }
-    ensures moved { OnOk result (IsSomeAnd copy.new
-        (λ file. IsSomeAnd copy.old (λ old. place_of file ≡ place_of old + len))) }
     ensures faults { CountsTwoAlone result
         (D.state from.old).faults (D.state from.new).faults (D.state to.old).faults (D.state to.new).faults }
 {
@@ -74,30 +67,19 @@ pub fn unveil_other<D: Disk>(
         ≡ settled_state (1 ∷ drop 1 (other_of in_a (D.state a.old).bytes (D.state b.old).bytes).seen)) }
 
     // The file that this leaves, where it has a head of a greater generation.
-    ensures images { OnOk result (IsTrue D.tells
-        → IsCopying in_a (D.state a.old).bytes (D.state b.old).bytes
-        → (new : List ℕ) → 1 ∷ drop 1 (other_of in_a (D.state a.old).bytes (D.state b.old).bytes).seen ≡ new
-        → HasHead new
-        → generation_of (open_of in_a (D.state a.old).bytes (D.state b.old).bytes).seen < generation_of new
+    ensures images { OnOk result (IsTrue D.tells → (new : List ℕ)
+        → IsNewer in_a new (D.state a.old).bytes (D.state b.old).bytes
         → AllOpenTo (not in_a) new (D.state a.new).bytes (D.state b.new).bytes) }
-    ensures images_err { OnErr result (IsTrue D.tells
-        → IsCopying in_a (D.state a.old).bytes (D.state b.old).bytes
-        → (new : List ℕ) → 1 ∷ drop 1 (other_of in_a (D.state a.old).bytes (D.state b.old).bytes).seen ≡ new
-        → HasHead new
-        → generation_of (open_of in_a (D.state a.old).bytes (D.state b.old).bytes).seen < generation_of new
+    ensures images_err { OnErr result (IsTrue D.tells → (new : List ℕ)
+        → IsNewer in_a new (D.state a.old).bytes (D.state b.old).bytes
         → AllOpenToEither in_a (open_of in_a (D.state a.old).bytes (D.state b.old).bytes).seen new
         (D.state a.new).bytes (D.state b.new).bytes) }
 
-    ensures other { IsTrue D.tells → open_of in_a (D.state a.new).bytes (D.state b.new).bytes
-        ≡ open_of in_a (D.state a.old).bytes (D.state b.old).bytes }
     ensures same { copy.new ≡ copy.old }
     ensures told { OnOk result (HasCopy
         (other_of in_a (D.state a.new).told (D.state b.new).told) copy.new) }
-    ensures from { KeepsLength
-        (open_of in_a (D.state a.old).told (D.state b.old).told)
-        (open_of in_a (D.state a.new).told (D.state b.new).told) }
-    ensures faults { CountsTwoAlone result
-        (D.state a.old).faults (D.state a.new).faults (D.state b.old).faults (D.state b.new).faults }
+    ensures kept { KeepsOpen D.tells result in_a
+        (D.state a.old) (D.state b.old) (D.state a.new) (D.state b.new) }
 {
     if in_a {
         unveil(copy, b)?;

@@ -1,10 +1,11 @@
 //! What is done to one of the two files.
 
-ghost use Rattle.std.specs.Prelude.{◌≡◌, ◌⊎◌, ◌+◌, [], ◌∷◌, ℕ, List, Some, length, IsTrue, IsSomeAnd, IfOk, OnOk};
+ghost use Rattle.std.specs.Prelude.{◌≡◌, ◌⊎◌, ◌+◌, [], ◌∷◌, ℕ, List, Some, length, IsTrue, IfOk, OnOk};
 ghost use Rattle.block_file.specs.File.{IsSettled, IsVeiled, whole_file};
 ghost use Rattle.block_file.specs.Head.{CountsAlone, IsShut, front_of};
-ghost use Rattle.block_file.specs.Place.{place_of};
+ghost use Rattle.block_file.specs.FileView.{gate_of};
 ghost use Rattle.ledger_disk.specs.Disk.{MayLeave, settled_state};
+ghost use Rattle.twin_file.specs.Calls.{IsBegun};
 ghost use Rattle.twin_file.specs.Images.{KeepsPassed};
 ghost use Rattle.twin_file.specs.Places.{HasTail};
 
@@ -13,12 +14,10 @@ use ledger_disk::Disk;
 
 /// Begins a file of this generation behind a shut gate.
 pub fn begin<D: Disk>(disk: &mut D, generation: u64, base: &[u8]) -> Result<BlockFile, FileErr>
-    ensures seen { OnOk result (IsTrue D.tells
-        → (D.state disk.new).bytes.seen ≡ whole_file (front_of 0 generation base.now) []) }
+    ensures begun { IfOk result (λ file. IsBegun D.tells generation base.now
+        (D.state disk.new).bytes (D.state disk.new).told (Some file)) }
     ensures veiled { OnOk result (IsTrue D.tells → IsVeiled (D.state disk.new).bytes) }
     ensures images { IsTrue D.tells → KeepsPassed (D.state disk.old).bytes (D.state disk.new).bytes }
-    ensures place { IfOk result (λ file. place_of file ≡ 64 + length base.now) }
-    ensures told { IfOk result (HasTail (D.state disk.new).told) }
     ensures faults { CountsAlone result (D.state disk.old).faults (D.state disk.new).faults }
 {
     BlockFile::start(disk)?;
@@ -57,7 +56,7 @@ pub fn make_first<D: Disk>(disk: &mut D, block: &[u8]) -> Result<BlockFile, File
     ensures images { IsTrue D.tells → IsSettled (D.state disk.old).bytes → IsShut (D.state disk.old).bytes.seen
         → (image : List ℕ) → MayLeave (D.state disk.new).bytes image
         → IsShut image ⊎ (image ≡ whole_file (front_of 1 1 []) (block.now ∷ [])) }
-    ensures place { IfOk result (λ file. place_of file ≡ 65 + length block.now) }
+    ensures place { IfOk result (λ file. gate_of file ≡ 65 + length block.now) }
     ensures told { IfOk result (HasTail (D.state disk.new).told) }
     ensures faults { CountsAlone result (D.state disk.old).faults (D.state disk.new).faults }
 {

@@ -1,11 +1,12 @@
-ghost use Rattle.std.specs.Prelude.{◌≡◌, ◌≢◌, ◌⊎◌, ◌+◌, ◌≤◌, ◌++◌, [], ◌∷◌, ℕ, Bool, List, None, Some, true, not, IsSome, option_map, length, take, drop, IsTrue, IfSome, IsSomeAnd, IfOk, IfErr, OnOk, OnErr};
-ghost use Rattle.block_file.specs.File.{IsSettled, whole_file, open_blocks};
-ghost use Rattle.block_file.specs.Head.{Counts, CountsTwo, CountsTwoAlone, IsResumeErr, front_of, number_at};
-ghost use Rattle.block_file.specs.Place.{place_of, base_len_of};
+ghost use Rattle.std.specs.Prelude.{◌≡◌, ◌≢◌, ◌⊎◌, ◌+◌, ◌≤◌, [], ◌∷◌, ℕ, Bool, List, None, Some, true, IsSome, option_map, length, take, drop, IsTrue, IfSome, IsSomeAnd, IfOk, IfErr, OnOk, OnErr};
+ghost use Rattle.block_file.specs.File.{IsSettled, whole_file};
+ghost use Rattle.block_file.specs.Head.{Counts, CountsTwoAlone, IsResumeErr, front_of, number_at};
+ghost use Rattle.block_file.specs.FileView.{gate_of, base_len_of};
 ghost use Rattle.ledger_disk.specs.Disk.{MayLeave, settled_state, KeepsLength};
-ghost use Rattle.twin_file.specs.Images.{AllOpenTo, AllOpenToEither, AllShut, AreShut, IsCopied, IsCopying, IsMadeOrShut, IsQuiet, StaysOpen, KeepsPassed};
+ghost use Rattle.twin_file.specs.Calls.{AreRead, IsAtFirst, IsBegun, AddsPiece, IsHalfSwitched, IsSwitched, KeepsOpen, SparesOpen, StaysCopying, TakesOver};
+ghost use Rattle.twin_file.specs.Images.{AreShut, IsCopying, IsMadeOrShut, IsQuiet};
 ghost use Rattle.twin_file.specs.Picking.{IsReopened, view};
-ghost use Rattle.twin_file.specs.Places.{HasCopy, HasTail, IsBuilt, IsBuiltCopy, IsLonger};
+ghost use Rattle.twin_file.specs.Places.{HasCopy, HasTail, IsBuilt, IsBuiltCopy};
 ghost use Rattle.twin_file.specs.Twin.{open_of, other_of, OpensTo, IsReopenErr, next_generation};
 ghost use Rattle.twin_file.specs.Which.{in_a_of, generation_in, file_of, copy_of, view_of, SameOpen};
 
@@ -49,17 +50,10 @@ impl Twin {
             → OpensTo in_a file (D.state a.old).bytes.seen (D.state b.old).bytes.seen
             → (e ≡ FileErr.DiskFault) ⊎ IsResumeErr file (number_at 18 file) e) }
 
-        ensures begins { IfOk result (λ found. IfSome found (λ twin.
-            place_of (file_of twin) ≡ 64 + base_len_of (file_of twin))) }
-        ensures copy { IfOk result (λ found. IfSome found (λ twin. copy_of twin ≡ None)) }
-        ensures told { IfOk result (λ found. IfSome found (λ twin. HasTail
-            (open_of (in_a_of twin) (D.state a.new).told (D.state b.new).told) (file_of twin))) }
-        ensures state_a { IsTrue D.tells → (D.state a.new).bytes ≡ (D.state a.old).bytes }
-        ensures state_b { IsTrue D.tells → (D.state b.new).bytes ≡ (D.state b.old).bytes }
-        ensures length_a { KeepsLength (D.state a.old).told (D.state a.new).told }
-        ensures length_b { KeepsLength (D.state b.old).told (D.state b.new).told }
-        ensures faults { CountsTwo result
-            (D.state a.old).faults (D.state a.new).faults (D.state b.old).faults (D.state b.new).faults }
+        ensures first { IfOk result (λ found.
+            IfSome found (IsAtFirst (D.state a.new).told (D.state b.new).told)) }
+        ensures read { AreRead D.tells result
+            (D.state a.old) (D.state b.old) (D.state a.new) (D.state b.new) }
     {
         look(a, b)
     }
@@ -82,7 +76,7 @@ impl Twin {
             → IsQuiet true (D.state a.new).bytes (D.state b.new).bytes) }
 
         ensures twin { IfOk result (λ twin. (in_a_of twin ≡ true) × (generation_in twin ≡ 1)
-            × (place_of (file_of twin) ≡ 65 + length block.now) × (copy_of twin ≡ None)) }
+            × (gate_of (file_of twin) ≡ 65 + length block.now) × (copy_of twin ≡ None)) }
         ensures built { IfOk result (λ twin. IsTrue D.tells
             → IsBuilt (front_of 1 1 []) (block.now ∷ []) (D.state a.new).bytes.seen (file_of twin)) }
         ensures told { IfOk result (λ twin. HasTail (D.state a.new).told (file_of twin)) }
@@ -126,36 +120,20 @@ impl Twin {
     /// was begun before is given up.
     pub fn begin_copy<D: Disk>(&mut self, a: &mut D, b: &mut D, base: &[u8]) -> Result<(), FileErr>
         // A crash at any time leaves the open file as it was, and a file that is passed over.
-        ensures images { IsTrue D.tells → StaysOpen (in_a_of self.old)
+        ensures images { IsTrue D.tells → SparesOpen (in_a_of self.old)
             (D.state a.old).bytes (D.state b.old).bytes (D.state a.new).bytes (D.state b.new).bytes }
-        ensures passed { IsTrue D.tells → KeepsPassed
-            (other_of (in_a_of self.old) (D.state a.old).bytes (D.state b.old).bytes)
-            (other_of (in_a_of self.old) (D.state a.new).bytes (D.state b.new).bytes) }
 
         // From then on the copy is shut in every image.
-        ensures shut { OnOk result (IsTrue D.tells
-            → AllShut (other_of (in_a_of self.old) (D.state a.new).bytes (D.state b.new).bytes)) }
+        ensures begun { OnOk result (IsBegun D.tells (next_generation (generation_in self.old)) base.now
+            (other_of (in_a_of self.old) (D.state a.new).bytes (D.state b.new).bytes)
+            (other_of (in_a_of self.old) (D.state a.new).told (D.state b.new).told) (copy_of self.new)) }
         ensures copying { OnOk result (IsTrue D.tells
             → IsQuiet (in_a_of self.old) (D.state a.old).bytes (D.state b.old).bytes
             → IsCopying (in_a_of self.old) (D.state a.new).bytes (D.state b.new).bytes) }
-        ensures seen { OnOk result (IsTrue D.tells
-            → IsBuiltCopy (front_of 0 (next_generation (generation_in self.old)) base.now) []
-            (other_of (in_a_of self.old) (D.state a.new).bytes (D.state b.new).bytes).seen
-            (copy_of self.new)) }
-
-        ensures begun { OnOk result (IsSomeAnd (copy_of self.new)
-            (λ copy. (place_of copy ≡ 64 + length base.now)
-            × HasTail (other_of (in_a_of self.old) (D.state a.new).told (D.state b.new).told)
-            copy)) }
         ensures given_up { OnErr result (copy_of self.new ≡ None) }
         ensures which { SameOpen self.old self.new }
-        ensures same { IsTrue D.tells → open_of (in_a_of self.old) (D.state a.new).bytes (D.state b.new).bytes
-            ≡ open_of (in_a_of self.old) (D.state a.old).bytes (D.state b.old).bytes }
-        ensures from { KeepsLength
-            (open_of (in_a_of self.old) (D.state a.old).told (D.state b.old).told)
-            (open_of (in_a_of self.old) (D.state a.new).told (D.state b.new).told) }
-        ensures faults { CountsTwoAlone result
-            (D.state a.old).faults (D.state a.new).faults (D.state b.old).faults (D.state b.new).faults }
+        ensures kept { KeepsOpen D.tells result (in_a_of self.old)
+            (D.state a.old) (D.state b.old) (D.state a.new) (D.state b.new) }
     {
         let generation = self.generation.saturating_add(1);
         self.copy = None;
@@ -182,57 +160,28 @@ impl Twin {
         requires begun { HasCopy
             (other_of (in_a_of self.old) (D.state a.old).told (D.state b.old).told)
             (copy_of self.old) }
-        ensures seen { OnOk result (IsTrue D.tells → (front : List ℕ) (blocks more : List (List ℕ))
-            → IsBuiltCopy front blocks
-            (other_of (in_a_of self.old) (D.state a.old).bytes (D.state b.old).bytes).seen
-            (copy_of self.old)
-            → take len (drop at (open_of (in_a_of self.old) (D.state a.old).bytes (D.state b.old).bytes).seen)
-            ≡ open_blocks more
-            → IsBuiltCopy front (blocks ++ more)
-            (other_of (in_a_of self.old) (D.state a.new).bytes (D.state b.new).bytes).seen
-            (copy_of self.new)) }
-
-        // .. whatever bytes they are.
-        ensures longer { OnOk result (IsTrue D.tells → IsLonger
-            (take len (drop at (open_of (in_a_of self.old) (D.state a.old).bytes (D.state b.old).bytes).seen))
+        ensures extended { OnOk result (AddsPiece D.tells
+            (take len (drop at (open_of (in_a_of self.old) (D.state a.old).bytes (D.state b.old).bytes).seen)) len
             (other_of (in_a_of self.old) (D.state a.old).bytes (D.state b.old).bytes).seen
             (other_of (in_a_of self.old) (D.state a.new).bytes (D.state b.new).bytes).seen
-            (copy_of self.old)) }
+            (other_of (in_a_of self.old) (D.state a.new).told (D.state b.new).told)
+            (copy_of self.old) (copy_of self.new)) }
 
-        // The copy stays shut in every image, however much of it was written.
-        ensures shut { IsTrue D.tells
-            → IsCopying (in_a_of self.old) (D.state a.old).bytes (D.state b.old).bytes
-            → AllShut (other_of (in_a_of self.old) (D.state a.new).bytes (D.state b.new).bytes) }
+        // A crash meanwhile leaves the open file, and the copy shut.
         ensures copying { IsTrue D.tells
             → IsCopying (in_a_of self.old) (D.state a.old).bytes (D.state b.old).bytes
-            → IsCopying (in_a_of self.old) (D.state a.new).bytes (D.state b.new).bytes }
-        ensures images { IsTrue D.tells
-            → IsCopying (in_a_of self.old) (D.state a.old).bytes (D.state b.old).bytes
-            → AllOpenTo (in_a_of self.old)
-            (open_of (in_a_of self.old) (D.state a.old).bytes (D.state b.old).bytes).seen
-            (D.state a.new).bytes (D.state b.new).bytes }
-
-        ensures begun { OnOk result (HasCopy
-            (other_of (in_a_of self.old) (D.state a.new).told (D.state b.new).told)
-            (copy_of self.new)) }
-        ensures moved { OnOk result (IsSomeAnd (copy_of self.new)
-            (λ copy. IsSomeAnd (copy_of self.old) (λ old. place_of copy ≡ place_of old + len))) }
+            → StaysCopying (in_a_of self.old)
+            (D.state a.old).bytes (D.state b.old).bytes (D.state a.new).bytes (D.state b.new).bytes }
         ensures stays { OnErr result (self.new ≡ self.old) }
         ensures which { SameOpen self.old self.new }
-        ensures same { IsTrue D.tells → open_of (in_a_of self.old) (D.state a.new).bytes (D.state b.new).bytes
-            ≡ open_of (in_a_of self.old) (D.state a.old).bytes (D.state b.old).bytes }
-        ensures from { KeepsLength
-            (open_of (in_a_of self.old) (D.state a.old).told (D.state b.old).told)
-            (open_of (in_a_of self.old) (D.state a.new).told (D.state b.new).told) }
-        ensures faults { CountsTwoAlone result
-            (D.state a.old).faults (D.state a.new).faults (D.state b.old).faults (D.state b.new).faults }
+        ensures kept { KeepsOpen D.tells result (in_a_of self.old)
+            (D.state a.old) (D.state b.old) (D.state a.new) (D.state b.new) }
     {
         if self.in_a {
-            extend(&mut self.copy, b, a, at, len)?;
+            extend(&mut self.copy, b, a, at, len)
         } else {
-            extend(&mut self.copy, a, b, at, len)?;
+            extend(&mut self.copy, a, b, at, len)
         }
-        Ok(())
     }
 
     /// Opens the copy, which becomes the open file.
@@ -240,35 +189,14 @@ impl Twin {
         requires begun { HasCopy
             (other_of (in_a_of self.old) (D.state a.old).told (D.state b.old).told)
             (copy_of self.old) }
-        ensures ok { OnOk result (IsTrue D.tells
-            → other_of (in_a_of self.old) (D.state a.new).bytes (D.state b.new).bytes
-            ≡ settled_state (1 ∷ drop 1
-            (other_of (in_a_of self.old) (D.state a.old).bytes (D.state b.old).bytes).seen)) }
-
         // After it every image opens to the new file. A crash in it leaves a pair that opens to the old file or to
         // the new one.
-        ensures images { OnOk result (IsTrue D.tells
-            → (generation : ℕ) (base : List ℕ) (blocks : List (List ℕ))
-            → IsCopied (in_a_of self.old) generation base blocks (D.state a.old).bytes (D.state b.old).bytes
-            → AllOpenTo (not (in_a_of self.old)) (whole_file (front_of 1 generation base) blocks)
-            (D.state a.new).bytes (D.state b.new).bytes) }
-        ensures images_err { OnErr result (IsTrue D.tells
-            → (generation : ℕ) (base : List ℕ) (blocks : List (List ℕ))
-            → IsCopied (in_a_of self.old) generation base blocks (D.state a.old).bytes (D.state b.old).bytes
-            → AllOpenToEither (in_a_of self.old)
-            (open_of (in_a_of self.old) (D.state a.old).bytes (D.state b.old).bytes).seen
-            (whole_file (front_of 1 generation base) blocks) (D.state a.new).bytes (D.state b.new).bytes) }
+        ensures switched { OnOk result (IsTrue D.tells → IsSwitched (in_a_of self.old)
+            (D.state a.old).bytes (D.state b.old).bytes (D.state a.new).bytes (D.state b.new).bytes) }
+        ensures images_err { OnErr result (IsTrue D.tells → IsHalfSwitched (in_a_of self.old)
+            (D.state a.old).bytes (D.state b.old).bytes (D.state a.new).bytes (D.state b.new).bytes) }
 
-        // After it nothing is pending.
-        ensures quiet { OnOk result (IsTrue D.tells
-            → (generation : ℕ) (base : List ℕ) (blocks : List (List ℕ))
-            → IsCopied (in_a_of self.old) generation base blocks (D.state a.old).bytes (D.state b.old).bytes
-            → IsQuiet (not (in_a_of self.old)) (D.state a.new).bytes (D.state b.new).bytes) }
-
-        ensures which { OnOk result ((in_a_of self.new ≡ not (in_a_of self.old))
-            × (generation_in self.new ≡ next_generation (generation_in self.old))
-            × (copy_of self.new ≡ None)) }
-        ensures file { OnOk result (copy_of self.old ≡ Some (file_of self.new)) }
+        ensures which { OnOk result (TakesOver self.old self.new) }
         ensures built { OnOk result (IsTrue D.tells
             → (generation : ℕ) (base : List ℕ) (blocks : List (List ℕ))
             → IsBuiltCopy (front_of 0 generation base) blocks
@@ -281,13 +209,8 @@ impl Twin {
         ensures told { OnOk result (HasTail
             (other_of (in_a_of self.old) (D.state a.new).told (D.state b.new).told)
             (file_of self.new)) }
-        ensures same { IsTrue D.tells → open_of (in_a_of self.old) (D.state a.new).bytes (D.state b.new).bytes
-            ≡ open_of (in_a_of self.old) (D.state a.old).bytes (D.state b.old).bytes }
-        ensures from { KeepsLength
-            (open_of (in_a_of self.old) (D.state a.old).told (D.state b.old).told)
-            (open_of (in_a_of self.old) (D.state a.new).told (D.state b.new).told) }
-        ensures faults { CountsTwoAlone result
-            (D.state a.old).faults (D.state a.new).faults (D.state b.old).faults (D.state b.new).faults }
+        ensures kept { KeepsOpen D.tells result (in_a_of self.old)
+            (D.state a.old) (D.state b.old) (D.state a.new) (D.state b.new) }
     {
         unveil_other(self.in_a, &mut self.copy, a, b)?;
         self.take_over();
@@ -297,10 +220,7 @@ impl Twin {
     // The copy becomes the open file.
     fn take_over(&mut self)
         requires { IsSome (copy_of self.old) }
-        ensures which { (in_a_of self.new ≡ not (in_a_of self.old))
-            × (generation_in self.new ≡ next_generation (generation_in self.old))
-            × (copy_of self.new ≡ None) }
-        ensures file { copy_of self.old ≡ Some (file_of self.new) }
+        ensures { TakesOver self.old self.new }
     {
         if let Some(file) = self.copy.take() {
             self.file = file;
@@ -315,11 +235,8 @@ impl Twin {
             → other_of (in_a_of self.old) (D.state a.new).bytes (D.state b.new).bytes ≡ settled_state []) }
 
         // A crash at any time leaves the open file as it was, and a file that is passed over.
-        ensures images { IsTrue D.tells → StaysOpen (in_a_of self.old)
+        ensures images { IsTrue D.tells → SparesOpen (in_a_of self.old)
             (D.state a.old).bytes (D.state b.old).bytes (D.state a.new).bytes (D.state b.new).bytes }
-        ensures passed { IsTrue D.tells → KeepsPassed
-            (other_of (in_a_of self.old) (D.state a.old).bytes (D.state b.old).bytes)
-            (other_of (in_a_of self.old) (D.state a.new).bytes (D.state b.new).bytes) }
 
         // After it nothing is pending.
         ensures quiet { OnOk result (IsTrue D.tells
@@ -328,13 +245,8 @@ impl Twin {
 
         ensures which { SameOpen self.old self.new }
         ensures given_up { copy_of self.new ≡ None }
-        ensures same { IsTrue D.tells → open_of (in_a_of self.old) (D.state a.new).bytes (D.state b.new).bytes
-            ≡ open_of (in_a_of self.old) (D.state a.old).bytes (D.state b.old).bytes }
-        ensures from { KeepsLength
-            (open_of (in_a_of self.old) (D.state a.old).told (D.state b.old).told)
-            (open_of (in_a_of self.old) (D.state a.new).told (D.state b.new).told) }
-        ensures faults { CountsTwoAlone result
-            (D.state a.old).faults (D.state a.new).faults (D.state b.old).faults (D.state b.new).faults }
+        ensures kept { KeepsOpen D.tells result (in_a_of self.old)
+            (D.state a.old) (D.state b.old) (D.state a.new) (D.state b.new) }
     {
         self.copy = None;
         if self.in_a {
@@ -353,17 +265,10 @@ fn look<D: Disk>(a: &mut D, b: &mut D) -> Result<Option<Twin>, FileErr>
     ensures err { IfErr result (λ e. IsTrue D.tells
         → IsReopenErr (D.state a.old).bytes.seen (D.state b.old).bytes.seen e) }
     ensures only { IfErr result (λ e. e ≢ FileErr.NoMemory) }
-    ensures begins { IfOk result (λ found. IfSome found (λ twin.
-        place_of (file_of twin) ≡ 64 + base_len_of (file_of twin))) }
-    ensures copy { IfOk result (λ found. IfSome found (λ twin. copy_of twin ≡ None)) }
-    ensures told { IfOk result (λ found. IfSome found (λ twin. HasTail
-        (open_of (in_a_of twin) (D.state a.new).told (D.state b.new).told) (file_of twin))) }
-    ensures state_a { IsTrue D.tells → (D.state a.new).bytes ≡ (D.state a.old).bytes }
-    ensures state_b { IsTrue D.tells → (D.state b.new).bytes ≡ (D.state b.old).bytes }
-    ensures length_a { KeepsLength (D.state a.old).told (D.state a.new).told }
-    ensures length_b { KeepsLength (D.state b.old).told (D.state b.new).told }
-    ensures faults { CountsTwo result
-        (D.state a.old).faults (D.state a.new).faults (D.state b.old).faults (D.state b.new).faults }
+    ensures first { IfOk result (λ found.
+        IfSome found (IsAtFirst (D.state a.new).told (D.state b.new).told)) }
+    ensures read { AreRead D.tells result
+        (D.state a.old) (D.state b.old) (D.state a.new) (D.state b.new) }
 {
     let first = BlockFile::head(a)?;
     let second = BlockFile::head(b)?;
@@ -386,7 +291,7 @@ fn resume<D: Disk>(disk: &mut D, head: &FileHead, in_a: bool) -> Result<Option<T
         (λ twin. view_of twin ≡ view in_a head.now.generation (64 + head.now.base_len)
         head.now.base_len head.now.base_digest.0)) }
     ensures begins { IfOk result (λ found. IfSome found (λ twin.
-        place_of (file_of twin) ≡ 64 + base_len_of (file_of twin))) }
+        gate_of (file_of twin) ≡ 64 + base_len_of (file_of twin))) }
     ensures copy { IfOk result (λ found. IfSome found (λ twin. copy_of twin ≡ None)) }
     ensures err { IfErr result (λ e. IsTrue D.tells
         → IsResumeErr (D.state disk.old).bytes.seen head.now.base_len e) }

@@ -1,11 +1,10 @@
-use Rattle.std.proofs.Common.{inl, inr, [], ◌∷◌, List, ℕ, ◌∙◌, ap, sym, subst, drop}
+use Rattle.std.proofs.Common.{inl, inr, [], ◌∷◌, List, ℕ, ◌∙◌, ap, subst, drop}
 use Rattle.ledger_disk.specs.Disk.{State, MayLeave, settled_state}
 use Rattle.ledger_disk.proofs.Guarding.{settled_image}
 use Rattle.block_file.specs.File.{whole_file}
 use Rattle.block_file.specs.Head.{front_of}
 use Rattle.block_file.proofs.VeilLaws.{veiled_gate}
 use Rattle.twin_file.proofs.OpenLaws.{shut_kept}
-use Rattle.twin_file.proofs.HeadLaws.{tail_size}
 use Rattle.twin_file.proofs.parts.make_first.Goals as goal
 
 pub returns-in_err-file-clause-images : goal.returns-in_err-file-clause-images
@@ -16,7 +15,7 @@ returns-in_err-put_block-clause-images g c told quiet shut image left = inl (inr
 
 pub returns-in_err-unveil-clause-images : goal.returns-in_err-unveil-clause-images
 returns-in_err-unveil-clause-images g c told quiet shut image left =
-    let seen = c.in_ok-put_block.ensures.seen told (front_of 0 1 []) [] (c.in_ok-file.ensures.seen told) (tail_size 0 1 [] ∙ sym c.in_ok-file.ensures.place) in
+    let seen = c.in_ok-put_block.ensures.seen told (front_of 0 1 []) [] (c.in_ok-file.ensures.begun.seen told).seen (c.in_ok-file.ensures.begun.seen told).ends in
     let veiled = c.put_block.ensures.veiled told (c.in_ok-file.ensures.veiled told) in
     elim (c.in_err-unveil.ensures.err told veiled image left) [
       | inl shut ↦ inl (inr shut)
@@ -25,11 +24,11 @@ returns-in_err-unveil-clause-images g c told quiet shut image left =
 
 pub returns-clause-ok : goal.returns-clause-ok
 returns-clause-ok g c told =
-    let seen = c.in_ok-put_block.ensures.seen told (front_of 0 1 []) [] (c.in_ok-file.ensures.seen told) (tail_size 0 1 [] ∙ sym c.in_ok-file.ensures.place) in
+    let seen = c.in_ok-put_block.ensures.seen told (front_of 0 1 []) [] (c.in_ok-file.ensures.begun.seen told).seen (c.in_ok-file.ensures.begun.seen told).ends in
     c.in_ok-unveil.ensures.ok told ∙ ap (λ (l : List ℕ). settled_state (1 ∷ drop 1 l)) seen
 
 pub returns-clause-images : goal.returns-clause-images
 returns-clause-images g c told quiet shut image left =
-    let seen = c.in_ok-put_block.ensures.seen told (front_of 0 1 []) [] (c.in_ok-file.ensures.seen told) (tail_size 0 1 [] ∙ sym c.in_ok-file.ensures.place) in
+    let seen = c.in_ok-put_block.ensures.seen told (front_of 0 1 []) [] (c.in_ok-file.ensures.begun.seen told).seen (c.in_ok-file.ensures.begun.seen told).ends in
     let now = c.in_ok-unveil.ensures.ok told ∙ ap (λ (l : List ℕ). settled_state (1 ∷ drop 1 l)) seen in
     inr (settled_image (whole_file (front_of 1 1 []) (c.args.block.now ∷ [])) image (subst (λ (s : State). MayLeave s image) now left))

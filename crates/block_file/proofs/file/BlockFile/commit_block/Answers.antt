@@ -1,3 +1,4 @@
+use Rattle.std.specs.Prelude.{IsTrue}
 use Rattle.std.proofs.Common.{sym, subst, ap, refl, ◌∙◌, inl, take, drop, ◌≡◌, ◌+◌, ◌∷◌, ◌++◌, [], arith}
 use Rattle.ledger_disk.specs.Disk.{State, MayLeave, settled_state, overlay}
 use Rattle.ledger_disk.proofs.Guarding.{settled_image}
@@ -18,48 +19,22 @@ returns-in_err-open_gate-clause-err g c = on_err c.from_residual-in_err-open_gat
     (torn.1 ∙ ap (λ (s : State). take c.args.self.now.at s.seen ++ torn.0 ∷ drop (c.args.self.now.at + 1) s.seen) is))
 
 pub returns-clause-ok : goal.returns-clause-ok
-returns-clause-ok g c told front blocks stands place =
+returns-clause-ok g c =
     let at = c.args.self.now.at in
-    let is = c.in_ok-stage.ensures.ok told in
-    let last = c.in_ok-open_gate.ensures.ok told in
-    let seen : (g.D.Disk.state c.open_gate.new.disk).bytes.seen ≡ take at (staged_file at c.args.block.now (g.D.Disk.state c.args.disk.now).bytes.seen) ++ 1 ∷ drop (at + 1) (staged_file at c.args.block.now (g.D.Disk.state c.args.disk.now).bytes.seen) =
-    ap (λ (s : State). s.seen) last ∙ ap (λ (s : State). overlay at (1 ∷ []) s.seen) is ∙ gate_over at _ in
-    record { nothing_pending = last ∙ ap (λ (s : State). settled_state s.seen) (sym last); stands = with_block front blocks _ at stands place c.args.block.now _ seen }
-
-pub returns-clause-gate : goal.returns-clause-gate
-returns-clause-gate g c told =
-    let at = c.args.self.now.at in
-    let is = c.in_ok-stage.ensures.ok told in
-    let last = c.in_ok-open_gate.ensures.ok told in
-    let seen : (g.D.Disk.state c.open_gate.new.disk).bytes.seen ≡ take at (staged_file at c.args.block.now (g.D.Disk.state c.args.disk.now).bytes.seen) ++ 1 ∷ drop (at + 1) (staged_file at c.args.block.now (g.D.Disk.state c.args.disk.now).bytes.seen) =
-    ap (λ (s : State). s.seen) last ∙ ap (λ (s : State). overlay at (1 ∷ []) s.seen) is ∙ gate_over at _ in
-    shut_after at c.args.block.now _ _ (c.requires.gate told) seen
+    let block = c.args.block.now in
+    let old = (g.D.Disk.state c.args.disk.now).bytes in
+    let new = (g.D.Disk.state c.open_gate.new.disk).bytes in
+    let seen : IsTrue g.D.Disk.tells → new.seen ≡ take at (staged_file at block old.seen) ++ 1 ∷ drop (at + 1) (staged_file at block old.seen) =
+    λ told. ap (λ (s : State). s.seen) (c.in_ok-open_gate.ensures.ok told) ∙ ap (λ (s : State). overlay at (1 ∷ []) s.seen) (c.in_ok-stage.ensures.ok told) ∙ gate_over at _ in
+    let pending : IsTrue g.D.Disk.tells → IsSettled new =
+    λ told. c.in_ok-open_gate.ensures.ok told ∙ ap (λ (s : State). settled_state s.seen) (sym (c.in_ok-open_gate.ensures.ok told)) in
+    record {
+      has = λ told front blocks stands place. record { nothing_pending = pending told; stands = with_block front blocks _ at stands place block _ (seen told) };
+      images = λ told front blocks stands place image left. with_block front blocks _ at stands place block image (settled_image _ image (subst (λ (s : State). MayLeave s image) (pending told) left) ∙ seen told);
+      gate = λ told. shut_after at block _ _ (c.requires.gate told) (seen told);
+      head = λ told. front_stays 64 at block _ _ (omega (arith, c.args.self.now.behind)) (c.requires.gate told) (seen told);
+      ends = λ told size. ends_after at block _ _ size (seen told);
+    }
 
 pub returns-clause-length : goal.returns-clause-length
 returns-clause-length g c = c.in_ok-open_gate.ensures.told _ c.in_ok-stage.ensures.told
-
-pub returns-clause-images : goal.returns-clause-images
-returns-clause-images g c told front blocks stands place image left =
-    let at = c.args.self.now.at in
-    let is = c.in_ok-stage.ensures.ok told in
-    let last = c.in_ok-open_gate.ensures.ok told in
-    let read : image ≡ overlay at (1 ∷ []) (g.D.Disk.state c.stage.new.disk).bytes.seen = settled_image _ image (subst (λ (s : State). MayLeave s image) last left) in
-    with_block front blocks _ at stands place c.args.block.now image (read ∙ ap (λ (s : State). overlay at (1 ∷ []) s.seen) is ∙ gate_over at _)
-
-pub returns-clause-ends : goal.returns-clause-ends
-returns-clause-ends g c told ends =
-    let at = c.args.self.now.at in
-    let is = c.in_ok-stage.ensures.ok told in
-    let last = c.in_ok-open_gate.ensures.ok told in
-    let seen : (g.D.Disk.state c.open_gate.new.disk).bytes.seen ≡ take at (staged_file at c.args.block.now (g.D.Disk.state c.args.disk.now).bytes.seen) ++ 1 ∷ drop (at + 1) (staged_file at c.args.block.now (g.D.Disk.state c.args.disk.now).bytes.seen) =
-    ap (λ (s : State). s.seen) last ∙ ap (λ (s : State). overlay at (1 ∷ []) s.seen) is ∙ gate_over at _ in
-    ends_after at c.args.block.now _ _ ends seen
-
-pub returns-clause-head : goal.returns-clause-head
-returns-clause-head g c told =
-    let at = c.args.self.now.at in
-    let is = c.in_ok-stage.ensures.ok told in
-    let last = c.in_ok-open_gate.ensures.ok told in
-    let seen : (g.D.Disk.state c.open_gate.new.disk).bytes.seen ≡ take at (staged_file at c.args.block.now (g.D.Disk.state c.args.disk.now).bytes.seen) ++ 1 ∷ drop (at + 1) (staged_file at c.args.block.now (g.D.Disk.state c.args.disk.now).bytes.seen) =
-    ap (λ (s : State). s.seen) last ∙ ap (λ (s : State). overlay at (1 ∷ []) s.seen) is ∙ gate_over at _ in
-    front_stays 64 at c.args.block.now _ _ (omega (arith, c.args.self.now.behind)) (c.requires.gate told) seen

@@ -3,18 +3,18 @@ use Rattle.std.specs.Prelude.{◌≡◌, ℕ, List}
 use Rattle.block_file.specs.declared.file.BlockFile.{BlockFile}
 
 -- where the gate of the next block stands
-abbrev pub place_of : BlockFile → ℕ
-place_of file = file.at
+abbrev pub gate_of : BlockFile → ℕ
+gate_of file = file.at
 
--- the length of its base
+-- how long the base of an open file is
 abbrev pub base_len_of : BlockFile → ℕ
 base_len_of file = file.base_len
 
--- the digest of its base
+-- the digest that the head of an open file names for its base
 abbrev pub base_digest_of : BlockFile → List ℕ
 base_digest_of file = file.base_digest.0
 
--- it has the same base as before
+-- an open file has the same base as before
 pub record KeepsBase (old new : BlockFile) : Type 0 where
   pub len : base_len_of new ≡ base_len_of old
   pub digest : base_digest_of new ≡ base_digest_of old

@@ -1,0 +1,40 @@
+-- What a commit does to a file, and the clearing of a range.
+use Rattle.std.specs.Prelude.{◌≡◌, ◌⊎◌, ℕ, ◌+◌, List, [], ◌∷◌, ◌++◌, length, take, replicate, Bool, IsTrue}
+use Rattle.ledger_disk.specs.Disk.{State, MayLeave}
+use Rattle.ledger_disk.specs.Guards.{Outside}
+use Rattle.block_file.specs.File.{IsFileOf, HasBlock, IsSettled, IsShutAt, tail_of, with_content}
+use Rattle.block_file.specs.FileView.{gate_of}
+use Rattle.block_file.specs.declared.file.BlockFile.{BlockFile}
+
+-- This block was added behind the tail gate, and each image has it. The file's head stays.
+pub record AddsBlock (tells : Bool) (file file_new : BlockFile) (block : List ℕ) (old new : State) : Type 0 where
+  pub has : IsTrue tells → (front : List ℕ) (blocks : List (List ℕ)) → IsFileOf front blocks old.seen → tail_of front blocks ≡ gate_of file
+      → HasBlock front blocks block new
+  pub images : IsTrue tells → (front : List ℕ) (blocks : List (List ℕ)) → IsFileOf front blocks old.seen → tail_of front blocks ≡ gate_of file
+      → (image : List ℕ) → MayLeave new image → IsFileOf front (blocks ++ block ∷ []) image
+  pub gate : IsTrue tells → IsShutAt (gate_of file_new) new.seen
+  pub head : IsTrue tells → take 64 new.seen ≡ take 64 old.seen
+  -- a file that ended with its tail gate ends with its new one
+  pub ends : IsTrue tells → length old.seen ≡ gate_of file + 1 → length new.seen ≡ gate_of file_new + 1
+
+-- where nothing was pending, an image has the block whole or not at all
+abbrev pub MayAddBlock : ℕ → List ℕ → State → State → Type 0
+MayAddBlock at block old new =
+    IsSettled old → (front : List ℕ) (blocks : List (List ℕ)) → IsFileOf front blocks old.seen → tail_of front blocks ≡ at
+    → (image : List ℕ) → MayLeave new image → IsFileOf front blocks image ⊎ IsFileOf front (blocks ++ block ∷ []) image
+
+-- where this range is a content in a block, that content is zeros, and all else stands
+abbrev pub ZerosContent : ℕ → ℕ → State → State → Type 0
+ZerosContent at len old new =
+    (front : List ℕ) (before after : List (List ℕ)) (head rest content : List ℕ)
+    → IsFileOf front (with_content before after head rest content) old.seen → tail_of front before + 1 + length head ≡ at → length content ≡ len
+    → IsFileOf front (with_content before after head rest (replicate len 0)) new.seen
+
+-- all but this range reads as before, and is so in each image where nothing was pending
+pub record KeepsOutside (at len : ℕ) (old new : State) : Type 0 where
+  pub seen : Outside at len old.seen new.seen
+  pub images : IsSettled old → (image : List ℕ) → MayLeave new image → Outside at len old.seen image
+  -- where the range is a content in a block, a crash leaves the same blocks, but for that content
+  pub kept : IsSettled old → (front : List ℕ) (before after : List (List ℕ)) (head rest content : List ℕ)
+      → IsFileOf front (with_content before after head rest content) old.seen → tail_of front before + 1 + length head ≡ at → length content ≡ len
+      → (image : List ℕ) → MayLeave new image → (other : List ℕ) × (length other ≡ len) × IsFileOf front (with_content before after head rest other) image
