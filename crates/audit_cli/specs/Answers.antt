@@ -17,7 +17,7 @@ use Rattle.audit_cli.specs.declared.reply.Reply.{Reply}
 use Rattle.audit_cli.specs.declared.reply.Reply.TheVariants as reply
 use Rattle.audit_cli.specs.Grammar.{line_of}
 
--- the reply where this stands against a head, or nothing does
+-- the reply to a head that is to be trusted: no where this stands against it, and yes where nothing does
 abbrev pub trust_reply : Option No → Reply
 trust_reply None = reply.Yes
 trust_reply (Some why) = reply.No why
@@ -28,7 +28,7 @@ RepliesTo (Ok done) result = result ≡ Ok reply.Yes
 RepliesTo (Err (trust_err.No why)) result = result ≡ Ok (reply.No why)
 RepliesTo (Err trust_err.NoMemory) result = IfOk result (λ reply. ⊥)
 
--- the reply where a proof is accepted, or isn't
+-- the reply to a proof: yes where it is accepted, and no where it isn't
 abbrev pub verdict : Result (Unit {0}) No → Reply
 verdict (Ok done) = reply.Yes
 verdict (Err why) = reply.No why
@@ -48,7 +48,7 @@ reply_to hash trust (Ok (Check claim proof)) = verdict (acceptance hash proof cl
 reply_to hash trust (Ok (Judge id headers entries claim proof)) = judge_reply (judgement hash (lists_of id headers entries) proof claim)
 reply_to hash trust (Err refusal) = reply.Refused refusal
 
--- the second where nothing stands against it, else the first
+-- what is trusted afterwards: the second where nothing stands against it, and else the first
 abbrev pub unless_refused : Option No → Trust → Trust → Trust
 unless_refused None old new = new
 unless_refused (Some why) old new = old
@@ -63,10 +63,10 @@ trust_behind hash trust (Ok (Check claim proof)) = trust
 trust_behind hash trust (Ok (Judge id headers entries claim proof)) = trust
 trust_behind hash trust (Err refusal) = trust
 
--- the reply to a line
+-- the reply to a line, also to one that can't be read
 abbrev pub answer_to : Hash → Trust → List ℕ → Reply
 answer_to hash trust line = reply_to hash trust (line_of line)
 
--- what is trusted after a line
+-- what is trusted after a line, also after one that can't be read
 abbrev pub trust_after : Hash → Trust → List ℕ → Trust
 trust_after hash trust line = trust_behind hash trust (line_of line)

@@ -29,7 +29,7 @@ trust_notary_at fields = do
   end ← end_at root.1
   Ok (TrustNotary (record { size = size.0; root = root.0 }))
 
--- a head of one of the two
+-- a head of one of the two trees that is to be trusted
 abbrev pub trust_of : Which → UnreadFields → Result Line Refusal
 trust_of Ledger fields = trust_ledger_at fields
 trust_of Notary fields = trust_notary_at fields
@@ -40,8 +40,8 @@ trust_at fields = do
   which ← field_at which_of fields
   trust_of which.0 which.1
 
--- a head that is to be trusted since it goes on from a trusted one: which tree it is of, the trusted size, the size and the
--- root, and the bytes of the proof, which are as many as a line has room for
+-- what the fields behind `extend` say, a head that is to be trusted since it goes on from a trusted one: which tree it is of,
+-- the trusted size, the size and the root, and the bytes of the proof, as many as a line has room for
 unfoldable pub extend_at : UnreadFields → Result Line Refusal
 extend_at fields = do
   which ← field_at which_of fields
@@ -52,8 +52,8 @@ extend_at fields = do
   end ← end_at proof.1
   Ok (Extend which.0 m.0 (record { size = size.0; root = root.0 }) proof.0)
 
--- a proof that is to be checked: a journal's number, its leaf digest, the marks in front of it and behind it, and the
--- proof's bytes, which are as many as a line has room for
+-- what the fields behind `check` say, a proof that is to be checked: a journal's number, its leaf digest, the marks in front of
+-- it and behind it, and the proof's bytes, as many as a line has room for
 unfoldable pub check_at : UnreadFields → Result Line Refusal
 check_at fields = do
   n ← field_at (number_of (2 ^ 64 - 1)) fields
@@ -73,8 +73,8 @@ pieces_from width (Some bytes) = if length bytes % width == 0 then Some bytes el
 abbrev pub pieces_of : ℕ → List ℕ → Option (List ℕ)
 pieces_of width text = pieces_from width (bytes_of line_limit text)
 
--- a proof that is to be judged by the whole lists: the ledger's id, the headers of all its journals, all entries of its
--- notary, a claim as `check` has it, and the proof's bytes
+-- what the fields behind `judge` say, a proof that is to be judged by the whole lists: the ledger's id, the headers of all its
+-- journals, all entries of its notary, a claim as `check` has it, and the proof's bytes
 unfoldable pub judge_at : UnreadFields → Result Line Refusal
 judge_at fields = do
   id ← field_at digest_of fields
@@ -88,7 +88,7 @@ judge_at fields = do
   end ← end_at proof.1
   Ok (Judge id.0 headers.0 entries.0 (record { n = n.0; leaf = leaf.0; lo = lo.0; hi = hi.0 }) proof.0)
 
--- a line by its verb and the fields behind that
+-- what a line asks for, by its verb and the fields behind that
 abbrev pub verb_at : List ℕ → UnreadFields → Result Line Refusal
 verb_at verb fields =
     if bytes_eq verb (codes "trust") then trust_at fields
@@ -97,7 +97,7 @@ verb_at verb fields =
     else if bytes_eq verb (codes "judge") then judge_at fields
     else Err BadVerb
 
--- a line by all its fields, of which the first is the verb
+-- what a line asks for, by all its fields, of which the first is the verb
 unfoldable pub line_at : UnreadFields → Result Line Refusal
 line_at fields = do
   verb ← field_at text_of fields
@@ -109,9 +109,6 @@ line_of line = line_at (fields_of line)
 
 -- what a line asks to be judged can be: its lists are whole headers and whole entries
 abbrev pub IsFit : Line → Type 0
-IsFit (TrustLedger id head) = ⊤
-IsFit (TrustNotary head) = ⊤
-IsFit (Extend which m head proof) = ⊤
-IsFit (Check claim proof) = ⊤
 IsFit (Judge id headers entries claim proof) =
     (length headers % 174 ≡ 0) × (length entries % 72 ≡ 0)
+IsFit other = ⊤

@@ -23,7 +23,7 @@ no_words BadExtension = decimal 43 ∷ []
 no_words (HeadDiffers kept) = decimal 44 ∷ hex_of kept ∷ []
 no_words HeadsFull = decimal 45 ∷ []
 
--- the words of a reply
+-- the words of a reply behind its line's number
 abbrev pub reply_words : Reply → List (List ℕ)
 reply_words reply.Yes = codes "yes" ∷ []
 reply_words (reply.No why) = codes "no" ∷ no_words why
@@ -32,7 +32,7 @@ reply_words (reply.Unaccepted why) = codes "unaccepted" ∷ no_words why
 reply_words (reply.Clash told truth) = codes "clash" ∷ hex_or_dash told ∷ hex_or_dash truth ∷ []
 reply_words (reply.Refused refusal) = codes "no" ∷ refusal_words refusal
 
--- the text that answers the line with this number
+-- the line by which the line with this number is answered
 abbrev pub reply_text : ℕ → Reply → List ℕ
 reply_text number reply = decimal number ++ spaced_words (reply_words reply) ++ codes "\n"
 

@@ -15,11 +15,11 @@ pub record AnswersScript (hash : Hash) (lines : List (List ℕ)) (replies : List
   pub text : replies ≡ audit_text hash lines
   pub sound : IsSoundText hash lines replies
 
--- a script from its first line to its ending: everything but the last line
+-- what a run over a script did from its first line to its ending: everything but the last line
 abbrev pub ServedScript : Hash → Ending → Outside → Outside → Type 0
 ServedScript hash ending before after = Served (AnswersScript hash) ending before after
 
--- a run of what was asked for, to its exit status
+-- what a run of the program did, to its exit status
 pub record RanProgram (hash : Hash) (asked : Option Command) (status : ℕ) (before after : Outside) : Type 0 where
   pub ending : Ending
   pub status_is : status ≡ status_of ending

@@ -49,14 +49,14 @@ ScriptLeads hash lines text which m old [] size root = (m ≡ size) × (old ≡ 
 ScriptLeads hash lines text which m old (e ∷ es) size root =
     Extends hash lines text which e size root × ScriptLeads hash lines text which m old es e.m e.old
 
--- they lead from the trusted root of a size to the list's own head; where there are none that is the trusted one
+-- extensions lead from the trusted root of a size to the list's own head; where there are none that is the trusted one
 pub record IsLed (hash : Hash) (lines : List (List ℕ)) (text : List ℕ) (which : Which) (trust : Trust) (size : ℕ) (extensions : List Extension) (list : List (List ℕ)) : Type 0 where
   pub root : Digest
   pub trusted : root_of which trust size ≡ Some root
   pub leads : ScriptLeads hash lines text which size root.0 extensions (length list) (mth hash list)
 
--- they lead from the heads that a proof names to those of the lists of the ledger with the trusted id, and where the proof
--- has a bound of its notary
+-- the script's extensions lead from the heads that a proof names to those of the lists: of the ledger with the trusted id, and
+-- where the proof has a bound of its notary
 pub record AreLed (hash : Hash) (lines : List (List ℕ)) (text : List ℕ) (trust : Trust) (p : Shown) (ledger notary : List Extension) (lists : Lists) : Type 0 where
   pub id : trust.id ≡ Some lists.id
   pub headers : IsLed hash lines text Ledger trust p.size ledger lists.headers

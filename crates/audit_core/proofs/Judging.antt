@@ -19,7 +19,7 @@ use Rattle.audit_core.specs.declared.refusal.No.TheVariants.{Malformed}
 use Rattle.audit_core.specs.declared.verdict.Verdict.{Verdict}
 use Rattle.audit_core.specs.declared.verdict.Verdict.TheVariants.{Unaccepted, True, Clash as Clashing}
 use Rattle.audit_core.specs.Bounds.{IsLowerBound, IsUpperBound}
-use Rattle.audit_core.specs.Acceptance.{place_of, acceptance_of, acceptance_under, acceptance_by}
+use Rattle.audit_core.specs.Acceptance.{break_of, acceptance_of, acceptance_under, acceptance_by}
 use Rattle.audit_core.specs.Truth.{Lists, HasJournal, IsTrueOf}
 use Rattle.audit_core.specs.Parts.{first_of_parts, parts_of, ShownGives}
 use Rattle.audit_core.specs.Deciding.{is_true}
@@ -133,7 +133,7 @@ pub unbounded_true : (hash : Hash) (lists : Lists) (claim : Claim) → claim.lo 
 unbounded_true hash lists claim lower upper it = record { journal = it; lower = rw lower tt; upper = rw upper tt }
 
 module _ (hash : Hash) (lists : Lists) (bytes : List ℕ) (claim : Claim) (fits : IsBytes bytes) where
-  pub unread : (bad : Bad) (at : ℕ) → Err bad ≡ proof_of bytes → at ≡ place_of bad → own_acceptance hash lists bytes claim ≡ Err (Malformed at)
+  pub unread : (bad : Bad) (at : ℕ) → Err bad ≡ proof_of bytes → at ≡ break_of bad → own_acceptance hash lists bytes claim ≡ Err (Malformed at)
   unfolding acceptance_by
   unread bad at read is = ap (acceptance_of hash claim (own_ledger hash lists) (own_notary hash lists)) (sym read) ∙ ap (λ n. Err (Malformed n)) (sym is)
 

@@ -19,28 +19,31 @@ use Rattle.audit_core.specs.Trust.{Trust, root_of, ledger_at}
 use Rattle.audit_core.specs.Leading.{path_leads}
 use Rattle.audit_core.specs.Bounds.{lower_leads, upper_leads, lower_noted, upper_noted, in_order, IsLowerBound, IsUpperBound}
 
--- where bytes break that spell no proof; bytes that are too long break behind the last that may be there
-abbrev pub place_of : Bad → ℕ
-place_of (Short at) = at
-place_of (Trailing at) = at
-place_of (BadFixedField at) = at
-place_of TooLong = 8192
+-- the place at which bytes that spell no proof break, as it is told; bytes that are too long break behind the last that may
+-- be there
+abbrev pub break_of : Bad → ℕ
+break_of (Short at) = at
+break_of (Trailing at) = at
+break_of (BadFixedField at) = at
+break_of TooLong = 8192
 -- nothing in a proof breaks so
-place_of (BadKind found) = 0
-place_of (NewerFormat found) = 0
+break_of (BadKind found) = 0
+break_of (NewerFormat found) = 0
 
--- are two bounds the same?
+-- whether two bounds are the same, or both are none
 abbrev pub same_bound : Option TimeMark → Option TimeMark → Bool
 same_bound None None = true
 same_bound (Some a) (Some b) = (a.jsn == b.jsn) && (a.index == b.index) && (a.time == b.time)
 same_bound (Some a) None = false
 same_bound None (Some b) = false
 
--- are two claims the same?
+-- whether two claims are the same: journal, leaf digest and both bounds
 abbrev pub same_claim : Claim → Claim → Bool
 same_claim a b = (a.n == b.n) && bytes_eq a.leaf.0 b.leaf.0 && same_bound a.lo b.lo && same_bound a.hi b.hi
 
--- what has to hold, in this order, and what is answered where it doesn't
+-- What has to hold of a proof, in its order, with what is answered where it doesn't: 1. It is of this claim. 2. Its leaf
+-- leads to the ledger's root. 3. The bound in front leads there. 4. The bound behind does. 5. The entry of the first leads
+-- to the notary's root. 6. The entry of the second does. 7. Their times don't cross.
 abbrev pub rows : Hash → Claim → Shown → KnownLedger → Option Digest → List (Bool × No)
 rows hash claim p ledger notary =
     (same_claim (claim_of p) claim, ClaimDiffers)
@@ -52,37 +55,37 @@ rows hash claim p ledger notary =
     ∷ (in_order p.lo p.hi, TimesCross)
     ∷ []
 
--- the answer of the first row that doesn't hold
+-- the answer by rows: that of the first that doesn't hold, and else yes
 abbrev pub first_failing : List (Bool × No) → Result (Unit {0}) No
 first_failing [] = Ok tt
 first_failing (row ∷ rows) = if row.0 then first_failing rows else Err row.1
 
--- is a bound there, and no head of the notary for it?
+-- whether a proof has a bound, and no head of the notary is known for it
 abbrev pub is_unnoted : Shown → Option Digest → Bool
 is_unnoted p None = is_bounded p.lo p.hi
 is_unnoted p (Some notary) = false
 
--- of a proof, where this is known of the ledger at its size, and this root of the notary
+-- the answer to a proof that was read, where this is known of the ledger at its size, and this root of the notary at its own
 abbrev pub acceptance_under : Hash → Claim → Shown → Option KnownLedger → Option Digest → Result (Unit {0}) No
 acceptance_under hash claim p None notary = Err (HeadUnknown p.size)
 acceptance_under hash claim p (Some ledger) notary =
     if is_unnoted p notary then Err (HeadUnknown p.notary_size) else first_failing (rows hash claim p ledger notary)
 
--- of what the bytes are read as, where this is known of ledger and notary by their sizes
+-- the answer to what bytes are read as, where this is known of ledger and notary by their sizes
 abbrev pub acceptance_of : Hash → Claim → (ℕ → Option KnownLedger) → (ℕ → Option Digest) → Result Shown Bad → Result (Unit {0}) No
-acceptance_of hash claim ledgers notaries (Err bad) = Err (Malformed (place_of bad))
+acceptance_of hash claim ledgers notaries (Err bad) = Err (Malformed (break_of bad))
 acceptance_of hash claim ledgers notaries (Ok p) = acceptance_under hash claim p (ledgers p.size) (notaries p.notary_size)
 
 -- what an auditor answers to the bytes of a proof and a claim, where this is known of ledger and notary by their sizes
 unfoldable pub acceptance_by : Hash → List ℕ → Claim → (ℕ → Option KnownLedger) → (ℕ → Option Digest) → Result (Unit {0}) No
 acceptance_by hash bytes claim ledgers notaries = acceptance_of hash claim ledgers notaries (proof_of bytes)
 
--- what an auditor answers under what is trusted
+-- what an auditor answers to the bytes of a proof and a claim under what is trusted
 abbrev pub acceptance : Hash → List ℕ → Claim → Trust → Result (Unit {0}) No
 acceptance hash bytes claim trust = acceptance_by hash bytes claim (ledger_at trust) (root_of Notary trust)
 
--- the bytes spell a proof of this very claim, whose leaf leads along its path to the ledger's root of its size, and whose
--- bounds lead there and to the notary's root and don't cross
+-- The bytes spell a proof of this very claim, whose leaf leads along its path to the ledger's root of its size, and whose
+-- bounds lead there and to the notary's root and don't cross: when the answer is yes.
 pub record IsAcceptedBy (hash : Hash) (bytes : List ℕ) (claim : Claim) (ledgers : ℕ → Option KnownLedger) (notaries : ℕ → Option Digest) : Type 0 where
   pub proof : Shown
   pub is_proof : IsProof proof
@@ -95,6 +98,6 @@ pub record IsAcceptedBy (hash : Hash) (bytes : List ℕ) (claim : Claim) (ledger
   pub upper : IfSome proof.hi (IsUpperBound hash ledger (notaries proof.notary_size) proof)
   pub order : (l : ShownLower) (u : ShownUpper) → proof.lo ≡ Some l → proof.hi ≡ Some u → (lower_mark l).time ≤ u.mark.time
 
--- the same under what is trusted
+-- the bytes of a proof are accepted under what is trusted
 abbrev pub IsAccepted : Hash → List ℕ → Claim → Trust → Type 0
 IsAccepted hash bytes claim trust = IsAcceptedBy hash bytes claim (ledger_at trust) (root_of Notary trust)

@@ -12,7 +12,8 @@ use Rattle.proof_codec.specs.Claims.{lower_mark}
 use Rattle.audit_core.specs.declared.known.KnownLedger.{KnownLedger}
 use Rattle.audit_core.specs.Leading.{path_leads, proof_leads}
 
--- the time journal in front stands before the journal in the ledger, and the ledger goes on from what is in front of it
+-- whether the time journal in front stands before the journal in the ledger, and the ledger goes on from what is in front of
+-- it
 abbrev pub lower_leads : Hash → KnownLedger → Shown → Option ShownLower → Bool
 lower_leads hash ledger p None = true
 lower_leads hash ledger p (Some l) =
@@ -20,7 +21,7 @@ lower_leads hash ledger p (Some l) =
     && path_leads hash ledger.root (leaf hash (headers.spelling l.header)) (lower_mark l).jsn p.size l.path
     && proof_leads hash ledger.root (lower_mark l).jsn l.root p.size l.ext
 
--- the journal is one of the first m of the ledger, for the number m of the time journal behind
+-- whether the journal is one of those in front of the time journal behind, from which the ledger goes on
 abbrev pub upper_leads : Hash → KnownLedger → Shown → Option ShownUpper → Bool
 upper_leads hash ledger p None = true
 upper_leads hash ledger p (Some u) =
@@ -31,24 +32,25 @@ upper_leads hash ledger p (Some u) =
 abbrev pub noted_entry : Hash → Digest → TimeMark → List ℕ → Digest → List ℕ
 noted_entry hash id mark root salt = entry_of mark.time (hash (peg_string id.0 mark.jsn root)) salt.0
 
--- does this lead to the notary's root, which is to be known?
+-- whether the entry for a mark leads along a path to the notary's root; not where that isn't known
 abbrev pub is_noted : Hash → KnownLedger → Option Digest → ℕ → TimeMark → Digest → Digest → List ℕ → Bool
 is_noted hash ledger None size mark root salt path = false
 is_noted hash ledger (Some notary) size mark root salt path =
     path_leads hash notary (leaf hash (noted_entry hash ledger.id mark root.0 salt)) mark.index size path
 
--- the entry of each bound does
+-- whether the notary has the entry of the bound in front, where there is one
 abbrev pub lower_noted : Hash → KnownLedger → Option Digest → Shown → Option ShownLower → Bool
 lower_noted hash ledger notary p None = true
 lower_noted hash ledger notary p (Some l) =
     is_noted hash ledger notary p.notary_size (lower_mark l) l.root l.header.link p.lo_path
 
+-- whether the notary has the entry of the bound behind, where there is one
 abbrev pub upper_noted : Hash → KnownLedger → Option Digest → Shown → Option ShownUpper → Bool
 upper_noted hash ledger notary p None = true
 upper_noted hash ledger notary p (Some u) =
     is_noted hash ledger notary p.notary_size u.mark u.root u.salt p.hi_path
 
--- the time in front isn't greater than the one behind
+-- whether the time in front isn't greater than the one behind, where both are there
 abbrev pub in_order : Option ShownLower → Option ShownUpper → Bool
 in_order None hi = true
 in_order (Some l) None = true
@@ -56,18 +58,22 @@ in_order (Some l) (Some u) = nat_le (lower_mark l).time u.mark.time
 
 -- ---- the same, as facts
 
--- the notary's entry for a mark stands in its tree
+-- the notary's entry for a mark leads to its root, which is known
 pub record IsNoted (hash : Hash) (ledger : KnownLedger) (notary : Option Digest) (size : ℕ) (mark : TimeMark) (root salt : Digest) (path : List ℕ) : Type 0 where
   pub kept : Digest
   pub trusted : notary ≡ Some kept
   pub leads : fold_bytes hash (leaf hash (noted_entry hash ledger.id mark root.0 salt)) mark.index size path ≡ Some kept.0
 
+-- the bound in front of a proof's journal is one: it stands in the ledger, the ledger goes on from in front of it, and the
+-- notary has its entry
 pub record IsLowerBound (hash : Hash) (ledger : KnownLedger) (notary : Option Digest) (p : Shown) (l : ShownLower) : Type 0 where
   pub before : (lower_mark l).jsn < p.n
   pub stands : fold_bytes hash (leaf hash (headers.spelling l.header)) (lower_mark l).jsn p.size l.path ≡ Some ledger.root.0
   pub extends : fold_proof_bytes hash (lower_mark l).jsn l.root.0 p.size l.ext ≡ Some ledger.root.0
   pub noted : IsNoted hash ledger notary p.notary_size (lower_mark l) l.root l.header.link p.lo_path
 
+-- the bound behind a proof's journal is one: the ledger goes on from the journals in front of it, of which this is one, and
+-- the notary has its entry
 pub record IsUpperBound (hash : Hash) (ledger : KnownLedger) (notary : Option Digest) (p : Shown) (u : ShownUpper) : Type 0 where
   pub after : p.n < u.mark.jsn
   pub extends : fold_proof_bytes hash u.mark.jsn u.root.0 p.size u.ext ≡ Some ledger.root.0

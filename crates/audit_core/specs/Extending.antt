@@ -18,19 +18,20 @@ digests_refusal bytes =
     else if length bytes % 32 == 0 then None
     else Some (Malformed (length bytes))
 
--- why they don't lead from the trusted root of the first m, where there is one, to a head
+-- why digests don't lead to a head from the root that is trusted for the first m: none is trusted, or they lead elsewhere
 abbrev pub leading_refusal : Hash → ℕ → Head → List ℕ → Option Digest → Option No
 leading_refusal hash m head bytes None = Some (HeadUnknown m)
 leading_refusal hash m head bytes (Some old) =
     if proof_leads hash head.root m old head.size bytes then None else Some BadExtension
 
--- why an extension isn't accepted; last, another root of the new size is trusted
+-- Why an extension isn't accepted, in this order: 1. Its bytes are no digests. 2. No head of size m is trusted. 3. The
+-- digests don't lead from that one to the new head. 4. Another root of the new size is trusted.
 abbrev pub extension_refusal : Hash → Which → ℕ → Head → List ℕ → Trust → Option No
 extension_refusal hash which m head bytes trust =
     option_or (digests_refusal bytes)
     (option_or (leading_refusal hash m head bytes (root_of which trust m)) (digest_fault (root_of which trust head.size) head.root None))
 
--- yes where nothing stands against it
+-- yes, unless something stands against it
 abbrev pub unless : Option No → Result (Unit {0}) No
 unless None = Ok tt
 unless (Some why) = Err why

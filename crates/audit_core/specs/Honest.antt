@@ -23,7 +23,8 @@ pub record IsHonest (hash : Hash) (lists : Lists) (moments : List ℕ) : Type 0 
       → get_or lists.headers j [] ≡ headers.spelling header → header.a < length lists.entries → time < 2 ^ 64
       → get_or lists.entries header.a [] ≡ entry_of time peg header.link.0 → time ≤ get_or moments j 0
 
--- the bounds of a claim are moments: its journal was placed not before the time in front and not after the time behind
+-- The bounds of a claim are moments: its journal was placed not before the time in front and not after the time behind.
+-- `honest_bounds_are_moments` says that they are where the claim is true and the notary honest.
 pub record AreMoments (moments : List ℕ) (claim : Claim) : Type 0 where
   pub lower : IfSome claim.lo (λ mark. mark.time ≤ get_or moments claim.n 0)
   pub upper : IfSome claim.hi (λ mark. get_or moments claim.n 0 ≤ mark.time)

@@ -15,11 +15,11 @@ pub record Lists : Type 0 where
   pub headers : List (List ℕ)
   pub entries : List (List ℕ)
 
--- the same from flat bytes, 174 for each header and 72 for each entry
+-- a ledger's id with its lists, cut from flat bytes: 174 for each header and 72 for each entry
 abbrev pub lists_of : Digest → List ℕ → List ℕ → Lists
 lists_of id headers entries = record { id = id; headers = cut 174 headers; entries = cut 72 entries }
 
--- the ledger has a journal n, with this digest of its leaf
+-- the ledger has a journal n, with this leaf digest
 pub record HasJournal (hash : Hash) (lists : Lists) (n : ℕ) (digest : Digest) : Type 0 where
   pub within : n < length lists.headers
   pub leaf_is : leaf hash (get_or lists.headers n []) ≡ digest.0
@@ -41,13 +41,14 @@ pub record IsLowerOf (hash : Hash) (lists : Lists) (n : ℕ) (mark : TimeMark) :
   pub time : header.b ≡ mark.time
   pub noted : HasEntry hash lists mark header.link
 
--- an upper bound of it: the notary's entry for the first journals, of which it is one
+-- a mark is an upper bound of journal n: the notary has an entry for the journals in front of the mark, of which it is one
 pub record IsUpperOf (hash : Hash) (lists : Lists) (n : ℕ) (mark : TimeMark) : Type 0 where
   pub after : n < mark.jsn
   pub salt : Digest
   pub noted : HasEntry hash lists mark salt
 
--- a claim is true of the lists; without bounds it speaks of the headers alone
+-- A claim is true of the lists; without bounds it speaks of the headers alone. It stays true when the lists grow
+-- (`claims_stay_true`).
 pub record IsTrueOf (hash : Hash) (lists : Lists) (claim : Claim) : Type 0 where
   pub journal : HasJournal hash lists claim.n claim.leaf
   pub lower : IfSome claim.lo (IsLowerOf hash lists claim.n)

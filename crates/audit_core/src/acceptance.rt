@@ -1,7 +1,7 @@
 ghost use Rattle.std.specs.Prelude.{◌≡◌, ◌↔◌, IsOk};
 ghost use Rattle.proof_codec.specs.Claims.{claim_of};
 ghost use Rattle.proof_codec.specs.Reading.{IsBreak};
-ghost use Rattle.audit_core.specs.Acceptance.{place_of, same_claim, is_unnoted, acceptance_under, acceptance, IsAccepted};
+ghost use Rattle.audit_core.specs.Acceptance.{break_of, same_claim, is_unnoted, acceptance_under, acceptance, IsAccepted};
 
 use crate::bounds::{in_order, lower_leads, lower_noted, upper_leads, upper_noted};
 use crate::known::KnownLedger;
@@ -40,16 +40,16 @@ fn answer_of<H: TreeHash>(proof: &[u8], claim: &Claim, heads: &Heads) -> Result<
 {
     let proof = match Proof::decode(proof) {
         Ok(proof) => proof,
-        Err(bad) => return Err(No::Malformed { at: place_of(bad) }),
+        Err(bad) => return Err(No::Malformed { at: break_of(bad) }),
     };
     let notary = heads.root_of(Which::Notary, proof.notary_size);
     accept_under::<H>(&proof, claim, heads.ledger_at(proof.size), notary)
 }
 
 // Where bytes break that spell no proof.
-pub(crate) fn place_of(bad: Bad) -> u64
+pub(crate) fn break_of(bad: Bad) -> u64
     requires { IsBreak bad }
-    ensures { result ≡ place_of bad }
+    ensures { result ≡ break_of bad }
 {
     match bad {
         Bad::Short { at } | Bad::Trailing { at } | Bad::BadFixedField { at } => at,

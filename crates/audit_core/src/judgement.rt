@@ -10,7 +10,7 @@ ghost use Rattle.audit_core.specs.Parts.{first_of_parts, parts_of, ShownGives, I
 ghost use Rattle.audit_core.specs.Honest.{IsHonest, AreMoments};
 ghost use Rattle.audit_core.specs.Judgement.{own_root, own_ledger, own_notary, own_acceptance, IsAcceptedByOwn, clash_of, judgement, told_by, Judges, JudgesShown};
 
-use crate::acceptance::{accept_under, place_of};
+use crate::acceptance::{accept_under, break_of};
 use crate::known::KnownLedger;
 use crate::parts::first_clash;
 use crate::pieces::piece_count;
@@ -77,7 +77,7 @@ fn verdict_of<H: TreeHash>(
 {
     match Proof::decode(proof) {
         Ok(shown) => judge_shown::<H>(id, headers, entries, &shown, claim),
-        Err(bad) => Verdict::Unaccepted(No::Malformed { at: place_of(bad) }),
+        Err(bad) => Verdict::Unaccepted(No::Malformed { at: break_of(bad) }),
     }
 }
 

@@ -11,7 +11,7 @@ use Rattle.ledger_bytes.specs.declared.digest.Digest.{Digest}
 use Rattle.ledger_bytes.specs.declared.limits.TheConstants.{APPROVAL_LIMIT, CONTENT_LIMIT, PROOF_LIMIT}
 use Rattle.ledger_bytes.specs.declared.refusal.Refusal.{Refusal}
 use Rattle.journal_record.specs.Entry.{Entry}
-use Rattle.journal_record.specs.Header.{spelling}
+use Rattle.journal_record.specs.Header.{spelling, HasWidths}
 use Rattle.journal_record.specs.declared.approval.Approval.{Approval}
 use Rattle.journal_record.specs.declared.header.Header.{Header}
 use Rattle.journal_record.specs.declared.header.Kind.{Kind}
@@ -29,15 +29,17 @@ use Rattle.ledger_book.proofs.JudgeLaws.{first_one, hard_not}
 use Rattle.ledger_model.specs.Lawful.{gathers}
 use Rattle.ledger_model.specs.Limits.{AreWithin}
 use Rattle.ledger_model.specs.Outcomes as outcomes
-use Rattle.ledger_model.specs.Outcomes.{placed_journal, with_waiting, after_judgement, placed_as, accepted_outcome, judged_outcome}
+use Rattle.ledger_model.specs.Outcomes.{placed_journal, with_waiting, after_judgement, placed_as, placed_with, accepted_outcome, judged_outcome}
 use Rattle.ledger_model.specs.declared.job.Job.{Job}
 use Rattle.ledger_model.specs.declared.job.Job.TheVariants.{Append, NewMember, Anchor, Occult}
 use Rattle.ledger_model.specs.declared.limits.Limits.{Limits}
+use Rattle.ledger_model.specs.declared.outcome.Outcome.{Outcome}
 use Rattle.ledger_model.specs.declared.outcome.Outcome.TheVariants.{Refused, Placed, Reading}
+use Rattle.ledger_model.specs.declared.outcome.PlacedJournal.{PlacedJournal}
 use Rattle.ledger_model.specs.declared.outcome.Query.{Query}
 use Rattle.ledger_model.proofs.AcceptedLaws.{record_next, member_next, occult_next, time_next}
 use Rattle.ledger_book.specs.Books.{Kept, Stands, Serves}
-use Rattle.ledger_book.specs.Steps.{Applies, IsSame, MayPlace, IsLeafOf, HasOperatorRoom}
+use Rattle.ledger_book.specs.Steps.{Anchors, Applies, IsSame, MayPlace, IsLeafOf, HasOperatorRoom, PlacesNothing}
 
 -- a refusal changes nothing
 pub applies_refused : (limits : Limits) (stamp : Option Stamp) (h : History) (job : Job) (refusal : Refusal) (k : Kept) → own_refusal limits h job ≡ Some refusal → Serves k h → Applies limits stamp h job (Refused refusal) k
@@ -45,16 +47,21 @@ unfolding outcomes.outcome outcomes.with_job
 applies_refused limits stamp h job refusal k is s = record {
   outcome_is = sym (ap (λ r. judged_outcome r (accepted_outcome h stamp job)) is);
   serves = subst (Serves k) (sym (ap (λ r. after_judgement r (placed_journal h stamp job) h) is)) s;
+  widths = λ p journal no _. absurd (let never : ⊥ = cc no in never);
 }
 
--- an accepted job places its journal
-pub applies_placed : (limits : Limits) (stamp : Option Stamp) (h : History) (job : Job) (j : Entry) (jsn : ℕ) (tip : Digest) (k : Kept) → own_refusal limits h job ≡ None → placed_journal h stamp job ≡ Some j
-    → accepted_outcome h stamp job ≡ placed_as (size h) j → jsn ≡ size h → tip.0 ≡ leaf_digest j → Serves k (with_waiting (Some j) h) → Applies limits stamp h job (Placed jsn tip) k
+-- an accepted job places its journal, of which this is told
+pub applies_placed : (limits : Limits) (stamp : Option Stamp) (h : History) (job : Job) (j : Entry) (header : Header) (placed : PlacedJournal) (k : Kept) → own_refusal limits h job ≡ None → placed_journal h stamp job ≡ Some j
+    → accepted_outcome h stamp job ≡ placed_as (size h) j → j.header ≡ header → placed.jsn ≡ size h → IsLeafOf header placed.leaf → placed.header ≡ spelling header → HasWidths header → Serves k (with_waiting (Some j) h) → Applies limits stamp h job (Placed placed) k
 unfolding outcomes.outcome outcomes.with_job
-applies_placed limits stamp h job j jsn tip k none is told at tip_is s = record {
-  outcome_is = ap (λ n. Placed n tip) at ∙ ap (λ d. Placed (size h) (digest d)) tip_is ∙ sym (ap (λ r. judged_outcome r (accepted_outcome h stamp job)) none ∙ told);
-  serves = subst (Serves k) (sym (ap (λ r. after_judgement r (placed_journal h stamp job) h) none ∙ ap (λ o. with_waiting o h) is)) s;
-}
+applies_placed limits stamp h job j header placed k none is told header_is at leaf_is bytes widths s =
+    let tip : placed.leaf.0 ≡ leaf_digest j = leaf_is ∙ ap (λ (x : Header). leaf sha256 (spelling x)) (sym header_is) in
+    let spelled : placed.header ≡ spelling j.header = bytes ∙ ap spelling (sym header_is) in
+    let made : placed ≡ placed_with (size h) j = λ i. record { jsn = at i; leaf = digest (tip i); header = spelled i } in record {
+      outcome_is = ap Placed made ∙ sym (ap (λ r. judged_outcome r (accepted_outcome h stamp job)) none ∙ told);
+      serves = subst (Serves k) (sym (ap (λ r. after_judgement r (placed_journal h stamp job) h) none ∙ ap (λ o. with_waiting o h) is)) s;
+      widths = λ p journal _ other. let same : j ≡ journal = cc (is, other) in subst HasWidths (sym header_is ∙ ap (λ (e : Entry). e.header) same) widths;
+    }
 
 -- .. or none
 pub applies_reading : (limits : Limits) (stamp : Option Stamp) (h : History) (job : Job) (query : Query) (k : Kept) → own_refusal limits h job ≡ None → placed_journal h stamp job ≡ None → accepted_outcome h stamp job ≡ Reading query
@@ -63,6 +70,7 @@ unfolding outcomes.outcome outcomes.with_job
 applies_reading limits stamp h job query k none is told s = record {
   outcome_is = sym (ap (λ r. judged_outcome r (accepted_outcome h stamp job)) none ∙ told);
   serves = subst (Serves k) (sym (ap (λ r. after_judgement r (placed_journal h stamp job) h) none ∙ ap (λ o. with_waiting o h) is)) s;
+  widths = λ p journal no _. absurd (let never : ⊥ = cc no in never);
 }
 
 -- the book still serves where its floor and its point are as they were
@@ -71,10 +79,6 @@ serves_after old new h g s same stands = record {
   stands = stands;
   seen = subst (λ n. new.floor ≤ n) (sym same.point) (subst (λ n. n ≤ old.point) (sym same.floor) s.seen);
 }
-
--- a leaf digest by the header of its journal
-pub leaf_is : (j : Entry) (header : Header) (tip : Digest) → j.header ≡ header → IsLeafOf header tip → tip.0 ≡ leaf_digest j
-leaf_is j header tip is told = told ∙ ap (λ (x : Header). leaf sha256 (spelling x)) (sym is)
 
 -- a record at its place
 module _ (h : History) (member : ℕ) (clue : Digest) (content : List ℕ) (content_digest request : Digest) (by : Approval) (header : Header) where
@@ -141,6 +145,10 @@ anchor_refused limits h refusal is = is ∙ first_one (hard_fullness limits h)
 -- .. so not where there is room by what is kept
 pub anchor_accepted : (k : Kept) (h : History) → Serves k h → HasOperatorRoom k → own_refusal k.limits h Anchor ≡ None
 anchor_accepted k h s room = sym (anchor_refused k.limits h None (hard_not k h (k.size - k.point) s refl room.0 room.1))
+
+-- where it asks for a stamp there is room
+pub asked_room : (old new : Kept) (o : Outcome) (q : Query) → Anchors old o → o ≡ Reading q → (PlacesNothing o → new ≡ old) → HasOperatorRoom new
+asked_room old new o q told is same = subst HasOperatorRoom (sym (same (subst PlacesNothing (sym is) tt))) (subst (Anchors old) is told)
 
 -- a record and a new member may share their block with others
 pub content_gathers : (jsn member : ℕ) (clue : Digest) (ordinal previous : ℕ) (content : List ℕ) (content_digest request : Digest) (by : Approval) (header : Header) → header ≡ append_header jsn member clue ordinal previous content content_digest request by → gathers header.kind ≡ true

@@ -9,10 +9,9 @@ use Rattle.journal_record.specs.declared.approval.Approval.{Approval}
 use Rattle.journal_record.specs.declared.header.Header.{Header}
 use Rattle.journal_record.specs.declared.header.Kind.{Kind}
 use Rattle.journal_record.specs.declared.header.Kind.TheVariants as kind
-use Rattle.journal_record.specs.declared.stamp.Stamp.{Stamp}
-use Rattle.ledger_model.specs.Anchors.{time_header}
-use Rattle.ledger_model.specs.Appends.{append_header, member_header, occult_header, purge_header}
+use Rattle.ledger_model.specs.Appends.{append_header, member_header}
 use Rattle.ledger_model.specs.Genesis.{founders_content, genesis_header}
+use Rattle.ledger_model.specs.Headers.{plain_header}
 use Rattle.ledger_model.specs.declared.genesis.Genesis.{Genesis}
 
 -- a header with these parts
@@ -48,31 +47,13 @@ record_is jsn member clue ordinal previous count content content_digest request 
     ap (λ x. header_with kind.Content jsn member clue ordinal previous 0 request count content_digest (digest x)) w
     ∙ ap (λ x. header_with kind.Content jsn member clue ordinal previous 0 request x content_digest (digest (who_digest_of (who_of (by ∷ []))))) (sym n)
 
-pub member_is : (jsn number a : ℕ) (key content who : Digest) (by : Approval) → a ≡ number → content.0 ≡ content_digest_of [] → who.0 ≡ who_digest_of (who_of (by ∷ []))
-    → header_with kind.Member jsn 0 zero_digest 0 0 a key 0 content who ≡ member_header jsn number key by
+pub plain_is : (k : Kind) (jsn a b : ℕ) (link content who_digest : Digest) (who : List ℕ) → content.0 ≡ content_digest_of [] → who_digest.0 ≡ who_digest_of who
+    → record (header_with k jsn 0 zero_digest 0 0 a link 0 content who_digest) { b = b } ≡ plain_header k jsn a b link who
+plain_is k jsn a b link content who_digest who c w =
+    ap (λ x. record (header_with k jsn 0 zero_digest 0 0 a link 0 (digest x) who_digest) { b = b }) c
+    ∙ ap (λ x. record (header_with k jsn 0 zero_digest 0 0 a link 0 (digest (content_digest_of [])) (digest x)) { b = b }) w
+
+-- the number of a new member as wide as the field
+pub member_is : (jsn number a : ℕ) (key : Digest) (by : Approval) (header : Header) → a ≡ number → header ≡ plain_header kind.Member jsn a 0 key (who_of (by ∷ [])) → header ≡ member_header jsn number key by
 unfolding member_header
-member_is jsn number a key content who by n c w =
-    ap (λ x. header_with kind.Member jsn 0 zero_digest 0 0 x key 0 content who) n
-    ∙ ap (λ x. header_with kind.Member jsn 0 zero_digest 0 0 number key 0 (digest x) who) c
-    ∙ ap (λ x. header_with kind.Member jsn 0 zero_digest 0 0 number key 0 (digest (content_digest_of [])) (digest x)) w
-
-pub occult_is : (jsn target : ℕ) (leaf content who : Digest) (given : List Approval) → content.0 ≡ content_digest_of [] → who.0 ≡ who_digest_of (who_of given)
-    → header_with kind.Occult jsn 0 zero_digest 0 0 target leaf 0 content who ≡ occult_header jsn target leaf given
-unfolding occult_header
-occult_is jsn target leaf content who given c w =
-    ap (λ x. header_with kind.Occult jsn 0 zero_digest 0 0 target leaf 0 (digest x) who) c
-    ∙ ap (λ x. header_with kind.Occult jsn 0 zero_digest 0 0 target leaf 0 (digest (content_digest_of [])) (digest x)) w
-
-pub purge_is : (jsn point : ℕ) (link content who : Digest) (given : List Approval) → content.0 ≡ content_digest_of [] → who.0 ≡ who_digest_of (who_of given)
-    → header_with kind.Purge jsn 0 zero_digest 0 0 point link 0 content who ≡ purge_header jsn point link given
-unfolding purge_header
-purge_is jsn point link content who given c w =
-    ap (λ x. header_with kind.Purge jsn 0 zero_digest 0 0 point link 0 (digest x) who) c
-    ∙ ap (λ x. header_with kind.Purge jsn 0 zero_digest 0 0 point link 0 (digest (content_digest_of [])) (digest x)) w
-
-pub time_is : (jsn : ℕ) (stamp : Stamp) (content who : Digest) → content.0 ≡ content_digest_of [] → who.0 ≡ who_digest_of []
-    → record (header_with kind.Time jsn 0 zero_digest 0 0 stamp.index stamp.salt 0 content who) { b = stamp.time } ≡ time_header jsn stamp
-unfolding time_header
-time_is jsn stamp content who c w =
-    ap (λ x. record (header_with kind.Time jsn 0 zero_digest 0 0 stamp.index stamp.salt 0 (digest x) who) { b = stamp.time }) c
-    ∙ ap (λ x. record (header_with kind.Time jsn 0 zero_digest 0 0 stamp.index stamp.salt 0 (digest (content_digest_of [])) (digest x)) { b = stamp.time }) w
+member_is jsn number a key by header n is = is ∙ ap (λ x. plain_header kind.Member jsn x 0 key (who_of (by ∷ []))) n

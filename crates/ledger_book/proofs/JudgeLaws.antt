@@ -73,10 +73,6 @@ hard_not k h n s is less room =
     let test : nat_le k.limits.size (size h) ≡ false = lt-leb k.limits.size (size h) (omega (arith, room, s.stands.counts.size)) in
     hard_as k.limits h false (ap (λ b. b || nat_le k.limits.size (size h)) first ∙ test)
 
--- whether there is room for a journal of the operator
-pub hard_full : (k : Kept) (h : History) (n : ℕ) → Serves k h → n ≡ k.size - k.point → (nat_le k.limits.hard n || nat_le k.limits.size k.size) ≡ is_full k.limits.hard k.limits h
-hard_full k h n s is = ap (λ x. nat_le k.limits.hard x || nat_le k.limits.size k.size) (kept_is k h n s is) ∙ ap (λ x. nat_le k.limits.hard (kept_count h) || nat_le k.limits.size x) s.stands.counts.size
-
 -- whether there is room for a new clue
 abbrev NoRefusal : Option Refusal → Type 0
 NoRefusal o = let none : Option Refusal = None in none ≡ o

@@ -17,17 +17,17 @@ use Rattle.ledger_model.specs.Members.{members, admitted_members}
 use Rattle.ledger_model.specs.Targets.{is_occult, kind_at, leaf_at}
 use Rattle.pseudo_genesis.specs.declared.base.Base.{Base}
 
--- where the journals begin: behind a base, or with journal 0
+-- the number of the first journal that is known: the base's point, or journal 0
 abbrev pub first_of : Option Base → ℕ
 first_of None = 0
 first_of (Some base) = base.point
 
--- how many members there are
+-- how many members there are, by the base and the journals behind it
 abbrev pub count_behind : Option Base → List Entry → ℕ
 count_behind None journals = length (members (history [] journals))
 count_behind (Some base) journals = length base.keys + length (admitted_members journals)
 
--- what an index of clues was given
+-- what an index of clues was given, by the base and the journals behind it
 abbrev pub clues_behind : Option Base → List Entry → Added
 clues_behind None journals = clues_added 0 journals
 clues_behind (Some base) journals = record { states = base.clues; marks = map mark_of (filter has_clue journals); floor = base.point }
@@ -36,14 +36,15 @@ clues_behind (Some base) journals = record { states = base.clues; marks = map ma
 abbrev pub next_number : Option Base → List Entry → ℕ
 next_number start journals = first_of start + length journals
 
--- whether a journal hides the one with this number
+-- a journal hides the one with this number
 abbrev pub names : ℕ → Entry → Bool
 names n journal = is_occult journal.header.kind && journal.header.a == n
 
--- the ordinal of a clue's next journal, and the clue's journal before it, as an index was given them
+-- the ordinal of a clue's next journal, by what an index of clues was given
 abbrev pub ordinal_in : Added → Digest → ℕ
 ordinal_in a clue = if is_no_clue clue then 0 else count_of (trail_of a clue.0) + 1
 
+-- the number of the clue's journal before its next one, or 0, by what an index of clues was given
 abbrev pub previous_in : Added → Digest → ℕ
 previous_in a clue = if is_no_clue clue then 0 else last_of (trail_of a clue.0)
 
@@ -51,15 +52,16 @@ previous_in a clue = if is_no_clue clue then 0 else last_of (trail_of a clue.0)
 abbrev pub HasRoomFor : ℕ → Added → Digest → Type 0
 HasRoomFor most a clue = is_no_clue clue ≡ false → count_of (trail_of a clue.0) ≡ 0 → length (different_clues a) < most
 
--- a member's record: the member is known, the clue's numbers are the next ones, and there is room for the clue
+-- a member's record that may be next: the member is known, the clue's numbers are the next ones, and there is room for the clue
 pub record IsRecordBehind (start : Option Base) (journals : List Entry) (x : Header) : Type 0 where
   pub member : x.member < count_behind start journals
   pub clue_ord : x.clue_ord ≡ ordinal_in (clues_behind start journals) x.clue
   pub clue_prev : x.clue_prev ≡ previous_in (clues_behind start journals) x.clue
   pub room : HasRoomFor real_limits.clues (clues_behind start journals) x.clue
 
--- An occult: none of the journals hides its target. A target that is there is a record from the point on, and the link is its
--- leaf digest; one in front of the base isn't purged as far as these journals tell, whose point lies in front of it too.
+-- An occult that may be next: none of the journals hides its target. A target that is there is a record from the point on, and
+-- the link is its leaf digest; one in front of the base isn't purged as far as these journals tell, whose point lies in front
+-- of it too.
 pub record IsOccultBehind (start : Option Base) (journals : List Entry) (x : Header) : Type 0 where
   pub shown : list_any (names x.a) journals ≡ false
   pub front : x.a < first_of start → greatest_point journals < first_of start
@@ -67,7 +69,8 @@ pub record IsOccultBehind (start : Option Base) (journals : List Entry) (x : Hea
   pub target_is : first_of start ≤ x.a → kind_at (history [] journals) (x.a - first_of start) ≡ kind.Content
   pub leaf_is : first_of start ≤ x.a → x.link.0 ≡ leaf_at (history [] journals) (x.a - first_of start)
 
--- a purge: its point lies behind that of the journals, and where the journal there is known it is a time journal
+-- a purge that may be next: its point lies behind that of the journals, and where the journal there is known it is a time
+-- journal
 pub record IsPurgeBehind (start : Option Base) (journals : List Entry) (x : Header) : Type 0 where
   pub above : greatest_point journals < x.a
   pub target_is : first_of start ≤ x.a → kind_at (history [] journals) (x.a - first_of start) ≡ kind.Time
@@ -95,7 +98,7 @@ pub record IsNextBehind (start : Option Base) (journals : List Entry) (x : Heade
   pub begins : BeginsWell start journals x
   pub own : IsOwnBehind start journals x x.kind
 
--- journals behind these, each the next one
+-- journals behind these, of which each may be the next one
 abbrev pub AreBehind : Option Base → List Entry → List Entry → Type 0
 AreBehind start before [] = ⊤
 AreBehind start before (journal ∷ more) = IsNextBehind start before journal.header × AreBehind start (before ++ journal ∷ []) more

@@ -17,11 +17,11 @@ use Rattle.ledger_model.specs.Members as member
 use Rattle.ledger_model.specs.declared.limits.Limits.{Limits}
 use Rattle.ledger_book.specs.Hiders.{Indexes}
 
--- the headers of all journals
+-- the headers of all journals of a history
 abbrev pub headers : History → List Header
 headers h = map (λ journal. journal.header) (journals h)
 
--- the digests of all journals as leaves
+-- the digests of all journals of a history as leaves, for which the book's tree stands
 abbrev pub leaf_digests : History → List (List ℕ)
 leaf_digests h = map leaf_digest (journals h)
 
@@ -33,14 +33,16 @@ sealed_size h = length (journals_of h.closed)
 abbrev pub ends_above : ℕ → History → List ℕ
 ends_above floor h = filter (λ end. nat_lt floor end) (model.ends h)
 
--- a member whose journal isn't kept has no number of it
+-- a member as a book has it: where the member's journal isn't kept, its number isn't known
 abbrev pub aged_member : ℕ → Member → Member
 aged_member floor m = record { key = m.key; jsn = if nat_lt m.jsn floor then 0 else m.jsn }
 
+-- all members as a book has them
 abbrev pub aged_members : ℕ → List Member → List Member
 aged_members floor members = map (aged_member floor) members
 
--- what a book keeps
+-- all that a book keeps; of hidden contents which journal hides which, and of times the marks of the time journals from the
+-- point on
 pub record Kept : Type 0 where
   pub limits : Limits
   -- the first journal whose header is kept
@@ -63,7 +65,7 @@ pub record Kept : Type 0 where
   pub headers : List Header
   pub tree : Levels
 
--- the numbers are those of this history
+-- the numbers that a book keeps are those of this history
 pub record HasCounts (k : Kept) (h : History) : Type 0 where
   pub size : k.size ≡ model.size h
   pub floor : k.floor ≤ sealed_size h
@@ -72,14 +74,14 @@ pub record HasCounts (k : Kept) (h : History) : Type 0 where
   pub sealed_is : k.sealed ≡ sealed_size h
   pub ends : k.ends ≡ ends_above k.floor h
 
--- the digests and headers are those of this history
+-- the digests and headers that a book keeps are those of this history
 pub record HasTree (k : Kept) (h : History) : Type 0 where
   pub root : k.root.0 ≡ model.root h (sealed_size h)
   pub id : k.id.0 ≡ model.id h
   pub headers_are : k.headers ≡ drop k.floor (headers h)
   pub leaves : StandsFor sha256 k.tree (leaf_digests h)
 
--- the book keeps what this lawful history says, as far as it keeps it
+-- a book stands for a lawful history: it keeps what this says, as far as it keeps it
 pub record Stands (k : Kept) (h : History) : Type 0 where
   pub lawful : AreLawful (journals h)
   pub counts : HasCounts k h
@@ -90,7 +92,7 @@ pub record Stands (k : Kept) (h : History) : Type 0 where
   -- the marks of the kept time journals, as far as the point is seen
   pub times : k.times ≡ marks_from k.point (marks_of (drop k.floor (journals h)))
 
--- .. and a purge up to its first header has been seen
+-- the book stands for a history, and has seen the purge up to its first header, so that it can answer for it
 pub record Serves (k : Kept) (h : History) : Type 0 where
   pub stands : Stands k h
   pub seen : k.floor ≤ k.point

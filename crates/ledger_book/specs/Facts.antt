@@ -17,7 +17,7 @@ use Rattle.ledger_book.specs.Behind.{first_of, next_number, names}
 abbrev pub kind_in : List Header → ℕ → Kind
 kind_in headers n = get_or (map (λ x. x.kind) headers) n kind.Genesis
 
--- these are the facts of journal n in this history, as far as they are looked at
+-- what a book tells of the journal that an occult names is so in this history, as far as it is looked at
 pub record AreFacts (h : History) (facts : OccultFacts) (n : ℕ) : Type 0 where
   pub target_is : facts.target ≡ n
   pub size_is : facts.size ≡ size h
@@ -26,7 +26,7 @@ pub record AreFacts (h : History) (facts : OccultFacts) (n : ℕ) : Type 0 where
   pub by_is : point h ≤ n → facts.by ≡ hider h n
   pub leaf_is : point h ≤ n → n < size h → facts.leaf ≡ digest (leaf_at h n)
 
--- .. and of one that stands behind a base, by the journals there
+-- the same of a journal that stands behind a base, by the journals there
 pub record AreFactsBehind (start : Option Base) (journals : List Entry) (facts : OccultFacts) (n : ℕ) : Type 0 where
   pub target_is : facts.target ≡ n
   pub size_is : facts.size ≡ next_number start journals

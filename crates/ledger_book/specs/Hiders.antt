@@ -17,7 +17,7 @@ hider_in n entries = lookup (is_at (nat_cmp n)) entries
 abbrev pub Indexes : List (ℕ × ℕ) → ℕ → History → Type 0
 Indexes entries floor h = (n : ℕ) → floor ≤ n → hider_in n entries ≡ hider h n
 
--- an index that has this journal for a target, and for all others what it had
+-- the index after a journal: this journal hides its target, and all else is as it was
 pub record Puts (old new : List (ℕ × ℕ)) (target jsn : ℕ) : Type 0 where
   pub here : hider_in target new ≡ Some jsn
   pub others : (n : ℕ) → n ≢ target → hider_in n new ≡ hider_in n old

@@ -11,7 +11,7 @@ use Rattle.ledger_model.specs.declared.job.Job.TheVariants as asked
 use Rattle.ledger_model.specs.declared.outcome.Outcome.{Outcome}
 use Rattle.ledger_model.specs.declared.outcome.Outcome.TheVariants.{Refused, Placed, Reading}
 
--- these are the facts of journal n in this history, as far as they are looked at
+-- what a book tells of the journal that a purge names is so in this history, as far as it is looked at
 pub record ArePurgeFacts (h : History) (facts : PurgeFacts) (n : ℕ) : Type 0 where
   pub asked_is : facts.asked ≡ n
   pub size_is : facts.size ≡ size h
@@ -26,7 +26,7 @@ owners_in headers = 0 ∷ map (λ x. x.member) (filter (λ x. is_record x.kind) 
 -- the point after a purge that was judged: its own where it was placed
 abbrev pub point_of : ℕ → Outcome → ℕ → ℕ
 point_of p (Refused refusal) point = point
-point_of p (Placed jsn leaf) point = p
+point_of p (Placed placed) point = p
 point_of p (Reading query) point = point
 
 -- the point after a job: only a purge changes it

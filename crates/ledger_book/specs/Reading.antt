@@ -23,7 +23,7 @@ abbrev pub IsStart : Option Base → Type 0
 IsStart None = ⊤
 IsStart (Some base) = IsBase base
 
--- the tree over the leaves of these journals, behind the peaks of the base where there is one
+-- a tree stands for the leaves of these journals, behind the peaks of the base where there is one
 abbrev pub HasLeaves : Option Base → Levels → List Entry → Type 0
 HasLeaves None tree journals = StandsFor sha256 tree (map leaf_digest journals)
 HasLeaves (Some base) tree journals = StandsOver sha256 tree base.point (map (λ d. d.0) base.peaks) (map leaf_digest journals)
@@ -53,7 +53,7 @@ pub record EndsWith (base : Base) (h : History) : Type 0 where
   pub size_is : size h ≡ base.point
   pub base_is : base_of h base.point ≡ base
 
--- this is the base of a lawful history at one of its journals
+-- a base is that of a lawful history at one of its journals
 pub record IsBaseIn (base : Base) (h : History) : Type 0 where
   pub lawful : AreLawful (journals h)
   pub some : 1 ≤ base.point

@@ -20,7 +20,7 @@ pub record IsFirst (header : Header) (operator regulator : Digest) (journal : En
   pub regulator_is : regulator.0 ≡ drop 32 journal.content
   pub digest_is : header.content_digest.0 ≡ content_digest_of journal.content
 
--- the history that has one block, with this journal alone
+-- the history that has this journal alone, in a block of its own
 abbrev pub begun_with : Entry → History
 begun_with journal = history ((journal ∷ []) ∷ []) []
 
@@ -40,7 +40,7 @@ pub record IsNotPlaced (old : Kept) (header : Header) (told : Damage) (new : Kep
   pub never : (h : History) → Serves old h → MayPlace h header → ⊥
   pub never_behind : (start : Option Base) (journals : List Entry) → StandsBehind old start journals → IsNextBehind start journals header → ⊥
 
--- what replaying a header tells
+-- what replaying a header tells: it is the next one and the book keeps a journal of it, or it isn't and nothing has changed
 abbrev pub Replays : Kept → Header → Result Unit Damage → Kept → Type 0
 Replays old header (Ok done) new = IsPlaced old header new
 Replays old header (Err told) new = IsNotPlaced old header told new

@@ -9,7 +9,6 @@ ghost use Rattle.ledger_model.specs.Clues.{jsns_with};
 ghost use Rattle.ledger_model.specs.Genesis.{new_ledger};
 ghost use Rattle.ledger_model.specs.History as model;
 ghost use Rattle.ledger_model.specs.History.{History, close};
-ghost use Rattle.ledger_model.specs.Judgements.{is_full};
 ghost use Rattle.ledger_model.specs.Limits.{AreWithin};
 ghost use Rattle.ledger_model.specs.Outcomes as outcomes;
 ghost use Rattle.ledger_model.specs.Texts.{kept_with};
@@ -253,14 +252,6 @@ impl Book {
         ensures number { self.now.sealed + result ≡ self.now.size }
     {
         self.size - self.head.size
-    }
-
-    /// Whether there is no room for a journal of the operator.
-    pub fn full(&self) -> bool
-        ensures { (h : History) → Serves self.now h
-            → result ≡ is_full self.now.limits.hard self.now.limits h }
-    {
-        self.size.saturating_sub(self.point) >= self.limits.hard || self.size >= self.limits.size
     }
 
     /// How many journals a clue has over the whole history, and the numbers of those from the point on, ascending. No

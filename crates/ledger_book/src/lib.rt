@@ -10,9 +10,10 @@ mod prepared;
 mod sealed;
 
 pub use book::Book;
+pub use headers::first_header;
 pub use laws::{
     room_changes_nothing, the_next_is_seen_from_behind, the_next_is_seen_from_the_first,
 };
-pub use ledger_model::{Genesis, Job, Limits, Outcome, Query, View};
+pub use ledger_model::{Genesis, Job, Limits, Outcome, PlacedJournal, Query, View};
 pub use prepared::Prepared;
 pub use sealed::Sealed;

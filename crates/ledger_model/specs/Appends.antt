@@ -1,7 +1,7 @@
 -- The journals of members' records, of new members, of occults and of purges.
 use Rattle.std.specs.Prelude.{ℕ, List, [], ◌∷◌, length, map}
 use Rattle.std.specs.Option.{option_map}
-use Rattle.ledger_bytes.specs.Digests.{digest, zero_digest}
+use Rattle.ledger_bytes.specs.Digests.{digest}
 use Rattle.ledger_bytes.specs.declared.digest.Digest.{Digest}
 use Rattle.journal_record.specs.Approval.{who_of}
 use Rattle.journal_record.specs.Entry.{Entry, content_digest_of, who_digest_of}
@@ -12,12 +12,13 @@ use Rattle.journal_record.specs.declared.header.Kind.TheVariants as kind
 use Rattle.script_lines.specs.declared.said.SaidApproval.{SaidApproval}
 use Rattle.ledger_model.specs.Bases.{base_of, digest_of_base}
 use Rattle.ledger_model.specs.Clues.{next_ordinal, last_journal}
+use Rattle.ledger_model.specs.Headers.{plain_header}
 use Rattle.ledger_model.specs.History.{History, size}
 use Rattle.ledger_model.specs.Scheme.{Scheme}
 use Rattle.ledger_model.specs.declared.job.Job.{Job}
 use Rattle.ledger_model.specs.declared.job.Job.TheVariants.{Append, NewMember, Occult, Purge}
 
--- the digest that a member approves, for a record with this clue
+-- the digest that a member approves for a record with this clue and this content
 abbrev pub request_with : List ℕ → ℕ → Digest → List ℕ → List ℕ
 request_with id member clue content = request_digest_of id member clue.0 (length content) (content_digest_of content)
 
@@ -25,7 +26,7 @@ request_with id member clue content = request_digest_of id member clue.0 (length
 abbrev pub clue_of : List ℕ → Digest
 clue_of name = digest (clue_digest_of name)
 
--- an approval, with the key that its proof shows
+-- an approval by this member: the proof of a message, with the key that it shows under a scheme
 abbrev pub approval_of : Scheme → ℕ → List ℕ → List ℕ → Approval
 approval_of scheme member message proof = record { member = member; key = option_map digest (scheme message proof); proof = proof }
 
@@ -69,7 +70,8 @@ append_header jsn member clue ordinal previous content content_digest request by
   who_digest = digest (who_digest_of (who_of (by ∷ [])));
 }
 
--- a record as the next journal of a history
+-- a member's record as the next journal of a history: its clue's ordinal and the clue's journal before it are those of the
+-- history
 abbrev pub append_journal : History → ℕ → Digest → List ℕ → Digest → Digest → Approval → Entry
 append_journal h member clue content content_digest request by = record {
   header = append_header (size h) member clue (next_ordinal h clue) (last_journal h clue) content content_digest request by;
@@ -79,23 +81,9 @@ append_journal h member clue content content_digest request by = record {
 
 -- the header of a new member that is journal jsn
 unfoldable pub member_header : ℕ → ℕ → Digest → Approval → Header
-member_header jsn number key by = record {
-  version = 1;
-  kind = kind.Member;
-  jsn = jsn;
-  member = 0;
-  clue = zero_digest;
-  clue_ord = 0;
-  clue_prev = 0;
-  a = number;
-  b = 0;
-  link = key;
-  content_len = 0;
-  content_digest = digest (content_digest_of []);
-  who_digest = digest (who_digest_of (who_of (by ∷ [])));
-}
+member_header jsn number key by = plain_header kind.Member jsn number 0 key (who_of (by ∷ []))
 
--- a new member as journal jsn
+-- the journal jsn that admits a new member with this key: it has no content, and the operator's approval is its who
 abbrev pub member_journal : ℕ → ℕ → Digest → Approval → Entry
 member_journal jsn number key by = record {
   header = member_header jsn number key by;
@@ -105,23 +93,9 @@ member_journal jsn number key by = record {
 
 -- the header of an occult that is journal jsn
 unfoldable pub occult_header : ℕ → ℕ → Digest → List Approval → Header
-occult_header jsn target leaf given = record {
-  version = 1;
-  kind = kind.Occult;
-  jsn = jsn;
-  member = 0;
-  clue = zero_digest;
-  clue_ord = 0;
-  clue_prev = 0;
-  a = target;
-  b = 0;
-  link = leaf;
-  content_len = 0;
-  content_digest = digest (content_digest_of []);
-  who_digest = digest (who_digest_of (who_of given));
-}
+occult_header jsn target leaf given = plain_header kind.Occult jsn target 0 leaf (who_of given)
 
--- an occult as journal jsn
+-- the journal jsn that hides the content of another: it names that one's leaf digest, and the approvals are its who
 abbrev pub occult_journal : ℕ → ℕ → Digest → List Approval → Entry
 occult_journal jsn target leaf given = record {
   header = occult_header jsn target leaf given;
@@ -131,21 +105,7 @@ occult_journal jsn target leaf given = record {
 
 -- the header of a purge to journal p that is journal jsn, where the base at p has this digest
 unfoldable pub purge_header : ℕ → ℕ → Digest → List Approval → Header
-purge_header jsn p link given = record {
-  version = 1;
-  kind = kind.Purge;
-  jsn = jsn;
-  member = 0;
-  clue = zero_digest;
-  clue_ord = 0;
-  clue_prev = 0;
-  a = p;
-  b = 0;
-  link = link;
-  content_len = 0;
-  content_digest = digest (content_digest_of []);
-  who_digest = digest (who_digest_of (who_of given));
-}
+purge_header jsn p link given = plain_header kind.Purge jsn p 0 link (who_of given)
 
 -- a purge to journal p as the next journal of a history: it names the digest of the base that it leaves
 abbrev pub purge_journal : History → ℕ → List Approval → Entry

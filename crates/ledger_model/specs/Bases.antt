@@ -13,7 +13,7 @@ use Rattle.ledger_model.specs.Clues.{has_clue}
 use Rattle.ledger_model.specs.History.{History, history, journals, leaf_digest, id, ends}
 use Rattle.ledger_model.specs.Members.{members}
 
--- a journal's clue and its number
+-- a journal's clue with the journal's number
 abbrev pub mark_of : Entry → Mark
 mark_of journal = record { clue = journal.header.clue.0; jsn = journal.header.jsn }
 
@@ -25,8 +25,9 @@ clues_added floor journals = record { states = []; marks = map mark_of (filter h
 abbrev pub front : History → ℕ → History
 front h p = history [] (take p (journals h))
 
--- The base of a history at journal p: the peaks over the leaf digests of its first p journals, the keys of the members
--- among them, the states of their clues, and how many blocks they are.
+-- The base of a history at journal p, which is what a purge leaves of the journals in front of it: the peaks over the leaf
+-- digests of the first p journals, the keys of the members among them, the states of their clues, and how many blocks they
+-- are.
 abbrev pub base_of : History → ℕ → Base
 base_of h p =
     record {

@@ -19,65 +19,68 @@ use Rattle.ledger_model.specs.declared.job.Job.{Job}
 use Rattle.ledger_model.specs.declared.job.Job.TheVariants.{Refused, Append, NewMember, Anchor, Occult, Purge, Get, Prove, Extend, Clue, Head}
 use Rattle.ledger_model.specs.declared.limits.Limits.{Limits}
 
--- how many journals are kept
+-- how many journals of a history are kept, which are those from the point on
 abbrev pub kept_count : History → ℕ
 kept_count h = size h - point h
 
--- whether so many journals are kept, or there are as many over the whole life as there may be
+-- whether at least so many journals are kept, or there are as many over the whole life as there may be
 abbrev pub is_full : ℕ → Limits → History → Bool
 is_full most limits h = nat_le most (kept_count h) || nat_le limits.size (size h)
 
--- there is no room for a member's journal
+-- the refusal for want of room for a journal of a member, who may fill a ledger up to the softer limit
 unfoldable pub fullness : Limits → History → Option Refusal
 fullness limits h = if is_full limits.soft limits h then Some (Full (kept_count h) (size h)) else None
 
--- there is no room for a journal of the operator
+-- the refusal for want of room for a journal of the operator: an anchor or an occult may use what members have to leave
 unfoldable pub hard_fullness : Limits → History → Option Refusal
 hard_fullness limits h = if is_full limits.hard limits h then Some (Full (kept_count h) (size h)) else None
 
--- there is no room for a journal over the whole life; how many are kept isn't looked at
+-- the refusal where a ledger has all journals that it may have over its whole life; how many are kept isn't looked at
 unfoldable pub life_fullness : Limits → History → Option Refusal
 life_fullness limits h = if nat_le limits.size (size h) then Some (Full (kept_count h) (size h)) else None
 
--- among members with these keys there is none with this number
+-- the refusal where among members with these keys there is none with this number
 abbrev pub unknown_in : List (List ℕ) → ℕ → Option Refusal
 unknown_in known member = if is_known known member then None else Some (UnknownMember member)
 
--- what the proof shows isn't the key of this one
+-- the refusal where a proof doesn't show the key of the member with this number
 abbrev pub wrong_key_in : List (List ℕ) → ℕ → Option Digest → Option Refusal
 wrong_key_in known member shown = if is_key_of shown (slice_get known member) then None else Some (WrongKey member)
 
--- the clue is a new one, and there are as many different clues as there may be
+-- the refusal where a clue is a new one, and there are as many different clues as there may be
 unfoldable pub clues_full : Limits → History → Digest → Option Refusal
 clues_full limits h clue =
     if not (is_no_clue clue) && length (jsns_with h clue) == 0 && nat_le limits.clues (clue_count h)
     then Some CluesFull
     else None
 
--- a member's record whose proof shows this key
+-- what may refuse a member's record whose proof shows this key, in its order: no room, no such member, another key, no room
+-- for its clue
 abbrev pub append_judgements : Limits → History → ℕ → Digest → Option Digest → List (Option Refusal)
 append_judgements limits h member clue shown =
     fullness limits h ∷ unknown_in (keys h) member ∷ wrong_key_in (keys h) member shown ∷ clues_full limits h clue ∷ []
 
--- a new member, where the proof of member 0 shows this key
+-- what may refuse a new member, where the proof of member 0 shows this key, in its order: no room, another number than the
+-- next, another key
 abbrev pub member_judgements : Limits → History → ℕ → Option Digest → List (Option Refusal)
 member_judgements limits h number shown =
     fullness limits h ∷ number_refusal (members h) number ∷ wrong_key_in (keys h) 0 shown ∷ []
 
--- an occult of this target, with its leaf digest and these approvals
+-- what may refuse an occult of this target, with its leaf digest and these approvals: no room, and then the rows of an
+-- occult
 abbrev pub occult_judgements : Limits → History → ℕ → Digest → List Approval → List (Option Refusal)
 occult_judgements limits h target leaf given =
     hard_fullness limits h
     ∷ occult_row (size h) (point h) (kind_at h target) (hider h target) (digest (leaf_at h target)) (keys h) target leaf given
 
--- a purge to journal p, where the root over the journals in front of it is told to be this one, with these approvals; it takes
--- more journals than it places, so there is room for it as long as there is over the whole life
+-- What may refuse a purge to journal p, where the root over the journals in front of it is told to be this one, with these
+-- approvals. It takes more journals than it places, so there is room for it as long as there is over the whole life.
 abbrev pub purge_judgements : Limits → History → ℕ → Digest → List Approval → List (Option Refusal)
 purge_judgements limits h p told given =
     life_fullness limits h
     ∷ purge_row (size h) (point h) (kind_at h p) (digest (root h p)) (keys h) (purge_needs h p) p told given
 
--- what may refuse a job by the history alone
+-- what may refuse a job by the history alone, in its order: one equation for each kind of job
 abbrev pub own_judgements : Limits → History → Job → List (Option Refusal)
 own_judgements limits h (Refused refusal) = Some refusal ∷ []
 own_judgements limits h (Append member clue content content_digest request by) = append_judgements limits h member clue by.key
@@ -92,6 +95,6 @@ own_judgements limits h (Extend Notary m) = []
 own_judgements limits h (Clue clue) = []
 own_judgements limits h Head = []
 
--- why a job is refused by the history alone, where it is
+-- why a job is refused by the history alone: the first that is there of all that may refuse it
 abbrev pub own_refusal : Limits → History → Job → Option Refusal
 own_refusal limits h job = first_refusal (own_judgements limits h job)

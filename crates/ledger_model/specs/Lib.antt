@@ -10,6 +10,7 @@ pub mod Bases
 pub mod Scheme
 pub mod Appends
 pub mod Needs
+pub mod Headers
 pub mod Anchors
 pub mod Judgements
 pub mod Fitting

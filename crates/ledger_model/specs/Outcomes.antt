@@ -3,6 +3,7 @@ use Rattle.std.specs.Prelude.{◌≡◌, ℕ, if◌then◌else◌, [], ◌∷◌
 use Rattle.ledger_bytes.specs.Digests.{digest}
 use Rattle.ledger_bytes.specs.declared.refusal.Refusal.{Refusal}
 use Rattle.journal_record.specs.Entry.{Entry}
+use Rattle.journal_record.specs.Header.{spelling}
 use Rattle.journal_record.specs.declared.stamp.Stamp.{Stamp}
 use Rattle.std.specs.Option.{option_map}
 use Rattle.ledger_model.specs.Anchors.{time_journal}
@@ -14,6 +15,7 @@ use Rattle.ledger_model.specs.declared.job.Job.{Job}
 use Rattle.ledger_model.specs.declared.job.Job.TheVariants as job
 use Rattle.ledger_model.specs.declared.limits.Limits.{Limits}
 use Rattle.ledger_model.specs.declared.outcome.Outcome.{Outcome}
+use Rattle.ledger_model.specs.declared.outcome.PlacedJournal.{PlacedJournal}
 use Rattle.ledger_model.specs.declared.outcome.Outcome.TheVariants.{Refused, Placed, Reading}
 use Rattle.ledger_model.specs.declared.outcome.Query.{Query}
 use Rattle.ledger_model.specs.declared.outcome.Query.TheVariants as query
@@ -44,7 +46,7 @@ abbrev pub after_judgement : Option Refusal → Option Entry → History → His
 after_judgement (Some refusal) journal h = h
 after_judgement None journal h = with_waiting journal h
 
--- the history after a job, whose journal waits
+-- the history after a job was judged and, where it is accepted, its journal placed: the journal waits in the open block
 unfoldable pub with_job : Limits → Option Stamp → History → Job → History
 with_job limits stamp h job = after_judgement (own_refusal limits h job) (placed_journal h stamp job) h
 
@@ -58,16 +60,20 @@ query_of (job.Clue clue) = Some (query.Clue clue)
 query_of job.Head = Some query.Head
 query_of other = None
 
--- a journal was placed that has this number
+-- what is told of a journal that was placed: its number, its leaf digest and its header's bytes
+abbrev pub placed_with : ℕ → Entry → PlacedJournal
+placed_with jsn journal = record { jsn = jsn; leaf = digest (leaf_digest journal); header = spelling journal.header }
+
+-- that a journal was placed, as it is told
 abbrev pub placed_as : ℕ → Entry → Outcome
-placed_as jsn journal = Placed jsn (digest (leaf_digest journal))
+placed_as jsn journal = Placed (placed_with jsn journal)
 
 -- what comes of an accepted anchor: without a stamp it asks for one
 abbrev pub anchor_outcome : History → Option Stamp → Outcome
 anchor_outcome h None = Reading query.Stamp
 anchor_outcome h (Some stamp) = placed_as (size h) (time_journal (size h) stamp)
 
--- what comes of an accepted job
+-- what comes of a job that nothing refuses: a journal is placed, or something is read
 abbrev pub accepted_outcome : History → Option Stamp → Job → Outcome
 accepted_outcome h stamp (job.Refused refusal) = Refused refusal
 accepted_outcome h stamp (job.Append member clue content content_digest request by) =
@@ -82,22 +88,24 @@ accepted_outcome h stamp (job.Extend which m) = Reading (query.Extend which m)
 accepted_outcome h stamp (job.Clue clue) = Reading (query.Clue clue)
 accepted_outcome h stamp job.Head = Reading query.Head
 
--- what comes of a job after its judgement
+-- a refusal, where there is one, in place of what would come of a job
 abbrev pub judged_outcome : Option Refusal → Outcome → Outcome
 judged_outcome (Some refusal) outcome = Refused refusal
 judged_outcome None outcome = outcome
 
--- what comes of a job
+-- what comes of a job that is judged against a history, by these limits and with this stamp: refused, placed, or something
+-- to read
 unfoldable pub outcome : Limits → Option Stamp → History → Job → Outcome
 outcome limits stamp h job = judged_outcome (own_refusal limits h job) (accepted_outcome h stamp job)
 
 -- only a job that asks is told to read, and it is told what it asks for
 abbrev pub AsksFor : Job → Outcome → Type 0
 AsksFor job (Refused refusal) = ⊤
-AsksFor job (Placed jsn leaf) = ⊤
+AsksFor job (Placed placed) = ⊤
 AsksFor job (Reading query) = query_of job ≡ Some query
 
--- what of journal n can be shown
+-- What of journal n can be shown, by the first of these that holds: it isn't there, it was purged, its content is hidden, it
+-- is whole. `a_purge_takes_what_is_in_front` and `an_occult_hides_its_target` say how that changes.
 unfoldable pub view : History → ℕ → View
 view h n =
     if nat_le (size h) n then Absent

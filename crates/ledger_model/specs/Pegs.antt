@@ -6,8 +6,8 @@ use Rattle.time_peg.specs.Entries.{IsList, entry_of}
 use Rattle.ledger_model.specs.Anchors.{peg_at}
 use Rattle.ledger_model.specs.History.{History, journals, point}
 
--- Each time journal from journal p on has its entry in the list, at its index: its time, the peg over the journals in front
--- of it, and its salt. The indexes rise along the history.
+-- Each time journal from journal p on has its entry in the notary's list, at its index: its time, the peg over the journals
+-- in front of it, and its salt. The indexes rise along the history.
 pub record PeggedFrom (p : ℕ) (h : History) (es : List (List ℕ)) : Type 0 where
   pub list : IsList es
   pub each : (j : ℕ) (e : Entry) → p ≤ j → slice_get (journals h) j ≡ Some e → e.header.kind ≡ kind.Time
@@ -15,6 +15,7 @@ pub record PeggedFrom (p : ℕ) (h : History) (es : List (List ℕ)) : Type 0 wh
   pub rises : (i j : ℕ) (d e : Entry) → i < j → p ≤ i → slice_get (journals h) i ≡ Some d → d.header.kind ≡ kind.Time
       → slice_get (journals h) j ≡ Some e → e.header.kind ≡ kind.Time → d.header.a < e.header.a
 
--- each time journal that is kept has
+-- Each time journal that is kept has its entry in the notary's list. `a_run_keeps_its_pegs` says that it stays so along a
+-- run.
 abbrev pub Pegged : History → List (List ℕ) → Type 0
 Pegged h es = PeggedFrom (point h) h es

@@ -8,24 +8,26 @@ use Rattle.ledger_model.specs.Step.{Step}
 use Rattle.ledger_model.specs.declared.due.Due.{Due}
 use Rattle.ledger_model.specs.declared.job.Job.{Job}
 
--- a step with its job
+-- a step of a line with the job that was prepared of it
 pub record Item : Type 0 where
   pub step : Step
   pub job : Job
 
+-- the item of this step and this job
 abbrev pub item : Step → Job → Item
 item step job = record { step = step; job = job }
 
--- the jobs of some steps' lines, on the ledger with this id
+-- Steps with the jobs that their lines ask for, on the ledger with this id. `a_window_is_its_lines` says that the id at a
+-- window's start does for all of its lines.
 abbrev pub prepared_items : Scheme → List ℕ → List Step → List Item
 prepared_items scheme id steps = map (λ step. item step (job_of scheme id step.line)) steps
 
--- the history after some jobs
+-- the history after some prepared jobs, one after the other
 abbrev pub after_jobs : History → List Item → History
 after_jobs h [] = h
 after_jobs h (item ∷ items) = after_jobs (after_job h item.step item.job) items
 
--- what is due for some jobs, one after the other
+-- the answers to some prepared jobs, each judged against the history that the one before it left
 abbrev pub job_dues : History → List Item → List Due
 job_dues h [] = []
 job_dues h (item ∷ items) =

@@ -33,25 +33,26 @@ use Rattle.ledger_model.specs.declared.outcome.Outcome.TheVariants.{Refused, Pla
 use Rattle.ledger_model.specs.declared.outcome.Query.{Query}
 use Rattle.ledger_model.specs.declared.outcome.Query.TheVariants.{Stamp as StampOf, Get, Prove, Extend, Clue, Head}
 
--- the numbers of a clue's journals from the point on
+-- the numbers of a clue's journals that are kept, in order: what `clue` lists beside the count of all that there ever were
 abbrev pub kept_with : History → Digest → List ℕ
 kept_with h clue = filter (λ jsn. nat_le (point h) jsn) (jsns_with h clue)
 
--- a bound as it is told
+-- a bound as a reply tells it: the time journal's number, its place in the notary's list, and its time
 abbrev pub told_mark : Option TimeMark → Option (ℕ × ℕ × ℕ)
 told_mark mark = option_map (λ m. (m.jsn, m.index, m.time)) mark
 
--- the proof of a journal with what it claims
+-- the reply to `prove`: the claim of a proof, and its bytes
 abbrev pub proof_reply : Shown → AnyReply
 proof_reply shown =
     let claim = claim_of shown in
     reply.Proof claim.n claim.leaf (told_mark claim.lo) (told_mark claim.hi) (spelling shown)
 
--- the proof that a list with this head goes on from its first m
+-- the reply to `extend`: the head over a whole list, and the proof that the list goes on from its first m
 abbrev pub extension_reply : Which → ℕ → ℕ → List ℕ → List ℕ → AnyReply
 extension_reply which m size root proof = reply.Extension which m size (digest root) proof
 
--- what is told to a query that is judged against h
+-- what is told to a job that asks for something, judged against h: one equation for each query; a notary that failed is told
+-- in its place
 abbrev pub told_reply : History → Step → Query → AnyReply
 told_reply h step (Get n) = get_reply h n
 told_reply h step (Clue clue) = reply.Clue (length (jsns_with h clue)) (kept_with h clue)
@@ -66,13 +67,14 @@ told_reply h step Head =
     if step.failed then reply.Refused NotaryFault
     else reply.Head (digest (id h)) (size h) (digest (root h (size h))) (blocks h) (point h) (length step.after) (digest (mth sha256 step.after))
 
--- the answer to a job that is judged against h, by what came of it
+-- the answer to a job that is judged against h, by what came of it: a refusal, a receipt that waits for its block's end, or
+-- what is told
 abbrev pub answer_for : History → Step → Outcome → Answer
 answer_for h step (Refused refusal) = Reply (reply.Refused refusal)
-answer_for h step (Placed jsn leaf) = Receipt jsn leaf (stamp_of step)
+answer_for h step (Placed placed) = Receipt placed.jsn placed.leaf (stamp_of step)
 answer_for h step (Reading query) = Reply (told_reply h step query)
 
--- the answer to a job, judged against everything placed before it
+-- the answer to a job, judged against all that was placed before it
 unfoldable pub answer_to : History → Step → Job → Answer
 answer_to h step job =
     let g = judged_at h job in
@@ -82,17 +84,21 @@ answer_to h step job =
 abbrev pub told_stamp : Option Stamp → Option (ℕ × ℕ)
 told_stamp stamp = option_map (λ s. (s.index, s.time)) stamp
 
--- the reply of an answer, in a history where the journal's block has ended: a receipt carries that block's number, and the size and root at its end
+-- The reply of an answer, in a history where the journal's block has ended: a receipt carries that block's number, and the
+-- size and root at its end.
+-- Example: in a history with the blocks [0] [1 2 3] [4] the receipt of journal 2 reads block 1, size 4 and the root over the
+-- first four journals. Every other answer is its reply already.
 abbrev pub reply_in : History → Answer → AnyReply
 reply_in window (Reply reply) = reply
 reply_in window (Receipt jsn leaf stamp) =
     reply.Placed jsn leaf (block_of window jsn) (end_of window jsn) (digest (root window (end_of window jsn))) (told_stamp stamp)
 
--- the line that is written for a step; the window's history has the ends of all its blocks
+-- the line that is written for a step that is taken against h; `window` is the history at the window's end, where all blocks
+-- have ended
 unfoldable pub step_text : Scheme → History → History → Step → List ℕ
 step_text scheme window h step = reply_text step.lane step.index (reply_in window (answer_to h step (job_of scheme (id h) step.line)))
 
--- the lines that are written for some steps
+-- the lines that are written for some steps, each taken against the history that the one before it left
 abbrev pub steps_text : Scheme → History → History → List Step → List ℕ
 steps_text scheme window h [] = []
 steps_text scheme window h (step ∷ steps) = step_text scheme window h step ++ steps_text scheme window (after_step scheme h step) steps
@@ -101,7 +107,10 @@ steps_text scheme window h (step ∷ steps) = step_text scheme window h step ++ 
 abbrev pub window_text : Scheme → History → List Step → List ℕ
 window_text scheme h steps = steps_text scheme (after_window scheme h steps) h steps
 
--- the lines that are written for some windows
+-- The lines that are written for some windows, one after the other.
+-- Example: on a new ledger, blocks [0], one window has an accepted record, `head` and an accepted record. `head` ends the
+-- block of the first, and the window that of the last: [0] [1] [2]. So the text has the receipt of journal 1 with block 1
+-- and size 2, a head of size 2, and the receipt of journal 2 with block 2 and size 3.
 abbrev pub text : Scheme → History → List (List Step) → List ℕ
 text scheme h [] = []
 text scheme h (window ∷ windows) = window_text scheme h window ++ text scheme (after_window scheme h window) windows

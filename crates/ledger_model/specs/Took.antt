@@ -8,12 +8,12 @@ use Rattle.ledger_model.specs.Rules.{job_of, judged_at, after_step, after_window
 use Rattle.ledger_model.specs.Scheme.{Scheme}
 use Rattle.ledger_model.specs.Step.{Step}
 
--- the count of failures after some steps: one more for each in which the notary failed
+-- a count of failures after some steps: one more for each in which the notary failed
 abbrev pub counts_after : List Step → ℕ → ℕ
 counts_after [] n = n
 counts_after (step ∷ steps) n = counts_after steps (if step.failed then count_after n else n)
 
--- the notary after a step
+-- what the notary has after a step: the list that the step left, and one failure more where it failed
 abbrev pub notary_after : NotaryState → Step → NotaryState
 notary_after n step = record { entries = step.after; faults = if step.failed then count_after n.faults else n.faults }
 
@@ -23,14 +23,16 @@ NoneCall scheme h [] = ⊤
 NoneCall scheme h (step ∷ steps) =
     (let job = job_of scheme (id h) step.line in calls (judged_at h job) step.before job ≡ false) × NoneCall scheme (after_step scheme h step) steps
 
--- along the steps that h takes the notary goes from one state to another: its list changes in each as the line wants, and
--- each failure is counted
+-- Along the steps that h takes the notary goes from state n to state m: each step begins with the list that the one before
+-- it left, changes it as its line allows, and each failure is counted (`the_notary_is_attended`).
+-- Example: n has 5 entries and no failure. An accepted anchor adds entry 5, and at the `head` behind it the notary fails.
+-- The steps have the lists 5 to 6 and 6 to 6, the second has failed, and m has 6 entries and one failure.
 abbrev pub Took : Scheme → History → NotaryState → List Step → NotaryState → Type 0
 Took scheme h n [] m = m ≡ n
 Took scheme h n (step ∷ steps) m =
     (step.before ≡ n.entries) × Attends scheme h step × Took scheme (after_step scheme h step) (notary_after n step) steps m
 
--- .. along windows, where its state at the end of one is the next one's first
+-- along windows of steps the notary goes from one state to another: its state at the end of one is the next one's first
 abbrev pub TookAll : Scheme → History → NotaryState → List (List Step) → NotaryState → Type 0
 TookAll scheme h n [] m = m ≡ n
 TookAll scheme h n (window ∷ windows) m =

@@ -20,28 +20,30 @@ use Rattle.proof_maker.specs.declared.noted.Noted.{Noted}
 use Rattle.proof_maker.specs.declared.made.MakeErr.{MakeErr}
 use Rattle.proof_maker.specs.declared.made.MakeErr.TheVariants.{Refused, NoMemory}
 
--- whole digests one after the other, at most so many
+-- bytes are whole digests one after the other, at most so many
 pub record AreDigests (most : ℕ) (bytes : List ℕ) : Type 0 where
   pub whole : length bytes % 32 ≡ 0
   pub few : length bytes ≤ 32 * most
 
--- the digests of the path of leaf n, one after the other, and of the proof that the tree goes on from its first m leaves
+-- the digests of the path of leaf n, one after the other
 abbrev pub path_bytes : List (List ℕ) → ℕ → List ℕ
 path_bytes leaves n = concat (path sha256 n leaves)
 
+-- the digests of the proof that the tree goes on from its first m leaves, one after the other
 abbrev pub extension_bytes : List (List ℕ) → ℕ → List ℕ
 extension_bytes leaves m = concat (proof sha256 m leaves)
 
 -- ---- bounds
 
--- what a proof shows of a bound behind a journal, and of one in front of it, whose path is this
+-- what a proof shows of a bound behind a journal
 abbrev pub upper_by : Bound → ShownUpper
 upper_by bound = record { mark = mark_of bound.header; salt = bound.header.link; root = bound.root; ext = bound.ext }
 
+-- what a proof shows of a bound in front of a journal, whose path is this
 abbrev pub lower_by : List ℕ → Bound → ShownLower
 lower_by path bound = record { header = bound.header; path = path; root = bound.root; ext = bound.ext }
 
--- its header is a time journal's, and its digests aren't too many
+-- a bound's header is a time journal's, and its digests aren't too many for a proof
 pub record IsShortBound (bound : Bound) : Type 0 where
   pub header : IsTimeHeader bound.header
   pub root : length bound.root.0 ≡ 32
@@ -52,13 +54,13 @@ pub record IsAt (h : History) (jsn : ℕ) (e : Entry) : Type 0 where
   pub kept : IsKeptTime h e
   pub number : e.header.jsn ≡ jsn
 
--- a bound has what a proof is to show of a time journal
+-- a bound that was made has what a proof is to show of a time journal
 pub record Bounds (h : History) (e : Entry) (bound : Bound) : Type 0 where
   pub header_is : bound.header ≡ e.header
   pub root_is : bound.root ≡ digest (root h e.header.jsn)
   pub ext_is : bound.ext ≡ extension_in h e.header.jsn
 
--- .. where there is one, and only there
+-- a bound was made where there is a time journal, and only there, and has what a proof is to show of it
 abbrev pub BoundsIf : History → Option Entry → Option Bound → Type 0
 BoundsIf h None None = ⊤
 BoundsIf h None (Some bound) = ⊥
@@ -77,7 +79,7 @@ path_if leaves (Some mark) = path_bytes leaves mark.jsn
 
 -- ---- what is shown by the parts
 
--- the parts are those of the proof of journal n
+-- the parts that were made are those of the proof of journal n
 pub record ArePartsOf (h : History) (n : ℕ) (parts : Parts) : Type 0 where
   pub leaf_is : parts.leaf ≡ digest (get_or (map leaf_digest (journals h)) n [])
   pub path_is : parts.path ≡ path_in h n
@@ -85,7 +87,7 @@ pub record ArePartsOf (h : History) (n : ℕ) (parts : Parts) : Type 0 where
   pub lower_path_is : parts.lower_path ≡ path_if (map leaf_digest (journals h)) (option_map (λ e. mark_of e.header) (lower_journal h n))
   pub upper_is : BoundsIf h (upper_journal h n) parts.upper
 
--- their digests aren't too many for a ledger of fewer than 2^32 journals
+-- the digests of the parts aren't too many for a proof, on a ledger of fewer than 2^32 journals
 pub record AreShort (parts : Parts) : Type 0 where
   pub leaf : length parts.leaf.0 ≡ 32
   pub path : AreDigests 32 parts.path
@@ -108,18 +110,18 @@ pub record IsNotedOf (es : List (List ℕ)) (lower upper : Option ℕ) (noted : 
   pub lower_is : noted.lower_path ≡ index_path es lower
   pub upper_is : noted.upper_path ≡ index_path es upper
 
--- its digests aren't too many for a list of at most 2^24 entries
+-- the digests of what a notary shows aren't too many for a proof, with a list of at most 2^24 entries
 pub record IsShortNoted (noted : Noted) : Type 0 where
   pub size : noted.size < 2 ^ 64
   pub lower : AreDigests 24 noted.lower_path
   pub upper : AreDigests 24 noted.upper_path
 
--- why a notary gave nothing: it failed, which it does only where it's asked
+-- why a notary showed nothing: it failed, which it does only where it's asked, or memory was wanting
 abbrev pub IsNotaryErr : Bool → MakeErr → Type 0
 IsNotaryErr asked (Refused why) = (why ≡ NotaryFault) × (asked ≡ true)
 IsNotaryErr asked NoMemory = ⊤
 
--- what the proof of leaf n among so many shows by the parts and by what is noted
+-- what the proof of leaf n among so many shows, by the parts that were made and by what the notary shows
 abbrev pub shown_by : ℕ → ℕ → Parts → Noted → Shown
 shown_by all n parts noted = record {
   size = all;

@@ -12,7 +12,7 @@ use Rattle.proof_codec.specs.declared.claim.Claim.{Claim}
 use Rattle.script_lines.specs.Replies.{time_mark}
 use Rattle.script_lines.specs.declared.reply.Reply.{Reply as AnyReply}
 use Rattle.script_lines.specs.declared.said.Which.TheVariants.{Ledger, Notary}
-use Rattle.script_lines.specs.declared.reply.Reply.TheVariants.{Placed, Whole, Occulted, Proof, Extension, Clue, Head, Refused}
+use Rattle.script_lines.specs.declared.reply.Reply.TheVariants.{Proof, Extension}
 use Rattle.ledger_model.specs.Bounds.{has_bound}
 use Rattle.ledger_model.specs.History.{History, journals, id, size, root}
 use Rattle.ledger_model.specs.Proofs.{extension_in, list_extension}
@@ -36,17 +36,13 @@ claim_told n leaf lo hi = record { n = n; leaf = leaf; lo = time_mark lo; hi = t
 -- the ledger and, where the journal has a bound, that of the list; an extension by one who trusts the root over the first of
 -- that tree. Other replies prove nothing.
 abbrev pub IsGood : History → List (List ℕ) → AnyReply → Type 0
-IsGood g es (Placed jsn leaf block size root stamp) = ⊤
-IsGood g es (Whole header content who) = ⊤
-IsGood g es (Occulted header who) = ⊤
 IsGood g es (Proof n leaf lo hi proof) = (trust : Trust) → TrustsHead trust g → (has_bound g n ≡ true → TrustsList trust es)
     → IsAccepted sha256 proof (claim_told n leaf lo hi) trust
 IsGood g es (Extension which m size root proof) = (trust : Trust) → TrustsWhich which trust g es m
     → IsExtension sha256 which m (record { size = size; root = root }) proof trust
-IsGood g es (Clue count kept) = ⊤
-IsGood g es (Head ledger size root blocks point notary_size notary_root) = ⊤
-IsGood g es (Refused refusal) = ⊤
+IsGood g es other = ⊤
 
+-- an answer that is a reply is accepted so; a receipt proves nothing
 abbrev pub IsGoodAnswer : History → List (List ℕ) → Answer → Type 0
 IsGoodAnswer g es (Reply reply) = IsGood g es reply
 IsGoodAnswer g es (Receipt jsn leaf stamp) = ⊤
@@ -57,11 +53,12 @@ IsGoodStep scheme h step =
     let job = job_of scheme (id h) step.line in
     IsGoodAnswer (judged_at h job) step.after (answer_to h step job)
 
--- .. for each of some steps, and of some windows
+-- what is due for each of some steps is accepted
 abbrev pub AreGood : Scheme → History → List Step → Type 0
 AreGood scheme h [] = ⊤
 AreGood scheme h (step ∷ steps) = IsGoodStep scheme h step × AreGood scheme (after_step scheme h step) steps
 
+-- what is due for each step of some windows is accepted
 abbrev pub AllGood : Scheme → History → List (List Step) → Type 0
 AllGood scheme h [] = ⊤
 AllGood scheme h (window ∷ windows) = AreGood scheme h window × AllGood scheme (after_window scheme h window) windows

@@ -7,7 +7,7 @@ use proof_codec::Claim;
 use thiserror::Error;
 use time_peg::NotaryErr;
 
-/// A proof that was made.
+/// A proof with what it claims, as a reply tells both.
 #[derive(Debug, Drop)]
 pub struct Made {
     /// What it claims.

@@ -1,4 +1,4 @@
-ghost use Rattle.std.specs.Prelude.{◌≡◌, ◌≤◌, ◌<◌, length, true, false, IfOk, IfSome, OnOk, OnErr, Option, option_copied, All};
+ghost use Rattle.std.specs.Prelude.{◌≡◌, ◌≤◌, ◌<◌, length, true, false, IfOk, OnOk, OnErr, Option, Some, None, All};
 ghost use Rattle.ledger_bytes.specs.declared.limits.TheConstants.{APPROVAL_LIMIT, CONTENT_LIMIT, PROOF_LIMIT};
 ghost use Rattle.journal_record.specs.declared.rules.TheConstants.{NOTARY_LIMIT};
 ghost use Rattle.journal_record.specs.declared.stamp.Stamp.{Stamp as StampRecord};
@@ -7,32 +7,30 @@ ghost use Rattle.ledger_model.specs.History.{History};
 ghost use Rattle.ledger_model.specs.Outcomes.{AsksFor};
 ghost use Rattle.ledger_model.specs.Rules.{closes_after};
 ghost use Rattle.ledger_model.specs.declared.job.Job.TheVariants as asked;
+ghost use Rattle.ledger_model.specs.declared.outcome.Outcome.TheVariants.{Placed};
 ghost use Rattle.ledger_book.specs.Books.{Serves};
 ghost use Rattle.ledger_book.specs.Purges.{point_after};
-ghost use Rattle.ledger_book.specs.Steps.{IsSame, IsAsBefore, IsLater, HasNumber, PlacesNothing, NeverReads, Applies, OpenGathers, Anchors};
+ghost use Rattle.ledger_book.specs.Steps.{IsSame, IsAsBefore, IsLater, HasNumber, HasOperatorRoom, PlacesNothing, NeverReads, Applies, OpenGathers, Anchors};
 
 use super::Book;
-use crate::headers::{new_member_header, occult_header, record_header, time_header};
+use crate::headers::{new_member_header, occult_header, placed_with, record_header, time_header};
 use journal_record::{Approval, Stamp};
-use ledger_bytes::{Bytes, Digest, NoMemory, Sha};
-use ledger_model::{Job, Outcome, Query};
-use merkle_tree::leaf_of;
+use ledger_bytes::{Bytes, Digest, NoMemory};
+use ledger_model::{Job, Outcome, PlacedJournal, Query};
 
 impl Book {
     /// Judges a job, and places its journal in the open block where it is accepted. A refusal changes nothing, and so
     /// does an `Err`. The open block isn't ended by this: the caller ends it where it is full, before a job that asks for
-    /// that, and behind one whose journal is a block of its own. The stamp is the notary's: an anchor that is accepted asks
-    /// for it, and is to be applied again with it.
-    pub fn apply(&mut self, job: &Job, stamp: Option<&Stamp>) -> Result<Outcome, NoMemory>
+    /// that, and behind one whose journal is a block of its own. An anchor that is accepted asks for a stamp of the notary,
+    /// with which [`Book::place_time`] places its journal.
+    pub fn apply(&mut self, job: &Job) -> Result<Outcome, NoMemory>
         requires fits { fits_job job.now ≡ true }
-        requires stamp { IfSome (option_copied stamp) (λ s. s.index < NOTARY_LIMIT) }
         ensures ok { IfOk result (λ outcome. (h : History) → Serves self.old h
-            → Applies self.old.limits (option_copied stamp.entry) h job.now outcome self.new) }
+            → Applies self.old.limits None h job.now outcome self.new) }
         ensures number { IfOk result (HasNumber self.old self.new) }
         ensures gathers { OnOk result (closes_after job.now ≡ false → OpenGathers self.old
             → OpenGathers self.new) }
-        ensures anchor { IfOk result (λ outcome. job.now ≡ asked.Anchor
-            → Anchors self.old (option_copied stamp.entry) outcome) }
+        ensures anchor { IfOk result (λ outcome. job.now ≡ asked.Anchor → Anchors self.old outcome) }
         ensures err { OnErr result (IsAsBefore self.old self.new) }
         ensures same { IsLater self.old self.new }
         ensures point { IfOk result (λ outcome. self.new.point ≡ point_after job.now outcome self.old.point) }
@@ -50,7 +48,10 @@ impl Book {
                 by,
             } => self.apply_record(*member, clue, content, content_digest, request, by),
             Job::NewMember { number, key, by } => self.apply_member(*number, key, by),
-            Job::Anchor => self.apply_anchor(stamp),
+            Job::Anchor => match self.hard_refusal() {
+                Some(refusal) => Ok(Outcome::Refused(refusal)),
+                None => Ok(Outcome::Reading(Query::Stamp)),
+            },
             Job::Occult {
                 target,
                 leaf,
@@ -101,10 +102,10 @@ impl Book {
         if let Some(refusal) = self.record_refusal(member, clue, by) {
             return Ok(Outcome::Refused(refusal));
         }
-        let place = self.place_of(clue);
+        let numbers = self.numbers_of(clue);
         let content_len = content.as_slice().len() as u32;
         let header = record_header(
-            place,
+            numbers,
             member,
             clue,
             content_len,
@@ -112,37 +113,26 @@ impl Book {
             request,
             by,
         );
-        let leaf = leaf_of::<Sha>(&header.encode());
-        self.place_record(&header, leaf)?;
-        Ok(Outcome::Placed {
-            jsn: place.jsn,
-            leaf,
-        })
+        let placed = placed_with(numbers.jsn, &header);
+        self.place_record(&header, placed.leaf)?;
+        Ok(Outcome::Placed(placed))
     }
 
-    // Judges an anchor. One that is accepted asks for a stamp, and with it its journal is placed.
-    fn apply_anchor(&mut self, stamp: Option<&Stamp>) -> Result<Outcome, NoMemory>
-        requires { IfSome (option_copied stamp) (λ s. s.index < NOTARY_LIMIT) }
-        ensures ok { IfOk result (λ outcome. (h : History) → Serves self.old h
-            → Applies self.old.limits (option_copied stamp.entry) h asked.Anchor outcome self.new) }
-        ensures number { IfOk result (HasNumber self.old self.new) }
-        ensures anchor { IfOk result (Anchors self.old (option_copied stamp.entry)) }
+    /// Places the time journal of an anchor that asked for this stamp, in the open block.
+    pub fn place_time(&mut self, stamp: &Stamp) -> Result<PlacedJournal, NoMemory>
+        requires stamp { stamp.now.index < NOTARY_LIMIT }
+        requires room { HasOperatorRoom self.old }
+        ensures ok { IfOk result (λ placed. (h : History) → Serves self.old h
+            → Applies self.old.limits (Some stamp.now) h asked.Anchor (Placed placed) self.new) }
+        ensures number { IfOk result (λ placed. HasNumber self.old self.new (Placed placed)) }
         ensures err { OnErr result (IsAsBefore self.old self.new) }
         ensures same { IsSame self.old self.new }
-        ensures unchanged { IfOk result (λ outcome. PlacesNothing outcome → self.new ≡ self.old) }
-        ensures asked { IfOk result (AsksFor asked.Anchor) }
     {
-        if let Some(refusal) = self.hard_refusal() {
-            return Ok(Outcome::Refused(refusal));
-        }
-        let Some(stamp) = stamp else {
-            return Ok(Outcome::Reading(Query::Stamp));
-        };
         let jsn = self.size;
         let header = time_header(jsn, stamp);
-        let leaf = leaf_of::<Sha>(&header.encode());
-        self.place_record(&header, leaf)?;
-        Ok(Outcome::Placed { jsn, leaf })
+        let placed = placed_with(jsn, &header);
+        self.place_record(&header, placed.leaf)?;
+        Ok(placed)
     }
 
     // Judges an occult, and places it where it is accepted.
@@ -169,9 +159,9 @@ impl Book {
         }
         let jsn = self.size;
         let header = occult_header(jsn, target, leaf, given);
-        let leaf = leaf_of::<Sha>(&header.encode());
-        self.place_record(&header, leaf)?;
-        Ok(Outcome::Placed { jsn, leaf })
+        let placed = placed_with(jsn, &header);
+        self.place_record(&header, placed.leaf)?;
+        Ok(Outcome::Placed(placed))
     }
 
     // Judges a new member, and admits it where it is accepted.
@@ -198,8 +188,8 @@ impl Book {
         }
         let jsn = self.size;
         let header = new_member_header(jsn, number, key, by);
-        let leaf = leaf_of::<Sha>(&header.encode());
-        self.place_member(&header, leaf)?;
-        Ok(Outcome::Placed { jsn, leaf })
+        let placed = placed_with(jsn, &header);
+        self.place_member(&header, placed.leaf)?;
+        Ok(Outcome::Placed(placed))
     }
 }

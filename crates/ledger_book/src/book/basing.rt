@@ -1,6 +1,6 @@
 //! Books that begin behind a base, and the bases that a book tells.
 
-ghost use Rattle.std.specs.Prelude.{◌≡◌, ◌-◌, ◌≤◌, [], ◌++◌, length, map, filter, count_by, take, drop, vec_len, nat_lt, Some, IfOk, OnOk};
+ghost use Rattle.std.specs.Prelude.{◌≡◌, ◌-◌, ◌≤◌, [], ◌++◌, length, map, filter, count_by, take, nat_lt, Some, IfOk, OnOk};
 ghost use Rattle.std.specs.Option.{option_to_list};
 ghost use Rattle.ledger_bytes.specs.declared.limits.TheConstants.{MEMBER_LIMIT};
 ghost use Rattle.member_book.specs.Members.{count_below};
@@ -16,7 +16,7 @@ ghost use Rattle.ledger_book.specs.Reading.{EndsWith, StandsBehind};
 use super::Book;
 use crate::hiders::Hiders;
 use clue_index::ClueIndex;
-use ledger_bytes::{Digest, Items, NoMemory};
+use ledger_bytes::{Digest, Items, NoMemory, keep_from};
 use ledger_model::Limits;
 use member_book::MemberBook;
 use merkle_batch::Tree;
@@ -131,24 +131,13 @@ impl Book {
         ensures same { IsCut self.old self.new }
     {
         let count = (p - self.floor) as usize;
-        keep_from(&mut self.headers, count);
+        keep_from(&mut self.headers, count, 0);
         self.ends.retain(|end| *end > p);
         let _ = self.tree.forget_below(p);
         self.clues.drop_below(p);
         self.hiders.drop_below(p);
         self.floor = p;
     }
-}
-
-// The values from this one on alone, at the front. Room that they don't need is given back.
-fn keep_from<T: Copy>(values: &mut Vec<T>, count: usize)
-    requires { count ≤ vec_len values.old }
-    ensures { values.new.items ≡ drop count values.old.items }
-{
-    let len = values.len();
-    values.copy_within(count..len, 0);
-    values.truncate(len - count);
-    values.shrink_to_fit();
 }
 
 // How many of some ends lie above `p`.

@@ -21,7 +21,7 @@ ghost use Rattle.ledger_book.specs.Hiders.{AddsHider};
 ghost use Rattle.ledger_book.specs.Steps.{IsSame, IsAsBefore, MayPlace, IsLeafOf, OpenGathers, point_with, with_clue_of, with_time_of};
 
 use super::Book;
-use crate::headers::Place;
+use crate::headers::Numbers;
 use crate::hiders::Hiders;
 use clue_index::ClueIndex;
 use journal_record::{Header, Kind};
@@ -29,8 +29,8 @@ use ledger_bytes::{Digest, NoMemory, TimeMark};
 use time_peg::TimeIndex;
 
 impl Book {
-    /// Where the next journal stands, which has this clue.
-    pub(super) fn place_of(&self, clue: &Digest) -> Place
+    /// The numbers of the next journal, which has this clue.
+    pub(super) fn numbers_of(&self, clue: &Digest) -> Numbers
         requires { self.now.size < real_limits.size }
         ensures jsn { result.jsn ≡ self.now.size }
         ensures above { self.now.floor ≤ result.jsn }
@@ -46,14 +46,14 @@ impl Book {
     {
         let jsn = self.size;
         if *clue == Digest::ZERO {
-            return Place {
+            return Numbers {
                 jsn,
                 ordinal: 0,
                 previous: 0,
             };
         }
         let (ordinal, previous) = self.clues.next_of(clue);
-        Place {
+        Numbers {
             jsn,
             ordinal,
             previous,

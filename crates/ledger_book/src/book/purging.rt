@@ -18,12 +18,11 @@ ghost use Rattle.ledger_book.specs.Purges.{ArePurgeFacts, owners_in, point_of};
 ghost use Rattle.ledger_book.specs.Steps.{Applies, HasNumber, IsAsBefore, IsLater, NeverReads, PlacesNothing};
 
 use super::Book;
-use crate::headers::purge_header;
+use crate::headers::{placed_with, purge_header};
 use erase_rules::{PurgeFacts, judge_purge};
 use journal_record::{Approval, Header, Kind};
 use ledger_bytes::{Digest, NoMemory, Refusal, Sha};
 use ledger_model::Outcome;
-use merkle_tree::leaf_of;
 use pseudo_genesis::base_digest;
 use std::alloc::Global;
 
@@ -55,9 +54,9 @@ impl Book {
         let link = self.base_digest_at(point)?;
         let jsn = self.size;
         let header = purge_header(jsn, point, &link, given);
-        let leaf = leaf_of::<Sha>(&header.encode());
-        self.place_record(&header, leaf)?;
-        Ok(Outcome::Placed { jsn, leaf })
+        let placed = placed_with(jsn, &header);
+        self.place_record(&header, placed.leaf)?;
+        Ok(Outcome::Placed(placed))
     }
 
     // Why a purge is refused, where it is: there is no room over the whole life, or else by its point and its approvals.

@@ -160,15 +160,15 @@ impl Book {
         if header.member >= self.members.count() {
             return false;
         }
-        let place = self.place_of(&header.clue);
-        if header.clue_ord != place.ordinal {
+        let numbers = self.numbers_of(&header.clue);
+        if header.clue_ord != numbers.ordinal {
             return false;
         }
-        if header.clue_prev != place.previous {
+        if header.clue_prev != numbers.previous {
             return false;
         }
         // A clue that has a journal already needs no room, and neither does no clue.
-        place.ordinal != 1 || self.clue_refusal(&header.clue, Limits::real()).is_none()
+        numbers.ordinal != 1 || self.clue_refusal(&header.clue, Limits::real()).is_none()
     }
 
     // Whether an occult is the next one, where its number is. Nothing but its hider is known of a target in front of the

@@ -12,4 +12,4 @@ returns-in-Ok g c =
 pub returns-in-Err : goal.returns-in-Err
 returns-in-Err g c =
     unread g.H.TreeHash.of (lists_of c.args.id.now c.args.headers.now c.args.entries.now) c.args.proof.now c.args.claim.now
-    (λ i. omega (arith, c.type_inv.proof i)) c.in-Err.bad c.place_of.result c.in-Err.ensures.exact c.place_of.ensures
+    (λ i. omega (arith, c.type_inv.proof i)) c.in-Err.bad c.break_of.result c.in-Err.ensures.exact c.break_of.ensures

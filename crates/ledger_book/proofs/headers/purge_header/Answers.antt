@@ -1,5 +1,7 @@
-use Rattle.ledger_book.proofs.HeaderLaws.{purge_is}
+use Rattle.journal_record.specs.Approval.{who_of}
+use Rattle.ledger_model.specs.Appends.{purge_header}
 use Rattle.ledger_book.proofs.headers.purge_header.Goals as goal
 
 pub returns : goal.returns
-returns c = purge_is c.args.jsn c.args.point c.args.link.now c.content_digest.result c.approvals_digest.result c.args.given.now c.content_digest.ensures c.approvals_digest.ensures
+unfolding purge_header
+returns c = c.plain_header.ensures (who_of c.args.given.now) c.approvals_digest.ensures

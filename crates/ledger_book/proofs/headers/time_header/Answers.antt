@@ -1,5 +1,7 @@
-use Rattle.ledger_book.proofs.HeaderLaws.{time_is}
+use Rattle.std.proofs.Common.{[]}
+use Rattle.ledger_model.specs.Anchors.{time_header}
 use Rattle.ledger_book.proofs.headers.time_header.Goals as goal
 
 pub returns : goal.returns
-returns c = time_is c.args.jsn c.args.stamp.now c.content_digest.result c.who_digest.result c.content_digest.ensures c.who_digest.ensures
+unfolding time_header
+returns c = c.plain_header.ensures [] c.who_digest-who.ensures

@@ -1,13 +1,11 @@
 use Rattle.std.specs.Prelude.{IfNone}
 use Rattle.std.proofs.Common.{◌≤◌, refl, sym, subst, ap, ◌∙◌, arith}
-use Rattle.sha2.specs.Sha256.{sha256}
-use Rattle.tree_model.specs.Tree.{leaf}
 use Rattle.ledger_bytes.specs.Digests.{digest}
 use Rattle.ledger_model.specs.Appends.{purge_header, purge_journal}
 use Rattle.ledger_model.specs.History.{size}
 use Rattle.ledger_model.specs.declared.job.Job.TheVariants.{Purge}
 use Rattle.ledger_book.specs.Books.{Kept}
-use Rattle.ledger_book.proofs.ApplyLaws.{applies_refused, applies_placed, leaf_is}
+use Rattle.ledger_book.proofs.ApplyLaws.{applies_refused, applies_placed}
 use Rattle.ledger_book.proofs.PurgeLaws.{purge_kind, purge_bounds, purge_may, purge_point}
 use Rattle.ledger_book.proofs.StandsLaws.{point_is}
 use Rattle.ledger_book.proofs.book.Book.apply_purge.Goals as goal
@@ -23,7 +21,6 @@ returns-clause-ok c = λ stamp h s.
     let k = a.self.now in
     let p = a.point in
     let header = c.purge_header-header.result in
-    let tip = c.leaf_of-leaf.result in
     let journal = purge_journal h p a.given.now in
     let at = ap (λ (b : Kept). b.size) c.self.view_is ∙ s.stands.counts.size in
     let none = sym (c.in_ok-refusal.ensures.refusal h s) ∙ c.in_default.is in
@@ -35,8 +32,8 @@ returns-clause-ok c = λ stamp h s.
     let may = purge_may h p a.given.now header k.limits a.root.now c.purge_refusal.ensures.within none s.stands.lawful is in
     let stands = c.in_ok-place_record.ensures.ok h journal s.stands is (purge_kind h p a.given.now header is) may in
     let point = c.in_ok-place_record.ensures.point ∙ purge_point c.self.inside.size p c.in_ok-link.link a.given.now header k.point c.purge_header-header.ensures in
-    applies_placed k.limits stamp h (Purge p a.root.now a.given.now) journal c.self.inside.size tip c.place_record.new.self
-    none refl refl at (leaf_is journal header tip is (c.leaf_of-leaf.ensures ∙ ap (leaf sha256) c.encode.ensures.bytes))
+    applies_placed k.limits stamp h (Purge p a.root.now a.given.now) journal header c.placed_with-placed.result c.place_record.new.self
+    none refl refl is (c.placed_with-placed.ensures.jsn ∙ at) c.placed_with-placed.ensures.leaf c.placed_with-placed.ensures.bytes c.placed_with-placed.ensures.widths
     (record { stands = stands; seen = omega (arith, point, c.in_ok-place_record.ensures.floor.1, low) })
 
 pub returns-clause-point : goal.returns-clause-point

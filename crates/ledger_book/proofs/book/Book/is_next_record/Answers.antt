@@ -12,57 +12,57 @@ use Rattle.ledger_book.proofs.NextLaws.{never, few_behind, room_old}
 use Rattle.ledger_book.proofs.ReplayLaws.{members_told}
 use Rattle.ledger_book.proofs.book.Book.is_next_record.Goals as goal
 
-pub returns-then-place-ne1-clause-next : goal.returns-then-place-ne1-clause-next
-returns-then-place-ne1-clause-next c = λ h s.
+pub returns-then-numbers-ne1-clause-next : goal.returns-then-numbers-ne1-clause-next
+returns-then-numbers-ne1-clause-next c = λ h s.
     let x = c.args.header.now in
-    let place = c.place_of-place.result in
-    let ordinal = c.place_of-place.ensures.ordinal h s in (
+    let numbers = c.numbers_of-numbers.result in
+    let ordinal = c.numbers_of-numbers.ensures.ordinal h s in (
       λ yes. record {
         member = omega (arith, c.if-header-count.false, c.count.ensures.count, ap (λ (k : Kept). length k.members) c.self.view_is, members_told c.args.self.now h s);
-        clue_ord = c.if-header-place.false ∙ ordinal;
-        clue_prev = c.if-header-place-2.false ∙ c.place_of-place.ensures.previous h s;
-        room = clue_old real_limits h x.clue place.ordinal ordinal c.if-place-ne1.true;
+        clue_ord = c.if-header-numbers.false ∙ ordinal;
+        clue_prev = c.if-header-numbers-2.false ∙ c.numbers_of-numbers.ensures.previous h s;
+        room = clue_old real_limits h x.clue numbers.ordinal ordinal c.if-numbers-ne1.true;
       },
-      λ next. ap not (ne_eqb place.ordinal 1 c.if-place-ne1.true),
+      λ next. ap not (ne_eqb numbers.ordinal 1 c.if-numbers-ne1.true),
     )
 
-pub returns-then-header-place-clause-behind : goal.returns-then-header-place-clause-behind
-returns-then-header-place-clause-behind c = λ start es s.
+pub returns-then-header-numbers-clause-behind : goal.returns-then-header-numbers-clause-behind
+returns-then-header-numbers-clause-behind c = λ start es s.
     let k = c.args.self.now in
     let few : k.size < 4_294_967_295 = c.requires in
-    let ordinal = c.place_of-place.ensures.ordinal_in (clues_behind start es) s.clues (few_behind k start es s few c.args.header.now.clue.0) in
-    never (λ own. c.if-header-place.true (own.clue_ord ∙ sym ordinal))
+    let ordinal = c.numbers_of-numbers.ensures.ordinal_in (clues_behind start es) s.clues (few_behind k start es s few c.args.header.now.clue.0) in
+    never (λ own. c.if-header-numbers.true (own.clue_ord ∙ sym ordinal))
 
-pub returns-then-place-ne1-clause-behind : goal.returns-then-place-ne1-clause-behind
-returns-then-place-ne1-clause-behind c = λ start es s.
+pub returns-then-numbers-ne1-clause-behind : goal.returns-then-numbers-ne1-clause-behind
+returns-then-numbers-ne1-clause-behind c = λ start es s.
     let k = c.args.self.now in
     let x = c.args.header.now in
-    let place = c.place_of-place.result in
+    let numbers = c.numbers_of-numbers.result in
     let few : k.size < 4_294_967_295 = c.requires in
-    let ordinal = c.place_of-place.ensures.ordinal_in (clues_behind start es) s.clues (few_behind k start es s few x.clue.0) in (
+    let ordinal = c.numbers_of-numbers.ensures.ordinal_in (clues_behind start es) s.clues (few_behind k start es s few x.clue.0) in (
       λ yes. record {
         member = omega (arith, c.if-header-count.false, c.count.ensures.count, ap (λ (b : Kept). length b.members) c.self.view_is, s.members);
-        clue_ord = c.if-header-place.false ∙ ordinal;
-        clue_prev = c.if-header-place-2.false ∙ c.place_of-place.ensures.previous_in (clues_behind start es) s.clues;
-        room = room_old real_limits.clues (clues_behind start es) x.clue place.ordinal ordinal c.if-place-ne1.true;
+        clue_ord = c.if-header-numbers.false ∙ ordinal;
+        clue_prev = c.if-header-numbers-2.false ∙ c.numbers_of-numbers.ensures.previous_in (clues_behind start es) s.clues;
+        room = room_old real_limits.clues (clues_behind start es) x.clue numbers.ordinal ordinal c.if-numbers-ne1.true;
       },
-      λ next. ap not (ne_eqb place.ordinal 1 c.if-place-ne1.true),
+      λ next. ap not (ne_eqb numbers.ordinal 1 c.if-numbers-ne1.true),
     )
 
-pub returns-else-place-ne1-clause-behind : goal.returns-else-place-ne1-clause-behind
-returns-else-place-ne1-clause-behind c = λ start es s.
+pub returns-else-numbers-ne1-clause-behind : goal.returns-else-numbers-ne1-clause-behind
+returns-else-numbers-ne1-clause-behind c = λ start es s.
     let k = c.args.self.now in
     let x = c.args.header.now in
     let a = clues_behind start es in
     let few : k.size < 4_294_967_295 = c.requires in
-    let ordinal = c.place_of-place.ensures.ordinal_in a s.clues (few_behind k start es s few x.clue.0) in
+    let ordinal = c.numbers_of-numbers.ensures.ordinal_in a s.clues (few_behind k start es s few x.clue.0) in
     let told : IsTrue c.is_none.result ↔ HasRoomFor real_limits.clues a x.clue =
     subst (λ v. IsTrue v ↔ HasRoomFor real_limits.clues a x.clue) (none_told c.clue_refusal.result c.is_none.result c.is_none.ensures)
     (subst (λ (l : Limits). IsTrue (is_none c.clue_refusal.result) ↔ HasRoomFor l.clues a x.clue) c.real.ensures (c.clue_refusal.ensures.room a s.clues (few_behind k start es s few x.clue.0))) in (
       λ yes. record {
         member = omega (arith, c.if-header-count.false, c.count.ensures.count, ap (λ (b : Kept). length b.members) c.self.view_is, s.members);
-        clue_ord = c.if-header-place.false ∙ ordinal;
-        clue_prev = c.if-header-place-2.false ∙ c.place_of-place.ensures.previous_in a s.clues;
+        clue_ord = c.if-header-numbers.false ∙ ordinal;
+        clue_prev = c.if-header-numbers-2.false ∙ c.numbers_of-numbers.ensures.previous_in a s.clues;
         room = told.0 yes;
       },
       λ own. told.1 own.room,
