@@ -28,7 +28,7 @@ use Rattle.ledger_model.specs.declared.outcome.Query.{Query}
 use Rattle.ledger_model.specs.declared.outcome.Query.TheVariants as query
 use Rattle.ledger_book.specs.Books as books
 use Rattle.ledger_book.proofs.ApplyLaws.{anchor_accepted}
-use Rattle.ledger_book.specs.Steps.{Applies, Anchors, HasOperatorRoom, PlacesNothing}
+use Rattle.ledger_book.specs.Steps.{Applies, HasOperatorRoom, PlacesNothing}
 use Rattle.batch_committer.specs.Steps.{Gathers, Judged}
 use Rattle.batch_committer.specs.World.{CommitterState, Keeps}
 use Rattle.batch_committer.specs.Attending.{Attended, JudgedBy}
@@ -58,13 +58,6 @@ unstamped_judged k h step why p accepted none is = record {
       ∙ sym (ap (λ o. answer_for h step (judged_outcome (own_refusal real_limits h Anchor) (anchor_outcome h o))) none ∙ ap (λ r. answer_for h step (judged_outcome r (came.Reading query.Stamp))) accepted);
   gathers = subst (λ o. Gathers k (with_job real_limits o h Anchor)) (sym none) (subst (Gathers k) (sym (unplaced real_limits h)) (gathers_kept k h p));
 }
-
--- ---- a stamp
-
--- with a stamp and with room it is placed
-pub stamped_placed : (k : books.Kept) (s : Stamp) (o : Outcome) → HasOperatorRoom k → Anchors k (Some s) o → ((x : Refusal) × (o ≡ came.Refused x)) ⊎ ((x : Query) × (o ≡ came.Reading x)) → ⊥
-stamped_placed k s o room told (inl x) = subst (Anchors k (Some s)) x.1 told room
-stamped_placed k s o room told (inr x) = subst (Anchors k (Some s)) x.1 told
 
 -- ---- from the clauses of a notary
 
@@ -96,10 +89,6 @@ unfolding result_full
 failed_not_full old e is full at = subst result_full (sym (full at) ∙ ap (λ x. Err x) is) tt
 
 -- ---- by what the book told before
-
--- where it asks for a stamp there is room
-pub asked_room : (old new : books.Kept) (o : Outcome) (q : Query) → Anchors old None o → o ≡ came.Reading q → (PlacesNothing o → new ≡ old) → HasOperatorRoom new
-asked_room old new o q told is same = subst HasOperatorRoom (sym (same (subst PlacesNothing (sym is) tt))) (subst (Anchors old None) is told)
 
 -- the job that asks for this
 abbrev job_asking : Query → Job

@@ -10,6 +10,7 @@ use Rattle.ledger_bytes.specs.declared.limits.TheConstants.{BLOCK_LIMIT}
 use Rattle.journal_record.specs.Blocks.{body_of, block_bytes, leaves_of, written_blocks, AreFrom}
 use Rattle.journal_record.specs.Entry.{Entry}
 use Rattle.journal_record.specs.Header.{spelling}
+use Rattle.block_file.specs.declared.block.TheConstants.{BLOCK_HEAD_LEN}
 use Rattle.block_file.specs.File.{IsFileOf, tail_of, open_blocks, IsSettled, HasBlock}
 use Rattle.ledger_disk.proofs.Guarding.{settled_image}
 use Rattle.ledger_disk.specs.Disk.{State, MayLeave, settled_state}
@@ -23,8 +24,9 @@ use Rattle.ledger_book.specs.Books.{sealed_size}
 use Rattle.twin_file.specs.Twin.{open_of, other_of}
 use Rattle.ledger_open.specs.Cutting.{gate_behind}
 use Rattle.ledger_open.specs.Growing.{with_block, IsNextBlock}
-use Rattle.ledger_open.specs.Places.{record_len, place_at, places_in, places_at, places_from, after_at}
-use Rattle.ledger_open.specs.declared.places.PlaceAt.{PlaceAt}
+use Rattle.block_file.specs.Places.{body_from, record_len, place_at, places_in, places_at, after_at}
+use Rattle.ledger_open.specs.Places.{places_from}
+use Rattle.block_file.specs.declared.place.PlaceAt.{PlaceAt}
 use Rattle.ledger_open.specs.Standing.{Floor, floor_behind, hidden_before, point_before, Parts, StandsBy, StandsFor, IsErased, IsClean, PairFor, IsCleanPair}
 use Rattle.ledger_open.proofs.FloorLaws.{floor_root, floor_digests, floor_kept}
 use Rattle.ledger_open.proofs.GrowLaws.{erased_stands, grown, begins}
@@ -32,8 +34,8 @@ use Rattle.ledger_open.proofs.KeptLaws.{header_map_same, all_kept}
 use Rattle.ledger_open.proofs.PlaceLaws.{after_kept, tail_place}
 use Rattle.ledger_open.proofs.SizeLaws.{mth_size, block_size, body_size, readable}
 use Rattle.batch_committer.specs.Committed.{IsCommitted, IsUncommitted, open_bytes}
-use Rattle.batch_committer.specs.declared.end.End.{End}
-use Rattle.batch_committer.specs.declared.end.End.TheVariants.{DiskFault, WriteFault, NoMemory, Closed}
+use Rattle.batch_committer.specs.declared.failure.CommitErr.{CommitErr}
+use Rattle.batch_committer.specs.declared.failure.CommitErr.TheVariants.{DiskFault, WriteFault, NoMemory, Closed}
 use Rattle.batch_committer.specs.World.{CommitterState, World, Pair, Keeps, IsCleanFor, Holds, IsErasedPair, IsLeftClean, sealed_part}
 use Rattle.batch_committer.proofs.Parting.{TailsAt, tails_at, gone_few}
 
@@ -213,7 +215,7 @@ erased_of true a b i j h empty left_a left_b x = record { in_a = true; erased = 
 erased_of false a b i j h empty left_a left_b x = record { in_a = false; erased = x; empty = empty_image a i empty left_a }
 
 -- images that are clean are so at each end
-pub left_clean : (end : End) (h kept : History) (done : List Due) (a b : List ℕ) → IsCleanPair a b kept → IsLeftClean end h kept done a b
+pub left_clean : (end : CommitErr) (h kept : History) (done : List Due) (a b : List ℕ) → IsCleanPair a b kept → IsLeftClean end h kept done a b
 left_clean DiskFault h kept done a b c = inl (record { in_a = c.in_a; erased = c.clean.erased; empty = c.empty })
 left_clean WriteFault h kept done a b c = c
 left_clean NoMemory h kept done a b c = c
@@ -222,30 +224,30 @@ left_clean Closed h kept done a b c = c
 -- ---- a commit
 
 -- where the tail gate stands of what is kept
-pub tails_kept : (k : CommitterState) (h : History) → Keeps k h → All IsBlock h.closed → TailsAt k.place (sealed_part h)
-tails_kept k h p all = tails_at (sealed_part h) k.place k.book.floor p.located.parts all p.floor p.located.tail
+pub tails_kept : (k : CommitterState) (h : History) → Keeps k h → All IsBlock h.closed → TailsAt k.gate (sealed_part h)
+tails_kept k h p all = tails_at (sealed_part h) k.gate k.book.floor p.located.parts all p.floor p.located.tail
 
 module _ (tells : Bool) (w : World) (h : History) (p : Holds tells w h) (some : 1 ≤ length h.waiting) (most : length h.waiting ≤ BLOCK_LIMIT) (disks : Pair) where
   abbrev from : Floor
   from = floor_behind (sealed_part h) p.disks.erased.parts.gone
 
-  tail : tail_of p.disks.erased.keeps.file.front (written_blocks (from).root [] p.disks.erased.keeps.blocks) ≡ w.kept.place
+  tail : tail_of p.disks.erased.keeps.file.front (written_blocks (from).root [] p.disks.erased.keeps.blocks) ≡ w.kept.gate
   tail = tail_at (point (sealed_part h)) (is_hidden (sealed_part h)) _ (sealed_part h) p.disks.erased ∙ sym (tails_kept w.kept h p.keeps p.disks.erased.lawful.blocks_are p.disks.erased.parts)
 
-  has_block : IsCommitted tells w.kept.in_a w.kept.place (next_bytes h) w.disks disks
+  has_block : IsCommitted tells w.kept.in_a w.kept.gate (next_bytes h) w.disks disks
       → HasBlock p.disks.erased.keeps.file.front (written_blocks (from).root [] p.disks.erased.keeps.blocks) (next_bytes h) (open_bytes w.kept.in_a disks)
   has_block c = c.has p.told p.disks.erased.keeps.file.front (written_blocks (from).root [] p.disks.erased.keeps.blocks) p.disks.erased.keeps.file.stands tail
 
   -- that was done
-  pub commit_quiet : IsCommitted tells w.kept.in_a w.kept.place (next_bytes h) w.disks disks → IsSettled (open_bytes w.kept.in_a disks)
+  pub commit_quiet : IsCommitted tells w.kept.in_a w.kept.gate (next_bytes h) w.disks disks → IsSettled (open_bytes w.kept.in_a disks)
   commit_quiet c = (has_block c).nothing_pending
 
-  pub commit_stands : IsCommitted tells w.kept.in_a w.kept.place (next_bytes h) w.disks disks
+  pub commit_stands : IsCommitted tells w.kept.in_a w.kept.gate (next_bytes h) w.disks disks
       → StandsBy (point (sealed_part h)) (hidden_before (sealed_part (close h))) (open_bytes w.kept.in_a disks).seen (sealed_part (close h))
   commit_stands c = block_stands w.kept h p.keeps some most _ _ p.disks.erased (has_block c).stands
 
   -- .. or that failed
-  pub commit_left : (i j : List ℕ) → IsUncommitted tells w.kept.in_a w.kept.place (next_bytes h) w.disks disks → MayLeave disks.a.bytes i → MayLeave disks.b.bytes j
+  pub commit_left : (i j : List ℕ) → IsUncommitted tells w.kept.in_a w.kept.gate (next_bytes h) w.disks disks → MayLeave disks.a.bytes i → MayLeave disks.b.bytes j
       → (PairFor i j (sealed_part h) × IsErasedPair i j (sealed_part h)) ⊎ PairFor i j (sealed_part (close h))
   commit_left i j c left_a left_b =
       let in_a = w.kept.in_a in
@@ -262,15 +264,15 @@ module _ (tells : Bool) (w : World) (h : History) (p : Holds tells w h) (some : 
 
 -- ---- places
 
-pub places_more : (at : ℕ) (bs : List (List Entry)) (b : List Entry) → places_at at (bs ++ b ∷ []) ≡ places_at at bs ++ places_in (after_at at bs + 45) b
-places_more at [] b = append-nil (places_in (at + 45) b)
+pub places_more : (at : ℕ) (bs : List (List Entry)) (b : List Entry) → places_at at (bs ++ b ∷ []) ≡ places_at at bs ++ places_in (body_from (after_at at bs)) b
+places_more at [] b = append-nil (places_in (body_from at) b)
 places_more at (x ∷ bs) b =
-    let next = at + 45 + sum_by record_len x in
-    ap (λ (l : List PlaceAt). places_in (at + 45) x ++ l) (places_more next bs b) ∙ sym (append_assoc (places_in (at + 45) x) (places_at next bs) (places_in (after_at next bs + 45) b))
+    let next = body_from at + sum_by record_len x in
+    ap (λ (l : List PlaceAt). places_in (body_from at) x ++ l) (places_more next bs b) ∙ sym (append_assoc (places_in (body_from at) x) (places_at next bs) (places_in (body_from (after_at next bs)) b))
 
-after_more : (at : ℕ) (bs : List (List Entry)) (b : List Entry) → after_at at (bs ++ b ∷ []) ≡ after_at at bs + 45 + sum_by record_len b
+after_more : (at : ℕ) (bs : List (List Entry)) (b : List Entry) → after_at at (bs ++ b ∷ []) ≡ body_from (after_at at bs) + sum_by record_len b
 after_more at [] b = refl
-after_more at (x ∷ bs) b = after_more (at + 45 + sum_by record_len x) bs b
+after_more at (x ∷ bs) b = after_more (body_from at + sum_by record_len x) bs b
 
 pub places_in_more : (at : ℕ) (es : List Entry) (e : Entry) → places_in at (es ++ e ∷ []) ≡ places_in at es ++ place_at (at + sum_by record_len es) e ∷ []
 places_in_more at [] e = ap (λ (n : ℕ). place_at n e ∷ []) (omega arith)
@@ -282,7 +284,7 @@ places_in_more at (x ∷ es) e =
 pub body_len : (n : ℕ) (es : List Entry) → AreFrom n es → length (body_of es) ≡ sum_by record_len es
 body_len n es a = body_size es (readable n es a)
 
-pub bytes_len : (h : History) → AreFrom (sealed_size h) h.waiting → length (next_bytes h) ≡ 44 + sum_by record_len h.waiting
+pub bytes_len : (h : History) → AreFrom (sealed_size h) h.waiting → length (next_bytes h) ≡ BLOCK_HEAD_LEN + sum_by record_len h.waiting
 bytes_len h a = block_size (mth sha256 (leaves h)) h.waiting (mth_size (leaves h)) (readable (sealed_size h) h.waiting a)
 
 -- ---- what is kept of the blocks, with the open block behind them
@@ -305,10 +307,10 @@ module _ (k : CommitterState) (h : History) (p : Keeps k h) (some : 1 ≤ length
   pub places_close : k.places ≡ places_from (floor_behind (sealed_part (close h)) p.located.parts.gone) (p.located.parts.kept ++ h.waiting ∷ [])
   places_close =
       let from = floor_behind (sealed_part h) p.located.parts.gone in
-      p.located.places ∙ ap (λ (n : ℕ). places_from from p.located.parts.kept ++ places_in (n + 45) h.waiting) p.located.tail
+      p.located.places ∙ ap (λ (n : ℕ). places_from from p.located.parts.kept ++ places_in (body_from n) h.waiting) p.located.tail
       ∙ sym (places_more (64 + length from.base) p.located.parts.kept h.waiting) ∙ ap (λ (f : Floor). places_from f (p.located.parts.kept ++ h.waiting ∷ [])) (sym (same_floor))
 
-  pub tail_close : (next : ℕ) → next ≡ k.place + 1 + length (next_bytes h) → next ≡ gate_behind (floor_behind (sealed_part (close h)) p.located.parts.gone) (p.located.parts.kept ++ h.waiting ∷ [])
+  pub tail_close : (next : ℕ) → next ≡ k.gate + 1 + length (next_bytes h) → next ≡ gate_behind (floor_behind (sealed_part (close h)) p.located.parts.gone) (p.located.parts.kept ++ h.waiting ∷ [])
   tail_close next at =
       let from = floor_behind (sealed_part h) p.located.parts.gone in
       let is : next ≡ gate_behind from (p.located.parts.kept ++ h.waiting ∷ []) = omega (arith, at, bytes_len h p.next, p.located.tail, after_more (64 + length from.base) p.located.parts.kept h.waiting) in

@@ -5,6 +5,7 @@ use Rattle.std.specs.Io.KnownBytes.{Appends}
 use Rattle.std.proofs.Common.{◌≡◌, inl, inr, ℕ, ◌+◌, ◌<◌, ◌≤◌, List, [], ◌∷◌, ◌++◌, length, take, drop, refl, ap, sym, subst, ◌∙◌, arith, append_assoc, length-append, length-take, take-append-drop}
 use Rattle.std.proofs.KnownBytes.{Appends-nil}
 use Rattle.std.proofs.lemmas.List.{nil_from_length, drop-take, take-take}
+use Rattle.block_file.specs.declared.block.TheConstants.{BLOCK_HEAD_LEN}
 use Rattle.block_file.specs.File.{IsShutAt}
 use Rattle.journal_record.specs.Entry.{Entry}
 use Rattle.sha2.specs.Sha256.{sha256}
@@ -31,17 +32,17 @@ use Rattle.ledger_book.specs.Seals as seals
 use Rattle.ledger_book.specs.Steps.{IsSame}
 use Rattle.twin_file.specs.Twin.{open_of}
 use Rattle.ledger_open.specs.Opening.{known_from}
-use Rattle.ledger_open.specs.Places.{places_in, places_from}
+use Rattle.block_file.specs.Places.{body_from, places_in}
+use Rattle.ledger_open.specs.Places.{places_from, AreInOrder}
 use Rattle.ledger_open.specs.Purging.{Ledger, IsCleanOpen, IsAtGate}
 use Rattle.ledger_open.specs.Standing.{floor_behind}
-use Rattle.ledger_open.specs.Order.{AreInOrder}
-use Rattle.ledger_open.specs.declared.places.PlaceAt.{PlaceAt}
+use Rattle.block_file.specs.declared.place.PlaceAt.{PlaceAt}
 use Rattle.batch_committer.specs.Committed.{IsCommitted, IsUncommitted, IsStanding, IsFinished, IsUnfinished, open_bytes}
-use Rattle.batch_committer.specs.Spelled as spell
+use Rattle.block_file.specs.Writing as spell
 use Rattle.batch_committer.specs.Steps.{settled_text}
-use Rattle.batch_committer.specs.World.{CommitterState, World, Pair, world, Fits, Located, Keeps, IsCleanFor, Holds, Writes, Goes, Says, Stops, Ended, IsUnanswered, sealed_part}
-use Rattle.batch_committer.specs.declared.end.End.{End}
-use Rattle.batch_committer.specs.declared.end.End.TheVariants.{DiskFault, WriteFault, NoMemory}
+use Rattle.batch_committer.specs.World.{CommitterState, World, Pair, world, Fits, Located, Keeps, IsCleanFor, Holds, Writes, Goes, Says, LeftAtTheEnd, EndsOnTheWay, IsUnanswered, sealed_part}
+use Rattle.batch_committer.specs.declared.failure.CommitErr.{CommitErr}
+use Rattle.batch_committer.specs.declared.failure.CommitErr.TheVariants.{DiskFault, WriteFault, NoMemory}
 use Rattle.batch_committer.proofs.Closing.{next_bytes, root_closed, closed_is, clean_image, clean_pair, left_clean, commit_left, tails_kept, sealed_same}
 use Rattle.batch_committer.proofs.Finishing.{held_ledger, tails_clean, clean_for, located_clean, standing}
 use Rattle.batch_committer.proofs.Ordering.{order_wider}
@@ -49,11 +50,11 @@ use Rattle.batch_committer.proofs.Parting.{TailsAt}
 use Rattle.batch_committer.proofs.WayLaws.{begins_not, failed_from}
 
 -- where the tail gate stands of a history that is held
-tails_held : (tells : Bool) (w : World) (h : History) → Holds tells w h → TailsAt w.kept.place (sealed_part h)
+tails_held : (tells : Bool) (w : World) (h : History) → Holds tells w h → TailsAt w.kept.gate (sealed_part h)
 tails_held tells w h p = tails_kept w.kept h p.keeps p.disks.erased.lawful.blocks_are
 
 -- nothing was written yet, and the disks are what they were
-pub stops_before : (tells : Bool) (w : World) (h whole : History) (ds : List Due) (end : End) → Says end [] [] → Grows h whole → Holds tells w h → Stops h whole ds end [] w.disks
+pub stops_before : (tells : Bool) (w : World) (h whole : History) (ds : List Due) (end : CommitErr) → Says end [] [] → Grows h whole → Holds tells w h → LeftAtTheEnd h whole ds end [] w.disks
 stops_before tells w h whole ds end says x p = record {
   done = [];
   rest = ds;
@@ -61,16 +62,16 @@ stops_before tells w h whole ds end says x p = record {
   said = λ f y none. says;
   images = λ i j left_a left_b. record {
     kept = sealed_part h;
-    stands = clean_image w.kept.in_a w.kept.place (sealed_part h) w.disks.a.bytes w.disks.b.bytes i j p.disks left_a left_b;
+    stands = clean_image w.kept.in_a w.kept.gate (sealed_part h) w.disks.a.bytes w.disks.b.bytes i j p.disks left_a left_b;
     no_shorter = begins_not h.closed;
     no_longer = begins_closed h whole x;
     receipts = tt;
-    clean = left_clean end h (sealed_part h) [] i j (clean_pair w.kept.in_a w.kept.place (sealed_part h) w.disks.a.bytes w.disks.b.bytes i j (tails_held tells w h p) p.disks left_a left_b);
+    clean = left_clean end h (sealed_part h) [] i j (clean_pair w.kept.in_a w.kept.gate (sealed_part h) w.disks.a.bytes w.disks.b.bytes i j (tails_held tells w h p) p.disks left_a left_b);
   };
 }
 
 -- memory was short before anything was done on the way to a history
-pub no_memory : (tells : Bool) (w : World) (k : CommitterState) (f : History → History) (d : History → List Due) → ((h : History) → Holds tells w h → Grows h (f h)) → Ended tells w f d NoMemory (world k w.disks w.sink)
+pub no_memory : (tells : Bool) (w : World) (k : CommitterState) (f : History → History) (d : History → List Due) → ((h : History) → Holds tells w h → Grows h (f h)) → EndsOnTheWay tells w f d NoMemory (world k w.disks w.sink)
 no_memory tells w k f d grows = record {
   grows = grows;
   part = [];
@@ -79,7 +80,7 @@ no_memory tells w k f d grows = record {
   cause = record { a = refl; b = refl; sink = (refl, refl) };
 }
 
-pub end_unspelled : (tells : Bool) (w : World) (k : CommitterState) → Ended tells w close (λ h. []) NoMemory (world k w.disks w.sink)
+pub end_unspelled : (tells : Bool) (w : World) (k : CommitterState) → EndsOnTheWay tells w close (λ h. []) NoMemory (world k w.disks w.sink)
 end_unspelled tells w k = no_memory tells w k close (λ h. []) (λ h p. grows_close h)
 
 -- all that was due is written
@@ -126,13 +127,13 @@ ledger_of book places disks place in_a generation = record { known = known_from 
 
 -- the ledger in front of what is given up: the block stands behind its file
 abbrev pub mid_ledger : World → books.Kept → List ℕ → Pair → Ledger
-mid_ledger w book block mid = held_ledger (record w.kept { book = book; place = w.kept.place + 1 + length block }) mid
+mid_ledger w book block mid = held_ledger (record w.kept { book = book; gate = w.kept.gate + 1 + length block }) mid
 
 -- .. and nothing else than that has happened
 pub record IsAtEnd (tells : Bool) (w : World) (book : books.Kept) (block : List ℕ) (mid : Pair) : Type 0 where
   pub serves : (h : History) → Serves w.kept.book h → Serves book (close h)
   pub same : IsSame w.kept.book book
-  pub committed : IsCommitted tells w.kept.in_a w.kept.place block w.disks mid
+  pub committed : IsCommitted tells w.kept.in_a w.kept.gate block w.disks mid
   pub named : IsTrue tells → w.kept.generation ≡ generation_of (open_bytes w.kept.in_a mid).seen
 
 module _ (tells : Bool) (w : World) (block text : List ℕ) (e : AtEnd tells w block text) where
@@ -144,7 +145,7 @@ module _ (tells : Bool) (w : World) (block text : List ℕ) (e : AtEnd tells w b
   }
 
   -- the commit failed
-  pub end_uncommitted : (k : CommitterState) (disks : Pair) → IsUncommitted tells w.kept.in_a w.kept.place block w.disks disks → Ended tells w close (λ h. []) DiskFault (world k disks w.sink)
+  pub end_uncommitted : (k : CommitterState) (disks : Pair) → IsUncommitted tells w.kept.in_a w.kept.gate block w.disks disks → EndsOnTheWay tells w close (λ h. []) DiskFault (world k disks w.sink)
   end_uncommitted k disks c = record {
     grows = λ h p. grows_close h;
     part = [];
@@ -155,7 +156,7 @@ module _ (tells : Bool) (w : World) (block text : List ℕ) (e : AtEnd tells w b
       split = refl;
       said = λ f y none. refl;
       images = λ i j left_a left_b.
-          elim (commit_left tells w h p (e.some h p) (e.most h p) disks i j (subst (λ (l : List ℕ). IsUncommitted tells w.kept.in_a w.kept.place l w.disks disks) (e.block_is h p) c) left_a left_b) [
+          elim (commit_left tells w h p (e.some h p) (e.most h p) disks i j (subst (λ (l : List ℕ). IsUncommitted tells w.kept.in_a w.kept.gate l w.disks disks) (e.block_is h p) c) left_a left_b) [
             | inl x ↦ record { kept = sealed_part h; stands = x.0; no_shorter = begins_not h.closed; no_longer = begins_closed h (close h) (grows_close h); receipts = tt; clean = inl x.1 }
             | inr x ↦ record { kept = sealed_part (close h); stands = x; no_shorter = begins_closed h (close h) (grows_close h); no_longer = begins_not (close h).closed; receipts = tt; clean = inr (unanswered h p) }
           ];
@@ -168,8 +169,8 @@ module _ (tells : Bool) (w : World) (block text : List ℕ) (e : AtEnd tells w b
     stands_then : (h : History) → Holds tells w h → IsStanding (mid_ledger w book block mid) (sealed_part (close h))
     stands_then h p =
         let is = e.block_is h p in
-        standing tells w h p (e.some h p) (e.most h p) book (at.serves h p.keeps.serves) at.same mid (subst (λ (l : List ℕ). IsCommitted tells w.kept.in_a w.kept.place l w.disks mid) is at.committed)
-        (w.kept.place + 1 + length block) (ap (λ (l : List ℕ). w.kept.place + 1 + length l) is) (at.named p.told)
+        standing tells w h p (e.some h p) (e.most h p) book (at.serves h p.keeps.serves) at.same mid (subst (λ (l : List ℕ). IsCommitted tells w.kept.in_a w.kept.gate l w.disks mid) is at.committed)
+        (w.kept.gate + 1 + length block) (ap (λ (l : List ℕ). w.kept.gate + 1 + length l) is) (at.named p.told)
 
     module _ (k : CommitterState) (disks : Pair) (f : IsFinished tells (mid_ledger w book block mid) (held_ledger k disks) mid disks) where
       clean_then : (h : History) → Holds tells w h → IsCleanOpen (held_ledger k disks) (sealed_part (close h))
@@ -191,7 +192,7 @@ module _ (tells : Bool) (w : World) (block text : List ℕ) (e : AtEnd tells w b
       }
 
       -- the sink failed
-      pub end_unwritten : (sink : SinkState) (taken : ℕ) → taken < length text → Appends w.sink.held sink.held (take taken text) → MeetsOne w.sink sink → Ended tells w close (λ h. []) WriteFault (world k disks sink)
+      pub end_unwritten : (sink : SinkState) (taken : ℕ) → taken < length text → Appends w.sink.held sink.held (take taken text) → MeetsOne w.sink sink → EndsOnTheWay tells w close (λ h. []) WriteFault (world k disks sink)
       end_unwritten sink taken few appended one = record {
         grows = λ h p. grows_close h;
         part = take taken text;
@@ -205,18 +206,18 @@ module _ (tells : Bool) (w : World) (block text : List ℕ) (e : AtEnd tells w b
               said = λ f y none. says_first h f w.kept.dues text taken p.keeps.dues (e.text_is h p) few y;
               images = λ i j left_a left_b. record {
                 kept = sealed_part (close h);
-                stands = clean_image k.in_a k.place (sealed_part (close h)) disks.a.bytes disks.b.bytes i j x left_a left_b;
+                stands = clean_image k.in_a k.gate (sealed_part (close h)) disks.a.bytes disks.b.bytes i j x left_a left_b;
                 no_shorter = begins_closed h (close h) (grows_close h);
                 no_longer = begins_not (close h).closed;
                 receipts = all_in_ended h w.kept.dues p.keeps.dues;
-                clean = clean_pair k.in_a k.place (sealed_part (close h)) disks.a.bytes disks.b.bytes i j (tails_clean (held_ledger k disks) (sealed_part (close h)) c) x left_a left_b;
+                clean = clean_pair k.in_a k.gate (sealed_part (close h)) disks.a.bytes disks.b.bytes i j (tails_clean (held_ledger k disks) (sealed_part (close h)) c) x left_a left_b;
               };
             };
         cause = (f.faults_a ∙ at.committed.faults_a, f.faults_b ∙ at.committed.faults_b, one);
       }
 
     -- the block is on the disk, and what its journal hides or purges couldn't be given up
-    pub end_unfinished : (k : CommitterState) (disks : Pair) → IsUnfinished tells (mid_ledger w book block mid) mid disks → Ended tells w close (λ h. []) DiskFault (world k disks w.sink)
+    pub end_unfinished : (k : CommitterState) (disks : Pair) → IsUnfinished tells (mid_ledger w book block mid) mid disks → EndsOnTheWay tells w close (λ h. []) DiskFault (world k disks w.sink)
     end_unfinished k disks u = record {
       grows = λ h p. grows_close h;
       part = [];
@@ -239,10 +240,10 @@ module _ (tells : Bool) (w : World) (block text : List ℕ) (e : AtEnd tells w b
     }
 
 -- the places, where nothing that counts has changed
-pub located_same : (old new : CommitterState) (h : History) → new.book.floor ≡ old.book.floor → new.places ≡ old.places → new.place ≡ old.place → Located old h → Located new h
+pub located_same : (old new : CommitterState) (h : History) → new.book.floor ≡ old.book.floor → new.places ≡ old.places → new.gate ≡ old.gate → Located old h → Located new h
 located_same old new h floor places place l = record {
   parts = record { gone = l.parts.gone; kept = l.parts.kept; are = l.parts.are; at = l.parts.at ∙ sym floor };
-  places = places ∙ l.places ∙ ap (λ (n : ℕ). places_from (floor_behind (sealed_part h) l.parts.gone) l.parts.kept ++ places_in (n + 45) h.waiting) (sym place);
+  places = places ∙ l.places ∙ ap (λ (n : ℕ). places_from (floor_behind (sealed_part h) l.parts.gone) l.parts.kept ++ places_in (body_from n) h.waiting) (sym place);
   tail = place ∙ l.tail;
 }
 
@@ -252,7 +253,7 @@ module _ (tells : Bool) (w : World) (text : List ℕ) (none : (h : History) → 
   text_then : (h : History) → Holds tells w h → text ≡ settled_text (close h) w.kept.dues
   text_then h p = text_is h p ∙ ap (λ (g : History). settled_text g w.kept.dues) (close_settled h (none h p))
 
-  pub write_goes : (k : CommitterState) (sink : SinkState) → k.book ≡ w.kept.book → k.place ≡ w.kept.place → k.in_a ≡ w.kept.in_a → k.body ≡ w.kept.body → k.places ≡ w.kept.places → k.dues ≡ []
+  pub write_goes : (k : CommitterState) (sink : SinkState) → k.book ≡ w.kept.book → k.gate ≡ w.kept.gate → k.in_a ≡ w.kept.in_a → k.body ≡ w.kept.body → k.places ≡ w.kept.places → k.dues ≡ []
       → Appends w.sink.held sink.held text → MeetsNone w.sink sink → Goes tells w close (λ h. []) (world k w.disks sink)
   write_goes k sink book place in_a body places dues appended met = record {
     holds = λ h p. subst (Holds tells (world k w.disks sink)) (close_settled h (none h p)) (record {
@@ -267,7 +268,7 @@ module _ (tells : Bool) (w : World) (text : List ℕ) (none : (h : History) → 
         gathered = p.keeps.gathered;
         located = located_same w.kept k h (ap (λ (b : books.Kept). b.floor) book) places place p.keeps.located;
       };
-      disks = subst (λ v. IsCleanFor v k.place (sealed_part h) w.disks.a.bytes w.disks.b.bytes) (sym in_a) (subst (λ at. IsCleanFor w.kept.in_a at (sealed_part h) w.disks.a.bytes w.disks.b.bytes) (sym place) p.disks);
+      disks = subst (λ v. IsCleanFor v k.gate (sealed_part h) w.disks.a.bytes w.disks.b.bytes) (sym in_a) (subst (λ at. IsCleanFor w.kept.in_a at (sealed_part h) w.disks.a.bytes w.disks.b.bytes) (sym place) p.disks);
     });
     grows = λ h p. grows_close h;
     sofar = text;
@@ -277,7 +278,7 @@ module _ (tells : Bool) (w : World) (text : List ℕ) (none : (h : History) → 
   }
 
   pub write_unwritten : (k : CommitterState) (sink : SinkState) (taken : ℕ) → taken < length text → Appends w.sink.held sink.held (take taken text)
-      → MeetsOne w.sink sink → Ended tells w close (λ h. []) WriteFault (world k w.disks sink)
+      → MeetsOne w.sink sink → EndsOnTheWay tells w close (λ h. []) WriteFault (world k w.disks sink)
   write_unwritten k sink taken few appended one = record {
     grows = λ h p. grows_close h;
     part = take taken text;
@@ -289,11 +290,11 @@ module _ (tells : Bool) (w : World) (text : List ℕ) (none : (h : History) → 
       said = λ f y none. says_first h f w.kept.dues text taken p.keeps.dues (text_then h p) few y;
       images = λ i j left_a left_b. record {
         kept = sealed_part h;
-        stands = clean_image w.kept.in_a w.kept.place (sealed_part h) w.disks.a.bytes w.disks.b.bytes i j p.disks left_a left_b;
+        stands = clean_image w.kept.in_a w.kept.gate (sealed_part h) w.disks.a.bytes w.disks.b.bytes i j p.disks left_a left_b;
         no_shorter = begins_not h.closed;
         no_longer = begins_closed h (close h) (grows_close h);
         receipts = subst (λ (g : History). AllIn g.closed w.kept.dues) (sym (close_settled h (none h p))) (all_in_ended h w.kept.dues p.keeps.dues);
-        clean = clean_pair w.kept.in_a w.kept.place (sealed_part h) w.disks.a.bytes w.disks.b.bytes i j (tails_held tells w h p) p.disks left_a left_b;
+        clean = clean_pair w.kept.in_a w.kept.gate (sealed_part h) w.disks.a.bytes w.disks.b.bytes i j (tails_held tells w h p) p.disks left_a left_b;
       };
     };
     cause = (refl, refl, one);
@@ -301,16 +302,16 @@ module _ (tells : Bool) (w : World) (text : List ℕ) (none : (h : History) → 
 
 -- ---- what the code gathered is the block at its end
 
-block_spelled : (h : History) (count : ℕ) (root_is body : List ℕ) → count ≡ length h.waiting → root_is ≡ root (close h) (sealed_size (close h)) → body ≡ body_of h.waiting → spell.head_of count (length body) root_is ++ body ≡ next_bytes h
+block_spelled : (h : History) (count : ℕ) (root_is body : List ℕ) → count ≡ length h.waiting → root_is ≡ root (close h) (sealed_size (close h)) → body ≡ body_of h.waiting → spell.block_head count (length body) root_is ++ body ≡ next_bytes h
 unfolding block_bytes
 block_spelled h count root_is body c r b =
-    ap (λ l. spell.head_of count (length l) root_is ++ l) b ∙ ap (λ n. spell.head_of n (length (body_of h.waiting)) root_is ++ body_of h.waiting) c
-    ∙ ap (λ l. spell.head_of (length h.waiting) (length (body_of h.waiting)) l ++ body_of h.waiting) (r ∙ root_closed h)
+    ap (λ l. spell.block_head count (length l) root_is ++ l) b ∙ ap (λ n. spell.block_head n (length (body_of h.waiting)) root_is ++ body_of h.waiting) c
+    ∙ ap (λ l. spell.block_head (length h.waiting) (length (body_of h.waiting)) l ++ body_of h.waiting) (r ∙ root_closed h)
     ∙ append_assoc (to_be_bytes w32 (length h.waiting)) (to_be_bytes w64 (length (body_of h.waiting)) ++ mth sha256 (leaves h)) (body_of h.waiting)
     ∙ ap (λ l. to_be_bytes w32 (length h.waiting) ++ l) (append_assoc (to_be_bytes w64 (length (body_of h.waiting))) (mth sha256 (leaves h)) (body_of h.waiting))
 
 pub at_end : (tells : Bool) (w : World) (book : books.Kept) (count : ℕ) (head : Head) (block text : List ℕ) → ((h : History) → Serves w.kept.book h → Serves book (close h)) → ((h : History) → Serves w.kept.book h → count ≡ length h.waiting)
-    → ((g : History) → Serves book g → head ≡ seals.head_of g) → block ≡ spell.head_of count (length w.kept.body) head.root.0 ++ w.kept.body → ((g : History) → Serves book g → g.waiting ≡ [] → text ≡ settled_text g w.kept.dues)
+    → ((g : History) → Serves book g → head ≡ seals.head_of g) → block ≡ spell.block_head count (length w.kept.body) head.root.0 ++ w.kept.body → ((g : History) → Serves book g → g.waiting ≡ [] → text ≡ settled_text g w.kept.dues)
     → 1 ≤ count → count ≤ BLOCK_LIMIT → AtEnd tells w block text
 at_end tells w book count head block text serves counts heads block_is text_is some few = record {
   some = λ h p. subst (λ n. 1 ≤ n) (counts h p.keeps.serves) some;
@@ -349,7 +350,7 @@ generation_stays tells in_a place block before after c told = by in_a (c.head to
   by false is = by_head after.b.bytes.seen before.b.bytes.seen is
 
 -- where the contents of the open block end, once it has ended
-pub order_ended : (k : CommitterState) (block head : List ℕ) → block ≡ head ++ k.body → length head ≡ 44 → AreInOrder 64 (k.place + 45 + length k.body) k.places → AreInOrder 64 (k.place + 1 + length block) k.places
+pub order_ended : (k : CommitterState) (block head : List ℕ) → block ≡ head ++ k.body → length head ≡ BLOCK_HEAD_LEN → AreInOrder 64 (body_from k.gate + length k.body) k.places → AreInOrder 64 (k.gate + 1 + length block) k.places
 order_ended k block head is size all =
     subst (λ (n : ℕ). AreInOrder 64 n k.places) (omega (arith, ap length is, size, length-append head k.body)) all
 
@@ -370,14 +371,14 @@ generation_at true generation disks is = is
 generation_at false generation disks is = is
 
 -- what the next call asks for, whatever stands in the files
-pub fits_finished : (tells : Bool) (k : CommitterState) (old : Ledger) (mid disks : Pair) (sink : SinkState) → (IsTrue tells → IsAtGate old) → AreInOrder 64 old.known.place old.known.places → old.known.book.size ≡ old.known.book.sealed → k.copy ≡ None
+pub fits_finished : (tells : Bool) (k : CommitterState) (old : Ledger) (mid disks : Pair) (sink : SinkState) → (IsTrue tells → IsAtGate old) → AreInOrder 64 old.known.gate old.known.places → old.known.book.size ≡ old.known.book.sealed → k.copy ≡ None
     → IsFinished tells old (held_ledger k disks) mid disks → Fits tells (world k disks sink)
 fits_finished tells k old mid disks sink gate order none copy f = record {
-  reads = record { told = f.told; shut = λ told. shut_at k.in_a k.place disks (f.gate told (gate told)).shut };
+  reads = record { told = f.told; shut = λ told. shut_at k.in_a k.gate disks (f.gate told (gate told)).shut };
   generation = λ told. generation_at k.in_a k.generation disks (f.gate told (gate told)).generation;
   copy = copy;
   few = omega (arith, none, f.size, f.sealed);
-  order = order_wider 64 k.place (k.place + 45 + length k.body) k.places (f.order order) (omega arith);
+  order = order_wider 64 k.gate (body_from k.gate + length k.body) k.places (f.order order) (omega arith);
 }
 
 -- the same for an open ledger that is known by equations
@@ -405,5 +406,5 @@ module _ (tells : Bool) (k0 k1 : CommitterState) (is : k0 ≡ k1) (disks : Pair)
   pub goes_at : (t : World) (f : History → History) (d : History → List Due) → Goes tells (world k0 disks sink) f d t → Goes tells (world k1 disks sink) f d t
   goes_at t f d x = subst (λ k. Goes tells (world k disks sink) f d t) is x
 
-  pub ended_at : (t : World) (f : History → History) (d : History → List Due) (end : End) → Ended tells (world k0 disks sink) f d end t → Ended tells (world k1 disks sink) f d end t
-  ended_at t f d end x = subst (λ k. Ended tells (world k disks sink) f d end t) is x
+  pub ended_at : (t : World) (f : History → History) (d : History → List Due) (end : CommitErr) → EndsOnTheWay tells (world k0 disks sink) f d end t → EndsOnTheWay tells (world k1 disks sink) f d end t
+  ended_at t f d end x = subst (λ k. EndsOnTheWay tells (world k disks sink) f d end t) is x

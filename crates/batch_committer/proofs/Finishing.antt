@@ -15,7 +15,8 @@ use Rattle.ledger_book.specs.Books.{Serves}
 use Rattle.ledger_book.specs.Steps.{IsSame}
 use Rattle.twin_file.specs.Twin.{open_of, other_of}
 use Rattle.ledger_open.specs.Opening.{known_from}
-use Rattle.ledger_open.specs.Places.{places_in, places_from}
+use Rattle.block_file.specs.Places.{body_from, places_in}
+use Rattle.ledger_open.specs.Places.{places_from}
 use Rattle.ledger_open.specs.Purging.{Ledger, open_disk, other_disk, IsCleanOpen}
 use Rattle.ledger_open.specs.Standing.{floor_behind, point_before}
 use Rattle.batch_committer.specs.Committed.{IsCommitted, IsStanding, open_bytes, other_bytes}
@@ -45,17 +46,17 @@ quiet_other false a b x y = x
 
 -- what a committer keeps, with what its disks hold
 abbrev pub held_ledger : CommitterState → Pair → Ledger
-held_ledger k disks = record { known = known_from k.book k.places k.place; in_a = k.in_a; generation = k.generation; a = disks.a.bytes; b = disks.b.bytes }
+held_ledger k disks = record { known = known_from k.book k.places k.gate; in_a = k.in_a; generation = k.generation; a = disks.a.bytes; b = disks.b.bytes }
 
-pub tails_clean : (l : Ledger) (h : History) → IsCleanOpen l h → TailsAt l.known.place h
-tails_clean l h c = tails_at h l.known.place l.known.book.floor c.ends.parts c.clean.erased.lawful.blocks_are c.floor c.tail
+pub tails_clean : (l : Ledger) (h : History) → IsCleanOpen l h → TailsAt l.known.gate h
+tails_clean l h c = tails_at h l.known.gate l.known.book.floor c.ends.parts c.clean.erased.lawful.blocks_are c.floor c.tail
 
-pub clean_for : (l : Ledger) (h : History) → IsCleanOpen l h → IsCleanFor l.in_a l.known.place h l.a l.b
+pub clean_for : (l : Ledger) (h : History) → IsCleanOpen l h → IsCleanFor l.in_a l.known.gate h l.a l.b
 clean_for l h c = record {
   quiet = quiet_open l.in_a l.a l.b c.quiet_a c.quiet_b;
   empty = quiet_other l.in_a l.a l.b c.quiet_a c.quiet_b ∙ ap settled_state (nil_from_length (other_disk l).seen c.empty);
   erased = c.clean.erased;
-  ends = clean_length (point h) _ (open_disk l).seen h l.known.place c.clean.erased c.clean.ends (tails_clean l h c c.clean.erased.parts);
+  ends = clean_length (point h) _ (open_disk l).seen h l.known.gate c.clean.erased c.clean.ends (tails_clean l h c c.clean.erased.parts);
 }
 
 -- the places of a history of which no journal waits
@@ -63,14 +64,14 @@ pub located_clean : (k : CommitterState) (disks : Pair) (h : History) → h.wait
 located_clean k disks h none c =
     let from = floor_behind (sealed_part h) c.ends.parts.gone in record {
       parts = c.ends.parts;
-      places = c.ends.places_are ∙ sym (append-nil (places_from from c.ends.parts.kept)) ∙ ap (λ (es : List Entry). places_from from c.ends.parts.kept ++ places_in (k.place + 45) es) (sym none);
+      places = c.ends.places_are ∙ sym (append-nil (places_from from c.ends.parts.kept)) ∙ ap (λ (es : List Entry). places_from from c.ends.parts.kept ++ places_in (body_from k.gate) es) (sym none);
       tail = c.tail;
     }
 
 -- ---- the block was committed
 
 module _ (tells : Bool) (w : World) (h : History) (p : Holds tells w h) (some : 1 ≤ length h.waiting) (most : length h.waiting ≤ BLOCK_LIMIT) (book : books.Kept) (serves : Serves book (close h)) (same : IsSame w.kept.book book)
-    (mid : Pair) (c : IsCommitted tells w.kept.in_a w.kept.place (next_bytes h) w.disks mid) (next : ℕ) (at : next ≡ w.kept.place + 1 + length (next_bytes h)) where
+    (mid : Pair) (c : IsCommitted tells w.kept.in_a w.kept.gate (next_bytes h) w.disks mid) (next : ℕ) (at : next ≡ w.kept.gate + 1 + length (next_bytes h)) where
   begun : 1 ≤ size (sealed_part h)
   begun = some_journal (journals (sealed_part h)) p.disks.erased.lawful.journals_are
 
@@ -84,7 +85,7 @@ module _ (tells : Bool) (w : World) (h : History) (p : Holds tells w h) (some : 
   empty = c.other ∙ p.disks.empty
 
   -- the ledger with the block behind its file stands for the history, as far as the block leaves something undone
-  pub standing : w.kept.generation ≡ generation_of (open_bytes w.kept.in_a mid).seen → IsStanding (held_ledger (record w.kept { book = book; place = next }) mid) (sealed_part (close h))
+  pub standing : w.kept.generation ≡ generation_of (open_bytes w.kept.in_a mid).seen → IsStanding (held_ledger (record w.kept { book = book; gate = next }) mid) (sealed_part (close h))
   standing named =
       let g = sealed_part (close h) in
       let parts = parts_close w.kept h p.keeps some (begun) in

@@ -22,12 +22,25 @@ use Rattle.ledger_book.specs.Books as books
 use Rattle.ledger_book.specs.Books.{headers}
 use Rattle.ledger_open.specs.Places.{entry_at, AllAt}
 use Rattle.ledger_open.specs.Standing.{IsKept}
-use Rattle.ledger_open.specs.declared.places.PlaceAt.{PlaceAt}
+use Rattle.block_file.specs.declared.place.PlaceAt.{PlaceAt}
 use Rattle.ledger_open.proofs.PlaceLaws.{kept_at}
 use Rattle.ledger_open.proofs.PartLaws.{kept_from}
 use Rattle.batch_committer.specs.Read.{IsReadAs}
-use Rattle.batch_committer.proofs.Judging.{header_is}
 use Rattle.batch_committer.proofs.Parting.{places_one}
+
+-- the header that the book keeps of a journal
+get_header : (js : List Entry) (n : ℕ) (journal : Entry) → slice_get js n ≡ Some journal → slice_get (map (λ (j : Entry). j.header) js) n ≡ Some journal.header
+get_header [] n journal is = absurd (none-some journal is)
+get_header (j ∷ js) zero journal is = ap (λ (o : Option Entry). header_in o) is where
+  header_in : Option Entry → Option Header
+  header_in None = None
+  header_in (Some e) = Some e.header
+get_header (j ∷ js) (suc n) journal is = get_header js n journal is
+
+header_is : (k : books.Kept) (h : History) (n : ℕ) (journal : Entry) (header : Header) → k.floor ≤ n → slice_get (journals h) n ≡ Some journal → Some header ≡ (if nat_le k.floor n then slice_get (headers h) n else None) → header ≡ journal.header
+header_is k h n journal header floor is got =
+    let same : Some header ≡ Some journal.header = got ∙ ap (λ v. cond v (slice_get (headers h) n) None) (le-leb k.floor n floor) ∙ get_header (journals h) n journal is in
+    cc same
 
 -- ---- the parts of a journal, compared
 

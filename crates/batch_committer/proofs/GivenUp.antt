@@ -16,10 +16,10 @@ use Rattle.ledger_open.specs.Erasing.{GivesUp, LeavesRest, StandsMeanwhile}
 use Rattle.ledger_open.specs.Opening.{CountsTwoErr}
 use Rattle.ledger_open.specs.Purging.{Ledger, FinishesPurge, StandsOpen, IsCleanOpen, IsAtGate}
 use Rattle.ledger_open.specs.Standing.{floor_behind, hidden_before}
-use Rattle.ledger_open.specs.Order.{AreInOrder}
+use Rattle.ledger_open.specs.Places.{AreInOrder}
 use Rattle.ledger_open.specs.declared.failure.OpenErr.{OpenErr}
 use Rattle.ledger_open.specs.declared.failure.OpenErr.TheVariants.{DiskFault}
-use Rattle.ledger_open.specs.declared.places.PlaceAt.{PlaceAt}
+use Rattle.block_file.specs.declared.place.PlaceAt.{PlaceAt}
 use Rattle.ledger_open.specs.declared.purging.Purge.{Purge}
 use Rattle.ledger_open.proofs.FinishLaws.{given_clean}
 use Rattle.ledger_open.proofs.FinishedLaws.{falls, floor_under}
@@ -150,7 +150,7 @@ module _ (tells : Bool) (book : books.Kept) (places : List PlaceAt) (place : ℕ
 -- ---- a purge that was finished
 
 pub purge_finished : (tells : Bool) (old new : Ledger) (before after : Pair) → old.known.book.floor < old.known.book.point → (IsTrue tells → FinishesPurge old new) → (IsTrue tells → IsAtGate old → IsAtGate new)
-    → IsSomeAnd (open_of new.in_a after.a after.b).told (λ n. new.known.place + 1 ≤ n) → (AreInOrder 64 old.known.place old.known.places → AreInOrder 64 new.known.place new.known.places) → new.known.book.limits ≡ old.known.book.limits
+    → IsSomeAnd (open_of new.in_a after.a after.b).told (λ n. new.known.gate + 1 ≤ n) → (AreInOrder 64 old.known.gate old.known.places → AreInOrder 64 new.known.gate new.known.places) → new.known.book.limits ≡ old.known.book.limits
     → (new.known.book.size ≡ old.known.book.size) × (new.known.book.sealed ≡ old.known.book.sealed) → (after.a.faults ≡ before.a.faults) × (after.b.faults ≡ before.b.faults) → IsFinished tells old new before after
 purge_finished tells old new before after less clean gate told order limits sizes faults = record {
   clean = λ t h s. clean t less h s.stands;

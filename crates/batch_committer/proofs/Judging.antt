@@ -1,5 +1,5 @@
 -- A job was judged by the book, and its journal gathered.
-use Rattle.std.specs.Prelude.{Bool, true, false, IsTrue, ◌↔◌, Result, Ok, Err, OnOk, nat_le, ◌==◌, bytes_eq, slice_get, if◌then◌else◌, sum_by}
+use Rattle.std.specs.Prelude.{Bool, true, false, IsTrue, ◌↔◌, Result, Ok, Err, OnOk, nat_le, ◌==◌, bytes_eq, sum_by}
 use Rattle.std.specs.Int.{w16, w32, to_be_bytes}
 use Rattle.std.specs.List.{list_all}
 use Rattle.std.proofs.Common.{◌≡◌, ◌≢◌, ◌⊎◌, inl, inr, ℕ, zero, suc, ◌+◌, ◌*◌, ◌≤◌, ◌&&◌, cond, List, [], ◌∷◌, ◌++◌, length, map, Option, Some, None, refl, ap, sym, subst, ◌∙◌, arith, append_assoc, append-nil, length-append}
@@ -12,11 +12,10 @@ use Rattle.ledger_bytes.specs.declared.refusal.Refusal.{Refusal}
 use Rattle.journal_record.specs.Approval.{who_of, approval_bytes}
 use Rattle.journal_record.specs.Blocks.{record_bytes, body_of, IsEntry}
 use Rattle.journal_record.specs.Entry.{Entry, content_digest_of}
-use Rattle.journal_record.proofs.Spelling.{length-spelling}
 use Rattle.journal_record.specs.Header.{HasWidths, spelling}
 use Rattle.journal_record.specs.declared.approval.Approval.{Approval}
 use Rattle.journal_record.specs.declared.approval.TheConstants.{WHO_LIMIT}
-use Rattle.journal_record.specs.declared.header.Header.{Header}
+use Rattle.journal_record.specs.declared.header.TheConstants.{HEADER_LEN}
 use Rattle.journal_record.specs.declared.stamp.Stamp.{Stamp}
 use Rattle.ledger_model.specs.Anchors.{stamp_of, time_header, time_journal}
 use Rattle.ledger_model.specs.Appends.{append_journal, member_journal, occult_journal, purge_journal, append_header, member_header, occult_header, purge_header}
@@ -25,7 +24,7 @@ use Rattle.ledger_model.specs.History.{History, history, journals, journals_of, 
 use Rattle.ledger_model.specs.Judgements.{own_refusal}
 use Rattle.ledger_model.specs.Lawful.{IsNext, AreNext, AllGather, gathers}
 use Rattle.ledger_model.specs.Limits.{real_limits}
-use Rattle.ledger_model.specs.Outcomes.{placed_journal, with_waiting, after_judgement, with_job, judged_outcome, accepted_outcome, outcome, query_of}
+use Rattle.ledger_model.specs.Outcomes.{placed_journal, with_waiting, after_judgement, with_job, judged_outcome, accepted_outcome, outcome, placed_as, placed_with, query_of}
 use Rattle.ledger_model.specs.Rules.{closes_before, closes_after}
 use Rattle.ledger_model.specs.Step.{Step}
 use Rattle.ledger_model.specs.Texts.{answer_for}
@@ -36,17 +35,18 @@ use Rattle.ledger_model.specs.declared.job.Job.TheVariants.{Refused, Append, New
 use Rattle.ledger_model.specs.declared.limits.Limits.{Limits}
 use Rattle.ledger_model.specs.declared.outcome.Outcome.{Outcome}
 use Rattle.ledger_model.specs.declared.outcome.Outcome.TheVariants as came
+use Rattle.ledger_model.specs.declared.outcome.PlacedJournal.{PlacedJournal}
 use Rattle.ledger_model.specs.declared.outcome.Query.{Query}
 use Rattle.ledger_book.specs.Books as books
-use Rattle.ledger_book.specs.Books.{Serves, headers, sealed_size}
-use Rattle.ledger_book.specs.Steps.{PlacesNothing, Applies, HasNumber}
-use Rattle.ledger_open.proofs.AgainLaws.{entry_is}
+use Rattle.ledger_book.specs.Books.{Serves, sealed_size}
+use Rattle.ledger_book.specs.Steps.{PlacesNothing, Applies}
 use Rattle.ledger_open.proofs.HidingLaws.{from_more}
-use Rattle.ledger_open.specs.Places.{record_len, place_at, places_in, places_from}
+use Rattle.block_file.specs.Places.{body_from, record_len, place_at, place_of_lengths, places_in}
+use Rattle.block_file.specs.Writing.{record_with}
+use Rattle.ledger_open.specs.Places.{places_from, AreInOrder}
 use Rattle.ledger_open.specs.Standing.{floor_behind}
-use Rattle.ledger_open.specs.Order.{AreInOrder}
-use Rattle.ledger_open.specs.declared.places.PlaceAt.{PlaceAt}
-use Rattle.batch_committer.specs.Steps.{HasParts, HasJournal, IsGathered, Gathers, Judged}
+use Rattle.block_file.specs.declared.place.PlaceAt.{PlaceAt}
+use Rattle.batch_committer.specs.Steps.{HasParts, IsGathered, Gathers, Judged}
 use Rattle.batch_committer.specs.World.{CommitterState, Keeps, sealed_part}
 use Rattle.batch_committer.proofs.Closing.{next_rest, places_in_more, body_len}
 use Rattle.batch_committer.proofs.Ending.{located_same}
@@ -74,41 +74,47 @@ pub same_job : (stamp : Option Stamp) (limits : Limits) (h : History) (job : Job
 unfolding outcome with_job
 same_job stamp limits h job o none is = judged_same stamp h job (own_refusal limits h job) o none is
 
+-- what is told of a journal has its header's bytes
+placed_header : (placed : PlacedJournal) (n : ℕ) (j : Entry) → came.Placed placed ≡ placed_as n j → placed.header ≡ spelling j.header
+placed_header placed n j is = let same : placed ≡ placed_with n j = cc is in ap (λ (p : PlacedJournal). p.header) same
+
 -- a job placed a journal
-pub record WasPlaced (stamp : Option Stamp) (limits : Limits) (h : History) (job : Job) (jsn : ℕ) : Type 0 where
+pub record WasPlaced (stamp : Option Stamp) (limits : Limits) (h : History) (job : Job) (placed : PlacedJournal) : Type 0 where
   pub journal : Entry
-  pub jsn_is : jsn ≡ size h
+  pub header_is : placed.header ≡ spelling journal.header
   pub placed_is : placed_journal h stamp job ≡ Some journal
   pub after : with_job limits stamp h job ≡ with_waiting (Some journal) h
 
-record IsJudgedAs (stamp : Option Stamp) (h : History) (job : Job) (refusal : Option Refusal) (jsn : ℕ) : Type 0 where
+record IsJudgedAs (stamp : Option Stamp) (h : History) (job : Job) (refusal : Option Refusal) (placed : PlacedJournal) : Type 0 where
   accepted : refusal ≡ None
   journal : Entry
-  jsn_is : jsn ≡ size h
+  header_is : placed.header ≡ spelling journal.header
   placed_is : placed_journal h stamp job ≡ Some journal
 
-judged_as : (stamp : Option Stamp) (h : History) (job : Job) (refusal : Option Refusal) (jsn : ℕ) (leaf : Digest) → came.Placed jsn leaf ≡ judged_outcome refusal (accepted_outcome h stamp job) → IsJudgedAs stamp h job refusal jsn
-judged_as stamp h job (Some refusal) jsn leaf is = absurd (let no : ⊥ = cc is in no)
-judged_as stamp h (Refused why) None jsn leaf is = absurd (let no : ⊥ = cc is in no)
-judged_as stamp h (Append member clue content content_digest request by) None jsn leaf is =
-    record { accepted = refl; journal = append_journal h member clue content content_digest request by; jsn_is = cc is; placed_is = refl }
-judged_as stamp h (NewMember number key by) None jsn leaf is = record { accepted = refl; journal = member_journal (size h) number key by; jsn_is = cc is; placed_is = refl }
-judged_as None h Anchor None jsn leaf is = absurd (let no : ⊥ = cc is in no)
-judged_as (Some stamp) h Anchor None jsn leaf is = record { accepted = refl; journal = time_journal (size h) stamp; jsn_is = cc is; placed_is = refl }
-judged_as stamp h (Occult target named given) None jsn leaf is = record { accepted = refl; journal = occult_journal (size h) target named given; jsn_is = cc is; placed_is = refl }
-judged_as stamp h (Purge p told given) None jsn leaf is = record { accepted = refl; journal = purge_journal h p given; jsn_is = cc is; placed_is = refl }
-judged_as stamp h (Get n) None jsn leaf is = absurd (let no : ⊥ = cc is in no)
-judged_as stamp h (Prove n) None jsn leaf is = absurd (let no : ⊥ = cc is in no)
-judged_as stamp h (Extend which m) None jsn leaf is = absurd (let no : ⊥ = cc is in no)
-judged_as stamp h (Clue clue) None jsn leaf is = absurd (let no : ⊥ = cc is in no)
-judged_as stamp h Head None jsn leaf is = absurd (let no : ⊥ = cc is in no)
+judged_as : (stamp : Option Stamp) (h : History) (job : Job) (refusal : Option Refusal) (placed : PlacedJournal) → came.Placed placed ≡ judged_outcome refusal (accepted_outcome h stamp job) → IsJudgedAs stamp h job refusal placed
+judged_as stamp h job (Some refusal) placed is = absurd (let no : ⊥ = cc is in no)
+judged_as stamp h (Refused why) None placed is = absurd (let no : ⊥ = cc is in no)
+judged_as stamp h (Append member clue content content_digest request by) None placed is =
+    let j = append_journal h member clue content content_digest request by in record { accepted = refl; journal = j; header_is = placed_header placed (size h) j is; placed_is = refl }
+judged_as stamp h (NewMember number key by) None placed is =
+    let j = member_journal (size h) number key by in record { accepted = refl; journal = j; header_is = placed_header placed (size h) j is; placed_is = refl }
+judged_as None h Anchor None placed is = absurd (let no : ⊥ = cc is in no)
+judged_as (Some stamp) h Anchor None placed is = let j = time_journal (size h) stamp in record { accepted = refl; journal = j; header_is = placed_header placed (size h) j is; placed_is = refl }
+judged_as stamp h (Occult target named given) None placed is =
+    let j = occult_journal (size h) target named given in record { accepted = refl; journal = j; header_is = placed_header placed (size h) j is; placed_is = refl }
+judged_as stamp h (Purge p told given) None placed is = let j = purge_journal h p given in record { accepted = refl; journal = j; header_is = placed_header placed (size h) j is; placed_is = refl }
+judged_as stamp h (Get n) None placed is = absurd (let no : ⊥ = cc is in no)
+judged_as stamp h (Prove n) None placed is = absurd (let no : ⊥ = cc is in no)
+judged_as stamp h (Extend which m) None placed is = absurd (let no : ⊥ = cc is in no)
+judged_as stamp h (Clue clue) None placed is = absurd (let no : ⊥ = cc is in no)
+judged_as stamp h Head None placed is = absurd (let no : ⊥ = cc is in no)
 
-pub was_placed : (stamp : Option Stamp) (limits : Limits) (h : History) (job : Job) (jsn : ℕ) (leaf : Digest) → came.Placed jsn leaf ≡ outcome limits stamp h job → WasPlaced stamp limits h job jsn
+pub was_placed : (stamp : Option Stamp) (limits : Limits) (h : History) (job : Job) (placed : PlacedJournal) → came.Placed placed ≡ outcome limits stamp h job → WasPlaced stamp limits h job placed
 unfolding outcome with_job
-was_placed stamp limits h job jsn leaf is =
-    let j = judged_as stamp h job (own_refusal limits h job) jsn leaf is in record {
+was_placed stamp limits h job placed is =
+    let j = judged_as stamp h job (own_refusal limits h job) placed is in record {
       journal = j.journal;
-      jsn_is = j.jsn_is;
+      header_is = j.header_is;
       placed_is = j.placed_is;
       after = ap (λ r. after_judgement r (placed_journal h stamp job) h) j.accepted ∙ ap (λ o. after_judgement None o h) j.placed_is;
     }
@@ -181,49 +187,26 @@ is_made stamp h Head journal fits is = absurd (none-some journal is)
 
 -- ---- the journal in the book
 
-get_last : {A : Type 0} (xs : List A) (x : A) → slice_get (xs ++ x ∷ []) (length xs) ≡ Some x
-get_last [] x = refl
-get_last (y ∷ ys) x = get_last ys x
-
 journals_more : (h : History) (journal : Entry) → journals (with_waiting (Some journal) h) ≡ journals h ++ journal ∷ []
 journals_more h journal = sym (append_assoc (journals_of h.closed) h.waiting (journal ∷ []))
-
-pub last_journal_is : (h : History) (journal : Entry) → slice_get (journals (with_waiting (Some journal) h)) (size h) ≡ Some journal
-last_journal_is h journal = ap (λ js. slice_get js (size h)) (journals_more h journal) ∙ get_last (journals h) journal
 
 -- the journal that was placed last is the next one
 last_next : (k : books.Kept) (h : History) (journal : Entry) → Serves k (with_waiting (Some journal) h) → IsNext (history [] (journals h)) journal.header
 last_next k h journal s =
     (next_rest [] (journals h) (journal ∷ []) (subst (AreNext []) (journals_more h journal) s.stands.lawful.next)).0
 
--- the book has the journal that it placed for a job
-pub has_placed : (old new : books.Kept) (o : Outcome) (jsn : ℕ) (leaf : Digest) → new.floor ≡ old.floor → HasNumber old new o → o ≡ came.Placed jsn leaf → HasJournal new jsn
-has_placed old new o jsn leaf floor number is =
-    let n = subst (HasNumber old new) is number in
-    record { kept = omega (arith, floor, n.0); below = omega (arith, n.1, n.2) }
-
--- the header that the book keeps of a journal
-get_header : (js : List Entry) (n : ℕ) (journal : Entry) → slice_get js n ≡ Some journal → slice_get (map (λ (j : Entry). j.header) js) n ≡ Some journal.header
-get_header [] n journal is = absurd (none-some journal is)
-get_header (j ∷ js) zero journal is = ap (λ (o : Option Entry). header_in o) is where
-  header_in : Option Entry → Option Header
-  header_in None = None
-  header_in (Some e) = Some e.header
-get_header (j ∷ js) (suc n) journal is = get_header js n journal is
-
-pub header_is : (k : books.Kept) (h : History) (n : ℕ) (journal : Entry) (header : Header) → k.floor ≤ n → slice_get (journals h) n ≡ Some journal → Some header ≡ (if nat_le k.floor n then slice_get (headers h) n else None) → header ≡ journal.header
-header_is k h n journal header floor is got =
-    let same : Some header ≡ Some journal.header = got ∙ ap (λ v. cond v (slice_get (headers h) n) None) (le-leb k.floor n floor) ∙ get_header (journals h) n journal is in
-    cc same
-
 -- the journal was gathered
-pub gathered_by : (old new : CommitterState) (header : Header) (content : List ℕ) (given : List Approval) (place : PlaceAt) (journal : Entry) → header ≡ journal.header → journal.content ≡ content → journal.who ≡ who_of given → HasWidths header
-    → new.body ≡ old.body ++ record_bytes (record { header = header; content = content; who = who_of given }) → new.places ≡ old.places ++ place ∷ [] → place ≡ place_at (old.place + 45 + length old.body) journal → IsGathered old new journal
-gathered_by old new header content given place journal header_is content_is who_is widths body places place_is = record {
-  widths = subst HasWidths header_is widths;
-  body = body ∙ ap (λ (e : Entry). old.body ++ record_bytes e) (entry_is (record { header = header; content = content; who = who_of given }) journal header_is (sym content_is) (sym who_is));
-  places = places ∙ ap (λ p. old.places ++ p ∷ []) place_is;
-}
+pub gathered_by : (old new : CommitterState) (header content : List ℕ) (given : List Approval) (place : PlaceAt) (journal : Entry) → header ≡ spelling journal.header → HasWidths journal.header → length content ≡ journal.header.content_len → journal.content ≡ content
+    → journal.who ≡ who_of given → new.body ≡ old.body ++ record_with header content (who_of given) → new.places ≡ old.places ++ place ∷ []
+    → place ≡ place_of_lengths (body_from old.gate + length old.body) (length content) (length (who_of given)) → IsGathered old new journal
+gathered_by old new header content given place journal header_is widths len content_is who_is body places place_is =
+    let at = body_from old.gate + length old.body in
+    let spelled = spelling journal.header in record {
+      widths = widths;
+      body = body ∙ ap (λ (l : List ℕ). old.body ++ record_with l content (who_of given)) header_is ∙ ap (λ (l : List ℕ). old.body ++ record_with spelled l (who_of given)) (sym content_is)
+          ∙ ap (λ (l : List ℕ). old.body ++ record_with spelled journal.content l) (sym who_is);
+      places = places ∙ ap (λ p. old.places ++ p ∷ []) (place_is ∙ ap (λ (n : ℕ). place_of_lengths at n (length (who_of given))) len ∙ ap (λ (l : List ℕ). place_of_lengths at journal.header.content_len (length l)) (sym who_is));
+    }
 
 pub gathered_at : (k0 k1 new : CommitterState) (journal : Entry) → k0 ≡ k1 → IsGathered k0 new journal → IsGathered k1 new journal
 gathered_at k0 k1 new journal is g = subst (λ k. IsGathered k new journal) is g
@@ -231,20 +214,23 @@ gathered_at k0 k1 new journal is g = subst (λ k. IsGathered k new journal) is g
 -- ---- where contents end
 
 -- with the place of a record more
-pub order_more : (old : CommitterState) (tail : ℕ) (gathered : List ℕ) (all_places : List PlaceAt) (place : PlaceAt) (header : Header) (content : List ℕ) (given : List Approval) → HasWidths header → place.content_at ≡ old.place + 45 + length old.body + 178 → place.content_len ≡ length content
-    → tail ≡ old.place → gathered ≡ old.body ++ record_bytes (record { header = header; content = content; who = who_of given }) → all_places ≡ old.places ++ place ∷ [] → AreInOrder 64 (old.place + 45 + length old.body) old.places → AreInOrder 64 (tail + 45 + length gathered) all_places
-order_more old tail gathered all_places place header content given widths at len place_is body places = λ all.
+pub order_more : (old : CommitterState) (tail : ℕ) (gathered : List ℕ) (all_places : List PlaceAt) (place : PlaceAt) (header content : List ℕ) (given : List Approval) → length header ≡ HEADER_LEN
+    → place ≡ place_of_lengths (body_from old.gate + length old.body) (length content) (length (who_of given)) → tail ≡ old.gate → gathered ≡ old.body ++ record_with header content (who_of given) → all_places ≡ old.places ++ place ∷ []
+    → AreInOrder 64 (body_from old.gate + length old.body) old.places → AreInOrder 64 (body_from tail + length gathered) all_places
+order_more old tail gathered all_places place header content given wide is place_is body places = λ all.
     let who = who_of given in
     let four : length (to_be_bytes w32 (length who)) ≡ 4 = refl in
-    let size : length gathered ≡ length old.body + (178 + length content + length who) =
-    omega (arith, ap length body, four, length-spelling header widths, length-append old.body (record_bytes (record { header = header; content = content; who = who })), length-append (spelling header) (to_be_bytes w32 (length who) ++ (content ++ who)), length-append (to_be_bytes w32 (length who)) (content ++ who), length-append content who) in
-    let end = tail + 45 + length gathered in
-    subst (AreInOrder 64 end) (sym places)
-    (order_then 64 (old.place + 45 + length old.body) end old.places (place ∷ []) all (omega (arith, at), omega (arith, at, len, place_is, size)))
+    let size : length gathered ≡ length old.body + (length header + 4 + length content + length who) =
+    omega (arith, ap length body, four, length-append old.body (record_with header content who), length-append header (to_be_bytes w32 (length who) ++ (content ++ who)), length-append (to_be_bytes w32 (length who)) (content ++ who), length-append content who) in
+    let from = body_from old.gate + length old.body in
+    let end = body_from tail + length gathered in
+    let at = ap (λ (p : PlaceAt). p.content_at) is in
+    let len = ap (λ (p : PlaceAt). p.content_len) is in
+    subst (AreInOrder 64 end) (sym places) (order_then 64 from end old.places (place ∷ []) all (omega (arith, at), omega (arith, at, len, place_is, size, wide)))
 
 -- .. by a value that is known by an equation
-pub order_at : (k0 k1 : CommitterState) → k0 ≡ k1 → AreInOrder 64 (k1.place + 45 + length k1.body) k1.places → AreInOrder 64 (k0.place + 45 + length k0.body) k0.places
-order_at k0 k1 is all = subst (λ (k : CommitterState). AreInOrder 64 (k.place + 45 + length k.body) k.places) (sym is) all
+pub order_at : (k0 k1 : CommitterState) → k0 ≡ k1 → AreInOrder 64 (body_from k1.gate + length k1.body) k1.places → AreInOrder 64 (body_from k0.gate + length k0.body) k0.places
+order_at k0 k1 is all = subst (λ (k : CommitterState). AreInOrder 64 (body_from k.gate + length k.body) k.places) (sym is) all
 
 -- ---- what is kept after a job
 
@@ -252,7 +238,7 @@ pub gathers_kept : (k : CommitterState) (h : History) → Keeps k h → Gathers 
 gathers_kept k h p = record { serves = p.serves; limits = p.limits; floor = p.floor; body = p.body; next = p.next; gathered = p.gathered; located = p.located }
 
 -- by another value where nothing that counts has changed
-gathers_same : (old new : CommitterState) (h : History) → new.book ≡ old.book → new.body ≡ old.body → new.places ≡ old.places → new.place ≡ old.place → Gathers old h → Gathers new h
+gathers_same : (old new : CommitterState) (h : History) → new.book ≡ old.book → new.body ≡ old.body → new.places ≡ old.places → new.gate ≡ old.gate → Gathers old h → Gathers new h
 gathers_same old new h book body places place g = record {
   serves = subst (λ b. Serves b h) (sym book) g.serves;
   limits = ap (λ (b : books.Kept). b.limits) book ∙ g.limits;
@@ -277,8 +263,8 @@ waits_so job waiting e all none is more = by (closes_after job) refl where
   by false other = gather_more waiting e (all other) (is other)
 
 -- with a journal more
-pub gathers_more : (old mid new : CommitterState) (h : History) (journal : Entry) → Keeps old h → length journal.content ≡ journal.header.content_len → length journal.who ≤ WHO_LIMIT → (length (h.waiting ++ journal ∷ []) ≢ 1 → AllGather (h.waiting ++ journal ∷ [])) → Serves new.book (with_waiting (Some journal) h) → new.book.limits ≡ old.book.limits → new.book.floor ≡ old.book.floor → mid.body ≡ old.body → mid.places ≡ old.places → mid.place ≡ old.place
-    → new.place ≡ old.place → IsGathered mid new journal → Gathers new (with_waiting (Some journal) h)
+pub gathers_more : (old mid new : CommitterState) (h : History) (journal : Entry) → Keeps old h → length journal.content ≡ journal.header.content_len → length journal.who ≤ WHO_LIMIT → (length (h.waiting ++ journal ∷ []) ≢ 1 → AllGather (h.waiting ++ journal ∷ [])) → Serves new.book (with_waiting (Some journal) h) → new.book.limits ≡ old.book.limits → new.book.floor ≡ old.book.floor → mid.body ≡ old.body → mid.places ≡ old.places → mid.gate ≡ old.gate
+    → new.gate ≡ old.gate → IsGathered mid new journal → Gathers new (with_waiting (Some journal) h)
 gathers_more old mid new h journal p len few shape serves limits floor body places place new_place g =
     let next = last_next new.book h journal serves in
     let entry : IsEntry (sealed_size h + length h.waiting) journal = record {
@@ -299,11 +285,11 @@ gathers_more old mid new h journal p len few shape serves limits floor body plac
           let parts = p.located.parts in
           let before = places_from (floor_behind (sealed_part h) parts.gone) parts.kept in record {
             parts = record { gone = parts.gone; kept = parts.kept; are = parts.are; at = parts.at ∙ sym floor };
-            places = g.places ∙ ap (λ (l : List PlaceAt). l ++ place_at (mid.place + 45 + length mid.body) journal ∷ []) (places ∙ p.located.places)
-                ∙ ap (λ (n : ℕ). (before ++ places_in (old.place + 45) h.waiting) ++ place_at n journal ∷ []) (omega (arith, place, ap length body, ap length p.body, body_len (sealed_size h) h.waiting p.next))
-                ∙ append_assoc before (places_in (old.place + 45) h.waiting) (place_at (old.place + 45 + sum_by record_len h.waiting) journal ∷ [])
-                ∙ ap (λ (l : List PlaceAt). before ++ l) (sym (places_in_more (old.place + 45) h.waiting journal))
-                ∙ ap (λ (n : ℕ). before ++ places_in (n + 45) (h.waiting ++ journal ∷ [])) (sym new_place);
+            places = g.places ∙ ap (λ (l : List PlaceAt). l ++ place_at (body_from mid.gate + length mid.body) journal ∷ []) (places ∙ p.located.places)
+                ∙ ap (λ (n : ℕ). (before ++ places_in (body_from old.gate) h.waiting) ++ place_at n journal ∷ []) (omega (arith, place, ap length body, ap length p.body, body_len (sealed_size h) h.waiting p.next))
+                ∙ append_assoc before (places_in (body_from old.gate) h.waiting) (place_at (body_from old.gate + sum_by record_len h.waiting) journal ∷ [])
+                ∙ ap (λ (l : List PlaceAt). before ++ l) (sym (places_in_more (body_from old.gate) h.waiting journal))
+                ∙ ap (λ (n : ℕ). before ++ places_in (body_from n) (h.waiting ++ journal ∷ [])) (sym new_place);
             tail = new_place ∙ p.located.tail;
           };
     }
@@ -315,7 +301,7 @@ real_applies stamp old new h job o is a = subst (λ limits. Applies limits stamp
 
 -- nothing was placed: what was told is due
 pub judged_same_kept : (old new : CommitterState) (h : History) (step : Step) (job : Job) (o : Outcome) (answer : Answer) → Keeps old h → Applies old.book.limits None h job o new.book → PlacesNothing o → (PlacesNothing o → new.book ≡ old.book)
-    → new.body ≡ old.body → new.places ≡ old.places → new.place ≡ old.place → answer ≡ answer_for h step o → stamp_of step ≡ None → Judged new h step job answer
+    → new.body ≡ old.body → new.places ≡ old.places → new.gate ≡ old.gate → answer ≡ answer_for h step o → stamp_of step ≡ None → Judged new h step job answer
 judged_same_kept old new h step job o answer p applies none book body places place is unstamped =
     let a = real_applies None old.book new.book h job o p.limits applies in record {
       answer_is = is ∙ ap (answer_for h step) a.outcome_is ∙ ap (λ o. answer_for h step (outcome real_limits o h job)) (sym unstamped);
@@ -323,16 +309,15 @@ judged_same_kept old new h step job o answer p applies none book body places pla
     }
 
 -- a journal was placed
-pub judged_placed : (stamp : Option Stamp) (old mid new : CommitterState) (h : History) (step : Step) (job : Job) (o : Outcome) (jsn : ℕ) (leaf : Digest) (answer : Answer) → Keeps old h → (closes_after job ≡ false → AllGather h.waiting) → (closes_after job ≡ true → h.waiting ≡ []) → fits_job job ≡ true → Applies old.book.limits stamp h job o new.book → new.book.limits ≡ old.book.limits → new.book.floor ≡ old.book.floor → o ≡ came.Placed jsn leaf
-    → ((g : History) (journal : Entry) (content : List ℕ) (given : List Approval) → HasParts job content given → Serves new.book g → slice_get (journals g) jsn ≡ Some journal → new.book.floor ≤ jsn → length content ≡ journal.header.content_len → journal.content ≡ content → journal.who ≡ who_of given → IsGathered mid new journal)
-    → mid.body ≡ old.body → mid.places ≡ old.places → mid.place ≡ old.place → new.place ≡ old.place → answer ≡ answer_for h step o → stamp_of step ≡ stamp → Judged new h step job answer
-judged_placed stamp old mid new h step job o jsn leaf answer p all none fits applies limits floor is gathered body places place new_place answer_is stamped =
+pub judged_placed : (stamp : Option Stamp) (old mid new : CommitterState) (h : History) (step : Step) (job : Job) (o : Outcome) (placed : PlacedJournal) (answer : Answer) → Keeps old h → (closes_after job ≡ false → AllGather h.waiting) → (closes_after job ≡ true → h.waiting ≡ []) → fits_job job ≡ true → Applies old.book.limits stamp h job o new.book → new.book.limits ≡ old.book.limits → new.book.floor ≡ old.book.floor → o ≡ came.Placed placed
+    → ((journal : Entry) (content : List ℕ) (given : List Approval) → HasParts job content given → placed.header ≡ spelling journal.header → HasWidths journal.header → length content ≡ journal.header.content_len → journal.content ≡ content → journal.who ≡ who_of given → IsGathered mid new journal)
+    → mid.body ≡ old.body → mid.places ≡ old.places → mid.gate ≡ old.gate → new.gate ≡ old.gate → answer ≡ answer_for h step o → stamp_of step ≡ stamp → Judged new h step job answer
+judged_placed stamp old mid new h step job o placed answer p all none fits applies limits floor is gathered body places place new_place answer_is stamped =
     let a = real_applies stamp old.book new.book h job o p.limits applies in
-    let w = was_placed stamp real_limits h job jsn leaf (sym is ∙ a.outcome_is) in
+    let w = was_placed stamp real_limits h job placed (sym is ∙ a.outcome_is) in
     let m = is_made stamp h job w.journal fits w.placed_is in
     let s : Serves new.book (with_waiting (Some w.journal) h) = subst (Serves new.book) w.after a.serves in
-    let there : slice_get (journals (with_waiting (Some w.journal) h)) jsn ≡ Some w.journal = ap (slice_get (journals (with_waiting (Some w.journal) h))) w.jsn_is ∙ last_journal_is h w.journal in
-    let g = gathered (with_waiting (Some w.journal) h) w.journal m.content m.given m.parts s there (omega (arith, floor, w.jsn_is, p.serves.stands.counts.floor, length-append (journals_of h.closed) h.waiting)) (ap length (sym m.content_is) ∙ m.len) m.content_is m.who_is in record {
+    let g = gathered w.journal m.content m.given m.parts w.header_is (a.widths placed w.journal is w.placed_is) (ap length (sym m.content_is) ∙ m.len) m.content_is m.who_is in record {
       answer_is = answer_is ∙ ap (answer_for h step) a.outcome_is ∙ ap (λ o. answer_for h step (outcome real_limits o h job)) (sym stamped);
       gathers = subst (λ o. Gathers new (with_job real_limits o h job)) (sym stamped) (subst (Gathers new) (sym w.after) (gathers_more old mid new h w.journal p m.len m.few (waits_so job h.waiting w.journal all none m.gathers_is) s limits floor body places place new_place g));
     }
@@ -369,10 +354,6 @@ alone_first Head alone = refl
 pub on_ok_then : {T E : Type 0} {A B : Type 0} (result : Result T E) → (A → B) → OnOk result A → OnOk result B
 on_ok_then (Ok value) f x = f x
 on_ok_then (Err error) f x = tt
-
-pub on_ok_both : {T E : Type 0} {A B C : Type 0} (result : Result T E) → (A → B → C) → OnOk result A → OnOk result B → OnOk result C
-on_ok_both (Ok value) f x y = f x y
-on_ok_both (Err error) f x y = tt
 
 -- .. by a value that is known by an equation, and what is due came behind
 pub judged_dues : (k0 k1 : CommitterState) (ds : List Due) (g : History) (step : Step) (job : Job) (answer : Answer) → k1 ≡ k0 → Judged k0 g step job answer → Judged (record k1 { dues = ds }) g step job answer

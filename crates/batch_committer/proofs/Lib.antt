@@ -1,4 +1,3 @@
-pub mod Heads
 pub mod WayLaws
 pub mod Parting
 pub mod Ordering

@@ -27,8 +27,8 @@ use Rattle.block_file.specs.Head.{generation_of}
 use Rattle.twin_file.specs.Twin.{open_of}
 use Rattle.batch_committer.specs.Steps.{due_by, Judged, KeepsFile, HasGrown, StaysInOrder}
 use Rattle.batch_committer.specs.Read.{WereRead, NoneFailed, ReadingEnds}
-use Rattle.batch_committer.specs.World.{CommitterState, World, Pair, world, ReadsAsLeft, Fits, HasRoom, IsCleanFor, Holds, Goes, Ended, sealed_part}
-use Rattle.batch_committer.specs.declared.end.End.{End}
+use Rattle.batch_committer.specs.World.{CommitterState, World, Pair, world, ReadsAsLeft, Fits, HasRoom, IsCleanFor, Holds, Goes, EndsOnTheWay, sealed_part}
+use Rattle.batch_committer.specs.declared.failure.CommitErr.{CommitErr}
 use Rattle.batch_committer.proofs.ReadLaws.{goes_read, read_ended}
 use Rattle.batch_committer.proofs.WayLaws.{goes_then, ended_then, goes_as, ended_as, ended_wider, goes_same}
 
@@ -59,12 +59,12 @@ module _ (tells : Bool) (w m n t : World) (step : Step) (job : Job) where
       (goes_then tells w m n (λ h. judged_at h job) (λ g. with_job real_limits (stamp_of step) g job) (λ h. []) (λ g. due_by g step job ∷ []) x y) z)
 
   -- the block before it couldn't be ended
-  pub offer_unended : (end : End) → Ended tells w (λ h. judged_at h job) (λ h. []) end t → Ended tells w (λ h. after_job h step job) (λ h. due_of h step job ∷ []) end t
+  pub offer_unended : (end : CommitErr) → EndsOnTheWay tells w (λ h. judged_at h job) (λ h. []) end t → EndsOnTheWay tells w (λ h. after_job h step job) (λ h. due_of h step job ∷ []) end t
   offer_unended end x = ended_wider tells w t (λ h. judged_at h job) (λ h. after_job h step job) (λ h. []) (λ h. due_of h step job ∷ []) end (λ h p. grows_after h step job) x
 
   -- it couldn't be judged
-  pub offer_unjudged : (end : End) → Goes tells w (λ h. judged_at h job) (λ h. []) m → Ended tells m (λ g. with_job real_limits (stamp_of step) g job) (λ g. due_by g step job ∷ []) end t
-      → Ended tells w (λ h. after_job h step job) (λ h. due_of h step job ∷ []) end t
+  pub offer_unjudged : (end : CommitErr) → Goes tells w (λ h. judged_at h job) (λ h. []) m → EndsOnTheWay tells m (λ g. with_job real_limits (stamp_of step) g job) (λ g. due_by g step job ∷ []) end t
+      → EndsOnTheWay tells w (λ h. after_job h step job) (λ h. due_of h step job ∷ []) end t
   offer_unjudged end x y =
       ended_as tells w t (λ h. after_job h step job) (λ h. after_job h step job) mid_due (λ h. due_of h step job ∷ []) end
       (λ h p. refl) (λ h p. ap (λ d. d ∷ []) (due_is h step job))
@@ -73,8 +73,8 @@ module _ (tells : Bool) (w m n t : World) (step : Step) (job : Job) where
       (ended_then tells w m t (λ h. judged_at h job) (λ g. with_job real_limits (stamp_of step) g job) (λ h. []) (λ g. due_by g step job ∷ []) end x y))
 
   -- the block that it fills couldn't be ended
-  pub offer_unfilled : (end : End) → Goes tells w (λ h. judged_at h job) (λ h. []) m → Goes tells m (λ g. with_job real_limits (stamp_of step) g job) (λ g. due_by g step job ∷ []) n → Ended tells n (settled_history job) (λ g. []) end t
-      → Ended tells w (λ h. after_job h step job) (λ h. due_of h step job ∷ []) end t
+  pub offer_unfilled : (end : CommitErr) → Goes tells w (λ h. judged_at h job) (λ h. []) m → Goes tells m (λ g. with_job real_limits (stamp_of step) g job) (λ g. due_by g step job ∷ []) n → EndsOnTheWay tells n (settled_history job) (λ g. []) end t
+      → EndsOnTheWay tells w (λ h. after_job h step job) (λ h. due_of h step job ∷ []) end t
   offer_unfilled end x y z =
       ended_as tells w t (λ h. settled_history job (mid_next h)) (λ h. after_job h step job) mid_due (λ h. due_of h step job ∷ []) end
       (λ h p. after_is h step job) (λ h p. ap (λ d. d ∷ []) (due_is h step job))
@@ -90,7 +90,7 @@ due_at step answer = record { lane = step.lane; index = step.index; answer = ans
 sealed_with : (g : History) (step : Step) (job : Job) → sealed_part (with_job real_limits (stamp_of step) g job) ≡ sealed_part g
 sealed_with g step job = ap (λ (bs : List (List Entry)). history bs []) (waits_closed g (with_job real_limits (stamp_of step) g job) (waits_job g step job))
 
-pub judged_goes : (tells : Bool) (w : World) (k : CommitterState) (step : Step) (job : Job) (answer : Answer) → k.place ≡ w.kept.place → k.in_a ≡ w.kept.in_a → k.dues ≡ w.kept.dues ++ due_at step answer ∷ []
+pub judged_goes : (tells : Bool) (w : World) (k : CommitterState) (step : Step) (job : Job) (answer : Answer) → k.gate ≡ w.kept.gate → k.in_a ≡ w.kept.in_a → k.dues ≡ w.kept.dues ++ due_at step answer ∷ []
     → (closes_before job ≡ true → (h : History) → Serves w.kept.book h → h.waiting ≡ [])
     → ((g : History) → Holds tells w g → (closes_before job ≡ true → g.waiting ≡ []) → Judged k g step job answer)
     → Goes tells w (λ g. with_job real_limits (stamp_of step) g job) (λ g. due_by g step job ∷ []) (world k w.disks w.sink)
@@ -111,8 +111,8 @@ judged_goes tells w k step job answer place in_a dues settled judged = record {
           gathered = j.gathers.gathered;
           located = j.gathers.located;
         };
-        disks = subst (λ h. IsCleanFor k.in_a k.place h w.disks.a.bytes w.disks.b.bytes) (sym (sealed_with g step job))
-            (subst (λ v. IsCleanFor v k.place (sealed_part g) w.disks.a.bytes w.disks.b.bytes) (sym in_a)
+        disks = subst (λ h. IsCleanFor k.in_a k.gate h w.disks.a.bytes w.disks.b.bytes) (sym (sealed_with g step job))
+            (subst (λ v. IsCleanFor v k.gate (sealed_part g) w.disks.a.bytes w.disks.b.bytes) (sym in_a)
             (subst (λ at. IsCleanFor w.kept.in_a at (sealed_part g) w.disks.a.bytes w.disks.b.bytes) (sym place) p.disks));
       };
   grows = λ g p. grows_with real_limits (stamp_of step) g job;
@@ -135,8 +135,8 @@ judged_read tells k t old new sink step job read none x =
     goes_then tells (world k old sink) (world t old sink) (world t new sink) (λ g. with_job real_limits (stamp_of step) g job) (λ g. g) (λ g. due_by g step job ∷ []) (λ g. []) x (goes_read tells old new read t sink none)
 
 -- .. and one for which a disk failed or memory was short
-pub unjudged_ended : (tells : Bool) (k t : CommitterState) (old new : Pair) (sink : SinkState) (step : Step) (job : Job) (end : End) → WereRead tells old new → ReadingEnds end old new
-    → Ended tells (world k old sink) (λ g. with_job real_limits (stamp_of step) g job) (λ g. due_by g step job ∷ []) end (world t new sink)
+pub unjudged_ended : (tells : Bool) (k t : CommitterState) (old new : Pair) (sink : SinkState) (step : Step) (job : Job) (end : CommitErr) → WereRead tells old new → ReadingEnds end old new
+    → EndsOnTheWay tells (world k old sink) (λ g. with_job real_limits (stamp_of step) g job) (λ g. due_by g step job ∷ []) end (world t new sink)
 unjudged_ended tells k t old new sink step job end read e =
     read_ended tells old new read k t sink (λ g. with_job real_limits (stamp_of step) g job) (λ g. due_by g step job ∷ []) end (λ g. grows_with real_limits (stamp_of step) g job) e
 
@@ -144,7 +144,7 @@ unjudged_ended tells k t old new sink step job end read e =
 
 pub fits_gathered : (tells : Bool) (old new : CommitterState) (disks : Pair) (sink : SinkState) → Fits tells (world old disks sink) → HasRoom old → HasGrown old new → StaysInOrder old new → KeepsFile old new → Fits tells (world new disks sink)
 fits_gathered tells old new disks sink f room grown order file = record {
-  reads = subst (λ v. ReadsAsLeft tells new.place (open_of v disks.a disks.b)) (sym file.in_a) (subst (λ at. ReadsAsLeft tells at (open_of old.in_a disks.a disks.b)) (sym file.place) f.reads);
+  reads = subst (λ v. ReadsAsLeft tells new.gate (open_of v disks.a disks.b)) (sym file.in_a) (subst (λ at. ReadsAsLeft tells at (open_of old.in_a disks.a disks.b)) (sym file.gate) f.reads);
   generation = λ told. file.generation ∙ f.generation told ∙ sym (ap (λ v. generation_of (open_of v disks.a disks.b).bytes.seen) file.in_a);
   copy = file.copy ∙ f.copy;
   few = omega (arith, room.0, grown.0, grown.1);
@@ -162,7 +162,7 @@ judged_asked h job asked is so = sym (ap (λ v. cond v (close h) h) (sym is ∙ 
 judged_kept : (h : History) (job : Job) (asked : Bool) → asked ≡ closes_before job → asked ≡ false → h ≡ judged_at h job
 judged_kept h job asked is so = sym (ap (λ v. cond v (close h) h) (sym is ∙ so))
 
-pub before_ended : (tells : Bool) (w t : World) (job : Job) (asked : Bool) (end : End) → asked ≡ closes_before job → asked ≡ true → Ended tells w close (λ h. []) end t → Ended tells w (λ h. judged_at h job) (λ h. []) end t
+pub before_ended : (tells : Bool) (w t : World) (job : Job) (asked : Bool) (end : CommitErr) → asked ≡ closes_before job → asked ≡ true → EndsOnTheWay tells w close (λ h. []) end t → EndsOnTheWay tells w (λ h. judged_at h job) (λ h. []) end t
 before_ended tells w t job asked end is so x = ended_as tells w t close (λ h. judged_at h job) (λ h. []) (λ h. []) end (λ h p. judged_asked h job asked is so) (λ h p. refl) x
 
 pub before_kept : (tells : Bool) (w : World) (job : Job) (asked : Bool) → asked ≡ closes_before job → asked ≡ false → Goes tells w (λ h. judged_at h job) (λ h. []) w
@@ -197,7 +197,7 @@ settled_due job h (inr full) = settled_full job h full
 pub due_goes : (tells : Bool) (w t : World) (job : Job) → ((h : History) → Serves w.kept.book h → IsDue (length h.waiting)) → Goes tells w close (λ h. []) t → Goes tells w (settled_history job) (λ h. []) t
 due_goes tells w t job due x = goes_as tells w t close (settled_history job) (λ h. []) (λ h. []) (λ h p. settled_due job h (due h p.keeps.serves)) (λ h p. refl) x
 
-pub due_ended : (tells : Bool) (w t : World) (job : Job) (end : End) → ((h : History) → Serves w.kept.book h → IsDue (length h.waiting)) → Ended tells w close (λ h. []) end t → Ended tells w (settled_history job) (λ h. []) end t
+pub due_ended : (tells : Bool) (w t : World) (job : Job) (end : CommitErr) → ((h : History) → Serves w.kept.book h → IsDue (length h.waiting)) → EndsOnTheWay tells w close (λ h. []) end t → EndsOnTheWay tells w (settled_history job) (λ h. []) end t
 due_ended tells w t job end due x = ended_as tells w t close (settled_history job) (λ h. []) (λ h. []) end (λ h p. settled_due job h (due h p.keeps.serves)) (λ h p. refl) x
 
 pub room_goes : (tells : Bool) (w : World) (job : Job) → closes_after job ≡ false → ((h : History) → Serves w.kept.book h → length h.waiting < BLOCK_LIMIT) → Goes tells w (settled_history job) (λ h. []) w
@@ -207,7 +207,7 @@ room_goes tells w job other few = goes_as tells w w (λ h. h) (settled_history j
 pub alone_goes : (tells : Bool) (w t : World) (job : Job) → closes_after job ≡ true → Goes tells w close (λ h. []) t → Goes tells w (settled_history job) (λ h. []) t
 alone_goes tells w t job alone x = goes_as tells w t close (settled_history job) (λ h. []) (λ h. []) (λ h p. settled_alone job h alone) (λ h p. refl) x
 
-pub alone_ended : (tells : Bool) (w t : World) (job : Job) (end : End) → closes_after job ≡ true → Ended tells w close (λ h. []) end t → Ended tells w (settled_history job) (λ h. []) end t
+pub alone_ended : (tells : Bool) (w t : World) (job : Job) (end : CommitErr) → closes_after job ≡ true → EndsOnTheWay tells w close (λ h. []) end t → EndsOnTheWay tells w (settled_history job) (λ h. []) end t
 alone_ended tells w t job end alone x = ended_as tells w t close (settled_history job) (λ h. []) (λ h. []) end (λ h p. settled_alone job h alone) (λ h p. refl) x
 
 -- .. from the clauses of a call

@@ -47,7 +47,7 @@ floor_goes (Some b) blocks h g late = floor_at h b g.parts.gone g.parts.at late 
 pub record IsOpenEnd (k : Known) (in_a : Bool) (a b : State) (h : History) : Type 0 where
   pub ends : EndsAs k.book k.places h
   pub floor : k.book.floor ≡ point h
-  pub tail : k.place ≡ gate_behind (floor_behind h ends.parts.gone) ends.parts.kept
+  pub tail : k.gate ≡ gate_behind (floor_behind h ends.parts.gone) ends.parts.kept
   pub erased : IsErased (open_of in_a a b).seen h
 
 -- the file that isn't empty is the one that is clean
@@ -98,5 +98,5 @@ module _ (k : Known) (in_a : Bool) (start : Option Base) (blocks : List (List En
         };
         floor = m.floor ∙ begins.0;
         tail = m.tail ∙ sym (after_kept (is_hidden h) (λ n. false) first g.parts.kept blocks g.same) ∙ ap (λ (f : Floor). gate_behind f g.parts.kept) (sym floor);
-        erased = clean_side in_a k.place a_new b_new h (reopened_tidy k in_a start blocks a b a_new b_new m r) (reopened_for k in_a start blocks a b a_new b_new h m r p);
+        erased = clean_side in_a k.gate a_new b_new h (reopened_tidy k in_a start blocks a b a_new b_new m r) (reopened_for k in_a start blocks a b a_new b_new h m r p);
       }

@@ -25,10 +25,10 @@ use Rattle.ledger_open.specs.Erasing.{EndsAs}
 use Rattle.ledger_open.specs.Founding.{IsFounded}
 use Rattle.ledger_open.specs.Growing.{new_file}
 use Rattle.ledger_open.specs.Opening.{Known}
-use Rattle.ledger_open.specs.Places.{places_in, places_at, places_from, after_at}
+use Rattle.block_file.specs.Places.{body_from, places_in, places_at, after_at}
+use Rattle.ledger_open.specs.Places.{places_from, AreInOrder}
 use Rattle.ledger_open.specs.Reopened.{Remembers, IsReopened}
 use Rattle.ledger_open.specs.Standing.{Floor, ground, floor_from, floor_behind, IsErased, IsClean, PairFor}
-use Rattle.ledger_open.specs.Order.{AreInOrder}
 use Rattle.ledger_open.proofs.FoundingLaws.{founded_clean}
 use Rattle.ledger_open.proofs.KnownLaws.{same_self}
 use Rattle.ledger_open.proofs.OrderLaws.{order_low}
@@ -42,8 +42,8 @@ use Rattle.batch_committer.proofs.Parting.{TailsAt, tails_at}
 
 -- ---- a ledger where no journal waits
 
-held_at : (tells : Bool) (k : Known) (in_a : Bool) (generation : ℕ) (disks : Pair) (sink : SinkState) (h : History) (e : EndsAs k.book k.places h) → k.book.floor ≡ point h → k.place ≡ gate_behind (floor_behind h e.parts.gone) e.parts.kept → k.book.limits ≡ real_limits → IsTrue tells
-    → IsCleanFor in_a k.place h disks.a.bytes disks.b.bytes → Holds tells (world (kept_from k in_a generation) disks sink) h
+held_at : (tells : Bool) (k : Known) (in_a : Bool) (generation : ℕ) (disks : Pair) (sink : SinkState) (h : History) (e : EndsAs k.book k.places h) → k.book.floor ≡ point h → k.gate ≡ gate_behind (floor_behind h e.parts.gone) e.parts.kept → k.book.limits ≡ real_limits → IsTrue tells
+    → IsCleanFor in_a k.gate h disks.a.bytes disks.b.bytes → Holds tells (world (kept_from k in_a generation) disks sink) h
 held_at tells k in_a generation disks sink h e floor tail limits told clean =
     let same = sym (sealed_same h e.none) in record {
       told = told;
@@ -60,11 +60,11 @@ held_at tells k in_a generation disks sink h e floor tail limits told clean =
             let begins : floor_behind h e.parts.gone ≡ from = ap (λ (g : History). floor_behind g e.parts.gone) same in record {
               parts = record { gone = e.parts.gone; kept = e.parts.kept; are = e.parts.are; at = e.parts.at };
               places = e.places_are ∙ ap (λ (f : Floor). places_from f e.parts.kept) begins
-                  ∙ sym (ap (λ (ws : List Entry). places_from from e.parts.kept ++ places_in (k.place + 45) ws) e.none ∙ append-nil (places_from from e.parts.kept));
+                  ∙ sym (ap (λ (ws : List Entry). places_from from e.parts.kept ++ places_in (body_from k.gate) ws) e.none ∙ append-nil (places_from from e.parts.kept));
               tail = tail ∙ ap (λ (f : Floor). gate_behind f e.parts.kept) begins;
             };
       };
-      disks = subst (λ (g : History). IsCleanFor in_a k.place g disks.a.bytes disks.b.bytes) same clean;
+      disks = subst (λ (g : History). IsCleanFor in_a k.gate g disks.a.bytes disks.b.bytes) same clean;
     }
 
 -- ---- a ledger that was opened
@@ -79,11 +79,11 @@ opened_held tells k in_a generation start blocks a b disks sink h o limits told 
 -- ---- what a call asks for
 
 -- the contents of a ledger that was made or opened stand in their order in front of its tail gate
-order_known : {start : Option Base} (k : Known) (blocks : List (List Entry)) → Remembers k start blocks → AreInOrder 64 (k.place + 45 + 0) k.places
+order_known : {start : Option Base} (k : Known) (blocks : List (List Entry)) → Remembers k start blocks → AreInOrder 64 (body_from k.gate + 0) k.places
 order_known {start} k blocks x =
     let first = 64 + length (floor_from start).base in
-    subst (AreInOrder 64 (k.place + 45 + 0)) (sym x.places)
-    (order_low 64 first (k.place + 45 + 0) (places_at first blocks) (omega arith) (order_wider first (after_at first blocks) (k.place + 45 + 0) (places_at first blocks) (order_blocks first blocks) (omega (arith, x.tail))))
+    subst (AreInOrder 64 (body_from k.gate + 0)) (sym x.places)
+    (order_low 64 first (body_from k.gate + 0) (places_at first blocks) (omega arith) (order_wider first (after_at first blocks) (body_from k.gate + 0) (places_at first blocks) (order_blocks first blocks) (omega (arith, x.tail))))
 
 shut_at : (in_a : Bool) (place : ℕ) (disks : Pair) → IsShutAt place (open_of in_a disks.a.bytes disks.b.bytes).seen → IsShutAt place (open_of in_a disks.a disks.b).bytes.seen
 shut_at true place disks s = s
@@ -93,11 +93,11 @@ generation_at : (in_a : Bool) (generation : ℕ) (disks : Pair) → generation �
 generation_at true generation disks is = is
 generation_at false generation disks is = is
 
-fits_of : (tells : Bool) (k : Known) (in_a : Bool) (generation : ℕ) (disks : Pair) (sink : SinkState) (start : Option Base) (blocks : List (List Entry)) → IsOpened k in_a disks start blocks → (IsTrue tells → IsShutAt k.place (open_of in_a disks.a.bytes disks.b.bytes).seen)
+fits_of : (tells : Bool) (k : Known) (in_a : Bool) (generation : ℕ) (disks : Pair) (sink : SinkState) (start : Option Base) (blocks : List (List Entry)) → IsOpened k in_a disks start blocks → (IsTrue tells → IsShutAt k.gate (open_of in_a disks.a.bytes disks.b.bytes).seen)
     → (IsTrue tells → generation ≡ generation_of (open_of in_a disks.a.bytes disks.b.bytes).seen)
     → Fits tells (world (kept_from k in_a generation) disks sink)
 fits_of tells k in_a generation disks sink start blocks o shut is = record {
-  reads = record { told = o.told; shut = λ told. shut_at in_a k.place disks (shut told) };
+  reads = record { told = o.told; shut = λ told. shut_at in_a k.gate disks (shut told) };
   generation = λ told. generation_at in_a generation disks (is told);
   copy = refl;
   few = omega (arith, o.knows.settled);
@@ -127,8 +127,8 @@ module _ (k : Known) (genesis : Genesis) (disks : Pair) (keys : HasKeys genesis)
   new_clean = founded_clean genesis keys.operator keys.regulator
 
   -- its file begins with journal 0
-  new_tail : TailsAt k.place (new_ledger genesis)
-  new_tail = tails_at (new_ledger genesis) k.place 0 (record { gone = []; kept = (new_ledger genesis).closed; are = refl; at = refl }) (new_clean).erased.lawful.blocks_are (sym (new_point genesis)) knows.tail
+  new_tail : TailsAt k.gate (new_ledger genesis)
+  new_tail = tails_at (new_ledger genesis) k.gate 0 (record { gone = []; kept = (new_ledger genesis).closed; are = refl; at = refl }) (new_clean).erased.lawful.blocks_are (sym (new_point genesis)) knows.tail
 
   new_ends : EndsAs k.book k.places (new_ledger genesis)
   new_ends = record {
@@ -145,21 +145,21 @@ module _ (k : Known) (genesis : Genesis) (disks : Pair) (keys : HasKeys genesis)
     none = refl;
   }
 
-  founded_for : IsCleanFor true k.place (new_ledger genesis) disks.a.bytes disks.b.bytes
+  founded_for : IsCleanFor true k.gate (new_ledger genesis) disks.a.bytes disks.b.bytes
   founded_for = record {
     quiet = f.first ∙ ap settled_state (sym seen_is);
     empty = f.second;
     erased = subst (λ (l : List ℕ). IsErased l (new_ledger genesis)) (sym seen_is) (new_clean).erased;
-    ends = ap length seen_is ∙ clean_length (point (new_ledger genesis)) (is_hidden (new_ledger genesis)) (new_file genesis) (new_ledger genesis) k.place (new_clean).erased (new_clean).ends (new_tail (new_clean).erased.parts);
+    ends = ap length seen_is ∙ clean_length (point (new_ledger genesis)) (is_hidden (new_ledger genesis)) (new_file genesis) (new_ledger genesis) k.gate (new_clean).erased (new_clean).ends (new_tail (new_clean).erased.parts);
   }
 
   founded_generation : 1 ≡ generation_of disks.a.bytes.seen
   founded_generation = sym (ap generation_of seen_is ∙ generation_is 1 [] (written_blocks (ground).root [] (new_ledger genesis).closed) (omega arith))
 
-  founded_shut : IsShutAt k.place disks.a.bytes.seen
+  founded_shut : IsShutAt k.gate disks.a.bytes.seen
   founded_shut =
       let x = (new_clean).erased in
-      subst (λ (l : List ℕ). IsShutAt k.place l) (sym seen_is)
+      subst (λ (l : List ℕ). IsShutAt k.gate l) (sym seen_is)
       (subst (λ (n : ℕ). IsShutAt n (new_file genesis)) (tail_at (point (new_ledger genesis)) (is_hidden (new_ledger genesis)) (new_file genesis) (new_ledger genesis) x ∙ sym (new_tail x.parts))
       (tail_shut x.keeps.file.front (written_blocks (floor_behind (new_ledger genesis) x.parts.gone).root [] x.keeps.blocks) (new_file genesis) x.keeps.file.stands))
 
@@ -195,7 +195,7 @@ quiet_for false place disks h at x = record {
 
 pub held_quiet : (tells : Bool) (w : World) (h : History) → Holds tells w h → h.waiting ≡ [] → IsQuietFor w.disks h
 held_quiet tells w h p none =
-    subst (IsQuietFor w.disks) (sealed_same h none) (quiet_for w.kept.in_a w.kept.place w.disks (sealed_part h) (tails_kept w.kept h p.keeps p.disks.erased.lawful.blocks_are) p.disks)
+    subst (IsQuietFor w.disks) (sealed_same h none) (quiet_for w.kept.in_a w.kept.gate w.disks (sealed_part h) (tails_kept w.kept h p.keeps p.disks.erased.lawful.blocks_are) p.disks)
 
 pub held_lawful : (tells : Bool) (w : World) (h : History) → Holds tells w h → HasRoom w.kept → IsLawful h
 held_lawful tells w h p room = record {

@@ -5,9 +5,9 @@ use Rattle.std.proofs.lemmas.List.Elements.{All-nil, All-cons}
 use Rattle.std.proofs.lemmas.List.Sums.{sum_by-cons}
 use Rattle.journal_record.specs.Entry.{Entry}
 use Rattle.ledger_open.specs.Erasing.{AllInside, AreBetween}
-use Rattle.ledger_open.specs.Places.{record_len, places_in, places_at, after_at}
-use Rattle.ledger_open.specs.Order.{AreInOrder}
-use Rattle.ledger_open.specs.declared.places.PlaceAt.{PlaceAt}
+use Rattle.block_file.specs.Places.{content_in, body_from, record_len, places_in, places_at, after_at}
+use Rattle.ledger_open.specs.Places.{AreInOrder}
+use Rattle.block_file.specs.declared.place.PlaceAt.{PlaceAt}
 use Rattle.ledger_open.proofs.OrderLaws.{order_low, order_within}
 
 pub order_wider : (from mid to : ℕ) (ps : List PlaceAt) → AreInOrder from mid ps → mid ≤ to → AreInOrder from to ps
@@ -35,13 +35,13 @@ in_order : (at : ℕ) (es : List Entry) → AreInOrder at (at + sum_by record_le
 in_order at [] = omega arith
 in_order at (e ∷ es) = (
   omega arith,
-  order_low (at + 178 + e.header.content_len) (at + record_len e) (at + sum_by record_len (e ∷ es)) (places_in (at + record_len e) es) (omega arith)
+  order_low (content_in at + e.header.content_len) (at + record_len e) (at + sum_by record_len (e ∷ es)) (places_in (at + record_len e) es) (omega arith)
       (order_wider (at + record_len e) (at + record_len e + sum_by record_len es) (at + sum_by record_len (e ∷ es)) (places_in (at + record_len e) es) (in_order (at + record_len e) es) (omega (arith, sum_by-cons record_len e es))),
 )
 
 pub order_blocks : (at : ℕ) (bs : List (List Entry)) → AreInOrder at (after_at at bs) (places_at at bs)
 order_blocks at [] = omega arith
 order_blocks at (b ∷ bs) =
-    let next = at + 45 + sum_by record_len b in
-    order_then at next (after_at next bs) (places_in (at + 45) b) (places_at next bs)
-    (order_low at (at + 45) next (places_in (at + 45) b) (omega arith) (in_order (at + 45) b)) (order_blocks next bs)
+    let next = body_from at + sum_by record_len b in
+    order_then at next (after_at next bs) (places_in (body_from at) b) (places_at next bs)
+    (order_low at (body_from at) next (places_in (body_from at) b) (omega arith) (in_order (body_from at) b)) (order_blocks next bs)

@@ -14,12 +14,13 @@ use Rattle.ledger_model.proofs.GrowLaws.{grows_not}
 use Rattle.ledger_book.specs.Books as books
 use Rattle.twin_file.specs.Twin.{open_of}
 use Rattle.ledger_book.specs.Books.{Serves}
-use Rattle.ledger_open.specs.Places.{places_in, places_from}
+use Rattle.block_file.specs.Places.{body_from, places_in}
+use Rattle.ledger_open.specs.Places.{places_from}
 use Rattle.ledger_open.specs.Standing.{floor_behind, IsErased}
 use Rattle.batch_committer.specs.Read.{IsReadAs, WasRead, WereRead, NoneFailed, ReadingEnds}
-use Rattle.batch_committer.specs.World.{Pair, CommitterState, world, ReadsAsLeft, Fits, IsCleanFor, Holds, Goes, Says, EndsBy, Ended, sealed_part}
-use Rattle.batch_committer.specs.declared.end.End.{End}
-use Rattle.batch_committer.specs.declared.end.End.TheVariants.{DiskFault, WriteFault, NoMemory, Closed}
+use Rattle.batch_committer.specs.World.{Pair, CommitterState, world, ReadsAsLeft, Fits, IsCleanFor, Holds, Goes, Says, EndsBy, EndsOnTheWay, sealed_part}
+use Rattle.batch_committer.specs.declared.failure.CommitErr.{CommitErr}
+use Rattle.batch_committer.specs.declared.failure.CommitErr.TheVariants.{DiskFault, WriteFault, NoMemory, Closed}
 use Rattle.batch_committer.proofs.Closing.{sealed_same}
 use Rattle.batch_committer.proofs.Ending.{stops_before}
 
@@ -42,8 +43,8 @@ module _ (tells : Bool) (old new : Pair) (read : WereRead tells old new) where
   holds_read k sink h p = record {
     told = p.told;
     keeps = p.keeps;
-    disks = subst (λ (b : State). IsCleanFor k.in_a k.place (sealed_part h) new.a.bytes b) (sym (read.b.bytes p.told))
-        (subst (λ (a : State). IsCleanFor k.in_a k.place (sealed_part h) a old.b.bytes) (sym (read.a.bytes p.told)) p.disks);
+    disks = subst (λ (b : State). IsCleanFor k.in_a k.gate (sealed_part h) new.a.bytes b) (sym (read.b.bytes p.told))
+        (subst (λ (a : State). IsCleanFor k.in_a k.gate (sealed_part h) a old.b.bytes) (sym (read.a.bytes p.told)) p.disks);
   }
 
   told_still : (place : ℕ) (o n : Option ℕ) → KeepsLength o n → IsSomeAnd o (λ (m : ℕ). place + 1 ≤ m) → IsSomeAnd n (λ (m : ℕ). place + 1 ≤ m)
@@ -62,7 +63,7 @@ module _ (tells : Bool) (old new : Pair) (read : WereRead tells old new) where
   generation_by false t = ap (λ (b : State). generation_of b.seen) (read.b.bytes t)
 
   pub fits_read : (k : CommitterState) (sink : SinkState) → Fits tells (world k old sink) → Fits tells (world k new sink)
-  fits_read k sink f = record { reads = reads_by k.in_a k.place f.reads; generation = λ t. f.generation t ∙ sym (generation_by k.in_a t); copy = f.copy; few = f.few; order = f.order }
+  fits_read k sink f = record { reads = reads_by k.in_a k.gate f.reads; generation = λ t. f.generation t ∙ sym (generation_by k.in_a t); copy = f.copy; few = f.few; order = f.order }
 
   -- reading leads to the same history, and nothing becomes due by it
   pub goes_read : (k : CommitterState) (sink : SinkState) → NoneFailed old new → Goes tells (world k old sink) (λ h. h) (λ h. []) (world k new sink)
@@ -75,20 +76,20 @@ module _ (tells : Bool) (old new : Pair) (read : WereRead tells old new) where
     no_fault = record { a = none.0; b = none.1; sink = (refl, refl) };
   }
 
-  says_none : (end : End) → ReadingEnds end old new → Says end [] []
+  says_none : (end : CommitErr) → ReadingEnds end old new → Says end [] []
   says_none DiskFault e = refl
   says_none WriteFault e = absurd e
   says_none NoMemory e = refl
   says_none Closed e = absurd e
 
-  ends_by : (end : End) (k t : CommitterState) (sink : SinkState) → ReadingEnds end old new → EndsBy end (world k old sink) (world t new sink)
+  ends_by : (end : CommitErr) (k t : CommitterState) (sink : SinkState) → ReadingEnds end old new → EndsBy end (world k old sink) (world t new sink)
   ends_by DiskFault k t sink e = (e, (refl, refl))
   ends_by WriteFault k t sink e = absurd e
   ends_by NoMemory k t sink e = record { a = e.0; b = e.1; sink = (refl, refl) }
   ends_by Closed k t sink e = absurd e
 
   -- a run that reading ended, on the way to a history
-  pub read_ended : (k t : CommitterState) (sink : SinkState) (f : History → History) (d : History → List Due) (end : End) → ((h : History) → Grows h (f h)) → ReadingEnds end old new → Ended tells (world k old sink) f d end (world t new sink)
+  pub read_ended : (k t : CommitterState) (sink : SinkState) (f : History → History) (d : History → List Due) (end : CommitErr) → ((h : History) → Grows h (f h)) → ReadingEnds end old new → EndsOnTheWay tells (world k old sink) f d end (world t new sink)
   read_ended k t sink f d end grows e = record {
     grows = λ h p. grows h;
     part = [];
@@ -114,7 +115,7 @@ read_as_held tells k disks sink h p none in_a is =
         serves = subst (Serves k.book) (sym (sealed_same h none)) p.keeps.serves;
         begins = inl p.keeps.floor;
         parts = parts;
-        places_are = p.keeps.located.places ∙ ap (λ (w : List Entry). places_from from parts.kept ++ places_in (k.place + 45) w) none ∙ append-nil (places_from from parts.kept);
+        places_are = p.keeps.located.places ∙ ap (λ (w : List Entry). places_from from parts.kept ++ places_in (body_from k.gate) w) none ∙ append-nil (places_from from parts.kept);
         none = refl;
       };
       floor = p.keeps.floor;

@@ -13,9 +13,9 @@ use Rattle.ledger_model.specs.declared.job.Job.TheVariants.{Anchor}
 use Rattle.ledger_model.proofs.GrowLaws.{grows_after, grows_settled}
 use Rattle.time_peg.specs.Entries.{NotaryState}
 use Rattle.batch_committer.specs.Attending.{step_in, Attended, TakesJob, EndsTaking, TakesIn, EndsIn}
-use Rattle.batch_committer.specs.World.{CommitterState, Pair, World, world, Goes, Ended}
-use Rattle.batch_committer.specs.declared.end.End.TheVariants.{Closed}
-use Rattle.batch_committer.specs.declared.end.End.{End}
+use Rattle.batch_committer.specs.World.{CommitterState, Pair, World, world, Goes, EndsOnTheWay}
+use Rattle.batch_committer.specs.declared.failure.CommitErr.TheVariants.{Closed}
+use Rattle.batch_committer.specs.declared.failure.CommitErr.{CommitErr}
 use Rattle.batch_committer.proofs.Attends.{untouched_by}
 use Rattle.batch_committer.proofs.Offering.{offer_goes, offer_unended, offer_unjudged, offer_unfilled, after_is}
 use Rattle.batch_committer.proofs.WayLaws.{ended_then, ended_wider, ended_as, never_closed}
@@ -29,7 +29,7 @@ module _ (tells : Bool) (w m n t : World) (p q : NotaryState) (lane index : ℕ)
   }
 
   -- the block that it fills couldn't be ended
-  pub unfilled : (end : End) (failed : Bool) → ((line : List ℕ) → TakesIn tells m n p q (step_in p q failed lane index line) job) → Ended tells n (settled_history job) (λ g. []) end t → EndsTaking tells w t p q lane index job end
+  pub unfilled : (end : CommitErr) (failed : Bool) → ((line : List ℕ) → TakesIn tells m n p q (step_in p q failed lane index line) job) → EndsOnTheWay tells n (settled_history job) (λ g. []) end t → EndsTaking tells w t p q lane index job end
   unfilled end failed y z = inl (
     failed,
     λ line. record {
@@ -39,7 +39,7 @@ module _ (tells : Bool) (w m n t : World) (p q : NotaryState) (lane index : ℕ)
   )
 
   -- an anchor that the notary didn't answer to
-  unanswered : (step : Step) (end : End) → Ended tells m (λ g. with_job real_limits (stamp_of step) g job) (λ g. []) end t → Ended tells w (λ h. after_job h step job) (λ h. []) end t
+  unanswered : (step : Step) (end : CommitErr) → EndsOnTheWay tells m (λ g. with_job real_limits (stamp_of step) g job) (λ g. []) end t → EndsOnTheWay tells w (λ h. after_job h step job) (λ h. []) end t
   unanswered step end y =
       ended_as tells w t (λ h. settled_history job (with_job real_limits (stamp_of step) (judged_at h job) job)) (λ h. after_job h step job) (λ h. []) (λ h. []) end
       (λ h held. after_is h step job) (λ h held. refl)
@@ -48,7 +48,7 @@ module _ (tells : Bool) (w m n t : World) (p q : NotaryState) (lane index : ℕ)
       (ended_then tells w m t (λ h. judged_at h job) (λ g. with_job real_limits (stamp_of step) g job) (λ h. []) (λ g. []) end x y))
 
   -- it couldn't be judged
-  pub unjudged : (end : End) → EndsIn tells m t p q lane index job end → EndsTaking tells w t p q lane index job end
+  pub unjudged : (end : CommitErr) → EndsIn tells m t p q lane index job end → EndsTaking tells w t p q lane index job end
   unjudged end (inl y) = inl (
     y.0,
     λ line. record {
@@ -63,7 +63,7 @@ module _ (tells : Bool) (w m n t : World) (p q : NotaryState) (lane index : ℕ)
   })
 
 -- the block before it couldn't be ended: the notary wasn't asked
-pub unended : (tells : Bool) (w t : World) (p : NotaryState) (lane index : ℕ) (job : Job) (end : End) → Ended tells w (λ h. judged_at h job) (λ h. []) end t → EndsTaking tells w t p p lane index job end
+pub unended : (tells : Bool) (w t : World) (p : NotaryState) (lane index : ℕ) (job : Job) (end : CommitErr) → EndsOnTheWay tells w (λ h. judged_at h job) (λ h. []) end t → EndsTaking tells w t p p lane index job end
 unended tells w t p lane index job end x = by (untouched_by p job) where
   by : ((h : History) (lane index : ℕ) (line : List ℕ) → Attended p p h (step_in p p false lane index line) job) ⊎ (job ≡ Anchor) → EndsTaking tells w t p p lane index job end
   by (inl y) = inl (false, λ line. record { ended = offer_unended tells w w w t (step_in p p false lane index line) job end x; attended = λ h held. y (judged_at h job) lane index line })
@@ -77,7 +77,7 @@ unended tells w t p lane index job end x = by (untouched_by p job) where
 pub takes_at : (tells : Bool) (k0 k1 : CommitterState) → k0 ≡ k1 → (disks : Pair) (sink : SinkState) (t : World) (p q : NotaryState) (step : Step) (job : Job) → TakesJob tells (world k0 disks sink) t p q step job → TakesJob tells (world k1 disks sink) t p q step job
 takes_at tells k0 k1 is disks sink t p q step job x = subst (λ k. TakesJob tells (world k disks sink) t p q step job) is x
 
-pub ends_at : (tells : Bool) (k0 k1 : CommitterState) → k0 ≡ k1 → (disks : Pair) (sink : SinkState) (t : World) (p q : NotaryState) (lane index : ℕ) (job : Job) (end : End) → EndsTaking tells (world k0 disks sink) t p q lane index job end → EndsTaking tells (world k1 disks sink) t p q lane index job end
+pub ends_at : (tells : Bool) (k0 k1 : CommitterState) → k0 ≡ k1 → (disks : Pair) (sink : SinkState) (t : World) (p q : NotaryState) (lane index : ℕ) (job : Job) (end : CommitErr) → EndsTaking tells (world k0 disks sink) t p q lane index job end → EndsTaking tells (world k1 disks sink) t p q lane index job end
 ends_at tells k0 k1 is disks sink t p q lane index job end x = subst (λ k. EndsTaking tells (world k disks sink) t p q lane index job end) is x
 
 pub never_ends_closed : (tells : Bool) (w t : World) (p q : NotaryState) (lane index : ℕ) (job : Job) → EndsTaking tells w t p q lane index job Closed → ⊥

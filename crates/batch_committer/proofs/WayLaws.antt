@@ -12,9 +12,9 @@ use Rattle.ledger_model.specs.declared.due.Due.{Due}
 use Rattle.ledger_model.proofs.GrowLaws.{grows_not, grows_then}
 use Rattle.ledger_model.proofs.RunLaws.{due_lines-append}
 use Rattle.ledger_model.proofs.WaitLaws.{in-append, all_in_more, begins_closed}
-use Rattle.batch_committer.specs.World.{Pair, World, Holds, MeetsNoFault, Writes, Goes, Says, Stops, OneFailed, EndsBy, Ended, before_last, IsLeftClean}
-use Rattle.batch_committer.specs.declared.end.End.{End}
-use Rattle.batch_committer.specs.declared.end.End.TheVariants.{DiskFault, WriteFault, NoMemory, Closed}
+use Rattle.batch_committer.specs.World.{Pair, World, Holds, MeetsNoFault, Writes, Goes, Says, LeftAtTheEnd, OneFailed, EndsBy, EndsOnTheWay, before_last, IsLeftClean}
+use Rattle.batch_committer.specs.declared.failure.CommitErr.{CommitErr}
+use Rattle.batch_committer.specs.declared.failure.CommitErr.TheVariants.{DiskFault, WriteFault, NoMemory, Closed}
 
 -- ---- lists that begin one another
 
@@ -39,7 +39,7 @@ pub failed_from : (x y z : Pair) → y.a.faults ≡ x.a.faults → y.b.faults �
 failed_from x y z a b (inl f) = inl (f.0 ∙ ap count_after a, f.1 ∙ b)
 failed_from x y z a b (inr f) = inr (f.0 ∙ a, f.1 ∙ ap count_after b)
 
-pub ends_later : (end : End) (w m t : World) → MeetsNoFault w m → EndsBy end m t → EndsBy end w t
+pub ends_later : (end : CommitErr) (w m t : World) → MeetsNoFault w m → EndsBy end m t → EndsBy end w t
 ends_later DiskFault w m t x e = (failed_from w.disks m.disks t.disks x.a x.b e.0, (e.1.0 ∙ x.sink.0, e.1.1 ∙ x.sink.1))
 ends_later WriteFault w m t x e = (
   e.0 ∙ x.a,
@@ -88,7 +88,7 @@ begins_long : (xs ys : List (List Entry)) → Begins xs ys → length xs ≤ len
 begins_long xs ys b = omega (arith, ap length b.is, length-append xs b.rest)
 
 -- images are as clean where more was written before
-clean_more : (end : End) (h g kept : History) (done more : List Due) (a b : List ℕ) → Begins h.closed g.closed → Begins g.closed kept.closed → AllIn g.closed done → IsLeftClean end g kept more a b → IsLeftClean end h kept (done ++ more) a b
+clean_more : (end : CommitErr) (h g kept : History) (done more : List Due) (a b : List ℕ) → Begins h.closed g.closed → Begins g.closed kept.closed → AllIn g.closed done → IsLeftClean end g kept more a b → IsLeftClean end h kept (done ++ more) a b
 clean_more DiskFault h g kept done more a b x y all (inl e) = inl e
 clean_more DiskFault h g kept done more a b x y all (inr u) =
     inr
@@ -102,14 +102,14 @@ clean_more Closed h g kept done more a b x y all c = c
 
 -- ---- the end of a way
 
-says_more : (end : End) (front part lines : List ℕ) → Says end part lines → Says end (front ++ part) (front ++ lines)
+says_more : (end : CommitErr) (front part lines : List ℕ) → Says end part lines → Says end (front ++ part) (front ++ lines)
 says_more DiskFault front part lines s = ap (λ l. front ++ l) s
 says_more WriteFault front part lines s = (begins_more front part lines s.0, omega (arith, s.1, length-append front part, length-append front lines))
 says_more NoMemory front part lines s = ap (λ l. front ++ l) s
 says_more Closed front part lines s = ap (λ l. front ++ l) s
 
-pub stops_then : (h g whole : History) (old more1 mid more2 : List Due) (sofar part : List ℕ) (end : End) (disks : Pair) → Grows h g → Grows g whole
-    → Writes g old more1 mid sofar → Stops g whole (mid ++ more2) end part disks → Stops h whole (old ++ (more1 ++ more2)) end (sofar ++ part) disks
+pub stops_then : (h g whole : History) (old more1 mid more2 : List Due) (sofar part : List ℕ) (end : CommitErr) (disks : Pair) → Grows h g → Grows g whole
+    → Writes g old more1 mid sofar → LeftAtTheEnd g whole (mid ++ more2) end part disks → LeftAtTheEnd h whole (old ++ (more1 ++ more2)) end (sofar ++ part) disks
 stops_then h g whole old more1 mid more2 sofar part end disks x y a s = record {
   done = a.done ++ s.done;
   rest = s.rest;
@@ -127,7 +127,7 @@ stops_then h g whole old more1 mid more2 sofar part end disks x y a s = record {
   };
 }
 
-pub ended_then : (tells : Bool) (w m t : World) (f g : History → History) (d e : History → List Due) (end : End) → Goes tells w f d m → Ended tells m g e end t → Ended tells w (λ h. g (f h)) (λ h. d h ++ e (f h)) end t
+pub ended_then : (tells : Bool) (w m t : World) (f g : History → History) (d e : History → List Due) (end : CommitErr) → Goes tells w f d m → EndsOnTheWay tells m g e end t → EndsOnTheWay tells w (λ h. g (f h)) (λ h. d h ++ e (f h)) end t
 ended_then tells w m t f g d e end x y = record {
   grows = λ h p. grows_then h (f h) (g (f h)) (x.grows h p) (y.grows (f h) (x.holds h p));
   part = x.sofar ++ y.part;
@@ -150,17 +150,17 @@ goes_as tells w t f g d e same due x = record {
   no_fault = x.no_fault;
 }
 
-pub ended_as : (tells : Bool) (w t : World) (f g : History → History) (d e : History → List Due) (end : End) → ((h : History) → Holds tells w h → f h ≡ g h) → ((h : History) → Holds tells w h → d h ≡ e h) → Ended tells w f d end t → Ended tells w g e end t
+pub ended_as : (tells : Bool) (w t : World) (f g : History → History) (d e : History → List Due) (end : CommitErr) → ((h : History) → Holds tells w h → f h ≡ g h) → ((h : History) → Holds tells w h → d h ≡ e h) → EndsOnTheWay tells w f d end t → EndsOnTheWay tells w g e end t
 ended_as tells w t f g d e end same due x = record {
   grows = λ h p. subst (Grows h) (same h p) (x.grows h p);
   part = x.part;
   appended = x.appended;
-  stops = λ h p. subst (λ (l : List Due). Stops h (g h) (w.kept.dues ++ l) end x.part t.disks) (due h p) (subst (λ (k : History). Stops h k (w.kept.dues ++ d h) end x.part t.disks) (same h p) (x.stops h p));
+  stops = λ h p. subst (λ (l : List Due). LeftAtTheEnd h (g h) (w.kept.dues ++ l) end x.part t.disks) (due h p) (subst (λ (k : History). LeftAtTheEnd h k (w.kept.dues ++ d h) end x.part t.disks) (same h p) (x.stops h p));
   cause = x.cause;
 }
 
 -- an end on the way to a history is one on the way to each that comes of it
-pub ended_wider : (tells : Bool) (w t : World) (f g : History → History) (d e : History → List Due) (end : End) → ((h : History) → Holds tells w h → Grows (f h) (g h)) → Ended tells w f d end t → Ended tells w g (λ h. d h ++ e h) end t
+pub ended_wider : (tells : Bool) (w t : World) (f g : History → History) (d e : History → List Due) (end : CommitErr) → ((h : History) → Holds tells w h → Grows (f h) (g h)) → EndsOnTheWay tells w f d end t → EndsOnTheWay tells w g (λ h. d h ++ e h) end t
 ended_wider tells w t f g d e end wider x = record {
   grows = λ h p. grows_then h (f h) (g h) (x.grows h p) (wider h p);
   part = x.part;
@@ -194,18 +194,18 @@ goes_same tells w = record {
 }
 
 -- no call ends a run as one that an earlier call ended
-pub never_closed : (tells : Bool) (w t : World) (f : History → History) (d : History → List Due) (end : End) → end ≡ Closed → Ended tells w f d end t → ⊥
+pub never_closed : (tells : Bool) (w t : World) (f : History → History) (d : History → List Due) (end : CommitErr) → end ≡ Closed → EndsOnTheWay tells w f d end t → ⊥
 never_closed tells w t f d end is x = subst (λ e. EndsBy e w t) is x.cause
 
 -- a result that isn't this error
-pub err_not : {T : Type 0} (IsSo : End → Type 0) (result : Result T End) (end : End) → (IsSo end → ⊥) → IfErr result IsSo → result ≡ Err end → ⊥
+pub err_not : {T : Type 0} (IsSo : CommitErr → Type 0) (result : Result T CommitErr) (end : CommitErr) → (IsSo end → ⊥) → IfErr result IsSo → result ≡ Err end → ⊥
 err_not IsSo result end never so is = never (subst (λ r. IfErr r IsSo) is so)
 
 -- an error that is this one
-pub err_is : {T : Type 0} (IsSo : End → Type 0) (result : Result T End) (wanted : End) → IsErrAnd result (λ end. end ≡ wanted) → IsSo wanted → IfErr result IsSo
+pub err_is : {T : Type 0} (IsSo : CommitErr → Type 0) (result : Result T CommitErr) (wanted : CommitErr) → IsErrAnd result (λ end. end ≡ wanted) → IsSo wanted → IfErr result IsSo
 err_is IsSo (Ok value) wanted is so = tt
 err_is IsSo (Err end) wanted is so = subst IsSo (sym is) so
 
 -- an end that is this one
-pub ended_by : (tells : Bool) (w t : World) (f : History → History) (d : History → List Due) (end wanted : End) → end ≡ wanted → Ended tells w f d wanted t → Ended tells w f d end t
-ended_by tells w t f d end wanted is x = subst (λ e. Ended tells w f d e t) (sym is) x
+pub ended_by : (tells : Bool) (w t : World) (f : History → History) (d : History → List Due) (end wanted : CommitErr) → end ≡ wanted → EndsOnTheWay tells w f d wanted t → EndsOnTheWay tells w f d end t
+ended_by tells w t f d end wanted is x = subst (λ e. EndsOnTheWay tells w f d e t) (sym is) x

@@ -5,15 +5,16 @@ use Rattle.ledger_disk.specs.Disk.{State, MayLeave, settled_state}
 use Rattle.ledger_model.specs.History.{History}
 use Rattle.ledger_open.specs.Purging.{Ledger, ledger_at, open_disk, other_disk, StandsOpen, IsCleanOpen, IsAtGate}
 use Rattle.ledger_open.specs.Standing.{PairFor}
-use Rattle.ledger_open.specs.Order.{AreInOrder}
+use Rattle.ledger_open.specs.Places.{AreInOrder}
 use Rattle.ledger_open.specs.declared.opened.Opened.{Opened}
 use Rattle.twin_file.specs.Twin.{open_of, other_of}
 use Rattle.batch_committer.specs.World.{Pair, ReadsAsLeft, OneFailed}
 
--- the contents of the open file, and those of the other one
+-- the contents of the file that is open
 abbrev pub open_bytes : Bool → Pair → State
 open_bytes in_a disks = open_of in_a disks.a.bytes disks.b.bytes
 
+-- the contents of the file that isn't open
 abbrev pub other_bytes : Bool → Pair → State
 other_bytes in_a disks = other_of in_a disks.a.bytes disks.b.bytes
 
@@ -29,7 +30,7 @@ pub record IsCommitted (tells : Bool) (in_a : Bool) (place : ℕ) (block : List 
   pub faults_a : after.a.faults ≡ before.a.faults
   pub faults_b : after.b.faults ≡ before.b.faults
 
--- the open file's disk failed: each image has the block whole or not at all
+-- the open file's disk failed in a commit: each image has the block whole or not at all
 pub record IsUncommitted (tells : Bool) (in_a : Bool) (place : ℕ) (block : List ℕ) (before after : Pair) : Type 0 where
   pub may : IsTrue tells → IsSettled (open_bytes in_a before) → (front : List ℕ) (blocks : List (List ℕ))
       → IsFileOf front blocks (open_bytes in_a before).seen → tail_of front blocks ≡ place
@@ -40,7 +41,7 @@ pub record IsUncommitted (tells : Bool) (in_a : Bool) (place : ℕ) (block : Lis
 
 -- ---- what the last journal hides or purges is given up
 
--- an open ledger, with what these disks hold
+-- an open ledger with what these two disks hold
 abbrev pub ledger_on : Opened → Pair → Ledger
 ledger_on opened disks = ledger_at opened disks.a.bytes disks.b.bytes
 
@@ -48,23 +49,23 @@ ledger_on opened disks = ledger_at opened disks.a.bytes disks.b.bytes
 -- undone: the open file ends with its tail gate, and the other one is empty.
 pub record IsStanding (l : Ledger) (h : History) : Type 0 where
   pub stands : StandsOpen l h
-  pub ends : length (open_disk l).seen ≡ l.known.place + 1
+  pub ends : length (open_disk l).seen ≡ l.known.gate + 1
   pub empty : other_disk l ≡ settled_state []
 
--- What is to be given up is gone, for good, and no disk failed. Whatever the history is, the open file reads as the calls leave
--- it, and the book has as many journals as before.
+-- What the last journal hides or purges is gone, for good, and no disk failed. Whatever the history is, the open file reads
+-- as the calls leave it, and the book has as many journals as before.
 pub record IsFinished (tells : Bool) (old new : Ledger) (before after : Pair) : Type 0 where
   pub clean : IsTrue tells → (h : History) → IsStanding old h → IsCleanOpen new h
   pub gate : IsTrue tells → IsAtGate old → IsAtGate new
-  pub told : IsSomeAnd (open_of new.in_a after.a after.b).told (λ n. new.known.place + 1 ≤ n)
-  pub order : AreInOrder 64 old.known.place old.known.places → AreInOrder 64 new.known.place new.known.places
+  pub told : IsSomeAnd (open_of new.in_a after.a after.b).told (λ n. new.known.gate + 1 ≤ n)
+  pub order : AreInOrder 64 old.known.gate old.known.places → AreInOrder 64 new.known.gate new.known.places
   pub limits : new.known.book.limits ≡ old.known.book.limits
   pub size : new.known.book.size ≡ old.known.book.size
   pub sealed : new.known.book.sealed ≡ old.known.book.sealed
   pub faults_a : after.a.faults ≡ before.a.faults
   pub faults_b : after.b.faults ≡ before.b.faults
 
--- a disk failed: each pair of images stands for the history still
+-- a disk failed while something was given up: each pair of images stands for the history still
 pub record IsUnfinished (tells : Bool) (old : Ledger) (before after : Pair) : Type 0 where
   pub meanwhile : IsTrue tells → (h : History) → IsStanding old h
       → (image_a image_b : List ℕ) → MayLeave after.a.bytes image_a → MayLeave after.b.bytes image_b → PairFor image_a image_b h

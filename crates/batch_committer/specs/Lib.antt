@@ -1,4 +1,3 @@
-pub mod Spelled
 pub mod World
 pub mod Steps
 pub mod Attending

@@ -11,16 +11,16 @@ use Rattle.ledger_open.specs.Reopened.{Remembers}
 use Rattle.ledger_open.specs.Standing.{PairFor, IsCleanPair}
 use Rattle.batch_committer.specs.World.{CommitterState, Pair, first_kept}
 
--- what is kept of a ledger of which this is known
+-- what a committer begins with on a ledger of which this is known: nothing is due, and no journal waits
 abbrev pub kept_from : Known → Bool → ℕ → CommitterState
-kept_from known in_a generation = first_kept known.book known.places known.place in_a generation None
+kept_from known in_a generation = first_kept known.book known.places known.gate in_a generation None
 
--- the ledger was made or opened: its file has this base, or none, and these blocks, and the length of that file is told
+-- a ledger was made or opened: its file has this base, or none, and these blocks, and the length of that file is told
 pub record IsOpened (known : Known) (in_a : Bool) (disks : Pair) (start : Option Base) (blocks : List (List Entry)) : Type 0 where
   pub knows : Remembers known start blocks
-  pub told : IsSomeAnd (open_of in_a disks.a disks.b).told (λ n. known.place + 1 ≤ n)
+  pub told : IsSomeAnd (open_of in_a disks.a disks.b).told (λ n. known.gate + 1 ≤ n)
 
--- nothing is pending, the pair is clean for this history, and so is each pair of images
+-- nothing is pending on two disks, the pair is clean for this history, and each pair of images stands for it
 pub record IsQuietFor (disks : Pair) (h : History) : Type 0 where
   pub a : IsSettled disks.a.bytes
   pub b : IsSettled disks.b.bytes

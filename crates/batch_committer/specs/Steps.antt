@@ -1,5 +1,5 @@
 -- The steps that a committer takes, one after the other.
-use Rattle.std.specs.Prelude.{⊤, ◌≡◌, ◌≢◌, ℕ, ◌+◌, ◌-◌, ◌<◌, ◌≤◌, false, List, [], ◌∷◌, ◌++◌, length}
+use Rattle.std.specs.Prelude.{◌≡◌, ◌≢◌, ℕ, ◌+◌, ◌-◌, ◌≤◌, false, List, [], ◌∷◌, ◌++◌, length}
 use Rattle.journal_record.specs.Blocks.{record_bytes, body_of, AreFrom}
 use Rattle.journal_record.specs.Entry.{Entry}
 use Rattle.journal_record.specs.Header.{HasWidths}
@@ -16,50 +16,37 @@ use Rattle.ledger_model.specs.Texts.{answer_for}
 use Rattle.ledger_model.specs.declared.answer.Answer.{Answer}
 use Rattle.ledger_model.specs.declared.due.Due.{Due}
 use Rattle.ledger_model.specs.declared.job.Job.{Job}
-use Rattle.ledger_model.specs.declared.job.Job.TheVariants.{Refused, Append, NewMember, Anchor, Occult, Purge, Get, Prove, Extend, Clue, Head}
-use Rattle.ledger_model.specs.declared.outcome.Query.{Query}
-use Rattle.ledger_model.specs.declared.outcome.Query.TheVariants as query
-use Rattle.ledger_book.specs.Books as books
+use Rattle.ledger_model.specs.declared.job.Job.TheVariants.{Append, NewMember, Anchor, Occult, Purge}
 use Rattle.ledger_book.specs.Books.{Serves, sealed_size}
 use Rattle.ledger_book.specs.Steps.{OpenGathers}
-use Rattle.ledger_open.specs.Places.{place_at}
-use Rattle.ledger_open.specs.Order.{AreInOrder}
+use Rattle.block_file.specs.Places.{body_from, place_at}
+use Rattle.ledger_open.specs.Places.{AreInOrder}
 use Rattle.batch_committer.specs.World.{CommitterState, Located, sealed_part}
 
--- what is due for a job that is judged against g, by what came of it
+-- the answer to a job that is judged against g, by what came of it, with the lane and number of its line
 abbrev pub due_by : History → Step → Job → Due
 due_by g step job = record { lane = step.lane; index = step.index; answer = answer_for g step (outcome real_limits (stamp_of step) g job) }
 
--- the lines that are due, where the last block of a history has ended
+-- the text that is due where the last block of a history has ended, and all receipts are of that block
 abbrev pub settled_text : History → List Due → List ℕ
 settled_text h dues = dues_text (length h.closed - 1) (size h) (root h (size h)) dues
 
--- the content and the approvals of a job that may place a journal
+-- the content and the approvals of a job that may place a journal; no other job has these
 abbrev pub HasParts : Job → List ℕ → List Approval → Type 0
-HasParts (Refused refusal) content given = ⊥
 HasParts (Append member clue record_content content_digest request by) content given = (content ≡ record_content) × (given ≡ by ∷ [])
 HasParts (NewMember number key by) content given = (content ≡ []) × (given ≡ by ∷ [])
 HasParts Anchor content given = (content ≡ []) × (given ≡ [])
 HasParts (Occult target leaf approvals) content given = (content ≡ []) × (given ≡ approvals)
 HasParts (Purge p told approvals) content given = (content ≡ []) × (given ≡ approvals)
-HasParts (Get n) content given = ⊥
-HasParts (Prove n) content given = ⊥
-HasParts (Extend which m) content given = ⊥
-HasParts (Clue clue) content given = ⊥
-HasParts Head content given = ⊥
-
--- the book has a journal with this number, whose header it keeps
-pub record HasJournal (book : books.Kept) (jsn : ℕ) : Type 0 where
-  pub kept : book.floor ≤ jsn
-  pub below : jsn < book.size
+HasParts other content given = ⊥
 
 -- a journal was gathered behind those of the open block
 pub record IsGathered (old new : CommitterState) (journal : Entry) : Type 0 where
   pub widths : HasWidths journal.header
   pub body : new.body ≡ old.body ++ record_bytes journal
-  pub places : new.places ≡ old.places ++ place_at (old.place + 45 + length old.body) journal ∷ []
+  pub places : new.places ≡ old.places ++ place_at (body_from old.gate + length old.body) journal ∷ []
 
--- but for what is due, what is kept is what this history says
+-- what a committer keeps is what this history says, but for what is due, of which nothing is said
 pub record Gathers (k : CommitterState) (h : History) : Type 0 where
   pub serves : Serves k.book h
   pub limits : k.book.limits ≡ real_limits
@@ -69,14 +56,15 @@ pub record Gathers (k : CommitterState) (h : History) : Type 0 where
   pub gathered : length h.waiting ≢ 1 → AllGather h.waiting
   pub located : Located k h
 
--- a job was judged against g and its journal gathered: this is due for it, and all else is kept as the history after it says
+-- a job was judged against g and its journal gathered: this is the answer to it, and but for what is due all is kept as the
+-- history after it says
 pub record Judged (new : CommitterState) (g : History) (step : Step) (job : Job) (answer : Answer) : Type 0 where
   pub answer_is : answer ≡ answer_for g step (outcome real_limits (stamp_of step) g job)
   pub gathers : Gathers new (with_job real_limits (stamp_of step) g job)
 
 -- the open file is as before, and its tail gate stands where it stood
 pub record KeepsFile (old new : CommitterState) : Type 0 where
-  pub place : new.place ≡ old.place
+  pub gate : new.gate ≡ old.gate
   pub in_a : new.in_a ≡ old.in_a
   pub generation : new.generation ≡ old.generation
   pub copy : new.copy ≡ old.copy
@@ -86,7 +74,7 @@ pub record KeepsRest (old new : CommitterState) : Type 0 where
   pub file : KeepsFile old new
   pub dues : new.dues ≡ old.dues
 
--- at most one journal was placed, and no block ended
+-- at most one journal was placed by a call, and no block ended
 abbrev pub HasGrown : CommitterState → CommitterState → Type 0
 HasGrown old new = (new.book.size ≤ old.book.size + 1) × (new.book.sealed ≡ old.book.sealed)
 
@@ -96,13 +84,4 @@ StaysGathered old new job = closes_after job ≡ false → OpenGathers old.book 
 
 -- the contents still stand in their order in front of the place of the next gate
 abbrev pub StaysInOrder : CommitterState → CommitterState → Type 0
-StaysInOrder old new = AreInOrder 64 (old.place + 45 + length old.body) old.places → AreInOrder 64 (new.place + 45 + length new.body) new.places
-
--- a query that asks for no proof, and that the ledger answers without its notary
-abbrev pub IsOfLedger : Query → Type 0
-IsOfLedger query.Stamp = ⊥
-IsOfLedger (query.Get n) = ⊤
-IsOfLedger (query.Prove n) = ⊥
-IsOfLedger (query.Extend which m) = ⊥
-IsOfLedger (query.Clue clue) = ⊤
-IsOfLedger query.Head = ⊥
+StaysInOrder old new = AreInOrder 64 (body_from old.gate + length old.body) old.places → AreInOrder 64 (body_from new.gate + length new.body) new.places

@@ -21,28 +21,31 @@ use Rattle.ledger_book.specs.Books.{Serves, sealed_size}
 use Rattle.ledger_book.specs.Steps.{OpenGathers}
 use Rattle.twin_file.specs.Twin.{open_of, other_of}
 use Rattle.ledger_open.specs.Cutting.{gate_behind}
-use Rattle.ledger_open.specs.Places.{places_in, places_from}
+use Rattle.block_file.specs.Places.{body_from, places_in}
+use Rattle.ledger_open.specs.Places.{places_from, AreInOrder}
 use Rattle.ledger_open.specs.Standing.{floor_behind, Parts, IsErased, PairFor, IsCleanPair}
-use Rattle.ledger_open.specs.Order.{AreInOrder}
-use Rattle.ledger_open.specs.declared.places.PlaceAt.{PlaceAt}
-use Rattle.batch_committer.specs.declared.end.End.{End}
-use Rattle.batch_committer.specs.declared.end.End.TheVariants.{DiskFault, WriteFault, NoMemory, Closed}
+use Rattle.block_file.specs.declared.place.PlaceAt.{PlaceAt}
+use Rattle.batch_committer.specs.declared.failure.CommitErr.{CommitErr}
+use Rattle.batch_committer.specs.declared.failure.CommitErr.TheVariants.{DiskFault, WriteFault, NoMemory, Closed}
 
 -- ---- what is told
 
+-- what the two disks of a ledger tell
 pub record Pair : Type 0 where
   pub a : DiskState
   pub b : DiskState
 
+-- what these two disks tell
 abbrev pub pair : DiskState → DiskState → Pair
 pair a b = record { a = a; b = b }
 
--- what a committer keeps
+-- what a committer keeps: its book, where its open file ends, the records of the open block, where journals stand, and what
+-- is due
 pub record CommitterState : Type 0 where
   pub book : books.Kept
   -- where the open file's tail gate stands, whether that file is the first, which generation it is, and the copy of it that
   -- was begun
-  pub place : ℕ
+  pub gate : ℕ
   pub in_a : Bool
   pub generation : ℕ
   pub copy : Option BlockFile
@@ -55,9 +58,9 @@ pub record CommitterState : Type 0 where
 
 -- what is kept of a ledger that was made or opened just now
 abbrev pub first_kept : books.Kept → List PlaceAt → ℕ → Bool → ℕ → Option BlockFile → CommitterState
-first_kept book places place in_a generation copy = record {
+first_kept book places gate in_a generation copy = record {
   book = book;
-  place = place;
+  gate = gate;
   in_a = in_a;
   generation = generation;
   copy = copy;
@@ -71,11 +74,13 @@ pub record Held : Type 0 where
   pub kept : CommitterState
   pub ended : Bool
 
+-- what a committer keeps, and what its disks and its sink tell: all that a call leads from and to
 pub record World : Type 0 where
   pub kept : CommitterState
   pub disks : Pair
   pub sink : SinkState
 
+-- the world of a committer that keeps this, with these disks and this sink
 abbrev pub world : CommitterState → Pair → SinkState → World
 world kept disks sink = record { kept = kept; disks = disks; sink = sink }
 
@@ -90,11 +95,11 @@ pub record ReadsAsLeft (tells : Bool) (place : ℕ) (d : DiskState) : Type 0 whe
 -- is kept is its own, no copy of it was begun, the open block has no more journals than a block may have, and the contents
 -- stand in their order between the head of their file and the place of the next gate.
 pub record Fits (tells : Bool) (w : World) : Type 0 where
-  pub reads : ReadsAsLeft tells w.kept.place (open_of w.kept.in_a w.disks.a w.disks.b)
+  pub reads : ReadsAsLeft tells w.kept.gate (open_of w.kept.in_a w.disks.a w.disks.b)
   pub generation : IsTrue tells → w.kept.generation ≡ generation_of (open_of w.kept.in_a w.disks.a w.disks.b).bytes.seen
   pub copy : w.kept.copy ≡ None
   pub few : w.kept.book.size ≤ w.kept.book.sealed + BLOCK_LIMIT
-  pub order : AreInOrder 64 (w.kept.place + 45 + length w.kept.body) w.kept.places
+  pub order : AreInOrder 64 (body_from w.kept.gate + length w.kept.body) w.kept.places
 
 -- a journal more has room in the open block, and may share it with those that wait there
 abbrev pub HasRoom : CommitterState → Type 0
@@ -102,7 +107,7 @@ HasRoom k = (k.book.size < k.book.sealed + BLOCK_LIMIT) × OpenGathers k.book
 
 -- ---- which history it is
 
--- the history without its open block
+-- a history without its open block: what the files have of it
 abbrev pub sealed_part : History → History
 sealed_part h = history h.closed []
 
@@ -110,8 +115,8 @@ sealed_part h = history h.closed []
 -- those that will stand behind them. The tail gate stands behind the blocks.
 pub record Located (k : CommitterState) (h : History) : Type 0 where
   pub parts : Parts k.book.floor (sealed_part h)
-  pub places : k.places ≡ places_from (floor_behind (sealed_part h) parts.gone) parts.kept ++ places_in (k.place + 45) h.waiting
-  pub tail : k.place ≡ gate_behind (floor_behind (sealed_part h) parts.gone) parts.kept
+  pub places : k.places ≡ places_from (floor_behind (sealed_part h) parts.gone) parts.kept ++ places_in (body_from k.gate) h.waiting
+  pub tail : k.gate ≡ gate_behind (floor_behind (sealed_part h) parts.gone) parts.kept
 
 -- The committer keeps what this history says. The book begins where the file does: at the point of its blocks, behind which a
 -- purge may wait.
@@ -133,29 +138,39 @@ pub record IsCleanFor (in_a : Bool) (place : ℕ) (h : History) (a b : State) : 
   pub erased : IsErased (open_of in_a a b).seen h
   pub ends : length (open_of in_a a b).seen ≡ place + 1
 
--- this is the history that the committer and its disks have
+-- This is a history that the committer and its disks have: the disks tell their contents, the committer keeps what it says,
+-- and the files are clean for its ended blocks. `an_opened_ledger_is_held` and `a_new_ledger_is_held` say of which histories
+-- that is so at first.
 pub record Holds (tells : Bool) (w : World) (h : History) : Type 0 where
   pub told : IsTrue tells
   pub keeps : Keeps w.kept h
-  pub disks : IsCleanFor w.kept.in_a w.kept.place (sealed_part h) w.disks.a.bytes w.disks.b.bytes
+  pub disks : IsCleanFor w.kept.in_a w.kept.gate (sealed_part h) w.disks.a.bytes w.disks.b.bytes
 
 -- ---- ways
 
--- no fault was met
+-- no disk met a fault in a call, and the sink didn't either
 pub record MeetsNoFault (before after : World) : Type 0 where
   pub a : after.disks.a.faults ≡ before.disks.a.faults
   pub b : after.disks.b.faults ≡ before.disks.b.faults
   pub sink : MeetsNone before.sink after.sink
 
--- Of the lines that were due, and those that became due on the way to h, the first are written and the others wait. What is
--- written is told of each later history whose blocks have ended: what comes later doesn't change it.
+-- Of the lines that were due, and those that became due on the way to h, the first are written, whose journals stand in
+-- ended blocks, and the others wait. What is written is told of each later history whose blocks have ended: what comes later
+-- doesn't change it.
+-- Example: journal 5 waits, and its receipt is due. An accepted record becomes journal 6: nothing is written, and two
+-- receipts wait. Then `head` ends their block: both receipts and the head are written, and none waits. Both receipts read
+-- size 7 whatever comes later.
 pub record Writes (h : History) (old more new : List Due) (sofar : List ℕ) : Type 0 where
   pub done : List Due
   pub split : old ++ more ≡ done ++ new
   pub kept : AllIn h.closed done
   pub text : (f : History) → Grows h f → f.waiting ≡ [] → sofar ≡ due_lines f done
 
--- a call led from each history to the next one, by which this became due
+-- A call led from each history that is held to the next one, by which this became due: that one is held afterwards, it goes
+-- on from the first, what is written is so of each, and no fault was met.
+-- Example: h is held, in which journal 5 waits. `offer` takes an accepted record: `next h` has journal 6 waiting too and is
+-- held then, `due h` is its receipt, and `sofar` is empty. Where the disks tell nothing no history is held; what is left is
+-- what was appended to the sink, and that no fault was met.
 pub record Goes (tells : Bool) (before : World) (next : History → History) (due : History → List Due) (after : World) : Type 0 where
   pub holds : (h : History) → Holds tells before h → Holds tells after (next h)
   pub grows : (h : History) → Holds tells before h → Grows h (next h)
@@ -174,14 +189,14 @@ pub record IsErasedPair (a b : List ℕ) (h : History) : Type 0 where
 abbrev pub before_last : List (List Entry) → List (List Entry)
 before_last blocks = take (length blocks - 1) blocks
 
--- the last block is one that was added on the way, and no receipt of it was begun
+-- the last of the blocks that are left was added on the way, and no receipt of its journals was begun
 pub record IsUnanswered (h kept : History) (done : List Due) : Type 0 where
   pub added : length h.closed < length kept.closed
   pub unanswered : AllIn (before_last kept.closed) done
 
 -- How clean the images are. Where a disk failed each hidden content is gone from them, unless the last block was added on the
 -- way and no receipt of it was begun. Where none failed they are clean.
-abbrev pub IsLeftClean : End → History → History → List Due → List ℕ → List ℕ → Type 0
+abbrev pub IsLeftClean : CommitErr → History → History → List Due → List ℕ → List ℕ → Type 0
 IsLeftClean DiskFault h kept done a b = IsErasedPair a b kept ⊎ IsUnanswered h kept done
 IsLeftClean WriteFault h kept done a b = IsCleanPair a b kept
 IsLeftClean NoMemory h kept done a b = IsCleanPair a b kept
@@ -189,7 +204,7 @@ IsLeftClean Closed h kept done a b = IsCleanPair a b kept
 
 -- The images stand for the blocks of h and maybe for more of those of the whole history, every journal whose receipt was begun
 -- is in them, and what such journals hide is gone.
-pub record LeftStanding (h whole : History) (done : List Due) (end : End) (a b : List ℕ) : Type 0 where
+pub record LeftStanding (h whole : History) (done : List Due) (end : CommitErr) (a b : List ℕ) : Type 0 where
   pub kept : History
   pub stands : PairFor a b kept
   pub no_shorter : Begins h.closed kept.closed
@@ -198,7 +213,7 @@ pub record LeftStanding (h whole : History) (done : List Due) (end : End) (a b :
   pub clean : IsLeftClean end h kept done a b
 
 -- how far the lines were written: whole, but for a fault of the sink
-abbrev pub Says : End → List ℕ → List ℕ → Type 0
+abbrev pub Says : CommitErr → List ℕ → List ℕ → Type 0
 Says DiskFault part lines = part ≡ lines
 Says WriteFault part lines = Begins part lines × (length part < length lines)
 Says NoMemory part lines = part ≡ lines
@@ -206,7 +221,10 @@ Says Closed part lines = part ≡ lines
 
 -- What stands where a call ended the run on the way from h to the whole history: the first lines of those that are due were
 -- written, as they are in each later history whose blocks have ended, and what the disks may leave has their journals.
-pub record Stops (h whole : History) (dues : List Due) (end : End) (part : List ℕ) (disks : Pair) : Type 0 where
+-- Example: journals 5 and 6 wait, their receipts are due, and `head` ends their block. 1. A disk fails at the commit: `done`
+-- is empty, nothing is written, and an image has the journals up to 4 or up to 6. 2. The sink fails in the second receipt:
+-- `done` is both receipts, the first and a part of the second are written, and each image has journals 5 and 6.
+pub record LeftAtTheEnd (h whole : History) (dues : List Due) (end : CommitErr) (part : List ℕ) (disks : Pair) : Type 0 where
   pub done : List Due
   pub rest : List Due
   pub split : dues ≡ done ++ rest
@@ -217,8 +235,9 @@ pub record Stops (h whole : History) (dues : List Due) (end : End) (part : List 
 abbrev pub OneFailed : Pair → Pair → Type 0
 OneFailed before after = OneMore before.a.faults after.a.faults before.b.faults after.b.faults
 
--- each end has its cause, and no other fault was met
-abbrev pub EndsBy : End → World → World → Type 0
+-- each end of a run has its cause, and no other fault was met: one call of a disk failed, the sink met one fault, or memory
+-- was short and nothing failed
+abbrev pub EndsBy : CommitErr → World → World → Type 0
 EndsBy DiskFault before after = OneFailed before.disks after.disks × MeetsNone before.sink after.sink
 EndsBy WriteFault before after =
     (after.disks.a.faults ≡ before.disks.a.faults) × (after.disks.b.faults ≡ before.disks.b.faults)
@@ -226,10 +245,13 @@ EndsBy WriteFault before after =
 EndsBy NoMemory before after = MeetsNoFault before after
 EndsBy Closed before after = ⊥
 
--- a call ended the run on the way to the next history
-pub record Ended (tells : Bool) (before : World) (next : History → History) (due : History → List Due) (end : End) (after : World) : Type 0 where
+-- A call ended the run on the way from each history that is held to the next one: what was written is a beginning of what
+-- was due and became due, what the disks may leave stands for a beginning of the next history, and the end has its cause.
+-- Example: as for `LeftAtTheEnd`, with `next` the step of `head`, and `due` its reply: 1. `DiskFault`: `part` is empty, and one
+-- disk counts one failure more. 2. `WriteFault`: the sink holds `part` more and counts one fault, and no disk failed.
+pub record EndsOnTheWay (tells : Bool) (before : World) (next : History → History) (due : History → List Due) (end : CommitErr) (after : World) : Type 0 where
   pub grows : (h : History) → Holds tells before h → Grows h (next h)
   pub part : List ℕ
   pub appended : Appends before.sink.held after.sink.held part
-  pub stops : (h : History) → Holds tells before h → Stops h (next h) (before.kept.dues ++ due h) end part after.disks
+  pub stops : (h : History) → Holds tells before h → LeftAtTheEnd h (next h) (before.kept.dues ++ due h) end part after.disks
   pub cause : EndsBy end before after

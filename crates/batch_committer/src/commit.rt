@@ -1,15 +1,15 @@
 ghost use Rattle.std.specs.Prelude.{◌≡◌, ◌⊎◌, ◌+◌, ◌++◌, [], ◌∷◌, ℕ, List, length, take, IsTrue, IfErr, OnOk, OnErr, IsSomeAnd};
 ghost use Rattle.block_file.specs.File.{IsFileOf, tail_of, IsSettled, HasBlock};
-ghost use Rattle.block_file.specs.Place.{place_of};
+ghost use Rattle.block_file.specs.FileView.{gate_of};
 ghost use Rattle.ledger_disk.specs.Disk.{MayLeave};
 ghost use Rattle.twin_file.specs.Twin.{open_of};
 ghost use Rattle.twin_file.specs.Which.{in_a_of, generation_in, file_of, copy_of};
 ghost use Rattle.batch_committer.specs.Committed.{IsCommitted, IsUncommitted};
 ghost use Rattle.ledger_bytes.specs.Causes.{count_after};
 ghost use Rattle.batch_committer.specs.World.{pair, ReadsAsLeft};
-ghost use Rattle.batch_committer.specs.declared.end.End.TheVariants as ends;
+ghost use Rattle.batch_committer.specs.declared.failure.CommitErr.TheVariants as ends;
 
-use crate::End;
+use crate::CommitErr;
 use ledger_disk::Disk;
 use twin_file::Twin;
 
@@ -19,20 +19,20 @@ pub(crate) fn commit<D: Disk>(
     a: &mut D,
     b: &mut D,
     block: &[u8],
-) -> Result<(), End>
-    requires { ReadsAsLeft D.tells (place_of (file_of twin.old)) (open_of (in_a_of twin.old)
+) -> Result<(), CommitErr>
+    requires { ReadsAsLeft D.tells (gate_of (file_of twin.old)) (open_of (in_a_of twin.old)
         (D.state a.old)
         (D.state b.old)) }
     ensures ok { OnOk result (IsCommitted D.tells (in_a_of twin.old)
-        (place_of (file_of twin.old)) block.now (pair (D.state a.old) (D.state b.old))
+        (gate_of (file_of twin.old)) block.now (pair (D.state a.old) (D.state b.old))
         (pair (D.state a.new) (D.state b.new))) }
-    ensures place { OnOk result (place_of (file_of twin.new)
-        ≡ place_of (file_of twin.old) + 1 + length block.now) }
+    ensures gate { OnOk result (gate_of (file_of twin.new)
+        ≡ gate_of (file_of twin.old) + 1 + length block.now) }
     ensures in_a { in_a_of twin.new ≡ in_a_of twin.old }
     ensures generation { generation_in twin.new ≡ generation_in twin.old }
     ensures copy { copy_of twin.new ≡ copy_of twin.old }
     ensures err { OnErr result (IsUncommitted D.tells (in_a_of twin.old)
-        (place_of (file_of twin.old)) block.now (pair (D.state a.old) (D.state b.old))
+        (gate_of (file_of twin.old)) block.now (pair (D.state a.old) (D.state b.old))
         (pair (D.state a.new) (D.state b.new))) }
     ensures only { IfErr result (λ end. end ≡ ends.DiskFault) }
 {
@@ -44,20 +44,20 @@ pub(crate) fn commit<D: Disk>(
 }
 
 // Commits a block in the open file, whose disk this is.
-fn commit_in<D: Disk>(twin: &mut Twin, file: &mut D, block: &[u8]) -> Result<(), End>
-    requires { ReadsAsLeft D.tells (place_of (file_of twin.old))
+fn commit_in<D: Disk>(twin: &mut Twin, file: &mut D, block: &[u8]) -> Result<(), CommitErr>
+    requires { ReadsAsLeft D.tells (gate_of (file_of twin.old))
         (D.state file.old) }
     ensures ok { OnOk result (IsTrue D.tells → (front : List ℕ) (blocks : List (List ℕ))
         → IsFileOf front blocks (D.state file.old).bytes.seen
-        → tail_of front blocks ≡ place_of (file_of twin.old)
+        → tail_of front blocks ≡ gate_of (file_of twin.old)
         → HasBlock front blocks block.now (D.state file.new).bytes) }
     ensures ends { OnOk result (IsTrue D.tells
-        → length (D.state file.old).bytes.seen ≡ place_of (file_of twin.old) + 1
-        → length (D.state file.new).bytes.seen ≡ place_of (file_of twin.new) + 1) }
-    ensures reads { OnOk result (ReadsAsLeft D.tells (place_of (file_of twin.new))
+        → length (D.state file.old).bytes.seen ≡ gate_of (file_of twin.old) + 1
+        → length (D.state file.new).bytes.seen ≡ gate_of (file_of twin.new) + 1) }
+    ensures reads { OnOk result (ReadsAsLeft D.tells (gate_of (file_of twin.new))
         (D.state file.new)) }
-    ensures place { OnOk result (place_of (file_of twin.new)
-        ≡ place_of (file_of twin.old) + 1 + length block.now) }
+    ensures gate { OnOk result (gate_of (file_of twin.new)
+        ≡ gate_of (file_of twin.old) + 1 + length block.now) }
     ensures head { OnOk result (IsTrue D.tells
         → take 64 (D.state file.new).bytes.seen ≡ take 64 (D.state file.old).bytes.seen) }
     ensures in_a { in_a_of twin.new ≡ in_a_of twin.old }
@@ -66,7 +66,7 @@ fn commit_in<D: Disk>(twin: &mut Twin, file: &mut D, block: &[u8]) -> Result<(),
     ensures err { OnErr result (IsTrue D.tells → IsSettled (D.state file.old).bytes
         → (front : List ℕ) (blocks : List (List ℕ))
         → IsFileOf front blocks (D.state file.old).bytes.seen
-        → tail_of front blocks ≡ place_of (file_of twin.old)
+        → tail_of front blocks ≡ gate_of (file_of twin.old)
         → (image : List ℕ) → MayLeave (D.state file.new).bytes image
         → IsFileOf front blocks image ⊎ IsFileOf front (blocks ++ block.now ∷ []) image) }
     ensures counts { OnOk result ((D.state file.new).faults ≡ (D.state file.old).faults) }
@@ -76,6 +76,6 @@ fn commit_in<D: Disk>(twin: &mut Twin, file: &mut D, block: &[u8]) -> Result<(),
 {
     match twin.file().commit_block(file, block) {
         Ok(()) => Ok(()),
-        Err(_) => Err(End::DiskFault),
+        Err(_) => Err(CommitErr::DiskFault),
     }
 }

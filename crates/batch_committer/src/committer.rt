@@ -1,11 +1,11 @@
 ghost use Rattle.std.specs.Prelude.{◌≡◌, ◌↔◌, [], Bool, List, ℕ, true, false, is_err, IsTrue, OnOk, IfErr, Err};
-ghost use Rattle.block_file.specs.Place.{place_of};
+ghost use Rattle.block_file.specs.FileView.{gate_of};
 ghost use Rattle.ledger_model.specs.History.{History, id, close};
 ghost use Rattle.twin_file.specs.Which.{in_a_of, generation_in, file_of, copy_of};
 ghost use Rattle.batch_committer.specs.Attending.{step_in, FailsAtMostOnce, TakesJob, EndsTaking};
-ghost use Rattle.batch_committer.specs.World.{pair, world, first_kept, Fits, HasRoom, Keeps, Goes, Ended};
+ghost use Rattle.batch_committer.specs.World.{pair, world, first_kept, Fits, HasRoom, Keeps, Goes, EndsOnTheWay};
 
-use crate::End;
+use crate::CommitErr;
 use crate::taking::Taking;
 use ledger_book::Prepared;
 use ledger_bytes::Digest;
@@ -39,7 +39,7 @@ impl Committer {
     /// A committer of a ledger that was made or opened. It takes no memory.
     pub fn new(alloc: Global, opened: Opened) -> Self
         ensures kept { result.kept ≡ first_kept opened.book opened.places.list
-            (place_of (file_of opened.twin)) (in_a_of opened.twin)
+            (gate_of (file_of opened.twin)) (in_a_of opened.twin)
             (generation_in opened.twin) (copy_of opened.twin) }
         ensures ended { result.ended ≡ false }
     {
@@ -54,7 +54,7 @@ impl Committer {
     pub fn opened(&self) -> &Opened
         ensures book { result.now.book ≡ self.now.kept.book }
         ensures places { result.now.places.list ≡ self.now.kept.places }
-        ensures place { place_of (file_of result.now.twin) ≡ self.now.kept.place }
+        ensures gate { gate_of (file_of result.now.twin) ≡ self.now.kept.gate }
         ensures in_a { in_a_of result.now.twin ≡ self.now.kept.in_a }
         ensures generation { generation_in result.now.twin ≡ self.now.kept.generation }
         ensures copy { copy_of result.now.twin ≡ self.now.kept.copy }
@@ -87,7 +87,7 @@ impl Committer {
         sink: &mut K,
         notary: &mut N,
         item: Prepared,
-    ) -> Result<(), End>
+    ) -> Result<(), CommitErr>
         requires fits { self.old.ended ≡ false → Fits D.tells (world self.old.kept
             (pair (D.state a.old) (D.state b.old)) (K.state sink.old)) }
         requires room { self.old.ended ≡ false → HasRoom self.old.kept }
@@ -109,14 +109,14 @@ impl Committer {
 
         // Whatever the disks tell.
         ensures once { FailsAtMostOnce (N.state notary.old) (N.state notary.new) }
-        ensures closed { (result ≡ Err End.Closed) ↔ (self.old.ended ≡ true) }
+        ensures closed { (result ≡ Err CommitErr.Closed) ↔ (self.old.ended ≡ true) }
         ensures ended { self.new.ended ≡ is_err result }
         ensures same { self.old.ended ≡ true → self.new ≡ self.old }
         ensures unused { self.old.ended ≡ true → (a.new ≡ a.old) × (b.new ≡ b.old)
             × (sink.new ≡ sink.old) × (notary.new ≡ notary.old) }
     {
         if self.ended {
-            return Err(End::Closed);
+            return Err(CommitErr::Closed);
         }
         let result = self.inner.take(a, b, sink, notary, &item);
         self.ended = result.is_err();
@@ -124,7 +124,12 @@ impl Committer {
     }
 
     /// Ends the open block, and writes all that is due.
-    pub fn flush<D: Disk, K: Sink>(&mut self, a: &mut D, b: &mut D, sink: &mut K) -> Result<(), End>
+    pub fn flush<D: Disk, K: Sink>(
+        &mut self,
+        a: &mut D,
+        b: &mut D,
+        sink: &mut K,
+    ) -> Result<(), CommitErr>
         requires { self.old.ended ≡ false → Fits D.tells (world self.old.kept
             (pair (D.state a.old) (D.state b.old)) (K.state sink.old)) }
         ensures ok { OnOk result (Goes D.tells
@@ -135,18 +140,18 @@ impl Committer {
             (pair (D.state a.new) (D.state b.new)) (K.state sink.new))) }
         ensures room { OnOk result (HasRoom self.new.kept) }
         ensures dues { OnOk result (self.new.kept.dues ≡ []) }
-        ensures err { IfErr result (λ end. self.old.ended ≡ false → Ended D.tells
+        ensures err { IfErr result (λ end. self.old.ended ≡ false → EndsOnTheWay D.tells
             (world self.old.kept (pair (D.state a.old) (D.state b.old)) (K.state sink.old))
             close (λ h. []) end
             (world self.new.kept (pair (D.state a.new) (D.state b.new)) (K.state sink.new))) }
-        ensures closed { (result ≡ Err End.Closed) ↔ (self.old.ended ≡ true) }
+        ensures closed { (result ≡ Err CommitErr.Closed) ↔ (self.old.ended ≡ true) }
         ensures ended { self.new.ended ≡ is_err result }
         ensures same { self.old.ended ≡ true → self.new ≡ self.old }
         ensures unused { self.old.ended ≡ true → (a.new ≡ a.old) × (b.new ≡ b.old)
             × (sink.new ≡ sink.old) }
     {
         if self.ended {
-            Err(End::Closed)
+            Err(CommitErr::Closed)
         } else {
             let result = self.inner.settle(a, b, sink);
             self.ended = result.is_err();

@@ -5,13 +5,14 @@ ghost use Rattle.ledger_model.specs.History.{History, size};
 ghost use Rattle.ledger_open.specs.Places.{entry_at};
 ghost use Rattle.batch_committer.specs.Read.{IsReadAs, WasRead, ReadEnds};
 
-use crate::End;
+use crate::CommitErr;
+use block_file::PlaceAt;
 use journal_record::{Header, content_digest, who_digest};
 use ledger_book::Book;
 use ledger_bytes::{Bytes, Digest, Refusal};
 use ledger_disk::Disk;
 use ledger_model::View;
-use ledger_open::{PlaceAt, Places};
+use ledger_open::Places;
 use script_lines::Reply;
 use std::alloc::Global;
 
@@ -23,7 +24,7 @@ pub(crate) fn get<D: Disk>(
     places: &Places,
     file: &mut D,
     n: u64,
-) -> Result<Reply, End>
+) -> Result<Reply, CommitErr>
     ensures told { IfOk result (λ reply. IsTrue D.tells → (h : History)
         → IsReadAs book.now places.now.list (D.state file.old).bytes.seen h
         → reply ≡ spec.get_reply h n) }
@@ -75,7 +76,7 @@ fn whole<D: Disk>(
     file: &mut D,
     header: &Header,
     place: &PlaceAt,
-) -> Result<Reply, End>
+) -> Result<Reply, CommitErr>
     ensures told { IfOk result (λ reply. IsTrue D.tells → reply ≡ spec.whole_reply header.now
         (entry_at (D.state file.old).bytes.seen header.now place.now).content
         (entry_at (D.state file.old).bytes.seen header.now place.now).who) }
@@ -96,7 +97,7 @@ fn occulted<D: Disk>(
     file: &mut D,
     header: &Header,
     place: &PlaceAt,
-) -> Result<Reply, End>
+) -> Result<Reply, CommitErr>
     ensures told { IfOk result (λ reply. IsTrue D.tells → reply ≡ spec.occulted_reply header.now
         (entry_at (D.state file.old).bytes.seen header.now place.now).who) }
     ensures read { WasRead D.tells
@@ -110,7 +111,7 @@ fn occulted<D: Disk>(
 }
 
 // A range of the file, as far as bytes stand there. A piece that is cut short has another digest than the whole one.
-fn read_piece<D: Disk>(alloc: Global, file: &mut D, at: u64, len: u32) -> Result<Vec<u8>, End>
+fn read_piece<D: Disk>(alloc: Global, file: &mut D, at: u64, len: u32) -> Result<Vec<u8>, CommitErr>
     ensures bytes { IfOk result (λ piece. IsTrue D.tells
         → piece.items ≡ take len (drop at (D.state file.old).bytes.seen)) }
     ensures read { WasRead D.tells
@@ -121,10 +122,10 @@ fn read_piece<D: Disk>(alloc: Global, file: &mut D, at: u64, len: u32) -> Result
 {
     let mut piece = Vec::new(alloc);
     let Ok(()) = piece.resize(len as usize, 0) else {
-        return Err(End::NoMemory);
+        return Err(CommitErr::NoMemory);
     };
     let Ok(count) = file.read(at, piece.as_mut_slice()) else {
-        return Err(End::DiskFault);
+        return Err(CommitErr::DiskFault);
     };
     piece.truncate(count);
     Ok(piece)

@@ -1,15 +1,15 @@
 ghost use Rattle.std.specs.Prelude.{◌≡◌, None, IfErr, OnOk, OnErr};
-ghost use Rattle.block_file.specs.Place.{place_of};
+ghost use Rattle.block_file.specs.FileView.{gate_of};
 ghost use Rattle.twin_file.specs.Places.{HasTail};
 ghost use Rattle.twin_file.specs.Twin.{open_of};
 ghost use Rattle.twin_file.specs.Which.{in_a_of, file_of, copy_of};
 ghost use Rattle.ledger_open.specs.Cutting.{IsPrepared};
-ghost use Rattle.ledger_open.specs.Order.{AreInOrder};
+ghost use Rattle.ledger_open.specs.Places.{AreInOrder};
 ghost use Rattle.batch_committer.specs.Committed.{ledger_on, IsFinished, IsUnfinished};
 ghost use Rattle.batch_committer.specs.World.{pair};
-ghost use Rattle.batch_committer.specs.declared.end.End.TheVariants as ends;
+ghost use Rattle.batch_committer.specs.declared.failure.CommitErr.TheVariants as ends;
 
-use crate::End;
+use crate::CommitErr;
 use ledger_disk::Disk;
 use ledger_open::purging::{Purge, complete};
 use ledger_open::{Opened, finish_erasures};
@@ -21,10 +21,10 @@ pub(crate) fn give_up<D: Disk>(
     a: &mut D,
     b: &mut D,
     purge: Option<Purge>,
-) -> Result<(), End>
+) -> Result<(), CommitErr>
     requires told { HasTail (open_of (in_a_of opened.old.twin) (D.state a.old) (D.state b.old)).told
         (file_of opened.old.twin) }
-    requires order { AreInOrder 64 (place_of (file_of opened.old.twin)) opened.old.places.list }
+    requires order { AreInOrder 64 (gate_of (file_of opened.old.twin)) opened.old.places.list }
     requires prepared { IsPrepared opened.old.book opened.old.places.list purge }
     ensures ok { OnOk result (IsFinished D.tells
         (ledger_on opened.old (pair (D.state a.old) (D.state b.old)))
@@ -39,12 +39,12 @@ pub(crate) fn give_up<D: Disk>(
     if purge.is_some() {
         match complete(a, b, opened, purge) {
             Ok(()) => Ok(()),
-            Err(_) => Err(End::DiskFault),
+            Err(_) => Err(CommitErr::DiskFault),
         }
     } else {
         match finish_erasures(a, b, opened) {
             Ok(()) => Ok(()),
-            Err(_) => Err(End::DiskFault),
+            Err(_) => Err(CommitErr::DiskFault),
         }
     }
 }

@@ -2,21 +2,19 @@
 //! opened ledger, and replies written: a receipt only once its block is on the disk for good.
 #![tactic(auto)]
 
-mod block;
 mod commit;
 mod committer;
 mod dues;
-mod end;
+mod failure;
 mod getting;
 mod giving;
-mod head;
 mod laws;
 mod proving;
 mod queries;
 mod taking;
 
 pub use committer::Committer;
-pub use end::End;
+pub use failure::CommitErr;
 pub use laws::{
     a_held_history_is_lawful, a_held_ledger_is_clean, a_new_ledger_is_held,
     an_opened_ledger_is_held,

@@ -1,51 +1,45 @@
-ghost use Rattle.std.specs.Prelude.{◌≡◌, ◌↔◌, ◌≤◌, ◌<◌, ◌+◌, ◌^◌, ◌++◌, [], ◌∷◌, false, length, slice_get, All, Some, None, Option, Bool, true, List, ℕ, IfOk, IfErr, OnOk, OnErr, IsTrue};
+ghost use Rattle.std.specs.Prelude.{◌≡◌, ◌↔◌, ◌≤◌, ◌<◌, ◌+◌, ◌^◌, ◌++◌, [], ◌∷◌, false, length, All, None, Option, Bool, true, List, ℕ, IfOk, IfErr, OnOk, OnErr, IsTrue};
 ghost use Rattle.journal_record.specs.Approval.{who_of};
 ghost use Rattle.journal_record.specs.Entry.{Entry};
+ghost use Rattle.journal_record.specs.Header.{HasWidths, spelling};
 ghost use Rattle.journal_record.specs.declared.approval.Approval.{Approval as AnyApproval};
 ghost use Rattle.ledger_bytes.specs.declared.limits.TheConstants.{APPROVAL_LIMIT, CONTENT_LIMIT, PROOF_LIMIT};
-ghost use Rattle.block_file.specs.Place.{place_of};
+ghost use Rattle.block_file.specs.FileView.{gate_of};
 ghost use Rattle.ledger_io.specs.Outside.{SinkState};
 ghost use Rattle.ledger_model.specs.Fitting.{fits_job};
+ghost use Rattle.ledger_model.specs.Getting.{get_reply};
 ghost use Rattle.ledger_model.specs.History.{History, journals, id, close};
 ghost use Rattle.ledger_model.specs.Rules.{closes_after, closes_before, judged_at, settled_history};
-ghost use Rattle.ledger_model.specs.Step.{Step};
-ghost use Rattle.ledger_model.specs.Texts.{told_reply};
 ghost use Rattle.ledger_model.specs.declared.job.Job.TheVariants as jobs;
 ghost use Rattle.ledger_book.specs.Books.{Serves};
 ghost use Rattle.ledger_book.specs.Steps.{OpenGathers, HasOperatorRoom};
 ghost use Rattle.twin_file.specs.Which.{in_a_of, generation_in, file_of, copy_of};
-ghost use Rattle.ledger_open.specs.Places.{place_at};
 ghost use Rattle.batch_committer.specs.Read.{WereRead, NoneFailed, ReadingEnds};
 ghost use Rattle.batch_committer.specs.Attending.{step_in, FailsAtMostOnce, TakesJob, EndsTaking, TakesIn, EndsIn, JudgedBy, EndsAsking};
-ghost use Rattle.batch_committer.specs.Steps.{IsOfLedger, HasParts, HasJournal, IsGathered, KeepsFile, KeepsRest, HasGrown, StaysGathered, StaysInOrder};
-ghost use Rattle.batch_committer.specs.World.{Pair, pair, world, first_kept, ReadsAsLeft, Fits, HasRoom, Keeps, Holds, Goes, Ended};
+ghost use Rattle.batch_committer.specs.Steps.{HasParts, IsGathered, KeepsFile, KeepsRest, HasGrown, StaysGathered, StaysInOrder};
+ghost use Rattle.batch_committer.specs.World.{Pair, pair, world, first_kept, ReadsAsLeft, Fits, HasRoom, Keeps, Holds, Goes, EndsOnTheWay};
 
-use crate::End;
-use crate::block::{OpenBlock, who_len};
+use crate::CommitErr;
 use crate::commit::commit;
 use crate::dues::spell;
+use crate::getting::get;
 use crate::giving::give_up;
 use crate::proving::{extension_of, proof_of};
-use crate::queries::{head_reply, reply_to};
-use journal_record::Approval;
+use crate::queries::{clue_reply, head_reply};
+use block_file::BlockWriter;
+use journal_record::{Approval, HEADER_LEN};
 use ledger_book::{Job, Outcome, Prepared, Query};
 use ledger_bytes::{BLOCK_LIMIT, Digest, NoMemory, Refusal};
 use ledger_disk::Disk;
 use ledger_io::{Sink, write_all};
 use ledger_model::{Answer, Due};
+use ledger_open::Opened;
 use ledger_open::purging::prepare;
-use ledger_open::{Opened, PlaceAt};
 use script_lines::Reply;
 use std::alloc::Global;
 use std::marker::Model;
 use std::slice;
 use time_peg::{Notary, NotaryErr};
-
-/// How many bytes of a record stand before its content: the header, and the length of who placed the journal.
-const RECORD_HEAD_LEN: u64 = 178;
-
-/// The length of a block's gate and head in bytes.
-const BLOCK_HEAD_LEN: u64 = 45;
 
 /// What takes jobs while no call has ended its run.
 #[derive(Drop)]
@@ -53,7 +47,7 @@ pub(crate) struct Taking {
     alloc: Global,
     /// The ledger with the journals that wait, and where they will stand.
     opened: Opened,
-    block: OpenBlock,
+    block: BlockWriter,
     /// What is due, and waits for the open block's end.
     dues: Vec<Due>,
     /// The lines that are written, in a buffer that is used again.
@@ -61,7 +55,7 @@ pub(crate) struct Taking {
 }
 
 impl Model for Taking {
-    ghost use Rattle.block_file.specs.Place.{place_of};
+    ghost use Rattle.block_file.specs.FileView.{gate_of};
     ghost use Rattle.twin_file.specs.Which.{in_a_of, generation_in, file_of, copy_of};
     ghost use Rattle.batch_committer.specs.World.{CommitterState};
 
@@ -69,7 +63,7 @@ impl Model for Taking {
 
     ghost view = { λ t. record {
       book = t.opened.book;
-      place = place_of (file_of t.opened.twin);
+      gate = gate_of (file_of t.opened.twin);
       in_a = in_a_of t.opened.twin;
       generation = generation_in t.opened.twin;
       copy = copy_of t.opened.twin;
@@ -82,13 +76,13 @@ impl Model for Taking {
 impl Taking {
     pub(crate) fn new(alloc: Global, opened: Opened) -> Self
         ensures { result ≡ first_kept opened.book opened.places.list
-            (place_of (file_of opened.twin)) (in_a_of opened.twin)
+            (gate_of (file_of opened.twin)) (in_a_of opened.twin)
             (generation_in opened.twin) (copy_of opened.twin) }
     {
         Taking {
             alloc,
             opened,
-            block: OpenBlock::new(alloc),
+            block: BlockWriter::new(alloc),
             dues: Vec::new(alloc),
             text: Vec::new(alloc),
         }
@@ -98,7 +92,7 @@ impl Taking {
     pub(crate) fn opened(&self) -> &Opened
         ensures book { result.now.book ≡ self.now.book }
         ensures places { result.now.places.list ≡ self.now.places }
-        ensures place { place_of (file_of result.now.twin) ≡ self.now.place }
+        ensures gate { gate_of (file_of result.now.twin) ≡ self.now.gate }
         ensures in_a { in_a_of result.now.twin ≡ self.now.in_a }
         ensures generation { generation_in result.now.twin ≡ self.now.generation }
         ensures copy { copy_of result.now.twin ≡ self.now.copy }
@@ -129,7 +123,7 @@ impl Taking {
         sink: &mut K,
         notary: &mut N,
         item: &Prepared,
-    ) -> Result<(), End>
+    ) -> Result<(), CommitErr>
         requires fits { Fits D.tells (world self.old (pair (D.state a.old) (D.state b.old))
             (K.state sink.old)) }
         requires room { HasRoom self.old }
@@ -160,7 +154,7 @@ impl Taking {
         a: &mut D,
         b: &mut D,
         sink: &mut K,
-    ) -> Result<(), End>
+    ) -> Result<(), CommitErr>
         requires fits { Fits D.tells (world self.old (pair (D.state a.old) (D.state b.old))
             (K.state sink.old)) }
         ensures ok { OnOk result (Goes D.tells
@@ -171,7 +165,7 @@ impl Taking {
             (pair (D.state a.new) (D.state b.new)) (K.state sink.new))) }
         ensures empty { OnOk result ((self.new.book.size ≡ self.new.book.sealed)
             × (self.new.dues ≡ [])) }
-        ensures err { IfErr result (λ end. Ended D.tells
+        ensures err { IfErr result (λ end. EndsOnTheWay D.tells
             (world self.old (pair (D.state a.old) (D.state b.old)) (K.state sink.old))
             close (λ h. []) end
             (world self.new (pair (D.state a.new) (D.state b.new)) (K.state sink.new))) }
@@ -198,7 +192,7 @@ impl Taking {
     }
 
     // Writes all that is due, where no journal waits for its block's end.
-    fn write_dues<K: Sink>(&mut self, sink: &mut K) -> Result<(), End>
+    fn write_dues<K: Sink>(&mut self, sink: &mut K) -> Result<(), CommitErr>
         requires { (h : History) → Serves self.old.book h → h.waiting ≡ [] }
         ensures ok { OnOk result ((tells : Bool) (disks : Pair) → Goes tells
             (world self.old disks (K.state sink.old))
@@ -207,7 +201,7 @@ impl Taking {
         ensures same { OnOk result ((self.new.book ≡ self.old.book)
             × KeepsFile self.old self.new × (self.new.dues ≡ [])
             × (self.new.body ≡ self.old.body) × (self.new.places ≡ self.old.places)) }
-        ensures err { IfErr result (λ end. (tells : Bool) (disks : Pair) → Ended tells
+        ensures err { IfErr result (λ end. (tells : Bool) (disks : Pair) → EndsOnTheWay tells
             (world self.old disks (K.state sink.old))
             close (λ h. []) end
             (world self.new disks (K.state sink.new))) }
@@ -230,7 +224,7 @@ impl Taking {
         b: &mut D,
         sink: &mut K,
         job: &Job,
-    ) -> Result<(), End>
+    ) -> Result<(), CommitErr>
         requires fits { Fits D.tells (world self.old (pair (D.state a.old) (D.state b.old))
             (K.state sink.old)) }
         requires room { HasRoom self.old }
@@ -243,7 +237,7 @@ impl Taking {
         ensures room { OnOk result (HasRoom self.new) }
         ensures settled { OnOk result (closes_before job.now ≡ true
             → self.new.book.size ≡ self.new.book.sealed) }
-        ensures err { IfErr result (λ end. Ended D.tells
+        ensures err { IfErr result (λ end. EndsOnTheWay D.tells
             (world self.old (pair (D.state a.old) (D.state b.old)) (K.state sink.old))
             (λ h. judged_at h job.now) (λ h. []) end
             (world self.new (pair (D.state a.new) (D.state b.new)) (K.state sink.new))) }
@@ -263,7 +257,7 @@ impl Taking {
         b: &mut D,
         sink: &mut K,
         job: &Job,
-    ) -> Result<(), End>
+    ) -> Result<(), CommitErr>
         requires fits { Fits D.tells (world self.old (pair (D.state a.old) (D.state b.old))
             (K.state sink.old)) }
         requires gathers { closes_after job.now ≡ false → OpenGathers self.old.book }
@@ -274,7 +268,7 @@ impl Taking {
         ensures fits { OnOk result (Fits D.tells (world self.new
             (pair (D.state a.new) (D.state b.new)) (K.state sink.new))) }
         ensures room { OnOk result (HasRoom self.new) }
-        ensures err { IfErr result (λ end. Ended D.tells
+        ensures err { IfErr result (λ end. EndsOnTheWay D.tells
             (world self.old (pair (D.state a.old) (D.state b.old)) (K.state sink.old))
             (settled_history job.now) (λ h. []) end
             (world self.new (pair (D.state a.new) (D.state b.new)) (K.state sink.new))) }
@@ -297,7 +291,7 @@ impl Taking {
         b: &mut D,
         notary: &mut N,
         item: &Prepared,
-    ) -> Result<(), End>
+    ) -> Result<(), CommitErr>
         requires room { HasRoom self.old }
         requires settled { closes_before item.now.job ≡ true
             → self.old.book.size ≡ self.old.book.sealed }
@@ -327,7 +321,7 @@ impl Taking {
             answer,
         };
         let Ok(()) = self.dues.push(due) else {
-            return Err(End::NoMemory);
+            return Err(CommitErr::NoMemory);
         };
         Ok(())
     }
@@ -339,7 +333,7 @@ impl Taking {
         b: &mut D,
         notary: &mut N,
         job: &Job,
-    ) -> Result<Answer, End>
+    ) -> Result<Answer, CommitErr>
         requires fits { fits_job job.now ≡ true }
         requires room { HasRoom self.old }
         requires settled { closes_before job.now ≡ true
@@ -364,20 +358,20 @@ impl Taking {
         ensures err { IfErr result (λ end. ReadingEnds end
             (pair (D.state a.old) (D.state b.old)) (pair (D.state a.new) (D.state b.new))) }
     {
-        match self.opened.book.apply(job, None)? {
+        match self.opened.book.apply(job)? {
             Outcome::Refused(refusal) => Ok(Answer::Reply(Reply::Refused(refusal))),
-            Outcome::Placed { jsn, leaf } => {
-                self.gather_placed(job, jsn)?;
+            Outcome::Placed(placed) => {
+                self.gather_placed(job, &placed.header)?;
                 Ok(Answer::Receipt {
-                    jsn,
-                    leaf,
+                    jsn: placed.jsn,
+                    leaf: placed.leaf,
                     stamp: None,
                 })
             }
             Outcome::Reading(query) => match query {
                 Query::Stamp => self.anchor(notary),
                 Query::Head => Ok(Answer::Reply(head_reply(&self.opened.book, notary))),
-                Query::Get { .. } => Ok(Answer::Reply(self.tell(a, b, &query)?)),
+                Query::Get { n } => Ok(Answer::Reply(self.get(a, b, n)?)),
                 Query::Prove { n } => {
                     let reply = proof_of(self.alloc, &self.opened.book, notary, n)?;
                     Ok(Answer::Reply(reply))
@@ -386,14 +380,17 @@ impl Taking {
                     let reply = extension_of(self.alloc, &self.opened.book, notary, which, m)?;
                     Ok(Answer::Reply(reply))
                 }
-                Query::Clue { .. } => Ok(Answer::Reply(self.tell(a, b, &query)?)),
+                Query::Clue { clue } => {
+                    let reply = clue_reply(&self.opened.book, &clue)?;
+                    Ok(Answer::Reply(reply))
+                }
             },
         }
     }
 
     // An anchor that the ledger accepts: the notary stamps it, and its journal is gathered. A notary that gives no stamp
     // refuses it.
-    fn anchor<N: Notary>(&mut self, notary: &mut N) -> Result<Answer, End>
+    fn anchor<N: Notary>(&mut self, notary: &mut N) -> Result<Answer, CommitErr>
         requires room { HasOperatorRoom self.old.book }
         requires settled { (h : History) → Serves self.old.book h → h.waiting ≡ [] }
         ensures judged { IfOk result (λ answer. (failed : Bool) × ((h : History) (lane index : ℕ)
@@ -407,7 +404,7 @@ impl Taking {
         ensures grown { OnOk result (HasGrown self.old self.new) }
         ensures order { OnOk result (StaysInOrder self.old self.new) }
         ensures rest { KeepsRest self.old self.new }
-        ensures only { IfErr result (λ end. end ≡ End.NoMemory) }
+        ensures only { IfErr result (λ end. end ≡ CommitErr.NoMemory) }
     {
         let peg = self.opened.book.peg();
         let stamp = match notary.stamp(self.alloc, &peg) {
@@ -416,30 +413,22 @@ impl Taking {
             Err(NotaryErr::Failed) => {
                 return Ok(Answer::Reply(Reply::Refused(Refusal::NotaryFault)));
             }
-            Err(NotaryErr::NoMemory) => return Err(End::NoMemory),
+            Err(NotaryErr::NoMemory) => return Err(CommitErr::NoMemory),
         };
-        match self.opened.book.apply(&Job::Anchor, Some(&stamp))? {
-            Outcome::Placed { jsn, leaf } => {
-                self.gather_placed(&Job::Anchor, jsn)?;
-                Ok(Answer::Receipt {
-                    jsn,
-                    leaf,
-                    stamp: Some(stamp),
-                })
-            }
-            Outcome::Refused(_) | Outcome::Reading(_) => unreachable!(),
-        }
+        let placed = self.opened.book.place_time(&stamp)?;
+        self.gather(&placed.header, &[], &[])?;
+        Ok(Answer::Receipt {
+            jsn: placed.jsn,
+            leaf: placed.leaf,
+            stamp: Some(stamp),
+        })
     }
 
-    // What is told to a query, where no journal waits.
-    fn tell<D: Disk>(&self, a: &mut D, b: &mut D, query: &Query) -> Result<Reply, End>
-        requires { IsOfLedger query.now }
-        ensures told { IfOk result (λ reply. (h : History) (step : Step) (sink : SinkState)
-            → Holds D.tells
-            (world self.now (pair (D.state a.old) (D.state b.old))
-            sink)
-            h
-            → h.waiting ≡ [] → reply ≡ told_reply h step query.now) }
+    // What is told of journal `n`, where no journal waits. It is read from the open file.
+    fn get<D: Disk>(&self, a: &mut D, b: &mut D, n: u64) -> Result<Reply, CommitErr>
+        ensures told { IfOk result (λ reply. (h : History) (sink : SinkState) → Holds D.tells
+            (world self.now (pair (D.state a.old) (D.state b.old)) sink) h
+            → h.waiting ≡ [] → reply ≡ get_reply h n) }
         ensures read { WereRead D.tells
             (pair (D.state a.old) (D.state b.old)) (pair (D.state a.new) (D.state b.new)) }
         ensures no_fault { OnOk result (NoneFailed
@@ -448,20 +437,18 @@ impl Taking {
             (pair (D.state a.old) (D.state b.old)) (pair (D.state a.new) (D.state b.new))) }
     {
         if self.opened.twin.in_a() {
-            reply_to(self.alloc, &self.opened.book, &self.opened.places, a, query)
+            get(self.alloc, &self.opened.book, &self.opened.places, a, n)
         } else {
-            reply_to(self.alloc, &self.opened.book, &self.opened.places, b, query)
+            get(self.alloc, &self.opened.book, &self.opened.places, b, n)
         }
     }
 
-    // Gathers the journal that the book has placed for a job.
-    fn gather_placed(&mut self, job: &Job, jsn: u64) -> Result<(), NoMemory>
+    // Gathers the journal with this header, which the book has placed for a job.
+    fn gather_placed(&mut self, job: &Job, header: &[u8; HEADER_LEN]) -> Result<(), NoMemory>
         requires fits { fits_job job.now ≡ true }
-        requires has { HasJournal self.old.book jsn }
-        ensures gathered { OnOk result ((h : History) (journal : Entry) (content : List ℕ)
-            (given : List AnyApproval) → HasParts job.now content given → Serves self.old.book h
-            → slice_get (journals h) jsn ≡ Some journal → self.old.book.floor ≤ jsn
-            → length content ≡ journal.header.content_len
+        ensures gathered { OnOk result ((journal : Entry) (content : List ℕ) (given : List AnyApproval)
+            → HasParts job.now content given → header.now ≡ spelling journal.header
+            → HasWidths journal.header → length content ≡ journal.header.content_len
             → journal.content ≡ content → journal.who ≡ who_of given
             → IsGathered self.old self.new journal) }
         ensures order { OnOk result (StaysInOrder self.old self.new) }
@@ -470,13 +457,13 @@ impl Taking {
     {
         match job {
             Job::Append { content, by, .. } => {
-                self.gather(jsn, content.as_slice(), slice::from_ref(by))
+                self.gather(header, content.as_slice(), slice::from_ref(by))
             }
-            Job::NewMember { by, .. } => self.gather(jsn, &[], slice::from_ref(by)),
-            Job::Anchor => self.gather(jsn, &[], &[]),
+            Job::NewMember { by, .. } => self.gather(header, &[], slice::from_ref(by)),
             Job::Occult { given, .. } | Job::Purge { given, .. } => {
-                self.gather(jsn, &[], given.as_slice())
+                self.gather(header, &[], given.as_slice())
             }
+            Job::Anchor => self.gather(header, &[], &[]),
             Job::Refused(_)
             | Job::Get { .. }
             | Job::Prove { .. }
@@ -486,48 +473,29 @@ impl Taking {
         }
     }
 
-    // Gathers a journal of the book, which these approved: keeps its place, and its bytes behind those of the open block.
-    fn gather(&mut self, jsn: u64, content: &[u8], given: &[Approval]) -> Result<(), NoMemory>
-        requires has { HasJournal self.old.book jsn }
+    // Gathers a journal that the book has placed, and which these approved: keeps its place, and its bytes behind those of
+    // the open block.
+    fn gather(
+        &mut self,
+        header: &[u8; HEADER_LEN],
+        content: &[u8],
+        given: &[Approval],
+    ) -> Result<(), NoMemory>
         requires content { length content.now ≤ CONTENT_LIMIT }
         requires few { length given.now ≤ APPROVAL_LIMIT }
         requires proofs { All (λ a. length a.proof ≤ PROOF_LIMIT) given.now }
-        ensures gathered { OnOk result ((h : History) (journal : Entry) → Serves self.old.book h
-            → slice_get (journals h) jsn ≡ Some journal → self.old.book.floor ≤ jsn
-            → length content.now ≡ journal.header.content_len
+        ensures gathered { OnOk result ((journal : Entry) → header.now ≡ spelling journal.header
+            → HasWidths journal.header → length content.now ≡ journal.header.content_len
             → journal.content ≡ content.now → journal.who ≡ who_of given.now
             → IsGathered self.old self.new journal) }
         ensures order { OnOk result (StaysInOrder self.old self.new) }
         ensures book { self.new.book ≡ self.old.book }
         ensures rest { KeepsRest self.old self.new }
     {
-        let header = match self.opened.book.header(jsn) {
-            Some(header) => *header,
-            None => unreachable!(),
-        };
-        let at = self.opened.twin.file().tail() + BLOCK_HEAD_LEN + self.block.len();
+        let gate = self.opened.twin.file().tail();
         self.opened.places.reserve(1)?;
-        self.opened
-            .places
-            .push(place_of_record(at, content.len() as u32, given));
-        self.block.put(&header, content, given)
-    }
-}
-
-// The place of a journal whose record begins at this offset, and whose content is so long.
-fn place_of_record(at: u64, content_len: u32, given: &[Approval]) -> PlaceAt
-    requires room { at ≤ 2 ^ 63 + 2 ^ 62 + 45 }
-    requires few { length given.now ≤ APPROVAL_LIMIT }
-    requires proofs { All (λ a. length a.proof ≤ PROOF_LIMIT) given.now }
-    ensures place { (journal : Entry) → journal.header.content_len ≡ content_len
-        → journal.who ≡ who_of given.now → result ≡ place_at at journal }
-    ensures content { (result.content_at ≡ at + RECORD_HEAD_LEN) × (result.content_len ≡ content_len) }
-{
-    let content_at = at + RECORD_HEAD_LEN;
-    PlaceAt {
-        content_at,
-        who_at: content_at + u64::from(content_len),
-        content_len,
-        who_len: who_len(given),
+        let place = self.block.put(gate, header, content, given)?;
+        self.opened.places.push(place);
+        Ok(())
     }
 }

@@ -17,13 +17,13 @@ use Rattle.pseudo_genesis.specs.declared.base.Base.{Base}
 use Rattle.ledger_open.specs.Ahead.{BlockWasRead, IsStop, WereRead, place_behind, number_behind, journals_in, blocks_in, AreLeaves, AreNextBlocks, IsAhead, IsStopOf}
 use Rattle.ledger_open.specs.Damages.{IsDamage, IsReadTo}
 use Rattle.ledger_open.specs.Opening.{Known, known_from, HasRead}
-use Rattle.ledger_open.specs.Places.{place_of_record}
+use Rattle.block_file.specs.Places.{place_of_record}
 use Rattle.ledger_open.specs.Taking.{Headed, Goes, TakesBlock, IsBadBlock}
 use Rattle.ledger_open.specs.declared.ahead.Ahead.{Ahead}
 use Rattle.ledger_open.specs.declared.ahead.Hashed.{Hashed}
 use Rattle.ledger_open.specs.declared.ahead.Stop.{Stop}
 use Rattle.ledger_open.specs.declared.ahead.Stop.TheVariants as stops
-use Rattle.ledger_open.specs.declared.places.PlaceAt.{PlaceAt}
+use Rattle.block_file.specs.declared.place.PlaceAt.{PlaceAt}
 use Rattle.ledger_open.proofs.FirstLaws.{headed_read, err_read}
 use Rattle.ledger_open.proofs.MoreLaws.{few, first_is, MoreHere, more_here, more_bad, more_read, more_count, read_of}
 use Rattle.ledger_open.proofs.TakeLaws.{headed_size}
@@ -132,12 +132,12 @@ stop_damaged tells old now place first next e stop hs number same (damage, e_is,
 
 -- ---- one is taken
 
-pub more_ahead : (k : Known) (block : BlockAt) (book : Kept) (places : List PlaceAt) (place : ℕ) → places ≡ k.places ++ map place_of_record block.records → place ≡ k.place + 1 + block.len
+pub more_ahead : (k : Known) (block : BlockAt) (book : Kept) (places : List PlaceAt) (place : ℕ) → places ≡ k.places ++ map place_of_record block.records → place ≡ k.gate + 1 + block.len
     → ((start : Option Base) (ks : List (List Entry)) (es : List Entry) → Headed es block.records → Goes k.book start ks [] → TakesBlock book start ks es block.root.0)
     → (tells : Bool) (file : List ℕ) (rest : List BlockAt) (stop : Stop) → IsAhead tells file k (block ∷ rest) stop → IsAhead tells file (known_from book places place) rest stop
 more_ahead k block book places place listed tail takes tells file rest stop a =
     let first = next_number a.read.start (journals_of a.read.blocks) in
-    let here : IsTrue tells → MoreHere file k.place first block = λ told. more_here file k.place first (Some block) block refl (a.ahead.0.stands told) in
+    let here : IsTrue tells → MoreHere file k.gate first block = λ told. more_here file k.gate first (Some block) block refl (a.ahead.0.stands told) in
     let count = sym (more_count k block book places place first listed tail takes tells file a.read a.ahead.0.read here) in
     record {
       read = more_read k block book places place first listed tail takes tells file a.read a.ahead.0.read here;
@@ -151,7 +151,7 @@ pub bad_ahead : (tells : Bool) (file : List ℕ) (k : Known) (size : ℕ) (block
     → IsAhead tells file k (block ∷ rest) stop → IsTrue tells → IsDamage file damage
 bad_ahead tells file k size block damage rest stop is bad a told =
     more_bad tells file k size block damage a.read is told
-    (more_here file k.place size (Some block) block refl (subst (λ (n : ℕ). IsNextBlock k.place file n (Ok (Some block))) (sym (first_is tells file k size a.read is)) (a.ahead.0.stands told))) bad
+    (more_here file k.gate size (Some block) block refl (subst (λ (n : ℕ). IsNextBlock k.gate file n (Ok (Some block))) (sym (first_is tells file k size a.read is)) (a.ahead.0.stands told))) bad
 
 -- what came of the first of some blocks that were read ahead, where these are left
 pub record Taken (old_book : Kept) (old_places : List PlaceAt) (book : Kept) (places : List PlaceAt) (all rest : List Hashed) : Type 0 where
@@ -189,12 +189,12 @@ taken_all old_book old_places book places all i end t tells file at more stop a 
 
 -- ---- from what is known to what was read ahead, and back
 
-pub ahead_of : (tells : Bool) (file : List ℕ) (k : Known) (size : ℕ) (bs : List BlockAt) (stop : Stop) → HasRead tells file k → size ≡ k.book.size → WereRead tells file k.place size bs
-    → IsStop tells file (place_behind k.place bs) (number_behind size bs) stop → IsAhead tells file k bs stop
+pub ahead_of : (tells : Bool) (file : List ℕ) (k : Known) (size : ℕ) (bs : List BlockAt) (stop : Stop) → HasRead tells file k → size ≡ k.book.size → WereRead tells file k.gate size bs
+    → IsStop tells file (place_behind k.gate bs) (number_behind size bs) stop → IsAhead tells file k bs stop
 ahead_of tells file k size bs stop r is all end = record {
   read = r;
-  ahead = subst (λ (n : ℕ). WereRead tells file k.place n bs) (first_is tells file k size r is) all;
-  ends = subst (λ (n : ℕ). IsStop tells file (place_behind k.place bs) (number_behind n bs) stop) (first_is tells file k size r is) end;
+  ahead = subst (λ (n : ℕ). WereRead tells file k.gate n bs) (first_is tells file k size r is) all;
+  ends = subst (λ (n : ℕ). IsStop tells file (place_behind k.gate bs) (number_behind n bs) stop) (first_is tells file k size r is) end;
 }
 
 -- the number behind those that were read ahead
@@ -205,28 +205,28 @@ number_ahead tells file k size count bs stop is counted a = ap (λ (n : ℕ). n 
 pub number_below : (tells : Bool) (file : List ℕ) (k : Known) (size : ℕ) (count : ℕ) (bs : List BlockAt) (stop : Stop) → size ≡ k.book.size → count ≡ journals_in bs → stop ≡ stops.Full → IsAhead tells file k bs stop
     → size + count < 2 ^ 32
 number_below tells file k size count bs stop is counted full a =
-    subst (λ (n : ℕ). n < 2 ^ 32) (sym (number_ahead tells file k size count bs stop is counted a)) (subst (IsStop tells file (place_behind k.place bs) (number_behind (next_number a.read.start (journals_of a.read.blocks)) bs)) full a.ends)
+    subst (λ (n : ℕ). n < 2 ^ 32) (sym (number_ahead tells file k size count bs stop is counted a)) (subst (IsStop tells file (place_behind k.gate bs) (number_behind (next_number a.read.start (journals_of a.read.blocks)) bs)) full a.ends)
 
 -- the next ones behind those that are ahead
-pub ahead_both : (tells : Bool) (file : List ℕ) (k : Known) (size : ℕ) (count place : ℕ) (bs cs : List BlockAt) (stop next : Stop) → size ≡ k.book.size → count ≡ journals_in bs → place ≡ place_behind k.place bs → IsAhead tells file k bs stop
+pub ahead_both : (tells : Bool) (file : List ℕ) (k : Known) (size : ℕ) (count place : ℕ) (bs cs : List BlockAt) (stop next : Stop) → size ≡ k.book.size → count ≡ journals_in bs → place ≡ place_behind k.gate bs → IsAhead tells file k bs stop
     → WereRead tells file place (size + count) cs → IsStop tells file (place_behind place cs) (number_behind (size + count) cs) next → IsAhead tells file k (bs ++ cs) next
 ahead_both tells file k size count place bs cs stop next is counted at a more end =
     let n = next_number a.read.start (journals_of a.read.blocks) in
     let number = number_ahead tells file k size count bs stop is counted a in
     record {
       read = a.read;
-      ahead = read_both tells file k.place n bs cs a.ahead (subst (λ (m : ℕ). WereRead tells file (place_behind k.place bs) m cs) number (subst (λ (p : ℕ). WereRead tells file p (size + count) cs) at more));
-      ends = subst (λ (p : ℕ). IsStop tells file p (number_behind n (bs ++ cs)) next) (sym (place_both k.place bs cs))
-          (subst (λ (m : ℕ). IsStop tells file (place_behind (place_behind k.place bs) cs) m next) (sym (number_both n bs cs))
-          (subst (λ (m : ℕ). IsStop tells file (place_behind (place_behind k.place bs) cs) (number_behind m cs) next) number (subst (λ (p : ℕ). IsStop tells file (place_behind p cs) (number_behind (size + count) cs) next) at end)));
+      ahead = read_both tells file k.gate n bs cs a.ahead (subst (λ (m : ℕ). WereRead tells file (place_behind k.gate bs) m cs) number (subst (λ (p : ℕ). WereRead tells file p (size + count) cs) at more));
+      ends = subst (λ (p : ℕ). IsStop tells file p (number_behind n (bs ++ cs)) next) (sym (place_both k.gate bs cs))
+          (subst (λ (m : ℕ). IsStop tells file (place_behind (place_behind k.gate bs) cs) m next) (sym (number_both n bs cs))
+          (subst (λ (m : ℕ). IsStop tells file (place_behind (place_behind k.gate bs) cs) (number_behind m cs) next) number (subst (λ (p : ℕ). IsStop tells file (place_behind p cs) (number_behind (size + count) cs) next) at end)));
     }
 
 -- ---- the end
 
 pub end_bad : (tells : Bool) (file : List ℕ) (k : Known) (damage : Damage) → IsAhead tells file k [] (stops.Damaged damage) → IsTrue tells → IsDamage file damage
-end_bad tells file k damage a told = err_read file a.read.start a.read.blocks k.place (files.Damaged damage) (a.read.begun told) (a.ends told)
+end_bad tells file k damage a told = err_read file a.read.start a.read.blocks k.gate (files.Damaged damage) (a.read.begun told) (a.ends told)
 
-pub end_shut : (tells : Bool) (file : List ℕ) (k : Known) → IsAhead tells file k [] stops.Shut → IsTrue tells → get_or file k.place 0 ≢ 1
+pub end_shut : (tells : Bool) (file : List ℕ) (k : Known) → IsAhead tells file k [] stops.Shut → IsTrue tells → get_or file k.gate 0 ≢ 1
 end_shut tells file k a told = a.ends told
 
 -- no ledger has so many journals

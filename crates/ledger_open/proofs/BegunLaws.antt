@@ -3,6 +3,7 @@ use Rattle.std.specs.Prelude.{sum_by, Option, Some, None}
 use Rattle.std.proofs.Common.{◌≡◌, ◌≢◌, ℕ, ◌+◌, ◌≤◌, List, [], ◌∷◌, ◌++◌, length, get_or, take, drop, refl, sym, ◌∙◌, ap, subst, arith, append_assoc, append-nil, length-append, length-take, length-drop, take-append-drop, get_or-take}
 use Rattle.std.proofs.lemmas.List.{drop_at, get_or-drop, take-append-le, drop-append-le, drop-take}
 use Rattle.std.proofs.lemmas.List.Concat.{flat_map-append}
+use Rattle.block_file.specs.declared.block.TheConstants.{BLOCK_HEAD_LEN}
 use Rattle.block_file.specs.Blocks.{IsOpenBlock}
 use Rattle.block_file.specs.File.{IsFileOf, open_blocks}
 use Rattle.block_file.specs.Head.{HasHead, digest_of, number_at, generation_of}
@@ -14,7 +15,7 @@ use Rattle.pseudo_genesis.specs.declared.base.Base.{Base}
 use Rattle.ledger_open.specs.Damages.{Begun, IsReadTo}
 use Rattle.ledger_open.specs.Heads.{IsFront}
 use Rattle.ledger_open.specs.Opening.{HasFile}
-use Rattle.ledger_open.specs.Places.{record_len}
+use Rattle.block_file.specs.Places.{body_from, record_len}
 use Rattle.ledger_open.specs.Standing.{Floor, ground, floor_of, floor_from}
 use Rattle.ledger_open.specs.Starts.{IsStart, base_in}
 use Rattle.ledger_open.proofs.AgainLaws.{number_front}
@@ -84,7 +85,7 @@ readto_start file start s = record { begins = s; begun = begun_start file start 
 
 -- a block more was read
 pub begun_more : (floor : Floor) → GivesDigests floor.root → (file : List ℕ) (ks : List (List Entry)) (at : ℕ) (root : List ℕ) (es : List Entry) → Begun floor file ks at → IsOpenBlock at root es file → root ≡ floor.root (leaves_of (journals_of ks) ++ leaves_of es)
-    → IsBlock (floor.first + length (journals_of ks)) es → Begun floor file (ks ++ es ∷ []) (at + 45 + sum_by record_len es)
+    → IsBlock (floor.first + length (journals_of ks)) es → Begun floor file (ks ++ es ∷ []) (body_from at + sum_by record_len es)
 begun_more floor digests file ks at root es b o root_is block = record {
   generation = b.generation;
   front = b.front;
@@ -97,7 +98,7 @@ begun_more floor digests file ks at root es b o root_is block = record {
   own : List ℕ
   own = floor.root (leaves_of (journals_of ks) ++ leaves_of es)
 
-  block_len : length (block_bytes own es) ≡ 44 + sum_by record_len es
+  block_len : length (block_bytes own es) ≡ BLOCK_HEAD_LEN + sum_by record_len es
   block_len = block_size own es (digests (leaves_of (journals_of ks) ++ leaves_of es)) (readable (floor.first + length (journals_of ks)) es block.entries)
 
   rest_is : b.rest ≡ (1 ∷ block_bytes own es) ++ (o.gate ∷ o.rest)

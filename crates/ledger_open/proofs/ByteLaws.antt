@@ -5,13 +5,13 @@ use Rattle.std.proofs.Math.Seq.{get_or-append_seam}
 use Rattle.std.proofs.lemmas.List.{take_at}
 use Rattle.block_file.specs.File.{IsShutAt}
 use Rattle.block_file.specs.Head.{front_of, generation_of}
-use Rattle.block_file.specs.Place.{place_of}
+use Rattle.block_file.specs.FileView.{gate_of}
 use Rattle.block_file.specs.declared.file.BlockFile.{BlockFile}
 use Rattle.ledger_disk.specs.Disk.{State, settled_state}
-use Rattle.ledger_open.specs.Order.{AreInOrder}
-use Rattle.ledger_open.specs.PlaceList.{moved_place}
+use Rattle.ledger_open.specs.Places.{AreInOrder}
+use Rattle.block_file.specs.Places.{moved_place}
 use Rattle.ledger_open.specs.Purging.{Ledger, IsAtGate, copied_file, open_disk}
-use Rattle.ledger_open.specs.declared.places.PlaceAt.{PlaceAt}
+use Rattle.block_file.specs.declared.place.PlaceAt.{PlaceAt}
 use Rattle.ledger_open.proofs.MoveLaws.{turned}
 use Rattle.ledger_open.proofs.OrderLaws.{order_low, order_moved}
 use Rattle.twin_file.proofs.HeadLaws.{generation_before, tail_size}
@@ -23,8 +23,8 @@ longer_bytes : (front piece old new : List ℕ) (copy : Option BlockFile) → Is
 longer_bytes front piece old new None built longer = absurd built
 longer_bytes front piece old new (Some file) built longer =
     let seen : old ≡ (front ++ []) ++ 0 ∷ [] = built.seen in
-    let place : place_of file ≡ length (front ++ []) = sym built.ends in
-    let first : take (place_of file) old ≡ front ++ [] = ap (take (place_of file)) seen ∙ take_at (front ++ []) (0 ∷ []) (place_of file) (sym place) in
+    let place : gate_of file ≡ length (front ++ []) = sym built.ends in
+    let first : take (gate_of file) old ≡ front ++ [] = ap (take (gate_of file)) seen ∙ take_at (front ++ []) (0 ∷ []) (gate_of file) (sym place) in
     longer (omega (arith, ap length seen, place, length-append (front ++ []) (0 ∷ []))) ∙ ap (λ (l : List ℕ). (l ++ piece) ++ 0 ∷ []) (first ∙ append-nil front)
 
 -- A copy was begun, a range was added to it, it was opened, and the old file was wiped. x, y, z, w and v tell the place of the
@@ -78,10 +78,10 @@ order_left gate place first places inside fits low order =
     order_low 64 (gate - gate + first) (first + (place - gate)) (map (moved_place gate first) places) (omega (arith, low)) (subst (λ (n : ℕ). AreInOrder (gate - gate + first) n (map (moved_place gate first) places)) (omega (arith, inside)) o)
 
 -- a ledger whose open file is such a copy
-pub gate_copied : (l m : Ledger) (from : ℕ) (base : List ℕ) → from ≤ l.known.place → open_disk m ≡ settled_state (copied_file (next_generation l.generation) base from l.known.place (open_disk l).seen)
-    → m.known.place ≡ 64 + length base + (l.known.place - from) → m.generation ≡ next_generation l.generation → IsAtGate l → IsAtGate m
+pub gate_copied : (l m : Ledger) (from : ℕ) (base : List ℕ) → from ≤ l.known.gate → open_disk m ≡ settled_state (copied_file (next_generation l.generation) base from l.known.gate (open_disk l).seen)
+    → m.known.gate ≡ 64 + length base + (l.known.gate - from) → m.generation ≡ next_generation l.generation → IsAtGate l → IsAtGate m
 gate_copied l m from base inside is at next g =
-    let seen : (open_disk m).seen ≡ copied_file (next_generation l.generation) base from l.known.place (open_disk l).seen = ap (λ (s : State). s.seen) is in record {
-      shut = subst (λ (n : ℕ). IsShutAt n (open_disk m).seen) (sym at) (subst (IsShutAt (64 + length base + (l.known.place - from))) (sym seen) (copied_shut (next_generation l.generation) from l.known.place base (open_disk l).seen inside (omega (arith, g.shut.0))));
-      generation = next ∙ copied_generation l.generation from l.known.place base (open_disk l).seen ∙ sym (ap generation_of seen);
+    let seen : (open_disk m).seen ≡ copied_file (next_generation l.generation) base from l.known.gate (open_disk l).seen = ap (λ (s : State). s.seen) is in record {
+      shut = subst (λ (n : ℕ). IsShutAt n (open_disk m).seen) (sym at) (subst (IsShutAt (64 + length base + (l.known.gate - from))) (sym seen) (copied_shut (next_generation l.generation) from l.known.gate base (open_disk l).seen inside (omega (arith, g.shut.0))));
+      generation = next ∙ copied_generation l.generation from l.known.gate base (open_disk l).seen ∙ sym (ap generation_of seen);
     }

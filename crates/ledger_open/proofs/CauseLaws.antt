@@ -22,7 +22,7 @@ use Rattle.twin_file.specs.Twin.{choice, IsTaken, IsReopenErr}
 use Rattle.twin_file.proofs.TakeLaws.{taken_once, head_err, side_a, side_b}
 use Rattle.ledger_open.specs.Damages.{Begun, IsReadTo, IsNotNext, CanShare, IsOtherRoot, IsOtherContent, EndsEarly, IsDamage}
 use Rattle.ledger_open.specs.Opening.{IsOpenErr, IsOutside}
-use Rattle.ledger_open.specs.Places.{after_at}
+use Rattle.block_file.specs.Places.{after_at}
 use Rattle.ledger_open.specs.Standing.{Floor, ground, floor_from}
 use Rattle.ledger_open.specs.Starts.{AreFounded, AreLegal, HasBase, HasDigest, IsStart, IsBadForm, base_in, blocks_before}
 use Rattle.ledger_open.specs.declared.failure.OpenErr.{OpenErr}

@@ -22,10 +22,10 @@ use Rattle.twin_file.specs.Twin.{next_generation}
 use Rattle.ledger_open.specs.Cutting.{first_gate, gate_behind}
 use Rattle.ledger_open.specs.Erasing.{ErasesOne, last_target, given_up}
 use Rattle.ledger_open.specs.Opening.{Known, Knows, GoesOn, HasFile}
-use Rattle.ledger_open.specs.Places.{after_at}
+use Rattle.block_file.specs.Places.{after_at}
 use Rattle.ledger_open.specs.Purging.{copied_file}
 use Rattle.ledger_open.specs.Standing.{Floor, floor_from, floor_behind, Parts, SameButHidden, StandsBy, StandsFor, IsClean, hidden_before, point_before}
-use Rattle.ledger_open.specs.declared.places.PlaceAt.{PlaceAt}
+use Rattle.block_file.specs.declared.place.PlaceAt.{PlaceAt}
 use Rattle.ledger_open.proofs.ByteLaws.{copied_length, copied_shut}
 use Rattle.ledger_open.proofs.CopyLaws.{Halves, halves, same_count}
 use Rattle.ledger_open.proofs.ErasingLaws.{given_in_file, given_erased, given_same, given_alike, none_is, target_kept, zeros_outside}
@@ -48,64 +48,64 @@ use Rattle.ledger_open.proofs.WidthLaws.{spelling_fits}
 
 module _ (k : Known) (start : Option Base) (blocks : List (List Entry)) (old : List ℕ) (knows : Knows k start blocks) (has : HasFile start blocks old) where
   abbrev pub cut : List ℕ
-  cut = take (k.place + 1) old
+  cut = take (k.gate + 1) old
 
-  ends : tail_of has.1.front (written_blocks (floor_from start).root [] blocks) ≡ k.place
+  ends : tail_of has.1.front (written_blocks (floor_from start).root [] blocks) ≡ k.gate
   ends = tail_is start knows.base has.0 blocks old has.1 ∙ sym knows.tail
 
   -- whatever it stands for, it is cut behind its tail gate
-  pub cut_size : length cut ≡ k.place + 1
-  cut_size = cut_length (floor_from start) has.0 blocks old has.1 k.place ends
+  pub cut_size : length cut ≡ k.gate + 1
+  cut_size = cut_length (floor_from start) has.0 blocks old has.1 k.gate ends
 
-  pub cut_shut : IsShutAt k.place cut
+  pub cut_shut : IsShutAt k.gate cut
   cut_shut =
-      let x = cut_has (floor_from start) has.0 blocks old has.1 k.place ends in
+      let x = cut_has (floor_from start) has.0 blocks old has.1 k.gate ends in
       subst (λ (n : ℕ). IsShutAt n cut) (tail_is start knows.base has.0 blocks cut x ∙ sym knows.tail) (tail_shut x.front (written_blocks (floor_from start).root [] blocks) cut x.stands)
 
   -- .. and erasing leaves that gate
   module _ (bytes : List ℕ) (one : ErasesOne k.places cut bytes) where
-    pub bytes_size : length bytes ≡ k.place + 1
+    pub bytes_size : length bytes ≡ k.gate + 1
     bytes_size = by_case one where
-      by_case : ErasesOne k.places cut bytes → length bytes ≡ k.place + 1
+      by_case : ErasesOne k.places cut bytes → length bytes ≡ k.gate + 1
       by_case (inl same) = ap length same ∙ cut_size
       by_case (inr (p, there, is)) =
-          let inside : p.content_at + p.content_len ≤ k.place = All-contains (λ (q : PlaceAt). q.content_at + q.content_len ≤ k.place) k.places p (places_inside k blocks knows) there in
+          let inside : p.content_at + p.content_len ≤ k.gate = All-contains (λ (q : PlaceAt). q.content_at + q.content_len ≤ k.gate) k.places p (places_inside k blocks knows) there in
           ap length is ∙ (zeros_outside p.content_at p.content_len cut (omega (arith, inside, cut_size))).0.size ∙ cut_size
 
-    pub bytes_shut : IsShutAt k.place bytes
+    pub bytes_shut : IsShutAt k.gate bytes
     bytes_shut = by_case one where
-      by_case : ErasesOne k.places cut bytes → IsShutAt k.place bytes
-      by_case (inl same) = subst (IsShutAt k.place) (sym same) cut_shut
+      by_case : ErasesOne k.places cut bytes → IsShutAt k.gate bytes
+      by_case (inl same) = subst (IsShutAt k.gate) (sym same) cut_shut
       by_case (inr (p, there, is)) =
           let at = p.content_at + p.content_len in
-          let inside : at ≤ k.place = All-contains (λ (q : PlaceAt). q.content_at + q.content_len ≤ k.place) k.places p (places_inside k blocks knows) there in
+          let inside : at ≤ k.gate = All-contains (λ (q : PlaceAt). q.content_at + q.content_len ≤ k.gate) k.places p (places_inside k blocks knows) there in
           let new = overlay p.content_at (replicate p.content_len 0) cut in
           let out = (zeros_outside p.content_at p.content_len cut (omega (arith, inside, cut_size))).0 in
-          let split : k.place ≡ at + (k.place - at) = omega (arith, inside) in
-          let gate : get_or new k.place 0 ≡ get_or cut k.place 0 =
-          ap (λ (n : ℕ). get_or new n 0) split ∙ sym (get_or-drop at new (k.place - at) 0) ∙ ap (λ (l : List ℕ). get_or l (k.place - at) 0) out.after ∙ get_or-drop at cut (k.place - at) 0 ∙ ap (λ (n : ℕ). get_or cut n 0) (sym split) in
-          subst (IsShutAt k.place) (sym is) (omega (arith, out.size, cut_size), λ open_now. cut_shut.1 (sym gate ∙ open_now))
+          let split : k.gate ≡ at + (k.gate - at) = omega (arith, inside) in
+          let gate : get_or new k.gate 0 ≡ get_or cut k.gate 0 =
+          ap (λ (n : ℕ). get_or new n 0) split ∙ sym (get_or-drop at new (k.gate - at) 0) ∙ ap (λ (l : List ℕ). get_or l (k.gate - at) 0) out.after ∙ get_or-drop at cut (k.gate - at) 0 ∙ ap (λ (n : ℕ). get_or cut n 0) (sym split) in
+          subst (IsShutAt k.gate) (sym is) (omega (arith, out.size, cut_size), λ open_now. cut_shut.1 (sym gate ∙ open_now))
 
     -- so does a copy
     module _ (generation : ℕ) (base : List ℕ) (front behind : List (List Entry)) (are : blocks ≡ front ++ behind) where
       abbrev gate : ℕ
       gate = gate_behind (floor_from start) front
 
-      place_is : 64 + length base + (k.place - gate) ≡ after_at (64 + length base) behind
+      place_is : 64 + length base + (k.gate - gate) ≡ after_at (64 + length base) behind
       place_is =
-          let tail : k.place ≡ after_at gate behind = knows.tail ∙ ap (gate_behind (floor_from start)) are ∙ after_behind (first_gate (floor_from start)) front behind in
+          let tail : k.gate ≡ after_at gate behind = knows.tail ∙ ap (gate_behind (floor_from start)) are ∙ after_behind (first_gate (floor_from start)) front behind in
           omega (arith, tail, after_moved gate (64 + length base) behind, after_most 0 0 gate behind)
 
-      inside : gate ≤ k.place
+      inside : gate ≤ k.gate
       inside =
-          let tail : k.place ≡ after_at gate behind = knows.tail ∙ ap (gate_behind (floor_from start)) are ∙ after_behind (first_gate (floor_from start)) front behind in
+          let tail : k.gate ≡ after_at gate behind = knows.tail ∙ ap (gate_behind (floor_from start)) are ∙ after_behind (first_gate (floor_from start)) front behind in
           omega (arith, tail, after_most 0 0 gate behind)
 
-      pub copy_size : length (copied_file generation base gate k.place bytes) ≡ after_at (64 + length base) behind + 1
-      copy_size = omega (arith, copied_length generation gate k.place base bytes inside (omega (arith, bytes_size)), place_is)
+      pub copy_size : length (copied_file generation base gate k.gate bytes) ≡ after_at (64 + length base) behind + 1
+      copy_size = omega (arith, copied_length generation gate k.gate base bytes inside (omega (arith, bytes_size)), place_is)
 
-      pub copy_shut : IsShutAt (after_at (64 + length base) behind) (copied_file generation base gate k.place bytes)
-      copy_shut = subst (λ (n : ℕ). IsShutAt n (copied_file generation base gate k.place bytes)) place_is (copied_shut generation gate k.place base bytes inside (omega (arith, bytes_size)))
+      pub copy_shut : IsShutAt (after_at (64 + length base) behind) (copied_file generation base gate k.gate bytes)
+      copy_shut = subst (λ (n : ℕ). IsShutAt n (copied_file generation base gate k.gate bytes)) place_is (copied_shut generation gate k.gate base bytes inside (omega (arith, bytes_size)))
 
   -- ---- .. and a history that it stands for
 
@@ -135,16 +135,16 @@ module _ (k : Known) (start : Option Base) (blocks : List (List Entry)) (old : L
         subst (λ (bs : List (List Entry)). SameButHidden (is_hidden h) (λ n. false) bs blocks)
         (one_parts (floor_from start).first h x.lawful.blocks_are on.parts (record { gone = x.parts.gone; kept = x.parts.kept; are = x.parts.are; at = x.parts.at ∙ first_is })).1 on.same
 
-    tail_at : k.place ≡ gate_behind from x.parts.kept
+    tail_at : k.gate ≡ gate_behind from x.parts.kept
     tail_at = knows.tail ∙ sym (after_kept (is_hidden h) (λ n. false) (first_gate (floor_from start)) x.parts.kept blocks kept_same) ∙ ap (λ (f : Floor). gate_behind f x.parts.kept) (sym floor_is)
 
     -- .. however that falls into parts
-    gate_at : (p : ℕ) (y : Parts p h) → p ≡ s.floor → gate_behind (floor_behind h y.gone) y.kept ≡ k.place
+    gate_at : (p : ℕ) (y : Parts p h) → p ≡ s.floor → gate_behind (floor_behind h y.gone) y.kept ≡ k.gate
     gate_at p y at =
         let one = one_parts s.floor h x.lawful.blocks_are (record { gone = y.gone; kept = y.kept; are = y.are; at = y.at ∙ at }) x.parts in
         ap (λ (bs : List (List Entry)). gate_behind (floor_behind h bs) y.kept) one.0 ∙ ap (gate_behind from) one.1 ∙ sym tail_at
 
-    pub own_tail : tail_of x.keeps.file.front (written_blocks from.root [] x.keeps.blocks) ≡ k.place
+    pub own_tail : tail_of x.keeps.file.front (written_blocks from.root [] x.keeps.blocks) ≡ k.gate
     own_tail =
         tail_place from (floor_digests h x.parts.gone x.parts.kept x.parts.are) x.keeps.file.front (first_gate from) x.keeps.blocks x.keeps.file.lawful x.keeps.file.head.size
         ∙ sym (after_kept (is_hidden h) (hidden_before h) (first_gate from) x.parts.kept x.keeps.blocks x.keeps.same) ∙ sym tail_at
@@ -157,7 +157,7 @@ module _ (k : Known) (start : Option Base) (blocks : List (List Entry)) (old : L
       file = record {
         generation = x.generation;
         parts = x.parts;
-        keeps = record { blocks = x.keeps.blocks; file = cut_has from x.generation x.keeps.blocks old x.keeps.file k.place own_tail; same = x.keeps.same };
+        keeps = record { blocks = x.keeps.blocks; file = cut_has from x.generation x.keeps.blocks old x.keeps.file k.gate own_tail; same = x.keeps.same };
         early = x.early;
         none = x.none;
         lawful = x.lawful;
@@ -231,16 +231,16 @@ module _ (k : Known) (start : Option Base) (blocks : List (List Entry)) (old : L
         next_is : generation ≡ x.generation + 1
         next_is = omega (arith, stands_generation old h s, lower s.floor (hidden_before h) old h x under, size_few h x.lawful)
 
-        copy_is : copied_file generation (spelling base) (gate_behind (floor_from start) front) k.place cut ≡ whole_file (front_of 1 generation (spelling base)) (rest s.floor (hidden_before h) cut h y under)
+        copy_is : copied_file generation (spelling base) (gate_behind (floor_from start) front) k.gate cut ≡ whole_file (front_of 1 generation (spelling base)) (rest s.floor (hidden_before h) cut h y under)
         copy_is =
-            ap (λ (n : ℕ). copied_file generation (spelling base) n k.place cut) gate_is ∙ ap (λ (n : ℕ). copied_file generation (spelling base) (gate_behind from left_out) n cut) tail_at
+            ap (λ (n : ℕ). copied_file generation (spelling base) n k.gate cut) gate_is ∙ ap (λ (n : ℕ). copied_file generation (spelling base) (gate_behind from left_out) n cut) tail_at
             ∙ ap (λ (bs : List ℕ). (front_of 1 generation (spelling base) ++ bs) ++ 0 ∷ []) (rest_taken s.floor (hidden_before h) cut h y under)
 
-        pub moved_clean : IsClean (copied_file generation (spelling base) (gate_behind (floor_from start) front) k.place (given_up (floor_from start) blocks cut)) h
+        pub moved_clean : IsClean (copied_file generation (spelling base) (gate_behind (floor_from start) front) k.gate (given_up (floor_from start) blocks cut)) h
         moved_clean =
             let rules = base_there s.floor (hidden_before h) cut h y under in
             let fits : length (spelling base) < 2 ^ 64 = subst (λ (b : Base). length (spelling b) < 2 ^ 64) (sym base_is) (spelling_fits (base_of h (point h)) rules.0 rules.1) in
-            subst (λ (l : List ℕ). IsClean (copied_file generation (spelling base) (gate_behind (floor_from start) front) k.place l) h) (sym none_given)
+            subst (λ (l : List ℕ). IsClean (copied_file generation (spelling base) (gate_behind (floor_from start) front) k.gate l) h) (sym none_given)
             (subst (λ (l : List ℕ). IsClean l h) (sym copy_is)
             (copy_clean s.floor cut h y under (spelling base) generation (ap spelling base_is) next_is (omega (arith, next_is, lower s.floor (hidden_before h) old h x under, size_few h x.lawful)) fits purge))
 
@@ -258,11 +258,11 @@ module _ (k : Known) (start : Option Base) (blocks : List (List Entry)) (old : L
     clean_point = sym (point_known h clean_stands) ∙ clean_at ∙ first_is h clean_stands
 
     -- .. ends with its tail gate
-    pub clean_size : length old ≡ k.place + 1
+    pub clean_size : length old ≡ k.gate + 1
     clean_size = omega (arith, ends_at (point h) (is_hidden h) old h c.erased, gate_at h clean_stands (point h) c.erased.parts clean_at, ap length c.ends)
 
     clean_whole : cut ≡ old
-    clean_whole = take_all (k.place + 1) old (omega (arith, clean_size))
+    clean_whole = take_all (k.gate + 1) old (omega (arith, clean_size))
 
     own_parts : (c.erased.parts.gone ≡ clean_stands.file.parts.gone) × (c.erased.parts.kept ≡ clean_stands.file.parts.kept)
     own_parts =

@@ -9,18 +9,19 @@ use Rattle.ledger_model.specs.History.{journals_of}
 use Rattle.ledger_open.specs.Cutting.{FallsAway, IsCutOf, gate_behind, first_gate}
 use Rattle.ledger_open.specs.Opening.{known_from}
 use Rattle.ledger_open.specs.Standing.{Floor}
-use Rattle.ledger_open.specs.declared.places.PlaceAt.{PlaceAt}
+use Rattle.block_file.specs.Places.{content_from}
+use Rattle.block_file.specs.declared.place.PlaceAt.{PlaceAt}
 use Rattle.ledger_open.proofs.OrderLaws.{order_low, order_drop}
 use Rattle.ledger_open.proofs.PlaceMoves.{first_behind}
 
 module _ (book : Kept) (places : List PlaceAt) (place : ℕ) (floor : Floor) (front behind : List (List Entry)) (falls : FallsAway (known_from book places place) floor front behind) where
-  first : (p : PlaceAt) × (ps : List PlaceAt) × (drop (length (journals_of front)) places ≡ p ∷ ps) × (p.content_at ≡ gate_behind floor front + 223)
+  first : (p : PlaceAt) × (ps : List PlaceAt) × (drop (length (journals_of front)) places ≡ p ∷ ps) × (p.content_at ≡ content_from (gate_behind floor front))
   first =
       let r = first_behind (first_gate floor) front behind falls.some in
       (r.0, r.1, ap (drop (length (journals_of front))) falls.places ∙ r.2, r.3)
 
   -- the first journal that stays has a place
-  pub is_there : (count : ℕ) → book.point - book.floor ≡ count → (count < length places) × ((p : PlaceAt) → p ≡ get_or places count p → p.content_at ≡ gate_behind floor front + 223)
+  pub is_there : (count : ℕ) → book.point - book.floor ≡ count → (count < length places) × ((p : PlaceAt) → p ≡ get_or places count p → p.content_at ≡ content_from (gate_behind floor front))
   is_there count is =
       let k = length (journals_of front) in
       let same : count ≡ k = omega (arith, is, falls.first, falls.point) in
@@ -37,8 +38,8 @@ module _ (book : Kept) (places : List PlaceAt) (place : ℕ) (floor : Floor) (fr
 
 -- where it is there, the cut is this
 pub cut_is : (book : Kept) (places : List PlaceAt) (point floor gate : ℕ) (p : PlaceAt) → point ≡ book.point → floor ≡ book.floor → floor < point → point ≤ book.sealed → point ≤ book.size → point - floor < length places
-    → p ≡ get_or places (point - floor) p → 223 ≤ p.content_at → gate ≡ p.content_at - 223 → IsCutOf book places (Some (record { point = point; count = point - floor; gate = gate }))
-cut_is book places point floor gate p point_is floor_is before most size some at low gate_is = (
+    → p ≡ get_or places (point - floor) p → content_from gate ≡ p.content_at → IsCutOf book places (Some (record { point = point; count = point - floor; gate = gate }))
+cut_is book places point floor gate p point_is floor_is before most size some at gate_is = (
   record {
     before = omega (arith, before, point_is, floor_is);
     point = point_is;

@@ -11,9 +11,9 @@ use Rattle.ledger_model.specs.History.{History, history, journals_of, journals, 
 use Rattle.ledger_model.specs.Targets.{is_occult, is_hidden}
 use Rattle.ledger_model.proofs.PointLaws.{points_few}
 use Rattle.ledger_open.specs.Erasing.{content_place, content_size, IsOutsideOf, IsZeroedIn, target_of, last_target, with_zeros, given_up}
-use Rattle.ledger_open.specs.Places.{record_len, places_in, places_at}
+use Rattle.block_file.specs.Places.{content_in, body_from, record_len, places_in, places_at}
 use Rattle.ledger_open.specs.Standing.{Floor, floor_behind, Parts, AreZeros, AllKept, SameButHidden, KeepsBlocks, StandsBy, StandsFor, IsErased, hidden_before, point_before}
-use Rattle.ledger_open.specs.declared.places.PlaceAt.{PlaceAt}
+use Rattle.block_file.specs.declared.place.PlaceAt.{PlaceAt}
 use Rattle.ledger_open.proofs.FloorLaws.{floor_first, floor_digests}
 use Rattle.ledger_open.proofs.GivingLaws.{gone_read, within as within_file, given_up as given_in}
 use Rattle.ledger_open.proofs.GrowLaws.{stands_erased}
@@ -29,7 +29,7 @@ use Rattle.ledger_open.proofs.TargetLaws.{IsTarget, target_is, none_new}
 
 ats_in : (at : ℕ) (es : List Entry) → map (λ (p : PlaceAt). p.content_at) (places_in at es) ≡ record_places at es
 ats_in at [] = refl
-ats_in at (e ∷ es) = ap (λ (l : List ℕ). (at + 178) ∷ l) (ats_in (at + record_len e) es)
+ats_in at (e ∷ es) = ap (λ (l : List ℕ). (content_in at) ∷ l) (ats_in (at + record_len e) es)
 
 lens_in : (at : ℕ) (es : List Entry) → map (λ (p : PlaceAt). p.content_len) (places_in at es) ≡ lengths_of es
 lens_in at [] = refl
@@ -38,16 +38,16 @@ lens_in at (e ∷ es) = ap (λ (l : List ℕ). e.header.content_len ∷ l) (lens
 ats_from : (at : ℕ) (bs : List (List Entry)) → map (λ (p : PlaceAt). p.content_at) (places_at at bs) ≡ content_places at bs
 ats_from at [] = refl
 ats_from at (b ∷ bs) =
-    map-append (λ (p : PlaceAt). p.content_at) (places_in (at + 45) b) (places_at (at + 45 + sum_by record_len b) bs)
-    ∙ ap (λ (l : List ℕ). l ++ map (λ (p : PlaceAt). p.content_at) (places_at (at + 45 + sum_by record_len b) bs)) (ats_in (at + 45) b)
-    ∙ ap (λ (l : List ℕ). record_places (at + 45) b ++ l) (ats_from (at + 45 + sum_by record_len b) bs)
+    map-append (λ (p : PlaceAt). p.content_at) (places_in (body_from at) b) (places_at (body_from at + sum_by record_len b) bs)
+    ∙ ap (λ (l : List ℕ). l ++ map (λ (p : PlaceAt). p.content_at) (places_at (body_from at + sum_by record_len b) bs)) (ats_in (body_from at) b)
+    ∙ ap (λ (l : List ℕ). record_places (body_from at) b ++ l) (ats_from (body_from at + sum_by record_len b) bs)
 
 lens_from : (at : ℕ) (bs : List (List Entry)) → map (λ (p : PlaceAt). p.content_len) (places_at at bs) ≡ lengths_of (journals_of bs)
 lens_from at [] = refl
 lens_from at (b ∷ bs) =
-    map-append (λ (p : PlaceAt). p.content_len) (places_in (at + 45) b) (places_at (at + 45 + sum_by record_len b) bs)
-    ∙ ap (λ (l : List ℕ). l ++ map (λ (p : PlaceAt). p.content_len) (places_at (at + 45 + sum_by record_len b) bs)) (lens_in (at + 45) b)
-    ∙ ap (λ (l : List ℕ). lengths_of b ++ l) (lens_from (at + 45 + sum_by record_len b) bs)
+    map-append (λ (p : PlaceAt). p.content_len) (places_in (body_from at) b) (places_at (body_from at + sum_by record_len b) bs)
+    ∙ ap (λ (l : List ℕ). l ++ map (λ (p : PlaceAt). p.content_len) (places_at (body_from at + sum_by record_len b) bs)) (lens_in (body_from at) b)
+    ∙ ap (λ (l : List ℕ). lengths_of b ++ l) (lens_from (body_from at + sum_by record_len b) bs)
     ∙ sym (map-append (λ (e : Entry). e.header.content_len) b (journals_of bs))
 
 pub places_count : (at : ℕ) (bs : List (List Entry)) → length (places_at at bs) ≡ length (journals_of bs)

@@ -23,11 +23,12 @@ use Rattle.ledger_model.specs.Targets.{is_occult, is_hidden}
 use Rattle.ledger_open.specs.Cutting.{gate_behind}
 use Rattle.ledger_open.specs.Erasing.{AllInside, content_place, content_size, target_of, last_target, given_up, EndsAs, AreOf, IsOpenContent, IsGivenUp}
 use Rattle.ledger_open.specs.Opening.{Known, Knows}
-use Rattle.ledger_open.specs.Places.{record_len, places_in, places_at, after_at, places_from}
+use Rattle.block_file.specs.Places.{body_from, record_len, places_in, places_at, after_at}
+use Rattle.ledger_open.specs.Places.{places_from}
 use Rattle.ledger_open.specs.Standing.{Floor, floor_behind, floor_from, hidden_before, StandsFor, IsErased, IsClean}
 use Rattle.pseudo_genesis.specs.declared.base.Base.{Base}
 use Rattle.twin_file.specs.Twin.{open_of}
-use Rattle.ledger_open.specs.declared.places.PlaceAt.{PlaceAt}
+use Rattle.block_file.specs.declared.place.PlaceAt.{PlaceAt}
 use Rattle.ledger_open.proofs.ErasingLaws.{places_count, IsIn, target_kept, target_in, target_at, meanwhile, given_in_file, given_erased, given_same, none_is, some_is, zeros_read}
 use Rattle.ledger_open.proofs.FinishedLaws.{ends_at}
 use Rattle.ledger_open.proofs.FloorLaws.{floor_first}
@@ -264,16 +265,16 @@ inside_in end at (e ∷ es) le =
 
 after_grows : (at : ℕ) (bs : List (List Entry)) → at ≤ after_at at bs
 after_grows at [] = omega arith
-after_grows at (b ∷ bs) = omega (arith, after_grows (at + 45 + sum_by record_len b) bs)
+after_grows at (b ∷ bs) = omega (arith, after_grows (body_from at + sum_by record_len b) bs)
 
 pub inside_at : (at : ℕ) (bs : List (List Entry)) → AllInside (after_at at bs) (places_at at bs)
 inside_at at [] = All-nil (λ (p : PlaceAt). p.content_at + p.content_len ≤ at)
 inside_at at (b ∷ bs) =
-    All-append (λ (p : PlaceAt). p.content_at + p.content_len ≤ after_at at (b ∷ bs)) (places_in (at + 45) b) (places_at (at + 45 + sum_by record_len b) bs)
-    (inside_in (after_at at (b ∷ bs)) (at + 45) b (after_grows (at + 45 + sum_by record_len b) bs))
-    (inside_at (at + 45 + sum_by record_len b) bs)
+    All-append (λ (p : PlaceAt). p.content_at + p.content_len ≤ after_at at (b ∷ bs)) (places_in (body_from at) b) (places_at (body_from at + sum_by record_len b) bs)
+    (inside_in (after_at at (b ∷ bs)) (body_from at) b (after_grows (body_from at + sum_by record_len b) bs))
+    (inside_at (body_from at + sum_by record_len b) bs)
 
-pub places_inside : {start : Option Base} (k : Known) (bs : List (List Entry)) → Knows k start bs → AllInside k.place k.places
+pub places_inside : {start : Option Base} (k : Known) (bs : List (List Entry)) → Knows k start bs → AllInside k.gate k.places
 places_inside {start} k bs x =
     subst (λ (end : ℕ). AllInside end k.places) (sym x.tail) (subst (AllInside (after_at (64 + length (floor_from start).base) bs)) (sym x.places) (inside_at (64 + length (floor_from start).base) bs))
 

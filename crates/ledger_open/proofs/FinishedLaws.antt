@@ -6,7 +6,7 @@ use Rattle.std.proofs.lemmas.List.{nil_from_length, take-append-drop}
 use Rattle.std.proofs.lemmas.List.Folds.{list_any-append}
 use Rattle.block_file.specs.File.{IsSettled, open_blocks, whole_file}
 use Rattle.block_file.specs.Head.{front_of, generation_of}
-use Rattle.block_file.specs.Place.{place_of}
+use Rattle.block_file.specs.FileView.{gate_of}
 use Rattle.block_file.specs.declared.file.BlockFile.{BlockFile}
 use Rattle.journal_record.specs.Blocks.{written_blocks}
 use Rattle.journal_record.specs.Entry.{Entry}
@@ -28,7 +28,8 @@ use Rattle.twin_file.proofs.HeadLaws.{tail_size, generation_is as file_generatio
 use Rattle.twin_file.specs.Places.{HasTail}
 use Rattle.twin_file.specs.Twin.{choice, IsPassed, next_generation}
 use Rattle.ledger_open.specs.Cutting.{FallsAway, IsBaseAt, IsCutAt, first_gate, gate_behind}
-use Rattle.ledger_open.specs.Places.{after_at, places_at, places_from}
+use Rattle.block_file.specs.Places.{after_at, places_at}
+use Rattle.ledger_open.specs.Places.{places_from}
 use Rattle.ledger_open.specs.declared.purging.Cut.{Cut}
 use Rattle.ledger_open.specs.Purging.{Ledger, open_disk, other_disk, StandsOpen, IsCleanOpen, IsPurged, KeepsFrom, MayMove, IsEither, AllEither, copied_file}
 use Rattle.ledger_open.specs.Standing.{Floor, StandsBy, StandsFor, IsErased, IsClean, IsBeside, PairFor, floor_behind, floor_of, hidden_before, point_before}
@@ -187,7 +188,7 @@ module _ (l : Ledger) (h : History) (s : StandsOpen l h) where
   places_here : l.known.places ≡ places_from old x.parts.kept
   places_here = s.ends.places_are ∙ ap (λ (bs : List (List Entry)). places_from (floor_behind h bs) s.ends.parts.kept) same_parts.0 ∙ ap (places_from old) same_parts.1
 
-  tail_here : l.known.place ≡ gate_behind old x.parts.kept
+  tail_here : l.known.gate ≡ gate_behind old x.parts.kept
   tail_here = s.tail ∙ ap (λ (bs : List (List Entry)). gate_behind (floor_behind h bs) s.ends.parts.kept) same_parts.0 ∙ ap (gate_behind old) same_parts.1
 
   -- nothing was written
@@ -252,7 +253,7 @@ module _ (l : Ledger) (h : History) (s : StandsOpen l h) where
     abbrev pub copied : List (List ℕ)
     copied = rest s.stands.floor (hidden_before h) (open_disk l).seen h x under
 
-    pub taken : take (l.known.place - gate_behind old front) (drop (gate_behind old front) (open_disk l).seen) ≡ open_blocks copied
+    pub taken : take (l.known.gate - gate_behind old front) (drop (gate_behind old front) (open_disk l).seen) ≡ open_blocks copied
     taken = ap (λ (n : ℕ). take (n - gate_behind old front) (drop (gate_behind old front) (open_disk l).seen)) tail_here ∙ rest_taken s.stands.floor (hidden_before h) (open_disk l).seen h x under
 
     module _ (bytes : List ℕ) (base : IsBaseAt l.known.book l.known.book.point bytes) where
@@ -319,7 +320,7 @@ module _ (l : Ledger) (h : History) (s : StandsOpen l h) where
 
       open_is : open_disk m ≡ settled_state (new p.bytes p.base)
       open_is =
-          p.copied told ∙ ap (λ (g : ℕ). settled_state (copied_file g p.bytes (gate_behind old front) l.known.place (open_disk l).seen)) p.generation
+          p.copied told ∙ ap (λ (g : ℕ). settled_state (copied_file g p.bytes (gate_behind old front) l.known.gate (open_disk l).seen)) p.generation
           ∙ ap (λ (bs : List ℕ). settled_state ((front_of 1 (next_generation l.generation) p.bytes ++ bs) ++ 0 ∷ [])) taken
 
       seen : (open_disk m).seen ≡ new p.bytes p.base
@@ -330,13 +331,13 @@ module _ (l : Ledger) (h : History) (s : StandsOpen l h) where
 
     -- each pair of images, by what moving over says of it
     pub moved_pairs : (cut : Cut) (bytes slice : List ℕ) → slice ≡ bytes → IsBaseAt l.known.book l.known.book.point bytes → IsCutAt old front cut → (a_new b_new : State)
-        → ((blocks : List (List ℕ)) → MayMove l.in_a l.generation l.a l.b → take (l.known.place - cut.gate) (drop cut.gate (open_disk l).seen) ≡ open_blocks blocks
+        → ((blocks : List (List ℕ)) → MayMove l.in_a l.generation l.a l.b → take (l.known.gate - cut.gate) (drop cut.gate (open_disk l).seen) ≡ open_blocks blocks
         → AllEither l.in_a (open_disk l).seen (whole_file (front_of 1 (next_generation l.generation) slice) blocks) a_new b_new)
         → (image_a image_b : List ℕ) → MayLeave a_new image_a → MayLeave b_new image_b → PairFor image_a image_b h
     moved_pairs cut bytes slice same base at a_new b_new each =
         either_pairs bytes base a_new b_new
         (subst (λ (t : List ℕ). AllEither l.in_a (open_disk l).seen (whole_file (front_of 1 (next_generation l.generation) t) copied) a_new b_new) same
-        (each copied may_move (ap (λ (n : ℕ). take (l.known.place - n) (drop n (open_disk l).seen)) at.gate ∙ taken)))
+        (each copied may_move (ap (λ (n : ℕ). take (l.known.gate - n) (drop n (open_disk l).seen)) at.gate ∙ taken)))
 
 -- what a book is cut to
 pub keeps_from : (p point_now : ℕ) (before after : Kept) → p ≡ point_now → IsCut before after → after.floor ≡ p → ((h : History) → Serves before h → p ≡ point h → Serves after h) → KeepsFrom point_now before after
@@ -350,7 +351,7 @@ keeps_from p point_now before after same cut floor serves = record {
 }
 
 -- a place that is told of fits its field
-pub tail_few : (x : Bool) (told_a told_b : Option ℕ) (file : BlockFile) → HasTail (choice x told_a told_b) file → ((n : ℕ) → told_a ≡ Some n → n ≤ 2 ^ 62) → ((n : ℕ) → told_b ≡ Some n → n ≤ 2 ^ 62) → place_of file < 2 ^ 64
+pub tail_few : (x : Bool) (told_a told_b : Option ℕ) (file : BlockFile) → HasTail (choice x told_a told_b) file → ((n : ℕ) → told_a ≡ Some n → n ≤ 2 ^ 62) → ((n : ℕ) → told_b ≡ Some n → n ≤ 2 ^ 62) → gate_of file < 2 ^ 64
 tail_few true (Some n) told_b file has few_a few_b = omega (arith, has, few_a n refl)
 tail_few true None told_b file has few_a few_b = absurd has
 tail_few false told_a (Some n) file has few_a few_b = omega (arith, has, few_b n refl)
@@ -360,8 +361,8 @@ tail_few false told_a None file has few_a few_b = absurd has
 pub purged : (tells : Bool) (floor : Floor) (front behind : List (List Entry)) (l m : Ledger) (cut : Cut) (bytes slice : List ℕ) → FallsAway l.known floor front behind → slice ≡ bytes → IsBaseAt l.known.book l.known.book.point bytes
     → IsCutAt floor front cut → KeepsFrom l.known.book.point l.known.book m.known.book → (first : ℕ) → first ≡ 64 + length slice
     → ((blocks : List (List Entry)) → drop cut.count l.known.places ≡ places_at cut.gate blocks → after_at first blocks < 2 ^ 64 → m.known.places ≡ places_at first blocks)
-    → m.known.place ≡ 64 + length slice + (l.known.place - cut.gate) → m.known.place < 2 ^ 64 → m.in_a ≡ not l.in_a → m.generation ≡ next_generation l.generation
-    → (IsTrue tells → open_disk m ≡ settled_state (copied_file (next_generation l.generation) slice cut.gate l.known.place (open_disk l).seen))
+    → m.known.gate ≡ 64 + length slice + (l.known.gate - cut.gate) → m.known.gate < 2 ^ 64 → m.in_a ≡ not l.in_a → m.generation ≡ next_generation l.generation
+    → (IsTrue tells → open_disk m ≡ settled_state (copied_file (next_generation l.generation) slice cut.gate l.known.gate (open_disk l).seen))
     → (IsTrue tells → other_disk m ≡ settled_state []) → IsPurged tells floor front behind l m
 purged tells floor front behind l m cut bytes slice falls same base at keeps first first_is moves place_is fits in_a generation copied wiped = record {
   bytes = bytes;
@@ -372,9 +373,9 @@ purged tells floor front behind l m cut bytes slice falls same base at keeps fir
   in_a = in_a;
   generation = generation;
   copied = λ told.
-      copied told ∙ ap (λ (t : List ℕ). settled_state (copied_file (next_generation l.generation) t cut.gate l.known.place (open_disk l).seen)) same
-      ∙ ap (λ (n : ℕ). settled_state (copied_file (next_generation l.generation) bytes n l.known.place (open_disk l).seen)) at.gate
-      ∙ ap (λ (g : ℕ). settled_state (copied_file g bytes (gate_behind floor front) l.known.place (open_disk l).seen)) (sym generation);
+      copied told ∙ ap (λ (t : List ℕ). settled_state (copied_file (next_generation l.generation) t cut.gate l.known.gate (open_disk l).seen)) same
+      ∙ ap (λ (n : ℕ). settled_state (copied_file (next_generation l.generation) bytes n l.known.gate (open_disk l).seen)) at.gate
+      ∙ ap (λ (g : ℕ). settled_state (copied_file g bytes (gate_behind floor front) l.known.gate (open_disk l).seen)) (sym generation);
   wiped = wiped;
 } where
   gate_is : first ≡ 64 + length (spelling base.base)
@@ -387,7 +388,7 @@ purged tells floor front behind l m cut bytes slice falls same base at keeps fir
   low : cut.gate ≤ after_at cut.gate behind
   low = after_most 0 0 cut.gate behind
 
-  end_is : m.known.place ≡ after_at first behind
+  end_is : m.known.gate ≡ after_at first behind
   end_is =
-      let old_end : l.known.place ≡ after_at cut.gate behind = falls.tail ∙ after_behind (first_gate floor) front behind ∙ ap (λ (n : ℕ). after_at n behind) (sym at.gate) in
+      let old_end : l.known.gate ≡ after_at cut.gate behind = falls.tail ∙ after_behind (first_gate floor) front behind ∙ ap (λ (n : ℕ). after_at n behind) (sym at.gate) in
       omega (arith, place_is, old_end, low, after_moved cut.gate first behind, first_is)

@@ -31,15 +31,16 @@ use Rattle.ledger_model.specs.Lawful as lawful
 use Rattle.pseudo_genesis.specs.declared.base.Base.{Base}
 use Rattle.ledger_open.specs.Damages.{IsNotNext, IsOtherRoot, Begun, IsReadTo, IsNextHere, IsDamage}
 use Rattle.ledger_open.specs.Opening.{known_from, HasTaken, HasRead, IsReadErr, as_open}
-use Rattle.ledger_open.specs.Places.{place_at, place_of_record, places_in, entry_at}
+use Rattle.block_file.specs.Places.{body_from, place_at, place_of_record, places_in, content_from}
+use Rattle.ledger_open.specs.Places.{entry_at}
 use Rattle.ledger_open.specs.Standing.{ground}
 use Rattle.ledger_open.specs.Starts.{IsStart}
 use Rattle.ledger_open.specs.Taking.{Headed, IsBadBlock}
-use Rattle.ledger_open.specs.declared.places.PlaceAt.{PlaceAt}
+use Rattle.block_file.specs.declared.place.PlaceAt.{PlaceAt}
 use Rattle.ledger_open.proofs.BegunLaws.{begun_start, readto_start, begun_more}
 use Rattle.ledger_open.proofs.GoesLaws.{first_goes}
 use Rattle.ledger_open.proofs.PlaceLaws.{AreHere, open_here}
-use Rattle.ledger_open.proofs.SizeLaws.{mth_size, record_size}
+use Rattle.ledger_open.proofs.SizeLaws.{mth_size, record_sized}
 
 -- ---- what was read of a block
 
@@ -48,14 +49,14 @@ headers_from at [] = refl
 headers_from at (e ∷ es) = ap (λ (l : List Header). e.header ∷ l) (headers_from (at + length (record_bytes e)) es)
 
 pub headed_read : (at : ℕ) (es : List Entry) (block : BlockAt) → IsRead at es block → Headed es block.records
-headed_read at es block r = headers_from (at + 45) es ∙ ap (map (λ (r : RecordAt). r.header)) (sym r.records)
+headed_read at es block r = headers_from (body_from at) es ∙ ap (map (λ (r : RecordAt). r.header)) (sym r.records)
 
 layout_from : (at : ℕ) (es : List Entry) → AreReadable es → All (λ (r : RecordAt). IsHeader r.header) (records_from at es)
 layout_from at [] a = All-nil (λ (r : RecordAt). IsHeader r.header)
 layout_from at (e ∷ es) a = All-cons (λ (r : RecordAt). IsHeader r.header) (record_at at e) (records_from (at + length (record_bytes e)) es) a.0.rules (layout_from (at + length (record_bytes e)) es a.1)
 
 pub layout_read : (at : ℕ) (es : List Entry) (block : BlockAt) → AreReadable es → IsRead at es block → All (λ (r : RecordAt). IsHeader r.header) block.records
-layout_read at es block a r = subst (All (λ (r : RecordAt). IsHeader r.header)) (sym r.records) (layout_from (at + 45) es a)
+layout_read at es block a r = subst (All (λ (r : RecordAt). IsHeader r.header)) (sym r.records) (layout_from (body_from at) es a)
 
 -- ---- journal 0
 
@@ -174,7 +175,7 @@ first_bad file block damage plain f bad = bad_read file None [] 64 block.root.0 
 record IsSingle (es : List Entry) (first : RecordAt) : Type 0 where
   pub entry : Entry
   pub is : es ≡ entry ∷ []
-  pub place : first ≡ record_at 109 entry
+  pub place : first ≡ record_at (body_from 64) entry
 
 single_of : (es : List Entry) (block : BlockAt) (first : RecordAt) → 1 ≤ length es → IsRead 64 es block → block.records ≡ first ∷ [] → IsSingle es first
 single_of [] block first some r one = absurd (omega (arith, some))
@@ -185,11 +186,11 @@ keys_len : (e : Entry) (es : List Entry) → AreBlock 0 (e ∷ es) → e.header.
 keys_len e es b = eqb-true e.header.content_len 64 (subst (λ (k : Kind). IsTrue (content_len_ok k e.header.content_len)) (genesis_of e es b) b.readable.0.rules.content_len)
 
 -- what is read at its place is its content
-content_here : (file root : List ℕ) (e : Entry) → AreBlock 0 (e ∷ []) → IsOpenBlock 64 root (e ∷ []) file → take 64 (drop 287 file) ≡ e.content
+content_here : (file root : List ℕ) (e : Entry) → AreBlock 0 (e ∷ []) → IsOpenBlock 64 root (e ∷ []) file → take 64 (drop (content_from 64) file) ≡ e.content
 content_here file root e b o =
-    let whole : AreHere file (e ∷ []) (places_in 109 (e ∷ [])) = open_here 64 root (e ∷ []) file o b.readable in
-    let one : entry_at file e.header (place_at 109 e) ≡ e = whole.0 in
-    ap (λ (n : ℕ). take n (drop 287 file)) (sym (keys_len e [] b)) ∙ ap (λ (x : Entry). x.content) one
+    let whole : AreHere file (e ∷ []) (places_in (body_from 64) (e ∷ [])) = open_here 64 root (e ∷ []) file o b.readable in
+    let one : entry_at file e.header (place_at (body_from 64) e) ≡ e = whole.0 in
+    ap (λ (n : ℕ). take n (drop (content_from 64) file)) (sym (keys_len e [] b)) ∙ ap (λ (x : Entry). x.content) one
 
 pub other_content : (file : List ℕ) (block : BlockAt) (first : RecordAt) (found : Digest) → IsStart file None → (f : FirstHere file block) → block.records ≡ first ∷ [] → block.root.0 ≡ leaf sha256 (spelling first.header)
     → found.0 ≢ first.header.content_digest.0 → found.0 ≡ content_digest_of (take 64 (drop first.content_at file)) → IsDamage file (damages.Content 0 first.header.content_digest found)
@@ -220,7 +221,7 @@ with_content content e = record { header = e.header; content = content; who = e.
 module _ (block : BlockAt) (first : RecordAt) (content : List ℕ) (book : Kept) (places : List PlaceAt) (place : ℕ)
     (one : block.records ≡ first ∷ []) (size : length content ≡ 64) (listed : places ≡ place_of_record first ∷ []) (tail : place ≡ 65 + block.len)
     (begun : (j : Entry) → j.header ≡ first.header → j.content ≡ content → Serves book (begun_with j) × StandsBehind book None (j ∷ [])) where
-  first_taken : (e : Entry) → AreBlock 0 (e ∷ []) → IsRead 64 (e ∷ []) block → first ≡ record_at 109 e → HasTaken (known_from book places place) None ((with_content content e ∷ []) ∷ [])
+  first_taken : (e : Entry) → AreBlock 0 (e ∷ []) → IsRead 64 (e ∷ []) block → first ≡ record_at (body_from 64) e → HasTaken (known_from book places place) None ((with_content content e ∷ []) ∷ [])
   first_taken e b r at =
       let both = begun (with_content content e) (ap (λ (x : RecordAt). x.header) (sym at)) refl in
       let s = both.0 in
@@ -233,7 +234,7 @@ module _ (block : BlockAt) (first : RecordAt) (content : List ℕ) (book : Kept)
         lawful = (record { some = omega arith; most = omega arith; entries = (record { jsn = b.begins; rules = b.readable.0.rules; widths = b.readable.0.widths; content = size ∙ sym (keys_len e [] b); who = b.readable.0.who }, tt) }, tt);
         goes = first_goes book (with_content content e) s both.1;
         places = listed ∙ ap (λ (x : RecordAt). place_of_record x ∷ []) at;
-        tail = omega (arith, tail, r.len, record_size e b.readable.0, length-append (record_bytes e) []);
+        tail = omega (arith, tail, r.len, record_sized e b.readable.0, length-append (record_bytes e) []);
         settled = omega (arith, s.stands.counts.size, s.stands.counts.sealed_is);
       }
     where

@@ -3,18 +3,17 @@ use Rattle.std.proofs.Common.{◌≡◌, inl, inr, ℕ, zero, suc, ◌+◌, true
 use Rattle.std.proofs.lemmas.Bool.{true≢false}
 use Rattle.sha2.proofs.Facts256.{length-sha256}
 use Rattle.journal_record.specs.Entry.{Entry}
-use Rattle.ledger_model.specs.Genesis.{genesis_header, genesis_journal, new_ledger}
+use Rattle.ledger_model.specs.Genesis.{founders_content, genesis_header, genesis_journal, new_ledger}
 use Rattle.ledger_model.specs.History.{point, size, root}
 use Rattle.ledger_model.specs.Targets.{is_hidden}
 use Rattle.ledger_model.specs.declared.genesis.Genesis.{Genesis}
-use Rattle.journal_record.specs.Blocks.{IsEntry, written_blocks, body_of, block_bytes, leaves_of}
+use Rattle.journal_record.specs.Blocks.{IsEntry, written_blocks, body_of, record_bytes, block_bytes, leaves_of}
 use Rattle.block_file.specs.File.{whole_file}
 use Rattle.block_file.specs.Head.{IsShut, front_of, digest_of}
 use Rattle.ledger_open.specs.Heads.{IsFront}
 use Rattle.std.specs.Int.{to_be_bytes, w32, w64}
-use Rattle.std.specs.Prelude.{sum_by, None}
+use Rattle.std.specs.Prelude.{None}
 use Rattle.std.proofs.lemmas.List.Elements.{All-nil}
-use Rattle.std.proofs.lemmas.List.Sums.{sum_by-cons}
 use Rattle.journal_record.specs.Header.{HasWidths, spelling}
 use Rattle.journal_record.specs.Records.{AreReadable}
 use Rattle.ledger_book.specs.Books.{Kept, Stands, Serves, sealed_size}
@@ -26,8 +25,9 @@ use Rattle.ledger_book.specs.Seals.{head_of}
 use Rattle.ledger_model.specs.History.{History}
 use Rattle.merkle_tree.specs.declared.head.Head.{Head}
 use Rattle.ledger_open.specs.Opening.{known_from, Knows}
-use Rattle.ledger_open.specs.Places.{record_len, after_at}
-use Rattle.ledger_open.specs.declared.places.PlaceAt.{PlaceAt}
+use Rattle.block_file.specs.Places.{after_at, body_from, place_of_lengths, places_at}
+use Rattle.block_file.specs.Writing.{block_head, record_with}
+use Rattle.block_file.specs.declared.place.PlaceAt.{PlaceAt}
 use Rattle.ledger_disk.specs.Disk.{State, settled_state}
 use Rattle.ledger_model.specs.Genesis.{HasKeys}
 use Rattle.twin_file.specs.Images.{AreShut, IsMadeOrShut}
@@ -36,7 +36,7 @@ use Rattle.ledger_open.specs.Growing.{new_file}
 use Rattle.ledger_open.proofs.GrowLaws.{erased_stands}
 use Rattle.ledger_open.proofs.KnownLaws.{knows_whole}
 use Rattle.ledger_open.proofs.PartLaws.{early_at, sides_pair}
-use Rattle.ledger_open.proofs.SizeLaws.{body_size, block_size, mth_size}
+use Rattle.ledger_open.proofs.SizeLaws.{block_size, mth_size}
 use Rattle.twin_file.proofs.HeadLaws.{tail_size}
 use Rattle.std.proofs.lemmas.List.{drop_all}
 use Rattle.ledger_model.proofs.KeepLaws.{founded_lawful}
@@ -122,41 +122,33 @@ module _ (genesis : Genesis) (operator : length genesis.operator.0 ≡ 32) (regu
   block_readable : AreReadable (genesis_journal genesis ∷ [])
   block_readable = (record { rules = entry_is.rules; widths = entry_is.widths; content = entry_is.content; who = entry_is.who }, tt)
 
-  len_is : sum_by record_len (genesis_journal genesis ∷ []) ≡ 242
-  unfolding genesis_header
-  len_is = omega (arith, sum_by-cons record_len (genesis_journal genesis) [])
-
-  body_len : length (body_of (genesis_journal genesis ∷ [])) ≡ 242
-  body_len = body_size (genesis_journal genesis ∷ []) block_readable ∙ len_is
-
-  -- the bytes of block 0, piece by piece
-  first_bytes : (root : List ℕ) → ((((((([] ++ to_be_bytes w32 1) ++ to_be_bytes w64 242) ++ root) ++ spelling (genesis_header genesis)) ++ to_be_bytes w32 0) ++ genesis.operator.0) ++ genesis.regulator.0) ≡ block_bytes root (genesis_journal genesis ∷ [])
+  -- the bytes of block 0
+  pub first_bytes : (root header content body head : List ℕ) → header ≡ spelling (genesis_header genesis) → content ≡ founders_content genesis → body ≡ record_with header content [] → head ≡ block_head 1 (length body) root
+      → head ++ body ≡ block_bytes root (genesis_journal genesis ∷ [])
   unfolding block_bytes
-  first_bytes root =
-      pieces (to_be_bytes w32 1) (to_be_bytes w64 242) root (spelling (genesis_header genesis)) (to_be_bytes w32 0) genesis.operator.0 genesis.regulator.0
-      ∙ ap (λ (n : ℕ). to_be_bytes w32 1 ++ (to_be_bytes w64 n ++ (root ++ body_of (genesis_journal genesis ∷ [])))) (sym body_len) where
-        pieces : (a b c d e f g : List ℕ) → (((((([] ++ a) ++ b) ++ c) ++ d) ++ e) ++ f) ++ g ≡ a ++ (b ++ (c ++ ((d ++ (e ++ ((f ++ g) ++ []))) ++ [])))
-        pieces a b c d e f g = simp (append_assoc, append-nil)
+  first_bytes root header content body head header_is content_is body_is head_is =
+      let all_bytes = body_of (genesis_journal genesis ∷ []) in
+      let len = to_be_bytes w64 (length all_bytes) in
+      let all : body ≡ all_bytes =
+      body_is ∙ ap (λ (h : List ℕ). record_with h content []) header_is ∙ ap (λ (l : List ℕ). record_with (spelling (genesis_header genesis)) l []) content_is ∙ sym (append-nil (record_bytes (genesis_journal genesis))) in
+      ap (λ (l : List ℕ). l ++ body) head_is ∙ ap (λ (l : List ℕ). block_head 1 (length l) root ++ l) all
+      ∙ append_assoc (to_be_bytes w32 1) (len ++ root) all_bytes ∙ ap (λ (l : List ℕ). to_be_bytes w32 1 ++ l) (append_assoc len root all_bytes)
 
-  pub first_bytes_of : (root a b s e : List ℕ) → a ≡ to_be_bytes w32 1 → b ≡ to_be_bytes w64 242 → s ≡ spelling (genesis_header genesis) → e ≡ to_be_bytes w32 0
-      → (((((a ++ b) ++ root) ++ s) ++ e) ++ genesis.operator.0) ++ genesis.regulator.0 ≡ block_bytes root (genesis_journal genesis ∷ [])
-  first_bytes_of root a b s e aa bb ss ee =
-      subst (λ (x : List ℕ). (((((x ++ b) ++ root) ++ s) ++ e) ++ genesis.operator.0) ++ genesis.regulator.0 ≡ block_bytes root (genesis_journal genesis ∷ [])) (sym aa)
-      (subst (λ (x : List ℕ). (((((to_be_bytes w32 1 ++ x) ++ root) ++ s) ++ e) ++ genesis.operator.0) ++ genesis.regulator.0 ≡ block_bytes root (genesis_journal genesis ∷ [])) (sym bb)
-      (subst (λ (x : List ℕ). (((((to_be_bytes w32 1 ++ to_be_bytes w64 242) ++ root) ++ x) ++ e) ++ genesis.operator.0) ++ genesis.regulator.0 ≡ block_bytes root (genesis_journal genesis ∷ [])) (sym ss)
-      (subst (λ (x : List ℕ). (((((to_be_bytes w32 1 ++ to_be_bytes w64 242) ++ root) ++ spelling (genesis_header genesis)) ++ x) ++ genesis.operator.0) ++ genesis.regulator.0 ≡ block_bytes root (genesis_journal genesis ∷ [])) (sym ee) (first_bytes root))))
+  first_block_size : (root : List ℕ) → length root ≡ 32 → 65 + length (block_bytes root (genesis_journal genesis ∷ [])) ≡ after_at 64 blocks
+  first_block_size root size = omega (arith, block_size root (genesis_journal genesis ∷ []) size block_readable)
 
-  pub first_block_size : (root : List ℕ) → length root ≡ 32 → length (block_bytes root (genesis_journal genesis ∷ [])) ≡ 286
-  first_block_size root size = block_size root (genesis_journal genesis ∷ []) size block_readable ∙ ap (λ (n : ℕ). 44 + n) len_is
-
-  pub first_knows : (book : Kept) (places : List PlaceAt) → Serves book (new_ledger genesis) → book.floor ≡ 0 → places ≡ record { content_at = 287; who_at = 351; content_len = 64; who_len = 0 } ∷ []
-      → Knows (known_from book places 351) None (new_ledger genesis).closed
+  -- the place of journal 0
+  pub first_place : (place : PlaceAt) (before content : List ℕ) → before ≡ [] → content ≡ founders_content genesis → place ≡ place_of_lengths (body_from 64 + length before) (length content) 0 → places_at 64 blocks ≡ place ∷ []
   unfolding genesis_header
+  first_place place before content none content_is is =
+      let size : length content ≡ 64 = omega (arith, ap length content_is, operator, regulator, length-append genesis.operator.0 genesis.regulator.0) in
+      sym (ap (λ (p : PlaceAt). p ∷ []) (is ∙ ap (λ (l : List ℕ). place_of_lengths (body_from 64 + length l) (length content) 0) none ∙ ap (λ (n : ℕ). place_of_lengths (body_from 64) n 0) size))
+
+  pub first_knows : (book : Kept) (places : List PlaceAt) → Serves book (new_ledger genesis) → book.floor ≡ 0 → places ≡ places_at 64 blocks → Knows (known_from book places (after_at 64 blocks)) None (new_ledger genesis).closed
   first_knows book places serves floor listed =
-      let tail : 351 ≡ after_at 64 blocks = omega (arith, len_is) in
       let lawful = founded_lawful genesis in
       let legal : AreLegal None blocks = record { next = all_ground (genesis_journal genesis ∷ []) lawful.journals_are; blocks_are = lawful.blocks_are; founded = lawful.journals_are.founded } in
-      knows_whole (known_from book places 351) blocks (record { some = omega arith; most = omega arith; entries = (entry_is, tt) }, tt) legal serves floor listed tail
+      knows_whole (known_from book places (after_at 64 blocks)) blocks (record { some = omega arith; most = omega arith; entries = (entry_is, tt) }, tt) legal serves floor listed refl
 
 -- the root of block 0
 root_first : (genesis : Genesis) → root (new_ledger genesis) (sealed_size (new_ledger genesis)) ≡ mth sha256 (leaves_of (genesis_journal genesis ∷ []))
@@ -180,9 +172,9 @@ shut_now a b a_now b_now same_a same_b shut_a shut_b =
     (subst (λ (s : State). AreShut (settled_state a.seen) s) (sym same_b) (record { quiet_a = refl; quiet_b = refl; shut_a = shut_a; shut_b = shut_b }))
 
 -- the place of the tail gate
-pub first_place : (genesis : Genesis) (block : List ℕ) (place : ℕ) → HasKeys genesis → block ≡ block_bytes ((ground).root (leaves_of (genesis_journal genesis ∷ []))) (genesis_journal genesis ∷ []) → place ≡ 65 + length block → place ≡ 351
-first_place genesis block place keys is at =
-    at ∙ ap (λ (l : List ℕ). 65 + length l) is ∙ ap (λ (n : ℕ). 65 + n) (first_block_size genesis keys.operator keys.regulator _ (mth_size (leaves_of (genesis_journal genesis ∷ []))))
+pub first_tail : (genesis : Genesis) (block : List ℕ) (place : ℕ) → HasKeys genesis → block ≡ block_bytes ((ground).root (leaves_of (genesis_journal genesis ∷ []))) (genesis_journal genesis ∷ []) → place ≡ 65 + length block → place ≡ after_at 64 (new_ledger genesis).closed
+first_tail genesis block place keys is at =
+    at ∙ ap (λ (l : List ℕ). 65 + length l) is ∙ first_block_size genesis keys.operator keys.regulator _ (mth_size (leaves_of (genesis_journal genesis ∷ [])))
 
 -- a pair of a new ledger is clean
 pub founded_pair : (genesis : Genesis) (a b : State) → HasKeys genesis → IsFounded genesis a b → IsCleanPair a.seen b.seen (new_ledger genesis)

@@ -11,7 +11,7 @@ use Rattle.ledger_model.specs.Targets.{hides}
 use Rattle.journal_record.specs.Blocks.{AreFrom, AreBlocks, written_blocks}
 use Rattle.block_file.specs.File.{open_blocks}
 use Rattle.ledger_disk.specs.Guards.{Outside}
-use Rattle.ledger_open.specs.Places.{record_len}
+use Rattle.block_file.specs.Places.{content_in, record_size, body_from, record_len}
 use Rattle.ledger_open.proofs.AgainLaws.{flat}
 use Rattle.ledger_open.specs.Standing.{Floor, HasBlocks, AreZeros, IsKept, AllKept, SameButHidden, KeepsBlocks}
 use Rattle.ledger_open.proofs.SizeLaws.{GivesDigests}
@@ -25,9 +25,9 @@ record_places_kept hid gone at [] [] a = (refl, refl)
 record_places_kept hid gone at [] (f ∷ fs) a = absurd a
 record_places_kept hid gone at (e ∷ es) [] a = absurd a
 record_places_kept hid gone at (e ∷ es) (f ∷ fs) a =
-    let same : record_len e ≡ record_len f = ap (λ (h : Header). 178 + h.content_len + length e.who) (sym a.0.header) ∙ ap (λ (w : List ℕ). 178 + f.header.content_len + length w) (sym a.0.who) in
+    let same : record_len e ≡ record_len f = ap (λ (h : Header). record_size h.content_len (length e.who)) (sym a.0.header) ∙ ap (λ (w : List ℕ). record_size f.header.content_len (length w)) (sym a.0.who) in
     let more = record_places_kept hid gone (at + record_len e) es fs a.1 in (
-      ap (λ (l : List ℕ). (at + 178) ∷ l) more.0 ∙ ap (λ (n : ℕ). (at + 178) ∷ record_places (at + n) fs) same,
+      ap (λ (l : List ℕ). (content_in at) ∷ l) more.0 ∙ ap (λ (n : ℕ). (content_in at) ∷ record_places (at + n) fs) same,
       omega (arith, same, more.1, sum_by-cons record_len e es, sum_by-cons record_len f fs),
     )
 
@@ -36,10 +36,10 @@ places_kept hid gone at [] [] s = refl
 places_kept hid gone at [] (c ∷ cs) s = absurd s
 places_kept hid gone at (b ∷ bs) [] s = absurd s
 places_kept hid gone at (b ∷ bs) (c ∷ cs) s =
-    let one = record_places_kept hid gone (at + 45) b c s.0 in
-    ap (λ (l : List ℕ). l ++ content_places (at + 45 + sum_by record_len b) bs) one.0
-    ∙ ap (λ (l : List ℕ). record_places (at + 45) c ++ l) (places_kept hid gone (at + 45 + sum_by record_len b) bs cs s.1)
-    ∙ ap (λ (n : ℕ). record_places (at + 45) c ++ content_places (at + 45 + n) cs) one.1
+    let one = record_places_kept hid gone (body_from at) b c s.0 in
+    ap (λ (l : List ℕ). l ++ content_places (body_from at + sum_by record_len b) bs) one.0
+    ∙ ap (λ (l : List ℕ). record_places (body_from at) c ++ l) (places_kept hid gone (body_from at + sum_by record_len b) bs cs s.1)
+    ∙ ap (λ (n : ℕ). record_places (body_from at) c ++ content_places (body_from at + n) cs) one.1
 
 pub lengths_kept : (hid gone : ℕ → Bool) (bs cs : List (List Entry)) → SameButHidden hid gone bs cs → lengths_of (journals_of bs) ≡ lengths_of (journals_of cs)
 lengths_kept hid gone bs cs s = header_map_same hid gone (λ (h : Header). h.content_len) (journals_of bs) (journals_of cs) (all_kept hid gone bs cs s)

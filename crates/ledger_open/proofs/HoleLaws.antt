@@ -12,20 +12,20 @@ use Rattle.ledger_model.specs.History.{journals_of}
 use Rattle.journal_record.specs.Blocks.{record_bytes, body_of, block_bytes, leaves_of, AreFrom, AreBlocks, written_blocks}
 use Rattle.block_file.specs.File.{open_blocks}
 use Rattle.ledger_disk.specs.Guards.{Outside}
-use Rattle.ledger_open.specs.Places.{record_len}
-use Rattle.ledger_open.proofs.SizeLaws.{GivesDigests, record_size, body_size, block_size, readable}
+use Rattle.block_file.specs.Places.{content_in, body_from, record_len}
+use Rattle.ledger_open.proofs.SizeLaws.{GivesDigests, record_sized, body_size, block_size, readable}
 
 -- ---- the contents of some journals
 
 -- the places of the contents of a block, whose records begin at this one
 abbrev pub record_places : ℕ → List Entry → List ℕ
 record_places at [] = []
-record_places at (e ∷ es) = (at + 178) ∷ record_places (at + record_len e) es
+record_places at (e ∷ es) = (content_in at) ∷ record_places (at + record_len e) es
 
 -- .. of blocks, where the first gate stands at this place
 abbrev pub content_places : ℕ → List (List Entry) → List ℕ
 content_places at [] = []
-content_places at (b ∷ bs) = record_places (at + 45) b ++ content_places (at + 45 + sum_by record_len b) bs
+content_places at (b ∷ bs) = record_places (body_from at) b ++ content_places (body_from at + sum_by record_len b) bs
 
 abbrev pub lengths_of : List Entry → List ℕ
 lengths_of es = map (λ (e : Entry). e.header.content_len) es
@@ -104,7 +104,7 @@ body_hole (suc j) n m at pre post (e ∷ es) place a is lt =
     (λ c size.
     ap (λ (l : List Entry). pre ++ (body_of l ++ post)) (put_behind n m c e es a (omega (arith, is)))
     ∙ ap (λ (l : List ℕ). pre ++ l) (append_assoc (record_bytes e) (body_of (put_in n c es)) post) ∙ sym (append_assoc pre (record_bytes e) (body_of (put_in n c es) ++ post)))
-    (body_hole j n (m + 1) (at + record_len e) (pre ++ record_bytes e) post es (omega (arith, place, record_size e (readable m (e ∷ es) a).0, length-append pre (record_bytes e))) a.1 (omega (arith, is)) (omega (arith, lt)))
+    (body_hole j n (m + 1) (at + record_len e) (pre ++ record_bytes e) post es (omega (arith, place, record_sized e (readable m (e ∷ es) a).0, length-append pre (record_bytes e))) a.1 (omega (arith, is)) (omega (arith, lt)))
 
 -- a change of a content changes nothing else
 pub leaves_put : (n : ℕ) (c : List ℕ) (es : List Entry) → leaves_of (put_in n c es) ≡ leaves_of es
@@ -140,7 +140,7 @@ hole_to f len to_len at to e place h = record { pre = h.pre; post = h.post; plac
 head_of : List ℕ → List Entry → List ℕ
 head_of root es = 1 ∷ (to_be_bytes w32 (length es) ++ (to_be_bytes w64 (length (body_of es)) ++ root))
 
-head_size : (root : List ℕ) (es : List Entry) → length root ≡ 32 → length (head_of root es) ≡ 45
+head_size : (root : List ℕ) (es : List Entry) → length root ≡ 32 → length (head_of root es) ≡ body_from 0
 unfolding head_of
 head_size root es size =
     let four : length (to_be_bytes w32 (length es)) ≡ 4 = refl in
@@ -161,7 +161,7 @@ body_put_size n m i c es a is lt size = body_size (put_in n c es) (readable m (p
 -- blocks, with other bytes in front and behind
 module _ (root : List (List ℕ) → List ℕ) (digests : GivesDigests root) where
   block_hole : (i n m at : ℕ) (seen : List (List ℕ)) (pre post : List ℕ) (b : List Entry) (bs : List (List Entry)) → length pre ≡ at → AreBlocks m (b ∷ bs) → n ≡ m + i → i < length b
-      → Hole (λ c. pre ++ (open_blocks (written_blocks root seen (put n c (b ∷ bs))) ++ post)) (get_or (lengths_of b) i 0) (get_or (record_places (at + 45) b) i 0)
+      → Hole (λ c. pre ++ (open_blocks (written_blocks root seen (put n c (b ∷ bs))) ++ post)) (get_or (lengths_of b) i 0) (get_or (record_places (body_from at) b) i 0)
   block_hole i n m at seen pre post b bs place a is lt =
       let R = root (seen ++ leaves_of b) in
       let rest = open_blocks (written_blocks root (seen ++ leaves_of b) bs) in
@@ -171,7 +171,7 @@ module _ (root : List (List ℕ) → List ℕ) (digests : GivesDigests root) whe
       ∙ ap (λ (l : List (List ℕ)). pre ++ (((1 ∷ block_bytes (root (seen ++ l)) (put_in n c b)) ++ open_blocks (written_blocks root (seen ++ l) bs)) ++ post)) (leaves_put n c b)
       ∙ ap (λ (l : List ℕ). pre ++ ((l ++ open_blocks (written_blocks root (seen ++ leaves_of b) bs)) ++ post)) (block_parts (root (seen ++ leaves_of b)) b (put_in n c b) (length-map b (λ e. cond (e.header.jsn == n) (with_content c e) e)) (body_put_size n m i c b a.0.entries is lt size))
       ∙ parts pre (head_of (root (seen ++ leaves_of b)) b) (body_of (put_in n c b)) (open_blocks (written_blocks root (seen ++ leaves_of b) bs)) post)
-      (body_hole i n m (at + 45) (pre ++ head_of (root (seen ++ leaves_of b)) b) (open_blocks (written_blocks root (seen ++ leaves_of b) bs) ++ post) b (omega (arith, place, head_size (root (seen ++ leaves_of b)) b (digests (seen ++ leaves_of b)), length-append pre (head_of (root (seen ++ leaves_of b)) b))) a.0.entries is lt) where
+      (body_hole i n m (body_from at) (pre ++ head_of (root (seen ++ leaves_of b)) b) (open_blocks (written_blocks root (seen ++ leaves_of b) bs) ++ post) b (omega (arith, place, head_size (root (seen ++ leaves_of b)) b (digests (seen ++ leaves_of b)), length-append pre (head_of (root (seen ++ leaves_of b)) b))) a.0.entries is lt) where
         parts : (pre h b r post : List ℕ) → pre ++ (((h ++ b) ++ r) ++ post) ≡ (pre ++ h) ++ (b ++ (r ++ post))
         parts pre h b r post = ap (λ (x : List ℕ). pre ++ x) (append_assoc (h ++ b) r post ∙ append_assoc h b (r ++ post)) ∙ sym (append_assoc pre h (b ++ (r ++ post)))
 
@@ -182,18 +182,18 @@ module _ (root : List (List ℕ) → List ℕ) (digests : GivesDigests root) whe
   here : (i n m at : ℕ) (seen : List (List ℕ)) (pre post : List ℕ) (b : List Entry) (bs : List (List Entry)) → length pre ≡ at → AreBlocks m (b ∷ bs) → n ≡ m + i → i < length b
       → Hole (λ c. pre ++ (open_blocks (written_blocks root seen (put n c (b ∷ bs))) ++ post)) (get_or (lengths_of (journals_of (b ∷ bs))) i 0) (get_or (content_places at (b ∷ bs)) i 0)
   here i n m at seen pre post b bs place a is lt =
-      hole_to (λ c. pre ++ (open_blocks (written_blocks root seen (put n c (b ∷ bs))) ++ post)) (get_or (lengths_of b) i 0) _ (get_or (record_places (at + 45) b) i 0) _
+      hole_to (λ c. pre ++ (open_blocks (written_blocks root seen (put n c (b ∷ bs))) ++ post)) (get_or (lengths_of b) i 0) _ (get_or (record_places (body_from at) b) i 0) _
       (sym (ap (λ (l : List ℕ). get_or l i 0) (map-append (λ (e : Entry). e.header.content_len) b (journals_of bs)) ∙ get_or_append_left (lengths_of b) (lengths_of (journals_of bs)) 0 i (omega (arith, lt, length-map b (λ (e : Entry). e.header.content_len)))))
-      (sym (get_or_append_left (record_places (at + 45) b) (content_places (at + 45 + sum_by record_len b) bs) 0 i (omega (arith, lt, record_places_size (at + 45) b))))
+      (sym (get_or_append_left (record_places (body_from at) b) (content_places (body_from at + sum_by record_len b) bs) 0 i (omega (arith, lt, record_places_size (body_from at) b))))
       (block_hole i n m at seen pre post b bs place a is lt)
 
   behind : (i n m at : ℕ) (seen : List (List ℕ)) (pre post : List ℕ) (b : List Entry) (bs : List (List Entry)) → AreBlocks m (b ∷ bs) → n ≡ m + i → length b ≤ i
-      → Hole (λ c. (pre ++ (1 ∷ block_bytes (root (seen ++ leaves_of b)) b)) ++ (open_blocks (written_blocks root (seen ++ leaves_of b) (put n c bs)) ++ post)) (get_or (lengths_of (journals_of bs)) (i - length b) 0) (get_or (content_places (at + 45 + sum_by record_len b) bs) (i - length b) 0)
+      → Hole (λ c. (pre ++ (1 ∷ block_bytes (root (seen ++ leaves_of b)) b)) ++ (open_blocks (written_blocks root (seen ++ leaves_of b) (put n c bs)) ++ post)) (get_or (lengths_of (journals_of bs)) (i - length b) 0) (get_or (content_places (body_from at + sum_by record_len b) bs) (i - length b) 0)
       → Hole (λ c. pre ++ (open_blocks (written_blocks root seen (put n c (b ∷ bs))) ++ post)) (get_or (lengths_of (journals_of (b ∷ bs))) i 0) (get_or (content_places at (b ∷ bs)) i 0)
   behind i n m at seen pre post b bs a is past h =
-      hole_to (λ c. pre ++ (open_blocks (written_blocks root seen (put n c (b ∷ bs))) ++ post)) (get_or (lengths_of (journals_of bs)) (i - length b) 0) _ (get_or (content_places (at + 45 + sum_by record_len b) bs) (i - length b) 0) _
+      hole_to (λ c. pre ++ (open_blocks (written_blocks root seen (put n c (b ∷ bs))) ++ post)) (get_or (lengths_of (journals_of bs)) (i - length b) 0) _ (get_or (content_places (body_from at + sum_by record_len b) bs) (i - length b) 0) _
       (sym (ap (λ (l : List ℕ). get_or l i 0) (map-append (λ (e : Entry). e.header.content_len) b (journals_of bs)) ∙ get_or-append_right (lengths_of b) (lengths_of (journals_of bs)) (length b) i 0 (length-map b (λ (e : Entry). e.header.content_len)) past))
-      (sym (get_or-append_right (record_places (at + 45) b) (content_places (at + 45 + sum_by record_len b) bs) (length b) i 0 (record_places_size (at + 45) b) past))
+      (sym (get_or-append_right (record_places (body_from at) b) (content_places (body_from at + sum_by record_len b) bs) (length b) i 0 (record_places_size (body_from at) b) past))
       (hole_as (λ c. (pre ++ (1 ∷ block_bytes (root (seen ++ leaves_of b)) b)) ++ (open_blocks (written_blocks root (seen ++ leaves_of b) (put n c bs)) ++ post)) (λ c. pre ++ (open_blocks (written_blocks root seen (put n c (b ∷ bs))) ++ post)) (get_or (lengths_of (journals_of bs)) (i - length b) 0) _ _ refl
       (λ c size.
       ap (λ (l : List Entry). pre ++ (open_blocks (written_blocks root seen (l ∷ put n c bs)) ++ post)) (put_above n m c b a.0.entries (omega (arith, is, past)))
@@ -208,7 +208,7 @@ module _ (root : List (List ℕ) → List ℕ) (digests : GivesDigests root) whe
       elim (nat_lt i (length b)) as (λ v. nat_lt i (length b) ≡ v → Hole (λ c. pre ++ (open_blocks (written_blocks root seen (put n c (b ∷ bs))) ++ post)) (get_or (lengths_of (journals_of (b ∷ bs))) i 0) (get_or (content_places at (b ∷ bs)) i 0)) [
         | true ↦ λ e. here i n m at seen pre post b bs place a is (ltb-true i (length b) e)
         | false ↦ λ e. behind i n m at seen pre post b bs a is (ltb-false i (length b) e)
-            (blocks_hole (i - length b) n (m + length b) (at + 45 + sum_by record_len b) (seen ++ leaves_of b) (pre ++ (1 ∷ block_bytes (root (seen ++ leaves_of b)) b)) post bs
+            (blocks_hole (i - length b) n (m + length b) (body_from at + sum_by record_len b) (seen ++ leaves_of b) (pre ++ (1 ∷ block_bytes (root (seen ++ leaves_of b)) b)) post bs
             (omega (arith, place, block_size (root (seen ++ leaves_of b)) b (digests (seen ++ leaves_of b)) (readable m b a.0.entries), length-append pre (1 ∷ block_bytes (root (seen ++ leaves_of b)) b)))
             a.1 (omega (arith, is, ltb-false i (length b) e)) (omega (arith, lt, ltb-false i (length b) e, length-append b (journals_of bs))))
       ] refl

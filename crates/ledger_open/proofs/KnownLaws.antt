@@ -10,7 +10,7 @@ use Rattle.ledger_model.proofs.HideLaws.{first_shown}
 use Rattle.ledger_model.specs.History.{History, history, journals_of, greatest_point, seen_point}
 use Rattle.ledger_model.specs.Targets.{is_hidden}
 use Rattle.ledger_open.specs.Opening.{Known, Knows, GoesOn, HasTaken}
-use Rattle.ledger_open.specs.Places.{places_at, after_at}
+use Rattle.block_file.specs.Places.{places_at, after_at}
 use Rattle.ledger_open.specs.Standing.{AllKept, SameButHidden, floor_from}
 use Rattle.ledger_open.specs.Starts.{AreLegal, HasOwnPurge, IsReached}
 use Rattle.ledger_open.proofs.GoesLaws.{goes_as}
@@ -42,7 +42,7 @@ serves_on : (blocks : List (List Entry)) (h : History) (b : Kept) → GoesOn Non
 serves_on blocks h b g s =
     serves_alike (is_hidden h) (λ n. false) (history blocks []) h (same_back (is_hidden h) (λ n. false) h.closed blocks (all_kept_on blocks h g)) refl g.none (first_shown h g.lawful.journals_are) g.lawful.journals_are b s
 
-pub knows_whole : (k : Known) (blocks : List (List Entry)) → AreBlocks 0 blocks → AreLegal None blocks → Serves k.book (history blocks []) → k.book.floor ≡ 0 → k.places ≡ places_at 64 blocks → k.place ≡ after_at 64 blocks → Knows k None blocks
+pub knows_whole : (k : Known) (blocks : List (List Entry)) → AreBlocks 0 blocks → AreLegal None blocks → Serves k.book (history blocks []) → k.book.floor ≡ 0 → k.places ≡ places_at 64 blocks → k.gate ≡ after_at 64 blocks → Knows k None blocks
 unfolding seen_point
 knows_whole k blocks lawful legal serves floor places tail = record {
   base = tt;

@@ -35,10 +35,10 @@ use Rattle.ledger_open.proofs.OpenedLaws.{floor_goes, known_goes}
 
 module _ (k : Known) (start : Option Base) (blocks : List (List Entry)) (knows : Knows k start blocks) where
   -- the file that was read, cut and with zeros for what its last journal hides
-  pub cut_erased : (x : Bool) (old : List ℕ) (cut new : State) → cut ≡ settled_state (take (k.place + 1) old) → WritesZeros k.book k.places cut new → WritesOne k.places cut new → IsCutAndErased (open_file x start blocks k.place) k.places old new.seen
+  pub cut_erased : (x : Bool) (old : List ℕ) (cut new : State) → cut ≡ settled_state (take (k.gate + 1) old) → WritesZeros k.book k.places cut new → WritesOne k.places cut new → IsCutAndErased (open_file x start blocks k.gate) k.places old new.seen
   cut_erased x old cut new is writes one =
-      let quiet : IsSettled cut = settled_is cut (take (k.place + 1) old) is in
-      let seen : cut.seen ≡ take (k.place + 1) old = ap (λ (s : State). s.seen) is in
+      let quiet : IsSettled cut = settled_is cut (take (k.gate + 1) old) is in
+      let seen : cut.seen ≡ take (k.gate + 1) old = ap (λ (s : State). s.seen) is in
       let w = one quiet in
       record {
         one = subst (λ (bytes : List ℕ). ErasesOne k.places bytes new.seen) seen (subst (ErasesOne k.places cut.seen) (sym (ap (λ (s : State). s.seen) w.2)) w.1);
@@ -95,7 +95,7 @@ goes_behind start front behind h base g at is =
 pub record IsErasedHere (start : Option Base) (blocks : List (List Entry)) (l : Ledger) (a b : State) : Type 0 where
   pub has : HasFile start blocks (choice l.in_a a b).seen
   pub here : IsHere l.in_a l.generation a b
-  pub erased : IsCutAndErased (open_file l.in_a start blocks l.known.place) l.known.places (choice l.in_a a b).seen (open_disk l).seen
+  pub erased : IsCutAndErased (open_file l.in_a start blocks l.known.gate) l.known.places (choice l.in_a a b).seen (open_disk l).seen
   pub quiet : IsSettled (open_disk l)
   pub other_quiet : IsSettled (other_disk l)
   pub generation : l.generation ≡ generation_of (open_disk l).seen
@@ -104,7 +104,7 @@ module _ (tells : Bool) (l m : Ledger) (start : Option Base) (blocks : List (Lis
     (same : l.known.book.point ≤ l.known.book.floor → (m.known ≡ l.known) × (m.in_a ≡ l.in_a) × (m.generation ≡ l.generation)) (still : IsTrue tells → IsPurgedStill l m.a m.b) (purges : Purges tells l m)
     (stays : IsTrue tells → choice m.in_a a4 b4 ≡ choice m.in_a m.a m.b) where
   abbrev was : OpenFile
-  was = open_file l.in_a start blocks l.known.place
+  was = open_file l.in_a start blocks l.known.gate
 
   abbrev was_read : IsTrue tells → WasRead was a b
   was_read told = let d = done told in record { taken = d.here.taken; has = d.has; known = l.known; knows = knows; tail = refl }
@@ -132,7 +132,7 @@ module _ (tells : Bool) (l m : Ledger) (start : Option Base) (blocks : List (Lis
             goes = λ h g. g;
             serves = λ h g. subst (λ (k : Known). Serves k.book h) (sym (same most).0) (knows.serves h g);
             left = inl (record {
-              same = ap (λ (v : Bool). open_file v start blocks m.known.place) (same most).1 ∙ ap (λ (k : Known). open_file l.in_a start blocks k.place) (same most).0;
+              same = ap (λ (v : Bool). open_file v start blocks m.known.gate) (same most).1 ∙ ap (λ (k : Known). open_file l.in_a start blocks k.gate) (same most).0;
               at_point = omega (arith, most, knows.point, knows.floor, first_reached start (journals_of blocks) knows.reached);
               open_is = open_same told ∙ d.quiet;
             });
@@ -186,8 +186,8 @@ module _ (tells : Bool) (l m : Ledger) (start : Option Base) (blocks : List (Lis
               at = at;
               open_is =
                   stays told ∙ purged.copied told
-                  ∙ ap (λ (g : ℕ). settled_state (copied_file g purged.bytes (gate_behind (floor_from start) there.front) l.known.place (open_disk l).seen)) (purged.generation ∙ ap next_generation d.here.generation_is)
-                  ∙ ap (λ (bytes : List ℕ). settled_state (copied_file (next_generation (generation_of (choice l.in_a a b).seen)) bytes (gate_behind (floor_from start) there.front) l.known.place (open_disk l).seen)) purged.base.spelled;
+                  ∙ ap (λ (g : ℕ). settled_state (copied_file g purged.bytes (gate_behind (floor_from start) there.front) l.known.gate (open_disk l).seen)) (purged.generation ∙ ap next_generation d.here.generation_is)
+                  ∙ ap (λ (bytes : List ℕ). settled_state (copied_file (next_generation (generation_of (choice l.in_a a b).seen)) bytes (gate_behind (floor_from start) there.front) l.known.gate (open_disk l).seen)) purged.base.spelled;
             });
             other_is = cleared told (settled_is (other_disk m) [] (purged.wiped told));
           },
@@ -202,8 +202,8 @@ module _ (tells : Bool) (l m : Ledger) (start : Option Base) (blocks : List (Lis
     | inl below ↦
         let p = purged below in
         let from = gate_behind (floor_from start) (there below).front in
-        p.generation ∙ copied_generation l.generation from l.known.place p.bytes (open_disk l).seen
-        ∙ sym (ap (λ (s : State). generation_of s.seen) (stays told ∙ p.copied told ∙ ap (λ (g : ℕ). settled_state (copied_file g p.bytes from l.known.place (open_disk l).seen)) p.generation))
+        p.generation ∙ copied_generation l.generation from l.known.gate p.bytes (open_disk l).seen
+        ∙ sym (ap (λ (s : State). generation_of s.seen) (stays told ∙ p.copied told ∙ ap (λ (g : ℕ). settled_state (copied_file g p.bytes from l.known.gate (open_disk l).seen)) p.generation))
     | inr most ↦ (same most).2 ∙ (done told).generation ∙ sym (ap (λ (s : State). generation_of s.seen) (open_same most told))
   ]
 
@@ -231,7 +231,7 @@ reopened_as y k start blocks a b a_now b_now a_new b_new ea eb r =
       serves = r.serves;
       left = elim r.left [
         | inl s ↦ inl s
-        | inr w ↦ inr (subst (λ (g : ℕ). WasMoved r.was (open_file y start blocks k.place) g r.bytes a_new b_new) (ap generation_of seen) w)
+        | inr w ↦ inr (subst (λ (g : ℕ). WasMoved r.was (open_file y start blocks k.gate) g r.bytes a_new b_new) (ap generation_of seen) w)
       ];
       other_is = r.other_is;
     }

@@ -7,7 +7,7 @@ use Rattle.std.proofs.lemmas.List.Elements.{All-push}
 use Rattle.block_file.specs.Blocks.{AreBlock, IsRead, IsOpenBlock, IsNextBlock}
 use Rattle.block_file.specs.File.{IsShutAt}
 use Rattle.block_file.specs.Head.{digest_of, number_at, IsBaseErr}
-use Rattle.block_file.specs.Place.{base_len_of, base_digest_of}
+use Rattle.block_file.specs.FileView.{base_len_of, base_digest_of}
 use Rattle.block_file.specs.declared.block.BlockAt.{BlockAt}
 use Rattle.block_file.specs.declared.failure.Damage.{Damage}
 use Rattle.block_file.specs.declared.failure.Damage.TheVariants as damages
@@ -27,11 +27,11 @@ use Rattle.pseudo_genesis.specs.Reading.{base_of}
 use Rattle.pseudo_genesis.specs.declared.base.Base.{Base}
 use Rattle.ledger_open.specs.Damages.{Begun, IsReadTo, IsDamage, EndsEarly}
 use Rattle.ledger_open.specs.Opening.{Known, known_from, HasTaken, HasRead, HasKnown, HasFile, IsHeadOf, IsReadErr, as_open}
-use Rattle.ledger_open.specs.Places.{record_len, place_of_record, places_in, places_at, after_at}
+use Rattle.block_file.specs.Places.{body_from, record_len, place_of_record, places_in, places_at, after_at}
 use Rattle.ledger_open.specs.Standing.{floor_from}
 use Rattle.ledger_open.specs.Starts.{IsDecoded, AreFounded, AreLegal, HasBase, HasDigest, HasOwnPurge, IsReached, IsStart, IsFormErr, base_in}
 use Rattle.ledger_open.specs.Taking.{Headed, Goes, TakesBlock, IsBadBlock}
-use Rattle.ledger_open.specs.declared.places.PlaceAt.{PlaceAt}
+use Rattle.block_file.specs.declared.place.PlaceAt.{PlaceAt}
 use Rattle.ledger_open.proofs.BegunLaws.{readto_start, begun_more, begun_ends}
 use Rattle.ledger_open.proofs.FirstLaws.{headed_read, bad_read, some_of}
 use Rattle.ledger_open.proofs.GrowLaws.{blocks_more}
@@ -80,12 +80,12 @@ more_here file at first found block is answer =
     let r = subst (λ (o : Option BlockAt). IsNextBlock at file first (Ok o)) is answer in
     record { es = r.0; are = r.1; read = r.2; stands = r.3 }
 
-pub more_bad : (tells : Bool) (file : List ℕ) (k : Known) (size : ℕ) (block : BlockAt) (damage : Damage) (r : HasRead tells file k) → size ≡ k.book.size → IsTrue tells → MoreHere file k.place size block
+pub more_bad : (tells : Bool) (file : List ℕ) (k : Known) (size : ℕ) (block : BlockAt) (damage : Damage) (r : HasRead tells file k) → size ≡ k.book.size → IsTrue tells → MoreHere file k.gate size block
     → ((start : Option Base) (ks : List (List Entry)) (es : List Entry) → Headed es block.records → size ≡ next_number start (journals_of ks) → Goes k.book start ks [] → IsBadBlock start ks es block.root.0 damage) → IsDamage file damage
 more_bad tells file k size block damage r is told m bad =
     let n = first_is tells file k size r is in
-    bad_read file r.start r.blocks k.place block.root.0 m.es damage (record { read = r.begun told; are = subst (λ (i : ℕ). AreBlock i m.es) n m.are; stands = m.stands })
-    (bad r.start r.blocks m.es (headed_read k.place m.es block m.read) n r.taken.goes)
+    bad_read file r.start r.blocks k.gate block.root.0 m.es damage (record { read = r.begun told; are = subst (λ (i : ℕ). AreBlock i m.es) n m.are; stands = m.stands })
+    (bad r.start r.blocks m.es (headed_read k.gate m.es block m.read) n r.taken.goes)
 
 -- ---- the block behind those that were read
 
@@ -96,17 +96,17 @@ from_next start before (e ∷ es) n r = (
   subst (λ (m : ℕ). AreFrom m es) (omega (arith, length-append before (e ∷ []))) (from_next start (before ++ e ∷ []) es n.1 r.1),
 )
 
-places_push : (at : ℕ) (bs : List (List Entry)) (b : List Entry) → places_at at (bs ++ b ∷ []) ≡ places_at at bs ++ places_in (after_at at bs + 45) b
-places_push at [] b = append-nil (places_in (at + 45) b)
+places_push : (at : ℕ) (bs : List (List Entry)) (b : List Entry) → places_at at (bs ++ b ∷ []) ≡ places_at at bs ++ places_in (body_from (after_at at bs)) b
+places_push at [] b = append-nil (places_in (body_from at) b)
 places_push at (c ∷ bs) b =
-    ap (λ (l : List PlaceAt). places_in (at + 45) c ++ l) (places_push (at + 45 + sum_by record_len c) bs b)
-    ∙ sym (append_assoc (places_in (at + 45) c) (places_at (at + 45 + sum_by record_len c) bs) (places_in (after_at (at + 45 + sum_by record_len c) bs + 45) b))
+    ap (λ (l : List PlaceAt). places_in (body_from at) c ++ l) (places_push (body_from at + sum_by record_len c) bs b)
+    ∙ sym (append_assoc (places_in (body_from at) c) (places_at (body_from at + sum_by record_len c) bs) (places_in (body_from (after_at (body_from at + sum_by record_len c) bs)) b))
 
-after_push : (at : ℕ) (bs : List (List Entry)) (b : List Entry) → after_at at (bs ++ b ∷ []) ≡ after_at at bs + 45 + sum_by record_len b
+after_push : (at : ℕ) (bs : List (List Entry)) (b : List Entry) → after_at at (bs ++ b ∷ []) ≡ body_from (after_at at bs) + sum_by record_len b
 after_push at [] b = refl
-after_push at (c ∷ bs) b = after_push (at + 45 + sum_by record_len c) bs b
+after_push at (c ∷ bs) b = after_push (body_from at + sum_by record_len c) bs b
 
-module _ (k : Known) (block : BlockAt) (book : Kept) (places : List PlaceAt) (place first : ℕ) (listed : places ≡ k.places ++ map place_of_record block.records) (tail : place ≡ k.place + 1 + block.len)
+module _ (k : Known) (block : BlockAt) (book : Kept) (places : List PlaceAt) (place first : ℕ) (listed : places ≡ k.places ++ map place_of_record block.records) (tail : place ≡ k.gate + 1 + block.len)
     (takes : (start : Option Base) (ks : List (List Entry)) (es : List Entry) → Headed es block.records → Goes k.book start ks [] → TakesBlock book start ks es block.root.0) where
   block_of : (start : Option Base) (ks : List (List Entry)) (es : List Entry) → AreBlock first es → TakesBlock book start ks es block.root.0 → IsBlock ((floor_from start).first + length (journals_of ks)) es
   block_of start ks es b t =
@@ -126,9 +126,9 @@ module _ (k : Known) (block : BlockAt) (book : Kept) (places : List PlaceAt) (pl
         founded = subst (AreFounded start) (sym parts) (founded_more start (journals_of ks) es l.founded);
       }
 
-  more_taken : (start : Option Base) (ks : List (List Entry)) (es : List Entry) → HasTaken k start ks → AreBlock first es → IsRead k.place es block → HasTaken (known_from book places place) start (ks ++ es ∷ [])
+  more_taken : (start : Option Base) (ks : List (List Entry)) (es : List Entry) → HasTaken k start ks → AreBlock first es → IsRead k.gate es block → HasTaken (known_from book places place) start (ks ++ es ∷ [])
   more_taken start ks es n b r =
-      let t = takes start ks es (headed_read k.place es block r) n.goes in
+      let t = takes start ks es (headed_read k.gate es block r) n.goes in
       let at : ℕ = 64 + length (floor_from start).base in
       record {
         legal = legal_more start ks es n.legal b t;
@@ -136,18 +136,18 @@ module _ (k : Known) (block : BlockAt) (book : Kept) (places : List PlaceAt) (pl
         goes = t.goes;
         places =
             listed ∙ ap (λ (l : List PlaceAt). l ++ map place_of_record block.records) n.places
-            ∙ ap (λ (l : List PlaceAt). places_at at ks ++ l) (ap (map place_of_record) r.records ∙ places_same (k.place + 45) es b.readable ∙ ap (λ (m : ℕ). places_in (m + 45) es) n.tail) ∙ sym (places_push at ks es);
+            ∙ ap (λ (l : List PlaceAt). places_at at ks ++ l) (ap (map place_of_record) r.records ∙ places_same (body_from k.gate) es b.readable ∙ ap (λ (m : ℕ). places_in (body_from m) es) n.tail) ∙ sym (places_push at ks es);
         tail = omega (arith, tail, r.len, body_size es b.readable, n.tail, after_push at ks es);
         settled = t.settled;
       }
 
-  pub more_read : (tells : Bool) (file : List ℕ) → HasRead tells file k → (es : List Entry) × AreBlock first es × IsRead k.place es block → (IsTrue tells → MoreHere file k.place first block) → HasRead tells file (known_from book places place)
+  pub more_read : (tells : Bool) (file : List ℕ) → HasRead tells file k → (es : List Entry) × AreBlock first es × IsRead k.gate es block → (IsTrue tells → MoreHere file k.gate first block) → HasRead tells file (known_from book places place)
   more_read false file r read here =
       record { start = r.start; blocks = r.blocks ++ read.0 ∷ []; taken = more_taken r.start r.blocks read.0 r.taken read.1 read.2; begun = λ t. absurd (true≢false (sym t)) }
   more_read true file r read here =
       let m = here refl in
-      let t = takes r.start r.blocks m.es (headed_read k.place m.es block m.read) r.taken.goes in
-      let at : k.place + 45 + sum_by record_len m.es ≡ place = omega (arith, tail, m.read.len, body_size m.es m.are.readable) in
+      let t = takes r.start r.blocks m.es (headed_read k.gate m.es block m.read) r.taken.goes in
+      let at : body_from k.gate + sum_by record_len m.es ≡ place = omega (arith, tail, m.read.len, body_size m.es m.are.readable) in
       record {
         start = r.start;
         blocks = r.blocks ++ m.es ∷ [];
@@ -157,7 +157,7 @@ module _ (k : Known) (block : BlockAt) (book : Kept) (places : List PlaceAt) (pl
             record {
               begins = b.begins;
               begun = subst (Begun (floor_from r.start) file (r.blocks ++ m.es ∷ [])) at
-                  (begun_more (floor_from r.start) (digests_from r.start r.taken.goes.base) file r.blocks k.place block.root.0 m.es b.begun m.stands t.root_is (block_of r.start r.blocks m.es m.are t));
+                  (begun_more (floor_from r.start) (digests_from r.start r.taken.goes.base) file r.blocks k.gate block.root.0 m.es b.begun m.stands t.root_is (block_of r.start r.blocks m.es m.are t));
               legal = λ some. legal_more r.start r.blocks m.es r.taken.legal m.are t;
             };
       }
@@ -167,13 +167,13 @@ count_push start ks es block h =
     omega (arith, ap (λ (l : List Entry). length l) (journals_push ks es), length-append (journals_of (ks ++ es ∷ [])) [], length-append (journals_of ks) es, headed_size es block.records h)
 
 -- it has as many journals more as the block
-pub more_count : (k : Known) (block : BlockAt) (book : Kept) (places : List PlaceAt) (place first : ℕ) (listed : places ≡ k.places ++ map place_of_record block.records) (tail : place ≡ k.place + 1 + block.len)
+pub more_count : (k : Known) (block : BlockAt) (book : Kept) (places : List PlaceAt) (place first : ℕ) (listed : places ≡ k.places ++ map place_of_record block.records) (tail : place ≡ k.gate + 1 + block.len)
     (takes : (start : Option Base) (ks : List (List Entry)) (es : List Entry) → Headed es block.records → Goes k.book start ks [] → TakesBlock book start ks es block.root.0) (tells : Bool) (file : List ℕ) (r : HasRead tells file k)
-    (read : (es : List Entry) × AreBlock first es × IsRead k.place es block) (here : IsTrue tells → MoreHere file k.place first block)
+    (read : (es : List Entry) × AreBlock first es × IsRead k.gate es block) (here : IsTrue tells → MoreHere file k.gate first block)
     → next_number (more_read k block book places place first listed tail takes tells file r read here).start (journals_of (more_read k block book places place first listed tail takes tells file r read here).blocks) ≡ next_number r.start (journals_of r.blocks) + length block.records
 unfolding more_read
-more_count k block book places place first listed tail takes false file r read here = count_push r.start r.blocks read.0 block (headed_read k.place read.0 block read.2)
-more_count k block book places place first listed tail takes true file r read here = count_push r.start r.blocks (here refl).es block (headed_read k.place (here refl).es block (here refl).read)
+more_count k block book places place first listed tail takes false file r read here = count_push r.start r.blocks read.0 block (headed_read k.gate read.0 block read.2)
+more_count k block book places place first listed tail takes true file r read here = count_push r.start r.blocks (here refl).es block (headed_read k.gate (here refl).es block (here refl).read)
 
 pub read_of : (o : Option BlockAt) (block : BlockAt) (at first : ℕ) → o ≡ Some block → IfSome o (λ b. (es : List Entry) × AreBlock first es × IsRead at es b) → (es : List Entry) × AreBlock first es × IsRead at es block
 read_of o block at first is r = some_of (λ (b : BlockAt). (es : List Entry) × AreBlock first es × IsRead at es b) o block is r
@@ -247,12 +247,12 @@ read_behind tells file start b book places place is place_is begins t =
 -- ---- the whole file
 
 -- the purge to the base's point was read
-pub known_of : (tells : Bool) (file : List ℕ) (k : Known) → HasRead tells file k → IsReached k.book → (IsTrue tells → get_or file k.place 0 ≢ 1) → (IsTrue tells → k.place + 1 ≤ length file) → HasKnown tells file k
+pub known_of : (tells : Bool) (file : List ℕ) (k : Known) → HasRead tells file k → IsReached k.book → (IsTrue tells → get_or file k.gate 0 ≢ 1) → (IsTrue tells → k.gate + 1 ≤ length file) → HasKnown tells file k
 known_of tells file k r reached shut inside = record {
   start = r.start;
   blocks = r.blocks;
   knows = knows_taken k r.start r.blocks r.taken (own_read k r.start r.blocks r.taken reached);
-  has = λ told. begun_ends r.start file r.blocks k.place (r.begun told).begun (shut told) (inside told);
+  has = λ told. begun_ends r.start file r.blocks k.gate (r.begun told).begun (shut told) (inside told);
 }
 
 -- .. or it wasn't, and the blocks end
@@ -261,12 +261,12 @@ early_of k None blocks t not = absurd (not (own_reached k.book None (journals_of
 early_of k (Some b) blocks t not =
     λ own. not (own_reached k.book (Some b) (journals_of blocks ++ []) t.goes.behind (subst (HasOwnPurge (Some b)) (sym (append-nil (journals_of blocks))) own))
 
-pub cut_short : (tells : Bool) (file : List ℕ) (k : Known) (size : ℕ) (r : HasRead tells file k) → size ≡ k.book.size → (IsReached k.book → ⊥) → IsTrue tells → IsShutAt k.place file → IsDamage file (damages.Entry size)
+pub cut_short : (tells : Bool) (file : List ℕ) (k : Known) (size : ℕ) (r : HasRead tells file k) → size ≡ k.book.size → (IsReached k.book → ⊥) → IsTrue tells → IsShutAt k.gate file → IsDamage file (damages.Entry size)
 cut_short tells file k size r is not told shut =
     inl (
       r.start,
       r.blocks,
-      k.place,
+      k.gate,
       first_is tells file k size r is,
       record { read = r.begun told; shut = shut; early = early_of k r.start r.blocks r.taken not },
     )

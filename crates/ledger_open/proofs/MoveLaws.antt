@@ -7,16 +7,13 @@ use Rattle.block_file.specs.declared.file.BlockFile.{BlockFile}
 use Rattle.ledger_disk.proofs.Guarding.{settled_image}
 use Rattle.ledger_disk.specs.Disk.{State, MayLeave, settled_state}
 use Rattle.twin_file.proofs.HeadLaws.{generation_is}
+use Rattle.twin_file.proofs.OpenLaws.{chosen}
 use Rattle.twin_file.specs.Images.{AllShut, AllOpenToEither, IsCopied, IsCopying, IsQuiet, KeepsPassed}
 use Rattle.twin_file.specs.Places.{IsBuiltCopy}
 use Rattle.twin_file.specs.Twin.{choice, IsTaken, IsPassed, OpensTo, next_generation}
 use Rattle.ledger_open.specs.Purging.{MayMove, IsEither, AllEither}
 
 -- ---- two of a kind
-
-pub chosen : (x : Bool) (a b : State) (image_a image_b : List ℕ) → MayLeave a image_a → MayLeave b image_b → MayLeave (choice x a b) (choice x image_a image_b) × MayLeave (choice x b a) (choice x image_b image_a)
-chosen true a b image_a image_b la lb = (la, lb)
-chosen false a b image_a image_b la lb = (lb, la)
 
 pub turned : {A : Type 0} (x : Bool) (i j : A) → choice (not x) i j ≡ choice x j i
 turned true i j = refl

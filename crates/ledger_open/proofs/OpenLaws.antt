@@ -22,7 +22,7 @@ use Rattle.twin_file.specs.Which.{in_a_of, generation_in, file_of, view_of}
 use Rattle.twin_file.specs.declared.twin.Twin.{Twin}
 use Rattle.ledger_open.specs.Damages.{IsDamage}
 use Rattle.ledger_open.specs.Opening.{GoesOn, Known, Knows, HasLawfulBlocks, HasFile, IsHeadOf, IsOutside, IsOpenErr, as_open}
-use Rattle.ledger_open.specs.Places.{after_at}
+use Rattle.block_file.specs.Places.{after_at}
 use Rattle.ledger_open.specs.Reopened.{Remembers, IsReopened}
 use Rattle.ledger_open.specs.Standing.{Floor, floor_from, HasBlocks, StandsFor, IsBeside, PairFor}
 use Rattle.ledger_open.specs.Starts.{IsDecoded, HasBase}

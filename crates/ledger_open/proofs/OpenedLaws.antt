@@ -19,19 +19,21 @@ use Rattle.twin_file.specs.Twin.{choice, IsTaken}
 use Rattle.ledger_open.specs.Cutting.{gate_behind}
 use Rattle.ledger_open.specs.Erasing.{EndsAs, AreOf, AreBetween, last_target, StandsMeanwhile, LeavesShown, LeavesErased, LeavesRest}
 use Rattle.ledger_open.specs.Opening.{Known, Knows, GoesOn, HasFile, AreUnchanged}
-use Rattle.ledger_open.specs.Places.{record_len, places_in, places_at, after_at, places_from}
+use Rattle.block_file.specs.Places.{body_from, record_len, places_in, places_at, after_at}
+use Rattle.ledger_open.specs.Places.{places_from}
 use Rattle.ledger_open.specs.Purging.{Ledger, open_disk, other_disk, StandsOpen, FinishesPurge, IsPurgedStill}
 use Rattle.ledger_open.specs.Reopened.{IsHere, StandsTrimmed, PairStandsStill}
 use Rattle.ledger_open.specs.Standing.{Floor, floor_of, floor_from, floor_behind, StandsFor, IsErased, IsClean, IsBeside, PairFor, IsCleanPair}
 use Rattle.ledger_open.specs.Starts.{IsDecoded}
-use Rattle.ledger_open.specs.declared.places.PlaceAt.{PlaceAt}
+use Rattle.block_file.specs.declared.place.PlaceAt.{PlaceAt}
 use Rattle.ledger_open.proofs.CleanLaws as file
 use Rattle.ledger_open.proofs.CleanLaws.{clean_size, own_tail}
 use Rattle.ledger_open.proofs.FinishedLaws.{both_settled}
 use Rattle.ledger_open.proofs.GrowLaws.{erased_stands}
 use Rattle.ledger_open.proofs.ErasingLaws.{target_at}
 use Rattle.ledger_open.proofs.FinishLaws.{are_of}
-use Rattle.ledger_open.proofs.MoveLaws.{chosen, settled_both}
+use Rattle.ledger_open.proofs.MoveLaws.{settled_both}
+use Rattle.twin_file.proofs.OpenLaws.{chosen}
 use Rattle.ledger_open.proofs.OpenLaws.{taken_pair}
 use Rattle.ledger_open.proofs.PartLaws.{none_gone}
 use Rattle.ledger_open.proofs.PlaceLaws.{places_kept, after_kept}
@@ -103,9 +105,9 @@ between_in low end at (e ∷ es) first le =
 between_at : (low at : ℕ) (bs : List (List Entry)) → low ≤ at → AreBetween low (after_at at bs) (places_at at bs)
 between_at low at [] first = All-nil (λ (p : PlaceAt). (low ≤ p.content_at) × (p.content_at + p.content_len ≤ at))
 between_at low at (b ∷ bs) first =
-    All-append (λ (p : PlaceAt). (low ≤ p.content_at) × (p.content_at + p.content_len ≤ after_at at (b ∷ bs))) (places_in (at + 45) b) (places_at (at + 45 + sum_by record_len b) bs)
-    (between_in low (after_at at (b ∷ bs)) (at + 45) b (omega (arith, first)) (after_most 0 0 (at + 45 + sum_by record_len b) bs))
-    (between_at low (at + 45 + sum_by record_len b) bs (omega (arith, first)))
+    All-append (λ (p : PlaceAt). (low ≤ p.content_at) × (p.content_at + p.content_len ≤ after_at at (b ∷ bs))) (places_in (body_from at) b) (places_at (body_from at + sum_by record_len b) bs)
+    (between_in low (after_at at (b ∷ bs)) (body_from at) b (omega (arith, first)) (after_most 0 0 (body_from at + sum_by record_len b) bs))
+    (between_at low (body_from at + sum_by record_len b) bs (omega (arith, first)))
 
 -- ---- a file that was read
 
@@ -118,11 +120,11 @@ module _ (k : Known) (start : Option Base) (blocks : List (List Entry)) (knows :
   abbrev from : Floor
   from = floor_from start
 
-  between_read : AreBetween 64 k.place k.places
+  between_read : AreBetween 64 k.gate k.places
   between_read =
       subst (λ (end : ℕ). AreBetween 64 end k.places) (sym knows.tail) (subst (AreBetween 64 (after_at (64 + length from.base) blocks)) (sym knows.places) (between_at 64 (64 + length from.base) blocks (omega arith)))
 
-  low : 64 ≤ k.place
+  low : 64 ≤ k.gate
   low = omega (arith, knows.tail, after_most 0 0 (64 + length from.base) blocks)
 
   -- what is known is that of a history that goes on so
@@ -136,7 +138,7 @@ module _ (k : Known) (start : Option Base) (blocks : List (List Entry)) (knows :
     none = g.none;
   }
 
-  tail_goes : (h : History) (g : GoesOn start blocks h) → k.place ≡ gate_behind (floor_behind h g.parts.gone) g.parts.kept
+  tail_goes : (h : History) (g : GoesOn start blocks h) → k.gate ≡ gate_behind (floor_behind h g.parts.gone) g.parts.kept
   tail_goes h g =
       knows.tail ∙ sym (after_kept (is_hidden h) (λ n. false) (64 + length (floor_from start).base) g.parts.kept blocks g.same) ∙ ap (λ (f : Floor). gate_behind f g.parts.kept) (sym (floor_goes start blocks h g knows.base))
 
@@ -159,11 +161,11 @@ module _ (k : Known) (start : Option Base) (blocks : List (List Entry)) (knows :
           none = known.none;
         }
 
-    pub tail_read : k.place ≡ gate_behind (floor_behind h ends_read.parts.gone) ends_read.parts.kept
+    pub tail_read : k.gate ≡ gate_behind (floor_behind h ends_read.parts.gone) ends_read.parts.kept
     tail_read = tail_goes h goes
 
     -- an image of it that has the same blocks behind the same front
-    again : (other image_now : List ℕ) → IsBeside h s.file.generation other → ((front : List ℕ) (ws : List (List ℕ)) → IsFileOf front ws image → tail_of front ws ≡ k.place → IsFileOf front ws image_now) → StandsIn k.book.floor h other image_now
+    again : (other image_now : List ℕ) → IsBeside h s.file.generation other → ((front : List ℕ) (ws : List (List ℕ)) → IsFileOf front ws image → tail_of front ws ≡ k.gate → IsFileOf front ws image_now) → StandsIn k.book.floor h other image_now
     again other image_now beside same =
         let x = s.file in
         let f = x.keeps.file in
@@ -195,11 +197,11 @@ module _ (k : Known) (start : Option Base) (blocks : List (List Entry)) (knows :
     abbrev pub ends_here : (h : History) → PairFor a.seen b.seen h → EndsAs k.book k.places h
     ends_here h p = ends_read h (choice x a b).seen has (stands_in x a b h here.taken p).1.stands
 
-    pub tail_here : (h : History) (p : PairFor a.seen b.seen h) → k.place ≡ gate_behind (floor_behind h (ends_here h p).parts.gone) (ends_here h p).parts.kept
+    pub tail_here : (h : History) (p : PairFor a.seen b.seen h) → k.gate ≡ gate_behind (floor_behind h (ends_here h p).parts.gone) (ends_here h p).parts.kept
     tail_here h p = tail_read h (choice x a b).seen has (stands_in x a b h here.taken p).1.stands
 
     -- while it is cut behind its tail gate
-    module _ (a1 b1 : State) (images : StandsTrimmed k.place (choice x a b) (choice x a1 b1)) (other : choice x b1 a1 ≡ choice x b a) where
+    module _ (a1 b1 : State) (images : StandsTrimmed k.gate (choice x a b) (choice x a1 b1)) (other : choice x b1 a1 ≡ choice x b a) where
       other_quiet : IsSettled (choice x b1 a1)
       other_quiet = subst IsSettled (sym other) (settled_both x b a here.quiet_b here.quiet_a)
 
@@ -215,12 +217,12 @@ module _ (k : Known) (start : Option Base) (blocks : List (List Entry)) (knows :
           pair_images x h image_a image_b k.book.floor (choice x b1 a1) (cut_image h p (choice x image_a image_b) both.0) other_quiet both.1
 
       -- once that is done
-      module _ (cut : choice x a1 b1 ≡ settled_state (take (k.place + 1) (choice x a b).seen)) where
+      module _ (cut : choice x a1 b1 ≡ settled_state (take (k.gate + 1) (choice x a b).seen)) where
         cut_quiet : IsSettled (choice x a1 b1)
         cut_quiet = cut ∙ ap settled_state (sym (ap (λ (s : State). s.seen) cut))
 
         cut_head : take 64 (choice x a1 b1).seen ≡ take 64 (choice x a b).seen
-        cut_head = ap (λ (s : State). take 64 s.seen) cut ∙ take-take 64 (k.place + 1) (choice x a b).seen (omega (arith, low))
+        cut_head = ap (λ (s : State). take 64 s.seen) cut ∙ take-take 64 (k.gate + 1) (choice x a b).seen (omega (arith, low))
 
         -- while what the last journal hides is given up
         module _ (a2 b2 : State) (meanwhile : StandsMeanwhile k.book k.places (choice x a1 b1) (choice x a2 b2)) (shown : LeavesShown k.book k.places (choice x a1 b1) (choice x a2 b2)) (other2 : choice x b2 a2 ≡ choice x b1 a1) where
@@ -255,7 +257,7 @@ module _ (k : Known) (start : Option Base) (blocks : List (List Entry)) (knows :
           -- once that is done
           module _ (quiet2 : IsSettled (choice x a2 b2)) (rest : LeavesRest k.places (choice x a1 b1) (choice x a2 b2)) where
             pub generation_given : generation ≡ generation_of (choice x a2 b2).seen
-            generation_given = here.generation_is ∙ sym (by_head (choice x a2 b2).seen (choice x a b).seen ((rest 64 k.place between_read).before ∙ cut_head))
+            generation_given = here.generation_is ∙ sym (by_head (choice x a2 b2).seen (choice x a b).seen ((rest 64 k.gate between_read).before ∙ cut_head))
 
             pub quiet_both : IsSettled a2 × IsSettled b2
             quiet_both = both_settled x a2 b2 quiet2 other_quiet2
@@ -324,19 +326,19 @@ module _ (k : Known) (start : Option Base) (blocks : List (List Entry)) (knows :
   clean_stands = erased_stands (choice x a b).seen h clean.0.erased
 
   -- its open file ends with its tail gate
-  clean_long : length (choice x a b).seen ≡ k.place + 1
+  clean_long : length (choice x a b).seen ≡ k.gate + 1
   clean_long = clean_size k start blocks (choice x a b).seen knows has h clean.0
 
   clean_ends : EndsAs k.book k.places h
   clean_ends = ends_read k start blocks knows h (choice x a b).seen has clean_stands
 
-  pub clean_cut : (a1 b1 : State) → (length (choice x a b).seen ≡ k.place + 1 → choice x a1 b1 ≡ choice x a b) → choice x b1 a1 ≡ choice x b a → AreUnchanged a b a1 b1
+  pub clean_cut : (a1 b1 : State) → (length (choice x a b).seen ≡ k.gate + 1 → choice x a1 b1 ≡ choice x a b) → choice x b1 a1 ≡ choice x b a → AreUnchanged a b a1 b1
   clean_cut a1 b1 idle other = both_same x a b a1 b1 (idle clean_long) other
 
-  pub whole_cut : (a1 b1 : State) → choice x a1 b1 ≡ settled_state (take (k.place + 1) (choice x a b).seen) → choice x a1 b1 ≡ choice x a b
+  pub whole_cut : (a1 b1 : State) → choice x a1 b1 ≡ settled_state (take (k.gate + 1) (choice x a b).seen) → choice x a1 b1 ≡ choice x a b
   whole_cut a1 b1 cut = cut ∙ ap settled_state (ap (λ (n : ℕ). take n (choice x a b).seen) (sym clean_long) ∙ take_all (length (choice x a b).seen) (choice x a b).seen (omega arith)) ∙ sym (settled_both x a b here.quiet_a here.quiet_b)
 
-  pub clean_given : (a1 b1 a2 b2 : State) → choice x a1 b1 ≡ settled_state (take (k.place + 1) (choice x a b).seen) → choice x b1 a1 ≡ choice x b a → LeavesErased k.book k.places (choice x a1 b1) (choice x a2 b2) → choice x b2 a2 ≡ choice x b1 a1
+  pub clean_given : (a1 b1 a2 b2 : State) → choice x a1 b1 ≡ settled_state (take (k.gate + 1) (choice x a b).seen) → choice x b1 a1 ≡ choice x b a → LeavesErased k.book k.places (choice x a1 b1) (choice x a2 b2) → choice x b2 a2 ≡ choice x b1 a1
       → AreUnchanged a b a2 b2
   clean_given a1 b1 a2 b2 cut other leaves other2 =
       let one = whole_cut a1 b1 cut in

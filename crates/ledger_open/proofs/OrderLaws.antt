@@ -1,9 +1,9 @@
 -- Contents that stand one behind the other.
 use Rattle.std.specs.Prelude.{min}
 use Rattle.std.proofs.Common.{◌≡◌, ℕ, zero, suc, ◌+◌, ◌-◌, ◌^◌, ◌<◌, ◌≤◌, List, [], ◌∷◌, length, map, drop, get_or, ap, arith}
-use Rattle.ledger_open.specs.Order.{AreInOrder}
-use Rattle.ledger_open.specs.PlaceList.{moved_place}
-use Rattle.ledger_open.specs.declared.places.PlaceAt.{PlaceAt}
+use Rattle.ledger_open.specs.Places.{AreInOrder}
+use Rattle.block_file.specs.Places.{moved_place}
+use Rattle.block_file.specs.declared.place.PlaceAt.{PlaceAt}
 
 pub order_low : (low from to : ℕ) (ps : List PlaceAt) → low ≤ from → AreInOrder from to ps → AreInOrder low to ps
 order_low low from to [] le o = omega (arith, o, le)

@@ -8,9 +8,9 @@ use Rattle.block_file.specs.File.{IsFileOf, open_blocks, tail_of}
 use Rattle.journal_record.specs.Entry.{Entry}
 use Rattle.ledger_model.specs.History.{journals_of}
 use Rattle.ledger_open.specs.Cutting.{BeginsSome}
-use Rattle.ledger_open.specs.PlaceList.{moved_place}
-use Rattle.ledger_open.specs.Places.{record_len, place_at, places_in, places_at, after_at}
-use Rattle.ledger_open.specs.declared.places.PlaceAt.{PlaceAt}
+use Rattle.block_file.specs.Places.{content_in, content_from, body_from, moved_place}
+use Rattle.block_file.specs.Places.{record_len, place_at, places_in, places_at, after_at}
+use Rattle.block_file.specs.declared.place.PlaceAt.{PlaceAt}
 
 -- ---- places that move
 
@@ -21,9 +21,9 @@ module _ (old new : ℕ) where
   one_moved : (d : ℕ) (e : Entry) → new + d + record_len e < 2 ^ 64 → moved_place old new (place_at (old + d) e) ≡ place_at (new + d) e
   one_moved d e fits =
       let n = e.header.content_len in
-      let c : min (old + d + 178 - old + new) (2 ^ 64 - 1) ≡ new + d + 178 = omega (arith, fits) in
-      let w : min (old + d + 178 + n - old + new) (2 ^ 64 - 1) ≡ new + d + 178 + n = omega (arith, fits) in
-      ap (λ k. place k (min (old + d + 178 + n - old + new) (2 ^ 64 - 1)) e) c ∙ ap (λ k. place (new + d + 178) k e) w
+      let c : min (content_in (old + d) - old + new) (2 ^ 64 - 1) ≡ content_in (new + d) = omega (arith, fits) in
+      let w : min (content_in (old + d) + n - old + new) (2 ^ 64 - 1) ≡ content_in (new + d) + n = omega (arith, fits) in
+      ap (λ k. place k (min (content_in (old + d) + n - old + new) (2 ^ 64 - 1)) e) c ∙ ap (λ k. place (content_in (new + d)) k e) w
 
   in_moved : (d : ℕ) (es : List Entry) → new + d + sum_by record_len es < 2 ^ 64 → map (moved_place old new) (places_in (old + d) es) ≡ places_in (new + d) es
   in_moved d [] fits = refl
@@ -37,22 +37,22 @@ module _ (old new : ℕ) where
 
   pub after_most : (at : ℕ) (bs : List (List Entry)) → at ≤ after_at at bs
   after_most at [] = omega arith
-  after_most at (b ∷ bs) = omega (arith, after_most (at + 45 + sum_by record_len b) bs)
+  after_most at (b ∷ bs) = omega (arith, after_most (body_from at + sum_by record_len b) bs)
 
   at_moved : (d : ℕ) (bs : List (List Entry)) → after_at (new + d) bs < 2 ^ 64 → map (moved_place old new) (places_at (old + d) bs) ≡ places_at (new + d) bs
   at_moved d [] fits = refl
   at_moved d (b ∷ bs) fits =
       let n = sum_by record_len b in
-      let a : old + d + 45 ≡ old + (d + 45) = omega arith in
-      let c : new + d + 45 ≡ new + (d + 45) = omega arith in
-      let e : old + d + 45 + n ≡ old + (d + 45 + n) = omega arith in
-      let f : new + d + 45 + n ≡ new + (d + 45 + n) = omega arith in
-      let low : new + d + 45 + n ≤ after_at (new + d + 45 + n) bs = after_most (new + d + 45 + n) bs in
-      map-append (moved_place old new) (places_in (old + d + 45) b) (places_at (old + d + 45 + n) bs)
-      ∙ ap (λ l. l ++ map (moved_place old new) (places_at (old + d + 45 + n) bs))
-      (ap (λ k. map (moved_place old new) (places_in k b)) a ∙ in_moved (d + 45) b (omega (arith, low, fits)) ∙ ap (λ k. places_in k b) (sym c))
-      ∙ ap (λ l. places_in (new + d + 45) b ++ l)
-      (ap (λ k. map (moved_place old new) (places_at k bs)) e ∙ at_moved (d + 45 + n) bs (subst (λ k. after_at k bs < 2 ^ 64) f fits) ∙ ap (λ k. places_at k bs) (sym f))
+      let a : body_from (old + d) ≡ old + (body_from d) = omega arith in
+      let c : body_from (new + d) ≡ new + (body_from d) = omega arith in
+      let e : body_from (old + d) + n ≡ old + (body_from d + n) = omega arith in
+      let f : body_from (new + d) + n ≡ new + (body_from d + n) = omega arith in
+      let low : body_from (new + d) + n ≤ after_at (body_from (new + d) + n) bs = after_most (body_from (new + d) + n) bs in
+      map-append (moved_place old new) (places_in (body_from (old + d)) b) (places_at (body_from (old + d) + n) bs)
+      ∙ ap (λ l. l ++ map (moved_place old new) (places_at (body_from (old + d) + n) bs))
+      (ap (λ k. map (moved_place old new) (places_in k b)) a ∙ in_moved (body_from d) b (omega (arith, low, fits)) ∙ ap (λ k. places_in k b) (sym c))
+      ∙ ap (λ l. places_in (body_from (new + d)) b ++ l)
+      (ap (λ k. map (moved_place old new) (places_at k bs)) e ∙ at_moved (body_from d + n) bs (subst (λ k. after_at k bs < 2 ^ 64) f fits) ∙ ap (λ k. places_at k bs) (sym f))
 
   -- the places in the copy, by those in the file
   pub places_moved : (bs : List (List Entry)) → after_at new bs < 2 ^ 64 → map (moved_place old new) (places_at old bs) ≡ places_at new bs
@@ -84,26 +84,26 @@ places_behind at [] bs = refl
 places_behind at (a ∷ as_) bs =
     let n = sum_by record_len a in
     let split : length (journals_of (a ∷ as_)) ≡ length a + length (journals_of as_) = length-append a (journals_of as_) in
-    ap (λ k. drop k (places_in (at + 45) a ++ places_at (at + 45 + n) (as_ ++ bs))) split
-    ∙ sym (drop-drop (length (journals_of as_)) (length a) (places_in (at + 45) a ++ places_at (at + 45 + n) (as_ ++ bs)))
-    ∙ ap (drop (length (journals_of as_))) (drop_at (places_in (at + 45) a) (places_at (at + 45 + n) (as_ ++ bs)) (length a) (length_in (at + 45) a))
-    ∙ places_behind (at + 45 + n) as_ bs
+    ap (λ k. drop k (places_in (body_from at) a ++ places_at (body_from at + n) (as_ ++ bs))) split
+    ∙ sym (drop-drop (length (journals_of as_)) (length a) (places_in (body_from at) a ++ places_at (body_from at + n) (as_ ++ bs)))
+    ∙ ap (drop (length (journals_of as_))) (drop_at (places_in (body_from at) a) (places_at (body_from at + n) (as_ ++ bs)) (length a) (length_in (body_from at) a))
+    ∙ places_behind (body_from at + n) as_ bs
 
 pub after_behind : (at : ℕ) (as_ bs : List (List Entry)) → after_at at (as_ ++ bs) ≡ after_at (after_at at as_) bs
 after_behind at [] bs = refl
-after_behind at (a ∷ as_) bs = after_behind (at + 45 + sum_by record_len a) as_ bs
+after_behind at (a ∷ as_) bs = after_behind (body_from at + sum_by record_len a) as_ bs
 
--- behind the first blocks stands the place of the first journal of the others: its content, 223 bytes behind the gate
-pub first_behind : (at : ℕ) (as_ bs : List (List Entry)) → BeginsSome bs → (p : PlaceAt) × (ps : List PlaceAt) × (drop (length (journals_of as_)) (places_at at (as_ ++ bs)) ≡ p ∷ ps) × (p.content_at ≡ after_at at as_ + 223)
+-- behind the first blocks stands the place of the first journal of the others: that of its content
+pub first_behind : (at : ℕ) (as_ bs : List (List Entry)) → BeginsSome bs → (p : PlaceAt) × (ps : List PlaceAt) × (drop (length (journals_of as_)) (places_at at (as_ ++ bs)) ≡ p ∷ ps) × (p.content_at ≡ content_from (after_at at as_))
 first_behind at as_ [] some = absurd some
 first_behind at as_ ([] ∷ bs) some = absurd some
 first_behind at as_ ((e ∷ es) ∷ bs) some =
-    (place_at (after_at at as_ + 45) e, places_in (after_at at as_ + 45 + record_len e) es ++ places_at (after_at at as_ + 45 + sum_by record_len (e ∷ es)) bs, places_behind at as_ ((e ∷ es) ∷ bs), omega arith)
+    (place_at (body_from (after_at at as_)) e, places_in (body_from (after_at at as_) + record_len e) es ++ places_at (body_from (after_at at as_) + sum_by record_len (e ∷ es)) bs, places_behind at as_ ((e ∷ es) ∷ bs), omega arith)
 
 -- where the gate behind blocks stands, from another offset on
 pub after_moved : (old new : ℕ) (bs : List (List Entry)) → after_at new bs + old ≡ after_at old bs + new
 after_moved old new [] = omega arith
-after_moved old new (b ∷ bs) = omega (arith, after_moved (old + 45 + sum_by record_len b) (new + 45 + sum_by record_len b) bs)
+after_moved old new (b ∷ bs) = omega (arith, after_moved (body_from old + sum_by record_len b) (body_from new + sum_by record_len b) bs)
 
 -- ---- the bytes that are copied
 

@@ -13,7 +13,7 @@ use Rattle.twin_file.specs.Twin.{choice, open_of, IsTaken, next_generation}
 use Rattle.ledger_open.specs.Cutting.{gate_behind}
 use Rattle.ledger_open.specs.Erasing.{ErasesOne, given_up}
 use Rattle.ledger_open.specs.Opening.{GoesOn, Known, AreSettled}
-use Rattle.ledger_open.specs.Places.{after_at}
+use Rattle.block_file.specs.Places.{after_at}
 use Rattle.ledger_open.specs.Purging.{copied_file}
 use Rattle.ledger_open.specs.Reopened.{Remembers, OpenFile, open_file, IsReopened, IsTidyAt, StaysOpen, WasMoved}
 use Rattle.ledger_open.specs.Standing.{floor_from, StandsFor, IsClean, PairFor, IsCleanPair}
@@ -37,7 +37,7 @@ clean_taken x a b h taken c = subst (λ (y : Bool). IsClean (choice y a b) h × 
 
 module _ (in_a : Bool) (k : Known) (start : Option Base) (blocks : List (List Entry)) (a b new_a new_b : State) (r : IsReopened in_a k start blocks a b new_a new_b) where
   abbrev place : ℕ
-  place = k.place
+  place = k.gate
 
   abbrev was : OpenFile
   was = r.was
@@ -51,10 +51,10 @@ module _ (in_a : Bool) (k : Known) (start : Option Base) (blocks : List (List En
   abbrev left_as : Type 0
   left_as = StaysOpen was now r.bytes new_a new_b ⊎ WasMoved was now (generation_of old) r.bytes new_a new_b
 
-  same_place : take (r.read.known.place + 1) old ≡ take (was.place + 1) old
+  same_place : take (r.read.known.gate + 1) old ≡ take (was.gate + 1) old
   same_place = ap (λ (n : ℕ). take (n + 1) old) r.read.tail
 
-  one : ErasesOne r.read.known.places (take (r.read.known.place + 1) old) r.bytes
+  one : ErasesOne r.read.known.places (take (r.read.known.gate + 1) old) r.bytes
   one = subst (λ (l : List ℕ). ErasesOne r.read.known.places l r.bytes) (sym same_place) r.erased.one
 
   -- ---- .. is tidy
@@ -76,13 +76,13 @@ module _ (in_a : Bool) (k : Known) (start : Option Base) (blocks : List (List En
   tidy_file tail = by_left r.left where
     by_left : left_as → IsTidyFile (open_of in_a new_a new_b)
     by_left (inl y) =
-        tidy_at (open_of in_a new_a new_b) r.bytes r.read.known.place y.open_is (r.read.tail ∙ sym (ap (λ (f : OpenFile). f.place) y.same)) (clean.bytes_shut r.read.known was.start was.blocks old r.read.knows r.read.has r.bytes one)
+        tidy_at (open_of in_a new_a new_b) r.bytes r.read.known.gate y.open_is (r.read.tail ∙ sym (ap (λ (f : OpenFile). f.gate) y.same)) (clean.bytes_shut r.read.known was.start was.blocks old r.read.knows r.read.has r.bytes one)
         (clean.bytes_size r.read.known was.start was.blocks old r.read.knows r.read.has r.bytes one)
     by_left (inr m) =
         let g = next_generation (generation_of old) in
         let from = gate_behind (floor_from was.start) m.front in
         let at : after_at (64 + length (spelling m.base)) blocks ≡ place = ap (λ (s : Option Base). gate_behind (floor_from s) blocks) (sym m.start_is) ∙ sym tail in
-        tidy_at (open_of in_a new_a new_b) (copied_file g (spelling m.base) from r.read.known.place r.bytes) (after_at (64 + length (spelling m.base)) blocks)
+        tidy_at (open_of in_a new_a new_b) (copied_file g (spelling m.base) from r.read.known.gate r.bytes) (after_at (64 + length (spelling m.base)) blocks)
         (m.open_is ∙ ap (λ (n : ℕ). settled_state (copied_file g (spelling m.base) from n r.bytes)) (sym r.read.tail)) at
         (clean.copy_shut r.read.known was.start was.blocks old r.read.knows r.read.has r.bytes one g (spelling m.base) m.front blocks m.are)
         (clean.copy_size r.read.known was.start was.blocks old r.read.knows r.read.has r.bytes one g (spelling m.base) m.front blocks m.are)
@@ -91,7 +91,7 @@ module _ (in_a : Bool) (k : Known) (start : Option Base) (blocks : List (List En
 
   clean_file : (h : History) → StandsFor old h → GoesOn was.start was.blocks h → IsClean (open_of in_a new_a new_b).seen h
   clean_file h s on = by_left r.left where
-    given_is : r.bytes ≡ given_up (floor_from was.start) was.blocks (take (r.read.known.place + 1) old)
+    given_is : r.bytes ≡ given_up (floor_from was.start) was.blocks (take (r.read.known.gate + 1) old)
     given_is = r.erased.hidden h on ∙ ap (given_up (floor_from was.start) was.blocks) (sym same_place)
 
     by_left : left_as → IsClean (open_of in_a new_a new_b).seen h
@@ -102,7 +102,7 @@ module _ (in_a : Bool) (k : Known) (start : Option Base) (blocks : List (List En
         let from = gate_behind (floor_from was.start) m.front in
         let base : IsBaseOf (Some m.base) h = subst (λ (t : Option Base). IsBaseOf t h) m.start_is (r.goes h on).base in
         subst (λ (l : List ℕ). IsClean l h)
-        (sym (ap (λ (t : State). t.seen) m.open_is ∙ ap (λ (n : ℕ). copied_file g (spelling m.base) from n r.bytes) (sym r.read.tail) ∙ ap (copied_file g (spelling m.base) from r.read.known.place) given_is))
+        (sym (ap (λ (t : State). t.seen) m.open_is ∙ ap (λ (n : ℕ). copied_file g (spelling m.base) from n r.bytes) (sym r.read.tail) ∙ ap (copied_file g (spelling m.base) from r.read.known.gate) given_is))
         (clean.moved_clean r.read.known was.start was.blocks old r.read.knows r.read.has h s (omega (arith, m.before, m.point)) m.front blocks m.base m.are m.point m.at base)
 
   -- a clean one is as it was
@@ -139,7 +139,7 @@ reopened_for k in_a start blocks a b new_a new_b h knows r p =
     clean_now in_a new_a new_b h (clean_file in_a k start blocks a b new_a new_b r h (stands_open r.was.in_a a b h r.read.taken p) (pair_goes k in_a start blocks a b new_a new_b h r p)) r.other_is
 
 -- whatever it stood for, it is tidy
-pub reopened_tidy : (k : Known) (in_a : Bool) (start : Option Base) (blocks : List (List Entry)) (a b new_a new_b : State) → Remembers k start blocks → IsReopened in_a k start blocks a b new_a new_b → IsTidyAt in_a k.place new_a new_b
+pub reopened_tidy : (k : Known) (in_a : Bool) (start : Option Base) (blocks : List (List Entry)) (a b new_a new_b : State) → Remembers k start blocks → IsReopened in_a k start blocks a b new_a new_b → IsTidyAt in_a k.gate new_a new_b
 reopened_tidy k in_a start blocks a b new_a new_b knows r =
     let t = tidy_file in_a k start blocks a b new_a new_b r knows.tail in
     record { quiet = t.quiet; empty = r.other_is; shut = t.shut; ends = t.size }

@@ -4,7 +4,7 @@ use Rattle.std.proofs.Common.{◌≡◌, ℕ, zero, suc, ◌+◌, ◌-◌, ◌<�
 use Rattle.std.proofs.lemmas.List.{drop-drop, take-take}
 use Rattle.std.proofs.lemmas.Option.{none-some, get_or_from_slice_get}
 use Rattle.ledger_disk.specs.Guards.{Outside}
-use Rattle.ledger_open.specs.declared.places.PlaceAt.{PlaceAt}
+use Rattle.block_file.specs.declared.place.PlaceAt.{PlaceAt}
 
 got_within : (ps : List PlaceAt) (n : ℕ) (p : PlaceAt) → slice_get ps n ≡ Some p → n < length ps
 got_within [] n p is = absurd (none-some p is)

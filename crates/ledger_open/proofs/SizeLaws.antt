@@ -10,7 +10,8 @@ use Rattle.tree_model.specs.Tree.{mth, root, root_at, leaf, node}
 use Rattle.journal_record.specs.Entry.{Entry}
 use Rattle.journal_record.specs.Header.{spelling}
 use Rattle.journal_record.proofs.Spelling.{length-spelling}
-use Rattle.ledger_open.specs.Places.{record_len}
+use Rattle.block_file.specs.declared.block.TheConstants.{BLOCK_HEAD_LEN}
+use Rattle.block_file.specs.Places.{record_len}
 use Rattle.journal_record.specs.Blocks.{record_bytes, body_of, block_bytes, AreFrom}
 use Rattle.journal_record.specs.Records.{IsReadable, AreReadable}
 
@@ -36,8 +37,8 @@ unfolding root
 mth_size xs = root_at_size (length (map (leaf sha256) xs)) (map (leaf sha256) xs) (leaves_size xs)
 
 -- a journal's bytes
-pub record_size : (e : Entry) → IsReadable e → length (record_bytes e) ≡ record_len e
-record_size e h =
+pub record_sized : (e : Entry) → IsReadable e → length (record_bytes e) ≡ record_len e
+record_sized e h =
     let four : length (to_be_bytes w32 (length e.who)) ≡ 4 = refl in
     omega (
       arith,
@@ -51,14 +52,14 @@ record_size e h =
 
 pub body_size : (es : List Entry) → AreReadable es → length (body_of es) ≡ sum_by record_len es
 body_size [] h = refl
-body_size (e ∷ es) h = omega (arith, length-append (record_bytes e) (body_of es), record_size e h.0, body_size es h.1, sum_by-cons record_len e es)
+body_size (e ∷ es) h = omega (arith, length-append (record_bytes e) (body_of es), record_sized e h.0, body_size es h.1, sum_by-cons record_len e es)
 
 -- journals that have their numbers can be read
 pub readable : (n : ℕ) (es : List Entry) → AreFrom n es → AreReadable es
 readable n [] a = tt
 readable n (e ∷ es) a = (record { rules = a.0.rules; widths = a.0.widths; content = a.0.content; who = a.0.who }, readable (n + 1) es a.1)
 
-pub block_size : (root : List ℕ) (es : List Entry) → length root ≡ 32 → AreReadable es → length (block_bytes root es) ≡ 44 + sum_by record_len es
+pub block_size : (root : List ℕ) (es : List Entry) → length root ≡ 32 → AreReadable es → length (block_bytes root es) ≡ BLOCK_HEAD_LEN + sum_by record_len es
 unfolding block_bytes
 block_size root es size h =
     let four : length (to_be_bytes w32 (length es)) ≡ 4 = refl in

@@ -3,7 +3,7 @@ use Rattle.std.specs.Prelude.{Bool, IsTrue}
 use Rattle.std.proofs.Common.{◌≡◌, ℕ, ◌+◌, ◌≤◌, [], length, take, sym, ◌∙◌, ap, subst}
 use Rattle.block_file.specs.File.{IsSettled}
 use Rattle.block_file.specs.Head.{generation_of}
-use Rattle.block_file.specs.Place.{place_of}
+use Rattle.block_file.specs.FileView.{gate_of}
 use Rattle.ledger_disk.specs.Disk.{State, DiskState, settled_state}
 use Rattle.ledger_model.specs.History.{History}
 use Rattle.twin_file.specs.Images.{KeepsPassed}
@@ -33,7 +33,7 @@ module _ (tells : Bool) (o : Opened) (a b : DiskState) (read : WasReadHere tells
   x = in_a_of o.twin
 
   abbrev place : ℕ
-  place = place_of (file_of o.twin)
+  place = gate_of (file_of o.twin)
 
   abbrev old : State
   old = choice x a.bytes b.bytes
@@ -158,7 +158,7 @@ module _ (tells : Bool) (o : Opened) (a b : DiskState) (read : WasReadHere tells
           }
 
           same_known : l.known.book.point ≤ l.known.book.floor → (m.known ≡ l.known) × (m.in_a ≡ l.in_a) × (m.generation ≡ l.generation)
-          same_known le = (ap (λ (r : Opened). known_from r.book r.places.list (place_of (file_of r.twin))) (same le), ap (λ (r : Opened). in_a_of r.twin) (same le), ap (λ (r : Opened). generation_in r.twin) (same le))
+          same_known le = (ap (λ (r : Opened). known_from r.book r.places.list (gate_of (file_of r.twin))) (same le), ap (λ (r : Opened). in_a_of r.twin) (same le), ap (λ (r : Opened). generation_in r.twin) (same le))
 
           purges : Purges tells l m
           purges = subst (λ (r : Opened). Purges tells (ledger_at r a2.bytes b2.bytes) m) f purges3

@@ -16,7 +16,7 @@ use Rattle.ledger_open.specs.Heads.{IsFront}
 use Rattle.ledger_open.specs.Standing.{Floor, ground, floor_from}
 use Rattle.ledger_open.specs.Starts.{AreLegal, HasBase, HasDigest, HasOwnPurge, IsStart, IsBadForm, base_in, blocks_before}
 
--- the file begins with a head and these blocks, and the next gate is at this place
+-- a file begins with a head and these blocks, from this floor on, and the next gate is at this place
 pub record Begun (floor : Floor) (file : List ℕ) (blocks : List (List Entry)) (at : ℕ) : Type 0 where
   pub generation : ℕ
   pub front : List ℕ
@@ -26,13 +26,14 @@ pub record Begun (floor : Floor) (file : List ℕ) (blocks : List (List Entry)) 
   pub is : file ≡ (front ++ open_blocks (written_blocks floor.root [] blocks)) ++ rest
   pub place : tail_of front (written_blocks floor.root [] blocks) ≡ at
 
--- The file begins with this base, or with none, and these blocks behind it, which may stand there; or there are none.
+-- A file was read to the gate at this place: it begins with this base, or with none, and these blocks behind it, which may
+-- stand there; or there are no blocks yet.
 pub record IsReadTo (file : List ℕ) (start : Option BaseRecord) (blocks : List (List Entry)) (at : ℕ) : Type 0 where
   pub begins : IsStart file start
   pub begun : Begun (floor_from start) file blocks at
   pub legal : blocks ≢ [] → AreLegal start blocks
 
--- behind the blocks that were read a block of these journals stands at this place, and names this root
+-- behind the blocks that were read of a file a block of these journals stands at this place, and names this root
 pub record IsNextHere (file : List ℕ) (start : Option BaseRecord) (blocks : List (List Entry)) (at : ℕ) (root : List ℕ) (es : List Entry) : Type 0 where
   pub read : IsReadTo file start blocks at
   pub are : AreBlock (next_number start (journals_of blocks)) es
@@ -42,8 +43,10 @@ pub record IsNextHere (file : List ℕ) (start : Option BaseRecord) (blocks : Li
 abbrev pub CanShare : List Entry → Type 0
 CanShare es = length es ≢ 1 → AllGather es
 
--- Behind these journals the first of a block's that can't follow has this number: its header isn't the next one, or it
--- can't stand in one block with those before it.
+-- Behind these journals the first of a block's that can't follow has this number: its header isn't the next one, or it can't
+-- stand in one block with those before it.
+-- Example: behind journals 0 to 2 a block has a record, journal 3, and a time journal, journal 4. Both are the next ones,
+-- but a time journal is a block of its own: the number is 4. Where the record names a wrong ordinal of its clue, it is 3.
 pub record IsNotNext (start : Option BaseRecord) (before es : List Entry) (jsn : ℕ) : Type 0 where
   pub index : ℕ
   pub inside : index < length es
@@ -70,7 +73,7 @@ pub record IsOtherContent (es : List Entry) (root kept found : List ℕ) : Type 
   pub found_is : found ≡ content_digest_of first.content
   pub other : found ≢ kept
 
--- a block at the next gate has this damage
+-- a file was read to the gate at this place, and the block behind it has this damage by its own bytes
 pub record IsBlockDamage (file : List ℕ) (start : Option BaseRecord) (blocks : List (List Entry)) (at : ℕ) (damage : Damage) : Type 0 where
   pub read : IsReadTo file start blocks at
   pub why : IsBlockErr at file (next_number start (journals_of blocks)) (Damaged damage)
@@ -80,15 +83,22 @@ abbrev pub EndsEarly : Option BaseRecord → List (List Entry) → Type 0
 EndsEarly None blocks = blocks ≡ []
 EndsEarly (Some base) blocks = HasOwnPurge (Some base) (journals_of blocks) → ⊥
 
--- the blocks end at this place, in front of what has to be there
+-- A file was read to a shut gate at this place, and what has to be in its blocks is missing.
+-- Example: a file behind a base at journal 10 has journals 10 to 14, and none of them is the purge to 10: it is cut short,
+-- and its damage is `Entry 15`. A file without a base whose first gate is shut has the damage `Entry 0`.
 pub record IsCutShort (file : List ℕ) (start : Option BaseRecord) (blocks : List (List Entry)) (at : ℕ) : Type 0 where
   pub read : IsReadTo file start blocks at
   pub shut : IsShutAt at file
   pub early : EndsEarly start blocks
 
--- What is wrong with an open file behind its head. Its base comes first: the digest of it, and then its form. Then blocks are
--- read one after the other, and for each these come in this order: its length, its journals from the first on, and its root;
--- and without a base for the first block the content of journal 0. At the end something may be missing.
+-- What is wrong with an open file behind its head, in this order: 1. The digest of the base (`Base`). 2. Its form
+-- (`BaseForm`). Then of each block, one after the other: 3. Its length (`Length`) and then its headers (`Entry`), by its own
+-- bytes. 4. Its journals, from the first on, by those in front of them (`Entry`). 5. Its root (`Root`). 6. In the first
+-- block of a file without a base the content of journal 0 (`Content`). 7. Where the blocks end, that something is missing
+-- (`Entry`, with the number of the next journal).
+-- Example: a file without a base has blocks [0] and [1 2], and a third block [3] names root R, while the root over the four
+-- journals is S. Where nothing in front of that root is wrong the damage is `Root 2 R S`. Behind a base that stands for 7
+-- blocks it is that of block 9.
 abbrev pub IsDamage : List ℕ → Damage → Type 0
 IsDamage file Magic = ⊥
 IsDamage file (BaseForm place) = HasDigest file × IsBadForm (base_in file) place

@@ -7,11 +7,11 @@ use Rattle.ledger_model.specs.declared.genesis.Genesis.{Genesis}
 use Rattle.ledger_open.specs.Growing.{new_file}
 use Rattle.ledger_open.specs.Standing.{PairFor}
 
--- one of two files is open
+-- one of two files is open, so that no new ledger is made there
 abbrev pub IsOneOpen : List ℕ → List ℕ → Type 0
 IsOneOpen a b = IsOpen a ⊎ IsOpen b
 
--- the first is the file of this new ledger, and the second is empty; nothing is pending
+-- a new ledger was made: the first of two files is its own, the second is empty, and nothing is pending
 pub record IsFounded (genesis : Genesis) (a b : State) : Type 0 where
   pub first : a ≡ settled_state (new_file genesis)
   pub second : b ≡ settled_state []

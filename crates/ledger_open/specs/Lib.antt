@@ -2,7 +2,6 @@ pub mod Heads
 pub mod Starts
 pub mod Standing
 pub mod Places
-pub mod PlaceList
 pub mod Damages
 pub mod Founding
 pub mod Growing
@@ -10,7 +9,6 @@ pub mod Opening
 pub mod Ahead
 pub mod Taking
 pub mod Erasing
-pub mod Order
 pub mod Cutting
 pub mod Purging
 pub mod Reopened

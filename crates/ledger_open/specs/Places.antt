@@ -1,51 +1,22 @@
 -- Where journals stand in a file.
-use Rattle.std.specs.Prelude.{◌≡◌, ℕ, ◌+◌, Bool, sum_by, List, [], ◌∷◌, ◌++◌, length, take, drop, ⊤}
-use Rattle.block_file.specs.declared.block.RecordAt.{RecordAt}
+use Rattle.std.specs.Prelude.{◌≡◌, ℕ, ◌+◌, ◌≤◌, Bool, List, [], ◌∷◌, length, take, drop, ⊤}
+use Rattle.block_file.specs.Places.{places_at}
 use Rattle.journal_record.specs.Entry.{Entry}
 use Rattle.journal_record.specs.declared.header.Header.{Header}
 use Rattle.ledger_model.specs.History.{History, journals, journals_of}
 use Rattle.ledger_open.specs.Standing.{Floor, floor_behind, IsKept, StandsBy}
-use Rattle.ledger_open.specs.declared.places.PlaceAt.{PlaceAt}
+use Rattle.block_file.specs.declared.place.PlaceAt.{PlaceAt}
 use Rattle.ledger_model.specs.Targets.{is_hidden}
 
--- how many bytes a journal takes in its block, by its header: the same for a history and for what a file keeps of it
-abbrev pub record_len : Entry → ℕ
-record_len e = 178 + e.header.content_len + length e.who
+-- the places of journals, and how many more there is room for
+pub record PlaceList : Type 0 where
+  pub list : List PlaceAt
+  pub spare : ℕ
 
--- the place of a journal whose record begins at this offset, by its header
-abbrev pub place_at : ℕ → Entry → PlaceAt
-place_at at e =
-    record {
-      content_at = at + 178;
-      who_at = at + 178 + e.header.content_len;
-      content_len = e.header.content_len;
-      who_len = length e.who;
-    }
-
--- the place of a journal whose record was read
-abbrev pub place_of_record : RecordAt → PlaceAt
-place_of_record r =
-    record {
-      content_at = r.content_at;
-      who_at = r.who_at;
-      content_len = r.header.content_len;
-      who_len = r.who_len;
-    }
-
--- the places of the journals of a block, whose records begin at this offset
-abbrev pub places_in : ℕ → List Entry → List PlaceAt
-places_in at [] = []
-places_in at (e ∷ es) = place_at at e ∷ places_in (at + record_len e) es
-
--- the places of the journals of some blocks, where the first gate stands at this offset
-abbrev pub places_at : ℕ → List (List Entry) → List PlaceAt
-places_at at [] = []
-places_at at (b ∷ bs) = places_in (at + 45) b ++ places_at (at + 45 + sum_by record_len b) bs
-
--- where the gate behind some blocks stands
-abbrev pub after_at : ℕ → List (List Entry) → ℕ
-after_at at [] = at
-after_at at (b ∷ bs) = after_at (at + 45 + sum_by record_len b) bs
+-- the contents at these places stand one behind the other between two offsets
+abbrev pub AreInOrder : ℕ → ℕ → List PlaceAt → Type 0
+AreInOrder from to [] = from ≤ to
+AreInOrder from to (p ∷ places) = (from ≤ p.content_at) × AreInOrder (p.content_at + p.content_len) to places
 
 -- the journal with this header, whose content and who are what stands in a file at this place
 abbrev pub entry_at : List ℕ → Header → PlaceAt → Entry
@@ -68,8 +39,8 @@ AllAt hid gone file _ _ = ⊥
 abbrev pub places_from : Floor → List (List Entry) → List PlaceAt
 places_from floor blocks = places_at (64 + length floor.base) blocks
 
--- At its place stands each journal that a file has of a history, but for contents that are hidden, and zeros where they
--- are gone.
+-- At its place stands each journal that a file has of a history, but for contents that are hidden, and zeros where they are
+-- gone (`journals_stand_at_their_places`).
 abbrev pub AreAtPlaces : Type 0
 AreAtPlaces =
     (floor : ℕ) (zeros : ℕ → Bool) (image : List ℕ) (h : History) (x : StandsBy floor zeros image h)

@@ -2,7 +2,7 @@
 use Rattle.std.specs.Prelude.{◌≡◌, ◌⊎◌, ℕ, ◌+◌, ◌-◌, ◌^◌, ◌<◌, ◌≤◌, Bool, false, IsTrue, not, List, [], ◌∷◌, ◌++◌, length, take, drop}
 use Rattle.block_file.specs.File.{IsSettled, IsShutAt}
 use Rattle.block_file.specs.Head.{HasHead, front_of, generation_of}
-use Rattle.block_file.specs.Place.{place_of}
+use Rattle.block_file.specs.FileView.{gate_of}
 use Rattle.journal_record.specs.Entry.{Entry}
 use Rattle.ledger_book.specs.Books.{Kept, Serves}
 use Rattle.ledger_disk.specs.Disk.{State, MayLeave, settled_state}
@@ -12,13 +12,14 @@ use Rattle.twin_file.specs.Which.{in_a_of, generation_in, file_of}
 use Rattle.ledger_open.specs.Cutting.{FallsAway, IsBaseAt, gate_behind}
 use Rattle.ledger_open.specs.Erasing.{EndsAs}
 use Rattle.ledger_open.specs.Opening.{Known, known_from}
-use Rattle.ledger_open.specs.Places.{places_from}
+use Rattle.ledger_open.specs.Places.{AreInOrder, places_from}
 use Rattle.ledger_open.specs.Standing.{Floor, floor_of, floor_behind, StandsFor, IsClean, IsBeside, PairFor}
 use Rattle.ledger_open.specs.declared.opened.Opened.{Opened}
 
 -- ---- an open ledger
 
--- a ledger that is open: what is known of it, which of its two files is open, of which generation that is, and the disks
+-- a ledger that is open: what is known of it, which of its two files is open, of which generation that is, and what both
+-- disks hold
 pub record Ledger : Type 0 where
   pub known : Known
   pub in_a : Bool
@@ -26,26 +27,28 @@ pub record Ledger : Type 0 where
   pub a : State
   pub b : State
 
+-- the open ledger that a program has, with what its two disks hold
 abbrev pub ledger_at : Opened → State → State → Ledger
 ledger_at opened a b =
     record {
-      known = known_from opened.book opened.places.list (place_of (file_of opened.twin));
+      known = known_from opened.book opened.places.list (gate_of (file_of opened.twin));
       in_a = in_a_of opened.twin;
       generation = generation_in opened.twin;
       a = a;
       b = b;
     }
 
--- the disk of its open file, and that of the other one
+-- the disk of a ledger's open file
 abbrev pub open_disk : Ledger → State
 open_disk l = open_of l.in_a l.a l.b
 
+-- the disk of the file that isn't open
 abbrev pub other_disk : Ledger → State
 other_disk l = other_of l.in_a l.a l.b
 
--- the gate where its open file ends is shut, and the generation that is kept is that file's own
+-- the gate where a ledger's open file ends is shut, and the generation that is kept is that file's own
 pub record IsAtGate (l : Ledger) : Type 0 where
-  pub shut : IsShutAt l.known.place (open_disk l).seen
+  pub shut : IsShutAt l.known.gate (open_disk l).seen
   pub generation : l.generation ≡ generation_of (open_disk l).seen
 
 -- ---- the copy
@@ -54,7 +57,7 @@ pub record IsAtGate (l : Ledger) : Type 0 where
 abbrev pub copied_file : ℕ → List ℕ → ℕ → ℕ → List ℕ → List ℕ
 copied_file generation base from to file = (front_of 1 generation base ++ take (to - from) (drop from file)) ++ 0 ∷ []
 
--- only what journals from this one on need is left of the book
+-- of a book only what journals from this one on need is left
 pub record KeepsFrom (p : ℕ) (old new : Kept) : Type 0 where
   pub limits : new.limits ≡ old.limits
   pub floor : new.floor ≡ p
@@ -63,21 +66,21 @@ pub record KeepsFrom (p : ℕ) (old new : Kept) : Type 0 where
   pub sealed : new.sealed ≡ old.sealed
   pub serves : (h : History) → Serves old h → p ≡ point h → Serves new h
 
--- Of the blocks of a file the first fell away: what is known is that of the others behind this base, and the file that is open
--- has what the old one had of them. That one is empty, and nothing is pending.
+-- The first blocks of a file fell away: what is known is that of the others behind this base, and the file that is open now
+-- has what the old one had of them. The old one is empty, and nothing is pending.
 pub record IsPurged (tells : Bool) (floor : Floor) (front behind : List (List Entry)) (old new : Ledger) : Type 0 where
   pub bytes : List ℕ
   pub base : IsBaseAt old.known.book old.known.book.point bytes
   pub book : KeepsFrom old.known.book.point old.known.book new.known.book
   pub places : new.known.places ≡ places_from (floor_of base.base) behind
-  pub tail : new.known.place ≡ gate_behind (floor_of base.base) behind
+  pub tail : new.known.gate ≡ gate_behind (floor_of base.base) behind
   pub in_a : new.in_a ≡ not old.in_a
   pub generation : new.generation ≡ next_generation old.generation
   pub copied : IsTrue tells
-      → open_disk new ≡ settled_state (copied_file new.generation bytes (gate_behind floor front) old.known.place (open_disk old).seen)
+      → open_disk new ≡ settled_state (copied_file new.generation bytes (gate_behind floor front) old.known.gate (open_disk old).seen)
   pub wiped : IsTrue tells → other_disk new ≡ settled_state []
 
--- where a file begins before the point, it is so
+-- where an open file begins in front of the book's point, the blocks in front of the point fall away, whatever blocks it has
 abbrev pub Purges : Bool → Ledger → Ledger → Type 0
 Purges tells old new =
     (floor : Floor) (front behind : List (List Entry)) → FallsAway old.known floor front behind → floor.first < old.known.book.point
@@ -85,8 +88,8 @@ Purges tells old new =
 
 -- ---- two files of which one takes over
 
--- one of two files is open, of this generation, beside which there is a greater one; the other is passed over, and nothing is
--- pending
+-- a copy of the open file may take over: that file has this generation, above which there is another one; the other file is
+-- passed over, and nothing is pending
 pub record MayMove (in_a : Bool) (generation : ℕ) (a b : State) : Type 0 where
   pub quiet_a : IsSettled a
   pub quiet_b : IsSettled b
@@ -95,51 +98,67 @@ pub record MayMove (in_a : Bool) (generation : ℕ) (a b : State) : Type 0 where
   pub fits : generation + 1 < 2 ^ 64
   pub passed : IsPassed false generation (other_of in_a a b).seen
 
--- The old file is there as it was, and the other one is passed over; or that is the new one, and the old one is passed over.
+-- In two images the old file is there as it was and the other is passed over, or the new file is there and the old place is
+-- passed over.
 abbrev pub IsEither : Bool → List ℕ → List ℕ → List ℕ → List ℕ → Type 0
 IsEither in_a old new image_a image_b =
     ((open_of in_a image_a image_b ≡ old) × IsPassed false (generation_of old) (other_of in_a image_a image_b))
     ⊎ ((other_of in_a image_a image_b ≡ new) × IsPassed false (generation_of new) (open_of in_a image_a image_b))
 
--- so it is with each pair of images
+-- in each pair of images the old file is open or the new one, with the other passed over
 abbrev pub AllEither : Bool → List ℕ → List ℕ → State → State → Type 0
 AllEither in_a old new a b =
     (image_a image_b : List ℕ) → MayLeave a image_a → MayLeave b image_b → IsEither in_a old new image_a image_b
 
 -- ---- for a history
 
--- The book, the places and the files stand for this history, as far as the last journal leaves something undone. Nothing is
--- pending.
+-- The book, the places and the files of an open ledger stand for this history, as far as the last journal leaves something
+-- undone. Nothing is pending.
 pub record StandsOpen (l : Ledger) (h : History) : Type 0 where
   pub quiet_a : IsSettled l.a
   pub quiet_b : IsSettled l.b
   pub ends : EndsAs l.known.book l.known.places h
-  pub tail : l.known.place ≡ gate_behind (floor_behind h ends.parts.gone) ends.parts.kept
+  pub tail : l.known.gate ≡ gate_behind (floor_behind h ends.parts.gone) ends.parts.kept
   pub stands : StandsFor (open_disk l).seen h
   pub floor : stands.floor ≡ l.known.book.floor
   pub beside : IsBeside h stands.file.generation (other_disk l).seen
   pub generation : l.generation ≡ generation_of (open_disk l).seen
 
--- .. and nothing is left undone: the pair is clean
+-- An open ledger is one of this history, and nothing is left undone: the pair is clean, and nothing is pending.
 pub record IsCleanOpen (l : Ledger) (h : History) : Type 0 where
   pub quiet_a : IsSettled l.a
   pub quiet_b : IsSettled l.b
   pub ends : EndsAs l.known.book l.known.places h
   pub floor : l.known.book.floor ≡ point h
-  pub tail : l.known.place ≡ gate_behind (floor_behind h ends.parts.gone) ends.parts.kept
+  pub tail : l.known.gate ≡ gate_behind (floor_behind h ends.parts.gone) ends.parts.kept
   pub clean : IsClean (open_disk l).seen h
   pub empty : length (other_disk l).seen ≡ 0
   pub generation : l.generation ≡ generation_of (open_disk l).seen
 
--- where the file begins before the point, the pair is clean for what it stood for
+-- where the open file began in front of the point, the pair is clean afterwards for the history that it stood for
 abbrev pub FinishesPurge : Ledger → Ledger → Type 0
 FinishesPurge old new = old.known.book.floor < old.known.book.point → (h : History) → StandsOpen old h → IsCleanOpen new h
 
--- a crash at any time leaves a pair that stands for what the pair stood for
+-- while a purge is finished, a crash at any time leaves a pair that stands for what the pair stood for
 abbrev pub StandsPurging : Ledger → State → State → Type 0
 StandsPurging old a_new b_new =
     (h : History) → StandsOpen old h → (image_a image_b : List ℕ) → MayLeave a_new image_a → MayLeave b_new image_b → PairFor image_a image_b h
 
--- where the file begins at the point, nothing is written
+-- where the open file begins at the point already, nothing is written
 abbrev pub IsPurgedStill : Ledger → State → State → Type 0
 IsPurgedStill old a_new b_new = old.known.book.point ≤ old.known.book.floor → (a_new ≡ old.a) × (b_new ≡ old.b)
+
+-- ---- what finishing it comes to
+
+-- a purge that was left undone is finished, and where there is none all is as it was
+pub record IsDone (tells : Bool) (old new : Ledger) : Type 0 where
+  pub purges : Purges tells old new
+  pub clean : IsTrue tells → FinishesPurge old new
+  -- whatever stands in the files
+  pub gate : IsTrue tells → IsAtGate old → IsAtGate new
+  pub order : AreInOrder 64 old.known.gate old.known.places → AreInOrder 64 new.known.gate new.known.places
+
+-- a crash at any time leaves a pair that stands for what this one did
+pub record IsHalfDone (tells : Bool) (old : Ledger) (a_new b_new : State) : Type 0 where
+  pub images : IsTrue tells → StandsPurging old a_new b_new
+  pub idle : IsTrue tells → IsPurgedStill old a_new b_new

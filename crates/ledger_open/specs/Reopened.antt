@@ -16,18 +16,18 @@ use Rattle.ledger_open.specs.Places.{places_from}
 use Rattle.ledger_open.specs.Cutting.{gate_behind}
 use Rattle.ledger_open.specs.Purging.{Ledger, open_disk, copied_file}
 use Rattle.ledger_open.specs.Standing.{floor_from, PairFor, IsCleanPair}
-use Rattle.ledger_open.specs.declared.places.PlaceAt.{PlaceAt}
+use Rattle.block_file.specs.declared.place.PlaceAt.{PlaceAt}
 
 -- ---- what is known afterwards
 
--- Where the file begins with journal 0, the book is one of each history that begins with these blocks. The places are theirs,
--- and the next gate stands behind them. No journal waits.
+-- What is known of a ledger that is open. Where its file begins with journal 0, the book is one of each history that begins
+-- with these blocks. The places are theirs, and the next gate stands behind them. No journal waits.
 pub record Remembers (k : Known) (start : Option Base) (blocks : List (List Entry)) : Type 0 where
   pub serves : start ≡ None → (h : History) → GoesOn start blocks h → Serves k.book h
   pub lawful : AreBlocks (floor_from start).first blocks
   pub floor : k.book.floor ≡ (floor_from start).first
   pub places : k.places ≡ places_from (floor_from start) blocks
-  pub tail : k.place ≡ gate_behind (floor_from start) blocks
+  pub tail : k.gate ≡ gate_behind (floor_from start) blocks
   pub settled : k.book.size ≡ k.book.sealed
 
 -- ---- what becomes of the file that was read
@@ -37,18 +37,19 @@ pub record OpenFile : Type 0 where
   pub in_a : Bool
   pub start : Option Base
   pub blocks : List (List Entry)
-  pub place : ℕ
+  pub gate : ℕ
 
+-- the open file that is this one of two, with this base, or none, and these blocks, where its tail gate stands here
 abbrev pub open_file : Bool → Option Base → List (List Entry) → ℕ → OpenFile
-open_file in_a start blocks place = record { in_a = in_a; start = start; blocks = blocks; place = place }
+open_file in_a start blocks gate = record { in_a = in_a; start = start; blocks = blocks; gate = gate }
 
--- this file is taken of the two, and it was read
+-- this file was taken of two and read: it has its base and its blocks, and what was known of them ends at its tail gate
 pub record WasRead (file : OpenFile) (a b : State) : Type 0 where
   pub taken : IsTaken file.in_a a.seen b.seen
   pub has : HasFile file.start file.blocks (open_of file.in_a a b).seen
   pub known : Known
   pub knows : Knows known file.start file.blocks
-  pub tail : known.place ≡ file.place
+  pub tail : known.gate ≡ file.gate
 
 -- one of two files is taken, which has this generation, and nothing is pending
 pub record IsHere (in_a : Bool) (generation : ℕ) (a b : State) : Type 0 where
@@ -67,14 +68,14 @@ pub record WasReadHere (tells : Bool) (l : Ledger) : Type 0 where
 
 -- A file was cut behind its tail gate, and zeros stand in it for what the last journal hides.
 pub record IsCutAndErased (was : OpenFile) (places : List PlaceAt) (old new : List ℕ) : Type 0 where
-  pub one : ErasesOne places (take (was.place + 1) old) new
-  pub hidden : (h : History) → GoesOn was.start was.blocks h → new ≡ given_up (floor_from was.start) was.blocks (take (was.place + 1) old)
+  pub one : ErasesOne places (take (was.gate + 1) old) new
+  pub hidden : (h : History) → GoesOn was.start was.blocks h → new ≡ given_up (floor_from was.start) was.blocks (take (was.gate + 1) old)
 
 -- the point of these blocks is where they begin: no purge is left undone
 abbrev pub IsAtPoint : Option Base → List (List Entry) → Type 0
 IsAtPoint start blocks = greatest_point (journals_of blocks) ≡ (floor_from start).first
 
--- the file that was read stays the open one, with these bytes
+-- the file that was read stays the open one, with these bytes, since no purge was left undone
 pub record StaysOpen (was now : OpenFile) (bytes : List ℕ) (a_new b_new : State) : Type 0 where
   pub same : now ≡ was
   pub at_point : IsAtPoint was.start was.blocks
@@ -93,10 +94,12 @@ pub record WasMoved (was now : OpenFile) (generation : ℕ) (bytes : List ℕ) (
   pub before : (floor_from was.start).first < base.point
   pub at : (floor_from was.start).first + length (journals_of front) ≡ base.point
   pub open_is : open_of now.in_a a_new b_new
-      ≡ settled_state (copied_file (next_generation generation) (spelling base) (gate_behind (floor_from was.start) front) was.place bytes)
+      ≡ settled_state (copied_file (next_generation generation) (spelling base) (gate_behind (floor_from was.start) front) was.gate bytes)
 
--- Which file was taken and read; it was cut and erased; each history that goes on with its blocks goes on with those that are
--- known now, and the book is one of it; and what the open file is. The other file is empty, and nothing is pending.
+-- Which file was taken and read; it was cut and erased; each history that goes on with its blocks goes on with those that
+-- are known now, and the book is one of it; and what the open file is. The other file is empty, and nothing is pending.
+-- `an_opened_book_stands_for_the_history` and `an_opened_pair_is_clean` say what follows for a pair that stood for a
+-- history.
 pub record IsReopened (in_a : Bool) (k : Known) (start : Option Base) (blocks : List (List Entry)) (a b a_new b_new : State) : Type 0 where
   pub was : OpenFile
   pub read : WasRead was a b
@@ -104,8 +107,8 @@ pub record IsReopened (in_a : Bool) (k : Known) (start : Option Base) (blocks : 
   pub erased : IsCutAndErased was read.known.places (open_of was.in_a a b).seen bytes
   pub goes : (h : History) → GoesOn was.start was.blocks h → GoesOn start blocks h
   pub serves : (h : History) → GoesOn was.start was.blocks h → Serves k.book h
-  pub left : StaysOpen was (open_file in_a start blocks k.place) bytes a_new b_new
-      ⊎ WasMoved was (open_file in_a start blocks k.place) (generation_of (open_of was.in_a a b).seen) bytes a_new b_new
+  pub left : StaysOpen was (open_file in_a start blocks k.gate) bytes a_new b_new
+      ⊎ WasMoved was (open_file in_a start blocks k.gate) (generation_of (open_of was.in_a a b).seen) bytes a_new b_new
   pub other_is : other_of in_a a_new b_new ≡ settled_state []
 
 -- some blocks are known; and where the disks tell their bytes, the pair was reopened as these

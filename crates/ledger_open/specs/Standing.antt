@@ -18,18 +18,18 @@ use Rattle.ledger_open.specs.Heads.{IsFront}
 
 -- ---- the blocks of a file
 
--- Where a file begins: with this journal, behind this base. root gives the root over all journals, where those from
--- the first one on have these leaves.
+-- Where a file begins: with this journal, behind this base. `root` gives the root over all journals, where those from the
+-- first one on have these leaves.
 pub record Floor : Type 0 where
   pub first : ℕ
   pub base : List ℕ
   pub root : List (List ℕ) → List ℕ
 
--- a file that begins with journal 0
+-- where a file begins that has journal 0
 abbrev pub ground : Floor
 ground = record { first = 0; base = []; root = mth sha256 }
 
--- a file that begins behind this base: roots are those over its peaks and the leaves from its point on
+-- where a file begins behind this base: its roots are those over the base's peaks and the leaves from the point on
 abbrev pub floor_of : Base → Floor
 floor_of b =
     record {
@@ -38,12 +38,12 @@ floor_of b =
       root = λ leaves. root_from sha256 (map (λ peak. peak.0) b.peaks) b.point (map (leaf sha256) leaves);
     }
 
--- .. or with journal 0, where there is no base
+-- where a file begins: behind this base, or with journal 0 where there is none
 abbrev pub floor_from : Option Base → Floor
 floor_from None = ground
 floor_from (Some b) = floor_of b
 
--- where a file of this history begins that doesn't have these blocks
+-- where a file of this history begins that doesn't have these first blocks of it
 abbrev pub floor_behind : History → List (List Entry) → Floor
 floor_behind h [] = ground
 floor_behind h (b ∷ bs) = floor_of (base_of h (length (journals_of (b ∷ bs))))
@@ -69,18 +69,19 @@ pub record IsKept (hid gone : ℕ → Bool) (e f : Entry) : Type 0 where
   pub shown : hid e.header.jsn ≡ false → f.content ≡ e.content
   pub zeroed : gone e.header.jsn ≡ true → AreZeros f.content
 
+-- the second journals are what is kept of the first, one by one
 abbrev pub AllKept : (ℕ → Bool) → (ℕ → Bool) → List Entry → List Entry → Type 0
 AllKept hid gone [] [] = ⊤
 AllKept hid gone (e ∷ es) (f ∷ fs) = IsKept hid gone e f × AllKept hid gone es fs
 AllKept hid gone _ _ = ⊥
 
--- the same blocks, but for hidden contents
+-- blocks of the same journals, one by one, but for contents that are hidden
 abbrev pub SameButHidden : (ℕ → Bool) → (ℕ → Bool) → List (List Entry) → List (List Entry) → Type 0
 SameButHidden hid gone [] [] = ⊤
 SameButHidden hid gone (b ∷ bs) (c ∷ cs) = AllKept hid gone b c × SameButHidden hid gone bs cs
 SameButHidden hid gone _ _ = ⊥
 
--- the file keeps these blocks of a history that hides and has given up these contents
+-- a file of this generation, from this floor on, keeps these blocks of a history that hides and has given up these contents
 pub record KeepsBlocks (floor : Floor) (generation : ℕ) (hid gone : ℕ → Bool) (bs : List (List Entry)) (image : List ℕ) : Type 0 where
   pub blocks : List (List Entry)
   pub file : HasBlocks floor generation blocks image
@@ -92,7 +93,7 @@ pub record KeepsBlocks (floor : Floor) (generation : ℕ) (hid gone : ℕ → Bo
 abbrev pub hidden_before : History → ℕ → Bool
 hidden_before h n = is_hidden_by (take (size h - 1) (journals h)) (slice_get (journals h) n)
 
--- the point before the last journal
+-- the point of a history before its last journal
 abbrev pub point_before : History → ℕ
 point_before h = greatest_point (take (size h - 1) (journals h))
 
@@ -125,14 +126,17 @@ pub record StandsBy (floor : ℕ) (zeros : ℕ → Bool) (image : List ℕ) (h :
   pub lawful : IsLawful h
   pub wide : AreWide (journals_of parts.gone)
 
--- The image stands for this history: a content that only the last journal hides may be any bytes, and where the last
--- journal is a purge, the file may still begin at the point before it.
+-- The image stands for this history: a content that only the last journal hides may be any bytes, and where the last journal
+-- is a purge, the file may still begin at the point before it.
+-- Example: blocks [0] [1] [2] [3], where journal 3 is the purge to journal 2. A file of generation 1 with all four blocks
+-- stands for it, and so does one of generation 2 with the base at 2 and the blocks [2] [3]. Once journal 4 is there only
+-- such a one does.
 pub record StandsFor (image : List ℕ) (h : History) : Type 0 where
   pub floor : ℕ
   pub begins : (floor ≡ point h) ⊎ (floor ≡ point_before h)
   pub file : StandsBy floor (hidden_before h) image h
 
--- .. and what was purged and each hidden content is gone
+-- the image stands for this history from the point on, and each hidden content is zeros: what was purged and hidden is gone
 abbrev pub IsErased : List ℕ → History → Type 0
 IsErased image h = StandsBy (point h) (is_hidden h) image h
 
@@ -140,7 +144,7 @@ IsErased image h = StandsBy (point h) (is_hidden h) image h
 abbrev pub Reads : List ℕ → History → Type 0
 Reads image h = StandsBy (point h) (λ n. false) image h
 
--- it stands for this history with each hidden content gone, and ends with its tail gate
+-- the image stands for this history with each hidden content gone, and ends with its tail gate
 pub record IsClean (image : List ℕ) (h : History) : Type 0 where
   pub erased : IsErased image h
   pub ends : erased.keeps.file.stands.rest ≡ []
@@ -155,7 +159,7 @@ pub record PairFor (a b : List ℕ) (h : History) : Type 0 where
   pub stands : StandsFor (open_of in_a a b) h
   pub beside : IsBeside h stands.file.generation (other_of in_a a b)
 
--- .. and it is clean, and the other is empty
+-- one of two files is clean for a history, and the other one is empty
 pub record IsCleanPair (a b : List ℕ) (h : History) : Type 0 where
   pub in_a : Bool
   pub clean : IsClean (open_of in_a a b) h
@@ -175,6 +179,6 @@ pub record Alike (h k : History) : Type 0 where
 abbrev pub IsOneHistory : Type 0
 IsOneHistory = (image : List ℕ) (h k : History) → StandsFor image h → StandsFor image k → Alike h k
 
--- a pair of files stands for one history at most, but for what isn't kept
+-- A pair of files stands for one history at most, but for what isn't kept (`a_pair_stands_for_one_history`).
 abbrev pub IsOnePair : Type 0
 IsOnePair = (a b : List ℕ) (h k : History) → PairFor a b h → PairFor a b k → Alike h k

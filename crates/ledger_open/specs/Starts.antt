@@ -20,12 +20,12 @@ abbrev pub IsDecoded : Option Base → Type 0
 IsDecoded None = ⊤
 IsDecoded (Some b) = IsBase b × HasWidths b
 
--- it is that of this history at its point
+-- the base is that of this history at the base's point; where there is no base nothing is asked
 abbrev pub IsBaseOf : Option Base → History → Type 0
 IsBaseOf None h = ⊤
 IsBaseOf (Some b) h = model.base_of h b.point ≡ b
 
--- how many blocks stand in front of those that are read
+-- how many blocks stand in front of those that are read: as many as the base says, or none
 abbrev pub blocks_before : Option Base → ℕ
 blocks_before None = 0
 blocks_before (Some b) = b.blocks
@@ -41,16 +41,16 @@ pub record AreLegal (start : Option Base) (blocks : List (List Entry)) : Type 0 
   pub blocks_are : All IsBlock blocks
   pub founded : AreFounded start (journals_of blocks)
 
--- the header is that of the purge to this point
+-- whether a header is that of the purge to this point
 abbrev pub is_purge_to : ℕ → Header → Bool
 is_purge_to p x = is_purge x.kind && (x.a == p)
 
--- what has to stand behind a base does: the purge to its point
+-- behind a base stands the purge to its very point; without a base nothing has to
 abbrev pub HasOwnPurge : Option Base → List Entry → Type 0
 HasOwnPurge None journals = ⊤
 HasOwnPurge (Some b) journals = list_any (λ j. is_purge_to b.point j.header) journals ≡ true
 
--- .. as far as a book tells that
+-- a book begins with journal 0, or keeps the header of the purge to its first journal
 abbrev pub IsReached : Kept → Type 0
 IsReached k = (k.floor ≡ 0) ⊎ (list_any (is_purge_to k.floor) k.headers ≡ true)
 

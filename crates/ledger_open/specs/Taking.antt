@@ -46,7 +46,7 @@ pub record IsOther (start : Option BaseRecord) (before es : List Entry) (jsn : �
   pub next : AreBehind start before (take index es)
   pub other : (e : Entry) → IsNextBehind start (before ++ take index es) (get_or es index e).header → ⊥
 
--- each of these journals, behind the blocks, is the next one, and is in the book
+-- each of these journals, behind the blocks, is the next one, and is in the book now
 pub record TakesAllOf (new : Kept) (start : Option BaseRecord) (blocks : List (List Entry)) (es : List Entry) : Type 0 where
   pub goes : Goes new start blocks es
   pub next : AreBehind start (journals_of blocks) es

@@ -1,7 +1,7 @@
 //! Blocks that are read ahead of the book, so that the leaf digests of their journals are made in a thread beside it.
 
 ghost use Rattle.std.specs.Prelude.{◌≡◌, ◌≢◌, ◌⊎◌, ◌↔◌, ◌+◌, ◌^◌, ◌<◌, ◌≤◌, All, length, IsTrue, IfOk, IfErr, IsSomeAnd, OnOk, vec_len};
-ghost use Rattle.block_file.specs.Place.{place_of};
+ghost use Rattle.block_file.specs.FileView.{gate_of};
 ghost use Rattle.ledger_disk.specs.Disk.{KeepsLength};
 ghost use Rattle.ledger_open.specs.Ahead.{AreLeaves, WereRead, IsStop, IsStopOf, place_behind, number_behind, journals_in, blocks_in};
 ghost use Rattle.ledger_open.specs.Opening.{CountsRead, IsOutside};
@@ -128,14 +128,14 @@ pub(crate) fn read_ahead<D: Disk>(
     buffer: &mut Vec<u8>,
     first: u64,
 ) -> Result<Ahead, OpenErr>
-    requires told { IsSomeAnd (D.state disk.old).told (λ n. place_of file.old + 1 ≤ n) }
+    requires told { IsSomeAnd (D.state disk.old).told (λ n. gate_of file.old + 1 ≤ n) }
     requires number { first < 2 ^ 32 }
     ensures read { IfOk result (λ ahead. WereRead D.tells (D.state disk.old).bytes.seen
-        (place_of file.old) first (blocks_in ahead.blocks.items)) }
-    ensures place { IfOk result (λ ahead. place_of file.new
-        ≡ place_behind (place_of file.old) (blocks_in ahead.blocks.items)) }
+        (gate_of file.old) first (blocks_in ahead.blocks.items)) }
+    ensures place { IfOk result (λ ahead. gate_of file.new
+        ≡ place_behind (gate_of file.old) (blocks_in ahead.blocks.items)) }
     ensures stop { IfOk result (λ ahead. IsStop D.tells (D.state disk.old).bytes.seen
-        (place_of file.new) (number_behind first (blocks_in ahead.blocks.items)) ahead.stop) }
+        (gate_of file.new) (number_behind first (blocks_in ahead.blocks.items)) ahead.stop) }
     ensures count { IfOk result (λ ahead. ahead.count
         ≡ journals_in (blocks_in ahead.blocks.items)) }
     ensures some { IfOk result (λ ahead. ahead.stop ≡ stops.Full
@@ -144,7 +144,7 @@ pub(crate) fn read_ahead<D: Disk>(
         ahead.blocks.items) }
     ensures err { IfErr result IsOutside }
     ensures told { OnOk result (IsSomeAnd (D.state disk.new).told
-        (λ n. place_of file.new + 1 ≤ n)) }
+        (λ n. gate_of file.new + 1 ≤ n)) }
     ensures state { IsTrue D.tells → (D.state disk.new).bytes ≡ (D.state disk.old).bytes }
     ensures length { KeepsLength (D.state disk.old).told (D.state disk.new).told }
     ensures faults { CountsRead result (D.state disk.old).faults (D.state disk.new).faults }

@@ -1,7 +1,7 @@
 //! The base that a file begins with.
 
 ghost use Rattle.std.specs.Prelude.{◌≡◌, ◌≢◌, ◌+◌, ◌≤◌, [], length, IsTrue, IfOk, IfErr, IsSomeAnd, Some};
-ghost use Rattle.block_file.specs.Place.{base_len_of};
+ghost use Rattle.block_file.specs.FileView.{base_len_of};
 ghost use Rattle.ledger_disk.specs.Disk.{KeepsLength};
 ghost use Rattle.ledger_model.specs.Limits.{AreWithin};
 ghost use Rattle.pseudo_genesis.specs.Bases.{IsBase, HasWidths};

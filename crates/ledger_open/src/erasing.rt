@@ -3,7 +3,7 @@
 ghost use Rattle.std.specs.Prelude.{◌≡◌, ◌+◌, ◌≤◌, ℕ, IsTrue, IfSome, IfErr, OnOk};
 ghost use Rattle.std.specs.List.{Contains};
 ghost use Rattle.block_file.specs.Head.{CountsAlone};
-ghost use Rattle.block_file.specs.Place.{place_of};
+ghost use Rattle.block_file.specs.FileView.{gate_of};
 ghost use Rattle.ledger_disk.specs.Disk.{KeepsLength};
 ghost use Rattle.ledger_model.specs.History.{History};
 ghost use Rattle.twin_file.specs.Places.{HasTail};
@@ -14,8 +14,8 @@ ghost use Rattle.ledger_open.specs.Opening.{CountsOpen};
 ghost use Rattle.ledger_open.specs.Standing.{floor_behind};
 ghost use Rattle.ledger_open.specs.declared.failure.OpenErr.TheVariants as errors;
 
-use crate::{OpenErr, Opened, PlaceAt, Places};
-use block_file::{BlockFile, FileErr};
+use crate::{OpenErr, Opened, Places};
+use block_file::{BlockFile, FileErr, PlaceAt};
 use journal_record::Kind;
 use ledger_book::Book;
 use ledger_disk::Disk;
@@ -57,7 +57,7 @@ pub(crate) fn finish_in<D: Disk>(
     disk: &mut D,
 ) -> Result<(), FileErr>
     requires told { HasTail (D.state disk.old).told file.old }
-    requires inside { AllInside (place_of file.old) places.now.list }
+    requires inside { AllInside (gate_of file.old) places.now.list }
     ensures bytes { OnOk result (IsTrue D.tells → WritesZeros book.now places.now.list
         (D.state disk.old).bytes (D.state disk.new).bytes) }
     ensures images { IsTrue D.tells → StandsMeanwhile book.now places.now.list
@@ -85,7 +85,7 @@ pub(crate) fn finish_in<D: Disk>(
 pub fn finish_erasures<D: Disk>(a: &mut D, b: &mut D, opened: &mut Opened) -> Result<(), OpenErr>
     requires told { HasTail (open_of (in_a_of opened.old.twin) (D.state a.old) (D.state b.old)).told
         (file_of opened.old.twin) }
-    requires inside { AllInside (place_of (file_of opened.old.twin)) opened.old.places.list }
+    requires inside { AllInside (gate_of (file_of opened.old.twin)) opened.old.places.list }
     ensures ok { OnOk result (IsTrue D.tells → GivesUp opened.old.book opened.old.places.list
         (open_of (in_a_of opened.old.twin) (D.state a.old) (D.state b.old)).bytes
         (open_of (in_a_of opened.old.twin) (D.state a.new) (D.state b.new)).bytes) }

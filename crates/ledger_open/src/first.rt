@@ -4,7 +4,7 @@ ghost use Rattle.std.specs.Prelude.{◌≡◌, ◌≢◌, ◌⊎◌, ◌+◌, �
 ghost use Rattle.sha2.specs.Sha256.{sha256};
 ghost use Rattle.tree_model.specs.Tree.{leaf};
 ghost use Rattle.block_file.specs.Blocks.{AreBlock, IsRead};
-ghost use Rattle.block_file.specs.Place.{place_of};
+ghost use Rattle.block_file.specs.FileView.{gate_of};
 ghost use Rattle.block_file.specs.declared.failure.Damage.{Damage};
 ghost use Rattle.block_file.specs.declared.failure.Damage.TheVariants as damages;
 ghost use Rattle.journal_record.specs.Entry.{Entry, content_digest_of};
@@ -18,7 +18,7 @@ ghost use Rattle.ledger_bytes.specs.declared.digest.Digest.{Digest};
 ghost use Rattle.ledger_disk.specs.Disk.{KeepsLength};
 ghost use Rattle.ledger_model.specs.Limits.{AreWithin};
 ghost use Rattle.ledger_open.specs.Opening.{HasRead, IsReadErr, CountsRead, known_from};
-ghost use Rattle.ledger_open.specs.Places.{place_of_record};
+ghost use Rattle.block_file.specs.Places.{place_of_record};
 ghost use Rattle.ledger_open.specs.Starts.{IsStart};
 ghost use Rattle.ledger_open.specs.Taking.{Headed, IsBadBlock};
 ghost use Rattle.ledger_open.specs.declared.failure.OpenErr.TheVariants as errors;
@@ -150,18 +150,18 @@ pub fn read_first<D: Disk>(
     buffer: &mut Vec<u8>,
     limits: Limits,
 ) -> Result<Read, OpenErr>
-    requires told { IsSomeAnd (D.state disk.old).told (λ n. place_of file.old + 1 ≤ n) }
-    requires place { place_of file.old ≡ 64 }
+    requires told { IsSomeAnd (D.state disk.old).told (λ n. gate_of file.old + 1 ≤ n) }
+    requires place { gate_of file.old ≡ 64 }
     requires start { IsTrue D.tells → IsStart (D.state disk.old).bytes.seen None }
     requires limits { AreWithin limits }
     ensures ok { IfOk result (λ read. HasRead D.tells (D.state disk.old).bytes.seen
-        (known_from read.book read.places.list (place_of file.new))) }
+        (known_from read.book read.places.list (gate_of file.new))) }
     ensures limits { IfOk result (λ read. read.book.limits ≡ limits) }
     ensures err { IfErr result (λ e. IsTrue D.tells
         → IsReadErr (D.state disk.old).bytes.seen e) }
     ensures only { IfErr result (λ e. (e ≢ errors.Empty) × (e ≢ errors.Exists)) }
     ensures told { OnOk result (IsSomeAnd (D.state disk.new).told
-        (λ n. place_of file.new + 1 ≤ n)) }
+        (λ n. gate_of file.new + 1 ≤ n)) }
     ensures state { IsTrue D.tells → (D.state disk.new).bytes ≡ (D.state disk.old).bytes }
     ensures length { KeepsLength (D.state disk.old).told (D.state disk.new).told }
     ensures faults { CountsRead result (D.state disk.old).faults (D.state disk.new).faults }

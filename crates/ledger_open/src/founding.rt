@@ -1,11 +1,12 @@
 //! A new ledger.
 
-ghost use Rattle.std.specs.Prelude.{◌≡◌, ◌≢◌, ◌⊎◌, [], ◌∷◌, true, false, length, IsTrue, IfOk, IfErr, OnOk, Err, None};
+ghost use Rattle.std.specs.Prelude.{◌≡◌, ◌≢◌, ◌⊎◌, ◌++◌, [], ◌∷◌, true, false, IsTrue, IfOk, IfErr, OnOk, Err, None};
 ghost use Rattle.block_file.specs.Head.{IsShut, IsOpen};
-ghost use Rattle.block_file.specs.Place.{place_of};
+ghost use Rattle.block_file.specs.FileView.{gate_of};
+ghost use Rattle.block_file.specs.Places.{after_at};
 ghost use Rattle.journal_record.specs.Blocks.{block_bytes, leaves_of};
 ghost use Rattle.ledger_disk.specs.Disk.{KeepsLength};
-ghost use Rattle.ledger_model.specs.Genesis.{HasKeys, new_ledger, genesis_journal, genesis_header};
+ghost use Rattle.ledger_model.specs.Genesis.{HasKeys, new_ledger, genesis_journal};
 ghost use Rattle.ledger_model.specs.Limits.{AreWithin};
 ghost use Rattle.twin_file.specs.Places.{HasTail};
 ghost use Rattle.twin_file.specs.Which.{in_a_of, generation_in, file_of, copy_of};
@@ -14,14 +15,12 @@ ghost use Rattle.ledger_open.specs.Opening.{known_from, Knows, IsOutside, AreSet
 ghost use Rattle.ledger_open.specs.Standing.{ground};
 ghost use Rattle.ledger_open.specs.declared.failure.OpenErr.TheVariants as errors;
 
-use crate::{OpenErr, Opened, PlaceAt, Places};
-use block_file::{BlockFile, FileErr};
-use journal_record::Header;
-use ledger_book::Book;
-use ledger_bytes::{Digest, NoMemory, Sha};
+use crate::{OpenErr, Opened, Places};
+use block_file::{BlockFile, BlockWriter, FIRST_GATE, FileErr};
+use ledger_book::{Book, first_header};
+use ledger_bytes::NoMemory;
 use ledger_disk::Disk;
 use ledger_model::{Genesis, Limits};
-use merkle_tree::leaf_of;
 use std::alloc::Global;
 use twin_file::Twin;
 
@@ -49,60 +48,29 @@ fn is_open<D: Disk>(disk: &mut D) -> Result<bool, OpenErr>
 struct Made {
     book: Book,
     places: Places,
-    /// Block 0, without its gate.
-    block: Vec<u8>,
-}
-
-// The length of the body of block 0: a header, four bytes, and two keys.
-const BODY_LEN: u64 = 242;
-
-// The bytes of block 0, without its gate.
-fn first_block(
-    alloc: Global,
-    genesis: &Genesis,
-    header: &Header,
-    root: &Digest,
-) -> Result<Vec<u8>, NoMemory>
-    requires { header.now ≡ genesis_header genesis.now }
-    ensures bytes { IfOk result (λ block. HasKeys genesis.now → block.items
-        ≡ block_bytes root.now.0 (genesis_journal genesis.now ∷ [])) }
-    ensures keys { OnOk result (HasKeys genesis.now) }
-{
-    let mut block = Vec::new(alloc);
-    block.extend_from_slice(&1u32.to_be_bytes())?;
-    block.extend_from_slice(&BODY_LEN.to_be_bytes())?;
-    block.extend_from_slice(&root.0)?;
-    block.extend_from_slice(&header.encode())?;
-    block.extend_from_slice(&0u32.to_be_bytes())?;
-    block.extend_from_slice(&genesis.operator.0)?;
-    block.extend_from_slice(&genesis.regulator.0)?;
-    Ok(block)
+    /// Block 0.
+    block: BlockWriter,
 }
 
 // Makes all that takes memory, so that want of it leaves both disks alone.
 fn prepare(alloc: Global, genesis: &Genesis, limits: Limits) -> Result<Made, NoMemory>
     requires { AreWithin limits }
-    ensures known { IfOk result (λ made. Knows (known_from made.book made.places.list 351)
+    ensures known { IfOk result (λ made. Knows
+        (known_from made.book made.places.list (after_at 64 (new_ledger genesis.now).closed))
         None (new_ledger genesis.now).closed) }
     ensures limits { IfOk result (λ made. made.book.limits ≡ limits) }
-    ensures block { IfOk result (λ made. made.block.items ≡ block_bytes
+    ensures block { IfOk result (λ made. made.block.head ++ made.block.body ≡ block_bytes
         ((ground).root (leaves_of (genesis_journal genesis.now ∷ [])))
         (genesis_journal genesis.now ∷ [])) }
     ensures keys { OnOk result (HasKeys genesis.now) }
 {
     let book = Book::new(alloc, genesis, limits)?;
-    let Some(header) = book.header(0) else {
-        return Err(NoMemory);
-    };
-    let block = first_block(alloc, genesis, header, &book.head().root)?;
     let mut places = Places::new(alloc);
     places.reserve(1)?;
-    places.push(PlaceAt {
-        content_at: 287,
-        who_at: 351,
-        content_len: 64,
-        who_len: 0,
-    });
+    let mut block = BlockWriter::new(alloc);
+    let header = first_header(genesis).encode();
+    places.push(block.put(FIRST_GATE, &header, &genesis.content(), &[])?);
+    block.finish(1, &book.head().root)?;
     Ok(Made {
         book,
         places,
@@ -121,7 +89,7 @@ pub fn init<D: Disk>(
 ) -> Result<Opened, OpenErr>
     requires { AreWithin limits }
     ensures ok { IfOk result (λ opened. Knows
-        (known_from opened.book opened.places.list (place_of (file_of opened.twin)))
+        (known_from opened.book opened.places.list (gate_of (file_of opened.twin)))
         None (new_ledger genesis.now).closed × (in_a_of opened.twin ≡ true)) }
     ensures limits { IfOk result (λ opened. opened.book.limits ≡ limits) }
     ensures keys { OnOk result (HasKeys genesis.now) }

@@ -75,7 +75,7 @@ pub fn an_opened_pair_is_clean()
     ensures tidy { (k : Known) (in_a : Bool) (start : Option Base) (blocks : List (List Entry))
         (a b a_new b_new : State) → Remembers k start blocks
         → IsReopened in_a k start blocks a b a_new b_new
-        → IsTidyAt in_a k.place a_new b_new }
+        → IsTidyAt in_a k.gate a_new b_new }
     ensures left { (k : Known) (in_a : Bool) (start : Option Base) (blocks : List (List Entry))
         (a b a_new b_new : State) (h : History) → IsReopened in_a k start blocks a b a_new b_new
         → IsCleanPair a.seen b.seen h → AreSettled a b a_new b_new }
@@ -127,5 +127,5 @@ pub fn a_content_may_be_given_up()
 /// In a ledger that was made or opened each content ends before the tail gate.
 pub fn contents_end_before_the_tail()
     ensures { (k : Known) (start : Option Base) (blocks : List (List Entry)) → Knows k start blocks
-        → AllInside k.place k.places }
+        → AllInside k.gate k.places }
 {}

@@ -26,6 +26,5 @@ pub use laws::{
     journals_stand_at_their_places,
 };
 pub use opened::Opened;
-pub use places::{PlaceAt, Places};
-pub use purging::finish_purge;
+pub use places::Places;
 pub use reopening::reopen;

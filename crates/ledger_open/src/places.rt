@@ -1,52 +1,12 @@
 ghost use Rattle.std.specs.Prelude.{◌≡◌, ◌≤◌, ◌<◌, ◌-◌, ◌+◌, ◌^◌, ◌++◌, [], ◌∷◌, List, drop, length, map, OnOk, OnErr, vec_len, vec_capacity};
 ghost use Rattle.journal_record.specs.Entry.{Entry};
-ghost use Rattle.ledger_open.specs.PlaceList.{moved_place};
-ghost use Rattle.ledger_open.specs.Places.{after_at, place_of_record, places_at};
+ghost use Rattle.block_file.specs.Places.{moved_place};
+ghost use Rattle.block_file.specs.Places.{after_at, place_of_record, places_at};
 
-use block_file::RecordAt;
-use ledger_bytes::NoMemory;
+use block_file::{PlaceAt, RecordAt};
+use ledger_bytes::{NoMemory, keep_from};
 use std::alloc::Global;
 use std::marker::Model;
-
-/// Where that of a journal stands which isn't in its header. Offsets are in bytes, from the file's first.
-#[derive(Clone, Copy, Debug)]
-pub struct PlaceAt {
-    /// The offset of the content.
-    pub content_at: u64,
-    /// The offset of the bytes that show who placed the journal.
-    pub who_at: u64,
-    pub content_len: u32,
-    pub who_len: u32,
-}
-
-// A ledger has one for each of its journals: no byte stands between the fields.
-const _: () = prove!(size_of::<PlaceAt>() == 24);
-
-impl PlaceAt {
-    // That of a journal whose record was read.
-    fn of(journal: &RecordAt) -> Self
-        ensures { result ≡ place_of_record journal.now }
-    {
-        PlaceAt {
-            content_at: journal.content_at,
-            who_at: journal.who_at,
-            content_len: journal.header.content_len,
-            who_len: journal.who_len,
-        }
-    }
-
-    // The same where what stood at one offset stands at another. Offsets of a file are far below the greatest number.
-    fn moved(&self, old: u64, new: u64) -> Self
-        ensures { result ≡ moved_place old new self.now }
-    {
-        PlaceAt {
-            content_at: self.content_at.saturating_sub(old).saturating_add(new),
-            who_at: self.who_at.saturating_sub(old).saturating_add(new),
-            content_len: self.content_len,
-            who_len: self.who_len,
-        }
-    }
-}
 
 /// Where the journals of the open file stand, in their order. Beside the list a contract sees how many more there is
 /// room for.
@@ -57,7 +17,7 @@ pub struct Places {
 
 impl Model for Places {
     ghost use Rattle.std.specs.Prelude.{◌-◌, vec_len, vec_capacity};
-    ghost use Rattle.ledger_open.specs.PlaceList.{PlaceList};
+    ghost use Rattle.ledger_open.specs.Places.{PlaceList};
 
     ghost Value = { PlaceList };
 
@@ -121,7 +81,7 @@ impl Places {
         ensures placed { (blocks : List (List Entry)) → drop count self.old.list ≡ places_at old blocks
             → after_at new blocks < 2 ^ 64 → self.new.list ≡ places_at new blocks }
     {
-        self.kept.drain(..count);
+        keep_from(&mut self.kept, count, 0);
         for index in 0..self.kept.len() {
             self.kept[index] = self.kept[index].moved(old, new);
         }

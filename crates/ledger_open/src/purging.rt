@@ -1,18 +1,17 @@
 //! A purge is finished: what stays is copied into the other file, and the old one is wiped.
 
-ghost use Rattle.std.specs.Prelude.{◌≡◌, ◌⊎◌, ◌+◌, ◌-◌, ◌≤◌, [], ℕ, List, None, not, length, take, drop, IsTrue, IfOk, IfErr, OnOk};
+ghost use Rattle.std.specs.Prelude.{◌≡◌, ◌+◌, ◌-◌, ◌≤◌, [], ℕ, List, None, not, length, take, drop, IsTrue, IfOk, IfErr, OnOk};
 ghost use Rattle.block_file.specs.File.{open_blocks, whole_file};
 ghost use Rattle.block_file.specs.Head.{CountsTwoAlone, front_of};
-ghost use Rattle.block_file.specs.Place.{place_of};
+ghost use Rattle.block_file.specs.FileView.{gate_of};
 ghost use Rattle.ledger_disk.specs.Disk.{settled_state};
 ghost use Rattle.twin_file.specs.Places.{HasTail};
 ghost use Rattle.twin_file.specs.Twin.{open_of, other_of, next_generation};
 ghost use Rattle.twin_file.specs.Which.{in_a_of, generation_in, file_of, copy_of};
 ghost use Rattle.ledger_open.specs.Erasing.{AllInside};
-ghost use Rattle.ledger_open.specs.Opening.{CountsOpen, AreUnchanged};
+ghost use Rattle.ledger_open.specs.Opening.{CountsOpen};
 ghost use Rattle.ledger_open.specs.Cutting.{IsBaseAt, IsCutOf, IsPrepared};
-ghost use Rattle.ledger_open.specs.Order.{AreInOrder};
-ghost use Rattle.ledger_open.specs.Purging.{copied_file, FinishesPurge, IsAtGate, IsPurgedStill, MayMove, AllEither, Purges, StandsPurging, ledger_at};
+ghost use Rattle.ledger_open.specs.Purging.{copied_file, IsDone, IsHalfDone, MayMove, AllEither, ledger_at};
 ghost use Rattle.ledger_open.specs.declared.failure.OpenErr.TheVariants as errors;
 
 use crate::{OpenErr, Opened, Places};
@@ -41,9 +40,6 @@ pub struct Purge {
     base: Bytes,
 }
 
-// So many bytes behind a block's gate stands the content of its first journal: behind the gate, 44 bytes and a header.
-const CONTENT_BEHIND_GATE: u64 = 223;
-
 // Where the copy begins, where the file's first journal stands in front of the point.
 fn cut_of(book: &Book, places: &Places) -> Option<Cut>
     ensures { IsCutOf book.now places.now.list result }
@@ -57,7 +53,7 @@ fn cut_of(book: &Book, places: &Places) -> Option<Cut>
     let Some(place) = places.as_slice().get(count) else {
         return None;
     };
-    let Some(gate) = place.content_at.checked_sub(CONTENT_BEHIND_GATE) else {
+    let Some(gate) = place.gate() else {
         return None;
     };
     Some(Cut { point, count, gate })
@@ -98,21 +94,21 @@ fn move_over<D: Disk>(
 ) -> Result<(), FileErr>
     requires told { HasTail (open_of (in_a_of twin.old) (D.state a.old).told (D.state b.old).told)
         (file_of twin.old) }
-    requires gate { gate ≤ place_of (file_of twin.old) }
+    requires gate { gate ≤ gate_of (file_of twin.old) }
     ensures copied { OnOk result (IsTrue D.tells → (blocks : List (List ℕ))
-        → take (place_of (file_of twin.old) - gate) (drop gate
+        → take (gate_of (file_of twin.old) - gate) (drop gate
         (open_of (in_a_of twin.old) (D.state a.old).bytes (D.state b.old).bytes).seen) ≡ open_blocks blocks
         → open_of (in_a_of twin.new) (D.state a.new).bytes (D.state b.new).bytes ≡ settled_state
         (whole_file (front_of 1 (next_generation (generation_in twin.old)) base.now) blocks)) }
     ensures bytes { OnOk result (IsTrue D.tells
         → open_of (in_a_of twin.new) (D.state a.new).bytes (D.state b.new).bytes ≡ settled_state
-        (copied_file (next_generation (generation_in twin.old)) base.now gate (place_of (file_of twin.old))
+        (copied_file (next_generation (generation_in twin.old)) base.now gate (gate_of (file_of twin.old))
         (open_of (in_a_of twin.old) (D.state a.old).bytes (D.state b.old).bytes).seen)) }
     ensures wiped { OnOk result (IsTrue D.tells
         → other_of (in_a_of twin.new) (D.state a.new).bytes (D.state b.new).bytes ≡ settled_state []) }
     ensures images { IsTrue D.tells → (blocks : List (List ℕ))
         → MayMove (in_a_of twin.old) (generation_in twin.old) (D.state a.old).bytes (D.state b.old).bytes
-        → take (place_of (file_of twin.old) - gate) (drop gate
+        → take (gate_of (file_of twin.old) - gate) (drop gate
         (open_of (in_a_of twin.old) (D.state a.old).bytes (D.state b.old).bytes).seen) ≡ open_blocks blocks
         → AllEither (in_a_of twin.old)
         (open_of (in_a_of twin.old) (D.state a.old).bytes (D.state b.old).bytes).seen
@@ -120,7 +116,7 @@ fn move_over<D: Disk>(
         (D.state a.new).bytes (D.state b.new).bytes }
     ensures twin { OnOk result ((in_a_of twin.new ≡ not (in_a_of twin.old))
         × (generation_in twin.new ≡ next_generation (generation_in twin.old)) × (copy_of twin.new ≡ None)
-        × (place_of (file_of twin.new) ≡ 64 + length base.now + (place_of (file_of twin.old) - gate))) }
+        × (gate_of (file_of twin.new) ≡ 64 + length base.now + (gate_of (file_of twin.old) - gate))) }
     ensures told { OnOk result (HasTail (open_of (in_a_of twin.new) (D.state a.new).told (D.state b.new).told)
         (file_of twin.new)) }
     ensures faults { CountsTwoAlone result (D.state a.old).faults (D.state a.new).faults
@@ -143,28 +139,15 @@ pub fn complete<D: Disk>(
 ) -> Result<(), OpenErr>
     requires told { HasTail (open_of (in_a_of opened.old.twin) (D.state a.old).told (D.state b.old).told)
         (file_of opened.old.twin) }
-    requires inside { AllInside (place_of (file_of opened.old.twin)) opened.old.places.list }
+    requires inside { AllInside (gate_of (file_of opened.old.twin)) opened.old.places.list }
     requires prepared { IsPrepared opened.old.book opened.old.places.list purge }
-    ensures purges { OnOk result (Purges D.tells
+    ensures done { OnOk result (IsDone D.tells
         (ledger_at opened.old (D.state a.old).bytes (D.state b.old).bytes)
         (ledger_at opened.new (D.state a.new).bytes (D.state b.new).bytes)) }
-    ensures clean { OnOk result (IsTrue D.tells → FinishesPurge
-        (ledger_at opened.old (D.state a.old).bytes (D.state b.old).bytes)
-        (ledger_at opened.new (D.state a.new).bytes (D.state b.new).bytes)) }
-    ensures images { IsTrue D.tells → StandsPurging
-        (ledger_at opened.old (D.state a.old).bytes (D.state b.old).bytes)
-        (D.state a.new).bytes (D.state b.new).bytes }
-    ensures idle { IsTrue D.tells → IsPurgedStill
+    ensures left { IsHalfDone D.tells
         (ledger_at opened.old (D.state a.old).bytes (D.state b.old).bytes)
         (D.state a.new).bytes (D.state b.new).bytes }
     ensures same { opened.old.book.point ≤ opened.old.book.floor → opened.new ≡ opened.old }
-
-    // Whatever stands in the files.
-    ensures gate { OnOk result (IsTrue D.tells
-        → IsAtGate (ledger_at opened.old (D.state a.old).bytes (D.state b.old).bytes)
-        → IsAtGate (ledger_at opened.new (D.state a.new).bytes (D.state b.new).bytes)) }
-    ensures order { OnOk result (AreInOrder 64 (place_of (file_of opened.old.twin)) opened.old.places.list
-        → AreInOrder 64 (place_of (file_of opened.new.twin)) opened.new.places.list) }
     ensures sizes { (opened.new.book.size ≡ opened.old.book.size)
         × (opened.new.book.sealed ≡ opened.old.book.sealed) }
     ensures limits { opened.new.book.limits ≡ opened.old.book.limits }
@@ -188,46 +171,4 @@ pub fn complete<D: Disk>(
         }
         Err(_) => Err(OpenErr::DiskFault),
     }
-}
-
-/// Where the open file begins before the point that the last journal gave, copies what stays into the other file behind a base
-/// at the point, opens that, and wipes the old one. All memory is taken before the first call of a disk. After an error the
-/// ledger is to be opened again.
-pub fn finish_purge<D: Disk>(
-    alloc: Global,
-    a: &mut D,
-    b: &mut D,
-    opened: &mut Opened,
-) -> Result<(), OpenErr>
-    requires told { HasTail (open_of (in_a_of opened.old.twin) (D.state a.old).told (D.state b.old).told)
-        (file_of opened.old.twin) }
-    requires inside { AllInside (place_of (file_of opened.old.twin)) opened.old.places.list }
-    ensures purges { OnOk result (Purges D.tells
-        (ledger_at opened.old (D.state a.old).bytes (D.state b.old).bytes)
-        (ledger_at opened.new (D.state a.new).bytes (D.state b.new).bytes)) }
-    ensures clean { OnOk result (IsTrue D.tells → FinishesPurge
-        (ledger_at opened.old (D.state a.old).bytes (D.state b.old).bytes)
-        (ledger_at opened.new (D.state a.new).bytes (D.state b.new).bytes)) }
-
-    // A crash at any time leaves a pair that stands for what this one did.
-    ensures images { IsTrue D.tells → StandsPurging
-        (ledger_at opened.old (D.state a.old).bytes (D.state b.old).bytes)
-        (D.state a.new).bytes (D.state b.new).bytes }
-    ensures idle { IsTrue D.tells → IsPurgedStill
-        (ledger_at opened.old (D.state a.old).bytes (D.state b.old).bytes)
-        (D.state a.new).bytes (D.state b.new).bytes }
-    ensures same { opened.old.book.point ≤ opened.old.book.floor → opened.new ≡ opened.old }
-    ensures limits { opened.new.book.limits ≡ opened.old.book.limits }
-    ensures copy { OnOk result (copy_of opened.old.twin ≡ None → copy_of opened.new.twin ≡ None) }
-    ensures told { OnOk result (HasTail
-        (open_of (in_a_of opened.new.twin) (D.state a.new).told (D.state b.new).told)
-        (file_of opened.new.twin)) }
-    ensures only { IfErr result (λ e. (e ≡ errors.DiskFault) ⊎ (e ≡ errors.NoMemory)) }
-    ensures memory { IfErr result (λ e. e ≡ errors.NoMemory → IsTrue D.tells
-        → AreUnchanged (D.state a.old).bytes (D.state b.old).bytes (D.state a.new).bytes (D.state b.new).bytes) }
-    ensures faults { CountsOpen result (D.state a.old).faults (D.state a.new).faults
-        (D.state b.old).faults (D.state b.new).faults }
-{
-    let purge = prepare(alloc, &opened.book, &opened.places)?;
-    complete(a, b, opened, purge)
 }

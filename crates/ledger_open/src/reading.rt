@@ -2,7 +2,7 @@
 
 ghost use Rattle.std.specs.Prelude.{◌≡◌, ◌≢◌, ◌⊎◌, ◌+◌, ◌≤◌, ℕ, Bool, List, get_or, length, IsTrue, IfOk, IfErr, IsSomeAnd, OnOk};
 ghost use Rattle.std.specs.List.{list_any};
-ghost use Rattle.block_file.specs.Place.{place_of, base_len_of, base_digest_of};
+ghost use Rattle.block_file.specs.FileView.{gate_of, base_len_of, base_digest_of};
 ghost use Rattle.block_file.specs.declared.failure.Damage.{Damage};
 ghost use Rattle.block_file.specs.declared.failure.Damage.TheVariants as damages;
 ghost use Rattle.ledger_disk.specs.Disk.{KeepsLength};
@@ -47,20 +47,20 @@ fn read_more<R: Threads, D: Disk>(
     read: &mut Read,
     ahead: &Ahead,
 ) -> Result<Ahead, OpenErr>
-    requires told { IsSomeAnd (D.state disk.old).told (λ n. place_of file.old + 1 ≤ n) }
+    requires told { IsSomeAnd (D.state disk.old).told (λ n. gate_of file.old + 1 ≤ n) }
     requires full { ahead.now.stop ≡ stops.Full }
     requires ahead { AreNextBlocks D.tells (D.state disk.old).bytes.seen read.old.book
-        read.old.places.list ahead.now (place_of file.old) }
+        read.old.places.list ahead.now (gate_of file.old) }
     ensures ok { IfOk result (λ next. AreNextBlocks D.tells (D.state disk.old).bytes.seen
-        read.new.book read.new.places.list next (place_of file.new)) }
+        read.new.book read.new.places.list next (gate_of file.new)) }
     ensures limits { OnOk result (read.new.book.limits ≡ read.old.book.limits) }
     ensures nearer { IfOk result (λ next. (next.stop ≡ stops.Full
-        → place_of file.old + 1 ≤ place_of file.new) × (place_of file.old ≤ place_of file.new)) }
+        → gate_of file.old + 1 ≤ gate_of file.new) × (gate_of file.old ≤ gate_of file.new)) }
     ensures err { IfErr result (λ e. IsTrue D.tells
         → IsReadErr (D.state disk.old).bytes.seen e) }
     ensures only { IfErr result (λ e. (e ≢ errors.Empty) × (e ≢ errors.Exists)) }
     ensures told { OnOk result (IsSomeAnd (D.state disk.new).told
-        (λ n. place_of file.new + 1 ≤ n)) }
+        (λ n. gate_of file.new + 1 ≤ n)) }
     ensures state { IsTrue D.tells → (D.state disk.new).bytes ≡ (D.state disk.old).bytes }
     ensures length { KeepsLength (D.state disk.old).told (D.state disk.new).told }
     ensures faults { CountsRead result (D.state disk.old).faults (D.state disk.new).faults }
@@ -163,16 +163,16 @@ fn read_rest<R: Threads, D: Disk>(
     buffer: &mut Vec<u8>,
     read: Read,
 ) -> Result<Read, OpenErr>
-    requires told { IsSomeAnd (D.state disk.old).told (λ n. place_of file.old + 1 ≤ n) }
+    requires told { IsSomeAnd (D.state disk.old).told (λ n. gate_of file.old + 1 ≤ n) }
     requires known { HasRead D.tells (D.state disk.old).bytes.seen
-        (known_from read.book read.places.list (place_of file.old)) }
+        (known_from read.book read.places.list (gate_of file.old)) }
     ensures ok { IfOk result (λ read. HasKnown D.tells (D.state disk.old).bytes.seen
-        (known_from read.book read.places.list (place_of file.new))) }
+        (known_from read.book read.places.list (gate_of file.new))) }
     ensures limits { IfOk result (λ found. found.book.limits ≡ read.book.limits) }
     ensures err { IfErr result (λ e. IsTrue D.tells → IsReadErr (D.state disk.old).bytes.seen e) }
     ensures only { IfErr result (λ e. (e ≢ errors.Empty) × (e ≢ errors.Exists)) }
     ensures told { OnOk result (IsSomeAnd (D.state disk.new).told
-        (λ n. place_of file.new + 1 ≤ n)) }
+        (λ n. gate_of file.new + 1 ≤ n)) }
     ensures state { IsTrue D.tells → (D.state disk.new).bytes ≡ (D.state disk.old).bytes }
     ensures length { KeepsLength (D.state disk.old).told (D.state disk.new).told }
     ensures faults { CountsRead result (D.state disk.old).faults (D.state disk.new).faults }
@@ -202,19 +202,19 @@ fn begin_read<D: Disk>(
     base: &Option<Base>,
     limits: Limits,
 ) -> Result<Read, OpenErr>
-    requires told { IsSomeAnd (D.state disk.old).told (λ n. place_of file.old + 1 ≤ n) }
-    requires place { place_of file.old ≡ 64 + length (floor_from base.now).base }
+    requires told { IsSomeAnd (D.state disk.old).told (λ n. gate_of file.old + 1 ≤ n) }
+    requires place { gate_of file.old ≡ 64 + length (floor_from base.now).base }
     requires decoded { IsDecoded base.now }
     requires start { IsTrue D.tells → IsStart (D.state disk.old).bytes.seen base.now }
     requires limits { AreWithin limits }
     ensures ok { IfOk result (λ read. HasRead D.tells (D.state disk.old).bytes.seen
-        (known_from read.book read.places.list (place_of file.new))) }
+        (known_from read.book read.places.list (gate_of file.new))) }
     ensures limits { IfOk result (λ read. read.book.limits ≡ limits) }
     ensures err { IfErr result (λ e. IsTrue D.tells
         → IsReadErr (D.state disk.old).bytes.seen e) }
     ensures only { IfErr result (λ e. (e ≢ errors.Empty) × (e ≢ errors.Exists)) }
     ensures told { OnOk result (IsSomeAnd (D.state disk.new).told
-        (λ n. place_of file.new + 1 ≤ n)) }
+        (λ n. gate_of file.new + 1 ≤ n)) }
     ensures state { IsTrue D.tells → (D.state disk.new).bytes ≡ (D.state disk.old).bytes }
     ensures length { KeepsLength (D.state disk.old).told (D.state disk.new).told }
     ensures faults { CountsRead result (D.state disk.old).faults (D.state disk.new).faults }
@@ -234,17 +234,17 @@ pub(crate) fn read_file<R: Threads, D: Disk>(
     disk: &mut D,
     limits: Limits,
 ) -> Result<Read, OpenErr>
-    requires told { IsSomeAnd (D.state disk.old).told (λ n. place_of file.old + 1 ≤ n) }
-    requires place { place_of file.old ≡ 64 + base_len_of file.old }
+    requires told { IsSomeAnd (D.state disk.old).told (λ n. gate_of file.old + 1 ≤ n) }
+    requires place { gate_of file.old ≡ 64 + base_len_of file.old }
     requires head { IsTrue D.tells → IsHeadOf (D.state disk.old).bytes.seen file.old }
     requires limits { AreWithin limits }
     ensures ok { IfOk result (λ read. HasKnown D.tells (D.state disk.old).bytes.seen
-        (known_from read.book read.places.list (place_of file.new))) }
+        (known_from read.book read.places.list (gate_of file.new))) }
     ensures limits { IfOk result (λ read. read.book.limits ≡ limits) }
     ensures err { IfErr result (λ e. IsTrue D.tells → IsReadErr (D.state disk.old).bytes.seen e) }
     ensures only { IfErr result (λ e. (e ≢ errors.Empty) × (e ≢ errors.Exists)) }
     ensures told { OnOk result (IsSomeAnd (D.state disk.new).told
-        (λ n. place_of file.new + 1 ≤ n)) }
+        (λ n. gate_of file.new + 1 ≤ n)) }
     ensures state { IsTrue D.tells → (D.state disk.new).bytes ≡ (D.state disk.old).bytes }
     ensures length { KeepsLength (D.state disk.old).told (D.state disk.new).told }
     ensures faults { CountsRead result (D.state disk.old).faults (D.state disk.new).faults }

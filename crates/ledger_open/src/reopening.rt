@@ -3,7 +3,7 @@
 ghost use Rattle.std.specs.Prelude.{◌≡◌, ◌≢◌, ◌⊎◌, ◌+◌, [], None, take, length, IsTrue, IfOk, IfErr, OnOk, OnErr};
 ghost use Rattle.block_file.specs.File.{IsSettled};
 ghost use Rattle.block_file.specs.Head.{generation_of};
-ghost use Rattle.block_file.specs.Place.{place_of, base_len_of};
+ghost use Rattle.block_file.specs.FileView.{gate_of, base_len_of};
 ghost use Rattle.ledger_disk.specs.Disk.{settled_state, CountsFault};
 ghost use Rattle.ledger_model.specs.Limits.{AreWithin};
 ghost use Rattle.twin_file.specs.Images.{KeepsPassed};
@@ -71,11 +71,11 @@ fn read_twin<R: Threads, D: Disk>(
     limits: Limits,
 ) -> Result<Opened, OpenErr>
     requires told { HasTail (D.state disk.old).told (file_of twin) }
-    requires place { place_of (file_of twin) ≡ 64 + base_len_of (file_of twin) }
+    requires place { gate_of (file_of twin) ≡ 64 + base_len_of (file_of twin) }
     requires head { IsTrue D.tells → IsHeadOf (D.state disk.old).bytes.seen (file_of twin) }
     requires limits { AreWithin limits }
     ensures ok { IfOk result (λ opened. HasKnown D.tells (D.state disk.old).bytes.seen
-        (known_from opened.book opened.places.list (place_of (file_of opened.twin)))) }
+        (known_from opened.book opened.places.list (gate_of (file_of opened.twin)))) }
     ensures same { IfOk result (λ opened. (in_a_of opened.twin ≡ in_a_of twin)
         × (generation_in opened.twin ≡ generation_in twin) × (copy_of opened.twin ≡ copy_of twin)) }
     ensures limits { IfOk result (λ opened. opened.book.limits ≡ limits) }
@@ -106,13 +106,13 @@ fn read_pair<R: Threads, D: Disk>(
     limits: Limits,
 ) -> Result<Opened, OpenErr>
     requires told { HasTail (open_of (in_a_of twin) (D.state a.old).told (D.state b.old).told) (file_of twin) }
-    requires place { place_of (file_of twin) ≡ 64 + base_len_of (file_of twin) }
+    requires place { gate_of (file_of twin) ≡ 64 + base_len_of (file_of twin) }
     requires head { IsTrue D.tells
         → IsHeadOf (open_of (in_a_of twin) (D.state a.old).bytes (D.state b.old).bytes).seen (file_of twin) }
     requires limits { AreWithin limits }
     ensures ok { IfOk result (λ opened. HasKnown D.tells
         (open_of (in_a_of twin) (D.state a.old).bytes (D.state b.old).bytes).seen
-        (known_from opened.book opened.places.list (place_of (file_of opened.twin)))) }
+        (known_from opened.book opened.places.list (gate_of (file_of opened.twin)))) }
     ensures same { IfOk result (λ opened. (in_a_of opened.twin ≡ in_a_of twin)
         × (generation_in opened.twin ≡ generation_in twin) × (copy_of opened.twin ≡ copy_of twin)) }
     ensures limits { IfOk result (λ opened. opened.book.limits ≡ limits) }
@@ -139,14 +139,14 @@ fn trim_open<D: Disk>(a: &mut D, b: &mut D, twin: &mut Twin) -> Result<(), OpenE
         (file_of twin.old) }
     ensures ok { OnOk result (IsTrue D.tells
         → (open_of (in_a_of twin.old) (D.state a.new).bytes (D.state b.new).bytes)
-        ≡ settled_state (take (place_of (file_of twin.old) + 1)
+        ≡ settled_state (take (gate_of (file_of twin.old) + 1)
         (open_of (in_a_of twin.old) (D.state a.old).bytes (D.state b.old).bytes).seen)) }
-    ensures images { IsTrue D.tells → StandsTrimmed (place_of (file_of twin.old))
+    ensures images { IsTrue D.tells → StandsTrimmed (gate_of (file_of twin.old))
         (open_of (in_a_of twin.old) (D.state a.old).bytes (D.state b.old).bytes)
         (open_of (in_a_of twin.old) (D.state a.new).bytes (D.state b.new).bytes) }
     ensures idle { OnErr result (IsTrue D.tells
         → length (open_of (in_a_of twin.old) (D.state a.old).bytes (D.state b.old).bytes).seen
-        ≡ place_of (file_of twin.old) + 1
+        ≡ gate_of (file_of twin.old) + 1
         → (open_of (in_a_of twin.old) (D.state a.new).bytes (D.state b.new).bytes)
         ≡ (open_of (in_a_of twin.old) (D.state a.old).bytes (D.state b.old).bytes)) }
     ensures other { other_of (in_a_of twin.old) (D.state a.new) (D.state b.new)
@@ -182,7 +182,7 @@ fn finish_open<D: Disk>(
         (file_of opened.old.twin) }
     requires prepared { IsPrepared opened.old.book opened.old.places.list purge }
     ensures ok { OnOk result (KnowsReopened D.tells (in_a_of opened.new.twin)
-        (known_from opened.new.book opened.new.places.list (place_of (file_of opened.new.twin)))
+        (known_from opened.new.book opened.new.places.list (gate_of (file_of opened.new.twin)))
         (D.state a.old).bytes (D.state b.old).bytes (D.state a.new).bytes (D.state b.new).bytes) }
     ensures limits { opened.new.book.limits ≡ opened.old.book.limits }
     ensures told { OnOk result (HasTail (open_of (in_a_of opened.new.twin) (D.state a.new).told (D.state b.new).told)
@@ -215,14 +215,14 @@ fn open_pair<R: Threads, D: Disk>(
     limits: Limits,
 ) -> Result<Opened, OpenErr>
     requires told { HasTail (open_of (in_a_of twin) (D.state a.old).told (D.state b.old).told) (file_of twin) }
-    requires place { place_of (file_of twin) ≡ 64 + base_len_of (file_of twin) }
+    requires place { gate_of (file_of twin) ≡ 64 + base_len_of (file_of twin) }
     requires head { IsTrue D.tells
         → IsHeadOf (open_of (in_a_of twin) (D.state a.old).bytes (D.state b.old).bytes).seen (file_of twin) }
     requires here { IsTrue D.tells → IsHere (in_a_of twin) (generation_in twin)
         (D.state a.old).bytes (D.state b.old).bytes }
     requires limits { AreWithin limits }
     ensures ok { IfOk result (λ opened. KnowsReopened D.tells (in_a_of opened.twin)
-        (known_from opened.book opened.places.list (place_of (file_of opened.twin)))
+        (known_from opened.book opened.places.list (gate_of (file_of opened.twin)))
         (D.state a.old).bytes (D.state b.old).bytes (D.state a.new).bytes (D.state b.new).bytes) }
     ensures limits { IfOk result (λ opened. opened.book.limits ≡ limits) }
     ensures told { IfOk result (λ opened. HasTail
@@ -270,7 +270,7 @@ pub fn reopen<R: Threads, D: Disk>(
 ) -> Result<Opened, OpenErr>
     requires { AreWithin limits }
     ensures ok { IfOk result (λ opened. KnowsReopened D.tells (in_a_of opened.twin)
-        (known_from opened.book opened.places.list (place_of (file_of opened.twin)))
+        (known_from opened.book opened.places.list (gate_of (file_of opened.twin)))
         (D.state a.old).bytes (D.state b.old).bytes (D.state a.new).bytes (D.state b.new).bytes) }
     ensures limits { IfOk result (λ opened. opened.book.limits ≡ limits) }
     ensures told { IfOk result (λ opened. HasTail

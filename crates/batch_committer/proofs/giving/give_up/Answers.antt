@@ -1,5 +1,5 @@
 use Rattle.std.proofs.Common.{sym, subst}
-use Rattle.block_file.specs.Place.{place_of}
+use Rattle.block_file.specs.FileView.{gate_of}
 use Rattle.twin_file.specs.Which.{in_a_of, generation_in, file_of}
 use Rattle.ledger_open.specs.declared.opened.Opened.{Opened}
 use Rattle.batch_committer.specs.Committed.{ledger_on, IsFinished}
@@ -9,20 +9,20 @@ use Rattle.batch_committer.proofs.Ordering.{inside_order}
 use Rattle.batch_committer.proofs.giving.give_up.Goals as goal
 
 pub complete-requires-clause-inside : goal.complete-requires-clause-inside
-complete-requires-clause-inside g c = inside_order 64 (place_of (file_of c.args.opened.now.twin)) c.args.opened.now.places.list c.requires.order
+complete-requires-clause-inside g c = inside_order 64 (gate_of (file_of c.args.opened.now.twin)) c.args.opened.now.places.list c.requires.order
 
 pub complete-requires-clause-told : goal.complete-requires-clause-told
-complete-requires-clause-told g c = told_apart (in_a_of c.args.opened.now.twin) _ _ (place_of (file_of c.args.opened.now.twin)) c.requires.told
+complete-requires-clause-told g c = told_apart (in_a_of c.args.opened.now.twin) _ _ (gate_of (file_of c.args.opened.now.twin)) c.requires.told
 
 pub finish_erasures-requires-clause-inside : goal.finish_erasures-requires-clause-inside
-finish_erasures-requires-clause-inside g c = inside_order 64 (place_of (file_of c.args.opened.now.twin)) c.args.opened.now.places.list c.requires.order
+finish_erasures-requires-clause-inside g c = inside_order 64 (gate_of (file_of c.args.opened.now.twin)) c.args.opened.now.places.list c.requires.order
 
 pub returns-in-Ok-clause-ok : goal.returns-in-Ok-clause-ok
 returns-in-Ok-clause-ok g c =
     let e = c.in-Ok.ensures in
     let o = c.args.opened.now in
     let x = c.complete.new.opened in
-    purge_finished g.D.Disk.tells _ _ _ _ (prepared_some o.book o.places.list c.args.purge c.is_some.result c.is_some.ensures c.if-is_some.true c.requires.prepared) e.clean e.gate (told_together (in_a_of x.twin) (g.D.Disk.state c.complete.new.a) (g.D.Disk.state c.complete.new.b) (place_of (file_of x.twin)) e.told) e.order e.limits e.sizes e.faults
+    purge_finished g.D.Disk.tells _ _ _ _ (prepared_some o.book o.places.list c.args.purge c.is_some.result c.is_some.ensures c.if-is_some.true c.requires.prepared) e.done.clean e.done.gate (told_together (in_a_of x.twin) (g.D.Disk.state c.complete.new.a) (g.D.Disk.state c.complete.new.b) (gate_of (file_of x.twin)) e.told) e.done.order e.limits e.sizes e.faults
 
 pub returns-in-Ok-finish_erasures-clause-ok : goal.returns-in-Ok-finish_erasures-clause-ok
 returns-in-Ok-finish_erasures-clause-ok g c =
@@ -31,7 +31,7 @@ returns-in-Ok-finish_erasures-clause-ok g c =
     let before = pair (g.D.Disk.state c.args.a.now) (g.D.Disk.state c.args.b.now) in
     let after = pair (g.D.Disk.state c.finish_erasures.new.a) (g.D.Disk.state c.finish_erasures.new.b) in
     subst (λ (x : Opened). IsFinished g.D.Disk.tells (ledger_on o before) (ledger_on x after) before after) (sym e.same)
-    (erased_finished g.D.Disk.tells o.book o.places.list (place_of (file_of o.twin)) (in_a_of o.twin) (generation_in o.twin) before after e.other
+    (erased_finished g.D.Disk.tells o.book o.places.list (gate_of (file_of o.twin)) (in_a_of o.twin) (generation_in o.twin) before after e.other
     (prepared_none o.book o.places.list c.args.purge c.is_some.result c.is_some.ensures c.if-is_some.false c.requires.prepared) c.requires.order e.ok e.rest e.told e.faults)
 
 pub returns-clause-err : goal.returns-clause-err
@@ -40,4 +40,4 @@ returns-clause-err g c =
     let o = c.args.opened.now in
     let before = pair (g.D.Disk.state c.args.a.now) (g.D.Disk.state c.args.b.now) in
     let after = pair (g.D.Disk.state c.finish_erasures.new.a) (g.D.Disk.state c.finish_erasures.new.b) in
-    erased_unfinished g.D.Disk.tells o.book o.places.list (place_of (file_of o.twin)) (in_a_of o.twin) (generation_in o.twin) before after e.other _ e.only e.faults e.images
+    erased_unfinished g.D.Disk.tells o.book o.places.list (gate_of (file_of o.twin)) (in_a_of o.twin) (generation_in o.twin) before after e.other _ e.only e.faults e.images

@@ -13,7 +13,7 @@ returns-in-Some-clause-bytes g c =
 pub returns-in-Some-clause-images : goal.returns-in-Some-clause-images
 returns-in-Some-clause-images g c = λ tells h e quiet stands image left.
     still c.args.book.now c.args.places.now.list (g.D.Disk.state c.args.disk.now).bytes (g.D.Disk.state c.zero_range.new.disk).bytes h e c.in-Some.place (c.in-Some.ensures.content h (are_of c.args.book.now c.args.places.now.list h e)) c.from.result c.from.ensures image stands
-    (c.zero_range.ensures.images tells quiet image left)
+    ((c.zero_range.ensures.kept tells).images quiet image left)
 
 pub returns-in-Some-clause-idle : goal.returns-in-Some-clause-idle
 returns-in-Some-clause-idle g c = λ tells h e quiet erased.
@@ -40,7 +40,7 @@ pub returns-in-Some-clause-rest : goal.returns-in-Some-clause-rest
 returns-in-Some-clause-rest g c = λ tells low high all.
     let place = c.in-Some.place in
     let within = c.in-Some.ensures.between low high all in
-    outside_wider low high place.content_at c.from.result (g.D.Disk.state c.args.disk.now).bytes.seen (g.D.Disk.state c.zero_range.new.disk).bytes.seen within.0 (omega (arith, within.1, c.from.ensures)) (c.zero_range.ensures.seen tells)
+    outside_wider low high place.content_at c.from.result (g.D.Disk.state c.args.disk.now).bytes.seen (g.D.Disk.state c.zero_range.new.disk).bytes.seen within.0 (omega (arith, within.1, c.from.ensures)) (c.zero_range.ensures.kept tells).seen
 
 pub returns-in-None-clause-rest : goal.returns-in-None-clause-rest
 returns-in-None-clause-rest g c = λ tells low high all. outside_same low (high - low) (g.D.Disk.state c.args.disk.now).bytes.seen

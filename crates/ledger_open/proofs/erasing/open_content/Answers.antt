@@ -3,7 +3,7 @@ use Rattle.std.proofs.Common.{ℕ, ◌+◌, ◌-◌, ◌≤◌, sym, ap, ◌∙�
 use Rattle.merkle_tree.specs.declared.head.Head.{Head}
 use Rattle.ledger_open.proofs.FinishLaws.{not_none, no_target, target_there, has_place, not_below, not_le, found_in}
 use Rattle.ledger_open.proofs.RestLaws.{all_of_each}
-use Rattle.ledger_open.specs.declared.places.PlaceAt.{PlaceAt}
+use Rattle.block_file.specs.declared.place.PlaceAt.{PlaceAt}
 use Rattle.ledger_open.proofs.erasing.open_content.Goals as goal
 
 pub returns-in_default-clause-content : goal.returns-in_default-clause-content

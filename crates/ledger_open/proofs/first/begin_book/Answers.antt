@@ -1,8 +1,8 @@
 use Rattle.std.proofs.Common.{sym, ◌∙◌, ap, List}
 use Rattle.journal_record.specs.Entry.{content_digest_of}
 use Rattle.std.proofs.Common.{◌++◌, ◌∷◌, [], ℕ, take, drop}
-use Rattle.ledger_open.specs.Places.{place_of_record}
-use Rattle.ledger_open.specs.declared.places.PlaceAt.{PlaceAt}
+use Rattle.block_file.specs.Places.{place_of_record}
+use Rattle.block_file.specs.declared.place.PlaceAt.{PlaceAt}
 use Rattle.ledger_open.proofs.first.begin_book.Goals as goal
 
 pub returns-clause-ok : goal.returns-clause-ok

@@ -1,5 +1,5 @@
 use Rattle.std.proofs.Common.{sym, ◌∙◌, ap, subst, ◌+◌, ◌++◌, ℕ, List, arith, inl, inr}
-use Rattle.block_file.specs.Place.{place_of}
+use Rattle.block_file.specs.FileView.{gate_of}
 use Rattle.block_file.specs.declared.block.BlockAt.{BlockAt}
 use Rattle.ledger_open.specs.Ahead.{blocks_in, number_behind, IsAhead, IsStop}
 use Rattle.ledger_open.specs.Opening.{IsReadErr, known_from}
@@ -35,7 +35,7 @@ take_beside-requires-clause-ahead g c =
     let bs = blocks_in c.args.ahead.now.blocks.items in
     let stop = c.args.ahead.now.stop in
     let cs = blocks_in c.in-Ok.next.blocks.items in
-    let place = place_of c.args.file.now in
+    let place = gate_of c.args.file.now in
     let end = subst (λ (p : ℕ). IsStop tells file p (number_behind (c.size.result + c.args.ahead.now.count) cs) c.in-Ok.next.stop) c.in-Ok.ensures.place c.in-Ok.ensures.stop in
     let a = ahead_both tells file k c.size.result c.args.ahead.now.count place bs cs stop c.in-Ok.next.stop c.size.ensures.size n.count_is n.place_is n.are c.in-Ok.ensures.read end in
     let b = subst (λ (l : List BlockAt). IsAhead tells file k (l ++ cs) c.in-Ok.next.stop) (ap blocks_in (sym c.as_slice.ensures.value)) a in
@@ -50,17 +50,17 @@ returns-in-Ok-take_beside-clause-ok g c =
     let bs = blocks_in c.args.ahead.now.blocks.items in
     let stop = c.args.ahead.now.stop in
     let cs = blocks_in c.in-Ok.next.blocks.items in
-    let place = place_of c.args.file.now in
+    let place = gate_of c.args.file.now in
     let end = subst (λ (p : ℕ). IsStop tells file p (number_behind (c.size.result + c.args.ahead.now.count) cs) c.in-Ok.next.stop) c.in-Ok.ensures.place c.in-Ok.ensures.stop in
     let a = ahead_both tells file k c.size.result c.args.ahead.now.count place bs cs stop c.in-Ok.next.stop c.size.ensures.size n.count_is n.place_is n.are c.in-Ok.ensures.read end in
     let b = subst (λ (l : List BlockAt). IsAhead tells file k (l ++ cs) c.in-Ok.next.stop) (ap blocks_in (sym c.as_slice.ensures.value)) a in
     let o = c.in-Ok-take_beside.ensures in
-    next_blocks tells file c.take_beside.new.book c.take_beside.new.places.list n.at place (place_of c.read_ahead.new.file) bs (blocks_in c.as_slice.result.now) c.in-Ok.next c.take_beside.new.next
+    next_blocks tells file c.take_beside.new.book c.take_beside.new.places.list n.at place (gate_of c.read_ahead.new.file) bs (blocks_in c.as_slice.result.now) c.in-Ok.next c.take_beside.new.next
     (ap blocks_in c.as_slice.ensures.value) n.place_is c.in-Ok.ensures.place c.in-Ok.ensures.count o.blocks o.count o.stop o.hashed (o.ok.goes tells file n.at cs c.in-Ok.next.stop b)
 
 pub returns-in-Ok-take_beside-clause-nearer : goal.returns-in-Ok-take_beside-clause-nearer
 returns-in-Ok-take_beside-clause-nearer g c =
-    let grows = place_grows (place_of c.args.file.now) (place_of c.read_ahead.new.file) c.in-Ok.next.blocks.items c.in-Ok.ensures.place in
+    let grows = place_grows (gate_of c.args.file.now) (gate_of c.read_ahead.new.file) c.in-Ok.next.blocks.items c.in-Ok.ensures.place in
     (λ full. omega (arith, grows, c.in-Ok.ensures.some (sym c.in-Ok-take_beside.ensures.stop ∙ full)), omega (arith, grows))
 
 pub returns-in-Err-take_beside-clause-err : goal.returns-in-Err-take_beside-clause-err
@@ -72,7 +72,7 @@ returns-in-Err-take_beside-clause-err g c told =
     let bs = blocks_in c.args.ahead.now.blocks.items in
     let stop = c.args.ahead.now.stop in
     let cs = blocks_in c.in-Ok.next.blocks.items in
-    let place = place_of c.args.file.now in
+    let place = gate_of c.args.file.now in
     let end = subst (λ (p : ℕ). IsStop tells file p (number_behind (c.size.result + c.args.ahead.now.count) cs) c.in-Ok.next.stop) c.in-Ok.ensures.place c.in-Ok.ensures.stop in
     let a = ahead_both tells file k c.size.result c.args.ahead.now.count place bs cs stop c.in-Ok.next.stop c.size.ensures.size n.count_is n.place_is n.are c.in-Ok.ensures.read end in
     let b = subst (λ (l : List BlockAt). IsAhead tells file k (l ++ cs) c.in-Ok.next.stop) (ap blocks_in (sym c.as_slice.ensures.value)) a in

@@ -23,10 +23,10 @@ pub returns-in_err-sync-2-clause-images : goal.returns-in_err-sync-2-clause-imag
 returns-in_err-sync-2-clause-images g c told quiet h p = settled_pair h (g.D.Disk.state c.args.a.now).bytes (g.D.Disk.state c.args.b.now).bytes _ _ (c.in_ok-sync.ensures.ok told) (c.in_err-sync-2.ensures.err told ∙ (quiet (fault_is c.from_residual-in_err-sync-2.result c.from_residual-in_err-sync-2.ensures.1)).1) p
 
 pub returns-in-Ok-None-clause-images : goal.returns-in-Ok-None-clause-images
-returns-in-Ok-None-clause-images g c told quiet h p = settled_pair h (g.D.Disk.state c.args.a.now).bytes (g.D.Disk.state c.args.b.now).bytes _ _ (c.reopen.ensures.state_a told ∙ c.in_ok-sync.ensures.ok told) (c.reopen.ensures.state_b told ∙ c.in_ok-sync-2.ensures.ok told) p
+returns-in-Ok-None-clause-images g c told quiet h p = settled_pair h (g.D.Disk.state c.args.a.now).bytes (g.D.Disk.state c.args.b.now).bytes _ _ (c.reopen.ensures.read.bytes_a told ∙ c.in_ok-sync.ensures.ok told) (c.reopen.ensures.read.bytes_b told ∙ c.in_ok-sync-2.ensures.ok told) p
 
 pub returns-in-Err-clause-images : goal.returns-in-Err-clause-images
-returns-in-Err-clause-images g c told quiet h p = settled_pair h (g.D.Disk.state c.args.a.now).bytes (g.D.Disk.state c.args.b.now).bytes _ _ (c.reopen.ensures.state_a told ∙ c.in_ok-sync.ensures.ok told) (c.reopen.ensures.state_b told ∙ c.in_ok-sync-2.ensures.ok told) p
+returns-in-Err-clause-images g c told quiet h p = settled_pair h (g.D.Disk.state c.args.a.now).bytes (g.D.Disk.state c.args.b.now).bytes _ _ (c.reopen.ensures.read.bytes_a told ∙ c.in_ok-sync.ensures.ok told) (c.reopen.ensures.read.bytes_b told ∙ c.in_ok-sync-2.ensures.ok told) p
 
 pub returns-in-Err-clause-err : goal.returns-in-Err-clause-err
 returns-in-Err-clause-err g c told =
@@ -36,10 +36,10 @@ returns-in-Err-clause-err g c told =
 
 pub returns-in-Ok-Some-clause-refused : goal.returns-in-Ok-Some-clause-refused
 returns-in-Ok-Some-clause-refused g c told e inside why =
-    let ea = c.reopen.ensures.state_a told ∙ c.in_ok-sync.ensures.ok told in
-    let eb = c.reopen.ensures.state_b told ∙ c.in_ok-sync-2.ensures.ok told in
+    let ea = c.reopen.ensures.read.bytes_a told ∙ c.in_ok-sync.ensures.ok told in
+    let eb = c.reopen.ensures.read.bytes_b told ∙ c.in_ok-sync-2.ensures.ok told in
     let x = in_a_of c.in-Ok-Some.twin in
-    let t = taken_at (g.D.Disk.state c.sync.new.self).bytes (g.D.Disk.state c.sync-2.new.self).bytes (g.D.Disk.state c.reopen.new.a).bytes (g.D.Disk.state c.reopen.new.b).bytes x c.in-Ok-Some.twin (c.reopen.ensures.state_a told) (c.reopen.ensures.state_b told)
+    let t = taken_at (g.D.Disk.state c.sync.new.self).bytes (g.D.Disk.state c.sync-2.new.self).bytes (g.D.Disk.state c.reopen.new.a).bytes (g.D.Disk.state c.reopen.new.b).bytes x c.in-Ok-Some.twin (c.reopen.ensures.read.bytes_a told) (c.reopen.ensures.read.bytes_b told)
     (taken_as _ _ c.in-Ok-Some.field-0 c.in-Ok-Some.twin x c.in-Ok-Some.field-0-is (c.in-Ok-Some.ensures.answer told) refl) in
     elim (c.open_pair.ensures.kept told) [
       | inl whole ↦ absurd (inside (whole_opens x _ _ _ _ (ap (λ (s : State). s.seen) ea) (ap (λ (s : State). s.seen) eb) t (subst HasLawfulBlocks (seen_of x _ _) whole) e why))
@@ -48,8 +48,8 @@ returns-in-Ok-Some-clause-refused g c told e inside why =
 
 pub returns-in-Ok-Some-clause-clean : goal.returns-in-Ok-Some-clause-clean
 returns-in-Ok-Some-clause-clean g c told qa qb h clean =
-    let ea = c.reopen.ensures.state_a told ∙ c.in_ok-sync.ensures.ok told ∙ sym qa in
-    let eb = c.reopen.ensures.state_b told ∙ c.in_ok-sync-2.ensures.ok told ∙ sym qb in
+    let ea = c.reopen.ensures.read.bytes_a told ∙ c.in_ok-sync.ensures.ok told ∙ sym qa in
+    let eb = c.reopen.ensures.read.bytes_b told ∙ c.in_ok-sync-2.ensures.ok told ∙ sym qb in
     let still = c.open_pair.ensures.clean told (subst IsSettled (sym ea) qa) (subst IsSettled (sym eb) qb) h (subst (λ (s : State). IsCleanPair s.seen (g.D.Disk.state c.reopen.new.b).bytes.seen h) (sym ea) (subst (λ (s : State). IsCleanPair (g.D.Disk.state c.args.a.now).bytes.seen s.seen h) (sym eb) clean)) in
     (still.0 ∙ ea, still.1 ∙ eb)
 
@@ -67,10 +67,10 @@ err_weaker (Err e) P Q f p = f e p
 
 pub returns-in-Ok-Some-clause-err : goal.returns-in-Ok-Some-clause-err
 returns-in-Ok-Some-clause-err g c = err_weaker c.open_pair.result _ _ (λ e why told.
-    let ea = c.reopen.ensures.state_a told ∙ c.in_ok-sync.ensures.ok told in
-    let eb = c.reopen.ensures.state_b told ∙ c.in_ok-sync-2.ensures.ok told in
+    let ea = c.reopen.ensures.read.bytes_a told ∙ c.in_ok-sync.ensures.ok told in
+    let eb = c.reopen.ensures.read.bytes_b told ∙ c.in_ok-sync-2.ensures.ok told in
     let x = in_a_of c.in-Ok-Some.twin in
-    let t = taken_at (g.D.Disk.state c.sync.new.self).bytes (g.D.Disk.state c.sync-2.new.self).bytes (g.D.Disk.state c.reopen.new.a).bytes (g.D.Disk.state c.reopen.new.b).bytes x c.in-Ok-Some.twin (c.reopen.ensures.state_a told) (c.reopen.ensures.state_b told)
+    let t = taken_at (g.D.Disk.state c.sync.new.self).bytes (g.D.Disk.state c.sync-2.new.self).bytes (g.D.Disk.state c.reopen.new.a).bytes (g.D.Disk.state c.reopen.new.b).bytes x c.in-Ok-Some.twin (c.reopen.ensures.read.bytes_a told) (c.reopen.ensures.read.bytes_b told)
     (taken_as _ _ c.in-Ok-Some.field-0 c.in-Ok-Some.twin x c.in-Ok-Some.field-0-is (c.in-Ok-Some.ensures.answer told) refl) in
     let here = read_err x (g.D.Disk.state c.reopen.new.a).bytes.seen (g.D.Disk.state c.reopen.new.b).bytes.seen t e (subst (λ (l : List ℕ). IsReadErr l e) (seen_of x _ _) (why told)) in
     subst (λ (l : List ℕ). IsOpenErr l (g.D.Disk.state c.args.b.now).bytes.seen e) (ap (λ (s : State). s.seen) ea) (subst (λ (l : List ℕ). IsOpenErr (g.D.Disk.state c.reopen.new.a).bytes.seen l e) (ap (λ (s : State). s.seen) eb) here)) c.open_pair.ensures.err
@@ -86,5 +86,5 @@ returns-in-Ok-Some-clause-ok g c = ok_weaker c.open_pair.result _ _ (λ opened k
   known.2,
   λ told.
       reopened_as (in_a_of opened.twin) _ known.0 known.1 (g.D.Disk.state c.args.a.now).bytes (g.D.Disk.state c.args.b.now).bytes (g.D.Disk.state c.reopen.new.a).bytes (g.D.Disk.state c.reopen.new.b).bytes _ _
-      (ap (λ (s : State). s.seen) (c.reopen.ensures.state_a told ∙ c.in_ok-sync.ensures.ok told)) (ap (λ (s : State). s.seen) (c.reopen.ensures.state_b told ∙ c.in_ok-sync-2.ensures.ok told)) (known.3 told),
+      (ap (λ (s : State). s.seen) (c.reopen.ensures.read.bytes_a told ∙ c.in_ok-sync.ensures.ok told)) (ap (λ (s : State). s.seen) (c.reopen.ensures.read.bytes_b told ∙ c.in_ok-sync-2.ensures.ok told)) (known.3 told),
 )) c.open_pair.ensures.ok

@@ -1,7 +1,7 @@
 use Rattle.std.proofs.Common.{refl, ap, ◌∙◌, ◌+◌, ◌++◌, List, map, inl, inr}
 use Rattle.block_file.specs.declared.block.RecordAt.{RecordAt}
 use Rattle.ledger_open.specs.Opening.{known_from}
-use Rattle.ledger_open.specs.Places.{place_of_record}
+use Rattle.block_file.specs.Places.{place_of_record}
 use Rattle.ledger_open.proofs.AheadLaws.{more_ahead, bad_ahead}
 use Rattle.ledger_open.proofs.FirstLaws.{layout_read}
 use Rattle.ledger_open.proofs.MoreLaws.{first_below}

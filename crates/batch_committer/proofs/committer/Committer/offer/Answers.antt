@@ -1,6 +1,6 @@
 use Rattle.std.proofs.Common.{◌≡◌, false, sym, ap, ◌∙◌}
 use Rattle.batch_committer.specs.World.{Held}
-use Rattle.batch_committer.specs.declared.end.End.TheVariants.{Closed}
+use Rattle.batch_committer.specs.declared.failure.CommitErr.TheVariants.{Closed}
 use Rattle.batch_committer.proofs.Judging.{on_ok_then}
 use Rattle.batch_committer.proofs.Offering.{if_err_then}
 use Rattle.batch_committer.proofs.Taken.{takes_at, ends_at, never_ends_closed}

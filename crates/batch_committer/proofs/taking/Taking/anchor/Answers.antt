@@ -1,4 +1,4 @@
-use Rattle.std.proofs.Common.{◌≡◌, ◌∙◌, ap, inl, inr, ◌≤◌, false, true, Some, refl, sym, subst}
+use Rattle.std.proofs.Common.{◌≡◌, ◌∙◌, ap, length, inl, inr, ◌≤◌, false, true, Some, refl, sym, subst}
 use Rattle.ledger_bytes.specs.declared.refusal.Refusal.TheVariants.{NotaryFault, NotaryFull}
 use Rattle.ledger_model.specs.declared.job.Job.TheVariants.{Anchor}
 use Rattle.ledger_book.specs.Books as books
@@ -7,11 +7,12 @@ use Rattle.ledger_book.specs.Steps.{Applies, HasOperatorRoom}
 use Rattle.batch_committer.specs.Attending.{step_in}
 use Rattle.batch_committer.specs.World.{CommitterState, Keeps}
 use Rattle.batch_committer.proofs.Attends.{attends_full, full_stamp, full_why, attends_failed, failed_stamp, failed_why, attends_stamped, stamped}
-use Rattle.batch_committer.proofs.Anchoring.{on_err_all, unstamped_judged, stamped_placed, accepted_real, full_of, failed_of, failed_not_full, memory_of}
-use Rattle.batch_committer.proofs.Judging.{has_placed, judged_placed, order_at}
+use Rattle.batch_committer.proofs.Anchoring.{on_err_all, unstamped_judged, accepted_real, full_of, failed_of, failed_not_full, memory_of}
+use Rattle.batch_committer.proofs.Judging.{judged_placed, order_at}
 use Rattle.batch_committer.specs.contracts.taking.Taking.{the_view}
 use Rattle.std.proofs.lemmas.Bool.{true≢false}
-use Rattle.ledger_model.specs.Texts.{answer_for}
+use Rattle.ledger_model.specs.declared.outcome.Outcome.TheVariants.{Placed}
+use Rattle.journal_record.specs.Approval.{who_of}
 use Rattle.ledger_model.specs.declared.answer.Answer.TheVariants.{Receipt}
 use Rattle.batch_committer.proofs.taking.Taking.anchor.Goals as goal
 
@@ -48,17 +49,16 @@ returns-in-Err-Failed-clause-judged g c =
           },
     )
 
-pub gather_placed-requires-clause-has : goal.gather_placed-requires-clause-has
-gather_placed-requires-clause-has g c =
-    has_placed c.self.inside.opened.book c.apply.new.self _ c.in-Placed.jsn c.in-Placed.leaf c.apply.ensures.same.floor c.in_ok-jsn.ensures.number c.in-Placed.is
+pub place_time-requires-clause-room : goal.place_time-requires-clause-room
+place_time-requires-clause-room g c = subst (λ (k : CommitterState). HasOperatorRoom k.book) (sym c.self.view_is) c.requires.room
 
 pub returns-in-Err-NoMemory-clause-unasked : goal.returns-in-Err-NoMemory-clause-unasked
 returns-in-Err-NoMemory-clause-unasked g c =
     let e = c.in-Err-NoMemory.ensures in
     inr (refl, memory_of c.peg-peg.result.0 (g.N.Notary.state c.args.notary.now) (g.N.Notary.state c.stamp.new.self) c.in-Err-NoMemory.field-0 c.in-Err-NoMemory.field-0-is e.list e.faults)
 
-pub returns-in_err-jsn-clause-unasked : goal.returns-in_err-jsn-clause-unasked
-returns-in_err-jsn-clause-unasked g c =
+pub returns-in_err-placed-clause-unasked : goal.returns-in_err-placed-clause-unasked
+returns-in_err-placed-clause-unasked g c =
     let n = g.N.Notary.state c.args.notary.now in
     let m = g.N.Notary.state c.stamp.new.self in
     let e = c.in-Ok.ensures in
@@ -70,23 +70,18 @@ returns-in_err-jsn-clause-unasked g c =
           (c.peg-peg.ensures.peg h (subst (λ (k : CommitterState). books.Stands k.book h) (sym c.self.view_is) p.serves.stands) (c.requires.settled h p.serves)) e.faults,
     ))
 
-pub returns-in_err-gather_placed-in-Placed-clause-unasked : goal.returns-in_err-gather_placed-in-Placed-clause-unasked
-returns-in_err-gather_placed-in-Placed-clause-unasked g c =
+pub returns-in_err-gather-clause-unasked : goal.returns-in_err-gather-clause-unasked
+returns-in_err-gather-clause-unasked g c =
     let n = g.N.Notary.state c.args.notary.now in
     let m = g.N.Notary.state c.stamp.new.self in
     let e = c.in-Ok.ensures in
-    on_err_all c.from_residual-in_err-gather_placed-in-Placed.result
+    on_err_all c.from_residual-in_err-gather.result
     (inl (
       false,
       λ h lane index line p.
           attends_stamped n m c.peg-peg.result.0 c.peg-peg.ensures.wide c.in-Ok.stamp e.list.1 e.list.2 e.lawful h lane index line (accepted_real c.args.self.now h p c.requires.room)
           (c.peg-peg.ensures.peg h (subst (λ (k : CommitterState). books.Stands k.book h) (sym c.self.view_is) p.serves.stands) (c.requires.settled h p.serves)) e.faults,
     ))
-
-pub unreachable-requires : goal.unreachable-requires
-unreachable-requires g c =
-    stamped_placed c.self.inside.opened.book c.in-Ok.stamp c.in_ok-jsn.field-0
-    (subst (λ (k : CommitterState). HasOperatorRoom k.book) (sym c.self.view_is) c.requires.room) (c.in_ok-jsn.ensures.anchor refl) c.in-Refused.is
 
 pub returns-clause-judged : goal.returns-clause-judged
 returns-clause-judged g c =
@@ -98,20 +93,21 @@ returns-clause-judged g c =
       λ h lane index line keeps.
           let p = subst (λ (k : CommitterState). Keeps k h) (sym c.self.view_is) keeps in
           let own = accepted_real c.args.self.now h keeps c.requires.room in
-          let x = c.in_ok-gather_placed-in-Placed.ensures in
+          let x = c.in_ok-gather.ensures in
+          let placed = c.in_ok-placed.placed in
+          let step = step_in n m false lane index line in
           let given = stamped n m peg c.peg-peg.ensures.wide c.in-Ok.stamp e.list.1 e.list.2 e.lawful lane index line e.list.0 in
           record {
-            judged = judged_placed (Some c.in-Ok.stamp) _ _ c.gather_placed.new.self h (step_in n m false lane index line) Anchor c.in_ok-jsn.field-0 c.in-Placed.jsn c.in-Placed.leaf _ p (λ other. absurd (true≢false other)) (λ alone. c.requires.settled h keeps.serves) refl
-                (subst (λ b. Applies c.self.inside.opened.book.limits (Some c.in-Ok.stamp) h Anchor c.in_ok-jsn.field-0 b) (sym x.book) (c.in_ok-jsn.ensures.ok h p.serves))
-                (subst (λ (b : books.Kept). b.limits ≡ c.self.inside.opened.book.limits) (sym x.book) c.apply.ensures.same.limits)
-                (subst (λ (b : books.Kept). b.floor ≡ c.self.inside.opened.book.floor) (sym x.book) c.apply.ensures.same.floor) c.in-Placed.is
-                (λ f journal content given parts serves there floor. x.gathered f journal content given parts (subst (λ b. Serves b f) x.book serves) there (subst (λ (b : books.Kept). b.floor ≤ c.in-Placed.jsn) x.book floor))
-                refl refl refl x.rest.file.place
-                (ap (Receipt c.in-Placed.jsn c.in-Placed.leaf) (sym given) ∙ sym (ap (answer_for h (step_in n m false lane index line)) c.in-Placed.is)) given;
+            judged = judged_placed (Some c.in-Ok.stamp) _ _ c.gather.new.self h step Anchor (Placed placed) placed _ p (λ other. absurd (true≢false other)) (λ alone. c.requires.settled h keeps.serves) refl
+                (subst (λ b. Applies c.self.inside.opened.book.limits (Some c.in-Ok.stamp) h Anchor (Placed placed) b) (sym x.book) (c.in_ok-placed.ensures.ok h p.serves))
+                (subst (λ (b : books.Kept). b.limits ≡ c.self.inside.opened.book.limits) (sym x.book) c.place_time.ensures.same.limits)
+                (subst (λ (b : books.Kept). b.floor ≡ c.self.inside.opened.book.floor) (sym x.book) c.place_time.ensures.same.floor) refl
+                (λ journal content approvals parts header_is widths len content_is who_is. x.gathered journal header_is widths (ap length (sym parts.0) ∙ len) (content_is ∙ parts.0) (who_is ∙ ap who_of parts.1))
+                refl refl refl x.rest.file.gate (ap (Receipt placed.jsn placed.leaf) (sym given)) given;
             attended = attends_stamped n m peg c.peg-peg.ensures.wide c.in-Ok.stamp e.list.1 e.list.2 e.lawful h lane index line own
                 (c.peg-peg.ensures.peg h p.serves.stands (c.requires.settled h keeps.serves)) e.faults;
           },
     )
 
 pub returns-clause-order : goal.returns-clause-order
-returns-clause-order g c = λ all. c.in_ok-gather_placed-in-Placed.ensures.order (order_at (the_view c.self.inside) c.args.self.now c.self.view_is all)
+returns-clause-order g c = λ all. c.in_ok-gather.ensures.order (order_at (the_view c.self.inside) c.args.self.now c.self.view_is all)

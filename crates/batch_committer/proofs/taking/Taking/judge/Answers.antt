@@ -4,29 +4,25 @@ use Rattle.ledger_book.specs.Books as books
 use Rattle.ledger_book.specs.Books.{Serves}
 use Rattle.ledger_book.proofs.OpenLaws.{opens_gather}
 use Rattle.ledger_book.proofs.StandsLaws.{none_waits}
-use Rattle.ledger_book.proofs.ApplyLaws.{on_ok_all}
+use Rattle.ledger_book.proofs.ApplyLaws.{asked_room, on_ok_all}
 use Rattle.ledger_book.specs.Steps.{PlacesNothing, Applies, OpenGathers}
 use Rattle.ledger_model.specs.Rules.{closes_after}
 use Rattle.ledger_model.specs.Outcomes.{AsksFor}
 use Rattle.ledger_model.specs.Judgements.{own_refusal}
 use Rattle.ledger_model.specs.Limits.{real_limits}
-use Rattle.ledger_model.specs.Texts.{answer_for}
+use Rattle.ledger_model.specs.Texts.{answer_for, told_reply}
 use Rattle.ledger_model.specs.declared.answer.Answer.TheVariants.{Reply, Receipt}
 use Rattle.ledger_model.specs.declared.job.Job.{Job}
 use Rattle.ledger_model.specs.declared.job.Job.TheVariants.{Prove, Extend, Head}
 use Rattle.ledger_model.specs.declared.outcome.Query.TheVariants as query
 use Rattle.batch_committer.specs.Attending.{step_in, Attended, JudgedBy, EndsAsking}
 use Rattle.batch_committer.specs.World.{CommitterState, Keeps, Holds, world, pair}
-use Rattle.batch_committer.proofs.Anchoring.{asked_room, asked_anchor, asked_head, asked_prove, asked_extend, asked_accepted, anchor_asks, keeps_book, on_err_all, told_judged}
+use Rattle.batch_committer.proofs.Anchoring.{asked_anchor, asked_head, asked_prove, asked_extend, asked_accepted, anchor_asks, keeps_book, on_err_all, told_judged}
 use Rattle.batch_committer.proofs.Attends.{unstamped, unstamped_same, attends_other, ends_untouched}
-use Rattle.batch_committer.proofs.Judging.{real_applies, has_placed, judged_same_kept, judged_placed, asks_closes, alone_first, order_at, on_ok_then}
+use Rattle.batch_committer.proofs.Judging.{real_applies, judged_same_kept, judged_placed, asks_closes, alone_first, order_at, on_ok_then}
 use Rattle.batch_committer.specs.contracts.taking.Taking.{the_view}
 use Rattle.batch_committer.proofs.ReadLaws.{holds_book}
 use Rattle.batch_committer.proofs.taking.Taking.judge.Goals as goal
-
-pub gather_placed-requires-clause-has : goal.gather_placed-requires-clause-has
-gather_placed-requires-clause-has g c =
-    has_placed c.self.inside.opened.book c.apply.new.self _ c.in-Placed.jsn c.in-Placed.leaf c.apply.ensures.same.floor c.in_ok-refusal.ensures.number c.in-Placed.is
 
 pub anchor-requires-clause-room : goal.anchor-requires-clause-room
 anchor-requires-clause-room g c =
@@ -63,13 +59,12 @@ returns-in_ok-gather_placed-in-Placed-clause-judged g c =
           let step = step_in n n false lane index line in
           let a = c.in_ok-refusal.ensures.ok h p.serves in
           record {
-            judged = judged_placed None _ _ c.gather_placed.new.self h step c.args.job.now _ c.in-Placed.jsn c.in-Placed.leaf _ p (λ other. opens_gather c.args.self.now.book h holds.keeps.serves.stands c.requires.room.1)
+            judged = judged_placed None _ _ c.gather_placed.new.self h step c.args.job.now _ c.in-Placed.placed _ p (λ other. opens_gather c.args.self.now.book h holds.keeps.serves.stands c.requires.room.1)
                 (λ alone. none_waits _ h holds.keeps.serves.stands (sym (c.requires.settled (alone_first c.args.job.now alone)))) c.requires.fits
                 (subst (λ b. Applies c.self.inside.opened.book.limits None h c.args.job.now c.in_ok-refusal.field-0 b) (sym e.book) a)
                 (subst (λ (b : books.Kept). b.limits ≡ c.self.inside.opened.book.limits) (sym e.book) c.apply.ensures.same.limits)
                 (subst (λ (b : books.Kept). b.floor ≡ c.self.inside.opened.book.floor) (sym e.book) c.apply.ensures.same.floor) c.in-Placed.is
-                (λ f journal content given parts serves there floor. e.gathered f journal content given parts (subst (λ b. Serves b f) e.book serves) there (subst (λ (b : books.Kept). b.floor ≤ c.in-Placed.jsn) e.book floor))
-                refl refl refl e.rest.file.place (ap (Receipt c.in-Placed.jsn c.in-Placed.leaf) (sym (unstamped n false lane index line)) ∙ sym (ap (answer_for h step) c.in-Placed.is)) (unstamped n false lane index line);
+                e.gathered refl refl refl e.rest.file.gate (ap (Receipt c.in-Placed.placed.jsn c.in-Placed.placed.leaf) (sym (unstamped n false lane index line)) ∙ sym (ap (answer_for h step) c.in-Placed.is)) (unstamped n false lane index line);
             attended = attends_other n h lane index line c.args.job.now (λ is none. let asks = anchor_asks _ h c.args.job.now _ _ (real_applies None c.self.inside.opened.book _ h c.args.job.now _ p.limits a) is none in let no : ⊥ = cc (asks, c.in-Placed.is) in no);
           },
     )
@@ -118,8 +113,8 @@ returns-in-Head-clause-judged g c =
           told_judged _ _ n m h (step_in n m x.0 lane index line) c.args.job.now Head c.in_ok-refusal.field-0 c.in-Reading.query query.Head _ p (e.ok h p.serves) e.unchanged c.in-Reading.is c.in-Head.is job (unstamped_same n m x.0 lane index line y.1.list.list) y,
     )
 
-pub returns-in_ok-tell-in-Get-clause-judged : goal.returns-in_ok-tell-in-Get-clause-judged
-returns-in_ok-tell-in-Get-clause-judged g c =
+pub returns-in_ok-get-in-Get-clause-judged : goal.returns-in_ok-get-in-Get-clause-judged
+returns-in_ok-get-in-Get-clause-judged g c =
     let n = g.N.Notary.state c.args.notary.now in
     let disks = pair (g.D.Disk.state c.args.a.now) (g.D.Disk.state c.args.b.now) in
     let asked = subst (AsksFor c.args.job.now) c.in-Reading.is c.in_ok-refusal.ensures.asked in
@@ -133,28 +128,26 @@ returns-in_ok-tell-in-Get-clause-judged g c =
           let a = c.in_ok-refusal.ensures.ok h p.keeps.serves in
           record {
             judged = judged_same_kept _ _ h step c.args.job.now _ _ p.keeps a nothing c.in_ok-refusal.ensures.unchanged refl refl refl
-                (ap Reply (c.in_ok-tell-in-Get.ensures.told h step sink there none) ∙ sym (ap (answer_for h step) c.in-Reading.is)) (unstamped n false lane index line);
+                (ap Reply (c.in_ok-get-in-Get.ensures.told h sink there none ∙ ap (told_reply h step) (sym c.in-Get.is)) ∙ sym (ap (answer_for h step) c.in-Reading.is)) (unstamped n false lane index line);
             attended = attends_other n h lane index line c.args.job.now (λ is own. let asks = anchor_asks _ h c.args.job.now _ _ (real_applies None c.self.inside.opened.book _ h c.args.job.now _ p.keeps.limits a) is own in let no : ⊥ = cc (asks, c.in-Reading.is, c.in-Get.is) in no);
           },
     )
 
-pub returns-in_ok-tell-in-Clue-clause-judged : goal.returns-in_ok-tell-in-Clue-clause-judged
-returns-in_ok-tell-in-Clue-clause-judged g c =
+pub returns-in_ok-reply-in-Clue-clause-judged : goal.returns-in_ok-reply-in-Clue-clause-judged
+returns-in_ok-reply-in-Clue-clause-judged g c =
     let n = g.N.Notary.state c.args.notary.now in
-    let disks = pair (g.D.Disk.state c.args.a.now) (g.D.Disk.state c.args.b.now) in
-    let asked = subst (AsksFor c.args.job.now) c.in-Reading.is c.in_ok-refusal.ensures.asked in
+    let e = c.in_ok-refusal.ensures in
     let nothing : PlacesNothing c.in_ok-refusal.field-0 = subst PlacesNothing (sym c.in-Reading.is) tt in (
       false,
       λ h lane index line sink holds.
-          let p = subst (λ (k : CommitterState). Holds g.D.Disk.tells (world k disks sink) h) (sym c.self.view_is) holds in
+          let p = subst (λ (k : CommitterState). Keeps k h) (sym c.self.view_is) holds.keeps in
           let step = step_in n n false lane index line in
-          let none = none_waits _ h holds.keeps.serves.stands (sym (c.requires.settled (asks_closes c.args.job.now c.in-Reading.query asked))) in
-          let there = holds_book g.D.Disk.tells _ c.apply.new.self disks sink h (c.in_ok-refusal.ensures.unchanged nothing) p in
-          let a = c.in_ok-refusal.ensures.ok h p.keeps.serves in
+          let a = e.ok h p.serves in
+          let told = c.in_ok-reply-in-Clue.ensures h step (subst (λ b. Serves b h) (sym (e.unchanged nothing)) p.serves) in
           record {
-            judged = judged_same_kept _ _ h step c.args.job.now _ _ p.keeps a nothing c.in_ok-refusal.ensures.unchanged refl refl refl
-                (ap Reply (c.in_ok-tell-in-Clue.ensures.told h step sink there none) ∙ sym (ap (answer_for h step) c.in-Reading.is)) (unstamped n false lane index line);
-            attended = attends_other n h lane index line c.args.job.now (λ is own. let asks = anchor_asks _ h c.args.job.now _ _ (real_applies None c.self.inside.opened.book _ h c.args.job.now _ p.keeps.limits a) is own in let no : ⊥ = cc (asks, c.in-Reading.is, c.in-Clue.is) in no);
+            judged = judged_same_kept _ _ h step c.args.job.now _ _ p a nothing e.unchanged refl refl refl
+                (ap Reply (told ∙ ap (told_reply h step) (sym c.in-Clue.is)) ∙ sym (ap (answer_for h step) c.in-Reading.is)) (unstamped n false lane index line);
+            attended = attends_other n h lane index line c.args.job.now (λ is own. let asks = anchor_asks _ h c.args.job.now _ _ (real_applies None c.self.inside.opened.book _ h c.args.job.now _ p.limits a) is own in let no : ⊥ = cc (asks, c.in-Reading.is, c.in-Clue.is) in no);
           },
     )
 
@@ -166,12 +159,12 @@ pub returns-in-Head-clause-gathers : goal.returns-in-Head-clause-gathers
 returns-in-Head-clause-gathers g c = λ other all.
     subst OpenGathers (sym (c.in_ok-refusal.ensures.unchanged (subst PlacesNothing (sym c.in-Reading.is) tt))) (subst (λ (k : CommitterState). OpenGathers k.book) (sym c.self.view_is) all)
 
-pub returns-in_ok-tell-in-Get-clause-gathers : goal.returns-in_ok-tell-in-Get-clause-gathers
-returns-in_ok-tell-in-Get-clause-gathers g c = λ other all.
+pub returns-in_ok-get-in-Get-clause-gathers : goal.returns-in_ok-get-in-Get-clause-gathers
+returns-in_ok-get-in-Get-clause-gathers g c = λ other all.
     subst OpenGathers (sym (c.in_ok-refusal.ensures.unchanged (subst PlacesNothing (sym c.in-Reading.is) tt))) (subst (λ (k : CommitterState). OpenGathers k.book) (sym c.self.view_is) all)
 
-pub returns-in_ok-tell-in-Clue-clause-gathers : goal.returns-in_ok-tell-in-Clue-clause-gathers
-returns-in_ok-tell-in-Clue-clause-gathers g c = λ other all.
+pub returns-in_ok-reply-in-Clue-clause-gathers : goal.returns-in_ok-reply-in-Clue-clause-gathers
+returns-in_ok-reply-in-Clue-clause-gathers g c = λ other all.
     subst OpenGathers (sym (c.in_ok-refusal.ensures.unchanged (subst PlacesNothing (sym c.in-Reading.is) tt))) (subst (λ (k : CommitterState). OpenGathers k.book) (sym c.self.view_is) all)
 
 pub returns-in_ok-gather_placed-in-Placed-clause-gathers : goal.returns-in_ok-gather_placed-in-Placed-clause-gathers
@@ -189,11 +182,11 @@ returns-in_err-refusal-clause-unasked g c = on_err_all c.from_residual.result (e
 pub returns-in_err-gather_placed-in-Placed-clause-unasked : goal.returns-in_err-gather_placed-in-Placed-clause-unasked
 returns-in_err-gather_placed-in-Placed-clause-unasked g c = on_err_all c.from_residual-in_err-gather_placed-in-Placed.result (ends_untouched c.args.self.now (g.N.Notary.state c.args.notary.now) c.args.job.now)
 
-pub returns-in_err-tell-in-Get-clause-unasked : goal.returns-in_err-tell-in-Get-clause-unasked
-returns-in_err-tell-in-Get-clause-unasked g c = on_err_all c.from_residual-in_err-tell-in-Get.result (ends_untouched c.args.self.now (g.N.Notary.state c.args.notary.now) c.args.job.now)
+pub returns-in_err-get-in-Get-clause-unasked : goal.returns-in_err-get-in-Get-clause-unasked
+returns-in_err-get-in-Get-clause-unasked g c = on_err_all c.from_residual-in_err-get-in-Get.result (ends_untouched c.args.self.now (g.N.Notary.state c.args.notary.now) c.args.job.now)
 
-pub returns-in_err-tell-in-Clue-clause-unasked : goal.returns-in_err-tell-in-Clue-clause-unasked
-returns-in_err-tell-in-Clue-clause-unasked g c = on_err_all c.from_residual-in_err-tell-in-Clue.result (ends_untouched c.args.self.now (g.N.Notary.state c.args.notary.now) c.args.job.now)
+pub returns-in_err-reply-in-Clue-clause-unasked : goal.returns-in_err-reply-in-Clue-clause-unasked
+returns-in_err-reply-in-Clue-clause-unasked g c = on_err_all c.from_residual-in_err-reply-in-Clue.result (ends_untouched c.args.self.now (g.N.Notary.state c.args.notary.now) c.args.job.now)
 
 pub returns-in_ok-reply-in-Prove-clause-judged : goal.returns-in_ok-reply-in-Prove-clause-judged
 returns-in_ok-reply-in-Prove-clause-judged g c =

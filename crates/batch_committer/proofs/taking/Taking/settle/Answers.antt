@@ -1,8 +1,8 @@
 use Rattle.std.proofs.Common.{[], ◌++◌, length, sym, ap, subst, ◌∙◌, arith}
 use Rattle.ledger_model.specs.History.{History, close}
 use Rattle.ledger_book.specs.Books.{Serves}
-use Rattle.ledger_open.specs.Order.{AreInOrder}
-use Rattle.batch_committer.specs.Spelled.{head_of}
+use Rattle.ledger_open.specs.Places.{AreInOrder}
+use Rattle.block_file.specs.Writing.{block_head}
 use Rattle.batch_committer.specs.World.{pair}
 use Rattle.batch_committer.specs.contracts.taking.Taking.{the_view}
 use Rattle.batch_committer.specs.Steps.{settled_text}
@@ -22,7 +22,7 @@ returns-in_err-purge-clause-err g c = err_is _ c.from_residual-in_err-purge.resu
 pub give_up-requires-clause-order : goal.give_up-requires-clause-order
 give_up-requires-clause-order g c =
     let f = fits_at g.D.Disk.tells _ _ c.self.view_is _ _ c.requires.fits in
-    subst (λ n. AreInOrder 64 n c.self.inside.opened.places.list) (sym c.in_ok-commit.ensures.place)
+    subst (λ n. AreInOrder 64 n c.self.inside.opened.places.list) (sym c.in_ok-commit.ensures.gate)
     (order_ended (the_view c.self.inside) c.as_slice-2.result.now c.finish.new.self.head (c.as_slice-2.ensures ∙ ap (λ l. c.finish.new.self.head ++ l) c.in_ok-finish.ensures.body) c.in_ok-finish.ensures.size f.order)
 
 pub returns-in_err-commit-clause-err : goal.returns-in_err-commit-clause-err
@@ -37,7 +37,7 @@ returns-in_err-commit-clause-err g c =
     (at_end g.D.Disk.tells _ c.seal.new.self c.waiting_count-count.result c.head.result _ _
     (λ h s. serves_closed c.self.inside.opened.book c.seal.new.self h s (c.seal.ensures.stands h s.stands) c.seal.ensures.same)
     (λ h s. c.waiting_count-count.ensures.count h s.stands) (λ h s. c.head.ensures h s.stands)
-    (c.as_slice-2.ensures ∙ ap (λ l. l ++ c.finish.new.self.body) c.in_ok-finish.ensures.head ∙ ap (λ l. head_of c.waiting_count-count.result (length c.self.inside.block.body) c.head.result.root.0 ++ l) c.in_ok-finish.ensures.body)
+    (c.as_slice-2.ensures ∙ ap (λ l. l ++ c.finish.new.self.body) c.in_ok-finish.ensures.head ∙ ap (λ l. block_head c.waiting_count-count.result (length c.self.inside.block.body) c.head.result.root.0 ++ l) c.in_ok-finish.ensures.body)
     (λ h s none. c.in_ok-spell.ensures h s none ∙ ap (settled_text h) c.as_slice.ensures.value)
     (omega (arith, c.if-count-eq0.false)) (count_few c.self.inside.opened.book c.waiting_count-count.result is f.few))
     _ _ e.err)))
@@ -56,12 +56,12 @@ returns-in_err-give_up-clause-err g c =
     (end_unfinished g.D.Disk.tells _ c.as_slice-2.result.now c.spell.new.text.items
     (at_end g.D.Disk.tells _ c.seal.new.self c.waiting_count-count.result c.head.result _ _ closed
     (λ h s. c.waiting_count-count.ensures.count h s.stands) (λ h s. c.head.ensures h s.stands)
-    (c.as_slice-2.ensures ∙ ap (λ l. l ++ c.finish.new.self.body) c.in_ok-finish.ensures.head ∙ ap (λ l. head_of c.waiting_count-count.result (length c.self.inside.block.body) c.head.result.root.0 ++ l) c.in_ok-finish.ensures.body)
+    (c.as_slice-2.ensures ∙ ap (λ l. l ++ c.finish.new.self.body) c.in_ok-finish.ensures.head ∙ ap (λ l. block_head c.waiting_count-count.result (length c.self.inside.block.body) c.head.result.root.0 ++ l) c.in_ok-finish.ensures.body)
     (λ h s none. c.in_ok-spell.ensures h s none ∙ ap (settled_text h) c.as_slice.ensures.value)
     (omega (arith, c.if-count-eq0.false)) (count_few c.self.inside.opened.book c.waiting_count-count.result is f.few))
     c.seal.new.self mid
     (record { serves = closed; same = c.seal.ensures.same; committed = e.ok; named = λ told. named_at _ _ mid (f.generation told ∙ sym (generation_stays g.D.Disk.tells _ _ _ _ _ e.ok told)) })
-    _ _ (unfinished_as g.D.Disk.tells _ _ mid _ (ledger_is c.seal.new.self c.self.inside.opened.places.list mid _ _ _ _ _ _ e.place e.in_a e.generation) u.err))))
+    _ _ (unfinished_as g.D.Disk.tells _ _ mid _ (ledger_is c.seal.new.self c.self.inside.opened.places.list mid _ _ _ _ _ _ e.gate e.in_a e.generation) u.err))))
 
 pub returns-in_err-write_all-clause-err : goal.returns-in_err-write_all-clause-err
 returns-in_err-write_all-clause-err g c =
@@ -78,12 +78,12 @@ returns-in_err-write_all-clause-err g c =
     (end_unwritten g.D.Disk.tells _ c.as_slice-2.result.now c.as_slice-3.result.now
     (at_end g.D.Disk.tells _ c.seal.new.self c.waiting_count-count.result c.head.result _ _ closed
     (λ h s. c.waiting_count-count.ensures.count h s.stands) (λ h s. c.head.ensures h s.stands)
-    (c.as_slice-2.ensures ∙ ap (λ l. l ++ c.finish.new.self.body) c.in_ok-finish.ensures.head ∙ ap (λ l. head_of c.waiting_count-count.result (length c.self.inside.block.body) c.head.result.root.0 ++ l) c.in_ok-finish.ensures.body)
+    (c.as_slice-2.ensures ∙ ap (λ l. l ++ c.finish.new.self.body) c.in_ok-finish.ensures.head ∙ ap (λ l. block_head c.waiting_count-count.result (length c.self.inside.block.body) c.head.result.root.0 ++ l) c.in_ok-finish.ensures.body)
     (λ h s none. c.as_slice-3.ensures.value ∙ c.in_ok-spell.ensures h s none ∙ ap (settled_text h) c.as_slice.ensures.value)
     (omega (arith, c.if-count-eq0.false)) (count_few c.self.inside.opened.book c.waiting_count-count.result is f.few))
     c.seal.new.self mid
     (record { serves = closed; same = c.seal.ensures.same; committed = e.ok; named = λ told. named_at _ _ mid (f.generation told ∙ sym (generation_stays g.D.Disk.tells _ _ _ _ _ e.ok told)) })
-    _ _ (finished_as g.D.Disk.tells _ _ _ mid _ (ledger_is c.seal.new.self c.self.inside.opened.places.list mid _ _ _ _ _ _ e.place e.in_a e.generation) u.ok) _ t.0 t.1 t.2 o.once))
+    _ _ (finished_as g.D.Disk.tells _ _ _ mid _ (ledger_is c.seal.new.self c.self.inside.opened.places.list mid _ _ _ _ _ _ e.gate e.in_a e.generation) u.ok) _ t.0 t.1 t.2 o.once))
 
 pub returns-clause-ok : goal.returns-clause-ok
 returns-clause-ok g c =
@@ -98,12 +98,12 @@ returns-clause-ok g c =
     (end_goes g.D.Disk.tells _ c.as_slice-2.result.now c.as_slice-3.result.now
     (at_end g.D.Disk.tells _ c.seal.new.self c.waiting_count-count.result c.head.result _ _ closed
     (λ h s. c.waiting_count-count.ensures.count h s.stands) (λ h s. c.head.ensures h s.stands)
-    (c.as_slice-2.ensures ∙ ap (λ l. l ++ c.finish.new.self.body) c.in_ok-finish.ensures.head ∙ ap (λ l. head_of c.waiting_count-count.result (length c.self.inside.block.body) c.head.result.root.0 ++ l) c.in_ok-finish.ensures.body)
+    (c.as_slice-2.ensures ∙ ap (λ l. l ++ c.finish.new.self.body) c.in_ok-finish.ensures.head ∙ ap (λ l. block_head c.waiting_count-count.result (length c.self.inside.block.body) c.head.result.root.0 ++ l) c.in_ok-finish.ensures.body)
     (λ h s none. c.as_slice-3.ensures.value ∙ c.in_ok-spell.ensures h s none ∙ ap (settled_text h) c.as_slice.ensures.value)
     (omega (arith, c.if-count-eq0.false)) (count_few c.self.inside.opened.book c.waiting_count-count.result is f.few))
     c.seal.new.self mid
     (record { serves = closed; same = c.seal.ensures.same; committed = e.ok; named = λ told. named_at _ _ mid (f.generation told ∙ sym (generation_stays g.D.Disk.tells _ _ _ _ _ e.ok told)) })
-    _ _ (finished_as g.D.Disk.tells _ _ _ mid _ (ledger_is c.seal.new.self c.self.inside.opened.places.list mid _ _ _ _ _ _ e.place e.in_a e.generation) u.ok) _ c.clear.ensures c.clear-2.ensures.items o.ok o.once)
+    _ _ (finished_as g.D.Disk.tells _ _ _ mid _ (ledger_is c.seal.new.self c.self.inside.opened.places.list mid _ _ _ _ _ _ e.gate e.in_a e.generation) u.ok) _ c.clear.ensures c.clear-2.ensures.items o.ok o.once)
 
 pub returns-clause-fits : goal.returns-clause-fits
 returns-clause-fits g c =
@@ -115,7 +115,7 @@ returns-clause-fits g c =
     fits_finished g.D.Disk.tells _ _ mid _ _
     (λ told. record { shut = shut_bytes _ _ mid (e.ok.reads.shut told); generation = named_at _ _ mid (f.generation told ∙ sym (generation_stays g.D.Disk.tells _ _ _ _ _ e.ok told)) })
     order (c.seal.ensures.ended.0 ∙ sym c.seal.ensures.ended.1) (u.copy (e.copy ∙ f.copy))
-    (finished_as g.D.Disk.tells _ _ _ mid _ (ledger_is c.seal.new.self c.self.inside.opened.places.list mid _ _ _ _ _ _ e.place e.in_a e.generation) u.ok)
+    (finished_as g.D.Disk.tells _ _ _ mid _ (ledger_is c.seal.new.self c.self.inside.opened.places.list mid _ _ _ _ _ _ e.gate e.in_a e.generation) u.ok)
 
 pub returns-clause-empty : goal.returns-clause-empty
 returns-clause-empty g c =

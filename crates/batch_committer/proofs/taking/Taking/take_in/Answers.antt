@@ -7,7 +7,7 @@ use Rattle.ledger_model.proofs.GrowLaws.{grows_with}
 use Rattle.ledger_book.proofs.StandsLaws.{none_waits}
 use Rattle.batch_committer.specs.Attending.{step_in}
 use Rattle.batch_committer.specs.World.{CommitterState, world, pair}
-use Rattle.batch_committer.specs.declared.end.End.TheVariants.{NoMemory}
+use Rattle.batch_committer.specs.declared.failure.CommitErr.TheVariants.{NoMemory}
 use Rattle.batch_committer.proofs.Offering.{judged_goes, judged_read, unjudged_ended}
 use Rattle.batch_committer.proofs.Judging.{judged_dues}
 use Rattle.batch_committer.proofs.ReadLaws.{read_ended}
@@ -66,7 +66,7 @@ returns-clause-ok g c =
             goes =
                 judged_read g.D.Disk.tells _ _ old _ sink step i.job e.read e.no_fault
                 (judged_goes g.D.Disk.tells (world c.args.self.now old sink) _ step i.job c.in_ok-answer.answer
-                (ap (λ (k : CommitterState). k.place) c.self.view_is ∙ e.rest.file.place) (ap (λ (k : CommitterState). k.in_a) c.self.view_is ∙ e.rest.file.in_a)
+                (ap (λ (k : CommitterState). k.gate) c.self.view_is ∙ e.rest.file.gate) (ap (λ (k : CommitterState). k.in_a) c.self.view_is ∙ e.rest.file.in_a)
                 (c.in-Ok.ensures.items ∙ ap (λ (k : CommitterState). k.dues ++ due ∷ []) c.self.view_is ∙ ap (λ ds. ds ++ due ∷ []) e.rest.dues)
                 (λ closes h s. none_waits _ h s.stands (sym (c.requires.settled closes)))
                 (λ h holds none. judged_dues c.judge.new.self _ c.push.new.self.items h step i.job c.in_ok-answer.answer c.self.view_is (x.1 h i.lane i.index line sink holds).judged));

@@ -1,5 +1,5 @@
 use Rattle.std.proofs.Common.{◌≡◌, ◌≤◌, ◌+◌, ◌++◌, length, map, take}
-use Rattle.ledger_open.specs.Places.{place_of_record}
+use Rattle.block_file.specs.Places.{place_of_record}
 use Rattle.ledger_open.proofs.places.Places.add.Given as goal
 
 abbrev pub invariant-loop-record : goal.invariant-loop-record

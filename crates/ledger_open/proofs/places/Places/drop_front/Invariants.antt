@@ -1,5 +1,5 @@
 use Rattle.std.proofs.Common.{◌≡◌, ◌++◌, drop, map, take}
-use Rattle.ledger_open.specs.PlaceList.{moved_place}
+use Rattle.block_file.specs.Places.{moved_place}
 use Rattle.ledger_open.proofs.places.Places.drop_front.Given as goal
 
 abbrev pub invariant-loop-index : goal.invariant-loop-index

@@ -4,7 +4,7 @@ use thiserror::Error;
 
 /// Why a call of a committer ended its run.
 #[derive(Clone, Copy, Debug, PartialEq, Eq, Error)]
-pub enum End {
+pub enum CommitErr {
     /// A call of a disk failed, and its count of faults rose.
     #[error("a disk failed")]
     DiskFault,
@@ -18,24 +18,24 @@ pub enum End {
     Closed,
 }
 
-impl From<NoMemory> for End {
+impl From<NoMemory> for CommitErr {
     ghost use Rattle.std.specs.Prelude.{◌≡◌};
-    ghost use Rattle.batch_committer.specs.declared.end.End.TheVariants.{NoMemory as no_memory};
+    ghost use Rattle.batch_committer.specs.declared.failure.CommitErr.TheVariants.{NoMemory as no_memory};
 
     ghost from_gives = { λ _ end. end ≡ no_memory };
 
     fn from(_: NoMemory) -> Self {
-        End::NoMemory
+        CommitErr::NoMemory
     }
 }
 
-impl From<WriteErr> for End {
+impl From<WriteErr> for CommitErr {
     ghost use Rattle.std.specs.Prelude.{◌≡◌};
-    ghost use Rattle.batch_committer.specs.declared.end.End.TheVariants.{WriteFault};
+    ghost use Rattle.batch_committer.specs.declared.failure.CommitErr.TheVariants.{WriteFault};
 
     ghost from_gives = { λ _ end. end ≡ WriteFault };
 
     fn from(_: WriteErr) -> Self {
-        End::WriteFault
+        CommitErr::WriteFault
     }
 }

@@ -1,6 +1,0 @@
-use Rattle.std.proofs.Common.{◌≡◌, ◌++◌, length, take}
-use Rattle.journal_record.specs.Approval.{who_of}
-use Rattle.batch_committer.proofs.block.OpenBlock.put_approvals.Given as goal
-
-abbrev pub invariant-loop-by : goal.invariant-loop-by
-invariant-loop-by l = (length l.self.head ≡ 44) × (l.self.body ≡ l.fn.self.body ++ who_of (take l.by-index l.given))
