@@ -1,4 +1,3 @@
-pub mod Flows
 pub mod Making
 pub mod Orders
 pub mod Offering

@@ -8,25 +8,25 @@ use Rattle.ledger_model.specs.Windows.{Said}
 use Rattle.lane_work.specs.declared.kinds.LaneLine.{LaneLine}
 use Rattle.lane_work.specs.declared.kinds.Made.{Made}
 
--- the line that something was made of
+-- the line that a worker's result is of
 abbrev pub said_of : Made → Said
 said_of m = record { lane = m.lane; index = m.index; line = m.line.value }
 
--- the item of a line, on the ledger with this id
+-- a prepared item is that of a line, on the ledger with this id
 abbrev pub IsItemOf : Scheme → List ℕ → Said → Prepared → Type 0
 IsItemOf scheme id x item = (item.lane ≡ x.lane) × (item.index ≡ x.index) × (item.job ≡ job_of scheme id x.line)
 
--- .. or want of memory
+-- a worker's result for a line is its item, or want of memory
 abbrev pub MayBeItem : Scheme → List ℕ → Said → Result Prepared NoMemory → Type 0
 MayBeItem scheme id x (Ok item) = IsItemOf scheme id x item
 MayBeItem scheme id x (Err error) = ⊤
 
--- what may be made of a line with this number
+-- what a worker may hand on for a line with this number
 abbrev pub IsMadeOf : Scheme → List ℕ → LaneLine → ℕ → Made → Type 0
 IsMadeOf scheme id l index m =
     (m.lane ≡ l.lane) × (m.index ≡ index) × (m.line.value ≡ l.line) × MayBeItem scheme id (said_of m) m.item
 
--- the lines of one lane, whose numbers begin with n
+-- what a worker made of the lines of one lane, whose numbers begin with n, each in its place
 unfoldable pub AllMade : Scheme → List ℕ → ℕ → List LaneLine → List Made → Type 0
 AllMade scheme id n [] [] = ⊤
 AllMade scheme id n [] (m ∷ ms) = ⊥

@@ -10,7 +10,7 @@ use Rattle.lane_work.specs.declared.kinds.Made.{Made}
 use Rattle.lane_work.specs.declared.hands.LaneJob.{LaneJob}
 use Rattle.lane_work.specs.Making.{AllMade, lines_of}
 
--- each job is a pass with its lines and its first number
+-- each job is the pass of a lane with its lines and its first number
 abbrev pub AreJobs : List (LanePass Made) → List (Vec LaneLine Global) → List ℕ → List LaneJob → Type 0
 AreJobs passes lanes first jobs =
     (length jobs ≡ 8)
@@ -22,12 +22,12 @@ abbrev pub Merged : Scheme → List ℕ → List ℕ → List LaneLine → List 
 Merged scheme id first window got =
     (k : ℕ) → k < 8 → AllMade scheme id (slice_index first k) (lines_of k window) (of_lane (λ (m : Made). m.lane) k got)
 
--- the jobs of a window, with passes that have sent nothing
+-- the jobs of a window as they are started, with passes that have sent nothing
 abbrev pub AreNewJobs : List (ℕ × ℕ) → List LaneJob → Type 0
 AreNewJobs plan jobs =
     (length plan ≡ 8) × (length jobs ≡ 8) × ((k : ℕ) (d : LaneJob) → k < 8 → lane_view (get_or jobs k d).pass ≡ sender plan k [])
 
--- they have the window's lines
+-- the jobs have exactly the lines of the window, each those of its lane
 abbrev pub AreWindow : List ℕ → List LaneLine → List LaneJob → Type 0
 AreWindow first window jobs =
     All (λ l. l.lane < 8) window

@@ -6,9 +6,9 @@ use crate::gate::Gate;
 use crate::kinds::LaneLine;
 use crate::preparing::prepare;
 use crate::taker::{Flow, Taker};
+use crate::tools::Tools;
 use ledger_bytes::{Digest, NoMemory};
 use member_book::Verifier;
-use std::alloc::Global;
 
 /// The lane of all lines, where they belong to one.
 pub(crate) fn only_lane(lines: &[LaneLine]) -> Option<u8>
@@ -25,28 +25,26 @@ pub(crate) fn only_lane(lines: &[LaneLine]) -> Option<u8>
 }
 
 /// Prepares lines of one lane and offers them, one after the other. `start` is the first one's number.
-pub(crate) fn run_alone<V: Verifier, G: Gate, T: Taker>(
-    alloc: Global,
+pub(crate) fn run_alone<R, V: Verifier, G: Gate, T: Taker>(
+    tools: &Tools<R, V, G>,
     lines: Vec<LaneLine>,
     start: u64,
     id: &Digest,
-    verifier: &V,
-    gate: &G,
     taker: &mut T,
 ) -> Result<(), NoMemory>
     requires numbers { start + vec_len lines < 2 ^ 64 }
     requires ready { T.ready taker.old }
     ensures ok { OnOk result (RanAlone
-        (OffersLine (V.shows verifier.now) id.now.0 T.offers) start lines.items taker.old taker.new) }
+        (OffersLine (V.shows tools.now.verifier.now) id.now.0 T.offers) start lines.items taker.old taker.new) }
     ensures err { OnErr result (LackedAlone
-        (OffersLine (V.shows verifier.now) id.now.0 T.offers) start lines.items taker.old taker.new) }
+        (OffersLine (V.shows tools.now.verifier.now) id.now.0 T.offers) start lines.items taker.old taker.new) }
 {
     let mut index = start;
     for said in lines {
-        let Ok(item) = prepare(alloc, verifier, id, index, said.line.as_slice()) else {
+        let Ok(item) = prepare(tools.alloc, tools.verifier, id, index, said.line.as_slice()) else {
             return Err(NoMemory);
         };
-        gate.pass(said.lane, index);
+        tools.gate.pass(said.lane, index);
         match taker.offer(item) {
             Flow::GoOn => {}
             Flow::Stop => return Ok(()),

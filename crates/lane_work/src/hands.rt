@@ -31,6 +31,13 @@ impl<V: Verifier> Promise<LanePass<Made>> for Worked<V> {
     ghost kept_by = { λ p r. Works (V.shows p.verifier.value) p.id.0 p.start p.lines.value.items p.pass.value r };
 }
 
+/// Room for the hands of workers, and for what they hand back.
+#[derive(Drop)]
+pub struct Room<V: Verifier> {
+    pub hands: Vec<Hand<V>>,
+    pub done: Vec<LanePass<Made>>,
+}
+
 /// A lane's pass, or the thread that will hand it back.
 #[derive(Drop)]
 pub enum Hand<V: Verifier> {

@@ -4,18 +4,20 @@ ghost use Rattle.intake_queue.specs.Lanes.{taker as of_taker};
 ghost use Rattle.intake_queue.specs.Passes.{taker_view, IsTakerOf};
 ghost use Rattle.lane_work.specs.Making.{lines_of};
 ghost use Rattle.lane_work.specs.Offering.{Came, Comes, OffersLine, RunsAll, RunsSome};
+ghost use Rattle.lane_work.specs.Handing.{HasGot, IsNewTaker};
 ghost use Rattle.lane_work.specs.Windows.{AreJobs, AreNewJobs, AreWindow};
-ghost use Rattle.lane_work.specs.Working.{IsReady, Pairs, WorksOf};
+ghost use Rattle.lane_work.specs.Working.{HasHandRoom, IsReady, Pairs, WorksOf};
 ghost use Rattle.lane_work.specs.declared.kinds.LaneLine.{LaneLine};
 
 use crate::alone::{only_lane, run_alone};
 use crate::divide::{counts, divide};
 use crate::gate::Gate;
-use crate::hands::{Hand, LaneJob};
+use crate::hands::{LaneJob, Room};
 use crate::kinds::{LaneLine, Made};
 use crate::scoped::{Lent, side_by_side};
 use crate::taker::Taker;
 use crate::taking::State;
+use crate::tools::Tools;
 use intake_queue::{Intake, LanePass, TakerPass};
 use ledger_bytes::{Digest, NoMemory};
 use member_book::Verifier;
@@ -56,67 +58,50 @@ fn take_back<T>(x: &mut T)
 
 // Runs the workers and the taker.
 fn beside<R: Threads + Wait + Sync, V: Verifier, G: Gate, T: Taker>(
-    rt: &R,
-    alloc: Global,
+    tools: &Tools<R, V, G>,
+    id: &Digest,
     intake: &Intake<Made>,
     jobs: Vec<LaneJob>,
     pass: TakerPass<Made>,
-    hands: Vec<Hand<V>>,
-    done: Vec<LanePass<Made>>,
+    room: Room<V>,
     count: usize,
-    id: &Digest,
-    verifier: &V,
-    gate: &G,
     taker: &mut T,
 ) -> (TakerPass<Made>, State, Vec<LanePass<Made>>)
     requires ready { T.ready taker.old }
     requires jobs { All (IsReady intake.now) jobs.items × (vec_len jobs ≡ 8) }
-    requires room { (hands.items ≡ []) × (8 ≤ vec_capacity hands) × (done.items ≡ [])
-        × (8 ≤ vec_capacity done) }
-    requires pass { IsTakerOf intake.now pass × (taker_view pass
-        ≡ of_taker (taker_view pass).plan [] (taker_view pass).lent (taker_view pass).back) }
-    ensures pass { IsTakerOf intake.now result.0 × (taker_view result.0
-        ≡ of_taker (taker_view pass).plan (taker_view result.0).got (taker_view pass).lent (taker_view pass).back) }
-    ensures count { length (taker_view result.0).got ≡ count }
+    requires room { HasHandRoom 8 room }
+    requires pass { IsNewTaker intake.now pass }
+    ensures pass { HasGot intake.now pass count result.0 }
     ensures comes { Comes T.offers result.1 taker.old (taker_view result.0).got taker.new }
-    ensures lanes { Pairs (WorksOf (V.shows verifier.now) id.now.0) jobs.items result.2.items }
+    ensures lanes { Pairs (WorksOf (V.shows tools.now.verifier.now) id.now.0) jobs.items result.2.items }
 {
     let lent = Lent { taker };
-    let (back, pass, state, lanes) = side_by_side(
-        rt, alloc, intake, jobs, hands, done, id, verifier, gate, lent, pass, count,
-    );
+    let (back, pass, state, lanes) = side_by_side(tools, id, intake, jobs, room, lent, pass, count);
     take_back(back);
     (pass, state, lanes)
 }
 
 // Runs the workers and the taker, and closes the queue.
 fn drive<R: Threads + Wait + Sync, V: Verifier, G: Gate, T: Taker>(
-    rt: &R,
-    alloc: Global,
+    tools: &Tools<R, V, G>,
+    id: &Digest,
     intake: Intake<Made>,
     jobs: Vec<LaneJob>,
     pass: TakerPass<Made>,
-    hands: Vec<Hand<V>>,
-    done: Vec<LanePass<Made>>,
+    room: Room<V>,
     count: usize,
-    id: &Digest,
-    verifier: &V,
-    gate: &G,
     taker: &mut T,
 ) -> State
     requires ready { T.ready taker.old }
     requires jobs { All (IsReady intake) jobs.items × AreNewJobs (taker_view pass).plan jobs.items }
-    requires room { (hands.items ≡ []) × (8 ≤ vec_capacity hands) × (done.items ≡ [])
-        × (8 ≤ vec_capacity done) }
+    requires room { HasHandRoom 8 room }
     requires pass { IsTakerOf intake pass × (taker_view pass
         ≡ of_taker (taker_view pass).plan [] (taker_view pass).lent []) }
     ensures { (first : List ℕ) (window : List LaneLine) → AreWindow first window jobs.items → count
         ≡ length window
-        → Came (OffersLine (V.shows verifier.now) id.now.0 T.offers) result first window taker.old taker.new }
+        → Came (OffersLine (V.shows tools.now.verifier.now) id.now.0 T.offers) result first window taker.old taker.new }
 {
-    let (pass, state, lanes) = beside(
-        rt, alloc, &intake, jobs, pass, hands, done, count, id, verifier, gate, taker,
-    );
+    let (pass, state, lanes) = beside(tools, id, &intake, jobs, pass, room, count, taker);
     intake.close(lanes, pass);
     state
 }
@@ -154,13 +139,10 @@ fn set_up(alloc: Global, window: Vec<LaneLine>, first: &[u64; 8]) -> Result<SetU
 /// the calling thread, and so are those of a lane whose thread can't be started. Behind a line for which there was no
 /// memory nothing is offered.
 pub fn run_lanes<R: Threads + Wait + Sync, V: Verifier, G: Gate, T: Taker>(
-    rt: &R,
-    alloc: Global,
+    tools: &Tools<R, V, G>,
     window: Vec<LaneLine>,
     first: &[u64; 8],
     id: &Digest,
-    verifier: &V,
-    gate: &G,
     taker: &mut T,
 ) -> Result<(), NoMemory>
     requires window { (0 < vec_len window) × (vec_len window ≤ 4096) }
@@ -168,28 +150,19 @@ pub fn run_lanes<R: Threads + Wait + Sync, V: Verifier, G: Gate, T: Taker>(
         → slice_index first.now k + length (lines_of k window.items) < 2 ^ 64 }
     requires ready { T.ready taker.old }
     ensures ok { OnOk result (RunsAll
-        (OffersLine (V.shows verifier.now) id.now.0 T.offers) first.now window.items taker.old taker.new) }
+        (OffersLine (V.shows tools.now.verifier.now) id.now.0 T.offers) first.now window.items taker.old taker.new) }
     ensures err { OnErr result (RunsSome
-        (OffersLine (V.shows verifier.now) id.now.0 T.offers) first.now window.items taker.old taker.new) }
+        (OffersLine (V.shows tools.now.verifier.now) id.now.0 T.offers) first.now window.items taker.old taker.new) }
 {
     if let Some(lane) = only_lane(window.as_slice()) {
-        return run_alone(
-            alloc,
-            window,
-            first[usize::from(lane)],
-            id,
-            verifier,
-            gate,
-            taker,
-        );
+        return run_alone(tools, window, first[usize::from(lane)], id, taker);
     }
     let count = window.len();
-    let SetUp { intake, jobs, pass } = set_up(alloc, window, first)?;
-    let hands = Vec::with_capacity(alloc, 8)?;
-    let done = Vec::with_capacity(alloc, 8)?;
-    match drive(
-        rt, alloc, intake, jobs, pass, hands, done, count, id, verifier, gate, taker,
-    ) {
+    let SetUp { intake, jobs, pass } = set_up(tools.alloc, window, first)?;
+    let hands = Vec::with_capacity(tools.alloc, 8)?;
+    let done = Vec::with_capacity(tools.alloc, 8)?;
+    let room = Room { hands, done };
+    match drive(tools, id, intake, jobs, pass, room, count, taker) {
         State::Going | State::Stopped => Ok(()),
         State::Lacking => Err(NoMemory),
     }

@@ -18,6 +18,7 @@ mod scoped;
 mod starting;
 mod taker;
 mod taking;
+mod tools;
 mod working;
 
 pub use gate::{Gate, OpenGate};
@@ -25,3 +26,4 @@ pub use kinds::{LaneLine, Made};
 pub use lanes::run_lanes;
 pub use preparing::prepare;
 pub use taker::{Flow, Taker};
+pub use tools::Tools;

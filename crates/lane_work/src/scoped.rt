@@ -1,19 +1,19 @@
 //! The workers and the taker, side by side.
-ghost use Rattle.std.specs.Prelude.{◌≡◌, ◌≤◌, [], length, All, vec_len, vec_capacity};
-ghost use Rattle.intake_queue.specs.Lanes.{taker as of_taker};
-ghost use Rattle.intake_queue.specs.Passes.{taker_view, IsTakerOf};
-ghost use Rattle.lane_work.specs.Working.{IsReady, Pairs, WorksOf};
+ghost use Rattle.std.specs.Prelude.{◌≡◌, ◌≤◌, [], All, vec_len, vec_capacity};
+ghost use Rattle.intake_queue.specs.Passes.{taker_view};
+ghost use Rattle.lane_work.specs.Handing.{HasGot, IsNewTaker};
+ghost use Rattle.lane_work.specs.Working.{HasHandRoom, IsReady, Pairs, WorksOf};
 
 use crate::gate::Gate;
-use crate::hands::{Hand, LaneJob};
+use crate::hands::{LaneJob, Room};
 use crate::kinds::Made;
 use crate::starting::{finish_all, start_all};
 use crate::taker::Taker;
 use crate::taking::{State, take_all};
+use crate::tools::Tools;
 use intake_queue::{Intake, LanePass, TakerPass};
 use ledger_bytes::Digest;
 use member_book::Verifier;
-use std::alloc::Global;
 use std::sync::Wait;
 use std::thread;
 use std::thread::Threads;
@@ -21,9 +21,9 @@ use std::thread::Threads;
 // What takes and offers. A scope tells nothing of a `&mut` that its closure holds, so the closure holds a value of a type
 // parameter, which gives the reference back.
 pub(crate) trait Offering: Sized {
-    ghost use Rattle.std.specs.Prelude.{◌≡◌, List, [], length};
-    ghost use Rattle.intake_queue.specs.Lanes.{taker as of_taker};
-    ghost use Rattle.intake_queue.specs.Passes.{taker_view, IsTakerOf};
+    ghost use Rattle.std.specs.Prelude.{List};
+    ghost use Rattle.intake_queue.specs.Passes.{taker_view};
+    ghost use Rattle.lane_work.specs.Handing.{HasGot, IsNewTaker};
     ghost use Rattle.lane_work.specs.declared.kinds.Made.{Made};
     ghost use Rattle.lane_work.specs.declared.taking.State.{State};
 
@@ -41,11 +41,8 @@ pub(crate) trait Offering: Sized {
         count: usize,
     ) -> (Self::Back, TakerPass<Made>, State)
         requires can { can self }
-        requires pass { IsTakerOf intake.now pass × (taker_view pass
-            ≡ of_taker (taker_view pass).plan [] (taker_view pass).lent (taker_view pass).back) }
-        ensures pass { IsTakerOf intake.now result.1 × (taker_view result.1
-            ≡ of_taker (taker_view pass).plan (taker_view result.1).got (taker_view pass).lent (taker_view pass).back) }
-        ensures count { length (taker_view result.1).got ≡ count }
+        requires pass { IsNewTaker intake.now pass }
+        ensures pass { HasGot intake.now pass count result.1 }
         ensures gives { gives self result.2 (taker_view result.1).got result.0 };
 }
 
@@ -86,31 +83,25 @@ pub(crate) fn side_by_side<
     H: Offering<Back = B> + Drop,
     B,
 >(
-    rt: &R,
-    alloc: Global,
+    tools: &Tools<R, V, G>,
+    id: &Digest,
     intake: &Intake<Made>,
     jobs: Vec<LaneJob>,
-    hands: Vec<Hand<V>>,
-    done: Vec<LanePass<Made>>,
-    id: &Digest,
-    verifier: &V,
-    gate: &G,
+    room: Room<V>,
     offering: H,
     pass: TakerPass<Made>,
     count: usize,
 ) -> (B, TakerPass<Made>, State, Vec<LanePass<Made>>)
     requires ready { All (IsReady intake.now) jobs.items }
-    requires room { (hands.items ≡ []) × (vec_len jobs ≤ vec_capacity hands) × (done.items ≡ [])
-        × (vec_len jobs ≤ vec_capacity done) }
+    requires room { HasHandRoom (vec_len jobs) room }
     requires can { H.can offering }
-    requires pass { IsTakerOf intake.now pass × (taker_view pass
-        ≡ of_taker (taker_view pass).plan [] (taker_view pass).lent (taker_view pass).back) }
-    ensures pass { IsTakerOf intake.now result.1 × (taker_view result.1
-        ≡ of_taker (taker_view pass).plan (taker_view result.1).got (taker_view pass).lent (taker_view pass).back) }
-    ensures count { length (taker_view result.1).got ≡ count }
+    requires pass { IsNewTaker intake.now pass }
+    ensures pass { HasGot intake.now pass count result.1 }
     ensures gives { H.gives offering result.2 (taker_view result.1).got result.0 }
-    ensures lanes { Pairs (WorksOf (V.shows verifier.now) id.now.0) jobs.items result.3.items }
+    ensures lanes { Pairs (WorksOf (V.shows tools.now.verifier.now) id.now.0) jobs.items result.3.items }
 {
+    let (rt, alloc, verifier, gate) = (tools.rt, tools.alloc, tools.verifier, tools.gate);
+    let Room { hands, done } = room;
     thread::scope(
         thread::scope_env(),
         rt,
@@ -119,15 +110,18 @@ pub(crate) fn side_by_side<
             requires room { (hands.items ≡ []) × (vec_len jobs ≤ vec_capacity hands) × (done.items
                 ≡ []) × (vec_len jobs ≤ vec_capacity done) }
             requires can { H.can offering }
-            requires pass { IsTakerOf intake.now pass × (taker_view pass
-                ≡ of_taker (taker_view pass).plan [] (taker_view pass).lent (taker_view pass).back) }
-            ensures pass { IsTakerOf intake.entry.now result.1 × (taker_view result.1
-                ≡ of_taker (taker_view pass).plan (taker_view result.1).got (taker_view pass).lent (taker_view pass).back) }
-            ensures count { length (taker_view result.1).got ≡ count }
+            requires pass { IsNewTaker intake.now pass }
+            ensures pass { HasGot intake.entry.now pass count result.1 }
             ensures gives { H.gives offering result.2 (taker_view result.1).got result.0 }
             ensures lanes { Pairs (WorksOf (V.shows verifier.entry.now) id.entry.now.0) jobs.items result.3.items }
         {
-            let hands = start_all(scope, rt, alloc, intake, jobs, hands, id, verifier, gate);
+            let tools = Tools {
+                rt,
+                alloc,
+                verifier,
+                gate,
+            };
+            let hands = start_all(scope, &tools, id, intake, jobs, hands);
             let (back, pass, state) = offering.run(rt, intake, pass, count);
             let lanes = finish_all(rt, hands, done);
             (back, pass, state, lanes)

@@ -9,11 +9,11 @@ ghost use Rattle.lane_work.specs.declared.hands.LaneJob.{LaneJob};
 use crate::gate::Gate;
 use crate::hands::{Hand, LaneJob, Worked};
 use crate::kinds::Made;
+use crate::tools::Tools;
 use crate::working::work;
 use intake_queue::{Intake, LanePass};
 use ledger_bytes::Digest;
 use member_book::Verifier;
-use std::alloc::Global;
 use std::snapshot::Snapshot;
 use std::sync::Wait;
 use std::thread::{Scope, Threads};
@@ -21,18 +21,16 @@ use std::thread::{Scope, Threads};
 // Starts the worker of a lane that has lines. Where no thread can be made, the work is done here.
 fn start<'s, 'e: 's, R: Threads + Wait + Sync, V: Verifier, G: Gate>(
     scope: &'s Scope<'s, &'e ()>,
-    rt: &'e R,
-    alloc: Global,
+    tools: &Tools<'e, R, V, G>,
+    id: &'e Digest,
     intake: &'e Intake<Made>,
     job: LaneJob,
-    id: &'e Digest,
-    verifier: &'e V,
-    gate: &'e G,
 ) -> Hand<V>
     requires { IsReady intake.now job }
-    ensures { Promised V.shows (V.shows verifier.now) id.now.0 job result }
+    ensures { Promised V.shows (V.shows tools.now.verifier.now) id.now.0 job result }
 {
     let LaneJob { pass, lines, start } = job;
+    let (rt, alloc, verifier, gate) = (tools.rt, tools.alloc, tools.verifier, tools.gate);
     if lines.is_empty() {
         return Hand::Here(pass);
     }
@@ -46,7 +44,15 @@ fn start<'s, 'e: 's, R: Threads + Wait + Sync, V: Verifier, G: Gate>(
     let run = move || -> LanePass<Made>
         requires { IsReady intake.now (record { pass = pass; lines = lines; start = start }) }
         ensures { Works (V.shows verifier.entry.now) id.entry.now.0 start lines.items pass result }
-    { work(rt, alloc, intake, pass, lines, start, id, verifier, gate) };
+    {
+        let tools = Tools {
+            rt,
+            alloc,
+            verifier,
+            gate,
+        };
+        work(&tools, id, intake, pass, lines, start)
+    };
     match scope.spawn_with(promise, run) {
         Ok(child) => Hand::There(child),
         Err(refused) => Hand::Here((refused.value)()),
@@ -69,22 +75,19 @@ impl<V: Verifier> Hand<V> {
 /// Starts the workers.
 pub(crate) fn start_all<'s, 'e: 's, R: Threads + Wait + Sync, V: Verifier, G: Gate>(
     scope: &'s Scope<'s, &'e ()>,
-    rt: &'e R,
-    alloc: Global,
+    tools: &Tools<'e, R, V, G>,
+    id: &'e Digest,
     intake: &'e Intake<Made>,
     jobs: Vec<LaneJob>,
     mut hands: Vec<Hand<V>>,
-    id: &'e Digest,
-    verifier: &'e V,
-    gate: &'e G,
 ) -> Vec<Hand<V>>
     requires ready { All (IsReady intake.now) jobs.items }
     requires room { (hands.items ≡ []) × (vec_len jobs ≤ vec_capacity hands) }
     ensures len { vec_len result ≡ vec_len jobs }
-    ensures promised { Pairs (Promised V.shows (V.shows verifier.now) id.now.0) jobs.items result.items }
+    ensures promised { Pairs (Promised V.shows (V.shows tools.now.verifier.now) id.now.0) jobs.items result.items }
 {
     for job in jobs {
-        let hand = start(scope, rt, alloc, intake, job, id, verifier, gate);
+        let hand = start(scope, tools, id, intake, job);
         hands.push_reserved(hand);
     }
     hands

@@ -1,4 +1,4 @@
-ghost use Rattle.lane_work.specs.Flows.{IfGoOn};
+ghost use Rattle.lane_work.specs.Offering.{IfGoOn};
 
 use ledger_book::Prepared;
 

@@ -1,8 +1,8 @@
 //! The taker's side: items are taken and offered, on the calling thread.
-ghost use Rattle.std.specs.Prelude.{◌≡◌, [], length};
-ghost use Rattle.intake_queue.specs.Lanes.{taker as of_taker};
-ghost use Rattle.intake_queue.specs.Passes.{taker_view, IsTakerOf};
+ghost use Rattle.std.specs.Prelude.{◌≡◌};
+ghost use Rattle.intake_queue.specs.Passes.{taker_view};
 ghost use Rattle.lane_work.specs.Offering.{Comes, Hands};
+ghost use Rattle.lane_work.specs.Handing.{HasGot, IsNewTaker};
 ghost use Rattle.lane_work.specs.declared.taking.State.TheVariants.{Going};
 
 use crate::kinds::Made;
@@ -52,12 +52,9 @@ pub(crate) fn take_all<R: Wait, T: Taker>(
     count: usize,
     taker: &mut T,
 ) -> (TakerPass<Made>, State)
-    requires pass { IsTakerOf intake.now pass × (taker_view pass
-        ≡ of_taker (taker_view pass).plan [] (taker_view pass).lent (taker_view pass).back) }
+    requires pass { IsNewTaker intake.now pass }
     requires ready { T.ready taker.old }
-    ensures pass { IsTakerOf intake.now result.0 × (taker_view result.0
-        ≡ of_taker (taker_view pass).plan (taker_view result.0).got (taker_view pass).lent (taker_view pass).back) }
-    ensures count { length (taker_view result.0).got ≡ count }
+    ensures pass { HasGot intake.now pass count result.0 }
     ensures comes { Comes T.offers result.1 taker.old (taker_view result.0).got taker.new }
 {
     let mut state = State::Going;

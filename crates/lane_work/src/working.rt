@@ -7,6 +7,7 @@ ghost use Rattle.lane_work.specs.Making.{IsMadeOf, AllMade};
 use crate::gate::Gate;
 use crate::kinds::{LaneLine, Made};
 use crate::preparing::prepare;
+use crate::tools::Tools;
 use intake_queue::{Intake, LanePass};
 use ledger_bytes::Digest;
 use member_book::Verifier;
@@ -31,15 +32,12 @@ fn make<V: Verifier>(alloc: Global, verifier: &V, id: &Digest, index: u64, said:
 
 /// Prepares the lines of one lane and submits them, one after the other.
 pub(crate) fn work<R: Wait, V: Verifier, G: Gate>(
-    rt: &R,
-    alloc: Global,
+    tools: &Tools<R, V, G>,
+    id: &Digest,
     intake: &Intake<Made>,
     mut pass: LanePass<Made>,
     lines: Vec<LaneLine>,
     start: u64,
-    id: &Digest,
-    verifier: &V,
-    gate: &G,
 ) -> LanePass<Made>
     requires pass { IsLaneOf intake.now pass × (lane_view pass
         ≡ sender (lane_view pass).plan (lane_view pass).lane []) }
@@ -49,13 +47,13 @@ pub(crate) fn work<R: Wait, V: Verifier, G: Gate>(
     requires lines { All (λ l. l.lane ≡ (lane_view pass).lane) lines.items }
     ensures pass { IsLaneOf intake.now result × (lane_view result
         ≡ sender (lane_view pass).plan (lane_view pass).lane (sent_by result)) }
-    ensures sent { AllMade (V.shows verifier.now) id.now.0 start lines.items (sent_by result) }
+    ensures sent { AllMade (V.shows tools.now.verifier.now) id.now.0 start lines.items (sent_by result) }
 {
     let mut index = start;
     for said in lines {
-        let item = make(alloc, verifier, id, index, &said);
-        gate.pass(said.lane, index);
-        pass = intake.submit(rt, pass, item);
+        let item = make(tools.alloc, tools.verifier, id, index, &said);
+        tools.gate.pass(said.lane, index);
+        pass = intake.submit(tools.rt, pass, item);
         index += 1;
     }
     pass

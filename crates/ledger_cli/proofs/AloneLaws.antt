@@ -1,10 +1,10 @@
 -- Lemmas on a line that is the only one of its piece.
 use Rattle.std.proofs.Common.{◌≡◌, ℕ, ◌+◌, Bool, List, [], ◌∷◌, length, None, Some, inl, inr, refl, sym, subst, arith}
-use Rattle.std.specs.Prelude.{slice_index, All, Result, Ok, Err, OnOk, IfErr}
+use Rattle.std.specs.Prelude.{slice_index, All, Result}
 use Rattle.std.proofs.lemmas.List.Elements.{All-cons, All-nil}
 use Rattle.batch_committer.specs.World.{Keeps}
-use Rattle.batch_committer.specs.declared.end.End.{End}
-use Rattle.batch_committer.specs.declared.end.End.TheVariants as end
+use Rattle.batch_committer.specs.declared.failure.CommitErr.{CommitErr}
+use Rattle.batch_committer.specs.declared.failure.CommitErr.TheVariants as end
 use Rattle.lane_work.specs.Making.{IsItemOf}
 use Rattle.lane_work.specs.Offering.{Goes, OffersLine}
 use Rattle.lane_work.specs.Orders.{numbered}
@@ -14,6 +14,7 @@ use Rattle.lane_work.proofs.Ordering.{said_at, alone_none, alone_more, alone_sto
 use Rattle.ledger_book.specs.declared.prepared.Prepared.{Prepared}
 use Rattle.ledger_model.specs.History.{History, id}
 use Rattle.ledger_model.specs.Scheme.{Scheme}
+use Rattle.ledger_cli.specs.Desks.{TakesLines}
 use Rattle.ledger_cli.specs.Pieces.{At, IsOpen, Told, told, Answered, PieceTaken, PieceBroken}
 use Rattle.ledger_cli.proofs.PieceLaws.{ran_all, ran_some, piece_taken, piece_broken}
 
@@ -37,7 +38,7 @@ module _ (scheme : Scheme) (key : List ℕ) (tells : Bool) (first : List ℕ) (l
       let runs = alone_all (OffersLine scheme key (Answered tells)) l.lane index first (l ∷ []) (told [] None s) (told [] None t) (one l) (sym number) (inl more) in
       piece_taken scheme tells first first (l ∷ []) (l ∷ []) s t refl refl (ran_all (λ (x : Told). x) scheme key tells first (l ∷ []) (told [] None s) (told [] None t) open_ key_is refl runs).1
 
-  pub line_broken : (item : Prepared) (why : End) → IsItemOf scheme key (said_at l index) item → Answered tells (told [] None s) item Stop (told [] (Some why) t) → PieceBroken scheme tells first (l ∷ []) why s t
+  pub line_broken : (item : Prepared) (why : CommitErr) → IsItemOf scheme key (said_at l index) item → Answered tells (told [] None s) item Stop (told [] (Some why) t) → PieceBroken scheme tells first (l ∷ []) why s t
   line_broken item why is stops =
       let more = alone_stops scheme key (Answered tells) index [] [] (l ∷ []) l item (told [] None s) (told [] None s) (told [] (Some why) t) refl (at_first item is) nothing stops in
       let runs = alone_all (OffersLine scheme key (Answered tells)) l.lane index first (l ∷ []) (told [] None s) (told [] (Some why) t) (one l) (sym number) (inr more) in
@@ -55,10 +56,5 @@ line_lacks scheme key tells first l index s open_ key_is number =
 -- ---- a piece that is one line
 
 module _ (scheme : Scheme) (tells : Bool) (first : List ℕ) (lines : List LaneLine) (l : LaneLine) (index : ℕ) (s t : At) (lines_are : lines ≡ l ∷ []) (number : slice_index first l.lane ≡ index) where
-  pub alone_taken : {T E : Type 0} (result : Result T E) → OnOk result ((f : List ℕ) → slice_index f l.lane ≡ index → PieceTaken scheme tells f (l ∷ []) s t) → OnOk result (PieceTaken scheme tells first lines s t)
-  alone_taken (Ok value) taken = subst (λ (ls : List LaneLine). PieceTaken scheme tells first ls s t) (sym lines_are) (taken first number)
-  alone_taken (Err error) taken = tt
-
-  pub alone_broken : {T : Type 0} (result : Result T End) → IfErr result (λ why. (f : List ℕ) → slice_index f l.lane ≡ index → PieceBroken scheme tells f (l ∷ []) why s t) → IfErr result (λ why. PieceBroken scheme tells first lines why s t)
-  alone_broken (Ok value) broken = tt
-  alone_broken (Err why) broken = subst (λ (ls : List LaneLine). PieceBroken scheme tells first ls why s t) (sym lines_are) (broken first number)
+  pub alone_takes : {T : Type 0} (result : Result T CommitErr) → ((f : List ℕ) → slice_index f l.lane ≡ index → TakesLines scheme tells f (l ∷ []) result s t) → TakesLines scheme tells first lines result s t
+  alone_takes result takes = subst (λ (ls : List LaneLine). TakesLines scheme tells first ls result s t) (sym lines_are) (takes first number)

@@ -1,8 +1,8 @@
 -- Lemmas on a run whose disks were opened or made first.
 use Rattle.std.proofs.Common.{◌≡◌, ℕ, inl, inr, ◌<◌, List, [], length, take, drop, ap, sym, subst, ◌∙◌, arith}
-use Rattle.std.specs.Prelude.{IfSome, IsSome}
+use Rattle.std.specs.Prelude.{Option, IfSome, IsSome, None}
 use Rattle.std.proofs.lemmas.List.{take-append-drop, length-take-le}
-use Rattle.batch_committer.specs.World.{Pair}
+use Rattle.batch_committer.specs.World.{Pair, OneFailed}
 use Rattle.block_file.specs.File.{IsSettled}
 use Rattle.ledger_bytes.specs.Causes.{count_after}
 use Rattle.ledger_disk.specs.Disk.{State, MayLeave}
@@ -17,8 +17,7 @@ use Rattle.ledger_open.specs.Standing.{PairFor, IsCleanPair}
 use Rattle.batch_committer.specs.Opened.{IsQuietFor}
 use Rattle.ledger_open.specs.declared.failure.OpenErr.{OpenErr}
 use Rattle.ledger_cli.specs.Endings.{refusal_of}
-use Rattle.ledger_cli.specs.Runs.{Handed, handed, AreQuiet, StandFor, Faults, NoDiskFailed, DiskFailed, FaultsBy, RunsOn}
-use Rattle.ledger_cli.specs.Session.{IsOfLines}
+use Rattle.ledger_cli.specs.Runs.{Handed, handed, AreQuiet, StandFor, Faults, NoDiskFailed, FaultsBy, RunsOn}
 use Rattle.ledger_cli.specs.declared.ending.LedgerEnding.{LedgerEnding}
 use Rattle.ledger_cli.specs.declared.ending.LedgerEnding.TheVariants.{Run, DiskFault, Damaged, Empty, Exists, NewerFormat}
 
@@ -42,7 +41,7 @@ module _ (source : SourceState) (sink : SinkState) (n : NotaryState) (d e : Pair
   none_from : (S : ℕ → ℕ → Type 0) (K : SinkState → SinkState → Type 0) → Faults S K NoDiskFailed (handed source sink d n) now → Faults S K NoDiskFailed (handed source sink e n) now
   none_from S K f = record { source_is = f.source_is; sink_is = f.sink_is; disks_are = record { a = f.disks_are.a ∙ a; b = f.disks_are.b ∙ b } }
 
-  one_from : DiskFailed d now.disks → DiskFailed e now.disks
+  one_from : OneFailed d now.disks → OneFailed e now.disks
   one_from (inl f) = inl (f.0 ∙ ap count_after a, f.1 ∙ b)
   one_from (inr f) = inr (f.0 ∙ a, f.1 ∙ ap count_after b)
 
@@ -79,21 +78,11 @@ quiet_clean disks h q a b x y =
     subst (λ l. IsCleanPair l b h) (sym (quiet_image disks.a.bytes a q.a x)) (subst (λ l. IsCleanPair disks.a.bytes.seen l h) (sym (quiet_image disks.b.bytes b q.b y)) q.clean)
 
 -- a run over lines tells no refusal
-pub of_lines : (ending : LedgerEnding) (P : OpenErr → Type 0) → IsOfLines ending → IfSome (refusal_of ending) P
-of_lines (Run ending) P is = tt
-of_lines DiskFault P is = tt
-of_lines (Damaged damage) P is = absurd is
-of_lines Empty P is = absurd is
-of_lines Exists P is = absurd is
-of_lines (NewerFormat found) P is = absurd is
+pub of_lines : (ending : LedgerEnding) (P : OpenErr → Type 0) → refusal_of ending ≡ None → IfSome (refusal_of ending) P
+of_lines ending P is = subst (λ e. IfSome e P) (sym is) tt
 
-pub no_refusal : (ending : LedgerEnding) → IsOfLines ending → IsSome (refusal_of ending) → ⊥
-no_refusal (Run ending) is some = let no : ⊥ = cc some in no
-no_refusal DiskFault is some = let no : ⊥ = cc some in no
-no_refusal (Damaged damage) is some = absurd is
-no_refusal Empty is some = absurd is
-no_refusal Exists is some = absurd is
-no_refusal (NewerFormat found) is some = absurd is
+pub no_refusal : (ending : LedgerEnding) → refusal_of ending ≡ None → IsSome (refusal_of ending) → ⊥
+no_refusal ending is some = let no : ⊥ = cc (subst (λ (e : Option OpenErr). IsSome e) is some) in no
 
 pub none_waits : (a b : List ℕ) (h : History) → PairFor a b h → h.waiting ≡ []
 none_waits a b h p = p.stands.file.none

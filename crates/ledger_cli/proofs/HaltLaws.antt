@@ -4,9 +4,9 @@ use Rattle.std.proofs.lemmas.Option.{slice_get_within, get_or_from_slice_get}
 use Rattle.journal_record.specs.Entry.{Entry}
 use Rattle.journal_record.specs.Header.{HasWidths}
 use Rattle.time_peg.specs.Entries.{NotaryState, IsList}
-use Rattle.batch_committer.specs.World.{World, Holds, HasRoom, sealed_part, Goes, Ended, Stops, Writes}
+use Rattle.batch_committer.specs.World.{World, Holds, HasRoom, sealed_part, Goes, EndsOnTheWay, LeftAtTheEnd, Writes}
 use Rattle.batch_committer.specs.Opened.{IsQuietFor}
-use Rattle.batch_committer.specs.declared.end.End.{End}
+use Rattle.batch_committer.specs.declared.failure.CommitErr.{CommitErr}
 use Rattle.batch_committer.proofs.Opening.{held_quiet, held_lawful}
 use Rattle.batch_committer.proofs.WayLaws.{begins_not}
 use Rattle.ledger_io.specs.Runs.{SomeAnswer}
@@ -53,18 +53,18 @@ use Rattle.ledger_cli.proofs.StopLaws.{CleanBy, SaidOf, said_of, stop_stands}
 
 -- Lines behind them weren't taken, and the call was on the way to some history: the open block may end behind the taken steps, and
 -- the lines behind these go on from that history.
-pub record Halts (scheme : Scheme) (tells : Bool) (w : World) (n : NotaryState) (done : List (List Step)) (current : List Step) (rest : List Said) (end : End) (t : World) : Type 0 where
+pub record Halts (scheme : Scheme) (tells : Bool) (w : World) (n : NotaryState) (done : List (List Step)) (current : List Step) (rest : List Said) (end : CommitErr) (t : World) : Type 0 where
   pub behind : List Step
   pub later : List Said
   pub split : map said_by behind ++ later ≡ rest
   pub unasked : AllUnasked n behind
   pub next : History → History
-  pub ended : Ended tells w next (owed scheme done current) end t
+  pub ended : EndsOnTheWay tells w next (owed scheme done current) end t
   pub closes : (h : History) → Holds tells w h → Grows (next h) (close (reached scheme done current h))
   pub on : (h : History) → Holds tells w h → Grows (next h) (reached scheme done (current ++ behind) h)
 
 -- right there
-pub halts_there : (scheme : Scheme) (tells : Bool) (w : World) (n : NotaryState) (done : List (List Step)) (current : List Step) (rest : List Said) (end : End) (t : World) → Ended tells w (reached scheme done current) (owed scheme done current) end t → Halts scheme tells w n done current rest end t
+pub halts_there : (scheme : Scheme) (tells : Bool) (w : World) (n : NotaryState) (done : List (List Step)) (current : List Step) (rest : List Said) (end : CommitErr) (t : World) → EndsOnTheWay tells w (reached scheme done current) (owed scheme done current) end t → Halts scheme tells w n done current rest end t
 halts_there scheme tells w n done current rest end t e = record {
   behind = [];
   later = rest;
@@ -81,9 +81,9 @@ grows_anchor : (scheme : Scheme) (k : History) (step : Step) → job_of scheme (
 unfolding after_step
 grows_anchor scheme k step is = subst (λ (job : Job). Grows (judged_at k job) (after_job k step (job_of scheme (id k) step.line))) is (grows_after k step (job_of scheme (id k) step.line))
 
-pub halts_at : (scheme : Scheme) (tells : Bool) (w : World) (n : NotaryState) (done : List (List Step)) (current : List Step) (x : Said) (later : List Said) (end : End) (t : World)
+pub halts_at : (scheme : Scheme) (tells : Bool) (w : World) (n : NotaryState) (done : List (List Step)) (current : List Step) (x : Said) (later : List Said) (end : CommitErr) (t : World)
     → ((h : History) → Holds tells w h → job_of scheme (id (reached scheme done current h)) x.line ≡ Anchor)
-    → Ended tells w (λ h. close (reached scheme done current h)) (owed scheme done current) end t → Halts scheme tells w n done current (x ∷ later) end t
+    → EndsOnTheWay tells w (λ h. close (reached scheme done current h)) (owed scheme done current) end t → Halts scheme tells w n done current (x ∷ later) end t
 halts_at scheme tells w n done current x later end t anchor e = record {
   behind = unasked n x ∷ [];
   later = later;
@@ -126,7 +126,7 @@ module _ (scheme : Scheme) (tells : Bool) (w : World) (h : History) (p : Holds t
   module _ (script : List (List ℕ)) (few : length script < 2 ^ 64) (done : List (List Step)) (current : List Step) (n : NotaryState) where
     -- a call stopped the run within the script: what was written begins the text of a merge of each script that goes on from there, and
     -- that of the steps that were taken
-    module _ (rest : List Said) (end : End) (t : World) (x : Halts scheme tells w n done current rest end t) (can : CanGoOn n script done (current ++ x.behind)) (took : TookOn scheme h first done current n) where
+    module _ (rest : List Said) (end : CommitErr) (t : World) (x : Halts scheme tells w n done current rest end t) (can : CanGoOn n script done (current ++ x.behind)) (took : TookOn scheme h first done current n) where
       abbrev now_last : History
       now_last = taken_after scheme h done current
 
@@ -136,8 +136,8 @@ module _ (scheme : Scheme) (tells : Bool) (w : World) (h : History) (p : Holds t
       took_all : TookAll scheme h first (taken done current) n
       took_all = took_window scheme h first done current n took
 
-      stops_so : Stops h (x.next h) (owed scheme done current h) end x.ended.part t.disks
-      stops_so = subst (λ l. Stops h (x.next h) (l ++ owed scheme done current h) end x.ended.part t.disks) no_dues (x.ended.stops h p)
+      stops_so : LeftAtTheEnd h (x.next h) (owed scheme done current h) end x.ended.part t.disks
+      stops_so = subst (λ l. LeftAtTheEnd h (x.next h) (l ++ owed scheme done current h) end x.ended.part t.disks) no_dues (x.ended.stops h p)
 
       closes_now : Grows (x.next h) now_last
       closes_now = subst (Grows (x.next h)) (closes_so scheme h done current) (x.closes h p)
@@ -232,11 +232,11 @@ module _ (scheme : Scheme) (tells : Bool) (w : World) (h : History) (p : Holds t
       whole_after = after-append scheme h steps ([] ∷ []) ∙ sym (close_settled last (after_none scheme h steps none))
 
       -- .. or where the script ended
-      pub stopped_last : (end : End) (t : World) (e : Ended tells w (λ k. close (reached scheme done current k)) (λ k. owed scheme done current k ++ []) end t) → SomeAnswer (StopsOn scheme h e.part t.disks first n (CleanBy end h e.part) (SaidOf end e.part)) script (SaidOf end e.part)
+      pub stopped_last : (end : CommitErr) (t : World) (e : EndsOnTheWay tells w (λ k. close (reached scheme done current k)) (λ k. owed scheme done current k ++ []) end t) → SomeAnswer (StopsOn scheme h e.part t.disks first n (CleanBy end h e.part) (SaidOf end e.part)) script (SaidOf end e.part)
       stopped_last end t e =
           let settled = after_none scheme h steps none in
           let due : w.kept.dues ++ (owed scheme done current h ++ []) ≡ owed scheme done current h = ap (λ l. l ++ (owed scheme done current h ++ [])) no_dues ∙ append-nil (owed scheme done current h) in
-          let s = subst (λ l. Stops h (close (reached scheme done current h)) l end e.part t.disks) due (e.stops h p) in
+          let s = subst (λ l. LeftAtTheEnd h (close (reached scheme done current h)) l end e.part t.disks) due (e.stops h p) in
           let g : Grows (close (reached scheme done current h)) last = subst (Grows (close (reached scheme done current h))) last_is (grows_not (close (reached scheme done current h))) in
           let all : due_lines last (s.done ++ s.rest) ≡ text scheme h steps = ap (due_lines last) (sym s.split) ∙ text_last in
           let said : SaidOf end e.part (text scheme h steps) = said_of end last e.part (text scheme h steps) s.done s.rest (s.said last g settled) all in

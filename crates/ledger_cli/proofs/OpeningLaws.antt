@@ -33,9 +33,8 @@ use Rattle.ledger_open.proofs.OpenLaws.{pair_opens, reopened_only}
 use Rattle.time_peg.specs.Entries.{NotaryState}
 use Rattle.twin_file.specs.Images.{AreShut}
 use Rattle.twin_file.specs.Twin.{open_of}
-use Rattle.ledger_cli.specs.Endings.{ending_of_opening, line_of}
-use Rattle.ledger_cli.specs.Runs.{Handed, handed, FaultsBy, SettledAsRead, StayAsRead, IsUnstarted, IsRefused, IsMadeOf, RunsAgain, RunsNew, Makes, ledger_line}
-use Rattle.ledger_cli.specs.Session.{IsOfLines, Runs}
+use Rattle.ledger_cli.specs.Endings.{ending_of_opening, line_of, refusal_of}
+use Rattle.ledger_cli.specs.Runs.{Handed, handed, FaultsBy, SettledAsRead, StayAsRead, IsUnstarted, IsRefused, IsMadeOf, RunsAgain, RunsNew, Makes, ledger_line, Runs}
 use Rattle.ledger_cli.specs.declared.ending.LedgerEnding.{LedgerEnding}
 use Rattle.ledger_cli.specs.declared.ending.LedgerEnding.TheVariants.{Run}
 use Rattle.ledger_bytes.specs.Digests.{digest}
@@ -83,18 +82,18 @@ module _ (scheme : Scheme) (tells : Bool) (source : SourceState) (sink : SinkSta
       → (IsTrue tells → IsSettled old.a.bytes → IsSettled old.b.bytes → (h : History) → IsCleanPair old.a.bytes.seen old.b.bytes.seen h → (now.a.bytes ≡ old.a.bytes) × (now.b.bytes ≡ old.b.bytes))
       → CountsTwoErr e old.a.faults now.a.faults old.b.faults now.b.faults → RunsAgain scheme tells (ending_of_opening e) (handed source sink old n) (handed source sink now n)
   not_opened open_err.DiskFault err same kept images clean counts = record {
-    serves = λ t h p l q. inr (record { outside = tt; unstarted = unstarted; images = images t (q tt).a (q tt).b h p; clean = clean t (q tt).a (q tt).b h });
+    serves = λ t h p l q. let quiet = q (inl refl) in inr (record { outside = inl refl; unstarted = unstarted; images = images t quiet.a quiet.b h p; clean = clean t quiet.a quiet.b h });
     unstarted = λ some. unstarted;
     refused = λ t. tt;
-    exact = λ t f cause not. (unstarted, stay (kept t f not cause));
+    exact = λ t f cause not. (unstarted, inl (inl refl, stay (kept t f not cause)));
     faults = counts_ended source sink n old now open_err.DiskFault counts;
     failures = fails_unread source n;
   }
   not_opened open_err.NoMemory err same kept images clean counts = record {
-    serves = λ t h p l q. inr (record { outside = tt; unstarted = unstarted; images = images t (q tt).a (q tt).b h p; clean = clean t (q tt).a (q tt).b h });
+    serves = λ t h p l q. let quiet = q (inr refl) in inr (record { outside = inr refl; unstarted = unstarted; images = images t quiet.a quiet.b h p; clean = clean t quiet.a quiet.b h });
     unstarted = λ some. unstarted;
     refused = λ t. tt;
-    exact = λ t f cause not. (unstarted, stay (kept t f not cause));
+    exact = λ t f cause not. (unstarted, inl (inr refl, stay (kept t f not cause)));
     faults = counts_ended source sink n old now open_err.NoMemory counts;
     failures = fails_unread source n;
   }
@@ -102,7 +101,7 @@ module _ (scheme : Scheme) (tells : Bool) (source : SourceState) (sink : SinkSta
     serves = λ t h p l q. absurd (pair_opens old.a.bytes.seen old.b.bytes.seen h p (open_err.Damaged damage) (err t));
     unstarted = λ some. unstarted;
     refused = refusal (same (λ is. let no : ⊥ = cc is in no)) (open_err.Damaged damage) err;
-    exact = λ t f cause not. (unstarted, settled (same (λ is. let no : ⊥ = cc is in no)) t);
+    exact = λ t f cause not. (unstarted, inr (refl, settled (same (λ is. let no : ⊥ = cc is in no)) t));
     faults = counts_ended source sink n old now (open_err.Damaged damage) counts;
     failures = fails_unread source n;
   }
@@ -110,7 +109,7 @@ module _ (scheme : Scheme) (tells : Bool) (source : SourceState) (sink : SinkSta
     serves = λ t h p l q. absurd (pair_opens old.a.bytes.seen old.b.bytes.seen h p open_err.Empty (err t));
     unstarted = λ some. unstarted;
     refused = refusal (same (λ is. let no : ⊥ = cc is in no)) open_err.Empty err;
-    exact = λ t f cause not. (unstarted, settled (same (λ is. let no : ⊥ = cc is in no)) t);
+    exact = λ t f cause not. (unstarted, inr (refl, settled (same (λ is. let no : ⊥ = cc is in no)) t));
     faults = counts_ended source sink n old now open_err.Empty counts;
     failures = fails_unread source n;
   }
@@ -126,7 +125,7 @@ module _ (scheme : Scheme) (tells : Bool) (source : SourceState) (sink : SinkSta
     serves = λ t h p l q. absurd (pair_opens old.a.bytes.seen old.b.bytes.seen h p (open_err.NewerFormat found) (err t));
     unstarted = λ some. unstarted;
     refused = refusal (same (λ is. let no : ⊥ = cc is in no)) (open_err.NewerFormat found) err;
-    exact = λ t f cause not. (unstarted, settled (same (λ is. let no : ⊥ = cc is in no)) t);
+    exact = λ t f cause not. (unstarted, inr (refl, settled (same (λ is. let no : ⊥ = cc is in no)) t));
     faults = counts_ended source sink n old now (open_err.NewerFormat found) counts;
     failures = fails_unread source n;
   }
@@ -135,10 +134,10 @@ module _ (scheme : Scheme) (tells : Bool) (source : SourceState) (sink : SinkSta
   pub again_unstarted : now ≡ old → RunsAgain scheme tells (Run run.NoMemory) (handed source sink old n) (handed source sink now n)
   again_unstarted is =
       subst (λ (d : Pair). RunsAgain scheme tells (Run run.NoMemory) (handed source sink old n) (handed source sink d n)) (sym is) (record {
-        serves = λ t h p l q. inr (record { outside = tt; unstarted = record { unread = refl; unwritten = refl; unasked = refl }; images = quiet_pair old h (q tt) p; clean = λ c. (refl, refl) });
+        serves = λ t h p l q. inr (record { outside = inr refl; unstarted = record { unread = refl; unwritten = refl; unasked = refl }; images = quiet_pair old h (q (inr refl)) p; clean = λ c. (refl, refl) });
         unstarted = λ some. record { unread = refl; unwritten = refl; unasked = refl };
         refused = λ t. tt;
-        exact = λ t f cause not. (record { unread = refl; unwritten = refl; unasked = refl }, record { a = inl refl; b = inl refl });
+        exact = λ t f cause not. (record { unread = refl; unwritten = refl; unasked = refl }, inl (inr refl, record { a = inl refl; b = inl refl }));
         faults = record { source_is = inl refl; sink_is = (refl, refl); disks_are = record { a = refl; b = refl } };
         failures = fails_unread source n;
       })
@@ -155,7 +154,7 @@ module _ (scheme : Scheme) (tells : Bool) (source : SourceState) (sink : SinkSta
     begins_none = ap (λ (x : CommitterState). x.dues) kept_is
 
     pub ran_again : (limits : k.book.limits ≡ real_limits) (r : IsTrue tells → IsReopened in_a k start blocks old.a.bytes old.b.bytes now.a.bytes now.b.bytes) (a : now.a.faults ≡ old.a.faults) (b : now.b.faults ≡ old.b.faults)
-        (ending : LedgerEnding) (last : Handed) → Runs scheme tells (world kept now sink) ending (handed source sink now n) last → IsOfLines ending → RunsAgain scheme tells ending (handed source sink old n) last
+        (ending : LedgerEnding) (last : Handed) → Runs scheme tells (world kept now sink) ending (handed source sink now n) last → refusal_of ending ≡ None → RunsAgain scheme tells ending (handed source sink old n) last
     ran_again limits r a b ending last ran started = record {
       serves = λ t h p l q.
           inl (serves_from scheme h ending source sink n now old last
@@ -215,8 +214,7 @@ module _ (genesis : Genesis) (tells : Bool) (source : SourceState) (sink : SinkS
     unread = refl;
     unasked = refl;
     appended = Appends-nil sink.held;
-    told = refl;
-    left = stayed;
+    made = (refl, stayed);
     images = images;
     faults = counts_ended source sink n old now open_err.DiskFault counts;
   }
@@ -225,8 +223,7 @@ module _ (genesis : Genesis) (tells : Bool) (source : SourceState) (sink : SinkS
     unread = refl;
     unasked = refl;
     appended = Appends-nil sink.held;
-    told = refl;
-    left = λ t. inl (stayed_now (same (λ is. let no : ⊥ = cc is in no)) t);
+    made = (refl, λ t. inl (stayed_now (same (λ is. let no : ⊥ = cc is in no)) t));
     images = images;
     faults = counts_ended source sink n old now open_err.NoMemory counts;
   }
@@ -235,8 +232,7 @@ module _ (genesis : Genesis) (tells : Bool) (source : SourceState) (sink : SinkS
     unread = refl;
     unasked = refl;
     appended = Appends-nil sink.held;
-    told = refl;
-    left = λ t. (exists refl t, settled_now (same (λ is. let no : ⊥ = cc is in no)) t);
+    made = (refl, λ t. (exists refl t, settled_now (same (λ is. let no : ⊥ = cc is in no)) t));
     images = images;
     faults = counts_ended source sink n old now open_err.Exists counts;
   }
@@ -252,23 +248,23 @@ module _ (genesis : Genesis) (tells : Bool) (source : SourceState) (sink : SinkS
       → (e ≢ open_err.DiskFault → IsTrue tells → (now.a.bytes ≡ settled_state old.a.bytes.seen) × (now.b.bytes ≡ settled_state old.b.bytes.seen))
       → CountsTwoErr e old.a.faults now.a.faults old.b.faults now.b.faults → RunsNew scheme genesis tells (ending_of_opening e) (handed source sink old n) (handed source sink now n)
   not_run scheme open_err.DiskFault why exists same counts = record {
-    serves = λ t none l. inr (record { outside = tt; unstarted = unstarted scheme tells source sink n old now; images = images t });
+    serves = λ t none l. inr (record { outside = inl refl; unstarted = unstarted scheme tells source sink n old now; images = images t });
     unstarted = λ some. unstarted scheme tells source sink n old now;
-    left = λ t o. (unstarted scheme tells source sink n old now, stayed t o);
+    left = λ t o. (unstarted scheme tells source sink n old now, inl (inl refl, stayed t o));
     faults = counts_ended source sink n old now open_err.DiskFault counts;
     failures = fails_unread source n;
   }
   not_run scheme open_err.NoMemory why exists same counts = record {
-    serves = λ t none l. inr (record { outside = tt; unstarted = unstarted scheme tells source sink n old now; images = images t });
+    serves = λ t none l. inr (record { outside = inr refl; unstarted = unstarted scheme tells source sink n old now; images = images t });
     unstarted = λ some. unstarted scheme tells source sink n old now;
-    left = λ t o. (unstarted scheme tells source sink n old now, stayed t o);
+    left = λ t o. (unstarted scheme tells source sink n old now, inl (inr refl, stayed t o));
     faults = counts_ended source sink n old now open_err.NoMemory counts;
     failures = fails_unread source n;
   }
   not_run scheme open_err.Exists why exists same counts = record {
     serves = λ t none l. absurd (none_open old.a.bytes old.b.bytes none.0 none.1 (exists refl t));
     unstarted = λ some. unstarted scheme tells source sink n old now;
-    left = λ t o. (unstarted scheme tells source sink n old now, settled_now (same (λ is. let no : ⊥ = cc is in no)) t);
+    left = λ t o. (unstarted scheme tells source sink n old now, inr (refl, settled_now (same (λ is. let no : ⊥ = cc is in no)) t));
     faults = counts_ended source sink n old now open_err.Exists counts;
     failures = fails_unread source n;
   }
@@ -293,8 +289,7 @@ module _ (genesis : Genesis) (tells : Bool) (source : SourceState) (sink : SinkS
       unread = refl;
       unasked = refl;
       appended = Appends-nil sink.held;
-      told = refl;
-      left = λ t. inr (made_now t);
+      made = (refl, λ t. inr (made_now t));
       images = images;
       faults = record { source_is = inl refl; sink_is = (refl, refl); disks_are = record { a = a; b = b } };
     }
@@ -305,8 +300,7 @@ module _ (genesis : Genesis) (tells : Bool) (source : SourceState) (sink : SinkS
       unread = refl;
       unasked = refl;
       appended = appended;
-      told = is;
-      left = made_now;
+      made = (is, made_now);
       images = images;
       faults = record { source_is = refl; sink_is = none; disks_are = record { a = a; b = b } };
     }
@@ -317,8 +311,7 @@ module _ (genesis : Genesis) (tells : Bool) (source : SourceState) (sink : SinkS
       unread = refl;
       unasked = refl;
       appended = appended;
-      told = short;
-      left = made_now;
+      made = (short, made_now);
       images = images;
       faults = record { source_is = inl refl; sink_is = one; disks_are = record { a = a; b = b } };
     }
@@ -340,7 +333,7 @@ module _ (genesis : Genesis) (tells : Bool) (source : SourceState) (sink : SinkS
       pub new_none : kept.dues ≡ []
       new_none = ap (λ (x : CommitterState). x.dues) here
 
-      pub ran_new : (scheme : Scheme) (limits : k.book.limits ≡ real_limits) (ending : LedgerEnding) (last : Handed) → Runs scheme tells (world kept now sink) ending (handed source sink now n) last → IsOfLines ending → RunsNew scheme genesis tells ending (handed source sink old n) last
+      pub ran_new : (scheme : Scheme) (limits : k.book.limits ≡ real_limits) (ending : LedgerEnding) (last : Handed) → Runs scheme tells (world kept now sink) ending (handed source sink now n) last → refusal_of ending ≡ None → RunsNew scheme genesis tells ending (handed source sink old n) last
       ran_new scheme limits ending last ran started = record {
         serves = λ t none l.
             inl (serves_from scheme (new_ledger genesis) ending source sink n now old last

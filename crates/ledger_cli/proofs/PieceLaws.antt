@@ -4,9 +4,9 @@ use Rattle.std.specs.Option.{option_map}
 use Rattle.std.proofs.Common.{◌≡◌, ℕ, ◌+◌, ◌≤◌, ◌⊎◌, Bool, true, cond, List, [], ◌∷◌, ◌++◌, length, drop, map, Option, None, Some, inl, inr, refl, ap, sym, subst, ◌∙◌, arith, append_assoc, append-nil, length-append}
 use Rattle.std.proofs.lemmas.List.{map-append}
 use Rattle.batch_committer.specs.Attending.{step_in, Attended, FailsAtMostOnce, TakesJob, EndsAt, EndsUnasked, EndsTaking}
-use Rattle.batch_committer.specs.World.{Keeps, Holds, HasRoom, Goes, Ended}
-use Rattle.batch_committer.specs.declared.end.End.{End}
-use Rattle.batch_committer.specs.declared.end.End.TheVariants as end
+use Rattle.batch_committer.specs.World.{Keeps, Holds, HasRoom, Goes, EndsOnTheWay}
+use Rattle.batch_committer.specs.declared.failure.CommitErr.{CommitErr}
+use Rattle.batch_committer.specs.declared.failure.CommitErr.TheVariants as end
 use Rattle.batch_committer.proofs.Ending.{no_memory}
 use Rattle.batch_committer.proofs.Opening.{held_lawful}
 use Rattle.batch_committer.proofs.WayLaws.{goes_same, goes_then, goes_as, ended_then, ended_as}
@@ -117,22 +117,22 @@ module _ (scheme : Scheme) (key : List ℕ) (tells : Bool) where
       }
 
   -- .. that ended the run
-  record ItemEnds (s t : At) (x : Said) (why : End) : Type 0 where
+  record ItemEnds (s t : At) (x : Said) (why : CommitErr) : Type 0 where
     step : Step
     said : said_by step ≡ x
-    ended : Ended tells (world_at s) (jobs_after (step ∷ [])) (jobs_due (step ∷ [])) why (world_at t)
+    ended : EndsOnTheWay tells (world_at s) (jobs_after (step ∷ [])) (jobs_due (step ∷ [])) why (world_at t)
     took : (h : History) → Holds tells (world_at s) h → IsKnown key h → Took scheme h s.notary (step ∷ []) t.notary
 
   -- .. before the notary was asked
-  record ItemUnasked (s t : At) (x : Said) (why : End) : Type 0 where
+  record ItemUnasked (s t : At) (x : Said) (why : CommitErr) : Type 0 where
     anchor : job_of scheme key x.line ≡ Anchor
-    ended : Ended tells (world_at s) close (λ h. []) why (world_at t)
+    ended : EndsOnTheWay tells (world_at s) close (λ h. []) why (world_at t)
     same : t.notary ≡ s.notary
 
   one_took : (h : History) (n m : NotaryState) (step : Step) → IsKnown key h → step.before ≡ n.entries → AttendsJob (judged_at h (job_of scheme key step.line)) step (job_of scheme key step.line) → notary_after n step ≡ m → Took scheme h n (step ∷ []) m
   one_took h n m step k before a is = (before, attends_as h step k a, sym is)
 
-  item_ended : (s t : At) (x : Said) (item : Prepared) (why : End) → IsItemOf scheme key x item
+  item_ended : (s t : At) (x : Said) (item : Prepared) (why : CommitErr) → IsItemOf scheme key x item
       → EndsTaking tells (world_at s) (world_at t) s.notary t.notary item.lane item.index item.job why
       → ItemEnds s t x why ⊎ ItemUnasked s t x why
   item_ended s t x item why is (inl g) =
@@ -205,21 +205,21 @@ module _ (scheme : Scheme) (key : List ℕ) (tells : Bool) where
       }
 
   -- .. and stopped: there, or at an anchor that comes next
-  record StopsAtAnchor (s : Told) (steps : List Step) (rest : List Said) (why : End) (t : Told) : Type 0 where
+  record StopsAtAnchor (s : Told) (steps : List Step) (rest : List Said) (why : CommitErr) (t : Told) : Type 0 where
     said : Said
     later : List Said
     split : rest ≡ said ∷ later
     anchor : job_of scheme key said.line ≡ Anchor
-    ended : Ended tells (world_at s.at) (λ h. close (jobs_after steps h)) (jobs_due steps) why (world_at t.at)
+    ended : EndsOnTheWay tells (world_at s.at) (λ h. close (jobs_after steps h)) (jobs_due steps) why (world_at t.at)
 
   record CameToEnd (s : Told) (xs : List Said) (t : Told) : Type 0 where
     names : t.names ≡ s.names
-    why : End
+    why : CommitErr
     end : t.end ≡ Some why
     steps : List Step
     rest : List Said
     split : xs ≡ map said_by steps ++ rest
-    ended : Ended tells (world_at s.at) (jobs_after steps) (jobs_due steps) why (world_at t.at) ⊎ StopsAtAnchor s steps rest why t
+    ended : EndsOnTheWay tells (world_at s.at) (jobs_after steps) (jobs_due steps) why (world_at t.at) ⊎ StopsAtAnchor s steps rest why t
     took : (h : History) → Holds tells (world_at s.at) h → IsKnown key h → Took scheme h s.at.notary steps t.at.notary
     fails : FailsIn (length xs) s.at.notary t.at.notary
 
@@ -237,7 +237,7 @@ module _ (scheme : Scheme) (key : List ℕ) (tells : Bool) where
   steps_as steps h k = after_items scheme key h steps k.0 k.1
 
   -- the last item was taken, and its call ended the run
-  stops_there : (s m t : Told) (xs : List Said) (x : Said) (rest : List Said) (why : End) → Came s xs m → t.names ≡ m.names → t.end ≡ Some why → FailsAtMostOnce m.at.notary t.at.notary → ItemEnds m.at t.at x why → CameToEnd s (xs ++ x ∷ rest) t
+  stops_there : (s m t : Told) (xs : List Said) (x : Said) (rest : List Said) (why : CommitErr) → Came s xs m → t.names ≡ m.names → t.end ≡ Some why → FailsAtMostOnce m.at.notary t.at.notary → ItemEnds m.at t.at x why → CameToEnd s (xs ++ x ∷ rest) t
   stops_there s m t xs x rest why c names end_is once one =
       let last : List Step = one.step ∷ [] in record {
         names = names ∙ c.names;
@@ -260,7 +260,7 @@ module _ (scheme : Scheme) (key : List ℕ) (tells : Bool) where
       }
 
   -- .. or it wasn't: the notary wasn't asked
-  stops_before : (s m t : Told) (xs : List Said) (x : Said) (rest : List Said) (why : End) → Came s xs m → t.names ≡ m.names → t.end ≡ Some why → FailsAtMostOnce m.at.notary t.at.notary → ItemUnasked m.at t.at x why → CameToEnd s (xs ++ x ∷ rest) t
+  stops_before : (s m t : Told) (xs : List Said) (x : Said) (rest : List Said) (why : CommitErr) → Came s xs m → t.names ≡ m.names → t.end ≡ Some why → FailsAtMostOnce m.at.notary t.at.notary → ItemUnasked m.at t.at x why → CameToEnd s (xs ++ x ∷ rest) t
   stops_before s m t xs x rest why c names end_is once one = record {
     names = names ∙ c.names;
     why = why;
@@ -293,7 +293,7 @@ module _ (scheme : Scheme) (key : List ℕ) (tells : Bool) where
       ])
 
   -- nothing more is offered for want of memory
-  lacks : (s : At) (xs : List Step) (t : At) → Goes tells (world_at s) (jobs_after xs) (jobs_due xs) (world_at t) → Ended tells (world_at s) (jobs_after xs) (jobs_due xs) end.NoMemory (world_at t)
+  lacks : (s : At) (xs : List Step) (t : At) → Goes tells (world_at s) (jobs_after xs) (jobs_due xs) (world_at t) → EndsOnTheWay tells (world_at s) (jobs_after xs) (jobs_due xs) end.NoMemory (world_at t)
   lacks s xs t g =
       ended_as tells (world_at s) (world_at t) (jobs_after xs) (jobs_after xs) (λ h. jobs_due xs h ++ []) (jobs_due xs) end.NoMemory (λ h p. refl) (λ h p. append-nil (jobs_due xs h))
       (ended_then tells (world_at s) (world_at t) (world_at t) (jobs_after xs) (λ h. h) (jobs_due xs) (λ h. []) end.NoMemory g (no_memory tells (world_at t) t.held.kept (λ h. h) (λ h. []) (λ h p. grows_not h)))
@@ -312,11 +312,11 @@ module _ (scheme : Scheme) (key : List ℕ) (tells : Bool) where
     steps_go : (xs : List Step) (t : At) → Goes tells (world_at s) (jobs_after xs) (jobs_due xs) (world_at t) → Goes tells (world_at s) (λ h. after_steps scheme h xs) (λ h. dues scheme h xs) (world_at t)
     steps_go xs t g = goes_as tells (world_at s) (world_at t) (jobs_after xs) (λ h. after_steps scheme h xs) (jobs_due xs) (λ h. dues scheme h xs) (λ h p. steps_as xs h (known h p)) (due_is xs) g
 
-    steps_end : (xs : List Step) (why : End) (t : At) → Ended tells (world_at s) (jobs_after xs) (jobs_due xs) why (world_at t) → Ended tells (world_at s) (λ h. after_steps scheme h xs) (λ h. dues scheme h xs) why (world_at t)
+    steps_end : (xs : List Step) (why : CommitErr) (t : At) → EndsOnTheWay tells (world_at s) (jobs_after xs) (jobs_due xs) why (world_at t) → EndsOnTheWay tells (world_at s) (λ h. after_steps scheme h xs) (λ h. dues scheme h xs) why (world_at t)
     steps_end xs why t g = ended_as tells (world_at s) (world_at t) (jobs_after xs) (λ h. after_steps scheme h xs) (jobs_due xs) (λ h. dues scheme h xs) why (λ h p. steps_as xs h (known h p)) (due_is xs) g
 
     -- .. at an anchor that comes next
-    anchor_end : (xs : List Step) (why : End) (t : At) → Ended tells (world_at s) (λ h. close (jobs_after xs h)) (jobs_due xs) why (world_at t) → Ended tells (world_at s) (λ h. close (after_steps scheme h xs)) (λ h. dues scheme h xs) why (world_at t)
+    anchor_end : (xs : List Step) (why : CommitErr) (t : At) → EndsOnTheWay tells (world_at s) (λ h. close (jobs_after xs h)) (jobs_due xs) why (world_at t) → EndsOnTheWay tells (world_at s) (λ h. close (after_steps scheme h xs)) (λ h. dues scheme h xs) why (world_at t)
     anchor_end xs why t g = ended_as tells (world_at s) (world_at t) (λ h. close (jobs_after xs h)) (λ h. close (after_steps scheme h xs)) (jobs_due xs) (λ h. dues scheme h xs) why (λ h p. ap close (steps_as xs h (known h p))) (due_is xs) g
 
     anchor_is : (xs : List Step) (line : List ℕ) → job_of scheme key line ≡ Anchor → (h : History) → Holds tells (world_at s) h → job_of scheme (id (after_steps scheme h xs)) line ≡ Anchor
@@ -365,10 +365,10 @@ module _ {S : Type 0} (tell : S → Told) (scheme : Scheme) (key : List ℕ) (te
       elim r.runs [
         | inl g ↦
             let c = chain_goes scheme key tells (tell s) r.order (tell t) open_ (seen_goes tell o s r.order t g) in
-            (c.names, (r.order, r.is_order, subst (λ (e : Option End). TakesBy scheme tells r.order e (tell s).at (tell t).at) (sym (c.end ∙ fresh)) (all_taken r.order c)))
+            (c.names, (r.order, r.is_order, subst (λ (e : Option CommitErr). TakesBy scheme tells r.order e (tell s).at (tell t).at) (sym (c.end ∙ fresh)) (all_taken r.order c)))
         | inr g ↦
             let c = chain_stops scheme key tells (tell s) r.order (tell t) open_ (seen_stops tell o s r.order t g) in
-            (c.names, (r.order, r.is_order, subst (λ (e : Option End). TakesBy scheme tells r.order e (tell s).at (tell t).at) (sym c.end) (some_taken r.order c)))
+            (c.names, (r.order, r.is_order, subst (λ (e : Option CommitErr). TakesBy scheme tells r.order e (tell s).at (tell t).at) (sym c.end) (some_taken r.order c)))
       ]
 
   pub ran_some : RunsSome (OffersLine scheme key (λ s item f t. Answered tells (tell s) item f (tell t))) first lines s t
@@ -405,7 +405,7 @@ module _ (scheme : Scheme) (tells : Bool) (got first : List ℕ) (items lines : 
   unfolding TakesPiece
   piece_open x = x.2.still
 
-  pub piece_broken : (why : End) → TakesPiece scheme tells got items (Some why) s t → PieceBroken scheme tells first lines why s t
+  pub piece_broken : (why : CommitErr) → TakesPiece scheme tells got items (Some why) s t → PieceBroken scheme tells first lines why s t
   unfolding TakesPiece
   piece_broken why x =
       subst (λ (y : List ℕ × List LaneLine). PieceBroken scheme tells y.0 y.1 why s t) (λ i. (first_is i, lines_are i))
@@ -441,7 +441,7 @@ module _ (scheme : Scheme) (tells : Bool) (first : List ℕ) (lines : List LaneL
     fails = fails_same;
   }
 
-  pub flush_broken : (why : End) → Ended tells (world_at m) close (λ h. []) why (world_at t) → WindowBroken scheme tells first lines why s t
+  pub flush_broken : (why : CommitErr) → EndsOnTheWay tells (world_at m) close (λ h. []) why (world_at t) → WindowBroken scheme tells first lines why s t
   flush_broken why f = inr (record {
     steps = x.steps;
     is_order = x.is_order;

@@ -8,9 +8,9 @@ use mathlib.Core.Logic.{dite}
 use native.Mathlib.Decide.{ℕ_discrete}
 use Rattle.script_lines.specs.Grammar.{spoken_line}
 use Rattle.time_peg.specs.Entries.{NotaryState}
-use Rattle.batch_committer.specs.World.{Pair, World, HasRoom, Holds, Goes, Ended}
-use Rattle.batch_committer.specs.declared.end.End.{End}
-use Rattle.batch_committer.specs.declared.end.End.TheVariants as end
+use Rattle.batch_committer.specs.World.{Pair, World, HasRoom, Holds, Goes, EndsOnTheWay}
+use Rattle.batch_committer.specs.declared.failure.CommitErr.{CommitErr}
+use Rattle.batch_committer.specs.declared.failure.CommitErr.TheVariants as end
 use Rattle.batch_committer.proofs.Ending.{no_memory}
 use Rattle.batch_committer.proofs.WayLaws.{goes_same, goes_then, goes_as, ended_then, ended_as}
 use Rattle.lane_work.specs.Making.{lines_of}
@@ -39,8 +39,7 @@ use Rattle.ledger_model.proofs.LaneLaws.{said_after-append}
 use Rattle.ledger_model.proofs.WindowLaws.{IsCut, cut_none, cut_more, cut_whole, bytes_of-push}
 use Rattle.ledger_cli.specs.Endings.{ending_of_end}
 use Rattle.ledger_cli.specs.Pieces.{At, world_at, EndsThere, EndsAtAnchor, EndsBehind, PieceTaken, PieceBroken, WindowTaken, WindowBroken}
-use Rattle.ledger_cli.specs.Runs.{handed, StopsOn}
-use Rattle.ledger_cli.specs.Session.{Runs}
+use Rattle.ledger_cli.specs.Runs.{handed, StopsOn, Runs}
 use Rattle.ledger_cli.specs.Taken.{taken}
 use Rattle.ledger_cli.specs.declared.ending.LedgerEnding.TheVariants.{Run}
 use Rattle.ledger_cli.specs.Leaving.{AreClean}
@@ -196,7 +195,7 @@ module _ (scheme : Scheme) (tells : Bool) (first_w w t : World) (done : List (Li
       (goes_then tells first_w w t (reached scheme done current) (λ h. after_steps scheme h steps) (owed scheme done current) (λ h. dues scheme h steps) g x)
 
   -- .. or the run ended behind them
-  module _ (n : NotaryState) (rest : List Said) (why : End) where
+  module _ (n : NotaryState) (rest : List Said) (why : CommitErr) where
     break_there : EndsThere scheme tells steps why w t → Halts scheme tells first_w n done (current ++ steps) rest why t
     break_there x =
         halts_there scheme tells first_w n done (current ++ steps) rest why t
@@ -233,7 +232,7 @@ module _ (scheme : Scheme) (tells : Bool) (first_w w t : World) (done : List (Li
       (λ h p. close_on h) (λ h p. due_on h)
       (goes_then tells first_w w t (reached scheme done current) (λ h. close (after_steps scheme h steps)) (owed scheme done current) (λ h. dues scheme h steps) g x)
 
-  unend_on : (why : End) → Ended tells w (λ h. close (after_steps scheme h steps)) (λ h. dues scheme h steps) why t → Ended tells first_w (reached scheme (done ++ (current ++ steps) ∷ []) []) (owed scheme (done ++ (current ++ steps) ∷ []) []) why t
+  unend_on : (why : CommitErr) → EndsOnTheWay tells w (λ h. close (after_steps scheme h steps)) (λ h. dues scheme h steps) why t → EndsOnTheWay tells first_w (reached scheme (done ++ (current ++ steps) ∷ []) []) (owed scheme (done ++ (current ++ steps) ∷ []) []) why t
   unend_on why x =
       ended_as tells first_w t (λ h. close (after_steps scheme (reached scheme done current h) steps)) (reached scheme (done ++ (current ++ steps) ∷ []) [])
       (λ h. owed scheme done current h ++ dues scheme (reached scheme done current h) steps) (owed scheme (done ++ (current ++ steps) ∷ []) []) why
@@ -269,7 +268,7 @@ with_order front late current part o p k =
 -- ---- a stop within the script
 
 -- what is known of a text is told of it
-stop_as : (scheme : Scheme) (h : History) (part : List ℕ) (disks : Pair) (first_n n : NotaryState) (why : End) (lines : List (List ℕ)) (IsSo : List ℕ → Type 0) → ((whole : List ℕ) → SaidOf why part whole → IsSo whole)
+stop_as : (scheme : Scheme) (h : History) (part : List ℕ) (disks : Pair) (first_n n : NotaryState) (why : CommitErr) (lines : List (List ℕ)) (IsSo : List ℕ → Type 0) → ((whole : List ℕ) → SaidOf why part whole → IsSo whole)
     → SomeAnswer (StopsOn scheme h part disks first_n n (CleanBy why h part) (SaidOf why part)) lines (SaidOf why part) → SomeAnswer (StopsOn scheme h part disks first_n n (CleanBy why h part) IsSo) lines IsSo
 stop_as scheme h part disks first_n n why lines IsSo so a =
     let s = a.1 in (
@@ -290,7 +289,7 @@ stop_as scheme h part disks first_n n why lines IsSo so a =
 
 halt : (scheme : Scheme) (tells : Bool) (first_w : World) (first_n n : NotaryState) (before now : SourceState) (reading : Reading) (script : List (List ℕ)) (input : HasGiven before now reading script) (done : List (List Step)) (current : List Step)
     → ((h : History) → Holds tells first_w h → TookOn scheme h first_n done current n)
-    → HasRoom first_w.kept → first_w.kept.dues ≡ [] → (rest : List Said) (why : End) (t : World) (x : Halts scheme tells first_w n done current rest why t) → CanGoOn n script done (current ++ x.behind) → FailsIn (length script) first_n n
+    → HasRoom first_w.kept → first_w.kept.dues ≡ [] → (rest : List Said) (why : CommitErr) (t : World) (x : Halts scheme tells first_w n done current rest why t) → CanGoOn n script done (current ++ x.behind) → FailsIn (length script) first_n n
     → Runs scheme tells first_w (ending_of_end why) (handed before first_w.sink first_w.disks first_n) (handed now t.sink t.disks n)
 halt scheme tells first_w first_n n before now reading script input done current took room no_dues rest why t x can fails =
     let all = x.ended in record {
@@ -313,7 +312,7 @@ can_later n script line done current can tail =
     }
 
 -- nothing more is done for want of memory
-lacking : (scheme : Scheme) (tells : Bool) (first_w w : World) (done : List (List Step)) (current : List Step) → Goes tells first_w (reached scheme done current) (owed scheme done current) w → Ended tells first_w (reached scheme done current) (owed scheme done current) end.NoMemory w
+lacking : (scheme : Scheme) (tells : Bool) (first_w w : World) (done : List (List Step)) (current : List Step) → Goes tells first_w (reached scheme done current) (owed scheme done current) w → EndsOnTheWay tells first_w (reached scheme done current) (owed scheme done current) end.NoMemory w
 lacking scheme tells first_w w done current g =
     ended_as tells first_w w (reached scheme done current) (reached scheme done current) (λ h. owed scheme done current h ++ []) (owed scheme done current) end.NoMemory (λ h p. refl) (λ h p. append-nil (owed scheme done current h))
     (ended_then tells first_w w w (reached scheme done current) (λ h. h) (owed scheme done current) (λ h. []) end.NoMemory g (no_memory tells w w.kept (λ h. h) (λ h. []) (λ h p. grows_not h)))
@@ -373,7 +372,7 @@ module _ (scheme : Scheme) (tells : Bool) (first_w w : World) (first_n n : Notar
   }
 
   -- .. or the run ended on the way
-  pub ran_broken : (held t : At) (why : End) → world_at held ≡ w → held.notary ≡ n → PieceBroken scheme tells first piece why held t
+  pub ran_broken : (held t : At) (why : CommitErr) → world_at held ≡ w → held.notary ≡ n → PieceBroken scheme tells first piece why held t
       → Runs scheme tells first_w (ending_of_end why) (handed before first_w.sink first_w.disks first_n) (handed now t.sink t.disks t.notary)
   ran_broken held t why same same_n x =
       let taken = late_taken first next piece s.script s.late (map said_by x.steps ++ x.rest) s.are_late x.is_order in
@@ -440,7 +439,7 @@ module _ (scheme : Scheme) (tells : Bool) (first_w w : World) (first_n n : Notar
               (goes_then tells first_w (world_at held) (world_at t) (reached scheme s.done s.current) (λ h. close (after_steps scheme h x.steps)) (owed scheme s.done s.current) (λ h. dues scheme h x.steps) here x.goes)
 
       -- .. or they weren't
-      pub ran_cut : (t : At) (why : End) → WindowBroken scheme tells first piece why held t → Runs scheme tells first_w (ending_of_end why) (handed before first_w.sink first_w.disks first_n) (handed after_read t.sink t.disks t.notary)
+      pub ran_cut : (t : At) (why : CommitErr) → WindowBroken scheme tells first piece why held t → Runs scheme tells first_w (ending_of_end why) (handed before first_w.sink first_w.disks first_n) (handed after_read t.sink t.disks t.notary)
       ran_cut t why (inl x) =
           let taken = late_taken first next piece s.script s.late (map said_by x.steps ++ x.rest) s.are_late x.is_order in
           let broken = break_on scheme tells first_w (world_at held) (world_at t) s.done s.current x.steps here t.notary x.rest why x.ended in
@@ -606,7 +605,7 @@ module _ (scheme : Scheme) (tells : Bool) (first_w w : World) (first_n n : Notar
             fails = fails_to held same same_n t (length new_piece) y.fails;
           }
 
-          pub ran_unended : (t : At) (why : End) → WindowBroken scheme tells first new_piece why held t → Runs scheme tells first_w (ending_of_end why) (handed before first_w.sink first_w.disks first_n) (handed after_read t.sink t.disks t.notary)
+          pub ran_unended : (t : At) (why : CommitErr) → WindowBroken scheme tells first new_piece why held t → Runs scheme tells first_w (ending_of_end why) (handed before first_w.sink first_w.disks first_n) (handed after_read t.sink t.disks t.notary)
           ran_unended t why (inl y) =
               let broken = break_on scheme tells first_w (world_at held) (world_at t) s.done s.current y.steps (goes_here held same same_n) t.notary y.rest why y.ended in
               let order = with_rest (s.front ++ x ∷ []) (s.late ++ x ∷ []) s.current y.steps y.rest order_now (taken_now (map said_by y.steps ++ y.rest) y.is_order) in

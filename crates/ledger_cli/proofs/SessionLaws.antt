@@ -3,8 +3,8 @@ use Rattle.std.proofs.Common.{◌≡◌, ℕ, ◌^◌, ◌<◌, inl, inr, List, 
 use Rattle.std.specs.Io.KnownBytes.{Consumes, Appends}
 use Rattle.time_peg.specs.Entries.{NotaryState}
 use Rattle.batch_committer.specs.World.{World, EndsBy}
-use Rattle.batch_committer.specs.declared.end.End.{End}
-use Rattle.batch_committer.specs.declared.end.End.TheVariants as end
+use Rattle.batch_committer.specs.declared.failure.CommitErr.{CommitErr}
+use Rattle.batch_committer.specs.declared.failure.CommitErr.TheVariants as end
 use Rattle.ledger_bytes.specs.Begins.{Begins}
 use Rattle.ledger_io.specs.Outside.{SourceState, MeetsNone}
 use Rattle.ledger_io.specs.Reading.{Reading}
@@ -41,7 +41,7 @@ at_most_once (Some LineTooLong) before now read script e = inl e.0
 at_most_once (Some ScriptTooLong) before now read script e = inl e.0
 at_most_once (Some NoMemory) before now read script e = absurd e
 
-pub faults_stop : (end : End) (w t : World) (before now : SourceState) (n m : NotaryState) → FailedAtMostOnce before.faults now.faults → EndsBy end w t → FaultsBy (ending_of_end end) (handed before w.sink w.disks n) (handed now t.sink t.disks m)
+pub faults_stop : (end : CommitErr) (w t : World) (before now : SourceState) (n m : NotaryState) → FailedAtMostOnce before.faults now.faults → EndsBy end w t → FaultsBy (ending_of_end end) (handed before w.sink w.disks n) (handed now t.sink t.disks m)
 faults_stop end.DiskFault w t before now n m once e = record { source_is = once; sink_is = e.1; disks_are = e.0 }
 faults_stop end.WriteFault w t before now n m once e = record { source_is = once; sink_is = e.2; disks_are = record { a = e.0; b = e.1 } }
 faults_stop end.NoMemory w t before now n m once e = record { source_is = once; sink_is = e.sink; disks_are = record { a = e.a; b = e.b } }
@@ -50,7 +50,7 @@ faults_stop end.Closed w t before now n m once e = absurd e
 -- ---- how a session ends
 
 -- a stop, by what is known of some text of the script and of what is left
-pub serve_stop : (scheme : Scheme) (h : History) (end : End) (w t : World) (before now : SourceState) (n m : NotaryState) (part read : List ℕ) → EndsBy end w t
+pub serve_stop : (scheme : Scheme) (h : History) (end : CommitErr) (w t : World) (before now : SourceState) (n m : NotaryState) (part read : List ℕ) → EndsBy end w t
     → Consumes before.left now.left read → Appends w.sink.held t.sink.held part → (some : List ℕ) → SaidOf end part some
     → ((IsSo : List ℕ → Type 0) → ((whole : List ℕ) → SaidOf end part whole → IsSo whole) → SomeOfScript (StopsOn scheme h part t.disks n m (CleanBy end h part) IsSo) before now read IsSo)
     → RunsOn scheme h (ending_of_end end) (handed before w.sink w.disks n) (handed now t.sink t.disks m)

@@ -4,14 +4,14 @@ use Rattle.std.specs.Prelude.{⊤, All, decimal, codes}
 use Rattle.std.proofs.lemmas.List.{length-map}
 use Rattle.std.proofs.lemmas.Option.{slice_get_within}
 use Rattle.std.proofs.lemmas.List.Elements.{All-head, All-tail}
-use Rattle.batch_committer.specs.World.{Pair, Stops, Says, before_last, IsLeftClean}
+use Rattle.batch_committer.specs.World.{Pair, LeftAtTheEnd, Says, before_last, IsLeftClean}
 use Rattle.journal_record.specs.Entry.{Entry}
 use Rattle.ledger_bytes.specs.Digests.{digest}
 use Rattle.ledger_bytes.specs.declared.digest.Digest.{Digest}
 use Rattle.ledger_open.specs.Standing.{PairFor}
 use Rattle.ledger_cli.specs.Leaving.{AreClean, AreErased, ends_in_erasure}
-use Rattle.batch_committer.specs.declared.end.End.{End}
-use Rattle.batch_committer.specs.declared.end.End.TheVariants.{DiskFault, WriteFault, NoMemory, Closed}
+use Rattle.batch_committer.specs.declared.failure.CommitErr.{CommitErr}
+use Rattle.batch_committer.specs.declared.failure.CommitErr.TheVariants.{DiskFault, WriteFault, NoMemory, Closed}
 use Rattle.batch_committer.proofs.WayLaws.{begins_then}
 use Rattle.ledger_bytes.specs.Begins.{Begins}
 use Rattle.ledger_io.specs.Runs.{FallsShort, AreWhole}
@@ -45,7 +45,7 @@ dues_whole f (due ∷ ds) =
     (inr (decimal due.lane ++ codes "." ++ decimal due.index ++ spaced_words (reply_words (reply_in f due.answer)), refl)) (dues_whole f ds)
 
 -- how far what was written came in a whole text, by the end
-abbrev pub SaidOf : End → List ℕ → List ℕ → Type 0
+abbrev pub SaidOf : CommitErr → List ℕ → List ℕ → Type 0
 SaidOf DiskFault part whole = AreWhole part × Begins part whole
 SaidOf WriteFault part whole = FallsShort part whole
 SaidOf NoMemory part whole = AreWhole part × Begins part whole
@@ -57,7 +57,7 @@ whole_lines f part whole done rest s is = (
   record { rest = due_lines f rest; is = sym is ∙ due_lines-append f done rest ∙ ap (λ l. l ++ due_lines f rest) (sym s) },
 )
 
-pub said_of : (end : End) (f : History) (part whole : List ℕ) (done rest : List Due) → Says end part (due_lines f done) → due_lines f (done ++ rest) ≡ whole → SaidOf end part whole
+pub said_of : (end : CommitErr) (f : History) (part whole : List ℕ) (done rest : List Due) → Says end part (due_lines f done) → due_lines f (done ++ rest) ≡ whole → SaidOf end part whole
 said_of DiskFault f part whole done rest s is = whole_lines f part whole done rest s is
 said_of WriteFault f part whole done rest s is =
     let split : whole ≡ due_lines f done ++ due_lines f rest = sym is ∙ due_lines-append f done rest in (
@@ -67,7 +67,7 @@ said_of WriteFault f part whole done rest s is =
 said_of NoMemory f part whole done rest s is = whole_lines f part whole done rest s is
 said_of Closed f part whole done rest s is = tt
 
-begins_said : (end : End) (part lines : List ℕ) → Says end part lines → Begins part lines
+begins_said : (end : CommitErr) (part lines : List ℕ) → Says end part lines → Begins part lines
 begins_said DiskFault part lines s = record { rest = []; is = sym s ∙ sym (append-nil part) }
 begins_said WriteFault part lines s = s.0
 begins_said NoMemory part lines s = record { rest = []; is = sym s ∙ sym (append-nil part) }
@@ -76,7 +76,7 @@ begins_said Closed part lines s = record { rest = []; is = sym s ∙ sym (append
 -- ---- what is left
 
 -- so clean are the images that a call leaves which ended the run
-abbrev pub CleanBy : End → History → List ℕ → History → List ℕ → List ℕ → Type 0
+abbrev pub CleanBy : CommitErr → History → List ℕ → History → List ℕ → List ℕ → Type 0
 CleanBy DiskFault h part = AreErased h part
 CleanBy WriteFault h part = AreClean
 CleanBy NoMemory h part = AreClean
@@ -111,7 +111,7 @@ none_written f kept done part rest lawful none some is fit all leaf r =
     let no : ⊥ = omega (arith, there, l, less) in
     no
 
-left_clean : (end : End) (h f kept : History) (done : List Due) (part rest a b : List ℕ) → PairFor a b kept → part ++ rest ≡ due_lines f done → AllFit (due_replies f done) → IsLeftClean end h kept done a b → CleanBy end h part kept a b
+left_clean : (end : CommitErr) (h f kept : History) (done : List Due) (part rest a b : List ℕ) → PairFor a b kept → part ++ rest ≡ due_lines f done → AllFit (due_replies f done) → IsLeftClean end h kept done a b → CleanBy end h part kept a b
 left_clean DiskFault h f kept done part rest a b stands is fit (inl erased) = inl erased
 left_clean DiskFault h f kept done part rest a b stands is fit (inr u) = by (ends_in_erasure kept) refl where
   lawful : IsLawful kept
@@ -129,7 +129,7 @@ left_clean NoMemory h f kept done part rest a b stands is fit clean = clean
 left_clean Closed h f kept done part rest a b stands is fit clean = clean
 
 -- where a call stopped the run, all images stand for a beginning of each later history
-pub stop_stands : (h whole f : History) (ds : List Due) (end : End) (part : List ℕ) (disks : Pair) (first last : NotaryState) → Stops h whole ds end part disks → Grows whole f → f.waiting ≡ [] → AllFit (due_replies f ds)
+pub stop_stands : (h whole f : History) (ds : List Due) (end : CommitErr) (part : List ℕ) (disks : Pair) (first last : NotaryState) → LeftAtTheEnd h whole ds end part disks → Grows whole f → f.waiting ≡ [] → AllFit (due_replies f ds)
     → h.waiting ≡ [] → (Pegged h first.entries → PeggedFrom (point h) f last.entries) → AllStand h f first last part (CleanBy end h part) disks
 stop_stands h whole f ds end part disks first last s g none fit settled pegs = λ a b x y.
     let l = s.images a b x y in

@@ -2,7 +2,7 @@
 use Rattle.std.proofs.Common.{◌≡◌, ℕ, ◌⊎◌, inl, inr, Bool, List, [], take, Option, Some, None, refl, sym, subst, ap, ◌∙◌, arith}
 use Rattle.std.specs.Prelude.{IsSome}
 use Rattle.std.proofs.KnownBytes.{Appends-nil}
-use Rattle.batch_committer.specs.World.{Pair}
+use Rattle.batch_committer.specs.World.{Pair, OneFailed}
 use Rattle.ledger_bytes.specs.Causes.{count_after}
 use Rattle.ledger_io.specs.Outside.{SourceState, SinkState, MeetsNone, MeetsOne, outside}
 use Rattle.ledger_io.specs.Runs.{Wrote}
@@ -21,7 +21,7 @@ use Rattle.time_peg.specs.Entries.{NotaryState}
 use Rattle.twin_file.specs.Images.{AreShut}
 use Rattle.ledger_disk.specs.Disk.{MayLeave}
 use Rattle.ledger_cli.specs.Endings.{status_of, last_line, HasWords}
-use Rattle.ledger_cli.specs.Runs.{Handed, handed, DiskFailed, FaultsBy, NothingFailed, ServedBy, Finishes, ending_of_soak}
+use Rattle.ledger_cli.specs.Runs.{Handed, handed, FaultsBy, NothingFailed, ServedBy, Finishes, ending_of_soak}
 use Rattle.ledger_cli.specs.declared.ending.LedgerEnding.{LedgerEnding}
 use Rattle.ledger_cli.specs.declared.ending.LedgerEnding.TheVariants.{Run, DiskFault, Damaged, Empty, Exists, NewerFormat}
 use Rattle.ledger_cli.specs.declared.words.Command.{Command}
@@ -54,9 +54,9 @@ nothing x = record { source_is = inl refl; sink_is = (refl, refl); disks_are = r
 pub unstarted_by : (scheme : Scheme) (tells : Bool) (words : Option Command) (x : Handed) → IsSome words → ServedBy scheme tells words (Run run.NoMemory) x x
 unstarted_by scheme tells None x some = absurd (let no : ⊥ = cc some in no)
 unstarted_by scheme tells (Some (command.Dry genesis)) x some = record {
-  serves = λ t none l. inr (record { outside = tt; unstarted = record { unread = refl; unwritten = refl; unasked = refl }; images = images_stay genesis x.disks });
+  serves = λ t none l. inr (record { outside = inr refl; unstarted = record { unread = refl; unwritten = refl; unasked = refl }; images = images_stay genesis x.disks });
   unstarted = λ some. record { unread = refl; unwritten = refl; unasked = refl };
-  left = λ t o. (record { unread = refl; unwritten = refl; unasked = refl }, record { a = inl refl; b = inl refl });
+  left = λ t o. (record { unread = refl; unwritten = refl; unasked = refl }, inl (inr refl, record { a = inl refl; b = inl refl }));
   faults = nothing x;
   failures = fails_unread x.source x.notary;
 }
@@ -65,8 +65,7 @@ unstarted_by scheme tells (Some (command.Init genesis)) x some = record {
   unread = refl;
   unasked = refl;
   appended = Appends-nil x.sink.held;
-  told = refl;
-  left = λ t. inl (record { a = inl refl; b = inl refl });
+  made = (refl, λ t. inl (record { a = inl refl; b = inl refl }));
   images = λ t s. images_stay genesis x.disks s;
   faults = nothing x;
 }
@@ -244,7 +243,7 @@ module _ (scheme : Scheme) (tells : Bool) (words : Option Command) (status : ℕ
       let none = empty_line (Run run.WriteFault) e refl in
       elim faults.sink_is [ inl x ↦ inl (none.0 ∙ x.0, none.1 ∙ x.1) | inr x ↦ inr (none.0 ∙ x.0, none.1 ∙ x.1) ]
 
-  pub disk_met : status ≡ 4 → DiskFailed before.disks disks
+  pub disk_met : status ≡ 4 → OneFailed before.disks disks
   disk_met is =
       let e : f.ending ≡ DiskFault = is_disk f.ending (sym f.status_is ∙ is) in
       (faults_met DiskFault (was_met DiskFault e (λ same. let no : ⊥ = cc same in no)) (λ same. let no : ⊥ = cc same in no)).disks_are

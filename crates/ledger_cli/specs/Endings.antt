@@ -1,7 +1,7 @@
 -- How a run of the program ends: its exit status and its last line.
 use Rattle.std.specs.Prelude.{⊤, ℕ, List, [], ◌∷◌, ◌++◌, codes, decimal, Option, Some, None}
-use Rattle.batch_committer.specs.declared.end.End.{End}
-use Rattle.batch_committer.specs.declared.end.End.TheVariants as end
+use Rattle.batch_committer.specs.declared.failure.CommitErr.{CommitErr}
+use Rattle.batch_committer.specs.declared.failure.CommitErr.TheVariants as end
 use Rattle.block_file.specs.declared.failure.Damage.{Damage}
 use Rattle.block_file.specs.declared.failure.Damage.TheVariants as damage
 use Rattle.ledger_io.specs.Endings as run
@@ -12,7 +12,7 @@ use Rattle.script_lines.specs.Words.{hex_of, spaced_words}
 use Rattle.ledger_cli.specs.declared.ending.LedgerEnding.{LedgerEnding}
 use Rattle.ledger_cli.specs.declared.ending.LedgerEnding.TheVariants.{Run, DiskFault, Damaged, Empty, Exists, NewerFormat}
 
--- the exit status
+-- the exit status of an ending: a number that a script can look at
 abbrev pub status_of : LedgerEnding → ℕ
 status_of (Run ending) = run.status_of ending
 status_of DiskFault = 4
@@ -25,7 +25,7 @@ status_of (NewerFormat found) = 9
 abbrev pub line_of : List ℕ → List (List ℕ) → List ℕ
 line_of front words = front ++ (spaced_words words ++ 10 ∷ [])
 
--- the line of a damage
+-- the line that tells a damage: where it is, and what was kept and found
 abbrev pub damage_line : Damage → List ℕ
 damage_line damage.Magic = line_of (codes "fail 5 magic") []
 damage_line (damage.BaseForm at) = line_of (codes "fail 5 baseform") (decimal at ∷ [])
@@ -35,7 +35,7 @@ damage_line (damage.Entry jsn) = line_of (codes "fail 5 entry") (decimal jsn ∷
 damage_line (damage.Root block kept found) = line_of (codes "fail 5 root") (decimal block ∷ hex_of kept ∷ hex_of found ∷ [])
 damage_line (damage.Content jsn kept found) = line_of (codes "fail 5 content") (decimal jsn ∷ hex_of kept ∷ hex_of found ∷ [])
 
--- the last line
+-- the line that tells an ending; there is none where the run went well, or where its output can't be written
 abbrev pub last_line : LedgerEnding → List ℕ
 last_line (Run ending) = run.last_line ending
 last_line DiskFault = codes "fail 4 disk\n"
@@ -54,19 +54,19 @@ ending_of_opening (open_err.NewerFormat found) = NewerFormat found
 ending_of_opening open_err.NoMemory = Run ending.NoMemory
 
 -- the ending that an end of a committer brings
-abbrev pub ending_of_end : End → LedgerEnding
+abbrev pub ending_of_end : CommitErr → LedgerEnding
 ending_of_end end.DiskFault = DiskFault
 ending_of_end end.WriteFault = Run ending.WriteFault
 ending_of_end end.NoMemory = Run ending.NoMemory
 ending_of_end end.Closed = Run ending.NoMemory
 
--- whether an ending's last line is made of words, for which memory is taken
+-- an ending's last line is made of words, for which memory is taken
 abbrev pub HasWords : LedgerEnding → Type 0
 HasWords (Damaged damage) = ⊤
 HasWords (NewerFormat found) = ⊤
 HasWords other = ⊥
 
--- the refusal that an ending tells
+-- the error for which a ledger wasn't opened, where the ending tells one
 abbrev pub refusal_of : LedgerEnding → Option OpenErr
 refusal_of (Run ending) = None
 refusal_of DiskFault = None

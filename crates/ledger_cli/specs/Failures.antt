@@ -18,7 +18,7 @@ pub record FailsIn (most : ℕ) (before now : NotaryState) : Type 0 where
   pub few : length calls ≤ most
   pub counted : now.faults ≡ count_failed calls before.faults
 
--- it was called once at most for each line that was read
+-- the notary was called once at most for each line that was read, and each call that failed was counted
 pub record FailsByLines (source source_now : SourceState) (before now : NotaryState) : Type 0 where
   pub read : List ℕ
   pub consumed : Consumes source.left source_now.left read

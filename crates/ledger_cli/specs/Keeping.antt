@@ -20,32 +20,31 @@ use Rattle.ledger_cli.specs.declared.ending.LedgerEnding.TheVariants.{Run, DiskF
 use Rattle.ledger_cli.specs.declared.words.Command.{Command}
 use Rattle.ledger_cli.specs.declared.words.Command.TheVariants as command
 
--- what the program reads from, what it writes to, the two disks of the ledger, and the disk on which the notary keeps its list
+-- all that the program is handed: what it reads from, what it writes to, the two disks of the ledger, and the disk on which the
+-- notary keeps its list
 pub record Given : Type 0 where
   pub source : SourceState
   pub sink : SinkState
   pub disks : Pair
   pub keeper : DiskState
 
+-- the same by its parts
 abbrev pub given : SourceState → SinkState → Pair → DiskState → Given
 given source sink disks keeper = record { source = source; sink = sink; disks = disks; keeper = keeper }
 
--- with a notary in place of its disk
+-- what a run is handed, with a notary in place of the disk on which its list is
 abbrev pub with_notary : Given → NotaryState → Handed
 with_notary x notary = handed x.source x.sink x.disks notary
 
--- a notary that has stamped nothing
+-- a notary that has stamped nothing and never failed
 abbrev pub new_notary : NotaryState
 new_notary = record { entries = []; faults = 0 }
 
--- whether a command names a folder
+-- a command names a folder, in which the notary has its file too
 abbrev pub names_folder : Option Command → Bool
-names_folder None = false
-names_folder (Some (command.Dry genesis)) = false
 names_folder (Some (command.Init genesis)) = true
 names_folder (Some command.Run) = true
-names_folder (Some (command.Sign signing)) = false
-names_folder (Some (command.Soak seed count stop)) = false
+names_folder other = false
 
 -- how a run ends whose notary can't be taken up
 abbrev pub ending_of_keeper : FileErr → LedgerEnding
@@ -56,7 +55,7 @@ ending_of_keeper files.NoMemory = Run run.NoMemory
 
 -- ---- a notary and its disk
 
--- the notary has the list that the disk reads as, and has failed as often
+-- the notary was taken up from its disk: it has the list that the disk reads as, and has failed as often
 pub record IsTakenUp (tells : Bool) (keeper : DiskState) (notary : NotaryState) : Type 0 where
   pub list : IsTrue tells → Lists notary.entries keeper.bytes.seen
   pub faults : notary.faults ≡ keeper.faults
@@ -93,13 +92,13 @@ pub record IsUnbegun (line : List ℕ) (before after_all : Given) : Type 0 where
   pub untouched : after_all.disks ≡ before.disks
   pub last : WritesLast line before.sink after_all.sink
 
--- for want of a seed of salts
+-- a run that wasn't begun for want of a seed of salts
 pub record WantsSeed (status : ℕ) (before after_all : Given) : Type 0 where
   pub unbegun : IsUnbegun (codes "fail 2 seed\n") before after_all
   pub status_is : status ≡ 2
   pub keeper_is : after_all.keeper ≡ before.keeper
 
--- for want of memory
+-- a run that wasn't begun for want of memory
 pub record WantsMemory (keeps : Bool) (words : Option Command) (status : ℕ) (before after_all : Given) : Type 0 where
   pub unbegun : IsUnbegun (last_line (Run run.NoMemory)) before after_all
   pub status_is : status ≡ 6
@@ -107,14 +106,15 @@ pub record WantsMemory (keeps : Bool) (words : Option Command) (status : ℕ) (b
   pub listed : IsLeftListed keeps before.keeper after_all.keeper
   pub faults : after_all.keeper.faults ≡ before.keeper.faults
 
--- since the notary's disk failed
+-- a run that wasn't begun since the notary's disk failed
 pub record KeeperFailed (keeps : Bool) (status : ℕ) (before after_all : Given) : Type 0 where
   pub unbegun : IsUnbegun (last_line DiskFault) before after_all
   pub status_is : status ≡ 4
   pub listed : IsLeftListed keeps before.keeper after_all.keeper
   pub faults : after_all.keeper.faults ≡ count_after before.keeper.faults
 
--- By whether the words name a folder, and whether there is a seed of salts. Only a folder has a notary that is kept.
+-- which of these came, by whether the words name a folder, and whether there is a seed of salts; only a folder has a notary
+-- that is kept
 abbrev pub RanWith : Scheme → Bool → Bool → Option Command → Bool → Option Digest → ℕ → Given → Given → Type 0
 RanWith scheme tells keeps words false seed status before after_all =
     RanInMemory scheme tells words status before after_all ⊎ WantsMemory keeps words status before after_all
@@ -124,6 +124,7 @@ RanWith scheme tells keeps words true (Some seed) status before after_all =
     RanOnKeeper scheme tells keeps words status before after_all
     ⊎ (KeeperFailed keeps status before after_all ⊎ WantsMemory keeps words status before after_all)
 
+-- which of these came of a run with some words
 abbrev pub RanMain : Scheme → Bool → Bool → Option Command → Option Digest → ℕ → Given → Given → Type 0
 RanMain scheme tells keeps words seed status before after_all =
     RanWith scheme tells keeps words (names_folder words) seed status before after_all

@@ -6,7 +6,7 @@ pub mod Signing
 pub mod Words
 pub mod Endings
 pub mod Runs
-pub mod Session
 pub mod Shown
 pub mod Keeping
 pub mod Pieces
+pub mod Desks

@@ -1,7 +1,7 @@
 -- What came of a piece of a window, whose lines were offered to a committer.
 use Rattle.std.specs.Prelude.{◌≡◌, ◌⊎◌, ℕ, Bool, false, List, ◌∷◌, ◌++◌, length, map, Option, None, Some}
-use Rattle.batch_committer.specs.World.{Held, Pair, World, world, Fits, HasRoom, Holds, Goes, Ended}
-use Rattle.batch_committer.specs.declared.end.End.{End}
+use Rattle.batch_committer.specs.World.{Held, Pair, World, world, Fits, HasRoom, Holds, Goes, EndsOnTheWay}
+use Rattle.batch_committer.specs.declared.failure.CommitErr.{CommitErr}
 use Rattle.lane_work.specs.Orders.{IsOrderOf}
 use Rattle.lane_work.specs.declared.kinds.LaneLine.{LaneLine}
 use Rattle.lane_work.specs.declared.taker.Flow.{Flow}
@@ -21,20 +21,22 @@ use Rattle.ledger_model.specs.declared.job.Job.TheVariants.{Anchor}
 use Rattle.time_peg.specs.Entries.{NotaryState}
 use Rattle.ledger_cli.specs.Failures.{FailsIn}
 
--- what a committer, its disks, its sink and its notary tell
+-- where a session stands: what its committer, its disks, its sink and its notary tell
 pub record At : Type 0 where
   pub held : Held
   pub disks : Pair
   pub sink : SinkState
   pub notary : NotaryState
 
+-- the same by its parts
 abbrev pub at : Held → Pair → SinkState → NotaryState → At
 at held disks sink notary = record { held = held; disks = disks; sink = sink; notary = notary }
 
+-- of these the committer, the disks and the sink
 abbrev pub world_at : At → World
 world_at s = world s.held.kept s.disks s.sink
 
--- the committer may be offered more
+-- the committer may be offered more: no end was met
 pub record IsOpen (tells : Bool) (s : At) : Type 0 where
   pub unended : s.held.ended ≡ false
   pub fits : Fits tells (world_at s)
@@ -42,7 +44,7 @@ pub record IsOpen (tells : Bool) (s : At) : Type 0 where
 
 -- ---- lines in an order
 
--- lines were taken in this order: in these steps, in which the notary took part
+-- the lines were all taken in this order, in steps in which the notary took part
 pub record TakesAll (scheme : Scheme) (tells : Bool) (order : List Said) (s t : At) : Type 0 where
   pub steps : List Step
   pub said : map said_by steps ≡ order
@@ -51,24 +53,25 @@ pub record TakesAll (scheme : Scheme) (tells : Bool) (order : List Said) (s t : 
   pub fails : FailsIn (length order) s.notary t.notary
   pub still : IsOpen tells t
 
--- the run ended where these steps were taken
-abbrev pub EndsThere : Scheme → Bool → List Step → End → World → World → Type 0
-EndsThere scheme tells steps end w t = Ended tells w (λ h. after_steps scheme h steps) (λ h. dues scheme h steps) end t
+-- the run ended where exactly these steps were taken
+abbrev pub EndsThere : Scheme → Bool → List Step → CommitErr → World → World → Type 0
+EndsThere scheme tells steps end w t = EndsOnTheWay tells w (λ h. after_steps scheme h steps) (λ h. dues scheme h steps) end t
 
--- .. or at the line behind them, an anchor, before the notary was asked: the open block in front of it ends, and nothing is due for it
-pub record EndsAtAnchor (scheme : Scheme) (tells : Bool) (steps : List Step) (rest : List Said) (end : End) (w t : World) : Type 0 where
+-- the run ended at the line behind these steps, an anchor, before the notary was asked: the open block in front of it ends, and
+-- nothing is due for it
+pub record EndsAtAnchor (scheme : Scheme) (tells : Bool) (steps : List Step) (rest : List Said) (end : CommitErr) (w t : World) : Type 0 where
   pub said : Said
   pub later : List Said
   pub split : rest ≡ said ∷ later
   pub anchor : (h : History) → Holds tells w h → job_of scheme (id (after_steps scheme h steps)) said.line ≡ Anchor
-  pub ended : Ended tells w (λ h. close (after_steps scheme h steps)) (λ h. dues scheme h steps) end t
+  pub ended : EndsOnTheWay tells w (λ h. close (after_steps scheme h steps)) (λ h. dues scheme h steps) end t
 
--- one of the two
-abbrev pub EndsBehind : Scheme → Bool → List Step → List Said → End → World → World → Type 0
+-- the run ended behind these steps, in one of these two ways
+abbrev pub EndsBehind : Scheme → Bool → List Step → List Said → CommitErr → World → World → Type 0
 EndsBehind scheme tells steps rest end w t = EndsThere scheme tells steps end w t ⊎ EndsAtAnchor scheme tells steps rest end w t
 
--- .. or the run ended on the way, where some first ones were taken
-pub record TakesSome (scheme : Scheme) (tells : Bool) (order : List Said) (end : End) (s t : At) : Type 0 where
+-- the run ended on the way, where some first lines of this order were taken
+pub record TakesSome (scheme : Scheme) (tells : Bool) (order : List Said) (end : CommitErr) (s t : At) : Type 0 where
   pub steps : List Step
   pub rest : List Said
   pub split : order ≡ map said_by steps ++ rest
@@ -76,37 +79,40 @@ pub record TakesSome (scheme : Scheme) (tells : Bool) (order : List Said) (end :
   pub took : (h : History) → Holds tells (world_at s) h → Took scheme h s.notary steps t.notary
   pub fails : FailsIn (length order) s.notary t.notary
 
-abbrev pub TakesBy : Scheme → Bool → List Said → Option End → At → At → Type 0
+-- what came of lines in this order, by whether an end was met
+abbrev pub TakesBy : Scheme → Bool → List Said → Option CommitErr → At → At → Type 0
 TakesBy scheme tells order None s t = TakesAll scheme tells order s t
 TakesBy scheme tells order (Some end) s t = TakesSome scheme tells order end s t
 
 -- the lines of a piece were taken, in an order in which each lane's lines are in theirs
-unfoldable pub TakesPiece : Scheme → Bool → List ℕ → List LaneLine → Option End → At → At → Type 0
+unfoldable pub TakesPiece : Scheme → Bool → List ℕ → List LaneLine → Option CommitErr → At → At → Type 0
 TakesPiece scheme tells first lines end s t = (order : List Said) × IsOrderOf first lines order × TakesBy scheme tells order end s t
 
 -- ---- one item
 
--- the names of the references, the end that was met, and what all tell
+-- a session seen from within: which values it borrows, the end that was met, and where it stands
 pub record Told : Type 0 where
   pub names : List ℕ
-  pub end : Option End
+  pub end : Option CommitErr
   pub at : At
 
-abbrev pub told : List ℕ → Option End → At → Told
+-- the same by its parts
+abbrev pub told : List ℕ → Option CommitErr → At → Told
 told names end at = record { names = names; end = end; at = at }
 
+-- what the offer of one item did: it was taken and the taker goes on, or the run ended at it
 abbrev pub Answered : Bool → Told → Prepared → Flow → Told → Type 0
 Answered tells s item GoOn t =
     (t.names ≡ s.names) × (t.end ≡ s.end) × IsOpen tells t.at × FailsAtMostOnce s.at.notary t.at.notary
     × ((failed : Bool) × ((line : List ℕ) → TakesJob tells (world_at s.at) (world_at t.at) s.at.notary t.at.notary (step_in s.at.notary t.at.notary failed item.lane item.index line) item.job))
 Answered tells s item Stop t =
     (t.names ≡ s.names) × FailsAtMostOnce s.at.notary t.at.notary
-    × ((end : End) × (t.end ≡ Some end)
+    × ((end : CommitErr) × (t.end ≡ Some end)
     × EndsTaking tells (world_at s.at) (world_at t.at) s.at.notary t.at.notary item.lane item.index item.job end)
 
 -- ---- a piece, and the end of its window
 
--- the lines of a piece were taken
+-- the lines of a piece were all taken, in an order of it
 pub record PieceTaken (scheme : Scheme) (tells : Bool) (first : List ℕ) (lines : List LaneLine) (s t : At) : Type 0 where
   pub steps : List Step
   pub is_order : IsOrderOf first lines (map said_by steps)
@@ -114,8 +120,8 @@ pub record PieceTaken (scheme : Scheme) (tells : Bool) (first : List ℕ) (lines
   pub took : (h : History) → Holds tells (world_at s) h → Took scheme h s.notary steps t.notary
   pub fails : FailsIn (length lines) s.notary t.notary
 
--- .. or the run ended on the way, where some first ones were taken
-pub record PieceBroken (scheme : Scheme) (tells : Bool) (first : List ℕ) (lines : List LaneLine) (end : End) (s t : At) : Type 0 where
+-- the run ended within a piece, where some first lines of an order of it were taken
+pub record PieceBroken (scheme : Scheme) (tells : Bool) (first : List ℕ) (lines : List LaneLine) (end : CommitErr) (s t : At) : Type 0 where
   pub steps : List Step
   pub rest : List Said
   pub is_order : IsOrderOf first lines (map said_by steps ++ rest)
@@ -123,7 +129,7 @@ pub record PieceBroken (scheme : Scheme) (tells : Bool) (first : List ℕ) (line
   pub took : (h : History) → Holds tells (world_at s) h → Took scheme h s.notary steps t.notary
   pub fails : FailsIn (length lines) s.notary t.notary
 
--- .. and the open block was ended
+-- the lines of a window were all taken, and the open block was ended behind them
 pub record WindowTaken (scheme : Scheme) (tells : Bool) (first : List ℕ) (lines : List LaneLine) (s t : At) : Type 0 where
   pub steps : List Step
   pub is_order : IsOrderOf first lines (map said_by steps)
@@ -131,13 +137,14 @@ pub record WindowTaken (scheme : Scheme) (tells : Bool) (first : List ℕ) (line
   pub took : (h : History) → Holds tells (world_at s) h → Took scheme h s.notary steps t.notary
   pub fails : FailsIn (length lines) s.notary t.notary
 
--- .. or couldn't be ended
-pub record FlushBroken (scheme : Scheme) (tells : Bool) (first : List ℕ) (lines : List LaneLine) (end : End) (s t : At) : Type 0 where
+-- the lines of a window were all taken, and the run ended where the open block was to end
+pub record FlushBroken (scheme : Scheme) (tells : Bool) (first : List ℕ) (lines : List LaneLine) (end : CommitErr) (s t : At) : Type 0 where
   pub steps : List Step
   pub is_order : IsOrderOf first lines (map said_by steps)
-  pub ended : Ended tells (world_at s) (λ h. close (after_steps scheme h steps)) (λ h. dues scheme h steps) end (world_at t)
+  pub ended : EndsOnTheWay tells (world_at s) (λ h. close (after_steps scheme h steps)) (λ h. dues scheme h steps) end (world_at t)
   pub took : (h : History) → Holds tells (world_at s) h → Took scheme h s.notary steps t.notary
   pub fails : FailsIn (length lines) s.notary t.notary
 
-abbrev pub WindowBroken : Scheme → Bool → List ℕ → List LaneLine → End → At → At → Type 0
+-- the run ended within a window, or where its open block was to end
+abbrev pub WindowBroken : Scheme → Bool → List ℕ → List LaneLine → CommitErr → At → At → Type 0
 WindowBroken scheme tells first lines end s t = PieceBroken scheme tells first lines end s t ⊎ FlushBroken scheme tells first lines end s t

@@ -1,12 +1,12 @@
 -- What a run of the program did, from the bytes that came in to the bytes that went out and the files that are left.
-use Rattle.std.specs.Prelude.{◌≡◌, ⊤, ℕ, ◌⊎◌, Bool, IsTrue, List, [], ◌∷◌, codes, decimal, Option, None, Some, IsSome, IfSome}
+use Rattle.std.specs.Prelude.{◌≡◌, ℕ, ◌⊎◌, Bool, IsTrue, List, [], ◌∷◌, codes, decimal, Option, None, Some, IsSome, IfSome}
 use Rattle.std.specs.Io.KnownBytes.{Consumes, Appends}
-use Rattle.batch_committer.specs.World.{Pair}
+use Rattle.batch_committer.specs.World.{Pair, World, Holds, OneFailed}
 use Rattle.block_file.specs.File.{IsSettled}
 use Rattle.block_file.specs.Head.{IsShut}
 use Rattle.ledger_bytes.specs.Begins.{Begins}
 use Rattle.ledger_bytes.specs.Causes.{count_after}
-use Rattle.ledger_disk.specs.Disk.{MayLeave, OneMore, settled_state}
+use Rattle.ledger_disk.specs.Disk.{MayLeave, settled_state}
 use Rattle.ledger_io.specs.Outside.{SourceState, SinkState, Outside, outside, MeetsNone, MeetsOne}
 use Rattle.ledger_io.specs.Runs.{Answered, SomeOfScript, FallsShort, AreWhole, Wrote}
 use Rattle.ledger_io.specs.Writing.{WritesLast}
@@ -53,16 +53,18 @@ use Rattle.ledger_cli.specs.declared.words.Command.TheVariants as command
 
 -- ---- what a run is handed
 
--- what the program reads from, what it writes to, the two disks of the ledger, and the notary
+-- all that a run is handed: what it reads from, what it writes to, the two disks of the ledger, and the notary
 pub record Handed : Type 0 where
   pub source : SourceState
   pub sink : SinkState
   pub disks : Pair
   pub notary : NotaryState
 
+-- the same by its parts
 abbrev pub handed : SourceState → SinkState → Pair → NotaryState → Handed
 handed source sink disks notary = record { source = source; sink = sink; disks = disks; notary = notary }
 
+-- of these what the run reads from and what it writes to
 abbrev pub outside_of : Handed → Outside
 outside_of x = outside x.source x.sink
 
@@ -71,24 +73,25 @@ pub record AreQuiet (disks : Pair) : Type 0 where
   pub a : IsSettled disks.a.bytes
   pub b : IsSettled disks.b.bytes
 
--- the two files stand for this history
+-- the files on the two disks stand for this history
 abbrev pub StandFor : Pair → History → Type 0
 StandFor disks h = PairFor disks.a.bytes.seen disks.b.bytes.seen h
 
--- both read as before, and nothing is pending
+-- both files read as before, and nothing is pending
 pub record SettledAsRead (before after_all : Pair) : Type 0 where
   pub a : after_all.a.bytes ≡ settled_state before.a.bytes.seen
   pub b : after_all.b.bytes ≡ settled_state before.b.bytes.seen
 
--- both read as before, and what was pending on one is so still, or stands for good
+-- both files read as before, and what was pending on one is so still, or stands for good
 pub record StayAsRead (before after_all : Pair) : Type 0 where
   pub a : StandsAsRead before.a.bytes after_all.a.bytes
   pub b : StandsAsRead before.b.bytes after_all.b.bytes
 
--- one of the two files is open; both are shut
+-- one of the two files is open: a ledger is there
 abbrev pub HasOpen : Pair → Type 0
 HasOpen disks = IsOneOpen disks.a.bytes.seen disks.b.bytes.seen
 
+-- both files are shut: no ledger is there
 abbrev pub HasNone : Pair → Type 0
 HasNone disks = IsShut disks.a.bytes.seen × IsShut disks.b.bytes.seen
 
@@ -99,10 +102,7 @@ pub record NoDiskFailed (before after_all : Pair) : Type 0 where
   pub a : after_all.a.faults ≡ before.a.faults
   pub b : after_all.b.faults ≡ before.b.faults
 
--- one call of one of the two disks failed, and no other
-abbrev pub DiskFailed : Pair → Pair → Type 0
-DiskFailed before after_all = OneMore before.a.faults after_all.a.faults before.b.faults after_all.b.faults
-
+-- the source failed once, by its counts before and after
 abbrev pub FailedOnce : ℕ → ℕ → Type 0
 FailedOnce before now = now ≡ count_after before
 
@@ -110,20 +110,22 @@ FailedOnce before now = now ≡ count_after before
 abbrev pub FailedAtMostOnce : ℕ → ℕ → Type 0
 FailedAtMostOnce before now = (now ≡ before) ⊎ FailedOnce before now
 
--- the fault that an ending tells is the only one of its object, and beside it only reading may have failed before
+-- what source, sink and disks met: the fault that an ending tells is the only one of its object, and beside it only reading may
+-- have failed before
 pub record Faults (source : ℕ → ℕ → Type 0) (sink : SinkState → SinkState → Type 0) (disks : Pair → Pair → Type 0) (before after_all : Handed) : Type 0 where
   pub source_is : source before.source.faults after_all.source.faults
   pub sink_is : sink before.sink after_all.sink
   pub disks_are : disks before.disks after_all.disks
 
+-- the source didn't fail, by its counts before and after
 abbrev pub NoneFailed : ℕ → ℕ → Type 0
 NoneFailed before now = now ≡ before
 
--- no fault was met
+-- source, sink and disks met no fault
 abbrev pub NothingFailed : Handed → Handed → Type 0
 NothingFailed before after_all = Faults NoneFailed MeetsNone NoDiskFailed before after_all
 
--- which faults were met, by the ending
+-- which faults source, sink and disks met, by the ending
 abbrev pub FaultsBy : LedgerEnding → Handed → Handed → Type 0
 FaultsBy (Run run.Done) before after_all = Faults NoneFailed MeetsNone NoDiskFailed before after_all
 FaultsBy (Run run.Usage) before after_all = ⊥
@@ -132,14 +134,14 @@ FaultsBy (Run run.WriteFault) before after_all = Faults FailedAtMostOnce MeetsOn
 FaultsBy (Run run.NoMemory) before after_all = Faults FailedAtMostOnce MeetsNone NoDiskFailed before after_all
 FaultsBy (Run run.LineTooLong) before after_all = Faults NoneFailed MeetsNone NoDiskFailed before after_all
 FaultsBy (Run run.ScriptTooLong) before after_all = Faults NoneFailed MeetsNone NoDiskFailed before after_all
-FaultsBy DiskFault before after_all = Faults FailedAtMostOnce MeetsNone DiskFailed before after_all
+FaultsBy DiskFault before after_all = Faults FailedAtMostOnce MeetsNone OneFailed before after_all
 FaultsBy (Damaged damage) before after_all = Faults NoneFailed MeetsNone NoDiskFailed before after_all
 FaultsBy Empty before after_all = Faults NoneFailed MeetsNone NoDiskFailed before after_all
 FaultsBy Exists before after_all = Faults NoneFailed MeetsNone NoDiskFailed before after_all
 FaultsBy (NewerFormat found) before after_all = Faults NoneFailed MeetsNone NoDiskFailed before after_all
 
--- The notary failed once at most for each line that was read, and each failure was counted. Where the disks tell what they have, each
--- of these is a step's.
+-- The notary failed once at most for each line that was read, and each failure was counted. Where the disks tell what they
+-- have, each of these is a step's.
 abbrev pub NotaryFails : Handed → Handed → Type 0
 NotaryFails before after_all = FailsByLines before.source after_all.source before.notary after_all.notary
 
@@ -156,9 +158,12 @@ pub record Answers (scheme : Scheme) (h : History) (lines : List (List ℕ)) (re
   pub proofs : Pegged h first.entries → AllGood scheme h steps
   pub heads : HeadsLeadOn scheme h first.entries steps
 
--- Two images stand for a history that goes on from h and ends at a block's end of the whole history, or is h. Each receipt that was
--- written whole is kept in it. The notary's list has the entry of each of its time journals, where it had those of h. So clean are
--- the images.
+-- Example: the lines `0 head`, `1 head`, `0 get 1` are one window. `steps` takes them as 0.1 1.1 0.2, as 1.1 0.1 0.2 or as
+-- 0.1 0.2 1.1 (lane and number), and `replies` is the text of that order. In no order 0.2 stands in front of 0.1.
+
+-- Two images stand for a history that goes on from h and ends where a block of the whole history does, or is h. Each journal is
+-- in it of which a receipt was written whole. The notary's list has the entry of each of its time journals, where it had those
+-- of h. The images are as clean as is asked.
 pub record MayStand (h whole : History) (first last : NotaryState) (replies : List ℕ) (IsSoClean : History → List ℕ → List ℕ → Type 0) (a b : List ℕ) : Type 0 where
   pub kept : History
   pub stands : PairFor a b kept
@@ -168,22 +173,26 @@ pub record MayStand (h whole : History) (first last : NotaryState) (replies : Li
   pub pegs : Pegged h first.entries → Pegged kept last.entries
   pub clean : IsSoClean kept a b
 
--- so do all images that a crash may leave
+-- Example: h has the blocks [0], the whole history [0] [1] [2 3]. The receipt of journal 1 was written whole, that of 2 in
+-- part. Then two images have [0] [1] or [0] [1] [2 3], and not [0] alone.
+
+-- all images that a crash may leave stand for such a history
 abbrev pub AllStand : History → History → NotaryState → NotaryState → List ℕ → (History → List ℕ → List ℕ → Type 0) → Pair → Type 0
 AllStand h whole first last replies IsSoClean disks =
     (a b : List ℕ) → MayLeave disks.a.bytes a → MayLeave disks.b.bytes b → MayStand h whole first last replies IsSoClean a b
 
--- the lines are answered, and the pair is clean for the history after them
+-- the lines are answered, and the two files are clean for the history after them
 pub record AnswersOn (scheme : Scheme) (h : History) (disks : Pair) (first last : NotaryState) (lines : List (List ℕ)) (replies : List ℕ) : Type 0 where
   pub answers : Answers scheme h lines replies first last
   pub clean : IsCleanPair disks.a.bytes.seen disks.b.bytes.seen (after scheme h answers.steps)
   pub quiet : AreQuiet disks
   pub images : AllStand h (after scheme h answers.steps) first last replies AreClean disks
 
--- A text answers the lines: that of a merge of them of which some first steps were taken. Along these the notary goes from one state
--- to the other; the others stand as ones in which it failed, which isn't counted. What was written is so of the text of the taken
--- steps too: nothing of the others is written. What is left after some replies stands for a beginning of the history after all, and of
--- that after the taken steps. The proofs that are written are accepted, and their heads lead on, as those of a whole run.
+-- A run stopped on its way. A text answers the lines: that of a merge of them of which some first steps were taken. Along these
+-- the notary goes from one state to the other; the others stand as ones in which it failed, which isn't counted. What was
+-- written is so of the text of the taken steps too: nothing of the others is written. What is left after some replies stands
+-- for a beginning of the history after all, and of that after the taken steps. The proofs that are written are accepted, and
+-- their heads lead on, as those of a whole run.
 pub record StopsOn (scheme : Scheme) (h : History) (replies : List ℕ) (disks : Pair) (first last : NotaryState) (IsSoClean : History → List ℕ → List ℕ → Type 0) (IsSo : List ℕ → Type 0) (lines : List (List ℕ)) (whole_text : List ℕ) : Type 0 where
   pub steps : List (List Step)
   pub merge : IsMerge (windows (said_lines lines)) steps
@@ -195,17 +204,29 @@ pub record StopsOn (scheme : Scheme) (h : History) (replies : List ℕ) (disks :
   pub heads : HeadsLeadOn scheme h first.entries (taken took.done took.now)
   pub images_taken : AllStand h (after scheme h (taken took.done took.now)) first last replies IsSoClean disks
 
--- all lines that count are answered
+-- Example: behind the blocks [0] a script has three records in one window, and memory is short behind the first. `steps` has
+-- all three, of which `now` is the first alone. In `whole_text` the receipt of journal 1 reads size 4, in the text of the
+-- taken steps size 2: what was written begins both, so nothing of that block is. `images` have a history from [0] to
+-- [0] [1 2 3], `images_taken` one from [0] to [0] [1].
+
+-- all lines that count are answered: those that stand whole in what was read, by how reading ended
 abbrev pub AnswersAll : Scheme → History → Option LineErr → List ℕ → List ℕ → Handed → Handed → Type 0
 AnswersAll scheme h end read replies before after_all =
     Answered (AnswersOn scheme h after_all.disks before.notary after_all.notary) end read replies (outside_of before) (outside_of after_all)
 
--- the run stopped: some text that answers the script is so, and that of the steps that were taken; of their history a beginning is left
+-- The run stopped: some text that answers the script has this property, and that of the steps that were taken has it too. What
+-- is left is a beginning of their history.
 abbrev pub StopsSo : Scheme → History → List ℕ → List ℕ → Handed → Handed → (History → List ℕ → List ℕ → Type 0) → (List ℕ → Type 0) → Type 0
 StopsSo scheme h read replies before after_all IsSoClean IsSo =
     SomeOfScript (StopsOn scheme h replies after_all.disks before.notary after_all.notary IsSoClean IsSo) before.source after_all.source read IsSo
 
--- what was written before the last line and what is left, by the ending
+-- By how far reading came: 1. It goes on: some first whole lines of what was read were taken, and whatever lines follow
+-- these, some text that answers all of them is so. 2. It has ended: some text that answers the lines is so that are answered
+-- then.
+-- Example: `0 head`, a newline and `0 he` were read, and writing failed in the reply. 1. Some text begins with what was
+-- written that answers `0 head` and any further lines. 2. Where the source had ended too, it answers `0 head` and `0 he`.
+
+-- what was written before the last line, and what is left in the files, by the ending
 abbrev pub Replies : Scheme → History → LedgerEnding → List ℕ → List ℕ → Handed → Handed → Type 0
 Replies scheme h (Run run.Done) read replies before after_all = AnswersAll scheme h None read replies before after_all
 Replies scheme h (Run run.Usage) read replies before after_all = ⊥
@@ -220,7 +241,7 @@ Replies scheme h Empty read replies before after_all = ⊥
 Replies scheme h Exists read replies before after_all = ⊥
 Replies scheme h (NewerFormat found) read replies before after_all = ⊥
 
--- a script is run on the ledger with this history: everything but the last line
+-- what a run of a script did on the ledger with this history: everything but the last line
 pub record RunsOn (scheme : Scheme) (h : History) (ending : LedgerEnding) (before after_all : Handed) : Type 0 where
   -- the bytes that were read, and those that were written
   pub read : List ℕ
@@ -235,42 +256,29 @@ pub record IsUnstarted (before after_all : Handed) : Type 0 where
   pub unwritten : after_all.sink ≡ before.sink
   pub unasked : after_all.notary ≡ before.notary
 
+-- a script is run on the history that a committer and its disks have, where no journal waits, with a notary that keeps a list
+pub record Runs (scheme : Scheme) (tells : Bool) (w : World) (ending : LedgerEnding) (before after_all : Handed) : Type 0 where
+  pub serves : (h : History) → Holds tells w h → h.waiting ≡ [] → IsList before.notary.entries → RunsOn scheme h ending before after_all
+  pub faults : FaultsBy ending before after_all
+  pub failures : NotaryFails before after_all
+
 -- ---- the commands
 
--- a disk failed, or memory was missing
+-- an ending that comes from outside: a disk failed, or memory was missing
 abbrev pub IsOutsideEnding : LedgerEnding → Type 0
-IsOutsideEnding (Run run.Done) = ⊥
-IsOutsideEnding (Run run.Usage) = ⊥
-IsOutsideEnding (Run run.ReadFault) = ⊥
-IsOutsideEnding (Run run.WriteFault) = ⊥
-IsOutsideEnding (Run run.NoMemory) = ⊤
-IsOutsideEnding (Run run.LineTooLong) = ⊥
-IsOutsideEnding (Run run.ScriptTooLong) = ⊥
-IsOutsideEnding DiskFault = ⊤
-IsOutsideEnding (Damaged damage) = ⊥
-IsOutsideEnding Empty = ⊥
-IsOutsideEnding Exists = ⊥
-IsOutsideEnding (NewerFormat found) = ⊥
+IsOutsideEnding ending = (ending ≡ DiskFault) ⊎ (ending ≡ Run run.NoMemory)
 
 -- a refusal has its cause in what stands in the files; they read as before, and nothing is pending
 pub record IsRefused (e : OpenErr) (before after_all : Pair) : Type 0 where
   pub cause : IsOpenErr before.a.bytes.seen before.b.bytes.seen e
   pub left : SettledAsRead before after_all
 
--- how a ledger that isn't opened is left: nothing is read or written, and the files read as before
-abbrev pub LeftUnopened : LedgerEnding → Handed → Handed → Type 0
-LeftUnopened (Run run.Done) before after_all = ⊥
-LeftUnopened (Run run.Usage) before after_all = ⊥
-LeftUnopened (Run run.ReadFault) before after_all = ⊥
-LeftUnopened (Run run.WriteFault) before after_all = ⊥
-LeftUnopened (Run run.NoMemory) before after_all = IsUnstarted before after_all × StayAsRead before.disks after_all.disks
-LeftUnopened (Run run.LineTooLong) before after_all = ⊥
-LeftUnopened (Run run.ScriptTooLong) before after_all = ⊥
-LeftUnopened DiskFault before after_all = IsUnstarted before after_all × StayAsRead before.disks after_all.disks
-LeftUnopened (Damaged damage) before after_all = IsUnstarted before after_all × SettledAsRead before.disks after_all.disks
-LeftUnopened Empty before after_all = IsUnstarted before after_all × SettledAsRead before.disks after_all.disks
-LeftUnopened Exists before after_all = ⊥
-LeftUnopened (NewerFormat found) before after_all = IsUnstarted before after_all × SettledAsRead before.disks after_all.disks
+-- Files of which no ledger was run are left so: nothing is read or written, and they read as before. At an ending that is such a
+-- refusal nothing is pending on them.
+abbrev pub LeftAsRead : (LedgerEnding → Type 0) → LedgerEnding → Handed → Handed → Type 0
+LeftAsRead IsRefusal ending before after_all =
+    IsUnstarted before after_all
+    × (IsOutsideEnding ending × StayAsRead before.disks after_all.disks ⊎ IsRefusal ending × SettledAsRead before.disks after_all.disks)
 
 -- The ledger wasn't opened: a disk failed, or memory was missing. Nothing is read or written. A crash at any time leaves a pair that
 -- stands for this history still, and of one that was clean nothing changes.
@@ -281,7 +289,7 @@ pub record IsNotOpened (h : History) (ending : LedgerEnding) (before after_all :
   pub clean : IsCleanPair before.disks.a.bytes.seen before.disks.b.bytes.seen h
       → (after_all.disks.a.bytes ≡ before.disks.a.bytes) × (after_all.disks.b.bytes ≡ before.disks.b.bytes)
 
--- `run`: the ledger that is there is opened, and the script is run on it
+-- what `run` does: the ledger that is there is opened, and the script is run on it
 pub record RunsAgain (scheme : Scheme) (tells : Bool) (ending : LedgerEnding) (before after_all : Handed) : Type 0 where
   -- whatever history the pair stood for, where the notary keeps a list
   pub serves : IsTrue tells → (h : History) → StandFor before.disks h → IsList before.notary.entries → (IsOutsideEnding ending → AreQuiet before.disks)
@@ -291,94 +299,65 @@ pub record RunsAgain (scheme : Scheme) (tells : Bool) (ending : LedgerEnding) (b
   pub refused : IsTrue tells → IfSome (refusal_of ending) (λ e. IsRefused e before.disks after_all.disks)
   -- what shows damage, or is no ledger, isn't run
   pub exact : IsTrue tells → (e : OpenErr) → IsOpenErr before.disks.a.bytes.seen before.disks.b.bytes.seen e → (IsOutside e → ⊥)
-      → LeftUnopened ending before after_all
+      → LeftAsRead (λ met. IsSome (refusal_of met)) ending before after_all
   pub faults : FaultsBy ending before after_all
   pub failures : NotaryFails before after_all
 
--- what is told of a new ledger: its id, its size and its root
+-- the line that tells a new ledger: its id, its size and its root
 abbrev pub ledger_line : Genesis → List ℕ
 ledger_line genesis =
     let first = hex_of (digest (id (new_ledger genesis))) in line_of (codes "ledger") (first ∷ decimal 1 ∷ first ∷ [])
-
--- how far the line of a new ledger was written, by the ending
-abbrev pub ToldBy : List ℕ → LedgerEnding → List ℕ → Type 0
-ToldBy line (Run run.Done) written = written ≡ line
-ToldBy line (Run run.Usage) written = ⊥
-ToldBy line (Run run.ReadFault) written = ⊥
-ToldBy line (Run run.WriteFault) written = FallsShort written line
-ToldBy line (Run run.NoMemory) written = written ≡ []
-ToldBy line (Run run.LineTooLong) written = ⊥
-ToldBy line (Run run.ScriptTooLong) written = ⊥
-ToldBy line DiskFault written = written ≡ []
-ToldBy line (Damaged damage) written = ⊥
-ToldBy line Empty written = ⊥
-ToldBy line Exists written = written ≡ []
-ToldBy line (NewerFormat found) written = ⊥
 
 -- two files that were shut are those of the new ledger, and nothing is pending
 abbrev pub IsMadeOf : Genesis → Pair → Pair → Type 0
 IsMadeOf genesis before after_all = HasNone before × IsFounded genesis after_all.a.bytes after_all.b.bytes
 
--- What `init` leaves, by the ending. Where memory is missing the ledger isn't made, or it is and only its line isn't spelled.
-abbrev pub LeftByInit : Genesis → LedgerEnding → Pair → Pair → Type 0
-LeftByInit genesis (Run run.Done) before after_all = IsMadeOf genesis before after_all
-LeftByInit genesis (Run run.Usage) before after_all = ⊥
-LeftByInit genesis (Run run.ReadFault) before after_all = ⊥
-LeftByInit genesis (Run run.WriteFault) before after_all = IsMadeOf genesis before after_all
-LeftByInit genesis (Run run.NoMemory) before after_all = StayAsRead before after_all ⊎ IsMadeOf genesis before after_all
-LeftByInit genesis (Run run.LineTooLong) before after_all = ⊥
-LeftByInit genesis (Run run.ScriptTooLong) before after_all = ⊥
-LeftByInit genesis DiskFault before after_all = HasOpen before → StayAsRead before after_all
-LeftByInit genesis (Damaged damage) before after_all = ⊥
-LeftByInit genesis Empty before after_all = ⊥
-LeftByInit genesis Exists before after_all = HasOpen before × SettledAsRead before after_all
-LeftByInit genesis (NewerFormat found) before after_all = ⊥
+-- What `init` wrote of the new ledger's line, and what it leaves, by the ending. Where memory is missing the ledger isn't made, or
+-- it is and only its line isn't spelled.
+abbrev pub MadeBy : Genesis → Bool → LedgerEnding → List ℕ → Pair → Pair → Type 0
+MadeBy genesis tells (Run run.Done) written before after_all = (written ≡ ledger_line genesis) × (IsTrue tells → IsMadeOf genesis before after_all)
+MadeBy genesis tells (Run run.Usage) written before after_all = ⊥
+MadeBy genesis tells (Run run.ReadFault) written before after_all = ⊥
+MadeBy genesis tells (Run run.WriteFault) written before after_all = FallsShort written (ledger_line genesis) × (IsTrue tells → IsMadeOf genesis before after_all)
+MadeBy genesis tells (Run run.NoMemory) written before after_all = (written ≡ []) × (IsTrue tells → StayAsRead before after_all ⊎ IsMadeOf genesis before after_all)
+MadeBy genesis tells (Run run.LineTooLong) written before after_all = ⊥
+MadeBy genesis tells (Run run.ScriptTooLong) written before after_all = ⊥
+MadeBy genesis tells DiskFault written before after_all = (written ≡ []) × (IsTrue tells → HasOpen before → StayAsRead before after_all)
+MadeBy genesis tells (Damaged damage) written before after_all = ⊥
+MadeBy genesis tells Empty written before after_all = ⊥
+MadeBy genesis tells Exists written before after_all = (written ≡ []) × (IsTrue tells → HasOpen before × SettledAsRead before after_all)
+MadeBy genesis tells (NewerFormat found) written before after_all = ⊥
 
--- `init`: a new ledger, and one line that tells it
+-- what `init` does: it makes a new ledger, and writes one line that tells it
 pub record Makes (genesis : Genesis) (tells : Bool) (ending : LedgerEnding) (before after_all : Handed) : Type 0 where
   pub written : List ℕ
   pub unread : after_all.source ≡ before.source
   pub unasked : after_all.notary ≡ before.notary
   pub appended : Appends before.sink.held after_all.sink.held written
-  pub told : ToldBy (ledger_line genesis) ending written
-  pub left : IsTrue tells → LeftByInit genesis ending before.disks after_all.disks
+  pub made : MadeBy genesis tells ending written before.disks after_all.disks
   -- a crash at any time leaves both shut, or the new ledger
   pub images : IsTrue tells → AreShut before.disks.a.bytes before.disks.b.bytes → (a b : List ℕ)
       → MayLeave after_all.disks.a.bytes a → MayLeave after_all.disks.b.bytes b → IsFoundedOrShut genesis a b
   pub faults : FaultsBy ending before after_all
 
--- no script was run: a crash at any time leaves both files shut, or the new ledger
+-- The new ledger wasn't made, and no script was run: a disk failed, or memory was missing. A crash at any time leaves both
+-- files shut, or the new ledger.
 pub record IsNotMade (genesis : Genesis) (ending : LedgerEnding) (before after_all : Handed) : Type 0 where
   pub outside : IsOutsideEnding ending
   pub unstarted : IsUnstarted before after_all
   pub images : AreShut before.disks.a.bytes before.disks.b.bytes → (a b : List ℕ)
       → MayLeave after_all.disks.a.bytes a → MayLeave after_all.disks.b.bytes b → IsFoundedOrShut genesis a b
 
--- how `dry` leaves a ledger that is there: nothing is read or written, and the files read as before
-abbrev pub LeftThere : LedgerEnding → Handed → Handed → Type 0
-LeftThere (Run run.Done) before after_all = ⊥
-LeftThere (Run run.Usage) before after_all = ⊥
-LeftThere (Run run.ReadFault) before after_all = ⊥
-LeftThere (Run run.WriteFault) before after_all = ⊥
-LeftThere (Run run.NoMemory) before after_all = IsUnstarted before after_all × StayAsRead before.disks after_all.disks
-LeftThere (Run run.LineTooLong) before after_all = ⊥
-LeftThere (Run run.ScriptTooLong) before after_all = ⊥
-LeftThere DiskFault before after_all = IsUnstarted before after_all × StayAsRead before.disks after_all.disks
-LeftThere (Damaged damage) before after_all = ⊥
-LeftThere Empty before after_all = ⊥
-LeftThere Exists before after_all = IsUnstarted before after_all × SettledAsRead before.disks after_all.disks
-LeftThere (NewerFormat found) before after_all = ⊥
-
--- `dry`: a new ledger, and the script is run on it
+-- what `dry` does: a new ledger is made, and the script is run on it
 pub record RunsNew (scheme : Scheme) (genesis : Genesis) (tells : Bool) (ending : LedgerEnding) (before after_all : Handed) : Type 0 where
   pub serves : IsTrue tells → HasNone before.disks → IsList before.notary.entries → RunsOn scheme (new_ledger genesis) ending before after_all ⊎ IsNotMade genesis ending before after_all
   -- a refusal reads and writes nothing, whatever the disks tell
   pub unstarted : IsSome (refusal_of ending) → IsUnstarted before after_all
-  pub left : IsTrue tells → HasOpen before.disks → LeftThere ending before after_all
+  pub left : IsTrue tells → HasOpen before.disks → LeftAsRead (λ met. met ≡ Exists) ending before after_all
   pub faults : FaultsBy ending before after_all
   pub failures : NotaryFails before after_all
 
--- `sign`: one text is written
+-- what `sign` does: it writes one text, and touches nothing else
 pub record Signs (written_text : List ℕ) (ending : LedgerEnding) (before after_all : Handed) : Type 0 where
   pub plain : Ending
   pub ending_is : ending ≡ Run plain
@@ -386,13 +365,13 @@ pub record Signs (written_text : List ℕ) (ending : LedgerEnding) (before after
   pub disks_are : after_all.disks ≡ before.disks
   pub notary_is : after_all.notary ≡ before.notary
 
--- how a run ends that is a soak
+-- the ending that the end of a soak brings
 abbrev pub ending_of_soak : SoakEnd → Ending
 ending_of_soak soak.Done = run.Done
 ending_of_soak soak.WriteFault = run.WriteFault
 ending_of_soak soak.NoMemory = run.NoMemory
 
--- `soak`: the line of a soak with these numbers is written
+-- what `soak` does: it writes the line of a soak with these numbers, and touches nothing else
 pub record Soaks (seed count stop : ℕ) (ending : LedgerEnding) (before after_all : Handed) : Type 0 where
   pub end : SoakEnd
   pub ending_is : ending ≡ Run (ending_of_soak end)
@@ -401,7 +380,7 @@ pub record Soaks (seed count stop : ℕ) (ending : LedgerEnding) (before after_a
   pub disks_are : after_all.disks ≡ before.disks
   pub notary_is : after_all.notary ≡ before.notary
 
--- everything but the last line, by the command
+-- what a run did by the command that its words ask for: everything but the last line
 abbrev pub ServedBy : Scheme → Bool → Option Command → LedgerEnding → Handed → Handed → Type 0
 ServedBy scheme tells None ending before after_all = (ending ≡ Run run.Usage) × (after_all ≡ before)
 ServedBy scheme tells (Some (command.Dry genesis)) ending before after_all = RunsNew scheme genesis tells ending before after_all
@@ -418,7 +397,7 @@ pub record Finishes (met : LedgerEnding) (status : ℕ) (before now : SinkState)
   pub status_is : status ≡ status_of ending
   pub last : WritesLast (last_line ending) before now
 
--- a run of the program with some words, to its exit status
+-- what a run of the program did with some words, to its exit status
 pub record RanProgram (scheme : Scheme) (tells : Bool) (words : Option Command) (status : ℕ) (before after_all : Handed) : Type 0 where
   pub met : LedgerEnding
   -- the sink as it was in front of the last line

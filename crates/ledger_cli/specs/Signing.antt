@@ -14,18 +14,18 @@ use Rattle.ledger_cli.specs.declared.signing.Request.{Request}
 use Rattle.ledger_cli.specs.declared.signing.Request.TheVariants.{Append, NewMember, Occult, Purge}
 use Rattle.ledger_cli.specs.declared.signing.Signing.{Signing}
 
--- the message of a request on the ledger with this id
+-- the message that approves a request on the ledger with this id
 abbrev pub message_for : List ℕ → Request → List ℕ
 message_for id (Append member clue content_len content_digest) = request_digest_of id member clue.0 content_len content_digest.0
 message_for id (NewMember number key) = member_request_digest_of id number key.0
 message_for id (Occult target leaf) = occult_request_digest_of id target leaf.0
 message_for id (Purge point root) = purge_request_digest_of id point root.0
 
--- the message that is to be proved
+-- the message of the request that `sign` was given
 abbrev pub message_of : Signing → List ℕ
 message_of signing = message_for signing.id.0 signing.request
 
--- a line of lower-case hexadecimal digits
+-- bytes as a line of lower-case hexadecimal digits
 abbrev pub hex_line : List ℕ → List ℕ
 hex_line bytes = encode_lower bytes ++ 10 ∷ []
 
@@ -38,42 +38,37 @@ signed_text signing =
 abbrev pub clue_of_word : List ℕ → Option (List ℕ)
 clue_of_word word = if list_any (λ b. b == 32) word then None else clue_of word
 
--- the request to append a content under a clue's name
+-- a request to append a content under a clue's name, as a member
 abbrev pub append_of : ℕ → List ℕ → List ℕ → Request
 append_of member clue content =
     Append member (digest (clue_digest_of clue)) (length content) (digest (content_digest_of content))
 
--- `MEMBER CLUE CONTENT`
+-- the request of the words behind `append`: `MEMBER CLUE CONTENT`
 unfoldable pub append_from : List (List ℕ) → Option Request
-append_from [] = None
-append_from (member ∷ []) = None
-append_from (member ∷ clue ∷ []) = None
 append_from (member_word ∷ clue_word ∷ content_word ∷ []) = do
   member ← number_of (2 ^ 32 - 1) member_word
   clue ← clue_of_word clue_word
   content ← bytes_of CONTENT_LIMIT content_word
   Some (append_of member clue content)
-append_from (member ∷ clue ∷ content ∷ more ∷ words) = None
+append_from words = None
 
--- a number that is at most `most`, and a digest
+-- a number that is at most `most` and a digest, as two words
 abbrev pub numbered_digest : ℕ → List (List ℕ) → Option (ℕ × Digest)
-numbered_digest most [] = None
-numbered_digest most (number ∷ []) = None
 numbered_digest most (number_word ∷ digest_word ∷ []) = do
   number ← number_of most number_word
   hash ← digest_of digest_word
   Some (number, hash)
-numbered_digest most (number ∷ hash ∷ more ∷ words) = None
+numbered_digest most words = None
 
--- `NUMBER NEWKEY`
+-- the request of the words behind `member`: `NUMBER NEWKEY`
 unfoldable pub member_from : List (List ℕ) → Option Request
 member_from words = option_map (λ numbered. NewMember numbered.0 numbered.1) (numbered_digest (2 ^ 32 - 1) words)
 
--- `TARGET LEAF`
+-- the request of the words behind `occult`: `TARGET LEAF`
 unfoldable pub occult_from : List (List ℕ) → Option Request
 occult_from words = option_map (λ numbered. Occult numbered.0 numbered.1) (numbered_digest (2 ^ 64 - 1) words)
 
--- `POINT ROOT`
+-- the request of the words behind `purge`: `POINT ROOT`
 unfoldable pub purge_from : List (List ℕ) → Option Request
 purge_from words = option_map (λ numbered. Purge numbered.0 numbered.1) (numbered_digest (2 ^ 64 - 1) words)
 

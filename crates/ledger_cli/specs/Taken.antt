@@ -10,10 +10,12 @@ use Rattle.ledger_model.specs.Step.{Step}
 abbrev pub IsUnasked : NotaryState → Step → Type 0
 IsUnasked n step = (step.failed ≡ true) × (step.before ≡ n.entries) × (step.after ≡ n.entries)
 
+-- some lines in one window that weren't taken
 abbrev pub AllUnasked : NotaryState → List Step → Type 0
 AllUnasked n [] = ⊤
 AllUnasked n (step ∷ steps) = IsUnasked n step × AllUnasked n steps
 
+-- the lines of some windows weren't taken
 abbrev pub EachUnasked : NotaryState → List (List Step) → Type 0
 EachUnasked n [] = ⊤
 EachUnasked n (window ∷ windows) = AllUnasked n window × EachUnasked n windows
@@ -36,3 +38,7 @@ pub record TookSome (scheme : Scheme) (h : History) (n : NotaryState) (windows :
   pub split : windows ≡ done ++ rest
   pub first : TakesFirst m now rest
   pub took : TookAll scheme h n (taken done now) m
+
+-- Example: the windows are [1 2] and [3 4 5], and the run ended behind line 3. `done` is [1 2], `now` is 3, `rest` is
+-- [3 4 5]. The notary goes along [1 2] and [3]. Lines 4 and 5 stand as steps in which it failed, with the list that 3 left,
+-- and its count has neither.

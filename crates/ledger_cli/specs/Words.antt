@@ -15,21 +15,21 @@ genesis_of name_word operator_word regulator_word = do
   regulator ← digest_of regulator_word
   Some (record { name = name; operator = operator; regulator = regulator })
 
--- `NAME OPKEY REGKEY`: a new ledger, and a run on it
+-- what the words behind `dry` ask for: `NAME OPKEY REGKEY`, a new ledger and a run on it
 abbrev pub dry_of : List ℕ → List ℕ → List ℕ → Option Command
 dry_of name operator regulator = option_map Dry (genesis_of name operator regulator)
 
--- `DIR NAME OPKEY REGKEY`: a new ledger in a folder, whose name has at least one byte
+-- what the words behind `init` ask for: `DIR NAME OPKEY REGKEY`, a new ledger in a folder, whose name has at least one byte
 abbrev pub init_of : List ℕ → List ℕ → List ℕ → List ℕ → Option Command
 init_of [] name operator regulator = None
 init_of (byte ∷ bytes) name operator regulator = option_map Init (genesis_of name operator regulator)
 
--- `DIR`: the ledger in a folder
+-- what the word behind `run` asks for: `DIR`, the ledger in a folder
 abbrev pub run_of : List ℕ → Option Command
 run_of [] = None
 run_of (byte ∷ bytes) = Some Run
 
--- the request of a verb and its words that a key is to prove, on the ledger with this id
+-- what the words behind `sign` ask for: a verb and its words, which a key is to prove on the ledger with this id
 abbrev pub sign_of : List ℕ → List ℕ → List ℕ → List (List ℕ) → Option Command
 sign_of id_word key_word verb words = do
   id ← digest_of id_word
@@ -37,11 +37,12 @@ sign_of id_word key_word verb words = do
   request ← request_of verb words
   Some (Sign (record { id = id; key = key; request = request }))
 
--- so many jobs from a seed on, at least one, on disks that stop after so many calls
+-- a soak of so many jobs from a seed on, at least one, on disks that stop after so many calls
 abbrev pub soak_from : ℕ → ℕ → ℕ → Option Command
 soak_from seed count stop = if nat_eq count 0 then None else Some (Soak seed count stop)
 
--- `SEED COUNT STOP`: random jobs on a new ledger in memory, at most 100,000, with at most 1,000,000 calls to a stop
+-- what the words behind `soak` ask for: `SEED COUNT STOP`, at most 100,000 random jobs on a new ledger in memory, with at most
+-- 1,000,000 calls to a stop
 unfoldable pub soak_of : List ℕ → List ℕ → List ℕ → Option Command
 soak_of seed_word count_word stop_word = do
   seed ← number_of (2 ^ 64 - 1) seed_word
@@ -49,36 +50,33 @@ soak_of seed_word count_word stop_word = do
   stop ← number_of 1000000 stop_word
   soak_from seed count stop
 
--- `init` has five words
+-- what five words ask for that begin with `init`; other numbers of words ask for nothing
 abbrev pub init_from : List ℕ → List ℕ → List ℕ → List (List ℕ) → Option Command
-init_from folder name operator [] = None
 init_from folder name operator (regulator ∷ []) = init_of folder name operator regulator
-init_from folder name operator (regulator ∷ more ∷ words) = None
+init_from folder name operator words = None
 
--- what two words ask for
+-- what two words ask for: they may be those of `run`
 abbrev pub of_two : List ℕ → List ℕ → Option Command
 of_two verb folder = if pointwise nat_eq verb (codes "run") then run_of folder else None
 
--- what four words ask for
+-- what four words ask for: they may be those of `dry` or `soak`
 unfoldable pub of_four : List ℕ → List ℕ → List ℕ → List ℕ → Option Command
 of_four verb second third fourth =
     if pointwise nat_eq verb (codes "dry") then dry_of second third fourth
     else if pointwise nat_eq verb (codes "soak") then soak_of second third fourth
     else None
 
--- what five words and more ask for
+-- what five words and more ask for: they may be those of `init` or `sign`
 abbrev pub of_more : List ℕ → List ℕ → List ℕ → List ℕ → List (List ℕ) → Option Command
 of_more verb second third fourth words =
     if pointwise nat_eq verb (codes "sign") then sign_of second third fourth words
     else if pointwise nat_eq verb (codes "init") then init_from second third fourth words
     else None
 
--- what the words ask for: `run DIR`, `dry NAME OPKEY REGKEY`, `soak SEED COUNT STOP`, `init DIR NAME OPKEY REGKEY`, or
--- `sign ID KEY` and then a request
+-- what the words of the command line ask for: `run DIR`, `dry NAME OPKEY REGKEY`, `soak SEED COUNT STOP`, `init DIR NAME OPKEY
+-- REGKEY`, or `sign ID KEY` and then a request
 abbrev pub command_of : List (List ℕ) → Option Command
-command_of [] = None
-command_of (verb ∷ []) = None
 command_of (verb ∷ folder ∷ []) = of_two verb folder
-command_of (verb ∷ name ∷ operator ∷ []) = None
 command_of (verb ∷ name ∷ operator ∷ regulator ∷ []) = of_four verb name operator regulator
 command_of (verb ∷ second ∷ third ∷ fourth ∷ fifth ∷ words) = of_more verb second third fourth (fifth ∷ words)
+command_of words = None

@@ -1,30 +1,30 @@
-//! A committer with its disks, its sink and its notary, to which the lines of a piece are offered.
+//! A committer with its disks, its sink and its notary, which takes the lines of a piece.
 
-ghost use Rattle.std.specs.Prelude.{◌≡◌, ◌≤◌, ◌<◌, ◌+◌, ◌^◌, ℕ, None, length, slice_index, vec_len};
-ghost use Rattle.batch_committer.specs.World.{pair};
+ghost use Rattle.std.specs.Prelude.{◌≡◌, ◌≤◌, ◌<◌, ◌+◌, ◌^◌, ◌∷◌, ℕ, List, [], None, length, slice_index, vec_len, OnOk, IfNone};
 ghost use Rattle.lane_work.specs.Making.{lines_of};
-ghost use Rattle.ledger_cli.specs.Pieces.{at, IsOpen, TakesPiece};
+ghost use Rattle.ledger_cli.specs.Desks.{at_desk, SameDesk, TakesLines, TakesWindow};
+ghost use Rattle.ledger_cli.specs.Pieces.{IsOpen, TakesPiece};
 
-use batch_committer::{Committer, End};
-use lane_work::{Flow, Gate, LaneLine, Taker, run_lanes};
+use crate::piece::Piece;
+use batch_committer::{CommitErr, Committer};
+use lane_work::{Flow, Gate, LaneLine, Taker, Tools, prepare, run_lanes};
 use ledger_book::Prepared;
 use ledger_bytes::NoMemory;
 use ledger_disk::Disk;
 use ledger_io::Sink;
 use member_book::Verifier;
-use std::alloc::Global;
 use std::sync::Wait;
 use std::thread::Threads;
 use time_peg::Notary;
 
-// Each reference has a lifetime of its own, since each was handed in by itself.
-struct Desk<'c, 'a, 'b, 's, 'n, D, K, N> {
-    committer: &'c mut Committer,
-    a: &'a mut D,
-    b: &'b mut D,
-    sink: &'s mut K,
-    notary: &'n mut N,
-    end: Option<End>,
+/// Each reference has a lifetime of its own, since each was handed in by itself.
+pub(crate) struct Desk<'c, 'a, 'b, 's, 'n, D, K, N> {
+    pub(crate) committer: &'c mut Committer,
+    pub(crate) a: &'a mut D,
+    pub(crate) b: &'b mut D,
+    pub(crate) sink: &'s mut K,
+    pub(crate) notary: &'n mut N,
+    pub(crate) end: Option<CommitErr>,
 }
 
 impl<'c, 'a, 'b, 's, 'n, D, K, N> Drop for Desk<'c, 'a, 'b, 's, 'n, D, K, N> {
@@ -47,20 +47,14 @@ impl<'c, 'a, 'b, 's, 'n, D, K, N> Drop for Desk<'c, 'a, 'b, 's, 'n, D, K, N> {
 }
 
 impl<'c, 'a, 'b, 's, 'n, D: Disk, K: Sink, N: Notary> Taker for Desk<'c, 'a, 'b, 's, 'n, D, K, N> {
-    ghost use Rattle.std.specs.Prelude.{◌∷◌, []};
-    ghost use Rattle.batch_committer.specs.World.{pair};
-    ghost use Rattle.ledger_cli.specs.Pieces.{at, told, IsOpen, Answered};
+    ghost use Rattle.ledger_cli.specs.Desks.{at_desk, told_desk};
+    ghost use Rattle.ledger_cli.specs.Pieces.{IsOpen, Answered};
 
-    ghost ready = { λ s. IsOpen D.tells (at s.committer.now
-        (pair (D.state s.a.now) (D.state s.b.now)) (K.state s.sink.now) (N.state s.notary.now)) };
+    ghost ready = { λ s. IsOpen D.tells (at_desk D.state K.state N.state s) };
 
     // A step from what all told to what they tell; the references stay those that were handed in.
-    ghost offers = { λ s item flow t. Answered D.tells
-        (told (s.committer.ghost_name ∷ s.a.ghost_name ∷ s.b.ghost_name ∷ s.sink.ghost_name ∷ s.notary.ghost_name ∷ []) s.end
-        (at s.committer.now (pair (D.state s.a.now) (D.state s.b.now)) (K.state s.sink.now) (N.state s.notary.now)))
-        item flow
-        (told (t.committer.ghost_name ∷ t.a.ghost_name ∷ t.b.ghost_name ∷ t.sink.ghost_name ∷ t.notary.ghost_name ∷ []) t.end
-        (at t.committer.now (pair (D.state t.a.now) (D.state t.b.now)) (K.state t.sink.now) (N.state t.notary.now))) };
+    ghost offers = { λ s item flow t. Answered D.tells (told_desk D.state K.state N.state s) item flow
+        (told_desk D.state K.state N.state t) };
 
     fn offer(&mut self, item: Prepared) -> Flow {
         match self
@@ -77,80 +71,123 @@ impl<'c, 'a, 'b, 's, 'n, D: Disk, K: Sink, N: Notary> Taker for Desk<'c, 'a, 'b,
 }
 
 impl<'c, 'a, 'b, 's, 'n, D: Disk, K: Sink, N: Notary> Desk<'c, 'a, 'b, 's, 'n, D, K, N> {
-    // Takes the lines of a piece.
+    // Takes the lines of a piece, and answers the end that ended the run, where one did. `first` has each lane's next
+    // number.
     fn run<R: Threads + Wait + Sync, V: Verifier, G: Gate>(
         &mut self,
-        rt: &R,
-        alloc: Global,
+        tools: &Tools<R, V, G>,
         lines: Vec<LaneLine>,
         first: &[u64; 8],
-        verifier: &V,
-        gate: &G,
-    )
+    ) -> Option<CommitErr>
         requires fresh { self.old.end ≡ None }
-        requires open { IsOpen D.tells (at self.old.committer.now
-            (pair (D.state self.old.a.now) (D.state self.old.b.now)) (K.state self.old.sink.now) (N.state self.old.notary.now)) }
+        requires open { IsOpen D.tells (at_desk D.state K.state N.state self.old) }
         requires some { (0 < vec_len lines) × (vec_len lines ≤ 4096) }
         requires numbers { (k : ℕ) → k < 8
             → slice_index first.now k + length (lines_of k lines.items) < 2 ^ 64 }
-        ensures same_committer { self.new.committer.ghost_name ≡ self.old.committer.ghost_name }
-        ensures same_a { self.new.a.ghost_name ≡ self.old.a.ghost_name }
-        ensures same_b { self.new.b.ghost_name ≡ self.old.b.ghost_name }
-        ensures same_sink { self.new.sink.ghost_name ≡ self.old.sink.ghost_name }
-        ensures same_notary { self.new.notary.ghost_name ≡ self.old.notary.ghost_name }
-        ensures takes { TakesPiece (V.shows verifier.now) D.tells first.now lines.items self.new.end
-            (at self.old.committer.now (pair (D.state self.old.a.now) (D.state self.old.b.now))
-            (K.state self.old.sink.now) (N.state self.old.notary.now))
-            (at self.new.committer.now (pair (D.state self.new.a.now) (D.state self.new.b.now))
-            (K.state self.new.sink.now) (N.state self.new.notary.now)) }
+        ensures fresh { IfNone result (self.new.end ≡ None) }
+        ensures same { SameDesk self.old self.new }
+        ensures takes { TakesPiece (V.shows tools.now.verifier.now) D.tells first.now lines.items result
+            (at_desk D.state K.state N.state self.old) (at_desk D.state K.state N.state self.new) }
     {
         let id = self.committer.id();
-        match run_lanes(rt, alloc, lines, first, &id, verifier, gate, self) {
-            Ok(()) => {}
-            Err(NoMemory) => self.end = Some(End::NoMemory),
+        match run_lanes(tools, lines, first, &id, self) {
+            Ok(()) => self.end,
+            Err(NoMemory) => Some(CommitErr::NoMemory),
         }
     }
-}
 
-/// Takes the lines of a piece, and answers the end that ended the run, where one did. `first` has each lane's next
-/// number.
-pub(crate) fn run_piece<
-    R: Threads + Wait + Sync,
-    D: Disk,
-    K: Sink,
-    N: Notary,
-    V: Verifier,
-    G: Gate,
->(
-    rt: &R,
-    alloc: Global,
-    committer: &mut Committer,
-    a: &mut D,
-    b: &mut D,
-    sink: &mut K,
-    notary: &mut N,
-    lines: Vec<LaneLine>,
-    first: &[u64; 8],
-    verifier: &V,
-    gate: &G,
-) -> Option<End>
-    requires open { IsOpen D.tells (at committer.old (pair (D.state a.old) (D.state b.old))
-        (K.state sink.old) (N.state notary.old)) }
-    requires some { (0 < vec_len lines) × (vec_len lines ≤ 4096) }
-    requires numbers { (k : ℕ) → k < 8
-        → slice_index first.now k + length (lines_of k lines.items) < 2 ^ 64 }
-    ensures { TakesPiece (V.shows verifier.now) D.tells first.now lines.items result
-        (at committer.old (pair (D.state a.old) (D.state b.old)) (K.state sink.old) (N.state notary.old))
-        (at committer.new (pair (D.state a.new) (D.state b.new)) (K.state sink.new) (N.state notary.new)) }
-{
-    let mut desk = Desk {
-        committer,
-        a,
-        b,
-        sink,
-        notary,
-        end: None,
-    };
-    desk.run(rt, alloc, lines, first, verifier, gate);
-    desk.end
+    // Takes a line that is the only one of its piece, and has this number in its lane.
+    fn take_line<R, V: Verifier, G: Gate>(
+        &mut self,
+        tools: &Tools<R, V, G>,
+        said: LaneLine,
+        index: u64,
+    ) -> Result<(), CommitErr>
+        requires { IsOpen D.tells (at_desk D.state K.state N.state self.old) }
+        ensures fresh { self.new.end ≡ self.old.end }
+        ensures same { SameDesk self.old self.new }
+        ensures takes { (first : List ℕ) → slice_index first said.lane ≡ index
+            → TakesLines (V.shows tools.now.verifier.now) D.tells first (said ∷ []) result
+            (at_desk D.state K.state N.state self.old) (at_desk D.state K.state N.state self.new) }
+    {
+        let id = self.committer.id();
+        let Ok(item) = prepare(
+            tools.alloc,
+            tools.verifier,
+            &id,
+            index,
+            said.line.as_slice(),
+        ) else {
+            return Err(CommitErr::NoMemory);
+        };
+        tools.gate.pass(said.lane, index);
+        match self
+            .committer
+            .offer(self.a, self.b, self.sink, self.notary, item)
+        {
+            Ok(()) => Ok(()),
+            Err(end) => Err(end),
+        }
+    }
+
+    /// Takes the lines of a piece. The next piece then begins. A line that is alone goes without what several need.
+    pub(crate) fn take_piece<R: Threads + Wait + Sync, V: Verifier, G: Gate>(
+        &mut self,
+        tools: &Tools<R, V, G>,
+        piece: &mut Piece,
+    ) -> Result<(), CommitErr>
+        requires fresh { self.old.end ≡ None }
+        requires open { IsOpen D.tells (at_desk D.state K.state N.state self.old) }
+        requires few { vec_len piece.old.lines ≤ 4096 }
+        requires numbers { (k : ℕ) → k < 8
+            → slice_index piece.old.first k + length (lines_of k piece.old.lines.items) < 2 ^ 64 }
+        ensures fresh { OnOk result (self.new.end ≡ None) }
+        ensures same { SameDesk self.old self.new }
+        ensures takes { TakesLines (V.shows tools.now.verifier.now) D.tells piece.old.first piece.old.lines.items result
+            (at_desk D.state K.state N.state self.old) (at_desk D.state K.state N.state self.new) }
+        ensures none { piece.new.lines.items ≡ [] }
+        ensures first { piece.new.first ≡ piece.old.next }
+        ensures next { piece.new.next ≡ piece.old.next }
+    {
+        if let Some((said, index)) = piece.take_alone() {
+            return self.take_line(tools, said, index);
+        }
+        let (lines, first) = piece.take();
+        if lines.as_slice().is_empty() {
+            return Ok(());
+        }
+        match self.run(tools, lines, &first) {
+            None => Ok(()),
+            Some(end) => Err(end),
+        }
+    }
+
+    /// Takes the lines of a piece, with which its window ends, and ends the open block.
+    pub(crate) fn end_window<R: Threads + Wait + Sync, V: Verifier, G: Gate>(
+        &mut self,
+        tools: &Tools<R, V, G>,
+        piece: &mut Piece,
+    ) -> Result<(), CommitErr>
+        requires fresh { self.old.end ≡ None }
+        requires open { IsOpen D.tells (at_desk D.state K.state N.state self.old) }
+        requires few { vec_len piece.old.lines ≤ 4096 }
+        requires numbers { (k : ℕ) → k < 8
+            → slice_index piece.old.first k + length (lines_of k piece.old.lines.items) < 2 ^ 64 }
+        ensures fresh { OnOk result (self.new.end ≡ None) }
+        ensures same { SameDesk self.old self.new }
+        ensures takes { TakesWindow (V.shows tools.now.verifier.now) D.tells
+            piece.old.first piece.old.lines.items result
+            (at_desk D.state K.state N.state self.old) (at_desk D.state K.state N.state self.new) }
+        ensures none { piece.new.lines.items ≡ [] }
+        ensures first { piece.new.first ≡ piece.old.next }
+        ensures next { piece.new.next ≡ piece.old.next }
+    {
+        if let Err(end) = self.take_piece(tools, piece) {
+            return Err(end);
+        }
+        match self.committer.flush(self.a, self.b, self.sink) {
+            Ok(()) => Ok(()),
+            Err(end) => Err(end),
+        }
+    }
 }

@@ -3,7 +3,7 @@ ghost use Rattle.script_lines.specs.Words.{word_text};
 ghost use Rattle.ledger_cli.specs.Endings as spec;
 ghost use Rattle.ledger_cli.specs.Endings.{status_of, HasWords};
 
-use batch_committer::End;
+use batch_committer::CommitErr;
 use block_file::Damage;
 use ledger_bytes::NoMemory;
 use ledger_io::{Ending, LineErr, WriteErr};
@@ -28,7 +28,7 @@ pub enum LedgerEnding {
 }
 
 impl LedgerEnding {
-    /// The exit status.
+    /// The exit status, by which whoever started the program is told the ending.
     pub fn status(self) -> u8
         ensures { result ≡ status_of self }
     {
@@ -149,17 +149,17 @@ impl From<OpenErr> for LedgerEnding {
     }
 }
 
-impl From<End> for LedgerEnding {
+impl From<CommitErr> for LedgerEnding {
     ghost use Rattle.ledger_cli.specs.Endings.{ending_of_end};
 
     ghost from_gives = { λ e ending. ending ≡ ending_of_end e };
 
     // A committer that is closed takes nothing more; a session ends at its first error, so this one doesn't come.
-    fn from(e: End) -> Self {
+    fn from(e: CommitErr) -> Self {
         match e {
-            End::DiskFault => LedgerEnding::DiskFault,
-            End::WriteFault => LedgerEnding::Run(Ending::WriteFault),
-            End::NoMemory | End::Closed => LedgerEnding::Run(Ending::NoMemory),
+            CommitErr::DiskFault => LedgerEnding::DiskFault,
+            CommitErr::WriteFault => LedgerEnding::Run(Ending::WriteFault),
+            CommitErr::NoMemory | CommitErr::Closed => LedgerEnding::Run(Ending::NoMemory),
         }
     }
 }

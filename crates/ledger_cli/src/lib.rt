@@ -19,7 +19,7 @@ pub use laws::{
     a_run_counts_the_failures_of_its_notary, a_written_receipt_is_shown,
     lines_of_one_lane_are_answered_in_order, the_list_of_a_notary_goes_on,
 };
-pub use main_call::ledger_main;
+pub use main_call::{Keeping, ledger_main};
 pub use session::run_session;
 pub use signing::{Request, Signing};
 pub use standard::ledger_standard;

@@ -1,15 +1,14 @@
 ghost use Rattle.std.specs.Prelude.{◌≡◌, ◌≤◌, ◌⊎◌, ◌↔◌, None, IsSome, IfOk, OnErr, map, string_bytes};
-ghost use Rattle.batch_committer.specs.World.{pair};
+ghost use Rattle.batch_committer.specs.World.{pair, OneFailed};
 ghost use Rattle.ledger_bytes.specs.Causes.{count_after};
 ghost use Rattle.ledger_cli.specs.Keeping.{given, names_folder, ending_of_keeper, RanMain};
-ghost use Rattle.ledger_cli.specs.Runs.{DiskFailed};
 ghost use Rattle.ledger_cli.specs.Words.{command_of};
 
 use crate::Command;
 use crate::ending::LedgerEnding;
 use crate::top::{finish_run, ledger_top};
 use block_file::FileErr;
-use lane_work::Gate;
+use lane_work::{Gate, Tools};
 use ledger_bytes::{Digest, NoMemory};
 use ledger_disk::Disk;
 use ledger_io::{Ending, Sink, Source, finish, write_last};
@@ -20,14 +19,21 @@ use std::sync::Wait;
 use std::thread::Threads;
 use time_peg::Notary;
 
-/// The whole program: what [`ledger_top`] does, with the notary that `keeper` keeps, where the words name a folder, and
-/// with a new notary in memory for all other words. The notary's times are those of `clock`, and its salts are drawn from
-/// `seed`. It gives `keeper` back. Before the ledger's disks are touched it answers
+/// What a notary is made of whose list is kept on a disk: the disk, the clock that tells its times, and the seed from which
+/// its salts are drawn, where there is one.
+pub struct Keeping<E, C> {
+    pub keeper: E,
+    pub clock: C,
+    pub seed: Option<Digest>,
+}
+
+/// The whole program: what [`ledger_top`] does, with the notary that is kept, where the words name a folder, and with a
+/// new notary in memory for all other words. It gives the notary's disk back. Before the ledger's disks are touched it answers
 ///
 /// | Status | Comes | Last line |
 /// |---|---|---|
 /// | 2 | where the words name a folder and there is no seed | `fail 2 seed` |
-/// | 4 | only where `keeper` failed while its list was taken up | `fail 4 disk` |
+/// | 4 | only where the notary's disk failed while its list was taken up | `fail 4 disk` |
 /// | 6 | want of memory | `fail 6 memory` |
 pub fn ledger_main<
     R: Threads + Wait + Sync,
@@ -39,47 +45,37 @@ pub fn ledger_main<
     V: Verifier,
     G: Gate,
 >(
-    rt: &R,
-    alloc: Global,
+    tools: &Tools<R, V, G>,
     words: &[String],
     source: &mut S,
     sink: &mut K,
     a: &mut D,
     b: &mut D,
-    keeper: E,
-    clock: C,
-    seed: Option<Digest>,
-    verifier: &V,
-    gate: &G,
+    keeping: Keeping<E, C>,
 ) -> (u8, E)
-    ensures ran { RanMain (V.shows verifier.now) D.tells E.tells
-        (command_of (map string_bytes words.now)) seed result.0
+    ensures ran { RanMain (V.shows tools.now.verifier.now) D.tells E.tells
+        (command_of (map string_bytes words.now)) keeping.seed result.0
         (given (S.state source.old) (K.state sink.old) (pair (D.state a.old) (D.state b.old))
-        (E.state keeper))
+        (E.state keeping.keeper))
         (given (S.state source.new) (K.state sink.new) (pair (D.state a.new) (D.state b.new))
         (E.state result.1)) }
     ensures bounded { result.0 ≤ 9 }
     ensures usage { (result.0 ≡ 1) ↔ (command_of (map string_bytes words.now) ≡ None) }
-    ensures disk_fault { result.0 ≡ 4 → DiskFailed
+    ensures disk_fault { result.0 ≡ 4 → OneFailed
         (pair (D.state a.old) (D.state b.old)) (pair (D.state a.new) (D.state b.new))
-        ⊎ ((E.state result.1).faults ≡ count_after (E.state keeper).faults) }
+        ⊎ ((E.state result.1).faults ≡ count_after (E.state keeping.keeper).faults) }
 {
+    let alloc = tools.alloc;
+    let Keeping {
+        keeper,
+        clock,
+        seed,
+    } = keeping;
     match wants_notary(alloc, words) {
         Ok(true) => {}
         Ok(false) => {
             let mut notary = MemNotary::new(alloc, Vec::new(alloc));
-            let status = ledger_top(
-                rt,
-                alloc,
-                words,
-                source,
-                sink,
-                a,
-                b,
-                &mut notary,
-                verifier,
-                gate,
-            );
+            let status = ledger_top(tools, words, source, sink, a, b, &mut notary);
             return (status, keeper);
         }
         Err(NoMemory) => return (finish(sink, Ending::NoMemory), keeper),
@@ -91,18 +87,7 @@ pub fn ledger_main<
     match LocalNotary::reopen(alloc, keeper, clock, seed) {
         Ok(notary) => {
             let mut notary = notary;
-            let status = ledger_top(
-                rt,
-                alloc,
-                words,
-                source,
-                sink,
-                a,
-                b,
-                &mut notary,
-                verifier,
-                gate,
-            );
+            let status = ledger_top(tools, words, source, sink, a, b, &mut notary);
             notary.images_have_the_list();
             (status, notary.into_disk())
         }

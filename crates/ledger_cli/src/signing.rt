@@ -59,7 +59,7 @@ pub enum Request {
 impl Signing {
     ghost use Rattle.ledger_cli.specs.Signing.{message_of, signed_text};
 
-    /// The message of the request.
+    /// What the member's key is to prove: the digest of the request.
     pub fn message(&self) -> Digest
         ensures { result.0 ≡ message_of self.now }
     {

@@ -1,12 +1,13 @@
 ghost use Rattle.std.specs.Prelude.{◌≤◌, IfOk};
 
-use crate::ledger_main;
-use lane_work::OpenGate;
+use crate::{Keeping, ledger_main};
+use lane_work::{OpenGate, Tools};
 use ledger_bytes::{Digest, NoMemory};
 use ledger_disk::{FileDisk, MemDisk};
 use ledger_io::{Ending, Sink, Source, StdSink, StdSource, command_words, finish};
 use member_book::TagScheme;
 use notary_ledger::RealClock;
+use std::alloc::Global;
 use std::fs::File;
 use std::io::Read;
 use std::sync::Wait;
@@ -48,6 +49,16 @@ fn folder_of(words: &[String]) -> Option<&str> {
     }
 }
 
+// Proofs are those of the tag scheme, and no line is held.
+fn tools<R>(threads: &R, alloc: Global) -> Tools<'_, R, TagScheme, OpenGate> {
+    Tools {
+        rt: threads,
+        alloc,
+        verifier: &TagScheme,
+        gate: &OpenGate,
+    }
+}
+
 // Nothing is opened where the words turn out to be of no form.
 fn run_on_files<R: Threads + Wait + Sync, S: Source, K: Sink>(
     rt: &HostRuntime,
@@ -62,20 +73,13 @@ fn run_on_files<R: Threads + Wait + Sync, S: Source, K: Sink>(
     let mut a = file_in(rt, folder, "/ledger.a")?;
     let mut b = file_in(rt, folder, "/ledger.b")?;
     let keeper = file_in(rt, folder, "/notary")?;
-    let (status, _) = ledger_main(
-        threads,
-        rt.alloc(),
-        words,
-        source,
-        sink,
-        &mut a,
-        &mut b,
+    let keeping = Keeping {
         keeper,
-        RealClock::new(rt),
-        seed(rt),
-        &TagScheme,
-        &OpenGate,
-    );
+        clock: RealClock::new(rt),
+        seed: seed(rt),
+    };
+    let tools = tools(threads, rt.alloc());
+    let (status, _) = ledger_main(&tools, words, source, sink, &mut a, &mut b, keeping);
     Ok(status)
 }
 
@@ -113,20 +117,12 @@ fn run_in_memory<R: Threads + Wait + Sync, S: Source, K: Sink>(
     let alloc = rt.alloc();
     let mut a = MemDisk::new(alloc, room, Vec::new(alloc))?;
     let mut b = MemDisk::new(alloc, room, Vec::new(alloc))?;
-    let keeper = MemDisk::new(alloc, 0, Vec::new(alloc))?;
-    let (status, _) = ledger_main(
-        threads,
-        alloc,
-        words,
-        source,
-        sink,
-        &mut a,
-        &mut b,
-        keeper,
-        RealClock::new(rt),
-        None,
-        &TagScheme,
-        &OpenGate,
-    );
+    let keeping = Keeping {
+        keeper: MemDisk::new(alloc, 0, Vec::new(alloc))?,
+        clock: RealClock::new(rt),
+        seed: None,
+    };
+    let tools = tools(threads, alloc);
+    let (status, _) = ledger_main(&tools, words, source, sink, &mut a, &mut b, keeping);
     Ok(status)
 }

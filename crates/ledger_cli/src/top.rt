@@ -1,9 +1,9 @@
 ghost use Rattle.std.specs.Prelude.{◌≡◌, ◌↔◌, None, map, string_bytes};
-ghost use Rattle.batch_committer.specs.World.{Pair, pair};
+ghost use Rattle.batch_committer.specs.World.{Pair, pair, OneFailed};
 ghost use Rattle.ledger_bytes.specs.Causes.{count_after};
 ghost use Rattle.ledger_io.specs.Outside.{SourceState, MeetsOne};
 ghost use Rattle.time_peg.specs.Entries.{NotaryState};
-ghost use Rattle.ledger_cli.specs.Runs.{handed, DiskFailed, Finishes, Makes, NothingFailed, RanProgram, RunsAgain, RunsNew, ServedBy, Signs, Soaks};
+ghost use Rattle.ledger_cli.specs.Runs.{handed, Finishes, Makes, NothingFailed, RanProgram, RunsAgain, RunsNew, ServedBy, Signs, Soaks};
 ghost use Rattle.ledger_cli.specs.Signing.{signed_text};
 ghost use Rattle.ledger_cli.specs.Words.{command_of};
 
@@ -12,7 +12,7 @@ use crate::ending::{LedgerEnding, put_line};
 use crate::session::run_session;
 use crate::signing::Signing;
 use batch_committer::Committer;
-use lane_work::Gate;
+use lane_work::{Gate, Tools};
 use ledger_bytes::NoMemory;
 use ledger_disk::Disk;
 use ledger_io::{Ending, Sink, Source, finish, write_all, write_last};
@@ -57,18 +57,15 @@ pub fn ledger_top<
     V: Verifier,
     G: Gate,
 >(
-    rt: &R,
-    alloc: Global,
+    tools: &Tools<R, V, G>,
     words: &[String],
     source: &mut S,
     sink: &mut K,
     a: &mut D,
     b: &mut D,
     notary: &mut N,
-    verifier: &V,
-    gate: &G,
 ) -> u8
-    ensures ran { RanProgram (V.shows verifier.now) D.tells
+    ensures ran { RanProgram (V.shows tools.now.verifier.now) D.tells
         (command_of (map string_bytes words.now)) result
         (handed (S.state source.old) (K.state sink.old) (pair (D.state a.old) (D.state b.old)) (N.state notary.old))
         (handed (S.state source.new) (K.state sink.new) (pair (D.state a.new) (D.state b.new)) (N.state notary.new)) }
@@ -79,11 +76,11 @@ pub fn ledger_top<
     ensures read_fault { result ≡ 2
         → (S.state source.new).faults ≡ count_after (S.state source.old).faults }
     ensures write_fault { result ≡ 3 → MeetsOne (K.state sink.old) (K.state sink.new) }
-    ensures disk_fault { result ≡ 4 → DiskFailed
+    ensures disk_fault { result ≡ 4 → OneFailed
         (pair (D.state a.old) (D.state b.old)) (pair (D.state a.new) (D.state b.new)) }
 {
-    let met = run_words(rt, alloc, words, source, sink, a, b, notary, verifier, gate);
-    finish_run(alloc, sink, met)
+    let met = run_words(tools, words, source, sink, a, b, notary);
+    finish_run(tools.alloc, sink, met)
 }
 
 // The last line is written by one attempt. For one that is made of words memory is taken.
@@ -114,33 +111,31 @@ fn run_words<
     V: Verifier,
     G: Gate,
 >(
-    rt: &R,
-    alloc: Global,
+    tools: &Tools<R, V, G>,
     words: &[String],
     source: &mut S,
     sink: &mut K,
     a: &mut D,
     b: &mut D,
     notary: &mut N,
-    verifier: &V,
-    gate: &G,
 ) -> LedgerEnding
-    ensures { ServedBy (V.shows verifier.now) D.tells
+    ensures { ServedBy (V.shows tools.now.verifier.now) D.tells
         (command_of (map string_bytes words.now)) result
         (handed (S.state source.old) (K.state sink.old) (pair (D.state a.old) (D.state b.old)) (N.state notary.old))
         (handed (S.state source.new) (K.state sink.new) (pair (D.state a.new) (D.state b.new)) (N.state notary.new)) }
 {
-    match Command::read(alloc, words) {
-        Ok(Some(Command::Dry(genesis))) => {
-            run_new(
-                rt, alloc, &genesis, source, sink, a, b, notary, verifier, gate,
-            )
-        }
-        Ok(Some(Command::Init(genesis))) => make(alloc, &genesis, sink, a, b),
-        Ok(Some(Command::Run)) => run_again(rt, alloc, source, sink, a, b, notary, verifier, gate),
+    match Command::read(tools.alloc, words) {
+        Ok(Some(Command::Dry(genesis))) => { run_new(tools, &genesis, source, sink, a, b, notary) }
+        Ok(Some(Command::Init(genesis))) => make(tools.alloc, &genesis, sink, a, b),
+        Ok(Some(Command::Run)) => run_again(tools, source, sink, a, b, notary),
         Ok(Some(Command::Sign(signing))) => sign(&signing, sink),
         Ok(Some(Command::Soak { seed, count, stop })) => run_soak(
-            rt, alloc, seed, count, stop, sink,
+            tools.rt,
+            tools.alloc,
+            seed,
+            count,
+            stop,
+            sink,
         ),
         Ok(None) => LedgerEnding::Run(Ending::Usage),
         Err(NoMemory) => LedgerEnding::Run(Ending::NoMemory),
@@ -157,35 +152,21 @@ fn run_again<
     V: Verifier,
     G: Gate,
 >(
-    rt: &R,
-    alloc: Global,
+    tools: &Tools<R, V, G>,
     source: &mut S,
     sink: &mut K,
     a: &mut D,
     b: &mut D,
     notary: &mut N,
-    verifier: &V,
-    gate: &G,
 ) -> LedgerEnding
-    ensures { RunsAgain (V.shows verifier.now) D.tells result
+    ensures { RunsAgain (V.shows tools.now.verifier.now) D.tells result
         (handed (S.state source.old) (K.state sink.old) (pair (D.state a.old) (D.state b.old)) (N.state notary.old))
         (handed (S.state source.new) (K.state sink.new) (pair (D.state a.new) (D.state b.new)) (N.state notary.new)) }
 {
-    match reopen(rt, alloc, a, b, Limits::real()) {
+    match reopen(tools.rt, tools.alloc, a, b, Limits::real()) {
         Ok(opened) => {
-            let mut committer = Committer::new(alloc, opened);
-            run_session(
-                rt,
-                alloc,
-                verifier,
-                gate,
-                &mut committer,
-                a,
-                b,
-                source,
-                sink,
-                notary,
-            )
+            let mut committer = Committer::new(tools.alloc, opened);
+            run_session(tools, &mut committer, a, b, source, sink, notary)
         }
         Err(e) => LedgerEnding::from(e),
     }
@@ -193,36 +174,22 @@ fn run_again<
 
 // Makes a ledger of two disks, and runs a script on it.
 fn run_new<R: Threads + Wait + Sync, S: Source, K: Sink, D: Disk, N: Notary, V: Verifier, G: Gate>(
-    rt: &R,
-    alloc: Global,
+    tools: &Tools<R, V, G>,
     genesis: &Genesis,
     source: &mut S,
     sink: &mut K,
     a: &mut D,
     b: &mut D,
     notary: &mut N,
-    verifier: &V,
-    gate: &G,
 ) -> LedgerEnding
-    ensures { RunsNew (V.shows verifier.now) genesis.now D.tells result
+    ensures { RunsNew (V.shows tools.now.verifier.now) genesis.now D.tells result
         (handed (S.state source.old) (K.state sink.old) (pair (D.state a.old) (D.state b.old)) (N.state notary.old))
         (handed (S.state source.new) (K.state sink.new) (pair (D.state a.new) (D.state b.new)) (N.state notary.new)) }
 {
-    match init(alloc, a, b, genesis, Limits::real()) {
+    match init(tools.alloc, a, b, genesis, Limits::real()) {
         Ok(opened) => {
-            let mut committer = Committer::new(alloc, opened);
-            run_session(
-                rt,
-                alloc,
-                verifier,
-                gate,
-                &mut committer,
-                a,
-                b,
-                source,
-                sink,
-                notary,
-            )
+            let mut committer = Committer::new(tools.alloc, opened);
+            run_session(tools, &mut committer, a, b, source, sink, notary)
         }
         Err(refusal) => LedgerEnding::from(refusal),
     }

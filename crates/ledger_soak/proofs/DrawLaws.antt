@@ -2,8 +2,7 @@
 use Rattle.std.specs.Prelude.{suc, zero}
 use Rattle.std.proofs.Common.{◌≡◌, ℕ, ◌+◌, ◌%◌, [], ◌∷◌, ◌++◌, length, refl, ap, sym, ◌∙◌, arith}
 use Rattle.ledger_disk.specs.Generator.{next_draw}
-use Rattle.ledger_soak.specs.Draws.{drawn, state_after}
-use Rattle.ledger_soak.specs.Tasks.{drawn_bytes}
+use Rattle.ledger_soak.specs.Tasks.{drawn, state_after, drawn_bytes}
 
 pub state_none : (x : ℕ) → state_after 0 x ≡ x
 unfolding state_after

@@ -18,8 +18,8 @@ use Rattle.ledger_open.specs.Standing.{PairFor}
 use Rattle.twin_file.specs.Twin.{open_of}
 use Rattle.batch_committer.specs.Opened.{kept_from, IsOpened}
 use Rattle.batch_committer.specs.World.{CommitterState, Pair, World, world, first_kept, Fits, HasRoom, Holds, ReadsAsLeft}
-use Rattle.batch_committer.specs.declared.end.End.{End}
-use Rattle.batch_committer.specs.declared.end.End.TheVariants as ends
+use Rattle.batch_committer.specs.declared.failure.CommitErr.{CommitErr}
+use Rattle.batch_committer.specs.declared.failure.CommitErr.TheVariants as ends
 use Rattle.batch_committer.proofs.Opening.{opened_held, opened_fits, opened_room, founded_held, founded_fits, told_at}
 use Rattle.ledger_soak.specs.Posts.{SameButFaults, halt_of}
 use Rattle.ledger_soak.specs.declared.post.Halt.TheVariants.{Stopped, NoMemory}
@@ -27,7 +27,7 @@ use Rattle.ledger_soak.specs.declared.post.Halt.TheVariants.{Stopped, NoMemory}
 -- ---- ends
 
 -- only a disk's failure stops a job
-pub stopped_by : (end : End) → halt_of end ≡ Stopped → end ≡ ends.DiskFault
+pub stopped_by : (end : CommitErr) → halt_of end ≡ Stopped → end ≡ ends.DiskFault
 stopped_by ends.DiskFault is = refl
 stopped_by ends.WriteFault is = absurd (let no_such : NoMemory ≡ Stopped = is in let bad : ⊥ = cc in bad)
 stopped_by ends.NoMemory is = absurd (let no_such : NoMemory ≡ Stopped = is in let bad : ⊥ = cc in bad)
@@ -45,14 +45,14 @@ pub record WasMade (k : Known) (genesis : Genesis) (disks : Pair) (in_a : Bool) 
   pub first : in_a ≡ true
   pub one : generation ≡ 1
   pub none : copy ≡ None
-  pub told : IsSomeAnd disks.a.told (λ n. k.place + 1 ≤ n)
+  pub told : IsSomeAnd disks.a.told (λ n. k.gate + 1 ≤ n)
   pub limits : k.book.limits ≡ real_limits
   pub founded : IsFounded genesis disks.a.bytes disks.b.bytes
 
 module _ (k : Known) (genesis : Genesis) (disks : Pair) (in_a : Bool) (generation : ℕ) (copy : Option BlockFile) (sink : SinkState) (x : WasMade k genesis disks in_a generation copy)
-    (kept : CommitterState) (is : kept ≡ first_kept k.book k.places k.place in_a generation copy) where
+    (kept : CommitterState) (is : kept ≡ first_kept k.book k.places k.gate in_a generation copy) where
   made : kept ≡ kept_from k true 1
-  made = is ∙ ap (λ v. first_kept k.book k.places k.place v generation copy) x.first ∙ ap (λ n. first_kept k.book k.places k.place true n copy) x.one ∙ ap (first_kept k.book k.places k.place true 1) x.none
+  made = is ∙ ap (λ v. first_kept k.book k.places k.gate v generation copy) x.first ∙ ap (λ n. first_kept k.book k.places k.gate true n copy) x.one ∙ ap (first_kept k.book k.places k.gate true 1) x.none
 
   made_opened : IsOpened k true disks None (new_ledger genesis).closed
   made_opened = record { knows = remembered x.knows; told = x.told }
@@ -76,18 +76,18 @@ pub record WasOpened (k : Known) (a b : State) (disks : Pair) (in_a : Bool) (gen
   pub blocks : List (List Entry)
   pub remembers : Remembers k start blocks
   pub reopened : IsReopened in_a k start blocks a b disks.a.bytes disks.b.bytes
-  pub told : IsSomeAnd (open_of in_a disks.a.told disks.b.told) (λ n. k.place + 1 ≤ n)
+  pub told : IsSomeAnd (open_of in_a disks.a.told disks.b.told) (λ n. k.gate + 1 ≤ n)
   pub generation_is : generation ≡ generation_of (open_of in_a disks.a.bytes disks.b.bytes).seen
   pub none : copy ≡ None
   pub limits : k.book.limits ≡ real_limits
 
 module _ (k : Known) (a b : State) (disks : Pair) (in_a : Bool) (generation : ℕ) (copy : Option BlockFile) (sink : SinkState) (x : WasOpened k a b disks in_a generation copy)
-    (kept : CommitterState) (is : kept ≡ first_kept k.book k.places k.place in_a generation copy) where
+    (kept : CommitterState) (is : kept ≡ first_kept k.book k.places k.gate in_a generation copy) where
   again : kept ≡ kept_from k in_a generation
-  again = is ∙ ap (first_kept k.book k.places k.place in_a generation) x.none
+  again = is ∙ ap (first_kept k.book k.places k.gate in_a generation) x.none
 
   again_opened : IsOpened k in_a disks x.start x.blocks
-  again_opened = record { knows = x.remembers; told = told_at in_a disks.a disks.b k.place x.told }
+  again_opened = record { knows = x.remembers; told = told_at in_a disks.a disks.b k.gate x.told }
 
   pub again_fits : Fits true (world kept disks sink) × HasRoom kept
   again_fits = (
@@ -119,7 +119,7 @@ fits_same kept p q sink a at b bt f = record {
   few = f.few;
   order = f.order;
 } where
-  reads_so : (in_a : Bool) → ReadsAsLeft true kept.place (open_of in_a p.a p.b) → ReadsAsLeft true kept.place (open_of in_a q.a q.b)
+  reads_so : (in_a : Bool) → ReadsAsLeft true kept.gate (open_of in_a p.a p.b) → ReadsAsLeft true kept.gate (open_of in_a q.a q.b)
   reads_so true r = record { told = rw at r.told; shut = λ t. rw a (r.shut t) }
   reads_so false r = record { told = rw bt r.told; shut = λ t. rw b (r.shut t) }
 

@@ -26,9 +26,9 @@ use Rattle.time_peg.specs.Entries.{NotaryState}
 use Rattle.batch_committer.proofs.Attends.{unstamped}
 use Rattle.batch_committer.proofs.WayLaws.{goes_then, ended_then, ended_wider}
 use Rattle.batch_committer.specs.Attending.{step_in, TakesJob, EndsAt, EndsUnasked, EndsTaking}
-use Rattle.batch_committer.specs.World.{World, Pair, CommitterState, world, Holds, Goes, Ended, LeftStanding}
-use Rattle.batch_committer.specs.declared.end.End.{End}
-use Rattle.batch_committer.specs.declared.end.End.TheVariants.{DiskFault}
+use Rattle.batch_committer.specs.World.{World, Pair, CommitterState, world, Holds, Goes, EndsOnTheWay, LeftStanding}
+use Rattle.batch_committer.specs.declared.failure.CommitErr.{CommitErr}
+use Rattle.batch_committer.specs.declared.failure.CommitErr.TheVariants.{DiskFault}
 use Rattle.ledger_soak.specs.Posts.{TakesWindow, StopsInWindow, StopsBefore, StopsTaking}
 
 -- ---- at most one block more
@@ -87,7 +87,7 @@ one_of_two h g k none ended waits few no_shorter no_longer = by_rest no_shorter.
   by_rest (b ∷ bs) (c ∷ cs) is then = absurd (omega (arith, few, ap length is, ap length then, length-append h.closed (b ∷ bs), length-append k.closed (c ∷ cs)))
 
 -- what is left on the way stands for the history before or for the one behind
-pub either_left : (h g : History) (done : List Due) (end : End) (i j : List ℕ) → h.waiting ≡ [] → g.waiting ≡ [] → length g.closed ≤ length h.closed + 1 → LeftStanding h g done end i j → PairFor i j h ⊎ PairFor i j g
+pub either_left : (h g : History) (done : List Due) (end : CommitErr) (i j : List ℕ) → h.waiting ≡ [] → g.waiting ≡ [] → length g.closed ≤ length h.closed + 1 → LeftStanding h g done end i j → PairFor i j h ⊎ PairFor i j g
 either_left h g done end i j none ended few l =
     let waits : l.kept.waiting ≡ [] = l.stands.stands.file.none in
     elim (one_of_two h g l.kept none ended waits few l.no_shorter l.no_longer) [
@@ -142,8 +142,8 @@ module _ (w : World) (sink : SinkState) (mid t : World) (n m : NotaryState) (job
         }
 
   -- the disk failed at the end of the window
-  module _ (ended : Ended true mid close (λ h. []) DiskFault t) where
-    way_down : Ended true v behind due DiskFault t
+  module _ (ended : EndsOnTheWay true mid close (λ h. []) DiskFault t) where
+    way_down : EndsOnTheWay true v behind due DiskFault t
     way_down = ended_then true v mid t (λ h. after_job h step job) close due (λ h. []) DiskFault takes.goes ended
 
     pub window_stopped : StopsInWindow w t n m step job

@@ -29,11 +29,11 @@ pub record Follows (h : History) (es : List (List ℕ)) (auditor : Auditor) : Ty
   pub ledger : IfSome auditor.ledger (IsHeadOfFirst h)
   pub notary : IfSome auditor.notary (IsListHead es)
 
--- the size of a head has its root, and each other size what it had before
+-- an auditor has one trusted head more: the size of a head has its root, and each other size what it had before
 abbrev pub IsFoundIn : Which → Trust → Trust → Head → Type 0
 IsFoundIn which new old head = (at : ℕ) → root_of which new at ≡ (if at == head.size then Some head.root else root_of which old at)
 
--- this is the leaf digest that was found
+-- the leaf digest that was found is this one
 abbrev pub is_found : Option Digest → Digest → Bool
 is_found None leaf = false
 is_found (Some found) leaf = bytes_eq found.0 leaf.0

@@ -1,4 +1,3 @@
-pub mod Draws
 pub mod Tasks
 pub mod Lines
 pub mod Turns

@@ -25,15 +25,15 @@ line_with words = codes "0" ++ spaced_words words
 abbrev pub key_of : ℕ → Digest
 key_of member = digest (replicate 32 (member + 1))
 
--- a member's proof of a message
+-- a member's proof of a message, by its key
 abbrev pub proof_by : ℕ → List ℕ → List ℕ
 proof_by member message = tag_proof_of (key_of member).0 message
 
--- a member's approval of a message
+-- a member's approval of a message, as a line gives it
 abbrev pub given_text : ℕ → List ℕ → List ℕ
 given_text member message = decimal member ++ codes ":" ++ encode_lower (proof_by member message)
 
--- a new member, approved by the operator, on the ledger with this id
+-- the line of a new member, approved by the operator, on the ledger with this id
 unfoldable pub member_line : List ℕ → ℕ → List ℕ
 member_line id member =
     line_with (codes "member" ∷ decimal member ∷ hex_of (key_of member)
@@ -41,21 +41,21 @@ member_line id member =
 
 -- ---- jobs
 
--- the name of a clue
+-- the name of one of the clues that a soak uses
 abbrev pub clue_name : ℕ → List ℕ
 clue_name clue = codes "c" ++ decimal clue
 
--- a record, approved by the member who places it, on the ledger with this id
+-- the line of a record, approved by the member who places it, on the ledger with this id
 unfoldable pub record_line : List ℕ → ℕ → ℕ → List ℕ → List ℕ
 record_line id member clue content =
     let message = request_digest_of id member (clue_digest_of (clue_name clue)) (length content) (content_digest_of content) in
     line_with (codes "append" ∷ decimal member ∷ clue_name clue ∷ hex_or_dash content ∷ hex_or_dash (proof_by member message) ∷ [])
 
--- an anchor
+-- the line that asks for an anchor
 abbrev pub anchor_line : List ℕ
 anchor_line = line_with (codes "anchor" ∷ [])
 
--- the proof of journal n
+-- the line that asks for the proof of journal n
 abbrev pub prove_line : ℕ → List ℕ
 prove_line n = line_with (codes "prove" ∷ decimal n ∷ [])
 
@@ -63,7 +63,7 @@ prove_line n = line_with (codes "prove" ∷ decimal n ∷ [])
 abbrev pub kept_leaf : History → ℕ → Digest
 kept_leaf h n = if nat_lt n (point h) then zero_digest else digest (leaf_at h n)
 
--- an occult of a journal, approved by members 0 and 1
+-- the line of an occult of a journal, approved by members 0 and 1
 unfoldable pub occult_line : History → ℕ → List ℕ
 occult_line h target =
     let leaf = kept_leaf h target in
@@ -89,24 +89,24 @@ is_owner h p member = has_record_by member (map (λ journal. journal.header) (jo
 abbrev pub owner_approval : History → ℕ → List ℕ → ℕ → List ℕ
 owner_approval h p message member = if is_owner h p member then codes "," ++ given_text member message else []
 
--- a purge to journal p, with every approval that is needed: the operator's, and that of each of members 2, 3 and 4 of whose
--- records it takes one
+-- the line of a purge to journal p, with every approval that is needed: the operator's, and that of each of members 2, 3 and 4
+-- of whose records it takes one
 unfoldable pub purge_line : History → ℕ → List ℕ
 purge_line h p =
     let message = purge_request_digest_of (id h) p (root h p) in
     line_with (codes "purge" ∷ decimal p ∷ hex_of (digest (root h p))
     ∷ (given_text 0 message ++ owner_approval h p message 2 ++ owner_approval h p message 3 ++ owner_approval h p message 4) ∷ [])
 
--- the last kept time journal but one
+-- the kept time journal before the last one, where there is one
 abbrev pub last_time_but_one : History → Option Entry
 last_time_but_one h = option_and_then (λ last. lower_journal h last.header.jsn) (lower_journal h (size h))
 
--- a purge to a time journal, or an anchor where there is none
+-- the line of a purge to a time journal, or of an anchor where there is none
 abbrev pub purge_line_to : History → Option Entry → List ℕ
 purge_line_to h None = anchor_line
 purge_line_to h (Some journal) = purge_line h journal.header.jsn
 
--- the line of what was drawn
+-- the line of a drawn job, with every approval that it needs
 unfoldable pub job_line : Task → History → List ℕ
 job_line (Append member clue content) h = record_line (id h) member clue content
 job_line Anchor h = anchor_line

@@ -15,24 +15,25 @@ use Rattle.notary_ledger.specs.Notaries.{MemShown}
 use Rattle.ledger_open.specs.Standing.{PairFor}
 use Rattle.batch_committer.specs.Attending.{Attended, step_in}
 use Rattle.batch_committer.specs.World.{World, Pair, Holds}
-use Rattle.batch_committer.specs.declared.end.End.{End}
-use Rattle.batch_committer.specs.declared.end.End.TheVariants as ends
+use Rattle.batch_committer.specs.declared.failure.CommitErr.{CommitErr}
+use Rattle.batch_committer.specs.declared.failure.CommitErr.TheVariants as ends
 use Rattle.ledger_soak.specs.declared.post.Halt.{Halt}
 use Rattle.ledger_soak.specs.declared.post.Halt.TheVariants.{Stopped, NoMemory}
 
--- what a disk in memory tells, and one behind a fuse
+-- all that a clause knows of a disk in memory
 abbrev pub memory_disk : MemDisk → DiskState
 memory_disk disk = record { bytes = memory_state disk; told = told_len disk; faults = memory_faults disk }
 
+-- all that a clause knows of a disk in memory behind a fuse
 abbrev pub fused_disk : FuseDisk MemDisk → DiskState
 fused_disk disk = fuse_state memory_disk disk
 
--- what a notary in memory tells
+-- all that a clause knows of a notary in memory
 abbrev pub notary_state : MemShown → NotaryState
 notary_state notary = record { entries = notary.entries; faults = notary.faults }
 
--- what an end of the committer is for a job
-abbrev pub halt_of : End → Halt
+-- how a soak ends a job in which the committer met this end
+abbrev pub halt_of : CommitErr → Halt
 halt_of ends.DiskFault = Stopped
 halt_of ends.WriteFault = NoMemory
 halt_of ends.NoMemory = NoMemory
@@ -56,27 +57,30 @@ abbrev pub LeavesEither : Pair → History → History → Type 0
 LeavesEither disks h g = (i j : List ℕ) → MayLeave disks.a.bytes i → MayLeave disks.b.bytes j
     → PairFor i j h ⊎ PairFor i j g
 
--- A disk failed while a job was taken as a window of one line. What is left has the job's entry or hasn't, and the notary took
--- part; or it had no part, and nothing of the job is left.
+-- a disk failed while a job was taken as a window of one line: what is left has the job's entry or hasn't, and the notary took
+-- part
 pub record StopsInWindow (w t : World) (n m : NotaryState) (step : Step) (job : Job) : Type 0 where
   pub leaves : (h : History) → Holds true w h → h.waiting ≡ [] → LeavesEither t.disks h (close (after_job h step job))
   pub attended : (h : History) → Holds true w h → Attended n m (judged_at h job) step job
 
+-- a disk failed before the job had a part in anything: nothing of it is left, and the notary is as it was
 pub record StopsBefore (w t : World) (n m : NotaryState) : Type 0 where
   pub leaves : (h : History) → Holds true w h → h.waiting ≡ [] → LeavesEither t.disks h h
   pub same : m ≡ n
 
+-- a disk failed while a job was taken: in its window, or before the step was begun
 abbrev pub StopsTaking : World → World → NotaryState → NotaryState → Job → Type 0
 StopsTaking w t n m job =
     ((failed : Bool) × ((line : List ℕ) → StopsInWindow w t n m (step_in n m failed 0 1 line) job)) ⊎ StopsBefore w t n m
 
--- the same but for the counts of the disks' faults
+-- the ledger and its disks are as before, but for the counts of faults
 pub record SameButFaults (w t : World) : Type 0 where
   pub kept : t.kept ≡ w.kept
   pub a : t.disks.a.bytes ≡ w.disks.a.bytes
   pub b : t.disks.b.bytes ≡ w.disks.b.bytes
 
--- A post of what a stop left: for some pair of images it holds each history that the pair stands for, and nothing is due.
+-- what a stop left was opened again: for some pair of images the ledger is each history that the pair stands for, and nothing
+-- is due
 pub record OpensLeft (old new : World) : Type 0 where
   pub a : List ℕ
   pub b : List ℕ

@@ -24,20 +24,21 @@ use Rattle.ledger_soak.specs.declared.receipts.Receipt.{Receipt}
 use Rattle.ledger_soak.specs.declared.running.Run.{Run}
 use Rattle.ledger_soak.specs.declared.running.Fuses.TheVariants.{Off}
 
--- the jobs so far, from the setup on
+-- what a soak has behind it: the steps of its setup, the notary after them, and the jobs since
 pub record Past : Type 0 where
   pub setup : List Step
   pub notary : NotaryState
   pub turns : List Turn
 
--- where they began, and where they led
+-- where the jobs of a soak began
 abbrev pub begun_at : ℕ → Past → Stage
 begun_at seed p = first_stage seed p.setup p.notary
 
+-- where the jobs of a soak led
 abbrev pub led_to : ℕ → Past → Stage
 led_to seed p = last_stage (begun_at seed p) p.turns
 
--- they went so, and were counted
+-- the jobs were drawn and went so, and each was counted
 pub record AreTallied (seed : ℕ) (run : Run) (p : Past) : Type 0 where
   pub is_set_up : IsSetUp p.setup p.notary
   pub are : AreTurns run.stop (begun_at seed p) p.turns
@@ -47,24 +48,24 @@ pub record AreTallied (seed : ℕ) (run : Run) (p : Past) : Type 0 where
   pub accepted : run.yes ≡ run.proofs
   pub none_lost : run.lost ≡ 0
 
--- a receipt's journal is there
+-- the journal of a receipt is in a history, with its leaf digest
 abbrev pub IsHeld : History → Receipt → Type 0
 IsHeld h receipt = HasLeaf (journals h) receipt.jsn receipt.leaf
 
--- what is kept of heads and receipts is of this history and this list
+-- what a soak remembers of heads and receipts is of this history and this list
 pub record Recalls (auditor : Auditor) (receipts : List Receipt) (h : History) (es : List (List ℕ)) : Type 0 where
   pub pegged : Pegged h es
   pub follows : Follows h es auditor
   pub receipts_held : All (IsHeld h) receipts
 
--- the ledger holds this history, and nothing is due
+-- the committer and its disks hold this history, and nothing is due
 pub record IsAtRest (post : Posted) (h : History) : Type 0 where
   pub holds : Holds true post.world h
   pub none : h.waiting ≡ []
   pub dues : post.world.kept.dues ≡ []
   pub open_now : post.ended ≡ false
 
--- so a soak stands there
+-- a soak stands at this stage: ledger, notary and generator do
 pub record IsAtStage (run : Run) (s : Stage) : Type 0 where
   pub draws : run.draws.state ≡ s.draws
   pub rests : IsAtRest run.post s.history
@@ -74,7 +75,7 @@ pub record IsAtStage (run : Run) (s : Stage) : Type 0 where
   pub unfused : run.stop ≡ 0 → run.fuses ≡ Off
   pub first : s.stopped ≡ true → run.fuses ≡ Off
 
--- a member was placed in a step of this history, in which the notary took part
+-- a call placed a member, in a step of this history in which the notary took part
 pub record IsPlaced (w t : World) (n m : NotaryState) (member : ℕ) (h : History) : Type 0 where
   pub step : Step
   pub line_is : step.line ≡ member_line (id h) member
@@ -87,7 +88,7 @@ pub record IsReady (post : Posted) (notary : NotaryState) : Type 0 where
   pub is_set_up : IsSetUp setup notary
   pub rests : IsAtRest post (after_window tag_key_of (new_ledger soak_genesis) setup)
 
--- between two jobs
+-- a soak between two jobs: those so far were drawn, went so and were counted, and led to where it stands
 pub record IsUnderway (seed : ℕ) (run : Run) : Type 0 where
   pub past : Past
   pub tallied : AreTallied seed run past

@@ -14,7 +14,7 @@ pub record WroteSoak (seed count stop : ℕ) (before after : SinkState) : Type 0
   pub appended : Appends before.held after.held text
   pub no_fault : MeetsNone before after
 
--- .. or its first bytes were, and the sink met the fault that ended the writing
+-- the first bytes of a soak's line were written, and the sink met the fault that ended the writing
 pub record BrokeSoak (seed count stop : ℕ) (before after : SinkState) : Type 0 where
   pub text : List ℕ
   pub tells : TellsSoak seed count stop text

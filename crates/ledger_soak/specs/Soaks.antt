@@ -13,7 +13,7 @@ use Rattle.ledger_soak.specs.Lines.{member_line}
 use Rattle.ledger_soak.specs.Turns.{Turn, Stage, AreTurns, last_stage, soak_genesis, turn_count, was_stopped, was_answered_by, is_no, is_proof_reply}
 use Rattle.ledger_soak.specs.declared.summary.Summary.{Summary}
 
--- the notary before the first line
+-- the notary of a soak before the first line: its list is empty, and nothing failed
 abbrev pub silent_notary : NotaryState
 silent_notary = record { entries = []; faults = 0 }
 
@@ -53,7 +53,7 @@ pub record IsFaultless (x : Summary) : Type 0 where
   pub none_lost : x.lost ≡ 0
   pub all_accepted : x.yes ≡ x.proofs
 
--- the line of a summary
+-- the line that a soak writes of itself
 abbrev pub summary_text : Summary → List ℕ
 summary_text x =
     codes "soak" ++ spaced_words (decimal x.seed ∷ decimal x.count ∷ decimal x.stop

@@ -1,9 +1,17 @@
 -- What is drawn for a job.
-use Rattle.std.specs.Prelude.{ℕ, zero, suc, ◌+◌, ◌%◌, ◌<◌, ◌≤◌, if◌then◌else◌, List, [], ◌∷◌, length, nat_le, ⊤}
+use Rattle.std.specs.Prelude.{ℕ, zero, suc, ◌+◌, ◌/◌, ◌%◌, ◌^◌, ◌<◌, ◌≤◌, if◌then◌else◌, List, [], ◌∷◌, length, nat_le, ⊤}
 use Rattle.ledger_disk.specs.Generator.{next_draw}
-use Rattle.ledger_soak.specs.Draws.{drawn, state_after}
 use Rattle.ledger_soak.specs.declared.task.Task.{Task}
 use Rattle.ledger_soak.specs.declared.task.Task.TheVariants.{Append, Anchor, Occult, Prove, Purge}
+
+-- the number that a state of the generator gives
+abbrev pub drawn : ℕ → ℕ
+drawn x = x / 2 ^ 33
+
+-- the generator's state after so many numbers
+unfoldable pub state_after : ℕ → ℕ → ℕ
+state_after zero x = x
+state_after (suc n) x = state_after n (next_draw x)
 
 -- the bytes that so many draws from a state on give
 unfoldable pub drawn_bytes : ℕ → ℕ → List ℕ
@@ -36,7 +44,7 @@ IsDrawable size (Occult target) = target < size
 IsDrawable size (Prove n) = n < size
 IsDrawable size Purge = ⊤
 
--- how many numbers are drawn for it
+-- how many numbers are drawn for a job
 abbrev pub draw_count : ℕ → ℕ
 draw_count x =
     let first = nth_drawn 0 x % 100 in

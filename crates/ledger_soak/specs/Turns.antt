@@ -2,7 +2,7 @@
 use Rattle.std.specs.Prelude.{◌≡◌, ◌⊎◌, ℕ, ◌+◌, ◌&&◌, Bool, true, false, not, if◌then◌else◌, List, [], ◌∷◌, codes, ⊤}
 use Rattle.journal_record.specs.Tags.{tag_key_of}
 use Rattle.script_lines.specs.declared.reply.Reply.{Reply as AnyReply}
-use Rattle.script_lines.specs.declared.reply.Reply.TheVariants.{Placed, Whole, Occulted, Proof, Extension, Clue, Head, Refused}
+use Rattle.script_lines.specs.declared.reply.Reply.TheVariants.{Proof, Refused}
 use Rattle.ledger_model.specs.History.{History, id, size}
 use Rattle.ledger_model.specs.Notary.{Attends}
 use Rattle.ledger_model.specs.Rules.{job_of, after_window}
@@ -14,7 +14,7 @@ use Rattle.ledger_model.specs.declared.genesis.Genesis.{Genesis}
 use Rattle.ledger_soak.specs.Lines.{key_of, job_line}
 use Rattle.ledger_soak.specs.Tasks.{task_drawn, state_behind}
 
--- the name and the keys of a soak's ledger
+-- the name and the keys that every soak makes its ledger of
 abbrev pub soak_genesis : Genesis
 soak_genesis = record { name = codes "soak"; operator = key_of 0; regulator = key_of 1 }
 
@@ -24,12 +24,12 @@ pub data Fate : Type 0 where
   kept_in_hand : Fate
   lost_in_hand : Fate
 
+-- a job was in hand at a stop, whether its entry was kept or not
 abbrev pub was_in_hand : Fate → Bool
 was_in_hand answered = false
-was_in_hand kept_in_hand = true
-was_in_hand lost_in_hand = true
+was_in_hand other = true
 
--- a job, which is a window of one line, with its step and how it went
+-- a job, which is a window of one line: its step, and how it went
 pub record Turn : Type 0 where
   pub step : Step
   pub fate : Fate
@@ -42,7 +42,7 @@ pub record Stage : Type 0 where
   pub entries : List (List ℕ)
   pub stopped : Bool
 
--- the history behind a job
+-- the history behind a job, by how it went
 abbrev pub after_turn : Fate → History → Step → History
 after_turn answered h step = after_window tag_key_of h (step ∷ [])
 after_turn kept_in_hand h step = after_window tag_key_of h (step ∷ [])
@@ -66,7 +66,7 @@ pub record IsTurn (stop : ℕ) (s : Stage) (t : Turn) : Type 0 where
   pub unfused : stop ≡ 0 → t.fate ≡ answered
   pub first : s.stopped ≡ true → t.fate ≡ answered
 
--- where a soak stands behind a job
+-- where a soak stands behind one job more
 abbrev pub next_stage : Stage → Turn → Stage
 next_stage s t = record {
   draws = state_behind s.draws;
@@ -75,58 +75,46 @@ next_stage s t = record {
   stopped = was_in_hand t.fate;
 }
 
--- .. behind some jobs
+-- where a soak stands behind some jobs more
 abbrev pub last_stage : Stage → List Turn → Stage
 last_stage s [] = s
 last_stage s (t ∷ ts) = last_stage (next_stage s t) ts
 
--- these jobs went so one after the other
+-- jobs went so one after the other, from this stage on
 abbrev pub AreTurns : ℕ → Stage → List Turn → Type 0
 AreTurns stop s [] = ⊤
 AreTurns stop s (t ∷ ts) = IsTurn stop s t × AreTurns stop (next_stage s t) ts
 
 -- ---- what is counted
 
--- how many of some jobs are so
+-- how many of some jobs have a property
 abbrev pub turn_count : (Stage → Turn → Bool) → Stage → List Turn → ℕ
 turn_count is_so s [] = 0
 turn_count is_so s (t ∷ ts) = (if is_so s t then 1 else 0) + turn_count is_so (next_stage s t) ts
 
--- a reply refuses a line
+-- a reply refuses what was asked
 abbrev pub is_no : AnyReply → Bool
-is_no (Placed jsn leaf block size root stamp) = false
-is_no (Whole header content who) = false
-is_no (Occulted header who) = false
-is_no (Proof n leaf lo hi proof) = false
-is_no (Extension which m size root proof) = false
-is_no (Clue count kept) = false
-is_no (Head ledger size root blocks point notary_size notary_root) = false
 is_no (Refused refusal) = true
+is_no other = false
 
--- .. is a proof
+-- a reply is a proof
 abbrev pub is_proof_reply : AnyReply → Bool
-is_proof_reply (Placed jsn leaf block size root stamp) = false
-is_proof_reply (Whole header content who) = false
-is_proof_reply (Occulted header who) = false
 is_proof_reply (Proof n leaf lo hi proof) = true
-is_proof_reply (Extension which m size root proof) = false
-is_proof_reply (Clue count kept) = false
-is_proof_reply (Head ledger size root blocks point notary_size notary_root) = false
-is_proof_reply (Refused refusal) = false
+is_proof_reply other = false
 
--- an answer that is due as a reply is one of these
+-- an answer is due as a reply that has a property; a receipt has none
 abbrev pub is_reply : (AnyReply → Bool) → Answer → Bool
 is_reply is_so (Reply reply) = is_so reply
 is_reply is_so (Receipt jsn leaf stamp) = false
 
--- what is due for a job
+-- what is due for a job, by the rules
 abbrev pub answer_in : Stage → Turn → Answer
 answer_in s t = answer_to s.history t.step (job_of tag_key_of (id s.history) t.step.line)
 
--- a job was answered by such a reply
+-- a job was answered by a reply that has a property
 abbrev pub was_answered_by : (AnyReply → Bool) → Stage → Turn → Bool
 was_answered_by is_so s t = not (was_in_hand t.fate) && is_reply is_so (answer_in s t)
 
--- .. was in hand at a stop
+-- a job was in hand at a stop
 abbrev pub was_stopped : Stage → Turn → Bool
 was_stopped s t = was_in_hand t.fate

@@ -1,6 +1,6 @@
 ghost use Rattle.std.specs.Prelude.{◌≡◌, ◌/◌, ◌%◌, ◌^◌, ◌<◌};
 ghost use Rattle.ledger_disk.specs.Generator.{next_draw};
-ghost use Rattle.ledger_soak.specs.Draws.{drawn};
+ghost use Rattle.ledger_soak.specs.Tasks.{drawn};
 
 /// A generator of numbers: Knuth's linear congruential one of 64 bits (MMIX).
 #[derive(Clone, Copy, Debug, PartialEq, Eq)]

@@ -10,7 +10,7 @@ ghost use Rattle.ledger_model.specs.Rules.{job_of};
 ghost use Rattle.ledger_soak.specs.Posts.{Posted, TakesWindow, StopsTaking, SameButFaults, OpensLeft, fused_disk, notary_state};
 ghost use Rattle.ledger_soak.specs.declared.post.Halt.TheVariants as halts;
 
-use batch_committer::{Committer, End};
+use batch_committer::{CommitErr, Committer};
 use lane_work::prepare;
 use ledger_book::{Book, Limits, Prepared};
 use ledger_bytes::{Bytes, NoMemory};
@@ -53,15 +53,15 @@ impl From<NoMemory> for Halt {
     }
 }
 
-impl From<End> for Halt {
+impl From<CommitErr> for Halt {
     ghost use Rattle.ledger_soak.specs.Posts.{halt_of};
 
     ghost from_gives = { λ end halt. halt ≡ halt_of end };
 
-    fn from(end: End) -> Self {
+    fn from(end: CommitErr) -> Self {
         match end {
-            End::DiskFault => Halt::Stopped,
-            End::WriteFault | End::NoMemory | End::Closed => Halt::NoMemory,
+            CommitErr::DiskFault => Halt::Stopped,
+            CommitErr::WriteFault | CommitErr::NoMemory | CommitErr::Closed => Halt::NoMemory,
         }
     }
 }

@@ -1,7 +1,6 @@
 ghost use Rattle.std.specs.Prelude.{◌≡◌, ◌<◌, ◌≤◌, ◌+◌, ◌%◌, ℕ, IfOk, length};
 ghost use Rattle.ledger_disk.specs.Generator.{next_draw};
-ghost use Rattle.ledger_soak.specs.Tasks.{task_drawn, state_behind, drawn_bytes, drawn_length, nth_drawn, IsDrawable};
-ghost use Rattle.ledger_soak.specs.Draws.{state_after};
+ghost use Rattle.ledger_soak.specs.Tasks.{task_drawn, state_behind, drawn_bytes, drawn_length, nth_drawn, IsDrawable, state_after};
 ghost use Rattle.ledger_soak.specs.declared.task.Task.TheVariants as spec;
 
 use crate::draws::Draws;
@@ -37,7 +36,7 @@ pub enum Task {
 }
 
 /// Draws a job for a ledger of this size.
-#[tactic(auto, unfolding(crate::specs::Tasks::task_drawn, crate::specs::Tasks::state_behind, crate::specs::Draws::state_after))]
+#[tactic(auto, unfolding(crate::specs::Tasks::task_drawn, crate::specs::Tasks::state_behind, crate::specs::Tasks::state_after))]
 pub(crate) fn draw_task(alloc: Global, draws: &mut Draws, size: u64) -> Result<Task, NoMemory>
     requires { 0 < size }
     ensures task { IfOk result (λ task. task ≡ task_drawn draws.old.state size) }
@@ -58,7 +57,7 @@ pub(crate) fn draw_task(alloc: Global, draws: &mut Draws, size: u64) -> Result<T
 }
 
 // A record, whose first number was drawn already.
-#[tactic(auto, unfolding(crate::specs::Draws::state_after))]
+#[tactic(auto, unfolding(crate::specs::Tasks::state_after))]
 fn draw_record(alloc: Global, draws: &mut Draws) -> Result<Task, NoMemory>
     ensures task { IfOk result (λ task. (x : ℕ) → draws.old.state ≡ next_draw x → task
         ≡ spec.Append (2 + nth_drawn 1 x % 3) (nth_drawn 2 x % 40) (drawn_bytes (drawn_length x) (state_after 4 x))) }

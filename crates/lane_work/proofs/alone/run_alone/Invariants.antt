@@ -11,4 +11,4 @@ invariant-loop-said g l =
     × (l.yielded ++ into_iter_items l.said-iterator ≡ vec_items l.fn.lines)
     × (l.index ≡ l.fn.start + length l.yielded)
     × g.T.Taker.ready l.taker
-    × Goes (OffersLine (g.V.Verifier.shows l.verifier) l.id.0 g.T.Taker.offers) l.fn.taker (numbered l.fn.start l.yielded) l.taker
+    × Goes (OffersLine (g.V.Verifier.shows l.tools.verifier.now) l.id.0 g.T.Taker.offers) l.fn.taker (numbered l.fn.start l.yielded) l.taker

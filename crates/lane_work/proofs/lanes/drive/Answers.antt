@@ -10,21 +10,21 @@ use Rattle.lane_work.proofs.lanes.drive.Goals as goal
 pub close-requires-clause-lanes : goal.close-requires-clause-lanes
 close-requires-clause-lanes g c κs =
     let lanes = vec_items c.beside-pass.result.2 in
-    let same : (taker_view c.beside-pass.result.0).plan ≡ (taker_view c.args.pass).plan = ap (λ (v : View Made). v.plan) c.beside-pass.ensures.pass.1 in
-    let all = are_lanes c.args.intake (g.V.Verifier.shows c.args.verifier.now) c.args.id.now.0 (taker_view c.args.pass).plan (vec_items c.args.jobs) lanes c.requires.jobs.0 c.requires.jobs.1 c.beside-pass.ensures.lanes in
+    let same : (taker_view c.beside-pass.result.0).plan ≡ (taker_view c.args.pass).plan = ap (λ (v : View Made). v.plan) c.beside-pass.ensures.pass.view in
+    let all = are_lanes c.args.intake (g.V.Verifier.shows c.args.tools.now.verifier.now) c.args.id.now.0 (taker_view c.args.pass).plan (vec_items c.args.jobs) lanes c.requires.jobs.0 c.requires.jobs.1 c.beside-pass.ensures.lanes in
     subst (λ (p : Plan). (length lanes ≡ length p) × AreLanes c.args.intake p lanes) (sym same) all
 
 pub returns : goal.returns
 returns g c first window win count =
-    let scheme = g.V.Verifier.shows c.args.verifier.now in let id = c.args.id.now.0 in
+    let scheme = g.V.Verifier.shows c.args.tools.now.verifier.now in let id = c.args.id.now.0 in
     let plan = (taker_view c.args.pass).plan in
     let got = (taker_view c.beside-pass.result.0).got in
     let lanes = vec_items c.beside-pass.result.2 in
-    let same : (taker_view c.beside-pass.result.0).plan ≡ plan = ap (λ (v : View Made). v.plan) c.beside-pass.ensures.pass.1 in
+    let same : (taker_view c.beside-pass.result.0).plan ≡ plan = ap (λ (v : View Made). v.plan) c.beside-pass.ensures.pass.view in
     let left = c.close.ensures.0 in
     let settled : Settled (λ (p : Made). p.lane) (λ (p : Made). p.index) plan (map sent_by lanes) got left =
     subst (λ (p : Plan). Settled (λ (p : Made). p.lane) (λ (p : Made). p.index) p (map sent_by lanes) got left) same c.close.ensures.1 in
     came scheme id g.T.Taker.offers first window got win.0
     (below_front (λ (p : Made). p.lane) 8 got left (subst (λ (n : ℕ). Below (λ (p : Made). p.lane) n (got ++ left)) c.requires.jobs.1.0 settled.0))
-    (merged scheme id first window plan (vec_items c.args.jobs) lanes got left c.requires.jobs.1 win c.beside-pass.ensures.lanes settled (c.beside-pass.ensures.count ∙ count))
+    (merged scheme id first window plan (vec_items c.args.jobs) lanes got left c.requires.jobs.1 win c.beside-pass.ensures.lanes settled (c.beside-pass.ensures.pass.count_is ∙ count))
     c.beside-pass.result.1 c.args.taker.now c.beside-pass.new.taker c.beside-pass.ensures.comes

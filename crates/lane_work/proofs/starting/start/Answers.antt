@@ -12,7 +12,7 @@ use Rattle.lane_work.proofs.starting.start.Goals as goal
 pub returns-then-is_empty : goal.returns-then-is_empty
 returns-then-is_empty g c =
     let v = lane_view c.args.job.pass in
-    let scheme = g.V.Verifier.shows c.args.verifier.now in let id = c.args.id.now.0 in
+    let scheme = g.V.Verifier.shows c.args.tools.now.verifier.now in let id = c.args.id.now.0 in
     let is = c.requires.1 in
     let none : v.sent ≡ [] = ap (λ (w : View Made). w.sent) is in
     let empty : c.args.job.lines.items ≡ [] = none_left c.args.job.lines.items (search rules) in (

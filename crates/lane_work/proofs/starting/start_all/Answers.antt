@@ -8,7 +8,7 @@ use Rattle.lane_work.proofs.starting.start_all.Goals as goal
 
 pub loop-job-init : goal.loop-job-init
 loop-job-init g c =
-    let R : LaneJob → Hand g.row.V.Denot → Type 0 = Promised g.V.Verifier.shows (g.V.Verifier.shows c.args.verifier.now) c.args.id.now.0 in (
+    let R : LaneJob → Hand g.row.V.Denot → Type 0 = Promised g.V.Verifier.shows (g.V.Verifier.shows c.args.tools.now.verifier.now) c.args.id.now.0 in (
       tt,
       tt,
       search rules,
@@ -19,7 +19,7 @@ loop-job-init g c =
 
 pub loop-job-preserved : goal.loop-job-preserved
 loop-job-preserved g c =
-    let R : LaneJob → Hand g.row.V.Denot → Type 0 = Promised g.V.Verifier.shows (g.V.Verifier.shows c.args.verifier.now) c.args.id.now.0 in
+    let R : LaneJob → Hand g.row.V.Denot → Type 0 = Promised g.V.Verifier.shows (g.V.Verifier.shows c.args.tools.now.verifier.now) c.args.id.now.0 in
     let inv = c.loop-job.invariant in
     let job = c.in-Some.job in
     let rest : List LaneJob = into_iter_items c.next.new.self in (

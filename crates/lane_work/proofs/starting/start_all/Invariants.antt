@@ -11,4 +11,4 @@ invariant-loop-job g l =
     × (vec_len l.hands + into_iter_len l.job-iterator ≡ vec_len l.fn.jobs)
     × (vec_len l.fn.jobs ≤ vec_capacity l.hands)
     × (l.yielded ++ into_iter_items l.job-iterator ≡ vec_items l.fn.jobs)
-    × Pairs (Promised g.V.Verifier.shows (g.V.Verifier.shows l.verifier) l.id.0) l.yielded (vec_items l.hands)
+    × Pairs (Promised g.V.Verifier.shows (g.V.Verifier.shows l.tools.verifier.now) l.id.0) l.yielded (vec_items l.hands)

@@ -24,7 +24,7 @@ loop-said-init g c =
       search rules,
       omega arith,
       ap length none,
-      subst (λ (l : List Made). AllMade (g.V.Verifier.shows c.args.verifier.now) c.args.id.now.0 c.args.start [] l) (sym none) (made_none (g.V.Verifier.shows c.args.verifier.now) c.args.id.now.0 c.args.start),
+      subst (λ (l : List Made). AllMade (g.V.Verifier.shows c.args.tools.now.verifier.now) c.args.id.now.0 c.args.start [] l) (sym none) (made_none (g.V.Verifier.shows c.args.tools.now.verifier.now) c.args.id.now.0 c.args.start),
     )
 
 pub loop-said-preserved : goal.loop-said-preserved
@@ -34,7 +34,7 @@ loop-said-preserved g c =
     let w = lane_view c.submit-pass.result in
     let x = c.make-item.result in
     let said = c.in-Some.said in
-    let scheme = g.V.Verifier.shows c.args.verifier.now in let id = c.args.id.now.0 in
+    let scheme = g.V.Verifier.shows c.args.tools.now.verifier.now in let id = c.args.id.now.0 in
     let is = c.submit-pass.ensures.sent in
     let sent : w.sent ≡ v.sent ++ x ∷ [] = ap (λ (u : View Made). u.sent) is in
     let plan_is = ap (λ (u : View Made). u.plan) inv.3 in

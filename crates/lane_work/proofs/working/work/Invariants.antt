@@ -14,4 +14,4 @@ invariant-loop-said g l =
     × (l.yielded ++ into_iter_items l.said-iterator ≡ vec_items l.fn.lines)
     × (l.index ≡ l.fn.start + length l.yielded)
     × (length (sent_by l.pass) ≡ length l.yielded)
-    × AllMade (g.V.Verifier.shows l.verifier) l.id.0 l.fn.start l.yielded (sent_by l.pass)
+    × AllMade (g.V.Verifier.shows l.tools.verifier.now) l.id.0 l.fn.start l.yielded (sent_by l.pass)

@@ -35,5 +35,5 @@ returns-in-Err-reopen-clause-ran g c =
     let disks = pair (g.D.Disk.state c.args.a.now) (g.D.Disk.state c.args.b.now) in
     let source = g.S.Source.state c.args.source.now in
     let finished = rw c.ending_of.ensures at c.finish_run.ensures in
-    refused _ _ _ _ _ _ (given source (g.K.Sink.state c.args.sink.now) disks (g.E.Disk.state c.args.keeper)) (given source (g.K.Sink.state c.finish_run.new.sink) disks (g.E.Disk.state c.in-Err-reopen.keeper))
+    refused _ _ _ _ _ _ (given source (g.K.Sink.state c.args.sink.now) disks (g.E.Disk.state c.args.keeping.keeper)) (given source (g.K.Sink.state c.finish_run.new.sink) disks (g.E.Disk.state c.in-Err-reopen.keeper))
     c.in-Some.seed named c.in-Some.is (named_some _ named) c.in-Err-reopen.error refl refl c.in-Err-reopen.ensures.err c.in-Err-reopen.ensures.faults finished

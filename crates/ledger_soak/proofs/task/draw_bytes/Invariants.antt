@@ -1,6 +1,5 @@
 use Rattle.std.proofs.Common.{◌≡◌}
-use Rattle.ledger_soak.specs.Draws.{state_after}
-use Rattle.ledger_soak.specs.Tasks.{drawn_bytes}
+use Rattle.ledger_soak.specs.Tasks.{state_after, drawn_bytes}
 use Rattle.ledger_soak.proofs.task.draw_bytes.Given as goal
 
 abbrev pub invariant-loop-made : goal.invariant-loop-made

@@ -1,7 +1,6 @@
 use Rattle.std.proofs.Common.{◌≡◌, ◌+◌, ◌%◌, ap, sym, ◌∙◌}
 use Rattle.ledger_disk.specs.Generator.{next_draw}
-use Rattle.ledger_soak.specs.Draws.{drawn, state_after}
-use Rattle.ledger_soak.specs.Tasks.{drawn_length}
+use Rattle.ledger_soak.specs.Tasks.{drawn, state_after, drawn_length}
 use Rattle.ledger_soak.proofs.DrawLaws.{state_then}
 use Rattle.ledger_soak.proofs.task.draw_record.Goals as goal
 

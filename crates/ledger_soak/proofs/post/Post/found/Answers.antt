@@ -1,6 +1,6 @@
 use Rattle.std.proofs.Common.{refl, ◌∙◌}
 use Rattle.batch_committer.specs.World.{pair}
-use Rattle.block_file.specs.Place.{place_of}
+use Rattle.block_file.specs.FileView.{gate_of}
 use Rattle.ledger_io.specs.Memory.{sink_state}
 use Rattle.ledger_open.specs.Opening.{known_from}
 use Rattle.twin_file.specs.Which.{in_a_of, generation_in, file_of, copy_of}
@@ -12,7 +12,7 @@ pub invariant_of-result : goal.invariant_of-result
 invariant_of-result c = λ open_now.
     let o = c.in-Ok.opened in
     let e = c.in-Ok.ensures in
-    let k = known_from o.book o.places.list (place_of (file_of o.twin)) in
+    let k = known_from o.book o.places.list (gate_of (file_of o.twin)) in
     let disks = pair (fused_disk c.init.new.a) (fused_disk c.init.new.b) in
     let made : WasMade k c.args.genesis.now disks (in_a_of o.twin) (generation_in o.twin) (copy_of o.twin) =
     record { keys = e.keys; knows = e.ok.0; first = e.ok.1; one = e.twin.0; none = e.twin.1; told = e.told; limits = e.limits ∙ c.real.ensures; founded = e.founded refl } in
@@ -22,7 +22,7 @@ pub returns-in-Ok-clause-holds : goal.returns-in-Ok-clause-holds
 returns-in-Ok-clause-holds c =
     let o = c.in-Ok.opened in
     let e = c.in-Ok.ensures in
-    let k = known_from o.book o.places.list (place_of (file_of o.twin)) in
+    let k = known_from o.book o.places.list (gate_of (file_of o.twin)) in
     let disks = pair (fused_disk c.init.new.a) (fused_disk c.init.new.b) in
     let made : WasMade k c.args.genesis.now disks (in_a_of o.twin) (generation_in o.twin) (copy_of o.twin) =
     record { keys = e.keys; knows = e.ok.0; first = e.ok.1; one = e.twin.0; none = e.twin.1; told = e.told; limits = e.limits ∙ c.real.ensures; founded = e.founded refl } in

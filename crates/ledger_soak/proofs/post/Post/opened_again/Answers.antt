@@ -1,6 +1,6 @@
 use Rattle.std.proofs.Common.{refl, ap, sym, subst, ◌∙◌}
 use Rattle.batch_committer.specs.World.{pair}
-use Rattle.block_file.specs.Place.{place_of}
+use Rattle.block_file.specs.FileView.{gate_of}
 use Rattle.ledger_disk.specs.Disk.{State, MayLeave}
 use Rattle.ledger_disk.specs.Memory.{memory_state}
 use Rattle.ledger_disk.specs.declared.memory.MemDisk.{MemDisk}
@@ -16,7 +16,7 @@ invariant_of-result g c = λ open_now.
     let o = c.in-Ok.opened in
     let e = c.in-Ok.ensures in
     let r = e.ok in
-    let k = known_from o.book o.places.list (place_of (file_of o.twin)) in
+    let k = known_from o.book o.places.list (gate_of (file_of o.twin)) in
     let a = (fused_disk c.new-a.result).bytes in
     let b = (fused_disk c.new-b.result).bytes in
     let disks = pair (fused_disk c.reopen.new.a) (fused_disk c.reopen.new.b) in
@@ -29,7 +29,7 @@ returns-in-Ok-clause-opens g c =
     let o = c.in-Ok.opened in
     let e = c.in-Ok.ensures in
     let r = e.ok in
-    let k = known_from o.book o.places.list (place_of (file_of o.twin)) in
+    let k = known_from o.book o.places.list (gate_of (file_of o.twin)) in
     let a = (fused_disk c.new-a.result).bytes in
     let b = (fused_disk c.new-b.result).bytes in
     let disks = pair (fused_disk c.reopen.new.a) (fused_disk c.reopen.new.b) in

@@ -1,0 +1,41 @@
+-- What a desk tells, which is a committer with its disks, its sink and its notary, each by reference; and what it does with a piece.
+use Rattle.std.specs.Prelude.{◌≡◌, Bool, List, [], ◌∷◌, ℕ, Result, MatchResult}
+use Rattle.batch_committer.specs.World.{pair}
+use Rattle.batch_committer.specs.declared.failure.CommitErr.{CommitErr}
+use Rattle.lane_work.specs.declared.kinds.LaneLine.{LaneLine}
+use Rattle.ledger_disk.specs.Disk.{DiskState}
+use Rattle.ledger_io.specs.Outside.{SourceState, SinkState}
+use Rattle.ledger_model.specs.Scheme.{Scheme}
+use Rattle.time_peg.specs.Entries.{NotaryState}
+use Rattle.ledger_cli.specs.Pieces.{At, at, IsOpen, Told, told, PieceTaken, PieceBroken, WindowTaken, WindowBroken}
+use Rattle.ledger_cli.specs.Runs.{Handed, handed}
+use Rattle.ledger_cli.specs.declared.desk.Desk.{Desk}
+
+-- what a desk's parts tell, by what a disk, a sink and a notary tell
+abbrev pub at_desk : {D K N : Type 0} → (D → DiskState) → (K → SinkState) → (N → NotaryState) → Desk D K N → At
+at_desk disk sink notary s = at s.committer.now (pair (disk s.a.now) (disk s.b.now)) (sink s.sink.now) (notary s.notary.now)
+
+-- what a desk tells, with the names of its references and the end that it met
+abbrev pub told_desk : {D K N : Type 0} → (D → DiskState) → (K → SinkState) → (N → NotaryState) → Desk D K N → Told
+told_desk disk sink notary s =
+    told (s.committer.ghost_name ∷ s.a.ghost_name ∷ s.b.ghost_name ∷ s.sink.ghost_name ∷ s.notary.ghost_name ∷ []) s.end (at_desk disk sink notary s)
+
+-- the references are those that were handed in
+abbrev pub SameDesk : {D K N : Type 0} → Desk D K N → Desk D K N → Type 0
+SameDesk old new =
+    (new.committer.ghost_name ≡ old.committer.ghost_name) × (new.a.ghost_name ≡ old.a.ghost_name) × (new.b.ghost_name ≡ old.b.ghost_name)
+    × (new.sink.ghost_name ≡ old.sink.ghost_name) × (new.notary.ghost_name ≡ old.notary.ghost_name)
+
+-- what a run is handed with them
+abbrev pub handed_at : SourceState → At → Handed
+handed_at source s = handed source s.sink s.disks s.notary
+
+-- the lines of a piece were taken, and more may be offered; or the run ended on the way
+abbrev pub TakesLines : {T : Type 0} → Scheme → Bool → List ℕ → List LaneLine → Result T CommitErr → At → At → Type 0
+TakesLines scheme tells first lines result s t =
+    MatchResult result (λ _. PieceTaken scheme tells first lines s t × IsOpen tells t) (λ end. PieceBroken scheme tells first lines end s t)
+
+-- the lines of a piece were taken and the open block was ended, behind which nothing waits; or the run ended on the way
+abbrev pub TakesWindow : {T : Type 0} → Scheme → Bool → List ℕ → List LaneLine → Result T CommitErr → At → At → Type 0
+TakesWindow scheme tells first lines result s t =
+    MatchResult result (λ _. WindowTaken scheme tells first lines s t × IsOpen tells t × (t.held.kept.dues ≡ [])) (λ end. WindowBroken scheme tells first lines end s t)
