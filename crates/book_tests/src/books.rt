@@ -8,7 +8,7 @@ ghost use Rattle.ledger_model.specs.Limits.{AreWithin};
 use block_file::Damage;
 use hex::FromHex;
 use journal_record::{Approval, Header, Kind, Stamp, content_digest, request_digest};
-use ledger_book::{Book, Genesis, Job, Limits, Outcome};
+use ledger_book::{Book, Genesis, Job, Limits, Outcome, Query};
 use ledger_bytes::{BLOCK_LIMIT, Bytes, Digest, NoMemory, Refusal, Sha, TimeMark};
 use merkle_tree::{Head, leaf_of};
 use std::alloc::Global;
@@ -54,7 +54,7 @@ fn record(alloc: Global, id: &Digest, number: u64) -> Result<Job, NoMemory>
 
 /// Whether a journal was placed.
 fn is_placed(outcome: &Outcome) -> bool {
-    matches!(outcome, Outcome::Placed { .. })
+    matches!(outcome, Outcome::Placed(_))
 }
 
 /// Ends the open block where it is full.
@@ -67,7 +67,7 @@ fn end_full(book: &mut Book) {
 /// Places the record with this number.
 fn place(rt: &impl Abort, alloc: Global, book: &mut Book, number: u64) -> Result<(), NoMemory> {
     let job = record(alloc, &book.id(), number)?;
-    let outcome = book.apply(&job, None)?;
+    let outcome = book.apply(&job)?;
     assert!(rt; is_placed(&outcome));
     end_full(book);
     Ok(())
@@ -81,8 +81,11 @@ fn anchor(rt: &impl Abort, book: &mut Book, index: u8) -> Result<(), NoMemory> {
         salt: Digest([3; 32]),
     };
     book.seal();
-    let outcome = book.apply(&Job::Anchor, Some(&stamp))?;
-    assert!(rt; is_placed(&outcome));
+    let asked = book.apply(&Job::Anchor)?;
+    assert!(rt; asked == Outcome::Reading(Query::Stamp));
+    if let Outcome::Reading(_) = asked {
+        book.place_time(&stamp)?;
+    }
     book.seal();
     Ok(())
 }
@@ -231,7 +234,7 @@ fn a_full_ledger_takes_anchors(rt: HostRuntime) -> Result<(), Fail> {
     place(&rt, alloc, &mut book, 1)?;
     let job = record(alloc, &book.id(), 2)?;
     let full = Refusal::Full { kept: 2, size: 2 };
-    assert!(rt; book.apply(&job, None)? == Outcome::Refused(full));
+    assert!(rt; book.apply(&job)? == Outcome::Refused(full));
     anchor(&rt, &mut book, 0)?;
     assert_eq!(rt; book.head().size, 3);
     Ok(())

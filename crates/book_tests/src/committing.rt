@@ -3,7 +3,7 @@
 ghost use Rattle.std.specs.Prelude.{◌≡◌, ◌≤◌, true, length, IfOk};
 ghost use Rattle.ledger_model.specs.Fitting.{fits_job};
 
-use batch_committer::{Committer, End};
+use batch_committer::{CommitErr, Committer};
 use hex::FromHex;
 use journal_record::{
     Approval, clue_digest, content_digest, member_request_digest, request_digest,
@@ -252,7 +252,7 @@ impl<D: Disk + Drop, K: Sink + Drop> Bench<D, K> {
     }
 
     /// Offers a job of lane 0.
-    fn offer(&mut self, index: u64, job: Job) -> Result<(), End>
+    fn offer(&mut self, index: u64, job: Job) -> Result<(), CommitErr>
         requires { fits_job job ≡ true }
     {
         let item = Prepared {
@@ -269,7 +269,7 @@ impl<D: Disk + Drop, K: Sink + Drop> Bench<D, K> {
         )
     }
 
-    fn flush(&mut self) -> Result<(), End> {
+    fn flush(&mut self) -> Result<(), CommitErr> {
         self.committer
             .flush(&mut self.a, &mut self.b, &mut self.sink)
     }
@@ -279,7 +279,7 @@ impl<D: Disk + Drop, K: Sink + Drop> Bench<D, K> {
     }
 
     /// Offers so many records of the operator without content.
-    fn offer_records(&mut self, alloc: Global, count: u64) -> Result<(), End> {
+    fn offer_records(&mut self, alloc: Global, count: u64) -> Result<(), CommitErr> {
         let id = self.id();
         for index in 1..=count {
             let job = job_of(alloc, &id, Ask::Empty)?;
@@ -289,7 +289,7 @@ impl<D: Disk + Drop, K: Sink + Drop> Bench<D, K> {
     }
 
     /// Offers the jobs of lines with these numbers.
-    fn offer_lines(&mut self, alloc: Global, lines: &[(u64, Ask)]) -> Result<(), End> {
+    fn offer_lines(&mut self, alloc: Global, lines: &[(u64, Ask)]) -> Result<(), CommitErr> {
         let id = self.id();
         for (index, ask) in lines {
             let job = job_of(alloc, &id, *ask)?;
@@ -303,11 +303,11 @@ impl<D: Disk + Drop, K: Sink + Drop> Bench<D, K> {
 /// last block ended, and how many lines were written.
 #[derive(Clone, Copy, Debug, PartialEq, Eq)]
 struct Run {
-    offered: Result<(), End>,
+    offered: Result<(), CommitErr>,
     settled: bool,
     size: u64,
     lines: usize,
-    flushed: Result<(), End>,
+    flushed: Result<(), CommitErr>,
 }
 
 /// Opens the ledger on these disks, offers so many records of the operator without content, and flushes.
@@ -454,7 +454,7 @@ fn every_written_receipt_is_kept_wherever_a_disk_stops(rt: HostRuntime) -> Resul
             lines,
             sizes_left(&rt, alloc, &a, &b)?,
         );
-        let (fault, closed) = (Err(End::DiskFault), Err(End::Closed));
+        let (fault, closed) = (Err(CommitErr::DiskFault), Err(CommitErr::Closed));
         let wanted = match stop {
             2..6 => (fault, closed, 0, [1; 3]),
             6 => (fault, closed, 0, [65, 1, 1]),
@@ -477,7 +477,10 @@ fn a_fault_of_the_sink_ends_the_run(rt: HostRuntime) -> Result<(), Fail> {
         written,
         size_on(&rt, alloc, a, b)?,
     );
-    assert_eq!(rt; found, (Err(End::WriteFault), Err(End::Closed), 100, 65));
+    assert_eq!(rt;
+        found,
+        (Err(CommitErr::WriteFault), Err(CommitErr::Closed), 100, 65)
+    );
     Ok(())
 }
 

@@ -1,6 +1,6 @@
 ghost use Rattle.std.specs.Prelude.{◌≡◌, ◌<◌, ◌≤◌, ℕ, slice_index, vec_len};
 
-use lane_work::{Flow, Gate, LaneLine, OpenGate, Taker, run_lanes};
+use lane_work::{Flow, Gate, LaneLine, OpenGate, Taker, Tools, run_lanes};
 use ledger_book::Prepared;
 use ledger_bytes::{Bytes, Digest, NoMemory};
 use member_book::TagScheme;
@@ -54,7 +54,13 @@ fn offer_all<R: Threads + Wait + Sync, G: Gate>(
 {
     let first = all_ones();
     let id = Digest([0; 32]);
-    run_lanes(rt, alloc, lines, &first, &id, &TagScheme, gate, keeper)
+    let tools = Tools {
+        rt,
+        alloc,
+        verifier: &TagScheme,
+        gate,
+    };
+    run_lanes(&tools, lines, &first, &id, keeper)
 }
 
 /// What a taker that wants so many lines is offered of these. No window has more than 4,096.

@@ -1,6 +1,6 @@
 use hex::FromHex;
 use ledger_bytes::{Bytes, Digest, Refusal};
-use member_book::{AddErr, Approval, MemberBook, TagScheme, Verifier, tag_proof, who_bytes};
+use member_book::{AddErr, Approval, MemberBook, TagScheme, Verifier, tag_proof};
 use std::alloc::Global;
 use std::test::Fail;
 
@@ -167,20 +167,5 @@ fn a_full_book(rt: HostRuntime) -> Result<(), Fail> {
     );
     given[1] = approval(alloc, 1, 2)?;
     assert_eq!(rt; book.check_approvals(&given, &[255, 0]), Ok(()));
-    Ok(())
-}
-
-#[test]
-fn bytes_of_who(rt: HostRuntime) -> Result<(), Fail> {
-    let alloc = rt.alloc();
-    let given = [Approval {
-        member: 258,
-        key: None,
-        proof: Bytes::copy_of(alloc, b"ab")?,
-    }];
-    assert_eq!(rt;
-        who_bytes(alloc, &given)?.as_slice(),
-        [0, 0, 1, 2, 0, 2, b'a', b'b'].as_slice()
-    );
     Ok(())
 }

@@ -1,26 +1,12 @@
-//! A content that is hidden: the lines of a script, prepared and applied to a book, and its headers replayed.
+//! A content that is hidden.
 
-ghost use Rattle.std.specs.Prelude.{IfOk};
-ghost use Rattle.journal_record.specs.Rules.{IsHeader};
-
+use crate::books::{MEMBER, apply, demo, digest, is_placed, replayed, take};
 use block_file::Damage;
-use hex::FromHex;
-use journal_record::{Header, Kind};
-use lane_work::prepare;
-use ledger_book::{Book, Genesis, Limits, Outcome, View};
-use ledger_bytes::{Bytes, Digest, NoMemory, Refusal, Sha};
-use member_book::TagScheme;
-use merkle_tree::leaf_of;
+use journal_record::Header;
+use ledger_book::{Book, Outcome, View};
+use ledger_bytes::{Digest, NoMemory, Refusal};
 use std::alloc::Global;
 use std::test::Fail;
-
-const OPERATOR: Digest = Digest([1; 32]);
-
-const REGULATOR: Digest = Digest([2; 32]);
-
-/// Member 2 is admitted.
-const MEMBER: &str =
-    "0 member 2 0303030303030303030303030303030303030303030303030303030303030303 01010101010101010101010101010101010101010101010101010101010101016e2700604cd288e681c238fa71ae802ef173e93907477f0111a56a7be4890e8c";
 
 /// Member 2 places a record, which is journal 2.
 const RECORD: &str =
@@ -44,33 +30,11 @@ const LEAF: &str = "03f122875163bfe1022f683e397e14fd9fc8c3807b3044f7fbe98955017a
 /// The root over the four journals.
 const ROOT: &str = "27b8df5a03a5444d8a398fe928edf7bcbc7dcb4c01d473ecf21d55bb59168fad";
 
-fn digest(text: &str) -> Result<Digest, Fail> {
-    Ok(Digest(<[u8; 32]>::from_hex(text)?))
-}
-
-/// Prepares a line and applies it, with the block ends that its job wants.
-fn apply(alloc: Global, book: &mut Book, line: &str) -> Result<Outcome, NoMemory> {
-    let item = prepare(alloc, &TagScheme, &book.id(), 1, line.as_bytes())?;
-    if item.job.closes_before() {
-        book.seal();
-    }
-    let outcome = book.apply(&item.job, None)?;
-    if item.job.closes_after() {
-        book.seal();
-    }
-    Ok(outcome)
-}
-
 /// The ledger `demo` with member 2 and its record.
 fn ledger(alloc: Global) -> Result<Book, NoMemory> {
-    let genesis = Genesis {
-        name: Bytes::copy_of(alloc, b"demo")?,
-        operator: OPERATOR,
-        regulator: REGULATOR,
-    };
-    let mut book = Book::new(alloc, &genesis, Limits::real())?;
-    apply(alloc, &mut book, MEMBER)?;
-    apply(alloc, &mut book, RECORD)?;
+    let mut book = demo(alloc)?;
+    apply(alloc, &mut book, MEMBER, Digest::ZERO)?;
+    apply(alloc, &mut book, RECORD, Digest::ZERO)?;
     Ok(book)
 }
 
@@ -79,62 +43,27 @@ fn a_content_is_hidden_once(rt: HostRuntime) -> Result<(), Fail> {
     let alloc = rt.alloc();
     let mut book = ledger(alloc)?;
     assert!(rt; book.view(2) == View::Whole);
-    let placed = Outcome::Placed {
-        jsn: 3,
-        leaf: digest(LEAF)?,
-    };
-    assert!(rt; apply(alloc, &mut book, OCCULT)? == placed);
+    let outcome = apply(alloc, &mut book, OCCULT, Digest::ZERO)?;
+    assert!(rt; is_placed(&outcome, 3, digest(LEAF)?));
     assert!(rt; book.view(2) == View::Occulted && book.view(3) == View::Whole);
     for (line, refusal) in [
         (OCCULT, Refusal::AlreadyOcculted { by: 3 }),
         (OCCULT_OF_THE_FIRST, Refusal::NotData { kind: 0 }),
         (OCCULT_OF_NONE, Refusal::NoJournal { size: 4 }),
     ] {
-        assert!(rt; apply(alloc, &mut book, line)? == Outcome::Refused(refusal));
+        assert!(rt; apply(alloc, &mut book, line, Digest::ZERO)? == Outcome::Refused(refusal));
     }
     let head = book.head();
     assert!(rt; head.size == 4 && head.root == digest(ROOT)?);
     Ok(())
 }
 
-/// The header with these bytes.
-fn read_again(header: &Header) -> Result<Header, Fail>
-    ensures { IfOk result IsHeader }
-{
-    Ok(Header::decode(&header.encode()).map_err(|_| "not read")?)
-}
-
-/// The book of the first header.
-fn begun(alloc: Global, header: &Header) -> Result<Book, Fail> {
-    let header = read_again(header)?;
-    match header.kind {
-        Kind::Genesis => Ok(Book::from_first(
-            alloc,
-            &header,
-            &OPERATOR,
-            &REGULATOR,
-            Limits::real(),
-        )?),
-        _ => Err("no genesis".into()),
-    }
-}
-
-/// Replays a header.
-fn take(book: &mut Book, header: &Header) -> Result<Result<(), Damage>, Fail> {
-    let header = read_again(header)?;
-    Ok(book.replay(&header, &leaf_of::<Sha>(&header.encode()))?)
-}
-
 #[test]
 fn an_occult_is_replayed_once(rt: HostRuntime) -> Result<(), Fail> {
     let alloc = rt.alloc();
     let mut book = ledger(alloc)?;
-    apply(alloc, &mut book, OCCULT)?;
-    let mut again = begun(alloc, book.header(0).ok_or("no header")?)?;
-    for number in 1..4 {
-        let header = book.header(number).ok_or("no header")?;
-        assert!(rt; take(&mut again, header)? == Ok(()));
-    }
+    apply(alloc, &mut book, OCCULT, Digest::ZERO)?;
+    let mut again = replayed(alloc, &book)?.ok_or("a header isn't taken")?;
     assert!(rt; again.view(2) == View::Occulted);
     let twice = Header {
         jsn: 4,

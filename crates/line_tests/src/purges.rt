@@ -1,26 +1,13 @@
-//! Journals that are given up: the lines of a script, prepared and applied to a book, and its headers replayed.
+//! Journals that are given up.
 
-ghost use Rattle.std.specs.Prelude.{IfOk};
-ghost use Rattle.journal_record.specs.Rules.{IsHeader};
-
+use crate::books::{MEMBER, apply, demo, digest, is_placed, replayed, take};
 use block_file::Damage;
-use hex::FromHex;
-use journal_record::{Header, Kind, Stamp};
-use lane_work::prepare;
-use ledger_book::{Book, Genesis, Limits, Outcome, View};
-use ledger_bytes::{Bytes, Digest, NoMemory, Refusal, Sha};
-use member_book::TagScheme;
+use journal_record::Header;
+use ledger_book::{Book, Outcome, View};
+use ledger_bytes::{Refusal, Sha};
 use merkle_tree::leaf_of;
 use std::alloc::Global;
 use std::test::Fail;
-
-const OPERATOR: Digest = Digest([1; 32]);
-
-const REGULATOR: Digest = Digest([2; 32]);
-
-/// Member 2 is admitted.
-const MEMBER: &str =
-    "0 member 2 0303030303030303030303030303030303030303030303030303030303030303 01010101010101010101010101010101010101010101010101010101010101016e2700604cd288e681c238fa71ae802ef173e93907477f0111a56a7be4890e8c";
 
 /// Member 2 places a record without a content.
 const RECORD: &str =
@@ -56,37 +43,10 @@ const LEAF: &str = "eeb66dd6d424291c1076bb3a3d772ed0c8f1c298f002660a7b2d9c5b3f29
 /// The root over the six journals.
 const ROOT: &str = "af7eba02c88f58f4f622d4ff7d85dca0bc0485cd3f1f429831c6e29fd5a2c55e";
 
-fn digest(text: &str) -> Result<Digest, Fail> {
-    Ok(Digest(<[u8; 32]>::from_hex(text)?))
-}
-
-/// Prepares a line and applies it, with the block ends that its job wants and this salt for an anchor.
-fn apply(alloc: Global, book: &mut Book, line: &str, salt: Digest) -> Result<Outcome, NoMemory> {
-    let stamp = Stamp {
-        index: 0,
-        time: 1_000,
-        salt,
-    };
-    let item = prepare(alloc, &TagScheme, &book.id(), 1, line.as_bytes())?;
-    if item.job.closes_before() {
-        book.seal();
-    }
-    let outcome = book.apply(&item.job, Some(&stamp))?;
-    if item.job.closes_after() {
-        book.seal();
-    }
-    Ok(outcome)
-}
-
 /// The ledger `demo` with member 2, its record, a time journal, and one more record.
 fn ledger(alloc: Global) -> Result<Book, Fail> {
-    let genesis = Genesis {
-        name: Bytes::copy_of(alloc, b"demo")?,
-        operator: OPERATOR,
-        regulator: REGULATOR,
-    };
     let salt = digest(SALT)?;
-    let mut book = Book::new(alloc, &genesis, Limits::real())?;
+    let mut book = demo(alloc)?;
     for line in [MEMBER, RECORD, "0 anchor", RECORD] {
         apply(alloc, &mut book, line, salt)?;
     }
@@ -107,11 +67,8 @@ fn journals_are_given_up_once(rt: HostRuntime) -> Result<(), Fail> {
         assert!(rt; apply(alloc, &mut book, line, salt)? == Outcome::Refused(refusal));
     }
     assert!(rt; book.view(0) == View::Whole);
-    let placed = Outcome::Placed {
-        jsn: 5,
-        leaf: digest(LEAF)?,
-    };
-    assert!(rt; apply(alloc, &mut book, PURGE, salt)? == placed);
+    let outcome = apply(alloc, &mut book, PURGE, salt)?;
+    assert!(rt; is_placed(&outcome, 5, digest(LEAF)?));
     assert!(rt; book.view(2) == View::Purged { point: 3 } && book.view(3) == View::Whole);
     let again = Outcome::Refused(Refusal::Purged { point: 3 });
     assert!(rt; apply(alloc, &mut book, PURGE, salt)? == again);
@@ -120,44 +77,12 @@ fn journals_are_given_up_once(rt: HostRuntime) -> Result<(), Fail> {
     Ok(())
 }
 
-/// The header with these bytes.
-fn read_again(header: &Header) -> Result<Header, Fail>
-    ensures { IfOk result IsHeader }
-{
-    Ok(Header::decode(&header.encode()).map_err(|_| "not read")?)
-}
-
-/// The book of the first header.
-fn begun(alloc: Global, header: &Header) -> Result<Book, Fail> {
-    let header = read_again(header)?;
-    match header.kind {
-        Kind::Genesis => Ok(Book::from_first(
-            alloc,
-            &header,
-            &OPERATOR,
-            &REGULATOR,
-            Limits::real(),
-        )?),
-        _ => Err("no genesis".into()),
-    }
-}
-
-/// Replays a header.
-fn take(book: &mut Book, header: &Header) -> Result<Result<(), Damage>, Fail> {
-    let header = read_again(header)?;
-    Ok(book.replay(&header, &leaf_of::<Sha>(&header.encode()))?)
-}
-
 #[test]
 fn a_purge_is_replayed_once(rt: HostRuntime) -> Result<(), Fail> {
     let alloc = rt.alloc();
     let mut book = ledger(alloc)?;
     apply(alloc, &mut book, PURGE, digest(SALT)?)?;
-    let mut again = begun(alloc, book.header(0).ok_or("no header")?)?;
-    for number in 1..6 {
-        let header = book.header(number).ok_or("no header")?;
-        assert!(rt; take(&mut again, header)? == Ok(()));
-    }
+    let mut again = replayed(alloc, &book)?.ok_or("a header isn't taken")?;
     assert!(rt; again.view(2) == View::Purged { point: 3 });
     let time = book.header(3).ok_or("no header")?;
     assert!(rt; leaf_of::<Sha>(&time.encode()) == digest(TIME_LEAF)?);

@@ -4,13 +4,13 @@ ghost use Rattle.std.specs.Prelude.{◌≡◌, true, IfOk, length};
 ghost use Rattle.ledger_model.specs.Fitting.{fits_job};
 
 use anyhow::{Context, Result, bail};
-use block_file::BlockFile;
-use journal_record::{Approval, clue_digest, content_digest, request_digest, tag_of, who_bytes};
-use ledger_book::{Book, Job, Outcome};
+use block_file::{BlockFile, BlockWriter, FIRST_GATE};
+use journal_record::{Approval, clue_digest, content_digest, request_digest, tag_of};
+use ledger_book::{Book, Job, Outcome, first_header};
 use ledger_bytes::{Bytes, Digest, NoMemory};
 use ledger_disk::Disk;
 use ledger_model::{Genesis, Limits};
-use std::alloc::{AllocError, Global};
+use std::alloc::Global;
 
 const OPERATOR: Digest = Digest([1; 32]);
 
@@ -37,75 +37,53 @@ pub(crate) fn make<D: Disk>(alloc: Global, a: &mut D, b: &mut D, plan: &Plan) ->
     b.sync()?;
     BlockFile::start(a)?;
     let mut file = BlockFile::create(a, 1, &[])?;
-    file.put_block(a, &first_block(alloc, &book)?)?;
+    let mut block = BlockWriter::new(alloc);
+    let header = first_header(&genesis).encode();
+    block.put(FIRST_GATE, &header, &genesis.content(), &[])?;
+    block.finish(1, &book.head().root)?;
+    file.put_block(a, block.as_slice())?;
     for _ in 0..plan.journals.saturating_sub(1).div_ceil(64) {
-        let block = next_block(alloc, &mut book, plan)?;
-        file.put_block(a, &block)?;
+        block.clear();
+        gather_block(alloc, &mut book, &mut block, plan)?;
+        file.put_block(a, block.as_slice())?;
     }
     file.unveil(a)?;
     Ok(())
 }
 
-// The bytes of block 0, which has the two keys as its content.
-fn first_block(alloc: Global, book: &Book) -> Result<Vec<u8>> {
-    let mut body = Vec::new(alloc);
-    let header = book.header(0).context("no header")?;
-    body.extend_from_slice(&header.encode())?;
-    body.extend_from_slice(&0u32.to_be_bytes())?;
-    body.extend_from_slice(&OPERATOR.0)?;
-    body.extend_from_slice(&REGULATOR.0)?;
-    Ok(block_of(alloc, 1, &book.head().root, &body)?)
-}
-
-// The bytes of the next block, which is placed in the book: 64 records, or as many as are left.
-fn next_block(alloc: Global, book: &mut Book, plan: &Plan) -> Result<Vec<u8>> {
-    let first = book.head().size;
-    let count = u64::from(plan.journals).saturating_sub(first).min(64) as u32;
-    let mut body = Vec::new(alloc);
-    for number in 0..u64::from(count) {
-        add_record(
-            alloc,
-            book,
-            &mut body,
-            first.saturating_add(number),
-            plan.clues,
-        )?;
-    }
-    let sealed = book.seal().context("no record")?;
-    Ok(block_of(alloc, count, &sealed.head.root, &body)?)
-}
-
-// The bytes of a block with this head, without its gate.
-fn block_of(alloc: Global, count: u32, root: &Digest, body: &[u8]) -> Result<Vec<u8>, AllocError> {
-    let mut block = Vec::new(alloc);
-    block.extend_from_slice(&count.to_be_bytes())?;
-    block.extend_from_slice(&(body.len() as u64).to_be_bytes())?;
-    block.extend_from_slice(&root.0)?;
-    block.extend_from_slice(body)?;
-    Ok(block)
-}
-
-// Places the record with this number, whose content is its number, and adds its bytes.
-fn add_record(
+// Gathers the next block, which is placed in the book: 64 records, or as many as are left.
+fn gather_block(
     alloc: Global,
     book: &mut Book,
-    body: &mut Vec<u8>,
+    block: &mut BlockWriter,
+    plan: &Plan,
+) -> Result<()> {
+    let first = book.head().size;
+    let count = u64::from(plan.journals).saturating_sub(first).min(64) as u32;
+    for number in 0..u64::from(count) {
+        gather_record(alloc, book, block, first.saturating_add(number), plan.clues)?;
+    }
+    let sealed = book.seal().context("no record")?;
+    block.finish(count, &sealed.head.root)?;
+    Ok(())
+}
+
+// Places the record with this number, whose content is its number, and gathers it.
+fn gather_record(
+    alloc: Global,
+    book: &mut Book,
+    block: &mut BlockWriter,
     number: u64,
     clues: u32,
 ) -> Result<()> {
     let content = number.to_be_bytes();
     let clue = clue_of(number, clues);
     let request = request_digest(&book.id(), 0, &clue, 8, &content_digest(&content));
-    let who = who_bytes(alloc, &[approval(alloc, &request)?])?;
-    let outcome = book.apply(&job(alloc, &content, clue, request)?, None)?;
-    let Outcome::Placed { jsn, .. } = outcome else {
+    let Outcome::Placed(placed) = book.apply(&job(alloc, &content, clue, request)?)? else {
         bail!("a record was refused");
     };
-    let header = book.header(jsn).context("no header")?;
-    body.extend_from_slice(&header.encode())?;
-    body.extend_from_slice(&(who.as_slice().len() as u32).to_be_bytes())?;
-    body.extend_from_slice(&content)?;
-    body.extend_from_slice(who.as_slice())?;
+    let by = approval(alloc, &request)?;
+    block.put(FIRST_GATE, &placed.header, &content, &[by])?;
     Ok(())
 }
 

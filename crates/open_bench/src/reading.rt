@@ -1,14 +1,15 @@
 //! A file of blocks, read once, with each header hashed once: by its bytes alone, or as blocks are read when it's opened.
 
 use anyhow::{Context, Result};
-use block_file::BlockFile;
+use block_file::{BLOCK_HEAD_LEN, BlockFile, FIRST_GATE};
+use journal_record::HEADER_LEN;
 use ledger_bytes::{Digest, Sha};
 use ledger_disk::Disk;
 use merkle_tree::leaf_of;
 use std::alloc::Global;
 
-// The offset of the first gate of a file without a base.
-const FIRST_GATE: u64 = 64;
+// How many bytes of a block stand before its records: its gate and its head.
+const FRONT_LEN: u64 = 1 + BLOCK_HEAD_LEN as u64;
 
 /// What was seen of a file.
 #[derive(Clone, Copy)]
@@ -67,14 +68,14 @@ pub(crate) fn read_all<D: Disk>(alloc: Global, disk: &mut D) -> Result<Seen> {
         if gate[0] != 1 {
             break;
         }
-        let mut head = [0; 44];
+        let mut head = [0; BLOCK_HEAD_LEN];
         disk.read(at.saturating_add(1), &mut head)?;
         let count = number_at(&head, 0).context("no count")?;
         let len = number_at(&head, 8).context("no length")?;
         body.resize(len as usize, 0)?;
-        disk.read(at.saturating_add(45), body.as_mut_slice())?;
+        disk.read(at.saturating_add(FRONT_LEN), body.as_mut_slice())?;
         hash_records(&body, count, &mut seen).context("a record isn't whole")?;
-        at = at.saturating_add(45).saturating_add(u64::from(len));
+        at = at.saturating_add(FRONT_LEN).saturating_add(u64::from(len));
     }
     Ok(seen)
 }
@@ -84,9 +85,9 @@ fn hash_records(body: &[u8], count: u32, seen: &mut Seen) -> Option<()> {
     let mut rest = body;
     for _ in 0..count {
         let content_len = number_at(rest, 106)?;
-        let who_len = number_at(rest, 174)?;
-        seen.add(rest.get(..174)?);
-        let len = u64::from(content_len) + u64::from(who_len) + 178;
+        let who_len = number_at(rest, HEADER_LEN)?;
+        seen.add(rest.get(..HEADER_LEN)?);
+        let len = HEADER_LEN as u64 + 4 + u64::from(content_len) + u64::from(who_len);
         rest = rest.get(len as usize..)?;
     }
     Some(())

@@ -1,7 +1,7 @@
 //! Faults of reading and writing, disks that fail or stop, lanes, and words too long for a row. What
 //! a script is answered is shown by worked rows (`worked_rows`).
 
-use lane_work::OpenGate;
+use lane_work::{OpenGate, Tools};
 use ledger_bytes::{Bytes, NoMemory};
 use ledger_cli::ledger_top;
 use ledger_disk::{Disk, MemDisk};
@@ -100,6 +100,16 @@ const NO_FAULTS: Faults = Faults {
     write: NEVER,
 };
 
+// What lines are prepared with: proofs are those of the tag scheme, and no line is held.
+fn tools<R>(rt: &R, alloc: Global) -> Tools<'_, R, TagScheme, OpenGate> {
+    Tools {
+        rt,
+        alloc,
+        verifier: &TagScheme,
+        gate: &OpenGate,
+    }
+}
+
 /// The status of a run on these disks, and what it wrote.
 fn run_on<R: Threads + Wait + Sync, D: Disk>(
     rt: &R,
@@ -116,16 +126,13 @@ fn run_on<R: Threads + Wait + Sync, D: Disk>(
     let mut sink = MemSink::new(alloc, faults.room, [faults.write].to_vec(alloc)?)?;
     let mut notary = MemNotary::new(alloc, Vec::new(alloc));
     let status = ledger_top(
-        rt,
-        alloc,
+        &tools(rt, alloc),
         &words,
         &mut source,
         &mut sink,
         a,
         b,
         &mut notary,
-        &TagScheme,
-        &OpenGate,
     );
     Ok((status, sink.written_bytes().to_vec(alloc)?))
 }

@@ -93,7 +93,7 @@ fn record(alloc: Global, id: &Digest, proof: &[u8]) -> Result<Job, NoMemory>
 
 /// Whether a journal was placed.
 fn is_placed(outcome: &Outcome) -> bool {
-    matches!(outcome, Outcome::Placed { .. })
+    matches!(outcome, Outcome::Placed(_))
 }
 
 /// What is made of a journal: the proof's digits, or why there is none.
@@ -140,24 +140,21 @@ fn place_record(rt: &impl Abort, alloc: Global, book: &mut Book) -> Result<(), F
 {
     let tag = <[u8; 64]>::from_hex(TAG)?;
     let job = record(alloc, &book.id(), &tag)?;
-    let outcome = book.apply(&job, None)?;
+    let outcome = book.apply(&job)?;
     assert!(rt; is_placed(&outcome));
     book.seal();
     Ok(())
 }
 
 /// Places an anchor, which the notary stamps, behind a ledger in which none waits.
-fn place_anchor(
-    rt: &impl Abort,
-    alloc: Global,
-    book: &mut Book,
-    notary: &mut MemNotary,
-) -> Result<(), Fail>
+fn place_anchor(alloc: Global, book: &mut Book, notary: &mut MemNotary) -> Result<(), Fail>
     ensures { IfOk result (λ _. book.new.sealed ≡ book.new.size) }
 {
     let stamp = notary.stamp(alloc, &book.peg())?;
-    let outcome = book.apply(&Job::Anchor, Some(&stamp))?;
-    assert!(rt; is_placed(&outcome));
+    match book.apply(&Job::Anchor)? {
+        Outcome::Reading(_) => book.place_time(&stamp)?,
+        _ => return Err("an anchor was refused".into()),
+    };
     book.seal();
     Ok(())
 }
@@ -173,7 +170,7 @@ fn proves_each_journal_of_a_small_ledger(rt: HostRuntime) -> Result<(), Fail> {
     place_record(&rt, alloc, &mut book)?;
     let both = [Ok(FIRST), Ok(SECOND), Err(Refusal::NoJournal { size: 2 })];
     assert!(rt; is_told(alloc, &book, &mut notary, &both)?);
-    place_anchor(&rt, alloc, &mut book, &mut notary)?;
+    place_anchor(alloc, &mut book, &mut notary)?;
     let bounded = [Ok(FIRST_BOUNDED), Ok(SECOND_BOUNDED), Ok(ANCHOR)];
     assert!(rt; is_told(alloc, &book, &mut notary, &bounded)?);
     Ok(())
@@ -286,7 +283,7 @@ fn an_auditor_accepts_what_is_made(rt: HostRuntime) -> Result<(), Fail> {
     for anchors in 1..=5 {
         place_record(&rt, alloc, &mut book)?;
         place_record(&rt, alloc, &mut book)?;
-        place_anchor(&rt, alloc, &mut book, &mut notary)?;
+        place_anchor(alloc, &mut book, &mut notary)?;
         heads.trust_ledger(&book.id(), &book.head())?;
         heads.trust_notary(&notary.head()?)?;
         assert!(rt; are_accepted(alloc, &book, &mut notary, &heads)?);

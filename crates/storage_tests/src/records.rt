@@ -1,5 +1,6 @@
+use block_file::{BLOCK_HEAD_LEN, BlockWriter, FIRST_GATE};
 use hex::FromHex;
-use journal_record::{Approval, approval_digest, who_bytes};
+use journal_record::{Approval, HEADER_LEN, approval_digest};
 use ledger_bytes::{Bytes, Digest};
 use std::test::Fail;
 
@@ -28,8 +29,12 @@ fn bytes_of_approvals(rt: HostRuntime) -> Result<(), Fail> {
             proof: Bytes::copy_of(alloc, &<[u8; 64]>::from_hex(regulator)?)?,
         },
     ];
-    let who = who_bytes(alloc, &given)?;
-    let text = hex::encode(alloc, who.as_slice())?;
+    let mut block = BlockWriter::new(alloc);
+    let place = block.put(FIRST_GATE, &[0; HEADER_LEN], b"abc", &given)?;
+    assert_eq!(rt; (place.content_at, place.content_len), (287, 3));
+    assert_eq!(rt; (place.who_at, place.who_len), (290, 140));
+    let who = block.as_slice().get(BLOCK_HEAD_LEN + HEADER_LEN + 7..);
+    let text = hex::encode(alloc, who.unwrap_or(&[]))?;
     let operator = "117bd58e4e8c3084e0bab9ae42d8c4fd2fd51f289967eb6498fb8132b3396704";
     let regulator = "0cac3356a97afba7f810d6b36589fb2bac7aca8ec6cae37e6273664dc0ae7202";
     assert_eq!(rt;

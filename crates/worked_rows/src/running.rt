@@ -3,7 +3,7 @@
 use crate::row::{Found, Program, Row};
 use anyhow::Result;
 use audit_cli::{audit_run, audit_top};
-use lane_work::OpenGate;
+use lane_work::{OpenGate, Tools};
 use ledger_bytes::{Bytes, Toy};
 use ledger_cli::ledger_top;
 use ledger_disk::{Disk, MemDisk};
@@ -30,18 +30,23 @@ pub(crate) fn run<R: Threads + Wait + Sync>(rt: &R, alloc: Global, row: &Row) ->
     let mut notary = MemNotary::new(alloc, Vec::new(alloc));
     let words = row.words.as_slice();
     let status = match row.program {
-        Program::Ledger => ledger_top(
-            rt,
-            alloc,
-            words,
-            &mut source,
-            &mut sink,
-            &mut a,
-            &mut b,
-            &mut notary,
-            &TagScheme,
-            &OpenGate,
-        ),
+        Program::Ledger => {
+            let tools = Tools {
+                rt,
+                alloc,
+                verifier: &TagScheme,
+                gate: &OpenGate,
+            };
+            ledger_top(
+                &tools,
+                words,
+                &mut source,
+                &mut sink,
+                &mut a,
+                &mut b,
+                &mut notary,
+            )
+        }
         Program::Auditor => audit_top(alloc, words, &mut source, &mut sink, &TagScheme),
         Program::ToyAuditor => audit_run::<Toy, MemSource, MemSink, TagScheme>(
             alloc,

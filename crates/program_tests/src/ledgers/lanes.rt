@@ -4,7 +4,7 @@ ghost use Rattle.std.specs.Prelude.{None};
 ghost use Rattle.ledger_io.specs.Memory.{sink_state};
 
 use super::*;
-use lane_work::{Gate, OpenGate};
+use lane_work::Gate;
 use ledger_bytes::Failed;
 use ledger_io::{Sink, Source};
 use sha2::{Digest as Hasher, Sha256};
@@ -25,18 +25,13 @@ fn run_demo<R: Threads + Wait + Sync, S: Source, K: Sink, G: Gate>(
     let mut a = MemDisk::new(alloc, DISK_ROOM, Vec::new(alloc))?;
     let mut b = MemDisk::new(alloc, DISK_ROOM, Vec::new(alloc))?;
     let mut notary = MemNotary::new(alloc, Vec::new(alloc));
-    Ok(ledger_top(
+    let tools = Tools {
         rt,
         alloc,
-        words,
-        source,
-        sink,
-        &mut a,
-        &mut b,
-        &mut notary,
-        &TagScheme,
+        verifier: &TagScheme,
         gate,
-    ))
+    };
+    Ok(ledger_top(&tools, words, source, sink, &mut a, &mut b, &mut notary))
 }
 
 /// What a run of this script writes, where it ends with status 0.

@@ -2,7 +2,7 @@
 
 use super::*;
 use ledger_bytes::Digest;
-use ledger_cli::ledger_main;
+use ledger_cli::{Keeping, ledger_main};
 use ledger_disk::FuseDisk;
 use notary_ledger::ListClock;
 
@@ -32,16 +32,13 @@ fn failed_first<R: Threads + Wait + Sync>(rt: &R, alloc: Global) -> Result<Vec<u
     );
     let mut sink = MemSink::new(alloc, AMPLE, Vec::new(alloc))?;
     ledger_top(
-        rt,
-        alloc,
+        &tools(rt, alloc),
         &strings(alloc, &DEMO)?,
         &mut source,
         &mut sink,
         &mut a,
         &mut b,
         &mut MemNotary::new(alloc, [0].to_vec(alloc)?),
-        &TagScheme,
-        &OpenGate,
     );
     Ok(sink.written_bytes().to_vec(alloc)?)
 }
@@ -59,19 +56,21 @@ fn run_kept<R: Threads + Wait + Sync, E: Disk + Drop>(
 ) -> Result<(u8, Vec<u8>, E), NoMemory> {
     let mut source = MemSource::new(Bytes::copy_of(alloc, script)?, Vec::new(alloc));
     let mut sink = MemSink::new(alloc, AMPLE, Vec::new(alloc))?;
+    let words = strings(alloc, words)?;
+    let clock = ListClock::new([5000, 4000, 7000].to_vec(alloc)?);
+    let keeping = Keeping {
+        keeper,
+        clock,
+        seed,
+    };
     let (status, keeper) = ledger_main(
-        rt,
-        alloc,
-        &strings(alloc, words)?,
+        &tools(rt, alloc),
+        &words,
         &mut source,
         &mut sink,
         a,
         b,
-        keeper,
-        ListClock::new([5000, 4000, 7000].to_vec(alloc)?),
-        seed,
-        &TagScheme,
-        &OpenGate,
+        keeping,
     );
     Ok((status, sink.written_bytes().to_vec(alloc)?, keeper))
 }

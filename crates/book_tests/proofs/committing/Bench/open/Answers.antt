@@ -1,5 +1,5 @@
 use Rattle.std.proofs.Common.{sym, subst, ap, ◌∙◌}
-use Rattle.block_file.specs.Place.{place_of}
+use Rattle.block_file.specs.FileView.{gate_of}
 use Rattle.ledger_open.specs.Opening.{known_from}
 use Rattle.twin_file.specs.Which.{in_a_of, generation_in, file_of}
 use Rattle.batch_committer.specs.Opened.{IsOpened}
@@ -13,7 +13,7 @@ invariant_of-result g c =
     let sink = g.K.Sink.state c.args.sink in
     let opened = c.in-Ok.opened in
     let in_a = in_a_of opened.twin in
-    let place = place_of (file_of opened.twin) in
+    let place = gate_of (file_of opened.twin) in
     let e = c.in-Ok.ensures in
     let a = g.D.Disk.state c.reopen.new.a in
     let b = g.D.Disk.state c.reopen.new.b in

@@ -1,0 +1,120 @@
+//! Lines of a script prepared and applied to a book, and its headers replayed.
+
+ghost use Rattle.std.specs.Prelude.{◌<◌, IfOk};
+ghost use Rattle.journal_record.specs.Rules.{IsHeader};
+ghost use Rattle.journal_record.specs.declared.rules.TheConstants.{NOTARY_LIMIT};
+
+use block_file::Damage;
+use hex::FromHex;
+use journal_record::{Header, Kind, Stamp};
+use lane_work::prepare;
+use ledger_book::{Book, Genesis, Job, Limits, Outcome};
+use ledger_bytes::{Bytes, Digest, NoMemory, Sha};
+use member_book::TagScheme;
+use merkle_tree::leaf_of;
+use std::alloc::Global;
+use std::test::Fail;
+
+const OPERATOR: Digest = Digest([1; 32]);
+
+const REGULATOR: Digest = Digest([2; 32]);
+
+/// Member 2 is admitted.
+pub(crate) const MEMBER: &str =
+    "0 member 2 0303030303030303030303030303030303030303030303030303030303030303 01010101010101010101010101010101010101010101010101010101010101016e2700604cd288e681c238fa71ae802ef173e93907477f0111a56a7be4890e8c";
+
+pub(crate) fn digest(text: &str) -> Result<Digest, Fail> {
+    Ok(Digest(<[u8; 32]>::from_hex(text)?))
+}
+
+/// The book of the new ledger `demo`.
+pub(crate) fn demo(alloc: Global) -> Result<Book, NoMemory> {
+    let genesis = Genesis {
+        name: Bytes::copy_of(alloc, b"demo")?,
+        operator: OPERATOR,
+        regulator: REGULATOR,
+    };
+    Book::new(alloc, &genesis, Limits::real())
+}
+
+/// Places the time journal of an anchor, with entry 0 and this salt, where the ledger accepts it.
+fn anchor(book: &mut Book, salt: Digest) -> Result<Outcome, NoMemory> {
+    let stamp = Stamp {
+        index: 0,
+        time: 1_000,
+        salt,
+    };
+    match book.apply(&Job::Anchor)? {
+        Outcome::Reading(_) => Ok(Outcome::Placed(book.place_time(&stamp)?)),
+        outcome => Ok(outcome),
+    }
+}
+
+/// Prepares a line and applies it, with the block ends that its job wants and this salt for an anchor.
+pub(crate) fn apply(
+    alloc: Global,
+    book: &mut Book,
+    line: &str,
+    salt: Digest,
+) -> Result<Outcome, NoMemory> {
+    let item = prepare(alloc, &TagScheme, &book.id(), 1, line.as_bytes())?;
+    if item.job.closes_before() {
+        book.seal();
+    }
+    let outcome = match &item.job {
+        Job::Anchor => anchor(book, salt)?,
+        job => book.apply(job)?,
+    };
+    if item.job.closes_after() {
+        book.seal();
+    }
+    Ok(outcome)
+}
+
+/// Whether a journal was placed that has this number and this leaf digest.
+pub(crate) fn is_placed(outcome: &Outcome, jsn: u64, leaf: Digest) -> bool {
+    match outcome {
+        Outcome::Placed(placed) => placed.jsn == jsn && placed.leaf == leaf,
+        _ => false,
+    }
+}
+
+/// The header with these bytes.
+fn read_again(header: &Header) -> Result<Header, Fail>
+    ensures { IfOk result IsHeader }
+{
+    Ok(Header::decode(&header.encode()).map_err(|_| "not read")?)
+}
+
+/// The book of a ledger's first header.
+fn begun(alloc: Global, header: &Header) -> Result<Book, Fail> {
+    let header = read_again(header)?;
+    match header.kind {
+        Kind::Genesis => Ok(Book::from_first(
+            alloc,
+            &header,
+            &OPERATOR,
+            &REGULATOR,
+            Limits::real(),
+        )?),
+        _ => Err("no genesis".into()),
+    }
+}
+
+/// Replays a header.
+pub(crate) fn take(book: &mut Book, header: &Header) -> Result<Result<(), Damage>, Fail> {
+    let header = read_again(header)?;
+    Ok(book.replay(&header, &leaf_of::<Sha>(&header.encode()))?)
+}
+
+/// A book made of the headers of another, one after the other. None where one isn't taken.
+pub(crate) fn replayed(alloc: Global, book: &Book) -> Result<Option<Book>, Fail> {
+    let mut again = begun(alloc, book.header(0).ok_or("no header")?)?;
+    for number in 1..book.head().size {
+        let header = book.header(number).ok_or("no header")?;
+        if take(&mut again, header)? != Ok(()) {
+            return Ok(None);
+        }
+    }
+    Ok(Some(again))
+}
