@@ -1,6 +1,6 @@
 -- What is known of a ledger that was opened is what each history says that its pair stood for.
 use Rattle.std.specs.Prelude.{Bool, true, false, Option, Some, None, ⊤}
-use Rattle.std.proofs.Common.{◌≡◌, ◌⊎◌, inl, inr, ℕ, ◌+◌, ◌<◌, ◌≤◌, List, [], ◌∷◌, length, ap, sym, subst, ◌∙◌, arith}
+use Rattle.std.proofs.Common.{◌≡◌, inl, inr, ℕ, ◌+◌, ◌≤◌, List, [], ◌∷◌, length, ap, sym, subst, ◌∙◌, arith}
 use Rattle.journal_record.specs.Entry.{Entry}
 use Rattle.ledger_book.proofs.BaseLaws.{some_point}
 use Rattle.ledger_book.proofs.StandsLaws.{point_is}

@@ -34,7 +34,7 @@ use ledger_disk::Disk;
 use ledger_io::{Sink, write_all};
 use ledger_model::{Answer, Due};
 use ledger_open::Opened;
-use ledger_open::purging::prepare;
+use ledger_open::purging::{let_go, prepare};
 use script_lines::Reply;
 use std::alloc::Global;
 use std::marker::Model;
@@ -148,7 +148,8 @@ impl Taking {
     }
 
     /// Writes all that is due. Where a journal waits the open block ends before that: it is committed, and what its journal
-    /// hides or purges is given up. All memory is taken before the first call of a disk.
+    /// hides or purges is given up. All memory is taken before the first call of a disk, and what a purge took is let go of
+    /// behind the receipt.
     pub(crate) fn settle<D: Disk, K: Sink>(
         &mut self,
         a: &mut D,
@@ -184,8 +185,10 @@ impl Taking {
         self.block.finish(count, &self.opened.book.head().root)?;
         let purge = prepare(self.alloc, &self.opened.book, &self.opened.places)?;
         commit(&mut self.opened.twin, a, b, self.block.as_slice())?;
-        give_up(&mut self.opened, a, b, purge)?;
-        write_all(sink, self.text.as_slice())?;
+        let gone = give_up(&mut self.opened, a, b, purge)?;
+        let written = write_all(sink, self.text.as_slice());
+        let_go(&mut self.opened, gone);
+        written?;
         self.block.clear();
         self.dues.clear();
         Ok(())

@@ -13,8 +13,6 @@ use Rattle.journal_record.specs.Entry.{Entry}
 use Rattle.journal_record.specs.declared.header.Kind.{Kind}
 use Rattle.journal_record.specs.declared.header.Kind.TheVariants as kind
 use Rattle.ledger_book.proofs.StandsLaws.{point_is}
-use Rattle.ledger_book.specs.Books.{Kept, Serves}
-use Rattle.ledger_book.specs.Steps.{IsCut}
 use Rattle.ledger_disk.proofs.Guarding.{settled_image}
 use Rattle.ledger_disk.specs.Disk.{State, MayLeave, settled_state}
 use Rattle.ledger_model.proofs.FitLaws.{size_few}
@@ -30,8 +28,10 @@ use Rattle.twin_file.specs.Twin.{choice, IsPassed, next_generation}
 use Rattle.ledger_open.specs.Cutting.{FallsAway, IsBaseAt, IsCutAt, first_gate, gate_behind}
 use Rattle.block_file.specs.Places.{after_at, places_at}
 use Rattle.ledger_open.specs.Places.{places_from}
+use Rattle.ledger_open.specs.declared.opened.Opened.{Opened}
 use Rattle.ledger_open.specs.declared.purging.Cut.{Cut}
-use Rattle.ledger_open.specs.Purging.{Ledger, open_disk, other_disk, StandsOpen, IsCleanOpen, IsPurged, KeepsFrom, MayMove, IsEither, AllEither, copied_file}
+use Rattle.ledger_open.specs.declared.purging.Gone.{Gone}
+use Rattle.ledger_open.specs.Purging.{Ledger, open_disk, other_disk, StandsOpen, IsCleanOpen, IsPurged, KeepsFrom, LetsGo, MayMove, IsEither, AllEither, copied_file}
 use Rattle.ledger_open.specs.Standing.{Floor, StandsBy, StandsFor, IsErased, IsClean, IsBeside, PairFor, floor_behind, floor_of, hidden_before, point_before}
 use Rattle.ledger_open.proofs.FloorLaws.{floor_first, floor_digests}
 use Rattle.ledger_open.proofs.HeadLaws.{stands_head, stands_generation}
@@ -339,16 +339,15 @@ module _ (l : Ledger) (h : History) (s : StandsOpen l h) where
         (subst (λ (t : List ℕ). AllEither l.in_a (open_disk l).seen (whole_file (front_of 1 (next_generation l.generation) t) copied) a_new b_new) same
         (each copied may_move (ap (λ (n : ℕ). take (l.known.gate - n) (drop n (open_disk l).seen)) at.gate ∙ taken)))
 
--- what a book is cut to
-pub keeps_from : (p point_now : ℕ) (before after : Kept) → p ≡ point_now → IsCut before after → after.floor ≡ p → ((h : History) → Serves before h → p ≡ point h → Serves after h) → KeepsFrom point_now before after
-keeps_from p point_now before after same cut floor serves = record {
-  limits = cut.limits;
-  floor = floor ∙ same;
-  point_stays = cut.point;
-  size = cut.size;
-  sealed = cut.sealed;
-  serves = λ h s at. serves h s (same ∙ at);
-}
+-- what memory lets go of leaves the files, and of the book what it counts
+pub twin_stays : (gone : Option Gone) (before after : Opened) → LetsGo gone before after → after.twin ≡ before.twin
+twin_stays None before after is = ap (λ (o : Opened). o.twin) is
+twin_stays (Some gone) before after is = is.twin
+
+pub counts_stay : (gone : Option Gone) (before after : Opened) → LetsGo gone before after
+    → (after.book.limits ≡ before.book.limits) × (after.book.size ≡ before.book.size) × (after.book.sealed ≡ before.book.sealed)
+counts_stay None before after is = (ap (λ (o : Opened). o.book.limits) is, ap (λ (o : Opened). o.book.size) is, ap (λ (o : Opened). o.book.sealed) is)
+counts_stay (Some gone) before after is = (is.book.limits, is.book.size, is.book.sealed)
 
 -- a place that is told of fits its field
 pub tail_few : (x : Bool) (told_a told_b : Option ℕ) (file : BlockFile) → HasTail (choice x told_a told_b) file → ((n : ℕ) → told_a ≡ Some n → n ≤ 2 ^ 62) → ((n : ℕ) → told_b ≡ Some n → n ≤ 2 ^ 62) → gate_of file < 2 ^ 64

@@ -67,11 +67,6 @@ module _ (old new : ℕ) where
       is ∙ ap (λ l. map (moved_place old new) l ++ drop i begun) (take_all i begun last) ∙ ap (λ l. map (moved_place old new) begun ++ l) (drop_all i begun last)
       ∙ append-nil (map (moved_place old new) begun)
 
-  -- .. and then they are those of the blocks
-  pub all_moved : (bs : List (List Entry)) (i : ℕ) (begun now : List PlaceAt) → now ≡ map (moved_place old new) (take i begun) ++ drop i begun → length begun ≤ i → begun ≡ places_at old bs → after_at new bs < 2 ^ 64
-      → now ≡ places_at new bs
-  all_moved bs i begun now is last are fits = moved_all i begun now is last ∙ ap (map (moved_place old new)) are ∙ places_moved bs fits
-
 -- ---- the blocks that are left out
 
 length_in : (at : ℕ) (es : List Entry) → length (places_in at es) ≡ length es

@@ -1,5 +1,5 @@
 -- What is known of a ledger that was made or opened, and what making and opening leave.
-use Rattle.std.specs.Prelude.{◌≡◌, ◌⊎◌, ℕ, ◌+◌, ◌≤◌, Bool, false, IsTrue, List, [], length, take, drop, Option, Result, Err, MatchResult}
+use Rattle.std.specs.Prelude.{◌≡◌, ◌⊎◌, ℕ, ◌+◌, Bool, false, IsTrue, List, [], length, take, drop, Option, Result, Err, MatchResult}
 use Rattle.block_file.specs.File.{IsSettled}
 use Rattle.block_file.specs.Head.{IsShut, HasHead, number_at}
 use Rattle.block_file.specs.FileView.{base_len_of, base_digest_of}

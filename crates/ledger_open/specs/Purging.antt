@@ -1,5 +1,5 @@
 -- How a purge is finished: what stays is copied into the other file, which is opened, and the old one is wiped.
-use Rattle.std.specs.Prelude.{◌≡◌, ◌⊎◌, ℕ, ◌+◌, ◌-◌, ◌^◌, ◌<◌, ◌≤◌, Bool, false, IsTrue, not, List, [], ◌∷◌, ◌++◌, length, take, drop}
+use Rattle.std.specs.Prelude.{◌≡◌, ◌⊎◌, ℕ, ◌+◌, ◌-◌, ◌^◌, ◌<◌, ◌≤◌, Bool, false, IsTrue, not, List, [], ◌∷◌, ◌++◌, length, take, drop, map, Option, Some, None, ⊤}
 use Rattle.block_file.specs.File.{IsSettled, IsShutAt}
 use Rattle.block_file.specs.Head.{HasHead, front_of, generation_of}
 use Rattle.block_file.specs.FileView.{gate_of}
@@ -14,7 +14,9 @@ use Rattle.ledger_open.specs.Erasing.{EndsAs}
 use Rattle.ledger_open.specs.Opening.{Known, known_from}
 use Rattle.ledger_open.specs.Places.{AreInOrder, places_from}
 use Rattle.ledger_open.specs.Standing.{Floor, floor_of, floor_behind, StandsFor, IsClean, IsBeside, PairFor}
+use Rattle.block_file.specs.Places.{moved_place}
 use Rattle.ledger_open.specs.declared.opened.Opened.{Opened}
+use Rattle.ledger_open.specs.declared.purging.Gone.{Gone}
 
 -- ---- an open ledger
 
@@ -65,6 +67,23 @@ pub record KeepsFrom (p : ℕ) (old new : Kept) : Type 0 where
   pub size : new.size ≡ old.size
   pub sealed : new.sealed ≡ old.sealed
   pub serves : (h : History) → Serves old h → p ≡ point h → Serves new h
+
+-- what a purge took from the files may be let go of: the cut lies inside of what the book and the places keep
+abbrev pub MayLetGo : Opened → Option Gone → Type 0
+MayLetGo opened None = ⊤
+MayLetGo opened (Some gone) =
+    (opened.book.floor ≤ gone.cut.point) × (gone.cut.point ≤ opened.book.sealed) × (gone.cut.count ≤ length opened.places.list)
+
+-- of an open ledger memory keeps what lies behind the cut, and the places move as the bytes did
+pub record KeepsBehind (gone : Gone) (old new : Opened) : Type 0 where
+  pub book : KeepsFrom gone.cut.point old.book new.book
+  pub places : new.places.list ≡ map (moved_place gone.cut.gate gone.first_gate) (drop gone.cut.count old.places.list)
+  pub twin : new.twin ≡ old.twin
+
+-- memory lets go of what a purge took from the files; where it took nothing all is as it was
+abbrev pub LetsGo : Option Gone → Opened → Opened → Type 0
+LetsGo None old new = new ≡ old
+LetsGo (Some gone) old new = KeepsBehind gone old new
 
 -- The first blocks of a file fell away: what is known is that of the others behind this base, and the file that is open now
 -- has what the old one had of them. The old one is empty, and nothing is pending.

@@ -77,9 +77,7 @@ impl Places {
     /// another.
     pub(crate) fn drop_front(&mut self, count: usize, old: u64, new: u64)
         requires { count ≤ length self.old.list }
-        ensures moved { self.new.list ≡ map (moved_place old new) (drop count self.old.list) }
-        ensures placed { (blocks : List (List Entry)) → drop count self.old.list ≡ places_at old blocks
-            → after_at new blocks < 2 ^ 64 → self.new.list ≡ places_at new blocks }
+        ensures { self.new.list ≡ map (moved_place old new) (drop count self.old.list) }
     {
         keep_from(&mut self.kept, count, 0);
         for index in 0..self.kept.len() {

@@ -11,8 +11,9 @@ ghost use Rattle.twin_file.specs.Which.{in_a_of, generation_in, file_of, copy_of
 ghost use Rattle.ledger_open.specs.Erasing.{AllInside};
 ghost use Rattle.ledger_open.specs.Opening.{CountsOpen};
 ghost use Rattle.ledger_open.specs.Cutting.{IsBaseAt, IsCutOf, IsPrepared};
-ghost use Rattle.ledger_open.specs.Purging.{copied_file, IsDone, IsHalfDone, MayMove, AllEither, ledger_at};
+ghost use Rattle.ledger_open.specs.Purging.{copied_file, IsDone, IsHalfDone, LetsGo, MayLetGo, MayMove, AllEither, ledger_at};
 ghost use Rattle.ledger_open.specs.declared.failure.OpenErr.TheVariants as errors;
+ghost use Rattle.ledger_open.specs.declared.opened.Opened.{Opened as OpenedRecord};
 
 use crate::{OpenErr, Opened, Places};
 use block_file::FileErr;
@@ -129,9 +130,69 @@ fn move_over<D: Disk>(
     twin.wipe(a, b)
 }
 
-/// Finishes a purge for which memory was taken: the copy is made and opened, and the old file wiped. A fault of a disk is the
-/// only error.
-pub fn complete<D: Disk>(
+/// What a purge took from the files, and memory has still: what lies in front of the cut. The file that is open now has its
+/// first gate at an offset of its own.
+#[derive(Clone, Copy)]
+pub struct Gone {
+    cut: Cut,
+    first_gate: u64,
+}
+
+/// Finishes a purge in the files, for which memory was taken: the copy is made and opened, and the old file wiped. A fault of
+/// a disk is the only error. Book and places are as they were until [`let_go`].
+pub fn purge_files<D: Disk>(
+    a: &mut D,
+    b: &mut D,
+    opened: &mut Opened,
+    purge: Option<Purge>,
+) -> Result<Option<Gone>, OpenErr>
+    requires told { HasTail (open_of (in_a_of opened.old.twin) (D.state a.old).told (D.state b.old).told)
+        (file_of opened.old.twin) }
+    requires inside { AllInside (gate_of (file_of opened.old.twin)) opened.old.places.list }
+    requires prepared { IsPrepared opened.old.book opened.old.places.list purge }
+    ensures done { IfOk result (λ gone. (later : OpenedRecord) → LetsGo gone opened.new later → IsDone D.tells
+        (ledger_at opened.old (D.state a.old).bytes (D.state b.old).bytes)
+        (ledger_at later (D.state a.new).bytes (D.state b.new).bytes)) }
+    ensures may { IfOk result (MayLetGo opened.new) }
+    ensures left { IsHalfDone D.tells
+        (ledger_at opened.old (D.state a.old).bytes (D.state b.old).bytes)
+        (D.state a.new).bytes (D.state b.new).bytes }
+    ensures same { opened.old.book.point ≤ opened.old.book.floor
+        → (opened.new ≡ opened.old) × IfOk result (λ gone. gone ≡ None) }
+    ensures memory { (opened.new.book ≡ opened.old.book) × (opened.new.places ≡ opened.old.places) }
+    ensures copy { OnOk result (copy_of opened.old.twin ≡ None → copy_of opened.new.twin ≡ None) }
+    ensures told { OnOk result (HasTail
+        (open_of (in_a_of opened.new.twin) (D.state a.new).told (D.state b.new).told)
+        (file_of opened.new.twin)) }
+    ensures only { IfErr result (λ e. e ≡ errors.DiskFault) }
+    ensures faults { CountsOpen result (D.state a.old).faults (D.state a.new).faults
+        (D.state b.old).faults (D.state b.new).faults }
+{
+    let Some(Purge { cut, base }) = purge else {
+        return Ok(None);
+    };
+    match move_over(a, b, &mut opened.twin, base.as_slice(), cut.gate) {
+        Ok(()) => {
+            let first_gate = 64 + base.as_slice().len() as u64;
+            Ok(Some(Gone { cut, first_gate }))
+        }
+        Err(_) => Err(OpenErr::DiskFault),
+    }
+}
+
+/// Gives back the memory of what a purge took from the files.
+pub fn let_go(opened: &mut Opened, gone: Option<Gone>)
+    requires { MayLetGo opened.old gone }
+    ensures { LetsGo gone opened.old opened.new }
+{
+    if let Some(Gone { cut, first_gate }) = gone {
+        opened.places.drop_front(cut.count, cut.gate, first_gate);
+        opened.book.drop_below(cut.point);
+    }
+}
+
+/// Finishes a purge for which memory was taken, in the files and in memory. A fault of a disk is the only error.
+pub(crate) fn complete<D: Disk>(
     a: &mut D,
     b: &mut D,
     opened: &mut Opened,
@@ -159,16 +220,7 @@ pub fn complete<D: Disk>(
     ensures faults { CountsOpen result (D.state a.old).faults (D.state a.new).faults
         (D.state b.old).faults (D.state b.new).faults }
 {
-    let Some(Purge { cut, base }) = purge else {
-        return Ok(());
-    };
-    match move_over(a, b, &mut opened.twin, base.as_slice(), cut.gate) {
-        Ok(()) => {
-            let first_gate = 64 + base.as_slice().len() as u64;
-            opened.places.drop_front(cut.count, cut.gate, first_gate);
-            opened.book.drop_below(cut.point);
-            Ok(())
-        }
-        Err(_) => Err(OpenErr::DiskFault),
-    }
+    let gone = purge_files(a, b, opened, purge)?;
+    let_go(opened, gone);
+    Ok(())
 }

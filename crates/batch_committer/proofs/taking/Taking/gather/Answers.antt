@@ -1,4 +1,4 @@
-use Rattle.std.proofs.Common.{◌≡◌, ℕ, ◌+◌, ◌++◌, ◌∷◌, [], length, ap, ◌∙◌}
+use Rattle.std.proofs.Common.{ℕ, ◌+◌, ◌++◌, ◌∷◌, [], length, ap, ◌∙◌}
 use Rattle.journal_record.specs.Approval.{who_of}
 use Rattle.block_file.specs.FileView.{gate_of}
 use Rattle.block_file.specs.Places.{body_from, place_of_lengths}

@@ -2,6 +2,8 @@ use Rattle.std.proofs.Common.{[], ◌++◌, length, sym, ap, subst, ◌∙◌, a
 use Rattle.ledger_model.specs.History.{History, close}
 use Rattle.ledger_book.specs.Books.{Serves}
 use Rattle.ledger_open.specs.Places.{AreInOrder}
+use Rattle.ledger_open.proofs.FinishedLaws.{twin_stays}
+use Rattle.twin_file.specs.Which.{copy_of}
 use Rattle.block_file.specs.Writing.{block_head}
 use Rattle.batch_committer.specs.World.{pair}
 use Rattle.batch_committer.specs.contracts.taking.Taking.{the_view}
@@ -42,15 +44,15 @@ returns-in_err-commit-clause-err g c =
     (omega (arith, c.if-count-eq0.false)) (count_few c.self.inside.opened.book c.waiting_count-count.result is f.few))
     _ _ e.err)))
 
-pub returns-in_err-give_up-clause-err : goal.returns-in_err-give_up-clause-err
-returns-in_err-give_up-clause-err g c =
+pub returns-in_err-gone-clause-err : goal.returns-in_err-gone-clause-err
+returns-in_err-gone-clause-err g c =
     let f = fits_at g.D.Disk.tells _ _ c.self.view_is _ _ c.requires.fits in
     let is = sym c.waiting_count-count.ensures.number in
     let e = c.in_ok-commit.ensures in
-    let u = c.in_err-give_up.ensures in
+    let u = c.in_err-gone.ensures in
     let closed = λ (h : History) (s : Serves c.self.inside.opened.book h). serves_closed c.self.inside.opened.book c.seal.new.self h s (c.seal.ensures.stands h s.stands) c.seal.ensures.same in
     let mid = pair (g.D.Disk.state c.commit.new.a) (g.D.Disk.state c.commit.new.b) in
-    err_is _ c.from_residual-in_err-give_up.result _ c.from_residual-in_err-give_up.ensures.1
+    err_is _ c.from_residual-in_err-gone.result _ c.from_residual-in_err-gone.ensures.1
     (ended_by g.D.Disk.tells _ _ close (λ h. []) _ _ u.only
     (ended_at g.D.Disk.tells _ _ c.self.view_is _ (g.K.Sink.state c.args.sink.now) _ close (λ h. []) _
     (end_unfinished g.D.Disk.tells _ c.as_slice-2.result.now c.spell.new.text.items
@@ -63,17 +65,17 @@ returns-in_err-give_up-clause-err g c =
     (record { serves = closed; same = c.seal.ensures.same; committed = e.ok; named = λ told. named_at _ _ mid (f.generation told ∙ sym (generation_stays g.D.Disk.tells _ _ _ _ _ e.ok told)) })
     _ _ (unfinished_as g.D.Disk.tells _ _ mid _ (ledger_is c.seal.new.self c.self.inside.opened.places.list mid _ _ _ _ _ _ e.gate e.in_a e.generation) u.err))))
 
-pub returns-in_err-write_all-clause-err : goal.returns-in_err-write_all-clause-err
-returns-in_err-write_all-clause-err g c =
+pub returns-in_err-written-clause-err : goal.returns-in_err-written-clause-err
+returns-in_err-written-clause-err g c =
     let f = fits_at g.D.Disk.tells _ _ c.self.view_is _ _ c.requires.fits in
     let is = sym c.waiting_count-count.ensures.number in
     let e = c.in_ok-commit.ensures in
-    let u = c.in_ok-give_up.ensures in
-    let o = c.in_err-write_all.ensures in
+    let u = c.in_ok-gone.ensures in
+    let o = c.in_err-written.ensures in
     let closed = λ (h : History) (s : Serves c.self.inside.opened.book h). serves_closed c.self.inside.opened.book c.seal.new.self h s (c.seal.ensures.stands h s.stands) c.seal.ensures.same in
     let mid = pair (g.D.Disk.state c.commit.new.a) (g.D.Disk.state c.commit.new.b) in
-    let t = first_of_text (g.K.Sink.state c.args.sink.now) (g.K.Sink.state c.write_all.new.sink) c.as_slice-3.result.now c.in_err-write_all.field-0.0 o.taken in
-    err_is _ c.from_residual-in_err-write_all.result _ c.from_residual-in_err-write_all.ensures.1
+    let t = first_of_text (g.K.Sink.state c.args.sink.now) (g.K.Sink.state c.write_all-written.new.sink) c.as_slice-3.result.now c.in_err-written.field-0.0 o.taken in
+    err_is _ c.from_residual-in_err-written.result _ c.from_residual-in_err-written.ensures.1
     (ended_at g.D.Disk.tells _ _ c.self.view_is _ _ _ close (λ h. []) _
     (end_unwritten g.D.Disk.tells _ c.as_slice-2.result.now c.as_slice-3.result.now
     (at_end g.D.Disk.tells _ c.seal.new.self c.waiting_count-count.result c.head.result _ _ closed
@@ -83,15 +85,15 @@ returns-in_err-write_all-clause-err g c =
     (omega (arith, c.if-count-eq0.false)) (count_few c.self.inside.opened.book c.waiting_count-count.result is f.few))
     c.seal.new.self mid
     (record { serves = closed; same = c.seal.ensures.same; committed = e.ok; named = λ told. named_at _ _ mid (f.generation told ∙ sym (generation_stays g.D.Disk.tells _ _ _ _ _ e.ok told)) })
-    _ _ (finished_as g.D.Disk.tells _ _ _ mid _ (ledger_is c.seal.new.self c.self.inside.opened.places.list mid _ _ _ _ _ _ e.gate e.in_a e.generation) u.ok) _ t.0 t.1 t.2 o.once))
+    _ _ (finished_as g.D.Disk.tells _ _ _ mid _ (ledger_is c.seal.new.self c.self.inside.opened.places.list mid _ _ _ _ _ _ e.gate e.in_a e.generation) (u.ok _ c.let_go.ensures)) _ t.0 t.1 t.2 o.once))
 
 pub returns-clause-ok : goal.returns-clause-ok
 returns-clause-ok g c =
     let f = fits_at g.D.Disk.tells _ _ c.self.view_is _ _ c.requires.fits in
     let is = sym c.waiting_count-count.ensures.number in
     let e = c.in_ok-commit.ensures in
-    let u = c.in_ok-give_up.ensures in
-    let o = c.in_ok-write_all.ensures in
+    let u = c.in_ok-gone.ensures in
+    let o = c.in_ok-written.ensures in
     let closed = λ (h : History) (s : Serves c.self.inside.opened.book h). serves_closed c.self.inside.opened.book c.seal.new.self h s (c.seal.ensures.stands h s.stands) c.seal.ensures.same in
     let mid = pair (g.D.Disk.state c.commit.new.a) (g.D.Disk.state c.commit.new.b) in
     goes_at g.D.Disk.tells _ _ c.self.view_is _ _ _ close (λ h. [])
@@ -103,21 +105,21 @@ returns-clause-ok g c =
     (omega (arith, c.if-count-eq0.false)) (count_few c.self.inside.opened.book c.waiting_count-count.result is f.few))
     c.seal.new.self mid
     (record { serves = closed; same = c.seal.ensures.same; committed = e.ok; named = λ told. named_at _ _ mid (f.generation told ∙ sym (generation_stays g.D.Disk.tells _ _ _ _ _ e.ok told)) })
-    _ _ (finished_as g.D.Disk.tells _ _ _ mid _ (ledger_is c.seal.new.self c.self.inside.opened.places.list mid _ _ _ _ _ _ e.gate e.in_a e.generation) u.ok) _ c.clear.ensures c.clear-2.ensures.items o.ok o.once)
+    _ _ (finished_as g.D.Disk.tells _ _ _ mid _ (ledger_is c.seal.new.self c.self.inside.opened.places.list mid _ _ _ _ _ _ e.gate e.in_a e.generation) (u.ok _ c.let_go.ensures)) _ c.clear.ensures c.clear-2.ensures.items o.ok o.once)
 
 pub returns-clause-fits : goal.returns-clause-fits
 returns-clause-fits g c =
     let f = fits_at g.D.Disk.tells _ _ c.self.view_is _ _ c.requires.fits in
     let e = c.in_ok-commit.ensures in
-    let u = c.in_ok-give_up.ensures in
+    let u = c.in_ok-gone.ensures in
     let mid = pair (g.D.Disk.state c.commit.new.a) (g.D.Disk.state c.commit.new.b) in
     let order = order_ended (the_view c.self.inside) c.as_slice-2.result.now c.finish.new.self.head (c.as_slice-2.ensures ∙ ap (λ l. c.finish.new.self.head ++ l) c.in_ok-finish.ensures.body) c.in_ok-finish.ensures.size f.order in
     fits_finished g.D.Disk.tells _ _ mid _ _
     (λ told. record { shut = shut_bytes _ _ mid (e.ok.reads.shut told); generation = named_at _ _ mid (f.generation told ∙ sym (generation_stays g.D.Disk.tells _ _ _ _ _ e.ok told)) })
-    order (c.seal.ensures.ended.0 ∙ sym c.seal.ensures.ended.1) (u.copy (e.copy ∙ f.copy))
-    (finished_as g.D.Disk.tells _ _ _ mid _ (ledger_is c.seal.new.self c.self.inside.opened.places.list mid _ _ _ _ _ _ e.gate e.in_a e.generation) u.ok)
+    order (c.seal.ensures.ended.0 ∙ sym c.seal.ensures.ended.1) (ap copy_of (twin_stays _ _ _ c.let_go.ensures) ∙ u.copy (e.copy ∙ f.copy))
+    (finished_as g.D.Disk.tells _ _ _ mid _ (ledger_is c.seal.new.self c.self.inside.opened.places.list mid _ _ _ _ _ _ e.gate e.in_a e.generation) (u.ok _ c.let_go.ensures))
 
 pub returns-clause-empty : goal.returns-clause-empty
 returns-clause-empty g c =
-    let u = c.in_ok-give_up.ensures.ok in
+    let u = c.in_ok-gone.ensures.ok _ c.let_go.ensures in
     (u.size ∙ c.seal.ensures.ended.0 ∙ sym c.seal.ensures.ended.1 ∙ sym u.sealed, c.clear-2.ensures.items)
