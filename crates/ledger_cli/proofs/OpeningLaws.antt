@@ -101,7 +101,7 @@ module _ (scheme : Scheme) (tells : Bool) (source : SourceState) (sink : SinkSta
     serves = λ t h p l q. absurd (pair_opens old.a.bytes.seen old.b.bytes.seen h p (open_err.Damaged damage) (err t));
     unstarted = λ some. unstarted;
     refused = refusal (same (λ is. let no : ⊥ = cc is in no)) (open_err.Damaged damage) err;
-    exact = λ t f cause not. (unstarted, inr (refl, settled (same (λ is. let no : ⊥ = cc is in no)) t));
+    exact = λ t f cause not. (unstarted, inr (err t, settled (same (λ is. let no : ⊥ = cc is in no)) t));
     faults = counts_ended source sink n old now (open_err.Damaged damage) counts;
     failures = fails_unread source n;
   }
@@ -109,7 +109,7 @@ module _ (scheme : Scheme) (tells : Bool) (source : SourceState) (sink : SinkSta
     serves = λ t h p l q. absurd (pair_opens old.a.bytes.seen old.b.bytes.seen h p open_err.Empty (err t));
     unstarted = λ some. unstarted;
     refused = refusal (same (λ is. let no : ⊥ = cc is in no)) open_err.Empty err;
-    exact = λ t f cause not. (unstarted, inr (refl, settled (same (λ is. let no : ⊥ = cc is in no)) t));
+    exact = λ t f cause not. (unstarted, inr (err t, settled (same (λ is. let no : ⊥ = cc is in no)) t));
     faults = counts_ended source sink n old now open_err.Empty counts;
     failures = fails_unread source n;
   }
@@ -125,7 +125,7 @@ module _ (scheme : Scheme) (tells : Bool) (source : SourceState) (sink : SinkSta
     serves = λ t h p l q. absurd (pair_opens old.a.bytes.seen old.b.bytes.seen h p (open_err.NewerFormat found) (err t));
     unstarted = λ some. unstarted;
     refused = refusal (same (λ is. let no : ⊥ = cc is in no)) (open_err.NewerFormat found) err;
-    exact = λ t f cause not. (unstarted, inr (refl, settled (same (λ is. let no : ⊥ = cc is in no)) t));
+    exact = λ t f cause not. (unstarted, inr (err t, settled (same (λ is. let no : ⊥ = cc is in no)) t));
     faults = counts_ended source sink n old now (open_err.NewerFormat found) counts;
     failures = fails_unread source n;
   }

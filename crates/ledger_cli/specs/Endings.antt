@@ -62,9 +62,12 @@ ending_of_end end.Closed = Run ending.NoMemory
 
 -- an ending's last line is made of words, for which memory is taken
 abbrev pub HasWords : LedgerEnding → Type 0
+HasWords (Run ending) = ⊥
+HasWords DiskFault = ⊥
 HasWords (Damaged damage) = ⊤
+HasWords Empty = ⊥
+HasWords Exists = ⊥
 HasWords (NewerFormat found) = ⊤
-HasWords other = ⊥
 
 -- the error for which a ledger wasn't opened, where the ending tells one
 abbrev pub refusal_of : LedgerEnding → Option OpenErr

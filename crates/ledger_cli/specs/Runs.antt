@@ -1,5 +1,5 @@
 -- What a run of the program did, from the bytes that came in to the bytes that went out and the files that are left.
-use Rattle.std.specs.Prelude.{◌≡◌, ℕ, ◌⊎◌, Bool, IsTrue, List, [], ◌∷◌, codes, decimal, Option, None, Some, IsSome, IfSome}
+use Rattle.std.specs.Prelude.{◌≡◌, ℕ, ◌⊎◌, Bool, IsTrue, List, [], ◌∷◌, codes, decimal, Option, None, Some, IsSome, IsSomeAnd, IfSome}
 use Rattle.std.specs.Io.KnownBytes.{Consumes, Appends}
 use Rattle.batch_committer.specs.World.{Pair, World, Holds, OneFailed}
 use Rattle.block_file.specs.File.{IsSettled}
@@ -297,9 +297,9 @@ pub record RunsAgain (scheme : Scheme) (tells : Bool) (ending : LedgerEnding) (b
   -- a refusal reads and writes nothing, whatever the disks tell
   pub unstarted : IsSome (refusal_of ending) → IsUnstarted before after_all
   pub refused : IsTrue tells → IfSome (refusal_of ending) (λ e. IsRefused e before.disks after_all.disks)
-  -- what shows damage, or is no ledger, isn't run
+  -- what shows damage, or is no ledger, isn't run, and a refusal has its cause
   pub exact : IsTrue tells → (e : OpenErr) → IsOpenErr before.disks.a.bytes.seen before.disks.b.bytes.seen e → (IsOutside e → ⊥)
-      → LeftAsRead (λ met. IsSome (refusal_of met)) ending before after_all
+      → LeftAsRead (λ met. IsSomeAnd (refusal_of met) (IsOpenErr before.disks.a.bytes.seen before.disks.b.bytes.seen)) ending before after_all
   pub faults : FaultsBy ending before after_all
   pub failures : NotaryFails before after_all
 

@@ -27,7 +27,8 @@ pub data Fate : Type 0 where
 -- a job was in hand at a stop, whether its entry was kept or not
 abbrev pub was_in_hand : Fate → Bool
 was_in_hand answered = false
-was_in_hand other = true
+was_in_hand kept_in_hand = true
+was_in_hand lost_in_hand = true
 
 -- a job, which is a window of one line: its step, and how it went
 pub record Turn : Type 0 where

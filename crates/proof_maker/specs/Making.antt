@@ -1,7 +1,8 @@
 -- Proofs as they are made, what is answered where there is none, and who accepts them.
-use Rattle.std.specs.Prelude.{◌≡◌, ◌⊎◌, ℕ, Bool, true, false, if◌then◌else◌, List, length, take, Some, None, Result, Ok, Err, ⊤}
+use Rattle.std.specs.Prelude.{◌≡◌, ◌⊎◌, ℕ, ◌==◌, Bool, true, false, if◌then◌else◌, List, length, take, Some, None, Result, Ok, Err, ⊤}
 use Rattle.sha2.specs.Sha256.{sha256}
 use Rattle.ledger_bytes.specs.Causes.{count_after}
+use Rattle.ledger_bytes.specs.Codes.{refusal_code}
 use Rattle.ledger_bytes.specs.Digests.{digest}
 use Rattle.ledger_bytes.specs.declared.digest.Digest.{Digest}
 use Rattle.ledger_bytes.specs.declared.refusal.Refusal.{Refusal}
@@ -83,10 +84,9 @@ ChecksSize size m (Ok done) = size_refusal size m ≡ None
 ChecksSize size m (Err (Refused why)) = size_refusal size m ≡ Some why
 ChecksSize size m (Err NoMemory) = ⊥
 
--- a refusal is a failure of the notary
+-- a refusal is a failure of the notary: it has the code of one
 abbrev pub is_fault : Refusal → Bool
-is_fault NotaryFault = true
-is_fault other = false
+is_fault why = refusal_code why == refusal_code NotaryFault
 
 -- the count of the notary's faults rises by one exactly where its failure is answered; at the end of its type it stays
 abbrev pub CountsFaults : {A : Type 0} → Result A MakeErr → ℕ → ℕ → Type 0
