@@ -43,7 +43,7 @@ use Rattle.ledger_model.proofs.PreparedLaws.{after_items, dues_of_items, id_kept
 use Rattle.ledger_model.proofs.TookLaws.{took_then}
 use Rattle.ledger_cli.specs.Failures.{FailsIn}
 use Rattle.ledger_cli.proofs.FailureLaws.{fails_none, fails_once, fails_then, fails_wider, order_few}
-use Rattle.ledger_cli.specs.Pieces.{At, world_at, IsOpen, TakesAll, TakesSome, TakesBy, TakesPiece, Told, Answered, PieceTaken, PieceBroken, WindowTaken, WindowBroken}
+use Rattle.ledger_cli.specs.Pieces.{At, world_at, IsOpen, TakesPiece, Told, Answered, PieceTaken, PieceBroken, WindowTaken, WindowBroken}
 
 -- ---- a chain of values is one of what they tell
 
@@ -328,21 +328,23 @@ module _ (scheme : Scheme) (key : List ℕ) (tells : Bool) where
 -- ---- what a piece came to
 
 module _ {S : Type 0} (tell : S → Told) (scheme : Scheme) (key : List ℕ) (tells : Bool) (first : List ℕ) (lines : List LaneLine) (s t : S) (open_ : IsOpen tells (tell s).at) (key_is : (h : History) → Keeps (tell s).at.held.kept h → key ≡ id h) where
-  all_taken : (order : List Said) → Came scheme key tells (tell s) order (tell t) → TakesAll scheme tells order (tell s).at (tell t).at
-  all_taken order c = record {
-    steps = c.steps;
-    said = c.said;
-    goes = steps_go scheme key tells (tell s).at key_is open_.room c.steps (tell t).at c.goes;
-    took = λ h p. c.took h p (known scheme key tells (tell s).at key_is open_.room h p);
-    fails = c.fails;
-    still = c.still;
-  }
+  all_taken : (order : List Said) → IsOrderOf first lines order → Came scheme key tells (tell s) order (tell t) → PieceTaken scheme tells first lines (tell s).at (tell t).at × IsOpen tells (tell t).at
+  all_taken order is c = (
+    record {
+      steps = c.steps;
+      is_order = subst (λ (l : List Said). IsOrderOf first lines l) (sym c.said) is;
+      goes = steps_go scheme key tells (tell s).at key_is open_.room c.steps (tell t).at c.goes;
+      took = λ h p. c.took h p (known scheme key tells (tell s).at key_is open_.room h p);
+      fails = fails_wider (length order) (length lines) (tell s).at.notary (tell t).at.notary (order_few first lines order is) c.fails;
+    },
+    c.still,
+  )
 
-  some_taken : (order : List Said) (c : CameToEnd scheme key tells (tell s) order (tell t)) → TakesSome scheme tells order c.why (tell s).at (tell t).at
-  some_taken order c = record {
+  some_taken : (order : List Said) → IsOrderOf first lines order → (c : CameToEnd scheme key tells (tell s) order (tell t)) → PieceBroken scheme tells first lines c.why (tell s).at (tell t).at
+  some_taken order is c = record {
     steps = c.steps;
     rest = c.rest;
-    split = c.split;
+    is_order = subst (λ (l : List Said). IsOrderOf first lines l) c.split is;
     ended = elim c.ended [
       | inl e ↦ inl (steps_end scheme key tells (tell s).at key_is open_.room c.steps c.why (tell t).at e)
       | inr e ↦ inr (record {
@@ -354,62 +356,49 @@ module _ {S : Type 0} (tell : S → Told) (scheme : Scheme) (key : List ℕ) (te
       })
     ];
     took = λ h p. c.took h p (known scheme key tells (tell s).at key_is open_.room h p);
-    fails = c.fails;
+    fails = fails_wider (length order) (length lines) (tell s).at.notary (tell t).at.notary (order_few first lines order is) c.fails;
   }
 
   pub ran_all : (tell s).end ≡ None → RunsAll (OffersLine scheme key (λ s item f t. Answered tells (tell s) item f (tell t))) first lines s t
       → ((tell t).names ≡ (tell s).names) × TakesPiece scheme tells first lines (tell t).end (tell s).at (tell t).at
-  unfolding TakesPiece
   ran_all fresh r =
       let o = OffersLine scheme key (Answered tells) in
       elim r.runs [
         | inl g ↦
             let c = chain_goes scheme key tells (tell s) r.order (tell t) open_ (seen_goes tell o s r.order t g) in
-            (c.names, (r.order, r.is_order, subst (λ (e : Option CommitErr). TakesBy scheme tells r.order e (tell s).at (tell t).at) (sym (c.end ∙ fresh)) (all_taken r.order c)))
+            (c.names, subst (λ (e : Option CommitErr). TakesPiece scheme tells first lines e (tell s).at (tell t).at) (sym (c.end ∙ fresh)) (all_taken r.order r.is_order c))
         | inr g ↦
             let c = chain_stops scheme key tells (tell s) r.order (tell t) open_ (seen_stops tell o s r.order t g) in
-            (c.names, (r.order, r.is_order, subst (λ (e : Option CommitErr). TakesBy scheme tells r.order e (tell s).at (tell t).at) (sym c.end) (some_taken r.order c)))
+            (c.names, subst (λ (e : Option CommitErr). TakesPiece scheme tells first lines e (tell s).at (tell t).at) (sym c.end) (some_taken r.order r.is_order c))
       ]
 
   pub ran_some : RunsSome (OffersLine scheme key (λ s item f t. Answered tells (tell s) item f (tell t))) first lines s t
       → ((tell t).names ≡ (tell s).names) × TakesPiece scheme tells first lines (Some end.NoMemory) (tell s).at (tell t).at
-  unfolding TakesPiece
   ran_some r =
       let g = r.runs in
       let c = chain_goes scheme key tells (tell s) g.front (tell t) open_ (seen_goes tell (OffersLine scheme key (Answered tells)) s g.front t g.goes) in (
         c.names,
-        (
-          r.order,
-          r.is_order,
-          record {
-            steps = c.steps;
-            rest = g.rest;
-            split = g.split ∙ ap (λ (l : List Said). l ++ g.rest) (sym c.said);
-            ended = inl (steps_end scheme key tells (tell s).at key_is open_.room c.steps end.NoMemory (tell t).at (lacks scheme key tells (tell s).at c.steps (tell t).at c.goes));
-            took = λ h p. c.took h p (known scheme key tells (tell s).at key_is open_.room h p);
-            fails = fails_wider (length g.front) (length r.order) (tell s).at.notary (tell t).at.notary (let e = ap length g.split in let l = length-append g.front g.rest in omega (arith, e, l)) c.fails;
-          },
-        ),
+        record {
+          steps = c.steps;
+          rest = g.rest;
+          is_order = subst (λ (l : List Said). IsOrderOf first lines l) (g.split ∙ ap (λ (l : List Said). l ++ g.rest) (sym c.said)) r.is_order;
+          ended = inl (steps_end scheme key tells (tell s).at key_is open_.room c.steps end.NoMemory (tell t).at (lacks scheme key tells (tell s).at c.steps (tell t).at c.goes));
+          took = λ h p. c.took h p (known scheme key tells (tell s).at key_is open_.room h p);
+          fails = fails_wider (length g.front) (length lines) (tell s).at.notary (tell t).at.notary (let e = ap length g.split in let l = length-append g.front g.rest in omega (arith, e, l, order_few first lines r.order r.is_order)) c.fails;
+        },
       )
 
 -- ---- pieces and windows
 
 module _ (scheme : Scheme) (tells : Bool) (got first : List ℕ) (items lines : List LaneLine) (s t : At) (first_is : got ≡ first) (lines_are : items ≡ lines) where
   pub piece_taken : TakesPiece scheme tells got items None s t → PieceTaken scheme tells first lines s t
-  unfolding TakesPiece
-  piece_taken x =
-      subst (λ (y : List ℕ × List LaneLine). PieceTaken scheme tells y.0 y.1 s t) (λ i. (first_is i, lines_are i))
-      (record { steps = x.2.steps; is_order = subst (λ (l : List Said). IsOrderOf got items l) (sym x.2.said) x.1; goes = x.2.goes; took = x.2.took; fails = fails_wider (length x.0) (length items) s.notary t.notary (order_few got items x.0 x.1) x.2.fails })
+  piece_taken x = subst (λ (y : List ℕ × List LaneLine). PieceTaken scheme tells y.0 y.1 s t) (λ i. (first_is i, lines_are i)) x.0
 
   pub piece_open : TakesPiece scheme tells got items None s t → IsOpen tells t
-  unfolding TakesPiece
-  piece_open x = x.2.still
+  piece_open x = x.1
 
   pub piece_broken : (why : CommitErr) → TakesPiece scheme tells got items (Some why) s t → PieceBroken scheme tells first lines why s t
-  unfolding TakesPiece
-  piece_broken why x =
-      subst (λ (y : List ℕ × List LaneLine). PieceBroken scheme tells y.0 y.1 why s t) (λ i. (first_is i, lines_are i))
-      (record { steps = x.2.steps; rest = x.2.rest; is_order = subst (λ (l : List Said). IsOrderOf got items l) x.2.split x.1; ended = x.2.ended; took = x.2.took; fails = fails_wider (length x.0) (length items) s.notary t.notary (order_few got items x.0 x.1) x.2.fails })
+  piece_broken why x = subst (λ (y : List ℕ × List LaneLine). PieceBroken scheme tells y.0 y.1 why s t) (λ i. (first_is i, lines_are i)) x
 
 -- no line at all
 pub piece_empty : (scheme : Scheme) (tells : Bool) (first : List ℕ) (lines : List LaneLine) (s : At) → lines ≡ [] → PieceTaken scheme tells first lines s s

@@ -42,16 +42,7 @@ pub record IsOpen (tells : Bool) (s : At) : Type 0 where
   pub fits : Fits tells (world_at s)
   pub room : HasRoom s.held.kept
 
--- ---- lines in an order
-
--- the lines were all taken in this order, in steps in which the notary took part
-pub record TakesAll (scheme : Scheme) (tells : Bool) (order : List Said) (s t : At) : Type 0 where
-  pub steps : List Step
-  pub said : map said_by steps ≡ order
-  pub goes : Goes tells (world_at s) (λ h. after_steps scheme h steps) (λ h. dues scheme h steps) (world_at t)
-  pub took : (h : History) → Holds tells (world_at s) h → Took scheme h s.notary steps t.notary
-  pub fails : FailsIn (length order) s.notary t.notary
-  pub still : IsOpen tells t
+-- ---- where a run ended
 
 -- the run ended where exactly these steps were taken
 abbrev pub EndsThere : Scheme → Bool → List Step → CommitErr → World → World → Type 0
@@ -69,24 +60,6 @@ pub record EndsAtAnchor (scheme : Scheme) (tells : Bool) (steps : List Step) (re
 -- the run ended behind these steps, in one of these two ways
 abbrev pub EndsBehind : Scheme → Bool → List Step → List Said → CommitErr → World → World → Type 0
 EndsBehind scheme tells steps rest end w t = EndsThere scheme tells steps end w t ⊎ EndsAtAnchor scheme tells steps rest end w t
-
--- the run ended on the way, where some first lines of this order were taken
-pub record TakesSome (scheme : Scheme) (tells : Bool) (order : List Said) (end : CommitErr) (s t : At) : Type 0 where
-  pub steps : List Step
-  pub rest : List Said
-  pub split : order ≡ map said_by steps ++ rest
-  pub ended : EndsBehind scheme tells steps rest end (world_at s) (world_at t)
-  pub took : (h : History) → Holds tells (world_at s) h → Took scheme h s.notary steps t.notary
-  pub fails : FailsIn (length order) s.notary t.notary
-
--- what came of lines in this order, by whether an end was met
-abbrev pub TakesBy : Scheme → Bool → List Said → Option CommitErr → At → At → Type 0
-TakesBy scheme tells order None s t = TakesAll scheme tells order s t
-TakesBy scheme tells order (Some end) s t = TakesSome scheme tells order end s t
-
--- the lines of a piece were taken, in an order in which each lane's lines are in theirs
-unfoldable pub TakesPiece : Scheme → Bool → List ℕ → List LaneLine → Option CommitErr → At → At → Type 0
-TakesPiece scheme tells first lines end s t = (order : List Said) × IsOrderOf first lines order × TakesBy scheme tells order end s t
 
 -- ---- one item
 
@@ -112,7 +85,8 @@ Answered tells s item Stop t =
 
 -- ---- a piece, and the end of its window
 
--- the lines of a piece were all taken, in an order of it
+-- The lines of a piece were all taken, in an order in which each lane's lines are in theirs, and in steps in which the notary took
+-- part.
 pub record PieceTaken (scheme : Scheme) (tells : Bool) (first : List ℕ) (lines : List LaneLine) (s t : At) : Type 0 where
   pub steps : List Step
   pub is_order : IsOrderOf first lines (map said_by steps)
@@ -128,6 +102,11 @@ pub record PieceBroken (scheme : Scheme) (tells : Bool) (first : List ℕ) (line
   pub ended : EndsBehind scheme tells steps rest end (world_at s) (world_at t)
   pub took : (h : History) → Holds tells (world_at s) h → Took scheme h s.notary steps t.notary
   pub fails : FailsIn (length lines) s.notary t.notary
+
+-- what came of the lines of a piece, by whether an end was met
+abbrev pub TakesPiece : Scheme → Bool → List ℕ → List LaneLine → Option CommitErr → At → At → Type 0
+TakesPiece scheme tells first lines None s t = PieceTaken scheme tells first lines s t × IsOpen tells t
+TakesPiece scheme tells first lines (Some end) s t = PieceBroken scheme tells first lines end s t
 
 -- the lines of a window were all taken, and the open block was ended behind them
 pub record WindowTaken (scheme : Scheme) (tells : Bool) (first : List ℕ) (lines : List LaneLine) (s t : At) : Type 0 where
