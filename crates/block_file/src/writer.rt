@@ -104,11 +104,8 @@ impl BlockWriter {
         ensures room { OnOk result (length self.new.head ≡ 44) }
         ensures body { OnOk result (self.new.body ≡ self.old.body ++ approval_bytes by.now) }
     {
-        let proof = by.proof.as_slice();
-        let len = proof.len() as u16;
-        self.add(&by.member.to_be_bytes())?;
-        self.add(&len.to_be_bytes())?;
-        self.add(proof)
+        self.add(&by.front())?;
+        self.add(by.proof.as_slice())
     }
 
     // Room for the head.

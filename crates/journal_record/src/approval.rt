@@ -1,3 +1,6 @@
+ghost use Rattle.std.specs.Prelude.{◌≡◌, ◌<◌, ◌^◌, ◌++◌, length};
+ghost use Rattle.std.specs.Int.{w16, w32, to_be_bytes};
+
 use ledger_bytes::{Bytes, Digest};
 
 /// The most bytes that show who placed a journal: those of 256 approvals, each with a proof of 4,096 bytes.
@@ -13,4 +16,18 @@ pub struct Approval {
     pub key: Option<Digest>,
     /// The proof as it came.
     pub proof: Bytes,
+}
+
+impl Approval {
+    /// What stands in front of the proof in the who bytes: the member's number and the proof's length.
+    pub fn front(&self) -> [u8; 6]
+        requires { length self.now.proof < 2 ^ 16 }
+        ensures { result ≡ to_be_bytes w32 self.now.member ++ to_be_bytes w16 (length self.now.proof) }
+    {
+        let mut front = [0; 6];
+        let (member, len) = front.split_at_mut(4);
+        member.copy_from_slice(&self.member.to_be_bytes());
+        len.copy_from_slice(&(self.proof.as_slice().len() as u16).to_be_bytes());
+        front
+    }
 }

@@ -38,10 +38,8 @@ pub fn approvals_digest(given: &[Approval]) -> Digest
 {
     let mut hasher = Sha::start(Tag::Who.byte());
     for approval in given {
-        let proof = approval.proof.as_slice();
-        hasher.add(&approval.member.to_be_bytes());
-        hasher.add(&(proof.len() as u16).to_be_bytes());
-        hasher.add(proof);
+        hasher.add(&approval.front());
+        hasher.add(approval.proof.as_slice());
     }
     hasher.end()
 }

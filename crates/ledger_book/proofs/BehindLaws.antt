@@ -12,7 +12,7 @@ use Rattle.tree_model.specs.Tree.{leaf}
 use Rattle.ledger_bytes.specs.declared.digest.Digest.{Digest}
 use Rattle.journal_record.specs.Entry.{Entry}
 use Rattle.journal_record.specs.Header.{spelling}
-use Rattle.journal_record.specs.Rules.{is_no_clue, clue_ok}
+use Rattle.journal_record.specs.Rules.{is_no_clue, clue_ok, clue_ord_ok}
 use Rattle.journal_record.specs.declared.header.Header.{Header}
 use Rattle.journal_record.specs.declared.header.Kind.{Kind}
 use Rattle.journal_record.specs.declared.header.Kind.TheVariants as kind
@@ -166,7 +166,7 @@ pub record IsMore (old new : Kept) (start : Option Base) (es : List Entry) (x : 
   pub size_is : new.size ≡ old.size + 1
   pub point : new.point ≡ point_with x old.point
   pub members : length new.members ≡ length old.members + cond (is_member x.kind) 1 0
-  pub clues : (a : Added) → clue_ok x.kind x.clue ≡ true → index.StandsForTrails old.clues a → a.floor ≤ x.jsn → All (λ (m : Mark). m.jsn < x.jsn) a.marks → index.StandsForTrails new.clues (with_clue_of x a)
+  pub clues : (a : Added) → clue_ok x.kind x.clue ≡ true → clue_ord_ok x.clue x.clue_ord ≡ true → index.StandsForTrails old.clues a → a.floor ≤ x.jsn → All (λ (m : Mark). m.jsn < x.jsn) a.marks → index.StandsForTrails new.clues (with_clue_of x a)
   pub hiders : AddsHider x.kind x old.hiders new.hiders
   pub headers_are : new.headers ≡ old.headers ++ x ∷ []
   pub list : (ds : List (List ℕ)) → StandsFor sha256 old.tree ds → StandsFor sha256 new.tree (ds ++ leaf sha256 (spelling x) ∷ [])
@@ -182,7 +182,7 @@ more_here old new start es j some s m = record {
   point = m.point ∙ ap (λ p. cond (is_purge j.header.kind) j.header.a p) s.point ∙ risen start es j.header j.header.kind m.next.own ∙ sym (points_more es j);
   members = omega (arith, m.members, s.members, count_next start es j (omega (arith, some, s.size_is)));
   clues = subst (index.StandsForTrails new.clues) (clues_next start es j)
-      (m.clues (clues_behind start es) m.next.layout.clue s.clues (omega (arith, clues_low start es, m.next.jsn)) (clues_under start es j.header.jsn s.are (sym m.next.jsn)));
+      (m.clues (clues_behind start es) m.next.layout.clue m.next.layout.clue_ord s.clues (omega (arith, clues_low start es, m.next.jsn)) (clues_under start es j.header.jsn s.are (sym m.next.jsn)));
   hiders = hiders_next old.hiders new.hiders es j j.header.kind refl s.hiders m.hiders;
   headers_are = m.headers_are ∙ ap (λ l. l ++ j.header ∷ []) s.headers_are ∙ sym (map-append (λ (e : Entry). e.header) es (j ∷ []));
   leaves = leaves_next start old.tree new.tree es j m.list m.over s.leaves;

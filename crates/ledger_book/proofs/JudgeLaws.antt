@@ -128,6 +128,20 @@ clue_old l h clue ordinal is other = by_clue (is_no_clue clue) refl where
       let next : ordinal ≡ length (jsns_with h clue) + 1 = is ∙ sym (ordinal_some h clue (length (jsns_with h clue) + 1) some refl) in
       sym (clue_known l h clue ordinal next (omega (arith, next, other)))
 
+-- a clue whose next journal is its first is one
+first_some : (h : History) (clue : Digest) (ordinal : ℕ) → ordinal ≡ next_ordinal h clue → ordinal ≡ 1 → is_no_clue clue ≡ false
+first_some h clue ordinal is one = by_clue (is_no_clue clue) refl where
+  by_clue : (b : Bool) → is_no_clue clue ≡ b → is_no_clue clue ≡ false
+  by_clue true none = let no : ⊥ = omega (arith, is, one, ordinal_none h clue none) in absurd no
+  by_clue false some = some
+
+-- a new clue, where there are as many as there may be
+pub clue_over : (limits : Limits) (k : Kept) (h : History) (clue : Digest) (ordinal n : ℕ) → Stands k h → ordinal ≡ next_ordinal h clue → ordinal ≡ 1 → ((a : Added) → index.StandsForTrails k.clues a → n ≡ length (different_clues a)) → limits.clues ≤ n → Some CluesFull ≡ clues_full limits h clue
+clue_over limits k h clue ordinal n s is one told fullness =
+    let some = first_some h clue ordinal is one in
+    let next : ordinal ≡ length (jsns_with h clue) + 1 = is ∙ sym (ordinal_some h clue (length (jsns_with h clue) + 1) some refl) in
+    clue_full limits k h clue ordinal n s some next (omega (arith, one)) told fullness
+
 -- the first of some judgements, and where there is none the first of those behind them
 first_then : (front behind : List (Option Refusal)) (result : Option Refusal) {P : Type 0} → (P → result ≡ first_refusal behind) → MatchOption (first_refusal front) P (λ refusal. result ≡ Some refusal) → result ≡ first_refusal (front ++ behind)
 first_then [] behind result told is = told is
@@ -136,6 +150,13 @@ first_then (None ∷ front) behind result told is = first_then front behind resu
 
 pub or_else_then : (front behind : List (Option Refusal)) (got result : Option Refusal) {P : Type 0} → got ≡ first_refusal front → (P → result ≡ first_refusal behind) → MatchOption got P (λ refusal. result ≡ Some refusal) → result ≡ first_refusal (front ++ behind)
 or_else_then front behind got result {P} first told is = first_then front behind result told (subst (λ (o : Option Refusal). MatchOption o P (λ refusal. result ≡ Some refusal)) first is)
+
+-- no judgement before or behind these
+pub refused_before : (front behind : List (Option Refusal)) (r : Refusal) → Some r ≡ first_refusal front → Some r ≡ first_refusal (front ++ behind)
+refused_before front behind r is = first_then front behind (Some r) absurd (subst (λ (o : Option Refusal). MatchOption o ⊥ (λ refusal. Some r ≡ Some refusal)) is refl)
+
+pub passed_before : (front behind : List (Option Refusal)) (result : Option Refusal) → NoRefusal (first_refusal front) → result ≡ first_refusal behind → result ≡ first_refusal (front ++ behind)
+passed_before front behind result none told = first_then front behind result {P = Unit {0}} (λ _. told) (subst (λ (o : Option Refusal). MatchOption o (Unit {0}) (λ refusal. result ≡ Some refusal)) none tt)
 
 pub first_one : (c : Option Refusal) → c ≡ first_refusal (c ∷ [])
 first_one (Some r) = refl

@@ -1,5 +1,5 @@
 -- Lemmas on which header is the next one of a history.
-use Rattle.std.proofs.Common.{◌≡◌, ◌⊎◌, false, refl, inl, inr, [], length}
+use Rattle.std.proofs.Common.{◌≡◌, ◌⊎◌, false, refl, inl, inr, []}
 use Rattle.journal_record.specs.declared.header.Header.{Header}
 use Rattle.journal_record.specs.declared.header.Kind.{Kind}
 use Rattle.journal_record.specs.declared.header.Kind.TheVariants as kind
@@ -8,12 +8,6 @@ use Rattle.ledger_model.specs.History.{History, history, journals, point}
 use Rattle.ledger_model.specs.Judgements.{clues_full}
 use Rattle.ledger_model.specs.Lawful.{IsNextOf}
 use Rattle.ledger_model.specs.Members.{members, is_member}
-use Rattle.ledger_book.specs.Books.{Kept, Stands}
-use Rattle.ledger_book.proofs.MemberLaws.{known_count}
-
--- how many members there are
-pub members_told : (k : Kept) (h : History) → Stands k h → length k.members ≡ length (members h)
-members_told k h s = known_count k.floor k.members (members h) s.members
 
 -- what is next doesn't depend on where blocks end
 pub next_open : (h : History) (x : Header) (k : Kind) → IsNextOf h x k → IsNextOf (history [] (journals h)) x k

@@ -14,7 +14,7 @@ use Rattle.ledger_bytes.specs.declared.digest.Digest.{Digest}
 use Rattle.ledger_bytes.specs.declared.mark.TimeMark.{TimeMark}
 use Rattle.journal_record.specs.Entry.{Entry}
 use Rattle.journal_record.specs.Header.{spelling}
-use Rattle.journal_record.specs.Rules.{is_no_clue, clue_ok}
+use Rattle.journal_record.specs.Rules.{is_no_clue, clue_ok, clue_ord_ok}
 use Rattle.journal_record.specs.declared.header.Header.{Header}
 use Rattle.journal_record.specs.declared.header.Kind.{Kind}
 use Rattle.journal_record.specs.declared.header.Kind.TheVariants as kind
@@ -247,7 +247,7 @@ wider_members_more h j some one =
 
 -- what an index of clues that was given a journal's clue tells
 abbrev pub AddsClue : index.KeptTrails → index.KeptTrails → Header → Type 0
-AddsClue old new header = (a : Added) → clue_ok header.kind header.clue ≡ true → index.StandsForTrails old a → a.floor ≤ header.jsn → All (λ m. m.jsn < header.jsn) a.marks → index.StandsForTrails new (with_clue_of header a)
+AddsClue old new header = (a : Added) → clue_ok header.kind header.clue ≡ true → clue_ord_ok header.clue header.clue_ord ≡ true → index.StandsForTrails old a → a.floor ≤ header.jsn → All (λ m. m.jsn < header.jsn) a.marks → index.StandsForTrails new (with_clue_of header a)
 
 -- the lists with a header more
 pub record Grown (k : Kept) (hs : List Header) (rows : Levels) (ends : List ℕ) (header : Header) (tip : Digest) : Type 0 where
@@ -294,7 +294,7 @@ module _ (k : Kept) (h : History) (j : Entry) (header : Header) (s : Stands k h)
       → point ≡ point_with header k.point → times ≡ with_time_of k.size header k.times → Grown k hs rows ends header tip → Stands (kept_with k point k.members t by times hs rows ends) (wider h j)
   stands_record point t by times hs rows ends tip content adds hides at timed more =
       let kind_is : is_member j.header.kind ≡ false = ap (λ (x : Header). is_member x.kind) is ∙ content in
-      let told = adds (clues_added k.floor (journals h)) next.layout.clue s.clues (omega (arith, low, next.jsn)) (subst (λ n. All (λ (m : Mark). m.jsn < n) (clues_added k.floor (journals h)).marks) (sym next.jsn) (marks_below k.floor (journals h) s.lawful)) in
+      let told = adds (clues_added k.floor (journals h)) next.layout.clue next.layout.clue_ord s.clues (omega (arith, low, next.jsn)) (subst (λ n. All (λ (m : Mark). m.jsn < n) (clues_added k.floor (journals h)).marks) (sym next.jsn) (marks_below k.floor (journals h) s.lawful)) in
       let clues : index.StandsForTrails t (clues_added k.floor (journals (wider h j))) = subst (index.StandsForTrails t) (ap (λ (x : Header). with_clue_of x (clues_added k.floor (journals h))) (sym is) ∙ wider_clues k.floor h j) told in
       grown k (wider h j) j point k.members t by times hs rows ends header is at timed more.headers_are more.ends_are
       (stands_wider k h j k.members t by rows s placing (subst (λ (x : Header). AddsHider x.kind x k.hiders by) (sym is) hides) (s.members ∙ ap (aged_members k.floor) (sym (wider_members_same h j some_yet kind_is))) clues (leaf_more rows tip more.tip_is more.leaves_are))

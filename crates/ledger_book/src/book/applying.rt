@@ -99,10 +99,10 @@ impl Book {
         ensures unchanged { IfOk result (λ outcome. PlacesNothing outcome → self.new ≡ self.old) }
         ensures places { IfOk result NeverReads }
     {
-        if let Some(refusal) = self.record_refusal(member, clue, by) {
-            return Ok(Outcome::Refused(refusal));
-        }
-        let numbers = self.numbers_of(clue);
+        let numbers = match self.judge_record(member, clue, by) {
+            Ok(numbers) => numbers,
+            Err(refusal) => return Ok(Outcome::Refused(refusal)),
+        };
         let content_len = content.as_slice().len() as u32;
         let header = record_header(
             numbers,

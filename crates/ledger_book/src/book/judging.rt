@@ -1,17 +1,18 @@
-ghost use Rattle.std.specs.Prelude.{◌≡◌, ◌-◌, ◌<◌, ◌≤◌, ◌^◌, ◌↔◌, List, [], ◌∷◌, length, IsTrue, IfNone, IfSome, Option, None};
+ghost use Rattle.std.specs.Prelude.{◌≡◌, ◌-◌, ◌<◌, ◌≤◌, ◌^◌, ◌↔◌, List, [], ◌∷◌, length, IsTrue, IfErr, IfNone, IfOk, IfSome, OnOk, Option, None, Some};
 ghost use Rattle.ledger_bytes.specs.declared.limits.TheConstants.{MEMBER_LIMIT};
 ghost use Rattle.std.specs.Option.{is_none};
-ghost use Rattle.clue_index.specs.Added.{Added, trail_of};
+ghost use Rattle.clue_index.specs.Added.{Added};
 ghost use Rattle.clue_index.specs.Index as index;
-ghost use Rattle.clue_index.specs.Trail.{count_of};
 ghost use Rattle.journal_record.specs.Entry.{Entry};
 ghost use Rattle.journal_record.specs.Members.{keys};
 ghost use Rattle.ledger_bytes.specs.Digests.{digest};
+ghost use Rattle.ledger_bytes.specs.declared.digest.Digest.{Digest as DigestRecord};
+ghost use Rattle.ledger_model.specs.Clues.{next_ordinal, last_journal};
 ghost use Rattle.ledger_model.specs.History as model;
 ghost use Rattle.ledger_model.specs.History.{History, history};
 ghost use Rattle.ledger_model.specs.Targets.{leaf_at};
 ghost use Rattle.pseudo_genesis.specs.declared.base.Base.{Base};
-ghost use Rattle.ledger_book.specs.Behind.{HasRoomFor, first_of};
+ghost use Rattle.ledger_book.specs.Behind.{HasRoomFor, first_of, ordinal_in};
 ghost use Rattle.ledger_model.specs.Judgements.{fullness, hard_fullness, unknown_in, wrong_key_in, clues_full, append_judgements, member_judgements, occult_judgements};
 ghost use Rattle.member_book.specs.Erasures.{first_refusal};
 ghost use Rattle.ledger_model.specs.Limits.{AreWithin, real_limits};
@@ -21,28 +22,44 @@ ghost use Rattle.ledger_book.specs.Reading.{StandsBehind};
 ghost use Rattle.ledger_book.specs.Steps.{HasOperatorRoom};
 
 use super::Book;
+use crate::headers::Numbers;
 use erase_rules::{OccultFacts, judge_occult};
 use journal_record::{Approval, Kind};
 use ledger_bytes::{Digest, Refusal};
 use ledger_model::Limits;
 
 impl Book {
-    /// Why a member's record with this clue is refused, where it is.
-    pub(super) fn record_refusal(
+    /// The numbers of a member's next record with this clue, or why it is refused.
+    pub(super) fn judge_record(
         &self,
         member: u32,
         clue: &Digest,
         by: &Approval,
-    ) -> Option<Refusal>
-        ensures refusal { (h : History) → Serves self.now h
-            → result ≡ first_refusal
-            (append_judgements self.now.limits h member clue.now by.now.key) }
-        ensures room { IfNone result (self.now.size < real_limits.size) }
+    ) -> Result<Numbers, Refusal>
+        ensures refused { IfErr result (λ refusal. (h : History) → Serves self.now h
+            → Some refusal ≡ first_refusal
+            (append_judgements self.now.limits h member clue.now by.now.key)) }
+        ensures passed { IfOk result (λ numbers. (h : History) → Serves self.now h
+            → first_refusal (append_judgements self.now.limits h member clue.now by.now.key) ≡ None) }
+        ensures jsn { IfOk result (λ numbers. numbers.jsn ≡ self.now.size) }
+        ensures ordinal { IfOk result (λ numbers. (h : History) → Stands self.now h
+            → numbers.ordinal ≡ next_ordinal h clue.now) }
+        ensures previous { IfOk result (λ numbers. (h : History) → Stands self.now h
+            → numbers.previous ≡ last_journal h clue.now) }
+        ensures room { OnOk result (self.now.size < real_limits.size) }
         ensures within { AreWithin self.now.limits }
     {
-        self.full_refusal()
-            .or_else(|| self.key_refusal(member, &by.key))
-            .or_else(|| self.clue_refusal(clue, self.limits))
+        if let Some(refusal) = self.full_refusal() {
+            return Err(refusal);
+        }
+        if let Some(refusal) = self.key_refusal(member, &by.key) {
+            return Err(refusal);
+        }
+        let numbers = self.numbers_of(clue);
+        if let Some(refusal) = self.clue_refusal(numbers.ordinal, self.limits) {
+            return Err(refusal);
+        }
+        Ok(numbers)
     }
 
     /// Why a new member with this number is refused, where it is.
@@ -111,19 +128,16 @@ impl Book {
         }
     }
 
-    /// Whether the clue is a new one, and there are as many as there may be by these limits.
-    pub(super) fn clue_refusal(&self, clue: &Digest, limits: Limits) -> Option<Refusal>
-        requires { self.now.size < real_limits.size }
-        ensures refusal { (h : History) → Stands self.now h → result ≡ clues_full limits h clue.now }
-        ensures room { (a : Added) → index.StandsForTrails self.now.clues a
-            → count_of (trail_of a clue.now.0) < 2 ^ 32 - 1
-            → IsTrue (is_none result) ↔ HasRoomFor limits.clues a clue.now }
+    /// Whether a clue is a new one, whose next journal has the ordinal 1, and there are as many clues as there may be by
+    /// these limits.
+    pub(super) fn clue_refusal(&self, ordinal: u32, limits: Limits) -> Option<Refusal>
+        ensures refusal { (h : History) (clue : DigestRecord) → Stands self.now h
+            → ordinal ≡ next_ordinal h clue → result ≡ clues_full limits h clue }
+        ensures room { (a : Added) (clue : DigestRecord) → index.StandsForTrails self.now.clues a
+            → ordinal ≡ ordinal_in a clue
+            → IsTrue (is_none result) ↔ HasRoomFor limits.clues a clue }
     {
-        if *clue == Digest::ZERO {
-            return None;
-        }
-        let (ordinal, _) = self.clues.next_of(clue);
-        if ordinal > 1 {
+        if ordinal != 1 {
             return None;
         }
         if self.clues.clues() < limits.clues {

@@ -2,7 +2,7 @@ ghost use Rattle.std.specs.Prelude.{◌≡◌, ◌+◌, ◌-◌, ◌^◌, ◌<�
 ghost use Rattle.std.specs.List.{AllByRecursion};
 ghost use Rattle.ledger_bytes.specs.declared.limits.TheConstants.{MEMBER_LIMIT};
 ghost use Rattle.journal_record.specs.Entry.{Entry};
-ghost use Rattle.journal_record.specs.Rules.{clue_ok};
+ghost use Rattle.journal_record.specs.Rules.{clue_ok, clue_ord_ok};
 ghost use Rattle.journal_record.specs.declared.header.Kind.TheVariants as kind;
 ghost use Rattle.clue_index.specs.Added.{Added, trail_of};
 ghost use Rattle.clue_index.specs.Trail.{count_of};
@@ -157,6 +157,7 @@ fn add_to_indexes(
     ensures times { OnOk result (times.new ≡ with_time_of jsn header.now times.old) }
     ensures below { OnOk result (AllByRecursion (λ m. m.jsn < jsn + 1) times.new) }
     ensures clues { OnOk result ((a : Added) → clue_ok header.now.kind header.now.clue ≡ true
+        → clue_ord_ok header.now.clue header.now.clue_ord ≡ true
         → index.StandsForTrails clues.old a → a.floor ≤ header.now.jsn
         → All (λ m. m.jsn < header.now.jsn) a.marks
         → index.StandsForTrails clues.new (with_clue_of header.now a)) }
@@ -181,14 +182,15 @@ fn add_to_indexes(
     add_clue(clues, header)
 }
 
-// Adds a journal to its clue, where it has one.
+// Adds a journal to its clue, where it has one: the ordinal is 0 where it has none.
 fn add_clue(clues: &mut ClueIndex, header: &Header) -> Result<(), NoMemory>
-    ensures ok { OnOk result ((a : Added) → index.StandsForTrails clues.old a → a.floor ≤ header.now.jsn
+    ensures ok { OnOk result ((a : Added) → clue_ord_ok header.now.clue header.now.clue_ord ≡ true
+        → index.StandsForTrails clues.old a → a.floor ≤ header.now.jsn
         → All (λ m. m.jsn < header.now.jsn) a.marks
         → index.StandsForTrails clues.new (with_clue_of header.now a)) }
     ensures err { OnErr result (clues.new ≡ clues.old) }
 {
-    if header.clue == Digest::ZERO {
+    if header.clue_ord == 0 {
         return Ok(());
     }
     clues.add(&header.clue, header.jsn)

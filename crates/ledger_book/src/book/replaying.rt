@@ -167,8 +167,7 @@ impl Book {
         if header.clue_prev != numbers.previous {
             return false;
         }
-        // A clue that has a journal already needs no room, and neither does no clue.
-        numbers.ordinal != 1 || self.clue_refusal(&header.clue, Limits::real()).is_none()
+        self.clue_refusal(numbers.ordinal, Limits::real()).is_none()
     }
 
     // Whether an occult is the next one, where its number is. Nothing but its hider is known of a target in front of the

@@ -1,30 +1,13 @@
-use Rattle.std.proofs.Common.{◌<◌, ◌↔◌, length, not, ap, sym, subst, ◌∙◌, arith}
+use Rattle.std.proofs.Common.{◌<◌, ◌↔◌, length, ap, sym, subst, ◌∙◌, arith}
 use Rattle.std.specs.Prelude.{IsTrue}
 use Rattle.std.specs.Option.{is_none}
-use Rattle.std.proofs.lemmas.Bool.{ne_eqb}
 use Rattle.ledger_model.specs.Limits.{real_limits}
 use Rattle.ledger_model.specs.declared.limits.Limits.{Limits}
 use Rattle.ledger_book.specs.Behind.{HasRoomFor, clues_behind}
 use Rattle.ledger_book.specs.Books.{Kept}
 use Rattle.ledger_book.proofs.FactLaws.{none_told}
-use Rattle.ledger_book.proofs.JudgeLaws.{clue_old}
-use Rattle.ledger_book.proofs.NextLaws.{never, few_behind, room_old}
-use Rattle.ledger_book.proofs.ReplayLaws.{members_told}
+use Rattle.ledger_book.proofs.NextLaws.{never, few_behind}
 use Rattle.ledger_book.proofs.book.Book.is_next_record.Goals as goal
-
-pub returns-then-numbers-ne1-clause-next : goal.returns-then-numbers-ne1-clause-next
-returns-then-numbers-ne1-clause-next c = λ h s.
-    let x = c.args.header.now in
-    let numbers = c.numbers_of-numbers.result in
-    let ordinal = c.numbers_of-numbers.ensures.ordinal h s in (
-      λ yes. record {
-        member = omega (arith, c.if-header-count.false, c.count.ensures.count, ap (λ (k : Kept). length k.members) c.self.view_is, members_told c.args.self.now h s);
-        clue_ord = c.if-header-numbers.false ∙ ordinal;
-        clue_prev = c.if-header-numbers-2.false ∙ c.numbers_of-numbers.ensures.previous h s;
-        room = clue_old real_limits h x.clue numbers.ordinal ordinal c.if-numbers-ne1.true;
-      },
-      λ next. ap not (ne_eqb numbers.ordinal 1 c.if-numbers-ne1.true),
-    )
 
 pub returns-then-header-numbers-clause-behind : goal.returns-then-header-numbers-clause-behind
 returns-then-header-numbers-clause-behind c = λ start es s.
@@ -33,24 +16,8 @@ returns-then-header-numbers-clause-behind c = λ start es s.
     let ordinal = c.numbers_of-numbers.ensures.ordinal_in (clues_behind start es) s.clues (few_behind k start es s few c.args.header.now.clue.0) in
     never (λ own. c.if-header-numbers.true (own.clue_ord ∙ sym ordinal))
 
-pub returns-then-numbers-ne1-clause-behind : goal.returns-then-numbers-ne1-clause-behind
-returns-then-numbers-ne1-clause-behind c = λ start es s.
-    let k = c.args.self.now in
-    let x = c.args.header.now in
-    let numbers = c.numbers_of-numbers.result in
-    let few : k.size < 4_294_967_295 = c.requires in
-    let ordinal = c.numbers_of-numbers.ensures.ordinal_in (clues_behind start es) s.clues (few_behind k start es s few x.clue.0) in (
-      λ yes. record {
-        member = omega (arith, c.if-header-count.false, c.count.ensures.count, ap (λ (b : Kept). length b.members) c.self.view_is, s.members);
-        clue_ord = c.if-header-numbers.false ∙ ordinal;
-        clue_prev = c.if-header-numbers-2.false ∙ c.numbers_of-numbers.ensures.previous_in (clues_behind start es) s.clues;
-        room = room_old real_limits.clues (clues_behind start es) x.clue numbers.ordinal ordinal c.if-numbers-ne1.true;
-      },
-      λ next. ap not (ne_eqb numbers.ordinal 1 c.if-numbers-ne1.true),
-    )
-
-pub returns-else-numbers-ne1-clause-behind : goal.returns-else-numbers-ne1-clause-behind
-returns-else-numbers-ne1-clause-behind c = λ start es s.
+pub returns-clause-behind : goal.returns-clause-behind
+returns-clause-behind c = λ start es s.
     let k = c.args.self.now in
     let x = c.args.header.now in
     let a = clues_behind start es in
@@ -58,7 +25,7 @@ returns-else-numbers-ne1-clause-behind c = λ start es s.
     let ordinal = c.numbers_of-numbers.ensures.ordinal_in a s.clues (few_behind k start es s few x.clue.0) in
     let told : IsTrue c.is_none.result ↔ HasRoomFor real_limits.clues a x.clue =
     subst (λ v. IsTrue v ↔ HasRoomFor real_limits.clues a x.clue) (none_told c.clue_refusal.result c.is_none.result c.is_none.ensures)
-    (subst (λ (l : Limits). IsTrue (is_none c.clue_refusal.result) ↔ HasRoomFor l.clues a x.clue) c.real.ensures (c.clue_refusal.ensures.room a s.clues (few_behind k start es s few x.clue.0))) in (
+    (subst (λ (l : Limits). IsTrue (is_none c.clue_refusal.result) ↔ HasRoomFor l.clues a x.clue) c.real.ensures (c.clue_refusal.ensures.room a x.clue s.clues ordinal)) in (
       λ yes. record {
         member = omega (arith, c.if-header-count.false, c.count.ensures.count, ap (λ (b : Kept). length b.members) c.self.view_is, s.members);
         clue_ord = c.if-header-numbers.false ∙ ordinal;

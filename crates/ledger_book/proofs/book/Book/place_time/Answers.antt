@@ -1,4 +1,4 @@
-use Rattle.std.proofs.Common.{◌≤◌, Some, refl, sym, ap, subst, ◌∙◌, arith}
+use Rattle.std.proofs.Common.{Some, refl, sym, ap, subst, ◌∙◌, arith}
 use Rattle.ledger_model.specs.Anchors.{time_header, time_journal}
 use Rattle.ledger_model.specs.History.{size}
 use Rattle.ledger_model.specs.Limits.{AreWithin}
