@@ -6,7 +6,7 @@ ghost use Rattle.ledger_cli.specs.Endings.{status_of, HasWords};
 use batch_committer::CommitErr;
 use block_file::Damage;
 use ledger_bytes::NoMemory;
-use ledger_io::{Ending, LineErr, WriteErr};
+use ledger_io::Ending;
 use ledger_open::OpenErr;
 use script_lines::{Word, put_words};
 

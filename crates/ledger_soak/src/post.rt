@@ -17,7 +17,7 @@ use ledger_bytes::{Bytes, NoMemory};
 use ledger_disk::{Disk, FuseDisk, MemDisk, Pick};
 use ledger_io::MemSink;
 use ledger_model::Genesis;
-use ledger_open::{Opened, init, reopen};
+use ledger_open::{init, reopen};
 use member_book::TagScheme;
 use notary_ledger::MemNotary;
 use std::alloc::Global;
