@@ -10,7 +10,7 @@ fn reads_a_line_of_fields(rt: HostRuntime) -> Result<(), Fail> {
     line.extend_from_slice(LEAF.as_bytes())?;
     line.extend_from_slice(b" 0aFF - c- ")?;
     let mut fields = Fields::of(line.as_slice());
-    assert_eq!(rt; fields.word(b"trust"), Ok(()));
+    assert_eq!(rt; fields.text(), Ok(b"trust".as_slice()));
     assert_eq!(rt; fields.which(), Ok(Which::Notary));
     let leaf = fields.digest().ok().ok_or("no digest")?;
     assert_eq!(rt; (leaf.0[0], leaf.0[31]), (0xe1, 0x3c));

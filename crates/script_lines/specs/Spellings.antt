@@ -24,10 +24,6 @@ first >>= second = option_and_then second first
 abbrev pub text_of : List ℕ → Option (List ℕ)
 text_of text = Some text
 
--- exactly this word, and no other
-abbrev pub word_of : List ℕ → List ℕ → Option (Unit {0})
-word_of word text = if bytes_eq text word then Some tt else None
-
 -- the text `-`, which stands for nothing
 abbrev pub is_dash : List ℕ → Bool
 is_dash text = bytes_eq text (codes "-")

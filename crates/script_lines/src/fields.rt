@@ -2,7 +2,7 @@ ghost use Rattle.std.specs.Prelude.{◌≡◌, ◌≤◌, length, All, Ok, Err, 
 ghost use Rattle.ledger_bytes.specs.declared.limits.TheConstants.{APPROVAL_LIMIT, NAME_LIMIT, PROOF_LIMIT};
 ghost use Rattle.script_lines.specs.Fields.{fields_of, behind, field_at, end_at, taken_field};
 ghost use Rattle.script_lines.specs.Reading.{IsStopAt, TakesFields};
-ghost use Rattle.script_lines.specs.Spellings.{text_of, word_of, number_of, bytes_of, digest_of, clue_of, which_of, approvals_of, mark_of};
+ghost use Rattle.script_lines.specs.Spellings.{text_of, number_of, bytes_of, digest_of, clue_of, which_of, approvals_of, mark_of};
 
 use crate::said::{SaidApproval, Which};
 use crate::spellings::{
@@ -71,20 +71,6 @@ impl<'a> Fields<'a> {
         self.column = self.column.saturating_add(1);
         self.left = rest;
         Ok(field)
-    }
-
-    /// Passes over exactly this word.
-    pub fn word(&mut self, word: &[u8]) -> Result<(), Refusal>
-        ensures takes { field_at (word_of word.now) self.old ≡ taken_field result self.new }
-        ensures goes_on { self.new ≡ behind self.old }
-        ensures refused { IfErr result (λ refusal. refusal ≡ Refusal.BadField self.old.column) }
-    {
-        let column = self.column();
-        if self.text()? == word {
-            Ok(())
-        } else {
-            Err(bad_field(column))
-        }
     }
 
     /// A decimal number without a leading zero, at most `most`.
