@@ -26,7 +26,7 @@ use Rattle.audit_core.specs.Truth.{Lists, HasJournal, IsTrueOf}
 use Rattle.audit_core.specs.Judgement.{IsUnderHead, leaf_clash, clash_of}
 use Rattle.audit_core.specs.Extending.{unless, extension_refusal, extension, extend_refusal, IsExtension}
 use Rattle.audit_core.specs.Parts.{Part, first_of_parts, path_part, extension_clash, parts_of, PathGives, ExtensionGives}
-use Rattle.audit_core.specs.Chains.{first_of, BeginsWith, Extension, LeadsTo, chain_parts, chain_clash}
+use Rattle.audit_core.specs.Chains.{lists_until, BeginsWith, Extension, LeadsTo, chain_parts, chain_clash}
 use Rattle.audit_core.proofs.Accepting.{under_leads}
 use Rattle.audit_core.proofs.ExtensionLaws.{neither, extension_found}
 use Rattle.audit_core.proofs.PartLaws.{Leads, told_same, digest_is, path_within, path_shows, path_leads_on, extension_shows, extension_leads_on}
@@ -144,7 +144,7 @@ module _ (hash : Hash) (makes : Makes hash) where
       (chain_leads_on m old es size root list leads size_is root_is (BeginsWith hash list m old) [] (λ starts. inl starts))
 
   -- a claim that is true of the first journals is true of all
-  journal_grows : (lists : Lists) (m n : ℕ) (digest : Digest) → HasJournal hash (first_of m lists) n digest → HasJournal hash lists n digest
+  journal_grows : (lists : Lists) (m n : ℕ) (digest : Digest) → HasJournal hash (lists_until m lists) n digest → HasJournal hash lists n digest
   journal_grows lists m n digest it =
       let before : n < m = omega (arith, it.within, length-take m lists.headers) in
       record {
@@ -154,14 +154,14 @@ module _ (hash : Hash) (makes : Makes hash) where
 
   pub yes_stays : (bytes : List ℕ) (claim : Claim) (trust : Trust) (lists : Lists) (p : Shown) (root : Digest) (es : List Extension) (head : Head) → acceptance hash bytes claim trust ≡ Ok tt → claim.lo ≡ None → claim.hi ≡ None
       → proof_of bytes ≡ Ok p → root_of Ledger trust p.size ≡ Some root → LeadsTo hash p.size root.0 es head.size head.root.0 → length lists.headers ≡ head.size → mth hash lists.headers ≡ head.root.0
-      → IsTrueOf hash lists claim ⊎ (Clashes hash (chain_clash hash lists.headers es) ⊎ Clashes hash (clash_of hash (first_of p.size lists) bytes))
+      → IsTrueOf hash lists claim ⊎ (Clashes hash (chain_clash hash lists.headers es) ⊎ Clashes hash (clash_of hash (lists_until p.size lists) bytes))
   yes_stays bytes claim trust lists p root es head said lower upper read trusted leads size_is root_is = elim (chain_true p.size root.0 es head.size head.root.0 lists.headers leads size_is root_is) [
     | inr clashes ↦ inr (inl clashes)
     | inl starts ↦
         let count : length (take p.size lists.headers) ≡ p.size = omega (arith, length-take p.size lists.headers, starts.within) in
         let under : IsUnderHead hash trust bytes (take p.size lists.headers) =
         record { proof = p; read = read; root = root; trusted = trusted; count = count; root_is = starts.root_is } in
-        elim (yes_true bytes claim trust (first_of p.size lists) said lower upper under) [
+        elim (yes_true bytes claim trust (lists_until p.size lists) said lower upper under) [
           | inr clashes ↦ inr (inr clashes)
           | inl holds ↦ inl (unbounded_true hash lists claim lower upper (journal_grows lists p.size claim.n claim.leaf holds.journal))
         ]

@@ -10,8 +10,8 @@ use Rattle.audit_core.specs.Truth.{Lists}
 use Rattle.audit_core.specs.Parts.{Part, first_of_parts, extension_part, parts_of}
 
 -- the lists with the headers of the first m journals alone
-abbrev pub first_of : ℕ → Lists → Lists
-first_of m lists = record { id = lists.id; headers = take m lists.headers; entries = lists.entries }
+abbrev pub lists_until : ℕ → Lists → Lists
+lists_until m lists = record { id = lists.id; headers = take m lists.headers; entries = lists.entries }
 
 -- a list begins with m items that have this root
 pub record BeginsWith (hash : Hash) (list : List (List ℕ)) (m : ℕ) (root : List ℕ) : Type 0 where

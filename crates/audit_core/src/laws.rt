@@ -16,7 +16,7 @@ ghost use Rattle.audit_core.specs.Truth.{Lists, HasJournal, IsTrueOf};
 ghost use Rattle.audit_core.specs.Judgement.{IsUnderHead, leaf_clash, clash_of};
 ghost use Rattle.audit_core.specs.Parts.{extension_clash};
 ghost use Rattle.audit_core.specs.Honest.{IsHonest, AreMoments};
-ghost use Rattle.audit_core.specs.Chains.{first_of, BeginsWith, Extension, LeadsTo, chain_clash, AreReached, named_by, reached_clash};
+ghost use Rattle.audit_core.specs.Chains.{lists_until, BeginsWith, Extension, LeadsTo, chain_clash, AreReached, named_by, reached_clash};
 
 /// Where `accept` says yes, the claim is true of each list of headers under the trusted head that the proof names, or the
 /// proof and the list show two different strings with one digest. This rests on the bytes and the trusted heads alone,
@@ -93,7 +93,7 @@ pub fn yes_stays_true()
         → LeadsTo hash proof.size root.0 extensions head.size head.root.0
         → length lists.headers ≡ head.size → mth hash lists.headers ≡ head.root.0
         → IsTrueOf hash lists claim ⊎ (Clashes hash (chain_clash hash lists.headers extensions)
-        ⊎ Clashes hash (clash_of hash (first_of proof.size lists) bytes)) }
+        ⊎ Clashes hash (clash_of hash (lists_until proof.size lists) bytes)) }
     // So it is with bounds, where extensions lead to the lists' heads from those that the proof names. The strings are those
     // of the first that isn't of the lists: of the ledger's extensions, back from the last head, of the notary's, and then of
     // the proof's parts.

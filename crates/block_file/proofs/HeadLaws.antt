@@ -7,7 +7,7 @@ use Rattle.ledger_bytes.specs.Fields.{IsBytes}
 use Rattle.ledger_bytes.proofs.Fields.{IsBytes-drop, IsBytes-take}
 use Rattle.journal_record.specs.Blocks.{body_of, block_bytes}
 use Rattle.journal_record.specs.Entry.{Entry}
-use Rattle.block_file.specs.Blocks.{count_in, body_len_in, head_at, body_at, IsHeadRead, IsOpenBlock}
+use Rattle.block_file.specs.Blocks.{count_in, body_len_in, block_head_at, body_at, IsHeadRead, IsOpenBlock}
 use Rattle.block_file.specs.declared.block.BlockHead.{BlockHead}
 
 -- a head is the bytes of its numbers and its root
@@ -31,7 +31,7 @@ unfolding block_bytes
 open_block at file head es read count body =
     let long : at + 45 + head.body_len + 1 ≤ length file = omega (arith, read.body.head.room, read.body.within, read.body_len) in
     let body_size : length (body_of es) ≡ head.body_len =
-    sym (ap length body) ∙ omega (arith, length-take (body_len_in (head_at at file)) (drop (at + 45) file), length-drop (at + 45) file, long, read.body_len) in
+    sym (ap length body) ∙ omega (arith, length-take (body_len_in (block_head_at at file)) (drop (at + 45) file), length-drop (at + 45) file, long, read.body_len) in
     let count_bytes = to_be_bytes w32 head.count in
     let len_bytes = to_be_bytes w64 head.body_len in
     let digest : length head.root.0 ≡ 32 =
@@ -42,8 +42,8 @@ open_block at file head es read count body =
     let e1 : 44 + (at + 1) ≡ at + 45 = omega arith in
     let e2 : at + 1 + 44 ≡ at + 45 = omega arith in
     let tail : drop (at + 45) file ≡ body_of es ++ next ∷ rest =
-    sym (take-append-drop (body_len_in (head_at at file)) (drop (at + 45) file))
-    ∙ ap (λ (l : List ℕ). l ++ drop (body_len_in (head_at at file)) (drop (at + 45) file)) body
+    sym (take-append-drop (body_len_in (block_head_at at file)) (drop (at + 45) file))
+    ∙ ap (λ (l : List ℕ). l ++ drop (body_len_in (block_head_at at file)) (drop (at + 45) file)) body
     ∙ ap (λ (k : ℕ). body_of es ++ drop k (drop (at + 45) file)) (sym read.body_len)
     ∙ ap (λ (l : List ℕ). body_of es ++ l) (drop-drop head.body_len (at + 45) file ∙ drop_more file behind 0 (omega (arith, long))) in
     let whole : drop (at + 1) file ≡ (count_bytes ++ (len_bytes ++ head.root.0)) ++ (body_of es ++ next ∷ rest) =

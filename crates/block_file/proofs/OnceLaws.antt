@@ -3,7 +3,7 @@ use Rattle.std.proofs.Common.{◌≡◌, ◌⊎◌, inl, inr, ℕ, ◌<◌, ◌+
 use Rattle.std.proofs.lemmas.Bool.{true≢false, cases_lt}
 use Rattle.journal_record.specs.Blocks.{body_of}
 use Rattle.journal_record.specs.Records.{BreaksAt}
-use Rattle.block_file.specs.Blocks.{HasBodyAt, IsHeadCut, IsMiscounted, IsBodyCut, IsOtherFirst, IsNoEntry, IsHeadDamage, IsBodyErr, IsBlockErr, head_at, body_at, count_in}
+use Rattle.block_file.specs.Blocks.{HasBodyAt, IsHeadCut, IsMiscounted, IsBodyCut, IsOtherFirst, IsNoEntry, IsHeadDamage, IsBodyErr, IsBlockErr, block_head_at, body_at, count_in}
 use Rattle.block_file.specs.declared.failure.Damage.{Damage}
 use Rattle.block_file.specs.declared.failure.Damage.TheVariants.{Magic, BaseForm, Base, Length, Entry as Entries, Root, Content}
 use Rattle.block_file.specs.declared.failure.FileErr.TheVariants.{Damaged}
@@ -119,13 +119,13 @@ body_once at count body first (Entries jsn) (Content jsn′ kept′ found′) x 
 -- ---- the block
 
 abbrev Why : ℕ → ℕ → List ℕ → Damage → Type 0
-Why at first file d = IsHeadDamage at file d ⊎ (HasBodyAt at file × IsBodyErr at (count_in (head_at at file)) (body_at at file) first (Damaged d))
+Why at first file d = IsHeadDamage at file d ⊎ (HasBodyAt at file × IsBodyErr at (count_in (block_head_at at file)) (body_at at file) first (Damaged d))
 
 whys_once : (at first : ℕ) (file : List ℕ) (d e : Damage) → Why at first file d → Why at first file e → d ≡ e
 whys_once at first file d e (inl a) (inl b) = head_once at file d e a b
 whys_once at first file d e (inl a) (inr b) = whole_head at file d b.0 a
 whys_once at first file d e (inr a) (inl b) = whole_head at file e a.0 b
-whys_once at first file d e (inr a) (inr b) = body_once at (count_in (head_at at file)) (body_at at file) first d e a.1 b.1
+whys_once at first file d e (inr a) (inr b) = body_once at (count_in (block_head_at at file)) (body_at at file) first d e a.1 b.1
 
 pub block_once : (at first : ℕ) (file : List ℕ) (d e : Damage) → IsBlockErr at file first (Damaged d) → IsBlockErr at file first (Damaged e) → d ≡ e
 block_once at first file d e x y = whys_once at first file d e x.1 y.1

@@ -16,7 +16,7 @@ use Rattle.journal_record.specs.Records.{number_4, next_len, breaks, fills, IsRe
 use Rattle.journal_record.specs.declared.header.Header.{Header}
 use Rattle.journal_record.proofs.ReadingLaws.{header_of_only}
 use Rattle.journal_record.proofs.Spelling.{length-spelling}
-use Rattle.block_file.specs.Blocks.{AreBlock, BeginsAt, IsRead, IsOpenBlock, room_at, head_at, body_at, count_in, body_len_in, HasBodyAt, IsNoEntry, IsHeadDamage, IsBodyErr, IsNextBlock, IsOutside, GivesBlock, GivesEnd}
+use Rattle.block_file.specs.Blocks.{AreBlock, BeginsAt, IsRead, IsOpenBlock, room_at, block_head_at, body_at, count_in, body_len_in, HasBodyAt, IsNoEntry, IsHeadDamage, IsBodyErr, IsNextBlock, IsOutside, GivesBlock, GivesEnd}
 use Rattle.block_file.specs.File.{IsFileOf, open_blocks, tail_of}
 use Rattle.block_file.specs.declared.block.BlockAt.{BlockAt}
 use Rattle.block_file.specs.declared.failure.Damage.{Damage}
@@ -165,7 +165,7 @@ module _ (at first : ℕ) (file root : List ℕ) (es : List Entry) (block : IsOp
   room : room_at at file ≡ 44 + length (body_of es) + length block.rest
   room = omega (arith, long, length-drop (at + 1) file)
 
-  pub head_is : head_at at file ≡ to_be_bytes w32 (length es) ++ (to_be_bytes w64 (length (body_of es)) ++ root)
+  pub head_is : block_head_at at file ≡ to_be_bytes w32 (length es) ++ (to_be_bytes w64 (length (body_of es)) ++ root)
   head_is =
       let count = to_be_bytes w32 (length es) in
       let len = to_be_bytes w64 (length (body_of es)) in
@@ -174,14 +174,14 @@ module _ (at first : ℕ) (file root : List ℕ) (es : List Entry) (block : IsOp
       ap (λ (l : List ℕ). take 44 l) (behind ∙ sym flat)
       ∙ take_at (count ++ (len ++ root)) (body_of es ++ (block.gate ∷ block.rest)) 44 (omega (arith, block.digest, length-append count (len ++ root), length-append len root))
 
-  count_is : count_in (head_at at file) ≡ length es
+  count_is : count_in (block_head_at at file) ≡ length es
   unfolding count_in
   count_is =
       ap (λ (l : List ℕ). number_4 0 l) head_is
       ∙ ap (λ (l : List ℕ). from_be_bytes w32 l) (take_at (to_be_bytes w32 (length es)) (to_be_bytes w64 (length (body_of es)) ++ root) 4 refl)
       ∙ from_be_bytes-to_be_bytes_4 (length es) (omega (arith, are.most))
 
-  len_is : body_len_in (head_at at file) ≡ length (body_of es)
+  len_is : body_len_in (block_head_at at file) ≡ length (body_of es)
   unfolding body_len_in
   len_is =
       ap (λ (l : List ℕ). from_be_bytes w64 (take 8 (drop 4 l))) head_is
@@ -201,7 +201,7 @@ module _ (at first : ℕ) (file root : List ℕ) (es : List Entry) (block : IsOp
       ∙ drop_at (count ++ (len ++ root)) (body_of es ++ (block.gate ∷ block.rest)) 44 (omega (arith, block.digest, length-append count (len ++ root), length-append len root)) in
       ap (λ (k : ℕ). take k (drop (at + 45) file)) len_is ∙ ap (λ (l : List ℕ). take (length (body_of es)) l) rest ∙ take_at (body_of es) (block.gate ∷ block.rest) (length (body_of es)) refl
 
-  filled : fills (count_in (head_at at file)) (body_at at file) ≡ true
+  filled : fills (count_in (block_head_at at file)) (body_at at file) ≡ true
   filled = ap (λ (k : ℕ). fills k (body_at at file)) count_is ∙ ap (λ (l : List ℕ). fills (length es) l) body_is ∙ fills_whole es are.readable
 
   wide : HasBodyAt at file
@@ -224,17 +224,17 @@ module _ (at first : ℕ) (file root : List ℕ) (es : List Entry) (block : IsOp
   no_damage (damage.Root number kept found) is = is
   no_damage (damage.Content jsn kept found) is = is
 
-  same_journals : (others : List Entry) → IsBody (count_in (head_at at file)) (body_at at file) others → others ≡ es
+  same_journals : (others : List Entry) → IsBody (count_in (block_head_at at file)) (body_at at file) others → others ≡ es
   same_journals others body = bodies_same others es body.readable are.readable (body.number ∙ count_is) (sym body.is ∙ body_is)
 
-  no_other : (jsn : ℕ) → IsNoEntry (count_in (head_at at file)) (body_at at file) first jsn → ⊥
+  no_other : (jsn : ℕ) → IsNoEntry (count_in (block_head_at at file)) (body_at at file) first jsn → ⊥
   no_other jsn found =
       elim found.why [
         | inl broken ↦ let b = broken.2 in none_breaks es b.es [] b.rest b.bad are.readable b.readable (append-nil (body_of es) ∙ sym body_is ∙ b.is) (omega (arith, b.number, b.fewer, count_is)) b.undecoded
         | inr other ↦ let o = other.1 in o.other (subst (BeginsAt first) (sym (same_journals o.es o.body_is)) are.begins)
       ]
 
-  no_body_err : (e : FileErr) → IsBodyErr at (count_in (head_at at file)) (body_at at file) first e → IsOutside e
+  no_body_err : (e : FileErr) → IsBodyErr at (count_in (block_head_at at file)) (body_at at file) first e → IsOutside e
   no_body_err DiskFault is = tt
   no_body_err NoMemory is = tt
   no_body_err (NewerFormat found) is = is

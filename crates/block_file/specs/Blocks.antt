@@ -68,8 +68,8 @@ abbrev pub room_at : ℕ → List ℕ → ℕ
 room_at at file = length file - (at + 2)
 
 -- a block's head: the 44 bytes behind its gate
-abbrev pub head_at : ℕ → List ℕ → List ℕ
-head_at at file = take 44 (drop (at + 1) file)
+abbrev pub block_head_at : ℕ → List ℕ → List ℕ
+block_head_at at file = take 44 (drop (at + 1) file)
 
 -- how many journals a block's head counts
 unfoldable pub count_in : List ℕ → ℕ
@@ -81,7 +81,7 @@ body_len_in head = number_8 4 head
 
 -- a block's body behind the gate at this place: as many bytes as its head names
 abbrev pub body_at : ℕ → List ℕ → List ℕ
-body_at at file = take (body_len_in (head_at at file)) (drop (at + 45) file)
+body_at at file = take (body_len_in (block_head_at at file)) (drop (at + 45) file)
 
 -- the damage that fewer bytes stand behind the gate than a block's head has: 44 were to be there
 pub record IsHeadCut (at : ℕ) (file : List ℕ) (place kept found : ℕ) : Type 0 where
@@ -93,29 +93,29 @@ pub record IsHeadCut (at : ℕ) (file : List ℕ) (place kept found : ℕ) : Typ
 -- the damage that a block's head counts no journal, or more than a block may have
 pub record IsMiscounted (at : ℕ) (file : List ℕ) (place kept found : ℕ) : Type 0 where
   pub room : 44 ≤ room_at at file
-  pub wrong : (count_in (head_at at file) ≡ 0) ⊎ (BLOCK_LIMIT < count_in (head_at at file))
+  pub wrong : (count_in (block_head_at at file) ≡ 0) ⊎ (BLOCK_LIMIT < count_in (block_head_at at file))
   pub place_is : place ≡ at + 1
-  pub kept_is : kept ≡ count_in (head_at at file)
+  pub kept_is : kept ≡ count_in (block_head_at at file)
   pub found_is : found ≡ BLOCK_LIMIT
 
 -- behind the gate stands a head with a right count
 pub record HasHeadAt (at : ℕ) (file : List ℕ) : Type 0 where
   pub room : 44 ≤ room_at at file
-  pub some : 1 ≤ count_in (head_at at file)
-  pub most : count_in (head_at at file) ≤ BLOCK_LIMIT
+  pub some : 1 ≤ count_in (block_head_at at file)
+  pub most : count_in (block_head_at at file) ≤ BLOCK_LIMIT
 
 -- the damage that the body which a block's head names reaches past the file's end less one byte
 pub record IsBodyCut (at : ℕ) (file : List ℕ) (place kept found : ℕ) : Type 0 where
   pub head : HasHeadAt at file
-  pub far : room_at at file - 44 < body_len_in (head_at at file)
+  pub far : room_at at file - 44 < body_len_in (block_head_at at file)
   pub place_is : place ≡ at + 5
-  pub kept_is : kept ≡ body_len_in (head_at at file)
+  pub kept_is : kept ≡ body_len_in (block_head_at at file)
   pub found_is : found ≡ room_at at file - 44
 
 -- behind the gate stand a head with a right count and the body that it names
 pub record HasBodyAt (at : ℕ) (file : List ℕ) : Type 0 where
   pub head : HasHeadAt at file
-  pub within : body_len_in (head_at at file) ≤ room_at at file - 44
+  pub within : body_len_in (block_head_at at file) ≤ room_at at file - 44
 
 -- The damage that as many records as a head counts don't fill its body: the length of the body, and the sum of the records.
 -- Example: the head counts one record and names a body of 200 bytes. The record's content has 10 bytes and its who 5, so it
@@ -158,9 +158,9 @@ IsBodyErr at count body first (Damaged (Content jsn kept found)) = ⊥
 pub record IsHeadRead (at : ℕ) (file : List ℕ) (head : BlockHead) : Type 0 where
   pub gate : get_or file at 0 ≡ 1
   pub body : HasBodyAt at file
-  pub count : head.count ≡ count_in (head_at at file)
-  pub body_len : head.body_len ≡ body_len_in (head_at at file)
-  pub bytes : head_at at file ≡ to_be_bytes w32 head.count ++ (to_be_bytes w64 head.body_len ++ head.root.0)
+  pub count : head.count ≡ count_in (block_head_at at file)
+  pub body_len : head.body_len ≡ body_len_in (block_head_at at file)
+  pub bytes : block_head_at at file ≡ to_be_bytes w32 head.count ++ (to_be_bytes w64 head.body_len ++ head.root.0)
 
 -- the damage of a block's head behind the gate at this place, by the first of these: it is cut off, it counts wrong, its
 -- body is cut off
@@ -194,7 +194,7 @@ IsBlockErr at file first (NewerFormat found) = ⊥
 IsBlockErr at file first (Damaged damage) =
     (get_or file at 0 ≡ 1)
     × (IsHeadDamage at file damage
-    ⊎ (HasBodyAt at file × IsBodyErr at (count_in (head_at at file)) (body_at at file) first (Damaged damage)))
+    ⊎ (HasBodyAt at file × IsBodyErr at (count_in (block_head_at at file)) (body_at at file) first (Damaged damage)))
 
 -- what is told of the block at this place, whose first journal is to have this number: none where the gate is shut, a block,
 -- or why it isn't read

@@ -20,7 +20,7 @@ use Rattle.clue_index.specs.Added.{Added, Mark, with_mark}
 use Rattle.clue_index.specs.Index as index
 use Rattle.merkle_batch.specs.Rows.{Levels, StandsFor}
 use Rattle.merkle_batch.specs.Over.{StandsOver}
-use Rattle.ledger_model.specs.Bases.{mark_of}
+use Rattle.ledger_model.specs.Bases.{clue_mark_of}
 use Rattle.ledger_model.specs.Clues.{has_clue}
 use Rattle.ledger_model.specs.History.{leaf_digest, is_purge, greatest_point}
 use Rattle.ledger_model.specs.Members.{members, founders, is_member, member_of, admitted_members}
@@ -64,12 +64,12 @@ are_more start before (e ∷ es) j are next =
     (are.0, are_more start (before ++ e ∷ []) es j are.1 (subst (λ (l : List Entry). IsNextBehind start l j.header) (sym (append_assoc before (e ∷ []) es)) next))
 
 -- the marks are those of earlier journals
-marks_under : (start : Option Base) (before es : List Entry) (n : ℕ) → AreBehind start before es → next_number start before + length es ≤ n → All (λ (m : Mark). m.jsn < n) (map mark_of (filter has_clue es))
+marks_under : (start : Option Base) (before es : List Entry) (n : ℕ) → AreBehind start before es → next_number start before + length es ≤ n → All (λ (m : Mark). m.jsn < n) (map clue_mark_of (filter has_clue es))
 marks_under start before [] n are le = All-nil (λ (m : Mark). m.jsn < n)
 marks_under start before (e ∷ es) n are le =
     let later = marks_under start (before ++ e ∷ []) es n are.1 (omega (arith, le, length-append before (e ∷ []))) in
-    elim (has_clue e) as (λ v. All (λ (m : Mark). m.jsn < n) (map mark_of (cond v (e ∷ filter has_clue es) (filter has_clue es)))) [
-      | true ↦ All-cons (λ (m : Mark). m.jsn < n) (mark_of e) (map mark_of (filter has_clue es)) (omega (arith, are.0.jsn, le)) later
+    elim (has_clue e) as (λ v. All (λ (m : Mark). m.jsn < n) (map clue_mark_of (cond v (e ∷ filter has_clue es) (filter has_clue es)))) [
+      | true ↦ All-cons (λ (m : Mark). m.jsn < n) (clue_mark_of e) (map clue_mark_of (filter has_clue es)) (omega (arith, are.0.jsn, le)) later
       | false ↦ later
     ]
 
@@ -82,8 +82,8 @@ clues_low None es = refl
 clues_low (Some b) es = refl
 
 -- the clues
-marks_next : (es : List Entry) (j : Entry) → has_clue j ≡ true → map mark_of (filter has_clue (es ++ j ∷ [])) ≡ map mark_of (filter has_clue es) ++ mark_of j ∷ []
-marks_next es j is = ap (map mark_of) (filter_takes has_clue es j is) ∙ map-append mark_of (filter has_clue es) (j ∷ [])
+marks_next : (es : List Entry) (j : Entry) → has_clue j ≡ true → map clue_mark_of (filter has_clue (es ++ j ∷ [])) ≡ map clue_mark_of (filter has_clue es) ++ clue_mark_of j ∷ []
+marks_next es j is = ap (map clue_mark_of) (filter_takes has_clue es j is) ∙ map-append clue_mark_of (filter has_clue es) (j ∷ [])
 
 clues_next : (start : Option Base) (es : List Entry) (j : Entry) → with_clue_of j.header (clues_behind start es) ≡ clues_behind start (es ++ j ∷ [])
 clues_next start es j =
@@ -93,8 +93,8 @@ clues_next start es j =
     ] refl
   where
     same : (start : Option Base) → has_clue j ≡ false → clues_behind start es ≡ clues_behind start (es ++ j ∷ [])
-    same None is = ap (λ (l : List Entry). record { states = []; marks = map mark_of l; floor = 0 }) (sym (filter_leaves has_clue es j is))
-    same (Some b) is = ap (λ (l : List Entry). record { states = b.clues; marks = map mark_of l; floor = b.point }) (sym (filter_leaves has_clue es j is))
+    same None is = ap (λ (l : List Entry). record { states = []; marks = map clue_mark_of l; floor = 0 }) (sym (filter_leaves has_clue es j is))
+    same (Some b) is = ap (λ (l : List Entry). record { states = b.clues; marks = map clue_mark_of l; floor = b.point }) (sym (filter_leaves has_clue es j is))
 
     more : (start : Option Base) → has_clue j ≡ true → with_mark j.header.clue.0 j.header.jsn (clues_behind start es) ≡ clues_behind start (es ++ j ∷ [])
     more None is = ap (λ (ms : List Mark). record { states = []; marks = ms; floor = 0 }) (sym (marks_next es j is))

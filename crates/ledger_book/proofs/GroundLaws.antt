@@ -17,7 +17,7 @@ use Rattle.journal_record.specs.Rules.{is_no_clue}
 use Rattle.journal_record.specs.declared.header.Header.{Header}
 use Rattle.journal_record.specs.declared.header.Kind.{Kind}
 use Rattle.journal_record.specs.declared.header.Kind.TheVariants as kind
-use Rattle.ledger_model.specs.Bases.{mark_of, clues_added}
+use Rattle.ledger_model.specs.Bases.{clue_mark_of, clues_added}
 use Rattle.ledger_model.specs.Clues.{has_clue, is_of_clue, numbers_of, jsns_with, clue_count, next_ordinal, last_journal}
 use Rattle.ledger_model.specs.Clues as model_clues
 use Rattle.ledger_model.specs.History.{History, history, journals, point}
@@ -58,8 +58,8 @@ numbers_same clue [] = refl
 numbers_same clue (e ∷ es) =
     let ms : List Mark = marks es in
     let jsn : Entry → ℕ = λ j. j.header.jsn in
-    elim (has_clue e) as (λ has. jsns_of clue.0 (map mark_of (cond has (e ∷ filter has_clue es) (filter has_clue es))) ≡ map jsn (cond (has && bytes_eq clue.0 e.header.clue.0) (e ∷ filter (is_of_clue clue) es) (filter (is_of_clue clue) es))) [
-      | true ↦ elim (bytes_eq clue.0 e.header.clue.0) as (λ same. map (λ (m : Mark). m.jsn) (cond same (mark_of e ∷ filter (λ (m : Mark). bytes_eq clue.0 m.clue) ms) (filter (λ (m : Mark). bytes_eq clue.0 m.clue) ms)) ≡ map jsn (cond same (e ∷ filter (is_of_clue clue) es) (filter (is_of_clue clue) es))) [
+    elim (has_clue e) as (λ has. jsns_of clue.0 (map clue_mark_of (cond has (e ∷ filter has_clue es) (filter has_clue es))) ≡ map jsn (cond (has && bytes_eq clue.0 e.header.clue.0) (e ∷ filter (is_of_clue clue) es) (filter (is_of_clue clue) es))) [
+      | true ↦ elim (bytes_eq clue.0 e.header.clue.0) as (λ same. map (λ (m : Mark). m.jsn) (cond same (clue_mark_of e ∷ filter (λ (m : Mark). bytes_eq clue.0 m.clue) ms) (filter (λ (m : Mark). bytes_eq clue.0 m.clue) ms)) ≡ map jsn (cond same (e ∷ filter (is_of_clue clue) es) (filter (is_of_clue clue) es))) [
         | true ↦ ap (λ ns. e.header.jsn ∷ ns) (numbers_same clue es)
         | false ↦ numbers_same clue es
       ]
@@ -73,7 +73,7 @@ last_same (j ∷ k ∷ js) = last_same (k ∷ js)
 
 pub clues_same : (es : List Entry) → map (λ (m : Mark). m.clue) (marks es) ≡ model_clues.clues_of es
 clues_same es = by_marks (filter has_clue es) where
-  by_marks : (js : List Entry) → map (λ (m : Mark). m.clue) (map mark_of js) ≡ map (λ (j : Entry). j.header.clue.0) js
+  by_marks : (js : List Entry) → map (λ (m : Mark). m.clue) (map clue_mark_of js) ≡ map (λ (j : Entry). j.header.clue.0) js
   by_marks [] = refl
   by_marks (j ∷ js) = ap (λ rest. j.header.clue.0 ∷ rest) (by_marks js)
 

@@ -19,7 +19,7 @@ use Rattle.clue_index.proofs.TrailLaws.{count_seen, last_seen}
 use Rattle.journal_record.specs.Entry.{Entry}
 use Rattle.ledger_model.specs.Clues.{has_clue, numbers_of, jsns_with, clue_count, next_ordinal, last_journal}
 use Rattle.ledger_model.proofs.LawfulLaws.{AreFrom, lawful_from, later_seen, front_from, take_few}
-use Rattle.ledger_model.specs.Bases.{mark_of, clues_added, front}
+use Rattle.ledger_model.specs.Bases.{clue_mark_of, clues_added, front}
 use Rattle.ledger_model.proofs.EarlyLaws.{states_early}
 use Rattle.ledger_model.proofs.MarkLaws.{marks, marks_low}
 use Rattle.std.specs.List.Sorted.{IsStrictlySortedBy}
@@ -57,8 +57,8 @@ marks_high : (p m : ℕ) (es : List Entry) → AreFrom m es → p ≤ m → filt
 marks_high p m [] from le = refl
 marks_high p m (e ∷ es) from le =
     let later = marks_high p (m + 1) es from.2 (omega (arith, le)) in
-    elim (has_clue e) as (λ v. filter (λ (x : Mark). nat_le p x.jsn) (map mark_of (cond v (e ∷ filter has_clue es) (filter has_clue es))) ≡ map mark_of (cond v (e ∷ filter has_clue es) (filter has_clue es))) [
-      | true ↦ ap (λ v. cond v (mark_of e ∷ filter (λ (x : Mark). nat_le p x.jsn) (marks es)) (filter (λ (x : Mark). nat_le p x.jsn) (marks es))) (le-leb p e.header.jsn (omega (arith, from.0, le))) ∙ ap (λ (l : List Mark). mark_of e ∷ l) later
+    elim (has_clue e) as (λ v. filter (λ (x : Mark). nat_le p x.jsn) (map clue_mark_of (cond v (e ∷ filter has_clue es) (filter has_clue es))) ≡ map clue_mark_of (cond v (e ∷ filter has_clue es) (filter has_clue es))) [
+      | true ↦ ap (λ v. cond v (clue_mark_of e ∷ filter (λ (x : Mark). nat_le p x.jsn) (marks es)) (filter (λ (x : Mark). nat_le p x.jsn) (marks es))) (le-leb p e.header.jsn (omega (arith, from.0, le))) ∙ ap (λ (l : List Mark). clue_mark_of e ∷ l) later
       | false ↦ later
     ]
 
@@ -125,7 +125,7 @@ module _ (h : History) (b : Base) (lawful : AreLawful (journals h)) (some : 1 �
       let states : b.clues ≡ states_at p whole =
       clued ∙ sym (states_early p (0 + p) 0 (take p js) es from_es (omega arith)) ∙ ap (λ (l : List Entry). states_at p (clues_added 0 l)) (take-append-drop p js) in
       let low : filter (λ (x : Mark). nat_le p x.jsn) (marks (take p js)) ≡ [] = marks_low 0 p (take p js) (front_from 0 p js from) (take_few p js) in
-      let split : marks js ≡ marks (take p js) ++ marks es = ap marks (sym (take-append-drop p js)) ∙ ap (map mark_of) (filter-append has_clue (take p js) es) ∙ map-append mark_of (filter has_clue (take p js)) (filter has_clue es) in
+      let split : marks js ≡ marks (take p js) ++ marks es = ap marks (sym (take-append-drop p js)) ∙ ap (map clue_mark_of) (filter-append has_clue (take p js) es) ∙ map-append clue_mark_of (filter has_clue (take p js)) (filter has_clue es) in
       let high : filter (λ (x : Mark). nat_le p x.jsn) (marks js) ≡ marks es =
       ap (filter (λ (x : Mark). nat_le p x.jsn)) split ∙ filter-append (λ (x : Mark). nat_le p x.jsn) (marks (take p js)) (marks es) ∙ ap (λ (l : List Mark). l ++ filter (λ (x : Mark). nat_le p x.jsn) (marks es)) low
       ∙ marks_high p (0 + p) es from_es (omega arith) in
@@ -148,8 +148,8 @@ module _ (h : History) (b : Base) (lawful : AreLawful (journals h)) (some : 1 �
       above_all q m n [] from lt = tt
       above_all q m n (e ∷ es) from lt =
           let later = above_all q (m + 1) n es from.2 (omega (arith, lt)) in
-          elim (has_clue e) as (λ v. AllByRecursion (λ k. n < k) (jsns_of q (map mark_of (cond v (e ∷ filter has_clue es) (filter has_clue es))))) [
-            | true ↦ elim (bytes_eq q e.header.clue.0) as (λ v. AllByRecursion (λ k. n < k) (map (λ (x : Mark). x.jsn) (cond v (mark_of e ∷ filter (λ (x : Mark). bytes_eq q x.clue) (marks es)) (filter (λ (x : Mark). bytes_eq q x.clue) (marks es))))) [ true ↦ (omega (arith, from.0, lt), later) | false ↦ later ]
+          elim (has_clue e) as (λ v. AllByRecursion (λ k. n < k) (jsns_of q (map clue_mark_of (cond v (e ∷ filter has_clue es) (filter has_clue es))))) [
+            | true ↦ elim (bytes_eq q e.header.clue.0) as (λ v. AllByRecursion (λ k. n < k) (map (λ (x : Mark). x.jsn) (cond v (clue_mark_of e ∷ filter (λ (x : Mark). bytes_eq q x.clue) (marks es)) (filter (λ (x : Mark). bytes_eq q x.clue) (marks es))))) [ true ↦ (omega (arith, from.0, lt), later) | false ↦ later ]
             | false ↦ later
           ]
 
@@ -157,8 +157,8 @@ module _ (h : History) (b : Base) (lawful : AreLawful (journals h)) (some : 1 �
       rises q m [] from = tt
       rises q m (e ∷ es) from =
           let later = rises q (m + 1) es from.2 in
-          elim (has_clue e) as (λ v. Ascends (jsns_of q (map mark_of (cond v (e ∷ filter has_clue es) (filter has_clue es))))) [
-            | true ↦ elim (bytes_eq q e.header.clue.0) as (λ v. Ascends (map (λ (x : Mark). x.jsn) (cond v (mark_of e ∷ filter (λ (x : Mark). bytes_eq q x.clue) (marks es)) (filter (λ (x : Mark). bytes_eq q x.clue) (marks es))))) [
+          elim (has_clue e) as (λ v. Ascends (jsns_of q (map clue_mark_of (cond v (e ∷ filter has_clue es) (filter has_clue es))))) [
+            | true ↦ elim (bytes_eq q e.header.clue.0) as (λ v. Ascends (map (λ (x : Mark). x.jsn) (cond v (clue_mark_of e ∷ filter (λ (x : Mark). bytes_eq q x.clue) (marks es)) (filter (λ (x : Mark). bytes_eq q x.clue) (marks es))))) [
               | true ↦ (above_all q (m + 1) e.header.jsn es from.2 (omega (arith, from.0)), later)
               | false ↦ later
             ]

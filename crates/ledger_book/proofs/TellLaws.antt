@@ -20,7 +20,7 @@ use Rattle.journal_record.specs.declared.member.Member.{Member}
 use Rattle.member_book.specs.Members.{count_below}
 use Rattle.merkle_batch.specs.Rows.{StandsFor}
 use Rattle.pseudo_genesis.specs.declared.base.Base.{Base}
-use Rattle.ledger_model.specs.Bases.{base_of, front, mark_of, clues_added}
+use Rattle.ledger_model.specs.Bases.{base_of, front, clue_mark_of, clues_added}
 use Rattle.ledger_model.specs.Clues.{has_clue}
 use Rattle.ledger_model.specs.History as model
 use Rattle.ledger_model.specs.History.{History, journals}
@@ -164,12 +164,12 @@ keys_first k h p s le some = by_first (journals h) refl where
       ∙ ap (λ (l : List Member). map (λ (m : Member). m.key) (l ++ admitted_members (take p (journals h)))) (sym first ∙ sym (founders_taken p (journals h) some))
 
 -- no clue has more journals than there are
-pub listed_few : (clue : List ℕ) (es : List Entry) → length (jsns_of clue (map mark_of (filter has_clue es))) ≤ length es
+pub listed_few : (clue : List ℕ) (es : List Entry) → length (jsns_of clue (map clue_mark_of (filter has_clue es))) ≤ length es
 listed_few clue [] = omega arith
 listed_few clue (e ∷ es) =
     let later = listed_few clue es in
-    elim (has_clue e) as (λ v. length (jsns_of clue (map mark_of (cond v (e ∷ filter has_clue es) (filter has_clue es)))) ≤ length (e ∷ es)) [
-      | true ↦ elim (bytes_eq clue e.header.clue.0) as (λ v. length (map (λ (x : Mark). x.jsn) (cond v (mark_of e ∷ filter (λ (x : Mark). bytes_eq clue x.clue) (map mark_of (filter has_clue es))) (filter (λ (x : Mark). bytes_eq clue x.clue) (map mark_of (filter has_clue es))))) ≤ length (e ∷ es)) [ true ↦ omega (arith, later) | false ↦ omega (arith, later) ]
+    elim (has_clue e) as (λ v. length (jsns_of clue (map clue_mark_of (cond v (e ∷ filter has_clue es) (filter has_clue es)))) ≤ length (e ∷ es)) [
+      | true ↦ elim (bytes_eq clue e.header.clue.0) as (λ v. length (map (λ (x : Mark). x.jsn) (cond v (clue_mark_of e ∷ filter (λ (x : Mark). bytes_eq clue x.clue) (map clue_mark_of (filter has_clue es))) (filter (λ (x : Mark). bytes_eq clue x.clue) (map clue_mark_of (filter has_clue es))))) ≤ length (e ∷ es)) [ true ↦ omega (arith, later) | false ↦ omega (arith, later) ]
       | false ↦ omega (arith, later)
     ]
 

@@ -9,7 +9,7 @@ use Rattle.journal_record.specs.Rules.{IsHeader, is_no_clue}
 use Rattle.journal_record.specs.declared.header.Header.{Header}
 use Rattle.journal_record.specs.declared.header.Kind.{Kind}
 use Rattle.journal_record.specs.declared.header.Kind.TheVariants as kind
-use Rattle.ledger_model.specs.Bases.{mark_of, clues_added}
+use Rattle.ledger_model.specs.Bases.{clue_mark_of, clues_added}
 use Rattle.ledger_model.specs.Clues.{has_clue}
 use Rattle.ledger_model.specs.History.{history, greatest_point}
 use Rattle.ledger_model.specs.Limits.{real_limits}
@@ -30,7 +30,7 @@ count_behind (Some base) journals = length base.keys + length (admitted_members 
 -- what an index of clues was given, by the base and the journals behind it
 abbrev pub clues_behind : Option Base → List Entry → Added
 clues_behind None journals = clues_added 0 journals
-clues_behind (Some base) journals = record { states = base.clues; marks = map mark_of (filter has_clue journals); floor = base.point }
+clues_behind (Some base) journals = record { states = base.clues; marks = map clue_mark_of (filter has_clue journals); floor = base.point }
 
 -- the next journal's number
 abbrev pub next_number : Option Base → List Entry → ℕ

@@ -32,11 +32,11 @@ use Rattle.ledger_model.specs.Scheme.{Scheme}
 use Rattle.ledger_model.specs.Step.{Step}
 use Rattle.ledger_model.specs.Texts.{text}
 use Rattle.ledger_model.specs.Took.{Took}
-use Rattle.ledger_model.specs.Windows.{Said, said_lines, windows, numbered_line, count_of, bytes_of, fills_window}
+use Rattle.ledger_model.specs.Windows.{Said, said_lines, windows, numbered_line, count_of, line_bytes, fills_window}
 use Rattle.ledger_model.specs.declared.job.Job.TheVariants.{Anchor}
 use Rattle.ledger_model.proofs.GrowLaws.{grows_not}
 use Rattle.ledger_model.proofs.LaneLaws.{said_after-append}
-use Rattle.ledger_model.proofs.WindowLaws.{IsCut, cut_none, cut_more, cut_whole, bytes_of-push}
+use Rattle.ledger_model.proofs.WindowLaws.{IsCut, cut_none, cut_more, cut_whole, line_bytes-push}
 use Rattle.ledger_cli.specs.Endings.{ending_of_end}
 use Rattle.ledger_cli.specs.Pieces.{At, world_at, EndsThere, EndsAtAnchor, EndsBehind, PieceTaken, PieceBroken, WindowTaken, WindowBroken}
 use Rattle.ledger_cli.specs.Runs.{handed, StopsOn, Runs}
@@ -145,7 +145,7 @@ pub record SoFar (scheme : Scheme) (tells : Bool) (first_w w : World) (first_n n
   pub order : IsOrder front (map said_by current ++ late)
   pub are_late : AreLate first next piece script late
   pub lines_are : lines ≡ length front
-  pub bytes_are : bytes ≡ bytes_of front
+  pub bytes_are : bytes ≡ line_bytes front
   pub few : length piece ≤ lines
   pub goes : Goes tells first_w (reached scheme done current) (owed scheme done current) w
   pub took : (h : History) → Holds tells first_w h → TookOn scheme h first_n done current n
@@ -520,8 +520,8 @@ module _ (scheme : Scheme) (tells : Bool) (first_w w : World) (first_n n : Notar
       order_now : IsOrder (s.front ++ x ∷ []) (map said_by s.current ++ (s.late ++ x ∷ []))
       order_now = subst (IsOrder (s.front ++ x ∷ [])) (append_assoc (map said_by s.current) s.late (x ∷ [])) (order_append s.front (x ∷ []) (map said_by s.current ++ s.late) (x ∷ []) s.order (order_same (x ∷ [])))
 
-      full_is : (value : Bool) → fills_window (lines + 1) (window_bytes + length line) ≡ value → fills_window (length s.front + 1) (bytes_of s.front + length line) ≡ value
-      full_is value e = ap (λ n. fills_window (n + 1) (bytes_of s.front + length line)) (sym s.lines_are) ∙ ap (λ n. fills_window (lines + 1) (n + length line)) (sym s.bytes_are) ∙ e
+      full_is : (value : Bool) → fills_window (lines + 1) (window_bytes + length line) ≡ value → fills_window (length s.front + 1) (line_bytes s.front + length line) ≡ value
+      full_is value e = ap (λ n. fills_window (n + 1) (line_bytes s.front + length line)) (sym s.lines_are) ∙ ap (λ n. fills_window (lines + 1) (n + length line)) (sym s.bytes_are) ∙ e
 
       module _ (l : LaneLine) (is : l.line ≡ line) (new_next : List ℕ) (next_is : (k : ℕ) → k < 8 → slice_index new_next k ≡ (if (spoken_line line).0 == k then slice_index next k + 1 else slice_index next k)) where
         late_now : AreLate first new_next (piece ++ l ∷ []) script_now (s.late ++ x ∷ [])
@@ -543,7 +543,7 @@ module _ (scheme : Scheme) (tells : Bool) (first_w w : World) (first_n n : Notar
           order = order_now;
           are_late = subst (λ (y : List ℕ × List LaneLine). AreLate y.0 new_next y.1 script_now (s.late ++ x ∷ [])) (λ i. (sym f i, sym p i)) late_now;
           lines_are = (let a = s.lines_are in let b = length-append s.front (x ∷ []) in omega (arith, a, b, lines_now));
-          bytes_are = bytes_now ∙ ap (λ n. n + length line) s.bytes_are ∙ sym (bytes_of-push s.front x);
+          bytes_are = bytes_now ∙ ap (λ n. n + length line) s.bytes_are ∙ sym (line_bytes-push s.front x);
           few = (let a = ap length p in let b = length-append piece (l ∷ []) in let c = s.few in omega (arith, a, b, c, lines_now));
           goes = s.goes;
           took = s.took;

@@ -28,7 +28,7 @@ use Rattle.pseudo_genesis.specs.Bases.{blocks_ok, members_ok, IsBase, IsWide, Ha
 use Rattle.pseudo_genesis.specs.declared.base.Base.{Base}
 use Rattle.pseudo_genesis.specs.declared.base.TheConstants.{POINT_LIMIT, CLUE_LIMIT}
 use Rattle.pseudo_genesis.proofs.Wholes.{base_of_only}
-use Rattle.ledger_model.specs.Bases.{mark_of, clues_added, front, base_of}
+use Rattle.ledger_model.specs.Bases.{clue_mark_of, clues_added, front, base_of}
 use Rattle.ledger_model.specs.Clues as model_clues
 use Rattle.ledger_model.specs.Clues.{has_clue}
 use Rattle.ledger_model.specs.Ends.{ends_from}
@@ -207,7 +207,7 @@ module _ (h : History) (gone kept : List (List Entry)) (p : ℕ) (lawful : IsLaw
       let same : clues_of all_added ≡ model_clues.clues_of (take p (journals h)) = by_marks (filter has_clue (take p (journals h))) in
       omega (arith, less (map (state_at p all_added) (different_clues all_added)), length-map (different_clues all_added) (state_at p all_added), all, ap (λ (l : List (List ℕ)). distinct_count bytes_eq l) same, clues)
     where
-      by_marks : (js : List Entry) → map (λ (m : Mark). m.clue) (map mark_of js) ≡ map (λ (j : Entry). j.header.clue.0) js
+      by_marks : (js : List Entry) → map (λ (m : Mark). m.clue) (map clue_mark_of js) ≡ map (λ (j : Entry). j.header.clue.0) js
       by_marks [] = refl
       by_marks (j ∷ js) = ap (λ rest. j.header.clue.0 ∷ rest) (by_marks js)
 

@@ -19,7 +19,7 @@ use Rattle.clue_index.proofs.TableLaws.{tie, same_tie}
 use Rattle.journal_record.specs.Entry.{Entry}
 use Rattle.ledger_model.specs.Clues.{has_clue}
 use Rattle.ledger_model.proofs.LawfulLaws.{AreFrom}
-use Rattle.ledger_model.specs.Bases.{mark_of, clues_added}
+use Rattle.ledger_model.specs.Bases.{clue_mark_of, clues_added}
 use Rattle.ledger_model.proofs.MarkLaws.{marks}
 use Rattle.std.specs.Prelude.{T}
 use Rattle.std.specs.Ordering.{is_lt}
@@ -87,8 +87,8 @@ low_none : (p : ℕ) (q : List ℕ) (m : ℕ) (fs : List Entry) → AreFrom m fs
 low_none p q m [] from le = refl
 low_none p q m (f ∷ fs) from le =
     let later = low_none p q (m + 1) fs from.2 (omega (arith, le)) in
-    elim (has_clue f) as (λ v. filter (λ n. nat_lt n p) (jsns_of q (map mark_of (cond v (f ∷ filter has_clue fs) (filter has_clue fs)))) ≡ []) [
-      | true ↦ elim (bytes_eq q f.header.clue.0) as (λ v. filter (λ n. nat_lt n p) (map (λ (x : Mark). x.jsn) (cond v (mark_of f ∷ filter (λ (x : Mark). bytes_eq q x.clue) (marks fs)) (filter (λ (x : Mark). bytes_eq q x.clue) (marks fs)))) ≡ []) [
+    elim (has_clue f) as (λ v. filter (λ n. nat_lt n p) (jsns_of q (map clue_mark_of (cond v (f ∷ filter has_clue fs) (filter has_clue fs)))) ≡ []) [
+      | true ↦ elim (bytes_eq q f.header.clue.0) as (λ v. filter (λ n. nat_lt n p) (map (λ (x : Mark). x.jsn) (cond v (clue_mark_of f ∷ filter (λ (x : Mark). bytes_eq q x.clue) (marks fs)) (filter (λ (x : Mark). bytes_eq q x.clue) (marks fs)))) ≡ []) [
         | true ↦ ap (λ v. cond v (f.header.jsn ∷ filter (λ n. nat_lt n p) (jsns_of q (marks fs))) (filter (λ n. nat_lt n p) (jsns_of q (marks fs)))) (le-ltb f.header.jsn p (omega (arith, from.0, le))) ∙ later
         | false ↦ later
       ]
@@ -110,7 +110,7 @@ module _ (p m floor : ℕ) (es fs : List Entry) (from : AreFrom m fs) (le : p �
   all = clues_added floor (es ++ fs)
 
   marks_split : marks (es ++ fs) ≡ marks es ++ marks fs
-  marks_split = ap (map mark_of) (filter-append has_clue es fs) ∙ map-append mark_of (filter has_clue es) (filter has_clue fs)
+  marks_split = ap (map clue_mark_of) (filter-append has_clue es fs) ∙ map-append clue_mark_of (filter has_clue es) (filter has_clue fs)
 
   low_same : (q : List ℕ) → filter (λ n. nat_lt n p) (jsns_of q (marks (es ++ fs))) ≡ filter (λ n. nat_lt n p) (jsns_of q (marks es))
   low_same q =

@@ -9,17 +9,17 @@ use Rattle.clue_index.proofs.TableLaws.{tie, tie_apart, get-table_of}
 use Rattle.clue_index.specs.Added.{Mark, no_clue, table_of, trail_of}
 use Rattle.clue_index.specs.Trail.{Ascends}
 use Rattle.journal_record.specs.Entry.{Entry}
-use Rattle.ledger_model.specs.Bases.{mark_of, clues_added}
+use Rattle.ledger_model.specs.Bases.{clue_mark_of, clues_added}
 use Rattle.ledger_model.specs.Clues.{has_clue}
 use Rattle.ledger_model.proofs.LawfulLaws.{AreFrom}
 
 abbrev pub marks : List Entry → List Mark
-marks es = map mark_of (filter has_clue es)
+marks es = map clue_mark_of (filter has_clue es)
 
 above_all : (m n : ℕ) (es : List Entry) → AreFrom m es → n < m → AllByRecursion (λ k. n < k) (map (λ (x : Mark). x.jsn) (marks es))
 above_all m n [] from lt = tt
 above_all m n (e ∷ es) from lt =
-    elim (has_clue e) as (λ v. AllByRecursion (λ k. n < k) (map (λ (x : Mark). x.jsn) (map mark_of (cond v (e ∷ filter has_clue es) (filter has_clue es))))) [
+    elim (has_clue e) as (λ v. AllByRecursion (λ k. n < k) (map (λ (x : Mark). x.jsn) (map clue_mark_of (cond v (e ∷ filter has_clue es) (filter has_clue es))))) [
       | true ↦ (omega (arith, from.0, lt), above_all (m + 1) n es from.2 (omega (arith, lt)))
       | false ↦ above_all (m + 1) n es from.2 (omega (arith, lt))
     ]
@@ -27,7 +27,7 @@ above_all m n (e ∷ es) from lt =
 pub marks_ascend : (m : ℕ) (es : List Entry) → AreFrom m es → Ascends (map (λ (x : Mark). x.jsn) (marks es))
 marks_ascend m [] from = tt
 marks_ascend m (e ∷ es) from =
-    elim (has_clue e) as (λ v. Ascends (map (λ (x : Mark). x.jsn) (map mark_of (cond v (e ∷ filter has_clue es) (filter has_clue es))))) [
+    elim (has_clue e) as (λ v. Ascends (map (λ (x : Mark). x.jsn) (map clue_mark_of (cond v (e ∷ filter has_clue es) (filter has_clue es))))) [
       | true ↦ (above_all (m + 1) e.header.jsn es from.2 (omega (arith, from.0)), marks_ascend (m + 1) es from.2)
       | false ↦ marks_ascend (m + 1) es from.2
     ]
@@ -35,7 +35,7 @@ marks_ascend m (e ∷ es) from =
 none_zero : (es : List Entry) → list_any (tie no_clue) (map (λ (x : Mark). x.clue) (marks es)) ≡ false
 none_zero [] = refl
 none_zero (e ∷ es) =
-    elim (has_clue e) as (λ v. has_clue e ≡ v → list_any (tie no_clue) (map (λ (x : Mark). x.clue) (map mark_of (cond v (e ∷ filter has_clue es) (filter has_clue es)))) ≡ false) [
+    elim (has_clue e) as (λ v. has_clue e ≡ v → list_any (tie no_clue) (map (λ (x : Mark). x.clue) (map clue_mark_of (cond v (e ∷ filter has_clue es) (filter has_clue es)))) ≡ false) [
       | true ↦ λ is.
           let apart : no_clue ≢ e.header.clue.0 = λ same. true≢false (sym is ∙ ap not ((bytes_eq-Decides e.header.clue.0 no_clue).1 (sym same))) in
           ap (λ v. v || list_any (tie no_clue) (map (λ (x : Mark). x.clue) (marks es))) (tie_apart no_clue e.header.clue.0 apart) ∙ none_zero es
@@ -50,7 +50,7 @@ pub marks_low : (m p : ℕ) (es : List Entry) → AreFrom m es → m + length es
 marks_low m p [] from le = refl
 marks_low m p (e ∷ es) from le =
     let later = marks_low (m + 1) p es from.2 (omega (arith, le)) in
-    elim (has_clue e) as (λ v. filter (λ (x : Mark). nat_le p x.jsn) (map mark_of (cond v (e ∷ filter has_clue es) (filter has_clue es))) ≡ []) [
-      | true ↦ ap (λ v. cond v (mark_of e ∷ filter (λ (x : Mark). nat_le p x.jsn) (marks es)) (filter (λ (x : Mark). nat_le p x.jsn) (marks es))) (lt-leb p e.header.jsn (omega (arith, from.0, le))) ∙ later
+    elim (has_clue e) as (λ v. filter (λ (x : Mark). nat_le p x.jsn) (map clue_mark_of (cond v (e ∷ filter has_clue es) (filter has_clue es))) ≡ []) [
+      | true ↦ ap (λ v. cond v (clue_mark_of e ∷ filter (λ (x : Mark). nat_le p x.jsn) (marks es)) (filter (λ (x : Mark). nat_le p x.jsn) (marks es))) (lt-leb p e.header.jsn (omega (arith, from.0, le))) ∙ later
       | false ↦ later
     ]

@@ -19,7 +19,7 @@ use Rattle.journal_record.specs.Entry.{Entry}
 use Rattle.journal_record.specs.Header.{HasWidths as AreHeaderWidths}
 use Rattle.pseudo_genesis.specs.Bases.{is_inside, IsWide, AreStates, HasStateWidths, IsBase, HasWidths}
 use Rattle.pseudo_genesis.specs.declared.base.Base.{Base}
-use Rattle.ledger_model.specs.Bases.{mark_of, clues_added}
+use Rattle.ledger_model.specs.Bases.{clue_mark_of, clues_added}
 use Rattle.ledger_model.specs.Clues.{has_clue}
 use Rattle.ledger_model.proofs.LawfulLaws.{AreFrom, clued_behind}
 use Rattle.ledger_model.proofs.MarkLaws.{marks}
@@ -48,8 +48,8 @@ rising clue m [] from = record { from = tt; some = tt; rise = tt }
 rising clue m (e ∷ es) from =
     let later = rising clue (m + 1) es from.2 in
     let skip : Rising m (jsns_of clue (marks es)) = record { from = lower m (m + 1) (jsns_of clue (marks es)) (omega arith) later.from; some = later.some; rise = later.rise } in
-    elim (has_clue e) as (λ v. has_clue e ≡ v → Rising m (jsns_of clue (map mark_of (cond v (e ∷ filter has_clue es) (filter has_clue es))))) [
-      | true ↦ λ has. elim (bytes_eq clue e.header.clue.0) as (λ v. Rising m (map (λ (x : Mark). x.jsn) (cond v (mark_of e ∷ filter (same_clue clue) (marks es)) (filter (same_clue clue) (marks es))))) [
+    elim (has_clue e) as (λ v. has_clue e ≡ v → Rising m (jsns_of clue (map clue_mark_of (cond v (e ∷ filter has_clue es) (filter has_clue es))))) [
+      | true ↦ λ has. elim (bytes_eq clue e.header.clue.0) as (λ v. Rising m (map (λ (x : Mark). x.jsn) (cond v (clue_mark_of e ∷ filter (same_clue clue) (marks es)) (filter (same_clue clue) (marks es))))) [
         | true ↦ record {
           from = (omega (arith, from.0), lower m (m + 1) (jsns_of clue (marks es)) (omega arith) later.from);
           some = (clued_behind e.header.kind e.header.clue e.header.jsn has from.1.clue from.1.jsn, later.some);
@@ -143,7 +143,7 @@ pub clues_wide : (es : List Entry) → All (λ (e : Entry). AreHeaderWidths e.he
 clues_wide [] all = tt
 clues_wide (e ∷ es) all =
     let rest = clues_wide es (All-tail (λ (e : Entry). AreHeaderWidths e.header) e es all) in
-    elim (has_clue e) as (λ v. AllByRecursion (λ (c : List ℕ). length c ≡ 32) (map (λ (m : Mark). m.clue) (map mark_of (cond v (e ∷ filter has_clue es) (filter has_clue es))))) [
+    elim (has_clue e) as (λ v. AllByRecursion (λ (c : List ℕ). length c ≡ 32) (map (λ (m : Mark). m.clue) (map clue_mark_of (cond v (e ∷ filter has_clue es) (filter has_clue es))))) [
       | true ↦ ((All-head (λ (e : Entry). AreHeaderWidths e.header) e es all).clue, rest)
       | false ↦ rest
     ]

@@ -14,12 +14,12 @@ use Rattle.ledger_model.specs.History.{History, history, journals, leaf_digest, 
 use Rattle.ledger_model.specs.Members.{members}
 
 -- a journal's clue with the journal's number
-abbrev pub mark_of : Entry → Mark
-mark_of journal = record { clue = journal.header.clue.0; jsn = journal.header.jsn }
+abbrev pub clue_mark_of : Entry → Mark
+clue_mark_of journal = record { clue = journal.header.clue.0; jsn = journal.header.jsn }
 
 -- what an index of clues was given of some journals, of which those from the floor on are kept
 abbrev pub clues_added : ℕ → List Entry → Added
-clues_added floor journals = record { states = []; marks = map mark_of (filter has_clue journals); floor = floor }
+clues_added floor journals = record { states = []; marks = map clue_mark_of (filter has_clue journals); floor = floor }
 
 -- the first p journals, as a history of their own
 abbrev pub front : History → ℕ → History

@@ -17,7 +17,7 @@ use Rattle.ledger_book.specs.Books.{Kept, Serves, leaf_digests, aged_members}
 use Rattle.ledger_bytes.specs.declared.digest.Digest.{Digest}
 use Rattle.ledger_bytes.specs.declared.refusal.Refusal.TheVariants.{CluesFull}
 use Rattle.ledger_model.proofs.LawfulLaws.{AreFrom, lawful_from}
-use Rattle.ledger_model.specs.Bases.{mark_of}
+use Rattle.ledger_model.specs.Bases.{clue_mark_of}
 use Rattle.ledger_model.specs.Bounds.{marks_of}
 use Rattle.ledger_model.specs.Clues.{has_clue, is_of_clue, last_of, jsns_with, clue_count, next_ordinal, last_journal}
 use Rattle.ledger_model.specs.Ends.{ends_from}
@@ -96,8 +96,8 @@ module _ (hid gone : ℕ → Bool) (es fs : List Entry) (a : AllKept hid gone es
   pub greatest_kept : greatest_point es ≡ greatest_point fs
   greatest_kept = ap (fold max 0) (header_map_same hid gone (λ (x : Header). purge_point (bare x)) es fs a)
 
-  marks_kept : map mark_of (filter has_clue es) ≡ map mark_of (filter has_clue fs)
-  marks_kept = header_filter_same hid gone (λ (x : Header). has_clue (bare x)) (λ (x : Header). mark_of (bare x)) es fs a
+  marks_kept : map clue_mark_of (filter has_clue es) ≡ map clue_mark_of (filter has_clue fs)
+  marks_kept = header_filter_same hid gone (λ (x : Header). has_clue (bare x)) (λ (x : Header). clue_mark_of (bare x)) es fs a
 
   times_kept : marks_of es ≡ marks_of fs
   times_kept = header_filter_same hid gone (λ (x : Header). is_time x.kind) claims.mark_of es fs a

@@ -14,7 +14,7 @@ use Rattle.journal_record.specs.declared.header.Kind.{Kind}
 use Rattle.journal_record.specs.declared.header.Kind.TheVariants as kind
 use Rattle.ledger_book.proofs.GroundLaws.{ground_next}
 use Rattle.ledger_book.specs.Behind.{first_of, count_behind, clues_behind, names, IsOwnBehind, BeginsWell, IsNextBehind, AreBehind}
-use Rattle.ledger_model.specs.Bases.{mark_of}
+use Rattle.ledger_model.specs.Bases.{clue_mark_of}
 use Rattle.ledger_model.specs.Clues.{has_clue}
 use Rattle.ledger_model.specs.History.{history, greatest_point}
 use Rattle.ledger_model.specs.Lawful.{AreLawful, IsNext}
@@ -56,8 +56,8 @@ module _ (start : Option Base) (hid gone : ℕ → Bool) (es fs : List Entry) (a
   count_same None = members_count hid gone es fs a
   count_same (Some b) = ap (λ n. length b.keys + n) (ap length (header_filter_same hid gone (λ (x : Header). is_member x.kind) (λ (x : Header). member_of (bare x)) es fs a))
 
-  marks_same : map mark_of (filter has_clue es) ≡ map mark_of (filter has_clue fs)
-  marks_same = header_filter_same hid gone (λ (x : Header). has_clue (bare x)) (λ (x : Header). mark_of (bare x)) es fs a
+  marks_same : map clue_mark_of (filter has_clue es) ≡ map clue_mark_of (filter has_clue fs)
+  marks_same = header_filter_same hid gone (λ (x : Header). has_clue (bare x)) (λ (x : Header). clue_mark_of (bare x)) es fs a
 
   clues_kept : (s : Option Base) → clues_behind s es ≡ clues_behind s fs
   clues_kept None = ap (λ (ms : List Mark). record { states = []; marks = ms; floor = 0 }) marks_same
