@@ -8,7 +8,7 @@ ghost use Rattle.audit_core.specs.declared.refusal.No.{No as Refusal};
 ghost use Rattle.audit_core.specs.Truth.{lists_of, IsTrueOf};
 ghost use Rattle.audit_core.specs.Parts.{first_of_parts, parts_of, ShownGives, IsClashOf};
 ghost use Rattle.audit_core.specs.Honest.{IsHonest, AreMoments};
-ghost use Rattle.audit_core.specs.Judgement.{own_root, own_ledger, own_notary, own_acceptance, IsAcceptedByOwn, clash_of, judgement, told_by, Judges, JudgesShown};
+ghost use Rattle.audit_core.specs.Judgement.{own_root, own_ledger, own_acceptance, IsAcceptedByOwn, clash_of, judgement, told_by, Judges, JudgesShown};
 
 use crate::acceptance::{accept_under, break_of};
 use crate::known::KnownLedger;

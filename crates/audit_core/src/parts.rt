@@ -1,6 +1,5 @@
 ghost use Rattle.std.specs.Prelude.{◌≡◌, ◌/◌, ◌%◌, ◌<◌, ◌≤◌, ◌∷◌, length, get_or, [], IfSome};
 ghost use Rattle.tree_model.specs.Tree.{leaf, cut};
-ghost use Rattle.journal_record.specs.Header as journals;
 ghost use Rattle.merkle_tree.specs.Strings.{bytes_of};
 ghost use Rattle.audit_core.specs.Truth.{lists_of};
 ghost use Rattle.audit_core.specs.Parts.{path_part, leaf_part, extension_part, placed_parts, lower_parts, upper_parts, entry_parts, lower_entry_parts, upper_entry_parts, parts_of};

@@ -2,7 +2,7 @@ ghost use Rattle.std.specs.Prelude.{◌≡◌, ◌/◌, ◌<◌, ◌≤◌, leng
 ghost use Rattle.journal_record.specs.Reading.{header_of};
 ghost use Rattle.tree_model.specs.Tree.{cut};
 ghost use Rattle.audit_core.specs.Truth.{lists_of};
-ghost use Rattle.audit_core.specs.Deciding.{has_journal, pegged, has_mark, is_entry, has_entry, has_salted};
+ghost use Rattle.audit_core.specs.Deciding.{has_journal, pegged, has_mark, has_entry, has_salted};
 ghost use Rattle.audit_core.specs.Deciding.{is_noted_by, is_lower, is_upper, passes_if, is_true};
 
 use crate::pieces::{first_root, has_leaf, piece_at, piece_count};

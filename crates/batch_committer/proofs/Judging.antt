@@ -1,9 +1,9 @@
 -- A job was judged by the book, and its journal gathered.
-use Rattle.std.specs.Prelude.{Bool, true, false, IsTrue, ◌↔◌, Result, Ok, Err, OnOk, nat_le, ◌==◌, bytes_eq, sum_by}
+use Rattle.std.specs.Prelude.{Bool, true, false, Result, Ok, Err, OnOk, nat_le, ◌==◌, bytes_eq, sum_by}
 use Rattle.std.specs.Int.{w16, w32, to_be_bytes}
 use Rattle.std.specs.List.{list_all}
 use Rattle.std.proofs.Common.{◌≡◌, ◌≢◌, ◌⊎◌, inl, inr, ℕ, ◌+◌, ◌*◌, ◌≤◌, ◌&&◌, List, [], ◌∷◌, ◌++◌, length, Option, Some, None, refl, ap, sym, subst, ◌∙◌, arith, append_assoc, append-nil, length-append}
-use Rattle.std.proofs.lemmas.Bool.{true≢false, leb-true, eqb-true, and_parts}
+use Rattle.std.proofs.lemmas.Bool.{leb-true, and_parts}
 use Rattle.std.proofs.lemmas.List.Concat.{flat_map-append}
 use Rattle.std.proofs.lemmas.Option.{none-some}
 use Rattle.ledger_bytes.specs.declared.digest.Digest.{Digest}
@@ -363,8 +363,3 @@ judged_dues k0 k1 ds g step job answer is j =
       answer_is = m.answer_is;
       gathers = record { serves = x.serves; limits = x.limits; floor = x.floor; body = x.body; next = x.next; gathered = x.gathered; located = record { parts = x.located.parts; places = x.located.places; tail = x.located.tail } };
     }
-
--- none of some is left exactly where their number is 0
-pub none_by : (count : ℕ) (es : List Entry) → count ≡ length es → IsTrue (count == 0) ↔ (es ≡ [])
-none_by count [] is = (λ _. refl, λ _. ap (λ n. n == 0) is)
-none_by count (e ∷ es) is = (λ none. absurd (let no : ⊥ = omega (arith, is, eqb-true count 0 none) in no), λ none. absurd (let no : ⊥ = cc none in no))

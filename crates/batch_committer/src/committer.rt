@@ -1,4 +1,4 @@
-ghost use Rattle.std.specs.Prelude.{◌≡◌, ◌↔◌, [], Bool, List, ℕ, true, false, is_err, IsTrue, OnOk, IfErr, Err};
+ghost use Rattle.std.specs.Prelude.{◌≡◌, ◌↔◌, [], Bool, List, ℕ, true, false, is_err, OnOk, IfErr, Err};
 ghost use Rattle.block_file.specs.FileView.{gate_of};
 ghost use Rattle.ledger_model.specs.History.{History, id, close};
 ghost use Rattle.twin_file.specs.Which.{in_a_of, generation_in, file_of, copy_of};
@@ -67,13 +67,6 @@ impl Committer {
         ensures { (h : History) → Keeps self.now.kept h → result.0 ≡ id h }
     {
         self.inner.id()
-    }
-
-    /// Whether no journal waits for its block's end.
-    pub fn is_settled(&self) -> bool
-        ensures { (h : History) → Keeps self.now.kept h → IsTrue result ↔ (h.waiting ≡ []) }
-    {
-        self.inner.is_settled()
     }
 
     /// Takes a job, which came from a line: ends the open block before it where the job asks for that, judges the job,

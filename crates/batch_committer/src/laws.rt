@@ -1,4 +1,4 @@
-ghost use Rattle.std.specs.Prelude.{◌≡◌, ◌≤◌, ◌+◌, ℕ, Bool, true, IsTrue, List, [], Option, None, IsSomeAnd};
+ghost use Rattle.std.specs.Prelude.{◌≡◌, ◌≤◌, ℕ, Bool, true, IsTrue, List, [], Option, None};
 ghost use Rattle.block_file.specs.Head.{generation_of};
 ghost use Rattle.journal_record.specs.Entry.{Entry};
 ghost use Rattle.ledger_disk.specs.Disk.{State};

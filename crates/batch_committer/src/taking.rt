@@ -1,4 +1,4 @@
-ghost use Rattle.std.specs.Prelude.{◌≡◌, ◌↔◌, ◌≤◌, ◌<◌, ◌+◌, ◌^◌, ◌++◌, [], ◌∷◌, false, length, All, None, Option, Bool, true, List, ℕ, IfOk, IfErr, OnOk, OnErr, IsTrue};
+ghost use Rattle.std.specs.Prelude.{◌≡◌, ◌≤◌, ◌<◌, [], false, length, All, None, Bool, true, List, ℕ, IfOk, IfErr, OnOk, OnErr};
 ghost use Rattle.journal_record.specs.Approval.{who_of};
 ghost use Rattle.journal_record.specs.Entry.{Entry};
 ghost use Rattle.journal_record.specs.Header.{HasWidths, spelling};
@@ -8,7 +8,7 @@ ghost use Rattle.block_file.specs.FileView.{gate_of};
 ghost use Rattle.ledger_io.specs.Outside.{SinkState};
 ghost use Rattle.ledger_model.specs.Fitting.{fits_job};
 ghost use Rattle.ledger_model.specs.Getting.{get_reply};
-ghost use Rattle.ledger_model.specs.History.{History, journals, id, close};
+ghost use Rattle.ledger_model.specs.History.{History, id, close};
 ghost use Rattle.ledger_model.specs.Rules.{closes_after, closes_before, judged_at, settled_history};
 ghost use Rattle.ledger_model.specs.declared.job.Job.TheVariants as jobs;
 ghost use Rattle.ledger_book.specs.Books.{Serves};
@@ -17,7 +17,7 @@ ghost use Rattle.twin_file.specs.Which.{in_a_of, generation_in, file_of, copy_of
 ghost use Rattle.batch_committer.specs.Read.{WereRead, NoneFailed, ReadingEnds};
 ghost use Rattle.batch_committer.specs.Attending.{step_in, FailsAtMostOnce, TakesJob, EndsTaking, TakesIn, EndsIn, JudgedBy, EndsAsking};
 ghost use Rattle.batch_committer.specs.Steps.{HasParts, IsGathered, KeepsFile, KeepsRest, HasGrown, StaysGathered, StaysInOrder};
-ghost use Rattle.batch_committer.specs.World.{Pair, pair, world, first_kept, ReadsAsLeft, Fits, HasRoom, Keeps, Holds, Goes, EndsOnTheWay};
+ghost use Rattle.batch_committer.specs.World.{Pair, pair, world, first_kept, Fits, HasRoom, Keeps, Holds, Goes, EndsOnTheWay};
 
 use crate::CommitErr;
 use crate::commit::commit;
@@ -105,13 +105,6 @@ impl Taking {
         ensures { (h : History) → Keeps self.now h → result.0 ≡ id h }
     {
         self.opened.book.id()
-    }
-
-    /// Whether no journal waits for its block's end.
-    pub(crate) fn is_settled(&self) -> bool
-        ensures { (h : History) → Keeps self.now h → IsTrue result ↔ (h.waiting ≡ []) }
-    {
-        self.opened.book.waiting_count() == 0
     }
 
     /// Takes a job, which came from a line: ends the open block where the job asks for that, judges the job and gathers

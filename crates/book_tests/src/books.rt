@@ -151,6 +151,15 @@ fn replay(
     Ok(told)
 }
 
+/// A book made of the headers of another, one after the other.
+fn replayed(rt: &impl Abort, alloc: Global, book: &Book) -> Result<Book, Fail> {
+    let mut again = begun(alloc, book.header(0).ok_or("no header")?)?;
+    for number in 1..book.head().size {
+        assert!(rt; replay(rt, book, &mut again, number)? == Ok(()));
+    }
+    Ok(again)
+}
+
 #[test]
 fn a_long_ledger_is_replayed(rt: HostRuntime) -> Result<(), Fail> {
     let book = ledger_of(&rt, rt.alloc(), 262_144)?;
@@ -159,41 +168,46 @@ fn a_long_ledger_is_replayed(rt: HostRuntime) -> Result<(), Fail> {
         root: Digest(<[u8; 32]>::from_hex(ROOT)?),
     };
     assert!(rt; book.head() == head && book.blocks() == 4_097);
-    let first = book.header(0).ok_or("no header")?;
-    let mut again = begun(rt.alloc(), first)?;
-    for number in 1..262_145_u64 {
-        assert!(rt; replay(&rt, &book, &mut again, number)? == Ok(()));
-    }
-    assert!(rt; again.head() == head && again.blocks() == 4_097);
-    assert!(rt; again.id() == book.id());
+    let again = replayed(&rt, rt.alloc(), &book)?;
+    assert!(rt; again.head() == head && again.blocks() == 4_097 && again.id() == book.id());
     Ok(())
 }
 
-#[test]
-fn what_is_not_next_is_refused(rt: HostRuntime) -> Result<(), Fail> {
-    let book = ledger_of(&rt, rt.alloc(), 3)?;
-    let first = book.header(0).ok_or("no header")?;
-    let mut again = begun(rt.alloc(), first)?;
+/// Replays the header of this journal of `book`, or where it is 9 that of journal 3 as the second of its clue.
+fn take_of(book: &Book, again: &mut Book, number: u64) -> Result<Result<(), Damage>, Fail> {
+    let header = book.header(u64::min(number, 3)).ok_or("no header")?;
+    if number < 9 {
+        return take(again, header);
+    }
+    let twice = Header {
+        clue_ord: 2,
+        clue_prev: 1,
+        ..*header
+    };
+    take(again, &twice)
+}
+
+/// Replays headers out of order, and answers how many journals wait then.
+fn waiting_at_last(rt: &impl Abort, alloc: Global, book: &Book) -> Result<u64, Fail> {
+    let mut again = begun(alloc, book.header(0).ok_or("no header")?)?;
     for (number, told) in [
         (0, Err(Damage::Entry { jsn: 1 })),
         (2, Err(Damage::Entry { jsn: 1 })),
         (1, Ok(())),
         (1, Err(Damage::Entry { jsn: 2 })),
         (2, Ok(())),
+        (9, Err(Damage::Entry { jsn: 3 })),
+        (3, Ok(())),
     ] {
-        let header = book.header(number).ok_or("no header")?;
-        assert!(rt; take(&mut again, header)? == told);
+        assert!(rt; take_of(book, &mut again, number)? == told);
     }
-    let header = book.header(3).ok_or("no header")?;
-    let twice = Header {
-        clue_ord: 2,
-        clue_prev: 1,
-        ..*header
-    };
-    let told = take(&mut again, &twice)?;
-    assert!(rt; told == Err(Damage::Entry { jsn: 3 }));
-    assert!(rt; take(&mut again, header)? == Ok(()));
-    assert!(rt; again.waiting_count() == 3);
+    Ok(again.waiting_count())
+}
+
+#[test]
+fn what_is_not_next_is_refused(rt: HostRuntime) -> Result<(), Fail> {
+    let book = ledger_of(&rt, rt.alloc(), 3)?;
+    assert_eq!(rt; waiting_at_last(&rt, rt.alloc(), &book)?, 3);
     Ok(())
 }
 

@@ -242,10 +242,6 @@ impl<D: Disk + Drop, K: Sink + Drop> Bench<D, K> {
         self.committer.id()
     }
 
-    fn is_settled(&self) -> bool {
-        self.committer.is_settled()
-    }
-
     /// The size of the ledger where its last block ended.
     fn size(&self) -> u64 {
         self.committer.opened().book.head().size
@@ -299,12 +295,11 @@ impl<D: Disk + Drop, K: Sink + Drop> Bench<D, K> {
     }
 }
 
-/// What came of some records and a flush, and what stood before the flush: whether no journal waited, the size where the
-/// last block ended, and how many lines were written.
+/// What came of some records and a flush, and what stood before the flush: the size where the last block ended, and how
+/// many lines were written.
 #[derive(Clone, Copy, Debug, PartialEq, Eq)]
 struct Run {
     offered: Result<(), CommitErr>,
-    settled: bool,
     size: u64,
     lines: usize,
     flushed: Result<(), CommitErr>,
@@ -321,14 +316,12 @@ fn run_records<R: Threads, D: Disk + Drop>(
 ) -> Result<(Run, MemSink, D, D), Fail> {
     let mut bench = Bench::open(rt, alloc, a, b, sink_of(alloc, room)?)?;
     let offered = bench.offer_records(alloc, count);
-    let settled = bench.is_settled();
     let size = bench.size();
     let lines = lines_in(bench.sink.written_bytes());
     let flushed = bench.flush();
     let (a, b, sink) = bench.into_parts();
     let run = Run {
         offered,
-        settled,
         size,
         lines,
         flushed,
@@ -394,13 +387,12 @@ fn set_byte(bytes: &mut [u8], at: usize, to: u8) {
 #[test]
 fn blocks_end_where_they_are_full_and_by_a_flush(rt: HostRuntime) -> Result<(), Fail> {
     let alloc = rt.alloc();
-    let rows = [(63, false, 1, 0), (64, true, 65, 64), (65, false, 65, 64)];
-    for (count, settled, size, lines) in rows {
+    let rows = [(63, 1, 0), (64, 65, 64), (65, 65, 64)];
+    for (count, size, lines) in rows {
         let (a, b) = new_pair(alloc)?;
         let (run, sink, a, b) = run_records(&rt, alloc, a, b, AMPLE, count)?;
         let want = Run {
             offered: Ok(()),
-            settled,
             size,
             lines,
             flushed: Ok(()),

@@ -1,5 +1,5 @@
 ghost use Rattle.std.specs.Prelude.{◌≡◌, ◌≢◌, [], ◌+◌, ◌-◌, ◌^◌, ◌<◌, ◌≤◌, ℕ, List, length, max, All, IfOk, OnOk, OnErr};
-ghost use Rattle.clue_index.specs.Added.{Added, Mark, added_at_first, with_mark, with_floor, no_clue, trail_of, different_clues, states_at};
+ghost use Rattle.clue_index.specs.Added.{Added, added_at_first, with_mark, with_floor, no_clue, trail_of, different_clues, states_at};
 ghost use Rattle.clue_index.specs.Index.{StandsForTrails};
 ghost use Rattle.clue_index.specs.Trail.{count_of, last_of, kept_from, Ascends};
 ghost use Rattle.clue_index.specs.declared.index.TheConstants.{CLUE_ROOM};

@@ -1,5 +1,5 @@
-ghost use Rattle.std.specs.Prelude.{◌≡◌, ℕ, List, ◌+◌, ◌<◌, ◌≤◌, ◌^◌, [], ◌∷◌, ◌++◌, length, slice_index, slice_index_or, sum, IfOk, IfSome, IfNone, MatchOption, map};
-ghost use Rattle.crossbeam_queue.specs.Passes.{view, IsPassOf, ruled_capacity};
+ghost use Rattle.std.specs.Prelude.{◌≡◌, List, ◌+◌, ◌<◌, ◌≤◌, ◌^◌, [], ◌∷◌, ◌++◌, length, sum, IfOk, MatchOption, map};
+ghost use Rattle.crossbeam_queue.specs.Passes.{view, IsPassOf};
 ghost use Rattle.crossbeam_queue.specs.Fifo.{Held};
 ghost use Rattle.intake_queue.specs.Lanes.{plan_of, room, first_in, quota_in, Took, Stood, Settled, taker, sender, unopened};
 ghost use Rattle.intake_queue.specs.Passes.{lane_view, taker_view, IsLaneOf, IsTakerOf, AreNew, AreLanes, sent_by};

@@ -1,5 +1,5 @@
 //! Lines of several lanes: a worker for each lane that has some, and the taker on the calling thread.
-ghost use Rattle.std.specs.Prelude.{◌≡◌, ◌≤◌, ◌<◌, ◌+◌, ◌^◌, ℕ, List, [], length, All, IfOk, OnOk, OnErr, vec_len, vec_capacity, slice_index};
+ghost use Rattle.std.specs.Prelude.{◌≡◌, ◌≤◌, ◌<◌, ◌+◌, ◌^◌, ℕ, List, [], length, All, IfOk, OnOk, OnErr, vec_len, slice_index};
 ghost use Rattle.intake_queue.specs.Lanes.{taker as of_taker};
 ghost use Rattle.intake_queue.specs.Passes.{taker_view, IsTakerOf};
 ghost use Rattle.lane_work.specs.Making.{lines_of};

@@ -1,7 +1,5 @@
 //! Workers in a scope, each with its lane's pass, and what they hand back.
-ghost use Rattle.std.specs.Prelude.{◌≡◌, ◌≤◌, ◌<◌, ◌+◌, ◌^◌, ℕ, List, [], All, vec_len, vec_capacity};
-ghost use Rattle.intake_queue.specs.Lanes.{sender, first_in, quota_in};
-ghost use Rattle.intake_queue.specs.Passes.{lane_view, sent_by, IsLaneOf};
+ghost use Rattle.std.specs.Prelude.{◌≡◌, ◌≤◌, ◌<◌, ◌+◌, ℕ, List, [], All, vec_len, vec_capacity};
 ghost use Rattle.ledger_model.specs.Scheme.{Scheme};
 ghost use Rattle.lane_work.specs.Working.{IsReady, Works, Promised, Pairs, WorksOf};
 ghost use Rattle.lane_work.specs.declared.hands.LaneJob.{LaneJob};

@@ -1,4 +1,4 @@
-ghost use Rattle.std.specs.Prelude.{◌≡◌, ◌≤◌, ◌<◌, ◌^◌, ◌++◌, length, ℕ, List, All};
+ghost use Rattle.std.specs.Prelude.{◌≡◌, ◌<◌, ◌^◌, length, ℕ, List, All};
 ghost use Rattle.ledger_model.specs.Anchors as anchors;
 ghost use Rattle.ledger_model.specs.Appends as appends;
 ghost use Rattle.ledger_model.specs.Appends.{append_header, member_header};

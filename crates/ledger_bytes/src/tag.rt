@@ -1,4 +1,4 @@
-ghost use Rattle.std.specs.Prelude.{◌≡◌, ℕ};
+ghost use Rattle.std.specs.Prelude.{◌≡◌};
 ghost use Rattle.ledger_bytes.specs.Tags.{byte_of};
 ghost use Rattle.ledger_bytes.specs.declared.tag.Tag.{Tag as AnyTag};
 

@@ -1,4 +1,4 @@
-ghost use Rattle.std.specs.Prelude.{◌≡◌, ◌≤◌, ◌+◌, ◌-◌, ◌^◌, ◌++◌, ℕ, Bool, IsTrue, List, Option, Some, length, min, max, take, drop, IfOk, IfSome, IsSome, IsSomeAnd, OnOk, OnErr};
+ghost use Rattle.std.specs.Prelude.{◌≡◌, ◌≤◌, ◌+◌, ◌-◌, ◌^◌, ◌++◌, ℕ, Bool, IsTrue, Some, length, min, max, take, drop, IfOk, IfSome, IsSome, IsSomeAnd, OnOk, OnErr};
 ghost use Rattle.ledger_disk.specs.Disk.{DiskState, MayLeave, settled_state, overlay, with_write, cut_to, MayHaveWritten, MayHaveCut, CountsFault, KeepsLength};
 
 use ledger_bytes::Failed;

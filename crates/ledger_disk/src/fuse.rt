@@ -1,4 +1,4 @@
-ghost use Rattle.std.specs.Prelude.{◌≡◌, ◌+◌, ◌-◌, ◌^◌, ◌≤◌, ◌++◌, IsTrue, length, take, drop, min, max, Some, IfOk, OnOk, OnErr, IsErr, IfSome, IsSome, IsSomeAnd};
+ghost use Rattle.std.specs.Prelude.{◌≡◌, ◌+◌, ◌-◌, ◌^◌, ◌≤◌, ◌++◌, IsTrue, length, take, drop, min, max, Some, IfOk, OnOk, OnErr, IfSome, IsSome, IsSomeAnd};
 ghost use Rattle.ledger_disk.specs.Disk.{settled_state, overlay, with_write, cut_to, MayHaveWritten, MayHaveCut, CountsFault, KeepsLength};
 
 use crate::Disk;

@@ -56,7 +56,7 @@ pub struct MemDisk {
 }
 
 impl MemDisk {
-    ghost use Rattle.ledger_disk.specs.Memory.{memory_state, memory_faults, IsRefused, IsCounted, IsUnused, SamePlan, room_of};
+    ghost use Rattle.ledger_disk.specs.Memory.{memory_state, memory_faults, IsRefused, IsCounted, IsUnused, room_of};
 
     /// An empty disk that can hold `room` bytes. `fail_at` has the numbers of the calls of `len`, `read`, `write`,
     /// `cut` and `sync` that fail, counted together. The first call has the number 0.

@@ -1,6 +1,6 @@
 -- What clauses know of the objects outside: what a source has left to read, what a sink holds, and how often calls failed.
 use Rattle.std.specs.Prelude.{◌≡◌, ℕ, ◌+◌, ◌-◌, ◌^◌, ◌≤◌, ◌⊎◌, Bool, ◌==◌, ◌&&◌, nat_lt, if◌then◌else◌, List, length, min, Option, Result, Ok, Err}
-use Rattle.ledger_bytes.specs.Causes.{Rose, count_after}
+use Rattle.ledger_bytes.specs.Causes.{count_after}
 
 -- a source: the bytes that are left to read, where it tells them, and how many of its calls failed
 pub record SourceState : Type 0 where
@@ -31,10 +31,6 @@ idles_after before (Err error) piece = before
 pub record CountsIdle {E : Type 0} (before now : ℕ) (result : Result ℕ E) (piece : List ℕ) : Type 0 where
   pub later : before ≤ now
   pub count : now ≡ idles_after before result piece
-
--- writing met a fault: the sink failed, or it took nothing of a piece that wasn't empty
-abbrev pub MeetsFault : SinkState → SinkState → Type 0
-MeetsFault before after = Rose before.faults after.faults ⊎ Rose before.idles after.idles
 
 -- writing met no fault
 abbrev pub MeetsNone : SinkState → SinkState → Type 0

@@ -1,5 +1,5 @@
-ghost use Rattle.std.specs.Prelude.{◌≡◌, ◌≢◌, ℕ, ◌<◌, ◌≤◌, List, [], false, None, length, IsTrue, ◌↔◌, MatchOption};
-ghost use Rattle.ledger_io.specs.Lines.{line_limit, script_limit, IsUnbroken, IsLine, BreaksAt, HoldsLine};
+ghost use Rattle.std.specs.Prelude.{◌≡◌, ℕ, ◌<◌, ◌≤◌, List, [], false, None, IsTrue, ◌↔◌, MatchOption};
+ghost use Rattle.ledger_io.specs.Lines.{script_limit, IsUnbroken, IsLine, BreaksAt, HoldsLine};
 ghost use Rattle.ledger_io.specs.Reading.{ReadsBytes, Gives, faults_next};
 ghost use Rattle.ledger_io.specs.Steps.{reading_after, HasRead, Fetched, TakesLine, TakesRest};
 

@@ -1,7 +1,6 @@
-ghost use Rattle.std.specs.Prelude.{◌≡◌, ◌≤◌, OnOk, OnErr, IfErr};
+ghost use Rattle.std.specs.Prelude.{◌≡◌, OnOk, IfErr};
 ghost use Rattle.std.specs.Io.KnownBytes.{Appends};
 ghost use Rattle.ledger_io.specs.Endings.{status_of, last_line};
-ghost use Rattle.ledger_io.specs.Outside.{MeetsFault};
 ghost use Rattle.ledger_io.specs.Writing.{WritesFirst, MeetsAtMostOne, WritesLast};
 
 use crate::{Ending, Sink};

@@ -24,7 +24,7 @@ use Rattle.clue_index.proofs.OrderLaws.{states_ascend, states_named, different_c
 use Rattle.journal_record.specs.Entry.{Entry}
 use Rattle.journal_record.specs.Header.{HasWidths as AreHeaderWidths, spelling as header_spelling}
 use Rattle.journal_record.specs.declared.member.Member.{Member}
-use Rattle.pseudo_genesis.specs.Bases.{blocks_ok, members_ok, IsBase, IsWide, HasStateWidths, HasWidths, spelling}
+use Rattle.pseudo_genesis.specs.Bases.{blocks_ok, members_ok, IsBase, IsWide, HasStateWidths, HasWidths, base_spelling}
 use Rattle.pseudo_genesis.specs.declared.base.Base.{Base}
 use Rattle.pseudo_genesis.specs.declared.base.TheConstants.{POINT_LIMIT, CLUE_LIMIT}
 use Rattle.pseudo_genesis.proofs.Wholes.{base_of_only}
@@ -311,6 +311,6 @@ read_or b (Ok c) = c
 read_or b (Err e) = b
 
 -- a base is told by its bytes
-pub one_spelling : (b c : Base) → IsBase b × HasWidths b → IsBase c × HasWidths c → spelling b ≡ spelling c → b ≡ c
+pub one_spelling : (b c : Base) → IsBase b × HasWidths b → IsBase c × HasWidths c → base_spelling b ≡ base_spelling c → b ≡ c
 unfolding read_or
-one_spelling b c rb rc is = ap (read_or b) (sym (base_of_only (spelling b) b rb.0 rb.1 refl) ∙ base_of_only (spelling b) c rc.0 rc.1 is)
+one_spelling b c rb rc is = ap (read_or b) (sym (base_of_only (base_spelling b) b rb.0 rb.1 refl) ∙ base_of_only (base_spelling b) c rc.0 rc.1 is)

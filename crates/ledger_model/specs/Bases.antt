@@ -7,7 +7,7 @@ use Rattle.ledger_bytes.specs.Tags.{byte_of}
 use Rattle.ledger_bytes.specs.declared.tag.Tag.TheVariants as tag
 use Rattle.clue_index.specs.Added.{Mark, Added, states_at}
 use Rattle.journal_record.specs.Entry.{Entry}
-use Rattle.pseudo_genesis.specs.Bases.{spelling}
+use Rattle.pseudo_genesis.specs.Bases.{base_spelling}
 use Rattle.pseudo_genesis.specs.declared.base.Base.{Base}
 use Rattle.ledger_model.specs.Clues.{has_clue}
 use Rattle.ledger_model.specs.History.{History, history, journals, leaf_digest, id, ends}
@@ -41,4 +41,4 @@ base_of h p =
 
 -- the digest of a base: that of the byte 07 and the base's bytes
 abbrev pub digest_of_base : Base → List ℕ
-digest_of_base base = sha256 (byte_of tag.Base ∷ spelling base)
+digest_of_base base = sha256 (byte_of tag.Base ∷ base_spelling base)

@@ -10,7 +10,7 @@ use Rattle.block_file.specs.Head.{HasHead, digest_of, number_at, generation_of}
 use Rattle.journal_record.specs.Blocks.{block_bytes, leaves_of, IsBlock, written_blocks}
 use Rattle.journal_record.specs.Entry.{Entry}
 use Rattle.ledger_model.specs.History.{journals_of}
-use Rattle.pseudo_genesis.specs.Bases.{spelling}
+use Rattle.pseudo_genesis.specs.Bases.{base_spelling}
 use Rattle.pseudo_genesis.specs.declared.base.Base.{Base}
 use Rattle.ledger_open.specs.Damages.{Begun, IsReadTo}
 use Rattle.ledger_open.specs.Heads.{IsFront}
@@ -77,8 +77,8 @@ pub begun_start : (file : List ℕ) (start : Option Base) → IsStart file start
 begun_start file None s = begun_front file s.0 [] s.1 (omega (arith, s.0.is_open.long)) (λ some. absurd (some refl)) refl ground refl
 begun_start file (Some b) s =
     let all : length (base_in file) ≡ number_at 18 file = omega (arith, length-take (number_at 18 file) (drop 64 file), length-drop 64 file, s.1.there, s.0.is_open.long) in
-    let len : number_at 18 file ≡ length (spelling b) = sym all ∙ ap length s.3 in
-    begun_front file s.0 (spelling b) len (omega (arith, len, s.1.there, s.0.is_open.long)) (λ some. s.1.digest ∙ ap digest_of s.3) (ap (λ (n : ℕ). take n (drop 64 file)) (sym len) ∙ s.3) (floor_of b) refl
+    let len : number_at 18 file ≡ length (base_spelling b) = sym all ∙ ap length s.3 in
+    begun_front file s.0 (base_spelling b) len (omega (arith, len, s.1.there, s.0.is_open.long)) (λ some. s.1.digest ∙ ap digest_of s.3) (ap (λ (n : ℕ). take n (drop 64 file)) (sym len) ∙ s.3) (floor_of b) refl
 
 pub readto_start : (file : List ℕ) (start : Option Base) → IsStart file start → IsReadTo file start [] (64 + length (floor_from start).base)
 readto_start file start s = record { begins = s; begun = begun_start file start s; legal = λ some. absurd (some refl) }

@@ -16,7 +16,7 @@ use Rattle.ledger_model.specs.Bases.{base_of}
 use Rattle.ledger_model.specs.History.{History, journals_of, point, greatest_point}
 use Rattle.ledger_model.specs.Lawful.{IsBlock}
 use Rattle.ledger_model.specs.Targets.{is_hidden}
-use Rattle.pseudo_genesis.specs.Bases.{spelling}
+use Rattle.pseudo_genesis.specs.Bases.{base_spelling}
 use Rattle.pseudo_genesis.specs.declared.base.Base.{Base}
 use Rattle.twin_file.specs.Twin.{next_generation}
 use Rattle.ledger_open.specs.Cutting.{first_gate, gate_behind}
@@ -231,18 +231,18 @@ module _ (k : Known) (start : Option Base) (blocks : List (List Entry)) (old : L
         next_is : generation ≡ x.generation + 1
         next_is = omega (arith, stands_generation old h s, lower s.floor (hidden_before h) old h x under, size_few h x.lawful)
 
-        copy_is : copied_file generation (spelling base) (gate_behind (floor_from start) front) k.gate cut ≡ whole_file (front_of 1 generation (spelling base)) (rest s.floor (hidden_before h) cut h y under)
+        copy_is : copied_file generation (base_spelling base) (gate_behind (floor_from start) front) k.gate cut ≡ whole_file (front_of 1 generation (base_spelling base)) (rest s.floor (hidden_before h) cut h y under)
         copy_is =
-            ap (λ (n : ℕ). copied_file generation (spelling base) n k.gate cut) gate_is ∙ ap (λ (n : ℕ). copied_file generation (spelling base) (gate_behind from left_out) n cut) tail_at
-            ∙ ap (λ (bs : List ℕ). (front_of 1 generation (spelling base) ++ bs) ++ 0 ∷ []) (rest_taken s.floor (hidden_before h) cut h y under)
+            ap (λ (n : ℕ). copied_file generation (base_spelling base) n k.gate cut) gate_is ∙ ap (λ (n : ℕ). copied_file generation (base_spelling base) (gate_behind from left_out) n cut) tail_at
+            ∙ ap (λ (bs : List ℕ). (front_of 1 generation (base_spelling base) ++ bs) ++ 0 ∷ []) (rest_taken s.floor (hidden_before h) cut h y under)
 
-        pub moved_clean : IsClean (copied_file generation (spelling base) (gate_behind (floor_from start) front) k.gate (given_up (floor_from start) blocks cut)) h
+        pub moved_clean : IsClean (copied_file generation (base_spelling base) (gate_behind (floor_from start) front) k.gate (given_up (floor_from start) blocks cut)) h
         moved_clean =
             let rules = base_there s.floor (hidden_before h) cut h y under in
-            let fits : length (spelling base) < 2 ^ 64 = subst (λ (b : Base). length (spelling b) < 2 ^ 64) (sym base_is) (spelling_fits (base_of h (point h)) rules.0 rules.1) in
-            subst (λ (l : List ℕ). IsClean (copied_file generation (spelling base) (gate_behind (floor_from start) front) k.gate l) h) (sym none_given)
+            let fits : length (base_spelling base) < 2 ^ 64 = subst (λ (b : Base). length (base_spelling b) < 2 ^ 64) (sym base_is) (spelling_fits (base_of h (point h)) rules.0 rules.1) in
+            subst (λ (l : List ℕ). IsClean (copied_file generation (base_spelling base) (gate_behind (floor_from start) front) k.gate l) h) (sym none_given)
             (subst (λ (l : List ℕ). IsClean l h) (sym copy_is)
-            (copy_clean s.floor cut h y under (spelling base) generation (ap spelling base_is) next_is (omega (arith, next_is, lower s.floor (hidden_before h) old h x under, size_few h x.lawful)) fits purge))
+            (copy_clean s.floor cut h y under (base_spelling base) generation (ap base_spelling base_is) next_is (omega (arith, next_is, lower s.floor (hidden_before h) old h x under, size_few h x.lawful)) fits purge))
 
   -- ---- a clean one
 

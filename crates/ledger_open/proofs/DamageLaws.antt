@@ -16,7 +16,7 @@ use Rattle.ledger_book.specs.Behind.{next_number, IsNextBehind, AreBehind}
 use Rattle.ledger_model.specs.History.{journals_of}
 use Rattle.ledger_model.specs.Lawful as lawful
 use Rattle.ledger_model.specs.Lawful.{IsFounded}
-use Rattle.pseudo_genesis.specs.Bases.{spelling}
+use Rattle.pseudo_genesis.specs.Bases.{base_spelling}
 use Rattle.pseudo_genesis.specs.declared.base.Base.{Base as Begins}
 use Rattle.ledger_open.specs.Damages.{IsReadTo, IsNextHere, IsNotNext, CanShare, IsOtherRoot, IsOtherContent, IsBlockDamage, EndsEarly, IsCutShort, IsDamage}
 use Rattle.ledger_open.specs.Opening.{HasWhole}
@@ -90,7 +90,7 @@ pub starts : (start : Option Begins) (generation : ℕ) (cs : List (List Entry))
 starts None generation cs file x d = (has_head ground generation cs file x, number_is ground generation cs file x)
 starts (Some b) generation cs file x d =
     let floor = floor_of b in
-    let some : length (spelling b) ≢ 0 = λ none. let n = spelled_some b in omega (arith, n, none) in
+    let some : length (base_spelling b) ≢ 0 = λ none. let n = spelled_some b in omega (arith, n, none) in
     let bytes = base_there floor generation cs file x in
     let digest = digest_there floor generation cs file x some in (
       has_head floor generation cs file x,

@@ -21,7 +21,7 @@ use Rattle.ledger_model.proofs.PointLaws.{points_few}
 use Rattle.ledger_model.specs.Bases.{base_of}
 use Rattle.ledger_model.specs.History.{History, journals, journals_of, size, point, greatest_point, purge_point, is_purge}
 use Rattle.ledger_model.specs.Targets.{is_hidden, is_hidden_by, is_occult, hides}
-use Rattle.pseudo_genesis.specs.Bases.{spelling}
+use Rattle.pseudo_genesis.specs.Bases.{base_spelling}
 use Rattle.twin_file.proofs.HeadLaws.{tail_size, generation_is as file_generation}
 use Rattle.twin_file.specs.Places.{HasTail}
 use Rattle.twin_file.specs.Twin.{choice, IsPassed, next_generation}
@@ -125,7 +125,7 @@ module _ (floor : ℕ) (image : List ℕ) (h : History) (x : StandsBy floor (hid
   abbrev copy : List ℕ
   copy = whole_file (front_of 1 next base) (rest floor (hidden_before h) image h x below)
 
-  module _ (spelled : base ≡ spelling (base_of h (point h))) (new : StandsBy (point h) (hidden_before h) copy h) where
+  module _ (spelled : base ≡ base_spelling (base_of h (point h))) (new : StandsBy (point h) (hidden_before h) copy h) where
     gate_now : gate_behind (floor_behind h new.parts.gone) new.parts.kept ≡ after_at (64 + length base) stays
     gate_now =
         let one = one_parts (point h) h x.lawful.blocks_are new.parts (split.parts_there h x.lawful x.none floor x.parts below) in
@@ -153,7 +153,7 @@ module _ (floor : ℕ) (image : List ℕ) (h : History) (x : StandsBy floor (hid
         )
 
   -- and a purge hides nothing
-  pub copy_clean : base ≡ spelling (base_of h (point h)) → next ≡ x.generation + 1 → next < 2 ^ 64 → length base < 2 ^ 64 → point_before h ≢ point h → IsClean copy h
+  pub copy_clean : base ≡ base_spelling (base_of h (point h)) → next ≡ x.generation + 1 → next < 2 ^ 64 → length base < 2 ^ 64 → point_before h ≢ point h → IsClean copy h
   copy_clean spelled next_is fits short purge =
       let new = copy_stands floor (hidden_before h) image h x below base next spelled next_is fits short in
       let e = erased_now copy h (none_new h (some_journal (journals h) x.lawful.journals_are) purge) new in
@@ -267,7 +267,7 @@ module _ (l : Ledger) (h : History) (s : StandsOpen l h) where
       next_is = omega (arith, own_generation, lower, size_few h x.lawful)
 
       new_stands : StandsBy (point h) (hidden_before h) new h
-      new_stands = copy_stands s.stands.floor (hidden_before h) (open_disk l).seen h x under bytes (next_generation l.generation) (base.spelled ∙ ap spelling base_same) next_is (omega (arith, next_is, lower, size_few h x.lawful)) base.short
+      new_stands = copy_stands s.stands.floor (hidden_before h) (open_disk l).seen h x under bytes (next_generation l.generation) (base.spelled ∙ ap base_spelling base_same) next_is (omega (arith, next_is, lower, size_few h x.lawful)) base.short
 
       new_for : StandsFor new h
       new_for = record { floor = point h; begins = inl refl; file = new_stands }
@@ -292,7 +292,7 @@ module _ (l : Ledger) (h : History) (s : StandsOpen l h) where
 
       clean_new : IsClean new h
       clean_new =
-          copy_clean s.stands.floor (open_disk l).seen h x under bytes (next_generation l.generation) (base.spelled ∙ ap spelling base_same) next_is (omega (arith, next_is, lower, size_few h x.lawful)) base.short purge
+          copy_clean s.stands.floor (open_disk l).seen h x under bytes (next_generation l.generation) (base.spelled ∙ ap base_spelling base_same) next_is (omega (arith, next_is, lower, size_few h x.lawful)) base.short purge
 
     -- the purge is finished
     pub finished : (tells : Bool) (m : Ledger) → (p : IsPurged tells old front behind l m) → IsTrue tells → IsCleanOpen m h
@@ -377,7 +377,7 @@ purged tells floor front behind l m cut bytes slice falls same base at keeps fir
       ∙ ap (λ (g : ℕ). settled_state (copied_file g bytes (gate_behind floor front) l.known.gate (open_disk l).seen)) (sym generation);
   wiped = wiped;
 } where
-  gate_is : first ≡ 64 + length (spelling base.base)
+  gate_is : first ≡ 64 + length (base_spelling base.base)
   gate_is = first_is ∙ ap (λ (t : List ℕ). 64 + length t) (same ∙ base.spelled)
 
   here : drop cut.count l.known.places ≡ places_at cut.gate behind

@@ -22,7 +22,7 @@ use Rattle.ledger_book.specs.Books.{Kept}
 use Rattle.ledger_bytes.specs.declared.failure.Bad.{Bad}
 use Rattle.ledger_model.specs.History.{journals_of}
 use Rattle.ledger_model.specs.Lawful as lawful
-use Rattle.pseudo_genesis.specs.Bases.{IsBase, HasWidths, spelling}
+use Rattle.pseudo_genesis.specs.Bases.{IsBase, HasWidths, base_spelling}
 use Rattle.pseudo_genesis.specs.Reading.{base_of}
 use Rattle.pseudo_genesis.specs.declared.base.Base.{Base}
 use Rattle.ledger_open.specs.Damages.{Begun, IsReadTo, IsDamage, EndsEarly}
@@ -226,7 +226,7 @@ module _ (file base : List ℕ) (taken : BlockFile) (fits : HasBase file) (h : I
   bad_form e place broken told = (has_digest, (e, ap base_of (sym bytes_are) ∙ broken, told))
 
   -- or it is this one
-  pub begins_behind : (b : Base) → IsBase b × HasWidths b × (base ≡ spelling b) → IsStart file (Some b)
+  pub begins_behind : (b : Base) → IsBase b × HasWidths b × (base ≡ base_spelling b) → IsStart file (Some b)
   begins_behind b f = (h.head, has_digest, (f.0, f.1), sym bytes_are ∙ f.2)
 
 pub begins_first : (file base : List ℕ) (taken : BlockFile) → IsHeadOf file taken → length base ≡ 0 → length base ≡ base_len_of taken → IsStart file None

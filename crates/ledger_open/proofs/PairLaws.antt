@@ -8,7 +8,7 @@ use Rattle.journal_record.specs.Blocks as blocks
 use Rattle.journal_record.specs.Blocks.{AreBlocks}
 use Rattle.journal_record.specs.Entry.{Entry}
 use Rattle.journal_record.specs.declared.header.Header.{Header}
-use Rattle.pseudo_genesis.specs.Bases.{spelling, front_text}
+use Rattle.pseudo_genesis.specs.Bases.{base_spelling, front_text}
 use Rattle.pseudo_genesis.specs.declared.base.Base.{Base}
 use Rattle.ledger_model.specs.Bases.{base_of}
 use Rattle.ledger_model.specs.History.{History, journals, journals_of, point}
@@ -58,13 +58,13 @@ same_from hid hid′ gone p m (b ∷ bs) (c ∷ cs) are le shown s = (
   same_from hid hid′ gone p (m + length c) bs cs are.1 (omega (arith, le)) shown s.1,
 )
 
-some_spelled : (b : Base) → 1 ≤ length (spelling b)
-unfolding spelling front_text
+some_spelled : (b : Base) → 1 ≤ length (base_spelling b)
+unfolding base_spelling front_text
 some_spelled b = omega arith
 
 -- one spelling, one base
 abbrev OneBase : History → ℕ → History → ℕ → Type 0
-OneBase h p k q = 1 ≤ p → 1 ≤ q → spelling (base_of h p) ≡ spelling (base_of k q) → base_of h p ≡ base_of k q
+OneBase h p k q = 1 ≤ p → 1 ≤ q → base_spelling (base_of h p) ≡ base_spelling (base_of k q) → base_of h p ≡ base_of k q
 
 -- where there are blocks there are journals
 abbrev HasSome : List (List Entry) → Type 0

@@ -7,7 +7,7 @@ use Rattle.block_file.specs.Head.{generation_of}
 use Rattle.journal_record.specs.Entry.{Entry}
 use Rattle.ledger_disk.specs.Disk.{State, settled_state}
 use Rattle.ledger_model.specs.History.{History}
-use Rattle.pseudo_genesis.specs.Bases.{spelling}
+use Rattle.pseudo_genesis.specs.Bases.{base_spelling}
 use Rattle.pseudo_genesis.specs.declared.base.Base.{Base}
 use Rattle.twin_file.specs.Twin.{choice, open_of, IsTaken, next_generation}
 use Rattle.ledger_open.specs.Cutting.{gate_behind}
@@ -81,11 +81,11 @@ module _ (in_a : Bool) (k : Known) (start : Option Base) (blocks : List (List En
     by_left (inr m) =
         let g = next_generation (generation_of old) in
         let from = gate_behind (floor_from was.start) m.front in
-        let at : after_at (64 + length (spelling m.base)) blocks ≡ place = ap (λ (s : Option Base). gate_behind (floor_from s) blocks) (sym m.start_is) ∙ sym tail in
-        tidy_at (open_of in_a new_a new_b) (copied_file g (spelling m.base) from r.read.known.gate r.bytes) (after_at (64 + length (spelling m.base)) blocks)
-        (m.open_is ∙ ap (λ (n : ℕ). settled_state (copied_file g (spelling m.base) from n r.bytes)) (sym r.read.tail)) at
-        (clean.copy_shut r.read.known was.start was.blocks old r.read.knows r.read.has r.bytes one g (spelling m.base) m.front blocks m.are)
-        (clean.copy_size r.read.known was.start was.blocks old r.read.knows r.read.has r.bytes one g (spelling m.base) m.front blocks m.are)
+        let at : after_at (64 + length (base_spelling m.base)) blocks ≡ place = ap (λ (s : Option Base). gate_behind (floor_from s) blocks) (sym m.start_is) ∙ sym tail in
+        tidy_at (open_of in_a new_a new_b) (copied_file g (base_spelling m.base) from r.read.known.gate r.bytes) (after_at (64 + length (base_spelling m.base)) blocks)
+        (m.open_is ∙ ap (λ (n : ℕ). settled_state (copied_file g (base_spelling m.base) from n r.bytes)) (sym r.read.tail)) at
+        (clean.copy_shut r.read.known was.start was.blocks old r.read.knows r.read.has r.bytes one g (base_spelling m.base) m.front blocks m.are)
+        (clean.copy_size r.read.known was.start was.blocks old r.read.knows r.read.has r.bytes one g (base_spelling m.base) m.front blocks m.are)
 
   -- ---- .. and clean for what it stood for
 
@@ -102,7 +102,7 @@ module _ (in_a : Bool) (k : Known) (start : Option Base) (blocks : List (List En
         let from = gate_behind (floor_from was.start) m.front in
         let base : IsBaseOf (Some m.base) h = subst (λ (t : Option Base). IsBaseOf t h) m.start_is (r.goes h on).base in
         subst (λ (l : List ℕ). IsClean l h)
-        (sym (ap (λ (t : State). t.seen) m.open_is ∙ ap (λ (n : ℕ). copied_file g (spelling m.base) from n r.bytes) (sym r.read.tail) ∙ ap (copied_file g (spelling m.base) from r.read.known.gate) given_is))
+        (sym (ap (λ (t : State). t.seen) m.open_is ∙ ap (λ (n : ℕ). copied_file g (base_spelling m.base) from n r.bytes) (sym r.read.tail) ∙ ap (copied_file g (base_spelling m.base) from r.read.known.gate) given_is))
         (clean.moved_clean r.read.known was.start was.blocks old r.read.knows r.read.has h s (omega (arith, m.before, m.point)) m.front blocks m.base m.are m.point m.at base)
 
   -- a clean one is as it was

@@ -21,7 +21,7 @@ use Rattle.ledger_model.specs.History.{History, journals, journals_of, size, poi
 use Rattle.ledger_model.specs.Lawful.{AreLawful}
 use Rattle.ledger_model.specs.Targets.{is_hidden}
 use Rattle.pseudo_genesis.specs.Bases as bases
-use Rattle.pseudo_genesis.specs.Bases.{IsBase, spelling}
+use Rattle.pseudo_genesis.specs.Bases.{IsBase, base_spelling}
 use Rattle.ledger_open.specs.Cutting.{first_gate, gate_behind}
 use Rattle.ledger_open.specs.Heads.{IsFront}
 use Rattle.ledger_open.specs.Standing.{Floor, HasBlocks, SameButHidden, AllKept, HasFounders, AreWide, StandsBy, floor_behind}
@@ -112,7 +112,7 @@ module _ (floor : ℕ) (zeros : ℕ → Bool) (image : List ℕ) (h : History) (
     by_floor false is early = early
 
   -- the copy stands for the history
-  pub copy_stands : (base : List ℕ) (next : ℕ) → base ≡ spelling (base_of h (point h)) → next ≡ x.generation + 1 → next < 2 ^ 64 → length base < 2 ^ 64 → StandsBy (point h) zeros (whole_file (front_of 1 next base) rest) h
+  pub copy_stands : (base : List ℕ) (next : ℕ) → base ≡ base_spelling (base_of h (point h)) → next ≡ x.generation + 1 → next < 2 ^ 64 → length base < 2 ^ 64 → StandsBy (point h) zeros (whole_file (front_of 1 next base) rest) h
   unfolding rest
   copy_stands base next spelled is fits short =
       let t = two in

@@ -14,7 +14,7 @@ use Rattle.ledger_book.specs.Behind.{first_of}
 use Rattle.ledger_bytes.specs.declared.digest.Digest.{Digest}
 use Rattle.ledger_bytes.specs.declared.failure.Bad.{Bad}
 use Rattle.ledger_bytes.specs.declared.failure.Bad.TheVariants as bad
-use Rattle.pseudo_genesis.specs.Bases.{IsWide, spelling, front_text}
+use Rattle.pseudo_genesis.specs.Bases.{IsWide, base_spelling, front_text}
 use Rattle.pseudo_genesis.specs.Reading.{base_of}
 use Rattle.pseudo_genesis.specs.declared.base.Base.{Base}
 use Rattle.pseudo_genesis.proofs.Wholes.{base_of_only}
@@ -63,8 +63,8 @@ digests_from (Some b) d xs = root_from_size _ (map (λ (p : Digest). p.0) b.peak
 -- ---- one beginning
 
 -- a base has bytes
-pub spelled_some : (b : Base) → 1 ≤ length (spelling b)
-unfolding spelling front_text
+pub spelled_some : (b : Base) → 1 ≤ length (base_spelling b)
+unfolding base_spelling front_text
 spelled_some b = omega arith
 
 pub first_same : (start : Option Base) → first_of start ≡ (floor_from start).first

@@ -17,7 +17,7 @@ use Rattle.ledger_model.specs.History.{History, journals, journals_of, size}
 use Rattle.ledger_model.specs.Lawful.{IsLawful}
 use Rattle.ledger_model.proofs.BaseLaws.{founders_wide, is_base, has_widths}
 use Rattle.pseudo_genesis.specs.Bases as bases
-use Rattle.pseudo_genesis.specs.Bases.{IsBase, HasStateWidths, digests_text, state_text, states_text, front_text, keys_text, clues_text, spelling}
+use Rattle.pseudo_genesis.specs.Bases.{IsBase, HasStateWidths, digests_text, state_text, states_text, front_text, keys_text, clues_text, base_spelling}
 use Rattle.pseudo_genesis.specs.declared.base.Base.{Base}
 use Rattle.pseudo_genesis.specs.declared.base.TheConstants.{POINT_LIMIT, CLUE_LIMIT}
 use Rattle.ledger_open.specs.Standing.{AllKept, SameButHidden, HasFounders, StandsBy}
@@ -84,8 +84,8 @@ states_size (s ∷ ss) all =
     )
 
 -- the length of one that keeps its rules fits its field
-pub spelling_fits : (b : Base) → IsBase b → bases.HasWidths b → length (spelling b) < 2 ^ 64
-unfolding spelling front_text keys_text clues_text
+pub spelling_fits : (b : Base) → IsBase b → bases.HasWidths b → length (base_spelling b) < 2 ^ 64
+unfolding base_spelling front_text keys_text clues_text
 spelling_fits b rules widths =
     let point : b.point ≤ POINT_LIMIT = leb-true b.point POINT_LIMIT (and_parts (nat_le 1 b.point) (nat_le b.point POINT_LIMIT) rules.point).1 in
     let keys : length b.keys ≤ MEMBER_LIMIT = leb-true (length b.keys) MEMBER_LIMIT (and_parts (nat_le 2 (length b.keys)) (nat_le (length b.keys) MEMBER_LIMIT) rules.members).1 in

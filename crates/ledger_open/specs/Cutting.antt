@@ -4,7 +4,7 @@ use Rattle.journal_record.specs.Entry.{Entry}
 use Rattle.ledger_book.specs.Books.{Kept, Serves}
 use Rattle.ledger_model.specs.Bases.{base_of}
 use Rattle.ledger_model.specs.History.{History, journals_of}
-use Rattle.pseudo_genesis.specs.Bases.{HasCounts, spelling}
+use Rattle.pseudo_genesis.specs.Bases.{HasCounts, base_spelling}
 use Rattle.pseudo_genesis.specs.declared.base.Base.{Base}
 use Rattle.ledger_open.specs.Erasing.{AllInside}
 use Rattle.ledger_open.specs.Opening.{Known, known_from}
@@ -72,7 +72,7 @@ IsCutOf book places (Some cut) =
 -- these bytes spell the base at this journal of each history that a book is one of
 pub record IsBaseAt (book : Kept) (p : ℕ) (bytes : List ℕ) : Type 0 where
   pub base : Base
-  pub spelled : bytes ≡ spelling base
+  pub spelled : bytes ≡ base_spelling base
   pub short : length bytes < 2 ^ 64
   pub counts : HasCounts base
   pub point : base.point ≡ p

@@ -7,7 +7,7 @@ use Rattle.journal_record.specs.Entry.{Entry}
 use Rattle.ledger_book.specs.Books.{Serves}
 use Rattle.ledger_disk.specs.Disk.{State, MayLeave, settled_state}
 use Rattle.ledger_model.specs.History.{History, journals_of, greatest_point}
-use Rattle.pseudo_genesis.specs.Bases.{HasCounts, spelling}
+use Rattle.pseudo_genesis.specs.Bases.{HasCounts, base_spelling}
 use Rattle.pseudo_genesis.specs.declared.base.Base.{Base}
 use Rattle.twin_file.specs.Twin.{open_of, other_of, IsTaken, next_generation}
 use Rattle.ledger_open.specs.Erasing.{ErasesOne, given_up}
@@ -94,7 +94,7 @@ pub record WasMoved (was now : OpenFile) (generation : ℕ) (bytes : List ℕ) (
   pub before : (floor_from was.start).first < base.point
   pub at : (floor_from was.start).first + length (journals_of front) ≡ base.point
   pub open_is : open_of now.in_a a_new b_new
-      ≡ settled_state (copied_file (next_generation generation) (spelling base) (gate_behind (floor_from was.start) front) was.gate bytes)
+      ≡ settled_state (copied_file (next_generation generation) (base_spelling base) (gate_behind (floor_from was.start) front) was.gate bytes)
 
 -- Which file was taken and read; it was cut and erased; each history that goes on with its blocks goes on with those that
 -- are known now, and the book is one of it; and what the open file is. The other file is empty, and nothing is pending.

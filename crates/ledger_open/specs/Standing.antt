@@ -7,7 +7,7 @@ use Rattle.block_file.specs.File.{IsFileOf}
 use Rattle.journal_record.specs.Blocks.{AreBlocks, written_blocks}
 use Rattle.journal_record.specs.Entry.{Entry}
 use Rattle.journal_record.specs.Header.{HasWidths}
-use Rattle.pseudo_genesis.specs.Bases.{spelling}
+use Rattle.pseudo_genesis.specs.Bases.{base_spelling}
 use Rattle.pseudo_genesis.specs.declared.base.Base.{Base}
 use Rattle.ledger_model.specs.Bases.{base_of}
 use Rattle.ledger_model.specs.History.{History, journals, journals_of, size, point, greatest_point}
@@ -34,7 +34,7 @@ abbrev pub floor_of : Base → Floor
 floor_of b =
     record {
       first = b.point;
-      base = spelling b;
+      base = base_spelling b;
       root = λ leaves. root_from sha256 (map (λ peak. peak.0) b.peaks) b.point (map (leaf sha256) leaves);
     }
 

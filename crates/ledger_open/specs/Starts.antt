@@ -11,7 +11,7 @@ use Rattle.ledger_bytes.specs.declared.failure.Bad.TheVariants as bad
 use Rattle.ledger_model.specs.Bases as model
 use Rattle.ledger_model.specs.History.{History, journals_of, is_purge}
 use Rattle.ledger_model.specs.Lawful.{IsBlock, IsFounded}
-use Rattle.pseudo_genesis.specs.Bases.{IsBase, HasWidths, spelling}
+use Rattle.pseudo_genesis.specs.Bases.{IsBase, HasWidths, base_spelling}
 use Rattle.pseudo_genesis.specs.Reading.{base_of}
 use Rattle.pseudo_genesis.specs.declared.base.Base.{Base}
 
@@ -73,7 +73,7 @@ pub record HasDigest (file : List ℕ) : Type 0 where
 -- a file with a head that is known, which begins with this base, or names none
 abbrev pub IsStart : List ℕ → Option Base → Type 0
 IsStart file None = HasHead file × (number_at 18 file ≡ 0)
-IsStart file (Some b) = HasHead file × HasDigest file × IsDecoded (Some b) × (base_in file ≡ spelling b)
+IsStart file (Some b) = HasHead file × HasDigest file × IsDecoded (Some b) × (base_in file ≡ base_spelling b)
 
 -- where the bytes of a base break, as it is told; at 0 where they are of a newer version
 abbrev pub IsFormErr : Bad → ℕ → Type 0

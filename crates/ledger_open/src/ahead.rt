@@ -1,6 +1,6 @@
 //! Blocks that are read ahead of the book, so that the leaf digests of their journals are made in a thread beside it.
 
-ghost use Rattle.std.specs.Prelude.{◌≡◌, ◌≢◌, ◌⊎◌, ◌↔◌, ◌+◌, ◌^◌, ◌<◌, ◌≤◌, All, length, IsTrue, IfOk, IfErr, IsSomeAnd, OnOk, vec_len};
+ghost use Rattle.std.specs.Prelude.{◌≡◌, ◌↔◌, ◌+◌, ◌^◌, ◌<◌, ◌≤◌, All, length, IsTrue, IfOk, IfErr, IsSomeAnd, OnOk, vec_len};
 ghost use Rattle.block_file.specs.FileView.{gate_of};
 ghost use Rattle.ledger_disk.specs.Disk.{KeepsLength};
 ghost use Rattle.ledger_open.specs.Ahead.{AreLeaves, WereRead, IsStop, IsStopOf, place_behind, number_behind, journals_in, blocks_in};

@@ -1,6 +1,6 @@
 //! The first block of a file.
 
-ghost use Rattle.std.specs.Prelude.{◌≡◌, ◌≢◌, ◌⊎◌, ◌+◌, ◌++◌, ◌≤◌, [], ◌∷◌, List, length, take, drop, None, IsTrue, IfOk, IfErr, IsSomeAnd, OnOk};
+ghost use Rattle.std.specs.Prelude.{◌≡◌, ◌≢◌, ◌⊎◌, ◌+◌, ◌≤◌, [], ◌∷◌, List, length, take, drop, None, IsTrue, IfOk, IfErr, IsSomeAnd, OnOk};
 ghost use Rattle.sha2.specs.Sha256.{sha256};
 ghost use Rattle.tree_model.specs.Tree.{leaf};
 ghost use Rattle.block_file.specs.Blocks.{AreBlock, IsRead};

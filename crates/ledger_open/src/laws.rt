@@ -16,9 +16,8 @@ ghost use Rattle.ledger_open.specs.declared.failure.OpenErr.{OpenErr};
 ghost use Rattle.ledger_open.specs.declared.failure.OpenErr.TheVariants as errors;
 ghost use Rattle.block_file.specs.Head.{IsShut};
 ghost use Rattle.ledger_book.specs.Books.{Serves};
-ghost use Rattle.ledger_disk.specs.Disk.{State, settled_state};
+ghost use Rattle.ledger_disk.specs.Disk.{State};
 ghost use Rattle.journal_record.specs.Entry.{Entry};
-ghost use Rattle.twin_file.specs.Twin.{open_of};
 
 /// Histories that one image stands for agree but for what isn't kept, and so do those of a pair.
 pub fn a_pair_stands_for_one_history()

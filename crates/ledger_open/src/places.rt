@@ -1,7 +1,6 @@
-ghost use Rattle.std.specs.Prelude.{◌≡◌, ◌≤◌, ◌<◌, ◌-◌, ◌+◌, ◌^◌, ◌++◌, [], ◌∷◌, List, drop, length, map, OnOk, OnErr, vec_len, vec_capacity};
-ghost use Rattle.journal_record.specs.Entry.{Entry};
+ghost use Rattle.std.specs.Prelude.{◌≡◌, ◌≤◌, ◌<◌, ◌-◌, ◌+◌, ◌++◌, [], ◌∷◌, drop, length, map, OnOk, OnErr, vec_len, vec_capacity};
 ghost use Rattle.block_file.specs.Places.{moved_place};
-ghost use Rattle.block_file.specs.Places.{after_at, place_of_record, places_at};
+ghost use Rattle.block_file.specs.Places.{place_of_record};
 
 use block_file::{PlaceAt, RecordAt};
 use ledger_bytes::{NoMemory, keep_from};

@@ -2,7 +2,7 @@
 
 ghost use Rattle.std.specs.Prelude.{◌≡◌, ◌≢◌, ◌⊎◌, ◌+◌, ◌≤◌, ℕ, Bool, List, get_or, length, IsTrue, IfOk, IfErr, IsSomeAnd, OnOk};
 ghost use Rattle.std.specs.List.{list_any};
-ghost use Rattle.block_file.specs.FileView.{gate_of, base_len_of, base_digest_of};
+ghost use Rattle.block_file.specs.FileView.{gate_of, base_len_of};
 ghost use Rattle.block_file.specs.declared.failure.Damage.{Damage};
 ghost use Rattle.block_file.specs.declared.failure.Damage.TheVariants as damages;
 ghost use Rattle.ledger_disk.specs.Disk.{KeepsLength};

@@ -1,6 +1,6 @@
 //! The auditor of a soak, who trusts the last head of the ledger and of its notary.
 
-ghost use Rattle.std.specs.Prelude.{◌≡◌, ◌≤◌, true, [], None, Some, IfOk, IfSome, IsSomeAnd};
+ghost use Rattle.std.specs.Prelude.{◌≡◌, ◌≤◌, [], None, Some, IfOk, IfSome, IsSomeAnd};
 ghost use Rattle.ledger_book.specs.Books.{Serves};
 ghost use Rattle.ledger_model.specs.History as model;
 ghost use Rattle.ledger_model.specs.History.{History};

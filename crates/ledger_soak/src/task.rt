@@ -1,4 +1,4 @@
-ghost use Rattle.std.specs.Prelude.{◌≡◌, ◌<◌, ◌≤◌, ◌+◌, ◌%◌, ℕ, IfOk, length};
+ghost use Rattle.std.specs.Prelude.{◌≡◌, ◌<◌, ◌+◌, ◌%◌, ℕ, IfOk, length};
 ghost use Rattle.ledger_disk.specs.Generator.{next_draw};
 ghost use Rattle.ledger_soak.specs.Tasks.{task_drawn, state_behind, drawn_bytes, drawn_length, nth_drawn, IsDrawable, state_after};
 ghost use Rattle.ledger_soak.specs.declared.task.Task.TheVariants as spec;

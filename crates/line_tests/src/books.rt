@@ -2,14 +2,13 @@
 
 ghost use Rattle.std.specs.Prelude.{◌<◌, IfOk};
 ghost use Rattle.journal_record.specs.Rules.{IsHeader};
-ghost use Rattle.journal_record.specs.declared.rules.TheConstants.{NOTARY_LIMIT};
 
 use block_file::Damage;
 use hex::FromHex;
 use journal_record::{Header, Kind, Stamp};
 use lane_work::prepare;
-use ledger_book::{Book, Genesis, Job, Limits, Outcome};
-use ledger_bytes::{Bytes, Digest, NoMemory, Sha};
+use ledger_book::{Book, Genesis, Job, Limits, Outcome, View};
+use ledger_bytes::{Bytes, Digest, NoMemory, Refusal, Sha};
 use member_book::TagScheme;
 use merkle_tree::leaf_of;
 use std::alloc::Global;
@@ -71,12 +70,29 @@ pub(crate) fn apply(
     Ok(outcome)
 }
 
-/// Whether a journal was placed that has this number and this leaf digest.
-pub(crate) fn is_placed(outcome: &Outcome, jsn: u64, leaf: Digest) -> bool {
-    match outcome {
-        Outcome::Placed(placed) => placed.jsn == jsn && placed.leaf == leaf,
-        _ => false,
+/// Whether a line places a journal that has this number and this leaf digest.
+pub(crate) fn places(
+    alloc: Global,
+    book: &mut Book,
+    line: &str,
+    salt: Digest,
+    (jsn, leaf): (u64, Digest),
+) -> Result<bool, NoMemory> {
+    match apply(alloc, book, line, salt)? {
+        Outcome::Placed(placed) => Ok(placed.jsn == jsn && placed.leaf == leaf),
+        _ => Ok(false),
     }
+}
+
+/// Whether a line is refused, and for this cause.
+pub(crate) fn is_refused(
+    alloc: Global,
+    book: &mut Book,
+    line: &str,
+    salt: Digest,
+    refusal: Refusal,
+) -> Result<bool, NoMemory> {
+    Ok(apply(alloc, book, line, salt)? == Outcome::Refused(refusal))
 }
 
 /// The header with these bytes.
@@ -101,20 +117,47 @@ fn begun(alloc: Global, header: &Header) -> Result<Book, Fail> {
     }
 }
 
+/// The leaf digest of a journal.
+pub(crate) fn leaf(book: &Book, number: u64) -> Result<Digest, Fail> {
+    let header = book.header(number).ok_or("no header")?;
+    Ok(leaf_of::<Sha>(&header.encode()))
+}
+
 /// Replays a header.
-pub(crate) fn take(book: &mut Book, header: &Header) -> Result<Result<(), Damage>, Fail> {
+fn take(book: &mut Book, header: &Header) -> Result<Result<(), Damage>, Fail> {
     let header = read_again(header)?;
     Ok(book.replay(&header, &leaf_of::<Sha>(&header.encode()))?)
 }
 
-/// A book made of the headers of another, one after the other. None where one isn't taken.
-pub(crate) fn replayed(alloc: Global, book: &Book) -> Result<Option<Book>, Fail> {
+/// A book made of the headers of another, one after the other.
+fn replayed(alloc: Global, book: &Book) -> Result<Book, Fail> {
     let mut again = begun(alloc, book.header(0).ok_or("no header")?)?;
     for number in 1..book.head().size {
         let header = book.header(number).ok_or("no header")?;
         if take(&mut again, header)? != Ok(()) {
-            return Ok(None);
+            return Err("a header isn't taken".into());
         }
     }
-    Ok(Some(again))
+    Ok(again)
+}
+
+/// The last header, under the number behind it.
+fn once_more(book: &Book) -> Result<Header, Fail> {
+    let size = book.head().size;
+    let header = book.header(size.saturating_sub(1)).ok_or("no header")?;
+    Ok(Header {
+        jsn: size,
+        ..*header
+    })
+}
+
+/// What a book made of the headers of another shows of a journal, and what it answers to the last header once more.
+pub(crate) fn replayed_twice(
+    alloc: Global,
+    book: &Book,
+    number: u64,
+) -> Result<(View, Result<(), Damage>), Fail> {
+    let mut again = replayed(alloc, book)?;
+    let told = take(&mut again, &once_more(book)?)?;
+    Ok((again.view(number), told))
 }

@@ -1,6 +1,6 @@
 use hex::FromHex;
-use ledger_bytes::{Bytes, Digest, Refusal};
-use member_book::{AddErr, Approval, MemberBook, TagScheme, Verifier, tag_proof};
+use ledger_bytes::{Bytes, Digest, NoMemory, Refusal};
+use member_book::{Approval, MemberBook, TagScheme, Verifier, tag_proof};
 use std::alloc::Global;
 use std::test::Fail;
 
@@ -25,11 +25,27 @@ fn approval(alloc: Global, member: u32, byte: u8) -> Result<Approval, Fail> {
     })
 }
 
+/// Admits a member with this number, where nothing is against it.
+fn add(
+    book: &mut MemberBook,
+    number: u32,
+    key: Digest,
+    jsn: u64,
+) -> Result<Option<Refusal>, NoMemory> {
+    match book.number_refusal(number) {
+        Some(refusal) => Ok(Some(refusal)),
+        None => {
+            book.admit(&key, jsn)?;
+            Ok(None)
+        }
+    }
+}
+
 /// Operator, regulator, and members 2 and 3, whose keys are bytes 3 and 4.
 fn book_of_four(alloc: Global) -> Result<MemberBook, Fail> {
     let mut book = MemberBook::new(alloc, &OPERATOR, &REGULATOR)?;
-    book.add(2, &Digest([3; 32]), 5)?;
-    book.add(3, &Digest([4; 32]), 9)?;
+    add(&mut book, 2, Digest([3; 32]), 5)?;
+    add(&mut book, 3, Digest([4; 32]), 9)?;
     Ok(book)
 }
 
@@ -142,14 +158,17 @@ fn a_full_book(rt: HostRuntime) -> Result<(), Fail> {
     let alloc = rt.alloc();
     let mut book = MemberBook::new(alloc, &OPERATOR, &REGULATOR)?;
     assert_eq!(rt;
-        book.add(3, &OPERATOR, 2),
-        Err(AddErr::MemberNumber { next: 2 })
+        add(&mut book, 3, OPERATOR, 2)?,
+        Some(Refusal::MemberNumber { next: 2 })
     );
     for number in 2..256 {
-        book.add(number, &Digest([number as u8; 32]), u64::from(number))?;
+        let key = Digest([number as u8; 32]);
+        assert_eq!(rt; add(&mut book, number, key, u64::from(number))?, None);
     }
-    assert_eq!(rt; book.add(256, &OPERATOR, 256), Err(AddErr::MembersFull));
-    assert_eq!(rt; book.add(9, &OPERATOR, 256), Err(AddErr::MembersFull));
+    for number in [256, 9] {
+        let refusal = add(&mut book, number, OPERATOR, 256)?;
+        assert_eq!(rt; refusal, Some(Refusal::MembersFull));
+    }
     assert_eq!(rt; book.count(), 256);
     assert_eq!(rt; book.key(255), Some(Digest([255; 32])));
     assert_eq!(rt; book.key(256), None);

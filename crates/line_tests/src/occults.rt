@@ -1,11 +1,11 @@
 //! A content that is hidden.
 
-use crate::books::{MEMBER, apply, demo, digest, is_placed, replayed, take};
+use crate::books::{MEMBER, apply, demo, digest, is_refused, places, replayed_twice};
 use block_file::Damage;
-use journal_record::Header;
-use ledger_book::{Book, Outcome, View};
+use ledger_book::{Book, View};
 use ledger_bytes::{Digest, NoMemory, Refusal};
 use std::alloc::Global;
+use std::process::Abort;
 use std::test::Fail;
 
 /// Member 2 places a record, which is journal 2.
@@ -40,18 +40,21 @@ fn ledger(alloc: Global) -> Result<Book, NoMemory> {
 
 #[test]
 fn a_content_is_hidden_once(rt: HostRuntime) -> Result<(), Fail> {
-    let alloc = rt.alloc();
-    let mut book = ledger(alloc)?;
+    let mut book = ledger(rt.alloc())?;
+    hide(&rt, rt.alloc(), &mut book)
+}
+
+/// Hides the content of the record, no second time, and no other.
+fn hide(rt: &impl Abort, alloc: Global, book: &mut Book) -> Result<(), Fail> {
     assert!(rt; book.view(2) == View::Whole);
-    let outcome = apply(alloc, &mut book, OCCULT, Digest::ZERO)?;
-    assert!(rt; is_placed(&outcome, 3, digest(LEAF)?));
+    assert!(rt; places(alloc, book, OCCULT, Digest::ZERO, (3, digest(LEAF)?))?);
     assert!(rt; book.view(2) == View::Occulted && book.view(3) == View::Whole);
     for (line, refusal) in [
         (OCCULT, Refusal::AlreadyOcculted { by: 3 }),
         (OCCULT_OF_THE_FIRST, Refusal::NotData { kind: 0 }),
         (OCCULT_OF_NONE, Refusal::NoJournal { size: 4 }),
     ] {
-        assert!(rt; apply(alloc, &mut book, line, Digest::ZERO)? == Outcome::Refused(refusal));
+        assert!(rt; is_refused(alloc, book, line, Digest::ZERO, refusal)?);
     }
     let head = book.head();
     assert!(rt; head.size == 4 && head.root == digest(ROOT)?);
@@ -63,13 +66,7 @@ fn an_occult_is_replayed_once(rt: HostRuntime) -> Result<(), Fail> {
     let alloc = rt.alloc();
     let mut book = ledger(alloc)?;
     apply(alloc, &mut book, OCCULT, Digest::ZERO)?;
-    let mut again = replayed(alloc, &book)?.ok_or("a header isn't taken")?;
-    assert!(rt; again.view(2) == View::Occulted);
-    let twice = Header {
-        jsn: 4,
-        ..*book.header(3).ok_or("no header")?
-    };
-    let told = take(&mut again, &twice)?;
-    assert!(rt; told == Err(Damage::Entry { jsn: 4 }));
+    let (view, told) = replayed_twice(alloc, &book, 2)?;
+    assert!(rt; view == View::Occulted && told == Err(Damage::Entry { jsn: 4 }));
     Ok(())
 }

@@ -1,12 +1,11 @@
 //! Journals that are given up.
 
-use crate::books::{MEMBER, apply, demo, digest, is_placed, replayed, take};
+use crate::books::{MEMBER, apply, demo, digest, is_refused, leaf, places, replayed_twice};
 use block_file::Damage;
-use journal_record::Header;
-use ledger_book::{Book, Outcome, View};
-use ledger_bytes::{Refusal, Sha};
-use merkle_tree::leaf_of;
+use ledger_book::{Book, View};
+use ledger_bytes::{Digest, NoMemory, Refusal};
 use std::alloc::Global;
+use std::process::Abort;
 use std::test::Fail;
 
 /// Member 2 places a record without a content.
@@ -43,20 +42,30 @@ const LEAF: &str = "eeb66dd6d424291c1076bb3a3d772ed0c8f1c298f002660a7b2d9c5b3f29
 /// The root over the six journals.
 const ROOT: &str = "af7eba02c88f58f4f622d4ff7d85dca0bc0485cd3f1f429831c6e29fd5a2c55e";
 
+/// Places member 2, its record, a time journal, and one more record.
+fn place_all(alloc: Global, book: &mut Book, salt: Digest) -> Result<(), NoMemory> {
+    for line in [MEMBER, RECORD, "0 anchor", RECORD] {
+        apply(alloc, book, line, salt)?;
+    }
+    Ok(())
+}
+
 /// The ledger `demo` with member 2, its record, a time journal, and one more record.
 fn ledger(alloc: Global) -> Result<Book, Fail> {
     let salt = digest(SALT)?;
     let mut book = demo(alloc)?;
-    for line in [MEMBER, RECORD, "0 anchor", RECORD] {
-        apply(alloc, &mut book, line, salt)?;
-    }
+    place_all(alloc, &mut book, salt)?;
     Ok(book)
 }
 
 #[test]
 fn journals_are_given_up_once(rt: HostRuntime) -> Result<(), Fail> {
-    let alloc = rt.alloc();
-    let mut book = ledger(alloc)?;
+    let mut book = ledger(rt.alloc())?;
+    give_up(&rt, rt.alloc(), &mut book)
+}
+
+/// Purges the ledger, where that is approved, and no second time.
+fn give_up(rt: &impl Abort, alloc: Global, book: &mut Book) -> Result<(), Fail> {
     let salt = digest(SALT)?;
     let kept = digest(FRONT)?;
     for (line, refusal) in [
@@ -64,14 +73,12 @@ fn journals_are_given_up_once(rt: HostRuntime) -> Result<(), Fail> {
         (PURGE_TO_A_RECORD, Refusal::NotTime { kind: 1 }),
         (PURGE_OF_ANOTHER_ROOT, Refusal::RootDiffers { kept }),
     ] {
-        assert!(rt; apply(alloc, &mut book, line, salt)? == Outcome::Refused(refusal));
+        assert!(rt; is_refused(alloc, book, line, salt, refusal)?);
     }
     assert!(rt; book.view(0) == View::Whole);
-    let outcome = apply(alloc, &mut book, PURGE, salt)?;
-    assert!(rt; is_placed(&outcome, 5, digest(LEAF)?));
+    assert!(rt; places(alloc, book, PURGE, salt, (5, digest(LEAF)?))?);
     assert!(rt; book.view(2) == View::Purged { point: 3 } && book.view(3) == View::Whole);
-    let again = Outcome::Refused(Refusal::Purged { point: 3 });
-    assert!(rt; apply(alloc, &mut book, PURGE, salt)? == again);
+    assert!(rt; is_refused(alloc, book, PURGE, salt, Refusal::Purged { point: 3 })?);
     let head = book.head();
     assert!(rt; head.size == 6 && head.root == digest(ROOT)?);
     Ok(())
@@ -82,15 +89,8 @@ fn a_purge_is_replayed_once(rt: HostRuntime) -> Result<(), Fail> {
     let alloc = rt.alloc();
     let mut book = ledger(alloc)?;
     apply(alloc, &mut book, PURGE, digest(SALT)?)?;
-    let mut again = replayed(alloc, &book)?.ok_or("a header isn't taken")?;
-    assert!(rt; again.view(2) == View::Purged { point: 3 });
-    let time = book.header(3).ok_or("no header")?;
-    assert!(rt; leaf_of::<Sha>(&time.encode()) == digest(TIME_LEAF)?);
-    let twice = Header {
-        jsn: 6,
-        ..*book.header(5).ok_or("no header")?
-    };
-    let told = take(&mut again, &twice)?;
-    assert!(rt; told == Err(Damage::Entry { jsn: 6 }));
+    assert!(rt; leaf(&book, 3)? == digest(TIME_LEAF)?);
+    let (view, told) = replayed_twice(alloc, &book, 2)?;
+    assert!(rt; view == View::Purged { point: 3 } && told == Err(Damage::Entry { jsn: 6 }));
     Ok(())
 }

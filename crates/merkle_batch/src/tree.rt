@@ -1,4 +1,4 @@
-ghost use Rattle.std.specs.Prelude.{◌≡◌, ℕ, ◌+◌, ◌-◌, ◌<◌, ◌≤◌, ◌^◌, List, [], ◌∷◌, ◌++◌, length, map, take, get_or, count_ones, Err, IfOk, IfErr, IsOk, OnOk, OnErr};
+ghost use Rattle.std.specs.Prelude.{◌≡◌, ℕ, ◌+◌, ◌-◌, ◌<◌, ◌≤◌, ◌^◌, List, [], ◌∷◌, ◌++◌, length, map, take, get_or, count_ones, Err, IfOk, IfErr, IsOk, OnOk};
 ghost use Rattle.tree_model.specs.Tree.{root};
 ghost use Rattle.tree_model.specs.Path.{path, path_length};
 ghost use Rattle.tree_model.specs.Extension.{proof, proof_length};

@@ -1,6 +1,6 @@
 //! What a book shows of a time journal that bounds another journal in time.
 
-ghost use Rattle.std.specs.Prelude.{◌≡◌, ◌<◌, ◌^◌, ℕ, Option, IfOk, IfErr, IfSome, IfNone};
+ghost use Rattle.std.specs.Prelude.{◌≡◌, ◌<◌, Option, IfOk, IfErr, IfSome};
 ghost use Rattle.journal_record.specs.Entry.{Entry};
 ghost use Rattle.proof_codec.specs.Proofs.{IsTimeHeader};
 ghost use Rattle.ledger_model.specs.History.{History};

@@ -159,20 +159,30 @@ fn place_anchor(alloc: Global, book: &mut Book, notary: &mut MemNotary) -> Resul
     Ok(())
 }
 
+/// Whether each proof of the ledger is told, when it's new, when it has a record and when an anchor stands behind it.
+fn is_proved(
+    rt: &impl Abort,
+    alloc: Global,
+    book: &mut Book,
+    notary: &mut MemNotary,
+) -> Result<bool, Fail> {
+    book.seal();
+    let alone = [Ok(ALONE), Err(Refusal::NoJournal { size: 1 })];
+    let is_alone = is_told(alloc, book, notary, &alone)?;
+    place_record(rt, alloc, book)?;
+    let both = [Ok(FIRST), Ok(SECOND), Err(Refusal::NoJournal { size: 2 })];
+    let are_both = is_told(alloc, book, notary, &both)?;
+    place_anchor(alloc, book, notary)?;
+    let bounded = [Ok(FIRST_BOUNDED), Ok(SECOND_BOUNDED), Ok(ANCHOR)];
+    Ok(is_alone && are_both && is_told(alloc, book, notary, &bounded)?)
+}
+
 #[test]
 fn proves_each_journal_of_a_small_ledger(rt: HostRuntime) -> Result<(), Fail> {
     let alloc = rt.alloc();
     let mut book = demo(alloc)?;
     let mut notary = MemNotary::new(alloc, Vec::new(alloc));
-    book.seal();
-    let alone = [Ok(ALONE), Err(Refusal::NoJournal { size: 1 })];
-    assert!(rt; is_told(alloc, &book, &mut notary, &alone)?);
-    place_record(&rt, alloc, &mut book)?;
-    let both = [Ok(FIRST), Ok(SECOND), Err(Refusal::NoJournal { size: 2 })];
-    assert!(rt; is_told(alloc, &book, &mut notary, &both)?);
-    place_anchor(alloc, &mut book, &mut notary)?;
-    let bounded = [Ok(FIRST_BOUNDED), Ok(SECOND_BOUNDED), Ok(ANCHOR)];
-    assert!(rt; is_told(alloc, &book, &mut notary, &bounded)?);
+    assert!(rt; is_proved(&rt, alloc, &mut book, &mut notary)?);
     Ok(())
 }
 
@@ -274,6 +284,27 @@ fn are_extended(
     Ok(true)
 }
 
+/// Places two records and an anchor, has the auditor trust the heads then, and tells whether all is accepted of the ledger
+/// with so many anchors.
+fn is_accepted_behind(
+    rt: &impl Abort,
+    alloc: Global,
+    book: &mut Book,
+    notary: &mut MemNotary,
+    heads: &mut Heads,
+    anchors: u8,
+) -> Result<bool, Fail> {
+    place_record(rt, alloc, book)?;
+    place_record(rt, alloc, book)?;
+    place_anchor(alloc, book, notary)?;
+    heads.trust_ledger(&book.id(), &book.head())?;
+    heads.trust_notary(&notary.head()?)?;
+    Ok(
+        are_accepted(alloc, book, notary, heads)?
+            && are_extended(alloc, book, notary, heads, anchors)?,
+    )
+}
+
 #[test]
 fn an_auditor_accepts_what_is_made(rt: HostRuntime) -> Result<(), Fail> {
     let alloc = rt.alloc();
@@ -281,13 +312,7 @@ fn an_auditor_accepts_what_is_made(rt: HostRuntime) -> Result<(), Fail> {
     let mut notary = MemNotary::new(alloc, Vec::new(alloc));
     let mut heads = Heads::new(alloc);
     for anchors in 1..=5 {
-        place_record(&rt, alloc, &mut book)?;
-        place_record(&rt, alloc, &mut book)?;
-        place_anchor(alloc, &mut book, &mut notary)?;
-        heads.trust_ledger(&book.id(), &book.head())?;
-        heads.trust_notary(&notary.head()?)?;
-        assert!(rt; are_accepted(alloc, &book, &mut notary, &heads)?);
-        assert!(rt; are_extended(alloc, &book, &mut notary, &heads, anchors)?);
+        assert!(rt; is_accepted_behind(&rt, alloc, &mut book, &mut notary, &mut heads, anchors)?);
     }
     Ok(())
 }

@@ -1,6 +1,8 @@
+use crate::growing::add;
 use hex::{FromHex, FromHexError};
 use ledger_bytes::{Digest, Sha, Toy};
-use merkle_tree::{leaf_of, mth, root_of};
+use merkle_batch::Tree;
+use merkle_tree::{leaf_of, mth};
 use std::test::Fail;
 
 mod clashes;
@@ -105,28 +107,25 @@ fn toy_digest(last: u8) -> Digest {
     Digest(bytes)
 }
 
-// The roots over the first leaves of the bytes and over their digests, and the last of these.
-fn made(bytes: &[u8], leaves: &[Digest]) -> (Digest, Digest, Option<Digest>) {
-    (
-        mth::<Sha>(bytes, 1),
-        root_of::<Sha>(leaves),
-        leaves.last().copied(),
-    )
+// The root over leaves of one byte each.
+fn root_over(bytes: &[u8]) -> Digest {
+    mth::<Sha>(bytes, 1)
 }
 
 #[test]
 fn trees_by_sha(rt: HostRuntime) -> Result<(), Fail> {
-    let empty = digest(EMPTY)?;
-    assert_eq!(rt; made(&[], &[]), (empty, empty, None));
     let mut bytes = Vec::new(rt.alloc());
-    let mut leaves = Vec::new(rt.alloc());
+    let mut tree: Tree<Sha> = Tree::new(rt.alloc());
+    let empty = digest(EMPTY)?;
+    assert_eq!(rt; (root_over(&[]), tree.root()), (empty, empty));
     for (byte, (leaf, root)) in (0..20).zip(&TREES) {
+        let made = leaf_of::<Sha>(&[byte]);
         bytes.push(byte)?;
-        leaves.push(leaf_of::<Sha>(&[byte]))?;
+        add(&mut tree, &[made])?;
         let root = digest(root)?;
         assert_eq!(rt;
-            made(&bytes, &leaves),
-            (root, root, Some(digest(leaf)?)),
+            (made, root_over(&bytes), tree.root()),
+            (digest(leaf)?, root, root),
             "at {byte}"
         );
     }

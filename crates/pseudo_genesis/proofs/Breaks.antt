@@ -10,7 +10,7 @@ use Rattle.pseudo_genesis.specs.declared.base.Base.{Base}
 use Rattle.pseudo_genesis.specs.declared.base.BaseErr.{BaseErr}
 use Rattle.pseudo_genesis.specs.declared.base.BaseErr.TheVariants as base_err
 use Rattle.pseudo_genesis.specs.Bases.{version_ok, point_ok, blocks_ok, members_ok, clues_ok, is_behind, is_inside}
-use Rattle.pseudo_genesis.specs.Reading.{any_digest_at, still, digests_at, known_version, front_at, keys_at, Before, state_at, behind, states_at, clues_at, base_at, base_of, ReadsBase, IsBreak, IsFailure}
+use Rattle.pseudo_genesis.specs.Reading.{any_digest_at, still, digests_at, known_version, base_front_at, keys_at, Before, state_at, behind, states_at, clues_at, base_at, base_of, ReadsBase, IsBreak, IsFailure}
 use Rattle.pseudo_genesis.proofs.Many.{then_breaks, many_breaks}
 
 short_breaks : {A : Type 0} (b : Bool) (at : ℕ) (x : A) → IfErr (cond b (Err (Short at)) (Ok x)) IsBreak
@@ -45,8 +45,8 @@ test_breaks false version = tt
 version_breaks : (version : ℕ) → IfErr (known_version version) IsBreak
 version_breaks version = test_breaks (version_ok version) version
 
-front_breaks : (l : Unread) → IfErr (front_at l) IsBreak
-unfolding front_at
+front_breaks : (l : Unread) → IfErr (base_front_at l) IsBreak
+unfolding base_front_at
 front_breaks l =
     then_breaks (number_at w8 l) _ (number_breaks w8 l)
     (λ version. then_breaks (known_version version.0) _ (version_breaks version.0)
@@ -82,7 +82,7 @@ clues_breaks point at l =
 base_breaks : (l : Unread) → IfErr (base_at l) IsBreak
 unfolding base_at
 base_breaks l =
-    then_breaks (front_at l) _ (front_breaks l)
+    then_breaks (base_front_at l) _ (front_breaks l)
     (λ f. then_breaks (digests_at (count_ones f.0.1) f.1) _ (digests_breaks (count_ones f.0.1) f.1)
     (λ p. then_breaks (keys_at (49 + 32 * count_ones f.0.1) p.1) _ (keys_breaks (49 + 32 * count_ones f.0.1) p.1)
     (λ k. then_breaks (clues_at f.0.1 (51 + 32 * count_ones f.0.1 + 32 * length k.0) k.1) _ (clues_breaks f.0.1 (51 + 32 * count_ones f.0.1 + 32 * length k.0) k.1) (λ c. tt))))

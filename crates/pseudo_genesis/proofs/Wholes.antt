@@ -17,10 +17,10 @@ use Rattle.ledger_bytes.proofs.Fields.{bind_ok, check_ok, Took-then, wide16, wid
 use Rattle.journal_record.proofs.ReadingSteps.{ruled, plain_takes, field_takes, field_text, answered}
 use Rattle.clue_index.specs.declared.state.ClueState.{ClueState}
 use Rattle.pseudo_genesis.specs.declared.base.Base.{Base}
-use Rattle.pseudo_genesis.specs.Bases.{version_ok, point_ok, blocks_ok, members_ok, clues_ok, is_behind, is_inside, IsState, AreStates, IsBase, digests_text, state_text, states_text, front_text, keys_text, clues_text, spelling, IsWide, HasStateWidths, HasWidths}
+use Rattle.pseudo_genesis.specs.Bases.{version_ok, point_ok, blocks_ok, members_ok, clues_ok, is_behind, is_inside, IsState, AreStates, IsBase, digests_text, state_text, states_text, front_text, keys_text, clues_text, base_spelling, IsWide, HasStateWidths, HasWidths}
 use Rattle.pseudo_genesis.specs.declared.base.BaseErr.{BaseErr}
 use Rattle.pseudo_genesis.specs.declared.base.BaseErr.TheVariants as base_err
-use Rattle.pseudo_genesis.specs.Reading.{any_digest_at, still, digests_at, front_at, keys_at, Before, state_at, behind, states_at, clues_at, base_at, base_of, ReadsBase}
+use Rattle.pseudo_genesis.specs.Reading.{any_digest_at, still, digests_at, base_front_at, keys_at, Before, state_at, behind, states_at, clues_at, base_at, base_of, ReadsBase}
 use Rattle.pseudo_genesis.proofs.Many.{AreFit, many_takes, many_text, text_last, text_end}
 
 abbrev back16 : ReadsBack (number_at w16) (to_be_bytes w16) (λ n. n < 2 ^ 16)
@@ -84,8 +84,8 @@ from_id id = number_at w64 id.1 >>= ruled point_ok (at_place 33) (from_point id.
 abbrev from_version : ℕ × Unread → Result (Front × Unread) Bad
 from_version version = digest_at version.1 >>= from_id
 
-front_takes : (l : Unread) (f : Front) (after : Unread) → IsBytes l.rest → front_at l ≡ Ok (f, after) → Took l (front_bytes f) after × IsFront f
-unfolding front_at
+front_takes : (l : Unread) (f : Front) (after : Unread) → IsBytes l.rest → base_front_at l ≡ Ok (f, after) → Took l (front_bytes f) after × IsFront f
+unfolding base_front_at
 front_takes l f after bytes e =
     let v = field_takes (number_at w8) (λ n. n ∷ []) (λ n. n < 2 ^ 8) byte_back version_ok NewerFormat from_version l (f, after) bytes e in
     let i = plain_takes digest_at (λ d. d.0) (λ d. length d.0 ≡ 32) digest_back from_id v.0.1 (f, after) v.1.bytes v.4 in
@@ -99,8 +99,8 @@ front_takes l f after bytes e =
     let fits : IsFront value = record { id = i.2; point_width = p.2; blocks_width = b.2; point = p.3; blocks = b.3 } in
     answered front_bytes IsFront l value f b.0.1 after b.4 t1 fits
 
-front_is : (f : Front) (whole : ℕ) → IsFront f → IsTextOf front_at whole (front_bytes f) f
-unfolding front_at
+front_is : (f : Front) (whole : ℕ) → IsFront f → IsTextOf base_front_at whole (front_bytes f) f
+unfolding base_front_at
 front_is f whole fits =
     let blocks_text : List ℕ = to_be_bytes w64 f.2 in
     let point_text : List ℕ = to_be_bytes w64 f.1 ++ blocks_text in
@@ -224,10 +224,10 @@ record IsSpelled (b : Base) : Type 0 where
   rules : IsBase b
   widths : HasWidths b
 
-base_takes : (l : Unread) (b : Base) (after : Unread) → IsBytes l.rest → base_at l ≡ Ok (b, after) → Took l (spelling b) after × IsSpelled b
-unfolding base_at spelling front_text
+base_takes : (l : Unread) (b : Base) (after : Unread) → IsBytes l.rest → base_at l ≡ Ok (b, after) → Took l (base_spelling b) after × IsSpelled b
+unfolding base_at base_spelling front_text
 base_takes l b after bytes e =
-    let f = bind_ok (front_at l) from_front (b, after) e in
+    let f = bind_ok (base_front_at l) from_front (b, after) e in
     let front = front_takes l f.0.0 f.0.1 bytes f.1 in
     let p = bind_ok (digests_at (count_ones f.0.0.1) f.0.1) (from_peaks f.0.0) (b, after) f.2 in
     let peaks = digests_takes (count_ones f.0.0.1) f.0.1 p.0.0 p.0.1 front.0.bytes p.1 in
@@ -244,7 +244,7 @@ base_takes l b after bytes e =
       rules = record { point = front.1.point; blocks = front.1.blocks; peaks = peaks.2; members = keys.1; clue_count = clues.1; clues = clues.2 };
       widths = record { id = front.1.id; point = front.1.point_width; blocks = front.1.blocks_width; peaks = peaks.1; keys = keys.2; clues = clues.3 };
     } in
-    answered spelling IsSpelled l value b c.0.1 after c.2 t0 fits
+    answered base_spelling IsSpelled l value b c.0.1 after c.2 t0 fits
 
 few_keys : (n : ℕ) → members_ok n ≡ true → n < 2 ^ 16
 few_keys n is = let most = leb-true n MEMBER_LIMIT (and_parts (nat_le 2 n) (nat_le n MEMBER_LIMIT) is).1 in omega (arith, most)
@@ -252,8 +252,8 @@ few_keys n is = let most = leb-true n MEMBER_LIMIT (and_parts (nat_le 2 n) (nat_
 few_clues : (n : ℕ) → clues_ok n ≡ true → n < 2 ^ 32
 few_clues n is = let most = leb-true n CLUE_LIMIT is in omega (arith, most)
 
-pub base_text : (b : Base) (whole : ℕ) → IsBase b → HasWidths b → IsTextOf base_at whole (spelling b) b
-unfolding base_at spelling front_text
+pub base_text : (b : Base) (whole : ℕ) → IsBase b → HasWidths b → IsTextOf base_at whole (base_spelling b) b
+unfolding base_at base_spelling front_text
 base_text b whole rules widths =
     let f : Front = (b.id, b.point, b.blocks) in
     let keys_place : ℕ = 49 + 32 * count_ones b.point in
@@ -265,11 +265,11 @@ base_text b whole rules widths =
     let keys = text_then (keys_at keys_place) (from_keys f b.peaks) whole (keys_text b.keys) (clues_text b.clues) b.keys b (keys_is keys_place whole b.keys are_keys) clues in
     let peaks_is = subst (λ n. IsTextOf (digests_at n) whole (digests_text b.peaks) b.peaks) rules.peaks (digests_is whole b.peaks widths.peaks) in
     let peaks = text_then (digests_at (count_ones b.point)) (from_peaks f) whole (digests_text b.peaks) (keys_text b.keys ++ clues_text b.clues) b.peaks b peaks_is keys in
-    text_then front_at from_front whole (front_bytes f) (digests_text b.peaks ++ (keys_text b.keys ++ clues_text b.clues)) f b (front_is f whole fits) peaks
+    text_then base_front_at from_front whole (front_bytes f) (digests_text b.peaks ++ (keys_text b.keys ++ clues_text b.clues)) f b (front_is f whole fits) peaks
 
 -- ---- all of the bytes
 
-base_of_takes : (bytes : List ℕ) (b : Base) → IsBytes bytes → base_of bytes ≡ Ok b → IsBase b × HasWidths b × (bytes ≡ spelling b)
+base_of_takes : (bytes : List ℕ) (b : Base) → IsBytes bytes → base_of bytes ≡ Ok b → IsBase b × HasWidths b × (bytes ≡ base_spelling b)
 unfolding base_of
 base_of_takes bytes b fits e =
     let start : Unread = left_from (length bytes) bytes in
@@ -277,27 +277,27 @@ base_of_takes bytes b fits e =
     let c = check_ok (eqb (length r.0.1.rest) 0) (Trailing (r.0.1.whole - length r.0.1.rest)) r.0.0 b r.2 in
     let took = base_takes start r.0.0 r.0.1 fits r.1 in
     let nothing : r.0.1.rest ≡ [] = nil_from_length r.0.1.rest (eqb-true _ _ c.0) in
-    let whole : bytes ≡ spelling r.0.0 = took.0.parts ∙ ap (λ (t : List ℕ). spelling r.0.0 ++ t) nothing ∙ append-nil (spelling r.0.0) in
-    subst (λ (x : Base). IsBase x × HasWidths x × (bytes ≡ spelling x)) c.1 (took.1.rules, took.1.widths, whole)
+    let whole : bytes ≡ base_spelling r.0.0 = took.0.parts ∙ ap (λ (t : List ℕ). base_spelling r.0.0 ++ t) nothing ∙ append-nil (base_spelling r.0.0) in
+    subst (λ (x : Base). IsBase x × HasWidths x × (bytes ≡ base_spelling x)) c.1 (took.1.rules, took.1.widths, whole)
 
-pub base_of_only : (bytes : List ℕ) (b : Base) → IsBase b → HasWidths b → bytes ≡ spelling b → base_of bytes ≡ Ok b
+pub base_of_only : (bytes : List ℕ) (b : Base) → IsBase b → HasWidths b → bytes ≡ base_spelling b → base_of bytes ≡ Ok b
 unfolding base_of
 base_of_only bytes b rules widths e =
     let read : base_at (left_from (length bytes) bytes) ≡ Ok (b, left_from (length bytes) []) =
-    ap (λ (t : List ℕ). base_at (left_from (length bytes) t)) (e ∙ sym (append-nil (spelling b))) ∙ (base_text b (length bytes) rules widths).again [] in
+    ap (λ (t : List ℕ). base_at (left_from (length bytes) t)) (e ∙ sym (append-nil (base_spelling b))) ∙ (base_text b (length bytes) rules widths).again [] in
     ap (λ r. r >>= λ read. end_at read.0 read.1) read
 
-pub base_of_cut : (bytes : List ℕ) (b : Base) (k : ℕ) → IsBase b → HasWidths b → k < length (spelling b) → bytes ≡ take k (spelling b) → base_of bytes ≡ Err (Short k)
+pub base_of_cut : (bytes : List ℕ) (b : Base) (k : ℕ) → IsBase b → HasWidths b → k < length (base_spelling b) → bytes ≡ take k (base_spelling b) → base_of bytes ≡ Err (Short k)
 unfolding base_of
-base_of_cut bytes b k rules widths lt e = cut_told base_at bytes (spelling b) b k (base_text b (length bytes) rules widths) lt e
+base_of_cut bytes b k rules widths lt e = cut_told base_at bytes (base_spelling b) b k (base_text b (length bytes) rules widths) lt e
 
-pub base_of_trailing : (bytes : List ℕ) (b : Base) (rest : List ℕ) → IsBase b → HasWidths b → rest ≢ [] → bytes ≡ spelling b ++ rest → base_of bytes ≡ Err (Trailing (length (spelling b)))
+pub base_of_trailing : (bytes : List ℕ) (b : Base) (rest : List ℕ) → IsBase b → HasWidths b → rest ≢ [] → bytes ≡ base_spelling b ++ rest → base_of bytes ≡ Err (Trailing (length (base_spelling b)))
 unfolding base_of
-base_of_trailing bytes b rest rules widths some e = trailing_told base_at bytes (spelling b) rest b (base_text b (length bytes) rules widths) some e
+base_of_trailing bytes b rest rules widths some e = trailing_told base_at bytes (base_spelling b) rest b (base_text b (length bytes) rules widths) some e
 
 -- ---- what a call that reads answers
 
-pub read_found : (bytes : List ℕ) (read : Result Base BaseErr) → IsBytes bytes → ReadsBase read (base_of bytes) → IfOk read (λ b. IsBase b × HasWidths b × (bytes ≡ spelling b))
+pub read_found : (bytes : List ℕ) (read : Result Base BaseErr) → IsBytes bytes → ReadsBase read (base_of bytes) → IfOk read (λ b. IsBase b × HasWidths b × (bytes ≡ base_spelling b))
 read_found bytes (Ok b) fits e = base_of_takes bytes b fits e
 read_found bytes (Err failure) fits e = tt
 
@@ -306,6 +306,6 @@ read_only bytes (Ok x) b is e = inl (let same : x ≡ b = cc in ap (λ y. Ok y) 
 read_only bytes (Err (base_err.Bad bad)) b is e = absurd cc
 read_only bytes (Err base_err.NoMemory) b is e = inr refl
 
-pub written_again : (b : Base) (made : Result (List ℕ) NoMemory) → IsBase b → HasWidths b → IfOk made (λ bytes. bytes ≡ spelling b) → IfOk made (λ bytes. base_of bytes ≡ Ok b)
+pub written_again : (b : Base) (made : Result (List ℕ) NoMemory) → IsBase b → HasWidths b → IfOk made (λ bytes. bytes ≡ base_spelling b) → IfOk made (λ bytes. base_of bytes ≡ Ok b)
 written_again b (Ok bytes) rules widths text = base_of_only bytes b rules widths text
 written_again b (Err e) rules widths text = tt

@@ -88,8 +88,8 @@ unfoldable pub clues_text : List ClueState → List ℕ
 clues_text states = to_be_bytes w32 (length states) ++ states_text states
 
 -- the bytes of a base: its fields one after the other
-unfoldable pub spelling : Base → List ℕ
-spelling b = front_text b.id b.point b.blocks ++ (digests_text b.peaks ++ (keys_text b.keys ++ clues_text b.clues))
+unfoldable pub base_spelling : Base → List ℕ
+base_spelling b = front_text b.id b.point b.blocks ++ (digests_text b.peaks ++ (keys_text b.keys ++ clues_text b.clues))
 
 -- ---- what a base has by its type
 

@@ -37,8 +37,8 @@ abbrev pub known_version : ℕ → Result (Unit {0}) Bad
 known_version version = if version_ok version then Ok tt else Err (bad.NewerFormat version)
 
 -- version, id, point and how many blocks, each judged as it is met
-unfoldable pub front_at : Unread → Result ((Digest × ℕ × ℕ) × Unread) Bad
-front_at l = do
+unfoldable pub base_front_at : Unread → Result ((Digest × ℕ × ℕ) × Unread) Bad
+base_front_at l = do
   version ← number_at w8 l
   _ ← known_version version.0
   id ← digest_at version.1
@@ -89,7 +89,7 @@ clues_at point at l = do
 -- the fields of a base, from left to right
 unfoldable pub base_at : Unread → Result (Base × Unread) Bad
 base_at l = do
-  front ← front_at l
+  front ← base_front_at l
   peaks ← digests_at (count_ones front.0.1) front.1
   keys ← keys_at (49 + 32 * count_ones front.0.1) peaks.1
   clues ← clues_at front.0.1 (51 + 32 * count_ones front.0.1 + 32 * length keys.0) keys.1

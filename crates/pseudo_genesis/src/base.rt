@@ -80,7 +80,7 @@ impl Base {
     ghost use Rattle.pseudo_genesis.specs.declared.base.Base.{Base as BaseRecord};
     ghost use Rattle.pseudo_genesis.specs.declared.base.BaseErr.TheVariants as base_err;
     ghost use Rattle.ledger_bytes.specs.declared.failure.Bad.TheVariants as bad;
-    ghost use Rattle.pseudo_genesis.specs.Bases.{IsBase, HasWidths, HasCounts, spelling};
+    ghost use Rattle.pseudo_genesis.specs.Bases.{IsBase, HasWidths, HasCounts, base_spelling};
     ghost use Rattle.pseudo_genesis.specs.Reading.{base_of, ReadsBase, IsFailure};
 
     /// Reads a base. The first break in the order of the bytes is told: `NewerFormat` for another version,
@@ -90,19 +90,19 @@ impl Base {
         // Which answer it is, and at a break which break and where.
         ensures exact { ReadsBase result (base_of bytes.now) }
         // What is read keeps every rule and is spelled so, each byte of it.
-        ensures found { IfOk result (λ b. IsBase b × HasWidths b × (bytes.now ≡ spelling b)) }
+        ensures found { IfOk result (λ b. IsBase b × HasWidths b × (bytes.now ≡ base_spelling b)) }
         // What keeps every rule and is spelled so is read.
-        ensures only { (b : BaseRecord) → IsBase b → HasWidths b → bytes.now ≡ spelling b
+        ensures only { (b : BaseRecord) → IsBase b → HasWidths b → bytes.now ≡ base_spelling b
             → (result ≡ Ok b) ⊎ (result ≡ Err base_err.NoMemory) }
         // No other error comes.
         ensures breaks { IfErr result IsFailure }
         // What is left of a base when its end is cut off is too short.
-        ensures cut { (b : BaseRecord) (k : ℕ) → IsBase b → HasWidths b → k < length (spelling b)
-            → bytes.now ≡ take k (spelling b) → ReadsBase result (Err (bad.Short k)) }
+        ensures cut { (b : BaseRecord) (k : ℕ) → IsBase b → HasWidths b → k < length (base_spelling b)
+            → bytes.now ≡ take k (base_spelling b) → ReadsBase result (Err (bad.Short k)) }
         // Bytes behind a base are told by the place of the first.
         ensures trailing { (b : BaseRecord) (rest : List ℕ) → IsBase b → HasWidths b → rest ≢ []
-            → bytes.now ≡ spelling b ++ rest
-            → ReadsBase result (Err (bad.Trailing (length (spelling b)))) }
+            → bytes.now ≡ base_spelling b ++ rest
+            → ReadsBase result (Err (bad.Trailing (length (base_spelling b)))) }
     {
         read(alloc, bytes)
     }
@@ -110,7 +110,7 @@ impl Base {
     /// The one spelling of the base, which stands in front of a file's blocks.
     pub fn encode(&self, alloc: Global) -> Result<Bytes, NoMemory>
         requires { HasCounts self.now }
-        ensures text { IfOk result (λ bytes. bytes ≡ spelling self.now) }
+        ensures text { IfOk result (λ bytes. bytes ≡ base_spelling self.now) }
         // Its bytes are read as this base.
         ensures again { IsBase self.now → HasWidths self.now
             → IfOk result (λ bytes. base_of bytes ≡ Ok self.now) }

@@ -47,9 +47,9 @@ fn take_base(alloc: Global, reader: &mut FieldReader) -> Result<Base, BaseErr>
 }
 
 /// The ledger's id, the point and the number of blocks.
-#[tactic(auto, unfolding(crate::specs::Reading::front_at))]
+#[tactic(auto, unfolding(crate::specs::Reading::base_front_at))]
 fn take_front(reader: &mut FieldReader) -> Result<(Digest, u64, u64), Bad>
-    ensures { ReadsFields result reader.new (reading.front_at reader.old) }
+    ensures { ReadsFields result reader.new (reading.base_front_at reader.old) }
 {
     let version = reader.take_u8()?;
     if version != VERSION {

@@ -1,7 +1,7 @@
 //! Writing a base field by field.
 
 ghost use Rattle.std.specs.Prelude.{◌≡◌, ◌++◌, ◌<◌, ◌^◌, length, IfOk, OnOk};
-ghost use Rattle.pseudo_genesis.specs.Bases.{HasCounts, digests_text, front_text, keys_text, state_text, states_text, clues_text, spelling};
+ghost use Rattle.pseudo_genesis.specs.Bases.{HasCounts, digests_text, front_text, keys_text, state_text, states_text, clues_text, base_spelling};
 
 use crate::Base;
 use clue_index::ClueState;
@@ -10,10 +10,10 @@ use std::alloc::Global;
 
 const VERSION: u8 = 1;
 
-#[tactic(auto, unfolding(crate::specs::Bases::spelling))]
+#[tactic(auto, unfolding(crate::specs::Bases::base_spelling))]
 pub(crate) fn write(base: &Base, alloc: Global) -> Result<Bytes, NoMemory>
     requires { HasCounts base.now }
-    ensures { IfOk result (λ bytes. bytes ≡ spelling base.now) }
+    ensures { IfOk result (λ bytes. bytes ≡ base_spelling base.now) }
 {
     let mut writer = FieldWriter::new(alloc);
     put_front(&mut writer, base)?;

@@ -1,7 +1,7 @@
-ghost use Rattle.std.specs.Prelude.{◌≡◌, [], ◌∷◌, ◌++◌, codes, decimal, IfOk, OnOk, OnErr};
+ghost use Rattle.std.specs.Prelude.{◌≡◌, [], ◌++◌, codes, decimal, IfOk, OnOk, OnErr};
 ghost use Rattle.ledger_bytes.specs.Begins.{Begins};
 ghost use Rattle.script_lines.specs.Replies as spec;
-ghost use Rattle.script_lines.specs.Words.{hex_of, spaced_words, which_text};
+ghost use Rattle.script_lines.specs.Words.{spaced_words, which_text};
 
 use crate::said::Which;
 use crate::words::{Word, put_no, put_number, put_words};

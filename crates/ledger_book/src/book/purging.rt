@@ -1,6 +1,6 @@
 //! How a purge is judged and placed.
 
-ghost use Rattle.std.specs.Prelude.{◌≡◌, ◌-◌, ◌<◌, ◌≤◌, ◌^◌, take, drop, List, [], ◌∷◌, ◌++◌, All, length, IfOk, IfNone, IsTrue, ◌↔◌, OnOk, OnErr, Option};
+ghost use Rattle.std.specs.Prelude.{◌≡◌, ◌-◌, ◌<◌, ◌≤◌, ◌^◌, take, drop, List, [], ◌∷◌, ◌++◌, All, length, IfOk, IfNone, OnOk, OnErr, Option};
 ghost use Rattle.ledger_bytes.specs.Digests.{digest};
 ghost use Rattle.ledger_bytes.specs.declared.limits.TheConstants.{APPROVAL_LIMIT, PROOF_LIMIT};
 ghost use Rattle.journal_record.specs.declared.header.Header.{Header as HeaderRecord};

@@ -115,7 +115,7 @@ fn stands_in(bytes: &[u8], piece: &[u8]) -> bool {
 
 /// What comes of an image: the size that is told where the ledger is opened on it, whether what that many journals hide was
 /// erased before, and whether it is erased for good from then on.
-#[derive(Clone, Copy, Debug)]
+#[derive(Clone, Copy)]
 struct Opening {
     size: usize,
     was_erased: bool,
@@ -142,6 +142,20 @@ fn reopened<R: Threads + Wait + Sync>(
     })
 }
 
+/// Whether what a crash leaves of these disks opens as it must, and whether the opening erased what is hidden.
+fn crashed<R: Threads + Wait + Sync>(
+    rt: &R,
+    alloc: Global,
+    (a, b): (&MemDisk, &MemDisk),
+    told: usize,
+    pick: Pick,
+) -> Result<(bool, bool), NoMemory> {
+    let (a, b) = (a.crash(pick)?, b.crash(pick)?);
+    let found = reopened(rt, alloc, &a, &b)?;
+    let holds = is_hidden(&a, &b, told)? && told <= found.size && found.is_erased;
+    Ok((holds, !found.was_erased))
+}
+
 // Each receipt that was written holds. What an occult hides is erased before its receipt is written, and where a crash came
 // before that, when the ledger is opened.
 #[test]
@@ -152,14 +166,9 @@ fn erases_before_the_receipt(rt: HostRuntime) -> Result<(), Fail> {
         let told = told.unwrap_or(usize::MAX);
         assert_eq!(rt; told == 7, calls == CALLS, "at {calls}");
         for pick in PICKS {
-            let (a, b) = (a.crash(pick)?, b.crash(pick)?);
-            assert!(rt; is_hidden(&a, &b, told)?, "at {calls} {pick:?}");
-            let found = reopened(&rt, rt.alloc(), &a, &b)?;
-            assert!(rt;
-                told <= found.size && found.is_erased,
-                "at {calls} {pick:?}"
-            );
-            erased_late = erased_late || !found.was_erased;
+            let (holds, late) = crashed(&rt, rt.alloc(), (&a, &b), told, pick)?;
+            assert!(rt; holds, "at {calls} {pick:?}");
+            erased_late = erased_late || late;
         }
     }
     assert!(rt; erased_late);

@@ -156,26 +156,55 @@ fn gives_up_before_the_receipt(rt: HostRuntime) -> Result<(), Fail> {
             let (told, a, b) = stopped(&rt, rt.alloc(), calls)?;
             whole = whole || told == 8;
             for pick in PICKS {
-                let (a, b) = (a.crash(pick)?, b.crash(pick)?);
-                assert!(rt; told < PURGED || is_gone(&a, &b)?, "at {calls:?} {pick:?}");
-                let (size, new_a, new_b) = reopened(&rt, rt.alloc(), &a, &b)?;
-                assert!(rt;
-                    told <= size && (size < PURGED || is_gone(&new_a, &new_b)?),
-                    "at {calls:?} {pick:?}"
-                );
-                if size < PURGED || !matches!(pick, Pick::Torn(_)) || is_gone(&a, &b)? {
-                    continue;
-                }
-                undone = true;
-                assert!(rt;
-                    opens_alike(&rt, rt.alloc(), &a, &b, size)?,
-                    "at {calls:?} {pick:?}"
-                );
+                let (holds, late) = crashed(&rt, rt.alloc(), (&a, &b), told, pick)?;
+                assert!(rt; holds, "at {calls:?} {pick:?}");
+                undone = undone || late;
             }
         }
     }
     assert!(rt; whole && undone);
     Ok(())
+}
+
+/// What comes of an image: the size that is told where the ledger is opened on it, whether what the purge takes was gone
+/// before, and whether it is gone for good from then on.
+#[derive(Clone, Copy)]
+struct Opening {
+    size: usize,
+    was_gone: bool,
+    is_gone: bool,
+}
+
+fn opened<R: Threads + Wait + Sync>(
+    rt: &R,
+    alloc: Global,
+    a: &MemDisk,
+    b: &MemDisk,
+) -> Result<Opening, NoMemory> {
+    let (size, new_a, new_b) = reopened(rt, alloc, a, b)?;
+    Ok(Opening {
+        size,
+        was_gone: is_gone(a, b)?,
+        is_gone: is_gone(&new_a, &new_b)?,
+    })
+}
+
+/// Whether what a crash leaves of these disks opens as it must, and whether the opening finished the purge.
+fn crashed<R: Threads + Wait + Sync>(
+    rt: &R,
+    alloc: Global,
+    (a, b): (&MemDisk, &MemDisk),
+    told: usize,
+    pick: Pick,
+) -> Result<(bool, bool), NoMemory> {
+    let (a, b) = (a.crash(pick)?, b.crash(pick)?);
+    let found = opened(rt, alloc, &a, &b)?;
+    let holds = told <= found.size
+        && (told < PURGED || found.was_gone)
+        && (found.size < PURGED || found.is_gone);
+    let late = found.size >= PURGED && !found.was_gone && matches!(pick, Pick::Torn(_));
+    let alike = !late || opens_alike(rt, alloc, &a, &b, found.size)?;
+    Ok((holds && alike, late))
 }
 
 /// Whether the ledger opens with this size, and what its purge takes is gone, wherever an opening before that is stopped.

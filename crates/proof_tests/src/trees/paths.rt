@@ -1,5 +1,6 @@
 use super::*;
-use merkle_tree::{fold_path, path};
+use crate::growing::are_made;
+use merkle_tree::fold_path;
 use std::alloc::{AllocError, Global};
 
 // Digests that stand beside leaves of the trees by SHA-256, one a line. The first has the letter A, the 27th a.
@@ -110,17 +111,17 @@ pub(super) fn all_sides(alloc: Global) -> Result<Vec<Digest>, Fail> {
 fn are_paths(
     alloc: Global,
     sides: &[Digest],
-    leaves: &[Digest],
+    tree: &Tree<Sha>,
     root: &Digest,
     words: &str,
 ) -> Result<bool, Fail> {
+    let size = tree.size();
     for (n, word) in words.split(' ').enumerate() {
+        let n = n as u64;
         let (digests, flat) = digests_of(alloc, sides, word)?;
-        let Some(leaf) = leaves.get(n) else {
-            return Ok(false);
-        };
-        if path::<Sha>(alloc, leaves, n)?.as_slice() != digests.as_slice()
-            || fold_path::<Sha>(leaf, n as u64, leaves.len() as u64, &flat) != Some(*root)
+        let leaf = tree.leaf(n)?;
+        if !are_made(tree.path(n, size), &digests)
+            || fold_path::<Sha>(&leaf, n, size, &flat) != Some(*root)
         {
             return Ok(false);
         }
@@ -131,13 +132,13 @@ fn are_paths(
 #[test]
 fn paths_by_sha(rt: HostRuntime) -> Result<(), Fail> {
     let sides = all_sides(rt.alloc())?;
-    let mut leaves = Vec::new(rt.alloc());
-    leaves.push(digest(TREES[0].0)?)?;
+    let mut tree: Tree<Sha> = Tree::new(rt.alloc());
+    add(&mut tree, &[digest(TREES[0].0)?])?;
     for (words, (leaf, root)) in PATHS.lines().zip(&TREES[1..]) {
-        leaves.push(digest(leaf)?)?;
+        add(&mut tree, &[digest(leaf)?])?;
         let root = digest(root)?;
         assert!(rt;
-            are_paths(rt.alloc(), &sides, &leaves, &root, words)?,
+            are_paths(rt.alloc(), &sides, &tree, &root, words)?,
             "at {words}"
         );
     }

@@ -1,7 +1,8 @@
 use super::paths::{all_sides, digests_of};
 use super::*;
-use ledger_bytes::{NoMemory, TreeHash};
-use merkle_tree::{fold_proof, proof};
+use crate::growing::are_made;
+use ledger_bytes::TreeHash;
+use merkle_tree::fold_proof;
 use std::alloc::Global;
 
 // The proofs of the trees of 2 leaves and more, a tree a line: for each number of first leaves a word, for each digest
@@ -26,19 +27,6 @@ AEMgm EMgm CFDMgm Mgm GJNHgm INHgm LOIHgm gm PSWhQm RWhQm UXRhQm VhQm ZciVQm biV
 AEMgo EMgo CFDMgo Mgo GJNHgo INHgo LOIHgo go PSWhQo RWhQo UXRhQo VhQo ZciVQo biVQo fjbVQo o knpl mpl -
 AEMgq EMgq CFDMgq Mgq GJNHgq INHgq LOIHgq gq PSWhQq RWhQq UXRhQq VhQq ZciVQq biVQq fjbVQq q knrl mrl psml -";
 
-// Are these the digests of the proof that is made from the first `m` leaves to all?
-fn are_made<H: TreeHash>(
-    alloc: Global,
-    leaves: &[Digest],
-    m: usize,
-    digests: &[Digest],
-) -> Result<bool, NoMemory> {
-    if m == 0 || leaves.len() < m {
-        return Ok(false);
-    }
-    Ok(proof::<H>(alloc, leaves, m)?.as_slice() == digests)
-}
-
 // Is this root led to from an old root along no more than the digests of a proof? Not from another one, nor with the
 // sizes exchanged, a digest fewer or one more.
 fn leads_alone<H: TreeHash>(
@@ -62,7 +50,7 @@ fn leads_alone<H: TreeHash>(
 fn are_proofs(
     alloc: Global,
     sides: &[Digest],
-    leaves: &[Digest],
+    tree: &Tree<Sha>,
     root: &Digest,
     words: &str,
 ) -> Result<bool, Fail> {
@@ -71,9 +59,9 @@ fn are_proofs(
         let (digests, flat) = digests_of(alloc, sides, word)?;
         let mut more = flat.to_vec(alloc)?;
         more.extend_from_slice(&old.0)?;
-        let new = (leaves.len() as u64, root);
-        if !are_made::<Sha>(alloc, leaves, m, &digests)?
-            || !leads_alone::<Sha>((m as u64, &old), new, &flat, &more)
+        let size = tree.size();
+        if !are_made(tree.proof(m, size), &digests)
+            || !leads_alone::<Sha>((m, &old), (size, root), &flat, &more)
         {
             return Ok(false);
         }
@@ -84,13 +72,13 @@ fn are_proofs(
 #[test]
 fn proofs_by_sha(rt: HostRuntime) -> Result<(), Fail> {
     let sides = all_sides(rt.alloc())?;
-    let mut leaves = Vec::new(rt.alloc());
-    leaves.push(digest(TREES[0].0)?)?;
+    let mut tree: Tree<Sha> = Tree::new(rt.alloc());
+    add(&mut tree, &[digest(TREES[0].0)?])?;
     for (words, (leaf, root)) in PROOFS.lines().zip(&TREES[1..]) {
-        leaves.push(digest(leaf)?)?;
+        add(&mut tree, &[digest(leaf)?])?;
         let root = digest(root)?;
         assert!(rt;
-            are_proofs(rt.alloc(), &sides, &leaves, &root, words)?,
+            are_proofs(rt.alloc(), &sides, &tree, &root, words)?,
             "at {words}"
         );
     }
