@@ -33,21 +33,43 @@ pub(crate) fn make<D: Disk>(alloc: Global, a: &mut D, b: &mut D, plan: &Plan) ->
         regulator: REGULATOR,
     };
     let mut book = Book::new(alloc, &genesis, Limits::real())?;
-    b.cut(0)?;
-    b.sync()?;
-    BlockFile::start(a)?;
-    let mut file = BlockFile::create(a, 1, &[])?;
+    empty(b)?;
+    write(alloc, a, &genesis, &mut book, plan)
+}
+
+fn empty<D: Disk>(disk: &mut D) -> Result<()> {
+    disk.cut(0)?;
+    disk.sync()?;
+    Ok(())
+}
+
+// Writes the file of a new book, which takes the records.
+fn write<D: Disk>(
+    alloc: Global,
+    disk: &mut D,
+    genesis: &Genesis,
+    book: &mut Book,
+    plan: &Plan,
+) -> Result<()> {
+    BlockFile::start(disk)?;
+    let mut file = BlockFile::create(disk, 1, &[])?;
     let mut block = BlockWriter::new(alloc);
-    let header = first_header(&genesis).encode();
-    block.put(FIRST_GATE, &header, &genesis.content(), &[])?;
-    block.finish(1, &book.head().root)?;
-    file.put_block(a, block.as_slice())?;
+    gather_first(&mut block, genesis, &book.head().root)?;
+    file.put_block(disk, block.as_slice())?;
     for _ in 0..plan.journals.saturating_sub(1).div_ceil(64) {
         block.clear();
-        gather_block(alloc, &mut book, &mut block, plan)?;
-        file.put_block(a, block.as_slice())?;
+        gather_block(alloc, book, &mut block, plan)?;
+        file.put_block(disk, block.as_slice())?;
     }
-    file.unveil(a)?;
+    file.unveil(disk)?;
+    Ok(())
+}
+
+// Gathers the first block, which has journal 0 alone.
+fn gather_first(block: &mut BlockWriter, genesis: &Genesis, root: &Digest) -> Result<()> {
+    let header = first_header(genesis).encode();
+    block.put(FIRST_GATE, &header, &genesis.content(), &[])?;
+    block.finish(1, root)?;
     Ok(())
 }
 
