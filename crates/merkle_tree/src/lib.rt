@@ -1,5 +1,5 @@
-//! The hash tree of RFC 6962, section 2.1, by any `TreeHash`: its root over flat leaves, the root to which a path from a
-//! leaf leads, or a proof that one tree is the beginning of another, and the two strings of one digest that a false path
+//! The hash tree of RFC 6962, section 2.1, by any `TreeHash`: the root over flat leaves, the roots to which paths from
+//! leaves lead, and proofs that one tree is the beginning of another, and the two strings of one digest that a false path
 //! or proof shows. Nothing here takes memory.
 #![tactic(auto)]
 

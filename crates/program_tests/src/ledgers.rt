@@ -14,6 +14,7 @@ use std::test::Fail;
 use std::thread::Threads;
 
 mod disks;
+mod erasing;
 mod lanes;
 mod notaries;
 mod occults;

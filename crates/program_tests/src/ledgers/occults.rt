@@ -1,5 +1,6 @@
 //! A disk that stops in a session with two occults: what each crash leaves, and what stands there once it is opened again.
 
+use super::erasing::{BlockEnd, PICKS, ROOM, size_told, stands_in};
 use super::*;
 use ledger_disk::{FuseDisk, Pick};
 
@@ -31,9 +32,8 @@ const HIDDEN: [(&str, usize); 2] = [("abc", 4), ("xyz", 5)];
 // What asks for these journals.
 const GETS: &[u8] = b"0 get 1\n0 get 2\n0 get 3\n0 get 4\n0 get 5\n0 get 6\n";
 
-// The size of the ledger behind each of its blocks; the second words of what the session writes where the receipts of these
-// journals are its last, and of what is answered to the lines that ask for them.
-const BLOCKS: [(usize, &str, &str); 5] = [
+// The ends of the blocks.
+const BLOCKS: [BlockEnd; 5] = [
     (1, "4 ", "no no no no no no "),
     (4, "ok ok ok 4 ", "whole whole whole no no no "),
     (5, "ok ok ok ok 4 ", "whole occulted whole whole no no "),
@@ -49,14 +49,9 @@ const BLOCKS: [(usize, &str, &str); 5] = [
     ),
 ];
 
-const PICKS: [Pick; 3] = [Pick::AllWritten, Pick::NoneWritten, Pick::Torn(1)];
-
 // How many calls of write, cut and sync the first disk takes in the session: two syncs where the ledger is opened, five calls
 // for each of four blocks, and two for what each occult hides.
 const CALLS: u64 = 26;
-
-// More room than the ledger takes.
-const ROOM: usize = 16_384;
 
 /// The size up to which receipts were written before the first disk stopped after so many calls, and the two disks.
 fn stopped<R: Threads + Wait + Sync>(
@@ -71,25 +66,8 @@ fn stopped<R: Threads + Wait + Sync>(
     let mut a = FuseDisk::new(a, calls);
     let mut b = FuseDisk::new(b, NEVER);
     let (_, written) = run_on(rt, alloc, &RUN, &script, NO_FAULTS, &mut a, &mut b)?;
-    let size = size_told(alloc, &written)?;
+    let size = size_told(alloc, &BLOCKS, &written)?;
     Ok((size, a.into_inner(), b.into_inner()))
-}
-
-/// The size that these replies tell, of the session or of the lines that ask for its journals. None for others.
-fn size_told(alloc: Global, replies: &[u8]) -> Result<Option<usize>, NoMemory> {
-    let mut verbs = Vec::new(alloc);
-    for line in replies.split(|byte| *byte == b'\n') {
-        for word in line.split(|byte| *byte == b' ').skip(1).take(1) {
-            verbs.extend_from_slice(word)?;
-            verbs.push(b' ')?;
-        }
-    }
-    for (size, session, gets) in &BLOCKS {
-        if verbs.as_slice() == session.as_bytes() || verbs.as_slice() == gets.as_bytes() {
-            return Ok(Some(*size));
-        }
-    }
-    Ok(None)
 }
 
 /// Whether no content stands on these disks that one of the first so many journals hides.
@@ -102,15 +80,6 @@ fn is_hidden(a: &MemDisk, b: &MemDisk, size: usize) -> Result<bool, NoMemory> {
         }
     }
     Ok(true)
-}
-
-fn stands_in(bytes: &[u8], piece: &[u8]) -> bool {
-    for at in 0..bytes.len() {
-        if bytes.get(at..).unwrap_or_default().starts_with(piece) {
-            return true;
-        }
-    }
-    false
 }
 
 /// What comes of an image: the size that is told where the ledger is opened on it, whether what that many journals hide was
@@ -130,7 +99,7 @@ fn reopened<R: Threads + Wait + Sync>(
 ) -> Result<Opening, NoMemory> {
     let (mut new_a, mut new_b) = (a.crash(Pick::AllWritten)?, b.crash(Pick::AllWritten)?);
     let (_, replies) = run_on(rt, alloc, &RUN, GETS, NO_FAULTS, &mut new_a, &mut new_b)?;
-    let size = size_told(alloc, &replies)?.unwrap_or_default();
+    let size = size_told(alloc, &BLOCKS, &replies)?.unwrap_or_default();
     let (new_a, new_b) = (
         new_a.crash(Pick::NoneWritten)?,
         new_b.crash(Pick::NoneWritten)?,

@@ -1,6 +1,7 @@
 //! Disks that stop in a session with a purge: what each crash leaves, and what stands there once it is opened again, wherever
 //! that is stopped too.
 
+use super::erasing::{BlockEnd, PICKS, ROOM, size_told, stands_in};
 use super::*;
 use ledger_disk::{FuseDisk, Pick};
 
@@ -32,9 +33,8 @@ const PURGED: usize = 7;
 // What asks for these journals.
 const GETS: &[u8] = b"0 get 1\n0 get 2\n0 get 3\n0 get 4\n0 get 5\n0 get 6\n0 get 7\n";
 
-// The size of the ledger behind each of its blocks; the second words of what the session writes where the receipts of these
-// journals are its last, and of what is answered to the lines that ask for them.
-const BLOCKS: [(usize, &str, &str); 6] = [
+// The ends of the blocks.
+const BLOCKS: [BlockEnd; 6] = [
     (1, "4 ", "no no no no no no no "),
     (4, "ok ok ok 4 ", "whole whole whole no no no no "),
     (5, "ok ok ok ok 4 ", "whole whole whole whole no no no "),
@@ -51,13 +51,8 @@ const BLOCKS: [(usize, &str, &str); 6] = [
     ),
 ];
 
-const PICKS: [Pick; 3] = [Pick::AllWritten, Pick::NoneWritten, Pick::Torn(1)];
-
 // More calls of write, cut and sync than either disk takes in the session, or where the ledger is opened.
 const CALLS: u64 = 30;
-
-// More room than the ledger takes.
-const ROOM: usize = 16_384;
 
 /// The size up to which receipts were written, and the two disks, where each stops after so many calls.
 fn stopped<R: Threads + Wait + Sync>(
@@ -72,25 +67,8 @@ fn stopped<R: Threads + Wait + Sync>(
     let mut a = FuseDisk::new(a, calls.0);
     let mut b = FuseDisk::new(b, calls.1);
     let (_, written) = run_on(rt, alloc, &RUN, &script, NO_FAULTS, &mut a, &mut b)?;
-    let size = size_told(alloc, &written)?.unwrap_or(usize::MAX);
+    let size = size_told(alloc, &BLOCKS, &written)?.unwrap_or(usize::MAX);
     Ok((size, a.into_inner(), b.into_inner()))
-}
-
-/// The size that these replies tell, of the session or of the lines that ask for its journals. None for others.
-fn size_told(alloc: Global, replies: &[u8]) -> Result<Option<usize>, NoMemory> {
-    let mut verbs = Vec::new(alloc);
-    for line in replies.split(|byte| *byte == b'\n') {
-        for word in line.split(|byte| *byte == b' ').skip(1).take(1) {
-            verbs.extend_from_slice(word)?;
-            verbs.push(b' ')?;
-        }
-    }
-    for (size, session, gets) in &BLOCKS {
-        if verbs.as_slice() == session.as_bytes() || verbs.as_slice() == gets.as_bytes() {
-            return Ok(Some(*size));
-        }
-    }
-    Ok(None)
 }
 
 /// Whether nothing that the purge takes stands on these disks, and one of them is empty.
@@ -105,15 +83,6 @@ fn is_gone(a: &MemDisk, b: &MemDisk) -> Result<bool, NoMemory> {
     Ok(a.as_slice().is_empty() || b.as_slice().is_empty())
 }
 
-fn stands_in(bytes: &[u8], piece: &[u8]) -> bool {
-    for at in 0..bytes.len() {
-        if bytes.get(at..).unwrap_or_default().starts_with(piece) {
-            return true;
-        }
-    }
-    false
-}
-
 /// The size that is told where the ledger is opened on these disks, and what they hold for good from then on.
 fn reopened<R: Threads + Wait + Sync>(
     rt: &R,
@@ -123,7 +92,7 @@ fn reopened<R: Threads + Wait + Sync>(
 ) -> Result<(usize, MemDisk, MemDisk), NoMemory> {
     let (mut a, mut b) = (a.crash(Pick::AllWritten)?, b.crash(Pick::AllWritten)?);
     let (_, replies) = run_on(rt, alloc, &RUN, GETS, NO_FAULTS, &mut a, &mut b)?;
-    let size = size_told(alloc, &replies)?.unwrap_or_default();
+    let size = size_told(alloc, &BLOCKS, &replies)?.unwrap_or_default();
     Ok((
         size,
         a.crash(Pick::NoneWritten)?,
