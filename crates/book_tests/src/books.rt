@@ -151,25 +151,39 @@ fn replay(
     Ok(told)
 }
 
-/// A book made of the headers of another, one after the other.
-fn replayed(rt: &impl Abort, alloc: Global, book: &Book) -> Result<Book, Fail> {
-    let mut again = begun(alloc, book.header(0).ok_or("no header")?)?;
+/// Replays the headers of a book behind its first.
+fn replay_all(rt: &impl Abort, book: &Book, again: &mut Book) -> Result<(), Fail> {
     for number in 1..book.head().size {
-        assert!(rt; replay(rt, book, &mut again, number)? == Ok(()));
+        assert!(rt; replay(rt, book, again, number)? == Ok(()));
     }
-    Ok(again)
+    Ok(())
+}
+
+/// Whether a book has the first journal and 262,144 records.
+fn is_long(book: &Book) -> Result<bool, Fail> {
+    let head = Head {
+        size: 262_145,
+        root: Digest(<[u8; 32]>::from_hex(ROOT)?),
+    };
+    Ok(book.head() == head && book.blocks() == 4_097)
 }
 
 #[test]
 fn a_long_ledger_is_replayed(rt: HostRuntime) -> Result<(), Fail> {
     let book = ledger_of(&rt, rt.alloc(), 262_144)?;
-    let head = Head {
-        size: 262_145,
-        root: Digest(<[u8; 32]>::from_hex(ROOT)?),
-    };
-    assert!(rt; book.head() == head && book.blocks() == 4_097);
-    let again = replayed(&rt, rt.alloc(), &book)?;
-    assert!(rt; again.head() == head && again.blocks() == 4_097 && again.id() == book.id());
+    is_replayed(&rt, rt.alloc(), &book)
+}
+
+/// A book that is made of the headers of a long one is as long.
+fn is_replayed(rt: &impl Abort, alloc: Global, book: &Book) -> Result<(), Fail> {
+    assert!(rt; is_long(book)?);
+    let mut again = begun(alloc, book.header(0).ok_or("no header")?)?;
+    is_long_once_replayed(rt, book, &mut again)
+}
+
+fn is_long_once_replayed(rt: &impl Abort, book: &Book, again: &mut Book) -> Result<(), Fail> {
+    replay_all(rt, book, again)?;
+    assert!(rt; is_long(again)? && again.id() == book.id());
     Ok(())
 }
 
@@ -188,36 +202,49 @@ fn take_as_second(book: &Book, again: &mut Book, number: u64) -> Result<Result<(
     take(again, &second)
 }
 
-/// Replays headers out of order, and answers how many journals wait then.
-fn waiting_at_last(rt: &impl Abort, alloc: Global, book: &Book) -> Result<u64, Fail> {
-    let mut again = begun(alloc, book.header(0).ok_or("no header")?)?;
-    for (number, told) in [
-        (0, Err(Damage::Entry { jsn: 1 })),
-        (2, Err(Damage::Entry { jsn: 1 })),
-        (1, Ok(())),
-        (1, Err(Damage::Entry { jsn: 2 })),
-        (2, Ok(())),
-    ] {
-        assert!(rt; take_of(book, &mut again, number)? == told);
+/// What is answered to the headers of journals that are replayed in this order.
+const OUT_OF_ORDER: [(u64, Result<(), Damage>); 5] = [
+    (0, Err(Damage::Entry { jsn: 1 })),
+    (2, Err(Damage::Entry { jsn: 1 })),
+    (1, Ok(())),
+    (1, Err(Damage::Entry { jsn: 2 })),
+    (2, Ok(())),
+];
+
+/// Replays headers out of order.
+fn replay_out_of_order(rt: &impl Abort, book: &Book, again: &mut Book) -> Result<(), Fail> {
+    for (number, told) in &OUT_OF_ORDER {
+        assert!(rt; take_of(book, again, *number)? == *told);
     }
-    assert!(rt; take_as_second(book, &mut again, 3)? == Err(Damage::Entry { jsn: 3 }));
-    assert!(rt; take_of(book, &mut again, 3)? == Ok(()));
-    Ok(again.waiting_count())
+    assert!(rt; take_as_second(book, again, 3)? == Err(Damage::Entry { jsn: 3 }));
+    assert!(rt; take_of(book, again, 3)? == Ok(()));
+    assert_eq!(rt; again.waiting_count(), 3);
+    Ok(())
+}
+
+/// A new book whose headers are replayed out of order.
+fn begin_out_of_order(rt: &impl Abort, alloc: Global, book: &Book) -> Result<(), Fail> {
+    let mut again = begun(alloc, book.header(0).ok_or("no header")?)?;
+    replay_out_of_order(rt, book, &mut again)
 }
 
 #[test]
 fn what_is_not_next_is_refused(rt: HostRuntime) -> Result<(), Fail> {
     let book = ledger_of(&rt, rt.alloc(), 3)?;
-    assert_eq!(rt; waiting_at_last(&rt, rt.alloc(), &book)?, 3);
-    Ok(())
+    begin_out_of_order(&rt, rt.alloc(), &book)
 }
 
 #[test]
 fn a_journal_lies_between_anchors(rt: HostRuntime) -> Result<(), Fail> {
     let mut book = ledger_of(&rt, rt.alloc(), 3)?;
-    anchor(&rt, &mut book, 0)?;
-    place(&rt, rt.alloc(), &mut book, 4)?;
-    anchor(&rt, &mut book, 1)?;
+    anchor_twice(&rt, rt.alloc(), &mut book)
+}
+
+/// Places a record between two anchors.
+fn anchor_twice(rt: &impl Abort, alloc: Global, book: &mut Book) -> Result<(), Fail> {
+    anchor(rt, book, 0)?;
+    place(rt, alloc, book, 4)?;
+    anchor(rt, book, 1)?;
     let lower = TimeMark {
         jsn: 4,
         index: 0,
@@ -246,11 +273,21 @@ fn two_journals() -> Limits
 fn a_full_ledger_takes_anchors(rt: HostRuntime) -> Result<(), Fail> {
     let alloc = rt.alloc();
     let mut book = Book::new(alloc, &demo(alloc)?, two_journals())?;
-    place(&rt, alloc, &mut book, 1)?;
-    let job = record(alloc, &book.id(), 2)?;
+    fill_and_anchor(&rt, alloc, &mut book)
+}
+
+/// Places a record, no second one, and an anchor.
+fn fill_and_anchor(rt: &impl Abort, alloc: Global, book: &mut Book) -> Result<(), Fail> {
+    place(rt, alloc, book, 1)?;
     let full = Refusal::Full { kept: 2, size: 2 };
-    assert!(rt; book.apply(&job)? == Outcome::Refused(full));
-    anchor(&rt, &mut book, 0)?;
+    assert!(rt; refuses(alloc, book, full)?);
+    anchor(rt, book, 0)?;
     assert_eq!(rt; book.head().size, 3);
     Ok(())
+}
+
+/// Whether a second record is refused, and for this cause.
+fn refuses(alloc: Global, book: &mut Book, refusal: Refusal) -> Result<bool, NoMemory> {
+    let job = record(alloc, &book.id(), 2)?;
+    Ok(book.apply(&job)? == Outcome::Refused(refusal))
 }

@@ -284,6 +284,12 @@ impl<D: Disk + Drop, K: Sink + Drop> Bench<D, K> {
         Ok(())
     }
 
+    /// Offers the jobs of these lines, and flushes.
+    fn run_lines(&mut self, alloc: Global, lines: &[(u64, Ask)]) -> Result<(), CommitErr> {
+        self.offer_lines(alloc, lines)?;
+        self.flush()
+    }
+
     /// Offers the jobs of lines with these numbers.
     fn offer_lines(&mut self, alloc: Global, lines: &[(u64, Ask)]) -> Result<(), CommitErr> {
         let id = self.id();
@@ -314,7 +320,8 @@ fn run_records<R: Threads, D: Disk + Drop>(
     room: usize,
     count: u64,
 ) -> Result<(Run, MemSink, D, D), Fail> {
-    let mut bench = Bench::open(rt, alloc, a, b, sink_of(alloc, room)?)?;
+    let sink = sink_of(alloc, room)?;
+    let mut bench = Bench::open(rt, alloc, a, b, sink)?;
     let offered = bench.offer_records(alloc, count);
     let size = bench.size();
     let lines = lines_in(bench.sink.written_bytes());
@@ -336,9 +343,9 @@ fn run_lines<R: Threads>(
     (a, b): (MemDisk, MemDisk),
     lines: &[(u64, Ask)],
 ) -> Result<(MemSink, MemDisk), Fail> {
-    let mut bench = Bench::open(rt, alloc, a, b, sink_of(alloc, AMPLE)?)?;
-    bench.offer_lines(alloc, lines)?;
-    bench.flush()?;
+    let sink = sink_of(alloc, AMPLE)?;
+    let mut bench = Bench::open(rt, alloc, a, b, sink)?;
+    bench.run_lines(alloc, lines)?;
     let (a, _, sink) = bench.into_parts();
     Ok((sink, a))
 }

@@ -4,6 +4,7 @@ use ledger_disk::{Disk, FuseDisk, MemDisk, Pick};
 use ledger_model::{Genesis, Limits};
 use ledger_open::{OpenErr, Opened, init, reopen};
 use std::alloc::Global;
+use std::process::Abort;
 use std::test::Fail;
 use std::thread::Threads;
 
@@ -96,16 +97,38 @@ fn opened_size<R: Threads, D: Disk>(
 
 #[test]
 fn a_new_ledger_has_the_worked_bytes(rt: HostRuntime) -> Result<(), Fail> {
-    let alloc = rt.alloc();
-    let mut a = disk_of(alloc, &[0; 70])?;
-    let mut b = disk_of(alloc, &[1, 2, 3])?;
-    let opened = init(alloc, &mut a, &mut b, &demo(alloc)?, Limits::real());
-    assert_eq!(rt; size_of(opened), Ok(1));
+    let mut a = disk_of(rt.alloc(), &[0; 70])?;
+    let mut b = disk_of(rt.alloc(), &[1, 2, 3])?;
+    make_twice(&rt, rt.alloc(), &mut a, &mut b)?;
+    let opened = reopen(&rt, rt.alloc(), &mut a, &mut b, Limits::real())?;
+    has_one_journal(&rt, &opened)
+}
+
+/// The size of the ledger `demo`, where it is made on these disks.
+fn made_size(
+    alloc: Global,
+    a: &mut MemDisk,
+    b: &mut MemDisk,
+) -> Result<Result<u64, OpenErr>, Fail> {
+    let genesis = demo(alloc)?;
+    Ok(size_of(init(alloc, a, b, &genesis, Limits::real())))
+}
+
+/// Makes the ledger, and no second time.
+fn make_twice(
+    rt: &impl Abort,
+    alloc: Global,
+    a: &mut MemDisk,
+    b: &mut MemDisk,
+) -> Result<(), Fail> {
+    assert_eq!(rt; made_size(alloc, a, b)?, Ok(1));
     assert_eq!(rt; a.bytes()?.as_slice(), bytes_of(alloc, &NEW)?.as_slice());
     assert_eq!(rt; b.len(), Ok(0));
-    let again = init(alloc, &mut a, &mut b, &demo(alloc)?, Limits::real());
-    assert_eq!(rt; size_of(again), Err(OpenErr::Exists));
-    let opened = reopen(&rt, alloc, &mut a, &mut b, Limits::real())?;
+    assert_eq!(rt; made_size(alloc, a, b)?, Err(OpenErr::Exists));
+    Ok(())
+}
+
+fn has_one_journal(rt: &impl Abort, opened: &Opened) -> Result<(), Fail> {
     assert_eq!(rt; opened.book.id(), digest(ID)?);
     assert_eq!(rt; opened.book.blocks(), 1);
     assert_eq!(rt; opened.places.as_slice().len(), 1);
@@ -117,36 +140,54 @@ fn a_longer_ledger_is_trimmed_and_the_other_file_emptied(rt: HostRuntime) -> Res
     let alloc = rt.alloc();
     let whole = two_blocks(alloc)?;
     for stop in 0..6 {
-        let mut longer = whole.to_vec(alloc)?;
-        longer.extend_from_slice(&[1, 2, 3])?;
-        let a = disk_of(alloc, &[0, 9])?;
-        let b = disk_of(alloc, &longer)?;
-        let mut a = FuseDisk::new(a, stop);
-        let mut b = FuseDisk::new(b, stop);
-        let opened = opened_size(&rt, alloc, &mut a, &mut b);
+        let (opened, a, b) = open_longer(&rt, alloc, &whole, stop)?;
+        let wanted = if stop < 3 {
+            Err(OpenErr::DiskFault)
+        } else {
+            Ok(3)
+        };
         assert_eq!(rt;
-            opened,
-            if stop < 3 {
-                Err(OpenErr::DiskFault)
-            } else {
-                Ok(3)
-            },
+            (opened, opens_whole(&rt, alloc, &a, &b, &whole)?),
+            (wanted, true),
             "at {stop}"
         );
-        let (a, b) = (a.into_inner(), b.into_inner());
-        for pick in [Pick::AllWritten, Pick::NoneWritten, Pick::Torn(1)] {
-            let mut left_a = a.crash(pick)?;
-            let mut left_b = b.crash(pick)?;
-            assert_eq!(rt;
-                opened_size(&rt, alloc, &mut left_a, &mut left_b),
-                Ok(3),
-                "at {stop}"
-            );
-            assert_eq!(rt; left_a.len(), Ok(0));
-            assert_eq!(rt; left_b.bytes()?.as_slice(), whole.as_slice());
-        }
     }
     Ok(())
+}
+
+/// The size where a ledger is opened behind whose file three bytes stand, and the disks then, which stop after so many calls.
+fn open_longer<R: Threads>(
+    rt: &R,
+    alloc: Global,
+    whole: &[u8],
+    stop: u64,
+) -> Result<(Result<u64, OpenErr>, MemDisk, MemDisk), Fail> {
+    let mut longer = whole.to_vec(alloc)?;
+    longer.extend_from_slice(&[1, 2, 3])?;
+    let mut a = FuseDisk::new(disk_of(alloc, &[0, 9])?, stop);
+    let mut b = FuseDisk::new(disk_of(alloc, &longer)?, stop);
+    let opened = opened_size(rt, alloc, &mut a, &mut b);
+    Ok((opened, a.into_inner(), b.into_inner()))
+}
+
+/// Whether the ledger opens on what a crash leaves of these disks: with three journals, one file empty and the other as it was.
+fn opens_whole<R: Threads>(
+    rt: &R,
+    alloc: Global,
+    a: &MemDisk,
+    b: &MemDisk,
+    whole: &[u8],
+) -> Result<bool, Fail> {
+    for pick in [Pick::AllWritten, Pick::NoneWritten, Pick::Torn(1)] {
+        let mut left_a = a.crash(pick)?;
+        let mut left_b = b.crash(pick)?;
+        let size = opened_size(rt, alloc, &mut left_a, &mut left_b);
+        let is_so = size == Ok(3) && left_a.len() == Ok(0);
+        if !is_so || left_b.bytes()?.as_slice() != whole {
+            return Ok(false);
+        }
+    }
+    Ok(true)
 }
 
 // The open file's disk lets two syncs through and nothing else. To empty the other file takes a cut and a sync behind the

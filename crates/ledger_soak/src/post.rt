@@ -4,9 +4,12 @@ ghost use Rattle.std.specs.Prelude.{◌≡◌, ℕ, Bool, true, false, List, [],
 ghost use Rattle.batch_committer.specs.Attending.{step_in, TakesJob};
 ghost use Rattle.batch_committer.specs.World.{Holds, Keeps, Goes};
 ghost use Rattle.journal_record.specs.Tags.{tag_key_of};
+ghost use Rattle.ledger_disk.specs.Disk.{MayLeave};
+ghost use Rattle.ledger_disk.specs.Memory.{memory_state};
 ghost use Rattle.ledger_model.specs.Genesis.{new_ledger};
 ghost use Rattle.ledger_model.specs.History.{History, id, close};
 ghost use Rattle.ledger_model.specs.Rules.{job_of};
+ghost use Rattle.ledger_open.specs.Standing.{PairFor};
 ghost use Rattle.ledger_soak.specs.Posts.{Posted, TakesWindow, StopsTaking, SameButFaults, OpensLeft, fused_disk, notary_state};
 ghost use Rattle.ledger_soak.specs.declared.post.Halt.TheVariants as halts;
 
@@ -237,23 +240,53 @@ impl Post {
         ensures opens { IfOk result (λ post. OpensLeft self.world post.world) }
         ensures open { IfOk result (λ post. post.ended ≡ false) }
     {
-        let a = self.a.into_inner();
-        let b = self.b.into_inner();
-        if a.faults() != 0 || b.faults() != 0 {
-            return Err(NoMemory);
-        }
-        let mut a = FuseDisk::new(a.crash(pick)?, NEVER);
-        let mut b = FuseDisk::new(b.crash(pick)?, NEVER);
-        let sink = new_sink(self.alloc)?;
-        match reopen(rt, self.alloc, &mut a, &mut b, Limits::real()) {
-            Ok(opened) => Ok(Post {
-                alloc: self.alloc,
-                committer: Committer::new(self.alloc, opened),
-                a,
-                b,
-                sink,
-            }),
-            Err(_) => Err(NoMemory),
-        }
+        let alloc = self.alloc;
+        let (a, b) = self.into_disks();
+        let a = left_on(a, pick)?;
+        let b = left_on(b, pick)?;
+        opened_on(rt, alloc, a, b)
+    }
+
+    // Both disks, without their fuses.
+    fn into_disks(self) -> (MemDisk, MemDisk)
+        ensures a { memory_state result.0 ≡ self.world.disks.a.bytes }
+        ensures b { memory_state result.1 ≡ self.world.disks.b.bytes }
+    {
+        (self.a.into_inner(), self.b.into_inner())
+    }
+}
+
+// What a crash leaves on a disk that never failed by itself.
+fn left_on(disk: MemDisk, pick: Pick) -> Result<FuseDisk<MemDisk>, NoMemory>
+    ensures { IfOk result (λ left. MayLeave (memory_state disk) (fused_disk left).bytes.seen) }
+{
+    if disk.faults() != 0 {
+        return Err(NoMemory);
+    }
+    Ok(FuseDisk::new(disk.crash(pick)?, NEVER))
+}
+
+// The post of the ledger on these disks.
+fn opened_on<R: Threads>(
+    rt: &R,
+    alloc: Global,
+    mut a: FuseDisk<MemDisk>,
+    mut b: FuseDisk<MemDisk>,
+) -> Result<Post, NoMemory>
+    ensures holds { IfOk result (λ post. (h : History)
+        → PairFor (fused_disk a).bytes.seen (fused_disk b).bytes.seen h → Holds true post.world h) }
+    ensures dues { IfOk result (λ post. post.world.kept.dues ≡ []) }
+    ensures open { IfOk result (λ post. post.ended ≡ false) }
+{
+    let sink = new_sink(alloc)?;
+    match reopen(rt, alloc, &mut a, &mut b, Limits::real()) {
+        Ok(opened) => Ok(Post {
+            alloc,
+            committer: Committer::new(alloc, opened),
+            a,
+            b,
+            sink,
+        }),
+        Err(_) => Err(NoMemory),
     }
 }

@@ -8,6 +8,7 @@ ghost use Rattle.script_lines.specs.Replies.{reply_text};
 ghost use Rattle.ledger_soak.specs.Auditing.{Follows};
 ghost use Rattle.ledger_soak.specs.Posts.{notary_state};
 ghost use Rattle.journal_record.specs.Tags.{tag_key_of};
+ghost use Rattle.ledger_model.specs.Genesis.{new_ledger};
 ghost use Rattle.ledger_model.specs.History.{History, id, size};
 ghost use Rattle.ledger_model.specs.Rules.{job_of};
 ghost use Rattle.ledger_model.specs.Step.{Step};
@@ -319,12 +320,23 @@ fn founded(alloc: Global, notary: &mut MemNotary) -> Result<Post, NoMemory>
     ensures { IfOk result (λ post. IsReady post (notary_state notary.new)) }
 {
     let mut post = Post::found(alloc, &founders(alloc)?)?;
+    place_members(alloc, &mut post, notary)?;
+    Ok(post)
+}
+
+// Places the members in one window.
+fn place_members(alloc: Global, post: &mut Post, notary: &mut MemNotary) -> Result<(), NoMemory>
+    requires open { post.old.ended ≡ false }
+    requires silent { notary_state notary.old ≡ silent_notary }
+    ensures { OnOk result (Holds true post.old.world (new_ledger soak_genesis)
+        → IsReady post.new (notary_state notary.new)) }
+{
     let [second, third, fourth] = MEMBERS;
-    place(alloc, &mut post, notary, second)?;
-    place(alloc, &mut post, notary, third)?;
-    place(alloc, &mut post, notary, fourth)?;
+    place(alloc, post, notary, second)?;
+    place(alloc, post, notary, third)?;
+    place(alloc, post, notary, fourth)?;
     match post.flush() {
-        Ok(()) if notary.faults() == 0 => Ok(post),
+        Ok(()) if notary.faults() == 0 => Ok(()),
         _ => Err(NoMemory),
     }
 }

@@ -129,16 +129,15 @@ fn take(book: &mut Book, header: &Header) -> Result<Result<(), Damage>, Fail> {
     Ok(book.replay(&header, &leaf_of::<Sha>(&header.encode()))?)
 }
 
-/// A book made of the headers of another, one after the other.
-fn replayed(alloc: Global, book: &Book) -> Result<Book, Fail> {
-    let mut again = begun(alloc, book.header(0).ok_or("no header")?)?;
+/// Replays the headers of a book behind its first.
+fn take_all(again: &mut Book, book: &Book) -> Result<(), Fail> {
     for number in 1..book.head().size {
         let header = book.header(number).ok_or("no header")?;
-        if take(&mut again, header)? != Ok(()) {
+        if take(again, header)? != Ok(()) {
             return Err("a header isn't taken".into());
         }
     }
-    Ok(again)
+    Ok(())
 }
 
 /// The last header, under the number behind it.
@@ -157,7 +156,16 @@ pub(crate) fn replayed_twice(
     book: &Book,
     number: u64,
 ) -> Result<(View, Result<(), Damage>), Fail> {
-    let mut again = replayed(alloc, book)?;
-    let told = take(&mut again, &once_more(book)?)?;
+    let mut again = begun(alloc, book.header(0).ok_or("no header")?)?;
+    replay_twice(&mut again, book, number)
+}
+
+fn replay_twice(
+    again: &mut Book,
+    book: &Book,
+    number: u64,
+) -> Result<(View, Result<(), Damage>), Fail> {
+    take_all(again, book)?;
+    let told = take(again, &once_more(book)?)?;
     Ok((again.view(number), told))
 }

@@ -2,6 +2,7 @@ use hex::FromHex;
 use ledger_bytes::{Bytes, Digest, NoMemory, Refusal};
 use member_book::{Approval, MemberBook, TagScheme, Verifier, tag_proof};
 use std::alloc::Global;
+use std::process::Abort;
 use std::test::Fail;
 
 const OPERATOR: Digest = Digest([1; 32]);
@@ -49,48 +50,55 @@ fn book_of_four(alloc: Global) -> Result<MemberBook, Fail> {
     Ok(book)
 }
 
+const ZEROS: &str = "0000000000000000000000000000000000000000000000000000000000000000";
+
+/// A key's byte, a message, and the tag that the key gives of it.
+const TAGS: [(u8, &str, &str); 6] = [
+    (
+        1,
+        ZEROS,
+        "3a7ebc4c53c272a4d0f660c4dee58a9dbf989926c3ad6e257533645ddc5d16b1",
+    ),
+    (
+        1,
+        MESSAGE,
+        "aaa75ef4da672330b66e9401e613ac025eaf32aaf26ad46b4d2bcd297702a7a7",
+    ),
+    (
+        2,
+        ZEROS,
+        "e24da572e6c4d72ff03be379cc622188ab12ec5188986802d9212bf18ee6e274",
+    ),
+    (
+        2,
+        MESSAGE,
+        "672bbb166e81679963947ff56842083be0a1a621c5609cfe06093bc260874345",
+    ),
+    (
+        3,
+        ZEROS,
+        "95cd763a494e5205065a28cb18e34ebbc34500d537dd221f9b90382a7c860918",
+    ),
+    (
+        3,
+        MESSAGE,
+        "4732a374fb99abd29ca12147577a8062516245c146c1341844644fed7149f875",
+    ),
+];
+
 #[test]
 fn tag_proofs(rt: HostRuntime) -> Result<(), Fail> {
-    let zeros = "0000000000000000000000000000000000000000000000000000000000000000";
-    for (byte, message, tag) in [
-        (
-            1,
-            zeros,
-            "3a7ebc4c53c272a4d0f660c4dee58a9dbf989926c3ad6e257533645ddc5d16b1",
-        ),
-        (
-            1,
-            MESSAGE,
-            "aaa75ef4da672330b66e9401e613ac025eaf32aaf26ad46b4d2bcd297702a7a7",
-        ),
-        (
-            2,
-            zeros,
-            "e24da572e6c4d72ff03be379cc622188ab12ec5188986802d9212bf18ee6e274",
-        ),
-        (
-            2,
-            MESSAGE,
-            "672bbb166e81679963947ff56842083be0a1a621c5609cfe06093bc260874345",
-        ),
-        (
-            3,
-            zeros,
-            "95cd763a494e5205065a28cb18e34ebbc34500d537dd221f9b90382a7c860918",
-        ),
-        (
-            3,
-            MESSAGE,
-            "4732a374fb99abd29ca12147577a8062516245c146c1341844644fed7149f875",
-        ),
-    ] {
-        let key = Digest([byte; 32]);
+    for (byte, message, tag) in &TAGS {
+        let key = Digest([*byte; 32]);
         let message = digest(message)?;
+        let tag = digest(tag)?;
         let proof = tag_proof(&key, &message);
-        assert_eq!(rt; proof[..32], key.0[..]);
-        assert_eq!(rt; proof[32..], digest(tag)?.0[..]);
-        assert_eq!(rt; TagScheme.key_of(&message, &proof), Some(key));
-        assert_eq!(rt; TagScheme.key_of(&key, &proof), None);
+        assert!(rt;
+            proof[..32] == key.0[..] && proof[32..] == tag.0[..],
+            "{tag:?}"
+        );
+        assert!(rt; TagScheme.key_of(&message, &proof) == Some(key), "{tag:?}");
+        assert!(rt; TagScheme.key_of(&key, &proof) == None, "{tag:?}");
     }
     Ok(())
 }
@@ -108,83 +116,116 @@ fn check(alloc: Global, given: &[(u32, u8)], needed: &[u32]) -> Result<Result<()
     Ok(book.check_approvals(&approvals, needed))
 }
 
-#[test]
-fn approvals_in_order(rt: HostRuntime) -> Result<(), Fail> {
-    let alloc = rt.alloc();
-    let ascending = [(0, 1), (1, 2), (2, 3)];
-    assert_eq!(rt; check(alloc, &ascending, &[0, 1])?, Ok(()));
-    assert_eq!(rt; check(alloc, &[], &[])?, Ok(()));
-    for (given, at) in [
-        (&[(1, 2), (0, 1), (9, 9)], 1),
-        (&[(0, 1), (2, 3), (2, 3)], 2),
-        (&[(0, 1), (9, 1), (1, 1)], 2),
-    ] {
-        assert_eq!(rt;
-            check(alloc, given, &[3])?,
-            Err(Refusal::ApprovalOrder { at })
-        );
-    }
-    Ok(())
-}
+/// Members with the byte of the key that each approval shows, who is needed, and what is answered.
+type Judged = (&'static [(u32, u8)], &'static [u32], Result<(), Refusal>);
+
+// The order comes before members, members before keys, and these before who is missing.
+const JUDGED: [Judged; 10] = [
+    (&[(0, 1), (1, 2), (2, 3)], &[0, 1], Ok(())),
+    (&[], &[], Ok(())),
+    (
+        &[(1, 2), (0, 1), (9, 9)],
+        &[3],
+        Err(Refusal::ApprovalOrder { at: 1 }),
+    ),
+    (
+        &[(0, 1), (2, 3), (2, 3)],
+        &[3],
+        Err(Refusal::ApprovalOrder { at: 2 }),
+    ),
+    (
+        &[(0, 1), (9, 1), (1, 1)],
+        &[3],
+        Err(Refusal::ApprovalOrder { at: 2 }),
+    ),
+    (
+        &[(0, 9), (4, 5), (5, 6)],
+        &[1],
+        Err(Refusal::UnknownMember { member: 4 }),
+    ),
+    (
+        &[(0, 1), (2, 4), (3, 3)],
+        &[1],
+        Err(Refusal::WrongKey { member: 2 }),
+    ),
+    (&[(0, 1), (2, 3)], &[2, 0], Ok(())),
+    (
+        &[(0, 1), (2, 3)],
+        &[3, 0, 1],
+        Err(Refusal::MissingApproval { member: 1 }),
+    ),
+    (
+        &[(0, 1), (2, 3)],
+        &[2, 3],
+        Err(Refusal::MissingApproval { member: 3 }),
+    ),
+];
 
 #[test]
-fn members_of_approvals(rt: HostRuntime) -> Result<(), Fail> {
-    let alloc = rt.alloc();
-    let unknown = [(0, 9), (4, 5), (5, 6)];
-    assert_eq!(rt;
-        check(alloc, &unknown, &[1])?,
-        Err(Refusal::UnknownMember { member: 4 })
-    );
-    let wrong = [(0, 1), (2, 4), (3, 3)];
-    assert_eq!(rt;
-        check(alloc, &wrong, &[1])?,
-        Err(Refusal::WrongKey { member: 2 })
-    );
-    let given = [(0, 1), (2, 3)];
-    assert_eq!(rt; check(alloc, &given, &[2, 0])?, Ok(()));
-    assert_eq!(rt;
-        check(alloc, &given, &[3, 0, 1])?,
-        Err(Refusal::MissingApproval { member: 1 })
-    );
-    assert_eq!(rt;
-        check(alloc, &given, &[2, 3])?,
-        Err(Refusal::MissingApproval { member: 3 })
-    );
+fn approvals_are_judged(rt: HostRuntime) -> Result<(), Fail> {
+    for (given, needed, wanted) in &JUDGED {
+        assert_eq!(rt; check(rt.alloc(), given, needed)?, *wanted, "{given:?}");
+    }
     Ok(())
 }
 
 #[test]
 fn a_full_book(rt: HostRuntime) -> Result<(), Fail> {
-    let alloc = rt.alloc();
-    let mut book = MemberBook::new(alloc, &OPERATOR, &REGULATOR)?;
+    let mut book = MemberBook::new(rt.alloc(), &OPERATOR, &REGULATOR)?;
+    fill(&rt, &mut book)?;
+    count_all(&rt, &book);
+    approve_by_all(&rt, rt.alloc(), &book)
+}
+
+/// Admits members until the book is full.
+fn fill(rt: &impl Abort, book: &mut MemberBook) -> Result<(), Fail> {
     assert_eq!(rt;
-        add(&mut book, 3, OPERATOR, 2)?,
+        add(book, 3, OPERATOR, 2)?,
         Some(Refusal::MemberNumber { next: 2 })
     );
     for number in 2..256 {
         let key = Digest([number as u8; 32]);
-        assert_eq!(rt; add(&mut book, number, key, u64::from(number))?, None);
+        assert_eq!(rt; add(book, number, key, u64::from(number))?, None);
     }
     for number in [256, 9] {
-        let refusal = add(&mut book, number, OPERATOR, 256)?;
-        assert_eq!(rt; refusal, Some(Refusal::MembersFull));
+        assert_eq!(rt;
+            add(book, number, OPERATOR, 256)?,
+            Some(Refusal::MembersFull)
+        );
     }
+    Ok(())
+}
+
+/// Counts the members of a full book, and looks up keys.
+fn count_all(rt: &impl Abort, book: &MemberBook) {
     assert_eq!(rt; book.count(), 256);
     assert_eq!(rt; book.key(255), Some(Digest([255; 32])));
     assert_eq!(rt; book.key(256), None);
     for (p, count) in [(0, 2), (2, 2), (3, 3), (255, 255), (256, 256)] {
         assert_eq!(rt; book.count_at(p), count, "at {p}");
     }
+}
+
+/// An approval of each of 256 members, of which that of the regulator shows a key of this byte.
+fn approvals_of_all(alloc: Global, regulator: u8) -> Result<Vec<Approval>, Fail> {
     let mut given = Vec::new(alloc);
     for number in 0..256_u32 {
-        given.push(approval(alloc, number, u8::max(number as u8, 1))?)?;
+        let byte = match number {
+            0 => 1,
+            1 => regulator,
+            _ => number as u8,
+        };
+        given.push(approval(alloc, number, byte)?)?;
     }
-    assert_eq!(rt; given.len(), 256);
-    assert_eq!(rt;
-        book.check_approvals(&given, &[255, 0]),
-        Err(Refusal::WrongKey { member: 1 })
-    );
-    given[1] = approval(alloc, 1, 2)?;
-    assert_eq!(rt; book.check_approvals(&given, &[255, 0]), Ok(()));
+    Ok(given)
+}
+
+/// The approvals of all members of a full book.
+fn approve_by_all(rt: &impl Abort, alloc: Global, book: &MemberBook) -> Result<(), Fail> {
+    for (regulator, wanted) in [(1, Err(Refusal::WrongKey { member: 1 })), (2, Ok(()))] {
+        let given = approvals_of_all(alloc, regulator)?;
+        assert_eq!(rt; given.len(), 256);
+        assert_eq!(rt; book.check_approvals(&given, &[255, 0]), wanted);
+    }
     Ok(())
 }

@@ -63,10 +63,14 @@ fn hide(rt: &impl Abort, alloc: Global, book: &mut Book) -> Result<(), Fail> {
 
 #[test]
 fn an_occult_is_replayed_once(rt: HostRuntime) -> Result<(), Fail> {
-    let alloc = rt.alloc();
-    let mut book = ledger(alloc)?;
-    apply(alloc, &mut book, OCCULT, Digest::ZERO)?;
-    let (view, told) = replayed_twice(alloc, &book, 2)?;
+    let mut book = ledger(rt.alloc())?;
+    hide_and_replay(&rt, rt.alloc(), &mut book)
+}
+
+/// Hides the content of the record, and replays the ledger's headers, the last one twice.
+fn hide_and_replay(rt: &impl Abort, alloc: Global, book: &mut Book) -> Result<(), Fail> {
+    apply(alloc, book, OCCULT, Digest::ZERO)?;
+    let (view, told) = replayed_twice(alloc, book, 2)?;
     assert!(rt; view == View::Occulted && told == Err(Damage::Entry { jsn: 4 }));
     Ok(())
 }

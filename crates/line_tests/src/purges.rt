@@ -86,11 +86,16 @@ fn give_up(rt: &impl Abort, alloc: Global, book: &mut Book) -> Result<(), Fail> 
 
 #[test]
 fn a_purge_is_replayed_once(rt: HostRuntime) -> Result<(), Fail> {
-    let alloc = rt.alloc();
-    let mut book = ledger(alloc)?;
-    apply(alloc, &mut book, PURGE, digest(SALT)?)?;
-    assert!(rt; leaf(&book, 3)? == digest(TIME_LEAF)?);
-    let (view, told) = replayed_twice(alloc, &book, 2)?;
+    let mut book = ledger(rt.alloc())?;
+    give_up_and_replay(&rt, rt.alloc(), &mut book)
+}
+
+/// Purges the ledger, and replays its headers, the last one twice.
+fn give_up_and_replay(rt: &impl Abort, alloc: Global, book: &mut Book) -> Result<(), Fail> {
+    apply(alloc, book, PURGE, digest(SALT)?)?;
+    let time_leaf = digest(TIME_LEAF)?;
+    assert!(rt; leaf(book, 3)? == time_leaf);
+    let (view, told) = replayed_twice(alloc, book, 2)?;
     assert!(rt; view == View::Purged { point: 3 } && told == Err(Damage::Entry { jsn: 6 }));
     Ok(())
 }

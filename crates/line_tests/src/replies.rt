@@ -52,7 +52,7 @@ fn check(
 }
 
 #[test]
-fn writes_stamps_and_occulted_journals(rt: HostRuntime) -> Result<(), Fail> {
+fn writes_stamps(rt: HostRuntime) -> Result<(), Fail> {
     let stamped = Reply::Placed {
         jsn: 2,
         leaf: digest("5e709f58ad3426700677d797d0267ed38e8c242bbe75ce422c050fc1a0185f6a")?,
@@ -69,7 +69,11 @@ fn writes_stamps_and_occulted_journals(rt: HostRuntime) -> Result<(), Fail> {
         &[
             "0.18446744073709551615 ok 2 5e709f58ad3426700677d797d0267ed38e8c242bbe75ce422c050fc1a0185f6a 2 3 c7faadd5cd3f0039410d655fff2dce12e16ec35f850c863542f14ff18c33c7fb 1 2000\n",
         ],
-    )?;
+    )
+}
+
+#[test]
+fn writes_occulted_journals(rt: HostRuntime) -> Result<(), Fail> {
     let occulted = Reply::Occulted {
         header: <[u8; 174]>::from_hex(OCCULTED)?,
         who: bytes_of(rt.alloc(), WHO)?,
@@ -84,7 +88,7 @@ fn writes_stamps_and_occulted_journals(rt: HostRuntime) -> Result<(), Fail> {
 }
 
 #[test]
-fn writes_proofs_and_extensions(rt: HostRuntime) -> Result<(), Fail> {
+fn writes_proofs(rt: HostRuntime) -> Result<(), Fail> {
     let proof = Reply::Proof {
         n: 0,
         leaf: digest(ID)?,
@@ -98,39 +102,29 @@ fn writes_proofs_and_extensions(rt: HostRuntime) -> Result<(), Fail> {
         3,
         &proof,
         &["0.3 proof 0 ", ID, " - 2:0:1000 ", PROOF, "\n"],
-    )?;
-    let extension = Reply::Extension {
-        which: Which::Ledger,
-        m: 3,
-        size: 6,
-        root: digest(ROOT_OF_SIX)?,
-        proof: bytes_of(rt.alloc(), EXTENSION)?,
-    };
-    check(
-        &rt,
-        rt.alloc(),
-        11,
-        &extension,
-        &[
-            "0.11 extension ledger 3 6 ",
-            ROOT_OF_SIX,
-            " ",
-            EXTENSION,
-            "\n",
-        ],
-    )?;
-    let none = Reply::Extension {
-        which: Which::Ledger,
-        m: 6,
-        size: 6,
-        root: digest(ROOT_OF_SIX)?,
-        proof: Bytes::of(Vec::new(rt.alloc())),
-    };
-    check(
-        &rt,
-        rt.alloc(),
-        12,
-        &none,
-        &["0.12 extension ledger 6 6 ", ROOT_OF_SIX, " -\n"],
     )
+}
+
+#[test]
+fn writes_extensions(rt: HostRuntime) -> Result<(), Fail> {
+    for (m, front, proof, told) in [
+        (3, "0.11 extension ledger 3 6 ", EXTENSION, EXTENSION),
+        (6, "0.11 extension ledger 6 6 ", "", "-"),
+    ] {
+        let extension = Reply::Extension {
+            which: Which::Ledger,
+            m,
+            size: 6,
+            root: digest(ROOT_OF_SIX)?,
+            proof: bytes_of(rt.alloc(), proof)?,
+        };
+        check(
+            &rt,
+            rt.alloc(),
+            11,
+            &extension,
+            &[front, ROOT_OF_SIX, " ", told, "\n"],
+        )?;
+    }
+    Ok(())
 }

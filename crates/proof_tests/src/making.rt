@@ -159,22 +159,23 @@ fn place_anchor(alloc: Global, book: &mut Book, notary: &mut MemNotary) -> Resul
     Ok(())
 }
 
-/// Whether each proof of the ledger is told, when it's new, when it has a record and when an anchor stands behind it.
-fn is_proved(
+/// Each proof of the ledger is told, when it's new, when it has a record and when an anchor stands behind it.
+fn prove_each(
     rt: &impl Abort,
     alloc: Global,
     book: &mut Book,
     notary: &mut MemNotary,
-) -> Result<bool, Fail> {
+) -> Result<(), Fail> {
     book.seal();
     let alone = [Ok(ALONE), Err(Refusal::NoJournal { size: 1 })];
-    let is_alone = is_told(alloc, book, notary, &alone)?;
+    assert!(rt; is_told(alloc, book, notary, &alone)?);
     place_record(rt, alloc, book)?;
     let both = [Ok(FIRST), Ok(SECOND), Err(Refusal::NoJournal { size: 2 })];
-    let are_both = is_told(alloc, book, notary, &both)?;
+    assert!(rt; is_told(alloc, book, notary, &both)?);
     place_anchor(alloc, book, notary)?;
     let bounded = [Ok(FIRST_BOUNDED), Ok(SECOND_BOUNDED), Ok(ANCHOR)];
-    Ok(is_alone && are_both && is_told(alloc, book, notary, &bounded)?)
+    assert!(rt; is_told(alloc, book, notary, &bounded)?);
+    Ok(())
 }
 
 #[test]
@@ -182,8 +183,7 @@ fn proves_each_journal_of_a_small_ledger(rt: HostRuntime) -> Result<(), Fail> {
     let alloc = rt.alloc();
     let mut book = demo(alloc)?;
     let mut notary = MemNotary::new(alloc, Vec::new(alloc));
-    assert!(rt; is_proved(&rt, alloc, &mut book, &mut notary)?);
-    Ok(())
+    prove_each(&rt, alloc, &mut book, &mut notary)
 }
 
 /// The leaf of that record, which is the proof that the ledger with both journals goes on from the first.
@@ -218,15 +218,19 @@ fn is_extended(
 
 #[test]
 fn extends_each_head_of_a_small_ledger(rt: HostRuntime) -> Result<(), Fail> {
-    let alloc = rt.alloc();
-    let mut book = demo(alloc)?;
-    place_record(&rt, alloc, &mut book)?;
+    let mut book = demo(rt.alloc())?;
+    extend_each_head(&rt, rt.alloc(), &mut book)
+}
+
+/// The ledger with a record goes on from each size up to its own.
+fn extend_each_head(rt: &impl Abort, alloc: Global, book: &mut Book) -> Result<(), Fail> {
+    place_record(rt, alloc, book)?;
     let head = Head {
         size: 2,
         root: Digest(<[u8; 32]>::from_hex(BOTH)?),
     };
     let none = Err(Refusal::BadSize { size: 2 });
-    assert!(rt; is_extended(alloc, &book, &head, &[none, Ok(LEAF), Ok(""), none])?);
+    assert!(rt; is_extended(alloc, book, &head, &[none, Ok(LEAF), Ok(""), none])?);
     Ok(())
 }
 
@@ -311,8 +315,19 @@ fn an_auditor_accepts_what_is_made(rt: HostRuntime) -> Result<(), Fail> {
     let mut book = demo(alloc)?;
     let mut notary = MemNotary::new(alloc, Vec::new(alloc));
     let mut heads = Heads::new(alloc);
+    accept_as_it_grows(&rt, alloc, &mut book, &mut notary, &mut heads)
+}
+
+/// Accepts all of the ledger behind each of five anchors.
+fn accept_as_it_grows(
+    rt: &impl Abort,
+    alloc: Global,
+    book: &mut Book,
+    notary: &mut MemNotary,
+    heads: &mut Heads,
+) -> Result<(), Fail> {
     for anchors in 1..=5 {
-        assert!(rt; is_accepted_behind(&rt, alloc, &mut book, &mut notary, &mut heads, anchors)?);
+        assert!(rt; is_accepted_behind(rt, alloc, book, notary, heads, anchors)?);
     }
     Ok(())
 }

@@ -4,6 +4,7 @@ use ledger_disk::{Disk, FuseDisk, MemDisk, Pick};
 use merkle_tree::Head;
 use notary_ledger::{Clock, ListClock, LocalNotary, MemNotary, RealClock};
 use std::alloc::Global;
+use std::process::Abort;
 use std::test::Fail;
 use time_peg::{Notary, NotaryErr, peg_of};
 
@@ -78,25 +79,39 @@ fn times_never_fall(rt: HostRuntime) -> Result<(), Fail> {
     Ok(())
 }
 
+// How many entries a notary has that is opened on what a crash left of this disk.
+fn size_after(alloc: Global, disk: &MemDisk, pick: Pick) -> Result<u64, Fail> {
+    let mut notary = reopened(alloc, disk.crash(pick)?, Vec::new(alloc))?;
+    Ok(notary.head()?.size)
+}
+
+// How many of three stamps answered Ok on a disk that stops after so many calls, and how many entries are there where all that
+// was written is left, nothing of it, and any bytes in its place.
+fn stopped_after(alloc: Global, left: u64) -> Result<(u64, [u64; 3]), Fail> {
+    let disk = MemDisk::new(alloc, 300, Vec::new(alloc))?;
+    let (stamped, disk) = stamped_until_a_stop(alloc, FuseDisk::new(disk, left))?;
+    let mut sizes = [0; 3];
+    let picks = [Pick::AllWritten, Pick::NoneWritten, Pick::Torn(left)];
+    for (size, pick) in sizes.iter_mut().zip(picks) {
+        *size = size_after(alloc, &disk, pick)?;
+    }
+    Ok((stamped, sizes))
+}
+
 // Of the calls that a fuse counts a notary takes three to begin and five for each stamp. Where it stops behind the write of a gate, and what was written
 // is left, the entry of the stamp that didn't answer is there.
 #[test]
 fn a_stop_leaves_each_entry_that_was_told(rt: HostRuntime) -> Result<(), Fail> {
-    let alloc = rt.alloc();
     for left in 0..=18_u64 {
-        let disk = MemDisk::new(alloc, 300, Vec::new(alloc))?;
-        let (stamped, disk) = stamped_until_a_stop(alloc, FuseDisk::new(disk, left))?;
-        assert_eq!(rt; stamped, left.saturating_sub(3) / 5);
-        for (pick, size) in [
-            (Pick::AllWritten, left.saturating_sub(2) / 5),
-            (Pick::NoneWritten, stamped),
-        ] {
-            let mut again = reopened(alloc, disk.crash(pick)?, Vec::new(alloc))?;
-            assert_eq!(rt; again.head()?.size, size, "{pick:?} after {left}");
-        }
-        let mut torn = reopened(alloc, disk.crash(Pick::Torn(left))?, Vec::new(alloc))?;
-        let size = torn.head()?.size;
-        assert!(rt; size == stamped || size == stamped.saturating_add(1));
+        let (stamped, sizes) = stopped_after(rt.alloc(), left)?;
+        let [all, none, torn] = sizes;
+        assert_eq!(rt; stamped, left.saturating_sub(3) / 5, "after {left}");
+        assert_eq!(rt;
+            (all, none),
+            (left.saturating_sub(2) / 5, stamped),
+            "after {left}"
+        );
+        assert!(rt; torn == stamped || torn == stamped.saturating_add(1));
     }
     Ok(())
 }
@@ -107,34 +122,32 @@ fn a_stamp_that_failed_is_made_good(rt: HostRuntime) -> Result<(), Fail> {
     // Call 8 is the first stamp's last, the sync behind its open gate.
     let disk = MemDisk::new(alloc, 300, [8].to_vec(alloc)?)?;
     let mut notary = reopened(alloc, disk, [1, 2].to_vec(alloc)?)?;
-    let failed = stamped_time(alloc, &mut notary);
-    let size = notary.head()?.size;
+    stamp_twice(&rt, alloc, &mut notary)?;
+    assert_eq!(rt; notary.into_disk().bytes()?.as_slice().len(), 74);
+    Ok(())
+}
+
+// The first stamp fails, and the next one is the first that counts.
+fn stamp_twice<N: Notary>(rt: &impl Abort, alloc: Global, notary: &mut N) -> Result<(), Fail> {
+    let failed = stamped_time(alloc, notary);
+    assert_eq!(rt; (failed, notary.head()?.size), (Err(NotaryErr::Failed), 0));
     let stamp = notary.stamp(alloc, &PEG)?;
-    let faults = notary.faults();
-    let bytes = notary.into_disk().bytes()?;
-    assert_eq!(rt;
-        (
-            failed,
-            size,
-            stamp.index,
-            stamp.time,
-            faults,
-            bytes.as_slice().len()
-        ),
-        (Err(NotaryErr::Failed), 0, 0, 2, 1, 74)
-    );
+    assert_eq!(rt; (stamp.index, stamp.time, notary.faults()), (0, 2, 1));
     Ok(())
 }
 
 // The first entry of a notary in memory, with the peg of a ledger of two journals.
 #[test]
 fn a_notary_in_memory_fails_where_it_is_told(rt: HostRuntime) -> Result<(), Fail> {
-    let alloc = rt.alloc();
+    let mut notary = MemNotary::new(rt.alloc(), [0].to_vec(rt.alloc())?);
+    stamp_worked_peg(&rt, rt.alloc(), &mut notary)
+}
+
+fn stamp_worked_peg(rt: &impl Abort, alloc: Global, notary: &mut MemNotary) -> Result<(), Fail> {
     let id = digest("64915354a6547b1f887e596e872fd13b2abdc860729da9fe31180a81726cf4a2")?;
     let root = digest("89713d47487c9be9875bd8f6a471f021f10440bea34709c459dce3a170313951")?;
     let peg = peg_of::<Sha>(&id, 2, &root);
-    let mut notary = MemNotary::new(alloc, [0].to_vec(alloc)?);
-    let failed = stamped_time(alloc, &mut notary);
+    let failed = stamped_time(alloc, notary);
     let stamp = notary.stamp(alloc, &peg)?;
     let salt = digest("8b3b30a051bca9ec8bacbfaf3a351389842d99f1769a4959994077e9ec8d8757")?;
     let root = digest("70f8401b84cf76c926c415bdf912718f30518dcb518d3493aad2f17ce92b2cd8")?;

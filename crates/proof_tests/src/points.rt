@@ -85,21 +85,35 @@ fn reads_what_it_spells(rt: HostRuntime) -> Result<(), Fail> {
         ),
     ] {
         let bytes = hex::decode(rt.alloc(), text)?;
-        let base = Base::decode(rt.alloc(), bytes.as_slice()).map_err(|_| "not read")?;
-        assert!(rt; base.point == point && base.blocks == blocks);
-        assert!(rt; base.peaks.as_slice().len() == peaks);
-        assert!(rt; base.keys.as_slice().len() == keys);
-        assert!(rt; base.clues.as_slice().len() == clues);
-        assert_eq!(rt; base.encode(rt.alloc())?.as_slice(), bytes.as_slice());
+        let counts = counts_of(rt.alloc(), bytes.as_slice())?;
+        assert_eq!(rt; counts, (point, blocks, [peaks, keys, clues]), "at {point}");
         assert_eq!(rt; base_digest::<Sha>(bytes.as_slice()), digest(digest_of)?);
     }
     Ok(())
+}
+
+/// The point, the blocks, and how many peaks, keys and clues the base with these bytes has, which is spelled by them again.
+fn counts_of(alloc: Global, bytes: &[u8]) -> Result<(u64, u64, [usize; 3]), Fail> {
+    let base = Base::decode(alloc, bytes).map_err(|_| "not read")?;
+    if base.encode(alloc)?.as_slice() != bytes {
+        return Err("spelled otherwise".into());
+    }
+    let lists = [
+        base.peaks.as_slice().len(),
+        base.keys.as_slice().len(),
+        base.clues.as_slice().len(),
+    ];
+    Ok((base.point, base.blocks, lists))
 }
 
 #[test]
 fn reads_each_part(rt: HostRuntime) -> Result<(), Fail> {
     let bytes = hex::decode(rt.alloc(), LARGE)?;
     let base = Base::decode(rt.alloc(), bytes.as_slice()).map_err(|_| "not read")?;
+    has_each_part(&rt, &base)
+}
+
+fn has_each_part(rt: &impl Abort, base: &Base) -> Result<(), Fail> {
     let id = digest("64915354a6547b1f887e596e872fd13b2abdc860729da9fe31180a81726cf4a2")?;
     assert_eq!(rt; base.id, id);
     let peak = digest("10f67beb0c0faf4e00aaaff6e820595083329634ae31351e0a8f00c182428be6")?;

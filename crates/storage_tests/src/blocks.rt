@@ -3,9 +3,10 @@ ghost use Rattle.std.specs.Prelude.{◌^◌, ◌<◌};
 use block_file::{BlockAt, BlockFile, Damage, FileErr, FileHead};
 use hex::FromHex;
 use journal_record::Kind;
-use ledger_bytes::Digest;
+use ledger_bytes::{Bytes, Digest};
 use ledger_disk::{Disk, FuseDisk, MemDisk, Pick};
 use std::alloc::Global;
+use std::process::Abort;
 use std::test::Fail;
 
 // The file of a new ledger: no base, and one block of one journal with a content of 64 bytes.
@@ -129,27 +130,38 @@ fn count_blocks(alloc: Global, disk: &mut MemDisk) -> Result<u32, FileErr> {
 
 #[test]
 fn a_new_file_is_written_and_read(rt: HostRuntime) -> Result<(), Fail> {
-    let alloc = rt.alloc();
+    let mut disk = disk_of(rt.alloc(), b"what was there before")?;
+    write_new(&rt, rt.alloc(), &mut disk)?;
+    read_new(&rt, rt.alloc(), &mut disk)
+}
+
+/// Writes the file of a new ledger, which has the bytes of `NEW`.
+fn write_new(rt: &impl Abort, alloc: Global, disk: &mut MemDisk) -> Result<(), Fail> {
     let new = decode_lines(alloc, &NEW)?;
-    let block = decode_lines(alloc, &BLOCK)?;
     assert_eq!(rt; new.len(), 352);
-    let mut disk = disk_of(alloc, b"what was there before")?;
-    BlockFile::start(&mut disk)?;
-    let mut file = BlockFile::create(&mut disk, 1, b"")?;
-    file.put_block(&mut disk, &new[65..351])?;
-    file.unveil(&mut disk)?;
+    BlockFile::start(disk)?;
+    let mut file = BlockFile::create(disk, 1, b"")?;
+    file.put_block(disk, &new[65..351])?;
+    file.unveil(disk)?;
     assert_eq!(rt; disk.bytes()?.as_slice(), new.as_slice());
     assert_eq!(rt; file.tail(), 351);
+    Ok(())
+}
 
+/// Reads its head and its block.
+fn read_new(rt: &impl Abort, alloc: Global, disk: &mut MemDisk) -> Result<(), Fail> {
     let head = FileHead {
         generation: 1,
         base_len: 0,
         base_digest: digest("ca358758f6d27e6cf45272937977a748fd88391db679ceda7dc7bf1f005ee879")?,
     };
-    assert_eq!(rt; BlockFile::head(&mut disk)?, Some(head));
-    let Some(read) = first_block(alloc, &mut disk, 0)? else {
-        return Ok(assert!(rt; false));
-    };
+    assert_eq!(rt; BlockFile::head(disk)?, Some(head));
+    has_first_journal(rt, &first_block(alloc, disk, 0)?.ok_or("no block")?)?;
+    assert_eq!(rt; count_blocks(alloc, disk)?, 1);
+    Ok(())
+}
+
+fn has_first_journal(rt: &impl Abort, read: &BlockAt) -> Result<(), Fail> {
     assert_eq!(rt; (read.at, read.len), (64, 286));
     let root = digest("64915354a6547b1f887e596e872fd13b2abdc860729da9fe31180a81726cf4a2")?;
     assert_eq!(rt; read.root, root);
@@ -159,51 +171,62 @@ fn a_new_file_is_written_and_read(rt: HostRuntime) -> Result<(), Fail> {
         assert_eq!(rt; (record.who_at, record.who_len), (351, 0));
     }
     assert_eq!(rt; read.records.as_slice().len(), 1);
-    assert_eq!(rt; count_blocks(alloc, &mut disk)?, 1);
     Ok(())
 }
 
+/// Commits a block behind that of `NEW`, where the disk stops after so many calls of the commit. Tells whether all was done
+/// without a fault, and what is left of the disk.
+fn commit_until_a_stop(
+    alloc: Global,
+    disk: MemDisk,
+    block: &[u8],
+    left: u64,
+) -> Result<(bool, MemDisk), Fail> {
+    let mut disk = disk;
+    let head = BlockFile::head(&mut disk)?.ok_or("no head")?;
+    let mut buffer = Vec::new(alloc);
+    let mut file = BlockFile::resume(&mut disk, &head)?;
+    file.next_block(alloc, &mut disk, &mut buffer, 0)?
+        .ok_or("no block")?;
+    let None = file.next_block(alloc, &mut disk, &mut buffer, 1)? else {
+        return Err("a second block".into());
+    };
+    let mut fuse = FuseDisk::new(disk, left);
+    let done = file.commit_block(&mut fuse, block);
+    let is_done = done.is_ok() && fuse.faults() == 0;
+    Ok((is_done, fuse.into_inner()))
+}
+
+/// How many blocks there are where all that was written is left on this disk, nothing of it, and any bytes in its place.
+fn blocks_left(alloc: Global, disk: &MemDisk) -> Result<[u32; 3], Fail> {
+    let mut counts = [0; 3];
+    let picks = [Pick::AllWritten, Pick::NoneWritten, Pick::Torn(1)];
+    for (count, pick) in counts.iter_mut().zip(picks) {
+        *count = count_blocks(alloc, &mut disk.crash(pick)?)?;
+    }
+    Ok(counts)
+}
+
 // How many blocks each image has where a commit is stopped after so many calls.
+const STOPPED: [(u64, [u32; 3]); 6] = [
+    (0, [1, 1, 1]),
+    (1, [1, 1, 1]),
+    (2, [1, 1, 1]),
+    (3, [1, 1, 1]),
+    (4, [2, 1, 1]),
+    (5, [2, 2, 2]),
+];
+
 #[test]
 fn a_commit_is_stopped_at_each_call(rt: HostRuntime) -> Result<(), Fail> {
     let alloc = rt.alloc();
     let new = decode_lines(alloc, &NEW)?;
     let block = decode_lines(alloc, &BLOCK)?;
-    for (left, all, none, torn) in [
-        (0, 1, 1, 1),
-        (1, 1, 1, 1),
-        (2, 1, 1, 1),
-        (3, 1, 1, 1),
-        (4, 2, 1, 1),
-        (5, 2, 2, 2),
-    ] {
-        let mut disk = disk_of(alloc, &new)?;
-        let Some(head) = BlockFile::head(&mut disk)? else {
-            return Ok(assert!(rt; false));
-        };
-        let mut buffer = Vec::new(alloc);
-        let mut file = BlockFile::resume(&mut disk, &head)?;
-        assert!(rt; file.next_block(alloc, &mut disk, &mut buffer, 0)?.is_some());
-        let None = file.next_block(alloc, &mut disk, &mut buffer, 1)? else {
-            return Ok(assert!(rt; false));
-        };
-        let mut fuse = FuseDisk::new(disk, left);
-        let done = file.commit_block(&mut fuse, &block);
-        assert_eq!(rt; done.is_ok(), left == 5);
-        assert_eq!(rt; fuse.faults() == 0, left == 5);
-        let disk = fuse.into_inner();
-        for (pick, want) in [
-            (Pick::AllWritten, all),
-            (Pick::NoneWritten, none),
-            (Pick::Torn(1), torn),
-        ] {
-            let mut image = disk.crash(pick)?;
-            assert_eq!(rt;
-                count_blocks(alloc, &mut image)?,
-                want,
-                "{pick:?} after {left}"
-            );
-        }
+    for (left, counts) in &STOPPED {
+        let disk = disk_of(alloc, &new)?;
+        let (is_done, disk) = commit_until_a_stop(alloc, disk, &block, *left)?;
+        let found = (is_done, blocks_left(alloc, &disk)?);
+        assert_eq!(rt; found, (*left == 5, *counts), "after {left}");
     }
     Ok(())
 }
@@ -212,27 +235,44 @@ fn a_commit_is_stopped_at_each_call(rt: HostRuntime) -> Result<(), Fail> {
 // last two by a sync alone the second time.
 #[test]
 fn a_file_with_a_base_is_copied(rt: HostRuntime) -> Result<(), Fail> {
-    let alloc = rt.alloc();
-    let purged = decode_lines(alloc, &PURGED)?;
-    let mut from = disk_of(alloc, &purged)?;
-    let Some(head) = BlockFile::head(&mut from)? else {
-        return Ok(assert!(rt; false));
-    };
-    assert_eq!(rt; (head.generation, head.base_len), (2, 215));
-    let base = BlockFile::resume(&mut from, &head)?.base(alloc, &mut from)?;
-    assert_eq!(rt; Some(base.as_slice()), purged.get(64..279));
-    assert!(rt; first_block(alloc, &mut from, 3)?.is_some_and(|block| block.at == 279));
+    let purged = decode_lines(rt.alloc(), &PURGED)?;
+    copy_and_clear(&rt, rt.alloc(), &purged)
+}
 
-    let mut disk = disk_of(alloc, b"")?;
+fn copy_and_clear(rt: &impl Abort, alloc: Global, purged: &[u8]) -> Result<(), Fail> {
+    let mut from = disk_of(alloc, purged)?;
+    let base = base_of(rt, alloc, &mut from)?;
+    assert_eq!(rt; Some(base.as_slice()), purged.get(64..279));
+    let bytes = cleared_copy(rt, disk_of(alloc, b"")?, &mut from, base.as_slice(), purged)?;
+    is_cleared(rt, bytes.as_slice(), purged);
+    Ok(())
+}
+
+/// The base of a file, whose first block stands behind it.
+fn base_of(rt: &impl Abort, alloc: Global, disk: &mut MemDisk) -> Result<Bytes, Fail> {
+    let head = BlockFile::head(disk)?.ok_or("no head")?;
+    assert_eq!(rt; (head.generation, head.base_len), (2, 215));
+    assert!(rt; first_block(alloc, disk, 3)?.is_some_and(|block| block.at == 279));
+    Ok(BlockFile::resume(disk, &head)?.base(alloc, disk)?)
+}
+
+/// What a disk holds to which base and blocks of another file were copied, and then ten bytes cleared.
+fn cleared_copy(
+    rt: &impl Abort,
+    mut disk: MemDisk,
+    from: &mut MemDisk,
+    base: &[u8],
+    purged: &[u8],
+) -> Result<Bytes, Fail> {
     BlockFile::start(&mut disk)?;
-    let mut file = BlockFile::create(&mut disk, 2, base.as_slice())?;
+    let mut file = BlockFile::create(&mut disk, 2, base)?;
     assert_eq!(rt; from.len()?, 1159);
-    file.put_range(&mut disk, &mut from, 279, 879)?;
+    file.put_range(&mut disk, from, 279, 879)?;
     file.unveil(&mut disk)?;
-    assert_eq!(rt; disk.bytes()?.as_slice(), purged.as_slice());
+    assert_eq!(rt; disk.bytes()?.as_slice(), purged);
 
     assert_eq!(rt; disk.len()?, 1159);
-    let mut piece = [0; 4];
+    let mut piece = [1; 4];
     file.read_range(&mut disk, 60, &mut piece)?;
     assert_eq!(rt; piece, [0, 0, 0, 0]);
     file.zero_range(&mut disk, 279, 10)?;
@@ -242,16 +282,23 @@ fn a_file_with_a_base_is_copied(rt: HostRuntime) -> Result<(), Fail> {
     assert_eq!(rt; fuse.len()?, 1159);
     file.zero_range(&mut fuse, 280, 9)?;
     file.trim(&mut fuse)?;
-    let bytes = fuse.into_inner().bytes()?;
-    let bytes = bytes.as_slice();
+    Ok(fuse.into_inner().bytes()?)
+}
+
+/// These are the bytes of that file but for ten that are zeros.
+fn is_cleared(rt: &impl Abort, bytes: &[u8], purged: &[u8]) {
     assert_eq!(rt; bytes.get(..279), purged.get(..279));
     assert_eq!(rt; bytes.get(279..289), Some([0; 10].as_slice()));
     assert_eq!(rt; bytes.get(289..), purged.get(289..));
+}
 
-    let mut from = changed_disk(alloc, &purged, &[(64, 0xfe)])?;
+#[test]
+fn a_changed_base_is_found(rt: HostRuntime) -> Result<(), Fail> {
+    let purged = decode_lines(rt.alloc(), &PURGED)?;
+    let mut from = changed_disk(rt.alloc(), &purged, &[(64, 0xfe)])?;
+    let told = first_block(rt.alloc(), &mut from, 3).err();
     let kept = digest("2a4f3bb2a8d77b22b9d180252a2a074a9cbc7278cc6d931e821222b583f6e516")?;
     let found = digest("dbacddfc836b5265f01047413581cd85a2b5743bcd4ab03ba25fac29c4b95d4a")?;
-    let told = first_block(alloc, &mut from, 3).err();
     assert_eq!(rt; told, Some(FileErr::Damaged(Damage::Base { kept, found })));
     Ok(())
 }

@@ -3,7 +3,10 @@ ghost use Rattle.twin_file.specs.Twin.{open_of};
 ghost use Rattle.twin_file.specs.Which.{in_a_of};
 
 use block_file::FileErr;
+use ledger_bytes::Bytes;
 use ledger_disk::{Disk, FuseDisk, MemDisk, Pick};
+use std::alloc::Global;
+use std::process::Abort;
 use std::test::Fail;
 use twin_file::Twin;
 
@@ -48,25 +51,40 @@ const WIPE_CALLS: u64 = 2;
 #[test]
 fn a_stop_leaves_the_old_file_or_the_new_one(rt: HostRuntime) -> Result<(), Fail> {
     for stop in 0..=COPY_CALLS + WIPE_CALLS {
-        let mut a = MemDisk::new(rt.alloc(), 100, Vec::new(rt.alloc()))?;
-        let mut b = MemDisk::new(rt.alloc(), 100, Vec::new(rt.alloc()))?;
-        let mut twin = Twin::make(&mut a, &mut b, &[7, 8, 9])?;
-        let mut a = FuseDisk::new(a, 1 + stop.saturating_sub(COPY_CALLS));
-        let mut b = FuseDisk::new(b, stop);
-        let done = take_over(&mut twin, &mut a, &mut b, &[5], 64, 4);
-        assert_eq!(rt; done.is_ok(), stop > COPY_CALLS, "at {stop}");
-        let (a, b) = (a.into_inner(), b.into_inner());
-        for pick_a in PICKS {
-            for pick_b in PICKS {
-                let found = file_after(&a, &b, pick_a, pick_b)?;
-                let is_old = found == Ok(Some(true));
-                let is_new = found == Ok(Some(false));
-                assert!(rt; is_old || (is_new && stop + 1 >= COPY_CALLS), "at {stop}");
-                assert!(rt; is_new || (is_old && stop < COPY_CALLS), "at {stop}");
+        let (is_done, a, b) = take_over_until(rt.alloc(), stop)?;
+        let found = opens(&a, &b, stop)?;
+        assert!(rt; is_done == (stop > COPY_CALLS) && found, "at {stop}");
+    }
+    Ok(())
+}
+
+// Two disks of a file that is taken over, of which the second stops after so many calls, and the first after as many as the copy
+// leaves of them and one. Tells whether all was done.
+fn take_over_until(alloc: Global, stop: u64) -> Result<(bool, MemDisk, MemDisk), Fail> {
+    let mut a = MemDisk::new(alloc, 100, Vec::new(alloc))?;
+    let mut b = MemDisk::new(alloc, 100, Vec::new(alloc))?;
+    let mut twin = Twin::make(&mut a, &mut b, &[7, 8, 9])?;
+    let mut a = FuseDisk::new(a, stop.saturating_sub(COPY_CALLS).saturating_add(1));
+    let mut b = FuseDisk::new(b, stop);
+    let done = take_over(&mut twin, &mut a, &mut b, &[5], 64, 4);
+    Ok((done.is_ok(), a.into_inner(), b.into_inner()))
+}
+
+// Whether one of the two files is open in each image: the old one until the copy's gate is written, and the new one from then on,
+// but where that isn't synced yet.
+fn opens(a: &MemDisk, b: &MemDisk, stop: u64) -> Result<bool, Fail> {
+    for pick_a in PICKS {
+        for pick_b in PICKS {
+            let found = file_after(a, b, pick_a, pick_b)?;
+            let is_old = found == Ok(Some(true));
+            let is_new = found == Ok(Some(false));
+            let is_so = (is_old && stop < COPY_CALLS) || (is_new && stop >= COPY_CALLS - 1);
+            if !is_so {
+                return Ok(false);
             }
         }
     }
-    Ok(())
+    Ok(true)
 }
 
 // SHA-256 of the bytes 07 and 05.
@@ -79,15 +97,24 @@ const BASE_DIGEST: [u8; 32] = [
 fn a_copy_takes_over(rt: HostRuntime) -> Result<(), Fail> {
     let mut a = MemDisk::new(rt.alloc(), 100, Vec::new(rt.alloc()))?;
     let mut b = MemDisk::new(rt.alloc(), 100, Vec::new(rt.alloc()))?;
-    let mut twin = Twin::make(&mut a, &mut b, &[7, 8, 9])?;
+    copy_and_take_over(&rt, &mut a, &mut b)?;
+    is_copied(&rt, rt.alloc(), &b.bytes()?)
+}
+
+fn copy_and_take_over(rt: &impl Abort, a: &mut MemDisk, b: &mut MemDisk) -> Result<(), Fail> {
+    let mut twin = Twin::make(a, b, &[7, 8, 9])?;
     assert_eq!(rt; twin.file().tail(), 68);
-    take_over(&mut twin, &mut a, &mut b, &[5], 64, 4)?;
+    take_over(&mut twin, a, b, &[5], 64, 4)?;
     assert!(rt; !twin.in_a());
     assert_eq!(rt; twin.file().tail(), 69);
     assert_eq!(rt; a.len(), Ok(0));
-    let mut want = b"\x01LEDGERDB\x01\0\0\0\0\0\0\0\x02\0\0\0\0\0\0\0\x01".to_vec(rt.alloc())?;
+    Ok(())
+}
+
+fn is_copied(rt: &impl Abort, alloc: Global, copy: &Bytes) -> Result<(), Fail> {
+    let mut want = b"\x01LEDGERDB\x01\0\0\0\0\0\0\0\x02\0\0\0\0\0\0\0\x01".to_vec(alloc)?;
     want.extend_from_slice(&BASE_DIGEST)?;
     want.extend_from_slice(&[0, 0, 0, 0, 0, 0, 5, 1, 7, 8, 9, 0])?;
-    assert_eq!(rt; b.bytes()?.as_slice(), want.as_slice());
+    assert_eq!(rt; copy.as_slice(), want.as_slice());
     Ok(())
 }

@@ -46,21 +46,40 @@ fn tells_faults_of_disks(rt: HostRuntime) -> Result<(), Fail> {
 // A disk stops after so many calls: no receipt was written before the block stood, and what a crash leaves goes on.
 #[test]
 fn goes_on_where_a_disk_stopped(rt: HostRuntime) -> Result<(), Fail> {
-    let alloc = rt.alloc();
     for (calls, told, size) in [(22, "fail 4 disk\n", "1"), (NEVER, RECEIPT, "2")] {
-        let mut a = FuseDisk::new(MemDisk::new(alloc, AMPLE, Vec::new(alloc))?, calls);
-        let mut b = FuseDisk::new(MemDisk::new(alloc, AMPLE, Vec::new(alloc))?, NEVER);
-        let script = EMPTY.as_bytes();
-        let (_, written) = run_on(&rt, alloc, &DEMO, script, NO_FAULTS, &mut a, &mut b)?;
-        assert!(rt; written.as_slice().ends_with(told.as_bytes()), "at {calls}");
-        let mut a = a.into_inner().crash(Pick::NoneWritten)?;
-        let mut b = b.into_inner();
-        let (status, head) = run_on(&rt, alloc, &RUN, b"0 head\n", NO_FAULTS, &mut a, &mut b)?;
-        let want = bytes_of(alloc, &["0.1 head ", ID, " ", size, " "])?;
-        assert!(rt;
-            status == 0 && head.as_slice().starts_with(want.as_slice()),
-            "at {calls}"
-        );
+        let (is_told, a, b) = stopped(&rt, rt.alloc(), calls, told)?;
+        let goes_on = has_size(&rt, rt.alloc(), &a, &b, size)?;
+        assert!(rt; is_told && goes_on, "at {calls}");
     }
     Ok(())
+}
+
+/// Whether this ends what is written of a record where the first disk stops after so many calls, and both disks then.
+fn stopped<R: Threads + Wait + Sync>(
+    rt: &R,
+    alloc: Global,
+    calls: u64,
+    told: &str,
+) -> Result<(bool, MemDisk, MemDisk), NoMemory> {
+    let mut a = FuseDisk::new(MemDisk::new(alloc, AMPLE, Vec::new(alloc))?, calls);
+    let mut b = FuseDisk::new(MemDisk::new(alloc, AMPLE, Vec::new(alloc))?, NEVER);
+    let script = EMPTY.as_bytes();
+    let (_, written) = run_on(rt, alloc, &DEMO, script, NO_FAULTS, &mut a, &mut b)?;
+    let is_told = written.as_slice().ends_with(told.as_bytes());
+    Ok((is_told, a.into_inner(), b.into_inner()))
+}
+
+/// Whether the ledger has this size on what a crash leaves of these disks.
+fn has_size<R: Threads + Wait + Sync>(
+    rt: &R,
+    alloc: Global,
+    a: &MemDisk,
+    b: &MemDisk,
+    size: &str,
+) -> Result<bool, NoMemory> {
+    let mut a = a.crash(Pick::NoneWritten)?;
+    let mut b = b.crash(Pick::AllWritten)?;
+    let (status, head) = run_on(rt, alloc, &RUN, b"0 head\n", NO_FAULTS, &mut a, &mut b)?;
+    let want = bytes_of(alloc, &["0.1 head ", ID, " ", size, " "])?;
+    Ok(status == 0 && head.as_slice().starts_with(want.as_slice()))
 }

@@ -97,35 +97,57 @@ fn answers_where_a_stamp_failed(rt: HostRuntime) -> Result<(), Fail> {
 // Times never fall, and a later run goes on behind the entries of an earlier one.
 #[test]
 fn goes_on_with_the_notary_of_a_folder(rt: HostRuntime) -> Result<(), Fail> {
-    let alloc = rt.alloc();
-    let mut a = MemDisk::new(alloc, AMPLE, Vec::new(alloc))?;
-    let mut b = MemDisk::new(alloc, AMPLE, Vec::new(alloc))?;
-    let keeper = MemDisk::new(alloc, AMPLE, Vec::new(alloc))?;
-    let seed = Some(SEED);
-    let (made, told, keeper) = run_kept(&rt, alloc, &mut a, &mut b, &INIT, b"", keeper, seed)?;
-    let script = b"0 anchor\n0 anchor\n0 anchor\n";
-    let (first, replies, keeper) = run_kept(
-        &rt, alloc, &mut a, &mut b, &RUN, script, keeper, seed,
-    )?;
-    let (second, more, keeper) = run_kept(
-        &rt,
-        alloc,
-        &mut a,
-        &mut b,
-        &RUN,
-        b"0 anchor",
-        keeper,
-        seed,
-    )?;
-    assert!(rt; (made, first, second) == (0, 0, 0) && told.as_slice() == TOLD.as_bytes());
-    assert!(rt; stamps(alloc, &replies)?.as_slice() == FIRST.as_bytes());
-    assert!(rt; stamps(alloc, &more)?.as_slice() == SECOND.as_bytes());
-    let (status, written, keeper) = run_kept(
-        &rt, alloc, &mut a, &mut b, &RUN, b"0 head", keeper, None,
-    )?;
-    assert!(rt; status == 2 && written.as_slice() == NO_SEED.as_bytes());
-    let keeper = FuseDisk::new(keeper, 0);
-    let (status, written, _) = run_kept(&rt, alloc, &mut a, &mut b, &RUN, b"0 head", keeper, seed)?;
-    assert!(rt; status == 4 && written.as_slice() == NO_DISK.as_bytes());
+    let mut a = MemDisk::new(rt.alloc(), AMPLE, Vec::new(rt.alloc()))?;
+    let mut b = MemDisk::new(rt.alloc(), AMPLE, Vec::new(rt.alloc()))?;
+    let (goes_on, keeper) = stamps_in_turn(&rt, rt.alloc(), &mut a, &mut b)?;
+    let refuses = refuses_without(&rt, rt.alloc(), &mut a, &mut b, keeper)?;
+    assert!(rt; goes_on && refuses);
     Ok(())
+}
+
+/// Whether a ledger is made on these disks and two runs on it stamp as they must, and the notary's disk.
+fn stamps_in_turn<R: Threads + Wait + Sync>(
+    rt: &R,
+    alloc: Global,
+    a: &mut MemDisk,
+    b: &mut MemDisk,
+) -> Result<(bool, MemDisk), NoMemory> {
+    let keeper = MemDisk::new(alloc, AMPLE, Vec::new(alloc))?;
+    let (made, told, keeper) = run_kept(rt, alloc, a, b, &INIT, b"", keeper, Some(SEED))?;
+    let is_made = made == 0 && told.as_slice() == TOLD.as_bytes();
+    let anchors = b"0 anchor\n0 anchor\n0 anchor\n";
+    let (is_first, keeper) = is_stamped(rt, alloc, a, b, anchors, keeper, FIRST)?;
+    let (is_second, keeper) = is_stamped(rt, alloc, a, b, b"0 anchor", keeper, SECOND)?;
+    Ok((is_made && is_first && is_second, keeper))
+}
+
+/// Whether a run of this script is stamped so, and the notary's disk.
+fn is_stamped<R: Threads + Wait + Sync>(
+    rt: &R,
+    alloc: Global,
+    a: &mut MemDisk,
+    b: &mut MemDisk,
+    script: &[u8],
+    keeper: MemDisk,
+    want: &str,
+) -> Result<(bool, MemDisk), NoMemory> {
+    let (status, replies, keeper) = run_kept(rt, alloc, a, b, &RUN, script, keeper, Some(SEED))?;
+    let is_so = status == 0 && stamps(alloc, &replies)?.as_slice() == want.as_bytes();
+    Ok((is_so, keeper))
+}
+
+/// Whether a run is refused where there is no seed, and where the notary's disk fails.
+fn refuses_without<R: Threads + Wait + Sync>(
+    rt: &R,
+    alloc: Global,
+    a: &mut MemDisk,
+    b: &mut MemDisk,
+    keeper: MemDisk,
+) -> Result<bool, NoMemory> {
+    let (status, written, keeper) = run_kept(rt, alloc, a, b, &RUN, b"0 head", keeper, None)?;
+    let no_seed = status == 2 && written.as_slice() == NO_SEED.as_bytes();
+    let keeper = FuseDisk::new(keeper, 0);
+    let (status, written, _) = run_kept(rt, alloc, a, b, &RUN, b"0 head", keeper, Some(SEED))?;
+    let no_disk = status == 4 && written.as_slice() == NO_DISK.as_bytes();
+    Ok(no_seed && no_disk)
 }

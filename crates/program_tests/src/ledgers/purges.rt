@@ -111,7 +111,10 @@ fn stopped_opening<R: Threads + Wait + Sync>(
     let mut a = FuseDisk::new(a.crash(Pick::AllWritten)?, calls.0);
     let mut b = FuseDisk::new(b.crash(Pick::AllWritten)?, calls.1);
     run_on(rt, alloc, &RUN, b"", NO_FAULTS, &mut a, &mut b)?;
-    let (a, b) = (a.into_inner(), b.into_inner());
+    torn(&a.into_inner(), &b.into_inner())
+}
+
+fn torn(a: &MemDisk, b: &MemDisk) -> Result<(MemDisk, MemDisk), NoMemory> {
     Ok((a.crash(Pick::Torn(1))?, b.crash(Pick::Torn(1))?))
 }
 
@@ -122,17 +125,42 @@ fn gives_up_before_the_receipt(rt: HostRuntime) -> Result<(), Fail> {
     let (mut whole, mut undone) = (false, false);
     for at in 0..CALLS {
         for calls in [(at, NEVER), (NEVER, at)] {
-            let (told, a, b) = stopped(&rt, rt.alloc(), calls)?;
-            whole = whole || told == 8;
-            for pick in PICKS {
-                let (holds, late) = crashed(&rt, rt.alloc(), (&a, &b), told, pick)?;
-                assert!(rt; holds, "at {calls:?} {pick:?}");
-                undone = undone || late;
-            }
+            let found = outcome_of(&rt, rt.alloc(), calls)?;
+            assert!(rt; found.holds, "at {calls:?}");
+            whole = whole || found.is_whole;
+            undone = undone || found.is_undone;
         }
     }
     assert!(rt; whole && undone);
     Ok(())
+}
+
+/// What comes of a session that is stopped: whether each image opens as it must, whether all receipts were written, and whether an
+/// opening finished the purge.
+#[derive(Clone, Copy)]
+struct Outcome {
+    holds: bool,
+    is_whole: bool,
+    is_undone: bool,
+}
+
+fn outcome_of<R: Threads + Wait + Sync>(
+    rt: &R,
+    alloc: Global,
+    calls: (u64, u64),
+) -> Result<Outcome, NoMemory> {
+    let (told, a, b) = stopped(rt, alloc, calls)?;
+    let mut found = Outcome {
+        holds: true,
+        is_whole: told == 8,
+        is_undone: false,
+    };
+    for pick in PICKS {
+        let (holds, late) = crashed(rt, alloc, (&a, &b), told, pick)?;
+        found.holds = found.holds && holds;
+        found.is_undone = found.is_undone || late;
+    }
+    Ok(found)
 }
 
 /// What comes of an image: the size that is told where the ledger is opened on it, whether what the purge takes was gone
