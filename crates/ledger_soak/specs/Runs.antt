@@ -21,6 +21,8 @@ use Rattle.ledger_soak.specs.Tasks.{task_drawn, state_behind}
 use Rattle.ledger_soak.specs.Turns.{soak_genesis, answered, kept_in_hand, Turn, Stage, IsTurn, AreTurns, next_stage, last_stage, after_turn, turn_count, was_stopped, was_answered_by, answer_in, is_no, is_proof_reply, is_reply}
 use Rattle.ledger_soak.specs.declared.auditor.Auditor.{Auditor}
 use Rattle.ledger_soak.specs.declared.receipts.Receipt.{Receipt}
+use Rattle.ledger_soak.specs.declared.running.Asked.{Asked}
+use Rattle.ledger_soak.specs.declared.running.Asked.TheVariants.{Answered, InHand}
 use Rattle.ledger_soak.specs.declared.running.Run.{Run}
 use Rattle.ledger_soak.specs.declared.running.Fuses.TheVariants.{Off}
 
@@ -128,3 +130,8 @@ pub record IsInHand (seed : ℕ) (run : Run) (step : Step) : Type 0 where
   pub kept : Recalls run.auditor run.receipts.items (led_to seed past).history (led_to seed past).entries
   pub unfused : run.stop ≡ 0 → run.fuses ≡ Off
   pub first : (led_to seed past).stopped ≡ true → run.fuses ≡ Off
+
+-- what came of a job that was drawn: it was answered, or it was in hand at a stop
+abbrev pub ComesTo : ℕ → Run → Asked → Type 0
+ComesTo seed run (Answered accepted) = (t : Turn) × IsAnswered seed run t accepted
+ComesTo seed run InHand = (step : Step) × IsInHand seed run step

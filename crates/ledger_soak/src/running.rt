@@ -14,7 +14,7 @@ ghost use Rattle.ledger_model.specs.Rules.{job_of};
 ghost use Rattle.ledger_model.specs.Step.{Step};
 ghost use Rattle.ledger_model.specs.declared.job.Job.TheVariants as jobs;
 ghost use Rattle.ledger_soak.specs.Lines as lines;
-ghost use Rattle.ledger_soak.specs.Runs.{IsPlaced, IsReady, IsUnderway, IsAnswered, IsInHand};
+ghost use Rattle.ledger_soak.specs.Runs.{IsPlaced, IsReady, IsUnderway, IsAnswered, IsInHand, ComesTo};
 ghost use Rattle.ledger_soak.specs.Soaks.{TellsSoak, IsSoaked, IsFaultless, silent_notary};
 ghost use Rattle.ledger_soak.specs.Soaking.{Soaked};
 ghost use Rattle.ledger_soak.specs.Tasks.{task_drawn, state_behind};
@@ -109,6 +109,15 @@ enum Fuses {
     Set,
 }
 
+// What came of a job that was drawn.
+#[derive(Drop)]
+enum Asked {
+    // Its reply is written, which for the proof of a journal is the line that the auditor accepts.
+    Answered(Option<Bytes>),
+    // A disk stopped meanwhile.
+    InHand,
+}
+
 #[derive(Drop)]
 struct Run {
     alloc: Global,
@@ -156,8 +165,7 @@ impl Run {
         })
     }
 
-    // Draws a job and takes it. Where a stop leaves it in hand, the ledger is opened again. A notary in memory doesn't fail;
-    // that it did would be told as want of memory.
+    // Draws a job and takes it. Where a stop leaves it in hand, the ledger is opened again.
     fn turn<R: Threads>(self, rt: &R) -> Result<Self, NoMemory>
         requires few { self.taken + 1 < 2 ^ 64 }
         requires underway { (seed : ℕ) × IsUnderway seed self }
@@ -166,23 +174,38 @@ impl Run {
         ensures stop { IfOk result (λ run. run.stop ≡ self.stop) }
     {
         let mut run = self.armed();
-        let item = next_job(run.alloc, &mut run.draws, &run.post)?;
+        let asked = run.ask()?;
+        match asked {
+            Asked::Answered(line) => run.answered(line),
+            Asked::InHand => run.stopped(rt),
+        }
+    }
+
+    // Draws a job and takes it. A notary in memory doesn't fail; that it did would be told as want of memory.
+    fn ask(&mut self) -> Result<Asked, NoMemory>
+        requires few { self.old.taken + 1 < 2 ^ 64 }
+        requires underway { (seed : ℕ) × IsUnderway seed self.old }
+        ensures comes { IfOk result (λ asked. (seed : ℕ) → IsUnderway seed self.old → ComesTo seed self.new asked) }
+        ensures taken { IfOk result (λ asked. self.new.taken ≡ self.old.taken + 1) }
+        ensures stop { IfOk result (λ asked. self.new.stop ≡ self.old.stop) }
+    {
+        let item = next_job(self.alloc, &mut self.draws, &self.post)?;
         let line = accepted_line(
-            run.alloc,
-            &mut run.auditor,
-            &run.post,
-            &mut run.notary,
+            self.alloc,
+            &mut self.auditor,
+            &self.post,
+            &mut self.notary,
             &item,
         )?;
-        let answer = run.post.take(&mut run.notary, item);
-        if run.notary.faults() != 0 {
+        let answer = self.post.take(&mut self.notary, item);
+        if self.notary.faults() != 0 {
             return Err(NoMemory);
         }
-        run.taken += 1;
+        self.taken += 1;
         match answer {
-            Ok(()) => run.answered(line),
+            Ok(()) => Ok(Asked::Answered(line)),
             Err(halt) => match halt {
-                Halt::Stopped => run.stopped(rt),
+                Halt::Stopped => Ok(Asked::InHand),
                 Halt::NoMemory => Err(NoMemory),
             },
         }
