@@ -252,8 +252,9 @@ fn copy_and_clear(rt: &impl Abort, alloc: Global, purged: &[u8]) -> Result<(), F
 fn base_of(rt: &impl Abort, alloc: Global, disk: &mut MemDisk) -> Result<Bytes, Fail> {
     let head = BlockFile::head(disk)?.ok_or("no head")?;
     assert_eq!(rt; (head.generation, head.base_len), (2, 215));
+    let base = BlockFile::resume(disk, &head)?.base(alloc, disk)?;
     assert!(rt; first_block(alloc, disk, 3)?.is_some_and(|block| block.at == 279));
-    Ok(BlockFile::resume(disk, &head)?.base(alloc, disk)?)
+    Ok(base)
 }
 
 /// What a disk holds to which base and blocks of another file were copied, and then ten bytes cleared.
