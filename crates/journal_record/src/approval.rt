@@ -1,7 +1,9 @@
-ghost use Rattle.std.specs.Prelude.{◌≡◌, ◌<◌, ◌^◌, ◌++◌, length};
+ghost use Rattle.std.specs.Prelude.{◌≡◌, ◌<◌, ◌^◌, ◌++◌, length, All, IfOk};
 ghost use Rattle.std.specs.Int.{w16, w32, to_be_bytes};
+ghost use Rattle.journal_record.specs.Approval.{who_of};
 
-use ledger_bytes::{Bytes, Digest};
+use ledger_bytes::{Bytes, Digest, FieldWriter, NoMemory};
+use std::alloc::Global;
 
 /// The most bytes that show who placed a journal: those of 256 approvals, each with a proof of 4,096 bytes.
 pub const WHO_LIMIT: u32 = 1_050_112;
@@ -30,4 +32,19 @@ impl Approval {
         len.copy_from_slice(&(self.proof.as_slice().len() as u16).to_be_bytes());
         front
     }
+}
+
+/// The bytes that show who placed a journal: for each approval what [`Approval::front`] gives, and the proof.
+pub fn who_bytes(alloc: Global, given: &[Approval]) -> Result<Bytes, NoMemory>
+    requires { All (λ a. length a.proof < 2 ^ 16) given.now }
+    ensures { IfOk result (λ who. who ≡ who_of given.now) }
+{
+    let mut out = FieldWriter::new(alloc);
+    for approval in given {
+        let proof = approval.proof.as_slice();
+        out.put_u32(approval.member)?;
+        out.put_u16(proof.len() as u16)?;
+        out.put_slice(proof)?;
+    }
+    Ok(out.finish())
 }

@@ -13,7 +13,7 @@ mod stamp;
 mod tags;
 mod whole;
 
-pub use approval::{Approval, WHO_LIMIT};
+pub use approval::{Approval, WHO_LIMIT, who_bytes};
 pub use digests::{approval_digest, approvals_digest, content_digest, who_digest};
 pub use header::{HEADER_LEN, Header, Kind};
 pub use member::Member;

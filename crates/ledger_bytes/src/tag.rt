@@ -34,6 +34,12 @@ pub enum Tag {
     ClueName,
     /// Byte 40: a key and the message that it proves.
     Proof,
+    /// Byte 41: the root over the one-time keys of a scheme of hash chains.
+    ChainKey,
+    /// Byte 42: a step of a hash chain.
+    ChainStep,
+    /// Byte 44: the secret at which a hash chain begins.
+    ChainSecret,
 }
 
 impl Tag {
@@ -56,6 +62,9 @@ impl Tag {
             Tag::LedgerName => 0x0b,
             Tag::ClueName => 0x0c,
             Tag::Proof => 0x40,
+            Tag::ChainKey => 0x41,
+            Tag::ChainStep => 0x42,
+            Tag::ChainSecret => 0x44,
         }
     }
 }

@@ -33,6 +33,11 @@ IsUnused fail_at m = (m.fail_at.items ≡ fail_at) × (m.calls ≡ 0) × (memory
 abbrev pub IsRefused : MemDisk → Type 0
 IsRefused m = Contains m.fail_at.items m.calls
 
+-- room, the calls that are to fail, and the counts of calls and of failures are as before
+abbrev pub SamePlan : MemDisk → MemDisk → Type 0
+SamePlan old new = (room_of new ≡ room_of old) × (new.fail_at.items ≡ old.fail_at.items) × (new.calls ≡ old.calls)
+    × (memory_faults new ≡ memory_faults old)
+
 -- The call was counted. It answers Ok only where its number isn't one of those that are to fail, and an error is counted once.
 -- The room and the calls that are to fail stay.
 abbrev pub IsCounted : {T E : Type 0} → Result T E → MemDisk → MemDisk → Type 0

@@ -1,4 +1,4 @@
-ghost use Rattle.std.specs.Prelude.{◌≡◌, ◌+◌, ◌-◌, ◌^◌, ◌<◌, ◌≤◌, ◌++◌, [], true, length, take, drop, Some, max, min, IfOk, OnOk, OnErr, IsSome, IfSome, IsSomeAnd, vec_capacity};
+ghost use Rattle.std.specs.Prelude.{◌≡◌, ◌+◌, ◌-◌, ◌^◌, ◌<◌, ◌≤◌, ◌++◌, [], true, set, length, take, drop, Some, max, min, IfOk, OnOk, OnErr, IsSome, IfSome, IsSomeAnd, vec_capacity};
 ghost use Rattle.ledger_bytes.specs.Causes.{count_after};
 ghost use Rattle.ledger_disk.specs.Disk.{MayLeave, settled_state, overlay, with_write, cut_to, CountsFault, KeepsLength, MayHaveWritten, MayHaveCut};
 ghost use Rattle.ledger_disk.specs.Parts.{state_of};
@@ -56,7 +56,7 @@ pub struct MemDisk {
 }
 
 impl MemDisk {
-    ghost use Rattle.ledger_disk.specs.Memory.{memory_state, memory_faults, IsRefused, IsCounted, IsUnused, room_of};
+    ghost use Rattle.ledger_disk.specs.Memory.{memory_state, memory_faults, IsRefused, IsCounted, IsUnused, SamePlan, room_of};
 
     /// An empty disk that can hold `room` bytes. `fail_at` has the numbers of the calls of `len`, `read`, `write`,
     /// `cut` and `sync` that fail, counted together. The first call has the number 0.
@@ -111,6 +111,18 @@ impl MemDisk {
         ensures { IfOk result (λ bytes. bytes ≡ (memory_state self.now).seen) }
     {
         Bytes::copy_of(self.alloc, &self.bytes)
+    }
+
+    /// Changes a byte, in what is read and in what is stable.
+    pub fn set_byte(&mut self, at: u64, to: u8)
+        requires inside { at < length (memory_state self.old).seen }
+        requires quiet { memory_state self.old ≡ settled_state (memory_state self.old).seen }
+        ensures state { memory_state self.new
+            ≡ settled_state (set (memory_state self.old).seen at to) }
+        ensures plan { SamePlan self.old self.new }
+    {
+        self.bytes[at as usize] = to;
+        self.stable[at as usize] = to;
     }
 
     // Begins a call, which fails where its number is one of those that fail.

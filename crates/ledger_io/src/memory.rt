@@ -118,7 +118,7 @@ impl MemSink {
     }
 
     /// The bytes that were written.
-    pub fn written_bytes(&self) -> &[u8]
+    pub fn written(&self) -> &[u8]
         ensures { result.now ≡ self.now.held }
     {
         self.bytes.as_slice()

@@ -1,11 +1,36 @@
-ghost use Rattle.std.specs.Prelude.{◌≡◌, ◌<◌, ◌≤◌, ◌++◌, [], ◌∷◌, length, option_map, slice_get, Some, IfOk, OnOk, OnErr, IfNone};
+ghost use Rattle.std.specs.Prelude.{◌≡◌, ◌<◌, ◌≤◌, ◌++◌, [], ◌∷◌, length, option_map, slice_get, Some, IfOk, OnOk, OnErr, IfErr, IfNone, ◌⊎◌};
 ghost use Rattle.journal_record.specs.Members.{keys, founders, number_refusal};
-ghost use Rattle.member_book.specs.Members.{count_below};
+ghost use Rattle.member_book.specs.Members.{count_below, refusal_of};
+ghost use Rattle.member_book.specs.declared.book.AddErr.{AddErr};
 
 use journal_record::Member;
 use ledger_bytes::{Digest, MEMBER_LIMIT, NoMemory, Refusal};
 use std::alloc::Global;
 use std::marker::Model;
+use thiserror::Error;
+
+/// Why a member isn't admitted.
+#[derive(Clone, Copy, Debug, PartialEq, Eq, Error)]
+pub enum AddErr {
+    #[error("there are 256 members")]
+    MembersFull,
+    /// The member's number isn't the next one.
+    #[error("the next member's number is {next}")]
+    MemberNumber { next: u32 },
+    #[error("out of memory")]
+    NoMemory,
+}
+
+impl From<NoMemory> for AddErr {
+    ghost use Rattle.std.specs.Prelude.{◌≡◌};
+    ghost use Rattle.member_book.specs.declared.book.AddErr.TheVariants as add_err;
+
+    ghost from_gives = { λ _ e. e ≡ add_err.NoMemory };
+
+    fn from(_: NoMemory) -> Self {
+        AddErr::NoMemory
+    }
+}
 
 /// The members of a ledger by their numbers: 0 is the operator, 1 the regulator. A contract sees their list.
 #[derive(Debug, Drop)]
@@ -94,5 +119,20 @@ impl MemberBook {
     {
         self.members.push(Member { key: *key, jsn })?;
         Ok(())
+    }
+
+    /// Admits a member with this number, where it is the next one. After an `Err` the members are as before.
+    pub fn add(&mut self, number: u32, key: &Digest, jsn: u64) -> Result<(), AddErr>
+        ensures ok { OnOk result ((number_refusal self.old number ≡ None)
+            × (self.new ≡ self.old ++ record { key = key.now; jsn = jsn } ∷ [])) }
+        ensures err { OnErr result (self.new ≡ self.old) }
+        ensures cause { IfErr result (λ e. (e ≡ AddErr.NoMemory)
+            ⊎ (number_refusal self.old number ≡ refusal_of e)) }
+    {
+        match self.number_refusal(number) {
+            Some(Refusal::MemberNumber { next }) => Err(AddErr::MemberNumber { next }),
+            Some(_) => Err(AddErr::MembersFull),
+            None => Ok(self.admit(key, jsn)?),
+        }
     }
 }

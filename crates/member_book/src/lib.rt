@@ -5,6 +5,6 @@ mod approvals;
 mod book;
 mod verifier;
 
-pub use book::MemberBook;
-pub use journal_record::{Approval, Member};
+pub use book::{AddErr, MemberBook};
+pub use journal_record::{Approval, Member, who_bytes};
 pub use verifier::{TagScheme, Verifier, tag_proof};

@@ -1,10 +1,53 @@
-ghost use Rattle.std.specs.Prelude.{◌≡◌, ◌*◌, ◌%◌, ◌<◌, ◌≤◌, ◌≢◌, ◌⊎◌, ◌↔◌, length, IsNone, option_map};
+ghost use Rattle.std.specs.Prelude.{◌≡◌, ◌*◌, ◌%◌, ◌<◌, ◌≤◌, ◌≢◌, ◌⊎◌, ◌↔◌, ◌++◌, length, map, IfOk, OnOk, IsNone, option_map};
 ghost use Rattle.tree_model.specs.Tree.{cut};
 ghost use Rattle.tree_model.specs.Path as tree;
 
 use crate::nodes::node_of;
+use crate::roots::root_of;
 use crate::splits::split;
-use ledger_bytes::{Digest, TreeHash};
+use ledger_bytes::{Digest, NoMemory, TreeHash};
+use std::alloc::Global;
+
+/// The path of leaf `n` to the root over the digests that `leaf_of` gives of all leaves, from the leaf up: the
+/// digests that stand beside it on the way (RFC 6962, section 2.1.1). It hashes each other leaf's node once, and
+/// takes memory for the path's digests.
+pub fn path<H: TreeHash>(
+    alloc: Global,
+    leaves: &[Digest],
+    n: usize,
+) -> Result<Vec<Digest>, NoMemory>
+    requires { n < length leaves.now }
+    ensures { IfOk result (λ digests. map (λ d. d.0) digests.items
+        ≡ tree.path H.of n (map (λ d. d.0) leaves.now)) }
+{
+    let mut digests = Vec::new(alloc);
+    add_path::<H>(&mut digests, leaves, n)?;
+    Ok(digests)
+}
+
+// Adds the path of leaf `n` behind the digests that are there.
+fn add_path<H: TreeHash>(
+    digests: &mut Vec<Digest>,
+    leaves: &[Digest],
+    n: usize,
+) -> Result<(), NoMemory>
+    requires { n < length leaves.now }
+    ensures { OnOk result (map (λ d. d.0) digests.new.items
+        ≡ map (λ d. d.0) digests.old.items ++ tree.path H.of n (map (λ d. d.0) leaves.now)) }
+{
+    if leaves.len() == 1 {
+        return Ok(());
+    }
+    let (front, back) = leaves.split_at(split(leaves.len() as u64) as usize);
+    if n < front.len() {
+        add_path::<H>(digests, front, n)?;
+        digests.push(root_of::<H>(back))?;
+    } else {
+        add_path::<H>(digests, back, n - front.len())?;
+        digests.push(root_of::<H>(front))?;
+    }
+    Ok(())
+}
 
 /// The root of the tree of `size` leaves in which `leaf` is the digest of leaf `n`, if `path` is the path of that
 /// leaf: its digests, 32 bytes each, one after the other from the leaf up. The size may be any, and each digest of

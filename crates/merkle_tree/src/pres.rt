@@ -16,8 +16,8 @@ impl Pre {
     }
 }
 
-// The strings of one node, the told one first, where they differ.
-pub(crate) fn differ(
+/// The strings of one node, the told one first, where they differ.
+pub fn differ(
     told_left: &Digest,
     told_right: &Digest,
     left: &Digest,

@@ -1,11 +1,60 @@
-ghost use Rattle.std.specs.Prelude.{◌≡◌, ◌*◌, ◌%◌, ◌<◌, ◌≤◌, ◌≢◌, ◌⊎◌, ◌↔◌, true, length, Some, IsNone, option_map};
+ghost use Rattle.std.specs.Prelude.{◌≡◌, ℕ, ◌*◌, ◌%◌, ◌<◌, ◌≤◌, ◌≢◌, ◌⊎◌, ◌↔◌, ◌++◌, Bool, true, length, map, Some, IfOk, OnOk, IsNone, option_map};
 ghost use Rattle.tree_model.specs.Tree.{cut};
 ghost use Rattle.tree_model.specs.Extension as tree;
 ghost use Rattle.merkle_tree.specs.Roots.{roots_of};
 
 use crate::nodes::node_of;
+use crate::roots::root_of;
 use crate::splits::split;
-use ledger_bytes::{Digest, TreeHash};
+use ledger_bytes::{Digest, NoMemory, TreeHash};
+use std::alloc::Global;
+
+/// The proof that the tree over the first `m` leaves is the beginning of the tree over all, over the digests that
+/// `leaf_of` gives of them, from the leaves up (RFC 6962, section 2.1.2). Where `m` is their number it is empty. It
+/// hashes each node outside of it once, and takes memory for its digests.
+pub fn proof<H: TreeHash>(
+    alloc: Global,
+    leaves: &[Digest],
+    m: usize,
+) -> Result<Vec<Digest>, NoMemory>
+    requires some { 0 < m }
+    requires within { m ≤ length leaves.now }
+    ensures { IfOk result (λ digests. map (λ d. d.0) digests.items
+        ≡ tree.proof H.of m (map (λ d. d.0) leaves.now)) }
+{
+    let mut digests = Vec::new(alloc);
+    add_proof::<H>(&mut digests, leaves, m, true)?;
+    Ok(digests)
+}
+
+// Adds the digests of a proof behind those that are there, with the root of the first `m` leaves where that isn't known.
+fn add_proof<H: TreeHash>(
+    digests: &mut Vec<Digest>,
+    leaves: &[Digest],
+    m: usize,
+    known: bool,
+) -> Result<(), NoMemory>
+    requires some { 0 < m }
+    requires within { m ≤ length leaves.now }
+    ensures { OnOk result (map (λ d. d.0) digests.new.items
+        ≡ map (λ d. d.0) digests.old.items ++ tree.sub H.of m known (map (λ d. d.0) leaves.now)) }
+{
+    if m == leaves.len() {
+        if !known {
+            digests.push(root_of::<H>(leaves))?;
+        }
+        return Ok(());
+    }
+    let (front, back) = leaves.split_at(split(leaves.len() as u64) as usize);
+    if m <= front.len() {
+        add_proof::<H>(digests, front, m, known)?;
+        digests.push(root_of::<H>(back))?;
+    } else {
+        add_proof::<H>(digests, back, m - front.len(), false)?;
+        digests.push(root_of::<H>(front))?;
+    }
+    Ok(())
+}
 
 /// The root of the tree of `size` leaves that begins with the tree of `m` leaves with the root `old`, if `proof` is
 /// the proof of that: its digests, 32 bytes each, one after the other from the leaves up. The size may be any, and

@@ -14,3 +14,4 @@ pub mod Peaks
 pub mod ProofHalves
 pub mod RootsFrom
 pub mod PeakHalves
+pub mod Widths

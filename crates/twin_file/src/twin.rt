@@ -109,6 +109,13 @@ impl Twin {
         self.in_a
     }
 
+    /// The generation of the open file.
+    pub fn generation(&self) -> u64
+        ensures { result ≡ generation_in self.now }
+    {
+        self.generation
+    }
+
     /// Begins a copy in the other file, whose generation is one greater, or 2^64 - 1 where that is reached. A copy that
     /// was begun before is given up.
     pub fn begin_copy<D: Disk>(&mut self, a: &mut D, b: &mut D, base: &[u8]) -> Result<(), FileErr>
