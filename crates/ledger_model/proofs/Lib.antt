@@ -32,3 +32,4 @@ pub mod EarlyLaws
 pub mod StateLaws
 pub mod BaseLaws
 pub mod NumberLaws
+pub mod MadeLaws

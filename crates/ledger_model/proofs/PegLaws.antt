@@ -17,7 +17,7 @@ use Rattle.journal_record.specs.Entry.{Entry}
 use Rattle.journal_record.specs.declared.header.Kind.TheVariants as kind
 use Rattle.journal_record.specs.declared.rules.TheConstants.{NOTARY_LIMIT}
 use Rattle.journal_record.specs.declared.stamp.Stamp.{Stamp}
-use Rattle.time_peg.specs.Entries.{IsList, HasOneMore, NotaryState, entry_of, peg_string, time_in}
+use Rattle.time_peg.specs.Entries.{IsList, HasOneMore, Making, NotaryState, entry_of, peg_string, time_in}
 use Rattle.ledger_model.specs.Anchors.{peg_at, time_header, time_journal, stamp_from, stamp_of, is_full_list}
 use Rattle.ledger_model.specs.Appends.{append_header, append_journal, member_header, member_journal, occult_header, occult_journal, purge_header, purge_journal}
 use Rattle.ledger_model.specs.Genesis.{genesis_header, new_ledger}
@@ -155,13 +155,13 @@ module _ (q : ℕ) (h g : History) (x : Entry) (es : List (List ℕ)) (is : jour
 -- ---- a job
 
 -- the list goes on
-changes_on : {q : ℕ} (h : History) (asked failed : Bool) (peg : List ℕ) (before after : List (List ℕ)) → Changes asked failed peg before after → PeggedFrom q h before → PeggedFrom q h after
-changes_on {q} h false failed peg before after same p = subst (PeggedFrom q h) (sym same) p
-changes_on {q} h true false peg before after more p =
+changes_on : {q : ℕ} (making : Option Making) (h : History) (asked failed : Bool) (peg : List ℕ) (before after : List (List ℕ)) → Changes asked failed making peg before after → PeggedFrom q h before → PeggedFrom q h after
+changes_on {q} making h false failed peg before after same p = subst (PeggedFrom q h) (sym same) p
+changes_on {q} making h true false peg before after more p =
     let es = entry_of more.0.0 peg more.0.1 ∷ [] in
     subst (PeggedFrom q h) (sym more.0.3) (pegged_longer h before es (subst IsList more.0.3 more.1) p)
-changes_on {q} h true true peg before after (inl same) p = subst (PeggedFrom q h) (sym same) p
-changes_on {q} h true true peg before after (inr more) p =
+changes_on {q} making h true true peg before after (inl same) p = subst (PeggedFrom q h) (sym same) p
+changes_on {q} making h true true peg before after (inr more) p =
     let es = entry_of more.0.0 peg more.0.1 ∷ [] in
     subst (PeggedFrom q h) (sym more.0.3) (pegged_longer h before es (subst IsList more.0.3 more.1) p)
 
@@ -211,7 +211,7 @@ has_stamp step s is = by_cases (step.failed || is_full_list step.before) refl wh
       }
 
 -- .. is that of the entry which its list has behind the others
-module _ (step : Step) (s : Stamp) (has : HasStamp step s) (peg : List ℕ) (wide : length peg ≡ 32) (more : HasOneMore peg step.before step.after) where
+module _ (making : Option Making) (step : Step) (s : Stamp) (has : HasStamp step s) (peg : List ℕ) (wide : length peg ≡ 32) (more : HasOneMore making peg step.before step.after) where
   abbrev e : List ℕ
   e = entry_of more.0 peg more.1
 
@@ -239,40 +239,40 @@ module _ (step : Step) (s : Stamp) (has : HasStamp step s) (peg : List ℕ) (wid
       ∙ sym (ap (λ (x : Stamp). Some (entry_of x.time peg x.salt.0)) stamp_is)
 
 -- the notary was asked for it, and has one entry more
-stamped_by : (h : History) (step : Step) (s : Stamp) → own_refusal real_limits h Anchor ≡ None → HasStamp step s → ChangesBy h step Anchor → MayStamp false (peg_at h (size h)) step.before step.after
-stamped_by h step s accepted has changes =
+stamped_by : (making : Option Making) (h : History) (step : Step) (s : Stamp) → own_refusal real_limits h Anchor ≡ None → HasStamp step s → ChangesBy h making step Anchor → MayStamp false making (peg_at h (size h)) step.before step.after
+stamped_by making h step s accepted has changes =
     let asked : asks h step.before Anchor ≡ true = ap (λ o. is_none o && nat_lt (length step.before) NOTARY_LIMIT) accepted ∙ lt-ltb (length step.before) NOTARY_LIMIT has.room in
-    subst (λ v. Changes true v (peg_at h (size h)) step.before step.after) has.well (subst (λ v. Changes v step.failed (peg_at h (size h)) step.before step.after) asked changes)
+    subst (λ v. Changes true v making (peg_at h (size h)) step.before step.after) has.well (subst (λ v. Changes v step.failed making (peg_at h (size h)) step.before step.after) asked changes)
 
 last_width : (xs : List (List ℕ)) (e : List ℕ) → AllByRecursion (λ x. length x ≡ 72) (xs ++ e ∷ []) → length e ≡ 72
 last_width [] e all = all.0
 last_width (x ∷ xs) e all = last_width xs e all.1
 
 -- .. so its time and its salt have their widths
-pub stamped_fits : (h : History) (step : Step) (s : Stamp) → own_refusal real_limits h Anchor ≡ None → stamp_of step ≡ Some s → ChangesBy h step Anchor → (s.time < 2 ^ 64) × (length s.salt.0 ≡ 32)
-stamped_fits h step s accepted is changes =
+pub stamped_fits : (making : Option Making) (h : History) (step : Step) (s : Stamp) → own_refusal real_limits h Anchor ≡ None → stamp_of step ≡ Some s → ChangesBy h making step Anchor → (s.time < 2 ^ 64) × (length s.salt.0 ≡ 32)
+stamped_fits making h step s accepted is changes =
     let has = has_stamp step s is in
     let peg = peg_at h (size h) in
-    let changed = stamped_by h step s accepted has changes in
+    let changed = stamped_by making h step s accepted has changes in
     let more = changed.0 in
     let e = entry_of more.0 peg more.1 in
-    let same = stamp_is step s has peg (peg_wide h (size h)) more in
+    let same = stamp_is making step s has peg (peg_wide h (size h)) more in
     let width : length e ≡ 72 = last_width step.before e (subst (AllByRecursion (λ x. length x ≡ 72)) more.3 changed.1.widths) in (
       omega (arith, ap (λ (x : Stamp). x.time) same, more.2),
       ap (λ (x : Stamp). length x.salt.0) same ∙ omega (arith, width, peg_wide h (size h), length-append (to_be_bytes w64 more.0) (peg ++ more.1), length-append peg more.1),
     )
 
 -- an anchor, where nothing waits
-module _ (q : ℕ) (h : History) (step : Step) (some : 0 < size h) (before : PeggedFrom q h step.before) (attends : ChangesBy h step Anchor) where
+module _ (making : Option Making) (q : ℕ) (h : History) (step : Step) (some : 0 < size h) (before : PeggedFrom q h step.before) (attends : ChangesBy h making step Anchor) where
   after_is : PeggedFrom q h step.after
-  after_is = changes_on h (asks h step.before Anchor) step.failed (peg_at h (size h)) step.before step.after attends before
+  after_is = changes_on making h (asks h step.before Anchor) step.failed (peg_at h (size h)) step.before step.after attends before
 
   has_entry : (s : Stamp) → own_refusal real_limits h Anchor ≡ None → HasStamp step s → HasEntry q h (time_journal (size h) s) step.after
   unfolding time_header
   has_entry s accepted has =
-      let changed = stamped_by h step s accepted has attends in (
-        entry_is step s has (peg_at h (size h)) (peg_wide h (size h)) changed.0,
-        λ i d at is time. omega (arith, index_is step s has (peg_at h (size h)) (peg_wide h (size h)) changed.0, slice_get_within step.before d.header.a _ (before.each i d at is time)),
+      let changed = stamped_by making h step s accepted has attends in (
+        entry_is making step s has (peg_at h (size h)) (peg_wide h (size h)) changed.0,
+        λ i d at is time. omega (arith, index_is making step s has (peg_at h (size h)) (peg_wide h (size h)) changed.0, slice_get_within step.before d.header.a _ (before.each i d at is time)),
       )
 
   anchor_pegged : (refusal : Option Refusal) (stamp : Option Stamp) → own_refusal real_limits h Anchor ≡ refusal → stamp_of step ≡ stamp → PeggedFrom q (after_judgement refusal (option_map (time_journal (size h)) stamp) h) step.after
@@ -281,32 +281,32 @@ module _ (q : ℕ) (h : History) (step : Step) (some : 0 < size h) (before : Peg
   anchor_pegged None (Some s) r is = placed q h step.after some after_is None (time_journal (size h) s) (λ none time. has_entry s r (has_stamp step s is))
 
 -- what is judged against a history
-judged_pegged : {q : ℕ} (h : History) (step : Step) (job : Job) → 0 < size h → PeggedFrom q h step.before → ChangesBy h step job → PeggedFrom q (with_job real_limits (stamp_of step) h job) step.after
+judged_pegged : {q : ℕ} (making : Option Making) (h : History) (step : Step) (job : Job) → 0 < size h → PeggedFrom q h step.before → ChangesBy h making step job → PeggedFrom q (with_job real_limits (stamp_of step) h job) step.after
 unfolding with_job append_header member_header occult_header purge_header
-judged_pegged {q} h step (Refused refusal) some p attends = subst (PeggedFrom q h) (sym attends) p
-judged_pegged {q} h step (Append member clue content content_digest request by) some p attends =
+judged_pegged {q} making h step (Refused refusal) some p attends = subst (PeggedFrom q h) (sym attends) p
+judged_pegged {q} making h step (Append member clue content content_digest request by) some p attends =
     untimed q h step.after some (subst (PeggedFrom q h) (sym attends) p) (own_refusal real_limits h (Append member clue content content_digest request by)) (append_journal h member clue content content_digest request by) (λ time. cc)
-judged_pegged {q} h step (NewMember number key by) some p attends =
+judged_pegged {q} making h step (NewMember number key by) some p attends =
     untimed q h step.after some (subst (PeggedFrom q h) (sym attends) p) (own_refusal real_limits h (NewMember number key by)) (member_journal (size h) number key by) (λ time. cc)
-judged_pegged {q} h step Anchor some p attends = anchor_pegged q h step some p attends (own_refusal real_limits h Anchor) (stamp_of step) refl refl
-judged_pegged {q} h step (Occult target leaf given) some p attends =
+judged_pegged {q} making h step Anchor some p attends = anchor_pegged making q h step some p attends (own_refusal real_limits h Anchor) (stamp_of step) refl refl
+judged_pegged {q} making h step (Occult target leaf given) some p attends =
     untimed q h step.after some (subst (PeggedFrom q h) (sym attends) p) (own_refusal real_limits h (Occult target leaf given)) (occult_journal (size h) target leaf given) (λ time. cc)
-judged_pegged {q} h step (Purge to told given) some p attends =
+judged_pegged {q} making h step (Purge to told given) some p attends =
     untimed q h step.after some (subst (PeggedFrom q h) (sym attends) p) (own_refusal real_limits h (Purge to told given)) (purge_journal h to given) (λ time. cc)
-judged_pegged {q} h step (Get n) some p attends = unplaced (own_refusal real_limits h (Get n)) h step.after (subst (PeggedFrom q h) (sym attends) p)
-judged_pegged {q} h step (Prove n) some p attends = unplaced (own_refusal real_limits h (Prove n)) h step.after (subst (PeggedFrom q h) (sym attends) p)
-judged_pegged {q} h step (Extend which m) some p attends = unplaced (own_refusal real_limits h (Extend which m)) h step.after (subst (PeggedFrom q h) (sym attends) p)
-judged_pegged {q} h step (Clue clue) some p attends = unplaced (own_refusal real_limits h (Clue clue)) h step.after (subst (PeggedFrom q h) (sym attends) p)
-judged_pegged {q} h step Head some p attends = unplaced (own_refusal real_limits h Head) h step.after (subst (PeggedFrom q h) (sym attends) p)
+judged_pegged {q} making h step (Get n) some p attends = unplaced (own_refusal real_limits h (Get n)) h step.after (subst (PeggedFrom q h) (sym attends) p)
+judged_pegged {q} making h step (Prove n) some p attends = unplaced (own_refusal real_limits h (Prove n)) h step.after (subst (PeggedFrom q h) (sym attends) p)
+judged_pegged {q} making h step (Extend which m) some p attends = unplaced (own_refusal real_limits h (Extend which m)) h step.after (subst (PeggedFrom q h) (sym attends) p)
+judged_pegged {q} making h step (Clue clue) some p attends = unplaced (own_refusal real_limits h (Clue clue)) h step.after (subst (PeggedFrom q h) (sym attends) p)
+judged_pegged {q} making h step Head some p attends = unplaced (own_refusal real_limits h Head) h step.after (subst (PeggedFrom q h) (sym attends) p)
 
-pub from_job : {q : ℕ} (h : History) (step : Step) (job : Job) → 0 < size h → PeggedFrom q h step.before → ChangesBy (judged_at h job) step job → PeggedFrom q (after_job h step job) step.after
+pub from_job : {q : ℕ} (making : Option Making) (h : History) (step : Step) (job : Job) → 0 < size h → PeggedFrom q h step.before → ChangesBy (judged_at h job) making step job → PeggedFrom q (after_job h step job) step.after
 unfolding after_job
-from_job h step job some p attends =
+from_job making h step job some p attends =
     let g = judged_at h job in
     let k = with_job real_limits (stamp_of step) g job in
     let here : 0 < size g = omega (arith, some, grows_size h g (grows_asked h job)) in
     from_settled k job step.after (omega (arith, here, grows_size g k (grows_with real_limits (stamp_of step) g job)))
-    (judged_pegged g step job here (from_judged h job step.before some p) attends)
+    (judged_pegged making g step job here (from_judged h job step.before some p) attends)
 
 -- ---- steps and windows
 
@@ -315,15 +315,15 @@ module _ (scheme : Scheme) where
   unfolding after_step
   step_some h step some = omega (arith, some, grows_size h (after_step scheme h step) (grows_job h step (job_of scheme (id h) step.line)))
 
-  from_step : {q : ℕ} (h : History) (step : Step) → 0 < size h → PeggedFrom q h step.before → ChangesBy (judged_at h (job_of scheme (id h) step.line)) step (job_of scheme (id h) step.line) → PeggedFrom q (after_step scheme h step) step.after
+  from_step : {q : ℕ} (making : Option Making) (h : History) (step : Step) → 0 < size h → PeggedFrom q h step.before → ChangesBy (judged_at h (job_of scheme (id h) step.line)) making step (job_of scheme (id h) step.line) → PeggedFrom q (after_step scheme h step) step.after
   unfolding after_step
-  from_step h step some p attends = from_job h step (job_of scheme (id h) step.line) some p attends
+  from_step making h step some p attends = from_job making h step (job_of scheme (id h) step.line) some p attends
 
   pub from_steps : {q : ℕ} (h : History) (n m : NotaryState) (steps : List Step) → 0 < size h → Took scheme h n steps m → PeggedFrom q h n.entries → PeggedFrom q (after_steps scheme h steps) m.entries
   from_steps {q} h n m [] some took p = subst (λ (x : NotaryState). PeggedFrom q h x.entries) (sym took) p
   from_steps {q} h n m (step ∷ steps) some took p =
       from_steps (after_step scheme h step) (notary_after n step) m steps (step_some h step some) took.2
-      (from_step h step some (subst (PeggedFrom q h) (sym took.0) p) took.1.list)
+      (from_step n.origin.making h step some (subst (PeggedFrom q h) (sym took.0) p) took.1.list)
 
   pub steps_some : (h : History) (steps : List Step) → 0 < size h → 0 < size (after_steps scheme h steps)
   steps_some h [] some = some
@@ -352,8 +352,8 @@ pegged_grown h g es more p = from_later (point g) g es (grows_point h g more) p
 pub pegged_close : (h : History) (es : List (List ℕ)) → 0 < size h → Pegged h es → Pegged (close h) es
 pegged_close h es some p = pegged_grown h (close h) es (grows_close h) (from_close h es some p)
 
-pub pegged_job : (h : History) (step : Step) (job : Job) → 0 < size h → Pegged h step.before → ChangesBy (judged_at h job) step job → Pegged (after_job h step job) step.after
-pegged_job h step job some p attends = pegged_grown h (after_job h step job) step.after (grows_job h step job) (from_job h step job some p attends)
+pub pegged_job : (making : Option Making) (h : History) (step : Step) (job : Job) → 0 < size h → Pegged h step.before → ChangesBy (judged_at h job) making step job → Pegged (after_job h step job) step.after
+pegged_job making h step job some p attends = pegged_grown h (after_job h step job) step.after (grows_job h step job) (from_job making h step job some p attends)
 
 module _ (scheme : Scheme) where
   pub pegged_steps : (h : History) (n m : NotaryState) (steps : List Step) → 0 < size h → Took scheme h n steps m → Pegged h n.entries → Pegged (after_steps scheme h steps) m.entries

@@ -36,7 +36,7 @@ ghost use Rattle.ledger_model.specs.Scheme.{Scheme};
 ghost use Rattle.ledger_model.specs.Step.{Step};
 ghost use Rattle.ledger_model.specs.Targets.{hider, is_hidden, kind_at};
 ghost use Rattle.ledger_model.specs.Texts.{text, answer_to, proof_reply, extension_reply};
-ghost use Rattle.ledger_model.specs.Took.{counts_after, NoneCall, Took, TookAll};
+ghost use Rattle.ledger_model.specs.Took.{counts_after, NoneCall, Took, TookAll, GoesOnMade};
 ghost use Rattle.ledger_model.specs.Windows.{Said, said_lines, windows, AllButLastWhole, NoneWholeBefore};
 ghost use Rattle.ledger_model.specs.declared.answer.Answer.TheVariants as answers;
 ghost use Rattle.ledger_model.specs.declared.due.Due.{Due as AnyDue};
@@ -235,6 +235,11 @@ pub fn the_notary_is_attended()
         → Took scheme h n steps m → m.faults ≡ counts_after steps n.faults }
     ensures uncalled { (scheme : Scheme) (h : History) (n m : NotaryState) (steps : List Step)
         → Took scheme h n steps m → NoneCall scheme h steps → m.faults ≡ n.faults }
+    // How it makes its entries stays, and so it made each that it added.
+    ensures origin { (scheme : Scheme) (h : History) (n m : NotaryState) (steps : List Step)
+        → Took scheme h n steps m → m.origin ≡ n.origin }
+    ensures made { (scheme : Scheme) (h : History) (n m : NotaryState) (steps : List Step)
+        → Took scheme h n steps m → GoesOnMade n.origin.making n.entries m.entries }
 {}
 
 /// Whatever lines are run, the notary's list keeps the entry of each kept time journal, with its time and its salt: along

@@ -3,3 +3,4 @@ pub mod ListLaws
 pub mod LocalLaws
 pub mod OpenLaws
 pub mod UniqueLaws
+pub mod SureLaws

@@ -1,10 +1,12 @@
 -- Laws of a notary's list and its file.
-use Rattle.std.specs.Prelude.{Option, Some, None, IsTrue, Bool, IsSomeAnd, slice_get}
+use Rattle.std.specs.Prelude.{Option, Some, None, IsTrue, Bool, IsSome, IsSomeAnd, slice_get}
 use Rattle.std.specs.List.{AllByRecursion}
 use Rattle.std.specs.Int.{w64, to_be_bytes, from_be_bytes}
 use Rattle.std.proofs.Common.{◌≡◌, ℕ, zero, suc, ◌+◌, ◌-◌, ◌*◌, ◌<◌, ◌≤◌, ◌^◌, List, [], ◌∷◌, ◌++◌, length, take, refl, sym, ◌∙◌, ap, subst, arith, length-append}
+use Rattle.std.proofs.lemmas.Bool.{true≢false}
 use Rattle.std.proofs.lemmas.List.{take_at}
 use Rattle.std.proofs.lemmas.Nat.{from_be_bytes-to_be_bytes_8}
+use Rattle.ledger_bytes.specs.Causes.{count_after, Rose}
 use Rattle.ledger_disk.specs.Disk.{DiskState}
 use Rattle.time_peg.specs.Entries.{IsList, last_time, time_in, entry_of}
 use Rattle.journal_record.specs.declared.rules.TheConstants.{NOTARY_LIMIT}
@@ -87,3 +89,14 @@ has_times_push es new e k times is_k few width at is = subst HasTimes (sym is) (
   list = list_push es e times.list (omega (arith, few, is_k)) width (omega (arith, times.last, at, is_k));
   last = last_time_push 0 es e ∙ at ∙ omega (arith, length-append es (e ∷ []), is_k);
 })
+
+-- a count that rose once more is no less, and has risen
+pub least_on : (begun old now : ℕ) → begun < 2 ^ 64 → begun ≤ old → now ≡ count_after old → begun ≤ now
+least_on begun old now fits least rose = omega (arith, fits, least, rose)
+
+pub rose_on : (begun old now : ℕ) → begun ≤ old → now ≡ count_after old → Rose begun now
+rose_on begun old now least rose = omega (arith, least, rose)
+
+-- no entry's gate was called to be written
+pub none_half : (half : Option (List ℕ)) → half ≡ None → IsSome half → ⊥
+none_half half none some = true≢false (sym (subst (λ (o : Option (List ℕ)). IsSome o) none some))

@@ -1,5 +1,5 @@
 -- What every notary that has its list in memory does and answers, by that list.
-use Rattle.std.specs.Prelude.{◌≡◌, ℕ, List, Result, Err, length, map, IfOk, OnErr, MatchResult, Vec}
+use Rattle.std.specs.Prelude.{◌≡◌, ℕ, List, Result, Err, Some, length, map, IfOk, OnErr, MatchResult, Vec}
 use Rattle.std.proofs.Common.{Global}
 use Rattle.sha2.specs.Sha256.{sha256}
 use Rattle.ledger_bytes.specs.declared.digest.Digest.{Digest}
@@ -9,14 +9,13 @@ use Rattle.tree_model.specs.Path.{path}
 use Rattle.tree_model.specs.Tree.{mth, leaf}
 use Rattle.journal_record.specs.declared.rules.TheConstants.{NOTARY_LIMIT}
 use Rattle.journal_record.specs.declared.stamp.Stamp.{Stamp}
-use Rattle.time_peg.specs.Entries.{IsStamped}
+use Rattle.time_peg.specs.Entries.{IsStamped, Times, salt_of}
 use Rattle.time_peg.specs.declared.notary.NotaryErr.{NotaryErr}
 use Rattle.time_peg.specs.declared.notary.NotaryErr.TheVariants.{Full, NoMemory}
-use Rattle.notary_ledger.specs.Salts.{salt_of}
 
 -- a stamp: what it does to the list, and what it answers, with the salt that the seed gives; one that failed leaves the list
-pub record Stamps (peg seed : List ℕ) (old new : List (List ℕ)) (result : Result Stamp NotaryErr) : Type 0 where
-  pub stamped : IsStamped peg old new result
+pub record Stamps (peg seed : List ℕ) (times : Times) (old new : List (List ℕ)) (result : Result Stamp NotaryErr) : Type 0 where
+  pub stamped : IsStamped (Some (record { seed = seed; times = times })) peg old new result
   pub full : length old ≡ NOTARY_LIMIT → result ≡ Err Full
   pub same : OnErr result (new ≡ old)
   pub salt : IfOk result (λ s. s.salt.0 ≡ salt_of seed s.index)

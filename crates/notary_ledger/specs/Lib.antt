@@ -3,5 +3,4 @@ pub mod Clocks
 pub mod Listing
 pub mod Notaries
 pub mod Opening
-pub mod Salts
 pub mod Slots

@@ -1,15 +1,17 @@
 -- What notaries show, and what they keep true.
-use Rattle.std.specs.Prelude.{◌≡◌, ◌≤◌, ◌+◌, ◌*◌, ℕ, length, Bool, IsTrue, List, Option, IsSomeAnd}
+use Rattle.std.specs.Prelude.{◌≡◌, ◌<◌, ◌≤◌, ◌+◌, ◌*◌, ◌^◌, ℕ, length, replicate, Bool, IsTrue, List, Option, Some, IsSome, IsSomeAnd}
+use Rattle.ledger_bytes.specs.Causes.{Rose}
 use Rattle.ledger_disk.specs.Disk.{DiskState}
-use Rattle.time_peg.specs.Entries.{IsList, last_time}
+use Rattle.time_peg.specs.Entries.{IsList, Origin, Times, counted, last_time}
 use Rattle.notary_ledger.specs.Slots.{OnDisk, tail_of}
 
--- a notary over a disk: its disk, its clock, the seed of its salts, its list, and the entry whose gate was called to be written
--- since the last sync
+-- a notary over a disk: its disk, its clock, the seed of its salts, how many calls of the disk had failed when it was taken up, its
+-- list, and the entry whose gate was called to be written since the last sync
 pub record Shown (D C : Type 0) : Type 0 where
   pub disk : D
   pub clock : C
   pub seed : List ℕ
+  pub begun : ℕ
   pub entries : List (List ℕ)
   -- the entry whose gate was called to be written since the last sync that succeeded
   pub half : Option (List ℕ)
@@ -19,6 +21,26 @@ pub record Sound (tells : Bool) (es : List (List ℕ)) (half : Option (List ℕ)
   pub list : IsList es
   pub told : IsSomeAnd disk.told (λ n. tail_of es + 1 ≤ n)
   pub on_disk : IsTrue tells → OnDisk es half disk.bytes
+
+-- .. and what it keeps true of failures: an entry whose gate was called to be written, and not for good, is there only behind a
+-- failure
+pub record Keeps (tells : Bool) (es : List (List ℕ)) (half : Option (List ℕ)) (begun : ℕ) (disk : DiskState) : Type 0 where
+  pub sound : Sound tells es half disk
+  pub fits : begun < 2 ^ 64
+  pub least : begun ≤ disk.faults
+  pub failed : IsSome half → Rose begun disk.faults
+
+-- what stays of a notary with this seed, these times and this count of failures at its beginning
+abbrev pub origin_of : List ℕ → Times → ℕ → Origin
+origin_of seed times begun = record { making = Some (record { seed = seed; times = times }); faults = begun }
+
+-- the seed of a notary in memory: 32 zeros
+abbrev pub memory_seed : List ℕ
+memory_seed = replicate 32 0
+
+-- what stays of a notary in memory
+abbrev pub memory_origin : Origin
+memory_origin = origin_of memory_seed counted 0
 
 -- a notary in memory: its list, the numbers of the stamps that are to fail, how many were called, and its failures
 pub record MemShown : Type 0 where

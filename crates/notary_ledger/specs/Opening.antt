@@ -1,7 +1,7 @@
 -- What reopening reads and answers.
-use Rattle.std.specs.Prelude.{◌≡◌, ◌≢◌, ◌⊎◌, ℕ, ◌<◌, ◌≤◌, ◌+◌, List, length, get_or, take, drop, Option, Some, None, Result, MatchResult}
+use Rattle.std.specs.Prelude.{◌≡◌, ◌≢◌, ◌⊎◌, ℕ, ◌<◌, ◌≤◌, ◌+◌, List, [], ◌∷◌, length, get_or, take, drop, Option, Some, None, Result, MatchResult}
 use Rattle.ledger_bytes.specs.Causes.{count_after}
-use Rattle.ledger_disk.specs.Disk.{State, MayLeave}
+use Rattle.ledger_disk.specs.Disk.{State, MayLeave, overlay}
 use Rattle.block_file.specs.declared.failure.FileErr.{FileErr}
 use Rattle.block_file.specs.declared.failure.FileErr.TheVariants.{DiskFault, Damaged, NewerFormat, NoMemory}
 use Rattle.time_peg.specs.Entries.{time_in}
@@ -28,3 +28,7 @@ CountsOpen result old new = MatchResult result (λ _. new ≡ old) (λ e. Counts
 -- an image has the list of some image that a crash might have left before
 abbrev pub KeepsList : State → List ℕ → Type 0
 KeepsList s image = (before : List ℕ) × MayLeave s before × ((es : List (List ℕ)) → Lists es before → Lists es image)
+
+-- what is read once the gate at this place was shut again, where it wasn't: nothing else is changed, and nothing is cut
+abbrev pub IsShutAgain : ℕ → List ℕ → List ℕ → Type 0
+IsShutAgain at before after = (after ≡ before) ⊎ (after ≡ overlay at (0 ∷ []) before)

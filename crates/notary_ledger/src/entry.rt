@@ -1,6 +1,5 @@
 ghost use Rattle.std.specs.Prelude.{◌≡◌, length};
-ghost use Rattle.time_peg.specs.Entries.{entry_of, time_in};
-ghost use Rattle.notary_ledger.specs.Salts.{salt_of};
+ghost use Rattle.time_peg.specs.Entries.{entry_of, salt_of, time_in};
 
 use ledger_bytes::{Digest, Sha, Tag, TreeHash};
 use time_peg::{ENTRY_LEN, entry_bytes};

@@ -28,6 +28,7 @@ mod memory;
 mod open;
 mod real_clock;
 mod slot;
+mod sure;
 
 pub use clock::Clock;
 pub use laws::{a_file_has_one_list, a_stop_leaves_the_list};
@@ -35,3 +36,4 @@ pub use list_clock::ListClock;
 pub use local::LocalNotary;
 pub use memory::MemNotary;
 pub use real_clock::RealClock;
+pub use sure::SureNotary;

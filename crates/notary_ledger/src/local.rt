@@ -1,10 +1,12 @@
-ghost use Rattle.std.specs.Prelude.{◌≡◌, ◌⊎◌, ◌<◌, ◌≤◌, ℕ, IsTrue, List, Some, None, length, max, slice_get, MatchResult, IsOk, IfOk, IfErr, OnOk, OnErr};
+ghost use Rattle.std.specs.Prelude.{◌≡◌, ◌⊎◌, ◌<◌, ◌≤◌, ◌*◌, ℕ, IsTrue, List, Some, None, length, max, slice_get, IsSome, MatchResult, IsOk, IfOk, IfErr, OnOk, OnErr};
+ghost use Rattle.ledger_bytes.specs.Causes.{Rose};
 ghost use Rattle.ledger_disk.specs.Disk.{MayLeave};
 ghost use Rattle.time_peg.specs.Entries.{IsList, CountsFailures, entry_of, last_time};
 ghost use Rattle.notary_ledger.specs.Answering.{AnswersHead, AnswersPath, AnswersProof, Stamps};
-ghost use Rattle.notary_ledger.specs.Clocks.{HasAdvanced};
+ghost use Rattle.notary_ledger.specs.Clocks.{HasAdvanced, clock_times};
+ghost use Rattle.notary_ledger.specs.Notaries.{origin_of};
 ghost use Rattle.notary_ledger.specs.Slots.{Lists, MayList};
-ghost use Rattle.notary_ledger.specs.Opening.{CountsOpenAt, KeepsList};
+ghost use Rattle.notary_ledger.specs.Opening.{CountsOpenAt, IsShutAgain, KeepsList};
 
 use crate::Clock;
 use crate::entry::{new_entry, salt_for};
@@ -28,13 +30,15 @@ pub struct LocalNotary<D: Disk, C: Clock> {
     disk: D,
     clock: C,
     seed: Digest,
+    /// How many calls of the disk had failed when the list was taken up.
+    begun: u64,
     list: Entries,
     /// The entry whose gate was called to be written since the last sync that succeeded.
     half: Option<[u8; ENTRY_LEN]>,
 }
 
 impl<D: Disk, C: Clock> Model for LocalNotary<D, C> {
-    ghost use Rattle.notary_ledger.specs.Notaries.{Shown, Sound};
+    ghost use Rattle.notary_ledger.specs.Notaries.{Shown, Keeps};
 
     ghost Value = { Shown D C };
 
@@ -42,11 +46,12 @@ impl<D: Disk, C: Clock> Model for LocalNotary<D, C> {
       disk = n.disk;
       clock = n.clock;
       seed = n.seed.0;
+      begun = n.begun;
       entries = n.list.entries;
       half = n.half;
     } };
 
-    ghost invariant = { λ n. Sound D.tells n.list.entries n.half (D.state n.disk) };
+    ghost invariant = { λ n. Keeps D.tells n.list.entries n.half n.begun (D.state n.disk) };
 }
 
 impl<D: Disk, C: Clock> LocalNotary<D, C> {
@@ -63,6 +68,11 @@ impl<D: Disk, C: Clock> LocalNotary<D, C> {
             → Lists n.entries (D.state disk).bytes.seen) }
         ensures half { IfOk result (λ n. n.half ≡ None) }
         ensures kept { IfOk result (λ n. (n.clock ≡ clock) × (n.seed ≡ seed.0)) }
+        ensures lawful { IfOk result (λ n. IsList n.entries) }
+        // Nothing is cut, also where bytes stand behind the tail gate.
+        ensures same { IfOk result (λ n. IsTrue D.tells
+            → IsShutAgain (73 * length n.entries) (D.state disk).bytes.seen (D.state n.disk).bytes.seen) }
+        ensures begun { IfOk result (λ n. n.begun ≡ (D.state disk).faults) }
         // What a crash leaves of a refused disk has the list of something that a crash might have left before.
         ensures err { IfErr result (λ e. IsTrue D.tells → (image : List ℕ)
             → MayLeave (D.state e.1).bytes image → KeepsList (D.state disk).bytes image) }
@@ -71,11 +81,13 @@ impl<D: Disk, C: Clock> LocalNotary<D, C> {
             (λ e. CountsOpenAt e.0 (D.state disk).faults (D.state e.1).faults) }
     {
         let mut disk = disk;
+        let begun = disk.faults();
         match load(alloc, &mut disk) {
             Ok(list) => Ok(LocalNotary {
                 disk,
                 clock,
                 seed,
+                begun,
                 list,
                 half: None,
             }),
@@ -91,10 +103,12 @@ impl<D: Disk, C: Clock> LocalNotary<D, C> {
     }
 
     /// In each image that a crash may leave of the disk stands the list, or that and the entry in `half`, whose
-    /// stamp didn't answer Ok.
+    /// stamp didn't answer Ok: such a one is there only where a call of the disk failed since the list was taken up.
     pub fn images_have_the_list(&self)
-        ensures { IsTrue D.tells → (image : List ℕ) → MayLeave (D.state self.now.disk).bytes image
+        ensures images { IsTrue D.tells → (image : List ℕ) → MayLeave (D.state self.now.disk).bytes image
             → MayList self.now.entries self.now.half image }
+        ensures failed { IsSome self.now.half → Rose self.now.begun (D.state self.now.disk).faults }
+        ensures lawful { IsList self.now.entries }
     {
         // Where a field is read, what the notary keeps true of its fields is known.
         let _ = &self.disk;
@@ -102,10 +116,15 @@ impl<D: Disk, C: Clock> LocalNotary<D, C> {
 }
 
 impl<D: Disk, C: Clock> Notary for LocalNotary<D, C> {
-    ghost state = { λ n. record { entries = n.entries; faults = (D.state n.disk).faults } };
+    ghost state = { λ n. record {
+      origin = origin_of n.seed (clock_times C.tells (C.moments n.clock)) n.begun;
+      entries = n.entries;
+      faults = (D.state n.disk).faults;
+    } };
 
     fn stamp(&mut self, _alloc: Global, peg: &Digest) -> Result<Stamp, NotaryErr>
-        ensures list { Stamps peg.now.0 self.old.seed self.old.entries self.new.entries result }
+        ensures list { Stamps peg.now.0 self.old.seed (clock_times C.tells (C.moments self.old.clock))
+            self.old.entries self.new.entries result }
         ensures lawful { IsList self.new.entries }
         ensures faults { CountsFailures result (D.state self.old.disk).faults (D.state self.new.disk).faults }
         ensures time { IfOk result (λ s. IsTrue C.tells
@@ -120,7 +139,8 @@ impl<D: Disk, C: Clock> Notary for LocalNotary<D, C> {
             (HasAdvanced (C.moment self.old.clock) (C.moment self.new.clock)) }
         ensures clock_err { IsTrue C.tells → OnErr result ((self.new.clock ≡ self.old.clock)
             ⊎ HasAdvanced (C.moment self.old.clock) (C.moment self.new.clock)) }
-        ensures seed { self.new.seed ≡ self.old.seed }
+        ensures origin { origin_of self.new.seed (clock_times C.tells (C.moments self.new.clock)) self.new.begun
+            ≡ origin_of self.old.seed (clock_times C.tells (C.moments self.old.clock)) self.old.begun }
     {
         let index = self.list.len();
         if index >= NOTARY_LIMIT {

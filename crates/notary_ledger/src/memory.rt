@@ -1,7 +1,8 @@
-ghost use Rattle.std.specs.Prelude.{◌≡◌, ◌+◌, ◌*◌, ◌-◌, ◌^◌, ◌<◌, ◌≤◌, ◌≢◌, [], Err, Some, length, min, replicate, slice_get, IsOk, IfOk};
+ghost use Rattle.std.specs.Prelude.{◌≡◌, ◌+◌, ◌*◌, ◌-◌, ◌^◌, ◌<◌, ◌≤◌, ◌≢◌, [], Err, Some, length, min, slice_get, IsOk, IfOk};
 ghost use Rattle.std.specs.List.{Contains};
 ghost use Rattle.journal_record.specs.declared.rules.TheConstants.{NOTARY_LIMIT};
-ghost use Rattle.time_peg.specs.Entries.{IsList, CountsFailures};
+ghost use Rattle.time_peg.specs.Entries.{IsList, CountsFailures, counted};
+ghost use Rattle.notary_ledger.specs.Notaries.{memory_origin, memory_seed};
 ghost use Rattle.notary_ledger.specs.Answering.{AnswersHead, AnswersPath, AnswersProof, Stamps};
 
 use crate::entry::{new_entry, salt_for};
@@ -54,10 +55,14 @@ impl MemNotary {
 }
 
 impl Notary for MemNotary {
-    ghost state = { λ n. record { entries = n.entries; faults = n.faults } };
+    ghost state = { λ n. record {
+      origin = memory_origin;
+      entries = n.entries;
+      faults = n.faults;
+    } };
 
     fn stamp(&mut self, _alloc: Global, peg: &Digest) -> Result<Stamp, NotaryErr>
-        ensures list { Stamps peg.now.0 (replicate 32 0) self.old.entries self.new.entries result }
+        ensures list { Stamps peg.now.0 memory_seed counted self.old.entries self.new.entries result }
         ensures lawful { IsList self.new.entries }
         ensures faults { CountsFailures result self.old.faults self.new.faults }
         ensures time { IfOk result (λ s. s.time ≡ 1000 * (s.index + 1)) }

@@ -3,7 +3,7 @@ ghost use Rattle.ledger_disk.specs.Disk.{MayLeave, CountsFault, KeepsLength, set
 ghost use Rattle.time_peg.specs.Entries.{IsList, time_in};
 ghost use Rattle.notary_ledger.specs.Slots.{Lists, Shut, tail_of};
 ghost use Rattle.notary_ledger.specs.Notaries.{Sound};
-ghost use Rattle.notary_ledger.specs.Opening.{IsSlot, CountsOpen, KeepsList};
+ghost use Rattle.notary_ledger.specs.Opening.{IsSlot, IsShutAgain, CountsOpen, KeepsList};
 
 use crate::entry::time_of;
 use crate::list::Entries;
@@ -23,6 +23,8 @@ pub(crate) fn load<D: Disk>(alloc: Global, disk: &mut D) -> Result<Entries, File
     // What a crash leaves of a refused disk has the list of something that a crash might have left before.
     ensures err { OnErr result (IsTrue D.tells → (image : List ℕ)
         → MayLeave (D.state disk.new).bytes image → KeepsList (D.state disk.old).bytes image) }
+    ensures same { IfOk result (λ list. IsTrue D.tells
+        → IsShutAgain (73 * length list.entries) (D.state disk.old).bytes.seen (D.state disk.new).bytes.seen) }
     ensures faults { CountsOpen result (D.state disk.old).faults (D.state disk.new).faults }
 {
     disk.sync()?;
@@ -115,6 +117,8 @@ fn shut_tail<D: Disk>(disk: &mut D, len: u64, at: u64) -> Result<(), Failed>
         → (D.state disk.old).bytes ≡ settled_state (D.state disk.old).bytes.seen
         → (es : List (List ℕ)) → tail_of es ≡ at → Lists es (D.state disk.old).bytes.seen
         → MayLeave (D.state disk.new).bytes image → Lists es image) }
+    ensures same { OnOk result (IsTrue D.tells
+        → IsShutAgain at (D.state disk.old).bytes.seen (D.state disk.new).bytes.seen) }
     ensures told { OnOk result (IsSomeAnd (D.state disk.new).told (λ n. at + 1 ≤ n)) }
     ensures faults { CountsFault result (D.state disk.old).faults (D.state disk.new).faults }
 {

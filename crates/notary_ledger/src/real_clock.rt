@@ -23,6 +23,8 @@ impl<R: SystemClock + Drop> Clock for RealClock<R> {
 
     ghost moment = { λ _ _. 0 };
 
+    ghost moments = { λ _ _. 0 };
+
     fn now_ms(&mut self) -> u64 {
         milliseconds(&self.system).unwrap_or(0)
     }

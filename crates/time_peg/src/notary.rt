@@ -29,15 +29,16 @@ pub enum NotaryErr {
 /// A notary keeps a list of at most 16,777,216 entries, whose times never fall. An entry has 72 bytes, which are laid out
 /// as [`entry_bytes`](crate::entry_bytes) says. The list has the tree of RFC 6962 over its entries, under SHA-256.
 pub trait Notary {
-    /// The list, and how many calls failed.
+    /// What stays of it, the list, and how many calls failed.
     ghost state: { Self → NotaryState };
 
     /// Appends an entry with this peg. It takes its memory before it appends anything. After `Failed` the list is as
     /// before, or one such entry longer.
     fn stamp(&mut self, alloc: Global, peg: &Digest) -> Result<Stamp, NotaryErr>
-        ensures list { IsStamped peg.now.0 (state self.old).entries (state self.new).entries result }
+        ensures list { IsStamped (state self.old).origin.making peg.now.0 (state self.old).entries (state self.new).entries result }
         ensures full { length (state self.old).entries ≡ NOTARY_LIMIT → result ≡ Err NotaryErr.Full }
         ensures lawful { IsList (state self.new).entries }
+        ensures origin { (state self.new).origin ≡ (state self.old).origin }
         ensures faults { CountsFailures result (state self.old).faults (state self.new).faults };
 
     /// The number of entries, and the root over them.
@@ -47,6 +48,7 @@ pub trait Notary {
         ensures err { IfErr result (λ e. e ≡ NotaryErr.Failed) }
         ensures same { (state self.new).entries ≡ (state self.old).entries }
         ensures lawful { IsList (state self.new).entries }
+        ensures origin { (state self.new).origin ≡ (state self.old).origin }
         ensures faults { CountsFailures result (state self.old).faults (state self.new).faults };
 
     /// The bytes of entry k, which a proof shows of a bound.
@@ -55,6 +57,7 @@ pub trait Notary {
         ensures entry { IfOk result (λ entry. slice_get (state self.old).entries k ≡ Some entry) }
         ensures err { IfErr result (λ e. e ≡ NotaryErr.Failed) }
         ensures same { (state self.new).entries ≡ (state self.old).entries }
+        ensures origin { (state self.new).origin ≡ (state self.old).origin }
         ensures faults { CountsFailures result (state self.old).faults (state self.new).faults };
 
     /// The path of entry k in the tree over all entries.
@@ -64,6 +67,7 @@ pub trait Notary {
             ≡ paths.path sha256 k (map (leaf sha256) (state self.old).entries)) }
         ensures err { IfErr result (λ e. e ≢ NotaryErr.Full) }
         ensures same { (state self.new).entries ≡ (state self.old).entries }
+        ensures origin { (state self.new).origin ≡ (state self.old).origin }
         ensures faults { CountsFailures result (state self.old).faults (state self.new).faults };
 
     /// The proof that the tree over all entries goes on from the tree over the first m.
@@ -74,6 +78,7 @@ pub trait Notary {
             ≡ extensions.proof sha256 m (map (leaf sha256) (state self.old).entries)) }
         ensures err { IfErr result (λ e. e ≢ NotaryErr.Full) }
         ensures same { (state self.new).entries ≡ (state self.old).entries }
+        ensures origin { (state self.new).origin ≡ (state self.old).origin }
         ensures faults { CountsFailures result (state self.old).faults (state self.new).faults };
 
     /// How many calls failed. The count stays at 2^64 - 1 once it is there.

@@ -1,0 +1,5 @@
+use Rattle.std.proofs.Common.{rules, slice_index_or}
+use Rattle.notary_ledger.proofs.list_clock.ListClockClock.now_ms.Goals as goal
+
+pub returns-clause-among : goal.returns-clause-among
+returns-clause-among c = (c.self.inside.answered, search rules)
