@@ -6,3 +6,4 @@ pub mod YesLaws
 pub mod LineLaws
 pub mod SoundLaws
 pub mod EndLaws
+mod ShownLaws

@@ -7,7 +7,7 @@ ghost use Rattle.proof_codec.specs.Reading.{proof_of};
 ghost use Rattle.script_lines.specs.declared.said.Which.{Which as Tree};
 ghost use Rattle.ledger_io.specs.Lines.{lines_of};
 ghost use Rattle.tree_model.specs.Tree.{Hash, mth};
-ghost use Rattle.tree_model.specs.Clash.{Clashes};
+ghost use Rattle.tree_model.specs.Clash.{Clashes, IsClash};
 ghost use Rattle.audit_core.specs.Trust.{Trust, root_of};
 ghost use Rattle.audit_core.specs.Truth.{Lists, lists_of, HasJournal, IsTrueOf};
 ghost use Rattle.audit_core.specs.Judgement.{IsAcceptedByOwn, IsUnderHead, leaf_clash, clash_of};
@@ -108,4 +108,14 @@ pub fn extended_heads_go_on()
 pub fn scripts_are_sound()
     ensures { (hash : Hash) (lines : List (List ℕ)) → ((message : List ℕ) → length (hash message) ≡ 32)
         → IsSoundText hash lines (audit_text hash lines) }
+{}
+
+/// Where a `judge` line is answered by two strings, these are different and have one digest (so, and said by no clause of
+/// the text).
+pub fn judged_clashes_are_clashes()
+    ensures { (hash : Hash) (lines : List (List ℕ)) (line : List ℕ) (id : DigestRecord)
+        (headers entries : List ℕ) (claim : ClaimRecord) (bytes told truth : List ℕ)
+        → ((message : List ℕ) → length (hash message) ≡ 32)
+        → line_of line ≡ Ok (Judge id headers entries claim bytes)
+        → reply_behind hash lines line ≡ Clash told truth → IsClash hash told truth }
 {}

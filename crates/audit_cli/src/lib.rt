@@ -11,7 +11,7 @@ mod top;
 mod words;
 
 pub use laws::{
-    checked_claims_are_true, extended_heads_go_on, judged_claims_are_told, replies_are_lines,
-    replies_stand_in_place, scripts_are_sound,
+    checked_claims_are_true, extended_heads_go_on, judged_claims_are_told,
+    judged_clashes_are_clashes, replies_are_lines, replies_stand_in_place, scripts_are_sound,
 };
 pub use top::{audit_run, audit_top};

@@ -56,6 +56,12 @@ hard_as : (l : Limits) (h : History) (b : Bool) → is_full l.hard l h ≡ b →
 unfolding hard_fullness
 hard_as l h b is = sym (ap (λ v. cond v (Some (Full (kept_count h) (size h))) None) is)
 
+-- whether there is no room, by a book's numbers
+pub hard_full : (k : Kept) (h : History) (n : ℕ) → Serves k h → n ≡ k.size - k.point → (nat_le k.limits.hard n || nat_le k.limits.size k.size) ≡ is_full k.limits.hard k.limits h
+hard_full k h n s is =
+    ap (λ m. nat_le k.limits.hard m || nat_le k.limits.size k.size) (kept_is k h n s is)
+    ∙ ap (λ m. nat_le k.limits.hard (kept_count h) || nat_le k.limits.size m) s.stands.counts.size
+
 pub hard_by_kept : (k : Kept) (h : History) (n : ℕ) → Serves k h → n ≡ k.size - k.point → k.limits.hard ≤ n → Some (Full n k.size) ≡ hard_fullness k.limits h
 hard_by_kept k h n s is most =
     let test : nat_le k.limits.hard (kept_count h) ≡ true = le-leb k.limits.hard (kept_count h) (omega (arith, most, kept_is k h n s is)) in

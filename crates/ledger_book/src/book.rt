@@ -9,6 +9,7 @@ ghost use Rattle.ledger_model.specs.Clues.{jsns_with};
 ghost use Rattle.ledger_model.specs.Genesis.{new_ledger};
 ghost use Rattle.ledger_model.specs.History as model;
 ghost use Rattle.ledger_model.specs.History.{History, close};
+ghost use Rattle.ledger_model.specs.Judgements.{is_full};
 ghost use Rattle.ledger_model.specs.Limits.{AreWithin};
 ghost use Rattle.ledger_model.specs.Outcomes as outcomes;
 ghost use Rattle.ledger_model.specs.Texts.{kept_with};
@@ -247,11 +248,19 @@ impl Book {
     }
 
     /// How many journals wait in the open block.
-    pub fn waiting_count(&self) -> u64
+    pub fn unsealed(&self) -> u64
         ensures count { (h : History) → Stands self.now h → result ≡ length h.waiting }
         ensures number { self.now.sealed + result ≡ self.now.size }
     {
         self.size - self.head.size
+    }
+
+    /// Whether there is no room for a journal of the operator, so that an anchor is refused.
+    pub fn full(&self) -> bool
+        ensures { (h : History) → Serves self.now h
+            → result ≡ is_full self.now.limits.hard self.now.limits h }
+    {
+        self.size.saturating_sub(self.point) >= self.limits.hard || self.size >= self.limits.size
     }
 
     /// How many journals a clue has over the whole history, and the numbers of those from the point on, ascending. No
