@@ -8,7 +8,7 @@ use Rattle.script_lines.specs.declared.reply.Reply.TheVariants as reply
 use Rattle.script_lines.specs.declared.said.Which.{Which}
 use Rattle.ledger_bytes.specs.Causes.{count_after}
 use Rattle.journal_record.specs.declared.rules.TheConstants.{NOTARY_LIMIT}
-use Rattle.time_peg.specs.Entries.{NotaryState, IsStamped, HasOneMore, CountsFailures}
+use Rattle.time_peg.specs.Entries.{Making, NotaryState, IsStamped, HasOneMore, CountsFailures}
 use Rattle.time_peg.specs.declared.notary.NotaryErr.{NotaryErr}
 use Rattle.time_peg.specs.declared.notary.NotaryErr.TheVariants.{Failed, Full, NoMemory}
 use Rattle.ledger_model.specs.Anchors.{stamp_of, no_stamp}
@@ -64,19 +64,19 @@ unstamped_judged k h step why p accepted none is = record {
 pub accepted_real : (k : CommitterState) (h : History) → Keeps k h → HasOperatorRoom k.book → own_refusal real_limits h Anchor ≡ None
 accepted_real k h p room = subst (λ limits. own_refusal limits h Anchor ≡ None) p.limits (anchor_accepted k.book h p.serves room)
 
-pub full_of : (peg : List ℕ) (old new : List (List ℕ)) (before now : ℕ) (e : NotaryErr) → e ≡ Full → IsStamped peg old new (Err e) → CountsFailures {T = Stamp} (Err e) before now → (new ≡ old) × (length old ≡ NOTARY_LIMIT) × (now ≡ before)
-full_of peg old new before now e is list count =
-    let l = subst (λ x. IsStamped peg old new (Err x)) is list in (l.0, l.1, subst (λ x. CountsFailures {T = Stamp} (Err x) before now) is count)
+pub full_of : (making : Option Making) (peg : List ℕ) (old new : List (List ℕ)) (before now : ℕ) (e : NotaryErr) → e ≡ Full → IsStamped making peg old new (Err e) → CountsFailures {T = Stamp} (Err e) before now → (new ≡ old) × (length old ≡ NOTARY_LIMIT) × (now ≡ before)
+full_of making peg old new before now e is list count =
+    let l = subst (λ x. IsStamped making peg old new (Err x)) is list in (l.0, l.1, subst (λ x. CountsFailures {T = Stamp} (Err x) before now) is count)
 
-pub failed_of : (peg : List ℕ) (old new : List (List ℕ)) (before now : ℕ) (e : NotaryErr) → e ≡ Failed → IsStamped peg old new (Err e) → CountsFailures {T = Stamp} (Err e) before now → ((new ≡ old) ⊎ HasOneMore peg old new) × (now ≡ count_after before)
-failed_of peg old new before now e is list count = (subst (λ x. IsStamped peg old new (Err x)) is list, subst (λ x. CountsFailures {T = Stamp} (Err x) before now) is count)
+pub failed_of : (making : Option Making) (peg : List ℕ) (old new : List (List ℕ)) (before now : ℕ) (e : NotaryErr) → e ≡ Failed → IsStamped making peg old new (Err e) → CountsFailures {T = Stamp} (Err e) before now → ((new ≡ old) ⊎ HasOneMore making peg old new) × (now ≡ count_after before)
+failed_of making peg old new before now e is list count = (subst (λ x. IsStamped making peg old new (Err x)) is list, subst (λ x. CountsFailures {T = Stamp} (Err x) before now) is count)
 
 -- where memory was short nothing changed
-pub memory_of : (peg : List ℕ) (n m : NotaryState) (e : NotaryErr) → e ≡ NoMemory → IsStamped peg n.entries m.entries (Err e) → CountsFailures {T = Stamp} (Err e) n.faults m.faults → m ≡ n
-memory_of peg n m e is list count =
-    let entries : m.entries ≡ n.entries = subst (λ x. IsStamped peg n.entries m.entries (Err x)) is list in
+pub memory_of : (peg : List ℕ) (n m : NotaryState) (e : NotaryErr) → e ≡ NoMemory → m.origin ≡ n.origin → IsStamped n.origin.making peg n.entries m.entries (Err e) → CountsFailures {T = Stamp} (Err e) n.faults m.faults → m ≡ n
+memory_of peg n m e is origin list count =
+    let entries : m.entries ≡ n.entries = subst (λ x. IsStamped n.origin.making peg n.entries m.entries (Err x)) is list in
     let faults : m.faults ≡ n.faults = subst (λ x. CountsFailures {T = Stamp} (Err x) n.faults m.faults) is count in
-    λ i. record { entries = entries i; faults = faults i }
+    λ i. record { origin = origin i; entries = entries i; faults = faults i }
 
 result_full : Result Stamp NotaryErr → Type 0
 result_full (Ok s) = ⊥

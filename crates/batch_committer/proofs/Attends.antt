@@ -12,7 +12,7 @@ use Rattle.ledger_bytes.specs.declared.refusal.Refusal.TheVariants.{NotaryFault,
 use Rattle.ledger_bytes.specs.Causes.{count_after}
 use Rattle.journal_record.specs.declared.rules.TheConstants.{NOTARY_LIMIT}
 use Rattle.journal_record.specs.declared.stamp.Stamp.{Stamp}
-use Rattle.time_peg.specs.Entries.{NotaryState, IsList, HasOneMore, CountsFailures, entry_of, time_in}
+use Rattle.time_peg.specs.Entries.{NotaryState, IsList, HasOneMore, IsMade, CountsFailures, entry_of, time_in}
 use Rattle.time_peg.specs.declared.notary.NotaryErr.{NotaryErr}
 use Rattle.time_peg.specs.declared.notary.NotaryErr.TheVariants.{Failed}
 use Rattle.ledger_model.specs.Anchors.{peg_at, is_full_list, stamp_from, stamp_of, no_stamp}
@@ -51,7 +51,8 @@ unfailed failed = absurd (true≢false (sym failed))
 -- it took part in the step of a job that asks for nothing
 untouched : (n : NotaryState) (h : History) (lane index : ℕ) (line : List ℕ) (job : Job) (asked : Bool) → asks h n.entries job ≡ asked → asked ≡ false → Attended n n h (step_in n n false lane index line) job
 untouched n h lane index line job asked is none = record {
-  list = record { list = subst (λ v. Changes v false (peg_at h (size h)) n.entries n.entries) (sym (is ∙ none)) refl; called = unfailed };
+  list = record { list = subst (λ v. Changes v false n.origin.making (peg_at h (size h)) n.entries n.entries) (sym (is ∙ none)) refl; called = unfailed };
+  origin = refl;
   count = refl;
 }
 
@@ -91,15 +92,15 @@ pub ends_untouched : (old : CommitterState) (n : NotaryState) (job : Job) → En
 ends_untouched old n job = elim (untouched_by n job) [ inl f ↦ inl (false, λ h lane index line p. f h lane index line) | inr is ↦ inr (is, refl) ]
 
 -- the head of its list was asked for
-pub attends_head : (n m : NotaryState) (h : History) (lane index : ℕ) (line : List ℕ) → m.entries ≡ n.entries → m.faults ≡ n.faults → Attended n m h (step_in n m false lane index line) Head
-attends_head n m h lane index line same count = record { list = record { list = same; called = unfailed }; count = count }
+pub attends_head : (n m : NotaryState) (h : History) (lane index : ℕ) (line : List ℕ) → m.origin ≡ n.origin → m.entries ≡ n.entries → m.faults ≡ n.faults → Attended n m h (step_in n m false lane index line) Head
+attends_head n m h lane index line origin same count = record { list = record { list = same; called = unfailed }; origin = origin; count = count }
 
-pub attends_headless : (n m : NotaryState) (h : History) (lane index : ℕ) (line : List ℕ) (e : NotaryErr) → e ≡ Failed → m.entries ≡ n.entries → CountsFailures {T = Unit {0}} (Err e) n.faults m.faults → Attended n m h (step_in n m true lane index line) Head
-attends_headless n m h lane index line e is same count = record { list = record { list = same; called = λ failed. refl }; count = subst (λ x. CountsFailures {T = Unit {0}} (Err x) n.faults m.faults) is count }
+pub attends_headless : (n m : NotaryState) (h : History) (lane index : ℕ) (line : List ℕ) (e : NotaryErr) → e ≡ Failed → m.origin ≡ n.origin → m.entries ≡ n.entries → CountsFailures {T = Unit {0}} (Err e) n.faults m.faults → Attended n m h (step_in n m true lane index line) Head
+attends_headless n m h lane index line e is origin same count = record { list = record { list = same; called = λ failed. refl }; origin = origin; count = subst (λ x. CountsFailures {T = Unit {0}} (Err x) n.faults m.faults) is count }
 
 -- ---- a stamp
 
-module _ (n m : NotaryState) (peg : List ℕ) (wide : length peg ≡ 32) (s : Stamp) (fits : s.time < 2 ^ 64) (is : m.entries ≡ n.entries ++ entry_of s.time peg s.salt.0 ∷ []) (list : IsList m.entries) where
+module _ (n m : NotaryState) (peg : List ℕ) (wide : length peg ≡ 32) (s : Stamp) (fits : s.time < 2 ^ 64) (is : m.entries ≡ n.entries ++ entry_of s.time peg s.salt.0 ∷ []) (made : IsMade n.origin.making n.entries s.time s.salt.0) (list : IsList m.entries) where
   abbrev e : List ℕ
   e = entry_of s.time peg s.salt.0
 
@@ -123,33 +124,35 @@ module _ (n m : NotaryState) (peg : List ℕ) (wide : length peg ≡ 32) (s : St
       ∙ ap (λ l. Some (record { index = length n.entries; time = s.time; salt = digest l })) salt_is
       ∙ ap (λ i. Some (record { index = i; time = s.time; salt = s.salt })) (sym at)
 
-  pub attends_stamped : (h : History) (lane index : ℕ) (line : List ℕ) → own_refusal real_limits h Anchor ≡ None → peg ≡ peg_at h (size h) → m.faults ≡ n.faults → Attended n m h (step_in n m false lane index line) Anchor
-  attends_stamped h lane index line accepted pegs same = record {
+  pub attends_stamped : (h : History) (lane index : ℕ) (line : List ℕ) → own_refusal real_limits h Anchor ≡ None → peg ≡ peg_at h (size h) → m.origin ≡ n.origin → m.faults ≡ n.faults → Attended n m h (step_in n m false lane index line) Anchor
+  attends_stamped h lane index line accepted pegs origin same = record {
     list = record {
-      list = subst (λ v. Changes v false (peg_at h (size h)) n.entries m.entries)
+      list = subst (λ v. Changes v false n.origin.making (peg_at h (size h)) n.entries m.entries)
           (sym (ap (λ o. is_none o && nat_lt (length n.entries) NOTARY_LIMIT) accepted ∙ lt-ltb (length n.entries) NOTARY_LIMIT room))
-          ((s.time, s.salt.0, fits, is ∙ ap (λ p. n.entries ++ entry_of s.time p s.salt.0 ∷ []) pegs), list);
+          ((s.time, s.salt.0, fits, is ∙ ap (λ p. n.entries ++ entry_of s.time p s.salt.0 ∷ []) pegs, made), list);
       called = unfailed;
     };
+    origin = origin;
     count = same;
   }
 
 -- it failed
-module _ (n m : NotaryState) (peg : List ℕ) (left : (m.entries ≡ n.entries) ⊎ HasOneMore peg n.entries m.entries) (list : IsList m.entries) (full : length n.entries ≢ NOTARY_LIMIT) where
+module _ (n m : NotaryState) (peg : List ℕ) (left : (m.entries ≡ n.entries) ⊎ HasOneMore n.origin.making peg n.entries m.entries) (list : IsList m.entries) (full : length n.entries ≢ NOTARY_LIMIT) where
   few : length n.entries < NOTARY_LIMIT
   few = elim left [
     | inl same ↦ omega (arith, list.few, ap length same, full)
     | inr more ↦ omega (arith, list.few, ap length more.3, length-append n.entries (entry_of more.0 peg more.1 ∷ []))
   ]
 
-  pub attends_failed : (h : History) (lane index : ℕ) (line : List ℕ) → own_refusal real_limits h Anchor ≡ None → peg ≡ peg_at h (size h) → m.faults ≡ count_after n.faults → Attended n m h (step_in n m true lane index line) Anchor
-  attends_failed h lane index line accepted pegs rose =
+  pub attends_failed : (h : History) (lane index : ℕ) (line : List ℕ) → own_refusal real_limits h Anchor ≡ None → peg ≡ peg_at h (size h) → m.origin ≡ n.origin → m.faults ≡ count_after n.faults → Attended n m h (step_in n m true lane index line) Anchor
+  attends_failed h lane index line accepted pegs origin rose =
       let asked : asks h n.entries Anchor ≡ true = ap (λ o. is_none o && nat_lt (length n.entries) NOTARY_LIMIT) accepted ∙ lt-ltb (length n.entries) NOTARY_LIMIT few in record {
         list = record {
-          list = subst (λ v. Changes v true (peg_at h (size h)) n.entries m.entries) (sym asked)
-              (elim left [ inl same ↦ inl same | inr more ↦ inr (subst (λ p. HasOneMore p n.entries m.entries) pegs more, list) ]);
+          list = subst (λ v. Changes v true n.origin.making (peg_at h (size h)) n.entries m.entries) (sym asked)
+              (elim left [ inl same ↦ inl same | inr more ↦ inr (subst (λ p. HasOneMore n.origin.making p n.entries m.entries) pegs more, list) ]);
           called = λ failed. asked;
         };
+        origin = origin;
         count = rose;
       }
 
@@ -162,13 +165,14 @@ module _ (n m : NotaryState) (peg : List ℕ) (left : (m.entries ≡ n.entries) 
 
 -- its list is full
 module _ (n m : NotaryState) (same : m.entries ≡ n.entries) (full : length n.entries ≡ NOTARY_LIMIT) where
-  pub attends_full : (h : History) (lane index : ℕ) (line : List ℕ) → own_refusal real_limits h Anchor ≡ None → m.faults ≡ n.faults → Attended n m h (step_in n m false lane index line) Anchor
-  attends_full h lane index line accepted count = record {
+  pub attends_full : (h : History) (lane index : ℕ) (line : List ℕ) → own_refusal real_limits h Anchor ≡ None → m.origin ≡ n.origin → m.faults ≡ n.faults → Attended n m h (step_in n m false lane index line) Anchor
+  attends_full h lane index line accepted origin count = record {
     list = record {
-      list = subst (λ v. Changes v false (peg_at h (size h)) n.entries m.entries)
+      list = subst (λ v. Changes v false n.origin.making (peg_at h (size h)) n.entries m.entries)
           (sym (ap (λ o. is_none o && nat_lt (length n.entries) NOTARY_LIMIT) accepted ∙ le-ltb (length n.entries) NOTARY_LIMIT (omega (arith, full)))) same;
       called = unfailed;
     };
+    origin = origin;
     count = count;
   }
 

@@ -48,6 +48,6 @@ module _ (n m : NotaryState) (same : m.entries ≡ n.entries) (k : ℕ) (h : His
       ∙ sym (ap (λ v. cond v (reply.Refused NotaryFault) (list_reply m.entries k)) (no_fault (k == 0 || nat_lt (length n.entries) k) (length n.entries) why is))
   refused_told Notary why none (inr is) = ap (λ w. reply.Refused w) is ∙ sym (ap (λ w. cond (is_fault w) (reply.Refused NotaryFault) (list_reply m.entries k)) is)
 
-  pub refused_attended : (which : Which) (why : Refusal) → own_refusal real_limits h (Extend which k) ≡ None → ExtendsWhich which h n.entries k (Err (Refused why)) → m.faults ≡ cond (is_fault why) (count_after n.faults) n.faults → Attended n m h (step_in n m (is_fault why) lane index line) (Extend which k)
-  refused_attended Ledger why none is count = absurd (unrefused (extend_refusal h k) why none is)
-  refused_attended Notary why none x count = record { list = record { list = same; called = λ _. refl }; count = count }
+  pub refused_attended : (which : Which) (why : Refusal) → own_refusal real_limits h (Extend which k) ≡ None → ExtendsWhich which h n.entries k (Err (Refused why)) → m.origin ≡ n.origin → m.faults ≡ cond (is_fault why) (count_after n.faults) n.faults → Attended n m h (step_in n m (is_fault why) lane index line) (Extend which k)
+  refused_attended Ledger why none is origin count = absurd (unrefused (extend_refusal h k) why none is)
+  refused_attended Notary why none x origin count = record { list = record { list = same; called = λ _. refl }; origin = origin; count = count }

@@ -23,15 +23,16 @@ step_in n m failed lane index line =
     record { lane = lane; index = index; line = line; failed = failed; before = n.entries; after = m.entries }
 
 -- the notary took part in the step of a job that is judged against g: its list changed as the job asks for, it failed only where
--- the job calls it, and its count of faults is one more exactly where it failed
+-- the job calls it, its count of faults is one more exactly where it failed, and what stays of it stayed
 pub record Attended (n m : NotaryState) (g : History) (step : Step) (job : Job) : Type 0 where
-  pub list : AttendsJob g step job
+  pub list : AttendsJob g n.origin.making step job
+  pub origin : m.origin ≡ n.origin
   pub count : m.faults ≡ (if step.failed then count_after n.faults else n.faults)
 
--- the notary failed at most once in a call, and a failure is counted; this is said of a ledger of which nothing is known as
--- well
+-- the notary failed at most once in a call, a failure is counted, and what stays of it stayed; this is said of a ledger of which
+-- nothing is known as well
 abbrev pub FailsAtMostOnce : NotaryState → NotaryState → Type 0
-FailsAtMostOnce n m = (m.faults ≡ n.faults) ⊎ (m.faults ≡ count_after n.faults)
+FailsAtMostOnce n m = (m.origin ≡ n.origin) × ((m.faults ≡ n.faults) ⊎ (m.faults ≡ count_after n.faults))
 
 -- a call took a job: it led from each history to the one after the job's step, and the notary took part in that step
 pub record TakesJob (tells : Bool) (w t : World) (n m : NotaryState) (step : Step) (job : Job) : Type 0 where

@@ -164,7 +164,7 @@ impl Taking {
             close (λ h. []) end
             (world self.new (pair (D.state a.new) (D.state b.new)) (K.state sink.new))) }
     {
-        let count = self.opened.book.waiting_count() as u32;
+        let count = self.opened.book.unsealed() as u32;
         if count == 0 {
             return self.write_dues(sink);
         }
@@ -272,7 +272,7 @@ impl Taking {
         if job.closes_after() {
             return self.settle(a, b, sink);
         }
-        let waiting = self.opened.book.waiting_count();
+        let waiting = self.opened.book.unsealed();
         if waiting == 0 || waiting >= BLOCK_LIMIT {
             self.settle(a, b, sink)
         } else {

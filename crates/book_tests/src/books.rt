@@ -59,7 +59,7 @@ fn is_placed(outcome: &Outcome) -> bool {
 
 /// Ends the open block where it is full.
 fn end_full(book: &mut Book) {
-    if book.waiting_count() >= BLOCK_LIMIT {
+    if book.unsealed() >= BLOCK_LIMIT {
         book.seal();
     }
 }
@@ -218,7 +218,7 @@ fn replay_out_of_order(rt: &impl Abort, book: &Book, again: &mut Book) -> Result
     }
     assert!(rt; take_as_second(book, again, 3)? == Err(Damage::Entry { jsn: 3 }));
     assert!(rt; take_of(book, again, 3)? == Ok(()));
-    assert_eq!(rt; again.waiting_count(), 3);
+    assert_eq!(rt; again.unsealed(), 3);
     Ok(())
 }
 

@@ -324,7 +324,7 @@ fn run_records<R: Threads, D: Disk + Drop>(
     let mut bench = Bench::open(rt, alloc, a, b, sink)?;
     let offered = bench.offer_records(alloc, count);
     let size = bench.size();
-    let lines = lines_in(bench.sink.written_bytes());
+    let lines = lines_in(bench.sink.written());
     let flushed = bench.flush();
     let (a, b, sink) = bench.into_parts();
     let run = Run {
@@ -404,7 +404,7 @@ fn blocks_end_where_they_are_full_and_by_a_flush(rt: HostRuntime) -> Result<(), 
             lines,
             flushed: Ok(()),
         };
-        let text = sink.written_bytes();
+        let text = sink.written();
         assert_eq!(rt; (run, size_on(&rt, alloc, a, b)?), (want, count + 1));
         if count == 65 {
             assert_eq!(rt; Sha256::digest(text), <[u8; 32]>::from_hex(DIGEST_OF_65)?);
@@ -446,7 +446,7 @@ fn every_written_receipt_is_kept_wherever_a_disk_stops(rt: HostRuntime) -> Resul
     // Opening takes two of the calls, and a commit five.
     for stop in 2..9 {
         let (run, sink, a, b) = run_until(&rt, alloc, stop)?;
-        let lines = lines_in(sink.written_bytes());
+        let lines = lines_in(sink.written());
         let found = (
             run.offered,
             run.flushed,
@@ -469,7 +469,7 @@ fn a_fault_of_the_sink_ends_the_run(rt: HostRuntime) -> Result<(), Fail> {
     let alloc = rt.alloc();
     let (a, b) = new_pair(alloc)?;
     let (run, sink, a, b) = run_records(&rt, alloc, a, b, 100, 64)?;
-    let written = sink.written_bytes().len();
+    let written = sink.written().len();
     let found = (
         run.offered,
         run.flushed,
@@ -489,7 +489,7 @@ fn a_block_has_the_worked_bytes_and_is_read_back(rt: HostRuntime) -> Result<(), 
     let lines = [(1, Ask::Member), (2, Ask::Abc), (1, Ask::Get(2))];
     let (sink, a) = run_lines(&rt, alloc, new_pair(alloc)?, &lines)?;
     assert_eq!(rt; a.bytes()?.as_slice(), worked_file(alloc)?.as_slice());
-    assert!(rt; sink.written_bytes().ends_with(WHOLE_2.as_bytes()));
+    assert!(rt; sink.written().ends_with(WHOLE_2.as_bytes()));
     Ok(())
 }
 
@@ -498,7 +498,7 @@ fn a_job_that_asks_ends_the_block_before_it(rt: HostRuntime) -> Result<(), Fail>
     let alloc = rt.alloc();
     let lines = [(1, Ask::Empty), (2, Ask::Head)];
     let (sink, _) = run_lines(&rt, alloc, new_pair(alloc)?, &lines)?;
-    assert_eq!(rt; sink.written_bytes(), RECORD_AND_HEAD.as_bytes());
+    assert_eq!(rt; sink.written(), RECORD_AND_HEAD.as_bytes());
     Ok(())
 }
 
@@ -516,7 +516,7 @@ fn a_journal_is_read_back_and_changed_bytes_are_found(rt: HostRuntime) -> Result
         let pair = pair_with(alloc, content, who)?;
         let (sink, _) = run_lines(&rt, alloc, pair, &[(1, Ask::Get(n))])?;
         assert_eq!(rt;
-            sink.written_bytes(),
+            sink.written(),
             wanted.as_bytes(),
             "{n}: {content}, {who}"
         );

@@ -27,21 +27,22 @@ count_append (false ∷ xs) ys n = count_append xs ys n
 count_append (true ∷ xs) ys n = count_append xs ys (count_after n)
 
 pub fails_none : (n : NotaryState) → FailsIn 0 n n
-fails_none n = record { calls = []; few = omega arith; counted = refl }
+fails_none n = record { origin = refl; calls = []; few = omega arith; counted = refl }
 
 pub fails_once : (n m : NotaryState) → FailsAtMostOnce n m → FailsIn 1 n m
-fails_once n m (inl same) = record { calls = false ∷ []; few = omega arith; counted = same }
-fails_once n m (inr more) = record { calls = true ∷ []; few = omega arith; counted = more }
+fails_once n m (origin, inl same) = record { origin = origin; calls = false ∷ []; few = omega arith; counted = same }
+fails_once n m (origin, inr more) = record { origin = origin; calls = true ∷ []; few = omega arith; counted = more }
 
 pub fails_then : (a b : ℕ) (n m k : NotaryState) → FailsIn a n m → FailsIn b m k → FailsIn (a + b) n k
 fails_then a b n m k x y = record {
+  origin = y.origin ∙ x.origin;
   calls = x.calls ++ y.calls;
   few = (let l = length-append x.calls y.calls in let p = x.few in let q = y.few in omega (arith, l, p, q));
   counted = y.counted ∙ ap (count_failed y.calls) x.counted ∙ sym (count_append x.calls y.calls n.faults);
 }
 
 pub fails_wider : (a b : ℕ) (n m : NotaryState) → a ≤ b → FailsIn a n m → FailsIn b n m
-fails_wider a b n m less x = record { calls = x.calls; few = (let p = x.few in omega (arith, p, less)); counted = x.counted }
+fails_wider a b n m less x = record { origin = x.origin; calls = x.calls; few = (let p = x.few in omega (arith, p, less)); counted = x.counted }
 
 -- ---- an order of lines has as many as there are
 

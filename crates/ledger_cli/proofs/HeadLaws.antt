@@ -34,7 +34,7 @@ module _ (scheme : Scheme) where
   took_list h n m (step ∷ steps) list t =
       let job = job_of scheme (id h) step.line in
       let g = judged_at h job in
-      let now = change_list (asks g step.before job) step.failed (peg_at g (size g)) step.before step.after (subst IsList (sym t.0) list) t.1.list in
+      let now = change_list n.origin.making (asks g step.before job) step.failed (peg_at g (size g)) step.before step.after (subst IsList (sym t.0) list) t.1.list in
       took_list (after_step scheme h step) (notary_after n step) m steps now t.2
 
   all_list : (h : History) (n m : NotaryState) (windows : List (List Step)) → IsList n.entries → TookAll scheme h n windows m → (m.entries ≡ list_behind n.entries windows) × IsList m.entries

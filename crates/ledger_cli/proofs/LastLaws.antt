@@ -1,6 +1,6 @@
 -- Where the last journal of a history is neither an occult nor a purge, nothing is left undone behind it.
 use Rattle.std.specs.Prelude.{◌-◌, get_or}
-use Rattle.std.proofs.Common.{◌≡◌, ℕ, ◌<◌, inl, inr, true, false, cond, List, [], ◌∷◌, ◌++◌, length, length-append, map, take, slice_get, None, Some, refl, ap, sym, ◌∙◌, arith}
+use Rattle.std.proofs.Common.{◌≡◌, ℕ, ◌<◌, inl, inr, false, cond, List, [], ◌∷◌, ◌++◌, length, length-append, map, take, slice_get, None, Some, refl, ap, sym, ◌∙◌, arith}
 use Rattle.std.proofs.lemmas.Bool.{true≢false}
 use Rattle.std.proofs.lemmas.List.{take_at}
 use Rattle.batch_committer.specs.World.{IsErasedPair}

@@ -1,8 +1,8 @@
 -- Lemmas on the notary's list, which only goes on.
-use Rattle.std.proofs.Common.{◌≡◌, ℕ, ◌+◌, ◌≤◌, Bool, true, false, inl, inr, List, [], ◌∷◌, ◌++◌, length, ap, sym, ◌∙◌, arith, append-nil, length-append}
+use Rattle.std.proofs.Common.{Option, ◌≡◌, ℕ, ◌+◌, ◌≤◌, Bool, true, false, inl, inr, List, [], ◌∷◌, ◌++◌, length, ap, sym, ◌∙◌, arith, append-nil, length-append}
 use Rattle.batch_committer.proofs.WayLaws.{begins_then}
 use Rattle.ledger_bytes.specs.Begins.{Begins}
-use Rattle.time_peg.specs.Entries.{NotaryState, HasOneMore, entry_of}
+use Rattle.time_peg.specs.Entries.{Making, NotaryState, HasOneMore, entry_of}
 use Rattle.ledger_model.specs.Anchors.{peg_at}
 use Rattle.ledger_model.specs.History.{History, id, size}
 use Rattle.ledger_model.specs.Notary.{asks, Changes, Attends}
@@ -27,27 +27,27 @@ goes_then n m x y z a b = record { begins = begins_then x y z a.begins b.begins;
 goes_wider : (n m : ℕ) (x y : List (List ℕ)) → n ≤ m → GoesOnBy n x y → GoesOnBy m x y
 goes_wider n m x y less a = record { begins = a.begins; few = (let p = a.few in omega (arith, p, less)) }
 
-one_more : (peg : List ℕ) (before after : List (List ℕ)) → HasOneMore peg before after → GoesOnBy 1 before after
-one_more peg before after o =
+one_more : (making : Option Making) (peg : List ℕ) (before after : List (List ℕ)) → HasOneMore making peg before after → GoesOnBy 1 before after
+one_more making peg before after o =
     let e = entry_of o.0 peg o.1 in
     record { begins = record { rest = e ∷ []; is = o.3 }; few = (let l = ap length o.3 in let k = length-append before (e ∷ []) in omega (arith, l, k)) }
 
-change_goes : (asked failed : Bool) (peg : List ℕ) (before after : List (List ℕ)) → Changes asked failed peg before after → GoesOnBy 1 before after
-change_goes false failed peg before after c = stays 1 before after c
-change_goes true false peg before after c = one_more peg before after c.0
-change_goes true true peg before after (inl same) = stays 1 before after same
-change_goes true true peg before after (inr more) = one_more peg before after more.0
+change_goes : (making : Option Making) (asked failed : Bool) (peg : List ℕ) (before after : List (List ℕ)) → Changes asked failed making peg before after → GoesOnBy 1 before after
+change_goes making false failed peg before after c = stays 1 before after c
+change_goes making true false peg before after c = one_more making peg before after c.0
+change_goes making true true peg before after (inl same) = stays 1 before after same
+change_goes making true true peg before after (inr more) = one_more making peg before after more.0
 
-attends_goes : (scheme : Scheme) (h : History) (step : Step) → Attends scheme h step → GoesOnBy 1 step.before step.after
-attends_goes scheme h step a =
+attends_goes : (scheme : Scheme) (h : History) (making : Option Making) (step : Step) → Attends scheme h making step → GoesOnBy 1 step.before step.after
+attends_goes scheme h making step a =
     let job = job_of scheme (id h) step.line in
     let g = judged_at h job in
-    change_goes (asks g step.before job) step.failed (peg_at g (size g)) step.before step.after a.list
+    change_goes making (asks g step.before job) step.failed (peg_at g (size g)) step.before step.after a.list
 
 pub took_goes : (scheme : Scheme) (h : History) (n m : NotaryState) (steps : List Step) → Took scheme h n steps m → GoesOnBy (length steps) n.entries m.entries
 took_goes scheme h n m [] t = stays 0 n.entries m.entries (ap (λ (x : NotaryState). x.entries) t)
 took_goes scheme h n m (step ∷ steps) t =
-    let one = attends_goes scheme h step t.1 in
+    let one = attends_goes scheme h n.origin.making step t.1 in
     let more = took_goes scheme (after_step scheme h step) (notary_after n step) m steps t.2 in
     goes_wider (1 + length steps) (length (step ∷ steps)) n.entries m.entries (omega arith)
     (goes_then 1 (length steps) n.entries step.after m.entries (record {

@@ -23,7 +23,7 @@ use Rattle.ledger_book.specs.Books.{Serves}
 use Rattle.ledger_model.specs.Targets.{is_hidden}
 use Rattle.ledger_model.proofs.KeepLaws.{founded_lawful}
 use Rattle.ledger_open.proofs.KnownLaws.{same_self}
-use Rattle.ledger_open.specs.Founding.{IsFounded, IsFoundedOrShut, IsOneOpen}
+use Rattle.ledger_open.specs.Founding.{IsFounded, IsOneOpen}
 use Rattle.ledger_open.specs.Opening.{Known, Knows, IsOpenErr, IsOutside, StandsAsRead, CountsTwoErr}
 use Rattle.ledger_open.specs.Reopened.{Remembers, IsReopened}
 use Rattle.ledger_open.specs.Standing.{PairFor, IsCleanPair}
@@ -31,10 +31,9 @@ use Rattle.ledger_open.specs.declared.failure.OpenErr.{OpenErr}
 use Rattle.ledger_open.specs.declared.failure.OpenErr.TheVariants as open_err
 use Rattle.ledger_open.proofs.OpenLaws.{pair_opens, reopened_only}
 use Rattle.time_peg.specs.Entries.{NotaryState}
-use Rattle.twin_file.specs.Images.{AreShut}
 use Rattle.twin_file.specs.Twin.{open_of}
 use Rattle.ledger_cli.specs.Endings.{ending_of_opening, line_of, refusal_of}
-use Rattle.ledger_cli.specs.Runs.{Handed, handed, FaultsBy, SettledAsRead, StayAsRead, IsUnstarted, IsRefused, IsMadeOf, RunsAgain, RunsNew, Makes, ledger_line, Runs}
+use Rattle.ledger_cli.specs.Runs.{Handed, handed, FaultsBy, HasNone, LeaveFoundedOrShut, SettledAsRead, StayAsRead, IsUnstarted, IsRefused, IsMadeOf, RunsAgain, RunsNew, Makes, ledger_line, Runs}
 use Rattle.ledger_cli.specs.declared.ending.LedgerEnding.{LedgerEnding}
 use Rattle.ledger_cli.specs.declared.ending.LedgerEnding.TheVariants.{Run}
 use Rattle.ledger_bytes.specs.Digests.{digest}
@@ -44,7 +43,7 @@ use Rattle.ledger_io.specs.Writing.{WritesFirst}
 use Rattle.ledger_io.specs.declared.writer.WriteErr.{WriteErr}
 use Rattle.ledger_io.specs.declared.writer.WriteErr.TheVariants.{WriteFault}
 use Rattle.ledger_cli.proofs.FailureLaws.{fails_unread}
-use Rattle.ledger_cli.proofs.CarryLaws.{first_short, serves_from, faults_from, quiet_pair, of_lines, no_refusal, none_waits}
+use Rattle.ledger_cli.proofs.CarryLaws.{first_short, serves_from, faults_from, of_lines, no_refusal, none_waits}
 
 -- ---- faults of opening
 
@@ -75,14 +74,22 @@ module _ (scheme : Scheme) (tells : Bool) (source : SourceState) (sink : SinkSta
   stay : StandsAsRead old.a.bytes now.a.bytes × StandsAsRead old.b.bytes now.b.bytes → StayAsRead old now
   stay both = record { a = both.0; b = both.1 }
 
+  -- each image stands for a history
+  abbrev EachStands : History → Type 0
+  EachStands h = (a b : List ℕ) → MayLeave now.a.bytes a → MayLeave now.b.bytes b → PairFor a b h
+
+  stood : (h : History) → PairFor old.a.bytes.seen old.b.bytes.seen h → StandsAsRead old.a.bytes now.a.bytes × StandsAsRead old.b.bytes now.b.bytes ⊎ ((h : History) → PairFor old.a.bytes.seen old.b.bytes.seen h → EachStands h) → StayAsRead old now ⊎ EachStands h
+  stood h p (inl both) = inl (stay both)
+  stood h p (inr each) = inr (each h p)
+
   pub not_opened : (e : OpenErr) → (IsTrue tells → IsOpenErr old.a.bytes.seen old.b.bytes.seen e)
       → (e ≢ open_err.DiskFault → IsTrue tells → (now.a.bytes ≡ settled_state old.a.bytes.seen) × (now.b.bytes ≡ settled_state old.b.bytes.seen))
       → (IsTrue tells → (f : OpenErr) → (IsOutside f → ⊥) → IsOpenErr old.a.bytes.seen old.b.bytes.seen f → StandsAsRead old.a.bytes now.a.bytes × StandsAsRead old.b.bytes now.b.bytes)
-      → (IsTrue tells → IsSettled old.a.bytes → IsSettled old.b.bytes → (h : History) → PairFor old.a.bytes.seen old.b.bytes.seen h → (a b : List ℕ) → MayLeave now.a.bytes a → MayLeave now.b.bytes b → PairFor a b h)
+      → (IsTrue tells → StandsAsRead old.a.bytes now.a.bytes × StandsAsRead old.b.bytes now.b.bytes ⊎ ((h : History) → PairFor old.a.bytes.seen old.b.bytes.seen h → EachStands h))
       → (IsTrue tells → IsSettled old.a.bytes → IsSettled old.b.bytes → (h : History) → IsCleanPair old.a.bytes.seen old.b.bytes.seen h → (now.a.bytes ≡ old.a.bytes) × (now.b.bytes ≡ old.b.bytes))
       → CountsTwoErr e old.a.faults now.a.faults old.b.faults now.b.faults → RunsAgain scheme tells (ending_of_opening e) (handed source sink old n) (handed source sink now n)
   not_opened open_err.DiskFault err same kept images clean counts = record {
-    serves = λ t h p l q. let quiet = q (inl refl) in inr (record { outside = inl refl; unstarted = unstarted; images = images t quiet.a quiet.b h p; clean = clean t quiet.a quiet.b h });
+    serves = λ t h p l. inr (record { outside = inl refl; unstarted = unstarted; left = λ is. absurd (let no : ⊥ = cc is in no); images = stood h p (images t); clean = λ q. clean t q.a q.b h });
     unstarted = λ some. unstarted;
     refused = λ t. tt;
     exact = λ t f cause not. (unstarted, inl (inl refl, stay (kept t f not cause)));
@@ -90,7 +97,7 @@ module _ (scheme : Scheme) (tells : Bool) (source : SourceState) (sink : SinkSta
     failures = fails_unread source n;
   }
   not_opened open_err.NoMemory err same kept images clean counts = record {
-    serves = λ t h p l q. let quiet = q (inr refl) in inr (record { outside = inr refl; unstarted = unstarted; images = images t quiet.a quiet.b h p; clean = clean t quiet.a quiet.b h });
+    serves = λ t h p l. inr (record { outside = inr refl; unstarted = unstarted; left = λ is. let now_is = same (λ no. let none : ⊥ = cc no in none) t in record { a = inr now_is.0; b = inr now_is.1 }; images = stood h p (images t); clean = λ q. clean t q.a q.b h });
     unstarted = λ some. unstarted;
     refused = λ t. tt;
     exact = λ t f cause not. (unstarted, inl (inr refl, stay (kept t f not cause)));
@@ -98,7 +105,7 @@ module _ (scheme : Scheme) (tells : Bool) (source : SourceState) (sink : SinkSta
     failures = fails_unread source n;
   }
   not_opened (open_err.Damaged damage) err same kept images clean counts = record {
-    serves = λ t h p l q. absurd (pair_opens old.a.bytes.seen old.b.bytes.seen h p (open_err.Damaged damage) (err t));
+    serves = λ t h p l. absurd (pair_opens old.a.bytes.seen old.b.bytes.seen h p (open_err.Damaged damage) (err t));
     unstarted = λ some. unstarted;
     refused = refusal (same (λ is. let no : ⊥ = cc is in no)) (open_err.Damaged damage) err;
     exact = λ t f cause not. (unstarted, inr (err t, settled (same (λ is. let no : ⊥ = cc is in no)) t));
@@ -106,7 +113,7 @@ module _ (scheme : Scheme) (tells : Bool) (source : SourceState) (sink : SinkSta
     failures = fails_unread source n;
   }
   not_opened open_err.Empty err same kept images clean counts = record {
-    serves = λ t h p l q. absurd (pair_opens old.a.bytes.seen old.b.bytes.seen h p open_err.Empty (err t));
+    serves = λ t h p l. absurd (pair_opens old.a.bytes.seen old.b.bytes.seen h p open_err.Empty (err t));
     unstarted = λ some. unstarted;
     refused = refusal (same (λ is. let no : ⊥ = cc is in no)) open_err.Empty err;
     exact = λ t f cause not. (unstarted, inr (err t, settled (same (λ is. let no : ⊥ = cc is in no)) t));
@@ -114,7 +121,7 @@ module _ (scheme : Scheme) (tells : Bool) (source : SourceState) (sink : SinkSta
     failures = fails_unread source n;
   }
   not_opened open_err.Exists err same kept images clean counts = record {
-    serves = λ t h p l q. absurd (err t);
+    serves = λ t h p l. absurd (err t);
     unstarted = λ some. unstarted;
     refused = refusal (same (λ is. let no : ⊥ = cc is in no)) open_err.Exists err;
     exact = λ t f cause not. absurd (err t);
@@ -122,7 +129,7 @@ module _ (scheme : Scheme) (tells : Bool) (source : SourceState) (sink : SinkSta
     failures = fails_unread source n;
   }
   not_opened (open_err.NewerFormat found) err same kept images clean counts = record {
-    serves = λ t h p l q. absurd (pair_opens old.a.bytes.seen old.b.bytes.seen h p (open_err.NewerFormat found) (err t));
+    serves = λ t h p l. absurd (pair_opens old.a.bytes.seen old.b.bytes.seen h p (open_err.NewerFormat found) (err t));
     unstarted = λ some. unstarted;
     refused = refusal (same (λ is. let no : ⊥ = cc is in no)) (open_err.NewerFormat found) err;
     exact = λ t f cause not. (unstarted, inr (err t, settled (same (λ is. let no : ⊥ = cc is in no)) t));
@@ -134,7 +141,7 @@ module _ (scheme : Scheme) (tells : Bool) (source : SourceState) (sink : SinkSta
   pub again_unstarted : now ≡ old → RunsAgain scheme tells (Run run.NoMemory) (handed source sink old n) (handed source sink now n)
   again_unstarted is =
       subst (λ (d : Pair). RunsAgain scheme tells (Run run.NoMemory) (handed source sink old n) (handed source sink d n)) (sym is) (record {
-        serves = λ t h p l q. inr (record { outside = inr refl; unstarted = record { unread = refl; unwritten = refl; unasked = refl }; images = quiet_pair old h (q (inr refl)) p; clean = λ c. (refl, refl) });
+        serves = λ t h p l. inr (record { outside = inr refl; unstarted = record { unread = refl; unwritten = refl; unasked = refl }; left = λ is. record { a = inl refl; b = inl refl }; images = inl (record { a = inl refl; b = inl refl }); clean = λ q c. (refl, refl) });
         unstarted = λ some. record { unread = refl; unwritten = refl; unasked = refl };
         refused = λ t. tt;
         exact = λ t f cause not. (record { unread = refl; unwritten = refl; unasked = refl }, inl (inr refl, record { a = inl refl; b = inl refl }));
@@ -156,7 +163,7 @@ module _ (scheme : Scheme) (tells : Bool) (source : SourceState) (sink : SinkSta
     pub ran_again : (limits : k.book.limits ≡ real_limits) (r : IsTrue tells → IsReopened in_a k start blocks old.a.bytes old.b.bytes now.a.bytes now.b.bytes) (a : now.a.faults ≡ old.a.faults) (b : now.b.faults ≡ old.b.faults)
         (ending : LedgerEnding) (last : Handed) → Runs scheme tells (world kept now sink) ending (handed source sink now n) last → refusal_of ending ≡ None → RunsAgain scheme tells ending (handed source sink old n) last
     ran_again limits r a b ending last ran started = record {
-      serves = λ t h p l q.
+      serves = λ t h p l.
           inl (serves_from scheme h ending source sink n now old last
           (ran.serves h (subst (λ (x : CommitterState). Holds tells (world x now sink) h) (sym kept_is) (opened_held tells k in_a generation start blocks old.a.bytes old.b.bytes now sink h opened limits t (r t) p)) (none_waits old.a.bytes.seen old.b.bytes.seen h p) l));
       unstarted = λ some. absurd (no_refusal ending started some);
@@ -192,9 +199,16 @@ none_open : (a b : State) → IsShut a.seen → IsShut b.seen → IsOneOpen a.se
 none_open a b i j (inl x) = shut_open a.seen i x
 none_open a b i j (inr x) = shut_open b.seen j x
 
+-- what was done with two files at their founding, in the words of a run
+pub founding_left : (genesis : Genesis) (old now : Pair)
+    → StandsAsRead old.a.bytes now.a.bytes × StandsAsRead old.b.bytes now.b.bytes ⊎ (IsShut old.a.bytes.seen → IsShut old.b.bytes.seen → LeaveFoundedOrShut genesis now)
+    → StayAsRead old now ⊎ (HasNone old → LeaveFoundedOrShut genesis now)
+founding_left genesis old now (inl both) = inl (record { a = both.0; b = both.1 })
+founding_left genesis old now (inr each) = inr (λ none. each none.0 none.1)
+
 module _ (genesis : Genesis) (tells : Bool) (source : SourceState) (sink : SinkState) (n : NotaryState) (old now : Pair)
     (left : IsTrue tells → IsOneOpen old.a.bytes.seen old.b.bytes.seen → StandsAsRead old.a.bytes now.a.bytes × StandsAsRead old.b.bytes now.b.bytes)
-    (images : IsTrue tells → AreShut old.a.bytes old.b.bytes → (a b : List ℕ) → MayLeave now.a.bytes a → MayLeave now.b.bytes b → IsFoundedOrShut genesis a b) where
+    (images : IsTrue tells → StayAsRead old now ⊎ (HasNone old → LeaveFoundedOrShut genesis now)) where
   stayed : IsTrue tells → IsOneOpen old.a.bytes.seen old.b.bytes.seen → StayAsRead old now
   stayed t o = let l = left t o in record { a = l.0; b = l.1 }
 
@@ -204,6 +218,11 @@ module _ (genesis : Genesis) (tells : Bool) (source : SourceState) (sink : SinkS
 
     stayed_now : IsTrue tells → StayAsRead old now
     stayed_now t = record { a = inr (same t).0; b = inr (same t).1 }
+
+  -- where both were shut
+  were_shut : HasNone old → StayAsRead old now ⊎ (HasNone old → LeaveFoundedOrShut genesis now) → StayAsRead old now ⊎ LeaveFoundedOrShut genesis now
+  were_shut none (inl stay) = inl stay
+  were_shut none (inr each) = inr (each none)
 
   -- it isn't made
   pub not_made : (e : OpenErr) → IsOutside e ⊎ (e ≡ open_err.Exists) → (e ≡ open_err.Exists → IsTrue tells → IsOneOpen old.a.bytes.seen old.b.bytes.seen)
@@ -248,15 +267,17 @@ module _ (genesis : Genesis) (tells : Bool) (source : SourceState) (sink : SinkS
       → (e ≢ open_err.DiskFault → IsTrue tells → (now.a.bytes ≡ settled_state old.a.bytes.seen) × (now.b.bytes ≡ settled_state old.b.bytes.seen))
       → CountsTwoErr e old.a.faults now.a.faults old.b.faults now.b.faults → RunsNew scheme genesis tells (ending_of_opening e) (handed source sink old n) (handed source sink now n)
   not_run scheme open_err.DiskFault why exists same counts = record {
-    serves = λ t none l. inr (record { outside = inl refl; unstarted = unstarted scheme tells source sink n old now; images = images t });
+    serves = λ t none l. inr (record { outside = inl refl; unstarted = unstarted scheme tells source sink n old now; left = λ is. absurd (let no : ⊥ = cc is in no); images = were_shut none (images t) });
     unstarted = λ some. unstarted scheme tells source sink n old now;
+    only = tt;
     left = λ t o. (unstarted scheme tells source sink n old now, inl (inl refl, stayed t o));
     faults = counts_ended source sink n old now open_err.DiskFault counts;
     failures = fails_unread source n;
   }
   not_run scheme open_err.NoMemory why exists same counts = record {
-    serves = λ t none l. inr (record { outside = inr refl; unstarted = unstarted scheme tells source sink n old now; images = images t });
+    serves = λ t none l. inr (record { outside = inr refl; unstarted = unstarted scheme tells source sink n old now; left = λ is. stayed_now (same (λ no. let none : ⊥ = cc no in none)) t; images = were_shut none (images t) });
     unstarted = λ some. unstarted scheme tells source sink n old now;
+    only = tt;
     left = λ t o. (unstarted scheme tells source sink n old now, inl (inr refl, stayed t o));
     faults = counts_ended source sink n old now open_err.NoMemory counts;
     failures = fails_unread source n;
@@ -264,6 +285,7 @@ module _ (genesis : Genesis) (tells : Bool) (source : SourceState) (sink : SinkS
   not_run scheme open_err.Exists why exists same counts = record {
     serves = λ t none l. absurd (none_open old.a.bytes old.b.bytes none.0 none.1 (exists refl t));
     unstarted = λ some. unstarted scheme tells source sink n old now;
+    only = refl;
     left = λ t o. (unstarted scheme tells source sink n old now, inr (refl, settled_now (same (λ is. let no : ⊥ = cc is in no)) t));
     faults = counts_ended source sink n old now open_err.Exists counts;
     failures = fails_unread source n;
@@ -339,6 +361,7 @@ module _ (genesis : Genesis) (tells : Bool) (source : SourceState) (sink : SinkS
             inl (serves_from scheme (new_ledger genesis) ending source sink n now old last
             (ran.serves (new_ledger genesis) (subst (λ (x : CommitterState). Holds tells (world x now sink) (new_ledger genesis)) (sym here) (founded_held tells k genesis now sink keys opened limits t (founded t))) refl l));
         unstarted = λ some. absurd (no_refusal ending started some);
+        only = of_lines ending _ started;
         left = λ t o. never t o;
         faults = faults_from source sink n now old last a b ending ran.faults;
         failures = ran.failures;

@@ -1,9 +1,9 @@
 -- However a run ends, the notary's list keeps the entries of the time journals that are kept.
-use Rattle.std.proofs.Common.{◌≡◌, ℕ, ◌<◌, inl, Bool, true, false, List, [], ◌∷◌, ◌++◌, length, ap, sym, subst, ◌∙◌, arith, append_assoc, append-nil}
+use Rattle.std.proofs.Common.{Option, ◌≡◌, ℕ, ◌<◌, inl, Bool, true, false, List, [], ◌∷◌, ◌++◌, length, ap, sym, subst, ◌∙◌, arith, append_assoc, append-nil}
 use Rattle.std.proofs.lemmas.List.Concat.{flat_map-append}
 use Rattle.ledger_bytes.specs.Begins.{Begins}
 use Rattle.journal_record.specs.Entry.{Entry}
-use Rattle.time_peg.specs.Entries.{NotaryState}
+use Rattle.time_peg.specs.Entries.{Making, NotaryState}
 use Rattle.ledger_model.specs.Anchors.{peg_at}
 use Rattle.ledger_model.specs.Growing.{Grows}
 use Rattle.ledger_model.specs.History.{History, id, size, journals, journals_of, point}
@@ -23,14 +23,14 @@ use Rattle.ledger_cli.proofs.LineLaws.{after-append}
 use Rattle.ledger_cli.proofs.NotaryLaws.{took_parts}
 
 -- a step that the notary had no part in: its list stays, as it may where a call failed
-unasked_by : (asked : Bool) (peg : List ℕ) (before now : List (List ℕ)) → now ≡ before → Changes asked true peg before now
-unasked_by false peg before now same = same
-unasked_by true peg before now same = inl same
+unasked_by : (making : Option Making) (asked : Bool) (peg : List ℕ) (before now : List (List ℕ)) → now ≡ before → Changes asked true making peg before now
+unasked_by making false peg before now same = same
+unasked_by making true peg before now same = inl same
 
-changes_unasked : (n : NotaryState) (g : History) (step : Step) (job : Job) → IsUnasked n step → ChangesBy g step job
+changes_unasked : (n : NotaryState) (g : History) (step : Step) (job : Job) → IsUnasked n step → ChangesBy g n.origin.making step job
 changes_unasked n g step job u =
-    subst (λ v. Changes (asks g step.before job) v (peg_at g (size g)) step.before step.after) (sym u.0)
-    (unasked_by (asks g step.before job) (peg_at g (size g)) step.before step.after (u.2 ∙ sym u.1))
+    subst (λ v. Changes (asks g step.before job) v n.origin.making (peg_at g (size g)) step.before step.after) (sym u.0)
+    (unasked_by n.origin.making (asks g step.before job) (peg_at g (size g)) step.before step.after (u.2 ∙ sym u.1))
 
 module _ (scheme : Scheme) where
   some_after : (h : History) (steps : List Step) → 0 < size h → 0 < size (after_steps scheme h steps)
@@ -45,7 +45,7 @@ module _ (scheme : Scheme) where
   from_unasked {q} h n (step ∷ steps) some u p =
       let job = job_of scheme (id h) step.line in
       from_unasked (after_step scheme h step) n steps (omega (arith, some, grows_size h (after_step scheme h step) (grows_job h step job))) u.1
-      (subst (PeggedFrom q (after_step scheme h step)) u.0.2 (from_job h step job some (subst (PeggedFrom q h) (sym u.0.1) p) (changes_unasked n (judged_at h job) step job u.0)))
+      (subst (PeggedFrom q (after_step scheme h step)) u.0.2 (from_job n.origin.making h step job some (subst (PeggedFrom q h) (sym u.0.1) p) (changes_unasked n (judged_at h job) step job u.0)))
 
   from_windows_unasked : {q : ℕ} (h : History) (n : NotaryState) (windows : List (List Step)) → 0 < size h → EachUnasked n windows → PeggedFrom q h n.entries → PeggedFrom q (after scheme h windows) n.entries
   from_windows_unasked {q} h n [] some u p = p

@@ -33,7 +33,7 @@ use Rattle.ledger_model.specs.Scheme.{Scheme}
 use Rattle.ledger_model.specs.Step.{Step}
 use Rattle.ledger_model.specs.Windows.{Said}
 use Rattle.ledger_model.specs.Took.{Took, notary_after}
-use Rattle.time_peg.specs.Entries.{NotaryState}
+use Rattle.time_peg.specs.Entries.{Making, NotaryState}
 use Rattle.ledger_model.specs.declared.due.Due.{Due}
 use Rattle.ledger_model.specs.declared.job.Job.{Job}
 use Rattle.ledger_model.specs.declared.job.Job.TheVariants.{Anchor}
@@ -83,9 +83,9 @@ module _ (scheme : Scheme) (key : List ℕ) (tells : Bool) where
   jobs_due steps h = job_dues h (prepared_items scheme key steps)
 
   -- the step of a line with this job is one of what the line asks for
-  attends_as : (h : History) (step : Step) → IsKnown key h → AttendsJob (judged_at h (job_of scheme key step.line)) step (job_of scheme key step.line) → Attends scheme h step
+  attends_as : (h : History) (making : Option Making) (step : Step) → IsKnown key h → AttendsJob (judged_at h (job_of scheme key step.line)) making step (job_of scheme key step.line) → Attends scheme h making step
   unfolding IsKnown
-  attends_as h step k a = subst (λ (i : List ℕ). AttendsJob (judged_at h (job_of scheme i step.line)) step (job_of scheme i step.line)) (sym k.0) a
+  attends_as h making step k a = subst (λ (i : List ℕ). AttendsJob (judged_at h (job_of scheme i step.line)) making step (job_of scheme i step.line)) (sym k.0) a
 
   step_as : (h : History) (step : Step) → IsKnown key h → after_job h step (job_of scheme key step.line) ≡ after_step scheme h step
   unfolding after_step IsKnown
@@ -97,10 +97,10 @@ module _ (scheme : Scheme) (key : List ℕ) (tells : Bool) where
     said : said_by step ≡ x
     goes : Goes tells (world_at s) (jobs_after (step ∷ [])) (jobs_due (step ∷ [])) (world_at t)
     before : step.before ≡ s.notary.entries
-    attended : (h : History) → Holds tells (world_at s) h → AttendsJob (judged_at h (job_of scheme key step.line)) step (job_of scheme key step.line) × (notary_after s.notary step ≡ t.notary)
+    attended : (h : History) → Holds tells (world_at s) h → AttendsJob (judged_at h (job_of scheme key step.line)) s.notary.origin.making step (job_of scheme key step.line) × (notary_after s.notary step ≡ t.notary)
 
   notary_is : (n m : NotaryState) (failed : Bool) (lane index : ℕ) (line : List ℕ) (g : History) (job : Job) → Attended n m g (step_in n m failed lane index line) job → notary_after n (step_in n m failed lane index line) ≡ m
-  notary_is n m failed lane index line g job a = λ i. record { entries = m.entries; faults = sym a.count i }
+  notary_is n m failed lane index line g job a = λ i. record { origin = sym a.origin i; entries = m.entries; faults = sym a.count i }
 
   item_goes : (s t : At) (x : Said) (item : Prepared) → IsItemOf scheme key x item
       → ((failed : Bool) × ((line : List ℕ) → TakesJob tells (world_at s) (world_at t) s.notary t.notary (step_in s.notary t.notary failed item.lane item.index line) item.job))
@@ -129,8 +129,8 @@ module _ (scheme : Scheme) (key : List ℕ) (tells : Bool) where
     ended : EndsOnTheWay tells (world_at s) close (λ h. []) why (world_at t)
     same : t.notary ≡ s.notary
 
-  one_took : (h : History) (n m : NotaryState) (step : Step) → IsKnown key h → step.before ≡ n.entries → AttendsJob (judged_at h (job_of scheme key step.line)) step (job_of scheme key step.line) → notary_after n step ≡ m → Took scheme h n (step ∷ []) m
-  one_took h n m step k before a is = (before, attends_as h step k a, sym is)
+  one_took : (h : History) (n m : NotaryState) (step : Step) → IsKnown key h → step.before ≡ n.entries → AttendsJob (judged_at h (job_of scheme key step.line)) n.origin.making step (job_of scheme key step.line) → notary_after n step ≡ m → Took scheme h n (step ∷ []) m
+  one_took h n m step k before a is = (before, attends_as h n.origin.making step k a, sym is)
 
   item_ended : (s t : At) (x : Said) (item : Prepared) (why : CommitErr) → IsItemOf scheme key x item
       → EndsTaking tells (world_at s) (world_at t) s.notary t.notary item.lane item.index item.job why
@@ -175,11 +175,11 @@ module _ (scheme : Scheme) (key : List ℕ) (tells : Bool) where
     still : IsOpen tells t.at
 
   took_on : (h : History) (n m t : NotaryState) (step : Step) (steps : List Step) → IsKnown key h → step.before ≡ n.entries
-      → AttendsJob (judged_at h (job_of scheme key step.line)) step (job_of scheme key step.line) → notary_after n step ≡ m
+      → AttendsJob (judged_at h (job_of scheme key step.line)) n.origin.making step (job_of scheme key step.line) → notary_after n step ≡ m
       → Took scheme (jobs_after (step ∷ []) h) m steps t → Took scheme h n (step ∷ steps) t
   took_on h n m t step steps k before a is more = (
     before,
-    attends_as h step k a,
+    attends_as h n.origin.making step k a,
     subst (λ (y : History × NotaryState). Took scheme y.0 y.1 steps t) (λ i. (step_as h step k i, sym is i)) more,
   )
 

@@ -1,5 +1,5 @@
 -- Lemmas on the errors that end a session.
-use Rattle.std.proofs.Common.{◌≡◌, Result, Ok, Err, None, refl, sym, subst, ◌∙◌}
+use Rattle.std.proofs.Common.{◌≡◌, Result, Ok, Err, None, refl, sym, subst}
 use Rattle.std.specs.Result.{IsErrAnd}
 use Rattle.std.specs.Prelude.{OnOk, IfErr}
 use Rattle.batch_committer.specs.declared.failure.CommitErr.{CommitErr}

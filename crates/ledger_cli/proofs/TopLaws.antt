@@ -13,12 +13,10 @@ use Rattle.ledger_io.specs.declared.writer.WriteErr.{WriteErr}
 use Rattle.ledger_io.specs.declared.writer.WriteErr.TheVariants.{WriteFault}
 use Rattle.ledger_model.specs.Scheme.{Scheme}
 use Rattle.ledger_model.specs.declared.genesis.Genesis.{Genesis}
-use Rattle.ledger_open.specs.Founding.{IsFoundedOrShut}
 use Rattle.ledger_soak.specs.Soaking.{Soaked}
 use Rattle.ledger_soak.specs.declared.running.SoakEnd.{SoakEnd}
 use Rattle.ledger_soak.specs.declared.running.SoakEnd.TheVariants as soak
 use Rattle.time_peg.specs.Entries.{NotaryState}
-use Rattle.twin_file.specs.Images.{AreShut}
 use Rattle.ledger_disk.specs.Disk.{MayLeave}
 use Rattle.ledger_cli.specs.Endings.{status_of, last_line, HasWords}
 use Rattle.ledger_cli.specs.Runs.{Handed, handed, FaultsBy, NothingFailed, ServedBy, Finishes, ending_of_soak}
@@ -27,7 +25,7 @@ use Rattle.ledger_cli.specs.declared.ending.LedgerEnding.TheVariants.{Run, DiskF
 use Rattle.ledger_cli.specs.declared.words.Command.{Command}
 use Rattle.ledger_cli.specs.declared.words.Command.TheVariants as command
 use Rattle.ledger_cli.proofs.FailureLaws.{fails_unread}
-use Rattle.ledger_cli.proofs.CarryLaws.{quiet_image, first_short}
+use Rattle.ledger_cli.proofs.CarryLaws.{first_short}
 use Rattle.ledger_cli.proofs.OpeningLaws.{again_unstarted}
 
 -- ---- a piece of a text
@@ -43,19 +41,15 @@ wrote_part due piece source before now (WriteFault taken) is first one = record 
 
 -- ---- nothing was done for want of memory
 
-images_stay : (genesis : Genesis) (disks : Pair) → AreShut disks.a.bytes disks.b.bytes → (a b : List ℕ) → MayLeave disks.a.bytes a → MayLeave disks.b.bytes b → IsFoundedOrShut genesis a b
-images_stay genesis disks s a b x y =
-    subst (λ l. IsFoundedOrShut genesis l b) (sym (quiet_image disks.a.bytes a s.quiet_a x))
-    (subst (λ l. IsFoundedOrShut genesis disks.a.bytes.seen l) (sym (quiet_image disks.b.bytes b s.quiet_b y)) (inl (s.shut_a, s.shut_b)))
-
 nothing : (x : Handed) → FaultsBy (Run run.NoMemory) x x
 nothing x = record { source_is = inl refl; sink_is = (refl, refl); disks_are = record { a = refl; b = refl } }
 
 pub unstarted_by : (scheme : Scheme) (tells : Bool) (words : Option Command) (x : Handed) → IsSome words → ServedBy scheme tells words (Run run.NoMemory) x x
 unstarted_by scheme tells None x some = absurd (let no : ⊥ = cc some in no)
 unstarted_by scheme tells (Some (command.Dry genesis)) x some = record {
-  serves = λ t none l. inr (record { outside = inr refl; unstarted = record { unread = refl; unwritten = refl; unasked = refl }; images = images_stay genesis x.disks });
+  serves = λ t none l. inr (record { outside = inr refl; unstarted = record { unread = refl; unwritten = refl; unasked = refl }; left = λ is. record { a = inl refl; b = inl refl }; images = inl (record { a = inl refl; b = inl refl }) });
   unstarted = λ some. record { unread = refl; unwritten = refl; unasked = refl };
+  only = tt;
   left = λ t o. (record { unread = refl; unwritten = refl; unasked = refl }, inl (inr refl, record { a = inl refl; b = inl refl }));
   faults = nothing x;
   failures = fails_unread x.source x.notary;
@@ -66,7 +60,7 @@ unstarted_by scheme tells (Some (command.Init genesis)) x some = record {
   unasked = refl;
   appended = Appends-nil x.sink.held;
   made = (refl, λ t. inl (record { a = inl refl; b = inl refl }));
-  images = λ t s. images_stay genesis x.disks s;
+  images = λ t. inl (record { a = inl refl; b = inl refl });
   faults = nothing x;
 }
 unstarted_by scheme tells (Some command.Run) x some = again_unstarted scheme tells x.source x.sink x.notary x.disks x.disks refl

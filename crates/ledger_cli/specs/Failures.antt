@@ -12,13 +12,14 @@ count_failed [] n = n
 count_failed (false ∷ calls) n = count_failed calls n
 count_failed (true ∷ calls) n = count_failed calls (count_after n)
 
--- so many calls at most were made, and each that failed was counted
+-- so many calls at most were made, each that failed was counted, and what stays of the notary stayed
 pub record FailsIn (most : ℕ) (before now : NotaryState) : Type 0 where
+  pub origin : now.origin ≡ before.origin
   pub calls : List Bool
   pub few : length calls ≤ most
   pub counted : now.faults ≡ count_failed calls before.faults
 
--- the notary was called once at most for each line that was read, and each call that failed was counted
+-- the notary was called once at most for each line that was read, each call that failed was counted, and what stays of it stayed
 pub record FailsByLines (source source_now : SourceState) (before now : NotaryState) : Type 0 where
   pub read : List ℕ
   pub consumed : Consumes source.left source_now.left read

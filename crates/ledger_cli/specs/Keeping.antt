@@ -1,6 +1,6 @@
 -- What a run of the program did whose notary keeps its list on a disk, or in memory where no folder is named.
 use Rattle.std.specs.Prelude.{◌≡◌, ◌⊎◌, ℕ, Bool, true, false, IsTrue, IsSome, List, [], Option, Some, None, codes}
-use Rattle.ledger_bytes.specs.Causes.{count_after}
+use Rattle.ledger_bytes.specs.Causes.{Rose, count_after}
 use Rattle.ledger_bytes.specs.declared.digest.Digest.{Digest}
 use Rattle.batch_committer.specs.World.{Pair}
 use Rattle.block_file.specs.declared.failure.FileErr.{FileErr}
@@ -10,9 +10,10 @@ use Rattle.ledger_io.specs.Outside.{SourceState, SinkState}
 use Rattle.ledger_io.specs.Writing.{WritesLast}
 use Rattle.ledger_io.specs.declared.ending.Ending.TheVariants as run
 use Rattle.ledger_model.specs.Scheme.{Scheme}
+use Rattle.notary_ledger.specs.Notaries.{memory_origin}
 use Rattle.notary_ledger.specs.Opening.{KeepsList}
 use Rattle.notary_ledger.specs.Slots.{Lists, MayList}
-use Rattle.time_peg.specs.Entries.{NotaryState}
+use Rattle.time_peg.specs.Entries.{IsList, Making, NotaryState, Times}
 use Rattle.ledger_cli.specs.Endings.{last_line}
 use Rattle.ledger_cli.specs.Runs.{Handed, handed, RanProgram}
 use Rattle.ledger_cli.specs.declared.ending.LedgerEnding.{LedgerEnding}
@@ -38,7 +39,7 @@ with_notary x notary = handed x.source x.sink x.disks notary
 
 -- a notary that has stamped nothing and never failed
 abbrev pub new_notary : NotaryState
-new_notary = record { entries = []; faults = 0 }
+new_notary = record { origin = memory_origin; entries = []; faults = 0 }
 
 -- a command names a folder, in which the notary has its file too
 abbrev pub names_folder : Option Command → Bool
@@ -55,34 +56,45 @@ ending_of_keeper files.NoMemory = Run run.NoMemory
 
 -- ---- a notary and its disk
 
--- the notary was taken up from its disk: it has the list that the disk reads as, and has failed as often
-pub record IsTakenUp (tells : Bool) (keeper : DiskState) (notary : NotaryState) : Type 0 where
+-- the notary was taken up from its disk: it has the list that the disk reads as, which is one that a notary may keep, has failed as
+-- often, and makes its entries so
+pub record IsTakenUp (tells : Bool) (keeper : DiskState) (making : Making) (notary : NotaryState) : Type 0 where
   pub list : IsTrue tells → Lists notary.entries keeper.bytes.seen
+  pub lawful : IsList notary.entries
+  pub origin : notary.origin ≡ record { making = Some making; faults = keeper.faults }
   pub faults : notary.faults ≡ keeper.faults
 
--- what a crash may leave of the disk has the notary's list, or that and one entry whose stamp failed
+-- what a crash may leave of the disk has the notary's list, or that and one entry, whose stamp failed: one that isn't there where
+-- no call of the disk failed since the notary was taken up
 pub record IsLeftBy (tells : Bool) (notary : NotaryState) (keeper : DiskState) : Type 0 where
   pub half : Option (List ℕ)
   pub images : IsTrue tells → (image : List ℕ) → MayLeave keeper.bytes image → MayList notary.entries half image
+  pub failed : IsSome half → Rose notary.origin.faults keeper.faults
   pub faults : keeper.faults ≡ notary.faults
 
 -- what a crash may leave of the disk has the list of something that a crash might have left before
 abbrev pub IsLeftListed : Bool → DiskState → DiskState → Type 0
 IsLeftListed tells before after = IsTrue tells → (image : List ℕ) → MayLeave after.bytes image → KeepsList before.bytes image
 
+-- nothing was done with the disk
+abbrev pub IsUntouched : DiskState → DiskState → Type 0
+IsUntouched before after = after ≡ before
+
 -- ---- runs
 
--- a run with a new notary in memory
+-- a run with a new notary in memory, which doesn't fail
 pub record RanInMemory (scheme : Scheme) (tells : Bool) (words : Option Command) (status : ℕ) (before after_all : Given) : Type 0 where
   pub notary : NotaryState
+  pub unfailed : notary.faults ≡ 0
   pub ran : RanProgram scheme tells words status (with_notary before new_notary) (with_notary after_all notary)
   pub keeper_is : after_all.keeper ≡ before.keeper
 
--- a run with the notary that the disk keeps
-pub record RanOnKeeper (scheme : Scheme) (tells keeps : Bool) (words : Option Command) (status : ℕ) (before after_all : Given) : Type 0 where
+-- a run with the notary that the disk keeps, which makes its entries so
+pub record RanOnKeeper (scheme : Scheme) (tells keeps : Bool) (making : Making) (words : Option Command) (status : ℕ) (before after_all : Given) : Type 0 where
   pub first : NotaryState
   pub last : NotaryState
-  pub taken_up : IsTakenUp keeps before.keeper first
+  pub taken_up : IsTakenUp keeps before.keeper making first
+  pub stays : last.origin ≡ first.origin
   pub left : IsLeftBy keeps last after_all.keeper
   pub ran : RanProgram scheme tells words status (with_notary before first) (with_notary after_all last)
 
@@ -98,12 +110,12 @@ pub record WantsSeed (status : ℕ) (before after_all : Given) : Type 0 where
   pub status_is : status ≡ 2
   pub keeper_is : after_all.keeper ≡ before.keeper
 
--- a run that wasn't begun for want of memory
-pub record WantsMemory (keeps : Bool) (words : Option Command) (status : ℕ) (before after_all : Given) : Type 0 where
+-- a run that wasn't begun for want of memory, and what that leaves of the notary's disk
+pub record WantsMemory (IsLeft : DiskState → DiskState → Type 0) (words : Option Command) (status : ℕ) (before after_all : Given) : Type 0 where
   pub unbegun : IsUnbegun (last_line (Run run.NoMemory)) before after_all
   pub status_is : status ≡ 6
   pub words_are : IsSome words
-  pub listed : IsLeftListed keeps before.keeper after_all.keeper
+  pub left : IsLeft before.keeper after_all.keeper
   pub faults : after_all.keeper.faults ≡ before.keeper.faults
 
 -- a run that wasn't begun since the notary's disk failed
@@ -114,17 +126,17 @@ pub record KeeperFailed (keeps : Bool) (status : ℕ) (before after_all : Given)
   pub faults : after_all.keeper.faults ≡ count_after before.keeper.faults
 
 -- which of these came, by whether the words name a folder, and whether there is a seed of salts; only a folder has a notary
--- that is kept
-abbrev pub RanWith : Scheme → Bool → Bool → Option Command → Bool → Option Digest → ℕ → Given → Given → Type 0
-RanWith scheme tells keeps words false seed status before after_all =
-    RanInMemory scheme tells words status before after_all ⊎ WantsMemory keeps words status before after_all
-RanWith scheme tells keeps words true None status before after_all =
-    WantsSeed status before after_all ⊎ WantsMemory keeps words status before after_all
-RanWith scheme tells keeps words true (Some seed) status before after_all =
-    RanOnKeeper scheme tells keeps words status before after_all
-    ⊎ (KeeperFailed keeps status before after_all ⊎ WantsMemory keeps words status before after_all)
+-- that is kept, whose salts come from the seed
+abbrev pub RanWith : Scheme → Bool → Bool → Times → Option Command → Bool → Option Digest → ℕ → Given → Given → Type 0
+RanWith scheme tells keeps times words false seed status before after_all =
+    RanInMemory scheme tells words status before after_all ⊎ WantsMemory IsUntouched words status before after_all
+RanWith scheme tells keeps times words true None status before after_all =
+    WantsSeed status before after_all ⊎ WantsMemory IsUntouched words status before after_all
+RanWith scheme tells keeps times words true (Some seed) status before after_all =
+    RanOnKeeper scheme tells keeps (record { seed = seed.0; times = times }) words status before after_all
+    ⊎ (KeeperFailed keeps status before after_all ⊎ WantsMemory (IsLeftListed keeps) words status before after_all)
 
 -- which of these came of a run with some words
-abbrev pub RanMain : Scheme → Bool → Bool → Option Command → Option Digest → ℕ → Given → Given → Type 0
-RanMain scheme tells keeps words seed status before after_all =
-    RanWith scheme tells keeps words (names_folder words) seed status before after_all
+abbrev pub RanMain : Scheme → Bool → Bool → Times → Option Command → Option Digest → ℕ → Given → Given → Type 0
+RanMain scheme tells keeps times words seed status before after_all =
+    RanWith scheme tells keeps times words (names_folder words) seed status before after_all

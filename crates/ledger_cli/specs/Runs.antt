@@ -32,12 +32,12 @@ use Rattle.ledger_open.specs.Founding.{IsFounded, IsFoundedOrShut, IsOneOpen}
 use Rattle.ledger_open.specs.Opening.{IsOpenErr, IsOutside, StandsAsRead}
 use Rattle.ledger_open.specs.Standing.{PairFor, IsCleanPair}
 use Rattle.ledger_open.specs.declared.failure.OpenErr.{OpenErr}
+use Rattle.ledger_open.specs.declared.failure.OpenErr.TheVariants as open_err
 use Rattle.ledger_soak.specs.Soaking.{Soaked}
 use Rattle.ledger_soak.specs.declared.running.SoakEnd.{SoakEnd}
 use Rattle.ledger_soak.specs.declared.running.SoakEnd.TheVariants as soak
 use Rattle.proof_maker.specs.Written.{AllGood}
 use Rattle.time_peg.specs.Entries.{NotaryState, IsList}
-use Rattle.twin_file.specs.Images.{AreShut}
 use Rattle.ledger_bytes.specs.Digests.{digest}
 use Rattle.script_lines.specs.Words.{hex_of}
 use Rattle.ledger_cli.specs.Endings.{line_of, status_of, last_line, refusal_of, HasWords}
@@ -280,19 +280,22 @@ LeftAsRead IsRefusal ending before after_all =
     IsUnstarted before after_all
     × (IsOutsideEnding ending × StayAsRead before.disks after_all.disks ⊎ IsRefusal ending × SettledAsRead before.disks after_all.disks)
 
--- The ledger wasn't opened: a disk failed, or memory was missing. Nothing is read or written. A crash at any time leaves a pair that
--- stands for this history still, and of one that was clean nothing changes.
+-- The ledger wasn't opened: a disk failed, or memory was missing. Nothing is read or written. Where memory is missing both files read
+-- as before. Else they do, and what was pending may be so still, or a crash at any time leaves a pair that stands for this history
+-- still. Of a pair that was clean, and of which nothing was pending, nothing changes.
 pub record IsNotOpened (h : History) (ending : LedgerEnding) (before after_all : Handed) : Type 0 where
   pub outside : IsOutsideEnding ending
   pub unstarted : IsUnstarted before after_all
-  pub images : (a b : List ℕ) → MayLeave after_all.disks.a.bytes a → MayLeave after_all.disks.b.bytes b → PairFor a b h
-  pub clean : IsCleanPair before.disks.a.bytes.seen before.disks.b.bytes.seen h
+  pub left : ending ≡ Run run.NoMemory → StayAsRead before.disks after_all.disks
+  pub images : StayAsRead before.disks after_all.disks
+      ⊎ ((a b : List ℕ) → MayLeave after_all.disks.a.bytes a → MayLeave after_all.disks.b.bytes b → PairFor a b h)
+  pub clean : AreQuiet before.disks → IsCleanPair before.disks.a.bytes.seen before.disks.b.bytes.seen h
       → (after_all.disks.a.bytes ≡ before.disks.a.bytes) × (after_all.disks.b.bytes ≡ before.disks.b.bytes)
 
 -- what `run` does: the ledger that is there is opened, and the script is run on it
 pub record RunsAgain (scheme : Scheme) (tells : Bool) (ending : LedgerEnding) (before after_all : Handed) : Type 0 where
   -- whatever history the pair stood for, where the notary keeps a list
-  pub serves : IsTrue tells → (h : History) → StandFor before.disks h → IsList before.notary.entries → (IsOutsideEnding ending → AreQuiet before.disks)
+  pub serves : IsTrue tells → (h : History) → StandFor before.disks h → IsList before.notary.entries
       → RunsOn scheme h ending before after_all ⊎ IsNotOpened h ending before after_all
   -- a refusal reads and writes nothing, whatever the disks tell
   pub unstarted : IsSome (refusal_of ending) → IsUnstarted before after_all
@@ -328,31 +331,36 @@ MadeBy genesis tells Empty written before after_all = ⊥
 MadeBy genesis tells Exists written before after_all = (written ≡ []) × (IsTrue tells → HasOpen before × SettledAsRead before after_all)
 MadeBy genesis tells (NewerFormat found) written before after_all = ⊥
 
--- what `init` does: it makes a new ledger, and writes one line that tells it
+-- a crash leaves two files that are shut, or the new ledger
+abbrev pub LeaveFoundedOrShut : Genesis → Pair → Type 0
+LeaveFoundedOrShut genesis disks = (a b : List ℕ) → MayLeave disks.a.bytes a → MayLeave disks.b.bytes b → IsFoundedOrShut genesis a b
+
+-- What `init` does: it makes a new ledger, and writes one line that tells it. Both files read as before, and what was pending may be
+-- so still, or a crash at any time leaves both shut, or the new ledger, where both were shut.
 pub record Makes (genesis : Genesis) (tells : Bool) (ending : LedgerEnding) (before after_all : Handed) : Type 0 where
   pub written : List ℕ
   pub unread : after_all.source ≡ before.source
   pub unasked : after_all.notary ≡ before.notary
   pub appended : Appends before.sink.held after_all.sink.held written
   pub made : MadeBy genesis tells ending written before.disks after_all.disks
-  -- a crash at any time leaves both shut, or the new ledger
-  pub images : IsTrue tells → AreShut before.disks.a.bytes before.disks.b.bytes → (a b : List ℕ)
-      → MayLeave after_all.disks.a.bytes a → MayLeave after_all.disks.b.bytes b → IsFoundedOrShut genesis a b
+  pub images : IsTrue tells → StayAsRead before.disks after_all.disks ⊎ (HasNone before.disks → LeaveFoundedOrShut genesis after_all.disks)
   pub faults : FaultsBy ending before after_all
 
--- The new ledger wasn't made, and no script was run: a disk failed, or memory was missing. A crash at any time leaves both
--- files shut, or the new ledger.
+-- The new ledger wasn't made, and no script was run: a disk failed, or memory was missing; then both files read as before. Else they
+-- do, and what was pending may be so still, or a crash at any time leaves both files shut, or the new ledger.
 pub record IsNotMade (genesis : Genesis) (ending : LedgerEnding) (before after_all : Handed) : Type 0 where
   pub outside : IsOutsideEnding ending
   pub unstarted : IsUnstarted before after_all
-  pub images : AreShut before.disks.a.bytes before.disks.b.bytes → (a b : List ℕ)
-      → MayLeave after_all.disks.a.bytes a → MayLeave after_all.disks.b.bytes b → IsFoundedOrShut genesis a b
+  pub left : ending ≡ Run run.NoMemory → StayAsRead before.disks after_all.disks
+  pub images : StayAsRead before.disks after_all.disks ⊎ LeaveFoundedOrShut genesis after_all.disks
 
 -- what `dry` does: a new ledger is made, and the script is run on it
 pub record RunsNew (scheme : Scheme) (genesis : Genesis) (tells : Bool) (ending : LedgerEnding) (before after_all : Handed) : Type 0 where
   pub serves : IsTrue tells → HasNone before.disks → IsList before.notary.entries → RunsOn scheme (new_ledger genesis) ending before after_all ⊎ IsNotMade genesis ending before after_all
   -- a refusal reads and writes nothing, whatever the disks tell
   pub unstarted : IsSome (refusal_of ending) → IsUnstarted before after_all
+  -- .. and there is one, whatever the disks tell
+  pub only : IfSome (refusal_of ending) (λ e. e ≡ open_err.Exists)
   pub left : IsTrue tells → HasOpen before.disks → LeftAsRead (λ met. met ≡ Exists) ending before after_all
   pub faults : FaultsBy ending before after_all
   pub failures : NotaryFails before after_all

@@ -3,6 +3,7 @@ ghost use Rattle.batch_committer.specs.World.{pair, OneFailed};
 ghost use Rattle.ledger_bytes.specs.Causes.{count_after};
 ghost use Rattle.ledger_cli.specs.Keeping.{given, names_folder, ending_of_keeper, RanMain};
 ghost use Rattle.ledger_cli.specs.Words.{command_of};
+ghost use Rattle.notary_ledger.specs.Clocks.{clock_times};
 
 use crate::Command;
 use crate::ending::LedgerEnding;
@@ -13,7 +14,7 @@ use ledger_bytes::{Digest, NoMemory};
 use ledger_disk::Disk;
 use ledger_io::{Ending, Sink, Source, finish, write_last};
 use member_book::Verifier;
-use notary_ledger::{Clock, LocalNotary, MemNotary};
+use notary_ledger::{Clock, LocalNotary, SureNotary};
 use std::alloc::Global;
 use std::sync::Wait;
 use std::thread::Threads;
@@ -54,7 +55,7 @@ pub fn ledger_main<
     keeping: Keeping<E, C>,
 ) -> (u8, E)
     ensures ran { RanMain (V.shows tools.now.verifier.now) D.tells E.tells
-        (command_of (map string_bytes words.now)) keeping.seed result.0
+        (clock_times C.tells (C.moments keeping.clock)) (command_of (map string_bytes words.now)) keeping.seed result.0
         (given (S.state source.old) (K.state sink.old) (pair (D.state a.old) (D.state b.old))
         (E.state keeping.keeper))
         (given (S.state source.new) (K.state sink.new) (pair (D.state a.new) (D.state b.new))
@@ -74,7 +75,7 @@ pub fn ledger_main<
     match wants_notary(alloc, words) {
         Ok(true) => {}
         Ok(false) => {
-            let mut notary = MemNotary::new(alloc, Vec::new(alloc));
+            let mut notary = SureNotary::new(alloc);
             let status = ledger_top(tools, words, source, sink, a, b, &mut notary);
             return (status, keeper);
         }

@@ -1,10 +1,10 @@
 ghost use Rattle.std.specs.Prelude.{◌≤◌, IfOk};
 
-use crate::{Keeping, ledger_main};
+use crate::{Command, Keeping, ledger_main};
 use lane_work::{OpenGate, Tools};
-use ledger_bytes::{Digest, NoMemory};
-use ledger_disk::{FileDisk, MemDisk};
-use ledger_io::{Ending, Sink, Source, StdSink, StdSource, command_words, finish};
+use ledger_bytes::{Digest, Failed, NoMemory};
+use ledger_disk::{Disk, FileDisk, MemDisk};
+use ledger_io::{Ending, Sink, Source, StdSink, StdSource, command_words, finish, write_last};
 use member_book::TagScheme;
 use notary_ledger::RealClock;
 use std::alloc::Global;
@@ -19,7 +19,7 @@ const DRY_ROOM: usize = 67_108_864;
 /// Runs the program over standard input and standard output, by the words of its command line, and answers its exit
 /// status. `init` and `run` use the files `ledger.a`, `ledger.b` and `notary` of their folder, which has to be there, the
 /// system's clock, and 32 bytes of `/dev/urandom` as the seed of salts; `dry` uses two disks in memory of 67,108,864 bytes
-/// each. Proofs are those of the tag scheme. What [`ledger_main`] promises holds of it, but standard input and output and
+/// each. The three files are locked, and so told apart, before anything is written. Proofs are those of the tag scheme. What [`ledger_main`] promises holds of it, but standard input and output and
 /// real files tell nothing of what they gave and took. `threads` is `rt` once more, by whose bound threads may be started.
 pub fn ledger_standard<R: Threads + Wait + Sync>(rt: &HostRuntime, threads: &R) -> u8
     ensures { result ≤ 9 }
@@ -59,7 +59,7 @@ fn tools<R>(threads: &R, alloc: Global) -> Tools<'_, R, TagScheme, OpenGate> {
     }
 }
 
-// Nothing is opened where the words turn out to be of no form.
+// Nothing is opened where the words turn out to be of no form, or where there is no seed.
 fn run_on_files<R: Threads + Wait + Sync, S: Source, K: Sink>(
     rt: &HostRuntime,
     threads: &R,
@@ -72,15 +72,30 @@ fn run_on_files<R: Threads + Wait + Sync, S: Source, K: Sink>(
 {
     let mut a = file_in(rt, folder, "/ledger.a")?;
     let mut b = file_in(rt, folder, "/ledger.b")?;
-    let keeper = file_in(rt, folder, "/notary")?;
+    let mut keeper = file_in(rt, folder, "/notary")?;
+    let seed = seed(rt);
+    if seed.is_some() && Command::read(rt.alloc(), words)?.is_some() {
+        let Ok(()) = lock_all(&mut a, &mut b, &mut keeper) else {
+            write_last(sink, b"fail 4 disk\n");
+            return Ok(4);
+        };
+    }
     let keeping = Keeping {
         keeper,
         clock: RealClock::new(rt),
-        seed: seed(rt),
+        seed,
     };
     let tools = tools(threads, rt.alloc());
     let (status, _) = ledger_main(&tools, words, source, sink, &mut a, &mut b, keeping);
     Ok(status)
+}
+
+// Opens and locks the three files. One that has two of the names can't be locked for both.
+fn lock_all<D: Disk>(a: &mut D, b: &mut D, keeper: &mut D) -> Result<(), Failed> {
+    a.len()?;
+    b.len()?;
+    keeper.len()?;
+    Ok(())
 }
 
 // 32 bytes from the system's source of random bytes.

@@ -117,6 +117,13 @@ pub fn init<D: Disk>(
     ensures images { IsTrue D.tells → IsShut (D.state a.old).bytes.seen → IsShut (D.state b.old).bytes.seen
         → WereSettled result (D.state a.old).bytes (D.state b.old).bytes
         → LeavesFoundedOrShut genesis.now (D.state a.new).bytes (D.state b.new).bytes }
+
+    // Whatever was pending at the call: nothing was written yet, and both read as before, or a crash leaves such a pair where
+    // both were shut.
+    ensures synced { IsTrue D.tells
+        → StandAsRead (D.state a.old).bytes (D.state b.old).bytes (D.state a.new).bytes (D.state b.new).bytes
+        ⊎ (IsShut (D.state a.old).bytes.seen → IsShut (D.state b.old).bytes.seen
+        → LeavesFoundedOrShut genesis.now (D.state a.new).bytes (D.state b.new).bytes) }
     ensures faults { CountsOpen result (D.state a.old).faults (D.state a.new).faults
         (D.state b.old).faults (D.state b.new).faults }
 {

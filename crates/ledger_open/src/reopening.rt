@@ -297,6 +297,11 @@ pub fn reopen<R: Threads, D: Disk>(
         → PairStandsStill (D.state a.old).bytes (D.state b.old).bytes (D.state a.new).bytes (D.state b.new).bytes }
     ensures clean { IsTrue D.tells
         → IsCleanStill (D.state a.old).bytes (D.state b.old).bytes (D.state a.new).bytes (D.state b.new).bytes }
+
+    // Whatever was pending at the call: nothing was written yet, and both read as before, or a crash leaves such a pair.
+    ensures synced { IsTrue D.tells
+        → StandAsRead (D.state a.old).bytes (D.state b.old).bytes (D.state a.new).bytes (D.state b.new).bytes
+        ⊎ PairStandsStill (D.state a.old).bytes (D.state b.old).bytes (D.state a.new).bytes (D.state b.new).bytes }
     ensures faults { CountsOpen result (D.state a.old).faults (D.state a.new).faults
         (D.state b.old).faults (D.state b.new).faults }
 {

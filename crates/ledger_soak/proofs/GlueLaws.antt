@@ -19,7 +19,7 @@ use Rattle.ledger_model.specs.declared.job.Job.{Job}
 use Rattle.ledger_model.specs.declared.job.Job.TheVariants.{Prove}
 use Rattle.ledger_model.proofs.GrowLaws.{close_none, close_settled}
 use Rattle.ledger_model.proofs.LawfulLaws.{some_journal}
-use Rattle.notary_ledger.specs.Notaries.{MemShown}
+use Rattle.notary_ledger.specs.Notaries.{MemShown, memory_origin}
 use Rattle.batch_committer.specs.Attending.{step_in, Attended}
 use Rattle.batch_committer.specs.World.{Keeps, Holds}
 use Rattle.ledger_soak.specs.Auditing.{Follows}
@@ -121,8 +121,8 @@ module _ (seed : ℕ) (run : Run) (x : IsUnderway seed run) where
     list_at : n.entries ≡ s.entries
     list_at = list ∙ x.stands.list
 
-    attends_so : (failed : Bool) → Attended (notary_state n) (notary_state new.notary) (judged_at h job) (step failed) job → Attends tag_key_of h (step failed)
-    attends_so failed a = subst (λ j. AttendsJob (judged_at h j) (step failed) j) asked_is a.list
+    attends_so : (failed : Bool) → Attended (notary_state n) (notary_state new.notary) (judged_at h job) (step failed) job → Attends tag_key_of h memory_origin.making (step failed)
+    attends_so failed a = subst (λ j. AttendsJob (judged_at h j) memory_origin.making (step failed) j) asked_is a.list
 
     unfailed_so : (failed : Bool) → Attended (notary_state n) (notary_state new.notary) (judged_at h job) (step failed) job → failed ≡ false
     unfailed_so failed a = none_failed failed n.faults new.notary.faults a.count well
@@ -151,7 +151,7 @@ module _ (seed : ℕ) (run : Run) (x : IsUnderway seed run) where
       abbrev turn : Turn
       turn = record { step = step failed; fate = answered }
 
-      attended_now : Attends tag_key_of h (step failed)
+      attended_now : Attends tag_key_of h memory_origin.making (step failed)
       attended_now = attends_so failed (w.attended h held)
 
       unfaulted : n.faults ≡ 0
@@ -170,7 +170,7 @@ module _ (seed : ℕ) (run : Run) (x : IsUnderway seed run) where
           let found = asks_for h (step failed) asked is in
           let told = proof_told h (step failed) found.0 (unfailed_so failed (w.attended h held)) (subst (λ j. is_reply is_proof_reply (answer_to h (step failed) j) ≡ true) found.1 is) in
           let same = close_settled h rests.none in
-          let stays : new.notary.entries ≡ n.entries = (subst (λ j. AttendsJob (judged_at h j) (step failed) j) found.1 attended_now).list in
+          let stays : new.notary.entries ≡ n.entries = (subst (λ j. AttendsJob (judged_at h j) memory_origin.making (step failed) j) found.1 attended_now).list in
           line_is h found.0 (asked_is ∙ found.1) serves (subst (Pegged h) (sym x.stands.list) x.stands.kept.pegged) followed unfaulted (subst (λ g. prove_refusal g found.0 ≡ None) (sym same) told.unrefused)
           ∙ ap (λ es. Some (reply_text 0 1 (proof_reply (shown_of h es found.0)))) (sym list ∙ sym stays)
           ∙ ap (λ g. Some (reply_text 0 1 (proof_reply (shown_of g new.notary.entries found.0)))) same
@@ -186,6 +186,7 @@ module _ (seed : ℕ) (run : Run) (x : IsUnderway seed run) where
         is_turn = record {
           line_is = refl;
           lane_is = refl;
+          index_is = refl;
           list_is = list_at;
           unfailed = unfailed_so failed (w.attended h held);
           part = attended_now;
@@ -212,7 +213,7 @@ module _ (seed : ℕ) (run : Run) (x : IsUnderway seed run) where
       }
 
     -- it was in hand at a stop
-    in_hand_with : (failed : Bool) → failed ≡ false → (LeavesEither new.post.world.disks h (after_turn kept_in_hand h (step failed)) × Attends tag_key_of h (step failed))
+    in_hand_with : (failed : Bool) → failed ≡ false → (LeavesEither new.post.world.disks h (after_turn kept_in_hand h (step failed)) × Attends tag_key_of h memory_origin.making (step failed))
         ⊎ (LeavesEither new.post.world.disks h h × (new.notary.entries ≡ n.entries)) → IsInHand seed new (step failed)
     in_hand_with failed unfailed leaves = record {
       past = x.past;
@@ -221,6 +222,7 @@ module _ (seed : ℕ) (run : Run) (x : IsUnderway seed run) where
       draws = draws ∙ ap state_behind x.stands.draws;
       line_is = refl;
       lane_is = refl;
+      index_is = refl;
       list_is = list_at;
       unfailed = unfailed;
       list = refl;

@@ -11,3 +11,4 @@ pub mod ReplyLaws
 pub mod StageLaws
 pub mod RunLaws
 pub mod GlueLaws
+mod SameLaws

@@ -24,6 +24,7 @@ use Rattle.ledger_model.specs.declared.job.Job.{Job}
 use Rattle.batch_committer.specs.Attending.{step_in, TakesJob}
 use Rattle.batch_committer.specs.World.{World, Holds, Goes}
 use Rattle.script_lines.specs.declared.reply.Reply.{Reply as AnyReply}
+use Rattle.notary_ledger.specs.Notaries.{memory_origin}
 use Rattle.ledger_soak.specs.Auditing.{IsHeadOfFirst, IsListHead, Follows, is_found, is_lost}
 use Rattle.ledger_soak.specs.Posts.{Posted, OpensLeft}
 use Rattle.ledger_soak.specs.Runs.{IsPlaced, IsReady, Past, begun_at, led_to, AreTallied, IsHeld, Recalls, IsAtRest, IsAtStage, IsUnderway, IsAnswered, IsInHand}
@@ -218,6 +219,7 @@ module _ (seed : ℕ) (run : Run) (step : Step) (x : IsInHand seed run step) whe
         let turn : IsTurn run.stop before t = record {
           line_is = x.line_is;
           lane_is = x.lane_is;
+          index_is = x.index_is;
           list_is = x.list_is;
           unfailed = x.unfailed;
           part = part;
@@ -250,10 +252,10 @@ module _ (seed : ℕ) (run : Run) (step : Step) (x : IsInHand seed run step) whe
     kept_before : Recalls run.auditor run.receipts.items h step.before
     kept_before = subst (Recalls run.auditor run.receipts.items h) (sym x.list_is) x.kept
 
-    lost_so : PairFor opens.a opens.b h → (step.after ≡ step.before) ⊎ Attends tag_key_of h step → IsUnderway seed new
+    lost_so : PairFor opens.a opens.b h → (step.after ≡ step.before) ⊎ Attends tag_key_of h memory_origin.making step → IsUnderway seed new
     lost_so pair part = ended_so lost_in_hand refl part x.none (opens.holds h pair) (recalls_list run.auditor run.receipts.items h step part kept_before)
 
-    kept_so : PairFor opens.a opens.b (after_turn kept_in_hand h step) → Attends tag_key_of h step → IsUnderway seed new
+    kept_so : PairFor opens.a opens.b (after_turn kept_in_hand h step) → Attends tag_key_of h memory_origin.making step → IsUnderway seed new
     kept_so pair attends =
         ended_so kept_in_hand refl attends (ap (λ (g : History). g.waiting) (window_is h step) ∙ close_none _) (opens.holds (after_turn kept_in_hand h step) pair)
         (recalls_window run.auditor run.receipts.items h step x.some attends kept_before)
@@ -332,8 +334,9 @@ placed_so w t n m member h held line line_is job job_is failed takes =
     let a = takes.attended h held in record {
       step = step;
       line_is = line_is;
+      place_is = (refl, refl);
       holds = subst (λ (j : Job). Holds true t (after_job h step j)) job_is (takes.goes.holds h held);
-      took = (refl, subst (λ (j : Job). AttendsJob (judged_at h j) step j) job_is a.list, ap (λ k. record { entries = m.entries; faults = k }) a.count);
+      took = (refl, subst (λ (j : Job). AttendsJob (judged_at h j) n.origin.making step j) job_is a.list, λ i. record { origin = a.origin i; entries = m.entries; faults = a.count i });
     }
 
 -- the members were placed one after the other, and then the window ended
@@ -354,6 +357,7 @@ founded_so w0 w1 w2 w3 post n0 n1 n2 n3 held silent first second third flush due
         lines = ap (λ l. l ∷ b.step.line ∷ c.step.line ∷ []) a.line_is
             ∙ ap (λ l. member_line (id h0) 2 ∷ l ∷ c.step.line ∷ []) (b.line_is ∙ ap (λ i. member_line i 3) same1)
             ∙ ap (λ l. member_line (id h0) 2 ∷ member_line (id h0) 3 ∷ l ∷ []) (c.line_is ∙ ap (λ i. member_line i 4) same2);
+        places = λ i. (a.place_is.0 i, a.place_is.1 i) ∷ (b.place_is.0 i, b.place_is.1 i) ∷ (c.place_is.0 i, c.place_is.1 i) ∷ [];
         took = subst (λ n. Took tag_key_of h0 n (a.step ∷ b.step ∷ c.step ∷ []) n3) silent (
           a.took.0,
           a.took.1,

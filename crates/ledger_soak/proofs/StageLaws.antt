@@ -10,7 +10,7 @@ use Rattle.ledger_bytes.specs.Causes.{count_after}
 use Rattle.ledger_bytes.specs.Digests.{digest}
 use Rattle.journal_record.specs.Tags.{tag_key_of}
 use Rattle.merkle_tree.specs.declared.head.Head.{Head}
-use Rattle.time_peg.specs.Entries.{IsList, entry_of}
+use Rattle.time_peg.specs.Entries.{Making, IsList, entry_of}
 use Rattle.ledger_model.specs.Dues.{HasLeaf}
 use Rattle.ledger_model.specs.Growing.{Grows}
 use Rattle.ledger_model.specs.History.{History, journals, id, size, close}
@@ -22,6 +22,7 @@ use Rattle.ledger_model.specs.Step.{Step}
 use Rattle.ledger_model.proofs.GrowLaws.{grows_close, grows_job, grows_then, grows_not, grows_size, root_kept}
 use Rattle.ledger_model.proofs.PegLaws.{pegged_job, pegged_close, pegged_longer}
 use Rattle.ledger_model.proofs.WaitLaws.{leaf_more}
+use Rattle.notary_ledger.specs.Notaries.{memory_origin}
 use Rattle.ledger_soak.specs.Auditing.{IsHeadOfFirst, IsListHead}
 use Rattle.ledger_soak.specs.Runs.{IsHeld, Recalls}
 use Rattle.ledger_soak.specs.declared.receipts.Receipt.{Receipt}
@@ -33,11 +34,11 @@ pub record ListGoesOn (es later : List (List ℕ)) : Type 0 where
   pub begins : Begins es later
   pub list : IsList later
 
-pub list_goes_on : (asked failed : Bool) (peg : List ℕ) (es later : List (List ℕ)) → IsList es → Changes asked failed peg es later → ListGoesOn es later
-list_goes_on false failed peg es later list c = record { begins = record { rest = []; is = c ∙ sym (append-nil es) }; list = subst IsList (sym c) list }
-list_goes_on true false peg es later list c = record { begins = record { rest = entry_of c.0.0 peg c.0.1 ∷ []; is = c.0.3 }; list = c.1 }
-list_goes_on true true peg es later list (inl same) = record { begins = record { rest = []; is = same ∙ sym (append-nil es) }; list = subst IsList (sym same) list }
-list_goes_on true true peg es later list (inr more) = record { begins = record { rest = entry_of more.0.0 peg more.0.1 ∷ []; is = more.0.3 }; list = more.1 }
+pub list_goes_on : (making : Option Making) (asked failed : Bool) (peg : List ℕ) (es later : List (List ℕ)) → IsList es → Changes asked failed making peg es later → ListGoesOn es later
+list_goes_on making false failed peg es later list c = record { begins = record { rest = []; is = c ∙ sym (append-nil es) }; list = subst IsList (sym c) list }
+list_goes_on making true false peg es later list c = record { begins = record { rest = entry_of c.0.0 peg c.0.1 ∷ []; is = c.0.3 }; list = c.1 }
+list_goes_on making true true peg es later list (inl same) = record { begins = record { rest = []; is = same ∙ sym (append-nil es) }; list = subst IsList (sym same) list }
+list_goes_on making true true peg es later list (inr more) = record { begins = record { rest = entry_of more.0.0 peg more.0.1 ∷ []; is = more.0.3 }; list = more.1 }
 
 -- ---- the window of a step
 
@@ -88,21 +89,21 @@ module _ (auditor : Auditor) (rs : List Receipt) where
   }
 
   -- behind the window of a step in which the notary took part
-  pub recalls_window : (h : History) (step : Step) → 1 ≤ size h → Attends tag_key_of h step → Recalls auditor rs h step.before → Recalls auditor rs (window_of h step) step.after
+  pub recalls_window : (h : History) (step : Step) → 1 ≤ size h → Attends tag_key_of h memory_origin.making step → Recalls auditor rs h step.before → Recalls auditor rs (window_of h step) step.after
   recalls_window h step some attends x =
       let job = job_of tag_key_of (id h) step.line in
       let k = after_job h step job in
-      let on = list_goes_on (asks (judged_at h job) step.before job) step.failed (peg_at (judged_at h job) (size (judged_at h job))) step.before step.after x.pegged.list attends.list in
+      let on = list_goes_on memory_origin.making (asks (judged_at h job) step.before job) step.failed (peg_at (judged_at h job) (size (judged_at h job))) step.before step.after x.pegged.list attends.list in
       let more : 0 < size k = omega (arith, some, grows_size h k (grows_job h step job)) in
       recalls_on h (window_of h step) step.before step.after (window_grows h step) on.begins
-      (subst (λ g. Pegged g step.after) (sym (window_is h step)) (pegged_close k step.after more (pegged_job h step job (omega (arith, some)) x.pegged attends.list))) x
+      (subst (λ g. Pegged g step.after) (sym (window_is h step)) (pegged_close k step.after more (pegged_job memory_origin.making h step job (omega (arith, some)) x.pegged attends.list))) x
 
   -- where nothing of the step is left but its entry in the list
-  pub recalls_list : (h : History) (step : Step) → (step.after ≡ step.before) ⊎ Attends tag_key_of h step → Recalls auditor rs h step.before → Recalls auditor rs h step.after
+  pub recalls_list : (h : History) (step : Step) → (step.after ≡ step.before) ⊎ Attends tag_key_of h memory_origin.making step → Recalls auditor rs h step.before → Recalls auditor rs h step.after
   recalls_list h step (inl same) x = subst (Recalls auditor rs h) (sym same) x
   recalls_list h step (inr attends) x =
       let job = job_of tag_key_of (id h) step.line in
-      let on = list_goes_on (asks (judged_at h job) step.before job) step.failed (peg_at (judged_at h job) (size (judged_at h job))) step.before step.after x.pegged.list attends.list in
+      let on = list_goes_on memory_origin.making (asks (judged_at h job) step.before job) step.failed (peg_at (judged_at h job) (size (judged_at h job))) step.before step.after x.pegged.list attends.list in
       recalls_on h h step.before step.after (grows_not h) on.begins
       (subst (Pegged h) (sym on.begins.is) (pegged_longer h step.before on.begins.rest (subst IsList on.begins.is on.list) x.pegged)) x
 

@@ -11,7 +11,7 @@ use Rattle.ledger_model.specs.Rules.{judged_at, after_job}
 use Rattle.ledger_model.specs.Step.{Step}
 use Rattle.ledger_model.specs.declared.job.Job.{Job}
 use Rattle.time_peg.specs.Entries.{NotaryState}
-use Rattle.notary_ledger.specs.Notaries.{MemShown}
+use Rattle.notary_ledger.specs.Notaries.{MemShown, memory_origin}
 use Rattle.ledger_open.specs.Standing.{PairFor}
 use Rattle.batch_committer.specs.Attending.{Attended, step_in}
 use Rattle.batch_committer.specs.World.{World, Pair, Holds}
@@ -30,7 +30,7 @@ fused_disk disk = fuse_state memory_disk disk
 
 -- all that a clause knows of a notary in memory
 abbrev pub notary_state : MemShown → NotaryState
-notary_state notary = record { entries = notary.entries; faults = notary.faults }
+notary_state notary = record { origin = memory_origin; entries = notary.entries; faults = notary.faults }
 
 -- how a soak ends a job in which the committer met this end
 abbrev pub halt_of : CommitErr → Halt

@@ -13,6 +13,7 @@ use Rattle.ledger_model.specs.Step.{Step}
 use Rattle.ledger_model.specs.Took.{Took}
 use Rattle.ledger_model.specs.Texts.{reply_in}
 use Rattle.batch_committer.specs.World.{World, Holds}
+use Rattle.notary_ledger.specs.Notaries.{memory_origin}
 use Rattle.ledger_soak.specs.Auditing.{Follows}
 use Rattle.ledger_soak.specs.Lines.{job_line, member_line}
 use Rattle.ledger_soak.specs.Posts.{Posted, LeavesEither}
@@ -81,6 +82,7 @@ pub record IsAtStage (run : Run) (s : Stage) : Type 0 where
 pub record IsPlaced (w t : World) (n m : NotaryState) (member : ℕ) (h : History) : Type 0 where
   pub step : Step
   pub line_is : step.line ≡ member_line (id h) member
+  pub place_is : (step.lane ≡ 0) × (step.index ≡ 1)
   pub holds : Holds true t (after_step tag_key_of h step)
   pub took : Took tag_key_of h n (step ∷ []) m
 
@@ -118,6 +120,7 @@ pub record IsInHand (seed : ℕ) (run : Run) (step : Step) : Type 0 where
   pub draws : run.draws.state ≡ state_behind (led_to seed past).draws
   pub line_is : let s = led_to seed past in step.line ≡ job_line (task_drawn s.draws (size s.history)) s.history
   pub lane_is : step.lane ≡ 0
+  pub index_is : step.index ≡ 1
   pub list_is : step.before ≡ (led_to seed past).entries
   pub unfailed : step.failed ≡ false
   pub list : run.notary.entries ≡ step.after
@@ -125,7 +128,7 @@ pub record IsInHand (seed : ℕ) (run : Run) (step : Step) : Type 0 where
   pub none : (led_to seed past).history.waiting ≡ []
   pub some : 1 ≤ size (led_to seed past).history
   pub leaves : let h = (led_to seed past).history in
-      (LeavesEither run.post.world.disks h (after_turn kept_in_hand h step) × Attends tag_key_of h step)
+      (LeavesEither run.post.world.disks h (after_turn kept_in_hand h step) × Attends tag_key_of h memory_origin.making step)
       ⊎ (LeavesEither run.post.world.disks h h × (step.after ≡ step.before))
   pub kept : Recalls run.auditor run.receipts.items (led_to seed past).history (led_to seed past).entries
   pub unfused : run.stop ≡ 0 → run.fuses ≡ Off

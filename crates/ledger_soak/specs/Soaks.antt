@@ -9,16 +9,23 @@ use Rattle.ledger_model.specs.History.{id, size, point, root}
 use Rattle.ledger_model.specs.Rules.{after_window}
 use Rattle.ledger_model.specs.Step.{Step}
 use Rattle.ledger_model.specs.Took.{Took}
+use Rattle.notary_ledger.specs.Notaries.{memory_origin}
 use Rattle.ledger_soak.specs.Lines.{member_line}
 use Rattle.ledger_soak.specs.Turns.{Turn, Stage, AreTurns, last_stage, soak_genesis, turn_count, was_stopped, was_answered_by, is_no, is_proof_reply}
 use Rattle.ledger_soak.specs.declared.summary.Summary.{Summary}
 
 -- the notary of a soak before the first line: its list is empty, and nothing failed
 abbrev pub silent_notary : NotaryState
-silent_notary = record { entries = []; faults = 0 }
+silent_notary = record { origin = memory_origin; entries = []; faults = 0 }
 
--- The window in which members 2, 3 and 4 are placed in a new ledger: the notary's part in its steps, in which it doesn't fail.
+-- where a line stands: its lane, and its number there
+abbrev pub place_of : Step → ℕ × ℕ
+place_of step = (step.lane, step.index)
+
+-- The window in which members 2, 3 and 4 are placed in a new ledger, each by a line that is the first of lane 0: the notary's part in
+-- its steps, in which it doesn't fail.
 pub record IsSetUp (steps : List Step) (notary : NotaryState) : Type 0 where
+  pub places : map place_of steps ≡ (0, 1) ∷ (0, 1) ∷ (0, 1) ∷ []
   pub lines : map (λ step. step.line) steps ≡ map (member_line (id (new_ledger soak_genesis))) (2 ∷ 3 ∷ 4 ∷ [])
   pub took : Took tag_key_of (new_ledger soak_genesis) silent_notary steps notary
   pub unfailed : notary.faults ≡ 0

@@ -11,6 +11,7 @@ use Rattle.ledger_model.specs.Texts.{answer_to}
 use Rattle.ledger_model.specs.declared.answer.Answer.{Answer}
 use Rattle.ledger_model.specs.declared.answer.Answer.TheVariants.{Reply, Receipt}
 use Rattle.ledger_model.specs.declared.genesis.Genesis.{Genesis}
+use Rattle.notary_ledger.specs.Notaries.{memory_origin}
 use Rattle.ledger_soak.specs.Lines.{key_of, job_line}
 use Rattle.ledger_soak.specs.Tasks.{task_drawn, state_behind}
 
@@ -52,15 +53,16 @@ after_turn lost_in_hand h step = h
 -- The notary took part in the step of a job as its line wants. In one that was in hand, and of which the image has nothing, it
 -- may have had no part.
 abbrev pub TakesPart : Fate → History → Step → Type 0
-TakesPart answered h step = Attends tag_key_of h step
-TakesPart kept_in_hand h step = Attends tag_key_of h step
-TakesPart lost_in_hand h step = (step.after ≡ step.before) ⊎ Attends tag_key_of h step
+TakesPart answered h step = Attends tag_key_of h memory_origin.making step
+TakesPart kept_in_hand h step = Attends tag_key_of h memory_origin.making step
+TakesPart lost_in_hand h step = (step.after ≡ step.before) ⊎ Attends tag_key_of h memory_origin.making step
 
--- The line of a job is what is drawn there, on lane 0. The notary goes on from its list, and doesn't fail. Without fuses, and
+-- The line of a job is what is drawn there, the first of lane 0. The notary goes on from its list, and doesn't fail. Without fuses, and
 -- right behind a stop, each job is answered.
 pub record IsTurn (stop : ℕ) (s : Stage) (t : Turn) : Type 0 where
   pub line_is : t.step.line ≡ job_line (task_drawn s.draws (size s.history)) s.history
   pub lane_is : t.step.lane ≡ 0
+  pub index_is : t.step.index ≡ 1
   pub list_is : t.step.before ≡ s.entries
   pub unfailed : t.step.failed ≡ false
   pub part : TakesPart t.fate s.history t.step

@@ -5,6 +5,7 @@
 mod approvals;
 mod auditor;
 mod draws;
+mod laws;
 mod lines;
 mod post;
 mod receipts;
@@ -12,6 +13,7 @@ mod running;
 mod summary;
 mod task;
 
+pub use laws::soaks_without_stops_agree;
 pub use running::{SoakEnd, soak};
 pub use summary::Summary;
 pub use task::Task;

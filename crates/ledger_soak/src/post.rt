@@ -139,7 +139,7 @@ impl Post {
     pub(crate) fn reply(&self) -> &[u8]
         ensures { self.now.world.sink.held ≡ Some result.now }
     {
-        self.sink.written_bytes()
+        self.sink.written()
     }
 
     /// The job of a line, as line 1 of lane 0.

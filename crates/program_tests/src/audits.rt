@@ -64,7 +64,7 @@ fn ends_so(alloc: Global, row: &Faulty) -> Result<bool, NoMemory> {
     let mut source = MemSource::new(script, [read].to_vec(alloc)?);
     let mut sink = MemSink::new(alloc, room, [write].to_vec(alloc)?)?;
     let status = audit_top(alloc, &words, &mut source, &mut sink, &TagScheme);
-    Ok(status == want_status && sink.written_bytes() == want.as_bytes())
+    Ok(status == want_status && sink.written() == want.as_bytes())
 }
 
 #[test]

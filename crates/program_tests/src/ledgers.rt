@@ -135,7 +135,7 @@ fn run_on<R: Threads + Wait + Sync, D: Disk>(
         b,
         &mut notary,
     );
-    Ok((status, sink.written_bytes().to_vec(alloc)?))
+    Ok((status, sink.written().to_vec(alloc)?))
 }
 
 /// The status of a run on two empty disks, and what it wrote.

@@ -16,7 +16,8 @@ use Rattle.audit_core.specs.Extending.{IsExtension}
 use Rattle.audit_core.specs.Trust.{Trust, root_of}
 use Rattle.proof_maker.specs.Making.{TrustsFirst, TrustsEntries}
 use Rattle.proof_maker.specs.Parts.{extension_bytes}
-use Rattle.proof_maker.proofs.FoldLaws.{IsWide, extension_leads, leaves_wide}
+use Rattle.tree_model.proofs.Widths.{IsWide}
+use Rattle.proof_maker.proofs.FoldLaws.{extension_leads, leaves_wide}
 use Rattle.proof_maker.proofs.RowLaws.{proof_few}
 
 pub extension_accepted : (which : Which) (ds : List (List ℕ)) (m all : ℕ) (head : Head) (first root : Digest) (bytes : List ℕ) (trust : Trust) → All IsWide ds → 0 < m → m ≤ length ds → length ds ≡ all → head.size ≡ all

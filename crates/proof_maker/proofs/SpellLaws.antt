@@ -8,6 +8,7 @@ use Rattle.std.proofs.lemmas.List.{length-map}
 use Rattle.std.proofs.lemmas.List.Elements.{All-take}
 use Rattle.std.proofs.lemmas.Option.{slice_get_within}
 use Rattle.sha2.specs.Sha256.{sha256}
+use Rattle.sha2.proofs.Facts256.{length-sha256}
 use Rattle.ledger_bytes.specs.Digests.{digest}
 use Rattle.journal_record.specs.Entry.{Entry}
 use Rattle.journal_record.specs.declared.rules.TheConstants.{NOTARY_LIMIT}
@@ -30,7 +31,8 @@ use Rattle.proof_maker.specs.Written.{HasWideTimes}
 use Rattle.proof_maker.specs.declared.bound.Bound.{Bound}
 use Rattle.proof_maker.specs.declared.noted.Noted.{Noted}
 use Rattle.proof_maker.specs.declared.parts.Parts.{Parts}
-use Rattle.proof_maker.proofs.FoldLaws.{IsWide, root_wide, path_wide, proof_wide, leaves_wide}
+use Rattle.tree_model.proofs.Widths.{IsWide, root_wide, path_wide, proof_wide}
+use Rattle.proof_maker.proofs.FoldLaws.{leaves_wide}
 use Rattle.proof_maker.proofs.HeaderLaws.{layout_at, not_first}
 use Rattle.proof_maker.proofs.PartLaws.{kept_before, kept_behind}
 use Rattle.proof_maker.proofs.ProofLaws.{has_spelling, shown_same}
@@ -49,12 +51,12 @@ digests_short most xs each few = record { whole = omega (arith, joined_count xs 
 path_short : (most : ℕ) (ds : List (List ℕ)) (n : ℕ) → All IsWide ds → length ds ≤ 2 ^ most → AreDigests most (path_bytes ds n)
 unfolding path
 path_short most ds n each few =
-    digests_short most (path sha256 n ds) (path_wide (length ds) n ds each) (omega (arith, length-path sha256 n ds, path_length_below most n (length ds) few))
+    digests_short most (path sha256 n ds) (path_wide sha256 length-sha256 (length ds) n ds each) (omega (arith, length-path sha256 n ds, path_length_below most n (length ds) few))
 
 pub extension_short : (ds : List (List ℕ)) (m : ℕ) → All IsWide ds → 0 < m → m ≤ length ds → length ds < 2 ^ 32 → AreDigests 33 (extension_bytes ds m)
 unfolding sub
 extension_short ds m each some le few =
-    digests_short 33 (proof sha256 m ds) (proof_wide (length ds) m true ds each) (omega (arith, length-sub sha256 m true ds some le, proof_few m (length ds) few))
+    digests_short 33 (proof sha256 m ds) (proof_wide sha256 length-sha256 (length ds) m true ds each) (omega (arith, length-sub sha256 m true ds some le, proof_few m (length ds) few))
 
 entry_short : (es : List (List ℕ)) (k : ℕ) → length es ≤ NOTARY_LIMIT → AreDigests 24 (entry_path es k)
 entry_short es k few =
@@ -99,7 +101,7 @@ module _ (h : History) (lawful : AreLawful (journals h)) (wide : HasWideTimes h)
 
   root_is_wide : (m : ℕ) → length (model.root h m) ≡ 32
   unfolding tree.root
-  root_is_wide m = ap length (sym (root_told h m)) ∙ root_wide (length (take m (leaf_digests h))) (take m (leaf_digests h)) (All-take IsWide m (leaf_digests h) (all_wide h))
+  root_is_wide m = ap length (sym (root_told h m)) ∙ root_wide sha256 length-sha256 (length (take m (leaf_digests h))) (take m (leaf_digests h)) (All-take IsWide m (leaf_digests h) (all_wide h))
 
   leaf_path_short : (n : ℕ) → AreDigests 32 (path_in h n)
   leaf_path_short n = path_short 32 (leaf_digests h) n (all_wide h) (omega (arith, many, few))

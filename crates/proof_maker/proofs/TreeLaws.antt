@@ -14,7 +14,8 @@ use Rattle.ledger_book.specs.Books.{Kept, Stands, Serves, leaf_digests, sealed_s
 use Rattle.ledger_book.specs.Seals.{head_at, head_of}
 use Rattle.ledger_book.proofs.StandsLaws.{point_is}
 use Rattle.proof_maker.specs.Parts.{IsAt}
-use Rattle.proof_maker.proofs.FoldLaws.{IsWide, leaves_wide}
+use Rattle.tree_model.proofs.Widths.{IsWide}
+use Rattle.proof_maker.proofs.FoldLaws.{leaves_wide}
 use Rattle.proof_maker.proofs.HeaderLaws.{above, within}
 use Rattle.proof_maker.proofs.RowLaws.{size_is}
 

@@ -15,6 +15,7 @@ use Rattle.ledger_model.specs.History.{History, journals, size, close}
 use Rattle.ledger_model.specs.Judgements.{own_refusal}
 use Rattle.ledger_model.specs.Lawful.{IsLawful}
 use Rattle.ledger_model.specs.Limits.{real_limits}
+use Rattle.time_peg.specs.Entries.{Making}
 use Rattle.ledger_model.specs.Notary.{ChangesBy}
 use Rattle.ledger_model.specs.Outcomes.{with_waiting, after_judgement, with_job}
 use Rattle.ledger_model.specs.Rules.{closes_before, closes_after, judged_at, settled_history, after_job}
@@ -73,31 +74,31 @@ module _ (h : History) (wide : HasWideTimes h) where
     who_digest = length-sha256 _;
   }
 
-  anchor_wide : (step : Step) → size h < 2 ^ 64 → ChangesBy h step Anchor → (refusal : Option Refusal) (stamp : Option Stamp) → own_refusal real_limits h Anchor ≡ refusal → stamp_of step ≡ stamp → HasWideTimes (after_judgement refusal (option_map (time_journal (size h)) stamp) h)
-  anchor_wide step few changes (Some refusal) stamp r is = wide
-  anchor_wide step few changes None None r is = wide
-  anchor_wide step few changes None (Some s) r is =
-      let fits = stamped_fits h step s r is changes in more (time_journal (size h) s) (λ time. time_wide s few (stamp_few step s is) fits.0 fits.1)
+  anchor_wide : (making : Option Making) (step : Step) → size h < 2 ^ 64 → ChangesBy h making step Anchor → (refusal : Option Refusal) (stamp : Option Stamp) → own_refusal real_limits h Anchor ≡ refusal → stamp_of step ≡ stamp → HasWideTimes (after_judgement refusal (option_map (time_journal (size h)) stamp) h)
+  anchor_wide making step few changes (Some refusal) stamp r is = wide
+  anchor_wide making step few changes None None r is = wide
+  anchor_wide making step few changes None (Some s) r is =
+      let fits = stamped_fits making h step s r is changes in more (time_journal (size h) s) (λ time. time_wide s few (stamp_few step s is) fits.0 fits.1)
 
-  job_wide : (step : Step) (job : Job) → size h < 2 ^ 64 → ChangesBy h step job → HasWideTimes (with_job real_limits (stamp_of step) h job)
+  job_wide : (making : Option Making) (step : Step) (job : Job) → size h < 2 ^ 64 → ChangesBy h making step job → HasWideTimes (with_job real_limits (stamp_of step) h job)
   unfolding with_job append_header member_header occult_header purge_header
-  job_wide step (Refused refusal) few changes = wide
-  job_wide step (Append member clue content content_digest request by) few changes =
+  job_wide making step (Refused refusal) few changes = wide
+  job_wide making step (Append member clue content content_digest request by) few changes =
       placed (own_refusal real_limits h (Append member clue content content_digest request by)) (append_journal h member clue content content_digest request by) (λ none time. absurd (let no : ⊥ = cc time in no))
-  job_wide step (NewMember number key by) few changes = placed (own_refusal real_limits h (NewMember number key by)) (member_journal (size h) number key by) (λ none time. absurd (let no : ⊥ = cc time in no))
-  job_wide step Anchor few changes = anchor_wide step few changes (own_refusal real_limits h Anchor) (stamp_of step) refl refl
-  job_wide step (Occult target leaf given) few changes =
+  job_wide making step (NewMember number key by) few changes = placed (own_refusal real_limits h (NewMember number key by)) (member_journal (size h) number key by) (λ none time. absurd (let no : ⊥ = cc time in no))
+  job_wide making step Anchor few changes = anchor_wide making step few changes (own_refusal real_limits h Anchor) (stamp_of step) refl refl
+  job_wide making step (Occult target leaf given) few changes =
       placed (own_refusal real_limits h (Occult target leaf given)) (occult_journal (size h) target leaf given) (λ none time. absurd (let no : ⊥ = cc time in no))
-  job_wide step (Purge p told given) few changes =
+  job_wide making step (Purge p told given) few changes =
       placed (own_refusal real_limits h (Purge p told given)) (purge_journal h p given) (λ none time. absurd (let no : ⊥ = cc time in no))
-  job_wide step (Get n) few changes = unplaced (own_refusal real_limits h (Get n))
-  job_wide step (Prove n) few changes = unplaced (own_refusal real_limits h (Prove n))
-  job_wide step (Extend which m) few changes = unplaced (own_refusal real_limits h (Extend which m))
-  job_wide step (Clue clue) few changes = unplaced (own_refusal real_limits h (Clue clue))
-  job_wide step Head few changes = unplaced (own_refusal real_limits h Head)
+  job_wide making step (Get n) few changes = unplaced (own_refusal real_limits h (Get n))
+  job_wide making step (Prove n) few changes = unplaced (own_refusal real_limits h (Prove n))
+  job_wide making step (Extend which m) few changes = unplaced (own_refusal real_limits h (Extend which m))
+  job_wide making step (Clue clue) few changes = unplaced (own_refusal real_limits h (Clue clue))
+  job_wide making step Head few changes = unplaced (own_refusal real_limits h Head)
 
-pub wide_after : (h : History) (step : Step) (job : Job) → IsLawful (judged_at h job) → HasWideTimes h → ChangesBy (judged_at h job) step job → HasWideTimes (after_job h step job)
+pub wide_after : (making : Option Making) (h : History) (step : Step) (job : Job) → IsLawful (judged_at h job) → HasWideTimes h → ChangesBy (judged_at h job) making step job → HasWideTimes (after_job h step job)
 unfolding after_job
-wide_after h step job lawful wide changes =
+wide_after making h step job lawful wide changes =
     let g = judged_at h job in
-    wide_settled (with_job real_limits (stamp_of step) g job) job (job_wide g (wide_judged h job wide) step job (omega (arith, size_few g lawful)) changes)
+    wide_settled (with_job real_limits (stamp_of step) g job) job (job_wide g (wide_judged h job wide) making step job (omega (arith, size_few g lawful)) changes)

@@ -16,7 +16,7 @@ use Rattle.journal_record.specs.declared.stamp.Stamp.{Stamp}
 use Rattle.proof_codec.specs.Claims.{claim_of}
 use Rattle.proof_codec.specs.Proofs.{spelling}
 use Rattle.proof_codec.specs.declared.claim.Claim.{Claim}
-use Rattle.time_peg.specs.Entries.{NotaryState, IsList}
+use Rattle.time_peg.specs.Entries.{Making, NotaryState, IsList}
 use Rattle.script_lines.specs.Replies.{time_mark}
 use Rattle.script_lines.specs.declared.reply.Reply.TheVariants as reply
 use Rattle.script_lines.specs.declared.said.Which.TheVariants.{Ledger, Notary}
@@ -156,26 +156,26 @@ list_good g step m list =
     ] in
     elim step.failed as (λ v. IsGood g step.after (cond v (reply.Refused NotaryFault) (reply_unless (size_refusal (length step.after) m) told))) [ true ↦ tt | false ↦ by (size_refusal (length step.after) m) refl ]
 
-pub good_answer : (h : History) (step : Step) (job : Job) → IsLawful h → HasWideTimes h → Pegged h step.before → ChangesBy (judged_at h job) step job → IsGoodAnswer (judged_at h job) step.after (answer_to h step job)
+pub good_answer : (making : Option Making) (h : History) (step : Step) (job : Job) → IsLawful h → HasWideTimes h → Pegged h step.before → ChangesBy (judged_at h job) making step job → IsGoodAnswer (judged_at h job) step.after (answer_to h step job)
 unfolding answer_to outcome
-good_answer h step (Refused refusal) lawful wide pegged changes = tt
-good_answer h step (Append member clue content content_digest request by) lawful wide pegged changes =
+good_answer making h step (Refused refusal) lawful wide pegged changes = tt
+good_answer making h step (Append member clue content content_digest request by) lawful wide pegged changes =
     placed_good h step.after step (own_refusal real_limits h (Append member clue content content_digest request by)) (model.size h) (append_journal h member clue content content_digest request by)
-good_answer h step (NewMember number key by) lawful wide pegged changes = placed_good h step.after step (own_refusal real_limits h (NewMember number key by)) (model.size h) (member_journal (model.size h) number key by)
-good_answer h step Anchor lawful wide pegged changes = anchor_good (close h) step.after step (own_refusal real_limits (close h) Anchor) (stamp_of step)
-good_answer h step (Occult target leaf given) lawful wide pegged changes =
+good_answer making h step (NewMember number key by) lawful wide pegged changes = placed_good h step.after step (own_refusal real_limits h (NewMember number key by)) (model.size h) (member_journal (model.size h) number key by)
+good_answer making h step Anchor lawful wide pegged changes = anchor_good (close h) step.after step (own_refusal real_limits (close h) Anchor) (stamp_of step)
+good_answer making h step (Occult target leaf given) lawful wide pegged changes =
     placed_good (close h) step.after step (own_refusal real_limits (close h) (Occult target leaf given)) (model.size (close h)) (occult_journal (model.size (close h)) target leaf given)
-good_answer h step (Purge p told given) lawful wide pegged changes =
+good_answer making h step (Purge p told given) lawful wide pegged changes =
     placed_good (close h) step.after step (own_refusal real_limits (close h) (Purge p told given)) (model.size (close h)) (purge_journal (close h) p given)
-good_answer h step (Get n) lawful wide pegged changes = get_told (IsGood (close h) step.after) (close h) n (λ why. tt) (λ header content who. tt) (λ header who. tt)
-good_answer h step (Prove n) lawful wide pegged changes =
+good_answer making h step (Get n) lawful wide pegged changes = get_told (IsGood (close h) step.after) (close h) n (λ why. tt) (λ header content who. tt) (λ header who. tt)
+good_answer making h step (Prove n) lawful wide pegged changes =
     let g = close h in
     let p = subst (Pegged g) (sym changes) (pegged_close h step.before (some_journal (journals h) lawful.journals_are) pegged) in
     prove_good g step n (close_lawful h lawful) (wide_close h wide) p (prove_refusal g n) refl
-good_answer h step (Extend Ledger m) lawful wide pegged changes = extend_good (close h) step m (close_lawful h lawful) (extend_refusal (close h) m) refl
-good_answer h step (Extend Notary m) lawful wide pegged changes = list_good (close h) step m (subst IsList (sym changes) pegged.list)
-good_answer h step (Clue clue) lawful wide pegged changes = tt
-good_answer h step Head lawful wide pegged changes = head_good (close h) step.after step
+good_answer making h step (Extend Ledger m) lawful wide pegged changes = extend_good (close h) step m (close_lawful h lawful) (extend_refusal (close h) m) refl
+good_answer making h step (Extend Notary m) lawful wide pegged changes = list_good (close h) step m (subst IsList (sym changes) pegged.list)
+good_answer making h step (Clue clue) lawful wide pegged changes = tt
+good_answer making h step Head lawful wide pegged changes = head_good (close h) step.after step
 
 -- ---- steps and windows
 
@@ -186,29 +186,29 @@ judged_lawful h job lawful = by _ where
   by false = lawful
 
 module _ (scheme : Scheme) where
-  pub good_step : (h : History) (step : Step) → IsLawful h → HasWideTimes h → Pegged h step.before → ChangesBy (judged_at h (job_of scheme (id h) step.line)) step (job_of scheme (id h) step.line) → IsGoodStep scheme h step
-  good_step h step lawful wide pegged changes = good_answer h step (job_of scheme (id h) step.line) lawful wide pegged changes
+  pub good_step : (making : Option Making) (h : History) (step : Step) → IsLawful h → HasWideTimes h → Pegged h step.before → ChangesBy (judged_at h (job_of scheme (id h) step.line)) making step (job_of scheme (id h) step.line) → IsGoodStep scheme h step
+  good_step making h step lawful wide pegged changes = good_answer making h step (job_of scheme (id h) step.line) lawful wide pegged changes
 
-  pub wide_step : (h : History) (step : Step) → IsLawful h → HasWideTimes h → ChangesBy (judged_at h (job_of scheme (id h) step.line)) step (job_of scheme (id h) step.line) → HasWideTimes (after_step scheme h step)
+  pub wide_step : (making : Option Making) (h : History) (step : Step) → IsLawful h → HasWideTimes h → ChangesBy (judged_at h (job_of scheme (id h) step.line)) making step (job_of scheme (id h) step.line) → HasWideTimes (after_step scheme h step)
   unfolding after_step
-  wide_step h step lawful wide changes = let job = job_of scheme (id h) step.line in wide_after h step job (judged_lawful h job lawful) wide changes
+  wide_step making h step lawful wide changes = let job = job_of scheme (id h) step.line in wide_after making h step job (judged_lawful h job lawful) wide changes
 
-  pub pegged_on : (h : History) (step : Step) → IsLawful h → Pegged h step.before → ChangesBy (judged_at h (job_of scheme (id h) step.line)) step (job_of scheme (id h) step.line) → Pegged (after_step scheme h step) step.after
+  pub pegged_on : (making : Option Making) (h : History) (step : Step) → IsLawful h → Pegged h step.before → ChangesBy (judged_at h (job_of scheme (id h) step.line)) making step (job_of scheme (id h) step.line) → Pegged (after_step scheme h step) step.after
   unfolding after_step
-  pegged_on h step lawful pegged changes = pegged_job h step (job_of scheme (id h) step.line) (some_journal (journals h) lawful.journals_are) pegged changes
+  pegged_on making h step lawful pegged changes = pegged_job making h step (job_of scheme (id h) step.line) (some_journal (journals h) lawful.journals_are) pegged changes
 
   pub good_steps : (h : History) (n m : NotaryState) (steps : List Step) → IsLawful h → HasWideTimes h → Took scheme h n steps m → Pegged h n.entries → AreGood scheme h steps
   good_steps h n m [] lawful wide took pegged = tt
   good_steps h n m (step ∷ steps) lawful wide took pegged =
       let before = subst (Pegged h) (sym took.0) pegged in
       let changes = took.1.list in (
-        good_step h step lawful wide before changes,
-        good_steps (after_step scheme h step) (notary_after n step) m steps (step_lawful scheme h step lawful) (wide_step h step lawful wide changes) took.2 (pegged_on h step lawful before changes),
+        good_step n.origin.making h step lawful wide before changes,
+        good_steps (after_step scheme h step) (notary_after n step) m steps (step_lawful scheme h step lawful) (wide_step n.origin.making h step lawful wide changes) took.2 (pegged_on n.origin.making h step lawful before changes),
       )
 
   pub wide_steps : (h : History) (n m : NotaryState) (steps : List Step) → IsLawful h → HasWideTimes h → Took scheme h n steps m → HasWideTimes (after_steps scheme h steps)
   wide_steps h n m [] lawful wide took = wide
-  wide_steps h n m (step ∷ steps) lawful wide took = wide_steps (after_step scheme h step) (notary_after n step) m steps (step_lawful scheme h step lawful) (wide_step h step lawful wide took.1.list) took.2
+  wide_steps h n m (step ∷ steps) lawful wide took = wide_steps (after_step scheme h step) (notary_after n step) m steps (step_lawful scheme h step lawful) (wide_step n.origin.making h step lawful wide took.1.list) took.2
 
   pub good_windows : (h : History) (n m : NotaryState) (windows : List (List Step)) → IsLawful h → HasWideTimes h → TookAll scheme h n windows m → Pegged h n.entries → AllGood scheme h windows
   good_windows h n m [] lawful wide took pegged = tt

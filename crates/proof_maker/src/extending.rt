@@ -28,6 +28,7 @@ pub fn extend<N: Notary>(
         → ExtendsWhich which h (N.state notary.old).entries m result }
     ensures untouched { which ≡ which_of.Ledger → notary.new ≡ notary.old }
     ensures same { (N.state notary.new).entries ≡ (N.state notary.old).entries }
+    ensures origin { (N.state notary.new).origin ≡ (N.state notary.old).origin }
     ensures faults { CountsFaults result (N.state notary.old).faults (N.state notary.new).faults }
     ensures accepted { IfOk result (λ made. (h : History) (trust : Trust) → Serves book.now h
         → TrustsWhich which trust h (N.state notary.old).entries m
@@ -68,6 +69,7 @@ pub fn extend_notary<N: Notary>(
 ) -> Result<MadeExtension, MakeErr>
     ensures answer { ExtendsList (N.state notary.old).entries m result }
     ensures same { (N.state notary.new).entries ≡ (N.state notary.old).entries }
+    ensures origin { (N.state notary.new).origin ≡ (N.state notary.old).origin }
     ensures faults { CountsFaults result (N.state notary.old).faults (N.state notary.new).faults }
     // Who trusts the root over the first entries, and no other at the list's length, accepts it.
     ensures accepted { IfOk result (λ made. (trust : Trust)

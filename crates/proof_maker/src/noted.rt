@@ -34,6 +34,7 @@ impl Noted {
         ensures short { IfOk result IsShortNoted }
         ensures err { IfErr result (IsNotaryErr (is_some lower || is_some upper)) }
         ensures same { (N.state notary.new).entries ≡ (N.state notary.old).entries }
+        ensures origin { (N.state notary.new).origin ≡ (N.state notary.old).origin }
         ensures faults { CountsFaults result (N.state notary.old).faults (N.state notary.new).faults }
     {
         if lower.is_none() && upper.is_none() {
@@ -65,6 +66,7 @@ fn entry_path<N: Notary>(
     ensures short { IfOk result (AreDigests 24) }
     ensures err { IfErr result (IsNotaryErr true) }
     ensures same { (N.state notary.new).entries ≡ (N.state notary.old).entries }
+    ensures origin { (N.state notary.new).origin ≡ (N.state notary.old).origin }
     ensures faults { CountsFaults result (N.state notary.old).faults (N.state notary.new).faults }
 {
     match index {

@@ -27,6 +27,7 @@ pub fn prove<N: Notary>(alloc: Global, book: &Book, notary: &mut N, n: u64) -> R
     ensures answer { (h : History) → Serves book.now h
         → Proves h (N.state notary.old).entries n result }
     ensures same { (N.state notary.new).entries ≡ (N.state notary.old).entries }
+    ensures origin { (N.state notary.new).origin ≡ (N.state notary.old).origin }
     ensures faults { CountsFaults result (N.state notary.old).faults (N.state notary.new).faults }
     // Who trusts the ledger's head accepts it, where there is a bound with the notary's.
     ensures accepted { IfOk result (λ made. (h : History) (trust : Trust) → Serves book.now h

@@ -1,7 +1,7 @@
 -- Each whole line that is a receipt is that of one of the replies that were written.
 use Rattle.std.specs.Prelude.{codes, decimal, ◌==◌, not}
 use Rattle.std.specs.List.{list_all}
-use Rattle.std.proofs.Common.{◌≡◌, ◌≢◌, inl, inr, ℕ, ◌+◌, ◌%◌, ◌^◌, ◌<◌, ◌≤◌, Bool, true, false, cond, List, [], ◌∷◌, ◌++◌, length, get_or, drop, Option, refl, sym, ◌∙◌, ap, subst, arith, eq-eqb, append_assoc, append-nil}
+use Rattle.std.proofs.Common.{◌≡◌, ◌≢◌, ◌⊎◌, inl, inr, ℕ, ◌+◌, ◌%◌, ◌^◌, ◌<◌, ◌≤◌, Bool, true, false, cond, List, [], ◌∷◌, ◌++◌, length, get_or, drop, Option, refl, sym, ◌∙◌, ap, subst, arith, eq-eqb, append_assoc, append-nil}
 use Rattle.std.proofs.lemmas.Bool.{eqb-true, false_from_ne_true, and_parts, true≢false}
 use Rattle.std.proofs.lemmas.Fmt.{decimal_by_steps, decimal_injective}
 use Rattle.hex.specs.Hex.{IsBytes, encode_lower, decode_of}
@@ -28,11 +28,11 @@ word_unbroken [] x = tt
 word_unbroken (b ∷ bs) x = (x.1, word_unbroken bs x.2)
 
 -- the first word of a line
-first_word : (lane index : ℕ) → IsWord (decimal lane ++ codes "." ++ decimal index)
+pub first_word : (lane index : ℕ) → IsWord (decimal lane ++ codes "." ++ decimal index)
 first_word lane index = word_more (decimal lane ++ codes ".") (decimal index) (word_more (decimal lane) (codes ".") (decimal_word lane) (literal (codes ".") refl)) (decimal_word index)
 
 -- a word before a space
-words_same : (a b c : List ℕ) (ws : List (List ℕ)) → IsWord a → IsWord b → a ++ 32 ∷ c ≡ b ++ spaced_words ws → (a ≡ b) × (32 ∷ c ≡ spaced_words ws)
+pub words_same : (a b c : List ℕ) (ws : List (List ℕ)) → IsWord a → IsWord b → a ++ 32 ∷ c ≡ b ++ spaced_words ws → (a ≡ b) × (32 ∷ c ≡ spaced_words ws)
 words_same [] [] c ws x y is = (refl, is)
 words_same [] (b ∷ bs) c ws x y is = absurd (y.0 (sym (ap (λ (l : List ℕ). get_or l 0 0) is)))
 words_same (a ∷ as_) [] c [] x y is = absurd cc
@@ -134,6 +134,36 @@ receipted P ts tail part rest jsn leaf is f e none r =
     })))
     (subst (λ (l : List ℕ). IsAmong (whole_lines l) (reply_line r.lane r.index (Placed jsn leaf r.block r.size r.root r.stamp))) is
     (has_prefix part rest [] (reply_line r.lane r.index (Placed jsn leaf r.block r.size r.root r.stamp)) r.line))
+
+-- a reply is one of some
+abbrev pub IsOneOf : List Told → Told → Type 0
+IsOneOf [] t = ⊥
+IsOneOf (first ∷ ts) t = (first ≡ t) ⊎ IsOneOf ts t
+
+-- Where replies were written, and then maybe a tail: each whole line of it is that of one of the replies, or one of the tail.
+pub record IsLineOf (ts : List Told) (found : List ℕ) : Type 0 where
+  pub told : Told
+  pub one : IsOneOf ts told
+  pub line_is : reply_line told.lane told.index told.reply ≡ found
+
+written_among : (ts : List Told) (tail found : List ℕ) → IsAmong (whole_lines (told_text ts ++ tail)) found → IsLineOf ts found ⊎ IsAmong (whole_lines tail) found
+written_among [] tail found h = inr h
+written_among (t ∷ ts) tail found h = pick (λ m. written_among ts tail found m) (subst (λ (ls : List (List ℕ)). IsAmong ls found) parted h) where
+  parted : whole_lines (told_text (t ∷ ts) ++ tail) ≡ reply_line t.lane t.index t.reply ∷ whole_lines (told_text ts ++ tail)
+  parted =
+      ap (λ (l : List ℕ). lines_after [] l) (append_assoc (reply_line t.lane t.index t.reply ++ codes "\n") (told_text ts) tail ∙ append_assoc (reply_line t.lane t.index t.reply) (codes "\n") (told_text ts ++ tail))
+      ∙ lines_line (reply_line t.lane t.index t.reply) [] (told_text ts ++ tail) (line_unbroken t)
+
+  behind : IsLineOf ts found ⊎ IsAmong (whole_lines tail) found → IsLineOf (t ∷ ts) found ⊎ IsAmong (whole_lines tail) found
+  behind (inl x) = inl (record { told = x.told; one = inr x.one; line_is = x.line_is })
+  behind (inr x) = inr x
+
+  pick : (IsAmong (whole_lines (told_text ts ++ tail)) found → IsLineOf ts found ⊎ IsAmong (whole_lines tail) found) → IsAmong (reply_line t.lane t.index t.reply ∷ whole_lines (told_text ts ++ tail)) found → IsLineOf (t ∷ ts) found ⊎ IsAmong (whole_lines tail) found
+  pick go (inl same) = inl (record { told = t; one = inl refl; line_is = same })
+  pick go (inr more) = behind (go more)
+
+pub line_written : (ts : List Told) (tail part rest found : List ℕ) → part ++ rest ≡ told_text ts ++ tail → IsAmong (whole_lines part) found → IsLineOf ts found ⊎ IsAmong (whole_lines tail) found
+line_written ts tail part rest found is h = written_among ts tail found (subst (λ (l : List ℕ). IsAmong (whole_lines l) found) is (has_prefix part rest [] found h))
 
 -- no bytes have a receipt
 pub none_receipted : (jsn : ℕ) (leaf : Digest) → IsReceipted [] jsn leaf → ⊥

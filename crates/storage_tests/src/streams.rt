@@ -157,7 +157,7 @@ fn ends_runs(rt: HostRuntime) -> Result<(), Fail> {
         let mut sink = MemSink::new(rt.alloc(), 64, Vec::new(rt.alloc()))?;
         let told = finish(&mut sink, ending);
         assert_eq!(rt;
-            (told, sink.written_bytes()),
+            (told, sink.written()),
             (status, line),
             "at {ending:?}"
         );

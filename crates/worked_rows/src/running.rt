@@ -57,7 +57,7 @@ pub(crate) fn run<R: Threads + Wait + Sync>(rt: &R, alloc: Global, row: &Row) ->
     };
     Ok(Found {
         status,
-        output: sink.written_bytes().to_vec(alloc)?,
+        output: sink.written().to_vec(alloc)?,
         disks: [a.bytes()?, b.bytes()?],
     })
 }

@@ -47,7 +47,7 @@ fn written_by<R: Threads + Wait + Sync, G: Gate>(
     if run_demo(rt, alloc, &mut source, &mut sink, gate)? != 0 {
         return Ok(None);
     }
-    let written = sink.written_bytes().to_vec(alloc)?;
+    let written = sink.written().to_vec(alloc)?;
     Ok(String::from_utf8(written).ok())
 }
 

@@ -40,7 +40,7 @@ fn failed_first<R: Threads + Wait + Sync>(rt: &R, alloc: Global) -> Result<Vec<u
         &mut b,
         &mut MemNotary::new(alloc, [0].to_vec(alloc)?),
     );
-    Ok(sink.written_bytes().to_vec(alloc)?)
+    Ok(sink.written().to_vec(alloc)?)
 }
 
 /// The status of a run on these disks with the notary that the third one keeps, and what it wrote.
@@ -72,7 +72,7 @@ fn run_kept<R: Threads + Wait + Sync, E: Disk + Drop>(
         b,
         keeping,
     );
-    Ok((status, sink.written_bytes().to_vec(alloc)?, keeper))
+    Ok((status, sink.written().to_vec(alloc)?, keeper))
 }
 
 /// The last two words of each line: where its entry stands in the notary's list, and the time.

@@ -91,7 +91,7 @@ fn audited(alloc: Global, replies: &str) -> Result<Option<String>, NoMemory> {
     let mut source = MemSource::new(Bytes::copy_of(alloc, audit.as_slice())?, Vec::new(alloc));
     let mut sink = MemSink::new(alloc, AMPLE, Vec::new(alloc))?;
     audit_top(alloc, &words, &mut source, &mut sink, &TagScheme);
-    let written = sink.written_bytes().to_vec(alloc)?;
+    let written = sink.written().to_vec(alloc)?;
     Ok(String::from_utf8(written).ok())
 }
 

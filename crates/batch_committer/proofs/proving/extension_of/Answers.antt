@@ -17,6 +17,6 @@ returns-in-Err-Refused-clause-told g c =
       λ h lane index line s none.
           let x = subst (λ r. ExtendsWhich c.args.which h n.entries c.args.m (Err r)) c.in-Err-Refused.field-0-is (e.answer h s) in (
             ap (λ w. Refused w) c.in-Err-Refused.why-is ∙ refused_told n m e.same c.args.m h lane index line c.args.which why none x,
-            refused_attended n m e.same c.args.m h lane index line c.args.which why none x count,
+            refused_attended n m e.same c.args.m h lane index line c.args.which why none x e.origin count,
           ),
     )

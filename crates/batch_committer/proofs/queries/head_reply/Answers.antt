@@ -20,10 +20,10 @@ returns-in-Ok g c =
         λ h lane index line s none. (
           told_head h (step_in n m false lane index line) c.id.result c.head-head.result c.blocks-in-Ok.result c.point.result c.in-Ok.stamped.size c.in-Ok.stamped.root refl
               (e.size ∙ ap length (sym e.same)) (e.root ∙ ap (mth sha256) (sym e.same)) none (c.id.ensures h s.stands) (c.blocks-in-Ok.ensures h s.stands) (c.point.ensures.point h s) (c.head-head.ensures h s.stands),
-          attends_head n m h lane index line e.same e.faults,
+          attends_head n m h lane index line e.origin e.same e.faults,
         ),
       );
-      once = inl e.faults;
+      once = (e.origin, inl e.faults);
     }
 
 pub returns-in-Err : goal.returns-in-Err
@@ -31,4 +31,4 @@ returns-in-Err g c =
     let e = c.in-Err.ensures in
     let n = g.N.Notary.state c.args.notary.now in
     let m = g.N.Notary.state c.head.new.self in
-    record { told = (true, λ h lane index line s none. (refl, attends_headless n m h lane index line c.in-Err.field-0 e.err e.same e.faults)); once = inr (subst (λ (x : NotaryErr). CountsFailures {T = Unit {0}} (Err x) n.faults m.faults) e.err e.faults) }
+    record { told = (true, λ h lane index line s none. (refl, attends_headless n m h lane index line c.in-Err.field-0 e.err e.origin e.same e.faults)); once = (e.origin, inr (subst (λ (x : NotaryErr). CountsFailures {T = Unit {0}} (Err x) n.faults m.faults) e.err e.faults)) }

@@ -1,4 +1,4 @@
-use Rattle.std.proofs.Common.{sym, ◌∙◌, subst, ℕ}
+use Rattle.std.proofs.Common.{inr, sym, ◌∙◌, subst, ℕ}
 use Rattle.block_file.specs.FileView.{gate_of}
 use Rattle.ledger_model.specs.Genesis.{new_ledger}
 use Rattle.twin_file.specs.Which.{file_of}
@@ -23,3 +23,15 @@ returns-in-Err-clause-images g c told shut_a shut_b quiet image_a image_b left_a
     made_images c.args.genesis.now c.as_slice.result.now image_a image_b c.in_ok-made.ensures.keys (c.as_slice.ensures ∙ c.in_ok-made.ensures.block)
     (c.in-Err.ensures.images told
     (shut_now (g.D.Disk.state c.args.a.now).bytes (g.D.Disk.state c.args.b.now).bytes (g.D.Disk.state c.is_open.new.disk).bytes (g.D.Disk.state c.is_open-2.new.disk).bytes (c.in_ok-is_open.ensures.state told ∙ c.in_ok-sync.ensures.ok told) (c.in_ok-is_open-2.ensures.state told ∙ c.in_ok-sync-2.ensures.ok told) shut_a shut_b) image_a image_b left_a left_b)
+
+pub returns-in-Ok-clause-synced : goal.returns-in-Ok-clause-synced
+returns-in-Ok-clause-synced g c told = inr (λ shut_a shut_b image_a image_b left_a left_b.
+    made_images c.args.genesis.now c.as_slice.result.now image_a image_b c.in_ok-made.ensures.keys (c.as_slice.ensures ∙ c.in_ok-made.ensures.block)
+    (c.in-Ok.ensures.images told
+    (shut_now (g.D.Disk.state c.args.a.now).bytes (g.D.Disk.state c.args.b.now).bytes (g.D.Disk.state c.is_open.new.disk).bytes (g.D.Disk.state c.is_open-2.new.disk).bytes (c.in_ok-is_open.ensures.state told ∙ c.in_ok-sync.ensures.ok told) (c.in_ok-is_open-2.ensures.state told ∙ c.in_ok-sync-2.ensures.ok told) shut_a shut_b) image_a image_b left_a left_b))
+
+pub returns-in-Err-clause-synced : goal.returns-in-Err-clause-synced
+returns-in-Err-clause-synced g c told = inr (λ shut_a shut_b image_a image_b left_a left_b.
+    made_images c.args.genesis.now c.as_slice.result.now image_a image_b c.in_ok-made.ensures.keys (c.as_slice.ensures ∙ c.in_ok-made.ensures.block)
+    (c.in-Err.ensures.images told
+    (shut_now (g.D.Disk.state c.args.a.now).bytes (g.D.Disk.state c.args.b.now).bytes (g.D.Disk.state c.is_open.new.disk).bytes (g.D.Disk.state c.is_open-2.new.disk).bytes (c.in_ok-is_open.ensures.state told ∙ c.in_ok-sync.ensures.ok told) (c.in_ok-is_open-2.ensures.state told ∙ c.in_ok-sync-2.ensures.ok told) shut_a shut_b) image_a image_b left_a left_b))

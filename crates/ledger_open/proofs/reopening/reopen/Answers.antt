@@ -7,7 +7,7 @@ use Rattle.twin_file.specs.Which.{in_a_of}
 use Rattle.ledger_open.specs.Opening.{IsOpenErr, IsReadErr, HasLawfulBlocks}
 use Rattle.ledger_open.specs.declared.failure.OpenErr.{OpenErr}
 use Rattle.ledger_open.specs.declared.failure.OpenErr.TheVariants as errors
-use Rattle.ledger_open.specs.Standing.{IsCleanPair}
+use Rattle.ledger_open.specs.Standing.{PairFor, IsCleanPair}
 use Rattle.ledger_open.proofs.LeftLaws.{reopened_as}
 use Rattle.ledger_open.proofs.OpenLaws.{fault_is, same_pair, settled_pair, taken_as, taken_at, look_err, whole_opens}
 use Rattle.ledger_open.proofs.reopening.reopen.Goals as goal
@@ -27,6 +27,13 @@ returns-in-Ok-None-clause-images g c told quiet h p = settled_pair h (g.D.Disk.s
 
 pub returns-in-Err-clause-images : goal.returns-in-Err-clause-images
 returns-in-Err-clause-images g c told quiet h p = settled_pair h (g.D.Disk.state c.args.a.now).bytes (g.D.Disk.state c.args.b.now).bytes _ _ (c.reopen.ensures.read.bytes_a told ∙ c.in_ok-sync.ensures.ok told) (c.reopen.ensures.read.bytes_b told ∙ c.in_ok-sync-2.ensures.ok told) p
+
+pub returns-in-Ok-Some-clause-synced : goal.returns-in-Ok-Some-clause-synced
+returns-in-Ok-Some-clause-synced g c told = inr (λ h p.
+    let ea = c.reopen.ensures.read.bytes_a told ∙ c.in_ok-sync.ensures.ok told in
+    let eb = c.reopen.ensures.read.bytes_b told ∙ c.in_ok-sync-2.ensures.ok told in
+    c.open_pair.ensures.images told h
+    (subst (λ (s : State). PairFor s.seen (g.D.Disk.state c.reopen.new.b).bytes.seen h) (sym ea) (subst (λ (s : State). PairFor (g.D.Disk.state c.args.a.now).bytes.seen s.seen h) (sym eb) p)))
 
 pub returns-in-Err-clause-err : goal.returns-in-Err-clause-err
 returns-in-Err-clause-err g c told =

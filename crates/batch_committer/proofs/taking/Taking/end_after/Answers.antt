@@ -18,20 +18,20 @@ pub returns-then-waiting-ge-BLOCK_LIMIT-clause-ok : goal.returns-then-waiting-ge
 returns-then-waiting-ge-BLOCK_LIMIT-clause-ok g c =
     on_ok_then c.settle-then-waiting-ge-BLOCK_LIMIT.result
     (λ x. due_goes g.D.Disk.tells _ _ c.args.job.now
-    (λ h s. due_count c.waiting_count-waiting.result (length h.waiting) (c.waiting_count-waiting.ensures.count h (subst (λ (k : CommitterState). Serves k.book h) (sym c.self.view_is) s).stands) c.if-waiting-ge-BLOCK_LIMIT.either) x)
+    (λ h s. due_count c.unsealed-waiting.result (length h.waiting) (c.unsealed-waiting.ensures.count h (subst (λ (k : CommitterState). Serves k.book h) (sym c.self.view_is) s).stands) c.if-waiting-ge-BLOCK_LIMIT.either) x)
     c.settle-then-waiting-ge-BLOCK_LIMIT.ensures.ok
 
 pub returns-then-waiting-ge-BLOCK_LIMIT-clause-err : goal.returns-then-waiting-ge-BLOCK_LIMIT-clause-err
 returns-then-waiting-ge-BLOCK_LIMIT-clause-err g c =
     if_err_then c.settle-then-waiting-ge-BLOCK_LIMIT.result
     (λ end x. due_ended g.D.Disk.tells _ _ c.args.job.now end
-    (λ h s. due_count c.waiting_count-waiting.result (length h.waiting) (c.waiting_count-waiting.ensures.count h (subst (λ (k : CommitterState). Serves k.book h) (sym c.self.view_is) s).stands) c.if-waiting-ge-BLOCK_LIMIT.either) x)
+    (λ h s. due_count c.unsealed-waiting.result (length h.waiting) (c.unsealed-waiting.ensures.count h (subst (λ (k : CommitterState). Serves k.book h) (sym c.self.view_is) s).stands) c.if-waiting-ge-BLOCK_LIMIT.either) x)
     c.settle-then-waiting-ge-BLOCK_LIMIT.ensures.err
 
 pub returns-else-waiting-ge-BLOCK_LIMIT-clause-ok : goal.returns-else-waiting-ge-BLOCK_LIMIT-clause-ok
 returns-else-waiting-ge-BLOCK_LIMIT-clause-ok g c =
     room_goes g.D.Disk.tells _ c.args.job.now (sym c.closes_after.ensures ∙ c.if-closes_after.false)
-    (λ h s. omega (arith, c.waiting_count-waiting.ensures.count h (subst (λ (k : CommitterState). Serves k.book h) (sym c.self.view_is) s).stands, c.if-waiting-ge-BLOCK_LIMIT.false.1))
+    (λ h s. omega (arith, c.unsealed-waiting.ensures.count h (subst (λ (k : CommitterState). Serves k.book h) (sym c.self.view_is) s).stands, c.if-waiting-ge-BLOCK_LIMIT.false.1))
 
 pub returns-then-closes_after-clause-room : goal.returns-then-closes_after-clause-room
 returns-then-closes_after-clause-room g c = on_ok_then c.settle.result (λ x. room_empty c.settle.new.self x.0) c.settle.ensures.empty
@@ -42,6 +42,6 @@ returns-then-waiting-ge-BLOCK_LIMIT-clause-room g c =
 
 pub returns-else-waiting-ge-BLOCK_LIMIT-clause-room : goal.returns-else-waiting-ge-BLOCK_LIMIT-clause-room
 returns-else-waiting-ge-BLOCK_LIMIT-clause-room g c = (
-  subst (λ (k : CommitterState). k.book.size < k.book.sealed + BLOCK_LIMIT) c.self.view_is (omega (arith, c.waiting_count-waiting.ensures.number, c.if-waiting-ge-BLOCK_LIMIT.false.1)),
+  subst (λ (k : CommitterState). k.book.size < k.book.sealed + BLOCK_LIMIT) c.self.view_is (omega (arith, c.unsealed-waiting.ensures.number, c.if-waiting-ge-BLOCK_LIMIT.false.1)),
   c.requires.gathers (sym c.closes_after.ensures ∙ c.if-closes_after.false),
 )

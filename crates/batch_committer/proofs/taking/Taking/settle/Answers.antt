@@ -30,24 +30,24 @@ give_up-requires-clause-order g c =
 pub returns-in_err-commit-clause-err : goal.returns-in_err-commit-clause-err
 returns-in_err-commit-clause-err g c =
     let f = fits_at g.D.Disk.tells _ _ c.self.view_is _ _ c.requires.fits in
-    let is = sym c.waiting_count-count.ensures.number in
+    let is = sym c.unsealed-count.ensures.number in
     let e = c.in_err-commit.ensures in
     err_is _ c.from_residual-in_err-commit.result _ c.from_residual-in_err-commit.ensures.1
     (ended_by g.D.Disk.tells _ _ close (λ h. []) _ _ e.only
     (ended_at g.D.Disk.tells _ _ c.self.view_is _ (g.K.Sink.state c.args.sink.now) _ close (λ h. []) _
     (end_uncommitted g.D.Disk.tells _ c.as_slice-2.result.now c.spell.new.text.items
-    (at_end g.D.Disk.tells _ c.seal.new.self c.waiting_count-count.result c.head.result _ _
+    (at_end g.D.Disk.tells _ c.seal.new.self c.unsealed-count.result c.head.result _ _
     (λ h s. serves_closed c.self.inside.opened.book c.seal.new.self h s (c.seal.ensures.stands h s.stands) c.seal.ensures.same)
-    (λ h s. c.waiting_count-count.ensures.count h s.stands) (λ h s. c.head.ensures h s.stands)
-    (c.as_slice-2.ensures ∙ ap (λ l. l ++ c.finish.new.self.body) c.in_ok-finish.ensures.head ∙ ap (λ l. block_head c.waiting_count-count.result (length c.self.inside.block.body) c.head.result.root.0 ++ l) c.in_ok-finish.ensures.body)
+    (λ h s. c.unsealed-count.ensures.count h s.stands) (λ h s. c.head.ensures h s.stands)
+    (c.as_slice-2.ensures ∙ ap (λ l. l ++ c.finish.new.self.body) c.in_ok-finish.ensures.head ∙ ap (λ l. block_head c.unsealed-count.result (length c.self.inside.block.body) c.head.result.root.0 ++ l) c.in_ok-finish.ensures.body)
     (λ h s none. c.in_ok-spell.ensures h s none ∙ ap (settled_text h) c.as_slice.ensures.value)
-    (omega (arith, c.if-count-eq0.false)) (count_few c.self.inside.opened.book c.waiting_count-count.result is f.few))
+    (omega (arith, c.if-count-eq0.false)) (count_few c.self.inside.opened.book c.unsealed-count.result is f.few))
     _ _ e.err)))
 
 pub returns-in_err-gone-clause-err : goal.returns-in_err-gone-clause-err
 returns-in_err-gone-clause-err g c =
     let f = fits_at g.D.Disk.tells _ _ c.self.view_is _ _ c.requires.fits in
-    let is = sym c.waiting_count-count.ensures.number in
+    let is = sym c.unsealed-count.ensures.number in
     let e = c.in_ok-commit.ensures in
     let u = c.in_err-gone.ensures in
     let closed = λ (h : History) (s : Serves c.self.inside.opened.book h). serves_closed c.self.inside.opened.book c.seal.new.self h s (c.seal.ensures.stands h s.stands) c.seal.ensures.same in
@@ -56,11 +56,11 @@ returns-in_err-gone-clause-err g c =
     (ended_by g.D.Disk.tells _ _ close (λ h. []) _ _ u.only
     (ended_at g.D.Disk.tells _ _ c.self.view_is _ (g.K.Sink.state c.args.sink.now) _ close (λ h. []) _
     (end_unfinished g.D.Disk.tells _ c.as_slice-2.result.now c.spell.new.text.items
-    (at_end g.D.Disk.tells _ c.seal.new.self c.waiting_count-count.result c.head.result _ _ closed
-    (λ h s. c.waiting_count-count.ensures.count h s.stands) (λ h s. c.head.ensures h s.stands)
-    (c.as_slice-2.ensures ∙ ap (λ l. l ++ c.finish.new.self.body) c.in_ok-finish.ensures.head ∙ ap (λ l. block_head c.waiting_count-count.result (length c.self.inside.block.body) c.head.result.root.0 ++ l) c.in_ok-finish.ensures.body)
+    (at_end g.D.Disk.tells _ c.seal.new.self c.unsealed-count.result c.head.result _ _ closed
+    (λ h s. c.unsealed-count.ensures.count h s.stands) (λ h s. c.head.ensures h s.stands)
+    (c.as_slice-2.ensures ∙ ap (λ l. l ++ c.finish.new.self.body) c.in_ok-finish.ensures.head ∙ ap (λ l. block_head c.unsealed-count.result (length c.self.inside.block.body) c.head.result.root.0 ++ l) c.in_ok-finish.ensures.body)
     (λ h s none. c.in_ok-spell.ensures h s none ∙ ap (settled_text h) c.as_slice.ensures.value)
-    (omega (arith, c.if-count-eq0.false)) (count_few c.self.inside.opened.book c.waiting_count-count.result is f.few))
+    (omega (arith, c.if-count-eq0.false)) (count_few c.self.inside.opened.book c.unsealed-count.result is f.few))
     c.seal.new.self mid
     (record { serves = closed; same = c.seal.ensures.same; committed = e.ok; named = λ told. named_at _ _ mid (f.generation told ∙ sym (generation_stays g.D.Disk.tells _ _ _ _ _ e.ok told)) })
     _ _ (unfinished_as g.D.Disk.tells _ _ mid _ (ledger_is c.seal.new.self c.self.inside.opened.places.list mid _ _ _ _ _ _ e.gate e.in_a e.generation) u.err))))
@@ -68,7 +68,7 @@ returns-in_err-gone-clause-err g c =
 pub returns-in_err-written-clause-err : goal.returns-in_err-written-clause-err
 returns-in_err-written-clause-err g c =
     let f = fits_at g.D.Disk.tells _ _ c.self.view_is _ _ c.requires.fits in
-    let is = sym c.waiting_count-count.ensures.number in
+    let is = sym c.unsealed-count.ensures.number in
     let e = c.in_ok-commit.ensures in
     let u = c.in_ok-gone.ensures in
     let o = c.in_err-written.ensures in
@@ -78,11 +78,11 @@ returns-in_err-written-clause-err g c =
     err_is _ c.from_residual-in_err-written.result _ c.from_residual-in_err-written.ensures.1
     (ended_at g.D.Disk.tells _ _ c.self.view_is _ _ _ close (λ h. []) _
     (end_unwritten g.D.Disk.tells _ c.as_slice-2.result.now c.as_slice-3.result.now
-    (at_end g.D.Disk.tells _ c.seal.new.self c.waiting_count-count.result c.head.result _ _ closed
-    (λ h s. c.waiting_count-count.ensures.count h s.stands) (λ h s. c.head.ensures h s.stands)
-    (c.as_slice-2.ensures ∙ ap (λ l. l ++ c.finish.new.self.body) c.in_ok-finish.ensures.head ∙ ap (λ l. block_head c.waiting_count-count.result (length c.self.inside.block.body) c.head.result.root.0 ++ l) c.in_ok-finish.ensures.body)
+    (at_end g.D.Disk.tells _ c.seal.new.self c.unsealed-count.result c.head.result _ _ closed
+    (λ h s. c.unsealed-count.ensures.count h s.stands) (λ h s. c.head.ensures h s.stands)
+    (c.as_slice-2.ensures ∙ ap (λ l. l ++ c.finish.new.self.body) c.in_ok-finish.ensures.head ∙ ap (λ l. block_head c.unsealed-count.result (length c.self.inside.block.body) c.head.result.root.0 ++ l) c.in_ok-finish.ensures.body)
     (λ h s none. c.as_slice-3.ensures.value ∙ c.in_ok-spell.ensures h s none ∙ ap (settled_text h) c.as_slice.ensures.value)
-    (omega (arith, c.if-count-eq0.false)) (count_few c.self.inside.opened.book c.waiting_count-count.result is f.few))
+    (omega (arith, c.if-count-eq0.false)) (count_few c.self.inside.opened.book c.unsealed-count.result is f.few))
     c.seal.new.self mid
     (record { serves = closed; same = c.seal.ensures.same; committed = e.ok; named = λ told. named_at _ _ mid (f.generation told ∙ sym (generation_stays g.D.Disk.tells _ _ _ _ _ e.ok told)) })
     _ _ (finished_as g.D.Disk.tells _ _ _ mid _ (ledger_is c.seal.new.self c.self.inside.opened.places.list mid _ _ _ _ _ _ e.gate e.in_a e.generation) (u.ok _ c.let_go.ensures)) _ t.0 t.1 t.2 o.once))
@@ -90,7 +90,7 @@ returns-in_err-written-clause-err g c =
 pub returns-clause-ok : goal.returns-clause-ok
 returns-clause-ok g c =
     let f = fits_at g.D.Disk.tells _ _ c.self.view_is _ _ c.requires.fits in
-    let is = sym c.waiting_count-count.ensures.number in
+    let is = sym c.unsealed-count.ensures.number in
     let e = c.in_ok-commit.ensures in
     let u = c.in_ok-gone.ensures in
     let o = c.in_ok-written.ensures in
@@ -98,11 +98,11 @@ returns-clause-ok g c =
     let mid = pair (g.D.Disk.state c.commit.new.a) (g.D.Disk.state c.commit.new.b) in
     goes_at g.D.Disk.tells _ _ c.self.view_is _ _ _ close (λ h. [])
     (end_goes g.D.Disk.tells _ c.as_slice-2.result.now c.as_slice-3.result.now
-    (at_end g.D.Disk.tells _ c.seal.new.self c.waiting_count-count.result c.head.result _ _ closed
-    (λ h s. c.waiting_count-count.ensures.count h s.stands) (λ h s. c.head.ensures h s.stands)
-    (c.as_slice-2.ensures ∙ ap (λ l. l ++ c.finish.new.self.body) c.in_ok-finish.ensures.head ∙ ap (λ l. block_head c.waiting_count-count.result (length c.self.inside.block.body) c.head.result.root.0 ++ l) c.in_ok-finish.ensures.body)
+    (at_end g.D.Disk.tells _ c.seal.new.self c.unsealed-count.result c.head.result _ _ closed
+    (λ h s. c.unsealed-count.ensures.count h s.stands) (λ h s. c.head.ensures h s.stands)
+    (c.as_slice-2.ensures ∙ ap (λ l. l ++ c.finish.new.self.body) c.in_ok-finish.ensures.head ∙ ap (λ l. block_head c.unsealed-count.result (length c.self.inside.block.body) c.head.result.root.0 ++ l) c.in_ok-finish.ensures.body)
     (λ h s none. c.as_slice-3.ensures.value ∙ c.in_ok-spell.ensures h s none ∙ ap (settled_text h) c.as_slice.ensures.value)
-    (omega (arith, c.if-count-eq0.false)) (count_few c.self.inside.opened.book c.waiting_count-count.result is f.few))
+    (omega (arith, c.if-count-eq0.false)) (count_few c.self.inside.opened.book c.unsealed-count.result is f.few))
     c.seal.new.self mid
     (record { serves = closed; same = c.seal.ensures.same; committed = e.ok; named = λ told. named_at _ _ mid (f.generation told ∙ sym (generation_stays g.D.Disk.tells _ _ _ _ _ e.ok told)) })
     _ _ (finished_as g.D.Disk.tells _ _ _ mid _ (ledger_is c.seal.new.self c.self.inside.opened.places.list mid _ _ _ _ _ _ e.gate e.in_a e.generation) (u.ok _ c.let_go.ensures)) _ c.clear.ensures c.clear-2.ensures.items o.ok o.once)
