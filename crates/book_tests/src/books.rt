@@ -282,7 +282,7 @@ fn fill_and_anchor(rt: &impl Abort, alloc: Global, book: &mut Book) -> Result<()
     let full = Refusal::Full { kept: 2, size: 2 };
     assert!(rt; refuses(alloc, book, full)?);
     anchor(rt, book, 0)?;
-    assert_eq!(rt; book.head().size, 3);
+    assert_eq!(rt; (book.head().size, book.full()), (3, false));
     Ok(())
 }
 

@@ -515,11 +515,7 @@ fn a_journal_is_read_back_and_changed_bytes_are_found(rt: HostRuntime) -> Result
     ] {
         let pair = pair_with(alloc, content, who)?;
         let (sink, _) = run_lines(&rt, alloc, pair, &[(1, Ask::Get(n))])?;
-        assert_eq!(rt;
-            sink.written(),
-            wanted.as_bytes(),
-            "{n}: {content}, {who}"
-        );
+        assert_eq!(rt; sink.written(), wanted.as_bytes(), "{n}: {content}, {who}");
     }
     Ok(())
 }

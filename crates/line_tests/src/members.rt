@@ -1,6 +1,6 @@
 use hex::FromHex;
 use ledger_bytes::{Bytes, Digest, NoMemory, Refusal};
-use member_book::{Approval, MemberBook, TagScheme, Verifier, tag_proof};
+use member_book::{AddErr, Approval, MemberBook, TagScheme, Verifier, tag_proof};
 use std::alloc::Global;
 use std::process::Abort;
 use std::test::Fail;
@@ -33,12 +33,11 @@ fn add(
     key: Digest,
     jsn: u64,
 ) -> Result<Option<Refusal>, NoMemory> {
-    match book.number_refusal(number) {
-        Some(refusal) => Ok(Some(refusal)),
-        None => {
-            book.admit(&key, jsn)?;
-            Ok(None)
-        }
+    match book.add(number, &key, jsn) {
+        Ok(()) => Ok(None),
+        Err(AddErr::MembersFull) => Ok(Some(Refusal::MembersFull)),
+        Err(AddErr::MemberNumber { next }) => Ok(Some(Refusal::MemberNumber { next })),
+        Err(AddErr::NoMemory) => Err(NoMemory),
     }
 }
 

@@ -2,7 +2,7 @@ use hex::FromHex;
 use ledger_bytes::{Digest, NoMemory, Sha};
 use ledger_disk::{Disk, FuseDisk, MemDisk, Pick};
 use merkle_tree::Head;
-use notary_ledger::{Clock, ListClock, LocalNotary, MemNotary, RealClock};
+use notary_ledger::{Clock, ListClock, LocalNotary, MemNotary, RealClock, SureNotary};
 use std::alloc::Global;
 use std::process::Abort;
 use std::test::Fail;
@@ -155,6 +155,13 @@ fn stamp_worked_peg(rt: &impl Abort, alloc: Global, notary: &mut MemNotary) -> R
         (failed, stamp.time, stamp.salt, notary.head()?),
         (Err(NotaryErr::Failed), 1000, salt, Head { size: 1, root })
     );
+    Ok(())
+}
+
+#[test]
+fn a_sure_notary_counts_thousands(rt: HostRuntime) -> Result<(), Fail> {
+    let mut notary = SureNotary::new(rt.alloc());
+    assert_eq!(rt; stamped_times(rt.alloc(), &mut notary)?, [1000, 2000, 3000]);
     Ok(())
 }
 

@@ -2,7 +2,7 @@ use crate::growing::add;
 use hex::{FromHex, FromHexError};
 use ledger_bytes::{Digest, Sha, Toy};
 use merkle_batch::Tree;
-use merkle_tree::{leaf_of, mth};
+use merkle_tree::{leaf_of, mth, path, proof, root_of};
 use std::test::Fail;
 
 mod clashes;
@@ -129,5 +129,25 @@ fn trees_by_sha(rt: HostRuntime) -> Result<(), Fail> {
             "at {byte}"
         );
     }
+    Ok(())
+}
+
+// Of five leaves: the root, the path of leaf 2, and the proof that they go on from the first three.
+#[test]
+fn leaves_have_a_path_and_a_proof(rt: HostRuntime) -> Result<(), Fail> {
+    let leaves = [
+        digest(TREES[0].0)?,
+        digest(TREES[1].0)?,
+        digest(TREES[2].0)?,
+        digest(TREES[3].0)?,
+        digest(TREES[4].0)?,
+    ];
+    let [_, _, third, fourth, fifth] = leaves;
+    let (front, all) = (digest(TREES[1].1)?, digest(TREES[4].1)?);
+    assert_eq!(rt; root_of::<Sha>(&leaves), all);
+    let made = path::<Sha>(rt.alloc(), &leaves, 2)?;
+    assert_eq!(rt; made.as_slice(), [fourth, front, fifth].as_slice());
+    let made = proof::<Sha>(rt.alloc(), &leaves, 3)?;
+    assert_eq!(rt; made.as_slice(), [third, fourth, front, fifth].as_slice());
     Ok(())
 }

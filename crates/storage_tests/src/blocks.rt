@@ -174,14 +174,14 @@ fn has_first_journal(rt: &impl Abort, read: &BlockAt) -> Result<(), Fail> {
     Ok(())
 }
 
-/// Commits a block behind that of `NEW`, where the disk stops after so many calls of the commit. Tells whether all was done
-/// without a fault, and what is left of the disk.
+/// Commits a block behind that of `NEW`, where the disk stops after so many calls of the commit. Tells whether all was done,
+/// whether no fault was counted, and what is left of the disk.
 fn commit_until_a_stop(
     alloc: Global,
     disk: MemDisk,
     block: &[u8],
     left: u64,
-) -> Result<(bool, MemDisk), Fail> {
+) -> Result<(bool, bool, MemDisk), Fail> {
     let mut disk = disk;
     let head = BlockFile::head(&mut disk)?.ok_or("no head")?;
     let mut buffer = Vec::new(alloc);
@@ -192,9 +192,9 @@ fn commit_until_a_stop(
         return Err("a second block".into());
     };
     let mut fuse = FuseDisk::new(disk, left);
-    let done = file.commit_block(&mut fuse, block);
-    let is_done = done.is_ok() && fuse.faults() == 0;
-    Ok((is_done, fuse.into_inner()))
+    let is_done = file.commit_block(&mut fuse, block).is_ok();
+    let is_faultless = fuse.faults() == 0;
+    Ok((is_done, is_faultless, fuse.into_inner()))
 }
 
 /// How many blocks there are where all that was written is left on this disk, nothing of it, and any bytes in its place.
@@ -224,9 +224,10 @@ fn a_commit_is_stopped_at_each_call(rt: HostRuntime) -> Result<(), Fail> {
     let block = decode_lines(alloc, &BLOCK)?;
     for (left, counts) in &STOPPED {
         let disk = disk_of(alloc, &new)?;
-        let (is_done, disk) = commit_until_a_stop(alloc, disk, &block, *left)?;
-        let found = (is_done, blocks_left(alloc, &disk)?);
-        assert_eq!(rt; found, (*left == 5, *counts), "after {left}");
+        let (is_done, is_faultless, disk) = commit_until_a_stop(alloc, disk, &block, *left)?;
+        let found = (is_done, is_faultless, blocks_left(alloc, &disk)?);
+        let is_all = *left == 5;
+        assert_eq!(rt; found, (is_all, is_all, *counts), "after {left}");
     }
     Ok(())
 }

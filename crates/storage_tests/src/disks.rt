@@ -100,6 +100,17 @@ fn a_disk_in_memory_counts_its_failures(rt: HostRuntime) -> Result<(), Fail> {
     Ok(())
 }
 
+#[test]
+fn a_byte_is_changed_for_good(rt: HostRuntime) -> Result<(), Fail> {
+    let mut disk = MemDisk::new(rt.alloc(), 4, Vec::new(rt.alloc()))?;
+    disk.write(0, b"ab")?;
+    disk.sync()?;
+    disk.set_byte(1, b'c');
+    let image = image_of(&disk, Pick::NoneWritten)?;
+    assert_eq!(rt; image.as_slice(), b"ac".as_slice());
+    Ok(())
+}
+
 // The failures of a disk that so many calls get through to, and what it holds then.
 fn stopped_after(alloc: Global, left: u64) -> Result<(u64, Bytes), Fail> {
     let disk = MemDisk::new(alloc, 4, Vec::new(alloc))?;

@@ -49,6 +49,7 @@ fn keeps_bytes_and_fields(rt: HostRuntime) -> Result<(), Fail> {
         (copy.as_slice(), whole.as_slice(), items.as_slice()),
         (wanted, wanted, wanted)
     );
+    assert_eq!(rt; items.into_vec().as_slice(), wanted);
     Ok(())
 }
 

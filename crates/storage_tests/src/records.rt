@@ -1,6 +1,6 @@
 use block_file::{BLOCK_HEAD_LEN, BlockWriter, FIRST_GATE};
 use hex::FromHex;
-use journal_record::{Approval, HEADER_LEN, approval_digest};
+use journal_record::{Approval, HEADER_LEN, approval_digest, who_bytes};
 use ledger_bytes::{Bytes, Digest};
 use std::test::Fail;
 
@@ -29,6 +29,8 @@ fn bytes_of_approvals(rt: HostRuntime) -> Result<(), Fail> {
             proof: Bytes::copy_of(alloc, &<[u8; 64]>::from_hex(regulator)?)?,
         },
     ];
+    let whole = hex::encode(alloc, who_bytes(alloc, &given)?.as_slice())?;
+    assert_eq!(rt; whole.as_str(), wanted);
     let mut block = BlockWriter::new(alloc);
     let place = block.put(FIRST_GATE, &[0; HEADER_LEN], b"abc", &given)?;
     assert_eq!(rt; (place.content_at, place.content_len), (287, 3));

@@ -156,11 +156,7 @@ fn ends_runs(rt: HostRuntime) -> Result<(), Fail> {
     for (ending, status, line) in rows {
         let mut sink = MemSink::new(rt.alloc(), 64, Vec::new(rt.alloc()))?;
         let told = finish(&mut sink, ending);
-        assert_eq!(rt;
-            (told, sink.written()),
-            (status, line),
-            "at {ending:?}"
-        );
+        assert_eq!(rt; (told, sink.written()), (status, line), "at {ending:?}");
     }
     Ok(())
 }

@@ -105,7 +105,7 @@ fn copy_and_take_over(rt: &impl Abort, a: &mut MemDisk, b: &mut MemDisk) -> Resu
     let mut twin = Twin::make(a, b, &[7, 8, 9])?;
     assert_eq!(rt; twin.file().tail(), 68);
     take_over(&mut twin, a, b, &[5], 64, 4)?;
-    assert!(rt; !twin.in_a());
+    assert_eq!(rt; (twin.in_a(), twin.generation()), (false, 2));
     assert_eq!(rt; twin.file().tail(), 69);
     assert_eq!(rt; a.len(), Ok(0));
     Ok(())
