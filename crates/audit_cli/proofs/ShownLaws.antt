@@ -1,24 +1,23 @@
 -- Two strings that are told of a judgement are a clash.
-use Rattle.std.proofs.Common.{◌≡◌, ℕ, Bool, true, false, List, [], Option, None, Some, Result, Ok, Err, refl, sym, ap, ◌∙◌, subst}
+use Rattle.std.proofs.Common.{◌≡◌, ℕ, Bool, true, false, List, Option, None, Some, Result, Ok, Err, refl, sym, ap, ◌∙◌, subst}
 use Rattle.ledger_bytes.specs.declared.digest.Digest.{Digest}
 use Rattle.ledger_bytes.specs.declared.failure.Bad.{Bad}
 use Rattle.ledger_bytes.specs.Fields.{IsBytes}
 use Rattle.proof_codec.specs.declared.claim.Claim.{Claim}
-use Rattle.proof_codec.specs.Proofs.{Shown, IsProof}
+use Rattle.proof_codec.specs.Proofs.{Shown}
 use Rattle.proof_codec.specs.Reading.{proof_of}
 use Rattle.proof_codec.proofs.Wholes.{proof_of_takes}
 use Rattle.tree_model.specs.Tree.{Hash}
 use Rattle.tree_model.specs.Clash.{IsClash, Clashes}
 use Rattle.tree_model.proofs.PathClashes.{Makes}
 use Rattle.audit_core.specs.declared.refusal.No.{No}
-use Rattle.audit_core.specs.Acceptance.{acceptance_by, acceptance_of, acceptance_under}
+use Rattle.audit_core.specs.Acceptance.{acceptance_by, acceptance_of}
 use Rattle.audit_core.specs.Truth.{Lists, lists_of}
 use Rattle.audit_core.specs.Parts.{first_of_parts, parts_of}
 use Rattle.audit_core.specs.Deciding.{is_true}
 use Rattle.audit_core.specs.Judgement.{Judgement, refused, holds, shows, shows_found, judgement_by, judgement, own_ledger, own_notary, own_acceptance, clash_of, ByOwn}
 use Rattle.audit_core.proofs.Judging.{false_shows}
 use Rattle.audit_cli.specs.declared.line.Line.TheVariants.{Judge}
-use Rattle.audit_cli.specs.declared.reply.Reply.{Reply}
 use Rattle.audit_cli.specs.declared.reply.Reply.TheVariants as reply
 use Rattle.audit_cli.specs.Answers.{judge_reply, reply_to}
 use Rattle.audit_cli.specs.Grammar.{line_of}

@@ -17,7 +17,7 @@ use Rattle.ledger_open.specs.Standing.{PairFor, IsCleanPair}
 use Rattle.batch_committer.specs.Opened.{IsQuietFor}
 use Rattle.ledger_open.specs.declared.failure.OpenErr.{OpenErr}
 use Rattle.ledger_cli.specs.Endings.{refusal_of}
-use Rattle.ledger_cli.specs.Runs.{Handed, handed, AreQuiet, StandFor, Faults, NoDiskFailed, FaultsBy, RunsOn}
+use Rattle.ledger_cli.specs.Runs.{Handed, handed, Faults, NoDiskFailed, FaultsBy, RunsOn}
 use Rattle.ledger_cli.specs.declared.ending.LedgerEnding.{LedgerEnding}
 use Rattle.ledger_cli.specs.declared.ending.LedgerEnding.TheVariants.{Run, DiskFault, Damaged, Empty, Exists, NewerFormat}
 
@@ -66,12 +66,8 @@ module _ (source : SourceState) (sink : SinkState) (n : NotaryState) (d e : Pair
 -- ---- a run that didn't begin
 
 -- where nothing is pending each image is what is read
-pub quiet_image : (s : State) (image : List ℕ) → IsSettled s → MayLeave s image → image ≡ s.seen
+quiet_image : (s : State) (image : List ℕ) → IsSettled s → MayLeave s image → image ≡ s.seen
 quiet_image s image quiet left = settled_image s.seen image (subst (λ (t : State). MayLeave t image) quiet left)
-
-pub quiet_pair : (disks : Pair) (h : History) → AreQuiet disks → StandFor disks h → (a b : List ℕ) → MayLeave disks.a.bytes a → MayLeave disks.b.bytes b → PairFor a b h
-quiet_pair disks h q p a b x y =
-    subst (λ l. PairFor l b h) (sym (quiet_image disks.a.bytes a q.a x)) (subst (λ l. PairFor disks.a.bytes.seen l h) (sym (quiet_image disks.b.bytes b q.b y)) p)
 
 pub quiet_clean : (disks : Pair) (h : History) → IsQuietFor disks h → (a b : List ℕ) → MayLeave disks.a.bytes a → MayLeave disks.b.bytes b → IsCleanPair a b h
 quiet_clean disks h q a b x y =

@@ -12,12 +12,10 @@ use Rattle.ledger_io.specs.declared.ending.Ending.TheVariants as run
 use Rattle.ledger_io.specs.declared.writer.WriteErr.{WriteErr}
 use Rattle.ledger_io.specs.declared.writer.WriteErr.TheVariants.{WriteFault}
 use Rattle.ledger_model.specs.Scheme.{Scheme}
-use Rattle.ledger_model.specs.declared.genesis.Genesis.{Genesis}
 use Rattle.ledger_soak.specs.Soaking.{Soaked}
 use Rattle.ledger_soak.specs.declared.running.SoakEnd.{SoakEnd}
 use Rattle.ledger_soak.specs.declared.running.SoakEnd.TheVariants as soak
 use Rattle.time_peg.specs.Entries.{NotaryState}
-use Rattle.ledger_disk.specs.Disk.{MayLeave}
 use Rattle.ledger_cli.specs.Endings.{status_of, last_line, HasWords}
 use Rattle.ledger_cli.specs.Runs.{Handed, handed, FaultsBy, NothingFailed, ServedBy, Finishes, ending_of_soak}
 use Rattle.ledger_cli.specs.declared.ending.LedgerEnding.{LedgerEnding}

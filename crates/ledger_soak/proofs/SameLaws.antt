@@ -14,7 +14,7 @@ use Rattle.ledger_model.specs.Took.{notary_after, counts_after, Took}
 use Rattle.ledger_model.proofs.TookLaws.{took_counted}
 use Rattle.notary_ledger.specs.Notaries.{memory_origin}
 use Rattle.ledger_soak.specs.Soaks.{silent_notary, place_of, first_stage, IsSetUp, IsSoaked, IsFaultless, TellsSoak, summary_text}
-use Rattle.ledger_soak.specs.Turns.{Fate, answered, Turn, Stage, TakesPart, IsTurn, AreTurns, next_stage, last_stage, turn_count, was_stopped, was_answered_by, is_no, is_proof_reply, soak_genesis}
+use Rattle.ledger_soak.specs.Turns.{Fate, Turn, Stage, TakesPart, AreTurns, next_stage, last_stage, turn_count, was_stopped, was_answered_by, is_no, is_proof_reply, soak_genesis}
 use Rattle.ledger_soak.specs.declared.summary.Summary.{Summary}
 
 -- ---- a step

@@ -22,8 +22,8 @@ pub record Sound (tells : Bool) (es : List (List ℕ)) (half : Option (List ℕ)
   pub told : IsSomeAnd disk.told (λ n. tail_of es + 1 ≤ n)
   pub on_disk : IsTrue tells → OnDisk es half disk.bytes
 
--- .. and what it keeps true of failures: an entry whose gate was called to be written, and not for good, is there only behind a
--- failure
+-- what a notary over a disk keeps true: that of list, entry and disk, and of failures: such an entry is there only where a call of
+-- the disk failed since the notary was taken up
 pub record Keeps (tells : Bool) (es : List (List ℕ)) (half : Option (List ℕ)) (begun : ℕ) (disk : DiskState) : Type 0 where
   pub sound : Sound tells es half disk
   pub fits : begun < 2 ^ 64

@@ -12,7 +12,7 @@ use Rattle.script_lines.specs.Words.{spaced_words, hex_of, hex_or_dash, mark_tex
 use Rattle.script_lines.specs.declared.reply.Reply.{Reply}
 use Rattle.script_lines.specs.declared.reply.Reply.TheVariants.{Placed, Whole, Occulted, Proof, Extension, Clue, Head, Refused}
 use Rattle.ledger_bytes.specs.Digests.{digest}
-use Rattle.script_lines.specs.Receipts.{lines_after, whole_lines, IsAmong, reply_line, IsReceipted, Told, told_text, OfReceipt, EachReceipt, IsWord, AreWords, ReplyFits, FitsReply, AllFit}
+use Rattle.script_lines.specs.Receipts.{lines_after, whole_lines, IsAmong, reply_line, IsReceipted, Told, told_text, OfReceipt, EachReceipt, IsWord, AreWords, ReplyFits, FitsReply, AllFit, IsLineOf}
 use Rattle.script_lines.proofs.WordLaws.{word_more, literal, hex_word, decimal_word, reply_are}
 
 abbrev IsUnbroken : List ℕ → Type 0
@@ -28,11 +28,11 @@ word_unbroken [] x = tt
 word_unbroken (b ∷ bs) x = (x.1, word_unbroken bs x.2)
 
 -- the first word of a line
-pub first_word : (lane index : ℕ) → IsWord (decimal lane ++ codes "." ++ decimal index)
+first_word : (lane index : ℕ) → IsWord (decimal lane ++ codes "." ++ decimal index)
 first_word lane index = word_more (decimal lane ++ codes ".") (decimal index) (word_more (decimal lane) (codes ".") (decimal_word lane) (literal (codes ".") refl)) (decimal_word index)
 
 -- a word before a space
-pub words_same : (a b c : List ℕ) (ws : List (List ℕ)) → IsWord a → IsWord b → a ++ 32 ∷ c ≡ b ++ spaced_words ws → (a ≡ b) × (32 ∷ c ≡ spaced_words ws)
+words_same : (a b c : List ℕ) (ws : List (List ℕ)) → IsWord a → IsWord b → a ++ 32 ∷ c ≡ b ++ spaced_words ws → (a ≡ b) × (32 ∷ c ≡ spaced_words ws)
 words_same [] [] c ws x y is = (refl, is)
 words_same [] (b ∷ bs) c ws x y is = absurd (y.0 (sym (ap (λ (l : List ℕ). get_or l 0 0) is)))
 words_same (a ∷ as_) [] c [] x y is = absurd cc
@@ -135,17 +135,7 @@ receipted P ts tail part rest jsn leaf is f e none r =
     (subst (λ (l : List ℕ). IsAmong (whole_lines l) (reply_line r.lane r.index (Placed jsn leaf r.block r.size r.root r.stamp))) is
     (has_prefix part rest [] (reply_line r.lane r.index (Placed jsn leaf r.block r.size r.root r.stamp)) r.line))
 
--- a reply is one of some
-abbrev pub IsOneOf : List Told → Told → Type 0
-IsOneOf [] t = ⊥
-IsOneOf (first ∷ ts) t = (first ≡ t) ⊎ IsOneOf ts t
-
 -- Where replies were written, and then maybe a tail: each whole line of it is that of one of the replies, or one of the tail.
-pub record IsLineOf (ts : List Told) (found : List ℕ) : Type 0 where
-  pub told : Told
-  pub one : IsOneOf ts told
-  pub line_is : reply_line told.lane told.index told.reply ≡ found
-
 written_among : (ts : List Told) (tail found : List ℕ) → IsAmong (whole_lines (told_text ts ++ tail)) found → IsLineOf ts found ⊎ IsAmong (whole_lines tail) found
 written_among [] tail found h = inr h
 written_among (t ∷ ts) tail found h = pick (λ m. written_among ts tail found m) (subst (λ (ls : List (List ℕ)). IsAmong ls found) parted h) where

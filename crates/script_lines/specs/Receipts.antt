@@ -144,3 +144,14 @@ pub record FitsReply (told : Told) : Type 0 where
 abbrev pub AllFit : List Told → Type 0
 AllFit [] = ⊤
 AllFit (told ∷ replies) = FitsReply told × AllFit replies
+
+-- a reply is one of some
+abbrev pub IsOneOf : List Told → Told → Type 0
+IsOneOf [] told = ⊥
+IsOneOf (first ∷ replies) told = (first ≡ told) ⊎ IsOneOf replies told
+
+-- a line is that of one of some replies
+pub record IsLineOf (replies : List Told) (line : List ℕ) : Type 0 where
+  pub told : Told
+  pub one : IsOneOf replies told
+  pub line_is : reply_line told.lane told.index told.reply ≡ line

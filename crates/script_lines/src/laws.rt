@@ -1,8 +1,8 @@
-ghost use Rattle.std.specs.Prelude.{◌≡◌, ℕ, ◌^◌, ◌<◌, ◌≤◌, ◌==◌, List, [], ◌∷◌, ◌++◌, Some, Ok, decimal, true, not};
+ghost use Rattle.std.specs.Prelude.{◌≡◌, ◌⊎◌, ℕ, ◌^◌, ◌<◌, ◌≤◌, ◌==◌, List, [], ◌∷◌, ◌++◌, Some, Ok, decimal, true, not};
 ghost use Rattle.std.specs.List.{list_all};
 ghost use Rattle.ledger_bytes.specs.declared.digest.Digest.{Digest as AnyDigest};
 ghost use Rattle.script_lines.specs.Grammar.{spoken_line};
-ghost use Rattle.script_lines.specs.Receipts.{IsReceipted};
+ghost use Rattle.script_lines.specs.Receipts.{whole_lines, IsAmong, IsLineOf, IsReceipted, Told, told_text};
 ghost use Rattle.script_lines.specs.Sayings.{line_text, IsSayable};
 ghost use Rattle.script_lines.specs.Spellings.{number_of};
 ghost use Rattle.script_lines.specs.declared.line.Line.{Line as AnyLine};
@@ -26,4 +26,11 @@ pub fn other_lines_are_no_receipts()
     ensures { (first : ℕ) (text : List ℕ) (jsn : ℕ) (leaf : AnyDigest) → 57 < first
         → list_all (λ byte. not (byte == 10)) (first ∷ text) ≡ true
         → IsReceipted (first ∷ text ++ 10 ∷ []) jsn leaf → ⊥ }
+{}
+
+/// Where what was written begins the lines of replies and a tail behind them, each whole line of it is that of one of these
+/// replies, or one of the tail.
+pub fn a_written_line_is_a_reply()
+    ensures { (replies : List Told) (tail part rest line : List ℕ) → part ++ rest ≡ told_text replies ++ tail
+        → IsAmong (whole_lines part) line → IsLineOf replies line ⊎ IsAmong (whole_lines tail) line }
 {}

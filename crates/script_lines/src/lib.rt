@@ -15,7 +15,10 @@ mod verbs;
 mod words;
 
 pub use fields::Fields;
-pub use laws::{lines_are_read_back, numbers_are_decimal, other_lines_are_no_receipts};
+pub use laws::{
+    a_written_line_is_a_reply, lines_are_read_back, numbers_are_decimal,
+    other_lines_are_no_receipts,
+};
 pub use line::Line;
 pub use receipt::{BlockEnd, put_receipt};
 pub use reply::{Reply, put_refusal, put_reply, reply_text};

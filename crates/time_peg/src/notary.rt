@@ -35,7 +35,8 @@ pub trait Notary {
     /// Appends an entry with this peg. It takes its memory before it appends anything. After `Failed` the list is as
     /// before, or one such entry longer.
     fn stamp(&mut self, alloc: Global, peg: &Digest) -> Result<Stamp, NotaryErr>
-        ensures list { IsStamped (state self.old).origin.making peg.now.0 (state self.old).entries (state self.new).entries result }
+        ensures list { IsStamped (state self.old).origin.making peg.now.0
+            (state self.old).entries (state self.new).entries result }
         ensures full { length (state self.old).entries ≡ NOTARY_LIMIT → result ≡ Err NotaryErr.Full }
         ensures lawful { IsList (state self.new).entries }
         ensures origin { (state self.new).origin ≡ (state self.old).origin }

@@ -1,4 +1,4 @@
-use Rattle.std.proofs.Common.{rules, ◌≡◌, ◌∙◌, length, drop}
+use Rattle.std.proofs.Common.{rules, ◌≡◌, ◌∙◌, length}
 use Rattle.std.proofs.lemmas.List.{take_at, drop_at, drop-replicate}
 use Rattle.tree_model.specs.Clash.{node_bytes}
 use Rattle.merkle_tree.proofs.pres.node_pre.Goals as goal

@@ -2,7 +2,6 @@ use Rattle.std.proofs.Common.{◌≡◌, ◌∙◌, ap, length, inl, inr, false,
 use Rattle.ledger_bytes.specs.declared.refusal.Refusal.TheVariants.{NotaryFault, NotaryFull}
 use Rattle.ledger_model.specs.declared.job.Job.TheVariants.{Anchor}
 use Rattle.ledger_book.specs.Books as books
-use Rattle.ledger_book.specs.Books.{Serves}
 use Rattle.ledger_book.specs.Steps.{Applies, HasOperatorRoom}
 use Rattle.batch_committer.specs.Attending.{step_in}
 use Rattle.batch_committer.specs.World.{CommitterState, Keeps}

@@ -1,4 +1,4 @@
-use Rattle.std.proofs.Common.{rules, slice_index_or}
+use Rattle.std.proofs.Common.{rules}
 use Rattle.notary_ledger.proofs.list_clock.ListClockClock.now_ms.Goals as goal
 
 pub returns-clause-among : goal.returns-clause-among
