@@ -37,7 +37,9 @@ fn is_due(piece: &Piece, lines: &mut Lines) -> bool
 /// Answers the lines of a script on a ledger, one after the other, until it ends or a fault ends it. Journals gather in
 /// blocks, and a receipt is written once its block is on the disk for good; other replies are written with it, in the
 /// order in which the lines are taken: each lane's lines in theirs. Lines that the source has given are taken together,
-/// each lane's prepared in a thread of its own; none waits for one that the source hasn't given.
+/// each lane's prepared in a thread of its own; none waits for one that the source hasn't given. That lines are answered
+/// before a window ends, that replies don't wait for a block that holds nothing, that the gate is passed and that workers run
+/// side by side is in no clause: tests show it.
 pub fn run_session<
     R: Threads + Wait + Sync,
     S: Source,
