@@ -14,4 +14,5 @@ pub mod Peaks
 pub mod ProofHalves
 pub mod RootsFrom
 pub mod PeakHalves
+pub mod TreeClashes
 pub mod Widths

@@ -5,3 +5,4 @@ pub mod Clash
 pub mod Halves
 pub mod Peaks
 pub mod RootFrom
+pub mod TreeClash

@@ -1,5 +1,10 @@
-ghost use Rattle.std.specs.Prelude.{◌≡◌, ◌≢◌, ℕ, Bool, true, false, ◌-◌, ◌<◌, ◌≤◌, List, [], ◌∷◌, ◌++◌, length, take, drop, get_or, All, Some, None};
-ghost use Rattle.tree_model.specs.Tree.{Hash, root, IsSplit};
+//! Laws of false paths, proofs and trees: each that has a list's root shows two strings with one digest.
+
+ghost use Rattle.std.specs.Prelude.{◌≡◌, ◌≢◌, ℕ, Bool, true, false, ◌-◌, ◌<◌, ◌≤◌, List, [], ◌∷◌, ◌++◌, length, take, drop, get_or, map, All, Some, None, count_ones, ◌+◌};
+ghost use Rattle.tree_model.specs.Tree.{Hash, leaf, root, mth, IsSplit};
+ghost use Rattle.tree_model.specs.Peaks.{peaks};
+ghost use Rattle.tree_model.specs.RootFrom.{root_from};
+ghost use Rattle.tree_model.specs.TreeClash.{tree_clash, ShowsOr};
 ghost use Rattle.tree_model.specs.Path.{fold};
 ghost use Rattle.tree_model.specs.Extension.{ext, fold_proof};
 ghost use Rattle.tree_model.specs.Clash.{Clashes, node_bytes, highest_node, path_clash, sub_clash, proof_clash};
@@ -93,4 +98,18 @@ pub fn proof_clash_is_first()
         → node_bytes side new ≡ highest_node hash k digests
         → sub_clash hash m known old digests (rest ++ side ∷ [])
         ≡ sub_clash hash (m - k) false old (drop k digests) rest }
+{}
+
+/// A tree that is told by the peaks of its first p leaves and by the leaves behind them, and that has the size and the root of a
+/// list, is the list's: its leaves are those behind the first p, and its peaks are those of the first p. Or it shows two
+/// different strings with one digest: those of the first node or leaf, from the root down and left before right, at which it
+/// differs from the list. With no peaks all of the list is compared.
+pub fn trees_show_clashes()
+    ensures { (hash : Hash) (tops : List (List ℕ)) (p : ℕ) (told leaves : List (List ℕ))
+        → ((bytes : List ℕ) → length (hash bytes) ≡ 32)
+        → length leaves ≡ p + length told
+        → length tops ≡ count_ones p → All (λ d. length d ≡ 32) tops
+        → root_from hash tops p (map (leaf hash) told) ≡ mth hash leaves
+        → ShowsOr hash ((told ≡ drop p leaves) × (tops ≡ peaks hash (map (leaf hash) (take p leaves))))
+        (tree_clash hash tops p told leaves) }
 {}

@@ -1,3 +1,5 @@
+//! Laws of a tree as it grows: it is made level by level, and peaks stand for the leaves in front.
+
 ghost use Rattle.std.specs.Prelude.{◌≡◌, ℕ, true, ◌+◌, ◌-◌, ◌*◌, ◌/◌, ◌%◌, ◌^◌, ◌<◌, ◌≤◌, List, [], ◌∷◌, ◌++◌, length, take, drop, count_ones};
 ghost use Rattle.tree_model.specs.Tree.{Hash, node, root, IsSplit};
 ghost use Rattle.tree_model.specs.Path.{path};

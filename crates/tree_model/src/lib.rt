@@ -16,6 +16,7 @@ ghost use Rattle.tree_model.specs.Extension.{sub, proof, sub_length, proof_lengt
 
 pub use clashes::{
     path_clash_is_first, paths_show_clashes, proof_clash_is_first, proofs_show_clashes,
+    trees_show_clashes,
 };
 pub use growing::{halves_give_the_tree, peaks_are_roots, peaks_give_roots};
 
