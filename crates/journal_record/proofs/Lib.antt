@@ -3,3 +3,5 @@ pub mod TagLaws
 pub mod ReadingSteps
 pub mod ReadingLaws
 pub mod WholeLaws
+pub mod ItemLaws
+pub mod Near

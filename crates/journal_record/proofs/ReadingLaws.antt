@@ -1,14 +1,13 @@
 -- What is read as a header is spelled so and keeps the rules, and what does is read.
-use Rattle.std.proofs.Common.{◌≡◌, ◌≢◌, ℕ, ◌-◌, ◌^◌, ◌<◌, true, eqb, List, [], ◌∷◌, ◌++◌, length, length-append, take, arith, Result, Ok, Err, refl, sym, ap, subst, ◌∙◌, append_assoc}
+use Rattle.std.proofs.Common.{◌≡◌, ◌≢◌, ℕ, ◌^◌, ◌<◌, true, List, [], ◌∷◌, ◌++◌, length, length-append, take, arith, Result, Ok, Err, sym, ap, subst, ◌∙◌, append_assoc}
 use Rattle.std.specs.Int.{w8, w32, w64, to_be_bytes}
 use Rattle.std.specs.Prelude.{IfOk}
-use Rattle.std.proofs.lemmas.Bool.{eqb-true}
-use Rattle.std.proofs.lemmas.List.{append-nil, nil_from_length}
+use Rattle.std.proofs.lemmas.List.{append-nil}
 use Rattle.ledger_bytes.specs.declared.digest.Digest.{Digest}
 use Rattle.ledger_bytes.specs.declared.failure.Bad.{Bad}
 use Rattle.ledger_bytes.specs.declared.failure.Bad.TheVariants.{BadFixedField, NewerFormat, Short, Trailing}
-use Rattle.ledger_bytes.specs.Fields.{Unread, left_from, ◌>>=◌, number_at, digest_at, end_at, IsBytes, Took, ReadsBack}
-use Rattle.ledger_bytes.proofs.Fields.{bind_ok, check_ok, Took-then, wide32, wide64, number_back, byte_back, digest_back, IsTextOf, text_none, text_then, digest_text, number_text, byte_text, cut_told, trailing_told}
+use Rattle.ledger_bytes.specs.Fields.{Unread, ◌>>=◌, number_at, digest_at, IsBytes, Took, ReadsBack}
+use Rattle.ledger_bytes.proofs.Fields.{bind_ok, Took-then, wide32, wide64, number_back, byte_back, digest_back, IsTextOf, text_none, text_then, digest_text, number_text, byte_text, cut_told, trailing_told}
 use Rattle.journal_record.specs.declared.header.Header.{Header}
 use Rattle.journal_record.specs.declared.header.Kind.{Kind}
 use Rattle.journal_record.specs.declared.reading.Front.{Front}
@@ -18,15 +17,15 @@ use Rattle.journal_record.specs.declared.reading.Parts.{Parts}
 use Rattle.journal_record.specs.Header.{code_of, spelling, HasWidths}
 use Rattle.journal_record.specs.Rules.{version_ok, jsn_ok, member_ok, clue_ok, clue_ord_ok, clue_prev_ok, a_ok, b_ok, content_len_ok, IsHeader}
 use Rattle.journal_record.specs.Reading.{known_kind, front_at, clue_at, own_at, parts_at, header_at, header_of}
-use Rattle.journal_record.proofs.ReadingSteps.{ruled, plain_takes, field_takes, field_text, kind_takes, kind_again, ended, answered}
+use Rattle.journal_record.proofs.ReadingSteps.{ruled, plain_takes, field_takes, field_text, kind_takes, kind_again, ended, answered, whole_takes, whole_told}
 
-abbrev back32 : ReadsBack (number_at w32) (to_be_bytes w32) (λ n. n < 2 ^ 32)
+abbrev pub back32 : ReadsBack (number_at w32) (to_be_bytes w32) (λ n. n < 2 ^ 32)
 back32 = number_back w32 (2 ^ 32) wide32
 
 abbrev back64 : ReadsBack (number_at w64) (to_be_bytes w64) (λ n. n < 2 ^ 64)
 back64 = number_back w64 (2 ^ 64) wide64
 
-abbrev at_place : {A : Type 0} → ℕ → A → Bad
+abbrev pub at_place : {A : Type 0} → ℕ → A → Bad
 at_place at v = BadFixedField at
 
 -- ---- version, kind, number and member
@@ -122,7 +121,7 @@ clue_takes kind jsn l x after bytes e =
     let fits : IsClue kind jsn (record { clue = c.0.0; ordinal = o.0.0; previous = p.0.0 }) = record { clue_width = c.2; ord_width = o.2; prev_width = p.2; clue = c.3; ord = o.3; prev = p.3 } in
     answered clue_text (IsClue kind jsn) l (record { clue = c.0.0; ordinal = o.0.0; previous = p.0.0 }) x p.0.1 after p.4 t2 fits
 
-regroup3 : (a b c : List ℕ) → a ++ b ++ c ≡ a ++ (b ++ (c ++ []))
+pub regroup3 : (a b c : List ℕ) → a ++ b ++ c ≡ a ++ (b ++ (c ++ []))
 regroup3 a b c = sym (append-nil (a ++ b ++ c)) ∙ simp append_assoc
 
 clue_is : (kind : Kind) (jsn : ℕ) (x : ClueFields) (whole : ℕ) → IsClue kind jsn x → IsTextOf (clue_at kind jsn) whole (clue_text x) x
@@ -346,26 +345,13 @@ header_back = record { again = λ h whole rest fits. (header_is h whole fits).ag
 
 -- ---- all of the bytes
 
+pub header_of_only : (bytes : List ℕ) (h : Header) → IsHeader h → HasWidths h → bytes ≡ spelling h → header_of bytes ≡ Ok h
+unfolding header_of
+header_of_only bytes h rules widths e = whole_told header_at bytes (spelling h) h (header_is h (length bytes) (record { rules = rules; widths = widths })) e
+
 header_of_takes : (bytes : List ℕ) (h : Header) → IsBytes bytes → header_of bytes ≡ Ok h → IsHeader h × (bytes ≡ spelling h)
 unfolding header_of
-header_of_takes bytes h fits e =
-    let start : Unread = left_from (length bytes) bytes in
-    let b = bind_ok (header_at start) (λ read. end_at read.0 read.1) h e in
-    let c = check_ok (eqb (length b.0.1.rest) 0) (Trailing (b.0.1.whole - length b.0.1.rest)) b.0.0 h b.2 in
-    let took = header_takes start b.0.0 b.0.1 fits b.1 in
-    let nothing : b.0.1.rest ≡ [] = nil_from_length b.0.1.rest (eqb-true _ _ c.0) in
-    let whole : bytes ≡ spelling b.0.0 = took.0.parts ∙ ap (λ (r : List ℕ). spelling b.0.0 ++ r) nothing ∙ append-nil (spelling b.0.0) in
-    subst (λ (q : Header). IsHeader q × (bytes ≡ spelling q)) c.1 (took.1.rules, whole)
-
-header_of_again : (h : Header) → IsWhole h → header_of (spelling h) ≡ Ok h
-unfolding header_of
-header_of_again h fits =
-    let read : header_at (left_from (length (spelling h)) (spelling h)) ≡ Ok (h, left_from (length (spelling h)) []) =
-    ap (λ (t : List ℕ). header_at (left_from (length (spelling h)) t)) (sym (append-nil (spelling h))) ∙ (header_is h (length (spelling h)) fits).again [] in
-    rw read refl
-
-pub header_of_only : (bytes : List ℕ) (h : Header) → IsHeader h → HasWidths h → bytes ≡ spelling h → header_of bytes ≡ Ok h
-header_of_only bytes h rules widths e = ap header_of e ∙ header_of_again h (record { rules = rules; widths = widths })
+header_of_takes bytes h fits e = let w = whole_takes header_at spelling IsWhole header_back bytes h fits e in (w.0.rules, w.1)
 
 pub header_of_found : (bytes : List ℕ) (read : Result Header Bad) → IsBytes bytes → read ≡ header_of bytes → IfOk read (λ h. IsHeader h × (bytes ≡ spelling h))
 header_of_found bytes (Ok h) fits e = header_of_takes bytes h fits (sym e)

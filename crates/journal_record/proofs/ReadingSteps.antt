@@ -1,9 +1,12 @@
--- One step of a reading: a field, and the rule that it keeps.
-use Rattle.std.proofs.Common.{◌≡◌, ℕ, zero, suc, Bool, true, cond, List, ◌++◌, Option, Some, None, Result, Ok, Err, refl, sym, ap, subst}
+-- Steps of a reading: a field and the rule that it keeps, and a text that is all of the bytes.
+use Rattle.std.proofs.Common.{◌≡◌, ℕ, zero, suc, ◌-◌, Bool, true, cond, eqb, List, [], ◌++◌, length, Option, Some, None, Result, Ok, Err, refl, sym, ap, subst, ◌∙◌}
 use Rattle.std.specs.Prelude.{ok_or}
+use Rattle.std.proofs.lemmas.Bool.{eqb-true}
+use Rattle.std.proofs.lemmas.List.{append-nil, nil_from_length}
 use Rattle.ledger_bytes.specs.declared.failure.Bad.{Bad}
-use Rattle.ledger_bytes.specs.Fields.{Unread, ◌>>=◌, IsBytes, Took, ReadsBack}
-use Rattle.ledger_bytes.proofs.Fields.{bind_ok, check_ok, ok_is, IsTextOf, text_then}
+use Rattle.ledger_bytes.specs.declared.failure.Bad.TheVariants.{Trailing}
+use Rattle.ledger_bytes.specs.Fields.{Unread, left_from, ◌>>=◌, end_at, IsBytes, Took, ReadsBack}
+use Rattle.ledger_bytes.proofs.Fields.{bind_ok, check_ok, ok_is, IsTextOf, text_then, all_of}
 use Rattle.journal_record.specs.declared.header.Kind.{Kind}
 use Rattle.journal_record.specs.declared.header.Kind.TheVariants.{Genesis, Content, Member, Time, Occult, Purge}
 use Rattle.journal_record.specs.Header.{code_of}
@@ -49,6 +52,28 @@ field_text read ok bad f whole t u x y first rule second =
 pub answered : {A : Type 0} (text : A → List ℕ) (fits : A → Type 0) (l : Unread) (x y : A) (b c : Unread) → ended x b ≡ ended y c → Took l (text x) b → fits x → Took l (text y) c × fits y
 answered text fits l x y b c e took fit =
     subst (λ z. Took l (text z.0) z.1 × fits z.0) (ok_is (x, b) (y, c) e) (took, fit)
+
+-- ---- a text that is all of the bytes
+
+-- what is read of all bytes is spelled so, each byte of it
+pub whole_takes : {A : Type 0} (read : Unread → Result (A × Unread) Bad) (spell : A → List ℕ) (fits : A → Type 0) → ReadsBack read spell fits
+    → (bytes : List ℕ) (x : A) → IsBytes bytes → all_of read bytes ≡ Ok x → fits x × (bytes ≡ spell x)
+whole_takes read spell fits back bytes x plain e =
+    let start : Unread = left_from (length bytes) bytes in
+    let r = bind_ok (read start) (λ r. end_at r.0 r.1) x e in
+    let c = check_ok (eqb (length r.0.1.rest) 0) (Trailing (r.0.1.whole - length r.0.1.rest)) r.0.0 x r.2 in
+    let took = back.takes start r.0.0 r.0.1 plain r.1 in
+    let nothing : r.0.1.rest ≡ [] = nil_from_length r.0.1.rest (eqb-true _ _ c.0) in
+    let is : bytes ≡ spell r.0.0 = took.0.parts ∙ ap (λ (rest : List ℕ). spell r.0.0 ++ rest) nothing ∙ append-nil (spell r.0.0) in
+    subst (λ y. fits y × (bytes ≡ spell y)) c.1 (took.1, is)
+
+-- what all bytes spell is read
+pub whole_told : {A : Type 0} (read : Unread → Result (A × Unread) Bad) (bytes text : List ℕ) (x : A) → IsTextOf read (length bytes) text x → bytes ≡ text → all_of read bytes ≡ Ok x
+whole_told read bytes text x is e =
+    ap (λ (s : List ℕ). read (left_from (length bytes) s) >>= λ r. end_at r.0 r.1) (e ∙ sym (append-nil text))
+    ∙ ap (λ r. r >>= λ r. end_at r.0 r.1) (is.again [])
+
+-- ---- the kinds
 
 -- a value that is there
 ok_or_ok : {A : Type 0} (o : Option A) (d : Bad) (x : A) → ok_or o d ≡ Ok x → o ≡ Some x

@@ -2,6 +2,7 @@ pub mod Approval
 pub mod Blocks
 pub mod Entry
 pub mod Header
+pub mod Items
 pub mod Members
 pub mod Reading
 pub mod Records

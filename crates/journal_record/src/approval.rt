@@ -1,3 +1,5 @@
+//! A member's word for a journal, and the bytes that show who placed one.
+
 ghost use Rattle.std.specs.Prelude.{◌≡◌, ◌<◌, ◌^◌, ◌++◌, length, All, IfOk};
 ghost use Rattle.std.specs.Int.{w16, w32, to_be_bytes};
 ghost use Rattle.journal_record.specs.Approval.{who_of};
@@ -41,10 +43,8 @@ pub fn who_bytes(alloc: Global, given: &[Approval]) -> Result<Bytes, NoMemory>
 {
     let mut out = FieldWriter::new(alloc);
     for approval in given {
-        let proof = approval.proof.as_slice();
-        out.put_u32(approval.member)?;
-        out.put_u16(proof.len() as u16)?;
-        out.put_slice(proof)?;
+        out.put_slice(&approval.front())?;
+        out.put_slice(approval.proof.as_slice())?;
     }
     Ok(out.finish())
 }

@@ -1,3 +1,5 @@
+//! The digests of a journal's content and of the bytes that show who placed it.
+
 ghost use Rattle.std.specs.Prelude.{◌≡◌, ◌+◌, ◌<◌, ◌^◌, [], ◌∷◌, ◌++◌, length, All};
 ghost use Rattle.sha2.specs.Sha256.{sha256};
 ghost use Rattle.ledger_bytes.specs.Tags.{byte_of};

@@ -1,3 +1,5 @@
+//! Bytes of a header's size that are filled from the front.
+
 ghost use Rattle.std.specs.Prelude.{◌≡◌, ◌+◌, ◌≤◌, [], ◌++◌, length};
 ghost use Rattle.sha2.specs.Sha256.{sha256};
 

@@ -1,3 +1,5 @@
+//! A journal's header and its 174 bytes.
+
 ghost use Rattle.std.specs.Prelude.{◌≡◌, ◌≢◌, ◌<◌, ℕ, List, [], ◌++◌, take, IfOk, Ok, Err};
 
 use crate::filling::Filling;

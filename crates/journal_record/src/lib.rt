@@ -1,4 +1,5 @@
-//! A journal's header, its bytes, the digests of a journal's parts and of names, members, and their proofs and requests.
+//! A journal's header and its bytes, a journal as it stands in a dump, the digests of a journal's parts and of names,
+//! members, and their proofs and requests.
 #![tactic(auto)]
 
 mod approval;
@@ -7,6 +8,7 @@ mod filling;
 mod header;
 mod member;
 mod reading;
+mod record;
 mod request;
 mod rules;
 mod stamp;
@@ -18,6 +20,7 @@ pub use digests::{approval_digest, approvals_digest, content_digest, who_digest}
 pub use header::{HEADER_LEN, Header, Kind};
 pub use member::Member;
 pub use reading::{is_inverse_of_encoding, take_header};
+pub use record::{Body, Record, is_inverse_of_dumping, take_record};
 pub use request::{
     clue_digest, member_request_digest, name_digest, occult_request_digest, purge_request_digest,
     request_digest,

@@ -1,3 +1,5 @@
+//! A member of a ledger.
+
 use ledger_bytes::Digest;
 
 /// Whoever may place journals, or approve what is done to them.

@@ -1,3 +1,5 @@
+//! What a notary answers.
+
 use ledger_bytes::Digest;
 
 /// What a notary answers to what it stamped: its entry.

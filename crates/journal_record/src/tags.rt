@@ -1,3 +1,5 @@
+//! The tag scheme: a proof of a message, which shows a key.
+
 ghost use Rattle.std.specs.Prelude.{◌≡◌, ℕ, List, length, Some, IfSome, option_map};
 ghost use Rattle.journal_record.specs.Tags.{tag_of, tag_key_of, tag_proof_of};
 
