@@ -5,3 +5,4 @@ pub mod ReadLemmas
 pub mod ReadingLaws
 pub mod RunLaws
 pub mod WritingLaws
+pub mod Seeing

@@ -4,7 +4,7 @@ use Rattle.std.specs.Io.KnownBytes.{Consumes, Appends}
 use Rattle.std.proofs.KnownBytes.{Consumes-nil, Appends-nil}
 use Rattle.std.proofs.lemmas.List.Elements.{All-nil}
 use Rattle.ledger_bytes.specs.Begins.{Begins}
-use Rattle.ledger_io.specs.Lines.{lines_of, script_limit, IsLine, BeginsTooLong}
+use Rattle.ledger_io.specs.Lines.{script_limit, IsLine, BeginsTooLong}
 use Rattle.ledger_bytes.specs.Causes.{count_after}
 use Rattle.ledger_io.specs.Outside.{SourceState, SinkState, Outside, outside, MeetsNone}
 use Rattle.ledger_io.specs.Reading.{Reading, ReadsBytes, GivesNone, Fails, faults_next}
@@ -15,8 +15,7 @@ use Rattle.ledger_io.specs.declared.ending.Ending.{Ending}
 use Rattle.ledger_io.specs.declared.ending.Ending.TheVariants as ending
 use Rattle.ledger_io.specs.declared.failure.LineErr.{LineErr}
 use Rattle.ledger_io.specs.declared.failure.LineErr.TheVariants.{ReadFault, LineTooLong, ScriptTooLong, NoMemory}
-use Rattle.ledger_io.proofs.LineLemmas.{lines_of-broken}
-use Rattle.ledger_io.proofs.ReadingLaws.{HasGiven, read_on, unbroken, given_all, given_split}
+use Rattle.ledger_io.proofs.ReadingLaws.{HasGiven, given_all, given_split}
 
 -- whole replies behind whole replies are whole
 pub whole_append : (front back : List ℕ) → AreWhole front → AreWhole back → AreWhole (front ++ back)

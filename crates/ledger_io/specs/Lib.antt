@@ -6,3 +6,4 @@ pub mod Reading
 pub mod Runs
 pub mod Steps
 pub mod Writing
+pub mod Windows

@@ -1,5 +1,5 @@
 -- What clauses know of the objects outside: what a source has left to read, what a sink holds, and how often calls failed.
-use Rattle.std.specs.Prelude.{◌≡◌, ℕ, ◌+◌, ◌-◌, ◌^◌, ◌≤◌, ◌⊎◌, Bool, ◌==◌, ◌&&◌, nat_lt, if◌then◌else◌, List, length, min, Option, Result, Ok, Err}
+use Rattle.std.specs.Prelude.{◌≡◌, ℕ, ◌≤◌, ◌⊎◌, Bool, ◌==◌, ◌&&◌, nat_lt, if◌then◌else◌, List, length, Option, Result, Ok, Err}
 use Rattle.ledger_bytes.specs.Causes.{count_after}
 
 -- a source: the bytes that are left to read, where it tells them, and how many of its calls failed

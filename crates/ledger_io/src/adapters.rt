@@ -1,3 +1,5 @@
+//! Sources and sinks over std's readers and writers.
+
 ghost use Rattle.std.specs.Prelude.{◌≡◌, None};
 ghost use Rattle.std.specs.Io.{WritesAtMost};
 

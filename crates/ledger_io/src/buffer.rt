@@ -1,3 +1,5 @@
+//! The room for bytes that were read from a source and not yet given.
+
 ghost use Rattle.std.specs.Prelude.{◌≡◌, ℕ, ◌+◌, ◌-◌, ◌^◌, ◌<◌, ◌≤◌, List, [], length, take, drop, vec_len, None, OnOk};
 ghost use Rattle.ledger_io.specs.Reading.{faults_next};
 ghost use Rattle.ledger_io.specs.Steps.{Fetches, gain};

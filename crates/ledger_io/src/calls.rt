@@ -1,3 +1,5 @@
+//! Which calls of a source or a sink in memory fail, and how many did.
+
 ghost use Rattle.std.specs.Prelude.{◌≡◌, ◌≤◌, ◌↔◌, Contains, IsTrue};
 ghost use Rattle.std.specs.Bool.{OnTrue};
 ghost use Rattle.ledger_bytes.specs.Causes.{Rose};

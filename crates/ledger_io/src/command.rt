@@ -1,3 +1,5 @@
+//! The words of the command line.
+
 use ledger_bytes::NoMemory;
 use std::env;
 use std::io::ErrorKind;

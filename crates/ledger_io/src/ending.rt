@@ -1,3 +1,5 @@
+//! How a run over the lines of a source ends: its exit status, and the line that it writes last.
+
 ghost use Rattle.std.specs.Prelude.{◌≡◌};
 
 use crate::{LineErr, WriteErr};

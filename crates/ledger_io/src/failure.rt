@@ -1,3 +1,5 @@
+//! Why a source gives no further line.
+
 ghost use Rattle.std.specs.Prelude.{◌≡◌};
 ghost use Rattle.ledger_io.specs.declared.failure.LineErr.TheVariants.{ReadFault as read_fault, NoMemory as no_memory};
 

@@ -12,6 +12,7 @@ mod failure;
 mod memory;
 mod outside;
 mod reader;
+mod window;
 mod writer;
 
 pub use adapters::{StdSink, StdSource};
@@ -21,4 +22,5 @@ pub use failure::LineErr;
 pub use memory::{MemSink, MemSource};
 pub use outside::{Sink, Source};
 pub use reader::{LINE_LIMIT, Lines, SCRIPT_LIMIT};
+pub use window::Window;
 pub use writer::{WriteErr, finish, write_all, write_last};

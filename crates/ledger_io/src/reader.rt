@@ -1,3 +1,5 @@
+//! Reading the lines of a source, one after the other.
+
 ghost use Rattle.std.specs.Prelude.{◌≡◌, ℕ, ◌<◌, ◌≤◌, List, [], false, None, IsTrue, ◌↔◌, MatchOption};
 ghost use Rattle.ledger_io.specs.Lines.{script_limit, IsUnbroken, IsLine, BreaksAt, HoldsLine};
 ghost use Rattle.ledger_io.specs.Reading.{ReadsBytes, Gives, faults_next};

@@ -1,3 +1,5 @@
+//! Writing a piece whole, and the line with which a program ends.
+
 ghost use Rattle.std.specs.Prelude.{◌≡◌, OnOk, IfErr};
 ghost use Rattle.std.specs.Io.KnownBytes.{Appends};
 ghost use Rattle.ledger_io.specs.Endings.{status_of, last_line};
