@@ -9,7 +9,7 @@ use Rattle.ledger_bytes.specs.declared.refusal.Refusal.TheVariants as refusals
 use Rattle.journal_record.specs.Entry.{Entry, content_digest_of, who_digest_of}
 use Rattle.journal_record.specs.Header.{spelling}
 use Rattle.journal_record.specs.declared.header.Header.{Header}
-use Rattle.script_lines.specs.Receipts.{FitsWord, OfReceipt, ReplyFits}
+use Rattle.script_lines.specs.Receipts.{FitsWord, ReplyFits}
 use Rattle.script_lines.specs.declared.reply.Reply.{Reply}
 use Rattle.script_lines.specs.declared.reply.Reply.TheVariants as reply
 use Rattle.ledger_model.specs.Getting.{damage, content_damage, who_damage, reply_unless, whole_reply, occulted_reply, reply_on, shown_reply, get_reply}
@@ -61,11 +61,6 @@ module _ (Q : Reply → Type 0) (refused : (kept found : Digest) → Q (reply.Re
   of_shown h n (Purged p) none purged = purged p refl
   of_shown h n Occulted none purged = on (size h) (λ e. occulted_reply e.header e.who) (slice_get (journals h) n) none (λ e. of_occulted e.header e.who)
   of_shown h n Whole none purged = on (size h) (λ e. whole_reply e.header e.content e.who) (slice_get (journals h) n) none (λ e. of_whole e.header e.content e.who)
-
--- it is no receipt
-pub get_no_receipt : (P : ℕ → Digest → Type 0) (h : History) (n : ℕ) → OfReceipt P (get_reply h n)
-unfolding get_reply
-get_no_receipt P h n = of_shown (OfReceipt P) (λ kept found. tt) (λ header content who. tt) (λ header who. tt) h n (view h n) tt (λ p is. tt)
 
 -- it is a refusal, or a journal with or without its content
 pub get_told : (P : Reply → Type 0) (h : History) (n : ℕ) → ((why : Refusal) → P (reply.Refused why)) → ((header content who : List ℕ) → P (reply.Whole header content who)) → ((header who : List ℕ) → P (reply.Occulted header who)) → P (get_reply h n)

@@ -33,3 +33,4 @@ pub mod StateLaws
 pub mod BaseLaws
 pub mod NumberLaws
 pub mod MadeLaws
+pub mod ToldLaws

@@ -1,6 +1,6 @@
 -- Lemmas on receipts that wait for their block's end, and on what is written once it has ended.
 use Rattle.std.specs.Prelude.{slice_get}
-use Rattle.std.proofs.Common.{true, false, cond, ◌≡◌, ℕ, zero, suc, ◌-◌, ◌≤◌, ◌⊎◌, inl, inr, List, [], ◌∷◌, ◌++◌, length, Option, Some, None, refl, ap, sym, ◌∙◌, arith, append_assoc, append-nil, length-append}
+use Rattle.std.proofs.Common.{true, false, cond, ◌≡◌, ℕ, zero, suc, ◌-◌, ◌≤◌, ◌⊎◌, inl, inr, List, [], ◌∷◌, ◌++◌, length, Option, Some, None, refl, ap, sym, subst, ◌∙◌, arith, append_assoc, append-nil, length-append}
 use Rattle.std.proofs.lemmas.List.{map-append, length-map}
 use Rattle.std.proofs.lemmas.List.Concat.{flat_map-append}
 use Rattle.std.proofs.lemmas.Option.{none-some, slice_get_within}
@@ -11,7 +11,7 @@ use Rattle.ledger_bytes.specs.declared.refusal.Refusal.{Refusal}
 use Rattle.journal_record.specs.Entry.{Entry}
 use Rattle.script_lines.specs.Replies.{reply_text}
 use Rattle.ledger_model.specs.Appends.{append_journal, member_journal, occult_journal, purge_journal}
-use Rattle.ledger_model.specs.Dues.{IsWithin, due_line, due_lines, due_text, dues_text, digests_of, HasLeaf, IsWaiting, AllWaiting, IsIn, AllIn}
+use Rattle.ledger_model.specs.Dues.{IsWithin, due_line, due_lines, due_text, dues_text, digests_of, HasLeaf, IsHeadOf, IsWaiting, AllWaiting, IsIn, AllIn}
 use Rattle.ledger_model.specs.Growing.{Grows}
 use Rattle.ledger_model.specs.History.{History, history, id, blocks, point, journals, journals_of, size, root, close, leaf_digest}
 use Rattle.ledger_model.specs.Judgements.{own_refusal}
@@ -23,11 +23,17 @@ use Rattle.sha2.specs.Sha256.{sha256}
 use Rattle.tree_model.specs.Tree.{mth}
 use Rattle.journal_record.specs.declared.stamp.Stamp.{Stamp}
 use Rattle.ledger_bytes.specs.declared.refusal.Refusal.TheVariants.{NotaryFault}
-use Rattle.script_lines.specs.Receipts.{OfReceipt}
+use Rattle.script_lines.specs.Receipts.{OfReceipt, OfHead}
+use Rattle.script_lines.specs.declared.reply.Reply.{Reply as AnyReply}
+use Rattle.script_lines.specs.declared.said.Which.{Which}
+use Rattle.script_lines.specs.declared.said.Which.TheVariants.{Ledger, Notary}
 use Rattle.script_lines.specs.declared.reply.Reply.TheVariants as reply
 use Rattle.ledger_model.specs.declared.outcome.Query.TheVariants as query
 use Rattle.ledger_model.specs.Step.{Step}
-use Rattle.ledger_model.specs.Texts.{told_reply, answer_for}
+use Rattle.ledger_model.specs.Getting.{reply_unless}
+use Rattle.ledger_model.specs.Proofs.{list_extension, size_refusal}
+use Rattle.ledger_model.specs.Rules.{closes_before}
+use Rattle.ledger_model.specs.Texts.{told_reply, answer_for, extension_reply}
 use Rattle.ledger_model.specs.declared.answer.Answer.{Answer}
 use Rattle.ledger_model.specs.declared.answer.Answer.TheVariants.{Reply, Receipt}
 use Rattle.ledger_model.specs.declared.due.Due.{Due}
@@ -36,9 +42,9 @@ use Rattle.ledger_model.specs.declared.job.Job.TheVariants.{Refused, Append, New
 use Rattle.ledger_model.proofs.DueLaws.{answer_kept, answer_ended}
 use Rattle.ledger_model.specs.declared.outcome.Outcome.TheVariants.{Reading}
 use Rattle.ledger_model.specs.declared.outcome.Query.{Query}
-use Rattle.ledger_model.proofs.GetLaws.{get_no_receipt}
-use Rattle.ledger_model.proofs.ProveLaws.{told_proof, told_extension}
-use Rattle.ledger_model.proofs.GrowLaws.{IsEnded, moves_close, close_none, grows_close, grows_size, size_closed}
+use Rattle.ledger_model.proofs.GetLaws.{get_told}
+use Rattle.ledger_model.proofs.ProveLaws.{told_proof}
+use Rattle.ledger_model.proofs.GrowLaws.{IsEnded, moves_close, close_none, grows_close, grows_size, size_closed, root_kept}
 
 -- an element that is there stays there
 pub slice_get-more : {A : Type 0} (xs ys : List A) (i : ℕ) (a : A) → slice_get xs i ≡ Some a → slice_get (xs ++ ys) i ≡ Some a
@@ -94,7 +100,7 @@ waits_closed h g x = ap (λ (k : History). k.closed) x.is
 
 -- receipts that waited wait on
 still_waiting : (h g : History) (answer : Answer) → Waits h g → IsWaiting h answer → IsWaiting g answer
-still_waiting h g (Reply reply) x w = w
+still_waiting h g (Reply reply) x w = (w.0, subst (λ (bs : List (List Entry)). OfHead (IsHeadOf (journals_of bs)) reply) (sym (waits_closed h g x)) w.1)
 still_waiting h g (Receipt jsn leaf stamp) x w = (
   omega (arith, w.0, ap (λ bs. length (journals_of bs)) (waits_closed h g x)),
   ap (λ js. slice_get (digests_of js) jsn) (waits_journals h g x) ∙ leaf_more (journals h) x.more jsn leaf w.1,
@@ -114,7 +120,7 @@ waiting-first h (d ∷ xs) ys x = (x.0, waiting-first h xs ys x.1)
 
 -- what is due for a job waits with its journal
 placed_waits : (h : History) (step : Step) (refusal : Option Refusal) (journal : Entry) → IsWaiting (after_judgement refusal (Some journal) h) (answer_for h step (judged_outcome refusal (placed_as (size h) journal)))
-placed_waits h step (Some refusal) journal = tt
+placed_waits h step (Some refusal) journal = (tt, tt)
 placed_waits h step None journal = (
   omega (arith, length-append (journals_of h.closed) h.waiting),
   ap (λ js. slice_get (digests_of js) (size h)) (sym (append_assoc (journals_of h.closed) h.waiting (journal ∷ []))) ∙ leaf_last (journals h) journal,
@@ -122,31 +128,54 @@ placed_waits h step None journal = (
 
 anchor_waits : (h : History) (step : Step) (refusal : Option Refusal) (stamp : Option Stamp)
     → IsWaiting (after_judgement refusal (option_map (time_journal (size h)) stamp) h) (answer_for h step (judged_outcome refusal (anchor_outcome h stamp)))
-anchor_waits h step (Some refusal) stamp = tt
-anchor_waits h step None None = tt
+anchor_waits h step (Some refusal) stamp = (tt, tt)
+anchor_waits h step None None = (tt, tt)
 anchor_waits h step None (Some stamp) = placed_waits h step None (time_journal (size h) stamp)
 
-head_waits : (h : History) (step : Step) → IsWaiting h (Reply (told_reply h step query.Head))
-head_waits h step = elim step.failed as (λ v. IsWaiting h (Reply (cond v (reply.Refused NotaryFault) (reply.Head (digest (id h)) (size h) (digest (root h (size h))) (blocks h) (point h) (length step.after) (digest (mth sha256 step.after)))))) [ true ↦ tt | false ↦ tt ]
+-- a reply that is no receipt, and names no head but one of the ended blocks
+abbrev IsPlain : History → AnyReply → Type 0
+IsPlain h told = OfReceipt (λ jsn leaf. ⊥) told × OfHead (IsHeadOf (journals_of h.closed)) told
 
-asked_waits : (h : History) (step : Step) (refusal : Option Refusal) (q : Query) → OfReceipt (λ jsn leaf. ⊥) (told_reply h step q) → IsWaiting (after_judgement refusal None h) (answer_for h step (judged_outcome refusal (Reading q)))
+-- where nothing waits the head of all journals is one of the ended blocks
+pub head_there : (h : History) → h.waiting ≡ [] → IsHeadOf (journals_of h.closed) (size h) (digest (root h (size h)))
+head_there h none =
+    let few = size_closed h none in
+    (omega (arith, few), ap digest (root_kept (history [] (journals_of h.closed)) h [] (size h) (ap (λ w. journals_of h.closed ++ w) none) (omega (arith, few))))
+
+head_waits : (h : History) (step : Step) → h.waiting ≡ [] → IsPlain h (told_reply h step query.Head)
+head_waits h step none =
+    elim step.failed as (λ v. IsPlain h (cond v (reply.Refused NotaryFault) (reply.Head (digest (id h)) (size h) (digest (root h (size h))) (blocks h) (point h) (length step.after) (digest (mth sha256 step.after))))) [
+      | true ↦ (tt, tt)
+      | false ↦ (tt, head_there h none)
+    ]
+
+extension_waits : (h : History) (step : Step) (tree : Which) (m : ℕ) → h.waiting ≡ [] → IsPlain h (told_reply h step (query.Extend tree m))
+extension_waits h step Ledger m none = (tt, head_there h none)
+extension_waits h step Notary m none =
+    let told = extension_reply Notary m (length step.after) (mth sha256 step.after) (list_extension step.after m) in
+    elim step.failed as (λ v. IsPlain h (cond v (reply.Refused NotaryFault) (reply_unless (size_refusal (length step.after) m) told))) [
+      | true ↦ (tt, tt)
+      | false ↦ elim (size_refusal (length step.after) m) as (λ o. IsPlain h (reply_unless o told)) [ Some why ↦ (tt, tt) | None ↦ (tt, tt) ]
+    ]
+
+asked_waits : (h : History) (step : Step) (refusal : Option Refusal) (q : Query) → IsPlain h (told_reply h step q) → IsWaiting (after_judgement refusal None h) (answer_for h step (judged_outcome refusal (Reading q)))
 asked_waits h step None q told = told
-asked_waits h step (Some refusal) q told = tt
+asked_waits h step (Some refusal) q told = (tt, tt)
 
-pub answer_waits : (h : History) (step : Step) (job : Job) → IsWaiting (with_job real_limits (stamp_of step) h job) (answer_for h step (outcome real_limits (stamp_of step) h job))
+pub answer_waits : (h : History) (step : Step) (job : Job) → (closes_before job ≡ true → h.waiting ≡ []) → IsWaiting (with_job real_limits (stamp_of step) h job) (answer_for h step (outcome real_limits (stamp_of step) h job))
 unfolding outcome with_job
-answer_waits h step (Refused refusal) = tt
-answer_waits h step (Append member clue content content_digest request by) =
+answer_waits h step (Refused refusal) settled = (tt, tt)
+answer_waits h step (Append member clue content content_digest request by) settled =
     placed_waits h step (own_refusal real_limits h (Append member clue content content_digest request by)) (append_journal h member clue content content_digest request by)
-answer_waits h step (NewMember number key by) = placed_waits h step (own_refusal real_limits h (NewMember number key by)) (member_journal (size h) number key by)
-answer_waits h step Anchor = anchor_waits h step (own_refusal real_limits h Anchor) (stamp_of step)
-answer_waits h step (Occult target leaf given) = placed_waits h step (own_refusal real_limits h (Occult target leaf given)) (occult_journal (size h) target leaf given)
-answer_waits h step (Purge p told given) = placed_waits h step (own_refusal real_limits h (Purge p told given)) (purge_journal h p given)
-answer_waits h step (Get n) = get_no_receipt (λ jsn leaf. ⊥) h n
-answer_waits h step (Prove n) = asked_waits h step (own_refusal real_limits h (Prove n)) (query.Prove n) (told_proof (OfReceipt (λ jsn leaf. ⊥)) h step n tt (λ m leaf lo hi bytes. tt))
-answer_waits h step (Extend which m) = asked_waits h step (own_refusal real_limits h (Extend which m)) (query.Extend which m) (told_extension (OfReceipt (λ jsn leaf. ⊥)) h step which m tt tt (λ tree k size root bytes. tt))
-answer_waits h step (Clue clue) = tt
-answer_waits h step Head = head_waits h step
+answer_waits h step (NewMember number key by) settled = placed_waits h step (own_refusal real_limits h (NewMember number key by)) (member_journal (size h) number key by)
+answer_waits h step Anchor settled = anchor_waits h step (own_refusal real_limits h Anchor) (stamp_of step)
+answer_waits h step (Occult target leaf given) settled = placed_waits h step (own_refusal real_limits h (Occult target leaf given)) (occult_journal (size h) target leaf given)
+answer_waits h step (Purge p told given) settled = placed_waits h step (own_refusal real_limits h (Purge p told given)) (purge_journal h p given)
+answer_waits h step (Get n) settled = get_told (IsPlain h) h n (λ why. (tt, tt)) (λ header content who. (tt, tt)) (λ header who. (tt, tt))
+answer_waits h step (Prove n) settled = asked_waits h step (own_refusal real_limits h (Prove n)) (query.Prove n) (told_proof (IsPlain h) h step n (tt, tt) (λ m leaf lo hi bytes. (tt, tt)))
+answer_waits h step (Extend tree m) settled = asked_waits h step (own_refusal real_limits h (Extend tree m)) (query.Extend tree m) (extension_waits h step tree m (settled refl))
+answer_waits h step (Clue clue) settled = (tt, tt)
+answer_waits h step Head settled = head_waits h step (settled refl)
 
 -- journals in blocks
 
@@ -158,9 +187,30 @@ pub in-first : (blocks : List (List Entry)) (xs ys : List Due) → AllIn blocks 
 in-first blocks [] ys x = tt
 in-first blocks (d ∷ xs) ys x = (x.0, in-first blocks xs ys x.1)
 
+-- a head of some journals is one of these and more
+pub head_wider : (js more : List Entry) (n : ℕ) (told : Digest) → IsHeadOf js n told → IsHeadOf (js ++ more) n told
+head_wider js more n told x = (omega (arith, x.0, length-append js more), x.1 ∙ ap digest (sym (root_kept (history [] js) (history [] (js ++ more)) more n refl x.0)))
+
+-- what holds of the head that a reply names may be said otherwise
+of_head : (P Q : ℕ → Digest → Type 0) → ((n : ℕ) (told : Digest) → P n told → Q n told) → (r : AnyReply) → OfHead P r → OfHead Q r
+of_head P Q f (reply.Placed jsn leaf block size root stamp) x = f size root x
+of_head P Q f (reply.Whole header content who) x = tt
+of_head P Q f (reply.Occulted header who) x = tt
+of_head P Q f (reply.Proof n leaf lo hi proof) x = tt
+of_head P Q f (reply.Extension Ledger m size root proof) x = f size root x
+of_head P Q f (reply.Extension Notary m size root proof) x = tt
+of_head P Q f (reply.Clue count kept) x = tt
+of_head P Q f (reply.Head id size root blocks point notary_size notary_root) x = f size root x
+of_head P Q f (reply.Refused refusal) x = tt
+
+heads_wider : (bs more : List (List Entry)) (r : AnyReply) → Begins bs more → OfHead (IsHeadOf (journals_of bs)) r → OfHead (IsHeadOf (journals_of more)) r
+heads_wider bs more r b x =
+    let all : journals_of more ≡ journals_of bs ++ journals_of b.rest = ap journals_of b.is ∙ flat_map-append (λ (block : List Entry). block) bs b.rest in
+    subst (λ js. OfHead (IsHeadOf js) r) (sym all) (of_head (IsHeadOf (journals_of bs)) (IsHeadOf (journals_of bs ++ journals_of b.rest)) (head_wider (journals_of bs) (journals_of b.rest)) r x)
+
 -- journals that stand in some blocks stand in these and more
 in_more : (blocks more : List (List Entry)) (answer : Answer) → Begins blocks more → IsIn blocks answer → IsIn more answer
-in_more blocks more (Reply reply) b x = x
+in_more blocks more (Reply reply) b x = (x.0, heads_wider blocks more reply b x.1)
 in_more blocks more (Receipt jsn leaf stamp) b x =
     ap (λ js. slice_get (digests_of js) jsn) (ap journals_of b.is ∙ flat_map-append (λ (block : List Entry). block) blocks b.rest) ∙ leaf_more (journals_of blocks) (journals_of b.rest) jsn leaf x
 
@@ -173,7 +223,7 @@ begins_closed h g x = record { rest = x.blocks; is = x.closed_are }
 
 -- once the open block has ended, the journals of all receipts that waited stand in blocks
 in_ended : (h : History) (answer : Answer) → IsWaiting h answer → IsIn (close h).closed answer
-in_ended h (Reply reply) x = x
+in_ended h (Reply reply) x = (x.0, heads_wider h.closed (close h).closed reply (begins_closed h (close h) (grows_close h)) x.1)
 in_ended h (Receipt jsn leaf stamp) x =
     let g = close h in
     let later = grows_close h in

@@ -16,6 +16,7 @@ pub mod Judgements
 pub mod Fitting
 pub mod Outcomes
 pub mod Lawful
+pub mod Behind
 pub mod Notary
 pub mod Rules
 pub mod Took

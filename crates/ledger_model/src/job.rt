@@ -1,3 +1,5 @@
+//! What each line asks for, as a job that a ledger takes, and which jobs end the open block.
+
 ghost use Rattle.std.specs.Prelude.{◌≡◌};
 ghost use Rattle.ledger_model.specs.Rules.{closes_before, closes_after};
 

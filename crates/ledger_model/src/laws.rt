@@ -1,20 +1,24 @@
-ghost use Rattle.std.specs.Prelude.{◌≡◌, ◌≢◌, ℕ, ◌+◌, ◌^◌, ◌<◌, ◌≤◌, List, ◌++◌, length, All, Some, None, slice_get, true, false};
+//! Laws of the model: what jobs and runs keep true of a history, and of its erasures, receipts, times and proofs.
+
+ghost use Rattle.std.specs.Prelude.{◌≡◌, ◌≢◌, ℕ, ◌+◌, ◌^◌, ◌<◌, ◌≤◌, List, [], ◌++◌, length, All, Option, Some, None, slice_get, true, false};
 ghost use Rattle.std.specs.List.{flat_map, list_all};
+ghost use Rattle.ledger_bytes.specs.Begins.{Begins};
 ghost use Rattle.ledger_bytes.specs.declared.digest.Digest.{Digest};
 ghost use Rattle.journal_record.specs.Entry.{Entry};
 ghost use Rattle.journal_record.specs.Header.{spelling};
 ghost use Rattle.journal_record.specs.Rules.{IsHeader};
 ghost use Rattle.journal_record.specs.declared.approval.Approval.{Approval};
 ghost use Rattle.journal_record.specs.declared.header.Kind.TheVariants as kinds;
+ghost use Rattle.journal_record.specs.declared.stamp.Stamp.{Stamp as StampRecord};
 ghost use Rattle.member_book.specs.Approvals.{approves, least_missing, shows_key};
-ghost use Rattle.script_lines.specs.Receipts.{AllFit, IsReceipted};
+ghost use Rattle.script_lines.specs.Receipts.{AllFit, AllHeads, IsReceipted};
 ghost use Rattle.script_lines.specs.declared.reply.Reply.TheVariants as replies;
 ghost use Rattle.script_lines.specs.declared.said.Which.TheVariants.{Ledger, Notary};
 ghost use Rattle.sha2.specs.Sha256.{sha256};
 ghost use Rattle.tree_model.specs.Tree.{mth};
 ghost use Rattle.time_peg.specs.Entries.{IsList, NotaryState};
 ghost use Rattle.ledger_model.specs.Bounds.{lower_journal, upper_journal, IsNearestBefore, IsNearestBehind};
-ghost use Rattle.ledger_model.specs.Dues.{dues, all_dues, due_lines, due_replies, EachCounted, HasLeaf, AllIn};
+ghost use Rattle.ledger_model.specs.Dues.{dues, all_dues, due_lines, due_replies, EachCounted, HasLeaf, IsHeadOf, AllIn};
 ghost use Rattle.ledger_model.specs.Ends.{ends_from, cut_at, Rises};
 ghost use Rattle.ledger_model.specs.Fitting.{fits_job};
 ghost use Rattle.ledger_model.specs.Genesis.{new_ledger, HasKeys};
@@ -27,7 +31,7 @@ ghost use Rattle.ledger_model.specs.Lawful.{IsLawful, IsSound};
 ghost use Rattle.ledger_model.specs.Limits.{real_limits};
 ghost use Rattle.ledger_model.specs.Members.{keys};
 ghost use Rattle.ledger_model.specs.Needs.{HaveSame};
-ghost use Rattle.ledger_model.specs.Outcomes.{view};
+ghost use Rattle.ledger_model.specs.Outcomes.{accepted_outcome, placed_as, placed_journal, view};
 ghost use Rattle.ledger_model.specs.Pegs.{Pegged};
 ghost use Rattle.ledger_model.specs.Prepared.{prepared_items, after_jobs, job_dues};
 ghost use Rattle.ledger_model.specs.Proofs.{shown_of, extension_in, list_extension};
@@ -43,6 +47,8 @@ ghost use Rattle.ledger_model.specs.declared.due.Due.{Due as AnyDue};
 ghost use Rattle.ledger_model.specs.declared.genesis.Genesis.{Genesis};
 ghost use Rattle.ledger_model.specs.declared.job.Job.{Job};
 ghost use Rattle.ledger_model.specs.declared.job.Job.TheVariants as jobs;
+ghost use Rattle.ledger_model.specs.declared.outcome.Outcome.TheVariants as outcomes;
+ghost use Rattle.ledger_model.specs.declared.outcome.PlacedJournal.{PlacedJournal};
 ghost use Rattle.ledger_model.specs.declared.view.View.TheVariants as views;
 
 /// The windows of a script are its lines in order, none lost. Each but the last has 4,096 lines or
@@ -213,6 +219,26 @@ pub fn a_written_receipt_is_kept()
         → part ++ rest ≡ due_lines f dues ++ tail → AllFit (due_replies f dues) → AllIn blocks dues
         → (IsReceipted tail jsn leaf → ⊥)
         → IsReceipted part jsn leaf → HasLeaf (journals_of blocks) jsn leaf }
+{}
+
+/// The journal that an accepted job places is the one that is told of it, with the next number; and where one is told, one is
+/// placed.
+pub fn what_is_placed_is_told()
+    ensures told { (h : History) (stamp : Option StampRecord) (job : Job) (journal : Entry)
+        → placed_journal h stamp job ≡ Some journal
+        → accepted_outcome h stamp job ≡ placed_as (size h) journal }
+    ensures placed { (h : History) (stamp : Option StampRecord) (job : Job) (placed : PlacedJournal)
+        → accepted_outcome h stamp job ≡ outcomes.Placed placed → placed_journal h stamp job ≢ None }
+{}
+
+/// Where what was written begins the lines of dues whose journals stand in some blocks, and these begin those of the history in
+/// which the lines are written, each head of the ledger that stands in a whole line is that over the first journals of these
+/// blocks: in a receipt, in the reply to `head`, and in that to `extend ledger`.
+pub fn a_written_head_is_kept()
+    ensures { (f : History) (blocks : List (List Entry)) (dues : List AnyDue) (part rest : List ℕ)
+        → f.waiting ≡ [] → Begins blocks f.closed
+        → part ++ rest ≡ due_lines f dues → AllIn blocks dues
+        → AllHeads (IsHeadOf (journals_of blocks)) part }
 {}
 
 /// Whatever lines are run: in each later lawful history, the numbers of each reply that is due are as programs have

@@ -8,6 +8,7 @@ use Rattle.ledger_bytes.specs.declared.refusal.Refusal.TheVariants as refusals
 use Rattle.script_lines.specs.Replies.{reply_words, reply_text}
 use Rattle.script_lines.specs.Words.{spaced_words}
 use Rattle.script_lines.specs.declared.reply.Reply.{Reply}
+use Rattle.script_lines.specs.declared.said.Which.TheVariants as which
 use Rattle.script_lines.specs.declared.reply.Reply.TheVariants.{Placed, Whole, Occulted, Proof, Extension, Clue, Head, Refused}
 
 -- the whole lines of some bytes, where the first of them was begun before
@@ -155,3 +156,30 @@ pub record IsLineOf (replies : List Told) (line : List ℕ) : Type 0 where
   pub told : Told
   pub one : IsOneOf replies told
   pub line_is : reply_line told.lane told.index told.reply ≡ line
+
+-- ---- heads
+
+-- the size and the root of the ledger's tree that a reply names have a property; of a reply that names none nothing is asked
+abbrev pub OfHead : (ℕ → Digest → Type 0) → Reply → Type 0
+OfHead Holds (Placed jsn leaf block size root stamp) = Holds size root
+OfHead Holds (Whole header content who) = ⊤
+OfHead Holds (Occulted header who) = ⊤
+OfHead Holds (Proof n leaf lo hi proof) = ⊤
+OfHead Holds (Extension which.Ledger m size root proof) = Holds size root
+OfHead Holds (Extension which.Notary m size root proof) = ⊤
+OfHead Holds (Clue count kept) = ⊤
+OfHead Holds (Head id size root blocks point notary_size notary_root) = Holds size root
+OfHead Holds (Refused refusal) = ⊤
+
+-- a line is that of a reply, and the head of the ledger that the reply names, where it names one, has a property
+pub record IsLineWithHead (Holds : ℕ → Digest → Type 0) (line : List ℕ) : Type 0 where
+  pub told : Told
+  pub line_is : reply_line told.lane told.index told.reply ≡ line
+  pub head : OfHead Holds told.reply
+
+-- Each head of the ledger that stands in a whole line of these bytes has a property: in a receipt, in the reply to `head`, or in
+-- that to `extend ledger`.
+-- Example: the bytes are `0.1 head I 5 R 3 0 0 E`, a newline and `0.2 ok 5`. The head of size 5 with the root R has the
+-- property; of the line that was cut nothing is said.
+abbrev pub AllHeads : (ℕ → Digest → Type 0) → List ℕ → Type 0
+AllHeads Holds bytes = (line : List ℕ) → IsAmong (whole_lines bytes) line → IsLineWithHead Holds line

@@ -1,3 +1,5 @@
+//! Reading the fields of a line, one after the other.
+
 ghost use Rattle.std.specs.Prelude.{◌≡◌, ◌≤◌, length, All, Ok, Err, IfErr, IfOk, MatchResult};
 ghost use Rattle.ledger_bytes.specs.declared.limits.TheConstants.{APPROVAL_LIMIT, NAME_LIMIT, PROOF_LIMIT};
 ghost use Rattle.script_lines.specs.Fields.{fields_of, behind, field_at, end_at, taken_field};

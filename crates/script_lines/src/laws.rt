@@ -1,3 +1,5 @@
+//! Laws of lines and replies as text: what is said is read back, and a written line is that of a reply.
+
 ghost use Rattle.std.specs.Prelude.{◌≡◌, ◌⊎◌, ℕ, ◌^◌, ◌<◌, ◌≤◌, ◌==◌, List, [], ◌∷◌, ◌++◌, Some, Ok, decimal, true, not};
 ghost use Rattle.std.specs.List.{list_all};
 ghost use Rattle.ledger_bytes.specs.declared.digest.Digest.{Digest as AnyDigest};

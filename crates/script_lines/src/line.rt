@@ -1,3 +1,5 @@
+//! The verbs of a script's lines, and what each asks for.
+
 use crate::said::{SaidApproval, Which};
 use ledger_bytes::{Bytes, Digest, Items};
 

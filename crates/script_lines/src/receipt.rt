@@ -1,3 +1,5 @@
+//! The text of receipts, which all tell the end of their block.
+
 ghost use Rattle.std.specs.Prelude.{◌≡◌, ◌++◌, IfOk, OnOk};
 ghost use Rattle.script_lines.specs.BlockEnds.{block_end, end_words};
 ghost use Rattle.script_lines.specs.Replies as spec;

@@ -1,3 +1,5 @@
+//! The replies to the lines of a script, and the text of each.
+
 ghost use Rattle.std.specs.Prelude.{◌≡◌, [], ◌++◌, codes, decimal, IfOk, OnOk, OnErr};
 ghost use Rattle.ledger_bytes.specs.Begins.{Begins};
 ghost use Rattle.script_lines.specs.Replies as spec;

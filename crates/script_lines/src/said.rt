@@ -1,3 +1,5 @@
+//! Parts of what a line says: an approval, and which of two trees is meant.
+
 use ledger_bytes::Bytes;
 
 /// An approval as a line gives it.

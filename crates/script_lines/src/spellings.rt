@@ -1,3 +1,5 @@
+//! How numbers, bytes, digests, names, approvals and time marks are read from a text.
+
 ghost use Rattle.std.specs.Prelude.{◌≡◌, ◌≤◌, ◌↔◌, length, option_map, All, IsTrue, IfOk, IfSome, IsSome};
 ghost use Rattle.std.specs.Char.{is_ascii_digit, is_ascii_hexdigit};
 ghost use Rattle.std.specs.List.{list_all};

@@ -1,3 +1,5 @@
+//! Where a separator splits a text.
+
 ghost use Rattle.std.specs.Prelude.{◌≡◌, [], ◌∷◌, ◌==◌, position, option_map, MatchOption};
 ghost use Rattle.script_lines.specs.Parts.{parts, parts_left};
 

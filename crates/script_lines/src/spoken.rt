@@ -1,3 +1,5 @@
+//! A line of a script once it was read: its lane, and what it asks for or why it is refused.
+
 ghost use Rattle.std.specs.Prelude.{◌≡◌, ◌≤◌, true};
 ghost use Rattle.script_lines.specs.Limits.{fits_what};
 

@@ -1,3 +1,5 @@
+//! Why reading a line gives nothing: it is refused, or memory is missing.
+
 ghost use Rattle.std.specs.Prelude.{◌≡◌};
 ghost use Rattle.script_lines.specs.declared.stop.Stop.TheVariants as stop;
 

@@ -1,3 +1,5 @@
+//! Reading a line of a script: its lane, its verb, and the fields that the verb has.
+
 ghost use Rattle.std.specs.Prelude.{◌≡◌, ◌≤◌, true, IfOk, IfSome};
 ghost use Rattle.script_lines.specs.Grammar.{append_at, member_at, anchor_at, occult_at, purge_at, get_at, prove_at, extend_at, clue_at, head_at, asked_by, lane_of, lane_or_zero, spoken_line};
 ghost use Rattle.script_lines.specs.Fields.{field_at};

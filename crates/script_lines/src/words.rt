@@ -1,3 +1,5 @@
+//! The words of which replies are made, and how each is written.
+
 ghost use Rattle.std.specs.Prelude.{◌≡◌, ◌∷◌, ◌++◌, codes, decimal, map, OnOk, OnErr};
 ghost use Rattle.hex.specs.Hex.{encode_lower};
 ghost use Rattle.ledger_bytes.specs.Begins.{Begins};
