@@ -77,6 +77,7 @@ applies_reading limits stamp h job query k none is told s = record {
 pub serves_after : (old new : Kept) (h g : History) → Serves old h → IsSame old new → Stands new g → Serves new g
 serves_after old new h g s same stands = record {
   stands = stands;
+  reached = same.reached ∙ s.reached;
   seen = subst (λ n. new.floor ≤ n) (sym same.point) (subst (λ n. n ≤ old.point) (sym same.floor) s.seen);
 }
 

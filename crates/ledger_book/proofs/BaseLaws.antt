@@ -44,6 +44,7 @@ pub record IsBased (b : Base) (k : Kept) : Type 0 where
   pub floor : k.floor ≡ b.point
   pub size_is : k.size ≡ b.point
   pub point : k.point ≡ 0
+  pub reached : k.reached ≡ false
   pub blocks : k.blocks ≡ b.blocks
   pub sealed : k.sealed ≡ b.point
   pub ends : k.ends ≡ []
@@ -64,6 +65,7 @@ based_behind b k base x over = record {
   floor = x.floor;
   size_is = x.size_is ∙ omega arith;
   point = x.point;
+  reached = x.reached;
   members = ap length x.members_are ∙ length-map b.keys member_with ∙ omega arith;
   clues = x.clues;
   hiders = λ n. ap (λ (l : List (ℕ × ℕ)). is_some (hider_in n l)) x.hiders;

@@ -27,11 +27,12 @@ use Rattle.ledger_model.specs.Members.{members, founders, is_member, member_of, 
 use Rattle.ledger_model.specs.Targets.{is_occult}
 use Rattle.ledger_model.proofs.PlaceLaws.{founders_kept, admitted_more, admitted_same}
 use Rattle.pseudo_genesis.specs.declared.base.Base.{Base}
-use Rattle.ledger_book.specs.Behind.{IsNextBehind, IsOwnBehind, AreBehind, first_of, count_behind, clues_behind, next_number, names}
+use Rattle.ledger_model.specs.Behind.{IsNextBehind, IsOwnBehind, AreBehind, first_of, count_behind, clues_behind, next_number, names}
 use Rattle.ledger_book.specs.Books.{Kept}
 use Rattle.ledger_book.specs.Hiders.{hider_in, AddsHider}
 use Rattle.ledger_book.specs.Reading.{HasLeaves, StandsBehind}
-use Rattle.ledger_book.specs.Steps.{IsAsBefore, point_with, with_clue_of}
+use Rattle.ledger_book.specs.Steps.{IsAsBefore, point_with, with_clue_of, reached_with}
+use Rattle.ledger_book.proofs.OwnLaws.{own_more}
 use Rattle.ledger_book.proofs.ClueLaws.{filter_takes, filter_leaves}
 use Rattle.ledger_book.proofs.TimeLaws.{points_more}
 
@@ -48,6 +49,7 @@ as_before_behind old new start es same s =
       floor = s.floor;
       size_is = s.size_is;
       point = s.point;
+      reached = s.reached;
       members = s.members;
       clues = s.clues;
       hiders = s.hiders;
@@ -165,6 +167,7 @@ pub record IsMore (old new : Kept) (start : Option Base) (es : List Entry) (x : 
   pub floor : new.floor ≡ old.floor
   pub size_is : new.size ≡ old.size + 1
   pub point : new.point ≡ point_with x old.point
+  pub reached : new.reached ≡ reached_with x old.floor old.reached
   pub members : length new.members ≡ length old.members + cond (is_member x.kind) 1 0
   pub clues : (a : Added) → clue_ok x.kind x.clue ≡ true → clue_ord_ok x.clue x.clue_ord ≡ true → index.StandsForTrails old.clues a → a.floor ≤ x.jsn → All (λ (m : Mark). m.jsn < x.jsn) a.marks → index.StandsForTrails new.clues (with_clue_of x a)
   pub hiders : AddsHider x.kind x old.hiders new.hiders
@@ -180,6 +183,7 @@ more_here old new start es j some s m = record {
   floor = m.floor ∙ s.floor;
   size_is = omega (arith, m.size_is, s.size_is, length-append es (j ∷ []));
   point = m.point ∙ ap (λ p. cond (is_purge j.header.kind) j.header.a p) s.point ∙ risen start es j.header j.header.kind m.next.own ∙ sym (points_more es j);
+  reached = m.reached ∙ ap (λ n. reached_with j.header n old.reached) s.floor ∙ ap (reached_with j.header (first_of start)) s.reached ∙ sym (own_more start es j);
   members = omega (arith, m.members, s.members, count_next start es j (omega (arith, some, s.size_is)));
   clues = subst (index.StandsForTrails new.clues) (clues_next start es j)
       (m.clues (clues_behind start es) m.next.layout.clue m.next.layout.clue_ord s.clues (omega (arith, clues_low start es, m.next.jsn)) (clues_under start es j.header.jsn s.are (sym m.next.jsn)));

@@ -94,5 +94,6 @@ module _ (k : Kept) (h : History) (p : ℕ) (s : Serves k h) (at : p ≡ model.p
           hiders = λ n le. hiders_are n le ∙ stands.hiders n (omega (arith, low, le));
           times = times_cut;
         };
+        reached = s.reached;
         seen = omega (arith, at, point_is k h s);
       }

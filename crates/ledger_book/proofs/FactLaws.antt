@@ -26,7 +26,7 @@ use Rattle.ledger_model.proofs.HideLaws.{hidden_is}
 use Rattle.merkle_batch.specs.Over.{StandsOver}
 use Rattle.merkle_batch.specs.Rows.{Levels, StandsFor}
 use Rattle.pseudo_genesis.specs.declared.base.Base.{Base}
-use Rattle.ledger_book.specs.Behind.{first_of}
+use Rattle.ledger_model.specs.Behind.{first_of}
 use Rattle.ledger_book.specs.Books.{headers}
 use Rattle.ledger_book.specs.Facts.{AreFacts, kind_in}
 use Rattle.ledger_book.specs.Reading.{HasLeaves}

@@ -37,7 +37,7 @@ use Rattle.ledger_model.proofs.KeepLaws.{genesis_lawful}
 use Rattle.ledger_model.specs.Targets.{is_occult}
 use Rattle.ledger_model.proofs.HideLaws.{hider_is}
 use Rattle.ledger_book.specs.Hiders.{Indexes, hider_in}
-use Rattle.ledger_book.specs.Behind.{IsOwnBehind}
+use Rattle.ledger_model.specs.Behind.{IsOwnBehind}
 use Rattle.ledger_book.specs.Reading.{StandsBehind}
 use Rattle.ledger_book.specs.Books.{Kept, Serves, aged_members}
 use Rattle.ledger_model.specs.Bases.{clues_added}
@@ -49,6 +49,7 @@ abbrev pub first_kept : Limits → Digest → List ℕ → List Member → index
 first_kept limits leaf ends members clues hiders times headers tree = record {
   limits = limits;
   floor = 0;
+  reached = true;
   size = 1;
   point = 0;
   blocks = 1;
@@ -128,6 +129,7 @@ module _ (header : Header) (operator regulator : Digest) (j : Entry) (kind_is : 
           hiders = subst (λ (x : List (ℕ × ℕ)). Indexes x 0 (begun_with j)) (sym bs) first_hiders;
           times = ts ∙ sym first_times;
         };
+        reached = refl;
         seen = omega arith;
       }
 
@@ -155,6 +157,7 @@ module _ (header : Header) (j : Entry) (kind_is : header.kind ≡ kind.Genesis) 
     floor = refl;
     size_is = refl;
     point = sym (ap (λ (k : Kind). fold max 0 (cond (is_purge k) j.header.a 0 ∷ [])) sort);
+    reached = refl;
     members = ap length m ∙ ap (λ (k : Kind). length (book.founders operator regulator ++ map member_of (cond (is_member k) (j ∷ []) []))) (sym sort);
     clues = subst (index.StandsForTrails clues) (sym (marks_same 0 [] j (ap not (subst (λ k. clue_ok k j.header.clue ≡ true) sort (subst IsHeader (sym is) layout).clue)))) c;
     hiders = λ n. ap (λ (x : List (ℕ × ℕ)). is_some (hider_in n x)) bs ∙ sym (ap (λ (k : Kind). (is_occult k && j.header.a == n) || false) sort);

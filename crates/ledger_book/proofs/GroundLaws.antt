@@ -27,7 +27,7 @@ use Rattle.ledger_model.specs.Limits.{real_limits}
 use Rattle.ledger_model.specs.Targets.{is_hidden, kind_at, leaf_at}
 use Rattle.ledger_model.proofs.HideLaws.{hidden_is, hider_is, hider_of}
 use Rattle.ledger_model.proofs.MarkLaws.{marks}
-use Rattle.ledger_book.specs.Behind.{clues_behind, names, IsRecordBehind, IsOwnBehind, IsNextBehind}
+use Rattle.ledger_model.specs.Behind.{clues_behind, names, IsRecordBehind, IsOwnBehind, IsNextBehind}
 
 -- whether a journal is hidden, as the numbers of those that hide others tell it
 pub found_named : (n : ℕ) (es : List Entry) → is_some (hider_of es n) ≡ list_any (names n) es

@@ -20,4 +20,5 @@ mod TellLaws
 mod NextLaws
 mod PurgeLaws
 pub mod GroundLaws
+pub mod OwnLaws
 pub mod SeenLaws

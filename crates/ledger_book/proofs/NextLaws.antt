@@ -25,7 +25,7 @@ use Rattle.ledger_model.specs.Targets.{kind_at}
 use Rattle.ledger_model.proofs.AcceptedLaws.{IsNone}
 use Rattle.pseudo_genesis.specs.Bases.{AreStates}
 use Rattle.pseudo_genesis.specs.declared.base.Base.{Base}
-use Rattle.ledger_book.specs.Behind.{IsNextBehind, IsOwnBehind, IsOccultBehind, HasRoomFor, BeginsWell, ordinal_in, clues_behind, first_of, next_number}
+use Rattle.ledger_model.specs.Behind.{IsNextBehind, IsOwnBehind, IsOccultBehind, HasRoomFor, BeginsWell, ordinal_in, clues_behind, first_of, next_number}
 use Rattle.ledger_book.specs.Books.{Kept, Serves}
 use Rattle.ledger_book.specs.Facts.{AreFactsBehind}
 use Rattle.ledger_book.specs.Reading.{StandsBehind}

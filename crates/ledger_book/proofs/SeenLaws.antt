@@ -1,5 +1,5 @@
--- Lemmas on a header that is the next one of a history: it is so for who sees only what stands behind a base of it; once a purge
--- up to the base was seen, it is the other way round too.
+-- Lemmas on a header that is the next one of a history: it is so for who sees only what stands behind a base of it; once the
+-- purge to the base's own point was seen, it is the other way round too.
 use Rattle.std.specs.List.{list_any, AllByRecursion}
 use Rattle.std.specs.Prelude.{Bool, true, false, cond, Some, None, get_or, filter, nat_le, bytes_eq, zero, suc, not, T}
 use Rattle.std.specs.FinMap.{entries, is_sorted, entries_sorted}
@@ -44,7 +44,8 @@ use Rattle.ledger_model.specs.Members.{founders, admits, member_of, admitted_mem
 use Rattle.ledger_model.specs.Targets.{is_hidden, kind_at, leaf_at}
 use Rattle.ledger_model.proofs.HideLaws.{none_named}
 use Rattle.pseudo_genesis.specs.declared.base.Base.{Base}
-use Rattle.ledger_book.specs.Behind.{names, count_behind, clues_behind, IsRecordBehind, IsOwnBehind, BeginsWell, IsNextBehind, AreBehind}
+use Rattle.ledger_model.specs.Behind.{names, count_behind, clues_behind, IsRecordBehind, IsOwnBehind, BeginsWell, IsNextBehind, AreBehind, has_own_purge}
+use Rattle.ledger_book.proofs.OwnLaws.{own_least, false_where}
 use Rattle.ledger_book.proofs.GroundLaws.{full, no_room, numbers_same, last_same, clues_same, found_named, hidden_named, there}
 use Rattle.ledger_model.specs.Lawful.{AreLawful, AreNext, IsFounded, IsNext, IsNextOf, IsNextRecord}
 use Rattle.ledger_book.proofs.TimeLaws.{drop_points, from_later}
@@ -220,7 +221,7 @@ module _ (h : History) (b : Base) (lawful : AreLawful (journals h)) (some : 1 �
   own_behind x kind.Time own = tt
   own_behind x kind.Occult own = record {
     shown = right_of (list_any (names x.a) (take p js)) (list_any (names x.a) es) (sym (hidden_split x.a) ∙ own.shown);
-    front = λ low. omega (arith, low, own.kept, low_points);
+    front = λ low. false_where (has_own_purge (Some b) es) (λ there. omega (arith, low, own.kept, low_points, own_least (Some b) es there));
     kept = λ le. omega (arith, own.kept, low_points);
     target_is = λ le. sym (kind_behind x.a le) ∙ own.target_is;
     leaf_is = λ le. own.leaf_is ∙ leaf_behind x.a le;
@@ -243,9 +244,12 @@ module _ (h : History) (b : Base) (lawful : AreLawful (journals h)) (some : 1 �
     own = own_behind x x.kind next.own;
   }
 
-  -- ---- once a purge up to the base was seen
+  -- ---- once the purge to the base's own point was seen
 
-  module _ (seen : p ≤ greatest_point es) where
+  module _ (reached : has_own_purge (Some b) es ≡ true) where
+    seen : p ≤ greatest_point es
+    seen = own_least (Some b) es reached
+
     point_is : greatest_point es ≡ point h
     unfolding seen_point
     point_is = later_seen h p lawful seen
@@ -284,7 +288,7 @@ module _ (h : History) (b : Base) (lawful : AreLawful (journals h)) (some : 1 �
       where
         by_low : (v : Bool) → nat_le p x.a ≡ v → p ≤ x.a
         by_low true is = leb-true p x.a is
-        by_low false is = absurd (omega (arith, own.front (leb-false p x.a is), seen))
+        by_low false is = absurd (true≢false (sym reached ∙ own.front (leb-false p x.a is)))
     own_next x kind.Purge own =
         let le : p ≤ x.a = omega (arith, own.above, seen) in
         record { above = omega (arith, own.above, point_is); before = there js x.a kind.Time (kind_behind x.a le ∙ own.target_is le) refl; target_is = kind_behind x.a le ∙ own.target_is le }

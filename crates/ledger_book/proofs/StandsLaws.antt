@@ -1,5 +1,5 @@
 -- Lemmas on what a book keeps of a history.
-use Rattle.std.proofs.Common.{◌≡◌, ℕ, ◌+◌, ◌<◌, ◌≤◌, true, false, cond, not, List, [], ◌∷◌, ◌++◌, length, map, drop, Option, Some, refl, ap, sym, subst, ◌∙◌, arith, append_assoc, append-nil, length-append, take}
+use Rattle.std.proofs.Common.{◌≡◌, ℕ, ◌+◌, ◌<◌, ◌≤◌, Bool, true, false, cond, not, List, [], ◌∷◌, ◌++◌, length, map, drop, Option, Some, refl, ap, sym, subst, ◌∙◌, arith, append_assoc, append-nil, length-append, take}
 use Rattle.std.specs.Prelude.{All, filter, nat_lt, slice_get}
 use Rattle.std.specs.Option.{is_some}
 use Rattle.std.proofs.lemmas.Bool.{le-leb, lt-leb, lt-ltb, le-ltb}
@@ -190,12 +190,12 @@ first_kept [] more some = absurd (omega (arith, some))
 first_kept (j ∷ js) more some = refl
 
 -- a journal more in the open block
-stands_wider : (k : Kept) (h : History) (j : Entry) (ms : List Member) (t : index.KeptTrails) (by : List (ℕ × ℕ)) (rows : Levels) → Stands k h → MayPlace h j.header → AddsHider j.header.kind j.header k.hiders by
+stands_wider : (k : Kept) (h : History) (j : Entry) (reached : Bool) (ms : List Member) (t : index.KeptTrails) (by : List (ℕ × ℕ)) (rows : Levels) → Stands k h → MayPlace h j.header → AddsHider j.header.kind j.header k.hiders by
     → aged_members k.floor ms ≡ aged_members k.floor (members (wider h j)) → index.StandsForTrails t (clues_added k.floor (journals (wider h j)))
     → StandsFor sha256 rows (leaf_digests h ++ leaf_digest j ∷ [])
-    → Stands (record k { size = k.size + 1; point = point_with j.header k.point; members = ms; clues = t; hiders = by; times = with_time_of k.size j.header k.times; headers = k.headers ++ j.header ∷ []; tree = rows }) (wider h j)
+    → Stands (record k { reached = reached; size = k.size + 1; point = point_with j.header k.point; members = ms; clues = t; hiders = by; times = with_time_of k.size j.header k.times; headers = k.headers ++ j.header ∷ []; tree = rows }) (wider h j)
 unfolding model.seen_point model.id
-stands_wider k h j ms t by rows s next hides same clues leaves =
+stands_wider k h j reached ms t by rows s next hides same clues leaves =
     let e = journals_wider h j in
     let some = some_journal (journals h) s.lawful in
     let below : length (journals_of h.closed) ≤ model.size h = omega (arith, length-append (journals_of h.closed) h.waiting) in
@@ -257,21 +257,21 @@ pub record Grown (k : Kept) (hs : List Header) (rows : Levels) (ends : List ℕ)
   pub tip_is : IsLeafOf header tip
 
 -- what a book keeps behind a journal
-abbrev pub kept_with : Kept → ℕ → List Member → index.KeptTrails → List (ℕ × ℕ) → List TimeMark → List Header → Levels → List ℕ → Kept
-kept_with k point ms t by times hs rows ends = record k { size = k.size + 1; point = point; ends = ends; members = ms; clues = t; hiders = by; times = times; headers = hs; tree = rows }
+abbrev pub kept_with : Kept → Bool → ℕ → List Member → index.KeptTrails → List (ℕ × ℕ) → List TimeMark → List Header → Levels → List ℕ → Kept
+kept_with k reached point ms t by times hs rows ends = record k { reached = reached; size = k.size + 1; point = point; ends = ends; members = ms; clues = t; hiders = by; times = times; headers = hs; tree = rows }
 
 -- with lists that are equal to those
-grown : (k : Kept) (g : History) (j : Entry) (point : ℕ) (ms : List Member) (t : index.KeptTrails) (by : List (ℕ × ℕ)) (times : List TimeMark) (hs : List Header) (rows : Levels) (ends : List ℕ) (header : Header)
+grown : (k : Kept) (g : History) (j : Entry) (reached : Bool) (point : ℕ) (ms : List Member) (t : index.KeptTrails) (by : List (ℕ × ℕ)) (times : List TimeMark) (hs : List Header) (rows : Levels) (ends : List ℕ) (header : Header)
     → j.header ≡ header → point ≡ point_with header k.point → times ≡ with_time_of k.size header k.times → hs ≡ k.headers ++ header ∷ [] → ends ≡ k.ends
-    → Stands (kept_with k (point_with j.header k.point) ms t by (with_time_of k.size j.header k.times) (k.headers ++ j.header ∷ []) rows k.ends) g → Stands (kept_with k point ms t by times hs rows ends) g
-grown k g j point ms t by times hs rows ends header is at times_are heads_are ends_are s =
+    → Stands (kept_with k reached (point_with j.header k.point) ms t by (with_time_of k.size j.header k.times) (k.headers ++ j.header ∷ []) rows k.ends) g → Stands (kept_with k reached point ms t by times hs rows ends) g
+grown k g j reached point ms t by times hs rows ends header is at times_are heads_are ends_are s =
     let heads : k.headers ++ j.header ∷ [] ≡ hs = ap (λ x. k.headers ++ x ∷ []) is ∙ sym heads_are in
     let timed : with_time_of k.size j.header k.times ≡ times = ap (λ x. with_time_of k.size x k.times) is ∙ sym times_are in
     let pointed : point_with j.header k.point ≡ point = ap (λ x. point_with x k.point) is ∙ sym at in
-    subst (λ (x : List ℕ). Stands (kept_with k point ms t by times hs rows x) g) (sym ends_are)
-    (subst (λ (x : List TimeMark). Stands (kept_with k point ms t by x hs rows k.ends) g) timed
-    (subst (λ (x : List Header). Stands (kept_with k point ms t by (with_time_of k.size j.header k.times) x rows k.ends) g) heads
-    (subst (λ (x : ℕ). Stands (kept_with k x ms t by (with_time_of k.size j.header k.times) (k.headers ++ j.header ∷ []) rows k.ends) g) pointed s)))
+    subst (λ (x : List ℕ). Stands (kept_with k reached point ms t by times hs rows x) g) (sym ends_are)
+    (subst (λ (x : List TimeMark). Stands (kept_with k reached point ms t by x hs rows k.ends) g) timed
+    (subst (λ (x : List Header). Stands (kept_with k reached point ms t by (with_time_of k.size j.header k.times) x rows k.ends) g) heads
+    (subst (λ (x : ℕ). Stands (kept_with k reached x ms t by (with_time_of k.size j.header k.times) (k.headers ++ j.header ∷ []) rows k.ends) g) pointed s)))
 
 module _ (k : Kept) (h : History) (j : Entry) (header : Header) (s : Stands k h) (is : j.header ≡ header) (next : MayPlace h header) where
   placing : MayPlace h j.header
@@ -290,18 +290,18 @@ module _ (k : Kept) (h : History) (j : Entry) (header : Header) (s : Stands k h)
       subst (λ d. StandsFor sha256 rows (leaf_digests h ++ d ∷ [])) same (more (leaf_digests h) s.tree.leaves)
 
   -- a journal that is no new member
-  pub stands_record : (point : ℕ) (t : index.KeptTrails) (by : List (ℕ × ℕ)) (times : List TimeMark) (hs : List Header) (rows : Levels) (ends : List ℕ) (tip : Digest) → is_member header.kind ≡ false → AddsClue k.clues t header → AddsHider header.kind header k.hiders by
-      → point ≡ point_with header k.point → times ≡ with_time_of k.size header k.times → Grown k hs rows ends header tip → Stands (kept_with k point k.members t by times hs rows ends) (wider h j)
-  stands_record point t by times hs rows ends tip content adds hides at timed more =
+  pub stands_record : (reached : Bool) (point : ℕ) (t : index.KeptTrails) (by : List (ℕ × ℕ)) (times : List TimeMark) (hs : List Header) (rows : Levels) (ends : List ℕ) (tip : Digest) → is_member header.kind ≡ false → AddsClue k.clues t header → AddsHider header.kind header k.hiders by
+      → point ≡ point_with header k.point → times ≡ with_time_of k.size header k.times → Grown k hs rows ends header tip → Stands (kept_with k reached point k.members t by times hs rows ends) (wider h j)
+  stands_record reached point t by times hs rows ends tip content adds hides at timed more =
       let kind_is : is_member j.header.kind ≡ false = ap (λ (x : Header). is_member x.kind) is ∙ content in
       let told = adds (clues_added k.floor (journals h)) next.layout.clue next.layout.clue_ord s.clues (omega (arith, low, next.jsn)) (subst (λ n. All (λ (m : Mark). m.jsn < n) (clues_added k.floor (journals h)).marks) (sym next.jsn) (marks_below k.floor (journals h) s.lawful)) in
       let clues : index.StandsForTrails t (clues_added k.floor (journals (wider h j))) = subst (index.StandsForTrails t) (ap (λ (x : Header). with_clue_of x (clues_added k.floor (journals h))) (sym is) ∙ wider_clues k.floor h j) told in
-      grown k (wider h j) j point k.members t by times hs rows ends header is at timed more.headers_are more.ends_are
-      (stands_wider k h j k.members t by rows s placing (subst (λ (x : Header). AddsHider x.kind x k.hiders by) (sym is) hides) (s.members ∙ ap (aged_members k.floor) (sym (wider_members_same h j some_yet kind_is))) clues (leaf_more rows tip more.tip_is more.leaves_are))
+      grown k (wider h j) j reached point k.members t by times hs rows ends header is at timed more.headers_are more.ends_are
+      (stands_wider k h j reached k.members t by rows s placing (subst (λ (x : Header). AddsHider x.kind x k.hiders by) (sym is) hides) (s.members ∙ ap (aged_members k.floor) (sym (wider_members_same h j some_yet kind_is))) clues (leaf_more rows tip more.tip_is more.leaves_are))
 
   -- a new member
   pub stands_member : (ms : List Member) (hs : List Header) (rows : Levels) (ends : List ℕ) (tip : Digest) → header.kind ≡ kind.Member → ms ≡ k.members ++ record { key = header.link; jsn = header.jsn } ∷ []
-      → Grown k hs rows ends header tip → Stands (kept_with k k.point ms k.clues k.hiders k.times hs rows ends) (wider h j)
+      → Grown k hs rows ends header tip → Stands (kept_with k k.reached k.point ms k.clues k.hiders k.times hs rows ends) (wider h j)
   stands_member ms hs rows ends tip member added more =
       let kind_is : j.header.kind ≡ kind.Member = ap (λ (x : Header). x.kind) is ∙ member in
       let none_j : is_no_clue j.header.clue ≡ true = ap (λ (x : Header). is_no_clue x.clue) is ∙ subst (λ (x : Kind). clue_ok x header.clue ≡ true) member next.layout.clue in
@@ -312,8 +312,8 @@ module _ (k : Kept) (h : History) (j : Entry) (header : Header) (s : Stands k h)
       ∙ ap (aged_members k.floor) (sym (wider_members_more h j some_yet (ap is_member kind_is))) in
       let timed : k.times ≡ with_time_of k.size header k.times = sym (ap (λ (x : Kind). cond (is_time x) (k.times ++ record { jsn = k.size; index = header.a; time = header.b } ∷ []) (cond (is_purge x) (marks_from header.a k.times) k.times)) member) in
       let at : k.point ≡ point_with header k.point = sym (ap (λ (x : Kind). cond (is_purge x) header.a k.point) member) in
-      grown k (wider h j) j k.point ms k.clues k.hiders k.times hs rows ends header is at timed more.headers_are more.ends_are
-      (stands_wider k h j ms k.clues k.hiders rows s placing (subst (λ (x : Kind). AddsHider x j.header k.hiders k.hiders) (sym kind_is) refl) joined (subst (index.StandsForTrails k.clues) same s.clues) (leaf_more rows tip more.tip_is more.leaves_are))
+      grown k (wider h j) j k.reached k.point ms k.clues k.hiders k.times hs rows ends header is at timed more.headers_are more.ends_are
+      (stands_wider k h j k.reached ms k.clues k.hiders rows s placing (subst (λ (x : Kind). AddsHider x j.header k.hiders k.hiders) (sym kind_is) refl) joined (subst (index.StandsForTrails k.clues) same s.clues) (leaf_more rows tip more.tip_is more.leaves_are))
 
 -- more room for the tree changes nothing
 pub as_before_stands : (old new : Kept) (h : History) → IsAsBefore old new → Stands old h → Stands new h
@@ -332,5 +332,6 @@ as_before_stands old new h same s =
 pub as_before_serves : (old new : Kept) (h : History) → IsAsBefore old new → Serves old h → Serves new h
 as_before_serves old new h same s = record {
   stands = as_before_stands old new h same s.stands;
+  reached = ap (λ (k : Kept). k.reached) same.kept ∙ s.reached;
   seen = subst (λ (k : Kept). k.floor ≤ k.point) (sym same.kept) s.seen;
 }

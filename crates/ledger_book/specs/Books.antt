@@ -1,5 +1,5 @@
 -- What a book keeps of a history, and what it is to stand for one.
-use Rattle.std.specs.Prelude.{◌≡◌, ℕ, ◌≤◌, if◌then◌else◌, List, map, filter, drop, length, nat_lt}
+use Rattle.std.specs.Prelude.{◌≡◌, ℕ, ◌≤◌, Bool, true, if◌then◌else◌, List, map, filter, drop, length, nat_lt}
 use Rattle.sha2.specs.Sha256.{sha256}
 use Rattle.ledger_bytes.specs.declared.digest.Digest.{Digest}
 use Rattle.ledger_bytes.specs.declared.mark.TimeMark.{TimeMark}
@@ -47,6 +47,8 @@ pub record Kept : Type 0 where
   pub limits : Limits
   -- the first journal whose header is kept
   pub floor : ℕ
+  -- whether the purge to that journal is kept, or the journal is the first of all
+  pub reached : Bool
   pub size : ℕ
   pub point : ℕ
   -- how many blocks have ended, how many journals they hold, and the sizes at which those above the floor ended
@@ -95,4 +97,5 @@ pub record Stands (k : Kept) (h : History) : Type 0 where
 -- the book stands for a history, and has seen the purge up to its first header, so that it can answer for it
 pub record Serves (k : Kept) (h : History) : Type 0 where
   pub stands : Stands k h
+  pub reached : k.reached ≡ true
   pub seen : k.floor ≤ k.point

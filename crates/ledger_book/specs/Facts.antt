@@ -11,7 +11,7 @@ use Rattle.erase_rules.specs.declared.occult.OccultFacts.{OccultFacts}
 use Rattle.ledger_model.specs.History.{History, history, size, point, greatest_point}
 use Rattle.ledger_model.specs.Targets.{hider, kind_at, leaf_at}
 use Rattle.pseudo_genesis.specs.declared.base.Base.{Base}
-use Rattle.ledger_book.specs.Behind.{first_of, next_number, names}
+use Rattle.ledger_model.specs.Behind.{first_of, next_number, names}
 
 -- the kind that header n tells, where there is one
 abbrev pub kind_in : List Header → ℕ → Kind

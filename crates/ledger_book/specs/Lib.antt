@@ -1,6 +1,5 @@
 pub mod Hiders
 pub mod Books
-pub mod Behind
 pub mod Facts
 pub mod Reading
 pub mod Basing

@@ -14,7 +14,7 @@ use Rattle.ledger_model.specs.History.{History, journals, size, greatest_point, 
 use Rattle.ledger_model.specs.Lawful.{AreLawful}
 use Rattle.pseudo_genesis.specs.Bases.{IsBase}
 use Rattle.pseudo_genesis.specs.declared.base.Base.{Base}
-use Rattle.ledger_book.specs.Behind.{AreBehind, first_of, count_behind, clues_behind, next_number, names}
+use Rattle.ledger_model.specs.Behind.{AreBehind, first_of, count_behind, clues_behind, has_own_purge, next_number, names}
 use Rattle.ledger_book.specs.Books.{Kept}
 use Rattle.ledger_book.specs.Hiders.{hider_in}
 
@@ -40,6 +40,7 @@ pub record StandsBehind (k : Kept) (start : Option Base) (journals : List Entry)
   pub floor : k.floor ≡ first_of start
   pub size_is : k.size ≡ next_number start journals
   pub point : k.point ≡ greatest_point journals
+  pub reached : k.reached ≡ has_own_purge start journals
   pub members : length k.members ≡ count_behind start journals
   pub clues : index.StandsForTrails k.clues (clues_behind start journals)
   pub hiders : (n : ℕ) → is_some (hider_in n k.hiders) ≡ list_any (names n) journals

@@ -8,7 +8,7 @@ use Rattle.journal_record.specs.declared.header.Header.{Header}
 use Rattle.ledger_model.specs.History.{History, history}
 use Rattle.ledger_model.specs.Outcomes.{with_waiting}
 use Rattle.pseudo_genesis.specs.declared.base.Base.{Base}
-use Rattle.ledger_book.specs.Behind.{IsNextBehind}
+use Rattle.ledger_model.specs.Behind.{IsNextBehind}
 use Rattle.ledger_book.specs.Books.{Kept, Stands, Serves}
 use Rattle.ledger_book.specs.Reading.{StandsBehind}
 use Rattle.ledger_book.specs.Steps.{MayPlace}

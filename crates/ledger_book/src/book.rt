@@ -1,3 +1,5 @@
+//! The book: what is kept in memory of a ledger's history to judge jobs, to place journals and to end blocks.
+
 ghost use Rattle.std.specs.Prelude.{◌≡◌, ◌+◌, ◌-◌, ◌^◌, ◌≤◌, IfOk, IfNone, IfSome, IsSome, ◌<◌, [], length, nat_le, slice_get, option_copied, List, Option, None, if◌then◌else◌};
 ghost use Rattle.std.specs.Option.{option_map};
 ghost use Rattle.sha2.specs.Sha256.{sha256};
@@ -49,6 +51,8 @@ pub struct Book {
     limits: Limits,
     /// The first journal whose header is kept.
     floor: u64,
+    /// Whether the purge to that journal is kept, or the journal is the first of all.
+    reached: bool,
     size: u64,
     point: u64,
     /// How many blocks have ended.
@@ -80,6 +84,7 @@ impl Model for Book {
     ghost view = { λ b. record {
       limits = b.limits;
       floor = b.floor;
+      reached = b.reached;
       size = b.size;
       point = b.point;
       blocks = b.blocks;
@@ -230,6 +235,14 @@ impl Book {
         self.floor
     }
 
+    /// Whether the purge to the first kept journal is kept, or that journal is the first of all. Behind a base it isn't, until
+    /// that purge was placed again.
+    pub fn reached(&self) -> bool
+        ensures { result ≡ self.now.reached }
+    {
+        self.reached
+    }
+
     /// How many journals stand in blocks that have ended.
     pub fn sealed_size(&self) -> u64
         ensures value { result ≡ self.now.sealed }
@@ -290,6 +303,7 @@ impl Book {
 
     /// The tree over all journals, which keeps their leaves from the first kept header on.
     pub fn tree(&self) -> &Tree<Sha>
+        ensures is { result.now ≡ self.now.tree }
         ensures stands { (h : History) → Stands self.now h
             → StandsFor sha256 result.now (leaf_digests h) }
         ensures floor { result.now.floor ≡ self.now.floor }

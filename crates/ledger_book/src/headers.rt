@@ -1,3 +1,5 @@
+//! The header of each kind of journal, as it is made when the journal is placed.
+
 ghost use Rattle.std.specs.Prelude.{◌≡◌, ◌<◌, ◌^◌, length, ℕ, List, All};
 ghost use Rattle.ledger_model.specs.Anchors as anchors;
 ghost use Rattle.ledger_model.specs.Appends as appends;

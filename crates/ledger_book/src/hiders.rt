@@ -1,3 +1,5 @@
+//! Which journals have their contents hidden, and by which occults.
+
 ghost use Rattle.std.specs.Prelude.{◌≡◌, ℕ, ◌≤◌, [], OnOk, OnErr};
 ghost use Rattle.ledger_book.specs.Hiders.{hider_in, Puts};
 

@@ -47,6 +47,7 @@ impl Book {
         Ok(Book {
             limits,
             floor: base.point,
+            reached: false,
             size: base.point,
             point: 0,
             blocks: base.blocks,

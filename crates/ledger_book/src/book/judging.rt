@@ -1,3 +1,5 @@
+//! Why a record, a new member, an anchor or an occult is refused.
+
 ghost use Rattle.std.specs.Prelude.{◌≡◌, ◌-◌, ◌<◌, ◌≤◌, ◌^◌, ◌↔◌, List, [], ◌∷◌, length, IsTrue, IfErr, IfNone, IfOk, IfSome, OnOk, Option, None, Some};
 ghost use Rattle.ledger_bytes.specs.declared.limits.TheConstants.{MEMBER_LIMIT};
 ghost use Rattle.std.specs.Option.{is_none};
@@ -12,7 +14,7 @@ ghost use Rattle.ledger_model.specs.History as model;
 ghost use Rattle.ledger_model.specs.History.{History, history};
 ghost use Rattle.ledger_model.specs.Targets.{leaf_at};
 ghost use Rattle.pseudo_genesis.specs.declared.base.Base.{Base};
-ghost use Rattle.ledger_book.specs.Behind.{HasRoomFor, first_of, ordinal_in};
+ghost use Rattle.ledger_model.specs.Behind.{HasRoomFor, first_of, ordinal_in};
 ghost use Rattle.ledger_model.specs.Judgements.{fullness, hard_fullness, unknown_in, wrong_key_in, clues_full, append_judgements, member_judgements, occult_judgements};
 ghost use Rattle.member_book.specs.Erasures.{first_refusal};
 ghost use Rattle.ledger_model.specs.Limits.{AreWithin, real_limits};

@@ -1,3 +1,5 @@
+//! How a journal is placed in the open block, and what the book notes of it.
+
 ghost use Rattle.std.specs.Prelude.{◌≡◌, ◌+◌, ◌-◌, ◌^◌, ◌<◌, ◌≤◌, List, [], ◌∷◌, ◌++◌, All, true, false, Option, Some, length, OnOk, OnErr};
 ghost use Rattle.std.specs.List.{AllByRecursion};
 ghost use Rattle.ledger_bytes.specs.declared.limits.TheConstants.{MEMBER_LIMIT};
@@ -14,11 +16,11 @@ ghost use Rattle.ledger_model.specs.Limits.{real_limits};
 ghost use Rattle.ledger_model.specs.Members.{is_member};
 ghost use Rattle.ledger_model.specs.Outcomes.{with_waiting};
 ghost use Rattle.pseudo_genesis.specs.declared.base.Base.{Base};
-ghost use Rattle.ledger_book.specs.Behind.{IsNextBehind, ordinal_in, previous_in};
+ghost use Rattle.ledger_model.specs.Behind.{IsNextBehind, ordinal_in, previous_in};
 ghost use Rattle.ledger_book.specs.Books.{Stands};
 ghost use Rattle.ledger_book.specs.Reading.{StandsBehind};
 ghost use Rattle.ledger_book.specs.Hiders.{AddsHider};
-ghost use Rattle.ledger_book.specs.Steps.{IsSame, IsAsBefore, MayPlace, IsLeafOf, OpenGathers, point_with, with_clue_of, with_time_of};
+ghost use Rattle.ledger_book.specs.Steps.{IsSame, IsAsBefore, MayPlace, IsLeafOf, OpenGathers, point_with, reached_with, with_clue_of, with_time_of};
 
 use super::Book;
 use crate::headers::Numbers;
@@ -81,6 +83,8 @@ impl Book {
         ensures err { OnErr result (IsAsBefore self.old self.new) }
         ensures floor { (self.new.limits ≡ self.old.limits) × (self.new.floor ≡ self.old.floor) }
         ensures point { OnOk result (self.new.point ≡ point_with header.now self.old.point) }
+        ensures reached { OnOk result (self.new.reached
+            ≡ reached_with header.now self.old.floor self.old.reached) }
         ensures same { is_purge header.now.kind ≡ false → IsSame self.old self.new }
     {
         self.headers.reserve(1)?;
@@ -97,6 +101,7 @@ impl Book {
         self.headers.push_reserved(*header);
         self.size += 1;
         self.point = point_behind(header, self.point);
+        self.reached = reached_behind(header, self.floor, self.reached);
         Ok(())
     }
 
@@ -142,6 +147,13 @@ fn point_behind(header: &Header, point: u64) -> u64
     } else {
         point
     }
+}
+
+// Whether the purge to a floor is kept behind a journal with this header, where it was kept before or not.
+fn reached_behind(header: &Header, floor: u64, reached: bool) -> bool
+    ensures { result ≡ reached_with header.now floor reached }
+{
+    (header.kind == Kind::Purge && header.a == floor) || reached
 }
 
 // Adds a journal, which has this number, to the times where it is a time journal, to the hiders where it is an occult, and

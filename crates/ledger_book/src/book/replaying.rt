@@ -1,3 +1,5 @@
+//! How a book is filled from a file: each journal that was read is placed again, where it is the next one.
+
 ghost use Rattle.std.specs.Prelude.{◌≡◌, ◌<◌, ◌≤◌, ◌↔◌, List, [], ◌∷◌, length, Option, None, IsTrue, IfOk, OnErr};
 ghost use Rattle.ledger_bytes.specs.declared.limits.TheConstants.{MEMBER_LIMIT};
 ghost use Rattle.journal_record.specs.Entry.{Entry};
@@ -7,7 +9,7 @@ ghost use Rattle.ledger_model.specs.History.{History};
 ghost use Rattle.ledger_model.specs.Lawful.{IsNextOf, IsNextOccult, IsNextPurge, IsNextRecord};
 ghost use Rattle.ledger_model.specs.Limits.{AreWithin, real_limits};
 ghost use Rattle.pseudo_genesis.specs.declared.base.Base.{Base};
-ghost use Rattle.ledger_book.specs.Behind.{IsNextBehind, IsOwnBehind, IsRecordBehind, IsOccultBehind, IsPurgeBehind};
+ghost use Rattle.ledger_model.specs.Behind.{IsNextBehind, IsOwnBehind, IsRecordBehind, IsOccultBehind, IsPurgeBehind};
 ghost use Rattle.ledger_book.specs.Books.{Stands, Serves};
 ghost use Rattle.ledger_book.specs.Reading.{StandsBehind};
 ghost use Rattle.ledger_book.specs.Replaying.{IsFirst, begun_with, Replays};
@@ -59,6 +61,7 @@ impl Book {
         Ok(Book {
             limits,
             floor: 0,
+            reached: true,
             size: 1,
             point: 0,
             blocks: 1,
@@ -171,7 +174,7 @@ impl Book {
     }
 
     // Whether an occult is the next one, where its number is. Nothing but its hider is known of a target in front of the
-    // first header that is kept.
+    // first header that is kept, until the purge to that journal tells that it is gone.
     fn is_next_occult(&self, header: &Header) -> bool
         ensures next { (h : History) → Serves self.now h → IsTrue result ↔ IsNextOccult h header.now }
         ensures behind { (start : Option Base) (journals : List Entry)
@@ -180,7 +183,7 @@ impl Book {
     {
         let target = header.a;
         if target < self.floor {
-            if self.point >= self.floor {
+            if self.reached {
                 return false;
             }
             return self.hiders.of(target).is_none();

@@ -7,6 +7,7 @@ use Rattle.ledger_model.specs.declared.job.Job.TheVariants.{Purge}
 use Rattle.ledger_book.specs.Books.{Kept}
 use Rattle.ledger_book.proofs.ApplyLaws.{applies_refused, applies_placed}
 use Rattle.ledger_book.proofs.PurgeLaws.{purge_kind, purge_bounds, purge_may, purge_point}
+use Rattle.ledger_book.proofs.OwnLaws.{reached_still}
 use Rattle.ledger_book.proofs.StandsLaws.{point_is}
 use Rattle.ledger_book.proofs.book.Book.apply_purge.Goals as goal
 
@@ -34,7 +35,7 @@ returns-clause-ok c = λ stamp h s.
     let point = c.in_ok-place_record.ensures.point ∙ purge_point c.self.inside.size p c.in_ok-link.link a.given.now header k.point c.purge_header-header.ensures in
     applies_placed k.limits stamp h (Purge p a.root.now a.given.now) journal header c.placed_with-placed.result c.place_record.new.self
     none refl refl is (c.placed_with-placed.ensures.jsn ∙ at) c.placed_with-placed.ensures.leaf c.placed_with-placed.ensures.bytes c.placed_with-placed.ensures.widths
-    (record { stands = stands; seen = omega (arith, point, c.in_ok-place_record.ensures.floor.1, low) })
+    (record { stands = stands; reached = c.in_ok-place_record.ensures.reached ∙ reached_still _ k.reached s.reached; seen = omega (arith, point, c.in_ok-place_record.ensures.floor.1, low) })
 
 pub returns-clause-point : goal.returns-clause-point
 returns-clause-point c =

@@ -1,7 +1,7 @@
 use Rattle.std.specs.Prelude.{IsTrue}
 use Rattle.std.proofs.Common.{◌≤◌, ◌↔◌, ap, subst, arith}
 use Rattle.ledger_model.specs.Lawful.{IsNextOccult}
-use Rattle.ledger_book.specs.Behind.{IsOccultBehind}
+use Rattle.ledger_model.specs.Behind.{IsOccultBehind}
 use Rattle.ledger_book.specs.Books.{Kept}
 use Rattle.ledger_book.proofs.FactLaws.{next_occult, none_told}
 use Rattle.ledger_book.proofs.NextLaws.{never, occult_behind}

@@ -3,7 +3,7 @@ use Rattle.std.specs.Prelude.{IsTrue}
 use Rattle.std.specs.Option.{is_none}
 use Rattle.ledger_model.specs.Limits.{real_limits}
 use Rattle.ledger_model.specs.declared.limits.Limits.{Limits}
-use Rattle.ledger_book.specs.Behind.{HasRoomFor, clues_behind}
+use Rattle.ledger_model.specs.Behind.{HasRoomFor, clues_behind}
 use Rattle.ledger_book.specs.Books.{Kept}
 use Rattle.ledger_book.proofs.FactLaws.{none_told}
 use Rattle.ledger_book.proofs.NextLaws.{never, few_behind}
