@@ -322,7 +322,7 @@ at_end tells w book count head block text serves counts heads block_is text_is s
 
 -- the book once the open block has ended
 pub serves_closed : (old new : books.Kept) (h : History) → Serves old h → Stands new (close h) → IsSame old new → Serves new (close h)
-serves_closed old new h s stands same = record { stands = stands; seen = omega (arith, s.seen, same.floor, same.point) }
+serves_closed old new h s stands same = record { stands = stands; reached = same.reached ∙ s.reached; seen = omega (arith, s.seen, same.floor, same.point) }
 
 -- how many journals wait
 pub count_of : (k : books.Kept) (h : History) (count : ℕ) → Serves k h → count ≡ length h.waiting → k.size ≡ k.sealed + count

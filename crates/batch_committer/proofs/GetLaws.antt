@@ -1,6 +1,6 @@
 -- What is told of a journal that was read is what the history says of it.
 use Rattle.std.specs.Prelude.{◌≤◌, ◌-◌, if◌then◌else◌, nat_le, nat_lt, slice_get}
-use Rattle.std.proofs.Common.{◌≡◌, ◌⊎◌, inl, inr, ℕ, zero, suc, ◌+◌, Bool, true, false, cond, List, [], ◌∷◌, drop, map, Option, Some, None, refl, sym, ◌∙◌, ap, subst, arith}
+use Rattle.std.proofs.Common.{◌≡◌, ◌⊎◌, inl, inr, ℕ, zero, suc, Bool, true, false, cond, List, [], ◌∷◌, map, Option, Some, None, refl, sym, ◌∙◌, ap, arith}
 use Rattle.std.proofs.lemmas.Bool.{le-leb, ltb-false}
 use Rattle.std.proofs.lemmas.Option.{none-some}
 use Rattle.ledger_bytes.specs.declared.refusal.Refusal.{Refusal}
@@ -17,30 +17,14 @@ use Rattle.ledger_model.specs.Outcomes.{view}
 use Rattle.ledger_model.specs.Targets.{is_hidden}
 use Rattle.ledger_model.specs.declared.view.View.{View}
 use Rattle.ledger_model.specs.declared.view.View.TheVariants.{Absent, Purged, Occulted, Whole}
-use Rattle.ledger_model.proofs.LawfulLaws.{AreFrom, lawful_from}
+use Rattle.ledger_model.proofs.LawfulLaws.{lawful_from}
 use Rattle.ledger_book.specs.Books as books
 use Rattle.ledger_book.specs.Books.{headers}
 use Rattle.ledger_open.specs.Places.{entry_at, AllAt}
-use Rattle.ledger_open.specs.Standing.{IsKept}
 use Rattle.block_file.specs.declared.place.PlaceAt.{PlaceAt}
-use Rattle.ledger_open.proofs.PlaceLaws.{kept_at}
-use Rattle.ledger_open.proofs.PartLaws.{kept_from}
-use Rattle.batch_committer.specs.Read.{IsReadAs}
-use Rattle.batch_committer.proofs.Parting.{places_one}
-
--- the header that the book keeps of a journal
-get_header : (js : List Entry) (n : ℕ) (journal : Entry) → slice_get js n ≡ Some journal → slice_get (map (λ (j : Entry). j.header) js) n ≡ Some journal.header
-get_header [] n journal is = absurd (none-some journal is)
-get_header (j ∷ js) zero journal is = ap (λ (o : Option Entry). header_in o) is where
-  header_in : Option Entry → Option Header
-  header_in None = None
-  header_in (Some e) = Some e.header
-get_header (j ∷ js) (suc n) journal is = get_header js n journal is
-
-header_is : (k : books.Kept) (h : History) (n : ℕ) (journal : Entry) (header : Header) → k.floor ≤ n → slice_get (journals h) n ≡ Some journal → Some header ≡ (if nat_le k.floor n then slice_get (headers h) n else None) → header ≡ journal.header
-header_is k h n journal header floor is got =
-    let same : Some header ≡ Some journal.header = got ∙ ap (λ v. cond v (slice_get (headers h) n) None) (le-leb k.floor n floor) ∙ get_header (journals h) n journal is in
-    cc same
+use Rattle.ledger_open.specs.Pieces.{IsReadAs}
+use Rattle.ledger_open.proofs.PieceLaws as pieces
+use Rattle.ledger_open.proofs.PieceLaws.{IsThere, there_at, none_at, header_is, numbered}
 
 -- ---- the parts of a journal, compared
 
@@ -61,39 +45,11 @@ occulted_as header who damage is = ap (λ o. reply_unless o (reply.Occulted (spe
 
 -- ---- what stands at a journal's place
 
--- a journal of which this is kept at a place
-record IsThere (hid gone : ℕ → Bool) (file : List ℕ) (es : List Entry) (n : ℕ) (p : PlaceAt) : Type 0 where
-  e : Entry
-  there : slice_get es n ≡ Some e
-  kept : IsKept hid gone e (entry_at file e.header p)
-
-there_at : (hid gone : ℕ → Bool) (file : List ℕ) (es : List Entry) (ps : List PlaceAt) (n : ℕ) (p : PlaceAt) → AllAt hid gone file es ps → slice_get ps n ≡ Some p → IsThere hid gone file es n p
-there_at hid gone file [] [] n p a is = absurd (none-some p is)
-there_at hid gone file [] (q ∷ ps) n p a is = absurd a
-there_at hid gone file (e ∷ es) [] n p a is = absurd a
-there_at hid gone file (e ∷ es) (q ∷ ps) zero p a is =
-    let same : q ≡ p = cc is in record { e = e; there = refl; kept = subst (λ (x : PlaceAt). IsKept hid gone e (entry_at file e.header x)) same a.0 }
-there_at hid gone file (e ∷ es) (q ∷ ps) (suc n) p a is =
-    let t = there_at hid gone file es ps n p a.1 is in record { e = t.e; there = t.there; kept = t.kept }
-
-none_at : (hid gone : ℕ → Bool) (file : List ℕ) (es : List Entry) (ps : List PlaceAt) (n : ℕ) → AllAt hid gone file es ps → slice_get ps n ≡ None → (let none : Option Entry = None in slice_get es n ≡ none)
-none_at hid gone file [] [] n a is = refl
-none_at hid gone file (e ∷ es) [] n a is = absurd a
-none_at hid gone file [] (q ∷ ps) n a is = absurd a
-none_at hid gone file (e ∷ es) (q ∷ ps) zero a is = absurd (none-some q (sym is))
-none_at hid gone file (e ∷ es) (q ∷ ps) (suc n) a is = none_at hid gone file es ps n a.1 is
-
 -- where no header is told there is no journal
 no_header : (es : List Entry) (n : ℕ) → (let none : Option Header = None in slice_get (map (λ (e : Entry). e.header) es) n ≡ none) → (let none : Option Entry = None in slice_get es n ≡ none)
 no_header [] n is = refl
 no_header (e ∷ es) zero is = absurd (none-some e.header (sym is))
 no_header (e ∷ es) (suc n) is = no_header es n is
-
--- each journal has the number of its place
-numbered : (m : ℕ) (es : List Entry) (n : ℕ) (e : Entry) → AreFrom m es → slice_get es n ≡ Some e → e.header.jsn ≡ m + n
-numbered m [] n e from is = absurd (none-some e is)
-numbered m (x ∷ es) zero e from is = let same : x ≡ e = cc is in omega (arith, ap (λ (y : Entry). y.header.jsn) same, from.0)
-numbered m (x ∷ es) (suc n) e from is = omega (arith, numbered (m + 1) es n e from.2 is)
 
 -- a journal that is whole isn't hidden
 shown_at : (h : History) (n : ℕ) → Whole ≡ view h n → is_hidden h n ≡ false
@@ -129,13 +85,6 @@ shown_low h n v kind shown = by_tests (nat_le (size h) n) (nat_lt n (point h)) (
   by_tests false true hidden is (inr e) = absurd cc
   by_tests false false hidden is e = ltb-false n (point h) is
 
--- from a number on
-get_drop : {A : Type 0} (k n : ℕ) (xs : List A) → k ≤ n → slice_get (drop k xs) (n - k) ≡ slice_get xs n
-get_drop zero n xs le = ap (slice_get xs) (omega arith)
-get_drop (suc k) zero xs le = absurd (omega (arith, le))
-get_drop (suc k) (suc n) [] le = refl
-get_drop (suc k) (suc n) (x ∷ xs) le = ap (slice_get (drop k xs)) (omega arith) ∙ get_drop k n xs (omega (arith, le))
-
 module _ (image : List ℕ) (h : History) (n : ℕ) (book : books.Kept) (places : List PlaceAt) (r : IsReadAs book places image h) (v : View) (shown : v ≡ view h n) where
   abbrev kept : List Entry
   kept = journals_of r.erased.parts.kept
@@ -147,16 +96,11 @@ module _ (image : List ℕ) (h : History) (n : ℕ) (book : books.Kept) (places 
   told_place = if nat_le book.floor n then slice_get places (n - book.floor) else None
 
   at_places : AllAt (is_hidden h) (is_hidden h) image (kept) places
-  at_places =
-      subst (AllAt (is_hidden h) (is_hidden h) image (kept))
-      (places_one h r.erased.lawful.blocks_are (point h) book.floor (sym r.floor) r.erased.parts r.ends.parts ∙ sym r.ends.places_are)
-      (kept_at (point h) (is_hidden h) image h r.erased)
+  at_places = pieces.at_places image h book places r
 
   -- the file has the journals from the point on
   from_point : book.floor ≤ n → slice_get (kept) (n - book.floor) ≡ slice_get (journals h) n
-  from_point low =
-      ap (λ (es : List Entry). slice_get es (n - book.floor)) (kept_from (point h) h r.erased.none r.erased.parts ∙ ap (λ (p : ℕ). drop p (journals h)) (sym r.floor))
-      ∙ get_drop book.floor n (journals h) low
+  from_point above = pieces.from_point image h book places r n above
 
   low : (v ≡ Whole) ⊎ (v ≡ Occulted) → book.floor ≤ n
   low kind = omega (arith, r.floor, shown_low h n v kind shown)

@@ -99,7 +99,7 @@ judged_goes tells w k step job answer place in_a dues settled judged = record {
       let f = with_job real_limits (stamp_of step) g job in
       let j = judged g p (λ closes. settled closes g p.keeps.serves) in
       let all : AllWaiting f (w.kept.dues ++ due_at step answer ∷ []) =
-      waiting-append f w.kept.dues (due_at step answer ∷ []) (all_still_waiting g f w.kept.dues (waits_job g step job) p.keeps.dues) (subst (IsWaiting f) (sym j.answer_is) (answer_waits g step job), tt) in record {
+      waiting-append f w.kept.dues (due_at step answer ∷ []) (all_still_waiting g f w.kept.dues (waits_job g step job) p.keeps.dues) (subst (IsWaiting f) (sym j.answer_is) (answer_waits g step job (λ closes. settled closes g p.keeps.serves)), tt) in record {
         told = p.told;
         keeps = record {
           serves = j.gathers.serves;

@@ -5,7 +5,6 @@ use Rattle.journal_record.specs.Entry.{Entry}
 use Rattle.ledger_model.specs.History.{History, size, point}
 use Rattle.ledger_model.specs.Lawful.{IsBlock}
 use Rattle.ledger_open.specs.Cutting.{gate_behind}
-use Rattle.ledger_open.specs.Places.{places_from}
 use Rattle.ledger_open.specs.Standing.{floor_behind, Parts}
 use Rattle.ledger_open.proofs.PartLaws.{one_parts, size_parts}
 
@@ -16,10 +15,6 @@ module _ (h : History) (all : All IsBlock h.closed) (m n : ℕ) (same : m ≡ n)
   -- the gate behind the blocks that a file has
   pub gate_one : gate_behind (floor_behind h x.gone) x.kept ≡ gate_behind (floor_behind h y.gone) y.kept
   gate_one = ap (λ (bs : List (List Entry)). gate_behind (floor_behind h bs) x.kept) (parts_one).0 ∙ ap (gate_behind (floor_behind h y.gone)) (parts_one).1
-
-  -- .. and the places of their journals
-  pub places_one : places_from (floor_behind h x.gone) x.kept ≡ places_from (floor_behind h y.gone) y.kept
-  places_one = ap (λ (bs : List (List Entry)). places_from (floor_behind h bs) x.kept) (parts_one).0 ∙ ap (places_from (floor_behind h y.gone)) (parts_one).1
 
 -- where the gate stands behind the blocks of a file that begins at the point
 abbrev pub TailsAt : ℕ → History → Type 0

@@ -17,7 +17,8 @@ use Rattle.ledger_book.specs.Books.{Serves}
 use Rattle.block_file.specs.Places.{body_from, places_in}
 use Rattle.ledger_open.specs.Places.{places_from}
 use Rattle.ledger_open.specs.Standing.{floor_behind, IsErased}
-use Rattle.batch_committer.specs.Read.{IsReadAs, WasRead, WereRead, NoneFailed, ReadingEnds}
+use Rattle.ledger_open.specs.Pieces.{IsReadAs, WasOnlyRead}
+use Rattle.batch_committer.specs.Read.{WereRead, NoneFailed, ReadingEnds}
 use Rattle.batch_committer.specs.World.{Pair, CommitterState, world, ReadsAsLeft, Fits, IsCleanFor, Holds, Goes, Says, EndsBy, EndsOnTheWay, sealed_part}
 use Rattle.batch_committer.specs.declared.failure.CommitErr.{CommitErr}
 use Rattle.batch_committer.specs.declared.failure.CommitErr.TheVariants.{DiskFault, WriteFault, NoMemory, Closed}
@@ -30,7 +31,7 @@ keeps_length : (o : Option ℕ) → KeepsLength o o
 keeps_length None = tt
 keeps_length (Some n) = refl
 
-unread_one : (tells : Bool) (d : DiskState) → WasRead tells d d
+unread_one : (tells : Bool) (d : DiskState) → WasOnlyRead tells d d
 unread_one tells d = record { bytes = λ _. refl; told = keeps_length d.told }
 
 pub unread : (tells : Bool) (disks : Pair) → WereRead tells disks disks
@@ -51,7 +52,7 @@ module _ (tells : Bool) (old new : Pair) (read : WereRead tells old new) where
   told_still place None n keeps is = absurd is
   told_still place (Some m) n keeps is = subst (λ (x : Option ℕ). IsSomeAnd x (λ (y : ℕ). place + 1 ≤ y)) (sym keeps) is
 
-  reads_one : (place : ℕ) (d x : DiskState) → WasRead tells d x → ReadsAsLeft tells place d → ReadsAsLeft tells place x
+  reads_one : (place : ℕ) (d x : DiskState) → WasOnlyRead tells d x → ReadsAsLeft tells place d → ReadsAsLeft tells place x
   reads_one place d x r s = record { told = told_still place d.told x.told r.told s.told; shut = λ t. subst (λ (b : State). IsShutAt place b.seen) (sym (r.bytes t)) (s.shut t) }
 
   reads_by : (in_a : Bool) (place : ℕ) → ReadsAsLeft tells place (open_of in_a old.a old.b) → ReadsAsLeft tells place (open_of in_a new.a new.b)

@@ -1,27 +1,17 @@
 -- What reading a journal from the open file asks for and leaves.
-use Rattle.std.specs.Prelude.{◌≡◌, ℕ, Bool, IsTrue, List}
+use Rattle.std.specs.Prelude.{◌≡◌, ℕ, Bool}
 use Rattle.ledger_bytes.specs.Causes.{count_after}
-use Rattle.ledger_disk.specs.Disk.{DiskState, KeepsLength}
-use Rattle.ledger_book.specs.Books.{Kept}
-use Rattle.ledger_model.specs.History.{History, point}
-use Rattle.ledger_open.specs.Erasing.{EndsAs}
-use Rattle.ledger_open.specs.Standing.{IsErased}
-use Rattle.block_file.specs.declared.place.PlaceAt.{PlaceAt}
+use Rattle.ledger_open.specs.Pieces.{WasOnlyRead}
+use Rattle.ledger_open.specs.declared.pieces.PieceErr.{PieceErr}
+use Rattle.ledger_open.specs.declared.pieces.PieceErr.TheVariants as pieces
 use Rattle.batch_committer.specs.World.{Pair, OneFailed}
 use Rattle.batch_committer.specs.declared.failure.CommitErr.{CommitErr}
 use Rattle.batch_committer.specs.declared.failure.CommitErr.TheVariants.{DiskFault, WriteFault, NoMemory, Closed}
 
--- The book and the places are those of this history, of which no journal waits, and the file has it from the point on, where all
--- that is hidden is gone.
-pub record IsReadAs (book : Kept) (places : List PlaceAt) (file : List ℕ) (h : History) : Type 0 where
-  pub ends : EndsAs book places h
-  pub floor : book.floor ≡ point h
-  pub erased : IsErased file h
-
--- a disk was read: its bytes, and what may be left of them, are the same, and so is the length that it told
-pub record WasRead (tells : Bool) (old new : DiskState) : Type 0 where
-  pub bytes : IsTrue tells → new.bytes ≡ old.bytes
-  pub told : KeepsLength old.told new.told
+-- why a piece isn't read, as the end of a run
+abbrev pub end_of_piece : PieceErr → CommitErr
+end_of_piece pieces.DiskFault = DiskFault
+end_of_piece pieces.NoMemory = NoMemory
 
 -- why a reading ended the run: the disk failed, which is counted; or memory was short, and none did
 abbrev pub ReadEnds : CommitErr → ℕ → ℕ → Type 0
@@ -32,8 +22,8 @@ ReadEnds Closed old new = ⊥
 
 -- two disks of which at most one was read
 pub record WereRead (tells : Bool) (old new : Pair) : Type 0 where
-  pub a : WasRead tells old.a new.a
-  pub b : WasRead tells old.b new.b
+  pub a : WasOnlyRead tells old.a new.a
+  pub b : WasOnlyRead tells old.b new.b
 
 -- no call of the two disks failed
 abbrev pub NoneFailed : Pair → Pair → Type 0

@@ -1,3 +1,5 @@
+//! The commit of a block in that of the ledger's two files which is open.
+
 ghost use Rattle.std.specs.Prelude.{◌≡◌, ◌⊎◌, ◌+◌, ◌++◌, [], ◌∷◌, ℕ, List, length, take, IsTrue, IfErr, OnOk, OnErr};
 ghost use Rattle.block_file.specs.File.{IsFileOf, tail_of, IsSettled, HasBlock};
 ghost use Rattle.block_file.specs.FileView.{gate_of};

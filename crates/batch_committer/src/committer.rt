@@ -1,3 +1,5 @@
+//! The committer, which takes jobs one after the other, puts blocks on the disks and writes replies.
+
 ghost use Rattle.std.specs.Prelude.{◌≡◌, ◌↔◌, [], Bool, List, ℕ, true, false, is_err, OnOk, IfErr, Err};
 ghost use Rattle.block_file.specs.FileView.{gate_of};
 ghost use Rattle.ledger_model.specs.History.{History, id, close};

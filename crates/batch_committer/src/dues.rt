@@ -1,3 +1,5 @@
+//! The text of the replies and receipts that are due when a block has ended.
+
 ghost use Rattle.std.specs.Prelude.{◌≡◌, [], ◌++◌, OnOk};
 ghost use Rattle.ledger_model.specs.Dues.{due_text, dues_text};
 ghost use Rattle.ledger_model.specs.History.{History};

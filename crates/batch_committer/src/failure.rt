@@ -1,5 +1,8 @@
+//! Why a committer's run ended early.
+
 use ledger_bytes::NoMemory;
 use ledger_io::WriteErr;
+use ledger_open::PieceErr;
 use thiserror::Error;
 
 /// Why a call of a committer ended its run.
@@ -37,5 +40,19 @@ impl From<WriteErr> for CommitErr {
 
     fn from(_: WriteErr) -> Self {
         CommitErr::WriteFault
+    }
+}
+
+impl From<PieceErr> for CommitErr {
+    ghost use Rattle.std.specs.Prelude.{◌≡◌};
+    ghost use Rattle.batch_committer.specs.Read.{end_of_piece};
+
+    ghost from_gives = { λ e end. end ≡ end_of_piece e };
+
+    fn from(e: PieceErr) -> Self {
+        match e {
+            PieceErr::DiskFault => CommitErr::DiskFault,
+            PieceErr::NoMemory => CommitErr::NoMemory,
+        }
     }
 }

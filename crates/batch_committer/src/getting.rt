@@ -1,9 +1,12 @@
+//! The reply to a line that asks for a journal: it is read from the open file and held against its header's digests.
+
 ghost use Rattle.std.specs.Prelude.{◌≡◌, ◌-◌, [], None, IsTrue, IfOk, IfErr, OnOk, if◌then◌else◌, nat_le, slice_get, take, drop};
 ghost use Rattle.ledger_book.specs.Books.{Serves};
 ghost use Rattle.ledger_model.specs.Getting as spec;
 ghost use Rattle.ledger_model.specs.History.{History, size};
 ghost use Rattle.ledger_open.specs.Places.{entry_at};
-ghost use Rattle.batch_committer.specs.Read.{IsReadAs, WasRead, ReadEnds};
+ghost use Rattle.ledger_open.specs.Pieces.{IsReadAs, WasOnlyRead};
+ghost use Rattle.batch_committer.specs.Read.{ReadEnds};
 
 use crate::CommitErr;
 use block_file::PlaceAt;
@@ -12,7 +15,7 @@ use ledger_book::Book;
 use ledger_bytes::{Bytes, Digest, Refusal};
 use ledger_disk::Disk;
 use ledger_model::View;
-use ledger_open::Places;
+use ledger_open::{Places, kept_place, read_piece};
 use script_lines::Reply;
 use std::alloc::Global;
 
@@ -28,7 +31,7 @@ pub(crate) fn get<D: Disk>(
     ensures told { IfOk result (λ reply. IsTrue D.tells → (h : History)
         → IsReadAs book.now places.now.list (D.state file.old).bytes.seen h
         → reply ≡ spec.get_reply h n) }
-    ensures read { WasRead D.tells
+    ensures read { WasOnlyRead D.tells
         (D.state file.old)
         (D.state file.new) }
     ensures no_fault { OnOk result ((D.state file.new).faults ≡ (D.state file.old).faults) }
@@ -47,17 +50,6 @@ pub(crate) fn get<D: Disk>(
             (Some(header), Some(place)) => whole(alloc, file, header, &place),
             _ => Ok(no_journal(book)),
         },
-    }
-}
-
-// Where journal `n` stands, where the file has it. The file begins with the book's first journal.
-fn kept_place(book: &Book, places: &Places, n: u64) -> Option<PlaceAt>
-    ensures { result ≡ (if nat_le book.now.floor n then slice_get places.now.list (n - book.now.floor) else None) }
-{
-    let index = n.checked_sub(book.floor())?;
-    match places.as_slice().get(index as usize) {
-        Some(place) => Some(*place),
-        None => None,
     }
 }
 
@@ -80,7 +72,7 @@ fn whole<D: Disk>(
     ensures told { IfOk result (λ reply. IsTrue D.tells → reply ≡ spec.whole_reply header.now
         (entry_at (D.state file.old).bytes.seen header.now place.now).content
         (entry_at (D.state file.old).bytes.seen header.now place.now).who) }
-    ensures read { WasRead D.tells
+    ensures read { WasOnlyRead D.tells
         (D.state file.old)
         (D.state file.new) }
     ensures no_fault { OnOk result ((D.state file.new).faults ≡ (D.state file.old).faults) }
@@ -100,7 +92,7 @@ fn occulted<D: Disk>(
 ) -> Result<Reply, CommitErr>
     ensures told { IfOk result (λ reply. IsTrue D.tells → reply ≡ spec.occulted_reply header.now
         (entry_at (D.state file.old).bytes.seen header.now place.now).who) }
-    ensures read { WasRead D.tells
+    ensures read { WasOnlyRead D.tells
         (D.state file.old)
         (D.state file.new) }
     ensures no_fault { OnOk result ((D.state file.new).faults ≡ (D.state file.old).faults) }
@@ -108,27 +100,6 @@ fn occulted<D: Disk>(
 {
     let who = read_piece(alloc, file, place.who_at, place.who_len)?;
     Ok(occulted_reply(header, who))
-}
-
-// A range of the file, as far as bytes stand there. A piece that is cut short has another digest than the whole one.
-fn read_piece<D: Disk>(alloc: Global, file: &mut D, at: u64, len: u32) -> Result<Vec<u8>, CommitErr>
-    ensures bytes { IfOk result (λ piece. IsTrue D.tells
-        → piece.items ≡ take len (drop at (D.state file.old).bytes.seen)) }
-    ensures read { WasRead D.tells
-        (D.state file.old)
-        (D.state file.new) }
-    ensures no_fault { OnOk result ((D.state file.new).faults ≡ (D.state file.old).faults) }
-    ensures err { IfErr result (λ end. ReadEnds end (D.state file.old).faults (D.state file.new).faults) }
-{
-    let mut piece = Vec::new(alloc);
-    let Ok(()) = piece.resize(len as usize, 0) else {
-        return Err(CommitErr::NoMemory);
-    };
-    let Ok(count) = file.read(at, piece.as_mut_slice()) else {
-        return Err(CommitErr::DiskFault);
-    };
-    piece.truncate(count);
-    Ok(piece)
 }
 
 // The reply on a journal with these parts.

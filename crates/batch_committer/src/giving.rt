@@ -1,3 +1,5 @@
+//! How what an occult hides or a purge takes is given up in the files, for good.
+
 ghost use Rattle.std.specs.Prelude.{◌≡◌, None, IfOk, IfErr, OnOk, OnErr};
 ghost use Rattle.block_file.specs.FileView.{gate_of};
 ghost use Rattle.twin_file.specs.Places.{HasTail};

@@ -1,3 +1,5 @@
+//! Laws of a committer's ledger: it holds the lawful history of the files that were made or opened.
+
 ghost use Rattle.std.specs.Prelude.{◌≡◌, ◌≤◌, ℕ, Bool, true, IsTrue, List, [], Option, None};
 ghost use Rattle.block_file.specs.Head.{generation_of};
 ghost use Rattle.journal_record.specs.Entry.{Entry};

@@ -1,3 +1,5 @@
+//! The replies to lines that ask for the proof of a journal, or that a tree goes on from an earlier size.
+
 ghost use Rattle.std.specs.Prelude.{◌≡◌, None, Bool, false, ℕ, List, IfOk, OnErr};
 ghost use Rattle.ledger_book.specs.Books.{Serves};
 ghost use Rattle.ledger_model.specs.History.{History};

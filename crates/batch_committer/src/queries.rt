@@ -1,3 +1,5 @@
+//! The replies to lines that ask for a clue's journals, or where the ledger stands.
+
 ghost use Rattle.std.specs.Prelude.{◌≡◌, [], Bool, ℕ, List, IfOk};
 ghost use Rattle.ledger_model.specs.History.{History};
 ghost use Rattle.ledger_model.specs.Texts.{told_reply};

@@ -1,3 +1,5 @@
+//! How the committer takes a job, from its judgement to the end of its block and the replies that are due.
+
 ghost use Rattle.std.specs.Prelude.{◌≡◌, ◌≤◌, ◌<◌, [], false, length, All, None, Bool, true, List, ℕ, IfOk, IfErr, OnOk, OnErr};
 ghost use Rattle.journal_record.specs.Approval.{who_of};
 ghost use Rattle.journal_record.specs.Entry.{Entry};

@@ -14,7 +14,7 @@ use Rattle.block_file.specs.declared.failure.FileErr.{FileErr}
 use Rattle.block_file.specs.declared.failure.FileErr.TheVariants as files
 use Rattle.journal_record.specs.Blocks.{leaves_of, IsBlock, AreBlocks, written_blocks}
 use Rattle.journal_record.specs.Entry.{Entry, content_digest_of}
-use Rattle.ledger_book.specs.Behind.{next_number, IsNextBehind, AreBehind}
+use Rattle.ledger_model.specs.Behind.{next_number, IsNextBehind, AreBehind}
 use Rattle.ledger_bytes.specs.declared.digest.Digest.{Digest}
 use Rattle.ledger_model.specs.History.{journals_of}
 use Rattle.pseudo_genesis.specs.declared.base.Base.{Base as Begins}

@@ -12,7 +12,7 @@ use Rattle.block_file.specs.declared.failure.FileErr.TheVariants.{Damaged}
 use Rattle.block_file.proofs.ParseLaws.{given}
 use Rattle.journal_record.specs.Blocks.{leaves_of, IsBlock, written_blocks}
 use Rattle.journal_record.specs.Entry.{Entry, content_digest_of}
-use Rattle.ledger_book.specs.Behind.{next_number, IsNextBehind, AreBehind}
+use Rattle.ledger_model.specs.Behind.{next_number, IsNextBehind, AreBehind}
 use Rattle.ledger_model.specs.History.{journals_of}
 use Rattle.ledger_model.specs.Lawful as lawful
 use Rattle.ledger_model.specs.Lawful.{IsFounded}

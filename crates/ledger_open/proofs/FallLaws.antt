@@ -7,7 +7,7 @@ use Rattle.std.proofs.lemmas.List.Elements.{All-drop}
 use Rattle.journal_record.specs.Entry.{Entry}
 use Rattle.journal_record.specs.declared.header.Kind.{Kind}
 use Rattle.journal_record.specs.declared.header.Kind.TheVariants as kind
-use Rattle.ledger_book.specs.Behind.{IsOwnBehind, AreBehind, first_of}
+use Rattle.ledger_model.specs.Behind.{IsOwnBehind, AreBehind, first_of}
 use Rattle.ledger_model.proofs.LawfulLaws.{two_points}
 use Rattle.ledger_model.proofs.PointLaws.{kinds, splits_at, IsSplit}
 use Rattle.ledger_model.specs.History.{journals_of, greatest_point, purge_point, is_purge}

@@ -21,7 +21,7 @@ use Rattle.journal_record.specs.Rules.{IsHeader, jsn_ok, content_len_ok}
 use Rattle.journal_record.specs.declared.header.Header.{Header}
 use Rattle.journal_record.specs.declared.header.Kind.{Kind}
 use Rattle.journal_record.specs.declared.header.Kind.TheVariants as kind
-use Rattle.ledger_book.specs.Behind.{next_number, IsOwnBehind, AreBehind}
+use Rattle.ledger_model.specs.Behind.{next_number, IsOwnBehind, AreBehind}
 use Rattle.ledger_book.specs.Books.{Kept, Serves}
 use Rattle.ledger_book.specs.Reading.{StandsBehind}
 use Rattle.ledger_book.specs.Replaying.{begun_with}

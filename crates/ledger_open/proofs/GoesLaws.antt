@@ -14,7 +14,7 @@ use Rattle.journal_record.specs.declared.header.Header.{Header}
 use Rattle.journal_record.specs.declared.member.Member.{Member}
 use Rattle.ledger_bytes.specs.Digests.{digest}
 use Rattle.ledger_bytes.specs.declared.digest.Digest.{Digest}
-use Rattle.ledger_book.specs.Behind.{first_of, next_number}
+use Rattle.ledger_model.specs.Behind.{first_of, next_number}
 use Rattle.ledger_book.specs.Books.{Kept, Stands, Serves}
 use Rattle.ledger_book.specs.Reading.{StandsBehind, EndsWith}
 use Rattle.ledger_book.specs.Replaying.{begun_with, IsPlaced}

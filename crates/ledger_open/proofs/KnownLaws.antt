@@ -1,6 +1,6 @@
 -- What is known of a ledger.
 use Rattle.std.specs.Prelude.{Bool, false, Option, None}
-use Rattle.std.proofs.Common.{◌≡◌, ℕ, ◌≤◌, List, [], ◌∷◌, ◌++◌, drop, length, refl, sym, ◌∙◌, ap, subst, arith, append-nil}
+use Rattle.std.proofs.Common.{◌≡◌, ℕ, ◌≤◌, List, [], ◌∷◌, ◌++◌, drop, length, refl, sym, ◌∙◌, ap, subst, arith, append-nil, true}
 use Rattle.std.proofs.lemmas.Bool.{true≢false}
 use Rattle.journal_record.specs.Blocks.{AreBlocks}
 use Rattle.journal_record.specs.Entry.{Entry}
@@ -12,11 +12,12 @@ use Rattle.ledger_model.specs.Targets.{is_hidden}
 use Rattle.ledger_open.specs.Opening.{Known, Knows, GoesOn, HasTaken}
 use Rattle.block_file.specs.Places.{places_at, after_at}
 use Rattle.ledger_open.specs.Standing.{AllKept, SameButHidden, floor_from}
-use Rattle.ledger_open.specs.Starts.{AreLegal, HasOwnPurge, IsReached}
+use Rattle.ledger_open.specs.Starts.{AreLegal, HasOwnPurge}
+use Rattle.ledger_model.specs.Behind.{has_own_purge}
 use Rattle.ledger_open.proofs.GoesLaws.{goes_as}
 use Rattle.ledger_open.proofs.KeptLaws.{same_back}
 use Rattle.ledger_open.proofs.LikeLaws.{serves_alike}
-use Rattle.ledger_open.proofs.OwnPurges.{first_reached, reached_own}
+use Rattle.ledger_open.proofs.OwnPurges.{first_reached}
 use Rattle.ledger_open.proofs.PartLaws.{none_gone}
 use Rattle.ledger_open.proofs.StartLaws.{first_same}
 
@@ -47,7 +48,7 @@ unfolding seen_point
 knows_whole k blocks lawful legal serves floor places tail = record {
   base = tt;
   legal = legal;
-  reached = tt;
+  reached = refl;
   lawful = lawful;
   serves = λ h g. serves_on blocks h k.book g serves;
   floor = floor;
@@ -59,8 +60,8 @@ knows_whole k blocks lawful legal serves floor places tail = record {
 }
 
 -- the purge to the base's point is among the blocks that were taken, where the book tells so
-pub own_read : (k : Known) (start : Option Base) (blocks : List (List Entry)) → HasTaken k start blocks → IsReached k.book → HasOwnPurge start (journals_of blocks)
-own_read k start blocks t reached = subst (HasOwnPurge start) (append-nil (journals_of blocks)) (reached_own k.book start (journals_of blocks ++ []) t.goes.behind reached)
+pub own_read : (k : Known) (start : Option Base) (blocks : List (List Entry)) → HasTaken k start blocks → k.book.reached ≡ true → HasOwnPurge start (journals_of blocks)
+own_read k start blocks t reached = sym (ap (has_own_purge start) (append-nil (journals_of blocks))) ∙ sym t.goes.behind.reached ∙ reached
 
 -- what was taken, once that purge was read
 pub knows_taken : (k : Known) (start : Option Base) (blocks : List (List Entry)) → HasTaken k start blocks → HasOwnPurge start (journals_of blocks) → Knows k start blocks
@@ -73,7 +74,7 @@ knows_taken k start blocks t own =
       legal = t.legal;
       reached = own;
       lawful = t.lawful;
-      serves = λ h g. record { stands = t.goes.stands h (goes_as start blocks h g); seen = omega (arith, first, point, b.floor, first_same start) };
+      serves = λ h g. record { stands = t.goes.stands h (goes_as start blocks h g); reached = b.reached ∙ ap (has_own_purge start) (append-nil (journals_of blocks)) ∙ own; seen = omega (arith, first, point, b.floor, first_same start) };
       floor = b.floor ∙ first_same start;
       point = point;
       places = t.places;

@@ -13,6 +13,7 @@ pub mod StartLaws
 pub mod GoesLaws
 pub mod DamageLaws
 pub mod PlaceLaws
+pub mod PieceLaws
 pub mod OwnLaws
 pub mod OwnPurges
 pub mod SeenLaws
@@ -50,3 +51,4 @@ pub mod OpenedLaws
 pub mod FallLaws
 pub mod LeftLaws
 pub mod StepLaws
+pub mod EndLaws

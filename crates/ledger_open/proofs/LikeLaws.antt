@@ -225,6 +225,7 @@ module _ (hid gone : ℕ → Bool) (h k : History) (same : SameButHidden hid gon
         hiders = λ n le. s.stands.hiders n le ∙ hider_alike n;
         times = s.stands.times ∙ ap (marks_from b.point) (times_kept hid gone (drop b.floor (journals h)) (drop b.floor (journals k)) (kept_drop hid gone b.floor (journals h) (journals k) journals_alike));
       };
+      reached = s.reached;
       seen = s.seen;
     }
 

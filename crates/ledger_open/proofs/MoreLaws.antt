@@ -1,5 +1,5 @@
 -- A block more is read.
-use Rattle.std.specs.Prelude.{Bool, true, false, IsTrue, IfSome, IsSomeAnd, Option, Ok, Err, Some, None, sum_by, ◌^◌, ◌==◌}
+use Rattle.std.specs.Prelude.{Bool, true, false, IsTrue, IfSome, IsSomeAnd, Option, Ok, Err, Some, None, sum_by, ◌^◌}
 use Rattle.std.proofs.Common.{◌≡◌, ◌≢◌, ◌⊎◌, ◌-◌, cond, inl, inr, ℕ, ◌+◌, ◌<◌, ◌≤◌, List, [], ◌∷◌, ◌++◌, length, get_or, map, take, drop, refl, sym, ◌∙◌, ap, subst, arith, append_assoc, append-nil, length-append}
 use Rattle.std.proofs.lemmas.Bool.{true≢false, and_parts, leb-true}
 use Rattle.std.proofs.lemmas.List.Concat.{flat_map-append}
@@ -17,7 +17,7 @@ use Rattle.block_file.specs.declared.file.BlockFile.{BlockFile}
 use Rattle.journal_record.specs.Blocks.{AreFrom, IsBlock}
 use Rattle.journal_record.specs.Entry.{Entry}
 use Rattle.journal_record.specs.Records.{AreReadable}
-use Rattle.ledger_book.specs.Behind.{next_number, AreBehind}
+use Rattle.ledger_model.specs.Behind.{has_own_purge, next_number, AreBehind}
 use Rattle.ledger_book.specs.Books.{Kept}
 use Rattle.ledger_bytes.specs.declared.failure.Bad.{Bad}
 use Rattle.ledger_model.specs.History.{journals_of}
@@ -29,7 +29,7 @@ use Rattle.ledger_open.specs.Damages.{Begun, IsReadTo, IsDamage, EndsEarly}
 use Rattle.ledger_open.specs.Opening.{Known, known_from, HasTaken, HasRead, HasKnown, HasFile, IsHeadOf, IsReadErr, as_open}
 use Rattle.block_file.specs.Places.{body_from, record_len, place_of_record, places_in, places_at, after_at}
 use Rattle.ledger_open.specs.Standing.{floor_from}
-use Rattle.ledger_open.specs.Starts.{IsDecoded, AreFounded, AreLegal, HasBase, HasDigest, HasOwnPurge, IsReached, IsStart, IsFormErr, base_in}
+use Rattle.ledger_open.specs.Starts.{IsDecoded, AreFounded, AreLegal, HasBase, HasDigest, IsStart, IsFormErr, base_in}
 use Rattle.ledger_open.specs.Taking.{Headed, Goes, TakesBlock, IsBadBlock}
 use Rattle.block_file.specs.declared.place.PlaceAt.{PlaceAt}
 use Rattle.ledger_open.proofs.BegunLaws.{readto_start, begun_more, begun_ends}
@@ -38,7 +38,6 @@ use Rattle.ledger_open.proofs.GrowLaws.{blocks_more}
 use Rattle.ledger_open.proofs.HidingLaws.{journals_push}
 use Rattle.ledger_open.proofs.KnownLaws.{knows_taken, own_read}
 use Rattle.ledger_open.proofs.NextLaws.{behind_more}
-use Rattle.ledger_open.proofs.OwnPurges.{own_reached, headers_all}
 use Rattle.ledger_open.proofs.PlaceLaws.{places_same}
 use Rattle.ledger_open.proofs.SizeLaws.{body_size}
 use Rattle.ledger_open.proofs.StartLaws.{digests_from, first_same}
@@ -247,7 +246,7 @@ read_behind tells file start b book places place is place_is begins t =
 -- ---- the whole file
 
 -- the purge to the base's point was read
-pub known_of : (tells : Bool) (file : List ℕ) (k : Known) → HasRead tells file k → IsReached k.book → (IsTrue tells → get_or file k.gate 0 ≢ 1) → (IsTrue tells → k.gate + 1 ≤ length file) → HasKnown tells file k
+pub known_of : (tells : Bool) (file : List ℕ) (k : Known) → HasRead tells file k → k.book.reached ≡ true → (IsTrue tells → get_or file k.gate 0 ≢ 1) → (IsTrue tells → k.gate + 1 ≤ length file) → HasKnown tells file k
 known_of tells file k r reached shut inside = record {
   start = r.start;
   blocks = r.blocks;
@@ -256,12 +255,12 @@ known_of tells file k r reached shut inside = record {
 }
 
 -- .. or it wasn't, and the blocks end
-early_of : (k : Known) (start : Option Base) (blocks : List (List Entry)) → HasTaken k start blocks → (IsReached k.book → ⊥) → EndsEarly start blocks
-early_of k None blocks t not = absurd (not (own_reached k.book None (journals_of blocks ++ []) t.goes.behind tt))
+early_of : (k : Known) (start : Option Base) (blocks : List (List Entry)) → HasTaken k start blocks → k.book.reached ≡ false → EndsEarly start blocks
+early_of k None blocks t not = absurd (true≢false (sym t.goes.behind.reached ∙ not))
 early_of k (Some b) blocks t not =
-    λ own. not (own_reached k.book (Some b) (journals_of blocks ++ []) t.goes.behind (subst (HasOwnPurge (Some b)) (sym (append-nil (journals_of blocks))) own))
+    λ own. true≢false (sym (t.goes.behind.reached ∙ ap (has_own_purge (Some b)) (append-nil (journals_of blocks)) ∙ own) ∙ not)
 
-pub cut_short : (tells : Bool) (file : List ℕ) (k : Known) (size : ℕ) (r : HasRead tells file k) → size ≡ k.book.size → (IsReached k.book → ⊥) → IsTrue tells → IsShutAt k.gate file → IsDamage file (damages.Entry size)
+pub cut_short : (tells : Bool) (file : List ℕ) (k : Known) (size : ℕ) (r : HasRead tells file k) → size ≡ k.book.size → k.book.reached ≡ false → IsTrue tells → IsShutAt k.gate file → IsDamage file (damages.Entry size)
 cut_short tells file k size r is not told shut =
     inl (
       r.start,
@@ -270,10 +269,6 @@ cut_short tells file k size r is not told shut =
       first_is tells file k size r is,
       record { read = r.begun told; shut = shut; early = early_of k r.start r.blocks r.taken not },
     )
-
--- as many headers are kept as there are journals from the first on
-pub all_headers : (tells : Bool) (file : List ℕ) (k : Known) → HasRead tells file k → k.book.size ≡ k.book.floor + length k.book.headers
-all_headers tells file k r = headers_all k.book r.start (journals_of r.blocks ++ []) r.taken.goes.behind
 
 pub known_again : (tells : Bool) (old new : List ℕ) (k : Known) → (IsTrue tells → old ≡ new) → HasKnown tells old k → HasKnown tells new k
 known_again tells old new k same h = record { start = h.start; blocks = h.blocks; knows = h.knows; has = λ told. subst (HasFile h.start h.blocks) (same told) (h.has told) }

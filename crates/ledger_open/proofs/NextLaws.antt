@@ -8,7 +8,7 @@ use Rattle.journal_record.specs.Entry.{Entry}
 use Rattle.ledger_model.specs.History.{history}
 use Rattle.ledger_model.specs.Lawful as lawful
 use Rattle.ledger_model.specs.Lawful.{IsNext, AreNext, AreLawful, IsFounded, AllGather, gathers}
-use Rattle.ledger_book.specs.Behind.{IsNextBehind, AreBehind}
+use Rattle.ledger_model.specs.Behind.{IsNextBehind, AreBehind}
 use Rattle.pseudo_genesis.specs.declared.base.Base.{Base}
 use Rattle.ledger_open.specs.Damages.{CanShare}
 

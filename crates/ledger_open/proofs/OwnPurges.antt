@@ -1,35 +1,24 @@
 -- The purge to a base's point, among the journals behind it.
 use Rattle.std.specs.Prelude.{true, false, cond, ◌==◌, ◌&&◌, ◌||◌, Option, Some, None}
 use Rattle.std.specs.List.{list_any}
-use Rattle.std.proofs.Common.{◌≡◌, ◌≢◌, ◌⊎◌, inl, inr, ℕ, ◌+◌, ◌-◌, ◌<◌, ◌≤◌, Bool, List, [], ◌∷◌, ◌++◌, length, map, take, drop, refl, sym, ◌∙◌, ap, subst, arith}
-use Rattle.std.proofs.lemmas.Bool.{true≢false, and_parts, eqb-true, eq-eqb, leb-true}
-use Rattle.std.proofs.lemmas.List.{take-append-drop, drop-append-le, length-map}
+use Rattle.std.proofs.Common.{◌≡◌, ◌≢◌, ◌⊎◌, inl, inr, ℕ, ◌-◌, ◌<◌, ◌≤◌, Bool, List, [], ◌∷◌, ◌++◌, length, take, drop, refl, sym, ◌∙◌, ap, subst, arith}
+use Rattle.std.proofs.lemmas.Bool.{true≢false, eq-eqb}
+use Rattle.std.proofs.lemmas.List.{take-append-drop, drop-append-le}
 use Rattle.std.proofs.lemmas.List.Folds.{list_any-append}
 use Rattle.journal_record.specs.Entry.{Entry}
-use Rattle.journal_record.specs.declared.header.Header.{Header}
-use Rattle.ledger_book.specs.Books.{Kept}
-use Rattle.ledger_book.specs.Reading.{StandsBehind}
 use Rattle.ledger_model.specs.History.{History, history, journals, size, point, is_purge, purge_point, greatest_point}
 use Rattle.ledger_model.specs.Lawful.{AreLawful}
 use Rattle.ledger_model.proofs.LawfulLaws.{two_points, take_few, point_below, front_from, lawful_from}
 use Rattle.ledger_model.proofs.PointLaws.{points_few}
 use Rattle.pseudo_genesis.specs.declared.base.Base.{Base}
 use Rattle.ledger_open.specs.Standing.{floor_from, point_before}
-use Rattle.ledger_open.specs.Starts.{HasOwnPurge, IsReached, is_purge_to}
+use Rattle.ledger_open.specs.Starts.{HasOwnPurge}
+use Rattle.ledger_book.proofs.OwnLaws.{leads_to, purge_least}
 use Rattle.ledger_open.proofs.NextLaws.{lawful_front}
-
-abbrev pub leads_to : ℕ → Entry → Bool
-leads_to p e = is_purge_to p e.header
 
 -- ---- one journal
 
--- its point, where it is such a purge
-point_is : (p : ℕ) (e : Entry) → leads_to p e ≡ true → purge_point e ≡ p
-point_is p e is =
-    let both = and_parts (is_purge e.header.kind) (e.header.a == p) is in
-    ap (λ v. cond v e.header.a 0) both.0 ∙ eqb-true e.header.a p both.1
-
--- .. and it is one, where that isn't 0
+-- a journal whose point is this one is such a purge, where that isn't 0
 leads_there : (p : ℕ) (e : Entry) → purge_point e ≡ p → p ≢ 0 → leads_to p e ≡ true
 leads_there p e at some = by (is_purge e.header.kind) refl where
   by : (v : Bool) → is_purge e.header.kind ≡ v → leads_to p e ≡ true
@@ -39,17 +28,6 @@ leads_there p e at some = by (is_purge e.header.kind) refl where
   by false is = absurd (some (sym at ∙ ap (λ v. cond v e.header.a 0) is))
 
 -- ---- some journals
-
-least_by : (p : ℕ) (e : Entry) (es : List Entry) (v : Bool) → leads_to p e ≡ v → (leads_to p e || list_any (leads_to p) es) ≡ true → (list_any (leads_to p) es ≡ true → p ≤ greatest_point es) → p ≤ greatest_point (e ∷ es)
-least_by p e es true one is later = omega (arith, point_is p e one, two_points (e ∷ []) es)
-least_by p e es false none is later =
-    let least = later (sym (ap (λ v. v || list_any (leads_to p) es) none) ∙ is) in
-    omega (arith, least, two_points (e ∷ []) es)
-
--- the point of a purge is at most the greatest
-pub purge_least : (p : ℕ) (es : List Entry) → list_any (leads_to p) es ≡ true → p ≤ greatest_point es
-purge_least p [] is = absurd (true≢false (sym is))
-purge_least p (e ∷ es) is = least_by p e es (leads_to p e) refl is (purge_least p es)
 
 greatest_by : (p : ℕ) (e : Entry) (es : List Entry) (v : Bool) → leads_to p e ≡ v → greatest_point (e ∷ es) ≡ p → p ≢ 0 → (greatest_point es ≡ p → list_any (leads_to p) es ≡ true) → (leads_to p e || list_any (leads_to p) es) ≡ true
 greatest_by p e es true one at some later = ap (λ v. v || list_any (leads_to p) es) one
@@ -104,26 +82,8 @@ reaches h floor lawful (inr at) some = by (take (size h - 1) (journals h)) refl 
       ∙ ap (list_any (leads_to floor)) (drop-append-le floor front rest few)
       ∙ any_more (leads_to floor) (drop floor front) rest (greatest_behind floor front own here some)
 
--- ---- what a book tells
-
-any_map : (p : Header → Bool) (es : List Entry) → list_any p (map (λ (e : Entry). e.header) es) ≡ list_any (λ (e : Entry). p e.header) es
-any_map p [] = refl
-any_map p (e ∷ es) = ap (λ v. p e.header || v) (any_map p es)
+-- ---- behind a base
 
 pub first_reached : (start : Option Base) (es : List Entry) → HasOwnPurge start es → (floor_from start).first ≤ greatest_point es
 first_reached None es own = omega arith
 first_reached (Some b) es own = purge_least b.point es own
-
--- the book tells whether that purge was read
-pub reached_own : (k : Kept) (start : Option Base) (es : List Entry) → StandsBehind k start es → IsReached k → HasOwnPurge start es
-reached_own k None es s own = tt
-reached_own k (Some b) es s (inl none) = absurd (omega (arith, none, s.floor, leb-true 1 b.point (and_parts _ _ s.begins.point).0))
-reached_own k (Some b) es s (inr is) = sym (any_map (is_purge_to b.point) es) ∙ ap (list_any (is_purge_to b.point)) (sym s.headers_are) ∙ ap (λ (n : ℕ). list_any (is_purge_to n) k.headers) (sym s.floor) ∙ is
-
-pub own_reached : (k : Kept) (start : Option Base) (es : List Entry) → StandsBehind k start es → HasOwnPurge start es → IsReached k
-own_reached k None es s own = inl s.floor
-own_reached k (Some b) es s own = inr (ap (λ (n : ℕ). list_any (is_purge_to n) k.headers) s.floor ∙ ap (list_any (is_purge_to b.point)) s.headers_are ∙ any_map (is_purge_to b.point) es ∙ own)
-
--- as many headers are kept as there are journals behind the base
-pub headers_all : (k : Kept) (start : Option Base) (es : List Entry) → StandsBehind k start es → k.size ≡ k.floor + length k.headers
-headers_all k start es s = omega (arith, s.size_is, s.floor, ap length s.headers_are ∙ length-map es (λ (e : Entry). e.header))

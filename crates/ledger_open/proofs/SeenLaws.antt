@@ -1,7 +1,7 @@
 -- Each journal of a lawful history is the next one behind no base, and whether it is depends on headers alone.
 use Rattle.std.specs.List.{list_any}
 use Rattle.std.specs.Prelude.{Bool, cond, filter, Option, Some, None}
-use Rattle.std.proofs.Common.{◌≡◌, ℕ, ◌+◌, ◌-◌, ◌<◌, ◌≤◌, ◌&&◌, ◌==◌, List, [], ◌∷◌, ◌++◌, length, get_or, map, sym, ◌∙◌, ap, subst, arith, append_assoc, length-append}
+use Rattle.std.proofs.Common.{◌≡◌, ℕ, ◌+◌, ◌-◌, ◌<◌, ◌≤◌, ◌&&◌, ◌==◌, List, [], ◌∷◌, ◌++◌, length, get_or, map, refl, sym, ◌∙◌, ap, subst, arith, append_assoc, length-append}
 use Rattle.sha2.specs.Sha256.{sha256}
 use Rattle.tree_model.specs.Tree.{leaf}
 use Rattle.clue_index.specs.Added.{Added, Mark, trail_of, different_clues}
@@ -13,7 +13,7 @@ use Rattle.journal_record.specs.declared.header.Header.{Header}
 use Rattle.journal_record.specs.declared.header.Kind.{Kind}
 use Rattle.journal_record.specs.declared.header.Kind.TheVariants as kind
 use Rattle.ledger_book.proofs.GroundLaws.{ground_next}
-use Rattle.ledger_book.specs.Behind.{first_of, count_behind, clues_behind, names, IsOwnBehind, BeginsWell, IsNextBehind, AreBehind}
+use Rattle.ledger_model.specs.Behind.{first_of, count_behind, clues_behind, has_own_purge, is_purge_to, names, IsOwnBehind, BeginsWell, IsNextBehind, AreBehind}
 use Rattle.ledger_model.specs.Bases.{clue_mark_of}
 use Rattle.ledger_model.specs.Clues.{has_clue}
 use Rattle.ledger_model.specs.History.{history, greatest_point}
@@ -75,6 +75,10 @@ module _ (start : Option Base) (hid gone : ℕ → Bool) (es fs : List Entry) (a
   points : greatest_point es ≡ greatest_point fs
   points = greatest_kept hid gone es fs a
 
+  owned_kept : (s : Option Base) → has_own_purge s es ≡ has_own_purge s fs
+  owned_kept None = refl
+  owned_kept (Some b) = header_any_same hid gone (is_purge_to b.point) es fs a
+
   own_kept : (x : Header) (k : Kind) → IsOwnBehind start es x k → IsOwnBehind start fs x k
   own_kept x kind.Genesis o = tt
   own_kept x kind.Content o = record {
@@ -87,7 +91,7 @@ module _ (start : Option Base) (hid gone : ℕ → Bool) (es fs : List Entry) (a
   own_kept x kind.Time o = tt
   own_kept x kind.Occult o = record {
     shown = sym (named_kept x.a) ∙ o.shown;
-    front = λ less. omega (arith, o.front less, points);
+    front = λ less. sym (owned_kept start) ∙ o.front less;
     kept = λ le. omega (arith, o.kept le, points);
     target_is = λ le. sym (kind_kept (x.a - first_of start)) ∙ o.target_is le;
     leaf_is = λ le. o.leaf_is le ∙ leaf_kept (x.a - first_of start);

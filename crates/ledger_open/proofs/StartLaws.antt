@@ -10,7 +10,7 @@ use Rattle.tree_model.specs.RootFrom.{root_from, root_from_at}
 use Rattle.block_file.specs.Head.{IsBaseErr, number_at}
 use Rattle.block_file.specs.declared.failure.Damage.TheVariants as damages
 use Rattle.block_file.specs.declared.failure.FileErr.TheVariants.{Damaged}
-use Rattle.ledger_book.specs.Behind.{first_of}
+use Rattle.ledger_model.specs.Behind.{first_of}
 use Rattle.ledger_bytes.specs.declared.digest.Digest.{Digest}
 use Rattle.ledger_bytes.specs.declared.failure.Bad.{Bad}
 use Rattle.ledger_bytes.specs.declared.failure.Bad.TheVariants as bad

@@ -15,7 +15,7 @@ use Rattle.journal_record.specs.Blocks.{leaves_of}
 use Rattle.journal_record.specs.Entry.{Entry}
 use Rattle.journal_record.specs.Header.{spelling}
 use Rattle.journal_record.specs.declared.header.Header.{Header}
-use Rattle.ledger_book.specs.Behind.{next_number, IsNextBehind, AreBehind}
+use Rattle.ledger_model.specs.Behind.{next_number, IsNextBehind, AreBehind}
 use Rattle.ledger_book.specs.Books.{Kept, Stands}
 use Rattle.ledger_book.specs.Reading.{StandsBehind, root_behind}
 use Rattle.ledger_book.specs.Replaying.{IsPlaced, IsNotPlaced, Replays}

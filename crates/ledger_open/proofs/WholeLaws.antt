@@ -12,7 +12,7 @@ use Rattle.journal_record.specs.declared.member.Member.{Member}
 use Rattle.block_file.specs.declared.failure.Damage.{Damage}
 use Rattle.clue_index.specs.Added.{states_at}
 use Rattle.ledger_book.proofs.SeenLaws.{all_behind}
-use Rattle.ledger_book.specs.Behind.{AreBehind}
+use Rattle.ledger_model.specs.Behind.{AreBehind, is_purge_to}
 use Rattle.ledger_model.specs.Bases.{base_of, clues_added}
 use Rattle.ledger_model.specs.Members.{members}
 use Rattle.ledger_model.proofs.PointLaws.{point_is_time}
@@ -24,14 +24,15 @@ use Rattle.pseudo_genesis.specs.declared.base.Base.{Base}
 use Rattle.ledger_open.specs.Damages.{IsDamage}
 use Rattle.ledger_open.specs.Opening.{GoesOn, HasWhole, HasLawfulBlocks}
 use Rattle.ledger_open.specs.Standing.{Floor, floor_from, floor_behind, HasBlocks, SameButHidden, StandsBy, StandsFor, AllKept, hidden_before, point_before}
-use Rattle.ledger_open.specs.Starts.{IsDecoded, IsBaseOf, AreFounded, HasOwnPurge, is_purge_to}
+use Rattle.ledger_open.specs.Starts.{IsDecoded, IsBaseOf, AreFounded, HasOwnPurge}
 use Rattle.ledger_open.proofs.AgainLaws.{blocks_unique}
 use Rattle.ledger_open.proofs.DamageLaws.{starts, none_damaged}
 use Rattle.ledger_open.proofs.FloorLaws.{floor_first}
 use Rattle.ledger_open.proofs.KeptLaws.{all_kept, same_weaker, header_any_same}
 use Rattle.ledger_open.proofs.NextLaws.{lawful_front}
 use Rattle.ledger_open.proofs.OwnLaws.{founded_kept, blocks_kept}
-use Rattle.ledger_open.proofs.OwnPurges.{leads_to, reaches}
+use Rattle.ledger_book.proofs.OwnLaws.{leads_to}
+use Rattle.ledger_open.proofs.OwnPurges.{reaches}
 use Rattle.ledger_open.proofs.PartLaws.{first_ones, floor_few, halves, kept_from}
 use Rattle.ledger_open.proofs.SeenLaws.{all_ground, behind_kept}
 use Rattle.ledger_open.proofs.StartLaws.{digests_from, start_once}
@@ -173,7 +174,7 @@ module _ (image : List ℕ) (h : History) (s : StandsFor image h) where
 
   own_there : (gone : List (List Entry)) (is : gone ≡ s.file.parts.gone) → HasOwnPurge (own_start image h s gone is).start (journals_of s.file.keeps.blocks)
   unfolding own_start
-  own_there [] is = tt
+  own_there [] is = refl
   own_there (g ∷ gs) is =
       let at : length (journals_of (g ∷ gs)) ≡ s.floor = ap (λ (l : List (List Entry)). length (journals_of l)) is ∙ s.file.parts.at in
       let some : 1 ≤ length (journals_of (g ∷ gs)) = gone_there image h s g gs is in

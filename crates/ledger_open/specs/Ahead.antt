@@ -7,7 +7,7 @@ use Rattle.block_file.specs.declared.failure.Damage.{Damage}
 use Rattle.block_file.specs.declared.failure.FileErr.{FileErr}
 use Rattle.block_file.specs.declared.failure.FileErr.TheVariants.{Damaged}
 use Rattle.journal_record.specs.Entry.{Entry}
-use Rattle.ledger_book.specs.Behind.{next_number}
+use Rattle.ledger_model.specs.Behind.{next_number}
 use Rattle.ledger_book.specs.Books.{Kept}
 use Rattle.ledger_book.specs.Steps.{IsLeafOf}
 use Rattle.ledger_bytes.specs.declared.digest.Digest.{Digest}

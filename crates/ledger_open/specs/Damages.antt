@@ -8,7 +8,7 @@ use Rattle.block_file.specs.declared.failure.Damage.TheVariants.{Magic, BaseForm
 use Rattle.block_file.specs.declared.failure.FileErr.TheVariants.{Damaged}
 use Rattle.journal_record.specs.Blocks.{leaves_of, AreBlocks, written_blocks}
 use Rattle.journal_record.specs.Entry.{Entry, content_digest_of}
-use Rattle.ledger_book.specs.Behind.{next_number, IsNextBehind, AreBehind}
+use Rattle.ledger_model.specs.Behind.{next_number, IsNextBehind, AreBehind}
 use Rattle.ledger_model.specs.History.{journals_of}
 use Rattle.ledger_model.specs.Lawful.{AllGather}
 use Rattle.pseudo_genesis.specs.declared.base.Base.{Base as BaseRecord}

@@ -9,6 +9,7 @@ pub mod Opening
 pub mod Ahead
 pub mod Taking
 pub mod Erasing
+pub mod Pieces
 pub mod Cutting
 pub mod Purging
 pub mod Reopened

@@ -13,7 +13,7 @@ use Rattle.ledger_open.specs.Cutting.{FallsAway, IsBaseAt, gate_behind}
 use Rattle.ledger_open.specs.Erasing.{EndsAs}
 use Rattle.ledger_open.specs.Opening.{Known, known_from}
 use Rattle.ledger_open.specs.Places.{AreInOrder, places_from}
-use Rattle.ledger_open.specs.Standing.{Floor, floor_of, floor_behind, StandsFor, IsClean, IsBeside, PairFor}
+use Rattle.ledger_open.specs.Standing.{Floor, floor_of, floor_behind, StandsFor, IsErased, IsClean, IsBeside, PairFor}
 use Rattle.block_file.specs.Places.{moved_place}
 use Rattle.ledger_open.specs.declared.opened.Opened.{Opened}
 use Rattle.ledger_open.specs.declared.purging.Gone.{Gone}
@@ -153,6 +153,15 @@ pub record IsCleanOpen (l : Ledger) (h : History) : Type 0 where
   pub clean : IsClean (open_disk l).seen h
   pub empty : length (other_disk l).seen ≡ 0
   pub generation : l.generation ≡ generation_of (open_disk l).seen
+
+-- What the last journal of this history takes away is gone: the open file begins at the point, all that is hidden is zeros there for
+-- good, and nothing is pending. `what_is_left_undone_is_finished` says that an occult and a purge come to this.
+-- Example: the last journal is a purge to journal 9. Then the open file begins with a base at 9.
+pub record IsFinished (l : Ledger) (h : History) : Type 0 where
+  pub quiet : IsSettled (open_disk l)
+  pub other_quiet : IsSettled (other_disk l)
+  pub erased : IsErased (open_disk l).seen h
+  pub floor : l.known.book.floor ≡ point h
 
 -- where the open file began in front of the point, the pair is clean afterwards for the history that it stood for
 abbrev pub FinishesPurge : Ledger → Ledger → Type 0

@@ -1,15 +1,12 @@
 -- Where a file begins, with a base or with journal 0, and which blocks may stand behind it.
-use Rattle.std.specs.Prelude.{◌≡◌, ◌≢◌, ◌⊎◌, ℕ, ◌-◌, ◌≤◌, ◌==◌, ◌&&◌, Bool, true, All, List, [], length, take, drop, Option, Some, None, Err, ⊤}
-use Rattle.std.specs.List.{list_any}
+use Rattle.std.specs.Prelude.{◌≡◌, ◌≢◌, ℕ, ◌-◌, ◌≤◌, true, All, List, [], length, take, drop, Option, Some, None, Err, ⊤}
 use Rattle.block_file.specs.Head.{HasHead, digest_of, number_at}
 use Rattle.journal_record.specs.Entry.{Entry}
-use Rattle.journal_record.specs.declared.header.Header.{Header}
-use Rattle.ledger_book.specs.Behind.{AreBehind}
-use Rattle.ledger_book.specs.Books.{Kept}
+use Rattle.ledger_model.specs.Behind.{AreBehind, has_own_purge}
 use Rattle.ledger_bytes.specs.declared.failure.Bad.{Bad}
 use Rattle.ledger_bytes.specs.declared.failure.Bad.TheVariants as bad
 use Rattle.ledger_model.specs.Bases as model
-use Rattle.ledger_model.specs.History.{History, journals_of, is_purge}
+use Rattle.ledger_model.specs.History.{History, journals_of}
 use Rattle.ledger_model.specs.Lawful.{IsBlock, IsFounded}
 use Rattle.pseudo_genesis.specs.Bases.{IsBase, HasWidths, base_spelling}
 use Rattle.pseudo_genesis.specs.Reading.{base_of}
@@ -41,18 +38,9 @@ pub record AreLegal (start : Option Base) (blocks : List (List Entry)) : Type 0 
   pub blocks_are : All IsBlock blocks
   pub founded : AreFounded start (journals_of blocks)
 
--- whether a header is that of the purge to this point
-abbrev pub is_purge_to : ℕ → Header → Bool
-is_purge_to p x = is_purge x.kind && (x.a == p)
-
 -- behind a base stands the purge to its very point; without a base nothing has to
 abbrev pub HasOwnPurge : Option Base → List Entry → Type 0
-HasOwnPurge None journals = ⊤
-HasOwnPurge (Some b) journals = list_any (λ j. is_purge_to b.point j.header) journals ≡ true
-
--- a book begins with journal 0, or keeps the header of the purge to its first journal
-abbrev pub IsReached : Kept → Type 0
-IsReached k = (k.floor ≡ 0) ⊎ (list_any (is_purge_to k.floor) k.headers ≡ true)
+HasOwnPurge start journals = has_own_purge start journals ≡ true
 
 -- ---- in a file
 

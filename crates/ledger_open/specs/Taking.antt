@@ -5,7 +5,7 @@ use Rattle.block_file.specs.declared.failure.Damage.{Damage}
 use Rattle.block_file.specs.declared.failure.Damage.TheVariants.{Magic, BaseForm, Base, Length, Entry as Entries, Root, Content}
 use Rattle.journal_record.specs.Blocks.{leaves_of}
 use Rattle.journal_record.specs.Entry.{Entry}
-use Rattle.ledger_book.specs.Behind.{next_number, IsNextBehind, AreBehind}
+use Rattle.ledger_model.specs.Behind.{next_number, IsNextBehind, AreBehind}
 use Rattle.ledger_book.specs.Books.{Kept, Stands}
 use Rattle.ledger_book.specs.Reading.{StandsBehind}
 use Rattle.ledger_model.specs.History.{History, journals, journals_of}

@@ -1,3 +1,5 @@
+//! Why a ledger can't be made or opened.
+
 ghost use Rattle.std.specs.Prelude.{◌≡◌};
 
 use block_file::{Damage, FileErr};

@@ -1,15 +1,18 @@
-ghost use Rattle.std.specs.Prelude.{◌≡◌, ◌⊎◌, [], Bool, List, ℕ, Option, Some, None};
+//! Laws of a ledger's two files: which history they stand for, when they open, and what a block or an erasure changes.
+
+ghost use Rattle.std.specs.Prelude.{◌≡◌, ◌⊎◌, ◌<◌, [], Bool, true, List, ℕ, Option, Some, None};
 ghost use Rattle.block_file.specs.declared.failure.Damage.{Damage};
 ghost use Rattle.ledger_model.specs.Genesis.{HasKeys, new_ledger};
 ghost use Rattle.ledger_model.specs.History.{History, point};
 ghost use Rattle.ledger_model.specs.declared.genesis.Genesis.{Genesis};
 ghost use Rattle.pseudo_genesis.specs.declared.base.Base.{Base};
 ghost use Rattle.ledger_open.specs.Damages.{IsDamage};
-ghost use Rattle.ledger_open.specs.Erasing.{AllInside, IsGivenUp, IsOutsideOf, IsZeroedIn, last_target};
+ghost use Rattle.ledger_open.specs.Erasing.{AllInside, GivesUp, IsGivenUp, IsOutsideOf, IsZeroedIn, last_target};
 ghost use Rattle.ledger_open.specs.Founding.{IsFounded};
 ghost use Rattle.ledger_open.specs.Growing.{Grows, GrowsErased, IsNewClean};
 ghost use Rattle.ledger_open.specs.Places.{AreAtPlaces, AreAllThere};
 ghost use Rattle.ledger_open.specs.Opening.{Known, Knows, IsOpenErr, IsOutside, AreSettled};
+ghost use Rattle.ledger_open.specs.Purging.{Ledger, IsDone, IsFinished, StandsOpen, open_disk, other_disk};
 ghost use Rattle.ledger_open.specs.Reopened.{Remembers, IsReopened, IsTidyAt};
 ghost use Rattle.ledger_open.specs.Standing.{IsOneHistory, IsOnePair, StandsFor, IsErased, PairFor, IsClean, IsCleanPair};
 ghost use Rattle.ledger_open.specs.declared.failure.OpenErr.{OpenErr};
@@ -121,6 +124,18 @@ pub fn a_content_may_be_given_up()
     ensures clean { (old new : State) (h : History) (stands : StandsFor old.seen h)
         → stands.file.keeps.file.stands.rest ≡ [] → stands.floor ≡ point h
         → IsGivenUp old new h → IsClean new.seen h }
+{}
+
+/// What the last journal leaves undone is finished by one of two calls, and what they come to is one thing: after
+/// [`finish_erasures`](crate::finish_erasures) of a ledger whose file begins at the point, and after a purge was finished of one whose file
+/// began in front of it, all that the history hides or gave up is gone from the open file, and nothing is pending.
+pub fn what_is_left_undone_is_finished()
+    ensures occult { (old new : Ledger) (h : History) → StandsOpen old h
+        → old.known.book.floor ≡ point h
+        → GivesUp old.known.book old.known.places (open_disk old) (open_disk new)
+        → new.known ≡ old.known → other_disk new ≡ other_disk old → IsFinished new h }
+    ensures purge { (old new : Ledger) (h : History) → StandsOpen old h
+        → old.known.book.floor < old.known.book.point → IsDone true old new → IsFinished new h }
 {}
 
 /// In a ledger that was made or opened each content ends before the tail gate.

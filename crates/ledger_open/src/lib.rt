@@ -9,6 +9,7 @@ mod first;
 mod founding;
 mod laws;
 mod opened;
+mod pieces;
 mod places;
 pub mod purging;
 mod reading;
@@ -23,8 +24,9 @@ pub use laws::{
     a_pair_has_one_cause_of_refusal, a_pair_stands_for_one_history, a_shut_pair_is_empty,
     a_standing_file_has_no_damage, a_standing_pair_opens, an_opened_book_stands_for_the_history,
     an_opened_pair_has_no_damage, an_opened_pair_is_clean, contents_end_before_the_tail,
-    journals_stand_at_their_places,
+    journals_stand_at_their_places, what_is_left_undone_is_finished,
 };
 pub use opened::Opened;
+pub use pieces::{PieceErr, kept_place, read_piece};
 pub use places::Places;
 pub use reopening::reopen;

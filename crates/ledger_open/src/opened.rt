@@ -1,3 +1,5 @@
+//! What making or opening a ledger gives.
+
 use crate::Places;
 use ledger_book::Book;
 use twin_file::Twin;

@@ -1,3 +1,5 @@
+//! The list of places at which the journals of the open file stand.
+
 ghost use Rattle.std.specs.Prelude.{◌≡◌, ◌≤◌, ◌<◌, ◌-◌, ◌+◌, ◌++◌, [], ◌∷◌, drop, length, map, OnOk, OnErr, vec_len, vec_capacity};
 ghost use Rattle.block_file.specs.Places.{moved_place};
 ghost use Rattle.block_file.specs.Places.{place_of_record};

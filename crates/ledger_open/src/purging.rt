@@ -60,8 +60,8 @@ fn cut_of(book: &Book, places: &Places) -> Option<Cut>
     Some(Cut { point, count, gate })
 }
 
-// The bytes of the base at a journal.
-fn base_bytes(alloc: Global, book: &Book, p: u64) -> Result<Bytes, NoMemory>
+/// The bytes of the base at a journal.
+pub fn base_bytes(alloc: Global, book: &Book, p: u64) -> Result<Bytes, NoMemory>
     requires low { book.now.floor ≤ p }
     requires some { 1 ≤ p }
     requires high { p ≤ book.now.size }

@@ -1,18 +1,16 @@
 //! The open file, read from its first block to its tail gate.
 
-ghost use Rattle.std.specs.Prelude.{◌≡◌, ◌≢◌, ◌⊎◌, ◌+◌, ◌≤◌, ℕ, Bool, List, get_or, length, IsTrue, IfOk, IfErr, IsSomeAnd, OnOk};
-ghost use Rattle.std.specs.List.{list_any};
+ghost use Rattle.std.specs.Prelude.{◌≡◌, ◌≢◌, ◌⊎◌, ◌+◌, ◌≤◌, ℕ, Bool, true, false, List, get_or, length, IsTrue, IfOk, IfErr, IsSomeAnd, OnOk};
 ghost use Rattle.block_file.specs.FileView.{gate_of, base_len_of};
 ghost use Rattle.block_file.specs.declared.failure.Damage.{Damage};
 ghost use Rattle.block_file.specs.declared.failure.Damage.TheVariants as damages;
 ghost use Rattle.ledger_disk.specs.Disk.{KeepsLength};
-ghost use Rattle.ledger_model.specs.History as model;
 ghost use Rattle.ledger_model.specs.Limits.{AreWithin};
 ghost use Rattle.ledger_open.specs.Ahead.{AreNextBlocks};
 ghost use Rattle.ledger_open.specs.Damages.{IsDamage};
 ghost use Rattle.ledger_open.specs.Opening.{HasRead, HasKnown, IsHeadOf, IsReadErr, CountsRead, known_from};
 ghost use Rattle.ledger_open.specs.Standing.{floor_from};
-ghost use Rattle.ledger_open.specs.Starts.{IsDecoded, IsReached, IsStart, is_purge_to};
+ghost use Rattle.ledger_open.specs.Starts.{IsDecoded, IsStart};
 ghost use Rattle.ledger_open.specs.declared.ahead.Stop.TheVariants as stops;
 ghost use Rattle.ledger_open.specs.declared.failure.OpenErr.TheVariants as errors;
 
@@ -22,7 +20,6 @@ use crate::first::read_first;
 use crate::taking::{take_all, take_beside};
 use crate::{OpenErr, Places};
 use block_file::{BlockFile, Damage};
-use journal_record::{Header, Kind};
 use ledger_book::Book;
 use ledger_disk::Disk;
 use ledger_model::Limits;
@@ -77,47 +74,13 @@ fn read_more<R: Threads, D: Disk>(
     }
 }
 
-// Whether journals of this kind are purges.
-fn is_purge(kind: Kind) -> bool
-    ensures { result ≡ model.is_purge kind }
-{
-    match kind {
-        Kind::Purge => true,
-        Kind::Genesis | Kind::Content | Kind::Member | Kind::Time | Kind::Occult => false,
-    }
-}
-
-// Whether this is the header of the purge to this point.
-fn leads_to(header: &Header, point: u64) -> bool
-    ensures { result ≡ is_purge_to point header.now }
-{
-    is_purge(header.kind) && header.a == point
-}
-
-// Whether the purge to this point is among the journals whose headers are kept.
-fn has_purge_to(book: &Book, point: u64) -> bool
-    requires all { book.now.size ≡ book.now.floor + length book.now.headers }
-    ensures { result ≡ list_any (is_purge_to point) book.now.headers }
-{
-    for number in book.floor()..book.size() {
-        if let Some(header) = book.header(number) {
-            if leads_to(header, point) {
-                return true;
-            }
-        }
-    }
-    false
-}
-
 // What was read up to the tail gate. Behind a base the purge to its point has to be there.
 fn end_at_tail(read: Read) -> Result<Read, OpenErr>
-    requires all { read.book.size ≡ read.book.floor + length read.book.headers }
-    ensures ok { IfOk result (λ known. (known ≡ read) × IsReached read.book) }
+    ensures ok { IfOk result (λ known. (known ≡ read) × (read.book.reached ≡ true)) }
     ensures err { IfErr result (λ e. (e ≡ errors.Damaged (damages.Entry read.book.size))
-        × (IsReached read.book → ⊥)) }
+        × (read.book.reached ≡ false)) }
 {
-    let floor = read.book.floor();
-    if floor > 0 && !has_purge_to(&read.book, floor) {
+    if !read.book.reached() {
         return Err(OpenErr::Damaged(Damage::Entry {
             jsn: read.book.size(),
         }));
@@ -130,7 +93,8 @@ fn read_last(read: Read, ahead: Ahead) -> Result<Read, OpenErr>
     requires end { ahead.stop ≢ stops.Full }
     requires ahead { (tells : Bool) × (file : List ℕ) × (place : ℕ)
         × AreNextBlocks tells file read.book read.places.list ahead place }
-    ensures ok { IfOk result (λ known. IsReached known.book × ((tells : Bool) (file : List ℕ) (place : ℕ)
+    ensures ok { IfOk result (λ known. (known.book.reached ≡ true)
+        × ((tells : Bool) (file : List ℕ) (place : ℕ)
         → AreNextBlocks tells file read.book read.places.list ahead place
         → HasRead tells file (known_from known.book known.places.list place)
         × (IsTrue tells → get_or file place 0 ≢ 1))) }

@@ -284,6 +284,7 @@ pub fn reopen<R: Threads, D: Disk>(
     ensures copy { IfOk result (λ opened. copy_of opened.twin ≡ None) }
     ensures err { IfErr result (λ e. IsTrue D.tells
         → IsOpenErr (D.state a.old).bytes.seen (D.state b.old).bytes.seen e) }
+    ensures only { IfErr result (λ e. e ≢ errors.Exists) }
     ensures same { IfErr result (λ e. e ≢ errors.DiskFault → IsTrue D.tells
         → AreSettled (D.state a.old).bytes (D.state b.old).bytes (D.state a.new).bytes (D.state b.new).bytes) }
 

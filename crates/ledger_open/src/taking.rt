@@ -1,9 +1,11 @@
+//! How the blocks of a file are taken into the book when a ledger is opened, and which damage is told.
+
 ghost use Rattle.std.specs.Prelude.{◌≡◌, ◌⊎◌, ◌+◌, ◌^◌, ◌<◌, ◌≤◌, [], ◌∷◌, ℕ, All, List, length, take, IfErr, OnOk, Option, vec_len};
 ghost use Rattle.block_file.specs.declared.failure.Damage.{Damage};
 ghost use Rattle.block_file.specs.declared.failure.Damage.TheVariants as damages;
 ghost use Rattle.journal_record.specs.Entry.{Entry};
 ghost use Rattle.journal_record.specs.Rules.{IsHeader};
-ghost use Rattle.ledger_book.specs.Behind.{next_number};
+ghost use Rattle.ledger_model.specs.Behind.{next_number};
 ghost use Rattle.ledger_model.specs.History.{journals_of};
 ghost use Rattle.ledger_model.specs.Lawful as lawful;
 ghost use Rattle.pseudo_genesis.specs.declared.base.Base.{Base};

@@ -1,12 +1,11 @@
-use Rattle.std.proofs.Common.{refl, sym, ap, subst, ◌≤◌, [], inl, inr}
+use Rattle.std.proofs.Common.{◌≡◌, true, refl, sym, ap, subst, [], inl, inr}
 use Rattle.std.proofs.lemmas.Result.{IfOk-weaker, IfErr-weaker}
 use Rattle.block_file.specs.declared.failure.Damage.TheVariants as damages
 use Rattle.ledger_open.specs.Ahead.{IsAhead, blocks_in}
 use Rattle.ledger_open.specs.Opening.{HasRead, known_from}
 use Rattle.ledger_open.specs.declared.reading.Read.{Read}
 use Rattle.ledger_open.proofs.AheadLaws.{after_all, end_bad, end_shut, end_too_long, whole_ahead}
-use Rattle.ledger_open.specs.Starts.{IsReached}
-use Rattle.ledger_open.proofs.MoreLaws.{all_headers, cut_short}
+use Rattle.ledger_open.proofs.MoreLaws.{cut_short}
 use Rattle.ledger_open.proofs.reading.read_last.Goals as goal
 
 pub take_all-requires-clause-ahead : goal.take_all-requires-clause-ahead
@@ -14,14 +13,6 @@ take_all-requires-clause-ahead c =
     let a = c.requires.ahead in
     let n = a.3 in
     (a.0, a.1, n.at, [], c.args.ahead.stop, whole_ahead a.0 a.1 (known_from c.args.read.book c.args.read.places.list n.at) c.as_slice.result.now c.args.ahead.blocks.items c.args.ahead.stop c.as_slice.ensures.value n.are)
-
-pub end_at_tail-requires : goal.end_at_tail-requires
-end_at_tail-requires c =
-    let a = c.requires.ahead in
-    let n = a.3 in
-    let k = known_from c.take_all.new.book c.take_all.new.places.list a.2 in
-    let e = after_all a.0 a.1 c.take_all.new.book c.take_all.new.places.list n.at a.2 (blocks_in c.args.ahead.blocks.items) (blocks_in c.as_slice.result.now) c.args.ahead.stop n.place_is (ap blocks_in c.as_slice.ensures.value) (c.in_default.ensures.ok.goes a.0 a.1 n.at [] c.args.ahead.stop (whole_ahead a.0 a.1 (known_from c.args.read.book c.args.read.places.list n.at) c.as_slice.result.now c.args.ahead.blocks.items c.args.ahead.stop c.as_slice.ensures.value n.are)) in
-    record { all = all_headers a.0 a.1 k e.read }
 
 pub returns-in-Err-clause-err : goal.returns-in-Err-clause-err
 returns-in-Err-clause-err c = elim c.in-Err.ensures.err [
@@ -36,7 +27,7 @@ returns-in-Err-clause-err c = elim c.in-Err.ensures.err [
 
 pub returns-in-Shut-clause-ok : goal.returns-in-Shut-clause-ok
 returns-in-Shut-clause-ok c = IfOk-weaker c.end_at_tail.result _ _ (λ known both. (
-  subst (λ (r : Read). IsReached r.book) (sym both.0) both.1,
+  subst (λ (r : Read). r.book.reached ≡ true) (sym both.0) both.1,
   λ tells file place n.
       let k = known_from c.take_all.new.book c.take_all.new.places.list place in
       let a = subst (IsAhead tells file k []) c.in-Shut.is (let n = n in after_all tells file c.take_all.new.book c.take_all.new.places.list n.at place (blocks_in c.args.ahead.blocks.items) (blocks_in c.as_slice.result.now) c.args.ahead.stop n.place_is (ap blocks_in c.as_slice.ensures.value) (c.in_default.ensures.ok.goes tells file n.at [] c.args.ahead.stop (whole_ahead tells file (known_from c.args.read.book c.args.read.places.list n.at) c.as_slice.result.now c.args.ahead.blocks.items c.args.ahead.stop c.as_slice.ensures.value n.are))) in
