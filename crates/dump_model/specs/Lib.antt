@@ -1,0 +1,4 @@
+pub mod Dumps
+pub mod Checks
+pub mod Truth
+pub mod Shown
