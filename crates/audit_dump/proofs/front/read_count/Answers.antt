@@ -1,0 +1,6 @@
+use Rattle.audit_dump.proofs.front.read_count.Goals as goal
+
+pub returns-in-Err-Broken-clause-over : goal.returns-in-Err-Broken-clause-over
+returns-in-Err-Broken-clause-over g c =
+    let stopped = rw c.in-Err-Broken.field-0-is at c.in-Err-Broken.ensures in
+    (stopped.bytes, stopped.read_bytes, stopped.told)
