@@ -1,0 +1,14 @@
+pub mod Lines
+pub mod Running
+pub mod Widths
+pub mod Fewer
+pub mod Facts
+pub mod Dumped
+pub mod Seen
+pub mod Heads
+pub mod Order
+pub mod Times
+pub mod Placing
+pub mod Behind
+pub mod Links
+pub mod Joined
