@@ -1,0 +1,3 @@
+pub mod Texts
+pub mod Exporting
+pub mod Items
