@@ -1,32 +1,15 @@
 -- Lemmas on the whole of a run.
-use Rattle.std.proofs.Common.{◌≡◌, ◌≢◌, ◌↔◌, ℕ, List, [], ◌∷◌, ◌++◌, Option, Some, None, refl, sym, ap, ◌∙◌, subst, append-nil}
+use Rattle.std.proofs.Common.{◌≡◌, ℕ, List, [], ◌∷◌, ◌++◌, refl, sym, ap, ◌∙◌, subst, append-nil}
 use Rattle.std.specs.Io.KnownBytes.{Appends}
 use Rattle.std.proofs.KnownBytes.{Appends-trans}
-use Rattle.ledger_io.specs.Endings.{status_of, last_line}
-use Rattle.ledger_io.specs.Outside.{SourceState, SinkState, Outside, outside}
+use Rattle.ledger_io.specs.Endings.{status_of}
+use Rattle.ledger_io.specs.Outside.{Outside}
 use Rattle.ledger_io.specs.Runs.{Ran}
-use Rattle.ledger_io.specs.Writing.{WritesLast}
 use Rattle.ledger_io.specs.declared.ending.Ending.{Ending}
 use Rattle.ledger_io.specs.declared.ending.Ending.TheVariants.{Done, Usage, ReadFault, WriteFault, NoMemory, LineTooLong, ScriptTooLong}
-use Rattle.ledger_io.proofs.RunLaws.{served_usage}
 use Rattle.tree_model.specs.Tree.{Hash}
 use Rattle.audit_cli.specs.Sound.{IsSoundText, SoundRun}
-use Rattle.audit_cli.specs.Runs.{AnswersScript, RanProgram}
-use Rattle.audit_cli.specs.declared.words.Command.{Command}
-use Rattle.audit_cli.specs.declared.words.Command.TheVariants.{Script}
-
--- the words `script` are not a faulty command line, and the run doesn't end as if they were
-pub script_usage : (end : Ending) → end ≢ Usage → (end ≡ Usage) ↔ (Some Script ≡ None)
-script_usage end started = (λ e. absurd (started e), λ e. absurd (let no : ⊥ = cc in no))
-
--- a run with words of no form
-pub ran_usage : (hash : Hash) (asked : Option Command) (status : ℕ) (source : SourceState) (before after : SinkState) → asked ≡ None → status ≡ 1 → WritesLast (last_line Usage) before after → RanProgram hash asked status (outside source before) (outside source after)
-ran_usage hash asked status source before after none is l = record {
-  ending = Usage;
-  status_is = is;
-  usage = (λ e. none, λ e. refl);
-  ran = record { sink = before; served = served_usage (AnswersScript hash) (outside source before); last = l };
-}
+use Rattle.audit_cli.specs.Runs.{AnswersScript, RanScript}
 
 -- ---- a run that is done
 
@@ -59,5 +42,5 @@ ending_sound hash NoMemory before after e ran = absurd cc
 ending_sound hash LineTooLong before after e ran = absurd cc
 ending_sound hash ScriptTooLong before after e ran = absurd cc
 
-pub run_sound : (hash : Hash) (asked : Option Command) (status : ℕ) (before after : Outside) → RanProgram hash asked status before after → status ≡ 0 → SoundRun hash before after
-run_sound hash asked status before after ran zero_is = ending_sound hash ran.ending before after (sym ran.status_is ∙ zero_is) ran.ran
+pub run_sound : (hash : Hash) (status : ℕ) (before after : Outside) → RanScript hash status before after → status ≡ 0 → SoundRun hash before after
+run_sound hash status before after ran zero_is = ending_sound hash ran.ending before after (sym ran.status_is ∙ zero_is) ran.ran

@@ -35,7 +35,7 @@ use Rattle.audit_cli.proofs.JudgedLines.{Judgeable, judged_line, checked_line}
 
 -- ---- the word
 
-abbrev words_text : Reply → List ℕ
+abbrev pub words_text : Reply → List ℕ
 words_text given = spaced_words (reply_words given) ++ codes "\n"
 
 -- what reads as a reply has its first letter behind the space
@@ -61,7 +61,7 @@ true_alone (reply.Clash told truth) e = absurd (false≢true (first_letter _ (wo
 true_alone (reply.Refused refusal) e = absurd (false≢true (first_letter _ (words_text reply.True) 116 e refl))
 
 -- .. or of `clash`
-clash_alone : (given : Reply) (told truth : List ℕ) → words_text given ≡ words_text (reply.Clash told truth) → (a : List ℕ) × (b : List ℕ) × (given ≡ reply.Clash a b)
+pub clash_alone : (given : Reply) (told truth : List ℕ) → words_text given ≡ words_text (reply.Clash told truth) → (a : List ℕ) × (b : List ℕ) × (given ≡ reply.Clash a b)
 clash_alone reply.Yes told truth e = absurd (false≢true (first_letter _ (words_text (reply.Clash told truth)) 99 e refl))
 clash_alone (reply.No why) told truth e = absurd (false≢true (first_letter _ (words_text (reply.Clash told truth)) 99 e refl))
 clash_alone (reply.Unaccepted why) told truth e = absurd (false≢true (first_letter _ (words_text (reply.Clash told truth)) 99 e refl))
@@ -70,7 +70,7 @@ clash_alone (reply.Clash a b) told truth e = (a, b, refl)
 clash_alone (reply.Refused refusal) told truth e = absurd (false≢true (first_letter _ (words_text (reply.Clash told truth)) 99 e refl))
 
 -- what stands behind the number
-behind_number : (number : ℕ) (a b : Reply) → reply_text number a ≡ reply_text number b → words_text a ≡ words_text b
+pub behind_number : (number : ℕ) (a b : Reply) → reply_text number a ≡ reply_text number b → words_text a ≡ words_text b
 behind_number number a b same =
     let split = λ (r : Reply). append_assoc (decimal number) (spaced_words (reply_words r)) (codes "\n") in
     append_cancel_left (decimal number) _ _ (sym (split a) ∙ same ∙ split b)

@@ -1,7 +1,9 @@
 pub mod Grammar
 pub mod Answers
 pub mod Replies
+pub mod ReportLines
 pub mod Texts
 pub mod Sound
+pub mod Dumps
 pub mod Words
 pub mod Runs

@@ -1,3 +1,5 @@
+//! What a line of an audit script is answered, and which heads are trusted from then on.
+
 ghost use Rattle.std.specs.Prelude.{◌≡◌, Ok, IfOk, OnOk};
 ghost use Rattle.audit_core.specs.Acceptance.{acceptance};
 ghost use Rattle.audit_core.specs.Judgement.{told_by};

@@ -1,9 +1,13 @@
-ghost use Rattle.std.specs.Prelude.{◌≡◌, ◌⊎◌, ◌↔◌, ◌+◌, ℕ, List, [], ◌∷◌, ◌++◌, length, None, Some, Ok};
+//! Laws of the words that make commands, and of an audit script's replies: each stands in its place, and what `yes`,
+//! `true` and `clash` tell is so.
+
+ghost use Rattle.std.specs.Prelude.{◌≡◌, ◌⊎◌, ◌↔◌, ◌+◌, ℕ, List, [], ◌∷◌, ◌++◌, length, codes, None, Some, Ok};
 ghost use Rattle.ledger_bytes.specs.declared.digest.Digest.{Digest as DigestRecord};
 ghost use Rattle.merkle_tree.specs.declared.head.Head.{Head as HeadRecord};
 ghost use Rattle.proof_codec.specs.declared.claim.Claim.{Claim as ClaimRecord};
 ghost use Rattle.proof_codec.specs.Proofs.{Shown};
 ghost use Rattle.proof_codec.specs.Reading.{proof_of};
+ghost use Rattle.script_lines.specs.Spellings.{digest_of};
 ghost use Rattle.script_lines.specs.declared.said.Which.{Which as Tree};
 ghost use Rattle.ledger_io.specs.Lines.{lines_of};
 ghost use Rattle.tree_model.specs.Tree.{Hash, mth};
@@ -16,10 +20,12 @@ ghost use Rattle.audit_core.specs.Chains.{BeginsWith, AreReached};
 ghost use Rattle.audit_cli.specs.declared.line.Line.TheVariants.{Extend, Check, Judge};
 ghost use Rattle.audit_cli.specs.declared.reply.Reply.{Reply as ReplyRecord};
 ghost use Rattle.audit_cli.specs.declared.reply.Reply.TheVariants.{Yes, True, Clash};
+ghost use Rattle.audit_cli.specs.declared.words.Command.TheVariants.{Script, Dump};
 ghost use Rattle.audit_cli.specs.Grammar.{line_of};
 ghost use Rattle.audit_cli.specs.Replies.{reply_text, IsOneLine};
 ghost use Rattle.audit_cli.specs.Answers.{answer_to};
 ghost use Rattle.audit_cli.specs.Sound.{IsSoundText};
+ghost use Rattle.audit_cli.specs.Words.{command_of, head_of};
 ghost use Rattle.audit_cli.specs.Texts.{audit_text, text_from, trusted_behind, reply_behind, next_text};
 
 /// The text of a script tells the reply to each line in its place: behind the text of the lines in front of it, with its
@@ -104,18 +110,29 @@ pub fn extended_heads_go_on()
 
 /// What the text of a script says is so, or it shows two different strings with one digest: each claim that a `yes` answers
 /// is true of the lists under the heads that its proof names, and under all that the script's extensions lead to, and its
-/// bounds are moments where the notary is honest. This holds for every hash whose digests have 32 bytes.
+/// bounds are moments where the notary is honest; and two strings beside `clash` are such strings. This holds for every hash whose digests have 32 bytes.
 pub fn scripts_are_sound()
     ensures { (hash : Hash) (lines : List (List ℕ)) → ((message : List ℕ) → length (hash message) ≡ 32)
         → IsSoundText hash lines (audit_text hash lines) }
 {}
 
-/// Where a `judge` line is answered by two strings, these are different and have one digest (so, and said by no clause of
-/// the text).
+/// Where a `judge` line is answered by two strings, these are different and have one digest, whatever the lines in front are.
+/// This holds for every hash whose digests have 32 bytes.
 pub fn judged_clashes_are_clashes()
     ensures { (hash : Hash) (lines : List (List ℕ)) (line : List ℕ) (id : DigestRecord)
         (headers entries : List ℕ) (claim : ClaimRecord) (bytes told truth : List ℕ)
         → ((message : List ℕ) → length (hash message) ≡ 32)
         → line_of line ≡ Ok (Judge id headers entries claim bytes)
         → reply_behind hash lines line ≡ Clash told truth → IsClash hash told truth }
+{}
+
+/// The word `script` alone makes a command, and so does `dump` with five words of their forms: so neither is of no form.
+pub fn words_make_commands()
+    ensures script { command_of (codes "script" ∷ []) ≡ Some Script }
+    ensures dump { (id_word size root notary_size notary_root : List ℕ) (id : DigestRecord)
+        (ledger notary : HeadRecord) → digest_of id_word ≡ Some id
+        → head_of size root ≡ Some ledger → head_of notary_size notary_root ≡ Some notary
+        → command_of
+        (codes "dump" ∷ id_word ∷ size ∷ root ∷ notary_size ∷ notary_root ∷ [])
+        ≡ Some (Dump id ledger notary) }
 {}

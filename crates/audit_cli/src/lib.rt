@@ -1,11 +1,13 @@
-//! The top calls of `auditctl`: from the words of the command line and the bytes of an audit script to the bytes that
-//! are written and the exit status.
+//! The top calls of `auditctl`: from the words of the command line and the bytes of an audit script or a dump to the bytes
+//! that are written and the exit status.
 #![tactic(auto)]
 
 mod answer;
+mod dumping;
 mod laws;
 mod line;
 mod reply;
+mod report_line;
 mod session;
 mod top;
 mod words;
@@ -13,5 +15,7 @@ mod words;
 pub use laws::{
     checked_claims_are_true, extended_heads_go_on, judged_claims_are_told,
     judged_clashes_are_clashes, replies_are_lines, replies_stand_in_place, scripts_are_sound,
+    words_make_commands,
 };
+pub use report_line::report_text;
 pub use top::{audit_run, audit_top};

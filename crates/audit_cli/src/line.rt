@@ -1,3 +1,5 @@
+//! The lines of an audit script: what each asks for, and how it is read from its text.
+
 ghost use Rattle.std.specs.Prelude.{◌≡◌, ◌<◌, ◌%◌, length, IfOk};
 ghost use Rattle.script_lines.specs.Fields.{field_at};
 ghost use Rattle.script_lines.specs.Reading.{ReadsLine, TakesFields};

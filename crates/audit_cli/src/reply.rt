@@ -1,3 +1,5 @@
+//! The replies to the lines of an audit script, and the words in which they are written.
+
 ghost use Rattle.std.specs.Prelude.{◌≡◌, ◌++◌, OnOk};
 ghost use Rattle.script_lines.specs.Words.{spaced_words};
 ghost use Rattle.audit_cli.specs.Replies.{no_words, reply_words, reply_text};

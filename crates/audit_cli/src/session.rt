@@ -1,3 +1,5 @@
+//! A run over the lines of an audit script, each of which is answered before the next one is read.
+
 ghost use Rattle.std.specs.Prelude.{◌≡◌, ◌≢◌, OnOk, IfErr};
 ghost use Rattle.ledger_io.specs.Outside.{outside};
 ghost use Rattle.audit_cli.specs.Answers.{answer_to, trust_after};

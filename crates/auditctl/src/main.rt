@@ -1,5 +1,5 @@
-//! `auditctl`: the auditor of a ledger on the command line. It reads an audit script from standard input and writes the
-//! replies to standard output, and nothing to standard error.
+//! `auditctl`: the auditor of a ledger on the command line. It reads an audit script or a dump from standard input, writes the
+//! replies or a report to standard output, and nothing to standard error.
 #![tactic(auto)]
 
 use audit_cli::audit_top;
