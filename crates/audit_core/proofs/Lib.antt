@@ -10,3 +10,4 @@ pub mod Judging
 pub mod Truths
 pub mod StayLaws
 pub mod Reaching
+pub mod HonestLaws

@@ -152,6 +152,22 @@ module _ (hash : Hash) (makes : Makes hash) where
         leaf_is = ap (leaf hash) (sym (get_or-take m lists.headers n [] before)) ∙ it.leaf_is;
       }
 
+  -- the journal of a claim, with bounds or without, by the ledger's extensions alone
+  pub journal_stays : (bytes : List ℕ) (claim : Claim) (trust : Trust) (lists : Lists) (p : Shown) (root : Digest) (es : List Extension) → acceptance hash bytes claim trust ≡ Ok tt
+      → proof_of bytes ≡ Ok p → root_of Ledger trust p.size ≡ Some root → LeadsTo hash p.size root.0 es (length lists.headers) (mth hash lists.headers)
+      → HasJournal hash lists claim.n claim.leaf ⊎ (Clashes hash (chain_clash hash lists.headers es) ⊎ Clashes hash (leaf_clash hash (lists_until p.size lists) p))
+  journal_stays bytes claim trust lists p root es said read trusted leads = elim (chain_true p.size root.0 es (length lists.headers) (mth hash lists.headers) lists.headers leads refl refl) [
+    | inr clashes ↦ inr (inl clashes)
+    | inl starts ↦
+        let count : length (take p.size lists.headers) ≡ p.size = omega (arith, length-take p.size lists.headers, starts.within) in
+        let under : IsUnderHead hash trust bytes (take p.size lists.headers) =
+        record { proof = p; read = read; root = root; trusted = trusted; count = count; root_is = starts.root_is } in
+        elim (journal_true bytes claim trust (lists_until p.size lists) said under) [
+          | inr clashes ↦ inr (inr clashes)
+          | inl has ↦ inl (journal_grows lists p.size claim.n claim.leaf has)
+        ]
+  ]
+
   pub yes_stays : (bytes : List ℕ) (claim : Claim) (trust : Trust) (lists : Lists) (p : Shown) (root : Digest) (es : List Extension) (head : Head) → acceptance hash bytes claim trust ≡ Ok tt → claim.lo ≡ None → claim.hi ≡ None
       → proof_of bytes ≡ Ok p → root_of Ledger trust p.size ≡ Some root → LeadsTo hash p.size root.0 es head.size head.root.0 → length lists.headers ≡ head.size → mth hash lists.headers ≡ head.root.0
       → IsTrueOf hash lists claim ⊎ (Clashes hash (chain_clash hash lists.headers es) ⊎ Clashes hash (clash_of hash (lists_until p.size lists) bytes))

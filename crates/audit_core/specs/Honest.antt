@@ -1,5 +1,5 @@
 -- When a notary is honest, and what bounds are then.
-use Rattle.std.specs.Prelude.{◌≡◌, ℕ, ◌<◌, ◌≤◌, ◌^◌, List, [], length, get_or, take, IfSome}
+use Rattle.std.specs.Prelude.{◌≡◌, ℕ, ◌<◌, ◌≤◌, ◌^◌, List, [], ◌∷◌, length, get_or, take, IfSome}
 use Rattle.ledger_bytes.specs.declared.digest.Digest.{Digest}
 use Rattle.journal_record.specs.declared.header.Header.{Header}
 use Rattle.journal_record.specs.Header as headers
@@ -28,3 +28,11 @@ pub record IsHonest (hash : Hash) (lists : Lists) (moments : List ℕ) : Type 0 
 pub record AreMoments (moments : List ℕ) (claim : Claim) : Type 0 where
   pub lower : IfSome claim.lo (λ mark. mark.time ≤ get_or moments claim.n 0)
   pub upper : IfSome claim.hi (λ mark. get_or moments claim.n 0 ≤ mark.time)
+
+-- the lists of a ledger of one journal, and of a notary that pegged it once, at this time
+abbrev pub pegged_once : Hash → Digest → Digest → List ℕ → ℕ → Lists
+pegged_once hash id salt journal time = record {
+  id = id;
+  headers = journal ∷ [];
+  entries = entry_of time (hash (peg_string id.0 1 (mth hash (journal ∷ [])))) salt.0 ∷ [];
+}

@@ -1,3 +1,5 @@
+//! Whether the auditor accepts a proof of a claim under the heads that it trusts, and else why not.
+
 ghost use Rattle.std.specs.Prelude.{◌≡◌, ◌↔◌, IsOk};
 ghost use Rattle.proof_codec.specs.Claims.{claim_of};
 ghost use Rattle.proof_codec.specs.Reading.{IsBreak};

@@ -1,3 +1,5 @@
+//! Whether the bounds in time that a proof shows lead to the trusted roots of the ledger and of its notary.
+
 ghost use Rattle.std.specs.Prelude.{◌≡◌, Some};
 ghost use Rattle.audit_core.specs.Bounds.{lower_leads, upper_leads, is_noted, lower_noted, upper_noted, in_order};
 

@@ -1,3 +1,5 @@
+//! Whether the auditor accepts that the tree of a later head goes on from that of a trusted one.
+
 ghost use Rattle.std.specs.Prelude.{◌≡◌, ◌↔◌, IsOk};
 ghost use Rattle.audit_core.specs.Extending.{extension, IsExtension};
 

@@ -1,3 +1,5 @@
+//! What a proof of a claim is worth to one who has all headers of the ledger and all entries of its notary.
+
 ghost use Rattle.std.specs.Prelude.{◌≡◌, ◌↔◌, ℕ, ◌%◌, ◌<◌, ◌≤◌, List, length, [], Ok, Err};
 ghost use Rattle.tree_model.specs.Tree.{cut};
 ghost use Rattle.tree_model.specs.Clash.{Clashes};

@@ -1,3 +1,5 @@
+//! What a proof is held against: the ledger's id, and the root of its tree at one size.
+
 use ledger_bytes::Digest;
 
 /// What is known of a ledger at one size.

@@ -1,9 +1,13 @@
-ghost use Rattle.std.specs.Prelude.{◌≡◌, ◌⊎◌, ℕ, List, [], ◌∷◌, length, Some, None, Ok};
+//! Laws of what the auditor accepts: it is true of each list under the trusted heads, or two strings have one digest.
+
+ghost use Rattle.std.specs.Prelude.{◌≡◌, ◌≢◌, ◌⊎◌, ℕ, ◌^◌, ◌<◌, ◌≤◌, List, [], ◌∷◌, length, Some, None, Ok};
 ghost use Rattle.ledger_bytes.specs.declared.digest.Digest.{Digest as DigestRecord};
 ghost use Rattle.ledger_bytes.specs.Fields.{IsBytes};
+ghost use Rattle.journal_record.specs.Header.{spelling};
+ghost use Rattle.journal_record.specs.declared.header.Header.{Header as HeaderRecord};
 ghost use Rattle.merkle_tree.specs.declared.head.Head.{Head as HeadRecord};
 ghost use Rattle.proof_codec.specs.declared.claim.Claim.{Claim as ClaimRecord};
-ghost use Rattle.proof_codec.specs.Proofs.{Shown};
+ghost use Rattle.proof_codec.specs.Proofs.{Shown, IsTimeHeader};
 ghost use Rattle.proof_codec.specs.Reading.{proof_of};
 ghost use Rattle.script_lines.specs.declared.said.Which.{Which as Tree};
 ghost use Rattle.script_lines.specs.declared.said.Which.TheVariants.{Ledger};
@@ -15,7 +19,7 @@ ghost use Rattle.audit_core.specs.Extending.{extend_refusal, IsExtension};
 ghost use Rattle.audit_core.specs.Truth.{Lists, HasJournal, IsTrueOf};
 ghost use Rattle.audit_core.specs.Judgement.{IsUnderHead, leaf_clash, clash_of};
 ghost use Rattle.audit_core.specs.Parts.{extension_clash};
-ghost use Rattle.audit_core.specs.Honest.{IsHonest, AreMoments};
+ghost use Rattle.audit_core.specs.Honest.{IsHonest, AreMoments, pegged_once};
 ghost use Rattle.audit_core.specs.Chains.{lists_until, BeginsWith, Extension, LeadsTo, chain_clash, AreReached, named_by, reached_clash};
 
 /// Where `accept` says yes, the claim is true of each list of headers under the trusted head that the proof names, or the
@@ -94,7 +98,17 @@ pub fn yes_stays_true()
         → length lists.headers ≡ head.size → mth hash lists.headers ≡ head.root.0
         → IsTrueOf hash lists claim ⊎ (Clashes hash (chain_clash hash lists.headers extensions)
         ⊎ Clashes hash (clash_of hash (lists_until proof.size lists) bytes)) }
-    // So it is with bounds, where extensions lead to the lists' heads from those that the proof names. The strings are those
+    // Its journal is the ledger's, with bounds or without, where extensions of the ledger lead to the list's head.
+    ensures journal { (hash : Hash) (bytes : List ℕ) (claim : ClaimRecord) (trust : Trust)
+        (lists : Lists) (proof : Shown) (root : DigestRecord) (extensions : List Extension)
+        → ((message : List ℕ) → length (hash message) ≡ 32)
+        → acceptance hash bytes claim trust ≡ Ok tt
+        → proof_of bytes ≡ Ok proof → root_of Ledger trust proof.size ≡ Some root
+        → LeadsTo hash proof.size root.0 extensions (length lists.headers) (mth hash lists.headers)
+        → HasJournal hash lists claim.n claim.leaf
+        ⊎ (Clashes hash (chain_clash hash lists.headers extensions)
+        ⊎ Clashes hash (leaf_clash hash (lists_until proof.size lists) proof)) }
+    // All of it is true with bounds, where extensions lead to the lists' heads from those that the proof names. The strings are those
     // of the first that isn't of the lists: of the ledger's extensions, back from the last head, of the notary's, and then of
     // the proof's parts.
     ensures bounded { (hash : Hash) (bytes : List ℕ) (claim : ClaimRecord) (trust : Trust)
@@ -116,6 +130,15 @@ pub fn claims_stay_true()
 pub fn honest_bounds_are_moments()
     ensures { (hash : Hash) (lists : Lists) (claim : ClaimRecord) (moments : List ℕ)
         → IsTrueOf hash lists claim → IsHonest hash lists moments → AreMoments moments claim }
+{}
+
+/// A notary can be honest: over one journal that is no time journal, with one entry that pegs it, it is where the journal was
+/// placed at the entry's time or before.
+pub fn a_notary_can_be_honest()
+    ensures { (hash : Hash) (id salt : DigestRecord) (journal : List ℕ) (moment time : ℕ)
+        → ((header : HeaderRecord) → IsTimeHeader header → journal ≢ spelling header)
+        → moment ≤ time → time < 2 ^ 64
+        → IsHonest hash (pegged_once hash id salt journal time) (moment ∷ []) }
 {}
 
 /// What was accepted stays accepted where more heads are trusted.

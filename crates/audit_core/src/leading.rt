@@ -1,3 +1,5 @@
+//! Whether a path leads from a leaf's digest to a root, and a proof from an old root to a new one.
+
 ghost use Rattle.std.specs.Prelude.{◌≡◌};
 ghost use Rattle.audit_core.specs.Leading.{path_leads, proof_leads};
 

@@ -1,3 +1,5 @@
+//! Which strings an accepted proof of a false claim shows: its own and the list's, different and with one digest.
+
 ghost use Rattle.std.specs.Prelude.{◌≡◌, ◌/◌, ◌%◌, ◌<◌, ◌≤◌, ◌∷◌, length, get_or, [], IfSome};
 ghost use Rattle.tree_model.specs.Tree.{leaf, cut};
 ghost use Rattle.merkle_tree.specs.Strings.{bytes_of};

@@ -1,3 +1,5 @@
+//! Headers or entries that stand one after the other: each one, its leaf digest, and the root over the first ones.
+
 ghost use Rattle.std.specs.Prelude.{◌≡◌, ◌/◌, ◌<◌, ◌≤◌, length, take, get_or, []};
 ghost use Rattle.std.specs.Str.{bytes_eq};
 ghost use Rattle.tree_model.specs.Tree as tree;

@@ -1,3 +1,5 @@
+//! Whether a claim is true of the whole lists, the ledger's headers and its notary's entries.
+
 ghost use Rattle.std.specs.Prelude.{◌≡◌, ◌/◌, ◌<◌, ◌≤◌, length, get_or, []};
 ghost use Rattle.journal_record.specs.Reading.{header_of};
 ghost use Rattle.tree_model.specs.Tree.{cut};

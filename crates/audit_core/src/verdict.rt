@@ -1,3 +1,5 @@
+//! The verdicts on a proof of a claim by the whole lists.
+
 use crate::No;
 use merkle_tree::Clash;
 
