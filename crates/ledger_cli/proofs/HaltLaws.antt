@@ -32,7 +32,7 @@ use Rattle.ledger_model.proofs.KeepLaws.{run_lawful}
 use Rattle.ledger_model.proofs.PegLaws.{from_windows, pegged_windows}
 use Rattle.ledger_model.proofs.RunLaws.{run_lines}
 use Rattle.ledger_model.proofs.WaitLaws.{begins_closed}
-use Rattle.ledger_model.proofs.WrittenLaws.{receipt_kept_in}
+use Rattle.ledger_model.proofs.WrittenLaws.{heads_kept_in, receipt_kept_in}
 use Rattle.ledger_open.proofs.WidthLaws.{standing_wide}
 use Rattle.proof_maker.specs.Written.{HasWideTimes}
 use Rattle.proof_maker.proofs.WrittenLaws.{good_windows}
@@ -291,6 +291,7 @@ module _ (scheme : Scheme) (tells : Bool) (w : World) (h : History) (p : Holds t
             no_shorter = begins_closed h last (subst (Grows h) last_is (x.grows h p));
             no_longer = begins_not last.closed;
             receipts = λ jsn leaf. receipt_kept_in last last.closed (owed scheme done current h) x.sofar [] jsn leaf (append-nil x.sofar ∙ said_is) fits_last (subst (AllIn last.closed) all_done written.kept);
+            heads = heads_kept_in last last.closed (owed scheme done current h) x.sofar [] (after_none scheme h steps none) (begins_not last.closed) (append-nil x.sofar ∙ said_is) (subst (AllIn last.closed) all_done written.kept);
             pegs = pegged_last;
             clean = quiet_clean t.disks last quiet i j l r;
           };

@@ -6,6 +6,7 @@ pub mod CountedLaws
 pub mod HeadLaws
 pub mod FailureLaws
 pub mod OpeningLaws
+pub mod DumpLaws
 pub mod SessionLaws
 pub mod PegLaws
 pub mod LastLaws

@@ -33,7 +33,7 @@ use Rattle.ledger_open.proofs.OpenLaws.{pair_opens, reopened_only}
 use Rattle.time_peg.specs.Entries.{NotaryState}
 use Rattle.twin_file.specs.Twin.{open_of}
 use Rattle.ledger_cli.specs.Endings.{ending_of_opening, line_of, refusal_of}
-use Rattle.ledger_cli.specs.Runs.{Handed, handed, FaultsBy, HasNone, LeaveFoundedOrShut, SettledAsRead, StayAsRead, IsUnstarted, IsRefused, IsMadeOf, RunsAgain, RunsNew, Makes, ledger_line, Runs}
+use Rattle.ledger_cli.specs.Runs.{Handed, handed, FaultsBy, HasNone, LeaveFoundedOrShut, Exports, IsNotOpened, NotaryFailsBy, SettledAsRead, StayAsRead, IsUnstarted, IsRefused, IsMadeOf, RunsAgain, RunsNew, Makes, ledger_line, Runs}
 use Rattle.ledger_cli.specs.declared.ending.LedgerEnding.{LedgerEnding}
 use Rattle.ledger_cli.specs.declared.ending.LedgerEnding.TheVariants.{Run}
 use Rattle.ledger_bytes.specs.Digests.{digest}
@@ -82,59 +82,109 @@ module _ (scheme : Scheme) (tells : Bool) (source : SourceState) (sink : SinkSta
   stood h p (inl both) = inl (stay both)
   stood h p (inr each) = inr (each h p)
 
-  pub not_opened : (e : OpenErr) → (IsTrue tells → IsOpenErr old.a.bytes.seen old.b.bytes.seen e)
+  pub not_opened : (e : OpenErr) → e ≢ open_err.Exists → (IsTrue tells → IsOpenErr old.a.bytes.seen old.b.bytes.seen e)
       → (e ≢ open_err.DiskFault → IsTrue tells → (now.a.bytes ≡ settled_state old.a.bytes.seen) × (now.b.bytes ≡ settled_state old.b.bytes.seen))
       → (IsTrue tells → (f : OpenErr) → (IsOutside f → ⊥) → IsOpenErr old.a.bytes.seen old.b.bytes.seen f → StandsAsRead old.a.bytes now.a.bytes × StandsAsRead old.b.bytes now.b.bytes)
       → (IsTrue tells → StandsAsRead old.a.bytes now.a.bytes × StandsAsRead old.b.bytes now.b.bytes ⊎ ((h : History) → PairFor old.a.bytes.seen old.b.bytes.seen h → EachStands h))
       → (IsTrue tells → IsSettled old.a.bytes → IsSettled old.b.bytes → (h : History) → IsCleanPair old.a.bytes.seen old.b.bytes.seen h → (now.a.bytes ≡ old.a.bytes) × (now.b.bytes ≡ old.b.bytes))
       → CountsTwoErr e old.a.faults now.a.faults old.b.faults now.b.faults → RunsAgain scheme tells (ending_of_opening e) (handed source sink old n) (handed source sink now n)
-  not_opened open_err.DiskFault err same kept images clean counts = record {
+  not_opened open_err.DiskFault other err same kept images clean counts = record {
     serves = λ t h p l. inr (record { outside = inl refl; unstarted = unstarted; left = λ is. absurd (let no : ⊥ = cc is in no); images = stood h p (images t); clean = λ q. clean t q.a q.b h });
     unstarted = λ some. unstarted;
     refused = λ t. tt;
+    only = tt;
     exact = λ t f cause not. (unstarted, inl (inl refl, stay (kept t f not cause)));
+    ends = tt;
     faults = counts_ended source sink n old now open_err.DiskFault counts;
     failures = fails_unread source n;
   }
-  not_opened open_err.NoMemory err same kept images clean counts = record {
+  not_opened open_err.NoMemory other err same kept images clean counts = record {
     serves = λ t h p l. inr (record { outside = inr refl; unstarted = unstarted; left = λ is. let now_is = same (λ no. let none : ⊥ = cc no in none) t in record { a = inr now_is.0; b = inr now_is.1 }; images = stood h p (images t); clean = λ q. clean t q.a q.b h });
     unstarted = λ some. unstarted;
     refused = λ t. tt;
+    only = tt;
     exact = λ t f cause not. (unstarted, inl (inr refl, stay (kept t f not cause)));
+    ends = tt;
     faults = counts_ended source sink n old now open_err.NoMemory counts;
     failures = fails_unread source n;
   }
-  not_opened (open_err.Damaged damage) err same kept images clean counts = record {
+  not_opened (open_err.Damaged damage) other err same kept images clean counts = record {
     serves = λ t h p l. absurd (pair_opens old.a.bytes.seen old.b.bytes.seen h p (open_err.Damaged damage) (err t));
     unstarted = λ some. unstarted;
     refused = refusal (same (λ is. let no : ⊥ = cc is in no)) (open_err.Damaged damage) err;
+    only = other;
     exact = λ t f cause not. (unstarted, inr (err t, settled (same (λ is. let no : ⊥ = cc is in no)) t));
+    ends = refl;
     faults = counts_ended source sink n old now (open_err.Damaged damage) counts;
     failures = fails_unread source n;
   }
-  not_opened open_err.Empty err same kept images clean counts = record {
+  not_opened open_err.Empty other err same kept images clean counts = record {
     serves = λ t h p l. absurd (pair_opens old.a.bytes.seen old.b.bytes.seen h p open_err.Empty (err t));
     unstarted = λ some. unstarted;
     refused = refusal (same (λ is. let no : ⊥ = cc is in no)) open_err.Empty err;
+    only = other;
     exact = λ t f cause not. (unstarted, inr (err t, settled (same (λ is. let no : ⊥ = cc is in no)) t));
+    ends = refl;
     faults = counts_ended source sink n old now open_err.Empty counts;
     failures = fails_unread source n;
   }
-  not_opened open_err.Exists err same kept images clean counts = record {
+  not_opened open_err.Exists other err same kept images clean counts = record {
     serves = λ t h p l. absurd (err t);
     unstarted = λ some. unstarted;
     refused = refusal (same (λ is. let no : ⊥ = cc is in no)) open_err.Exists err;
+    only = other;
     exact = λ t f cause not. absurd (err t);
+    ends = refl;
     faults = counts_ended source sink n old now open_err.Exists counts;
     failures = fails_unread source n;
   }
-  not_opened (open_err.NewerFormat found) err same kept images clean counts = record {
+  not_opened (open_err.NewerFormat found) other err same kept images clean counts = record {
     serves = λ t h p l. absurd (pair_opens old.a.bytes.seen old.b.bytes.seen h p (open_err.NewerFormat found) (err t));
     unstarted = λ some. unstarted;
     refused = refusal (same (λ is. let no : ⊥ = cc is in no)) (open_err.NewerFormat found) err;
+    only = other;
     exact = λ t f cause not. (unstarted, inr (err t, settled (same (λ is. let no : ⊥ = cc is in no)) t));
+    ends = refl;
     faults = counts_ended source sink n old now (open_err.NewerFormat found) counts;
     failures = fails_unread source n;
+  }
+
+  -- .. and no dump of it is written
+  not_read : (e : OpenErr) → (IsTrue tells → IsOpenErr old.a.bytes.seen old.b.bytes.seen e)
+      → (e ≢ open_err.DiskFault → IsTrue tells → (now.a.bytes ≡ settled_state old.a.bytes.seen) × (now.b.bytes ≡ settled_state old.b.bytes.seen))
+      → (IsTrue tells → StandsAsRead old.a.bytes now.a.bytes × StandsAsRead old.b.bytes now.b.bytes ⊎ ((h : History) → PairFor old.a.bytes.seen old.b.bytes.seen h → EachStands h))
+      → (IsTrue tells → IsSettled old.a.bytes → IsSettled old.b.bytes → (h : History) → IsCleanPair old.a.bytes.seen old.b.bytes.seen h → (now.a.bytes ≡ old.a.bytes) × (now.b.bytes ≡ old.b.bytes))
+      → IsTrue tells → (h : History) → PairFor old.a.bytes.seen old.b.bytes.seen h → IsNotOpened h (ending_of_opening e) (handed source sink old n) (handed source sink now n)
+  not_read open_err.DiskFault err same images clean t h p =
+      record { outside = inl refl; unstarted = unstarted; left = λ is. absurd (let no : ⊥ = cc is in no); images = stood h p (images t); clean = λ q. clean t q.a q.b h }
+  not_read open_err.NoMemory err same images clean t h p =
+      record { outside = inr refl; unstarted = unstarted; left = λ is. let now_is = same (λ no. let none : ⊥ = cc no in none) t in record { a = inr now_is.0; b = inr now_is.1 }; images = stood h p (images t); clean = λ q. clean t q.a q.b h }
+  not_read (open_err.Damaged damage) err same images clean t h p = absurd (pair_opens old.a.bytes.seen old.b.bytes.seen h p (open_err.Damaged damage) (err t))
+  not_read open_err.Empty err same images clean t h p = absurd (pair_opens old.a.bytes.seen old.b.bytes.seen h p open_err.Empty (err t))
+  not_read open_err.Exists err same images clean t h p = absurd (err t)
+  not_read (open_err.NewerFormat found) err same images clean t h p = absurd (pair_opens old.a.bytes.seen old.b.bytes.seen h p (open_err.NewerFormat found) (err t))
+
+  notary_same : (e : OpenErr) → NotaryFailsBy (ending_of_opening e) n.faults n.faults
+  notary_same open_err.DiskFault = refl
+  notary_same open_err.NoMemory = refl
+  notary_same (open_err.Damaged damage) = refl
+  notary_same open_err.Empty = refl
+  notary_same open_err.Exists = refl
+  notary_same (open_err.NewerFormat found) = refl
+
+  pub not_dumped : (e : OpenErr) → e ≢ open_err.Exists → (IsTrue tells → IsOpenErr old.a.bytes.seen old.b.bytes.seen e)
+      → (e ≢ open_err.DiskFault → IsTrue tells → (now.a.bytes ≡ settled_state old.a.bytes.seen) × (now.b.bytes ≡ settled_state old.b.bytes.seen))
+      → (IsTrue tells → (f : OpenErr) → (IsOutside f → ⊥) → IsOpenErr old.a.bytes.seen old.b.bytes.seen f → StandsAsRead old.a.bytes now.a.bytes × StandsAsRead old.b.bytes now.b.bytes)
+      → (IsTrue tells → StandsAsRead old.a.bytes now.a.bytes × StandsAsRead old.b.bytes now.b.bytes ⊎ ((h : History) → PairFor old.a.bytes.seen old.b.bytes.seen h → EachStands h))
+      → (IsTrue tells → IsSettled old.a.bytes → IsSettled old.b.bytes → (h : History) → IsCleanPair old.a.bytes.seen old.b.bytes.seen h → (now.a.bytes ≡ old.a.bytes) × (now.b.bytes ≡ old.b.bytes))
+      → CountsTwoErr e old.a.faults now.a.faults old.b.faults now.b.faults → Exports tells (ending_of_opening e) (handed source sink old n) (handed source sink now n)
+  not_dumped e other err same kept images clean counts = record {
+    serves = λ t h p. inr (not_read e err same images clean t h p);
+    unread = refl;
+    asked = record { entries = refl; origin = refl };
+    exact = (not_opened e other err same kept images clean counts).exact;
+    faults = counts_ended source sink n old now e counts;
+    notary_fails = notary_same e;
   }
 
   -- nothing was done for want of memory
@@ -144,9 +194,22 @@ module _ (scheme : Scheme) (tells : Bool) (source : SourceState) (sink : SinkSta
         serves = λ t h p l. inr (record { outside = inr refl; unstarted = record { unread = refl; unwritten = refl; unasked = refl }; left = λ is. record { a = inl refl; b = inl refl }; images = inl (record { a = inl refl; b = inl refl }); clean = λ q c. (refl, refl) });
         unstarted = λ some. record { unread = refl; unwritten = refl; unasked = refl };
         refused = λ t. tt;
+        only = tt;
         exact = λ t f cause not. (record { unread = refl; unwritten = refl; unasked = refl }, inl (inr refl, record { a = inl refl; b = inl refl }));
+        ends = tt;
         faults = record { source_is = inl refl; sink_is = (refl, refl); disks_are = record { a = refl; b = refl } };
         failures = fails_unread source n;
+      })
+
+  pub dump_unstarted : now ≡ old → Exports tells (Run run.NoMemory) (handed source sink old n) (handed source sink now n)
+  dump_unstarted is =
+      subst (λ (d : Pair). Exports tells (Run run.NoMemory) (handed source sink old n) (handed source sink d n)) (sym is) (record {
+        serves = λ t h p. inr (record { outside = inr refl; unstarted = record { unread = refl; unwritten = refl; unasked = refl }; left = λ is. record { a = inl refl; b = inl refl }; images = inl (record { a = inl refl; b = inl refl }); clean = λ q c. (refl, refl) });
+        unread = refl;
+        asked = record { entries = refl; origin = refl };
+        exact = λ t f cause not. (record { unread = refl; unwritten = refl; unasked = refl }, inl (inr refl, record { a = inl refl; b = inl refl }));
+        faults = record { source_is = inl refl; sink_is = (refl, refl); disks_are = record { a = refl; b = refl } };
+        notary_fails = refl;
       })
 
   -- it is opened, and a committer begins with it
@@ -168,7 +231,9 @@ module _ (scheme : Scheme) (tells : Bool) (source : SourceState) (sink : SinkSta
           (ran.serves h (subst (λ (x : CommitterState). Holds tells (world x now sink) h) (sym kept_is) (opened_held tells k in_a generation start blocks old.a.bytes old.b.bytes now sink h opened limits t (r t) p)) (none_waits old.a.bytes.seen old.b.bytes.seen h p) l));
       unstarted = λ some. absurd (no_refusal ending started some);
       refused = λ t. of_lines ending _ started;
+      only = of_lines ending _ started;
       exact = λ t e cause not. absurd (not (reopened_only k in_a start blocks old.a.bytes old.b.bytes now.a.bytes now.b.bytes e (r t) cause));
+      ends = ran.ends;
       faults = faults_from source sink n now old last a b ending ran.faults;
       failures = ran.failures;
     }
@@ -271,6 +336,7 @@ module _ (genesis : Genesis) (tells : Bool) (source : SourceState) (sink : SinkS
     unstarted = λ some. unstarted scheme tells source sink n old now;
     only = tt;
     left = λ t o. (unstarted scheme tells source sink n old now, inl (inl refl, stayed t o));
+    ends = tt;
     faults = counts_ended source sink n old now open_err.DiskFault counts;
     failures = fails_unread source n;
   }
@@ -279,6 +345,7 @@ module _ (genesis : Genesis) (tells : Bool) (source : SourceState) (sink : SinkS
     unstarted = λ some. unstarted scheme tells source sink n old now;
     only = tt;
     left = λ t o. (unstarted scheme tells source sink n old now, inl (inr refl, stayed t o));
+    ends = tt;
     faults = counts_ended source sink n old now open_err.NoMemory counts;
     failures = fails_unread source n;
   }
@@ -287,6 +354,7 @@ module _ (genesis : Genesis) (tells : Bool) (source : SourceState) (sink : SinkS
     unstarted = λ some. unstarted scheme tells source sink n old now;
     only = refl;
     left = λ t o. (unstarted scheme tells source sink n old now, inr (refl, settled_now (same (λ is. let no : ⊥ = cc is in no)) t));
+    ends = refl;
     faults = counts_ended source sink n old now open_err.Exists counts;
     failures = fails_unread source n;
   }
@@ -363,6 +431,7 @@ module _ (genesis : Genesis) (tells : Bool) (source : SourceState) (sink : SinkS
         unstarted = λ some. absurd (no_refusal ending started some);
         only = of_lines ending _ started;
         left = λ t o. never t o;
+        ends = ran.ends;
         faults = faults_from source sink n now old last a b ending ran.faults;
         failures = ran.failures;
       }

@@ -51,7 +51,7 @@ use Rattle.ledger_cli.proofs.MergeLaws.{IsOrder, order_append, order_merge, orde
 use Rattle.ledger_cli.proofs.NotaryLaws.{TookOn, took_none, took_on, window_took}
 use Rattle.ledger_cli.proofs.OrderLaws.{CanGoOn, part_open, part_whole, last_merge}
 use Rattle.ledger_cli.proofs.StopLaws.{CleanBy, SaidOf}
-use Rattle.ledger_cli.proofs.SessionLaws.{few_lines, faults_end, faults_stop, at_most_once, serve_stop, serve_end}
+use Rattle.ledger_cli.proofs.SessionLaws.{few_lines, faults_end, faults_stop, reads_end, reads_stop, at_most_once, serve_stop, serve_end}
 
 -- ---- the lines that wait to be taken
 
@@ -298,6 +298,7 @@ halt scheme tells first_w first_n n before now reading script input done current
           let here = stop [] in
           serve_stop scheme h why first_w t before now first_n n all.part input.read all.cause input.consumed all.appended here.0 here.2
           (λ IsSo so. some_of_given (StopsOn scheme h all.part t.disks first_n n (CleanBy why h all.part) IsSo) before now reading script input IsSo (λ tail. stop_as scheme h all.part t.disks first_n n why (script ++ tail) IsSo so (stop tail)));
+      ends = reads_stop why before now;
       faults = faults_stop why first_w t before now first_n n (inl input.faults) all.cause;
       failures = fails_read before now first_n n (length script) input.read input.consumed (given_few before now reading script input) fails;
     }
@@ -427,6 +428,7 @@ module _ (scheme : Scheme) (tells : Bool) (first_w w : World) (first_n n : Notar
                 serve_end scheme h end first_w (world_at t) before after_read first_n t.notary all.sofar read s.script all.no_fault.sink consumed all.appended e
                 (answered scheme tells first_w h p room none no_dues first_n list s.script few_here s.done now_taken t.notary (last_merge s.script s.windows_are s.front s.done now_taken s.cut s.merge (last_order x.steps x.is_order))
                 (take_on scheme tells first_w (world_at held) first_n held.notary t.notary s.done s.current x.steps here there x.took h p) (world_at t) all no_more);
+            ends = reads_end end before after_read read s.script consumed e;
             faults = faults_end end (handed before first_w.sink first_w.disks first_n) (handed after_read t.sink t.disks t.notary) read s.script e all.no_fault.a all.no_fault.b all.no_fault.sink;
             failures = failures_read t x.fails;
           }
@@ -452,6 +454,7 @@ module _ (scheme : Scheme) (tells : Bool) (first_w w : World) (first_n n : Notar
                 (take_on scheme tells first_w (world_at held) first_n held.notary t.notary s.done s.current x.steps here there x.took h p) []) in
                 serve_stop scheme h why first_w (world_at t) before after_read first_n t.notary all.part read all.cause consumed all.appended stop.0 stop.2
                 (λ IsSo so. inr (end, s.script, e, stop_as scheme h all.part t.disks first_n t.notary why s.script IsSo so stop));
+            ends = reads_stop why before after_read;
             faults = faults_stop why first_w (world_at t) before after_read first_n t.notary (at_most_once end before after_read read s.script e) all.cause;
             failures = failures_read t x.fails;
           }
@@ -467,6 +470,7 @@ module _ (scheme : Scheme) (tells : Bool) (first_w w : World) (first_n n : Notar
                 (take_on scheme tells first_w (world_at held) first_n held.notary t.notary s.done s.current x.steps here there x.took h p) why (world_at t) all in
                 serve_stop scheme h why first_w (world_at t) before after_read first_n t.notary all.part read all.cause consumed all.appended stop.0 stop.2
                 (λ IsSo so. inr (end, s.script, e, stop_as scheme h all.part t.disks first_n t.notary why s.script IsSo so stop));
+            ends = reads_stop why before after_read;
             faults = faults_stop why first_w (world_at t) before after_read first_n t.notary (at_most_once end before after_read read s.script e) all.cause;
             failures = failures_read t x.fails;
           }
@@ -493,6 +497,7 @@ module _ (scheme : Scheme) (tells : Bool) (first_w w : World) (first_n n : Notar
                     let here = stop [] in
                     serve_stop scheme h end.NoMemory first_w w before after_read first_n n all.part read all.cause consumed all.appended here.0 here.2
                     (λ IsSo so. some_at_failure before now after_read reading new bytes s.script s.input r (StopsOn scheme h all.part w.disks first_n n AreClean IsSo) IsSo k f (λ tail. stop_as scheme h all.part w.disks first_n n end.NoMemory (s.script ++ tail) IsSo so (stop tail)));
+                ends = tt;
                 faults = faults_stop end.NoMemory first_w w before after_read first_n n (inl (k ∙ s.input.faults)) all.cause;
                 failures = fails_read before after_read first_n n s.tried read consumed (let f = given_more before now reading s.script s.input bytes in let l = s.tried_are in omega (arith, f, l)) s.fails;
               }

@@ -15,7 +15,7 @@ use Rattle.ledger_io.proofs.ReadingLaws.{HasGiven}
 use Rattle.ledger_model.specs.History.{History}
 use Rattle.ledger_model.specs.Scheme.{Scheme}
 use Rattle.ledger_cli.specs.Endings.{ending_of_end}
-use Rattle.ledger_cli.specs.Runs.{Handed, handed, FailedAtMostOnce, FaultsBy, AnswersOn, StopsOn, RunsOn}
+use Rattle.ledger_cli.specs.Runs.{Handed, handed, FailedAtMostOnce, FaultsBy, ReadsBy, AnswersOn, StopsOn, RunsOn}
 use Rattle.ledger_cli.specs.declared.ending.LedgerEnding.TheVariants.{Run}
 use Rattle.ledger_cli.proofs.StopLaws.{SaidOf, CleanBy}
 
@@ -32,6 +32,21 @@ faults_end (Some ReadFault) before after_all read script e a b sink = record { s
 faults_end (Some LineTooLong) before after_all read script e a b sink = record { source_is = e.0; sink_is = sink; disks_are = record { a = a; b = b } }
 faults_end (Some ScriptTooLong) before after_all read script e a b sink = record { source_is = e.0; sink_is = sink; disks_are = record { a = a; b = b } }
 faults_end (Some NoMemory) before after_all read script e a b sink = absurd e
+
+-- a call that ended the run on its way says nothing of what was still to come
+pub reads_stop : (why : CommitErr) (before now : SourceState) → ReadsBy (ending_of_end why) before now
+reads_stop end.DiskFault before now = tt
+reads_stop end.WriteFault before now = tt
+reads_stop end.NoMemory before now = tt
+reads_stop end.Closed before now = tt
+
+-- reading ended
+pub reads_end : (end : Option LineErr) (before now : SourceState) (read : List ℕ) (script : List (List ℕ)) → Consumes before.left now.left read → EndsReading end before now read script → ReadsBy (Run (ending_after end)) before now
+reads_end None before now read script c e = (read, script, c, e)
+reads_end (Some ReadFault) before now read script c e = (read, script, c, e)
+reads_end (Some LineTooLong) before now read script c e = (read, script, c, e)
+reads_end (Some ScriptTooLong) before now read script c e = (read, script, c, e)
+reads_end (Some NoMemory) before now read script c e = absurd e
 
 -- reading failed once at most
 pub at_most_once : (end : Option LineErr) (before now : SourceState) (read : List ℕ) (script : List (List ℕ)) → EndsReading end before now read script → FailedAtMostOnce before.faults now.faults

@@ -26,7 +26,7 @@ use Rattle.ledger_model.specs.declared.due.Due.{Due}
 use Rattle.ledger_model.proofs.FitLaws.{fit-first}
 use Rattle.ledger_model.proofs.RunLaws.{due_lines-append}
 use Rattle.ledger_model.proofs.WaitLaws.{begins_closed}
-use Rattle.ledger_model.proofs.WrittenLaws.{receipt_kept_in}
+use Rattle.ledger_model.proofs.WrittenLaws.{heads_kept_in, receipt_kept_in}
 use Rattle.script_lines.specs.Receipts.{AllFit, IsReceipted}
 use Rattle.script_lines.specs.Replies.{reply_words}
 use Rattle.script_lines.specs.Words.{spaced_words}
@@ -141,6 +141,7 @@ stop_stands h whole f ds end part disks first last s g none fit settled pegs = �
       no_shorter = l.no_shorter;
       no_longer = longer;
       receipts = λ jsn leaf r. receipt_kept_in f l.kept.closed s.done part begun.rest jsn leaf (sym begun.is) (fit-first f s.done s.rest (subst (λ d. AllFit (due_replies f d)) s.split fit)) l.receipts r;
+      heads = heads_kept_in f l.kept.closed s.done part begun.rest none longer (sym begun.is) l.receipts;
       pegs = λ p. pegged_kept h l.kept f last.entries (some_journal l.kept file.lawful) settled file.none l.no_shorter longer (pegs p);
       clean = left_clean end h f l.kept s.done part begun.rest a b l.stands (sym begun.is) (fit-first f s.done s.rest (subst (λ d. AllFit (due_replies f d)) s.split fit)) l.clean;
     }

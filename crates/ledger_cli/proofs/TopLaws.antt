@@ -19,12 +19,12 @@ use Rattle.time_peg.specs.Entries.{NotaryState}
 use Rattle.ledger_cli.specs.Endings.{status_of, last_line, HasWords}
 use Rattle.ledger_cli.specs.Runs.{Handed, handed, FaultsBy, NothingFailed, ServedBy, Finishes, ending_of_soak}
 use Rattle.ledger_cli.specs.declared.ending.LedgerEnding.{LedgerEnding}
-use Rattle.ledger_cli.specs.declared.ending.LedgerEnding.TheVariants.{Run, DiskFault, Damaged, Empty, Exists, NewerFormat}
+use Rattle.ledger_cli.specs.declared.ending.LedgerEnding.TheVariants.{Run, DiskFault, Damaged, Empty, Exists, NewerFormat, NotaryFault}
 use Rattle.ledger_cli.specs.declared.words.Command.{Command}
 use Rattle.ledger_cli.specs.declared.words.Command.TheVariants as command
 use Rattle.ledger_cli.proofs.FailureLaws.{fails_unread}
 use Rattle.ledger_cli.proofs.CarryLaws.{first_short}
-use Rattle.ledger_cli.proofs.OpeningLaws.{again_unstarted}
+use Rattle.ledger_cli.proofs.OpeningLaws.{again_unstarted, dump_unstarted}
 
 -- ---- a piece of a text
 
@@ -48,6 +48,7 @@ unstarted_by scheme tells (Some (command.Dry genesis)) x some = record {
   serves = λ t none l. inr (record { outside = inr refl; unstarted = record { unread = refl; unwritten = refl; unasked = refl }; left = λ is. record { a = inl refl; b = inl refl }; images = inl (record { a = inl refl; b = inl refl }) });
   unstarted = λ some. record { unread = refl; unwritten = refl; unasked = refl };
   only = tt;
+  ends = tt;
   left = λ t o. (record { unread = refl; unwritten = refl; unasked = refl }, inl (inr refl, record { a = inl refl; b = inl refl }));
   faults = nothing x;
   failures = fails_unread x.source x.notary;
@@ -62,6 +63,7 @@ unstarted_by scheme tells (Some (command.Init genesis)) x some = record {
   faults = nothing x;
 }
 unstarted_by scheme tells (Some command.Run) x some = again_unstarted scheme tells x.source x.sink x.notary x.disks x.disks refl
+unstarted_by scheme tells (Some command.Export) x some = dump_unstarted scheme tells x.source x.sink x.notary x.disks x.disks refl
 unstarted_by scheme tells (Some (command.Sign signing)) x some = record {
   plain = run.NoMemory;
   ending_is = refl;
@@ -101,6 +103,7 @@ served_faults scheme tells None met before now s = inl (refl, s.0)
 served_faults scheme tells (Some (command.Dry genesis)) met before now s = inr s.faults
 served_faults scheme tells (Some (command.Init genesis)) met before now s = inr s.faults
 served_faults scheme tells (Some command.Run) met before now s = inr s.faults
+served_faults scheme tells (Some command.Export) met before now s = inr s.faults
 served_faults scheme tells (Some (command.Sign signing)) met before now s = inr (subst (λ e. FaultsBy e before now) (sym s.ending_is) (signed_faults _ s.plain before now s.wrote s.disks_are))
 served_faults scheme tells (Some (command.Soak seed count stop)) met before now s = inr (subst (λ e. FaultsBy e before now) (sym s.ending_is) (soaked_faults seed count stop s.end before now s.soaked s.source_is s.disks_are))
 
@@ -118,6 +121,7 @@ is_usage (Damaged damage) is = absurd (omega (arith, is))
 is_usage Empty is = absurd (omega (arith, is))
 is_usage Exists is = absurd (omega (arith, is))
 is_usage (NewerFormat found) is = absurd (omega (arith, is))
+is_usage NotaryFault is = absurd (omega (arith, is))
 
 is_done : (e : LedgerEnding) → status_of e ≡ 0 → e ≡ Run run.Done
 is_done (Run run.Done) is = refl
@@ -132,6 +136,7 @@ is_done (Damaged damage) is = absurd (omega (arith, is))
 is_done Empty is = absurd (omega (arith, is))
 is_done Exists is = absurd (omega (arith, is))
 is_done (NewerFormat found) is = absurd (omega (arith, is))
+is_done NotaryFault is = absurd (omega (arith, is))
 
 is_read : (e : LedgerEnding) → status_of e ≡ 2 → e ≡ Run run.ReadFault
 is_read (Run run.ReadFault) is = refl
@@ -146,6 +151,7 @@ is_read (Damaged damage) is = absurd (omega (arith, is))
 is_read Empty is = absurd (omega (arith, is))
 is_read Exists is = absurd (omega (arith, is))
 is_read (NewerFormat found) is = absurd (omega (arith, is))
+is_read NotaryFault is = absurd (omega (arith, is))
 
 is_write : (e : LedgerEnding) → status_of e ≡ 3 → e ≡ Run run.WriteFault
 is_write (Run run.WriteFault) is = refl
@@ -160,6 +166,7 @@ is_write (Damaged damage) is = absurd (omega (arith, is))
 is_write Empty is = absurd (omega (arith, is))
 is_write Exists is = absurd (omega (arith, is))
 is_write (NewerFormat found) is = absurd (omega (arith, is))
+is_write NotaryFault is = absurd (omega (arith, is))
 
 is_disk : (e : LedgerEnding) → status_of e ≡ 4 → e ≡ DiskFault
 is_disk DiskFault is = refl
@@ -174,6 +181,7 @@ is_disk (Damaged damage) is = absurd (omega (arith, is))
 is_disk Empty is = absurd (omega (arith, is))
 is_disk Exists is = absurd (omega (arith, is))
 is_disk (NewerFormat found) is = absurd (omega (arith, is))
+is_disk NotaryFault is = absurd (omega (arith, is))
 
 -- an empty line meets no fault
 no_last : (before now : SinkState) → WritesLast [] before now → MeetsNone before now

@@ -1,16 +1,18 @@
 -- How a run of the program ends: its exit status and its last line.
-use Rattle.std.specs.Prelude.{⊤, ℕ, List, [], ◌∷◌, ◌++◌, codes, decimal, Option, Some, None}
+use Rattle.std.specs.Prelude.{⊤, ℕ, List, [], ◌∷◌, ◌++◌, codes, decimal, Option, Some, None, Result, Ok, Err}
 use Rattle.batch_committer.specs.declared.failure.CommitErr.{CommitErr}
 use Rattle.batch_committer.specs.declared.failure.CommitErr.TheVariants as end
 use Rattle.block_file.specs.declared.failure.Damage.{Damage}
 use Rattle.block_file.specs.declared.failure.Damage.TheVariants as damage
+use Rattle.dump_export.specs.declared.failure.DumpErr.{DumpErr}
+use Rattle.dump_export.specs.declared.failure.DumpErr.TheVariants as dumps
 use Rattle.ledger_io.specs.Endings as run
 use Rattle.ledger_io.specs.declared.ending.Ending.TheVariants as ending
 use Rattle.ledger_open.specs.declared.failure.OpenErr.{OpenErr}
 use Rattle.ledger_open.specs.declared.failure.OpenErr.TheVariants as open_err
 use Rattle.script_lines.specs.Words.{hex_of, spaced_words}
 use Rattle.ledger_cli.specs.declared.ending.LedgerEnding.{LedgerEnding}
-use Rattle.ledger_cli.specs.declared.ending.LedgerEnding.TheVariants.{Run, DiskFault, Damaged, Empty, Exists, NewerFormat}
+use Rattle.ledger_cli.specs.declared.ending.LedgerEnding.TheVariants.{Run, DiskFault, Damaged, Empty, Exists, NewerFormat, NotaryFault}
 
 -- the exit status of an ending: a number that a script can look at
 abbrev pub status_of : LedgerEnding → ℕ
@@ -20,6 +22,7 @@ status_of (Damaged damage) = 5
 status_of Empty = 8
 status_of Exists = 8
 status_of (NewerFormat found) = 9
+status_of NotaryFault = 11
 
 -- a line of words, each behind a space, behind what stands in front
 abbrev pub line_of : List ℕ → List (List ℕ) → List ℕ
@@ -43,6 +46,7 @@ last_line (Damaged damage) = damage_line damage
 last_line Empty = codes "fail 8 empty\n"
 last_line Exists = codes "fail 8 exists\n"
 last_line (NewerFormat found) = line_of (codes "fail 9 format") (decimal found ∷ [])
+last_line NotaryFault = codes "fail 11 notary\n"
 
 -- the ending that an error of making or opening a ledger brings
 abbrev pub ending_of_opening : OpenErr → LedgerEnding
@@ -60,6 +64,15 @@ ending_of_end end.WriteFault = Run ending.WriteFault
 ending_of_end end.NoMemory = Run ending.NoMemory
 ending_of_end end.Closed = Run ending.NoMemory
 
+-- the ending that the writing of a dump brings
+abbrev pub ending_of_export : Result (Unit {0}) DumpErr → LedgerEnding
+ending_of_export (Ok end) = Run ending.Done
+ending_of_export (Err dumps.DiskFault) = DiskFault
+ending_of_export (Err dumps.NotaryFault) = NotaryFault
+ending_of_export (Err dumps.WriteFault) = Run ending.WriteFault
+ending_of_export (Err (dumps.Damaged damage)) = Damaged damage
+ending_of_export (Err dumps.NoMemory) = Run ending.NoMemory
+
 -- an ending's last line is made of words, for which memory is taken
 abbrev pub HasWords : LedgerEnding → Type 0
 HasWords (Run ending) = ⊥
@@ -68,6 +81,7 @@ HasWords (Damaged damage) = ⊤
 HasWords Empty = ⊥
 HasWords Exists = ⊥
 HasWords (NewerFormat found) = ⊤
+HasWords NotaryFault = ⊥
 
 -- the error for which a ledger wasn't opened, where the ending tells one
 abbrev pub refusal_of : LedgerEnding → Option OpenErr
@@ -77,3 +91,4 @@ refusal_of (Damaged damage) = Some (open_err.Damaged damage)
 refusal_of Empty = Some open_err.Empty
 refusal_of Exists = Some open_err.Exists
 refusal_of (NewerFormat found) = Some (open_err.NewerFormat found)
+refusal_of NotaryFault = None

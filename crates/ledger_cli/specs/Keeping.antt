@@ -45,6 +45,7 @@ new_notary = record { origin = memory_origin; entries = []; faults = 0 }
 abbrev pub names_folder : Option Command → Bool
 names_folder (Some (command.Init genesis)) = true
 names_folder (Some command.Run) = true
+names_folder (Some command.Export) = true
 names_folder other = false
 
 -- how a run ends whose notary can't be taken up

@@ -1,14 +1,20 @@
 -- What a run of the program did, from the bytes that came in to the bytes that went out and the files that are left.
-use Rattle.std.specs.Prelude.{◌≡◌, ℕ, ◌⊎◌, Bool, IsTrue, List, [], ◌∷◌, codes, decimal, Option, None, Some, IsSome, IsSomeAnd, IfSome}
+use Rattle.std.specs.Prelude.{◌≡◌, ◌≢◌, ℕ, ◌⊎◌, Bool, IsTrue, List, [], ◌∷◌, codes, decimal, Option, None, Some, IsSome, IsSomeAnd, IfSome, Result, ⊤}
 use Rattle.std.specs.Io.KnownBytes.{Consumes, Appends}
 use Rattle.batch_committer.specs.World.{Pair, World, Holds, OneFailed}
+use Rattle.batch_committer.specs.Opened.{IsQuietFor}
 use Rattle.block_file.specs.File.{IsSettled}
 use Rattle.block_file.specs.Head.{IsShut}
+use Rattle.dump_export.specs.Exports as dumps
+use Rattle.dump_export.specs.Texts.{front_text}
+use Rattle.dump_export.specs.declared.failure.DumpErr.{DumpErr}
+use Rattle.dump_model.specs.Dumps.{dump_text}
+use Rattle.dump_model.specs.Shown.{ledger_dump}
 use Rattle.ledger_bytes.specs.Begins.{Begins}
 use Rattle.ledger_bytes.specs.Causes.{count_after}
 use Rattle.ledger_disk.specs.Disk.{MayLeave, settled_state}
 use Rattle.ledger_io.specs.Outside.{SourceState, SinkState, Outside, outside, MeetsNone, MeetsOne}
-use Rattle.ledger_io.specs.Runs.{Answered, SomeOfScript, FallsShort, AreWhole, Wrote}
+use Rattle.ledger_io.specs.Runs.{Answered, EndsReading, SomeOfScript, FallsShort, AreWhole, Wrote}
 use Rattle.ledger_io.specs.Writing.{WritesLast}
 use Rattle.ledger_io.specs.declared.ending.Ending.{Ending}
 use Rattle.ledger_io.specs.declared.ending.Ending.TheVariants as run
@@ -18,8 +24,8 @@ use Rattle.ledger_model.specs.Genesis.{new_ledger}
 use Rattle.ledger_model.specs.History.{History, id, journals_of}
 use Rattle.ledger_model.specs.Merge.{IsMerge}
 use Rattle.ledger_bytes.specs.declared.digest.Digest.{Digest}
-use Rattle.ledger_model.specs.Dues.{HasLeaf}
-use Rattle.script_lines.specs.Receipts.{IsReceipted}
+use Rattle.ledger_model.specs.Dues.{HasLeaf, IsHeadOf}
+use Rattle.script_lines.specs.Receipts.{AllHeads, IsReceipted}
 use Rattle.ledger_model.specs.Pegs.{Pegged}
 use Rattle.ledger_model.specs.Rules.{after}
 use Rattle.ledger_model.specs.Scheme.{Scheme}
@@ -40,14 +46,14 @@ use Rattle.proof_maker.specs.Written.{AllGood}
 use Rattle.time_peg.specs.Entries.{NotaryState, IsList}
 use Rattle.ledger_bytes.specs.Digests.{digest}
 use Rattle.script_lines.specs.Words.{hex_of}
-use Rattle.ledger_cli.specs.Endings.{line_of, status_of, last_line, refusal_of, HasWords}
+use Rattle.ledger_cli.specs.Endings.{line_of, status_of, last_line, refusal_of, ending_of_export, HasWords}
 use Rattle.ledger_cli.specs.Signing.{signed_text}
 use Rattle.ledger_cli.specs.Failures.{FailsByLines}
 use Rattle.ledger_cli.specs.Heads.{HeadsLeadOn}
 use Rattle.ledger_cli.specs.Leaving.{AreClean, AreErased}
 use Rattle.ledger_cli.specs.Taken.{taken, TookSome}
 use Rattle.ledger_cli.specs.declared.ending.LedgerEnding.{LedgerEnding}
-use Rattle.ledger_cli.specs.declared.ending.LedgerEnding.TheVariants.{Run, DiskFault, Damaged, Empty, Exists, NewerFormat}
+use Rattle.ledger_cli.specs.declared.ending.LedgerEnding.TheVariants.{Run, DiskFault, Damaged, Empty, Exists, NewerFormat, NotaryFault}
 use Rattle.ledger_cli.specs.declared.words.Command.{Command}
 use Rattle.ledger_cli.specs.declared.words.Command.TheVariants as command
 
@@ -139,11 +145,34 @@ FaultsBy (Damaged damage) before after_all = Faults NoneFailed MeetsNone NoDiskF
 FaultsBy Empty before after_all = Faults NoneFailed MeetsNone NoDiskFailed before after_all
 FaultsBy Exists before after_all = Faults NoneFailed MeetsNone NoDiskFailed before after_all
 FaultsBy (NewerFormat found) before after_all = Faults NoneFailed MeetsNone NoDiskFailed before after_all
+FaultsBy NotaryFault before after_all = Faults NoneFailed MeetsNone NoDiskFailed before after_all
 
 -- The notary failed once at most for each line that was read, and each failure was counted. Where the disks tell what they
 -- have, each of these is a step's.
 abbrev pub NotaryFails : Handed → Handed → Type 0
 NotaryFails before after_all = FailsByLines before.source after_all.source before.notary after_all.notary
+
+-- the source was read to where reading ended so
+abbrev pub HasEnded : Option LineErr → SourceState → SourceState → Type 0
+HasEnded end before after_all =
+    (read : List ℕ) × (lines : List (List ℕ)) × Consumes before.left after_all.left read × EndsReading end before after_all read lines
+
+-- How reading ended, by the ending and whatever the disks tell. Of what was still to come nothing is said where a call ended the run
+-- on its way. A refusal reads nothing.
+abbrev pub ReadsBy : LedgerEnding → SourceState → SourceState → Type 0
+ReadsBy (Run run.Done) before after_all = HasEnded None before after_all
+ReadsBy (Run run.Usage) before after_all = ⊥
+ReadsBy (Run run.ReadFault) before after_all = HasEnded (Some line_err.ReadFault) before after_all
+ReadsBy (Run run.WriteFault) before after_all = ⊤
+ReadsBy (Run run.NoMemory) before after_all = ⊤
+ReadsBy (Run run.LineTooLong) before after_all = HasEnded (Some line_err.LineTooLong) before after_all
+ReadsBy (Run run.ScriptTooLong) before after_all = HasEnded (Some line_err.ScriptTooLong) before after_all
+ReadsBy DiskFault before after_all = ⊤
+ReadsBy (Damaged damage) before after_all = after_all ≡ before
+ReadsBy Empty before after_all = after_all ≡ before
+ReadsBy Exists before after_all = after_all ≡ before
+ReadsBy (NewerFormat found) before after_all = after_all ≡ before
+ReadsBy NotaryFault before after_all = after_all ≡ before
 
 -- ---- a script on a ledger
 
@@ -162,14 +191,16 @@ pub record Answers (scheme : Scheme) (h : History) (lines : List (List ℕ)) (re
 -- 0.1 0.2 1.1 (lane and number), and `replies` is the text of that order. In no order 0.2 stands in front of 0.1.
 
 -- Two images stand for a history that goes on from h and ends where a block of the whole history does, or is h. Each journal is
--- in it of which a receipt was written whole. The notary's list has the entry of each of its time journals, where it had those
--- of h. The images are as clean as is asked.
+-- in it of which a receipt was written whole, and each head of the ledger that stands in a line written whole is that of its
+-- first journals. The notary's list has the entry of each of its time journals, where it had those of h. The images are as
+-- clean as is asked.
 pub record MayStand (h whole : History) (first last : NotaryState) (replies : List ℕ) (IsSoClean : History → List ℕ → List ℕ → Type 0) (a b : List ℕ) : Type 0 where
   pub kept : History
   pub stands : PairFor a b kept
   pub no_shorter : Begins h.closed kept.closed
   pub no_longer : Begins kept.closed whole.closed
   pub receipts : (jsn : ℕ) (leaf : Digest) → IsReceipted replies jsn leaf → HasLeaf (journals_of kept.closed) jsn leaf
+  pub heads : AllHeads (IsHeadOf (journals_of kept.closed)) replies
   pub pegs : Pegged h first.entries → Pegged kept last.entries
   pub clean : IsSoClean kept a b
 
@@ -240,6 +271,7 @@ Replies scheme h (Damaged damage) read replies before after_all = ⊥
 Replies scheme h Empty read replies before after_all = ⊥
 Replies scheme h Exists read replies before after_all = ⊥
 Replies scheme h (NewerFormat found) read replies before after_all = ⊥
+Replies scheme h NotaryFault read replies before after_all = ⊥
 
 -- what a run of a script did on the ledger with this history: everything but the last line
 pub record RunsOn (scheme : Scheme) (h : History) (ending : LedgerEnding) (before after_all : Handed) : Type 0 where
@@ -259,6 +291,7 @@ pub record IsUnstarted (before after_all : Handed) : Type 0 where
 -- a script is run on the history that a committer and its disks have, where no journal waits, with a notary that keeps a list
 pub record Runs (scheme : Scheme) (tells : Bool) (w : World) (ending : LedgerEnding) (before after_all : Handed) : Type 0 where
   pub serves : (h : History) → Holds tells w h → h.waiting ≡ [] → IsList before.notary.entries → RunsOn scheme h ending before after_all
+  pub ends : ReadsBy ending before.source after_all.source
   pub faults : FaultsBy ending before after_all
   pub failures : NotaryFails before after_all
 
@@ -300,11 +333,48 @@ pub record RunsAgain (scheme : Scheme) (tells : Bool) (ending : LedgerEnding) (b
   -- a refusal reads and writes nothing, whatever the disks tell
   pub unstarted : IsSome (refusal_of ending) → IsUnstarted before after_all
   pub refused : IsTrue tells → IfSome (refusal_of ending) (λ e. IsRefused e before.disks after_all.disks)
+  -- .. and it is never that a ledger is there
+  pub only : IfSome (refusal_of ending) (λ e. e ≢ open_err.Exists)
   -- what shows damage, or is no ledger, isn't run, and a refusal has its cause
   pub exact : IsTrue tells → (e : OpenErr) → IsOpenErr before.disks.a.bytes.seen before.disks.b.bytes.seen e → (IsOutside e → ⊥)
       → LeftAsRead (λ met. IsSomeAnd (refusal_of met) (IsOpenErr before.disks.a.bytes.seen before.disks.b.bytes.seen)) ending before after_all
+  pub ends : ReadsBy ending before.source after_all.source
   pub faults : FaultsBy ending before after_all
   pub failures : NotaryFails before after_all
+
+-- The dump of this history and of the notary's list was written: whole, and where it ended early a beginning of it. At an ending
+-- that tells a damage it is that of the first journal that has one, and those in front of it are written; a dump that is whole shows
+-- none. Nothing is pending on the disks, and they are clean for the history.
+pub record WritesDump (h : History) (ending : LedgerEnding) (before after_all : Handed) : Type 0 where
+  pub result : Result (Unit {0}) DumpErr
+  pub ending_is : ending ≡ ending_of_export result
+  pub part : List ℕ
+  pub appended : Appends before.sink.held after_all.sink.held part
+  pub written : dumps.IsWritten result part (dump_text (ledger_dump h before.notary.entries))
+  pub damage : dumps.TellsDamage (front_text (ledger_dump h before.notary.entries)) h result before.sink after_all.sink
+  pub quiet : IsQuietFor after_all.disks h
+
+-- the notary failed once where the ending says so, and else not
+abbrev pub NotaryFailsBy : LedgerEnding → ℕ → ℕ → Type 0
+NotaryFailsBy NotaryFault before now = now ≡ count_after before
+NotaryFailsBy (Run ending) before now = now ≡ before
+NotaryFailsBy DiskFault before now = now ≡ before
+NotaryFailsBy (Damaged damage) before now = now ≡ before
+NotaryFailsBy Empty before now = now ≡ before
+NotaryFailsBy Exists before now = now ≡ before
+NotaryFailsBy (NewerFormat found) before now = now ≡ before
+
+-- what `export` does: the ledger that is there is opened, and its dump is written
+pub record Exports (tells : Bool) (ending : LedgerEnding) (before after_all : Handed) : Type 0 where
+  -- whatever history the pair stood for
+  pub serves : IsTrue tells → (h : History) → StandFor before.disks h → WritesDump h ending before after_all ⊎ IsNotOpened h ending before after_all
+  pub unread : after_all.source ≡ before.source
+  pub asked : dumps.IsOnlyAsked before.notary after_all.notary
+  -- what shows damage, or is no ledger, isn't opened, and a refusal has its cause
+  pub exact : IsTrue tells → (e : OpenErr) → IsOpenErr before.disks.a.bytes.seen before.disks.b.bytes.seen e → (IsOutside e → ⊥)
+      → LeftAsRead (λ met. IsSomeAnd (refusal_of met) (IsOpenErr before.disks.a.bytes.seen before.disks.b.bytes.seen)) ending before after_all
+  pub faults : FaultsBy ending before after_all
+  pub notary_fails : NotaryFailsBy ending before.notary.faults after_all.notary.faults
 
 -- the line that tells a new ledger: its id, its size and its root
 abbrev pub ledger_line : Genesis → List ℕ
@@ -330,6 +400,7 @@ MadeBy genesis tells (Damaged damage) written before after_all = ⊥
 MadeBy genesis tells Empty written before after_all = ⊥
 MadeBy genesis tells Exists written before after_all = (written ≡ []) × (IsTrue tells → HasOpen before × SettledAsRead before after_all)
 MadeBy genesis tells (NewerFormat found) written before after_all = ⊥
+MadeBy genesis tells NotaryFault written before after_all = ⊥
 
 -- a crash leaves two files that are shut, or the new ledger
 abbrev pub LeaveFoundedOrShut : Genesis → Pair → Type 0
@@ -362,6 +433,7 @@ pub record RunsNew (scheme : Scheme) (genesis : Genesis) (tells : Bool) (ending 
   -- .. and there is one, whatever the disks tell
   pub only : IfSome (refusal_of ending) (λ e. e ≡ open_err.Exists)
   pub left : IsTrue tells → HasOpen before.disks → LeftAsRead (λ met. met ≡ Exists) ending before after_all
+  pub ends : ReadsBy ending before.source after_all.source
   pub faults : FaultsBy ending before after_all
   pub failures : NotaryFails before after_all
 
@@ -394,6 +466,7 @@ ServedBy scheme tells None ending before after_all = (ending ≡ Run run.Usage) 
 ServedBy scheme tells (Some (command.Dry genesis)) ending before after_all = RunsNew scheme genesis tells ending before after_all
 ServedBy scheme tells (Some (command.Init genesis)) ending before after_all = Makes genesis tells ending before after_all
 ServedBy scheme tells (Some command.Run) ending before after_all = RunsAgain scheme tells ending before after_all
+ServedBy scheme tells (Some command.Export) ending before after_all = Exports tells ending before after_all
 ServedBy scheme tells (Some (command.Sign signing)) ending before after_all = Signs (signed_text signing) ending before after_all
 ServedBy scheme tells (Some (command.Soak seed count stop)) ending before after_all = Soaks seed count stop ending before after_all
 

@@ -5,7 +5,7 @@ use Rattle.std.specs.Cmp.Lexicographic.{pointwise}
 use Rattle.script_lines.specs.Spellings.{◌>>=◌, digest_of, name_of, number_of}
 use Rattle.ledger_cli.specs.Signing.{request_of}
 use Rattle.ledger_cli.specs.declared.words.Command.{Command}
-use Rattle.ledger_cli.specs.declared.words.Command.TheVariants.{Dry, Init, Run, Sign, Soak}
+use Rattle.ledger_cli.specs.declared.words.Command.TheVariants.{Dry, Init, Run, Export, Sign, Soak}
 
 -- the ledger that a name and two keys make, where they are of their forms
 abbrev pub genesis_of : List ℕ → List ℕ → List ℕ → Option Genesis
@@ -24,10 +24,10 @@ abbrev pub init_of : List ℕ → List ℕ → List ℕ → List ℕ → Option 
 init_of [] name operator regulator = None
 init_of (byte ∷ bytes) name operator regulator = option_map Init (genesis_of name operator regulator)
 
--- what the word behind `run` asks for: `DIR`, the ledger in a folder
-abbrev pub run_of : List ℕ → Option Command
-run_of [] = None
-run_of (byte ∷ bytes) = Some Run
+-- what the word behind `run` or `export` asks for: `DIR`, the ledger in a folder, whose name has at least one byte
+abbrev pub in_folder : Command → List ℕ → Option Command
+in_folder command [] = None
+in_folder command (byte ∷ bytes) = Some command
 
 -- what the words behind `sign` ask for: a verb and its words, which a key is to prove on the ledger with this id
 abbrev pub sign_of : List ℕ → List ℕ → List ℕ → List (List ℕ) → Option Command
@@ -55,9 +55,12 @@ abbrev pub init_from : List ℕ → List ℕ → List ℕ → List (List ℕ) �
 init_from folder name operator (regulator ∷ []) = init_of folder name operator regulator
 init_from folder name operator words = None
 
--- what two words ask for: they may be those of `run`
+-- what two words ask for: they may be those of `run` or `export`
 abbrev pub of_two : List ℕ → List ℕ → Option Command
-of_two verb folder = if pointwise nat_eq verb (codes "run") then run_of folder else None
+of_two verb folder =
+    if pointwise nat_eq verb (codes "run") then in_folder Run folder
+    else if pointwise nat_eq verb (codes "export") then in_folder Export folder
+    else None
 
 -- what four words ask for: they may be those of `dry` or `soak`
 unfoldable pub of_four : List ℕ → List ℕ → List ℕ → List ℕ → Option Command
@@ -73,7 +76,7 @@ of_more verb second third fourth words =
     else if pointwise nat_eq verb (codes "init") then init_from second third fourth words
     else None
 
--- what the words of the command line ask for: `run DIR`, `dry NAME OPKEY REGKEY`, `soak SEED COUNT STOP`, `init DIR NAME OPKEY
+-- what the words of the command line ask for: `run DIR`, `export DIR`, `dry NAME OPKEY REGKEY`, `soak SEED COUNT STOP`, `init DIR NAME OPKEY
 -- REGKEY`, or `sign ID KEY` and then a request
 abbrev pub command_of : List (List ℕ) → Option Command
 command_of (verb ∷ folder ∷ []) = of_two verb folder

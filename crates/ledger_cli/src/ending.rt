@@ -1,3 +1,5 @@
+//! How a run of `ledgerctl` ends: its exit status, and the line that it writes last.
+
 ghost use Rattle.std.specs.Prelude.{◌≡◌, ◌++◌, map, OnOk, IfSome, IfNone};
 ghost use Rattle.script_lines.specs.Words.{word_text};
 ghost use Rattle.ledger_cli.specs.Endings as spec;
@@ -5,6 +7,7 @@ ghost use Rattle.ledger_cli.specs.Endings.{status_of, HasWords};
 
 use batch_committer::CommitErr;
 use block_file::Damage;
+use dump_export::DumpErr;
 use ledger_bytes::NoMemory;
 use ledger_io::Ending;
 use ledger_open::OpenErr;
@@ -25,6 +28,8 @@ pub enum LedgerEnding {
     Exists,
     /// The version of a file isn't 1.
     NewerFormat { found: u8 },
+    /// The notary failed while a dump was written.
+    NotaryFault,
 }
 
 impl LedgerEnding {
@@ -38,6 +43,7 @@ impl LedgerEnding {
             LedgerEnding::Damaged(_) => 5,
             LedgerEnding::Empty | LedgerEnding::Exists => 8,
             LedgerEnding::NewerFormat { .. } => 9,
+            LedgerEnding::NotaryFault => 11,
         }
     }
 
@@ -51,6 +57,7 @@ impl LedgerEnding {
             LedgerEnding::DiskFault => Some(b"fail 4 disk\n"),
             LedgerEnding::Empty => Some(b"fail 8 empty\n"),
             LedgerEnding::Exists => Some(b"fail 8 exists\n"),
+            LedgerEnding::NotaryFault => Some(b"fail 11 notary\n"),
             LedgerEnding::Damaged(_) | LedgerEnding::NewerFormat { .. } => None,
         }
     }
@@ -161,5 +168,19 @@ impl From<CommitErr> for LedgerEnding {
             CommitErr::WriteFault => LedgerEnding::Run(Ending::WriteFault),
             CommitErr::NoMemory | CommitErr::Closed => LedgerEnding::Run(Ending::NoMemory),
         }
+    }
+}
+
+/// How a run ends whose dump was written so far.
+pub(crate) fn ending_of_export(written: Result<(), DumpErr>) -> LedgerEnding
+    ensures { result ≡ spec.ending_of_export written }
+{
+    match written {
+        Ok(()) => LedgerEnding::Run(Ending::Done),
+        Err(DumpErr::DiskFault) => LedgerEnding::DiskFault,
+        Err(DumpErr::NotaryFault) => LedgerEnding::NotaryFault,
+        Err(DumpErr::WriteFault) => LedgerEnding::Run(Ending::WriteFault),
+        Err(DumpErr::Damaged(damage)) => LedgerEnding::Damaged(damage),
+        Err(DumpErr::NoMemory) => LedgerEnding::Run(Ending::NoMemory),
     }
 }

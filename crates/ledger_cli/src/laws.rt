@@ -1,3 +1,5 @@
+//! Laws of whole runs: each lane is answered in order, a notary's list goes on, and what has a receipt is shown later.
+
 ghost use Rattle.std.specs.Prelude.{◌≡◌, ◌≤◌, ◌+◌, ℕ, List, All, length, map};
 ghost use Rattle.std.specs.List.{flat_map};
 ghost use Rattle.ledger_bytes.specs.Begins.{Begins};

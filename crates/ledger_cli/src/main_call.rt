@@ -1,3 +1,5 @@
+//! The whole program: its notary is kept in the folder or new in memory, and the top call is run with it.
+
 ghost use Rattle.std.specs.Prelude.{◌≡◌, ◌≤◌, ◌⊎◌, ◌↔◌, None, IsSome, IfOk, OnErr, map, string_bytes};
 ghost use Rattle.batch_committer.specs.World.{pair, OneFailed};
 ghost use Rattle.ledger_bytes.specs.Causes.{count_after};
@@ -60,7 +62,7 @@ pub fn ledger_main<
         (E.state keeping.keeper))
         (given (S.state source.new) (K.state sink.new) (pair (D.state a.new) (D.state b.new))
         (E.state result.1)) }
-    ensures bounded { result.0 ≤ 9 }
+    ensures bounded { result.0 ≤ 11 }
     ensures usage { (result.0 ≡ 1) ↔ (command_of (map string_bytes words.now) ≡ None) }
     ensures disk_fault { result.0 ≡ 4 → OneFailed
         (pair (D.state a.old) (D.state b.old)) (pair (D.state a.new) (D.state b.new))
@@ -114,7 +116,7 @@ fn wants_notary(alloc: Global, words: &[String]) -> Result<bool, NoMemory>
     ensures err { OnErr result (IsSome (command_of (map string_bytes words.now))) }
 {
     match Command::read(alloc, words)? {
-        Some(Command::Init(_) | Command::Run) => Ok(true),
+        Some(Command::Init(_) | Command::Run | Command::Export) => Ok(true),
         Some(Command::Dry(_) | Command::Sign(_) | Command::Soak { .. }) | None => Ok(false),
     }
 }

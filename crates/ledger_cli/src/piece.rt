@@ -1,3 +1,5 @@
+//! The lines that were read and not yet taken, with the numbers that they have in their lanes.
+
 ghost use Rattle.std.specs.Prelude.{◌≡◌, ◌<◌, ◌+◌, ◌^◌, ◌==◌, ◌++◌, ◌∷◌, [], ℕ, length, IsTrue, IfSome, IfNone, OnOk, OnSome, if◌then◌else◌, slice_index};
 ghost use Rattle.script_lines.specs.Grammar.{spoken_line};
 ghost use Rattle.lane_work.specs.declared.kinds.LaneLine.{LaneLine};

@@ -1,3 +1,5 @@
+//! A session, which answers the lines of a script on an open ledger.
+
 ghost use Rattle.std.specs.Prelude.{◌≡◌, [], false, None, OnOk, IfErr};
 ghost use Rattle.batch_committer.specs.World.{pair, world, Fits, HasRoom};
 ghost use Rattle.ledger_io.specs.declared.ending.Ending.TheVariants as run;

@@ -1,3 +1,5 @@
+//! The command `sign`: a member's request, and the message and the proof that are written for it.
+
 ghost use Rattle.std.specs.Prelude.{◌≡◌, ◌≤◌, ◌+◌, ◌*◌, length, map, string_bytes, option_map, IfOk, IfSome, OnErr, IsSome};
 ghost use Rattle.ledger_cli.specs.Signing.{append_from, member_from, occult_from, purge_from, clue_of_word, hex_line, numbered_digest, request_of};
 

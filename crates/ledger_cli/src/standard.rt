@@ -1,3 +1,5 @@
+//! The program over standard input and output, real files, the system's clock and its random bytes.
+
 ghost use Rattle.std.specs.Prelude.{◌≤◌, IfOk};
 
 use crate::{Command, Keeping, ledger_main};
@@ -17,12 +19,12 @@ use std::thread::Threads;
 const DRY_ROOM: usize = 67_108_864;
 
 /// Runs the program over standard input and standard output, by the words of its command line, and answers its exit
-/// status. `init` and `run` use the files `ledger.a`, `ledger.b` and `notary` of their folder, which has to be there, the
+/// status. `init`, `run` and `export` use the files `ledger.a`, `ledger.b` and `notary` of their folder, which has to be there, the
 /// system's clock, and 32 bytes of `/dev/urandom` as the seed of salts; `dry` uses two disks in memory of 67,108,864 bytes
 /// each. The three files are locked, and so told apart, before anything is written. Proofs are those of the tag scheme. What [`ledger_main`] promises holds of it, but standard input and output and
 /// real files tell nothing of what they gave and took. `threads` is `rt` once more, by whose bound threads may be started.
 pub fn ledger_standard<R: Threads + Wait + Sync>(rt: &HostRuntime, threads: &R) -> u8
-    ensures { result ≤ 9 }
+    ensures { result ≤ 11 }
 {
     let mut source = StdSource::new(rt.stdin());
     let mut sink = StdSink::new(rt.stdout());
@@ -40,10 +42,12 @@ pub fn ledger_standard<R: Threads + Wait + Sync>(rt: &HostRuntime, threads: &R) 
     }
 }
 
-// The folder that `init` or `run` is to use.
+// The folder that `init`, `run` or `export` is to use.
 fn folder_of(words: &[String]) -> Option<&str> {
     match words {
-        [verb, folder] if verb.as_str() == "run" => Some(folder.as_str()),
+        [verb, folder] if verb.as_str() == "run" || verb.as_str() == "export" => {
+            Some(folder.as_str())
+        }
         [verb, folder, _, _, _] if verb.as_str() == "init" => Some(folder.as_str()),
         _ => None,
     }
@@ -68,7 +72,7 @@ fn run_on_files<R: Threads + Wait + Sync, S: Source, K: Sink>(
     source: &mut S,
     sink: &mut K,
 ) -> Result<u8, NoMemory>
-    ensures { IfOk result (λ status. status ≤ 9) }
+    ensures { IfOk result (λ status. status ≤ 11) }
 {
     let mut a = file_in(rt, folder, "/ledger.a")?;
     let mut b = file_in(rt, folder, "/ledger.b")?;
@@ -123,7 +127,7 @@ fn run_in_memory<R: Threads + Wait + Sync, S: Source, K: Sink>(
     source: &mut S,
     sink: &mut K,
 ) -> Result<u8, NoMemory>
-    ensures { IfOk result (λ status. status ≤ 9) }
+    ensures { IfOk result (λ status. status ≤ 11) }
 {
     let room = match words {
         [verb, ..] if verb.as_str() == "dry" => DRY_ROOM,

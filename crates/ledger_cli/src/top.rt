@@ -1,17 +1,20 @@
+//! The top call of `ledgerctl`, which runs a command on the disks, the streams and the notary that it is handed.
+
 ghost use Rattle.std.specs.Prelude.{◌≡◌, ◌↔◌, None, map, string_bytes};
 ghost use Rattle.batch_committer.specs.World.{Pair, pair, OneFailed};
 ghost use Rattle.ledger_bytes.specs.Causes.{count_after};
 ghost use Rattle.ledger_io.specs.Outside.{SourceState, MeetsOne};
 ghost use Rattle.time_peg.specs.Entries.{NotaryState};
-ghost use Rattle.ledger_cli.specs.Runs.{handed, Finishes, Makes, NothingFailed, RanProgram, RunsAgain, RunsNew, ServedBy, Signs, Soaks};
+ghost use Rattle.ledger_cli.specs.Runs.{handed, Exports, Finishes, Makes, NothingFailed, RanProgram, RunsAgain, RunsNew, ServedBy, Signs, Soaks};
 ghost use Rattle.ledger_cli.specs.Signing.{signed_text};
 ghost use Rattle.ledger_cli.specs.Words.{command_of};
 
 use crate::Command;
-use crate::ending::{LedgerEnding, put_line};
+use crate::ending::{LedgerEnding, ending_of_export, put_line};
 use crate::session::run_session;
 use crate::signing::Signing;
 use batch_committer::Committer;
+use dump_export::write_dump;
 use lane_work::{Gate, Tools};
 use ledger_bytes::NoMemory;
 use ledger_disk::Disk;
@@ -28,7 +31,8 @@ use time_peg::Notary;
 
 /// The program: runs the command that the words after the program's name make. `init` makes a ledger of the two disks.
 /// `run` opens the ledger that is there, and runs the script that `source` gives on it; its replies are written to `sink`,
-/// a receipt once its block is on the disk for good. `dry` does both with a new ledger. `sign` reads nothing, uses no disk
+/// a receipt once its block is on the disk for good. `dry` does both with a new ledger. `export` opens the ledger that is there, reads nothing else,
+/// and writes its dump, beside the notary's list. `sign` reads nothing, uses no disk
 /// and writes one text. `soak` reads nothing and uses no disk that is handed in. Whose key a proof shows is what the verifier says. Anchors are stamped by `notary`; where that fails
 /// the line is refused and the run goes on. It answers the exit status:
 ///
@@ -39,11 +43,12 @@ use time_peg::Notary;
 /// | 2 | only where the source failed | `fail 2 read` |
 /// | 3 | only where the sink failed, or took nothing of a piece that wasn't empty | none |
 /// | 4 | only where a disk failed | `fail 4 disk` |
-/// | 5 | `run`: the open file is damaged | `fail 5` and the damage |
+/// | 5 | `run`, `export`: the open file is damaged; `export`: a journal that it shows isn't what its header says | `fail 5` and the damage |
 /// | 6 | want of memory | `fail 6 memory` |
 /// | 7 | a line or the script is too long | `fail 7 line`, `fail 7 script` |
-/// | 8 | `run` where there is no ledger, `init` and `dry` where there is one | `fail 8 empty`, `fail 8 exists` |
-/// | 9 | `run`: the version of an open file isn't 1 | `fail 9 format` and the version |
+/// | 8 | `run`, `export` where there is no ledger, `init` and `dry` where there is one | `fail 8 empty`, `fail 8 exists` |
+/// | 9 | `run`, `export`: the version of an open file isn't 1 | `fail 9 format` and the version |
+/// | 11 | `export`: only where the notary failed | `fail 11 notary` |
 ///
 /// Of several, the first that happens is the status: a run that is done met no fault, and one that ends with a fault met
 /// that one. Lines that ended before a fault of reading are answered first. The last line is written by one attempt; a
@@ -128,6 +133,7 @@ fn run_words<
         Ok(Some(Command::Dry(genesis))) => { run_new(tools, &genesis, source, sink, a, b, notary) }
         Ok(Some(Command::Init(genesis))) => make(tools.alloc, &genesis, sink, a, b),
         Ok(Some(Command::Run)) => run_again(tools, source, sink, a, b, notary),
+        Ok(Some(Command::Export)) => export(tools.rt, tools.alloc, sink, a, b, notary),
         Ok(Some(Command::Sign(signing))) => sign(&signing, sink),
         Ok(Some(Command::Soak { seed, count, stop })) => run_soak(
             tools.rt,
@@ -169,6 +175,25 @@ fn run_again<
             run_session(tools, &mut committer, a, b, source, sink, notary)
         }
         Err(e) => LedgerEnding::from(e),
+    }
+}
+
+// Opens the ledger of two disks, and writes its dump, beside the notary's list.
+fn export<R: Threads, K: Sink, D: Disk, N: Notary>(
+    rt: &R,
+    alloc: Global,
+    sink: &mut K,
+    a: &mut D,
+    b: &mut D,
+    notary: &mut N,
+) -> LedgerEnding
+    ensures { (source : SourceState) → Exports D.tells result
+        (handed source (K.state sink.old) (pair (D.state a.old) (D.state b.old)) (N.state notary.old))
+        (handed source (K.state sink.new) (pair (D.state a.new) (D.state b.new)) (N.state notary.new)) }
+{
+    match reopen(rt, alloc, a, b, Limits::real()) {
+        Ok(opened) => ending_of_export(write_dump(alloc, &opened, a, b, notary, sink)),
+        Err(error) => LedgerEnding::from(error),
     }
 }
 

@@ -1,3 +1,5 @@
+//! The window of a script's lines that is at hand, and which line ends it.
+
 ghost use Rattle.ledger_bytes.specs.declared.limits.TheConstants.{WINDOW_BYTES, WINDOW_LINES};
 ghost use Rattle.std.specs.Prelude.{◌≡◌, ◌+◌, ◌<◌, ◌≤◌, if◌then◌else◌};
 ghost use Rattle.ledger_io.specs.Lines.{line_limit};

@@ -1,5 +1,7 @@
+//! The command that the words of the command line of `ledgerctl` make.
+
 ghost use Rattle.std.specs.Prelude.{◌≡◌, map, string_bytes, IfOk, OnErr, IsSome};
-ghost use Rattle.ledger_cli.specs.Words.{dry_of, genesis_of, init_of, of_four, of_more, of_two, sign_of, soak_of};
+ghost use Rattle.ledger_cli.specs.Words.{dry_of, genesis_of, init_of, of_four, of_more, in_folder, of_two, sign_of, soak_of};
 
 use crate::signing::{Signing, read_request};
 use ledger_bytes::{Bytes, NoMemory};
@@ -16,6 +18,8 @@ pub enum Command {
     Init(Genesis),
     /// `run DIR`: the ledger that is there, and a run of the script on it.
     Run,
+    /// `export DIR`: the ledger that is there, and its dump. It reads no input.
+    Export,
     /// `sign ID KEY` and a request: the request's message, and the key's proof of it. It reads no input.
     Sign(Signing),
     /// `soak SEED COUNT STOP`: so many random jobs on a new ledger in memory, whose disks stop after so many calls each where
@@ -40,7 +44,7 @@ impl Command {
     ghost use Rattle.ledger_cli.specs.Words.{command_of};
 
     /// The command that the words after the program's name make, or None where they are of no form. The folder of
-    /// `init` and `run` isn't part of it: the disks over its files are handed in.
+    /// `init`, `run` and `export` isn't part of it: the disks over its files are handed in.
     pub fn read(alloc: Global, words: &[String]) -> Result<Option<Self>, NoMemory>
         ensures ok { IfOk result (λ command. command ≡ command_of (map string_bytes words.now)) }
         ensures err { OnErr result (IsSome (command_of (map string_bytes words.now))) }
@@ -70,10 +74,23 @@ impl Command {
 fn read_two(verb: &str, folder: &str) -> Option<Command>
     ensures { result ≡ of_two verb.now folder.now }
 {
-    if verb == "run" && !folder.is_empty() {
-        Some(Command::Run)
+    if verb == "run" {
+        read_folder(Command::Run, folder)
+    } else if verb == "export" {
+        read_folder(Command::Export, folder)
     } else {
         None
+    }
+}
+
+// The name of a folder has at least one byte.
+fn read_folder(command: Command, folder: &str) -> Option<Command>
+    ensures { result ≡ in_folder command folder.now }
+{
+    if folder.is_empty() {
+        None
+    } else {
+        Some(command)
     }
 }
 
