@@ -22,6 +22,13 @@ const REGULATOR: Digest = Digest([2; 32]);
 pub(crate) const MEMBER: &str =
     "0 member 2 0303030303030303030303030303030303030303030303030303030303030303 01010101010101010101010101010101010101010101010101010101010101016e2700604cd288e681c238fa71ae802ef173e93907477f0111a56a7be4890e8c";
 
+/// Member 2 places a record without a content.
+const RECORD: &str =
+    "0 append 2 - - 0303030303030303030303030303030303030303030303030303030303030303f7883fcc812a608a0fc1facb9db3695d6a79994b1d3a982a0680d6a5c87dfef4";
+
+/// The salt of the time journal, which is journal 3.
+pub(crate) const SALT: &str = "8b3b30a051bca9ec8bacbfaf3a351389842d99f1769a4959994077e9ec8d8757";
+
 pub(crate) fn digest(text: &str) -> Result<Digest, Fail> {
     Ok(Digest(<[u8; 32]>::from_hex(text)?))
 }
@@ -68,6 +75,14 @@ pub(crate) fn apply(
         book.seal();
     }
     Ok(outcome)
+}
+
+/// Places member 2, its record, a time journal, and one more record.
+pub(crate) fn place_all(alloc: Global, book: &mut Book, salt: Digest) -> Result<(), NoMemory> {
+    for line in [MEMBER, RECORD, "0 anchor", RECORD] {
+        apply(alloc, book, line, salt)?;
+    }
+    Ok(())
 }
 
 /// Whether a line places a journal that has this number and this leaf digest.
@@ -124,7 +139,7 @@ pub(crate) fn leaf(book: &Book, number: u64) -> Result<Digest, Fail> {
 }
 
 /// Replays a header.
-fn take(book: &mut Book, header: &Header) -> Result<Result<(), Damage>, Fail> {
+pub(crate) fn take(book: &mut Book, header: &Header) -> Result<Result<(), Damage>, Fail> {
     let header = read_again(header)?;
     Ok(book.replay(&header, &leaf_of::<Sha>(&header.encode()))?)
 }

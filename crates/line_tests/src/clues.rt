@@ -1,3 +1,5 @@
+//! Clues keep their counts when journals are dropped, and an index goes on from the states at a point.
+
 use clue_index::{ClueIndex, ClueState};
 use ledger_bytes::{Digest, NoMemory};
 use std::process::Abort;

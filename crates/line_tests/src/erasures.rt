@@ -1,3 +1,5 @@
+//! An occult and a purge are accepted with all approvals, and refused where one is missing or a fact differs.
+
 use erase_rules::{OccultFacts, PurgeFacts, judge_occult, judge_purge};
 use journal_record::Kind;
 use ledger_bytes::{Bytes, Digest, NoMemory, Refusal};

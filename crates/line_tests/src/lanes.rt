@@ -1,3 +1,5 @@
+//! Lines of one lane and of several are offered to a taker, and none behind its stop.
+
 ghost use Rattle.std.specs.Prelude.{◌≡◌, ◌<◌, ◌≤◌, ℕ, slice_index, vec_len};
 
 use lane_work::{Flow, Gate, LaneLine, OpenGate, Taker, Tools, run_lanes};

@@ -2,6 +2,7 @@
 #![tactic(auto)]
 
 #[cfg(test)]
+mod bases;
 mod books;
 #[cfg(test)]
 mod clues;

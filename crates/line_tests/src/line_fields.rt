@@ -1,3 +1,5 @@
+//! The fields of a line are read by their forms, with up to 256 approvals in one.
+
 use ledger_bytes::{Bytes, Refusal};
 use script_lines::{Fields, Stop, Which};
 use std::alloc::{AllocError, Global};

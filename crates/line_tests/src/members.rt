@@ -1,3 +1,5 @@
+//! Tags are the worked ones, approvals are judged in their order, and a book takes 256 members and no more.
+
 use hex::FromHex;
 use ledger_bytes::{Bytes, Digest, NoMemory, Refusal};
 use member_book::{AddErr, Approval, MemberBook, TagScheme, Verifier, tag_proof};

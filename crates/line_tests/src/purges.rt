@@ -1,19 +1,14 @@
 //! Journals that are given up.
 
-use crate::books::{MEMBER, apply, demo, digest, is_refused, leaf, places, replayed_twice};
+use crate::books::{
+    SALT, apply, demo, digest, is_refused, leaf, place_all, places, replayed_twice,
+};
 use block_file::Damage;
 use ledger_book::{Book, View};
-use ledger_bytes::{Digest, NoMemory, Refusal};
+use ledger_bytes::Refusal;
 use std::alloc::Global;
 use std::process::Abort;
 use std::test::Fail;
-
-/// Member 2 places a record without a content.
-const RECORD: &str =
-    "0 append 2 - - 0303030303030303030303030303030303030303030303030303030303030303f7883fcc812a608a0fc1facb9db3695d6a79994b1d3a982a0680d6a5c87dfef4";
-
-/// The salt of the time journal, which is journal 3.
-const SALT: &str = "8b3b30a051bca9ec8bacbfaf3a351389842d99f1769a4959994077e9ec8d8757";
 
 /// The operator alone wants a purge to the time journal.
 const PURGE_OF_ONE: &str =
@@ -41,14 +36,6 @@ const LEAF: &str = "eeb66dd6d424291c1076bb3a3d772ed0c8f1c298f002660a7b2d9c5b3f29
 
 /// The root over the six journals.
 const ROOT: &str = "af7eba02c88f58f4f622d4ff7d85dca0bc0485cd3f1f429831c6e29fd5a2c55e";
-
-/// Places member 2, its record, a time journal, and one more record.
-fn place_all(alloc: Global, book: &mut Book, salt: Digest) -> Result<(), NoMemory> {
-    for line in [MEMBER, RECORD, "0 anchor", RECORD] {
-        apply(alloc, book, line, salt)?;
-    }
-    Ok(())
-}
 
 /// The ledger `demo` with member 2, its record, a time journal, and one more record.
 fn ledger(alloc: Global) -> Result<Book, Fail> {

@@ -1,3 +1,5 @@
+//! Replies that tell stamps, occulted journals, proofs and extensions have the worked texts.
+
 use hex::FromHex;
 use ledger_bytes::{Bytes, Digest};
 use script_lines::{Reply, Which, put_reply, reply_text};

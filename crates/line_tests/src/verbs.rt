@@ -1,3 +1,5 @@
+//! What a line says is kept as it was read, and what is longer than it may be is refused.
+
 use ledger_bytes::{Bytes, Digest, NoMemory, Refusal};
 use script_lines::{Line, Spoken, read_line};
 use std::test::Fail;

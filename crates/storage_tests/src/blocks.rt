@@ -1,3 +1,5 @@
+//! Files of blocks are written and read by their worked bytes, stopped at each call, copied, cleared and found changed.
+
 ghost use Rattle.std.specs.Prelude.{◌^◌, ◌<◌};
 
 use block_file::{BlockAt, BlockFile, Damage, FileErr, FileHead};

@@ -1,3 +1,5 @@
+//! Disks in memory, behind a fuse and over a file: what a crash leaves of them, and which failures they count.
+
 use ledger_bytes::{Bytes, Failed};
 use ledger_disk::{Disk, FileDisk, FuseDisk, MemDisk, Pick};
 use std::alloc::Global;

@@ -1,3 +1,5 @@
+//! Digests are the worked ones, and fields are written and read by their bytes.
+
 use ledger_bytes::{Bad, Bytes, Digest, FieldReader, FieldWriter, Items, Sha, Toy, TreeHash};
 use std::test::Fail;
 

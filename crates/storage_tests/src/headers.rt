@@ -1,3 +1,5 @@
+//! Headers of each kind are spelled and read by their worked bytes.
+
 use hex::FromHex;
 use journal_record::{Header, Kind, Member, content_digest, who_digest};
 use ledger_bytes::{Bad, Digest};

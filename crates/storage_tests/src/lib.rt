@@ -7,6 +7,8 @@ mod blocks;
 #[cfg(test)]
 mod disks;
 #[cfg(test)]
+mod dumps;
+#[cfg(test)]
 mod fields;
 #[cfg(test)]
 mod headers;

@@ -1,3 +1,5 @@
+//! A queue gives what its lanes submitted, and then nothing.
+
 ghost use Rattle.std.specs.Prelude.{◌≡◌, [], ◌∷◌, IfOk};
 ghost use Rattle.intake_queue.specs.Lanes.{sender, taker};
 ghost use Rattle.intake_queue.specs.Passes.{lane_view, taker_view, IsLaneOf, IsTakerOf};

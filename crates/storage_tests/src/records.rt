@@ -1,3 +1,5 @@
+//! The bytes that show who placed a journal are the worked ones, and stand in a block where its place says.
+
 use block_file::{BLOCK_HEAD_LEN, BlockWriter, FIRST_GATE};
 use hex::FromHex;
 use journal_record::{Approval, HEADER_LEN, approval_digest, who_bytes};

@@ -1,7 +1,9 @@
+//! Lines are read and pieces written, in memory and over std, up to the end or a fault, and a run tells how it ended.
+
 use ledger_bytes::Bytes;
 use ledger_io::{
-    Ending, LineErr, Lines, MemSink, MemSource, Sink, Source, StdSink, StdSource, WriteErr, finish,
-    write_all,
+    Ending, LineErr, Lines, MemSink, MemSource, Sink, Source, StdSink, StdSource, Window, WriteErr,
+    finish, write_all,
 };
 use std::alloc::{AllocError, Global};
 use std::io;
@@ -158,5 +160,23 @@ fn ends_runs(rt: HostRuntime) -> Result<(), Fail> {
         let told = finish(&mut sink, ending);
         assert_eq!(rt; (told, sink.written()), (status, line), "at {ending:?}");
     }
+    Ok(())
+}
+
+// The third call of the source fails, and isn't made: the second told the end.
+#[test]
+fn a_window_gives_its_bytes_away(rt: HostRuntime) -> Result<(), Fail> {
+    let bytes = Bytes::copy_of(rt.alloc(), b"abcdefgh")?;
+    let mut source = MemSource::new(bytes, [2].to_vec(rt.alloc())?);
+    let mut window = Window::new(rt.alloc());
+    for (want, held, place) in [(3, 8, 0), (7, 6, 2)] {
+        assert!(rt; window.fill(&mut source, want).is_ok());
+        assert!(rt; window.as_slice().len() == held && window.place() == place);
+        if window.as_slice().len() >= 2 {
+            window.consume(2);
+        }
+    }
+    assert!(rt; window.as_slice() == b"efgh".as_slice() && window.place() == 4);
+    assert!(rt; window.fill(&mut source, 9).is_ok());
     Ok(())
 }

@@ -1,3 +1,5 @@
+//! A copy takes over from the open file, and a stop at each call leaves the old file or the new one open.
+
 ghost use Rattle.std.specs.Prelude.{◌+◌, ◌≤◌, IsSomeAnd};
 ghost use Rattle.twin_file.specs.Twin.{open_of};
 ghost use Rattle.twin_file.specs.Which.{in_a_of};

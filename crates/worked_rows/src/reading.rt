@@ -2,7 +2,7 @@
 
 use crate::folder::Folder;
 use crate::row::{Program, Row, Wanted};
-use anyhow::{Context, Result};
+use anyhow::{Context, Result, bail};
 use std::alloc::Global;
 use std::fs::Files;
 
@@ -13,6 +13,9 @@ pub(crate) fn rows<R: Files + AllocGlobal>(folder: &Folder<R>) -> Result<Vec<Row
     }
     if let Some(lines) = folder.text_if_there("damages")? {
         return rows_of_damages(folder, lines.as_str());
+    }
+    if let Some(lines) = folder.text_if_there("changes")? {
+        return rows_of_changes(folder, lines.as_str());
     }
     Ok(vec![in folder.alloc(); row(folder)?]?)
 }
@@ -48,7 +51,7 @@ fn rows_of_words<R: Files + AllocGlobal>(folder: &Folder<R>, lines: &str) -> Res
         rows.push(Row {
             name: format!(in alloc; "{}: {line:?}", folder.name)?,
             program: program(folder)?,
-            words: words_of_line(alloc, line)?,
+            words: words_between(alloc, line, '\t')?,
             script: script(folder)?,
             before: [Vec::new(alloc), Vec::new(alloc)],
             wanted: Wanted {
@@ -95,6 +98,59 @@ fn row_of_damage<R: Files + AllocGlobal>(folder: &Folder<R>, line: &str) -> Resu
     })
 }
 
+/// A row for each line, which has its words, what becomes of the dump that the folder holds, and how the run ends.
+fn rows_of_changes<R: Files + AllocGlobal>(folder: &Folder<R>, lines: &str) -> Result<Vec<Row>> {
+    let dump = folder.disk_if_there("dump")?.context("no dump")?;
+    let mut rows = Vec::new(folder.alloc());
+    for line in lines.lines() {
+        rows.push(row_of_change(folder, &dump, line)?)?;
+    }
+    Ok(rows)
+}
+
+fn row_of_change<R: Files + AllocGlobal>(
+    folder: &Folder<R>,
+    dump: &[u8],
+    line: &str,
+) -> Result<Row> {
+    let alloc = folder.alloc();
+    let mut fields = line.splitn(4, '\t');
+    let words = fields.next().context("no words")?;
+    let change = fields.next().context("no change")?;
+    let ending = fields.next().context("no status")?;
+    let told = fields.next().context("no line")?;
+    Ok(Row {
+        name: format!(in alloc; "{}: {line}", folder.name)?,
+        program: program(folder)?,
+        words: words_between(alloc, words, ' ')?,
+        script: changed(alloc, dump, change)?,
+        before: [Vec::new(alloc), Vec::new(alloc)],
+        wanted: Wanted {
+            status: status(ending)?,
+            output: format!(in alloc; "{told}\n")?.into_bytes(),
+            disks: [None, None],
+        },
+    })
+}
+
+// What becomes of a dump by a change.
+fn changed(alloc: Global, dump: &[u8], change: &str) -> Result<Vec<u8>> {
+    let mut bytes = dump.to_vec(alloc)?;
+    let mut fields = change.split(' ');
+    match fields.next().context("no change")? {
+        "-" => {}
+        "cut" => bytes.truncate(fields.next().context("no length")?.parse::<usize>()?),
+        "byte" => {
+            let at = fields.next().context("no place")?.parse::<usize>()?;
+            let value = fields.next().context("no value")?.parse::<u8>()?;
+            *bytes.get_mut(at).context("no such byte")? = value;
+        }
+        "more" => bytes.push(0)?,
+        other => bail!("no change is {other}"),
+    }
+    Ok(bytes)
+}
+
 fn program<R: Files + AllocGlobal>(folder: &Folder<R>) -> Result<Program> {
     let name = folder.text("program")?;
     Program::of(name.as_str().trim()).context("no such program")
@@ -113,10 +169,10 @@ fn words_of_lines(alloc: Global, lines: &str) -> Result<Vec<String>> {
     Ok(words)
 }
 
-// The words of a line, with tabs between them.
-fn words_of_line(alloc: Global, line: &str) -> Result<Vec<String>> {
+// The words of a line, with this character between them.
+fn words_between(alloc: Global, line: &str, between: char) -> Result<Vec<String>> {
     let mut words = Vec::new(alloc);
-    for word in line.split('\t') {
+    for word in line.split(between) {
         words.push(String::from_str(alloc, word)?)?;
     }
     Ok(words)

@@ -1,4 +1,4 @@
-use Rattle.std.proofs.Common.{◌≡◌, ◌+◌, ◌<◌, List, [], ◌∷◌, ◌++◌, length, length-append, arith, ap, ◌∙◌, refl, subst, vec_items}
+use Rattle.std.proofs.Common.{◌≡◌, List, [], ◌∷◌, ◌++◌, length, length-append, arith, ap, ◌∙◌, refl, subst, vec_items}
 use Rattle.intake_queue.specs.declared.intake.LanePass.{LanePass}
 use Rattle.storage_tests.specs.declared.queues.Slip.{Slip}
 use Rattle.intake_queue.specs.Lanes.{Plan, plan_of, taker}

@@ -1,0 +1,76 @@
+//! The script whose calls are stopped and failed one by one: a member, records, an anchor, an occult and a purge, and its replies.
+
+/// The words that make a ledger and run the script on it, and those that open it again.
+pub(crate) const DRY: [&str; 4] = [
+    "dry",
+    "demo",
+    "0101010101010101010101010101010101010101010101010101010101010101",
+    "0202020202020202020202020202020202020202020202020202020202020202",
+];
+
+pub(crate) const RUN: [&str; 2] = ["run", "d"];
+
+/// Member 2; a record of it with the content `abc`, and an empty one; an anchor; an empty record; an occult of the first record; an
+/// empty record; and a purge to the anchor.
+pub(crate) const SCRIPT: &str =
+    "0 member 2 0303030303030303030303030303030303030303030303030303030303030303 01010101010101010101010101010101010101010101010101010101010101016e2700604cd288e681c238fa71ae802ef173e93907477f0111a56a7be4890e8c\n0 append 2 - 616263 030303030303030303030303030303030303030303030303030303030303030327e4e5806a3ac2f5f4c2e417ca5db167c45bdab383c759d0e0b26c347f2b74cb\n0 append 2 - - 0303030303030303030303030303030303030303030303030303030303030303f7883fcc812a608a0fc1facb9db3695d6a79994b1d3a982a0680d6a5c87dfef4\n0 anchor\n0 append 2 - - 0303030303030303030303030303030303030303030303030303030303030303f7883fcc812a608a0fc1facb9db3695d6a79994b1d3a982a0680d6a5c87dfef4\n0 occult 2 d9274c8673e71ecda9d4716938a5b44d36d7e6a155ac0c8c8bc7e4c6c1a474d8 0:0101010101010101010101010101010101010101010101010101010101010101f38b0cdf11755163401e2db5bc1d5cc0252a51b3ec6a56e3d486d8d11edc87e3,1:0202020202020202020202020202020202020202020202020202020202020202166077841dedd431f57a2935e4c67e595d9a318aeaa1993708da21054786f8eb\n0 append 2 - - 0303030303030303030303030303030303030303030303030303030303030303f7883fcc812a608a0fc1facb9db3695d6a79994b1d3a982a0680d6a5c87dfef4\n0 purge 4 fbb4803b3f3cf1a9ac68fbd1b73ab4432ce4e674520a107c12972996660cd5d7 0:010101010101010101010101010101010101010101010101010101010101010150095102b7f2662bdab383cf24d79f99d2e0acadc45461262cb76979e0d7075a,2:03030303030303030303030303030303030303030303030303030303030303039609b0e5c3f302fc2989482b72a01488bb093814c3ea6d5531e0cff512bfe88e\n";
+
+/// The replies to them where no call fails: the members and records in front of the anchor stand in one block, and each other journal
+/// in one of its own.
+pub(crate) const REPLIES: [&str; 8] = [
+    "0.1 ok 1 3b9b8378383890d298097d6f65884029554696de63fb03929518fcd45a4706cb 1 4 fbb4803b3f3cf1a9ac68fbd1b73ab4432ce4e674520a107c12972996660cd5d7\n",
+    "0.2 ok 2 d9274c8673e71ecda9d4716938a5b44d36d7e6a155ac0c8c8bc7e4c6c1a474d8 1 4 fbb4803b3f3cf1a9ac68fbd1b73ab4432ce4e674520a107c12972996660cd5d7\n",
+    "0.3 ok 3 b07a829f26eeb6ae2fcaa8524c44e3678e5b1585ea4e12f52c55a07c23ab8140 1 4 fbb4803b3f3cf1a9ac68fbd1b73ab4432ce4e674520a107c12972996660cd5d7\n",
+    "0.4 ok 4 ba0136e02fafb0164ee5ce93cb0b7e38fd71cbf2821befb8a9a35228bf3cbf94 2 5 db60388d35b7e5691878d58e2e7a6c03b7b74dcdbfc3e11c497caf348e0752c0 0 1000\n",
+    "0.5 ok 5 af1cf362bd17232d51e2a4923fd25e76617048b6c70874feb9dd6fa7dbdce34d 3 6 fac5f9e70998f3e07f0c4a679e7a7338e396fbe434d5e111cad786e665736348\n",
+    "0.6 ok 6 d5b6fcbd57a2cf7e6d10854399b2fd79a7861c002230cb1498ea8fe5383bd87a 4 7 08a46ba7363d2d71c094bb38b739559a01f89ed7b0d1daa9e0c5e6604b3d5ab0\n",
+    "0.7 ok 7 7a38cf0d11f2dd9bb36f09953ebc32b5cc80cd91ed475aa3e2108587338788d1 5 8 a90a0c2cbbbcd64ebfe656a4831d22e4d0a40110f1f1fb1e36ab0a38b61a4294\n",
+    "0.8 ok 8 f5e5d0e390030ee3dda20abe93bea1dea7bdf6b0e434d78ab65ed7b7bd8829e5 6 9 59bd4dc28981520bf8bb4acf856c78172cd5068cfa3ccc5633cc8069009f6fd8\n",
+];
+
+/// What the second line of `head` begins with at each end of a block, by the number of journals there.
+pub(crate) const ENDS: [End; 7] = [
+    End {
+        size: 1,
+        head: "0.1 head 64915354a6547b1f887e596e872fd13b2abdc860729da9fe31180a81726cf4a2 1 64915354a6547b1f887e596e872fd13b2abdc860729da9fe31180a81726cf4a2 1 0 ",
+    },
+    End {
+        size: 4,
+        head: "0.1 head 64915354a6547b1f887e596e872fd13b2abdc860729da9fe31180a81726cf4a2 4 fbb4803b3f3cf1a9ac68fbd1b73ab4432ce4e674520a107c12972996660cd5d7 2 0 ",
+    },
+    End {
+        size: 5,
+        head: "0.1 head 64915354a6547b1f887e596e872fd13b2abdc860729da9fe31180a81726cf4a2 5 db60388d35b7e5691878d58e2e7a6c03b7b74dcdbfc3e11c497caf348e0752c0 3 0 ",
+    },
+    End {
+        size: 6,
+        head: "0.1 head 64915354a6547b1f887e596e872fd13b2abdc860729da9fe31180a81726cf4a2 6 fac5f9e70998f3e07f0c4a679e7a7338e396fbe434d5e111cad786e665736348 4 0 ",
+    },
+    End {
+        size: 7,
+        head: "0.1 head 64915354a6547b1f887e596e872fd13b2abdc860729da9fe31180a81726cf4a2 7 08a46ba7363d2d71c094bb38b739559a01f89ed7b0d1daa9e0c5e6604b3d5ab0 5 0 ",
+    },
+    End {
+        size: 8,
+        head: "0.1 head 64915354a6547b1f887e596e872fd13b2abdc860729da9fe31180a81726cf4a2 8 a90a0c2cbbbcd64ebfe656a4831d22e4d0a40110f1f1fb1e36ab0a38b61a4294 6 0 ",
+    },
+    End {
+        size: 9,
+        head: "0.1 head 64915354a6547b1f887e596e872fd13b2abdc860729da9fe31180a81726cf4a2 9 59bd4dc28981520bf8bb4acf856c78172cd5068cfa3ccc5633cc8069009f6fd8 7 4 ",
+    },
+];
+
+/// An end of a block.
+#[derive(Clone, Copy, Debug)]
+pub(crate) struct End {
+    /// How many journals there are.
+    pub(crate) size: u64,
+    /// What the reply to `head` begins with there.
+    pub(crate) head: &'static str,
+}
+
+/// How many journals the block's end has that a receipt tells, by the number of replies.
+pub(crate) const TOLD: [u64; 9] = [0, 4, 4, 4, 5, 6, 7, 8, 9];
+
+/// The content that the occult hides.
+pub(crate) const CONTENT: &str = "abc";
