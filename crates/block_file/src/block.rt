@@ -1,3 +1,5 @@
+//! A block as it stands in a file: its head, its journals, and where their parts are.
+
 ghost use Rattle.std.specs.Prelude.{◌≡◌, ◌++◌};
 ghost use Rattle.std.specs.Int.{to_be_bytes, w32, w64};
 ghost use Rattle.block_file.specs.Blocks.{count_in, body_len_in};

@@ -1,3 +1,5 @@
+//! Copying blocks from one file behind those of another.
+
 ghost use Rattle.std.specs.Prelude.{◌≡◌, ◌+◌, ◌^◌, ◌<◌, ◌≤◌, ◌++◌, [], ◌∷◌, ℕ, List, length, take, drop, IsTrue, IsSomeAnd, IfOk, OnOk, OnErr};
 ghost use Rattle.ledger_disk.specs.Disk.{overlay, with_write, MayHaveWritten, CountsFault, KeepsLength};
 ghost use Rattle.ledger_disk.specs.Guards.{Guards};

@@ -1,3 +1,5 @@
+//! What can be wrong with a file of blocks, and why a call on one fails.
+
 ghost use Rattle.std.specs.Prelude.{◌≡◌};
 
 use ledger_bytes::{Digest, Failed};

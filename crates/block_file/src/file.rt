@@ -1,3 +1,5 @@
+//! A file of blocks: it is made and opened, its blocks are read and committed, and contents in it are cleared.
+
 ghost use Rattle.std.specs.Prelude.{◌≡◌, ◌≢◌, ◌⊎◌, ◌+◌, ◌^◌, ◌<◌, ◌≤◌, ◌++◌, [], ◌∷◌, ℕ, List, length, get_or, take, drop, replicate, IsTrue, IfSome, IfNone, IsSomeAnd, Some, IfOk, IfErr, OnOk, OnErr};
 ghost use Rattle.ledger_disk.specs.Disk.{MayLeave, settled_state, overlay, KeepsLength};
 ghost use Rattle.block_file.specs.Head.{Counts, CountsAlone, CountsTwoAlone, digest_of, front_of, IsShut, IsHead, IsResumeErr, IsBaseErr};

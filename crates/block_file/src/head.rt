@@ -1,3 +1,5 @@
+//! The head of a file of blocks: its form, its generation, and the length and the digest of its base.
+
 ghost use Rattle.std.specs.Prelude.{◌≡◌, ◌≢◌, ◌≤◌, length, get_or, take, drop, IsTrue, IsSomeAnd, IfOk, IfErr, OnOk};
 ghost use Rattle.ledger_disk.specs.Disk.{CountsFault, KeepsLength};
 ghost use Rattle.block_file.specs.Head.{Counts, number_at, digest_of, IsOpen, IsHeadErr, magic};

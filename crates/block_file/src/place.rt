@@ -1,3 +1,5 @@
+//! Where a journal's content, and the bytes that show who placed it, stand in a file.
+
 ghost use Rattle.std.specs.Prelude.{◌≡◌, ◌<◌, ◌+◌, ◌-◌, ◌^◌, IfSome, IfNone};
 ghost use Rattle.block_file.specs.Places.{content_from, moved_place, place_of_lengths, place_of_record};
 

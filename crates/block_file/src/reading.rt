@@ -1,3 +1,5 @@
+//! Reading bytes, numbers, digests and the head of a block from a place in a file.
+
 ghost use Rattle.std.specs.Prelude.{◌≡◌, ◌≢◌, ◌⊎◌, ◌+◌, ◌^◌, ◌<◌, ◌≤◌, ℕ, length, get_or, take, drop, IsTrue, IfSome, IfNone, IsSomeAnd, Some, IfOk, IfErr, OnOk};
 ghost use Rattle.ledger_bytes.specs.declared.limits.TheConstants.{BLOCK_LIMIT};
 ghost use Rattle.ledger_disk.specs.Disk.{CountsFault, KeepsLength};

@@ -1,3 +1,5 @@
+//! The end of a file of blocks: a block is put behind its tail gate, the gate is opened, and what is left over is cut.
+
 ghost use Rattle.std.specs.Prelude.{◌≡◌, ◌+◌, ◌^◌, ◌≤◌, ◌++◌, [], ◌∷◌, ℕ, List, length, take, drop, IsTrue, IfSome, IsSomeAnd, Some, OnOk, OnErr, min};
 ghost use Rattle.ledger_disk.specs.Disk.{MayLeave, settled_state, overlay, CountsFault};
 ghost use Rattle.ledger_disk.specs.Guards.{Guards};

@@ -1,3 +1,5 @@
+//! Writing a file behind its shut first gate, so that a crash leaves it shut, or whole once the gate is opened.
+
 ghost use Rattle.std.specs.Prelude.{◌≡◌, ◌≢◌, ◌⊎◌, ◌+◌, ◌^◌, ◌≤◌, ◌++◌, [], ◌∷◌, ℕ, List, length, get_or, take, drop, IsTrue, IsSomeAnd, IfOk, OnOk, OnErr};
 ghost use Rattle.ledger_disk.specs.Disk.{MayLeave, settled_state, CountsFault};
 ghost use Rattle.block_file.specs.Head.{head_of};

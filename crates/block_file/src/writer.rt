@@ -1,3 +1,5 @@
+//! The bytes of a block, gathered journal by journal before it is committed.
+
 ghost use Rattle.std.specs.Prelude.{◌≡◌, ◌<◌, ◌^◌, ◌+◌, ◌++◌, [], ◌≤◌, length, drop, All, IfOk, OnOk};
 ghost use Rattle.journal_record.specs.Approval.{who_of, approval_bytes};
 ghost use Rattle.journal_record.specs.declared.header.TheConstants.{HEADER_LEN};

@@ -1,3 +1,5 @@
+//! Writing zeros over what a file is to forget.
+
 ghost use Rattle.std.specs.Prelude.{◌≡◌, ◌≢◌, ◌+◌, ◌<◌, ◌≤◌, ℕ, List, length, replicate, IsTrue, IsSomeAnd, IfOk, OnOk, OnErr, true, false};
 ghost use Rattle.ledger_disk.specs.Disk.{MayLeave, settled_state, overlay, with_write, MayHaveWritten, CountsFault, KeepsLength};
 ghost use Rattle.ledger_disk.specs.Guards.{Outside, Confined};

@@ -1,3 +1,5 @@
+//! A new ledger has the worked bytes, a longer file is trimmed, also after a stop, and a clean pair isn't written to.
+
 use hex::FromHex;
 use ledger_bytes::{Bytes, Digest};
 use ledger_disk::{Disk, FuseDisk, MemDisk, Pick};

@@ -1,3 +1,5 @@
+//! The work on an index of clues that is timed: journals are added, and clues are asked for.
+
 ghost use Rattle.std.specs.Prelude.{◌<◌};
 
 use clue_index::ClueIndex;

@@ -1,3 +1,5 @@
+//! The index of a ledger's clues: the journals of each, and the ordinal of its next one.
+
 ghost use Rattle.std.specs.Prelude.{◌≡◌, ◌≢◌, [], ◌+◌, ◌-◌, ◌^◌, ◌<◌, ◌≤◌, ℕ, List, length, max, All, IfOk, OnOk, OnErr};
 ghost use Rattle.clue_index.specs.Added.{Added, added_at_first, with_mark, with_floor, no_clue, trail_of, different_clues, states_at};
 ghost use Rattle.clue_index.specs.Index.{StandsForTrails};

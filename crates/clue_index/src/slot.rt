@@ -1,3 +1,5 @@
+//! What the index keeps of one clue: how many journals it had at first, and the numbers of those since.
+
 ghost use Rattle.std.specs.Prelude.{◌≡◌, [], ◌-◌, ◌^◌, ◌<◌, min, IfOk, OnOk, OnErr};
 ghost use Rattle.clue_index.specs.Trail.{no_trail, count_of, last_of, last_from, kept_from, below, grown_trail, Ascends};
 

@@ -1,3 +1,5 @@
+//! The state of a clue at a point, from which an index goes on when the journals in front are gone.
+
 use ledger_bytes::Digest;
 
 /// A clue's state at a point of the ledger.

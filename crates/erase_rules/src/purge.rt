@@ -1,3 +1,5 @@
+//! Whether a purge of all journals in front of a time journal is accepted, and else why it is refused.
+
 ghost use Rattle.std.specs.Prelude.{◌≡◌, ◌<◌, ◌^◌, length};
 ghost use Rattle.journal_record.specs.Members.{keys};
 ghost use Rattle.member_book.specs.Approvals.{judgement};

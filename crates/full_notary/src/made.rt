@@ -1,3 +1,5 @@
+//! A disk that has the file of a nearly full notary without keeping its bytes.
+
 ghost use Rattle.std.specs.Prelude.{◌≡◌, ◌+◌, ◌*◌, ◌^◌, ◌≤◌, length, false};
 ghost use Rattle.ledger_bytes.specs.Causes.{count_after};
 

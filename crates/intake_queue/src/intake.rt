@@ -1,3 +1,5 @@
+//! The queue between the lanes and the taker, and the passes by which lanes submit and the taker takes.
+
 ghost use Rattle.std.specs.Prelude.{◌≡◌, List, ◌+◌, ◌<◌, ◌≤◌, ◌^◌, [], ◌∷◌, ◌++◌, length, sum, IfOk, MatchOption, map};
 ghost use Rattle.crossbeam_queue.specs.Passes.{view, IsPassOf};
 ghost use Rattle.crossbeam_queue.specs.Fifo.{Held};

@@ -1,3 +1,5 @@
+//! What an item tells to go through the queue: its lane, and its number there.
+
 ghost use Rattle.std.specs.Prelude.{◌≡◌, ℕ};
 
 /// What goes through the queue: an item of one lane, with its number there. What is left in a queue is let go with it.

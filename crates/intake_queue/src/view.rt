@@ -1,3 +1,5 @@
+//! What each pass of a queue knows, in the proofs alone.
+
 use std::collections::LinkedList;
 
 /// What a pass knows, for the proofs alone: no value of it is made. `taker`, `sender`, `unopened` and `spent` (specs/Lanes)

@@ -1,3 +1,5 @@
+//! What goes to the workers and comes back: a line with its lane, and what was made of it.
+
 ghost use Rattle.script_lines.specs.Grammar.{spoken_line};
 ghost use Rattle.std.specs.Prelude.{◌≡◌, ◌≤◌};
 

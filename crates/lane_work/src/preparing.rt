@@ -1,3 +1,5 @@
+//! From a line to its job, with all digests that the line alone defines and the key that its proof shows.
+
 ghost use Rattle.std.specs.Prelude.{◌≡◌, true, Ok, IfOk};
 ghost use Rattle.script_lines.specs.Grammar.{spoken_line};
 ghost use Rattle.script_lines.specs.Limits.{fits_line};

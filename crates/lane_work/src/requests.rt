@@ -1,3 +1,5 @@
+//! The jobs of lines that members prove: records, new members, occults and purges.
+
 ghost use Rattle.std.specs.Prelude.{◌≡◌, ◌≤◌, length, map, true, IfOk};
 ghost use Rattle.ledger_bytes.specs.declared.limits.TheConstants.{CONTENT_LIMIT, PROOF_LIMIT};
 ghost use Rattle.script_lines.specs.Limits.{fits_approvals};

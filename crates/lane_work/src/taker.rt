@@ -1,3 +1,5 @@
+//! What prepared lines are offered to, one after the other, until it wants no more.
+
 ghost use Rattle.lane_work.specs.Offering.{IfGoOn};
 
 use ledger_book::Prepared;

@@ -1,3 +1,5 @@
+//! What the preparing of lines needs: threads, memory, a verifier of proofs, and a gate.
+
 use std::alloc::Global;
 
 /// What lines are prepared with: who starts threads and waits for them, memory, who says whose key a proof shows, and the

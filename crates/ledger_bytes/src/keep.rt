@@ -1,3 +1,5 @@
+//! Dropping the front of a list, as a purge does, where room for what is to come stays.
+
 ghost use Rattle.std.specs.Prelude.{◌≡◌, ◌≤◌, ◌+◌, drop, vec_len, vec_capacity};
 
 /// Keeps the values from this one on alone, at the front, and room for so many more. Other room is given back.

@@ -1,3 +1,5 @@
+//! The tags in front of what is hashed, by which strings of different kinds are never the same.
+
 ghost use Rattle.std.specs.Prelude.{◌≡◌};
 ghost use Rattle.ledger_bytes.specs.Tags.{byte_of};
 ghost use Rattle.ledger_bytes.specs.declared.tag.Tag.{Tag as AnyTag};

@@ -1,3 +1,5 @@
+//! What a disk is: the calls that read, write, cut and sync it, and what each leaves, also where it fails.
+
 ghost use Rattle.std.specs.Prelude.{◌≡◌, ◌≤◌, ◌+◌, ◌-◌, ◌^◌, ◌++◌, ℕ, Bool, IsTrue, Some, length, min, max, take, drop, IfOk, IfSome, IsSome, IsSomeAnd, OnOk, OnErr};
 ghost use Rattle.ledger_disk.specs.Disk.{DiskState, MayLeave, settled_state, overlay, with_write, cut_to, MayHaveWritten, MayHaveCut, CountsFault, KeepsLength};
 

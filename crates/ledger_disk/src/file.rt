@@ -1,3 +1,5 @@
+//! A disk over a real file, which is locked as long as it is used.
+
 ghost use Rattle.std.specs.Prelude.{◌≡◌, ◌+◌, ◌-◌, ◌^◌, ◌≤◌, false, None, Some, min, IfOk};
 ghost use Rattle.std.specs.String.{string_bytes};
 ghost use Rattle.ledger_bytes.specs.Causes.{count_after};

@@ -1,3 +1,5 @@
+//! A disk that stops after so many calls, to show what a stop leaves of a ledger.
+
 ghost use Rattle.std.specs.Prelude.{◌≡◌, ◌+◌, ◌-◌, ◌^◌, ◌≤◌, ◌++◌, IsTrue, length, take, drop, min, max, Some, IfOk, OnOk, OnErr, IfSome, IsSome, IsSomeAnd};
 ghost use Rattle.ledger_disk.specs.Disk.{settled_state, overlay, with_write, cut_to, MayHaveWritten, MayHaveCut, CountsFault, KeepsLength};
 

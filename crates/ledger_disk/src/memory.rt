@@ -1,3 +1,5 @@
+//! A disk in memory, for trial ledgers and tests, which fails and crashes as it is told to.
+
 ghost use Rattle.std.specs.Prelude.{◌≡◌, ◌+◌, ◌-◌, ◌^◌, ◌<◌, ◌≤◌, ◌++◌, [], true, set, length, take, drop, Some, max, min, IfOk, OnOk, OnErr, IsSome, IfSome, IsSomeAnd, vec_capacity};
 ghost use Rattle.ledger_bytes.specs.Causes.{count_after};
 ghost use Rattle.ledger_disk.specs.Disk.{MayLeave, settled_state, overlay, with_write, cut_to, CountsFault, KeepsLength, MayHaveWritten, MayHaveCut};

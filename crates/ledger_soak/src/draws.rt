@@ -1,3 +1,5 @@
+//! The random numbers of a soak, which its seed determines.
+
 ghost use Rattle.std.specs.Prelude.{◌≡◌, ◌%◌, ◌<◌};
 ghost use Rattle.ledger_disk.specs.Generator.{next_draw};
 ghost use Rattle.ledger_soak.specs.Tasks.{drawn};

@@ -1,3 +1,5 @@
+//! A law of soaks: without stops, the seed and the count determine what is told.
+
 ghost use Rattle.std.specs.Prelude.{◌≡◌, ℕ, List};
 ghost use Rattle.ledger_soak.specs.Soaks.{TellsSoak};
 

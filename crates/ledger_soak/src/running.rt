@@ -1,3 +1,5 @@
+//! A whole soak, from its new ledger to the line that sums it up.
+
 ghost use Rattle.std.specs.Prelude.{◌≡◌, ◌+◌, ◌^◌, ◌<◌, ℕ, IfOk, OnOk, IfSome, slice_get, true, false, None, Some};
 ghost use Rattle.batch_committer.specs.World.{Holds, Keeps};
 ghost use Rattle.ledger_book.specs.Books.{Serves};

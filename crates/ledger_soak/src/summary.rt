@@ -1,3 +1,5 @@
+//! The line that sums up a soak.
+
 ghost use Rattle.std.specs.Prelude.{◌≡◌, ◌++◌, ◌∷◌, [], codes, decimal, IfOk, OnOk};
 ghost use Rattle.script_lines.specs.Words.{hex_of, spaced_words};
 

@@ -1,3 +1,5 @@
+//! The jobs of a soak as they are drawn, before they are lines.
+
 ghost use Rattle.std.specs.Prelude.{◌≡◌, ◌<◌, ◌+◌, ◌%◌, ℕ, IfOk, length};
 ghost use Rattle.ledger_disk.specs.Generator.{next_draw};
 ghost use Rattle.ledger_soak.specs.Tasks.{task_drawn, state_behind, drawn_bytes, drawn_length, nth_drawn, IsDrawable, state_after};

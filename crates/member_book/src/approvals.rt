@@ -1,3 +1,5 @@
+//! How the approvals of an occult or a purge are judged.
+
 ghost use Rattle.std.specs.Prelude.{◌≡◌, ◌+◌, ◌<◌, ◌^◌, length, IfSome};
 ghost use Rattle.member_book.specs.Approvals.{first_unordered, order_refusal, unknown_refusal, shows_key, key_refusal, approves, least_missing, missing_refusal, approvals_refusal, judgement};
 ghost use Rattle.journal_record.specs.Members.{keys, is_known};

@@ -1,3 +1,5 @@
+//! The members of a ledger with their numbers and keys, and how a further one is admitted.
+
 ghost use Rattle.std.specs.Prelude.{◌≡◌, ◌<◌, ◌≤◌, ◌++◌, [], ◌∷◌, length, option_map, slice_get, Some, IfOk, OnOk, OnErr, IfErr, IfNone, ◌⊎◌};
 ghost use Rattle.journal_record.specs.Members.{keys, founders, number_refusal};
 ghost use Rattle.member_book.specs.Members.{count_below, refusal_of};

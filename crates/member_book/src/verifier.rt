@@ -1,3 +1,5 @@
+//! Whose key a proof shows: what a scheme of proofs is, and the scheme of tags, which keeps nothing secret.
+
 ghost use Rattle.std.specs.Prelude.{◌≡◌, ℕ, List, Option, option_map, Some, IfSome, length};
 ghost use Rattle.journal_record.specs.Tags.{tag_key_of, tag_proof_of};
 

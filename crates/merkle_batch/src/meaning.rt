@@ -1,3 +1,5 @@
+//! A law of the lists that a tree stands for: what they have in common.
+
 ghost use Rattle.std.specs.Prelude.{◌≡◌, ℕ, ◌≤◌, List, length, take, drop};
 ghost use Rattle.tree_model.specs.Tree.{Hash, root};
 ghost use Rattle.tree_model.specs.Peaks.{peaks};

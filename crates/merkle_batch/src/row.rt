@@ -1,3 +1,5 @@
+//! One level of a tree that grows: its kept nodes, and the room for those to come.
+
 ghost use Rattle.std.specs.Prelude.{◌≡◌, ◌+◌, ◌-◌, ◌/◌, ◌%◌, ◌^◌, ◌<◌, ◌≤◌, [], ◌∷◌, ◌++◌, length, drop, get_or, IfSome, IfNone, IfOk, OnOk};
 
 use ledger_bytes::{Digest, NoMemory, keep_from};

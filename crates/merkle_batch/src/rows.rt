@@ -1,3 +1,5 @@
+//! The levels of a tree that grows, over which leaves are added and forgotten and roots, paths and proofs are made.
+
 ghost use Rattle.std.specs.Prelude.{◌≡◌, ℕ, suc, ◌+◌, ◌-◌, ◌*◌, ◌/◌, ◌%◌, ◌^◌, ◌<◌, ◌≤◌, List, [], ◌∷◌, ◌++◌, length, take, drop, get_or, max, map, count_ones, option_map, true, OnOk, IfOk};
 ghost use Rattle.tree_model.specs.Tree.{Hash};
 ghost use Rattle.tree_model.specs.Path.{path, path_length};

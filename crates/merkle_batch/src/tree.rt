@@ -1,3 +1,5 @@
+//! A tree that grows by leaves and forgets its first ones, with its roots, paths, proofs and peaks.
+
 ghost use Rattle.std.specs.Prelude.{◌≡◌, ℕ, ◌+◌, ◌-◌, ◌<◌, ◌≤◌, ◌^◌, List, [], ◌∷◌, ◌++◌, length, map, take, get_or, count_ones, Err, IfOk, IfErr, IsOk, OnOk};
 ghost use Rattle.tree_model.specs.Tree.{root};
 ghost use Rattle.tree_model.specs.Path.{path, path_length};

@@ -1,3 +1,5 @@
+//! What a false path or proof shows: two different strings with one digest.
+
 ghost use Rattle.std.specs.Prelude.{◌≡◌, ◌-◌, drop, replicate};
 
 /// Bytes that are hashed: the first `len` of these, behind which stand zeros. They are a tag and the digests of an inner

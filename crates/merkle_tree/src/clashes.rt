@@ -1,3 +1,5 @@
+//! How two different strings with one digest are found where a false path or proof leads to the root of a list.
+
 ghost use Rattle.std.specs.Prelude.{◌≡◌, ◌≢◌, ◌/◌, ◌%◌, ◌<◌, ◌≤◌, length, take, get_or, option_map, [], Some};
 ghost use Rattle.tree_model.specs.Tree as tree;
 ghost use Rattle.tree_model.specs.Tree.{cut};

@@ -1,3 +1,5 @@
+//! The path that shows that a leaf stands in a tree: it is made, and followed to a root.
+
 ghost use Rattle.std.specs.Prelude.{◌≡◌, ◌*◌, ◌%◌, ◌<◌, ◌≤◌, ◌≢◌, ◌⊎◌, ◌↔◌, ◌++◌, length, map, IfOk, OnOk, IsNone, option_map};
 ghost use Rattle.tree_model.specs.Tree.{cut};
 ghost use Rattle.tree_model.specs.Path as tree;

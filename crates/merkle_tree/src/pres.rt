@@ -1,3 +1,5 @@
+//! The strings that are hashed to an inner node, as a path or proof tells them and as a list has them.
+
 ghost use Rattle.std.specs.Prelude.{◌≡◌, option_map, None};
 ghost use Rattle.tree_model.specs.Clash.{node_bytes, or_below};
 ghost use Rattle.merkle_tree.specs.Strings.{bytes_of, pair_of};

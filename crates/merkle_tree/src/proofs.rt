@@ -1,3 +1,5 @@
+//! The proof that a tree begins with an earlier one: it is made, and followed to a root.
+
 ghost use Rattle.std.specs.Prelude.{◌≡◌, ℕ, ◌*◌, ◌%◌, ◌<◌, ◌≤◌, ◌≢◌, ◌⊎◌, ◌↔◌, ◌++◌, Bool, true, length, map, Some, IfOk, OnOk, IsNone, option_map};
 ghost use Rattle.tree_model.specs.Tree.{cut};
 ghost use Rattle.tree_model.specs.Extension as tree;

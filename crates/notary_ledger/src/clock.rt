@@ -1,3 +1,5 @@
+//! What a clock is, from which a notary has its times.
+
 ghost use Rattle.std.specs.Prelude.{◌≡◌, ℕ, Bool, IsTrue};
 ghost use Rattle.notary_ledger.specs.Clocks.{HasAdvanced};
 

@@ -1,3 +1,5 @@
+//! A new entry of a notary's list, with its time and its salt.
+
 ghost use Rattle.std.specs.Prelude.{◌≡◌, length};
 ghost use Rattle.time_peg.specs.Entries.{entry_of, salt_of, time_in};
 

@@ -1,3 +1,5 @@
+//! Laws of a notary's file: it has one list, and a stop leaves that list, or one entry more.
+
 ghost use Rattle.std.specs.Prelude.{◌≡◌, ◌⊎◌, [], ◌∷◌, ◌++◌, ℕ, List, Some, None};
 ghost use Rattle.notary_ledger.specs.Slots.{Lists, MayList};
 

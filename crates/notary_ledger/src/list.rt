@@ -1,3 +1,5 @@
+//! A notary's list as it stands in memory: its entries, its head, its paths and its proofs.
+
 ghost use Rattle.std.specs.Prelude.{◌≡◌, ◌<◌, ◌≤◌, [], ◌∷◌, ◌++◌, Some, Ok, length, slice_get, OnOk};
 ghost use Rattle.journal_record.specs.declared.rules.TheConstants.{NOTARY_LIMIT};
 ghost use Rattle.time_peg.specs.Entries.{last_time};

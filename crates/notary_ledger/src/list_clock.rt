@@ -1,3 +1,5 @@
+//! A clock that tells moments which were given to it beforehand.
+
 ghost use Rattle.std.specs.Prelude.{◌≡◌, ℕ, drop, true, slice_index_or};
 ghost use Rattle.notary_ledger.specs.Clocks.{HasAdvanced};
 

@@ -1,3 +1,5 @@
+//! The notary that keeps its list in a file.
+
 ghost use Rattle.std.specs.Prelude.{◌≡◌, ◌⊎◌, ◌<◌, ◌≤◌, ◌*◌, ℕ, IsTrue, List, Some, None, length, max, slice_get, IsSome, MatchResult, IsOk, IfOk, IfErr, OnOk, OnErr};
 ghost use Rattle.ledger_bytes.specs.Causes.{Rose};
 ghost use Rattle.ledger_disk.specs.Disk.{MayLeave};

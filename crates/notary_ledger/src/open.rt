@@ -1,3 +1,5 @@
+//! How a notary's list is taken up from its file.
+
 ghost use Rattle.std.specs.Prelude.{◌≡◌, ◌≢◌, ◌⊎◌, ◌<◌, ◌≤◌, ◌+◌, ◌*◌, ◌^◌, max, true, false, ℕ, IsTrue, List, Some, None, get_or, take, drop, length, IfOk, IfSome, OnOk, OnErr, IsSomeAnd};
 ghost use Rattle.ledger_disk.specs.Disk.{MayLeave, CountsFault, KeepsLength, settled_state};
 ghost use Rattle.time_peg.specs.Entries.{IsList, time_in};

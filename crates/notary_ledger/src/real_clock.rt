@@ -1,3 +1,5 @@
+//! The system's clock, by which a kept notary tells the time.
+
 ghost use Rattle.std.specs.Prelude.{false};
 
 use crate::Clock;

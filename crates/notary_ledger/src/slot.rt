@@ -1,3 +1,5 @@
+//! How an entry is added to a notary's file, so that a stop leaves it there whole or not at all.
+
 ghost use Rattle.std.specs.Prelude.{◌≡◌, ◌⊎◌, ◌+◌, ◌≤◌, ◌^◌, ◌++◌, [], ◌∷◌, ℕ, IsTrue, List, Some, None, length, IfSome, IsSomeAnd, OnOk, OnErr};
 ghost use Rattle.ledger_disk.specs.Disk.{MayLeave, settled_state, overlay, CountsFault};
 ghost use Rattle.ledger_disk.specs.Guards.{Guards, Confined};

@@ -1,3 +1,5 @@
+//! A notary in memory that never fails, for commands that keep none in a folder.
+
 ghost use Rattle.std.specs.Prelude.{◌≡◌, ◌+◌, ◌*◌, ◌<◌, ◌≤◌, [], Some, length, slice_get, IsOk, IfOk};
 ghost use Rattle.time_peg.specs.Entries.{IsList, CountsFailures, counted};
 ghost use Rattle.notary_ledger.specs.Answering.{AnswersHead, AnswersPath, AnswersProof, Stamps};

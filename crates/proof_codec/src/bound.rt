@@ -1,3 +1,5 @@
+//! What a proof shows of the time journals in front of its journal and behind it.
+
 ghost use Rattle.std.specs.Prelude.{◌≡◌};
 ghost use Rattle.proof_codec.specs.Claims.{lower_mark};
 

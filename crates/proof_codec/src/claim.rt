@@ -1,3 +1,5 @@
+//! What a proof is to show of a journal.
+
 use ledger_bytes::{Digest, TimeMark};
 
 /// What is claimed of a journal: that the ledger has it, and when it was placed.

@@ -1,3 +1,5 @@
+//! Laws of a proof's length: under no ledger and no notary is it too long.
+
 ghost use Rattle.std.specs.Prelude.{◌≡◌, ◌*◌, ◌≤◌, Some, length, IfSome};
 ghost use Rattle.proof_codec.specs.Proofs.{ShownLower, ShownUpper, Shown, HasFields, spelling, proof_len};
 

@@ -1,3 +1,5 @@
+//! The proof of a journal, and the bytes that spell it.
+
 ghost use Rattle.std.specs.Prelude.{◌≡◌, ◌≢◌, ◌⊎◌, ℕ, ◌<◌, ◌≤◌, List, [], ◌∷◌, ◌++◌, length, take, IfOk, IfErr};
 ghost use Rattle.proof_codec.specs.Proofs.{Shown, IsProof, spelling, lower_place, upper_place, proof_len};
 ghost use Rattle.proof_codec.specs.Reading.{proof_of, IsBreak};

@@ -1,3 +1,5 @@
+//! Making the proof that a ledger or a notary's list goes on from an earlier size.
+
 ghost use Rattle.std.specs.Prelude.{◌≡◌, IfOk};
 ghost use Rattle.sha2.specs.Sha256.{sha256};
 ghost use Rattle.ledger_book.specs.Books.{Serves};

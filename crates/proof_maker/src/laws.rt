@@ -1,3 +1,5 @@
+//! Laws of the proofs that runs write: each is accepted, and earlier heads lead on to later ones.
+
 ghost use Rattle.std.specs.Prelude.{List, ℕ};
 ghost use Rattle.ledger_bytes.specs.Begins.{Begins};
 ghost use Rattle.time_peg.specs.Entries.{NotaryState, IsList};

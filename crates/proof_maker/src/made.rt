@@ -1,3 +1,5 @@
+//! What comes of a request for a proof: the proof with what it claims, or why none is made.
+
 ghost use Rattle.std.specs.Prelude.{◌≡◌};
 
 use ledger_bytes::{Bytes, NoMemory, Refusal};

@@ -1,3 +1,5 @@
+//! Making the proof of a journal between the nearest time journals that are kept.
+
 ghost use Rattle.std.specs.Prelude.{◌≡◌, true, IfOk};
 ghost use Rattle.sha2.specs.Sha256.{sha256};
 ghost use Rattle.ledger_book.specs.Books.{Serves};

@@ -1,3 +1,5 @@
+//! An auditor trusts 65,536 heads of a tree and no more, and none that differs from a trusted one.
+
 use audit_core::{Heads, No, TrustErr};
 use ledger_bytes::Digest;
 use merkle_tree::Head;

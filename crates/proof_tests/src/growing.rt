@@ -1,3 +1,5 @@
+//! A tree goes on behind leaves that it forgot, and over peaks that no list has.
+
 use hex::{FromHex, FromHexError};
 use ledger_bytes::{Digest, NoMemory, Sha};
 use merkle_batch::{Tree, TreeErr};

@@ -1,3 +1,5 @@
+//! Notaries and clocks: times never fall, a stop leaves each entry that was told, and a failed stamp is made good.
+
 use hex::FromHex;
 use ledger_bytes::{Digest, NoMemory, Sha};
 use ledger_disk::{Disk, FuseDisk, MemDisk, Pick};

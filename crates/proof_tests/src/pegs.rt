@@ -1,3 +1,5 @@
+//! A notary's entry has the worked bytes, and the bounds of a journal are the nearest marks that are kept.
+
 ghost use Rattle.std.specs.Prelude.{◌≡◌};
 
 use hex::FromHex;

@@ -1,3 +1,5 @@
+//! Bases are read and spelled by their worked bytes, and the first break in one is told.
+
 use clue_index::ClueState;
 use hex::FromHex;
 use ledger_bytes::{Bad, Digest, Sha};

@@ -1,3 +1,5 @@
+//! Proofs are read and spelled by their worked bytes, and the first break in one is told.
+
 use hex::FromHex;
 use ledger_bytes::{Bad, Digest, TimeMark};
 use proof_codec::{Claim, Proof};

@@ -1,3 +1,5 @@
+//! Trees of up to 20 leaves have the worked roots, by SHA-256.
+
 use crate::growing::add;
 use hex::{FromHex, FromHexError};
 use ledger_bytes::{Digest, Sha, Toy};

@@ -1,3 +1,5 @@
+//! The base that stands in front of a purged ledger's blocks, and the bytes that spell it.
+
 ghost use Rattle.std.specs.Prelude.{◌≡◌, ◌≢◌, ◌⊎◌, ℕ, ◌<◌, List, [], ◌∷◌, ◌++◌, length, take, IfOk, IfErr, Ok, Err};
 ghost use Rattle.ledger_bytes.specs.Tags.{byte_of};
 ghost use Rattle.ledger_bytes.specs.declared.tag.Tag.TheVariants as tag;

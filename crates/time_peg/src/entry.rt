@@ -1,3 +1,5 @@
+//! The entries of a notary's list, and the pegs that they hold of a ledger's first journals.
+
 ghost use Rattle.std.specs.Prelude.{◌≡◌};
 ghost use Rattle.time_peg.specs.Entries.{entry_of, peg_string};
 

@@ -1,3 +1,5 @@
+//! How the bytes of a notary's entry are put together.
+
 ghost use Rattle.std.specs.Prelude.{◌≡◌, ◌+◌, ◌≤◌, [], ◌++◌, length};
 
 use crate::entry::ENTRY_LEN;

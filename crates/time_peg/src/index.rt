@@ -1,3 +1,5 @@
+//! The index of a ledger's time journals, in which the bounds of a journal are found.
+
 ghost use Rattle.std.specs.Prelude.{◌≡◌, ◌<◌, [], ◌∷◌, ◌++◌, OnOk, OnErr};
 ghost use Rattle.std.specs.List.{AllByRecursion};
 ghost use Rattle.time_peg.specs.Times.{lower_bound, upper_bound, marks_from, Rises};

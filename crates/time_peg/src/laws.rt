@@ -1,3 +1,5 @@
+//! Laws of times: bounds are the nearest time journals, and a notary's list may grow by later entries.
+
 ghost use Rattle.std.specs.Prelude.{◌≡◌, ◌<◌, ◌≤◌, ℕ, List, [], ◌∷◌, ◌++◌, length};
 ghost use Rattle.journal_record.specs.declared.rules.TheConstants.{NOTARY_LIMIT};
 ghost use Rattle.time_peg.specs.Entries.{IsList, last_time, time_in};

@@ -1,3 +1,5 @@
+//! What a notary is: it stamps what it is asked to, keeps the entry in its list, and shows that it is there.
+
 ghost use Rattle.std.specs.Prelude.{◌≡◌, ◌≢◌, ◌<◌, ◌≤◌, Err, length, map, slice_get, Some, IfOk, IfErr};
 ghost use Rattle.sha2.specs.Sha256.{sha256};
 ghost use Rattle.tree_model.specs.Tree.{mth, leaf};

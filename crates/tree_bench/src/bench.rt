@@ -1,3 +1,5 @@
+//! The work on a tree that is timed: nodes are hashed, a tree is grown, and proofs are made and checked.
+
 ghost use Rattle.std.specs.Prelude.{◌≡◌, ◌+◌, ◌<◌, ◌≤◌, ◌^◌, OnOk};
 
 use ledger_bytes::{Digest, NoMemory, Sha};

@@ -1,3 +1,5 @@
+//! The two files of a ledger: which one is open, and how a copy in the other takes over.
+
 ghost use Rattle.std.specs.Prelude.{◌≡◌, ◌≢◌, ◌⊎◌, ◌+◌, ◌≤◌, [], ◌∷◌, ℕ, Bool, List, None, Some, true, IsSome, option_map, length, take, drop, IsTrue, IfSome, IsSomeAnd, IfOk, IfErr, OnOk, OnErr};
 ghost use Rattle.block_file.specs.File.{IsSettled, whole_file};
 ghost use Rattle.block_file.specs.Head.{Counts, CountsTwoAlone, IsResumeErr, front_of, number_at};

@@ -1,3 +1,5 @@
+//! False paths and proofs show the worked strings, by the hash for tests.
+
 use super::*;
 use merkle_tree::{Clash, Pre, clash_path, clash_proof, fold_path, fold_proof};
 use std::alloc::{AllocError, Global};

@@ -1,3 +1,5 @@
+//! The paths of all leaves in trees of up to 20 leaves are the worked ones.
+
 use super::*;
 use crate::growing::are_made;
 use merkle_tree::fold_path;

@@ -1,3 +1,5 @@
+//! The proofs from each tree of up to 20 leaves to a later one are the worked ones, and no others lead there.
+
 use super::paths::{all_sides, digests_of};
 use super::*;
 use crate::growing::are_made;
