@@ -15,6 +15,7 @@ use std::thread::Threads;
 
 mod disks;
 mod erasing;
+mod exports;
 mod lanes;
 mod notaries;
 mod occults;

@@ -9,6 +9,8 @@
 //! | `status`, `stdout` | the exit status and the output that are wanted |
 //! | `files/before-a`, `files/before-b` | what stands on the disks before the run, in hexadecimal digits; nothing, where there is no such file |
 //! | `files/a`, `files/b` | what is wanted on them behind it, where there is such a file |
+//! | `files/before-notary` | what stands on the disk of the notary's list, in hexadecimal digits; no such file: a notary in memory |
+//! | `files/notary` | what is wanted on that disk behind the run, where there is such a file |
 //!
 //! A folder may hold rows that are like one another in the place of one: `words`, whose lines are the words of a row each
 //! with tabs between them; or `damages`, whose lines are HEX STATUS LINE: the first disk before and behind the run, the

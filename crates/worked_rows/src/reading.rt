@@ -32,6 +32,7 @@ fn row<R: Files + AllocGlobal>(folder: &Folder<R>) -> Result<Row> {
         words: words_of_lines(alloc, args.as_str())?,
         script: script(folder)?,
         before: [a.unwrap_or(Vec::new(alloc)), b.unwrap_or(Vec::new(alloc))],
+        list: folder.disk_if_there("files/before-notary")?,
         wanted: Wanted {
             status: status(folder.text("status")?.as_str())?,
             output: folder.bytes("stdout")?,
@@ -39,6 +40,7 @@ fn row<R: Files + AllocGlobal>(folder: &Folder<R>) -> Result<Row> {
                 folder.disk_if_there("files/a")?,
                 folder.disk_if_there("files/b")?,
             ],
+            list: folder.disk_if_there("files/notary")?,
         },
     })
 }
@@ -54,10 +56,12 @@ fn rows_of_words<R: Files + AllocGlobal>(folder: &Folder<R>, lines: &str) -> Res
             words: words_between(alloc, line, '\t')?,
             script: script(folder)?,
             before: [Vec::new(alloc), Vec::new(alloc)],
+            list: None,
             wanted: Wanted {
                 status: status(folder.text("status")?.as_str())?,
                 output: folder.bytes("stdout")?,
                 disks: [Some(Vec::new(alloc)), Some(Vec::new(alloc))],
+                list: None,
             },
         })?;
     }
@@ -90,10 +94,12 @@ fn row_of_damage<R: Files + AllocGlobal>(folder: &Folder<R>, line: &str) -> Resu
         words: words_of_lines(alloc, args.as_str())?,
         script: script(folder)?,
         before: [file.clone()?, Vec::new(alloc)],
+        list: None,
         wanted: Wanted {
             status: status(ending)?,
             output: format!(in alloc; "{told}\n")?.into_bytes(),
             disks: [Some(file), Some(Vec::new(alloc))],
+            list: None,
         },
     })
 }
@@ -125,10 +131,12 @@ fn row_of_change<R: Files + AllocGlobal>(
         words: words_between(alloc, words, ' ')?,
         script: changed(alloc, dump, change)?,
         before: [Vec::new(alloc), Vec::new(alloc)],
+        list: None,
         wanted: Wanted {
             status: status(ending)?,
             output: format!(in alloc; "{told}\n")?.into_bytes(),
             disks: [None, None],
+            list: None,
         },
     })
 }

@@ -32,6 +32,8 @@ pub(crate) struct Row {
     pub(crate) script: Vec<u8>,
     /// What stands on the two disks.
     pub(crate) before: [Vec<u8>; 2],
+    /// What stands on the disk of the notary's list. None for a notary in memory.
+    pub(crate) list: Option<Vec<u8>>,
     pub(crate) wanted: Wanted,
 }
 
@@ -41,6 +43,7 @@ pub(crate) struct Wanted {
     pub(crate) status: u8,
     pub(crate) output: Vec<u8>,
     pub(crate) disks: [Option<Vec<u8>>; 2],
+    pub(crate) list: Option<Vec<u8>>,
 }
 
 /// What came of a run.
@@ -49,6 +52,7 @@ pub(crate) struct Found {
     pub(crate) status: u8,
     pub(crate) output: Vec<u8>,
     pub(crate) disks: [Bytes; 2],
+    pub(crate) list: Option<Bytes>,
 }
 
 impl Wanted {
@@ -61,6 +65,7 @@ impl Wanted {
             ("output", self.output != found.output),
             ("file a", is_other(want_a.as_ref(), a)),
             ("file b", is_other(want_b.as_ref(), b)),
+            ("notary", is_other_list(self.list.as_ref(), found.list.as_ref())),
         ];
         let mut text = String::new(alloc);
         for (name, _) in parts.iter().filter(|(_, differs)| *differs) {
@@ -78,5 +83,13 @@ fn is_other(wanted: Option<&Vec<u8>>, found: &Bytes) -> bool {
     match wanted {
         Some(wanted) => wanted.as_slice() != found.as_slice(),
         None => false,
+    }
+}
+
+// Whether another list was wanted than was found.
+fn is_other_list(wanted: Option<&Vec<u8>>, found: Option<&Bytes>) -> bool {
+    match found {
+        Some(found) => is_other(wanted, found),
+        None => wanted.is_some(),
     }
 }

@@ -4,12 +4,12 @@ use crate::row::{Found, Program, Row};
 use anyhow::Result;
 use audit_cli::{audit_run, audit_top};
 use lane_work::{OpenGate, Tools};
-use ledger_bytes::{Bytes, Toy};
-use ledger_cli::ledger_top;
+use ledger_bytes::{Bytes, Digest, Toy};
+use ledger_cli::{Keeping, ledger_main, ledger_top};
 use ledger_disk::{Disk, MemDisk};
 use ledger_io::{MemSink, MemSource};
 use member_book::TagScheme;
-use notary_ledger::MemNotary;
+use notary_ledger::{ListClock, MemNotary};
 use std::alloc::Global;
 use std::sync::Wait;
 use std::thread::Threads;
@@ -27,39 +27,61 @@ pub(crate) fn run<R: Threads + Wait + Sync>(rt: &R, alloc: Global, row: &Row) ->
     let script = Bytes::copy_of(alloc, &row.script)?;
     let mut source = MemSource::new(script, Vec::new(alloc));
     let mut sink = MemSink::new(alloc, OUTPUT_ROOM, Vec::new(alloc))?;
-    let mut notary = MemNotary::new(alloc, Vec::new(alloc));
     let words = row.words.as_slice();
-    let status = match row.program {
-        Program::Ledger => {
-            let tools = Tools {
-                rt,
+    let (status, list) = match row.program {
+        Program::Ledger => run_ledger(rt, alloc, row, &mut source, &mut sink, &mut a, &mut b)?,
+        Program::Auditor => {
+            let status = audit_top(alloc, words, &mut source, &mut sink, &TagScheme);
+            (status, None)
+        }
+        Program::ToyAuditor => {
+            let verifier = &TagScheme;
+            let status = audit_run::<Toy, MemSource, MemSink, TagScheme>(
                 alloc,
-                verifier: &TagScheme,
-                gate: &OpenGate,
-            };
-            ledger_top(
-                &tools,
-                words,
                 &mut source,
                 &mut sink,
-                &mut a,
-                &mut b,
-                &mut notary,
-            )
+                verifier,
+            );
+            (status, None)
         }
-        Program::Auditor => audit_top(alloc, words, &mut source, &mut sink, &TagScheme),
-        Program::ToyAuditor => audit_run::<Toy, MemSource, MemSink, TagScheme>(
-            alloc,
-            &mut source,
-            &mut sink,
-            &TagScheme,
-        ),
     };
     Ok(Found {
         status,
         output: sink.written().to_vec(alloc)?,
         disks: [a.bytes()?, b.bytes()?],
+        list,
     })
+}
+
+// The status of a run of `ledgerctl`, and what stands on the disk of the notary's list behind it, where there is one.
+fn run_ledger<R: Threads + Wait + Sync>(
+    rt: &R,
+    alloc: Global,
+    row: &Row,
+    source: &mut MemSource,
+    sink: &mut MemSink,
+    a: &mut MemDisk,
+    b: &mut MemDisk,
+) -> Result<(u8, Option<Bytes>)> {
+    let tools = Tools {
+        rt,
+        alloc,
+        verifier: &TagScheme,
+        gate: &OpenGate,
+    };
+    let words = row.words.as_slice();
+    let Some(list) = &row.list else {
+        let mut notary = MemNotary::new(alloc, Vec::new(alloc));
+        let status = ledger_top(&tools, words, source, sink, a, b, &mut notary);
+        return Ok((status, None));
+    };
+    let keeping = Keeping {
+        keeper: disk_of(alloc, list)?,
+        clock: ListClock::new(Vec::new(alloc)),
+        seed: Some(Digest([0; 32])),
+    };
+    let (status, keeper) = ledger_main(&tools, words, source, sink, a, b, keeping);
+    Ok((status, Some(keeper.bytes()?)))
 }
 
 // A disk that holds these bytes for good.
