@@ -47,12 +47,12 @@ pub record IsBookOf (book : Kept) (h : History) : Type 0 where
 -- ---- faults
 
 -- no call failed, by the counts before and after
-abbrev pub NoneFailed : ℕ → ℕ → Type 0
-NoneFailed before after = after ≡ before
+abbrev pub Unfailed : ℕ → ℕ → Type 0
+Unfailed before after = after ≡ before
 
 -- one call failed
-abbrev pub OneFailed : ℕ → ℕ → Type 0
-OneFailed before after = after ≡ count_after before
+abbrev pub FailedOnce : ℕ → ℕ → Type 0
+FailedOnce before after = after ≡ count_after before
 
 -- which calls of the disk and of the notary failed, and what the sink met
 pub record Meets (disk notary : ℕ → ℕ → Type 0) (sink : SinkState → SinkState → Type 0) (before after : Handed) : Type 0 where
@@ -62,13 +62,13 @@ pub record Meets (disk notary : ℕ → ℕ → Type 0) (sink : SinkState → Si
 
 -- no fault was met
 abbrev pub MeetsNothing : Handed → Handed → Type 0
-MeetsNothing before after = Meets NoneFailed NoneFailed MeetsNone before after
+MeetsNothing before after = Meets Unfailed Unfailed MeetsNone before after
 
 -- each error has its cause, and no other fault was met: the disk failed, the notary did, the sink met one fault, or none of them
 abbrev pub MeetsCause : DumpErr → Handed → Handed → Type 0
-MeetsCause DiskFault before after = Meets OneFailed NoneFailed MeetsNone before after
-MeetsCause NotaryFault before after = Meets NoneFailed OneFailed MeetsNone before after
-MeetsCause WriteFault before after = Meets NoneFailed NoneFailed MeetsOne before after
+MeetsCause DiskFault before after = Meets FailedOnce Unfailed MeetsNone before after
+MeetsCause NotaryFault before after = Meets Unfailed FailedOnce MeetsNone before after
+MeetsCause WriteFault before after = Meets Unfailed Unfailed MeetsOne before after
 MeetsCause (Damaged damage) before after = MeetsNothing before after
 MeetsCause NoMemory before after = MeetsNothing before after
 
@@ -175,8 +175,8 @@ error_of_piece pieces.NoMemory = NoMemory
 
 -- why a journal isn't read, by the count of its disk's failures: the disk failed; or a part of it is another, or memory was short
 abbrev pub ReadEnds : DumpErr → ℕ → ℕ → Type 0
-ReadEnds DiskFault before after = OneFailed before after
+ReadEnds DiskFault before after = FailedOnce before after
 ReadEnds NotaryFault before after = ⊥
 ReadEnds WriteFault before after = ⊥
-ReadEnds (Damaged damage) before after = NoneFailed before after
-ReadEnds NoMemory before after = NoneFailed before after
+ReadEnds (Damaged damage) before after = Unfailed before after
+ReadEnds NoMemory before after = Unfailed before after

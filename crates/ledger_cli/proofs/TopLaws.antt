@@ -17,7 +17,7 @@ use Rattle.ledger_soak.specs.declared.running.SoakEnd.{SoakEnd}
 use Rattle.ledger_soak.specs.declared.running.SoakEnd.TheVariants as soak
 use Rattle.time_peg.specs.Entries.{NotaryState}
 use Rattle.ledger_cli.specs.Endings.{status_of, last_line, HasWords}
-use Rattle.ledger_cli.specs.Runs.{Handed, handed, FaultsBy, NothingFailed, ServedBy, Finishes, ending_of_soak}
+use Rattle.ledger_cli.specs.Runs.{Handed, handed, FaultsBy, NothingFailed, ServedBy, Finishes, Signs, ending_of_soak}
 use Rattle.ledger_cli.specs.declared.ending.LedgerEnding.{LedgerEnding}
 use Rattle.ledger_cli.specs.declared.ending.LedgerEnding.TheVariants.{Run, DiskFault, Damaged, Empty, Exists, NewerFormat, NotaryFault}
 use Rattle.ledger_cli.specs.declared.words.Command.{Command}
@@ -42,6 +42,16 @@ wrote_part due piece source before now (WriteFault taken) is first one = record 
 nothing : (x : Handed) → FaultsBy (Run run.NoMemory) x x
 nothing x = record { source_is = inl refl; sink_is = (refl, refl); disks_are = record { a = refl; b = refl } }
 
+-- no text was written
+pub wrote_nothing : (due : List ℕ) (x : Handed) → Signs due (Run run.NoMemory) x x
+wrote_nothing due x = record {
+  plain = run.NoMemory;
+  ending_is = refl;
+  wrote = record { written = []; unread = refl; appended = Appends-nil x.sink.held; output = (refl, (refl, refl)) };
+  disks_are = refl;
+  notary_is = refl;
+}
+
 pub unstarted_by : (scheme : Scheme) (tells : Bool) (words : Option Command) (x : Handed) → IsSome words → ServedBy scheme tells words (Run run.NoMemory) x x
 unstarted_by scheme tells None x some = absurd (let no : ⊥ = cc some in no)
 unstarted_by scheme tells (Some (command.Dry genesis)) x some = record {
@@ -64,13 +74,8 @@ unstarted_by scheme tells (Some (command.Init genesis)) x some = record {
 }
 unstarted_by scheme tells (Some command.Run) x some = again_unstarted scheme tells x.source x.sink x.notary x.disks x.disks refl
 unstarted_by scheme tells (Some command.Export) x some = dump_unstarted scheme tells x.source x.sink x.notary x.disks x.disks refl
-unstarted_by scheme tells (Some (command.Sign signing)) x some = record {
-  plain = run.NoMemory;
-  ending_is = refl;
-  wrote = record { written = []; unread = refl; appended = Appends-nil x.sink.held; output = (refl, (refl, refl)) };
-  disks_are = refl;
-  notary_is = refl;
-}
+unstarted_by scheme tells (Some (command.Sign signing)) x some = wrote_nothing _ x
+unstarted_by scheme tells (Some (command.Chain text)) x some = wrote_nothing _ x
 unstarted_by scheme tells (Some (command.Soak seed count stop)) x some = record { end = soak.NoMemory; ending_is = refl; soaked = refl; source_is = refl; disks_are = refl; notary_is = refl }
 
 -- ---- faults of a whole run
@@ -105,6 +110,7 @@ served_faults scheme tells (Some (command.Init genesis)) met before now s = inr 
 served_faults scheme tells (Some command.Run) met before now s = inr s.faults
 served_faults scheme tells (Some command.Export) met before now s = inr s.faults
 served_faults scheme tells (Some (command.Sign signing)) met before now s = inr (subst (λ e. FaultsBy e before now) (sym s.ending_is) (signed_faults _ s.plain before now s.wrote s.disks_are))
+served_faults scheme tells (Some (command.Chain text)) met before now s = inr (subst (λ e. FaultsBy e before now) (sym s.ending_is) (signed_faults _ s.plain before now s.wrote s.disks_are))
 served_faults scheme tells (Some (command.Soak seed count stop)) met before now s = inr (subst (λ e. FaultsBy e before now) (sym s.ending_is) (soaked_faults seed count stop s.end before now s.soaked s.source_is s.disks_are))
 
 -- an ending by its status

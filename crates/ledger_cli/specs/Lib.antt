@@ -3,6 +3,7 @@ pub mod Heads
 pub mod Failures
 pub mod Leaving
 pub mod Signing
+pub mod Chaining
 pub mod Words
 pub mod Endings
 pub mod Runs

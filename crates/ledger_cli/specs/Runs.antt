@@ -47,6 +47,7 @@ use Rattle.time_peg.specs.Entries.{NotaryState, IsList}
 use Rattle.ledger_bytes.specs.Digests.{digest}
 use Rattle.script_lines.specs.Words.{hex_of}
 use Rattle.ledger_cli.specs.Endings.{line_of, status_of, last_line, refusal_of, ending_of_export, HasWords}
+use Rattle.ledger_cli.specs.Chaining.{chain_line}
 use Rattle.ledger_cli.specs.Signing.{signed_text}
 use Rattle.ledger_cli.specs.Failures.{FailsByLines}
 use Rattle.ledger_cli.specs.Heads.{HeadsLeadOn}
@@ -437,7 +438,7 @@ pub record RunsNew (scheme : Scheme) (genesis : Genesis) (tells : Bool) (ending 
   pub faults : FaultsBy ending before after_all
   pub failures : NotaryFails before after_all
 
--- what `sign` does: it writes one text, and touches nothing else
+-- what `sign`, `chainkey` and `chainsign` do: they write one text, and touch nothing else
 pub record Signs (written_text : List ℕ) (ending : LedgerEnding) (before after_all : Handed) : Type 0 where
   pub plain : Ending
   pub ending_is : ending ≡ Run plain
@@ -468,6 +469,7 @@ ServedBy scheme tells (Some (command.Init genesis)) ending before after_all = Ma
 ServedBy scheme tells (Some command.Run) ending before after_all = RunsAgain scheme tells ending before after_all
 ServedBy scheme tells (Some command.Export) ending before after_all = Exports tells ending before after_all
 ServedBy scheme tells (Some (command.Sign signing)) ending before after_all = Signs (signed_text signing) ending before after_all
+ServedBy scheme tells (Some (command.Chain text)) ending before after_all = Signs (chain_line text) ending before after_all
 ServedBy scheme tells (Some (command.Soak seed count stop)) ending before after_all = Soaks seed count stop ending before after_all
 
 -- The last line was written by one attempt, and this is the status. Where the line is made of words and there is no memory for them,

@@ -1,11 +1,12 @@
 -- The words of the command line.
-use Rattle.std.specs.Prelude.{ℕ, ◌-◌, ◌^◌, nat_eq, if◌then◌else◌, List, [], ◌∷◌, codes, Option, Some, None, option_map}
+use Rattle.std.specs.Prelude.{⊤, ℕ, ◌-◌, ◌^◌, nat_eq, if◌then◌else◌, List, [], ◌∷◌, codes, Option, Some, None, option_map}
 use Rattle.ledger_model.specs.declared.genesis.Genesis.{Genesis}
 use Rattle.std.specs.Cmp.Lexicographic.{pointwise}
 use Rattle.script_lines.specs.Spellings.{◌>>=◌, digest_of, name_of, number_of}
+use Rattle.ledger_cli.specs.Chaining.{HasRange, asked_key, asked_signature}
 use Rattle.ledger_cli.specs.Signing.{request_of}
 use Rattle.ledger_cli.specs.declared.words.Command.{Command}
-use Rattle.ledger_cli.specs.declared.words.Command.TheVariants.{Dry, Init, Run, Export, Sign, Soak}
+use Rattle.ledger_cli.specs.declared.words.Command.TheVariants.{Dry, Init, Run, Export, Sign, Chain, Soak}
 
 -- the ledger that a name and two keys make, where they are of their forms
 abbrev pub genesis_of : List ℕ → List ℕ → List ℕ → Option Genesis
@@ -55,12 +56,25 @@ abbrev pub init_from : List ℕ → List ℕ → List ℕ → List (List ℕ) �
 init_from folder name operator (regulator ∷ []) = init_of folder name operator regulator
 init_from folder name operator words = None
 
+-- what the words behind `chainkey` ask for
+abbrev pub key_of : List ℕ → List ℕ → Option Command
+key_of seed size = option_map Chain (asked_key seed size)
+
+-- what five words ask for that begin with `chainsign`; other numbers of words ask for nothing
+abbrev pub chain_sign_from : List ℕ → List ℕ → List ℕ → List (List ℕ) → Option Command
+chain_sign_from seed size index (message ∷ []) = option_map Chain (asked_signature seed size index message)
+chain_sign_from seed size index words = None
+
 -- what two words ask for: they may be those of `run` or `export`
 abbrev pub of_two : List ℕ → List ℕ → Option Command
 of_two verb folder =
     if pointwise nat_eq verb (codes "run") then in_folder Run folder
     else if pointwise nat_eq verb (codes "export") then in_folder Export folder
     else None
+
+-- what three words ask for: they may be those of `chainkey`
+abbrev pub of_three : List ℕ → List ℕ → List ℕ → Option Command
+of_three verb seed size = if pointwise nat_eq verb (codes "chainkey") then key_of seed size else None
 
 -- what four words ask for: they may be those of `dry` or `soak`
 unfoldable pub of_four : List ℕ → List ℕ → List ℕ → List ℕ → Option Command
@@ -69,17 +83,29 @@ of_four verb second third fourth =
     else if pointwise nat_eq verb (codes "soak") then soak_of second third fourth
     else None
 
--- what five words and more ask for: they may be those of `init` or `sign`
+-- what five words and more ask for: they may be those of `init`, `sign` or `chainsign`
 abbrev pub of_more : List ℕ → List ℕ → List ℕ → List ℕ → List (List ℕ) → Option Command
 of_more verb second third fourth words =
     if pointwise nat_eq verb (codes "sign") then sign_of second third fourth words
     else if pointwise nat_eq verb (codes "init") then init_from second third fourth words
+    else if pointwise nat_eq verb (codes "chainsign") then chain_sign_from second third fourth words
     else None
 
--- what the words of the command line ask for: `run DIR`, `export DIR`, `dry NAME OPKEY REGKEY`, `soak SEED COUNT STOP`, `init DIR NAME OPKEY
--- REGKEY`, or `sign ID KEY` and then a request
+-- what the words of the command line ask for: `run DIR`, `export DIR`, `chainkey SEED SIZE`, `dry NAME OPKEY REGKEY`, `soak SEED COUNT STOP`,
+-- `init DIR NAME OPKEY REGKEY`, `chainsign SEED SIZE INDEX MESSAGE`, or `sign ID KEY` and then a request
 abbrev pub command_of : List (List ℕ) → Option Command
 command_of (verb ∷ folder ∷ []) = of_two verb folder
+command_of (verb ∷ seed ∷ size ∷ []) = of_three verb seed size
 command_of (verb ∷ name ∷ operator ∷ regulator ∷ []) = of_four verb name operator regulator
 command_of (verb ∷ second ∷ third ∷ fourth ∷ fifth ∷ words) = of_more verb second third fourth (fifth ∷ words)
 command_of words = None
+
+-- the numbers of a command that makes a key or a signature from a seed are in their ranges
+abbrev pub HasSizes : Command → Type 0
+HasSizes (Chain text) = HasRange text
+HasSizes (Dry genesis) = ⊤
+HasSizes (Init genesis) = ⊤
+HasSizes Run = ⊤
+HasSizes Export = ⊤
+HasSizes (Sign signing) = ⊤
+HasSizes (Soak seed count stop) = ⊤

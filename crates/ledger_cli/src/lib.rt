@@ -2,6 +2,7 @@
 //! bytes that are written, what is left of them and the exit status.
 #![tactic(auto)]
 
+mod chaining;
 mod desk;
 mod ending;
 mod laws;
@@ -14,6 +15,7 @@ mod top;
 mod window;
 mod words;
 
+pub use chaining::ChainText;
 pub use ending::LedgerEnding;
 pub use laws::{
     a_run_counts_the_failures_of_its_notary, a_written_receipt_is_shown,

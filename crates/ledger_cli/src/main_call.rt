@@ -117,6 +117,7 @@ fn wants_notary(alloc: Global, words: &[String]) -> Result<bool, NoMemory>
 {
     match Command::read(alloc, words)? {
         Some(Command::Init(_) | Command::Run | Command::Export) => Ok(true),
-        Some(Command::Dry(_) | Command::Sign(_) | Command::Soak { .. }) | None => Ok(false),
+        Some(Command::Dry(_) | Command::Sign(_) | Command::Chain(_) | Command::Soak { .. })
+        | None => Ok(false),
     }
 }

@@ -3,11 +3,12 @@
 ghost use Rattle.std.specs.Prelude.{◌≤◌, IfOk};
 
 use crate::{Command, Keeping, ledger_main};
+use chain_sign::ChainScheme;
 use lane_work::{OpenGate, Tools};
 use ledger_bytes::{Digest, Failed, NoMemory};
 use ledger_disk::{Disk, FileDisk, MemDisk};
 use ledger_io::{Ending, Sink, Source, StdSink, StdSource, command_words, finish, write_last};
-use member_book::TagScheme;
+use member_book::{TagScheme, Verifier};
 use notary_ledger::RealClock;
 use std::alloc::Global;
 use std::fs::File;
@@ -21,7 +22,8 @@ const DRY_ROOM: usize = 67_108_864;
 /// Runs the program over standard input and standard output, by the words of its command line, and answers its exit
 /// status. `init`, `run` and `export` use the files `ledger.a`, `ledger.b` and `notary` of their folder, which has to be there, the
 /// system's clock, and 32 bytes of `/dev/urandom` as the seed of salts; `dry` uses two disks in memory of 67,108,864 bytes
-/// each. The three files are locked, and so told apart, before anything is written. Proofs are those of the tag scheme. What [`ledger_main`] promises holds of it, but standard input and output and
+/// each. The three files are locked, and so told apart, before anything is written. Proofs are those of the tag scheme; behind the word
+/// `chain` in front of all others they are those of the scheme of chains. What [`ledger_main`] promises holds of it, but standard input and output and
 /// real files tell nothing of what they gave and took. `threads` is `rt` once more, by whose bound threads may be started.
 pub fn ledger_standard<R: Threads + Wait + Sync>(rt: &HostRuntime, threads: &R) -> u8
     ensures { result ≤ 11 }
@@ -32,13 +34,33 @@ pub fn ledger_standard<R: Threads + Wait + Sync>(rt: &HostRuntime, threads: &R) 
         return finish(&mut sink, Ending::NoMemory);
     };
     let words = words.as_slice();
+    match words.split_first() {
+        Some((scheme, words)) if scheme.as_str() == "chain" => {
+            run_by(rt, threads, &ChainScheme, words, &mut source, &mut sink)
+        }
+        _ => run_by(rt, threads, &TagScheme, words, &mut source, &mut sink),
+    }
+}
+
+// Proofs are those of the verifier's scheme.
+fn run_by<R: Threads + Wait + Sync, V: Verifier, S: Source, K: Sink>(
+    rt: &HostRuntime,
+    threads: &R,
+    verifier: &V,
+    words: &[String],
+    source: &mut S,
+    sink: &mut K,
+) -> u8
+    ensures { result ≤ 11 }
+{
+    let tools = tools(threads, rt.alloc(), verifier);
     let status = match folder_of(words) {
-        Some(folder) => run_on_files(rt, threads, folder, words, &mut source, &mut sink),
-        None => run_in_memory(rt, threads, words, &mut source, &mut sink),
+        Some(folder) => run_on_files(rt, &tools, folder, words, source, sink),
+        None => run_in_memory(rt, &tools, words, source, sink),
     };
     match status {
         Ok(status) => status,
-        Err(NoMemory) => finish(&mut sink, Ending::NoMemory),
+        Err(NoMemory) => finish(sink, Ending::NoMemory),
     }
 }
 
@@ -53,20 +75,20 @@ fn folder_of(words: &[String]) -> Option<&str> {
     }
 }
 
-// Proofs are those of the tag scheme, and no line is held.
-fn tools<R>(threads: &R, alloc: Global) -> Tools<'_, R, TagScheme, OpenGate> {
+// No line is held.
+fn tools<'a, R, V>(threads: &'a R, alloc: Global, verifier: &'a V) -> Tools<'a, R, V, OpenGate> {
     Tools {
         rt: threads,
         alloc,
-        verifier: &TagScheme,
+        verifier,
         gate: &OpenGate,
     }
 }
 
 // Nothing is opened where the words turn out to be of no form, or where there is no seed.
-fn run_on_files<R: Threads + Wait + Sync, S: Source, K: Sink>(
+fn run_on_files<R: Threads + Wait + Sync, V: Verifier, S: Source, K: Sink>(
     rt: &HostRuntime,
-    threads: &R,
+    tools: &Tools<R, V, OpenGate>,
     folder: &str,
     words: &[String],
     source: &mut S,
@@ -89,8 +111,7 @@ fn run_on_files<R: Threads + Wait + Sync, S: Source, K: Sink>(
         clock: RealClock::new(rt),
         seed,
     };
-    let tools = tools(threads, rt.alloc());
-    let (status, _) = ledger_main(&tools, words, source, sink, &mut a, &mut b, keeping);
+    let (status, _) = ledger_main(tools, words, source, sink, &mut a, &mut b, keeping);
     Ok(status)
 }
 
@@ -120,9 +141,9 @@ fn file_in<'a>(
     FileDisk::at(rt, rt.alloc(), path.as_str())
 }
 
-fn run_in_memory<R: Threads + Wait + Sync, S: Source, K: Sink>(
+fn run_in_memory<R: Threads + Wait + Sync, V: Verifier, S: Source, K: Sink>(
     rt: &HostRuntime,
-    threads: &R,
+    tools: &Tools<R, V, OpenGate>,
     words: &[String],
     source: &mut S,
     sink: &mut K,
@@ -141,7 +162,6 @@ fn run_in_memory<R: Threads + Wait + Sync, S: Source, K: Sink>(
         clock: RealClock::new(rt),
         seed: None,
     };
-    let tools = tools(threads, alloc);
-    let (status, _) = ledger_main(&tools, words, source, sink, &mut a, &mut b, keeping);
+    let (status, _) = ledger_main(tools, words, source, sink, &mut a, &mut b, keeping);
     Ok(status)
 }

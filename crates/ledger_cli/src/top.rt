@@ -6,10 +6,12 @@ ghost use Rattle.ledger_bytes.specs.Causes.{count_after};
 ghost use Rattle.ledger_io.specs.Outside.{SourceState, MeetsOne};
 ghost use Rattle.time_peg.specs.Entries.{NotaryState};
 ghost use Rattle.ledger_cli.specs.Runs.{handed, Exports, Finishes, Makes, NothingFailed, RanProgram, RunsAgain, RunsNew, ServedBy, Signs, Soaks};
+ghost use Rattle.ledger_cli.specs.Chaining.{HasRange, chain_line};
 ghost use Rattle.ledger_cli.specs.Signing.{signed_text};
 ghost use Rattle.ledger_cli.specs.Words.{command_of};
 
 use crate::Command;
+use crate::chaining::ChainText;
 use crate::ending::{LedgerEnding, ending_of_export, put_line};
 use crate::session::run_session;
 use crate::signing::Signing;
@@ -32,8 +34,8 @@ use time_peg::Notary;
 /// The program: runs the command that the words after the program's name make. `init` makes a ledger of the two disks.
 /// `run` opens the ledger that is there, and runs the script that `source` gives on it; its replies are written to `sink`,
 /// a receipt once its block is on the disk for good. `dry` does both with a new ledger. `export` opens the ledger that is there, reads nothing else,
-/// and writes its dump, beside the notary's list. `sign` reads nothing, uses no disk
-/// and writes one text. `soak` reads nothing and uses no disk that is handed in. Whose key a proof shows is what the verifier says. Anchors are stamped by `notary`; where that fails
+/// and writes its dump, beside the notary's list. `sign`, `chainkey` and `chainsign` read nothing, use no disk
+/// and write one text. `soak` reads nothing and uses no disk that is handed in. Whose key a proof shows is what the verifier says. Anchors are stamped by `notary`; where that fails
 /// the line is refused and the run goes on. It answers the exit status:
 ///
 /// | Status | Comes | Last line |
@@ -135,6 +137,7 @@ fn run_words<
         Ok(Some(Command::Run)) => run_again(tools, source, sink, a, b, notary),
         Ok(Some(Command::Export)) => export(tools.rt, tools.alloc, sink, a, b, notary),
         Ok(Some(Command::Sign(signing))) => sign(&signing, sink),
+        Ok(Some(Command::Chain(text))) => write_chain(tools.alloc, &text, sink),
         Ok(Some(Command::Soak { seed, count, stop })) => run_soak(
             tools.rt,
             tools.alloc,
@@ -252,7 +255,27 @@ fn sign<K: Sink>(signing: &Signing, sink: &mut K) -> LedgerEnding
     ensures { (source : SourceState) (disks : Pair) (notary : NotaryState) → Signs (signed_text signing.now) result
         (handed source (K.state sink.old) disks notary) (handed source (K.state sink.new) disks notary) }
 {
-    match write_all(sink, &signing.text()) {
+    write_text(&signing.text(), sink)
+}
+
+// Writes a key or a signature in the scheme of chains.
+fn write_chain<K: Sink>(alloc: Global, text: &ChainText, sink: &mut K) -> LedgerEnding
+    requires { HasRange text.now }
+    ensures { (source : SourceState) (disks : Pair) (notary : NotaryState) → Signs (chain_line text.now) result
+        (handed source (K.state sink.old) disks notary) (handed source (K.state sink.new) disks notary) }
+{
+    match text.line(alloc) {
+        Ok(line) => write_text(line.as_slice(), sink),
+        Err(NoMemory) => LedgerEnding::Run(Ending::NoMemory),
+    }
+}
+
+// Writes one text.
+fn write_text<K: Sink>(text: &[u8], sink: &mut K) -> LedgerEnding
+    ensures { (source : SourceState) (disks : Pair) (notary : NotaryState) → Signs text.now result
+        (handed source (K.state sink.old) disks notary) (handed source (K.state sink.new) disks notary) }
+{
+    match write_all(sink, text) {
         Ok(()) => LedgerEnding::Run(Ending::Done),
         Err(_) => LedgerEnding::Run(Ending::WriteFault),
     }

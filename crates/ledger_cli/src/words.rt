@@ -1,8 +1,9 @@
 //! The command that the words of the command line of `ledgerctl` make.
 
-ghost use Rattle.std.specs.Prelude.{◌≡◌, map, string_bytes, IfOk, OnErr, IsSome};
-ghost use Rattle.ledger_cli.specs.Words.{dry_of, genesis_of, init_of, of_four, of_more, in_folder, of_two, sign_of, soak_of};
+ghost use Rattle.std.specs.Prelude.{◌≡◌, map, string_bytes, IfOk, IfSome, OnErr, IsSome};
+ghost use Rattle.ledger_cli.specs.Words.{HasSizes, chain_sign_from, dry_of, genesis_of, init_of, key_of, of_four, of_more, in_folder, of_three, of_two, sign_of, soak_of};
 
+use crate::chaining::{ChainText, read_key, read_signature};
 use crate::signing::{Signing, read_request};
 use ledger_bytes::{Bytes, NoMemory};
 use ledger_model::Genesis;
@@ -22,6 +23,8 @@ pub enum Command {
     Export,
     /// `sign ID KEY` and a request: the request's message, and the key's proof of it. It reads no input.
     Sign(Signing),
+    /// `chainkey` or `chainsign`: what is made of a seed in the scheme of chains. It reads no input.
+    Chain(ChainText),
     /// `soak SEED COUNT STOP`: so many random jobs on a new ledger in memory, whose disks stop after so many calls each where
     /// that isn't 0, and a line that sums them up. It reads no input.
     Soak {
@@ -47,10 +50,12 @@ impl Command {
     /// `init`, `run` and `export` isn't part of it: the disks over its files are handed in.
     pub fn read(alloc: Global, words: &[String]) -> Result<Option<Self>, NoMemory>
         ensures ok { IfOk result (λ command. command ≡ command_of (map string_bytes words.now)) }
+        ensures sizes { IfOk result (λ command. IfSome command HasSizes) }
         ensures err { OnErr result (IsSome (command_of (map string_bytes words.now))) }
     {
         match words {
             [verb, folder] => Ok(read_two(verb.as_str(), folder.as_str())),
+            [verb, seed, size] => Ok(read_three(verb.as_str(), seed.as_str(), size.as_str())),
             [verb, name, operator, regulator] => read_four(
                 alloc,
                 verb.as_str(),
@@ -72,7 +77,8 @@ impl Command {
 }
 
 fn read_two(verb: &str, folder: &str) -> Option<Command>
-    ensures { result ≡ of_two verb.now folder.now }
+    ensures read { result ≡ of_two verb.now folder.now }
+    ensures sizes { IfSome result HasSizes }
 {
     if verb == "run" {
         read_folder(Command::Run, folder)
@@ -83,9 +89,21 @@ fn read_two(verb: &str, folder: &str) -> Option<Command>
     }
 }
 
+fn read_three(verb: &str, seed: &str, size: &str) -> Option<Command>
+    ensures read { result ≡ of_three verb.now seed.now size.now }
+    ensures sizes { IfSome result HasSizes }
+{
+    if verb == "chainkey" {
+        read_key(seed, size).map(Command::Chain)
+    } else {
+        None
+    }
+}
+
 // The name of a folder has at least one byte.
 fn read_folder(command: Command, folder: &str) -> Option<Command>
-    ensures { result ≡ in_folder command folder.now }
+    ensures read { result ≡ in_folder command folder.now }
+    ensures sizes { HasSizes command → IfSome result HasSizes }
 {
     if folder.is_empty() {
         None
@@ -104,6 +122,7 @@ fn read_four(
 ) -> Result<Option<Command>, NoMemory>
     ensures ok { IfOk result (λ command. command
         ≡ of_four verb.now name.now operator.now regulator.now) }
+    ensures sizes { IfOk result (λ command. IfSome command HasSizes) }
     ensures err { OnErr result (IsSome (of_four verb.now name.now operator.now regulator.now)) }
 {
     if verb == "dry" {
@@ -117,7 +136,8 @@ fn read_four(
 
 #[tactic(auto, unfolding(crate::specs::Words::soak_of))]
 fn read_soak(seed: &str, count: &str, stop: &str) -> Option<Command>
-    ensures { result ≡ soak_of seed.now count.now stop.now }
+    ensures read { result ≡ soak_of seed.now count.now stop.now }
+    ensures sizes { IfSome result HasSizes }
 {
     let seed = read_number(seed.as_bytes(), u64::MAX)?;
     let count = read_number(count.as_bytes(), SOAK_JOBS)?;
@@ -139,6 +159,7 @@ fn read_more(
 ) -> Result<Option<Command>, NoMemory>
     ensures ok { IfOk result (λ command. command
         ≡ of_more verb.now second.now third.now fourth.now (map string_bytes fields.now)) }
+    ensures sizes { IfOk result (λ command. IfSome command HasSizes) }
     ensures err { OnErr result (IsSome
         (of_more verb.now second.now third.now fourth.now (map string_bytes fields.now))) }
 {
@@ -149,8 +170,20 @@ fn read_more(
             [regulator] => read_init(alloc, second, third, fourth, regulator.as_str()),
             _ => Ok(None),
         }
+    } else if verb == "chainsign" {
+        Ok(read_chain_sign(second, third, fourth, fields))
     } else {
         Ok(None)
+    }
+}
+
+fn read_chain_sign(seed: &str, size: &str, index: &str, fields: &[String]) -> Option<Command>
+    ensures read { result ≡ chain_sign_from seed.now size.now index.now (map string_bytes fields.now) }
+    ensures sizes { IfSome result HasSizes }
+{
+    match fields {
+        [message] => read_signature(seed, size, index, message.as_str()).map(Command::Chain),
+        _ => None,
     }
 }
 
@@ -161,6 +194,7 @@ fn read_dry(
     regulator: &str,
 ) -> Result<Option<Command>, NoMemory>
     ensures ok { IfOk result (λ command. command ≡ dry_of name.now operator.now regulator.now) }
+    ensures sizes { IfOk result (λ command. IfSome command HasSizes) }
     ensures err { OnErr result (IsSome (dry_of name.now operator.now regulator.now)) }
 {
     match read_genesis(alloc, name, operator, regulator)? {
@@ -178,6 +212,7 @@ fn read_init(
 ) -> Result<Option<Command>, NoMemory>
     ensures ok { IfOk result (λ command. command
         ≡ init_of folder.now name.now operator.now regulator.now) }
+    ensures sizes { IfOk result (λ command. IfSome command HasSizes) }
     ensures err { OnErr result (IsSome (init_of folder.now name.now operator.now regulator.now)) }
 {
     if folder.is_empty() {
@@ -223,6 +258,7 @@ fn read_sign(
 ) -> Result<Option<Command>, NoMemory>
     ensures ok { IfOk result (λ command. command
         ≡ sign_of id.now key.now verb.now (map string_bytes fields.now)) }
+    ensures sizes { IfOk result (λ command. IfSome command HasSizes) }
     ensures err { OnErr result (IsSome (sign_of id.now key.now verb.now
         (map string_bytes fields.now))) }
 {

@@ -3,12 +3,13 @@
 use crate::row::{Found, Program, Row};
 use anyhow::Result;
 use audit_cli::{audit_run, audit_top};
+use chain_sign::ChainScheme;
 use lane_work::{OpenGate, Tools};
 use ledger_bytes::{Bytes, Digest, Toy};
 use ledger_cli::{Keeping, ledger_main, ledger_top};
 use ledger_disk::{Disk, MemDisk};
 use ledger_io::{MemSink, MemSource};
-use member_book::TagScheme;
+use member_book::{TagScheme, Verifier};
 use notary_ledger::{ListClock, MemNotary};
 use std::alloc::Global;
 use std::sync::Wait;
@@ -53,7 +54,7 @@ pub(crate) fn run<R: Threads + Wait + Sync>(rt: &R, alloc: Global, row: &Row) ->
     })
 }
 
-// The status of a run of `ledgerctl`, and what stands on the disk of the notary's list behind it, where there is one.
+// A run of `ledgerctl`, with the scheme that its words name.
 fn run_ledger<R: Threads + Wait + Sync>(
     rt: &R,
     alloc: Global,
@@ -63,16 +64,44 @@ fn run_ledger<R: Threads + Wait + Sync>(
     a: &mut MemDisk,
     b: &mut MemDisk,
 ) -> Result<(u8, Option<Bytes>)> {
-    let tools = Tools {
+    let list = row.list.as_ref();
+    let words = row.words.as_slice();
+    match words.split_first() {
+        Some((scheme, words)) if scheme.as_str() == "chain" => {
+            let tools = tools(rt, alloc, &ChainScheme);
+            run_by(&tools, words, list, source, sink, a, b)
+        }
+        _ => {
+            let tools = tools(rt, alloc, &TagScheme);
+            run_by(&tools, words, list, source, sink, a, b)
+        }
+    }
+}
+
+// No line is held.
+fn tools<'a, R, V>(rt: &'a R, alloc: Global, verifier: &'a V) -> Tools<'a, R, V, OpenGate> {
+    Tools {
         rt,
         alloc,
-        verifier: &TagScheme,
+        verifier,
         gate: &OpenGate,
-    };
-    let words = row.words.as_slice();
-    let Some(list) = &row.list else {
+    }
+}
+
+// The status, and what stands on the disk of the notary's list behind the run, where there is one.
+fn run_by<R: Threads + Wait + Sync, V: Verifier>(
+    tools: &Tools<R, V, OpenGate>,
+    words: &[String],
+    list: Option<&Vec<u8>>,
+    source: &mut MemSource,
+    sink: &mut MemSink,
+    a: &mut MemDisk,
+    b: &mut MemDisk,
+) -> Result<(u8, Option<Bytes>)> {
+    let alloc = tools.alloc;
+    let Some(list) = list else {
         let mut notary = MemNotary::new(alloc, Vec::new(alloc));
-        let status = ledger_top(&tools, words, source, sink, a, b, &mut notary);
+        let status = ledger_top(tools, words, source, sink, a, b, &mut notary);
         return Ok((status, None));
     };
     let keeping = Keeping {
@@ -80,7 +109,7 @@ fn run_ledger<R: Threads + Wait + Sync>(
         clock: ListClock::new(Vec::new(alloc)),
         seed: Some(Digest([0; 32])),
     };
-    let (status, keeper) = ledger_main(&tools, words, source, sink, a, b, keeping);
+    let (status, keeper) = ledger_main(tools, words, source, sink, a, b, keeping);
     Ok((status, Some(keeper.bytes()?)))
 }
 
