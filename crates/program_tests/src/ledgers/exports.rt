@@ -53,7 +53,15 @@ impl Notary for LostNotary {
 fn made<R: Threads + Wait + Sync>(rt: &R, alloc: Global) -> Result<Bytes, NoMemory> {
     let mut a = MemDisk::new(alloc, AMPLE, Vec::new(alloc))?;
     let mut b = MemDisk::new(alloc, AMPLE, Vec::new(alloc))?;
-    run_on(rt, alloc, &DEMO, EMPTY.as_bytes(), NO_FAULTS, &mut a, &mut b)?;
+    run_on(
+        rt,
+        alloc,
+        &DEMO,
+        EMPTY.as_bytes(),
+        NO_FAULTS,
+        &mut a,
+        &mut b,
+    )?;
     a.bytes()
 }
 
