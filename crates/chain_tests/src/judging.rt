@@ -1,6 +1,6 @@
-//! What a proof is judged by whoever knows the secrets, with each kind of clash over the toy hash.
+//! What a proof is judged by whoever knows the secrets, with a clash of a chain's step over the toy hash.
 
-use chain_sign::{SignVerdict, chain_key, chain_key_of, chain_sign, digits, judge_sign};
+use chain_sign::{SignVerdict, chain_sign, digits, judge_sign};
 use ledger_bytes::{Digest, Sha, Toy, TreeHash};
 use std::alloc::{AllocError, Global};
 use std::process::Abort;
@@ -77,50 +77,13 @@ fn clash_strings(
 #[test]
 fn own_proofs_are_true(rt: HostRuntime) -> Result<(), Fail> {
     let made = chain_sign::<Sha>(rt.alloc(), &SEED, 2, 1, &a_message())?;
+    let proof = made.as_slice();
     assert_eq!(rt;
-        judged::<Sha>(&rt, rt.alloc(), 2, made.as_slice())?,
+        judged::<Sha>(&rt, rt.alloc(), 2, proof)?,
         SignVerdict::True
     );
     assert_eq!(rt;
-        judged::<Sha>(&rt, rt.alloc(), 3, made.as_slice())?,
-        SignVerdict::OtherKey
-    );
-    let toy = chain_sign::<Toy>(rt.alloc(), &SEED, 2, 1, &a_message())?;
-    assert_eq!(rt;
-        judged::<Toy>(&rt, rt.alloc(), 2, toy.as_slice())?,
-        SignVerdict::True
-    );
-    Ok(())
-}
-
-#[test]
-fn proofs_of_another_key(rt: HostRuntime) -> Result<(), Fail> {
-    let made = chain_sign::<Sha>(rt.alloc(), &SEED, 2, 1, &a_message())?;
-    let mut proof = Vec::new(rt.alloc());
-    proof.extend_from_slice(made.as_slice())?;
-    let len = proof.len();
-    assert!(rt; len == 2185);
-    proof[VALUES] ^= 1;
-    assert_eq!(rt;
-        judged::<Sha>(&rt, rt.alloc(), 2, &proof)?,
-        SignVerdict::OtherKey
-    );
-    proof[VALUES] ^= 1;
-    assert_eq!(rt;
-        judged::<Sha>(&rt, rt.alloc(), 2, &proof)?,
-        SignVerdict::True
-    );
-    assert_eq!(rt;
-        judged::<Sha>(&rt, rt.alloc(), 2, &proof[..len - 1])?,
-        SignVerdict::OtherKey
-    );
-    proof[len - 1] ^= 1;
-    assert_eq!(rt;
-        judged::<Sha>(&rt, rt.alloc(), 2, &proof)?,
-        SignVerdict::OtherKey
-    );
-    assert_eq!(rt;
-        judged::<Sha>(&rt, rt.alloc(), 2, &[])?,
+        judged::<Sha>(&rt, rt.alloc(), 3, proof)?,
         SignVerdict::OtherKey
     );
     Ok(())
@@ -160,68 +123,5 @@ fn clashes_of_exchanged_bytes(rt: HostRuntime) -> Result<(), Fail> {
         string[front + 31] = last;
         assert_eq!(rt; truth, string, "truth of chain {chain}");
     }
-    Ok(())
-}
-
-// The values are right, and the path's digest is another with the same sum.
-#[test]
-fn another_path_is_true(rt: HostRuntime) -> Result<(), Fail> {
-    let mut proof = toy_proof(&rt, rt.alloc(), 2, 1)?;
-    assert!(rt; proof.len() == 2185);
-    let last = proof[2184];
-    assert!(rt; last != 0);
-    proof[2184] = 0;
-    proof[2153] = last;
-    assert_eq!(rt;
-        judged::<Toy>(&rt, rt.alloc(), 2, &proof)?,
-        SignVerdict::True
-    );
-    Ok(())
-}
-
-// The same values at the other index: the root's sum is the same.
-#[test]
-fn clash_of_another_index(rt: HostRuntime) -> Result<(), Fail> {
-    let mut proof = toy_proof(&rt, rt.alloc(), 2, 1)?;
-    assert!(rt; proof.len() == 2185);
-    proof[7] = 0;
-    let (told, truth) = clash_strings(&rt, rt.alloc(), judged::<Toy>(&rt, rt.alloc(), 2, &proof)?)?;
-    assert!(rt; told.len() == 65 && truth.len() == 65);
-    assert_eq!(rt; (told[0], truth[0]), (1, 1));
-    assert_eq!(rt; (told[32], told[64]), (truth[64], truth[32]));
-    assert!(rt; told[32] != told[64]);
-    Ok(())
-}
-
-// A value at the end of its chain whose sum is other by one, and a path's digest that makes up for it.
-#[test]
-fn clash_of_a_path(rt: HostRuntime) -> Result<(), Fail> {
-    let mut proof = toy_proof(&rt, rt.alloc(), 2, 1)?;
-    assert!(rt; proof.len() == 2185);
-    proof[VALUES + 63] = proof[VALUES + 63].wrapping_add(1);
-    proof[2184] = proof[2184].wrapping_sub(1);
-    let (told, truth) = clash_strings(&rt, rt.alloc(), judged::<Toy>(&rt, rt.alloc(), 2, &proof)?)?;
-    assert!(rt; told.len() == 65 && truth.len() == 65);
-    assert_eq!(rt;
-        (told[32], told[64]),
-        (truth[32].wrapping_sub(1), truth[64].wrapping_add(1))
-    );
-    Ok(())
-}
-
-// A proof of another size whose key has the same sum.
-#[test]
-fn clash_of_a_size(rt: HostRuntime) -> Result<(), Fail> {
-    let wanted = chain_key::<Toy>(rt.alloc(), &SEED, 2)?;
-    let mut proof = toy_proof(&rt, rt.alloc(), 1, 0)?;
-    assert!(rt; proof.len() == 2153);
-    let shown = chain_key_of::<Toy>(&a_message(), &proof).unwrap_or(Digest([0; 32]));
-    let more = wanted.0[31].wrapping_sub(shown.0[31]);
-    proof[VALUES + 63] = proof[VALUES + 63].wrapping_add(more);
-    assert_eq!(rt; chain_key_of::<Toy>(&a_message(), &proof), Some(wanted));
-    let (told, truth) = clash_strings(&rt, rt.alloc(), judged::<Toy>(&rt, rt.alloc(), 2, &proof)?)?;
-    assert!(rt; told.len() == 37 && truth.len() == 37);
-    assert_eq!(rt; (told[0], told[4], truth[0], truth[4]), (0x41, 1, 0x41, 2));
-    assert_eq!(rt; told[36], truth[36].wrapping_add(1));
     Ok(())
 }

@@ -65,7 +65,10 @@ impl Wanted {
             ("output", self.output != found.output),
             ("file a", is_other(want_a.as_ref(), a)),
             ("file b", is_other(want_b.as_ref(), b)),
-            ("notary", is_other_list(self.list.as_ref(), found.list.as_ref())),
+            (
+                "notary",
+                is_other_list(self.list.as_ref(), found.list.as_ref()),
+            ),
         ];
         let mut text = String::new(alloc);
         for (name, _) in parts.iter().filter(|(_, differs)| *differs) {

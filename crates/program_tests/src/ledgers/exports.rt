@@ -1,5 +1,6 @@
 //! Dumps that end early: where the notary can't be reached, and where a disk or the output fails.
 
+ghost use Rattle.std.specs.Prelude.{[]};
 ghost use Rattle.notary_ledger.specs.Notaries.{memory_origin};
 
 use super::*;
