@@ -1,31 +1,37 @@
 //! Dumps that end early: where the notary can't be reached, and where a disk or the output fails.
 
-ghost use Rattle.std.specs.Prelude.{[]};
 ghost use Rattle.notary_ledger.specs.Notaries.{memory_origin};
 
 use super::*;
-use journal_record::Stamp;
+use journal_record::{NOTARY_LIMIT, Stamp};
 use ledger_bytes::Digest;
 use merkle_tree::Head;
 use time_peg::{ENTRY_LEN, Notary, NotaryErr};
 
 const EXPORT: [&str; 2] = ["export", "d"];
 
-/// A notary that can't be reached: each call fails.
+/// A notary with the list of this one that can't be reached: each call fails.
 #[derive(Drop)]
 struct LostNotary {
+    list: MemNotary,
     faults: u64,
 }
 
 impl Notary for LostNotary {
-    ghost state = { λ n. record { origin = memory_origin; entries = []; faults = n.faults } };
+    ghost state = { λ n. record { origin = memory_origin; entries = n.list.entries; faults = n.faults } };
 
     fn stamp(&mut self, _alloc: Global, _peg: &Digest) -> Result<Stamp, NotaryErr> {
+        if let Ok(head) = self.list.head()
+            && head.size == NOTARY_LIMIT
+        {
+            return Err(NotaryErr::Full);
+        }
         self.faults = self.faults.saturating_add(1);
         Err(NotaryErr::Failed)
     }
 
     fn head(&mut self) -> Result<Head, NotaryErr> {
+        let _head = self.list.head();
         self.faults = self.faults.saturating_add(1);
         Err(NotaryErr::Failed)
     }
@@ -99,6 +105,10 @@ fn exported_alone<R: Threads + Wait + Sync>(
     let mut b = MemDisk::new(alloc, AMPLE, Vec::new(alloc))?;
     let mut source = MemSource::new(Bytes::copy_of(alloc, b"")?, Vec::new(alloc));
     let mut sink = MemSink::new(alloc, AMPLE, Vec::new(alloc))?;
+    let mut lost = LostNotary {
+        list: MemNotary::new(alloc, Vec::new(alloc)),
+        faults: 0,
+    };
     let status = ledger_top(
         &tools(rt, alloc),
         &strings(alloc, &EXPORT)?,
@@ -106,7 +116,7 @@ fn exported_alone<R: Threads + Wait + Sync>(
         &mut sink,
         &mut a,
         &mut b,
-        &mut LostNotary { faults: 0 },
+        &mut lost,
     );
     Ok((status, sink.written().to_vec(alloc)?))
 }
