@@ -23,5 +23,6 @@ pub use laws::{
     a_notary_can_be_honest, accepted_proofs_stay_accepted, claims_stay_true, extension_is_true,
     extensions_are_true, honest_bounds_are_moments, yes_is_true, yes_stays_true,
 };
+pub use parts::placed_differs;
 pub use refusal::{No, TrustErr};
 pub use verdict::Verdict;

@@ -131,8 +131,10 @@ fn entry_differs<H: TreeHash>(
     placed_differs::<H>(entries, ENTRY_LEN, &entry, mark.index, path)
 }
 
-// The strings of a leaf with its path: those of the path, and then those of the leaf.
-fn placed_differs<H: TreeHash>(
+/// The strings of leaf `n` of a flat list of leaves of `width` bytes, told as `told`, with a path that leads to the list's root: those
+/// of the first node of the path, from the root down, that is told otherwise, and else those of the leaf. None where the leaf is the list's.
+/// The cost is a path of nodes, each of which hashes the leaves below it once.
+pub fn placed_differs<H: TreeHash>(
     flat: &[u8],
     width: usize,
     told: &[u8],
