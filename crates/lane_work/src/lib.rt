@@ -10,6 +10,7 @@ mod alone;
 mod divide;
 mod gate;
 mod hands;
+mod idle;
 mod kinds;
 mod lanes;
 mod preparing;

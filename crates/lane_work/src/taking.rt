@@ -5,11 +5,11 @@ ghost use Rattle.lane_work.specs.Offering.{Comes, Hands};
 ghost use Rattle.lane_work.specs.Handing.{HasGot, IsNewTaker};
 ghost use Rattle.lane_work.specs.declared.taking.State.TheVariants.{Going};
 
+use crate::idle::Idle;
 use crate::kinds::Made;
 use crate::taker::{Flow, Taker};
 use intake_queue::{Intake, TakerPass};
 use std::sync::Wait;
-use std::thread;
 
 /// How far the taker is.
 #[derive(Clone, Copy, Debug, PartialEq, Eq)]
@@ -59,6 +59,7 @@ pub(crate) fn take_all<R: Wait, T: Taker>(
 {
     let mut state = State::Going;
     let mut done = 0usize;
+    let mut idle = Idle::new();
     for _ in rt.forever() {
         if done >= count {
             break;
@@ -69,8 +70,9 @@ pub(crate) fn take_all<R: Wait, T: Taker>(
             Some(made) => {
                 state = hand(taker, state, made);
                 done += 1;
+                idle.end();
             }
-            None => thread::yield_now(),
+            None => idle.wait(rt),
         }
     }
     (pass, state)
