@@ -1,6 +1,6 @@
 -- What the parts of a proof show.
-use Rattle.std.proofs.Common.{◌≡◌, ℕ, ◌+◌, ◌<◌, ◌≤◌, ◌^◌, ◌||◌, Bool, true, false, cond, List, [], length, map, get_or, Option, Some, None, refl, ap, ◌∙◌, subst, arith}
-use Rattle.std.specs.Prelude.{IfSome}
+use Rattle.std.proofs.Common.{◌≡◌, ℕ, ◌+◌, ◌<◌, ◌≤◌, ◌^◌, ◌||◌, Bool, true, false, cond, List, [], length, map, get_or, Option, Some, None, refl, sym, ap, ap₂, ◌∙◌, subst, arith}
+use Rattle.std.specs.Prelude.{IfSome, IfErr, IsErr, IsErrAnd, Result, Ok, Err}
 use Rattle.std.specs.Option.{is_some, option_map}
 use Rattle.ledger_bytes.specs.Digests.{digest}
 use Rattle.ledger_bytes.specs.declared.digest.Digest.{Digest}
@@ -9,13 +9,14 @@ use Rattle.journal_record.specs.declared.header.Header.{Header}
 use Rattle.proof_codec.specs.Claims.{mark_of}
 use Rattle.proof_codec.specs.Proofs.{ShownLower, ShownUpper, Shown, HasLower, HasUpper, HasFields, IsDigests, IsSizeIf, IsPathIf, IsProof, is_bounded, lower_len, upper_len}
 use Rattle.proof_codec.proofs.Breaks.{length-proof}
-use Rattle.ledger_model.specs.Bounds.{lower_journal, upper_journal}
+use Rattle.ledger_model.specs.Bounds.{has_bound, lower_journal, upper_journal}
 use Rattle.ledger_model.specs.History as model
 use Rattle.ledger_model.specs.History.{History, journals, leaf_digest}
 use Rattle.ledger_model.specs.Proofs.{shown_of, lower_shown, upper_shown, path_in, bound_path, entry_path}
 use Rattle.proof_maker.specs.Making.{IsMade}
 use Rattle.proof_maker.specs.declared.made.Made.{Made}
-use Rattle.proof_maker.specs.Parts.{AreDigests, IsShortBound, BoundsIf, ArePartsOf, AreShort, IsNotedOf, IsShortNoted, lower_by, upper_by, path_if, index_of, index_path, shown_by}
+use Rattle.proof_maker.specs.declared.made.MakeErr.{MakeErr}
+use Rattle.proof_maker.specs.Parts.{AreBounded, AreDigests, IsNotaryErr, IsShortBound, BoundsIf, ArePartsOf, AreShort, IsNotedOf, IsShortNoted, lower_by, upper_by, path_if, index_of, index_path, shown_by}
 use Rattle.proof_maker.specs.declared.bound.Bound.{Bound}
 use Rattle.proof_maker.specs.declared.noted.Noted.{Noted}
 use Rattle.proof_maker.specs.declared.parts.Parts.{Parts}
@@ -167,6 +168,17 @@ module _ (h : History) (es : List (List ℕ)) (size n : ℕ) (parts : Parts) (no
 
   pub shown_made : (made : Made) → IsMade (shown_by size n parts noted) made → IsMade (shown_of h es n) made
   shown_made made = subst (λ (shown : Shown). IsMade shown made) shown_same
+
+-- a bound of the parts is there exactly where the journal has one
+pub asked_of : (h : History) (n : ℕ) (parts : Parts) (lower upper : Option ℕ) → AreBounded h n parts → lower ≡ index_of parts.lower → upper ≡ index_of parts.upper → (is_some lower || is_some upper) ≡ has_bound h n
+asked_of h n parts lower upper is low high =
+    ap₂ (λ (l u : Option ℕ). is_some l || is_some u) low high
+    ∙ ap₂ (λ a b. a || b) (there_same h (lower_journal h n) parts.lower is.0) (there_same h (upper_journal h n) parts.upper is.1)
+
+-- why the notary showed nothing, where it was asked
+pub notary_err : {A : Type 0} (asked bound : Bool) (r : Result A MakeErr) (e : MakeErr) → asked ≡ bound → IsErr r × IsErrAnd r (λ f. f ≡ e) → IsNotaryErr asked e → IfErr r (IsNotaryErr bound)
+notary_err asked bound (Ok x) e same is why = tt
+notary_err asked bound (Err f) e same is why = subst (λ b. IsNotaryErr b f) same (subst (IsNotaryErr asked) (sym is.1) why)
 
 -- what is noted of the indexes that were asked for
 pub noted_of : (es : List (List ℕ)) (parts : Parts) (lower upper : Option ℕ) (noted : Noted) → lower ≡ index_of parts.lower → upper ≡ index_of parts.upper → IsNotedOf es lower upper noted

@@ -1,12 +1,16 @@
 -- Why there is no proof of a journal, and no extension.
-use Rattle.std.proofs.Common.{◌≡◌, ℕ, zero, suc, ◌<◌, ◌≤◌, false, ◌⊎◌, inl, inr, Option, Some, None, refl, sym, ap, ◌∙◌, arith}
+use Rattle.std.proofs.Common.{◌≡◌, ℕ, List, zero, suc, ◌<◌, ◌≤◌, false, ◌⊎◌, inl, inr, Option, Some, None, refl, sym, ap, ◌∙◌, arith}
+use Rattle.std.specs.Prelude.{IfOk, Result, Ok, Err}
 use Rattle.std.proofs.lemmas.Bool.{cases_lt, le-leb, lt-leb, lt-ltb, le-ltb, ne_eqb}
 use Rattle.ledger_bytes.specs.declared.refusal.Refusal.{Refusal}
 use Rattle.ledger_bytes.specs.declared.refusal.Refusal.TheVariants.{NoJournal, Purged, BadSize}
 use Rattle.ledger_model.specs.History as model
 use Rattle.ledger_model.specs.History.{History}
 use Rattle.ledger_model.specs.Proofs.{prove_refusal, size_refusal}
-use Rattle.proof_maker.specs.Making.{is_fault}
+use Rattle.proof_maker.specs.Making.{Proves, ProvesFrom, is_fault}
+use Rattle.proof_maker.specs.declared.made.Made.{Made}
+use Rattle.proof_maker.specs.declared.made.MakeErr.{MakeErr}
+use Rattle.proof_maker.specs.declared.made.MakeErr.TheVariants.{Refused, NoMemory}
 
 some_none : {A : Type 0} {x : A} → (let none : Option A = None in Some x ≡ none) → ⊥
 some_none e = cc
@@ -35,6 +39,17 @@ passes h n none = elim (cases_lt n (model.size h)) [
     | inr kept ↦ (there, kept)
   ]
 ]
+
+-- what comes of a journal's leaf and path is what comes of the journal, where nothing refuses it
+pub of_leaf : (h : History) (es : List (List ℕ)) (n : ℕ) (r : Result Made MakeErr) → prove_refusal h n ≡ None → ProvesFrom h es n r → Proves h es n r
+of_leaf h es n (Ok made) nothing is = (nothing, is)
+of_leaf h es n (Err (Refused why)) nothing is = inr (is.0, is.1, nothing)
+of_leaf h es n (Err NoMemory) nothing is = nothing
+
+-- what holds of each value that comes holds of it by what follows
+pub each_ok : {A E : Type 0} (r : Result A E) (P Q : A → Type 0) → ((x : A) → P x → Q x) → IfOk r P → IfOk r Q
+each_ok (Ok x) P Q f p = f x p
+each_ok (Err e) P Q f p = tt
 
 -- it is no failure of the notary
 pub no_fault : (why : Refusal) {x y : Refusal} → (why ≡ x) ⊎ (why ≡ y) → is_fault x ≡ false → is_fault y ≡ false → is_fault why ≡ false

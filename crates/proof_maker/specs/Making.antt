@@ -60,6 +60,13 @@ Proves h es n (Err (Refused why)) =
     (prove_refusal h n ≡ Some why) ⊎ ((why ≡ NotaryFault) × (has_bound h n ≡ true) × (prove_refusal h n ≡ None))
 Proves h es n (Err NoMemory) = prove_refusal h n ≡ None
 
+-- What comes where a proof of journal n is to be made from its leaf and path, and the notary's list is this: the proof; one with
+-- a bound may fail by the notary.
+abbrev pub ProvesFrom : History → List (List ℕ) → ℕ → Result Made MakeErr → Type 0
+ProvesFrom h es n (Ok made) = IsMade (shown_of h es n) made
+ProvesFrom h es n (Err (Refused why)) = (why ≡ NotaryFault) × (has_bound h n ≡ true)
+ProvesFrom h es n (Err NoMemory) = ⊤
+
 -- what comes where an extension of the ledger's first m journals is to be made: the extension, or why there is none
 abbrev pub Extends : History → ℕ → Result MadeExtension MakeErr → Type 0
 Extends h m (Ok made) = (extend_refusal h m ≡ None) × IsExtended h m made

@@ -4,6 +4,7 @@ use Rattle.std.specs.List.{concat}
 use Rattle.std.specs.Option.{is_some}
 use Rattle.sha2.specs.Sha256.{sha256}
 use Rattle.ledger_bytes.specs.Digests.{digest}
+use Rattle.ledger_bytes.specs.declared.digest.Digest.{Digest}
 use Rattle.ledger_bytes.specs.declared.mark.TimeMark.{TimeMark}
 use Rattle.ledger_bytes.specs.declared.refusal.Refusal.TheVariants.{NotaryFault}
 use Rattle.tree_model.specs.Extension.{proof}
@@ -78,6 +79,15 @@ path_if leaves None = []
 path_if leaves (Some mark) = path_bytes leaves mark.jsn
 
 -- ---- what is shown by the parts
+
+-- a leaf and a path are those of journal n under the root over all journals
+pub record LeadsUp (h : History) (n : ℕ) (leaf : Digest) (path : List ℕ) : Type 0 where
+  pub leaf_is : leaf ≡ digest (get_or (map leaf_digest (journals h)) n [])
+  pub path_is : path ≡ path_in h n
+
+-- the bounds of the parts are those of journal n
+abbrev pub AreBounded : History → ℕ → Parts → Type 0
+AreBounded h n parts = BoundsIf h (lower_journal h n) parts.lower × BoundsIf h (upper_journal h n) parts.upper
 
 -- the parts that were made are those of the proof of journal n
 pub record ArePartsOf (h : History) (n : ℕ) (parts : Parts) : Type 0 where

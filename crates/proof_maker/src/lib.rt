@@ -16,4 +16,4 @@ mod spelling;
 pub use extending::{extend, extend_ledger, extend_notary};
 pub use laws::{earlier_heads_lead_on, written_proofs_are_accepted};
 pub use made::{Made, MadeExtension, MakeErr};
-pub use proving::prove;
+pub use proving::{prove, prove_from};
