@@ -1,0 +1,2 @@
+pub mod Lineages
+pub mod Reading
