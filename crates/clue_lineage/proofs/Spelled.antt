@@ -368,3 +368,7 @@ module _ (bytes : List ℕ) (start : Unread) (begins : start ≡ left_from (leng
 
 abbrev pub read_so : Lineage → Result Lineage Bad
 read_so l = Ok l
+
+-- journals that are seen are as many as are left
+pub items_counted : (n : ℕ) (bytes : List ℕ) (items : List Item) → items_in n bytes ≡ items → HasItems n bytes → n ≡ length items
+items_counted n bytes items seen h = sym h.count ∙ ap length (sym (items_in_is n bytes h) ∙ seen)

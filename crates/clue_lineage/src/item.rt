@@ -1,6 +1,6 @@
 //! The journals of a lineage, gone over without a copy.
 
-ghost use Rattle.std.specs.Prelude.{◌≡◌};
+ghost use Rattle.std.specs.Prelude.{◌≡◌, ◌<◌, ◌^◌, length};
 ghost use Rattle.clue_lineage.specs.Reading.{TakesFirst};
 
 use crate::reading::take_item;
@@ -45,12 +45,20 @@ impl<'a> Model for Items<'a> {
 impl<'a> Items<'a> {
     /// The same journals from the first on.
     pub(crate) fn again(&self) -> Items<'a>
-        ensures { result ≡ self.now }
+        ensures same { result ≡ self.now }
+        ensures few { length self.now < 2 ^ 16 }
     {
         Items {
             bytes: self.bytes,
             left: self.left,
         }
+    }
+
+    /// How many journals there are.
+    pub(crate) fn count(&self) -> u16
+        ensures { result ≡ length self.now }
+    {
+        self.left
     }
 
     /// The next journal, where there is one.

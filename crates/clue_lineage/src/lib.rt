@@ -1,6 +1,11 @@
-//! Lineages: runs of journals of one clue, which an auditor checks under one head of the ledger, without the ledger.
+//! Lineages: runs of records of one clue, which an auditor checks under one head of the ledger, without the ledger.
 #![tactic(auto)]
 
+mod acceptance;
+mod answer;
 mod item;
 mod lineage;
 mod reading;
+
+pub use acceptance::accept_lineage;
+pub use answer::{LineageErr, LineageNo, LineageVerdict, Run};

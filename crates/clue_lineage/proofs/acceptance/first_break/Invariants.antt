@@ -1,0 +1,9 @@
+use Rattle.std.proofs.Common.{◌≡◌, ◌+◌, length}
+use Rattle.clue_lineage.specs.Accepting.{first_break_behind, first_break}
+use Rattle.clue_lineage.proofs.acceptance.first_break.Given as goal
+
+abbrev pub invariant-loop-item : goal.invariant-loop-item
+invariant-loop-item l = record { so_far : first_break_behind l.before l.at l.rest ≡ first_break l.items; number : l.at + length l.rest ≡ length l.items }
+
+abbrev pub decreases-loop-item : goal.decreases-loop-item
+decreases-loop-item l = length l.rest
