@@ -1,3 +1,4 @@
 pub mod Spelled
 pub mod Passing
 pub mod Accepted
+pub mod Judged

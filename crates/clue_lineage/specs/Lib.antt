@@ -1,3 +1,4 @@
 pub mod Lineages
 pub mod Reading
 pub mod Accepting
+pub mod Judging

@@ -4,8 +4,10 @@
 mod acceptance;
 mod answer;
 mod item;
+mod judgement;
 mod lineage;
 mod reading;
 
 pub use acceptance::accept_lineage;
 pub use answer::{LineageErr, LineageNo, LineageVerdict, Run};
+pub use judgement::judge_lineage;
