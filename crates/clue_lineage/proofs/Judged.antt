@@ -92,7 +92,7 @@ module _ (hash : Hash) (list : List (List ℕ)) where
       tells (item ∷ more) gives =
           placed_leads_on hash makes list (headers.spelling item.header) item.header.jsn item.path gives.0 (AllByRecursion (IsOf list) (item ∷ more)) (parts_of hash list more)
           (λ same. with_first item more (record { within = item_within item gives.0; stands = sym same }) (tells more gives.1)) where
-        with_first : (item : Item) (more : List Item) → IsOf list item → AllByRecursion (IsOf list) more ⊎ Clashes hash (first_of_parts (parts_of hash list more))
-            → AllByRecursion (IsOf list) (item ∷ more) ⊎ Clashes hash (first_of_parts (parts_of hash list more))
-        with_first item more first (inl rest) = inl (first, rest)
-        with_first item more first (inr clashes) = inr clashes
+            with_first : (item : Item) (more : List Item) → IsOf list item → AllByRecursion (IsOf list) more ⊎ Clashes hash (first_of_parts (parts_of hash list more))
+                → AllByRecursion (IsOf list) (item ∷ more) ⊎ Clashes hash (first_of_parts (parts_of hash list more))
+            with_first item more first (inl rest) = inl (first, rest)
+            with_first item more first (inr clashes) = inr clashes

@@ -2,3 +2,5 @@ pub mod Spelled
 pub mod Passing
 pub mod Accepted
 pub mod Judged
+pub mod Chains
+pub mod Made

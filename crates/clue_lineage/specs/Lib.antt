@@ -2,3 +2,4 @@ pub mod Lineages
 pub mod Reading
 pub mod Accepting
 pub mod Judging
+pub mod Making

@@ -10,7 +10,7 @@ ghost use Rattle.clue_lineage.specs.Accepting as accepting;
 ghost use Rattle.clue_lineage.specs.Accepting.{acceptance_under, acceptance, IsAccepted, leads};
 
 use crate::item::{Item, Items};
-use crate::lineage::Lineage;
+use crate::layout::Lineage;
 use crate::{LineageNo, Run};
 use journal_record::{Header, Kind};
 use ledger_bytes::{Bad, Digest, TreeHash};

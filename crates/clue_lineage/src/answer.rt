@@ -3,6 +3,7 @@
 ghost use Rattle.std.specs.Prelude.{◌≡◌};
 
 use ledger_bytes::NoMemory;
+use merkle_batch::TreeErr;
 use merkle_tree::Clash;
 use thiserror::Error;
 
@@ -66,6 +67,20 @@ impl From<NoMemory> for LineageErr {
 
     fn from(_: NoMemory) -> Self {
         LineageErr::NoMemory
+    }
+}
+
+// A book that serves a history has the leaf of each journal that is kept, so that only memory can be wanting.
+impl From<TreeErr> for LineageErr {
+    ghost use Rattle.clue_lineage.specs.Making.{of_tree};
+
+    ghost from_gives = { λ from e. e ≡ of_tree from };
+
+    fn from(from: TreeErr) -> Self {
+        match from {
+            TreeErr::Below { .. } | TreeErr::Beyond { .. } => LineageErr::NoLineage,
+            TreeErr::NoMemory => LineageErr::NoMemory,
+        }
     }
 }
 

@@ -9,7 +9,7 @@ ghost use Rattle.clue_lineage.specs.Judging.{Judges, JudgesRead, Gives, item_par
 
 use crate::acceptance::{accept_under, break_of};
 use crate::item::{Item, Items};
-use crate::lineage::Lineage;
+use crate::layout::Lineage;
 use crate::{LineageNo, LineageVerdict};
 use audit_core::placed_differs;
 use journal_record::HEADER_LEN;

@@ -5,9 +5,11 @@ mod acceptance;
 mod answer;
 mod item;
 mod judgement;
-mod lineage;
+mod layout;
+mod making;
 mod reading;
 
 pub use acceptance::accept_lineage;
 pub use answer::{LineageErr, LineageNo, LineageVerdict, Run};
 pub use judgement::judge_lineage;
+pub use making::lineage;

@@ -2,7 +2,7 @@ use Rattle.std.proofs.Common.{rules, ◌≡◌, ℕ, List, Ok, sym, ap, subst, �
 use Rattle.clue_lineage.specs.Lineages.{Item, Lineage}
 use Rattle.clue_lineage.specs.Reading.{HasItems, items_in, lineage_of}
 use Rattle.clue_lineage.proofs.Spelled.{broken_front, broken_items, broken_end, whole_read, front_within, has_items, items_kept, read_so}
-use Rattle.clue_lineage.proofs.lineage.Lineage.decode.Goals as goal
+use Rattle.clue_lineage.proofs.layout.Lineage.decode.Goals as goal
 
 pub returns-in_err-size : goal.returns-in_err-size
 returns-in_err-size c =
