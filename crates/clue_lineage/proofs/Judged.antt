@@ -5,6 +5,7 @@ use Rattle.std.specs.Result.{is_ok}
 use Rattle.std.specs.List.{AllByRecursion}
 use Rattle.std.specs.Str.{bytes_eq}
 use Rattle.std.proofs.lemmas.List.{get_or-map}
+use Rattle.ledger_bytes.specs.Digests.{digest}
 use Rattle.ledger_bytes.specs.declared.digest.Digest.{Digest}
 use Rattle.ledger_bytes.specs.declared.failure.Bad.{Bad}
 use Rattle.journal_record.specs.Header as headers
@@ -96,3 +97,18 @@ module _ (hash : Hash) (list : List (List ℕ)) where
                 → AllByRecursion (IsOf list) (item ∷ more) ⊎ Clashes hash (first_of_parts (parts_of hash list more))
             with_first item more first (inl rest) = inl (first, rest)
             with_first item more first (inr clashes) = inr clashes
+
+head_same : (hash : Hash) (list : List (List ℕ)) (head : Head) → length list ≡ head.size → mth hash list ≡ head.root.0 → head ≡ own_head hash list
+head_same hash list head size root =
+    let made : ℕ → List ℕ → Head = λ n bytes. record { size = n; root = digest bytes } in
+    ap (λ n. made n head.root.0) (sym size) ∙ ap (made (length list)) (sym root)
+
+pub accepted_true : (hash : Hash) → Makes hash → (bytes : List ℕ) (clue : Digest) (head : Head) (run : Run) (list : List (List ℕ)) → acceptance hash bytes clue head ≡ Ok run → length list ≡ head.size → mth hash list ≡ head.root.0
+    → IsTrueOf list bytes ⊎ Clashes hash (clash_of hash list bytes)
+unfolding acceptance IsTrueOf clash_of
+accepted_true hash makes bytes clue head run list e size root = by (lineage_of bytes) refl where
+  by : (read : Result Lineage Bad) → lineage_of bytes ≡ read → AreOf list read ⊎ Clashes hash (clash_in hash list read)
+  by (Err bad) is = absurd (let never : Err (Malformed (break_of bad)) ≡ Ok run = ap (acceptance_of hash clue head) (sym is) ∙ e in cc)
+  by (Ok l) is =
+      let own : acceptance_under hash clue (own_head hash list) l ≡ Ok run = ap (λ (h : Head). acceptance_under hash clue h l) (sym (head_same hash list head size root)) ∙ ap (acceptance_of hash clue head) (sym is) ∙ e in
+      tells hash list bytes clue makes l.items (gives_of hash list clue l run own)

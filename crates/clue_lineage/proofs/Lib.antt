@@ -4,3 +4,5 @@ pub mod Accepted
 pub mod Judged
 pub mod Chains
 pub mod Made
+pub mod Running
+pub mod Ruling

@@ -3,3 +3,4 @@ pub mod Reading
 pub mod Accepting
 pub mod Judging
 pub mod Making
+pub mod Runs
