@@ -12,7 +12,7 @@ use Rattle.clap.specs.Takes.{is_given}
 use Rattle.clap.specs.Walk.{Held, Names, Row, Rule, Text, first_of, nothing_held, rows_after, settled, stop_after, walk, walk_from}
 use Rattle.clap.specs.declared.error.kind.ErrorKind.{ErrorKind}
 use Rattle.clap.specs.declared.error.kind.ErrorKind.TheVariants.{OutOfMemory}
-use Rattle.audit_words.specs.Words.{Asked, asked_by, asked_from, audit_app, bare_app, dump_app, dump_of, found_by, found_in, fault_by}
+use Rattle.audit_words.specs.Words.{Asked, asked_by, asked_from, audit_app, bare_app, dump_app, lineage_app, dump_of, lineage_of, found_by, found_in, fault_by}
 use Rattle.audit_words.proofs.RowLaws.{AreFilled, given_is_found, rows_are_filled}
 
 -- the second of two that give no fault gives none
@@ -61,6 +61,12 @@ some_dump (Some a) (Some b) None d e p q r s t = absurd cc
 some_dump (Some a) (Some b) (Some c) None e p q r s t = absurd cc
 some_dump (Some a) (Some b) (Some c) (Some d) None p q r s t = absurd cc
 
+some_lineage : (a b c : Option Text) → is_some a ≡ true → is_some b ≡ true → is_some c ≡ true → is_some (lineage_of a b c) ≡ true
+some_lineage (Some a) (Some b) (Some c) p q r = refl
+some_lineage None b c p q r = absurd cc
+some_lineage (Some a) None c p q r = absurd cc
+some_lineage (Some a) (Some b) None p q r = absurd cc
+
 -- a first argument that is missing is a fault
 argument_given : (given rest : Bool) → (not given || rest) ≡ false → (given ≡ true) × (rest ≡ false)
 argument_given given rest e = let parts = or_parts (not given) rest e in (not-false given parts.0, parts.1)
@@ -83,6 +89,21 @@ dump_found words none =
     (given_is_found (codes "ID") rows filled id.0) (given_is_found (codes "SIZE") rows filled size.0) (given_is_found (codes "ROOT") rows filled root.0)
     (given_is_found (codes "NSIZE") rows filled notary_size.0) (given_is_found (codes "NROOT") rows filled notary_root.0)
 
+-- `lineage`, as building makes it
+abbrev lineage_built : Shape
+lineage_built = built_leaf (inherited bare_app.top lineage_app.top)
+
+-- a walk behind `lineage` that gives no fault finds its three words
+lineage_found : (words : List Text) → level_fault lineage_built [] nothing_held words false [] ≡ [] → is_some (found_in (codes "lineage", rows_after lineage_built.rules [] words)) ≡ true
+lineage_found words none =
+    let rows : List Row = rows_after lineage_built.rules [] words in
+    let filled : AreFilled rows = rows_are_filled lineage_built.rules (λ name. refl) (λ x. refl) [] words in
+    let name = argument_given (is_given (codes "NAME") rows) _ (check_parts lineage_built rows false (level_checks lineage_built [] words false [] none).1).1 in
+    let size = argument_given (is_given (codes "SIZE") rows) _ name.1 in
+    let root = argument_given (is_given (codes "ROOT") rows) false size.1 in
+    some_lineage (first_of (codes "NAME") rows) (first_of (codes "SIZE") rows) (first_of (codes "ROOT") rows)
+    (given_is_found (codes "NAME") rows filled name.0) (given_is_found (codes "SIZE") rows filled size.0) (given_is_found (codes "ROOT") rows filled root.0)
+
 -- a subcommand that is met, and gives no fault, asks for something
 met_found : (name : Text) (words : List Text) → entered_fault (built audit_app) (Some (name, words)) ≡ [] → is_some (entered (built audit_app) (Some (name, words))) ≡ true
     → is_some (option_and_then found_in (entered (built audit_app) (Some (name, words)))) ≡ true
@@ -90,7 +111,10 @@ met_found name words none met = elim (cases_Bool (bytes_eq (codes "script") name
   | inl is ↦ rw is refl
   | inr isnt ↦ elim (cases_Bool (bytes_eq (codes "dump") name)) [
     | inl is ↦ rw (isnt, is) (dump_found words (rw (isnt, is) at none))
-    | inr other ↦ absurd (let bad : false ≡ true = rw (isnt, other) at met in cc)
+    | inr other ↦ elim (cases_Bool (bytes_eq (codes "lineage") name)) [
+      | inl is ↦ rw (isnt, other, is) (lineage_found words (rw (isnt, other, is) at none))
+      | inr neither ↦ absurd (let bad : false ≡ true = rw (isnt, other, neither) at met in cc)
+    ]
   ]
 ]
 

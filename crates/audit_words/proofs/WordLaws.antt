@@ -14,7 +14,7 @@ use Rattle.clap.specs.declared.parser.matches.SubCommand.{SubCommand}
 use Rattle.clap.specs.declared.parser.matches.ArgMatches.TheViews.{out-SubCommand}
 use Rattle.clap.proofs.WalkLemmas.{first_value-rows}
 use Rattle.clap.proofs.OnLiterals.{clap_on_literals}
-use Rattle.audit_words.specs.Words.{Asked, asked_by, asked_from, found_by, found_in, dump_of, fault_by, script, dump, is_plain_word}
+use Rattle.audit_words.specs.Words.{Asked, asked_by, asked_from, found_by, found_in, dump_of, lineage_of, fault_by, script, dump, lineage, is_plain_word}
 
 -- where there is no fault, what was found is asked for
 pub asked_is : (kinds : Kinds) (found : Option Asked) → kinds ≡ [] → asked_from kinds found ≡ found
@@ -54,6 +54,19 @@ module _ (a b c d e : Text) (a1 : strip_byte 45 a ≡ None) (b1 : strip_byte 45 
   pub dump_asked : asked_by (codes "dump" ∷ a ∷ b ∷ c ∷ d ∷ e ∷ []) ≡ Some (dump a b c d e)
   dump_asked = asked_is _ _ dump_fault ∙ dump_found
 
+module _ (a b c : Text) (a1 : strip_byte 45 a ≡ None) (b1 : strip_byte 45 b ≡ None) (c1 : strip_byte 45 c ≡ None)
+    (a2 : bytes_eq a (45 ∷ 45 ∷ []) ≡ false) (b2 : bytes_eq b (45 ∷ 45 ∷ []) ≡ false) (c2 : bytes_eq c (45 ∷ 45 ∷ []) ≡ false) where
+  lineage_found : found_by (codes "lineage" ∷ a ∷ b ∷ c ∷ []) ≡ Some (lineage a b c)
+  unfolding clap_on_literals
+  lineage_found = rw (a2, a1, a1, b2, b1, b1, c2, c1, c1) refl
+
+  lineage_fault : fault_by (codes "lineage" ∷ a ∷ b ∷ c ∷ []) ≡ []
+  unfolding clap_on_literals
+  lineage_fault = rw (a2, a1, a1, b2, b1, b1, c2, c1, c1) refl
+
+  pub lineage_asked : asked_by (codes "lineage" ∷ a ∷ b ∷ c ∷ []) ≡ Some (lineage a b c)
+  lineage_asked = asked_is _ _ lineage_fault ∙ lineage_found
+
 -- a subcommand that was met, from its name and its rows
 pub met_is : (o : Option (Text × List Row)) (name : Text) (rows : List Row) → option_map (λ p. p.0) o ≡ Some name → option_map (λ p. p.1) o ≡ Some rows → o ≡ Some (name, rows)
 met_is None name rows e f = absurd cc
@@ -65,7 +78,12 @@ name_met None = refl
 name_met (Some b) = refl
 
 -- a dump's five words by the rows
-pub asked_dump : (f : Found) (name : Text) → bytes_eq name (codes "script") ≡ false
+pub asked_dump : (f : Found) (name : Text) → bytes_eq name (codes "script") ≡ false → bytes_eq name (codes "dump") ≡ true
     → dump_of (first_value f (codes "ID")) (first_value f (codes "SIZE")) (first_value f (codes "ROOT")) (first_value f (codes "NSIZE")) (first_value f (codes "NROOT")) ≡ found_in (name, rows_of f)
-asked_dump f name other =
-    rw (other, first_value-rows f (codes "ID"), first_value-rows f (codes "SIZE"), first_value-rows f (codes "ROOT"), first_value-rows f (codes "NSIZE"), first_value-rows f (codes "NROOT")) refl
+asked_dump f name other is =
+    rw (other, is, first_value-rows f (codes "ID"), first_value-rows f (codes "SIZE"), first_value-rows f (codes "ROOT"), first_value-rows f (codes "NSIZE"), first_value-rows f (codes "NROOT")) refl
+
+-- a lineage's three words by the rows
+pub asked_lineage : (f : Found) (name : Text) → bytes_eq name (codes "script") ≡ false → bytes_eq name (codes "dump") ≡ false
+    → lineage_of (first_value f (codes "NAME")) (first_value f (codes "SIZE")) (first_value f (codes "ROOT")) ≡ found_in (name, rows_of f)
+asked_lineage f name other another = rw (other, another, first_value-rows f (codes "NAME"), first_value-rows f (codes "SIZE"), first_value-rows f (codes "ROOT")) refl

@@ -9,8 +9,8 @@ ghost use Rattle.clap.specs.Matches.{found_of, first_value};
 ghost use Rattle.clap.specs.Simple.{app_of, with_rule, subcommand_rows_of};
 ghost use Rattle.clap.specs.declared.builder.command.Command.TheViews.{out-Command};
 ghost use Rattle.audit_words.specs.Words as spec;
-ghost use Rattle.audit_words.specs.Words.{audit_app, bare_app, dump_app, dump_of, asked_by, found_in, fault_by, told};
-ghost use Rattle.audit_words.specs.Words.{script, dump, is_plain_word};
+ghost use Rattle.audit_words.specs.Words.{audit_app, bare_app, dump_app, lineage_app, dump_of, lineage_of, asked_by, found_in, fault_by, told};
+ghost use Rattle.audit_words.specs.Words.{script, dump, lineage, is_plain_word};
 
 use clap::error::ErrorKind;
 use clap::{Arg, ArgMatches, Command, Error};
@@ -28,6 +28,12 @@ pub enum Wanted<'a> {
         root: &'a str,
         notary_size: &'a str,
         notary_root: &'a str,
+    },
+    /// `lineage NAME SIZE ROOT`: the records of a clue are checked under a head. No word's form was looked at.
+    Lineage {
+        name: &'a str,
+        size: &'a str,
+        root: &'a str,
     },
 }
 
@@ -74,6 +80,17 @@ fn dump_command<'a>(alloc: Global) -> Result<Command<'a>, AllocError>
     with_word(alloc, command, "NROOT")
 }
 
+// The subcommand that checks a lineage.
+fn lineage_command<'a>(alloc: Global) -> Result<Command<'a>, AllocError>
+    ensures app { IfOk result (λ c. app_of c ≡ lineage_app) }
+    ensures globals { IfOk result (λ c. (out-Command c).has_globals ≡ false) }
+{
+    let command = Command::new(alloc, "lineage");
+    let command = with_word(alloc, command, "NAME")?;
+    let command = with_word(alloc, command, "SIZE")?;
+    with_word(alloc, command, "ROOT")
+}
+
 // The auditor's command, without subcommands.
 fn bare_command<'a>(alloc: Global) -> Command<'a>
     ensures app { app_of result ≡ bare_app }
@@ -91,12 +108,14 @@ fn command<'a>(alloc: Global) -> Result<Command<'a>, AllocError>
 {
     let script = Command::new(alloc, "script");
     let dump = dump_command(alloc)?;
+    let lineage = lineage_command(alloc)?;
     let command = bare_command(alloc).subcommand(script)?;
-    command.subcommand(dump)
+    let command = command.subcommand(dump)?;
+    command.subcommand(lineage)
 }
 
-/// Reads the words after the program's name: `script`, or `dump ID SIZE ROOT NSIZE NROOT`. There is no help, and no other
-/// flag. One `--` behind `script` or `dump` is passed over, and words behind it may begin with a hyphen.
+/// Reads the words after the program's name: `script`, `dump ID SIZE ROOT NSIZE NROOT`, or `lineage NAME SIZE ROOT`. There is
+/// no help, and no other flag. One `--` behind a subcommand is passed over, and words behind it may begin with a hyphen.
 pub fn read_words<'a>(alloc: Global, words: &'a [String]) -> Result<Wanted<'a>, WordsErr>
     ensures taken { IfOk result (λ wanted. asked_by (map string_bytes words.entry.now)
         ≡ Some (told wanted)) }
@@ -134,8 +153,10 @@ fn wanted_in<'a>(matches: &ArgMatches<'a>) -> Option<Wanted<'a>>
         Some((name, found)) => {
             if name == "script" {
                 Some(Wanted::Script)
-            } else {
+            } else if name == "dump" {
                 dump_in(found)
+            } else {
+                lineage_in(found)
             }
         }
         None => None,
@@ -168,7 +189,23 @@ fn dump_in<'a>(found: &ArgMatches<'a>) -> Option<Wanted<'a>>
     }
 }
 
-/// The word `script` alone is taken, and so is `dump` with five words none of which begins with a hyphen, each in its place.
+// The three words of a lineage, where they are there.
+fn lineage_in<'a>(found: &ArgMatches<'a>) -> Option<Wanted<'a>>
+    ensures { option_map told result ≡ lineage_of (first_value (found_of found.now) (codes "NAME"))
+        (first_value (found_of found.now) (codes "SIZE")) (first_value (found_of found.now) (codes "ROOT")) }
+{
+    match (
+        found.get_str("NAME"),
+        found.get_str("SIZE"),
+        found.get_str("ROOT"),
+    ) {
+        (Some(name), Some(size), Some(root)) => Some(Wanted::Lineage { name, size, root }),
+        _ => None,
+    }
+}
+
+/// The word `script` alone is taken, and so is `dump` with five words none of which begins with a hyphen, each in its place, and
+/// `lineage` with three.
 /// Words ask for nothing exactly where `clap` finds a fault in them: whatever it takes asks for something.
 pub fn words_are_read()
     ensures script { asked_by (codes "script" ∷ []) ≡ Some script }
@@ -177,5 +214,8 @@ pub fn words_are_read()
         → is_plain_word notary_root ≡ true
         → asked_by (codes "dump" ∷ id ∷ size ∷ root ∷ notary_size ∷ notary_root ∷ [])
         ≡ Some (dump id size root notary_size notary_root) }
+    ensures lineage { (name size root : Text) → is_plain_word name ≡ true → is_plain_word size ≡ true
+        → is_plain_word root ≡ true
+        → asked_by (codes "lineage" ∷ name ∷ size ∷ root ∷ []) ≡ Some (lineage name size root) }
     ensures refused { (words : List Text) → (asked_by words ≡ None) ↔ (fault_by words ≢ []) }
 {}
