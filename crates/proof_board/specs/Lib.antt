@@ -1,0 +1,9 @@
+pub mod History
+pub mod Growing
+pub mod Rule
+pub mod Bare
+pub mod Answers
+pub mod Words
+pub mod Draws
+pub mod Returning
+pub mod Hands

@@ -1,0 +1,52 @@
+//! What a prover is to do in a thread of its own, and what it hands back.
+
+use crate::board::Board;
+use crate::pass::ProverPass;
+use ledger_bytes::{Digest, NoMemory};
+use std::snapshot::Snapshot;
+use std::thread::{Promise, PromisedHandle};
+
+/// What a prover is to do: `count` proofs of leaves that `seed` determines, each checked under the ledger's `id`.
+#[derive(Clone, Copy, Debug, PartialEq, Eq)]
+pub struct Task {
+    pub id: Digest,
+    pub seed: u64,
+    pub count: u32,
+}
+
+/// What a prover did.
+#[derive(Clone, Copy, Debug, PartialEq, Eq)]
+pub struct Tally {
+    /// How many of its proofs were accepted.
+    pub accepted: u32,
+    /// The size of the tree of its last proof, or where it made none the one that it saw last.
+    pub size: u64,
+}
+
+/// What comes back from a prover: its pass, and what it did where it didn't lack memory.
+#[derive(Drop)]
+pub struct Returned {
+    pub pass: ProverPass,
+    pub tally: Result<Tally, NoMemory>,
+}
+
+/// A prover's promise: what it hands back.
+#[derive(Drop)]
+pub struct Proving {
+    pub board: Snapshot<Board>,
+    pub pass: Snapshot<ProverPass>,
+    pub count: u32,
+}
+
+impl Promise<Returned> for Proving {
+    ghost use Rattle.proof_board.specs.Returning.{Returns};
+
+    ghost kept_by = { λ p r. Returns p.board.value p.pass.value p.count r };
+}
+
+/// What a prover has handed back, or the thread that will.
+#[derive(Drop)]
+pub enum Hand {
+    Here(Returned),
+    There(PromisedHandle<Returned, Proving>),
+}

@@ -1,0 +1,27 @@
+//! A board: one writer lets a hash tree grow and publishes it, while provers make inclusion proofs on what was published. A prover
+//! reads a copy of the tree that stands still while the writer works on another, and each proof is accepted under the head that
+//! is answered with it.
+#![tactic(auto)]
+
+mod bare;
+mod board;
+mod checking;
+mod draws;
+mod hands;
+mod history;
+mod opening;
+mod pass;
+mod provers;
+mod proving;
+mod rule;
+mod shown;
+mod view;
+mod writer;
+mod writing;
+
+pub use board::{Board, BoardErr};
+pub use hands::{Hand, Returned, Tally, Task};
+pub use opening::open_board;
+pub use pass::ProverPass;
+pub use provers::start;
+pub use writer::BoardWriter;

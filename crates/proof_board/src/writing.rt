@@ -1,0 +1,136 @@
+//! What a board's writer does.
+ghost use Rattle.std.specs.Prelude.{◌≡◌, [], ◌∷◌, ◌++◌, map, IfOk, OnOk, OnErr};
+ghost use Rattle.proof_board.specs.Answers.{IsHeadOf};
+ghost use Rattle.proof_board.specs.Words.{shown_by, history_of, waiting_of, told_to, seen_by, base_in};
+
+use crate::history::{Front, are_wide};
+use crate::pass::ProverPass;
+use crate::rule::Sees;
+use crate::shown::Growing;
+use crate::writer::BoardWriter;
+use core::mem::replace_with;
+use ledger_bytes::{Digest, NoMemory};
+use merkle_tree::Head;
+use std::sync::Wait;
+
+impl BoardWriter {
+    /// Adds leaves behind those that are there, for the next publish. Provers don't see them before. Where memory is missing,
+    /// none is added.
+    pub fn add(&mut self, leaves: &[Digest]) -> Result<(), NoMemory>
+        ensures shown { shown_by self.new ≡ shown_by self.old }
+        ensures ok { OnOk result (waiting_of self.new ≡ waiting_of self.old ++ map (λ d. d.0) leaves.now) }
+        ensures err { OnErr result (waiting_of self.new ≡ waiting_of self.old) }
+    {
+        self.waiting.extend_from_slice(leaves)?;
+        Ok(())
+    }
+
+    /// Shows provers what was added, as one batch, and answers the head of the whole. It waits for provers that still read the
+    /// copy from before the last publish. Where memory is missing in its midst, what is shown and what waits are as before, and
+    /// each later publish answers `NoMemory`.
+    pub fn publish<R: Wait>(&mut self, rt: &R) -> Result<Head, NoMemory>
+        ensures ok { OnOk result ((history_of self.new ≡ history_of self.old ++ waiting_of self.old ∷ []) × (waiting_of self.new ≡ [])) }
+        ensures err { OnErr result ((history_of self.new ≡ history_of self.old) × (waiting_of self.new ≡ waiting_of self.old)) }
+        ensures same { ((shown_by self.new).base ≡ (shown_by self.old).base) × ((shown_by self.new).at.book ≡ (shown_by self.old).at.book) }
+        ensures head { IfOk result (IsHeadOf (shown_by self.new)) }
+    {
+        replace_with(self, rt, |writer, rt| writer.publishing(rt))
+    }
+
+    fn publishing<R: Wait>(self, rt: &R) -> (BoardWriter, Result<Head, NoMemory>)
+        ensures ok { OnOk result.1 ((history_of result.0 ≡ history_of self ++ waiting_of self ∷ []) × (waiting_of result.0 ≡ [])) }
+        ensures err { OnErr result.1 ((history_of result.0 ≡ history_of self) × (waiting_of result.0 ≡ waiting_of self)) }
+        ensures same { ((shown_by result.0).base ≡ (shown_by self).base) × ((shown_by result.0).at.book ≡ (shown_by self).at.book) }
+        ensures head { IfOk result.1 (IsHeadOf (shown_by result.0)) }
+    {
+        if self.stuck {
+            return (self, Err(NoMemory));
+        }
+        let BoardWriter {
+            alloc,
+            mut writer,
+            counter,
+            waiting,
+            stuck: _,
+        } = self;
+        are_wide(waiting.as_slice());
+        let mut at = writer.published().at().again();
+        if at.count() >= 1 << 62 || !at.add(&counter, &waiting) {
+            let writer = BoardWriter {
+                alloc,
+                writer,
+                counter,
+                waiting,
+                stuck: true,
+            };
+            return (writer, Err(NoMemory));
+        }
+        if let Err(growing) = writer.append(Growing {
+            leaves: waiting,
+            at,
+        }) {
+            let writer = BoardWriter {
+                alloc,
+                writer,
+                counter,
+                waiting: growing.leaves,
+                stuck: true,
+            };
+            return (writer, Err(NoMemory));
+        }
+        let (writer, done) = writer.publish_as::<Sees, R>(rt);
+        let waiting = Vec::new(alloc);
+        match done {
+            Ok(()) => {
+                let head = writer.published().head();
+                let writer = BoardWriter {
+                    alloc,
+                    writer,
+                    counter,
+                    waiting,
+                    stuck: false,
+                };
+                (writer, Ok(head))
+            }
+            Err(_) => {
+                let writer = BoardWriter {
+                    alloc,
+                    writer,
+                    counter,
+                    waiting,
+                    stuck: true,
+                };
+                (writer, Err(NoMemory))
+            }
+        }
+    }
+
+    /// Tells a prover what was published. From now on it sees no less. Nothing waits here.
+    pub fn tell(&mut self, pass: &mut ProverPass)
+        requires board { (seen_by pass.old).book ≡ (shown_by self.old).at.book }
+        ensures writer { self.new ≡ self.old }
+        ensures told { told_to pass.new ≡ (shown_by self.old).at }
+        ensures kept { (seen_by pass.new ≡ seen_by pass.old) × (base_in pass.new ≡ base_in pass.old) }
+    {
+        pass.told = self.front();
+    }
+
+    // What was published.
+    pub(crate) fn front(&self) -> Front
+        ensures { result ≡ (shown_by self.now).at }
+    {
+        self.writer.published().at().again()
+    }
+
+    // Ends it.
+    pub(crate) fn end<R: Wait>(self, rt: &R) {
+        let BoardWriter {
+            alloc: _,
+            writer,
+            counter: _,
+            waiting: _,
+            stuck: _,
+        } = self;
+        drop(writer.take(rt));
+    }
+}
