@@ -14,7 +14,7 @@ use Rattle.tree_model.specs.Tree.{root}
 use Rattle.merkle_tree.specs.declared.head.Head.{Head}
 use Rattle.proof_board.specs.declared.view.Growth.{Growth}
 use Rattle.proof_board.specs.History.{Digests, IsWide, Mark}
-use Rattle.proof_board.specs.Answers.{IsHeadOf}
+use Rattle.proof_board.specs.Answers.{IsShownHead}
 use Rattle.proof_board.specs.Bare.{IsBareOf, IsProved}
 use Rattle.proof_board.proofs.BareLaws.{bare_proved}
 use Rattle.proof_board.specs.Growing.{base_of, growth, IsListOf, kept_in, kept_of, IsHeld}
@@ -77,11 +77,11 @@ pub size_is : (tree : Levels) (ps : Digests) → IsHeld tree ps → tree.floor +
 size_is tree ps held = over_size sha256 tree tree.floor ps (kept_of tree) held.over
 
 -- the head of what a tree stands for
-pub head_is : (tree : Levels) (ps : Digests) (at : Mark) (g : Growth) (head : Head) → growth (base_of tree.floor ps) (kept_of tree) at ≡ g → IsHeld tree ps → head.size ≡ tree.size → ((ds : Digests) → StandsFor sha256 tree ds → head.root.0 ≡ root sha256 ds) → IsHeadOf g head
-head_is tree ps at g head is held size told = subst (λ (x : Growth). IsHeadOf x head) is record { size = size ∙ sym (size_is tree ps held); root_is = λ ds list. told ds (held.lists ds list) }
+pub head_is : (tree : Levels) (ps : Digests) (at : Mark) (g : Growth) (head : Head) → growth (base_of tree.floor ps) (kept_of tree) at ≡ g → IsHeld tree ps → head.size ≡ tree.size → ((ds : Digests) → StandsFor sha256 tree ds → head.root.0 ≡ root sha256 ds) → IsShownHead g head
+head_is tree ps at g head is held size told = subst (λ (x : Growth). IsShownHead x head) is record { size = size ∙ sym (size_is tree ps held); root_is = λ ds list. told ds (held.lists ds list) }
 
 -- the proof that is made of a tree is one of each list that it stands for, under its head
-pub led_by : (tree : Levels) (ps : Digests) (at : Mark) (g : Growth) (n : ℕ) (head : Head) (bytes : List ℕ) → growth (base_of tree.floor ps) (kept_of tree) at ≡ g → IsHeld tree ps → n < tree.size → IsHeadOf g head → IsBareOf tree n bytes
+pub led_by : (tree : Levels) (ps : Digests) (at : Mark) (g : Growth) (n : ℕ) (head : Head) (bytes : List ℕ) → growth (base_of tree.floor ps) (kept_of tree) at ≡ g → IsHeld tree ps → n < tree.size → IsShownHead g head → IsBareOf tree n bytes
     → (ds : Digests) → IsListOf g.base g.leaves ds → IsProved ds n head bytes
 led_by tree ps at g n head bytes is held within told made ds list =
     let here : IsListOf (base_of tree.floor ps) (kept_of tree) ds = subst (λ (x : Growth). IsListOf x.base x.leaves ds) (sym is) list in

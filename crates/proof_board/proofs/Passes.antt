@@ -6,16 +6,16 @@ use mathlib.Core.Path.{refl}
 use mathlib.Core.List.{IsPrefix}
 use Rattle.proof_board.specs.declared.pass.ProverPass.{ProverPass}
 use Rattle.proof_board.specs.Words.{seen_by, base_in}
-use Rattle.proof_board.specs.Returning.{Goes}
+use Rattle.proof_board.specs.Returning.{GoesOn}
 use Rattle.proof_board.specs.History.{Digests, IsWide, all_leaves}
 use Rattle.proof_board.specs.Growing.{IsListOf}
 use Rattle.proof_board.specs.declared.view.Base.{Base}
 use Rattle.proof_board.proofs.Fronts.{prefix_self, prefix_trans, prefix_length, leaves_begin}
 
-pub goes_self : (p : ProverPass) → Goes p p
+pub goes_self : (p : ProverPass) → GoesOn p p
 goes_self p = record { base = refl; told = refl; seen = prefix_self (seen_by p).log }
 
-pub goes_on : (p q r : ProverPass) → Goes p q → Goes q r → Goes p r
+pub goes_on : (p q r : ProverPass) → GoesOn p q → GoesOn q r → GoesOn p r
 goes_on p q r first then = record { base = then.base ∙ first.base; told = then.told ∙ first.told; seen = prefix_trans (seen_by p).log (seen_by q).log (seen_by r).log first.seen then.seen }
 
 -- a longer history has leaves, where one that begins it has
@@ -40,7 +40,7 @@ later_list base old new ds more wide list =
     )
 
 -- with a list that a pass stands for there is one that it stands for after two looks more, on the base before the last
-pub goes_list : (p q r : ProverPass) (ds : Digests) → Goes p q → Goes q r → IsListOf (base_in p) (all_leaves (seen_by p).log) ds → (es : Digests) × IsListOf (base_in q) (all_leaves (seen_by r).log) es
+pub goes_list : (p q r : ProverPass) (ds : Digests) → GoesOn p q → GoesOn q r → IsListOf (base_in p) (all_leaves (seen_by p).log) ds → (es : Digests) × IsListOf (base_in q) (all_leaves (seen_by r).log) es
 goes_list p q r ds first then list =
     let later = later_list (base_in p) (seen_by p).log (seen_by r).log ds (goes_on p q r first then).seen r.wide list in
     (later.0, subst (λ (b : Base). IsListOf b (all_leaves (seen_by r).log) later.0) (sym first.base) later.1)

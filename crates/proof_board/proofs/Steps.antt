@@ -1,5 +1,5 @@
 -- Each step keeps the rule.
-use Rattle.std.proofs.Common.{◌≡◌, ◌≢◌, ℕ, zero, suc, true, true≢false, List, [], ◌∷◌, ◌++◌, set, sym, refl, ap, ◌∙◌, subst, ⊎_elim}
+use Rattle.std.proofs.Common.{◌≡◌, ◌≢◌, ℕ, zero, suc, true, true≢false, List, [], ◌∷◌, ◌++◌, set, sym, refl, ◌∙◌, subst, ⊎_elim}
 use Rattle.std.specs.Prelude.{All}
 use mathlib.Core.Option.{some, some-ne-none, some-injective}
 use mathlib.Core.List.{IsPrefix}
@@ -69,23 +69,6 @@ pub record IsLater (v w : View) : Type 0 where
   pub base : w.base ≡ v.base
   pub book : w.at.book ≡ v.at.book
   pub log : IsPrefix v.at.log w.at.log
-
-pub later_self : (v : View) → v.aware ≡ true → IsLater v v
-later_self v aware = record { aware = aware; base = refl; book = refl; log = prefix_self v.at.log }
-
-pub later_known : (v u w : View) (y : Growth) → IsLater v u → Saw u y w → Knows v y
-later_known v u w y later saw = let k = saw.known later.aware in record { base = sym later.base ∙ k.base; book = sym later.book ∙ k.book; log = prefix_trans v.at.log u.at.log y.at.log later.log k.log }
-
-pub later_on : (v u w x : View) (y : Growth) → IsLater v u → Saw u y w → x ≡ w → IsLater v x
-later_on v u w x y later saw same = let k = later_known v u w y later saw in let is = same ∙ saw.is in record {
-  aware = ap (λ (z : View). z.aware) is;
-  base = ap (λ (z : View). z.base) is ∙ sym k.base;
-  book = ap (λ (z : View). z.at.book) is ∙ sym k.book;
-  log = subst (λ (z : View). IsPrefix v.at.log z.at.log) (sym is) k.log;
-}
-
-pub later_same : (v u x : View) → IsLater v u → x ≡ u → IsLater v x
-later_same v u x later same = subst (IsLater v) (sym same) later
 
 -- a snapshot that is published as it is
 pub stays : (port : ℕ) (v : View) (x y : Growth) → y ≡ x → TurnsAt KeepsRule port v x y (λ v x y w. Saw v y w)

@@ -12,7 +12,7 @@ use Rattle.proof_board.specs.declared.board.BoardErr.{BoardErr}
 use Rattle.proof_board.specs.declared.board.BoardErr.TheVariants as board_err
 
 -- the head of the tree over a base and leaves: their number, and the root of each list that they may be the end of
-pub record IsHeadOf (g : Growth) (head : Head) : Type 0 where
+pub record IsShownHead (g : Growth) (head : Head) : Type 0 where
   pub size : head.size ≡ g.base.floor + length g.leaves
   pub root_is : (ds : Digests) → IsListOf g.base g.leaves ds → head.root.0 ≡ root sha256 ds
 

@@ -10,7 +10,7 @@ use Rattle.proof_board.specs.declared.hands.Returned.{Returned}
 use Rattle.proof_board.specs.Words.{told_to, seen_by, base_in, size_seen, IsPassOf}
 
 -- a pass goes on: it sees the same base, was told the same, and has seen no less of the history
-pub record Goes (p q : ProverPass) : Type 0 where
+pub record GoesOn (p q : ProverPass) : Type 0 where
   pub base : base_in q ≡ base_in p
   pub told : told_to q ≡ told_to p
   pub seen : IsPrefix (seen_by p).log (seen_by q).log
@@ -25,5 +25,5 @@ pub record IsTallyOf (p q : ProverPass) (count : ℕ) (tally : Tally) : Type 0 w
 -- memory
 pub record Returns (b : Board) (p : ProverPass) (count : ℕ) (r : Returned) : Type 0 where
   pub board : IsPassOf b r.pass
-  pub goes : Goes p r.pass
+  pub goes : GoesOn p r.pass
   pub tally : IfOk r.tally (IsTallyOf p r.pass count)

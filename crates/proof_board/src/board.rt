@@ -67,7 +67,8 @@ impl Board {
         n: u64,
     ) -> Result<(Head, Bytes), BoardErr>
         requires pass { IsPassOf self.now pass.old }
-        ensures pass { IsPassOf self.now pass.new × (base_in pass.new ≡ base_in pass.old) × (told_to pass.new ≡ told_to pass.old) }
+        ensures pass { IsPassOf self.now pass.new × (base_in pass.new ≡ base_in pass.old)
+            × (told_to pass.new ≡ told_to pass.old) }
         ensures seen { IsPrefix (seen_by pass.old).log (seen_by pass.new).log }
         ensures told { IsPrefix (told_to pass.old).log (seen_by pass.new).log }
         ensures answer { Answers (base_in pass.old) (seen_by pass.new).log n result }

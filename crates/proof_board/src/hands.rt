@@ -1,8 +1,12 @@
 //! What a prover is to do in a thread of its own, and what it hands back.
 
+ghost use Rattle.std.specs.Prelude.{IfOk};
+ghost use Rattle.proof_board.specs.Hands.{HasRoom};
+
 use crate::board::Board;
 use crate::pass::ProverPass;
 use ledger_bytes::{Digest, NoMemory};
+use std::alloc::Global;
 use std::snapshot::Snapshot;
 use std::thread::{Promise, PromisedHandle};
 
@@ -11,6 +15,13 @@ use std::thread::{Promise, PromisedHandle};
 pub struct Task {
     pub id: Digest,
     pub seed: u64,
+    pub count: u32,
+}
+
+/// What provers side by side are to do: `count` proofs each, checked under the ledger's `id`.
+#[derive(Clone, Copy, Debug, PartialEq, Eq)]
+pub struct Orders {
+    pub id: Digest,
     pub count: u32,
 }
 
@@ -49,4 +60,23 @@ impl Promise<Returned> for Proving {
 pub enum Hand {
     Here(Returned),
     There(PromisedHandle<Returned, Proving>),
+}
+
+/// Room for the hands of provers, and for what they hand back.
+#[derive(Drop)]
+pub struct Room {
+    pub(crate) hands: Vec<Hand>,
+    pub(crate) done: Vec<Returned>,
+}
+
+impl Room {
+    /// Room for so many provers.
+    pub fn new(alloc: Global, provers: usize) -> Result<Room, NoMemory>
+        ensures { IfOk result (HasRoom provers) }
+    {
+        Ok(Room {
+            hands: Vec::with_capacity(alloc, provers)?,
+            done: Vec::with_capacity(alloc, provers)?,
+        })
+    }
 }

@@ -111,7 +111,8 @@ impl Front {
     /// Whether the other has as many batches; then it begins with these.
     pub fn begins(&self, other: &Front) -> bool
         requires same { other.now.book ≡ self.now.book }
-        ensures { MatchBool result (IsPrefix self.now.log other.now.log) (length other.now.log < length self.now.log) }
+        ensures { MatchBool result (IsPrefix self.now.log other.now.log)
+            (length other.now.log < length self.now.log) }
     {
         let mut both = self.seen.again();
         both.learn(&other.seen);
@@ -123,7 +124,8 @@ impl Front {
         requires head { head.now ≡ head_of self.old.book }
         requires room { length self.old.log < 2 ^ 62 }
         ensures book { self.new.book ≡ self.old.book }
-        ensures log { MatchBool result (self.new.log ≡ self.old.log ++ map (λ d. d.0) batch.now.items ∷ []) (IsPrefix self.old.log self.new.log) }
+        ensures log { MatchBool result (self.new.log ≡ self.old.log ++ map (λ d. d.0) batch.now.items ∷ [])
+            (IsPrefix self.old.log self.new.log) }
     {
         let mut offer: Offer<Batch, u64, ByLength, NoGain> = self
             .seen

@@ -4,6 +4,7 @@
 #![tactic(auto)]
 
 mod bare;
+mod beside;
 mod board;
 mod checking;
 mod draws;
@@ -19,8 +20,9 @@ mod view;
 mod writer;
 mod writing;
 
+pub use beside::{Session, prove_beside};
 pub use board::{Board, BoardErr};
-pub use hands::{Hand, Returned, Tally, Task};
+pub use hands::{Hand, Orders, Returned, Room, Tally, Task};
 pub use opening::open_board;
 pub use pass::ProverPass;
 pub use provers::start;

@@ -24,13 +24,15 @@ use std::sync::Wait;
 
 // A prover's pass, which has seen what is published.
 fn split(writer: &mut Writer<Shown, Growing, View, Grows>) -> Result<ProverPass, NoMemory>
-    requires aware { view writer.old.desk.place ≡ aware_of writer.old.desk.shown.value.base writer.old.desk.shown.value.at }
+    requires aware { view writer.old.desk.place
+        ≡ aware_of writer.old.desk.shown.value.base writer.old.desk.shown.value.at }
     requires whole { writer.old.desk.shown.value.leaves ≡ all_leaves writer.old.desk.shown.value.at.log }
     requires some { 0 < length (all_leaves writer.old.desk.shown.value.at.log) }
     requires wide { All IsWide (all_leaves writer.old.desk.shown.value.at.log) }
-    ensures same { (writer.new.desk.shown.value ≡ writer.old.desk.shown.value) × (view writer.new.desk.place ≡ view writer.old.desk.place) }
+    ensures same { (writer.new.desk.shown.value ≡ writer.old.desk.shown.value)
+        × (view writer.new.desk.place ≡ view writer.old.desk.place) }
     ensures log { drop writer.new.behind writer.new.log.items ≡ drop writer.old.behind writer.old.log.items }
-    ensures pass { IfOk result (λ p. (seen_by p ≡ writer.old.desk.shown.value.at) × (told_to p ≡ writer.old.desk.shown.value.at) × (base_in p ≡ writer.old.desk.shown.value.base)) }
+    ensures pass { IfOk result (IsNew writer.old.desk.shown.value) }
 {
     let mut reader = writer.factory().reader()?;
     let (floor, size) = (writer.published().floor(), writer.published().size());
@@ -96,7 +98,8 @@ fn split_all(
     writer: &mut Writer<Shown, Growing, View, Grows>,
     provers: u8,
 ) -> Result<Vec<ProverPass>, NoMemory>
-    requires aware { view writer.old.desk.place ≡ aware_of writer.old.desk.shown.value.base writer.old.desk.shown.value.at }
+    requires aware { view writer.old.desk.place
+        ≡ aware_of writer.old.desk.shown.value.base writer.old.desk.shown.value.at }
     requires whole { writer.old.desk.shown.value.leaves ≡ all_leaves writer.old.desk.shown.value.at.log }
     requires some { 0 < length (all_leaves writer.old.desk.shown.value.at.log) }
     requires wide { All IsWide (all_leaves writer.old.desk.shown.value.at.log) }
@@ -128,7 +131,8 @@ pub fn open_board<R: Wait>(
     ensures lists { IfOk result (λ r. (ds : List (List ℕ)) → StandsFor sha256 tree.now ds → All IsWide ds
         → IsListOf (shown_by r.1).base (all_leaves (history_of r.1)) ds) }
     ensures floor { IfOk result (λ r. (shown_by r.1).base.floor ≡ tree.now.floor) }
-    ensures writer { IfOk result (λ r. IsWriterOf r.0 r.1 × (waiting_of r.1 ≡ []) × (length (history_of r.1) ≡ 1)) }
+    ensures writer { IfOk result (λ r. IsWriterOf r.0 r.1 × (waiting_of r.1 ≡ [])
+        × (length (history_of r.1) ≡ 1)) }
     ensures len { IfOk result (λ r. vec_len r.2 ≡ provers) }
     ensures passes { IfOk result (λ r. All (λ p. IsPassOf r.0 p × IsNew (shown_by r.1) p) r.2.items) }
 {

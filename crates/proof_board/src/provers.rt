@@ -5,7 +5,7 @@ ghost use Rattle.ledger_disk.specs.Generator.{next_draw};
 ghost use Rattle.proof_board.specs.History.{Digests, all_leaves};
 ghost use Rattle.proof_board.specs.Growing.{IsListOf};
 ghost use Rattle.proof_board.specs.Words.{IsPassOf, base_in, seen_by};
-ghost use Rattle.proof_board.specs.Returning.{Goes, Returns};
+ghost use Rattle.proof_board.specs.Returning.{GoesOn, Returns};
 ghost use Rattle.proof_board.specs.Hands.{Promised};
 ghost use Rattle.proof_board.specs.declared.board.Board.{Board};
 ghost use Rattle.proof_board.specs.declared.pass.ProverPass.{ProverPass};
@@ -30,10 +30,10 @@ fn prove_drawn<R: Wait>(
     trusted: &mut Option<Trusted>,
 ) -> Result<bool, NoMemory>
     requires { IsPassOf board.now pass.old }
-    ensures pass { IsPassOf board.now pass.new × Goes pass.old pass.new }
+    ensures pass { IsPassOf board.now pass.new × GoesOn pass.old pass.new }
     ensures draws { draws.new.state ≡ next_draw draws.old.state }
-    ensures yes { IfOk result (λ yes. (ds : Digests) → IsListOf (base_in pass.old) (all_leaves (seen_by pass.new).log) ds
-        → IsTrue yes) }
+    ensures yes { IfOk result (λ yes. (ds : Digests)
+        → IsListOf (base_in pass.old) (all_leaves (seen_by pass.new).log) ds → IsTrue yes) }
 {
     let n = draws.between(pass.floor(), pass.seen());
     let (head, bytes) = match board.prove(rt, pass, n) {

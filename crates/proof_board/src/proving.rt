@@ -74,7 +74,8 @@ impl ProverPass {
         alloc: Global,
         n: u64,
     ) -> (ProverPass, Result<(Head, Bytes), BoardErr>)
-        ensures same { (base_in result.0 ≡ base_in self) × ((seen_by result.0).book ≡ (seen_by self).book) × (told_to result.0 ≡ told_to self) }
+        ensures same { (base_in result.0 ≡ base_in self) × ((seen_by result.0).book ≡ (seen_by self).book)
+            × (told_to result.0 ≡ told_to self) }
         ensures seen { IsPrefix (seen_by self).log (seen_by result.0).log }
         ensures told { IsPrefix (told_to self).log (seen_by result.0).log }
         ensures answer { Answers (base_in self) (seen_by result.0).log n result.1 }

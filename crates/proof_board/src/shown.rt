@@ -2,7 +2,7 @@
 
 ghost use Rattle.std.specs.Prelude.{◌≡◌, ◌≤◌, ◌<◌, ◌+◌, ◌^◌, ◌++◌, [], length, map, count_ones, IfOk, OnOk, OnErr};
 ghost use Rattle.proof_board.specs.Growing.{growth, base_of};
-ghost use Rattle.proof_board.specs.Answers.{IsHeadOf, AnswersOver};
+ghost use Rattle.proof_board.specs.Answers.{IsShownHead, AnswersOver};
 
 use crate::bare::bare;
 use crate::board::BoardErr;
@@ -53,7 +53,8 @@ impl Shown {
     ) -> Result<Shown, NoMemory>
         requires ones { length peaks.now ≡ count_ones floor }
         requires small { floor + length leaves.now < 2 ^ 63 }
-        ensures { IfOk result (λ s. s ≡ growth (base_of floor (map (λ d. d.0) peaks.now)) (map (λ d. d.0) leaves.now) at) }
+        ensures { IfOk result (λ s. s
+            ≡ growth (base_of floor (map (λ d. d.0) peaks.now)) (map (λ d. d.0) leaves.now) at) }
     {
         let mut tree = Tree::<Sha>::from_peaks(alloc, floor, peaks)?;
         tree.reserve(leaves.len())?;
@@ -89,7 +90,7 @@ impl Shown {
 
     /// The head of the tree.
     pub fn head(&self) -> Head
-        ensures { IsHeadOf self.now result }
+        ensures { IsShownHead self.now result }
     {
         Head {
             size: self.tree.size(),
@@ -120,7 +121,8 @@ impl Shown {
 
     // Adds leaves, where there is room for them.
     fn grow(&mut self, leaves: &[Digest], at: Front) -> Result<(), AllocError>
-        ensures ok { OnOk result (self.new ≡ growth self.old.base (self.old.leaves ++ map (λ d. d.0) leaves.now) at) }
+        ensures ok { OnOk result (self.new
+            ≡ growth self.old.base (self.old.leaves ++ map (λ d. d.0) leaves.now) at) }
         ensures err { OnErr result (self.new ≡ self.old) }
     {
         if self.tree.size() >= 1 << 62 || leaves.len() >= 1 << 62 {

@@ -1,17 +1,42 @@
 //! What a board's writer does.
 ghost use Rattle.std.specs.Prelude.{◌≡◌, [], ◌∷◌, ◌++◌, map, IfOk, OnOk, OnErr};
-ghost use Rattle.proof_board.specs.Answers.{IsHeadOf};
+ghost use Rattle.proof_board.specs.History.{head_of, all_leaves};
+ghost use Rattle.proof_board.specs.Answers.{IsShownHead};
 ghost use Rattle.proof_board.specs.Words.{shown_by, history_of, waiting_of, told_to, seen_by, base_in};
 
-use crate::history::{Front, are_wide};
+use crate::history::{Counter, Front, are_wide};
 use crate::pass::ProverPass;
-use crate::rule::Sees;
-use crate::shown::Growing;
+use crate::rule::{Grows, Sees};
+use crate::shown::{Growing, Shown};
+use crate::view::View;
 use crate::writer::BoardWriter;
 use core::mem::replace_with;
 use ledger_bytes::{Digest, NoMemory};
+use left_right::writer::Writer;
 use merkle_tree::Head;
+use std::alloc::Global;
 use std::sync::Wait;
+
+// A writer for which memory was missing in the midst of a publish.
+fn stuck(
+    alloc: Global,
+    writer: Writer<Shown, Growing, View, Grows>,
+    counter: Counter,
+    waiting: Vec<Digest>,
+) -> BoardWriter
+    requires counted { counter ≡ head_of writer.desk.shown.value.at.book }
+    requires whole { writer.desk.shown.value.leaves ≡ all_leaves writer.desk.shown.value.at.log }
+    ensures writer { result.writer ≡ writer }
+    ensures waiting { result.waiting ≡ waiting }
+{
+    BoardWriter {
+        alloc,
+        writer,
+        counter,
+        waiting,
+        stuck: true,
+    }
+}
 
 impl BoardWriter {
     /// Adds leaves behind those that are there, for the next publish. Provers don't see them before. Where memory is missing,
@@ -29,19 +54,26 @@ impl BoardWriter {
     /// copy from before the last publish. Where memory is missing in its midst, what is shown and what waits are as before, and
     /// each later publish answers `NoMemory`.
     pub fn publish<R: Wait>(&mut self, rt: &R) -> Result<Head, NoMemory>
-        ensures ok { OnOk result ((history_of self.new ≡ history_of self.old ++ waiting_of self.old ∷ []) × (waiting_of self.new ≡ [])) }
-        ensures err { OnErr result ((history_of self.new ≡ history_of self.old) × (waiting_of self.new ≡ waiting_of self.old)) }
-        ensures same { ((shown_by self.new).base ≡ (shown_by self.old).base) × ((shown_by self.new).at.book ≡ (shown_by self.old).at.book) }
-        ensures head { IfOk result (IsHeadOf (shown_by self.new)) }
+        ensures ok { OnOk result ((history_of self.new ≡ history_of self.old ++ waiting_of self.old ∷ [])
+            × (waiting_of self.new ≡ [])) }
+        ensures err { OnErr result ((history_of self.new ≡ history_of self.old)
+            × (waiting_of self.new ≡ waiting_of self.old)) }
+        ensures same { ((shown_by self.new).base ≡ (shown_by self.old).base)
+            × ((shown_by self.new).at.book ≡ (shown_by self.old).at.book) }
+        ensures head { IfOk result (IsShownHead (shown_by self.new)) }
     {
         replace_with(self, rt, |writer, rt| writer.publishing(rt))
     }
 
+    // Shows what was added, and answers the head.
     fn publishing<R: Wait>(self, rt: &R) -> (BoardWriter, Result<Head, NoMemory>)
-        ensures ok { OnOk result.1 ((history_of result.0 ≡ history_of self ++ waiting_of self ∷ []) × (waiting_of result.0 ≡ [])) }
-        ensures err { OnErr result.1 ((history_of result.0 ≡ history_of self) × (waiting_of result.0 ≡ waiting_of self)) }
-        ensures same { ((shown_by result.0).base ≡ (shown_by self).base) × ((shown_by result.0).at.book ≡ (shown_by self).at.book) }
-        ensures head { IfOk result.1 (IsHeadOf (shown_by result.0)) }
+        ensures ok { OnOk result.1 ((history_of result.0 ≡ history_of self ++ waiting_of self ∷ [])
+            × (waiting_of result.0 ≡ [])) }
+        ensures err { OnErr result.1 ((history_of result.0 ≡ history_of self)
+            × (waiting_of result.0 ≡ waiting_of self)) }
+        ensures same { ((shown_by result.0).base ≡ (shown_by self).base)
+            × ((shown_by result.0).at.book ≡ (shown_by self).at.book) }
+        ensures head { IfOk result.1 (IsShownHead (shown_by result.0)) }
     {
         if self.stuck {
             return (self, Err(NoMemory));
@@ -56,27 +88,14 @@ impl BoardWriter {
         are_wide(waiting.as_slice());
         let mut at = writer.published().at().again();
         if at.count() >= 1 << 62 || !at.add(&counter, &waiting) {
-            let writer = BoardWriter {
-                alloc,
-                writer,
-                counter,
-                waiting,
-                stuck: true,
-            };
-            return (writer, Err(NoMemory));
+            return (stuck(alloc, writer, counter, waiting), Err(NoMemory));
         }
-        if let Err(growing) = writer.append(Growing {
+        let growing = Growing {
             leaves: waiting,
             at,
-        }) {
-            let writer = BoardWriter {
-                alloc,
-                writer,
-                counter,
-                waiting: growing.leaves,
-                stuck: true,
-            };
-            return (writer, Err(NoMemory));
+        };
+        if let Err(growing) = writer.append(growing) {
+            return (stuck(alloc, writer, counter, growing.leaves), Err(NoMemory));
         }
         let (writer, done) = writer.publish_as::<Sees, R>(rt);
         let waiting = Vec::new(alloc);
@@ -92,16 +111,7 @@ impl BoardWriter {
                 };
                 (writer, Ok(head))
             }
-            Err(_) => {
-                let writer = BoardWriter {
-                    alloc,
-                    writer,
-                    counter,
-                    waiting,
-                    stuck: true,
-                };
-                (writer, Err(NoMemory))
-            }
+            Err(_) => (stuck(alloc, writer, counter, waiting), Err(NoMemory)),
         }
     }
 

@@ -1,6 +1,6 @@
 use Rattle.std.proofs.Common.{refl, arith}
 use Rattle.std.specs.Prelude.{IsTrue}
-use Rattle.proof_board.specs.Returning.{Goes}
+use Rattle.proof_board.specs.Returning.{GoesOn}
 use Rattle.proof_board.proofs.Passes.{goes_self, goes_on, goes_list}
 use Rattle.proof_board.proofs.provers.work.Goals as goal
 use Rattle.proof_board.proofs.provers.work.Goals.{then-yes, else-yes}
@@ -14,7 +14,7 @@ loop-k-preserved g c =
     let p = c.args.pass in
     let q = c.loop-k.pass in
     let r = c.prove_drawn-drawn.new.pass in
-    let next : Goes q r = c.prove_drawn-drawn.ensures.pass.1 in record {
+    let next : GoesOn q r = c.prove_drawn-drawn.ensures.pass.1 in record {
       board = c.prove_drawn-drawn.ensures.pass.0;
       goes = goes_on p q r was.goes next;
       few = elim c.if-yes.branch [ then-yes w ↦ omega (arith, was.few) | else-yes w ↦ omega (arith, was.few) ];

@@ -1,9 +1,10 @@
 use Rattle.std.specs.Prelude.{All, fold}
 use Rattle.proof_board.specs.Growing.{grown}
-use Rattle.std.proofs.Common.{subst, ap, sym, ◌∙◌, map, List, [], ◌∷◌, ◌++◌}
+use Rattle.std.proofs.Common.{subst, ap, sym, ◌∙◌, map, List, [], ◌∷◌, ◌++◌, drop}
 use Rattle.ledger_bytes.specs.declared.digest.Digest.{Digest}
 use Rattle.proof_board.specs.declared.shown.Growing.{Growing}
 use Rattle.proof_board.specs.History.{Digests, IsWide, Mark}
+use Rattle.proof_board.specs.Words.{leaves_in}
 use Rattle.proof_board.proofs.Publishing.{publishes, waits, waits_on}
 use Rattle.proof_board.proofs.writer.BoardWriter.publishing.Goals as goal
 
@@ -32,7 +33,8 @@ returns-in-Err-done-clause-err g c =
     let op : Growing = record { leaves = c.args.self.waiting; at = c.add.new.self } in
     let none = c.args.self.ready c.if-self.false in
     let ops = c.in_default.ensures.pending ∙ ap (λ l. l ++ op ∷ []) none in
+    let put = c.stuck-in-Err-done.ensures in
     let values = rw c.in-Err-done.is at c.publish_as-writer.ensures.values in (
-      ap (λ s. s.at.log) values.0 ∙ ap (λ k. k.shown.value.at.log) c.append.ensures.desk,
-      waits_on op _ _ _ (values.1 ∙ ops) (ap (map (λ (d : Digest). d.0)) c.new-waiting.ensures.items) none,
+      ap (λ w. w.desk.shown.value.at.log) put.writer ∙ ap (λ s. s.at.log) values.0 ∙ ap (λ k. k.shown.value.at.log) c.append.ensures.desk,
+      (λ i. leaves_in (drop (put.writer i).behind (put.writer i).log.items) ++ map (λ (d : Digest). d.0) (put.waiting i).items) ∙ waits_on op _ _ _ (values.1 ∙ ops) (ap (map (λ (d : Digest). d.0)) c.new-waiting.ensures.items) none,
     )
