@@ -1,5 +1,12 @@
 -- Two lists, pair by pair.
-use Rattle.std.proofs.Common.{◌≡◌, List, [], ◌∷◌, ◌++◌, length, refl, arith}
+use Rattle.std.specs.Prelude.{All}
+use Rattle.std.proofs.Common.{◌≡◌, ℕ, List, [], ◌∷◌, ◌++◌, length, map, refl, arith}
+use Rattle.std.proofs.lemmas.List.Elements.{All-nil, All-cons}
+use Rattle.proof_board.specs.declared.board.Board.{Board}
+use Rattle.proof_board.specs.declared.pass.ProverPass.{ProverPass}
+use Rattle.proof_board.specs.declared.hands.Returned.{Returned}
+use Rattle.proof_board.specs.Words.{IsPassOf}
+use Rattle.proof_board.specs.Returning.{Returns}
 use Rattle.proof_board.specs.Hands.{EachGives}
 
 pub none_left : {A : Type 0} (xs : List A) → length xs ≡ 0 → xs ≡ []
@@ -27,3 +34,11 @@ module _ {A B : Type 0} (R : A → B → Type 0) where
   unfolding EachGives
   gives_end [] a = refl
   gives_end (x ∷ xs) a = absurd a
+
+-- the passes that came back are of the board
+pub back_on_board : (b : Board) (count : ℕ) (ps : List ProverPass) (rs : List Returned) → EachGives (λ p r. Returns b p count r) ps rs → All (IsPassOf b) (map (λ (r : Returned). r.pass) rs)
+unfolding EachGives
+back_on_board b count [] [] a = All-nil (IsPassOf b)
+back_on_board b count [] (r ∷ rs) a = absurd a
+back_on_board b count (p ∷ ps) [] a = absurd a
+back_on_board b count (p ∷ ps) (r ∷ rs) a = All-cons (IsPassOf b) r.pass (map (λ (x : Returned). x.pass) rs) a.0.board (back_on_board b count ps rs a.1)

@@ -3,6 +3,7 @@ use Rattle.std.specs.Prelude.{◌≡◌, ◌≤◌, ℕ, List, [], ◌∷◌, ve
 use Rattle.proof_board.specs.declared.board.Board.{Board}
 use Rattle.proof_board.specs.declared.pass.ProverPass.{ProverPass}
 use Rattle.proof_board.specs.declared.hands.Room.{Room}
+use Rattle.proof_board.specs.declared.parts.Parts.{Parts}
 use Rattle.proof_board.specs.declared.hands.Hand.{Hand}
 use Rattle.proof_board.specs.declared.hands.Hand.TheVariants.{Here, There}
 use Rattle.proof_board.specs.Returning.{Returns}
@@ -22,3 +23,7 @@ EachGives R [] [] = ⊤
 EachGives R [] (y ∷ ys) = ⊥
 EachGives R (x ∷ xs) [] = ⊥
 EachGives R (x ∷ xs) (y ∷ ys) = R x y × EachGives R xs ys
+
+-- there is room for the parts of what so many provers hand back
+abbrev pub HasPartRoom : ℕ → Parts → Type 0
+HasPartRoom n parts = (parts.passes.items ≡ []) × (n ≤ vec_capacity parts.passes) × (parts.tallies.items ≡ []) × (n ≤ vec_capacity parts.tallies)

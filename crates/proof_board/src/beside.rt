@@ -60,7 +60,8 @@ fn start_all<'s, 'e: 's, R: Threads + Wait + Sync>(
 // Waits for the provers.
 fn finish_all<R: Threads>(rt: &R, hands: Vec<Hand>, mut done: Vec<Returned>) -> Vec<Returned>
     requires room { (done.items ≡ []) × (vec_len hands ≤ vec_capacity done) }
-    ensures { (b : Board) (count : ℕ) (passes : List ProverPass)
+    ensures len { vec_len result ≡ vec_len hands }
+    ensures returned { (b : Board) (count : ℕ) (passes : List ProverPass)
         → EachGives (λ p h. Promised b p count h) passes hands.items
         → EachGives (λ p r. Returns b p count r) passes result.items }
 {
@@ -85,6 +86,7 @@ pub fn prove_beside<R: Threads + Wait + Sync, S: Session<Back = B> + Drop, B>(
     requires room { HasRoom (vec_len passes) room }
     requires can { S.can session }
     ensures gives { S.gives session result.0 }
+    ensures len { vec_len result.1 ≡ vec_len passes }
     ensures provers { EachGives (λ p r. Returns board.now p orders.count r) passes.items result.1.items }
 {
     let Room { hands, done } = room;
@@ -97,6 +99,7 @@ pub fn prove_beside<R: Threads + Wait + Sync, S: Session<Back = B> + Drop, B>(
                 ≡ []) × (vec_len passes ≤ vec_capacity done) }
             requires can { S.can session }
             ensures gives { S.gives session result.0 }
+            ensures len { vec_len result.1 ≡ vec_len passes }
             ensures provers { EachGives (λ p r. Returns board.entry.now p orders.count r) passes.items result.1.items }
         {
             let hands = start_all(scope, rt, board, passes, orders, hands);

@@ -21,6 +21,7 @@ loop-hand-init g c =
       tt,
       tt,
       search rules,
+      search rules,
       λ b count passes all. (
         [],
         passes,
@@ -38,8 +39,9 @@ loop-hand-preserved g c =
       tt,
       tt,
       search rules,
+      search rules,
       λ b count passes all.
-          let was = inv.3 b count passes all in
+          let was = inv.4 b count passes all in
           let now : EachGives (Owes b count) was.1 (hand ∷ rest) = subst (λ (l : List Hand). EachGives (Owes b count) was.1 l) c.in-Some.ensures.steps.0 was.4 in
           let next = gives_next (Owes b count) was.1 hand rest now in (
             was.0 ++ next.0 ∷ [],
@@ -51,9 +53,9 @@ loop-hand-preserved g c =
           ),
     )
 
-pub returns : goal.returns
-returns g c b count passes all =
-    let was = c.loop-hand.invariant.3 b count passes all in
+pub returns-clause-returned : goal.returns-clause-returned
+returns-clause-returned g c b count passes all =
+    let was = c.loop-hand.invariant.4 b count passes all in
     let empty : into_iter_items c.loop-hand.hand-iterator ≡ [] = (let z = c.in-None.ensures.steps.0 in none_left (into_iter_items c.loop-hand.hand-iterator) (search rules)) in
     let end : was.1 ≡ [] = gives_end (Owes b count) was.1 (subst (λ (l : List Hand). EachGives (Owes b count) was.1 l) empty was.4) in
     let whole : was.0 ≡ passes = sym (append-nil was.0) ∙ ap (λ (l : List ProverPass). was.0 ++ l) (sym end) ∙ was.2 in
