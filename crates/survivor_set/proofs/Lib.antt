@@ -1,0 +1,5 @@
+pub mod Near
+pub mod Takes
+pub mod Wholes
+pub mod Carried
+pub mod Rows
