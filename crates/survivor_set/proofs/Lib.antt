@@ -3,3 +3,6 @@ pub mod Takes
 pub mod Wholes
 pub mod Carried
 pub mod Rows
+pub mod Checked
+pub mod Growth
+pub mod Revived

@@ -2,3 +2,4 @@ pub mod Sets
 pub mod Reading
 pub mod Steps
 pub mod Carries
+pub mod Outcomes

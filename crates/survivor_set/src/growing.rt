@@ -1,6 +1,6 @@
 //! A path is carried on to more leaves of a tree.
 
-ghost use Rattle.std.specs.Prelude.{◌≡◌, [], ◌-◌, ◌*◌, ◌<◌, ◌≤◌, nat_lt, if◌then◌else◌, length, take, OnOk};
+ghost use Rattle.std.specs.Prelude.{◌≡◌, [], ◌+◌, ◌-◌, ◌*◌, ◌<◌, ◌≤◌, nat_lt, if◌then◌else◌, ◌++◌, length, take, OnOk};
 ghost use Rattle.tree_model.specs.Path.{path_length};
 ghost use Rattle.survivor_set.specs.Carries.{Carries, IsOver};
 
@@ -23,7 +23,8 @@ pub(crate) fn add_carried<H: TreeHash>(
     requires more { point < size }
     requires below { length below.now ≡ 32 * path_length n point }
     requires above { length above.now ≡ 32 * path_length point size }
-    ensures { OnOk result (Carries H.of n point size leaf.now.0 below.now above.now fields.old fields.new) }
+    ensures path { OnOk result (Carries H.of n point size leaf.now.0 below.now above.now fields.old fields.new) }
+    ensures len { OnOk result (length fields.new ≡ length fields.old + 32 * path_length n size) }
 {
     let count = split(size);
     let Some((front, last)) = above.split_last_chunk::<32>() else {
@@ -72,11 +73,20 @@ fn add_over<H: TreeHash>(
 ) -> Result<(), NoMemory>
     requires within { place < size }
     requires front { length front.now ≡ 32 * path_length place size }
-    ensures { OnOk result (IsOver H.of place size leaf.now.0 inner.now front.now fields.old fields.new) }
+    ensures over { OnOk result (IsOver H.of place size leaf.now.0 inner.now front.now fields.old fields.new) }
+    ensures len { OnOk result (length fields.new ≡ length fields.old + length inner.now + 32) }
 {
     let Some(right) = fold_path::<H>(leaf, place, size, front) else {
         unreachable!()
     };
     fields.put_slice(inner)?;
-    fields.put_slice(&right.0)
+    put_digest(fields, &right)
+}
+
+// Adds a digest.
+fn put_digest(fields: &mut FieldWriter, digest: &Digest) -> Result<(), NoMemory>
+    ensures bytes { OnOk result (fields.new ≡ fields.old ++ digest.now.0) }
+    ensures width { length digest.now.0 ≡ 32 }
+{
+    fields.put_slice(&digest.0)
 }

@@ -2,9 +2,18 @@
 //! later point, and what is still shown and proved of them.
 #![tactic(auto)]
 
+mod carrying;
+mod checking;
+mod failure;
 mod growing;
 mod paths;
 mod reading;
+mod reviving;
 mod set;
+mod writing;
 
+pub use carrying::carry;
+pub use checking::check_set;
+pub use failure::SetErr;
+pub use reviving::{revive, revive_judged};
 pub use set::{SURVIVOR_LIMIT, Set, Survivor};

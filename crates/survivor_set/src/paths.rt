@@ -26,7 +26,8 @@ pub(crate) fn carried_path<H: TreeHash>(
     requires more { point < size }
     requires size { size ≤ tree.now.size }
     requires below { length below.now ≡ 32 * path_length n point }
-    ensures { IfOk result (λ digests. (ds : List (List ℕ)) → StandsFor H.of tree.now ds
+    ensures len { IfOk result (λ digests. length digests ≡ 32 * path_length n size) }
+    ensures path { IfOk result (λ digests. (ds : List (List ℕ)) → StandsFor H.of tree.now ds
         → cut 32 below.now ≡ path H.of n (take point ds)
         → digests ≡ concat (path H.of n (take size ds))) }
 {

@@ -1,8 +1,8 @@
 //! Reading a set of survivors from its bytes.
 
-ghost use Rattle.std.specs.Prelude.{◌≡◌, ◌≤◌, ◌<◌, ◌^◌, ◌-◌, ℕ, List, None, length, slice_get, Ok};
+ghost use Rattle.std.specs.Prelude.{◌≡◌, ◌≤◌, ◌<◌, ◌^◌, ◌-◌, ℕ, List, None, length, slice_get, Ok, IfOk, IfSome};
 ghost use Rattle.ledger_bytes.specs.Fields.{IsBytes, Unread, ReadsFields, end_at, left_from};
-ghost use Rattle.survivor_set.specs.Sets.{Saved, is_low};
+ghost use Rattle.survivor_set.specs.Sets.{Saved, IsSaved, is_low};
 ghost use Rattle.survivor_set.specs.Reading as reading;
 ghost use Rattle.survivor_set.specs.Reading.{from_place, survivors_in};
 ghost use Rattle.journal_record.specs.Items.{item_at};
@@ -13,7 +13,7 @@ use journal_record::{Record, take_record};
 use ledger_bytes::{Bad, Digest, FieldReader, check_field};
 
 // The bytes with which each set begins.
-const MAGIC: [u8; 8] = *b"LDGSURV1";
+pub(crate) const MAGIC: [u8; 8] = *b"LDGSURV1";
 
 // Where the count stands.
 const COUNT_PLACE: u64 = 80;
@@ -102,7 +102,8 @@ fn next_survivor<'a>(
     last: Option<u64>,
 ) -> Result<(Survivor<'a>, usize), Bad>
     requires { at ≤ length bytes.now }
-    ensures { ReadsTo bytes.now result (reading.survivor_at last (from_place at bytes.now)) }
+    ensures read { ReadsTo bytes.now result (reading.survivor_at last (from_place at bytes.now)) }
+    ensures saved { IfOk result (λ x. IsSaved x.0) }
 {
     let low = shows_low(&bytes[at..], last);
     let mut reader = FieldReader::new(bytes);
@@ -188,7 +189,8 @@ fn check_end(bytes: &[u8], at: usize) -> Result<(), Bad>
 /// The survivor with a place among those of a set.
 pub(crate) fn survivor(bytes: &[u8], i: u8) -> Option<Survivor<'_>>
     requires { (front : Front) × IsFrontOf front bytes.now × (i < front.count) }
-    ensures { result ≡ slice_get (survivors_in bytes.now) i }
+    ensures is { result ≡ slice_get (survivors_in bytes.now) i }
+    ensures saved { IfSome result IsSaved }
 {
     nth(bytes, FRONT_LEN, None, i)
 }
@@ -196,9 +198,10 @@ pub(crate) fn survivor(bytes: &[u8], i: u8) -> Option<Survivor<'_>>
 // The survivor with a place among those of which the first begins here, behind a journal with the last number.
 fn nth(bytes: &[u8], at: usize, last: Option<u64>, i: u8) -> Option<Survivor<'_>>
     requires { at ≤ length bytes.now }
-    ensures { (count : ℕ) (x : List Saved × Unread)
+    ensures is { (count : ℕ) (x : List Saved × Unread)
         → reading.survivors_at count last (from_place at bytes.now) ≡ Ok x
         → i < count → result ≡ slice_get x.0 i }
+    ensures saved { IfSome result IsSaved }
 {
     let Ok((survivor, next)) = next_survivor(bytes, at, last) else {
         return None;

@@ -1,11 +1,12 @@
 //! A set of survivors, lent from its bytes.
 
-ghost use Rattle.std.specs.Prelude.{◌≡◌, ◌≢◌, ◌≤◌, ◌++◌, ℕ, List, [], length, IfOk, Ok, Err, slice_get};
-ghost use Rattle.survivor_set.specs.Sets.{SavedSet, IsSet, set_text};
+ghost use Rattle.std.specs.Prelude.{◌≡◌, ◌≢◌, ◌<◌, ◌≤◌, Some, IfSome, ◌++◌, ℕ, List, [], length, IfOk, Ok, Err, slice_get};
+ghost use Rattle.journal_record.specs.Items.{body_seen};
+ghost use Rattle.survivor_set.specs.Sets.{SavedSet, IsSaved, IsSet, set_text};
 ghost use Rattle.survivor_set.specs.Reading.{set_of};
 
 use crate::reading::{read, survivor};
-use journal_record::Record;
+use journal_record::{Body, Header, Record};
 use ledger_bytes::{Bad, Digest};
 use std::marker::Model;
 
@@ -36,6 +37,41 @@ impl<'a> Survivor<'a> {
         ensures { result ≡ self.now.item.header.jsn }
     {
         self.item.header.jsn
+    }
+
+    /// The journal.
+    pub(crate) fn item(&self) -> &Record<'a>
+        ensures { result.now ≡ self.now.item }
+    {
+        &self.item
+    }
+
+    /// The journal's header.
+    pub(crate) fn header(&self) -> &Header
+        ensures { result.now ≡ self.now.item.header }
+    {
+        &self.item.header
+    }
+
+    /// The journal's content, where it is there.
+    pub(crate) fn body(&self) -> Body<'a>
+        ensures { body_seen result ≡ self.now.item.body }
+    {
+        self.item.body
+    }
+
+    /// The bytes that show who placed the journal.
+    pub(crate) fn who(&self) -> &'a [u8]
+        ensures { result.now ≡ self.now.item.who }
+    {
+        self.item.who
+    }
+
+    /// The digests of the path.
+    pub(crate) fn path(&self) -> &'a [u8]
+        ensures { result.now ≡ self.now.path }
+    {
+        self.path
     }
 }
 
@@ -136,13 +172,26 @@ impl<'a> Set<'a> {
 
     /// The survivor with this place among them, from 0, where there is one. Those in front of it are read again.
     pub fn get(&self, i: u8) -> Option<Survivor<'a>>
-        ensures { result ≡ slice_get self.now.survivors i }
+        ensures is { result ≡ slice_get self.now.survivors i }
+        ensures saved { IfSome result IsSaved }
     {
         if i < self.count {
             survivor(self.bytes, i)
         } else {
             None
         }
+    }
+
+    /// The survivor with this place among them, which is there.
+    pub(crate) fn survivor(&self, i: u8) -> Survivor<'a>
+        requires { i < length self.now.survivors }
+        ensures is { slice_get self.now.survivors i ≡ Some result }
+        ensures saved { IsSaved result }
+    {
+        let Some(survivor) = self.get(i) else {
+            unreachable!()
+        };
+        survivor
     }
 }
 

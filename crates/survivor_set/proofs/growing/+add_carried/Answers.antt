@@ -1,6 +1,6 @@
 use Rattle.std.proofs.Common.{◌<◌, rules, arith}
 use Rattle.tree_model.proofs.Splits.{split_pos}
-use Rattle.survivor_set.proofs.Carried.{IsLast, front_length, back_length, carries_front, carries_over, inner_length, carries_back, below_some, above_some, on_ok}
+use Rattle.survivor_set.proofs.Carried.{IsLast, front_length, back_length, carries_front, carries_over, inner_length, carries_back, below_some, above_some, on_ok, len_front, len_over, len_back}
 use Rattle.survivor_set.proofs.growing.+add_carried.Goals as goal
 
 pub unreachable-requires : goal.unreachable-requires
@@ -17,13 +17,13 @@ add_carried-requires g t c κs within =
     let len = front_length g.H.TreeHash.of c.split-count.result c.args.n c.args.point c.args.size c.args.leaf.now.0 c.args.below.now c.args.above.now c.in-Some.front.now c.in-Some.last.now c.args.fields.now c.args.fields.now c.split-count.ensures c.requires.kept c.requires.more c.requires.below c.requires.above parts c.if-point-count.true in
     (search rules, (search rules, (omega arith, (omega arith, (c.requires.below, len)))))
 
-pub returns-then-point-count : goal.returns-then-point-count
-returns-then-point-count g t c =
+pub returns-then-point-count-clause-path : goal.returns-then-point-count-clause-path
+returns-then-point-count-clause-path g t c =
     let cases = c.in-Some.ensures.cases in
     let parts : IsLast c.args.above.now c.in-Some.front.now c.in-Some.last.now = record { front_is = cases.0; last_is = cases.1; some = cases.2 } in
     on_ok c.put_slice.result _ _
     (carries_front g.H.TreeHash.of c.split-count.result c.args.n c.args.point c.args.size c.args.leaf.now.0 c.args.below.now c.args.above.now c.in-Some.front.now c.in-Some.last.now c.args.fields.now c.put_slice.new.self c.split-count.ensures c.requires.kept c.requires.more c.requires.below c.requires.above parts
-    c.add_carried.new.fields c.if-point-count.true c.in_ok-add_carried.ensures)
+    c.add_carried.new.fields c.if-point-count.true c.in_ok-add_carried.ensures.path)
     c.put_slice.ensures.ok
 
 pub inner-inner-requires : goal.inner-inner-requires
@@ -41,14 +41,14 @@ add_over-requires g t c =
       front = back_length g.H.TreeHash.of c.split-count.result c.args.n c.args.point c.args.size c.args.leaf.now.0 c.args.below.now c.args.above.now c.in-Some.front.now c.in-Some.last.now c.args.fields.now c.args.fields.now c.split-count.ensures c.requires.kept c.requires.more c.requires.below c.requires.above parts c.if-point-count.false;
     }
 
-pub returns-then-n-count : goal.returns-then-n-count
-returns-then-n-count g t c =
+pub returns-then-n-count-clause-path : goal.returns-then-n-count-clause-path
+returns-then-n-count-clause-path g t c =
     let cases = c.in-Some.ensures.cases in
     let parts : IsLast c.args.above.now c.in-Some.front.now c.in-Some.last.now = record { front_is = cases.0; last_is = cases.1; some = cases.2 } in
     on_ok c.add_over.result _ _
     (carries_over g.H.TreeHash.of c.split-count.result c.args.n c.args.point c.args.size c.args.leaf.now.0 c.args.below.now c.args.above.now c.in-Some.front.now c.in-Some.last.now c.args.fields.now c.add_over.new.fields c.split-count.ensures c.requires.kept c.requires.more c.requires.below c.requires.above parts
     c.inner-inner.result.now c.if-point-count.false c.if-n-count.true c.inner-inner.ensures)
-    c.add_over.ensures
+    c.add_over.ensures.over
 
 pub add_carried-requires-2 : goal.add_carried-requires-2
 add_carried-requires-2 g t c κs within =
@@ -61,11 +61,31 @@ add_carried-requires-2 g t c κs within =
     c.inner-inner.result.now c.if-n-count.false c.inner-inner.ensures in
     (search rules, (search rules, (omega arith, (omega arith, (inside, len)))))
 
-pub returns : goal.returns
-returns g t c =
+pub returns-clause-path : goal.returns-clause-path
+returns-clause-path g t c =
     let cases = c.in-Some.ensures.cases in
     let parts : IsLast c.args.above.now c.in-Some.front.now c.in-Some.last.now = record { front_is = cases.0; last_is = cases.1; some = cases.2 } in
     on_ok c.put_slice-2.result _ _
     (carries_back g.H.TreeHash.of c.split-count.result c.args.n c.args.point c.args.size c.args.leaf.now.0 c.args.below.now c.args.above.now c.in-Some.front.now c.in-Some.last.now c.args.fields.now c.put_slice-2.new.self c.split-count.ensures c.requires.kept c.requires.more c.requires.below c.requires.above parts
-    c.inner-inner.result.now c.add_carried-2.new.fields c.if-n-count.false c.inner-inner.ensures c.in_ok-add_carried-2.ensures)
+    c.inner-inner.result.now c.add_carried-2.new.fields c.if-n-count.false c.inner-inner.ensures c.in_ok-add_carried-2.ensures.path)
+    c.put_slice-2.ensures.ok
+
+pub returns-then-point-count-clause-len : goal.returns-then-point-count-clause-len
+returns-then-point-count-clause-len g t c =
+    let cases = c.in-Some.ensures.cases in
+    on_ok c.put_slice.result _ _
+    (len_front c.split-count.result c.args.n c.args.point c.args.size c.args.above.now c.in-Some.last.now c.args.fields.now c.add_carried.new.fields c.put_slice.new.self c.split-count.ensures c.requires.kept c.if-point-count.true cases.1 (omega (arith, cases.2)) c.in_ok-add_carried.ensures.len)
+    c.put_slice.ensures.ok
+
+pub returns-then-n-count-clause-len : goal.returns-then-n-count-clause-len
+returns-then-n-count-clause-len g t c =
+    on_ok c.add_over.result _ _
+    (len_over c.split-count.result c.args.n c.args.point c.args.size c.args.below.now c.inner-inner.result.now c.args.fields.now c.add_over.new.fields c.split-count.ensures c.requires.kept c.requires.more c.if-point-count.false c.if-n-count.true c.requires.below c.inner-inner.ensures)
+    c.add_over.ensures.len
+
+pub returns-clause-len : goal.returns-clause-len
+returns-clause-len g t c =
+    let cases = c.in-Some.ensures.cases in
+    on_ok c.put_slice-2.result _ _
+    (len_back c.split-count.result c.args.n c.args.size c.args.above.now c.in-Some.last.now c.args.fields.now c.add_carried-2.new.fields c.put_slice-2.new.self c.split-count.ensures c.if-n-count.false cases.1 (omega (arith, cases.2)) c.in_ok-add_carried-2.ensures.len)
     c.put_slice-2.ensures.ok

@@ -13,10 +13,16 @@ place-requires c =
     let there = read_here c.args.at bytes c.args.last c.in_ok-take_slice.field-0.now c.take_slice.new.self c.shows_low-low.result c.in_ok-survivor.survivor c.take_survivor.new.reader c.requires (sym (ap (bytes_at c.args.at) c.new-reader.ensures) ∙ c.in_ok-take_slice.ensures) c.shows_low-low.ensures c.in_ok-survivor.ensures in
     (survivor_takes c.args.last (from_place c.args.at bytes) c.in_ok-survivor.survivor c.take_survivor.new.reader (IsBytes-drop c.args.at bytes (λ i. omega (arith, c.type_inv.bytes i))) there).0.whole
 
-pub returns : goal.returns
-returns c =
+pub returns-clause-read : goal.returns-clause-read
+returns-clause-read c =
     let bytes = c.args.bytes.now in
     let there = read_here c.args.at bytes c.args.last c.in_ok-take_slice.field-0.now c.take_slice.new.self c.shows_low-low.result c.in_ok-survivor.survivor c.take_survivor.new.reader c.requires (sym (ap (bytes_at c.args.at) c.new-reader.ensures) ∙ c.in_ok-take_slice.ensures) c.shows_low-low.ensures c.in_ok-survivor.ensures in
     let took = (survivor_takes c.args.last (from_place c.args.at bytes) c.in_ok-survivor.survivor c.take_survivor.new.reader (IsBytes-drop c.args.at bytes (λ i. omega (arith, c.type_inv.bytes i))) there).0 in
     reads_to bytes c.in_ok-survivor.survivor c.place.result c.take_survivor.new.reader (survivor_at c.args.last (from_place c.args.at bytes)) there
     (placed c.args.at bytes (saved_text c.in_ok-survivor.survivor) c.take_survivor.new.reader took) c.place.ensures
+
+pub returns-clause-saved : goal.returns-clause-saved
+returns-clause-saved c =
+    let bytes = c.args.bytes.now in
+    let there = read_here c.args.at bytes c.args.last c.in_ok-take_slice.field-0.now c.take_slice.new.self c.shows_low-low.result c.in_ok-survivor.survivor c.take_survivor.new.reader c.requires (sym (ap (bytes_at c.args.at) c.new-reader.ensures) ∙ c.in_ok-take_slice.ensures) c.shows_low-low.ensures c.in_ok-survivor.ensures in
+    (survivor_takes c.args.last (from_place c.args.at bytes) c.in_ok-survivor.survivor c.take_survivor.new.reader (IsBytes-drop c.args.at bytes (λ i. omega (arith, c.type_inv.bytes i))) there).1

@@ -6,7 +6,7 @@ use Rattle.survivor_set.proofs.reading.survivor.Goals as goal
 pub nth-requires : goal.nth-requires
 nth-requires c = (behind c.args.bytes.now c.requires.0 (λ i. omega (arith, c.type_inv.bytes i)) c.requires.1).within
 
-pub returns : goal.returns
-returns c =
+pub returns-clause-is : goal.returns-clause-is
+returns-clause-is c =
     let b = behind c.args.bytes.now c.requires.0 (λ i. omega (arith, c.type_inv.bytes i)) c.requires.1 in
-    c.nth.ensures (length (survivors_in c.args.bytes.now)) (survivors_in c.args.bytes.now, b.end) b.are (omega (arith, c.requires.1.count_is, c.requires.2))
+    c.nth.ensures.is (length (survivors_in c.args.bytes.now)) (survivors_in c.args.bytes.now, b.end) b.are (omega (arith, c.requires.1.count_is, c.requires.2))
