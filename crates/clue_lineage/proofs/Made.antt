@@ -183,13 +183,13 @@ module _ (h : History) (lawful : AreLawful (journals h)) (clue : Digest) where
       let records = all_tested (Own h) (OwnRecord h clue) (is_of_clue clue) (journals h) (λ e o is. record { own = o; is = is }) own in
       all_tested (OwnRecord h clue) (Shown h clue) (λ e. nat_le (model.point h) e.header.jsn) (records_of clue h)
       (λ e r kept.
-          let c = own_clue clue e r.is in
-          record {
-            stands = record { kept = leb-true (model.point h) e.header.jsn kept; place = r.own.place };
-            layout = r.own.layout;
-            record_of = record { kind = clued_is_record e.header.kind e.header.clue (ap is_no_clue c.0 ∙ c.1) r.own.layout.clue; clue_is = c.0 };
-            clued = c.1;
-          })
+      let c = own_clue clue e r.is in
+      record {
+        stands = record { kept = leb-true (model.point h) e.header.jsn kept; place = r.own.place };
+        layout = r.own.layout;
+        record_of = record { kind = clued_is_record e.header.kind e.header.clue (ap is_no_clue c.0 ∙ c.1) r.own.layout.clue; clue_is = c.0 };
+        clued = c.1;
+      })
       records
 
   pub all_shown : (from : ℕ) → AllByRecursion (Shown h clue) (take 1024 (shown_from from clue h))
@@ -454,8 +454,8 @@ module _ (k : Kept) (from : ℕ) (clue : Digest) (count : ℕ) (numbers given fr
     accepted settled few =
         mapped_ok r _ (λ bytes. (h : History) → Serves k h → IsOk (acceptance sha256 bytes clue (head_of h)))
         (λ bytes told h s.
-            let both = told h (take 1024 (shown_from from clue h)) s (stand h s) (numbers_are h s) in
-            made_accepted h (omega (arith, s.stands.counts.size, few)) s.stands.lawful clue from both.1 (settled_size k h s settled) bytes both.0 (omega (arith, shown_count h s, some)))
+        let both = told h (take 1024 (shown_from from clue h)) s (stand h s) (numbers_are h s) in
+        made_accepted h (omega (arith, s.stands.counts.size, few)) s.stands.lawful clue from both.1 (settled_size k h s settled) bytes both.0 (omega (arith, shown_count h s, some)))
         text
 
 pub positive : (n : ℕ) → (n == 0) ≡ false → 1 ≤ n

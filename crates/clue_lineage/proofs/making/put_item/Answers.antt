@@ -29,6 +29,6 @@ returns-clause-item c h e s stands is =
     let digests = path_written c.args.book.now h s e stands c.args.number c.size.result c.in_ok-path.path.items c.as_slice.result.now is c.size.ensures.size c.as_slice.ensures.value
     (c.in_ok-path.ensures.path (leaf_digests h) (c.tree.ensures.stands h s.stands)) in (
       item_written c.args.book.now h s e stands c.args.writer.now c.put_slice.new.self c.put_path.new.writer c.encode.result (length c.as_slice.result.now ∷ concat (map (λ (d : Digest). d.0) c.as_slice.result.now))
-      (c.encode.ensures.bytes ∙ ap (λ (x : Header). headers.spelling x) header_is) c.in_ok-put_slice.ensures.ok c.in_ok-put_path.ensures digests,
+          (c.encode.ensures.bytes ∙ ap (λ (x : Header). headers.spelling x) header_is) c.in_ok-put_slice.ensures.ok c.in_ok-put_path.ensures digests,
       subst (λ (x : Header). HasWidths x) header_is c.encode.ensures.widths,
     )
