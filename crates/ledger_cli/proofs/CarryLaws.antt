@@ -19,7 +19,7 @@ use Rattle.ledger_open.specs.declared.failure.OpenErr.{OpenErr}
 use Rattle.ledger_cli.specs.Endings.{refusal_of}
 use Rattle.ledger_cli.specs.Runs.{Handed, handed, Faults, NoDiskFailed, FaultsBy, RunsOn}
 use Rattle.ledger_cli.specs.declared.ending.LedgerEnding.{LedgerEnding}
-use Rattle.ledger_cli.specs.declared.ending.LedgerEnding.TheVariants.{Run, DiskFault, Damaged, Empty, Exists, NewerFormat, NotaryFault}
+use Rattle.ledger_cli.specs.declared.ending.LedgerEnding.TheVariants.{Run, DiskFault, Damaged, Empty, Exists, NewerFormat, NotaryFault, Refused}
 
 -- ---- what is told of a run is told of what it was handed before the disks were opened
 
@@ -37,6 +37,7 @@ serves_from scheme h Empty source sink n d e now s = absurd s.replied
 serves_from scheme h Exists source sink n d e now s = absurd s.replied
 serves_from scheme h (NewerFormat found) source sink n d e now s = absurd s.replied
 serves_from scheme h NotaryFault source sink n d e now s = absurd s.replied
+serves_from scheme h (Refused why) source sink n d e now s = absurd s.replied
 
 module _ (source : SourceState) (sink : SinkState) (n : NotaryState) (d e : Pair) (now : Handed) (a : d.a.faults ≡ e.a.faults) (b : d.b.faults ≡ e.b.faults) where
   none_from : (S : ℕ → ℕ → Type 0) (K : SinkState → SinkState → Type 0) → Faults S K NoDiskFailed (handed source sink d n) now → Faults S K NoDiskFailed (handed source sink e n) now
@@ -64,6 +65,7 @@ module _ (source : SourceState) (sink : SinkState) (n : NotaryState) (d e : Pair
   faults_from Exists f = none_from _ _ f
   faults_from (NewerFormat found) f = none_from _ _ f
   faults_from NotaryFault f = none_from _ _ f
+  faults_from (Refused why) f = none_from _ _ f
 
 -- ---- a run that didn't begin
 

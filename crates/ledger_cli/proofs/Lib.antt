@@ -21,3 +21,5 @@ pub mod OrderLaws
 pub mod HaltLaws
 pub mod ShownLaws
 pub mod RunsLaws
+pub mod TraceLaws
+pub mod CutLaws

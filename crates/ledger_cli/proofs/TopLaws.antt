@@ -19,12 +19,12 @@ use Rattle.time_peg.specs.Entries.{NotaryState}
 use Rattle.ledger_cli.specs.Endings.{status_of, last_line, HasWords}
 use Rattle.ledger_cli.specs.Runs.{Handed, handed, FaultsBy, NothingFailed, ServedBy, Finishes, Signs, ending_of_soak}
 use Rattle.ledger_cli.specs.declared.ending.LedgerEnding.{LedgerEnding}
-use Rattle.ledger_cli.specs.declared.ending.LedgerEnding.TheVariants.{Run, DiskFault, Damaged, Empty, Exists, NewerFormat, NotaryFault}
+use Rattle.ledger_cli.specs.declared.ending.LedgerEnding.TheVariants.{Run, DiskFault, Damaged, Empty, Exists, NewerFormat, NotaryFault, Refused}
 use Rattle.ledger_cli.specs.declared.words.Command.{Command}
 use Rattle.ledger_cli.specs.declared.words.Command.TheVariants as command
 use Rattle.ledger_cli.proofs.FailureLaws.{fails_unread}
 use Rattle.ledger_cli.proofs.CarryLaws.{first_short}
-use Rattle.ledger_cli.proofs.OpeningLaws.{again_unstarted, dump_unstarted}
+use Rattle.ledger_cli.proofs.OpeningLaws.{again_unstarted, dump_unstarted, trace_unstarted}
 
 -- ---- a piece of a text
 
@@ -74,6 +74,7 @@ unstarted_by scheme tells (Some (command.Init genesis)) x some = record {
 }
 unstarted_by scheme tells (Some command.Run) x some = again_unstarted scheme tells x.source x.sink x.notary x.disks x.disks refl
 unstarted_by scheme tells (Some command.Export) x some = dump_unstarted scheme tells x.source x.sink x.notary x.disks x.disks refl
+unstarted_by scheme tells (Some (command.Lineage clue from)) x some = trace_unstarted scheme tells x.source x.sink x.notary x.disks x.disks refl from clue
 unstarted_by scheme tells (Some (command.Sign signing)) x some = wrote_nothing _ x
 unstarted_by scheme tells (Some (command.Chain text)) x some = wrote_nothing _ x
 unstarted_by scheme tells (Some (command.Soak seed count stop)) x some = record { end = soak.NoMemory; ending_is = refl; soaked = refl; source_is = refl; disks_are = refl; notary_is = refl }
@@ -93,7 +94,7 @@ soaked_faults seed count stop soak.NoMemory before now s source disks = record {
 }
 
 -- a text that was written met what its ending tells
-signed_faults : (written_text : List ℕ) (plain : Ending) (before now : Handed) → Wrote written_text plain (outside before.source before.sink) (outside now.source now.sink) → now.disks ≡ before.disks → FaultsBy (Run plain) before now
+pub signed_faults : (written_text : List ℕ) (plain : Ending) (before now : Handed) → Wrote written_text plain (outside before.source before.sink) (outside now.source now.sink) → now.disks ≡ before.disks → FaultsBy (Run plain) before now
 signed_faults written_text run.Done before now w is = record { source_is = ap (λ (s : SourceState). s.faults) w.unread; sink_is = w.output.1; disks_are = record { a = ap (λ (d : Pair). d.a.faults) is; b = ap (λ (d : Pair). d.b.faults) is } }
 signed_faults written_text run.Usage before now w is = absurd w.output
 signed_faults written_text run.ReadFault before now w is = absurd w.output
@@ -109,6 +110,7 @@ served_faults scheme tells (Some (command.Dry genesis)) met before now s = inr s
 served_faults scheme tells (Some (command.Init genesis)) met before now s = inr s.faults
 served_faults scheme tells (Some command.Run) met before now s = inr s.faults
 served_faults scheme tells (Some command.Export) met before now s = inr s.faults
+served_faults scheme tells (Some (command.Lineage clue from)) met before now s = inr s.faults
 served_faults scheme tells (Some (command.Sign signing)) met before now s = inr (subst (λ e. FaultsBy e before now) (sym s.ending_is) (signed_faults _ s.plain before now s.wrote s.disks_are))
 served_faults scheme tells (Some (command.Chain text)) met before now s = inr (subst (λ e. FaultsBy e before now) (sym s.ending_is) (signed_faults _ s.plain before now s.wrote s.disks_are))
 served_faults scheme tells (Some (command.Soak seed count stop)) met before now s = inr (subst (λ e. FaultsBy e before now) (sym s.ending_is) (soaked_faults seed count stop s.end before now s.soaked s.source_is s.disks_are))
@@ -128,6 +130,7 @@ is_usage Empty is = absurd (omega (arith, is))
 is_usage Exists is = absurd (omega (arith, is))
 is_usage (NewerFormat found) is = absurd (omega (arith, is))
 is_usage NotaryFault is = absurd (omega (arith, is))
+is_usage (Refused why) is = absurd (omega (arith, is))
 
 is_done : (e : LedgerEnding) → status_of e ≡ 0 → e ≡ Run run.Done
 is_done (Run run.Done) is = refl
@@ -143,6 +146,7 @@ is_done Empty is = absurd (omega (arith, is))
 is_done Exists is = absurd (omega (arith, is))
 is_done (NewerFormat found) is = absurd (omega (arith, is))
 is_done NotaryFault is = absurd (omega (arith, is))
+is_done (Refused why) is = absurd (omega (arith, is))
 
 is_read : (e : LedgerEnding) → status_of e ≡ 2 → e ≡ Run run.ReadFault
 is_read (Run run.ReadFault) is = refl
@@ -158,6 +162,7 @@ is_read Empty is = absurd (omega (arith, is))
 is_read Exists is = absurd (omega (arith, is))
 is_read (NewerFormat found) is = absurd (omega (arith, is))
 is_read NotaryFault is = absurd (omega (arith, is))
+is_read (Refused why) is = absurd (omega (arith, is))
 
 is_write : (e : LedgerEnding) → status_of e ≡ 3 → e ≡ Run run.WriteFault
 is_write (Run run.WriteFault) is = refl
@@ -173,6 +178,7 @@ is_write Empty is = absurd (omega (arith, is))
 is_write Exists is = absurd (omega (arith, is))
 is_write (NewerFormat found) is = absurd (omega (arith, is))
 is_write NotaryFault is = absurd (omega (arith, is))
+is_write (Refused why) is = absurd (omega (arith, is))
 
 is_disk : (e : LedgerEnding) → status_of e ≡ 4 → e ≡ DiskFault
 is_disk DiskFault is = refl
@@ -188,6 +194,7 @@ is_disk Empty is = absurd (omega (arith, is))
 is_disk Exists is = absurd (omega (arith, is))
 is_disk (NewerFormat found) is = absurd (omega (arith, is))
 is_disk NotaryFault is = absurd (omega (arith, is))
+is_disk (Refused why) is = absurd (omega (arith, is))
 
 -- an empty line meets no fault
 no_last : (before now : SinkState) → WritesLast [] before now → MeetsNone before now

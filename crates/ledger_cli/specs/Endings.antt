@@ -12,7 +12,9 @@ use Rattle.ledger_open.specs.declared.failure.OpenErr.{OpenErr}
 use Rattle.ledger_open.specs.declared.failure.OpenErr.TheVariants as open_err
 use Rattle.script_lines.specs.Words.{hex_of, spaced_words}
 use Rattle.ledger_cli.specs.declared.ending.LedgerEnding.{LedgerEnding}
-use Rattle.ledger_cli.specs.declared.ending.LedgerEnding.TheVariants.{Run, DiskFault, Damaged, Empty, Exists, NewerFormat, NotaryFault}
+use Rattle.ledger_cli.specs.declared.ending.LedgerEnding.TheVariants.{Run, DiskFault, Damaged, Empty, Exists, NewerFormat, NotaryFault, Refused}
+use Rattle.ledger_cli.specs.declared.denial.Denial.{Denial}
+use Rattle.ledger_cli.specs.declared.denial.Denial.TheVariants.{NoLineage}
 
 -- the exit status of an ending: a number that a script can look at
 abbrev pub status_of : LedgerEnding → ℕ
@@ -23,6 +25,7 @@ status_of Empty = 8
 status_of Exists = 8
 status_of (NewerFormat found) = 9
 status_of NotaryFault = 11
+status_of (Refused why) = 12
 
 -- a line of words, each behind a space, behind what stands in front
 abbrev pub line_of : List ℕ → List (List ℕ) → List ℕ
@@ -38,6 +41,10 @@ damage_line (damage.Entry jsn) = line_of (codes "fail 5 entry") (decimal jsn ∷
 damage_line (damage.Root block kept found) = line_of (codes "fail 5 root") (decimal block ∷ hex_of kept ∷ hex_of found ∷ [])
 damage_line (damage.Content jsn kept found) = line_of (codes "fail 5 content") (decimal jsn ∷ hex_of kept ∷ hex_of found ∷ [])
 
+-- the line that tells why a command is refused
+abbrev pub denial_line : Denial → List ℕ
+denial_line NoLineage = codes "no 53\n"
+
 -- the line that tells an ending; there is none where the run went well, or where its output can't be written
 abbrev pub last_line : LedgerEnding → List ℕ
 last_line (Run ending) = run.last_line ending
@@ -47,6 +54,7 @@ last_line Empty = codes "fail 8 empty\n"
 last_line Exists = codes "fail 8 exists\n"
 last_line (NewerFormat found) = line_of (codes "fail 9 format") (decimal found ∷ [])
 last_line NotaryFault = codes "fail 11 notary\n"
+last_line (Refused why) = denial_line why
 
 -- the ending that an error of making or opening a ledger brings
 abbrev pub ending_of_opening : OpenErr → LedgerEnding
@@ -82,6 +90,7 @@ HasWords Empty = ⊥
 HasWords Exists = ⊥
 HasWords (NewerFormat found) = ⊤
 HasWords NotaryFault = ⊥
+HasWords (Refused why) = ⊥
 
 -- the error for which a ledger wasn't opened, where the ending tells one
 abbrev pub refusal_of : LedgerEnding → Option OpenErr
@@ -92,3 +101,4 @@ refusal_of Empty = Some open_err.Empty
 refusal_of Exists = Some open_err.Exists
 refusal_of (NewerFormat found) = Some (open_err.NewerFormat found)
 refusal_of NotaryFault = None
+refusal_of (Refused why) = None

@@ -46,6 +46,7 @@ abbrev pub names_folder : Option Command → Bool
 names_folder (Some (command.Init genesis)) = true
 names_folder (Some command.Run) = true
 names_folder (Some command.Export) = true
+names_folder (Some (command.Lineage clue from)) = true
 names_folder other = false
 
 -- how a run ends whose notary can't be taken up

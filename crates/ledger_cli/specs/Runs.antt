@@ -1,5 +1,5 @@
 -- What a run of the program did, from the bytes that came in to the bytes that went out and the files that are left.
-use Rattle.std.specs.Prelude.{◌≡◌, ◌≢◌, ℕ, ◌⊎◌, Bool, IsTrue, List, [], ◌∷◌, codes, decimal, Option, None, Some, IsSome, IsSomeAnd, IfSome, Result, ⊤}
+use Rattle.std.specs.Prelude.{◌≡◌, ◌≢◌, ℕ, ◌⊎◌, Bool, IsTrue, List, [], ◌∷◌, codes, decimal, Option, None, Some, IsSome, IsSomeAnd, IfSome, IsOk, Result, ⊤}
 use Rattle.std.specs.Io.KnownBytes.{Consumes, Appends}
 use Rattle.batch_committer.specs.World.{Pair, World, Holds, OneFailed}
 use Rattle.batch_committer.specs.Opened.{IsQuietFor}
@@ -54,7 +54,14 @@ use Rattle.ledger_cli.specs.Heads.{HeadsLeadOn}
 use Rattle.ledger_cli.specs.Leaving.{AreClean, AreErased}
 use Rattle.ledger_cli.specs.Taken.{taken, TookSome}
 use Rattle.ledger_cli.specs.declared.ending.LedgerEnding.{LedgerEnding}
-use Rattle.ledger_cli.specs.declared.ending.LedgerEnding.TheVariants.{Run, DiskFault, Damaged, Empty, Exists, NewerFormat, NotaryFault}
+use Rattle.ledger_cli.specs.declared.ending.LedgerEnding.TheVariants.{Run, DiskFault, Damaged, Empty, Exists, NewerFormat, NotaryFault, Refused}
+use Rattle.ledger_cli.specs.declared.denial.Denial.TheVariants.{NoLineage}
+use Rattle.clue_lineage.specs.Accepting.{acceptance}
+use Rattle.clue_lineage.specs.Making.{lineage_in, shown_from}
+use Rattle.clue_lineage.specs.Lineages.{spelling}
+use Rattle.ledger_book.specs.Books.{Kept, Serves}
+use Rattle.ledger_book.specs.Seals.{head_of}
+use Rattle.sha2.specs.Sha256.{sha256}
 use Rattle.ledger_cli.specs.declared.words.Command.{Command}
 use Rattle.ledger_cli.specs.declared.words.Command.TheVariants as command
 
@@ -147,6 +154,7 @@ FaultsBy Empty before after_all = Faults NoneFailed MeetsNone NoDiskFailed befor
 FaultsBy Exists before after_all = Faults NoneFailed MeetsNone NoDiskFailed before after_all
 FaultsBy (NewerFormat found) before after_all = Faults NoneFailed MeetsNone NoDiskFailed before after_all
 FaultsBy NotaryFault before after_all = Faults NoneFailed MeetsNone NoDiskFailed before after_all
+FaultsBy (Refused why) before after_all = Faults NoneFailed MeetsNone NoDiskFailed before after_all
 
 -- The notary failed once at most for each line that was read, and each failure was counted. Where the disks tell what they
 -- have, each of these is a step's.
@@ -174,6 +182,7 @@ ReadsBy Empty before after_all = after_all ≡ before
 ReadsBy Exists before after_all = after_all ≡ before
 ReadsBy (NewerFormat found) before after_all = after_all ≡ before
 ReadsBy NotaryFault before after_all = after_all ≡ before
+ReadsBy (Refused why) before after_all = after_all ≡ before
 
 -- ---- a script on a ledger
 
@@ -273,6 +282,7 @@ Replies scheme h Empty read replies before after_all = ⊥
 Replies scheme h Exists read replies before after_all = ⊥
 Replies scheme h (NewerFormat found) read replies before after_all = ⊥
 Replies scheme h NotaryFault read replies before after_all = ⊥
+Replies scheme h (Refused why) read replies before after_all = ⊥
 
 -- what a run of a script did on the ledger with this history: everything but the last line
 pub record RunsOn (scheme : Scheme) (h : History) (ending : LedgerEnding) (before after_all : Handed) : Type 0 where
@@ -364,6 +374,7 @@ NotaryFailsBy (Damaged damage) before now = now ≡ before
 NotaryFailsBy Empty before now = now ≡ before
 NotaryFailsBy Exists before now = now ≡ before
 NotaryFailsBy (NewerFormat found) before now = now ≡ before
+NotaryFailsBy (Refused why) before now = now ≡ before
 
 -- what `export` does: the ledger that is there is opened, and its dump is written
 pub record Exports (tells : Bool) (ending : LedgerEnding) (before after_all : Handed) : Type 0 where
@@ -376,6 +387,56 @@ pub record Exports (tells : Bool) (ending : LedgerEnding) (before after_all : Ha
       → LeftAsRead (λ met. IsSomeAnd (refusal_of met) (IsOpenErr before.disks.a.bytes.seen before.disks.b.bytes.seen)) ending before after_all
   pub faults : FaultsBy ending before after_all
   pub notary_fails : NotaryFailsBy ending before.notary.faults after_all.notary.faults
+
+-- a text is the lineage of a clue's records of a history that are kept, from an ordinal on; there are some, and who trusts the
+-- history's head accepts it
+pub record IsLineageOf (from : ℕ) (clue : Digest) (h : History) (written_text : List ℕ) : Type 0 where
+  pub some : shown_from from clue h ≢ []
+  pub text_is : written_text ≡ spelling (lineage_in from clue h)
+  pub accepted : IsOk (acceptance sha256 written_text clue (head_of h))
+
+-- What is written of that lineage, by the ending: all of it; a part of it, where the sink failed; and nothing where no such record
+-- is kept, or memory was missing.
+abbrev pub TracedBy : ℕ → Digest → History → LedgerEnding → List ℕ → Type 0
+TracedBy from clue h (Run run.Done) written = IsLineageOf from clue h written
+TracedBy from clue h (Run run.Usage) written = ⊥
+TracedBy from clue h (Run run.ReadFault) written = ⊥
+TracedBy from clue h (Run run.WriteFault) written = (whole : List ℕ) × IsLineageOf from clue h whole × FallsShort written whole
+TracedBy from clue h (Run run.NoMemory) written = written ≡ []
+TracedBy from clue h (Run run.LineTooLong) written = ⊥
+TracedBy from clue h (Run run.ScriptTooLong) written = ⊥
+TracedBy from clue h DiskFault written = ⊥
+TracedBy from clue h (Damaged damage) written = ⊥
+TracedBy from clue h Empty written = ⊥
+TracedBy from clue h Exists written = ⊥
+TracedBy from clue h (NewerFormat found) written = ⊥
+TracedBy from clue h NotaryFault written = ⊥
+TracedBy from clue h (Refused NoLineage) written = (written ≡ []) × (shown_from from clue h ≡ [])
+
+-- a book's lineage of a clue was written so, for each history that the book serves, and nothing else was met than what the ending tells
+pub record TellsLineage (book : Kept) (from : ℕ) (clue : Digest) (ending : LedgerEnding) (before now : SinkState) : Type 0 where
+  pub part : List ℕ
+  pub appended : Appends before.held now.held part
+  pub written : (h : History) → Serves book h → TracedBy from clue h ending part
+  pub faults : (source : SourceState) (disks : Pair) (notary : NotaryState) → FaultsBy ending (handed source before disks notary) (handed source now disks notary)
+
+-- The lineage of this history's records was written, whole or in part. Nothing is pending on the disks, and they are clean for the history.
+pub record WritesLineage (from : ℕ) (clue : Digest) (h : History) (ending : LedgerEnding) (before after_all : Handed) : Type 0 where
+  pub part : List ℕ
+  pub appended : Appends before.sink.held after_all.sink.held part
+  pub written : TracedBy from clue h ending part
+  pub quiet : IsQuietFor after_all.disks h
+
+-- what `lineage` does: the ledger that is there is opened, and the lineage of a clue's records is written
+pub record TracesClue (from : ℕ) (clue : Digest) (tells : Bool) (ending : LedgerEnding) (before after_all : Handed) : Type 0 where
+  -- whatever history the pair stood for
+  pub serves : IsTrue tells → (h : History) → StandFor before.disks h → WritesLineage from clue h ending before after_all ⊎ IsNotOpened h ending before after_all
+  pub unread : after_all.source ≡ before.source
+  pub unasked : after_all.notary ≡ before.notary
+  -- what shows damage, or is no ledger, isn't opened, and a refusal has its cause
+  pub exact : IsTrue tells → (e : OpenErr) → IsOpenErr before.disks.a.bytes.seen before.disks.b.bytes.seen e → (IsOutside e → ⊥)
+      → LeftAsRead (λ met. IsSomeAnd (refusal_of met) (IsOpenErr before.disks.a.bytes.seen before.disks.b.bytes.seen)) ending before after_all
+  pub faults : FaultsBy ending before after_all
 
 -- the line that tells a new ledger: its id, its size and its root
 abbrev pub ledger_line : Genesis → List ℕ
@@ -402,6 +463,7 @@ MadeBy genesis tells Empty written before after_all = ⊥
 MadeBy genesis tells Exists written before after_all = (written ≡ []) × (IsTrue tells → HasOpen before × SettledAsRead before after_all)
 MadeBy genesis tells (NewerFormat found) written before after_all = ⊥
 MadeBy genesis tells NotaryFault written before after_all = ⊥
+MadeBy genesis tells (Refused why) written before after_all = ⊥
 
 -- a crash leaves two files that are shut, or the new ledger
 abbrev pub LeaveFoundedOrShut : Genesis → Pair → Type 0
@@ -468,6 +530,7 @@ ServedBy scheme tells (Some (command.Dry genesis)) ending before after_all = Run
 ServedBy scheme tells (Some (command.Init genesis)) ending before after_all = Makes genesis tells ending before after_all
 ServedBy scheme tells (Some command.Run) ending before after_all = RunsAgain scheme tells ending before after_all
 ServedBy scheme tells (Some command.Export) ending before after_all = Exports tells ending before after_all
+ServedBy scheme tells (Some (command.Lineage clue from)) ending before after_all = TracesClue from clue tells ending before after_all
 ServedBy scheme tells (Some (command.Sign signing)) ending before after_all = Signs (signed_text signing) ending before after_all
 ServedBy scheme tells (Some (command.Chain text)) ending before after_all = Signs (chain_line text) ending before after_all
 ServedBy scheme tells (Some (command.Soak seed count stop)) ending before after_all = Soaks seed count stop ending before after_all

@@ -4,9 +4,12 @@ use Rattle.ledger_model.specs.declared.genesis.Genesis.{Genesis}
 use Rattle.std.specs.Cmp.Lexicographic.{pointwise}
 use Rattle.script_lines.specs.Spellings.{◌>>=◌, digest_of, name_of, number_of}
 use Rattle.ledger_cli.specs.Chaining.{HasRange, asked_key, asked_signature}
-use Rattle.ledger_cli.specs.Signing.{request_of}
+use Rattle.journal_record.specs.Request.{clue_digest_of}
+use Rattle.ledger_bytes.specs.Digests.{digest}
+use Rattle.ledger_bytes.specs.declared.digest.Digest.{Digest}
+use Rattle.ledger_cli.specs.Signing.{clue_of_word, request_of}
 use Rattle.ledger_cli.specs.declared.words.Command.{Command}
-use Rattle.ledger_cli.specs.declared.words.Command.TheVariants.{Dry, Init, Run, Export, Sign, Chain, Soak}
+use Rattle.ledger_cli.specs.declared.words.Command.TheVariants.{Dry, Init, Run, Export, Lineage, Sign, Chain, Soak}
 
 -- the ledger that a name and two keys make, where they are of their forms
 abbrev pub genesis_of : List ℕ → List ℕ → List ℕ → Option Genesis
@@ -29,6 +32,22 @@ init_of (byte ∷ bytes) name operator regulator = option_map Init (genesis_of n
 abbrev pub in_folder : Command → List ℕ → Option Command
 in_folder command [] = None
 in_folder command (byte ∷ bytes) = Some command
+
+-- the lineage of a clue from an ordinal on, which is at least 1
+abbrev pub lineage_from : Digest → ℕ → Option Command
+lineage_from clue from = if nat_eq from 0 then None else Some (Lineage clue from)
+
+-- what the words behind `lineage DIR` ask for: `NAME FROM`, the lineage of the clue with this name, from an ordinal on
+abbrev pub lineage_in : List ℕ → List ℕ → Option Command
+lineage_in name_word from_word = do
+  name ← clue_of_word name_word
+  from ← number_of (2 ^ 32 - 1) from_word
+  lineage_from (digest (clue_digest_of name)) from
+
+-- what the words behind `lineage` ask for: `DIR NAME FROM`, in the ledger in a folder, whose name has at least one byte
+unfoldable pub lineage_of : List ℕ → List ℕ → List ℕ → Option Command
+lineage_of [] name from = None
+lineage_of (byte ∷ bytes) name from = lineage_in name from
 
 -- what the words behind `sign` ask for: a verb and its words, which a key is to prove on the ledger with this id
 abbrev pub sign_of : List ℕ → List ℕ → List ℕ → List (List ℕ) → Option Command
@@ -76,11 +95,12 @@ of_two verb folder =
 abbrev pub of_three : List ℕ → List ℕ → List ℕ → Option Command
 of_three verb seed size = if pointwise nat_eq verb (codes "chainkey") then key_of seed size else None
 
--- what four words ask for: they may be those of `dry` or `soak`
+-- what four words ask for: they may be those of `dry`, `soak` or `lineage`
 unfoldable pub of_four : List ℕ → List ℕ → List ℕ → List ℕ → Option Command
 of_four verb second third fourth =
     if pointwise nat_eq verb (codes "dry") then dry_of second third fourth
     else if pointwise nat_eq verb (codes "soak") then soak_of second third fourth
+    else if pointwise nat_eq verb (codes "lineage") then lineage_of second third fourth
     else None
 
 -- what five words and more ask for: they may be those of `init`, `sign` or `chainsign`
@@ -92,6 +112,7 @@ of_more verb second third fourth words =
     else None
 
 -- what the words of the command line ask for: `run DIR`, `export DIR`, `chainkey SEED SIZE`, `dry NAME OPKEY REGKEY`, `soak SEED COUNT STOP`,
+-- `lineage DIR NAME FROM`,
 -- `init DIR NAME OPKEY REGKEY`, `chainsign SEED SIZE INDEX MESSAGE`, or `sign ID KEY` and then a request
 abbrev pub command_of : List (List ℕ) → Option Command
 command_of (verb ∷ folder ∷ []) = of_two verb folder
@@ -107,5 +128,6 @@ HasSizes (Dry genesis) = ⊤
 HasSizes (Init genesis) = ⊤
 HasSizes Run = ⊤
 HasSizes Export = ⊤
+HasSizes (Lineage clue from) = ⊤
 HasSizes (Sign signing) = ⊤
 HasSizes (Soak seed count stop) = ⊤

@@ -5,6 +5,7 @@ ghost use Rattle.script_lines.specs.Words.{word_text};
 ghost use Rattle.ledger_cli.specs.Endings as spec;
 ghost use Rattle.ledger_cli.specs.Endings.{status_of, HasWords};
 
+use crate::denial::Denial;
 use batch_committer::CommitErr;
 use block_file::Damage;
 use dump_export::DumpErr;
@@ -30,6 +31,8 @@ pub enum LedgerEnding {
     NewerFormat { found: u8 },
     /// The notary failed while a dump was written.
     NotaryFault,
+    /// The ledger was opened, and what was asked of it is refused.
+    Refused(Denial),
 }
 
 impl LedgerEnding {
@@ -44,6 +47,7 @@ impl LedgerEnding {
             LedgerEnding::Empty | LedgerEnding::Exists => 8,
             LedgerEnding::NewerFormat { .. } => 9,
             LedgerEnding::NotaryFault => 11,
+            LedgerEnding::Refused(_) => 12,
         }
     }
 
@@ -58,6 +62,7 @@ impl LedgerEnding {
             LedgerEnding::Empty => Some(b"fail 8 empty\n"),
             LedgerEnding::Exists => Some(b"fail 8 exists\n"),
             LedgerEnding::NotaryFault => Some(b"fail 11 notary\n"),
+            LedgerEnding::Refused(Denial::NoLineage) => Some(b"no 53\n"),
             LedgerEnding::Damaged(_) | LedgerEnding::NewerFormat { .. } => None,
         }
     }

@@ -1,9 +1,10 @@
-//! Laws of whole runs: each lane is answered in order, a notary's list goes on, and what has a receipt is shown later.
+//! Laws of whole runs: each lane is answered in order, a notary's list goes on, what has a receipt is shown later, and no line is cut.
 
-ghost use Rattle.std.specs.Prelude.{◌≡◌, ◌≤◌, ◌+◌, ℕ, List, All, length, map};
+ghost use Rattle.std.specs.Prelude.{◌≡◌, ◌≤◌, ◌+◌, ℕ, List, [], All, Some, length, map, true};
 ghost use Rattle.std.specs.List.{flat_map};
 ghost use Rattle.ledger_bytes.specs.Begins.{Begins};
-ghost use Rattle.time_peg.specs.Entries.{NotaryState};
+ghost use Rattle.ledger_io.specs.Runs.{AreWhole};
+ghost use Rattle.time_peg.specs.Entries.{IsList, NotaryState};
 ghost use Rattle.script_lines.specs.Grammar.{spoken_line};
 ghost use Rattle.ledger_model.specs.History.{History};
 ghost use Rattle.ledger_model.specs.Merge.{said_by};
@@ -14,10 +15,11 @@ ghost use Rattle.ledger_model.specs.Windows.{said_lines, windows};
 ghost use Rattle.script_lines.specs.Receipts.{IsReceipted};
 ghost use Rattle.ledger_bytes.specs.declared.digest.Digest.{Digest};
 ghost use Rattle.ledger_model.specs.Lawful.{IsSound};
-ghost use Rattle.ledger_cli.specs.Runs.{Answers, MayStand};
+ghost use Rattle.ledger_cli.specs.Runs.{Answers, Handed, MayStand, RunsAgain, StandFor};
 ghost use Rattle.ledger_cli.specs.Leaving.{AreClean, AreErased};
 ghost use Rattle.ledger_cli.specs.Shown.{IsShown};
 ghost use Rattle.ledger_cli.specs.Taken.{taken, TookSome};
+ghost use Rattle.ledger_cli.specs.declared.ending.LedgerEnding.TheVariants as ending;
 
 /// Where all lines of a script belong to one lane, they are answered in their order.
 pub fn lines_of_one_lane_are_answered_in_order()
@@ -58,4 +60,12 @@ pub fn a_written_receipt_is_shown()
     ensures erased { (h whole : History) (first last : NotaryState) (replies : List ℕ) (a b : List ℕ)
         (m : MayStand h whole first last replies (AreErased h replies) a b) (jsn : ℕ) (leaf : Digest)
         → IsSound whole → IsReceipted replies jsn leaf → IsShown m.kept jsn leaf }
+{}
+
+/// A run that a failing disk ends wrote whole lines alone, also where a write was pending on a disk at the call.
+pub fn a_run_that_a_disk_ends_cuts_no_line()
+    ensures { (scheme : Scheme) (before now : Handed) (h : History) (written : List ℕ)
+        → RunsAgain scheme true ending.DiskFault before now → StandFor before.disks h
+        → IsList before.notary.entries → before.sink.held ≡ Some [] → now.sink.held ≡ Some written
+        → AreWhole written }
 {}

@@ -3,23 +3,27 @@
 #![tactic(auto)]
 
 mod chaining;
+mod denial;
 mod desk;
 mod ending;
 mod laws;
 mod main_call;
 mod piece;
+mod scheme;
 mod session;
 mod signing;
 mod standard;
 mod top;
+mod tracing;
 mod window;
 mod words;
 
 pub use chaining::ChainText;
+pub use denial::Denial;
 pub use ending::LedgerEnding;
 pub use laws::{
-    a_run_counts_the_failures_of_its_notary, a_written_receipt_is_shown,
-    lines_of_one_lane_are_answered_in_order, the_list_of_a_notary_goes_on,
+    a_run_counts_the_failures_of_its_notary, a_run_that_a_disk_ends_cuts_no_line,
+    a_written_receipt_is_shown,    lines_of_one_lane_are_answered_in_order, the_list_of_a_notary_goes_on,
 };
 pub use main_call::{Keeping, ledger_main};
 pub use session::run_session;

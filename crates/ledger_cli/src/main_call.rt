@@ -62,7 +62,7 @@ pub fn ledger_main<
         (E.state keeping.keeper))
         (given (S.state source.new) (K.state sink.new) (pair (D.state a.new) (D.state b.new))
         (E.state result.1)) }
-    ensures bounded { result.0 ≤ 11 }
+    ensures bounded { result.0 ≤ 12 }
     ensures usage { (result.0 ≡ 1) ↔ (command_of (map string_bytes words.now) ≡ None) }
     ensures disk_fault { result.0 ≡ 4 → OneFailed
         (pair (D.state a.old) (D.state b.old)) (pair (D.state a.new) (D.state b.new))
@@ -116,7 +116,7 @@ fn wants_notary(alloc: Global, words: &[String]) -> Result<bool, NoMemory>
     ensures err { OnErr result (IsSome (command_of (map string_bytes words.now))) }
 {
     match Command::read(alloc, words)? {
-        Some(Command::Init(_) | Command::Run | Command::Export) => Ok(true),
+        Some(Command::Init(_) | Command::Run | Command::Export | Command::Lineage { .. }) => Ok(true),
         Some(Command::Dry(_) | Command::Sign(_) | Command::Chain(_) | Command::Soak { .. })
         | None => Ok(false),
     }

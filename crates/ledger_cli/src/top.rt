@@ -15,6 +15,7 @@ use crate::chaining::ChainText;
 use crate::ending::{LedgerEnding, ending_of_export, put_line};
 use crate::session::run_session;
 use crate::signing::Signing;
+use crate::tracing::trace;
 use batch_committer::Committer;
 use dump_export::write_dump;
 use lane_work::{Gate, Tools};
@@ -34,7 +35,7 @@ use time_peg::Notary;
 /// The program: runs the command that the words after the program's name make. `init` makes a ledger of the two disks.
 /// `run` opens the ledger that is there, and runs the script that `source` gives on it; its replies are written to `sink`,
 /// a receipt once its block is on the disk for good. `dry` does both with a new ledger. `export` opens the ledger that is there, reads nothing else,
-/// and writes its dump, beside the notary's list. `sign`, `chainkey` and `chainsign` read nothing, use no disk
+/// and writes its dump, beside the notary's list. `lineage` opens it too, and writes the lineage of a clue's records. `sign`, `chainkey` and `chainsign` read nothing, use no disk
 /// and write one text. `soak` reads nothing and uses no disk that is handed in. Whose key a proof shows is what the verifier says. Anchors are stamped by `notary`; where that fails
 /// the line is refused and the run goes on. It answers the exit status:
 ///
@@ -45,12 +46,13 @@ use time_peg::Notary;
 /// | 2 | only where the source failed | `fail 2 read` |
 /// | 3 | only where the sink failed, or took nothing of a piece that wasn't empty | none |
 /// | 4 | only where a disk failed | `fail 4 disk` |
-/// | 5 | `run`, `export`: the open file is damaged; `export`: a journal that it shows isn't what its header says | `fail 5` and the damage |
+/// | 5 | `run`, `export`, `lineage`: the open file is damaged; `export`: a journal that it shows isn't what its header says | `fail 5` and the damage |
 /// | 6 | want of memory | `fail 6 memory` |
 /// | 7 | a line or the script is too long | `fail 7 line`, `fail 7 script` |
-/// | 8 | `run`, `export` where there is no ledger, `init` and `dry` where there is one | `fail 8 empty`, `fail 8 exists` |
-/// | 9 | `run`, `export`: the version of an open file isn't 1 | `fail 9 format` and the version |
+/// | 8 | `run`, `export`, `lineage` where there is no ledger, `init` and `dry` where there is one | `fail 8 empty`, `fail 8 exists` |
+/// | 9 | `run`, `export`, `lineage`: the version of an open file isn't 1 | `fail 9 format` and the version |
 /// | 11 | `export`: only where the notary failed | `fail 11 notary` |
+/// | 12 | `lineage`: exactly where the opened ledger keeps no such record | `no 53` |
 ///
 /// Of several, the first that happens is the status: a run that is done met no fault, and one that ends with a fault met
 /// that one. Lines that ended before a fault of reading are answered first. The last line is written by one attempt; a
@@ -136,6 +138,9 @@ fn run_words<
         Ok(Some(Command::Init(genesis))) => make(tools.alloc, &genesis, sink, a, b),
         Ok(Some(Command::Run)) => run_again(tools, source, sink, a, b, notary),
         Ok(Some(Command::Export)) => export(tools.rt, tools.alloc, sink, a, b, notary),
+        Ok(Some(Command::Lineage { clue, from })) => {
+            trace(tools.rt, tools.alloc, &clue, from, sink, a, b)
+        }
         Ok(Some(Command::Sign(signing))) => sign(&signing, sink),
         Ok(Some(Command::Chain(text))) => write_chain(tools.alloc, &text, sink),
         Ok(Some(Command::Soak { seed, count, stop })) => run_soak(
@@ -271,7 +276,7 @@ fn write_chain<K: Sink>(alloc: Global, text: &ChainText, sink: &mut K) -> Ledger
 }
 
 // Writes one text.
-fn write_text<K: Sink>(text: &[u8], sink: &mut K) -> LedgerEnding
+pub(crate) fn write_text<K: Sink>(text: &[u8], sink: &mut K) -> LedgerEnding
     ensures { (source : SourceState) (disks : Pair) (notary : NotaryState) → Signs text.now result
         (handed source (K.state sink.old) disks notary) (handed source (K.state sink.new) disks notary) }
 {

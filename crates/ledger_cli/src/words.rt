@@ -1,13 +1,14 @@
 //! The command that the words of the command line of `ledgerctl` make.
 
 ghost use Rattle.std.specs.Prelude.{◌≡◌, map, string_bytes, IfOk, IfSome, OnErr, IsSome};
-ghost use Rattle.ledger_cli.specs.Words.{HasSizes, chain_sign_from, dry_of, genesis_of, init_of, key_of, of_four, of_more, in_folder, of_three, of_two, sign_of, soak_of};
+ghost use Rattle.ledger_cli.specs.Words.{HasSizes, chain_sign_from, dry_of, genesis_of, init_of, key_of, of_four, of_more, in_folder, lineage_of, of_three, of_two, sign_of, soak_of};
 
 use crate::chaining::{ChainText, read_key, read_signature};
 use crate::signing::{Signing, read_request};
-use ledger_bytes::{Bytes, NoMemory};
+use journal_record::clue_digest;
+use ledger_bytes::{Bytes, Digest, NoMemory};
 use ledger_model::Genesis;
-use script_lines::{read_digest, read_name, read_number};
+use script_lines::{read_clue, read_digest, read_name, read_number};
 use std::alloc::Global;
 
 /// What the words of the command line ask for.
@@ -21,6 +22,13 @@ pub enum Command {
     Run,
     /// `export DIR`: the ledger that is there, and its dump. It reads no input.
     Export,
+    /// `lineage DIR NAME FROM`: the ledger that is there, and the lineage of a clue's records that are kept. It reads no input.
+    Lineage {
+        /// The digest of the clue's name, 32 zero bytes for `-`.
+        clue: Digest,
+        /// The least ordinal, at least 1.
+        from: u32,
+    },
     /// `sign ID KEY` and a request: the request's message, and the key's proof of it. It reads no input.
     Sign(Signing),
     /// `chainkey` or `chainsign`: what is made of a seed in the scheme of chains. It reads no input.
@@ -47,7 +55,7 @@ impl Command {
     ghost use Rattle.ledger_cli.specs.Words.{command_of};
 
     /// The command that the words after the program's name make, or None where they are of no form. The folder of
-    /// `init`, `run` and `export` isn't part of it: the disks over its files are handed in.
+    /// `init`, `run`, `export` and `lineage` isn't part of it: the disks over its files are handed in.
     pub fn read(alloc: Global, words: &[String]) -> Result<Option<Self>, NoMemory>
         ensures ok { IfOk result (λ command. command ≡ command_of (map string_bytes words.now)) }
         ensures sizes { IfOk result (λ command. IfSome command HasSizes) }
@@ -129,6 +137,8 @@ fn read_four(
         read_dry(alloc, name, operator, regulator)
     } else if verb == "soak" {
         Ok(read_soak(name, operator, regulator))
+    } else if verb == "lineage" {
+        Ok(read_lineage(name, operator, regulator))
     } else {
         Ok(None)
     }
@@ -146,6 +156,23 @@ fn read_soak(seed: &str, count: &str, stop: &str) -> Option<Command>
         return None;
     }
     Some(Command::Soak { seed, count, stop })
+}
+
+#[tactic(auto, unfolding(crate::specs::Words::lineage_of))]
+fn read_lineage(folder: &str, name: &str, from: &str) -> Option<Command>
+    ensures read { result ≡ lineage_of folder.now name.now from.now }
+    ensures sizes { IfSome result HasSizes }
+{
+    let name = name.as_bytes();
+    if folder.is_empty() || name.contains(&b' ') {
+        return None;
+    }
+    let clue = clue_digest(read_clue(name)?);
+    let from = read_number(from.as_bytes(), u64::from(u32::MAX))? as u32;
+    if from == 0 {
+        return None;
+    }
+    Some(Command::Lineage { clue, from })
 }
 
 // Five words and more.
