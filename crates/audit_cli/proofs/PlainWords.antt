@@ -7,11 +7,11 @@ use Rattle.hex.specs.Hex.{decode_pairs}
 use Rattle.ledger_bytes.specs.Digests.{digest}
 use Rattle.ledger_bytes.specs.declared.digest.Digest.{Digest}
 use Rattle.merkle_tree.specs.declared.head.Head.{Head}
-use Rattle.script_lines.specs.Spellings.{digest_of, number_of}
+use Rattle.script_lines.specs.Spellings.{clue_of, digest_of, number_of}
 use Rattle.audit_words.specs.Words.{is_plain_word}
-use Rattle.audit_words.proofs.WordLaws.{dump_asked, plain_dashes, plain_strip, script_asked}
-use Rattle.audit_cli.specs.Words.{command_for, command_of, head_of}
-use Rattle.audit_cli.specs.declared.words.Command.TheVariants.{Script, Dump}
+use Rattle.audit_words.proofs.WordLaws.{dump_asked, lineage_asked, plain_dashes, plain_strip, script_asked}
+use Rattle.audit_cli.specs.Words.{command_for, command_of, head_of, named_clue}
+use Rattle.audit_cli.specs.declared.words.Command.TheVariants.{Script, Dump, Lineage}
 
 -- ---- a word that begins with a hyphen is no number and no digest
 
@@ -72,3 +72,11 @@ dump_made id size root notary_size notary_root d ledger notary id_is ledger_is n
     ∙ ap (option_and_then (λ i. option_and_then (λ l. option_and_then (λ n. Some (Dump i l n)) (head_of notary_size notary_root)) (head_of size root))) id_is
     ∙ ap (option_and_then (λ l. option_and_then (λ n. Some (Dump d l n)) (head_of notary_size notary_root))) ledger_is
     ∙ ap (option_and_then (λ n. Some (Dump d ledger n))) notary_is
+
+pub lineage_made : (name_word size root name : List ℕ) (head : Head) → is_plain_word name_word ≡ true → clue_of name_word ≡ Some name → head_of size root ≡ Some head
+    → command_of (codes "lineage" ∷ name_word ∷ size ∷ root ∷ []) ≡ Some (Lineage (named_clue name) head)
+lineage_made name_word size root name head p name_is head_is =
+    let q = plain_head size root head head_is in
+    ap (option_and_then command_for) (lineage_asked name_word size root (plain_strip name_word p) (plain_strip size q.0) (plain_strip root q.1) (plain_dashes name_word p) (plain_dashes size q.0) (plain_dashes root q.1))
+    ∙ ap (option_and_then (λ n. option_and_then (λ k. Some (Lineage (named_clue n) k)) (head_of size root))) name_is
+    ∙ ap (option_and_then (λ k. Some (Lineage (named_clue name) k))) head_is

@@ -5,5 +5,6 @@ pub mod ReportLines
 pub mod Texts
 pub mod Sound
 pub mod Dumps
+pub mod Lineages
 pub mod Words
 pub mod Runs

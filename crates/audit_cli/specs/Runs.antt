@@ -9,8 +9,9 @@ use Rattle.ledger_io.specs.declared.ending.Ending.TheVariants.{NoMemory, Usage}
 use Rattle.ledger_model.specs.Scheme.{Scheme}
 use Rattle.tree_model.specs.Tree.{Hash}
 use Rattle.audit_cli.specs.declared.words.Command.{Command}
-use Rattle.audit_cli.specs.declared.words.Command.TheVariants.{Script, Dump}
+use Rattle.audit_cli.specs.declared.words.Command.TheVariants.{Script, Dump, Lineage}
 use Rattle.audit_cli.specs.Dumps.{RanDump, SoundDump}
+use Rattle.audit_cli.specs.Lineages.{RanLineage, SoundLineage}
 use Rattle.audit_cli.specs.Texts.{audit_text}
 use Rattle.audit_cli.specs.Sound.{IsSoundText, SoundRun}
 
@@ -45,14 +46,17 @@ abbrev pub RanCommand : Hash → Scheme → Option Command → ℕ → Outside �
 RanCommand hash scheme None status before after = Unstarted Usage status before after
 RanCommand hash scheme (Some Script) status before after = RanScript hash status before after
 RanCommand hash scheme (Some (Dump id ledger notary)) status before after = RanDump scheme id ledger notary status before after
+RanCommand hash scheme (Some (Lineage clue head)) status before after = RanLineage clue head status before after
 
 -- what a run of the program did, to its exit status: memory was wanted to read the words, or what they ask for was run
 abbrev pub RanProgram : Hash → Scheme → Option Command → ℕ → Outside → Outside → Type 0
 RanProgram hash scheme asked status before after =
     Unstarted NoMemory status before after ⊎ RanCommand hash scheme asked status before after
 
--- what was told without a fault is so: all that the text of a script says, or all that the dump does
+-- what was told without a fault is so: all that the text of a script says, all that the dump does, or that the
+-- lineage is accepted
 abbrev pub SoundCommand : Hash → Option Command → Outside → Outside → Type 0
 SoundCommand hash None before after = ⊥
 SoundCommand hash (Some Script) before after = SoundRun hash before after
 SoundCommand hash (Some (Dump id ledger notary)) before after = SoundDump ledger notary before after
+SoundCommand hash (Some (Lineage clue head)) before after = SoundLineage clue head before after

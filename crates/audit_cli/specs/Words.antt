@@ -1,10 +1,13 @@
 -- The words of the command line.
 use Rattle.std.specs.Prelude.{ℕ, ◌-◌, ◌^◌, List, Option, Some, option_and_then}
-use Rattle.audit_words.specs.Words.{Asked, asked_by, script, dump}
+use Rattle.audit_words.specs.Words.{Asked, asked_by, script, dump, lineage}
+use Rattle.journal_record.specs.Request.{clue_digest_of}
+use Rattle.ledger_bytes.specs.Digests.{digest}
+use Rattle.ledger_bytes.specs.declared.digest.Digest.{Digest}
 use Rattle.merkle_tree.specs.declared.head.Head.{Head}
-use Rattle.script_lines.specs.Spellings.{◌>>=◌, digest_of, number_of}
+use Rattle.script_lines.specs.Spellings.{◌>>=◌, clue_of, digest_of, number_of}
 use Rattle.audit_cli.specs.declared.words.Command.{Command}
-use Rattle.audit_cli.specs.declared.words.Command.TheVariants.{Script, Dump}
+use Rattle.audit_cli.specs.declared.words.Command.TheVariants.{Script, Dump, Lineage}
 
 -- a head by the words for its size and its root, where they are a number and a digest
 abbrev pub head_of : List ℕ → List ℕ → Option Head
@@ -21,10 +24,22 @@ dump_for id_word size root notary_size notary_root = do
   notary ← head_of notary_size notary_root
   Some (Dump id ledger notary)
 
--- what is asked for, where the words of a dump are of their forms
+-- the digest of a clue's name; no clue, as `-`, has 32 zero bytes
+abbrev pub named_clue : List ℕ → Digest
+named_clue name = digest (clue_digest_of name)
+
+-- what the words behind `lineage` ask for, where each is of its form
+abbrev pub lineage_for : List ℕ → List ℕ → List ℕ → Option Command
+lineage_for name_word size root = do
+  name ← clue_of name_word
+  head ← head_of size root
+  Some (Lineage (named_clue name) head)
+
+-- what is asked for, where the words behind a subcommand are of their forms
 abbrev pub command_for : Asked → Option Command
 command_for script = Some Script
 command_for (dump id size root notary_size notary_root) = dump_for id size root notary_size notary_root
+command_for (lineage name size root) = lineage_for name size root
 
 -- what the words of the command line ask for; None where `clap` refuses them or one of them isn't of its form
 abbrev pub command_of : List (List ℕ) → Option Command

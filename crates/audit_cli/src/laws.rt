@@ -1,13 +1,14 @@
 //! Laws of the words that make commands, and of an audit script's replies: each stands in its place, and what `yes`,
 //! `true` and `clash` tell is so.
 
-ghost use Rattle.std.specs.Prelude.{◌≡◌, ◌⊎◌, ◌↔◌, ◌+◌, ℕ, List, [], ◌∷◌, ◌++◌, length, codes, None, Some, Ok};
+ghost use Rattle.std.specs.Prelude.{◌≡◌, true, ◌⊎◌, ◌↔◌, ◌+◌, ℕ, List, [], ◌∷◌, ◌++◌, length, codes, None, Some, Ok};
 ghost use Rattle.ledger_bytes.specs.declared.digest.Digest.{Digest as DigestRecord};
 ghost use Rattle.merkle_tree.specs.declared.head.Head.{Head as HeadRecord};
 ghost use Rattle.proof_codec.specs.declared.claim.Claim.{Claim as ClaimRecord};
 ghost use Rattle.proof_codec.specs.Proofs.{Shown};
 ghost use Rattle.proof_codec.specs.Reading.{proof_of};
-ghost use Rattle.script_lines.specs.Spellings.{digest_of};
+ghost use Rattle.script_lines.specs.Spellings.{clue_of, digest_of};
+ghost use Rattle.audit_words.specs.Words.{is_plain_word};
 ghost use Rattle.script_lines.specs.declared.said.Which.{Which as Tree};
 ghost use Rattle.ledger_io.specs.Lines.{lines_of};
 ghost use Rattle.tree_model.specs.Tree.{Hash, mth};
@@ -20,12 +21,12 @@ ghost use Rattle.audit_core.specs.Chains.{BeginsWith, AreReached};
 ghost use Rattle.audit_cli.specs.declared.line.Line.TheVariants.{Extend, Check, Judge};
 ghost use Rattle.audit_cli.specs.declared.reply.Reply.{Reply as ReplyRecord};
 ghost use Rattle.audit_cli.specs.declared.reply.Reply.TheVariants.{Yes, True, Clash};
-ghost use Rattle.audit_cli.specs.declared.words.Command.TheVariants.{Script, Dump};
+ghost use Rattle.audit_cli.specs.declared.words.Command.TheVariants.{Script, Dump, Lineage};
 ghost use Rattle.audit_cli.specs.Grammar.{line_of};
 ghost use Rattle.audit_cli.specs.Replies.{reply_text, IsOneLine};
 ghost use Rattle.audit_cli.specs.Answers.{answer_to};
 ghost use Rattle.audit_cli.specs.Sound.{IsSoundText};
-ghost use Rattle.audit_cli.specs.Words.{command_of, head_of};
+ghost use Rattle.audit_cli.specs.Words.{command_of, head_of, named_clue};
 ghost use Rattle.audit_cli.specs.Texts.{audit_text, text_from, trusted_behind, reply_behind, next_text};
 
 /// The text of a script tells the reply to each line in its place: behind the text of the lines in front of it, with its
@@ -126,7 +127,8 @@ pub fn judged_clashes_are_clashes()
         → reply_behind hash lines line ≡ Clash told truth → IsClash hash told truth }
 {}
 
-/// The word `script` alone makes a command, and so does `dump` with five words of their forms: so neither is of no form.
+/// The word `script` alone makes a command, and so do `dump` with five words of their forms, and `lineage` with three of which the
+/// name doesn't begin with a hyphen: so none of them is of no form.
 pub fn words_make_commands()
     ensures script { command_of (codes "script" ∷ []) ≡ Some Script }
     ensures dump { (id_word size root notary_size notary_root : List ℕ) (id : DigestRecord)
@@ -135,4 +137,8 @@ pub fn words_make_commands()
         → command_of
         (codes "dump" ∷ id_word ∷ size ∷ root ∷ notary_size ∷ notary_root ∷ [])
         ≡ Some (Dump id ledger notary) }
+    ensures lineage { (name_word size root name : List ℕ) (head : HeadRecord)
+        → is_plain_word name_word ≡ true → clue_of name_word ≡ Some name → head_of size root ≡ Some head
+        → command_of (codes "lineage" ∷ name_word ∷ size ∷ root ∷ [])
+        ≡ Some (Lineage (named_clue name) head) }
 {}

@@ -3,9 +3,11 @@
 #![tactic(auto)]
 
 mod answer;
+mod checking;
 mod dumping;
 mod laws;
 mod line;
+mod lineage_line;
 mod reply;
 mod report_line;
 mod session;

@@ -9,6 +9,7 @@ ghost use Rattle.audit_cli.specs.Runs.{RanProgram, RanScript, SoundCommand};
 ghost use Rattle.audit_cli.specs.Sound.{SoundRun};
 ghost use Rattle.audit_cli.specs.Words.{command_of};
 
+use crate::checking::run_lineage;
 use crate::dumping::run_dump;
 use crate::session::run_script;
 use crate::words::Command;
@@ -19,18 +20,19 @@ use std::alloc::Global;
 
 /// The program: runs the command that the words after the program's name make. `script` answers the audit script that
 /// `source` gives, and writes the replies to `sink`. `dump ID SIZE ROOT NSIZE NROOT` audits the dump that `source` gives
-/// against a ledger's id and the heads of the ledger and its notary, and writes the report's line. It answers the exit
+/// against a ledger's id and the heads of the ledger and its notary, and writes the report's line. `lineage NAME SIZE ROOT`
+/// checks the lineage of the clue of that name that `source` gives under a head, and writes one line. It answers the exit
 /// status:
 ///
 /// | Status | Comes | Last line |
 /// |---|---|---|
-/// | 0 | the input was read to its end, and every line has its reply; or the report has no fault | none |
+/// | 0 | the input was read to its end, and every line has its reply; or the report has no fault, or the lineage is accepted | none |
 /// | 1 | exactly where the words are of no form, unless memory was wanted to read them | `fail 1 usage` |
 /// | 2 | only where the source failed | `fail 2 read` |
 /// | 3 | only where the sink failed, or took nothing of a piece that wasn't empty | none |
 /// | 6 | want of memory | `fail 6 memory` |
-/// | 7 | a line or the script is too long; or as many bytes of a dump were read as may be, and more were wanted | `fail 7 line`, `fail 7 script` |
-/// | 10 | the report of a dump has a fault | none |
+/// | 7 | a line, a lineage or the script is too long; or as many bytes of a dump were read as may be, and more were wanted | `fail 7 line`, `fail 7 script` |
+/// | 10 | the report of a dump has a fault, or the lineage isn't accepted | none |
 ///
 /// Of several, the first that happens is the status: a run that is done met no fault, and one that ends with a fault of
 /// reading or writing met that one. Lines that ended before a fault of reading are answered first.
@@ -50,7 +52,8 @@ pub fn audit_top<S: Source, K: Sink, V: Verifier>(
     ensures usage { result ≡ 1 → command_of (map string_bytes words.now) ≡ None }
     ensures refused { command_of (map string_bytes words.now) ≡ None
         → (result ≡ 1) ⊎ (result ≡ 6) }
-    // A script that was read to its end has a text of which all that it says is so, and a dump without a fault is true.
+    // A script that was read to its end has a text of which all that it says is so, a dump without a fault is true, and a lineage
+    // with a yes is accepted.
     ensures sound { result ≡ 0 → SoundCommand sha256 (command_of (map string_bytes words.now))
         (outside (S.state source.old) (K.state sink.old))
         (outside (S.state source.new) (K.state sink.new)) }
@@ -65,6 +68,9 @@ pub fn audit_top<S: Source, K: Sink, V: Verifier>(
         Ok(Some(Command::Script)) => audit_run::<Sha, S, K, V>(alloc, source, sink, verifier),
         Ok(Some(Command::Dump { id, ledger, notary })) => {
             run_dump(alloc, source, sink, &id, &ledger, &notary, verifier)
+        }
+        Ok(Some(Command::Lineage { clue, head })) => {
+            run_lineage(alloc, source, sink, &clue, &head)
         }
         Ok(None) => finish(sink, Ending::Usage),
         Err(NoMemory) => finish(sink, Ending::NoMemory),

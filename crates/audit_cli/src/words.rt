@@ -2,12 +2,13 @@
 
 ghost use Rattle.std.specs.Prelude.{◌≡◌, IfOk, map, string_bytes};
 ghost use Rattle.audit_words.specs.Words.{told};
-ghost use Rattle.audit_cli.specs.Words.{command_of, command_for, dump_for, head_of};
+ghost use Rattle.audit_cli.specs.Words.{command_of, command_for, dump_for, lineage_for, head_of};
 
 use audit_words::{Wanted, WordsErr, read_words};
+use journal_record::clue_digest;
 use ledger_bytes::{Digest, NoMemory};
 use merkle_tree::Head;
-use script_lines::{read_digest, read_number};
+use script_lines::{read_clue, read_digest, read_number};
 use std::alloc::Global;
 
 /// What the words of the command line ask for.
@@ -20,6 +21,11 @@ pub(crate) enum Command {
         id: Digest,
         ledger: Head,
         notary: Head,
+    },
+    /// `lineage NAME SIZE ROOT`: the records of a clue are checked under a head.
+    Lineage {
+        clue: Digest,
+        head: Head,
     },
 }
 
@@ -48,7 +54,17 @@ fn read_wanted(wanted: &Wanted) -> Option<Command>
             notary_size,
             notary_root,
         } => read_dump(id, size, root, notary_size, notary_root),
+        Wanted::Lineage { name, size, root } => read_lineage(name, size, root),
     }
+}
+
+fn read_lineage(name: &str, size: &str, root: &str) -> Option<Command>
+    ensures { result ≡ lineage_for name.now size.now root.now }
+{
+    let name = read_clue(name.as_bytes())?;
+    let head = read_head(size, root)?;
+    let clue = clue_digest(name);
+    Some(Command::Lineage { clue, head })
 }
 
 fn read_dump(
