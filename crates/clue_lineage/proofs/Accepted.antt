@@ -1,27 +1,25 @@
 -- What it means that a lineage is accepted.
-use Rattle.std.proofs.Common.{◌≡◌, ℕ, ◌+◌, Bool, true, false, cond, eqb, List, [], ◌∷◌, length, Option, Some, None, Result, Ok, Err, inl, inr, refl, sym, ap, subst, ◌∙◌, arith}
+use Rattle.std.proofs.Common.{◌≡◌, ℕ, ◌+◌, Bool, true, false, cond, eqb, List, [], ◌∷◌, Option, Some, None, Result, Ok, Err, refl, sym, ap, ◌∙◌}
 use Rattle.std.specs.Prelude.{◌&&◌, not, option_map}
 use Rattle.std.specs.List.{list_all, AllByRecursion}
 use Rattle.std.specs.Str.{bytes_eq}
-use Rattle.std.proofs.lemmas.Bool.{cases_Bool, eqb-true, eq-eqb, and_parts}
+use Rattle.std.proofs.lemmas.Bool.{eqb-true, eq-eqb, and_parts}
 use Rattle.ledger_bytes.specs.declared.digest.Digest.{Digest}
 use Rattle.ledger_bytes.specs.declared.failure.Bad.{Bad}
 use Rattle.ledger_bytes.specs.Fields.{IsBytes}
 use Rattle.journal_record.specs.declared.header.Header.{Header}
 use Rattle.journal_record.specs.declared.header.Kind.{Kind}
 use Rattle.journal_record.specs.declared.header.Kind.TheVariants.{Genesis, Content, Member, Time, Occult, Purge}
-use Rattle.journal_record.specs.Header as headers
 use Rattle.journal_record.specs.Rules.{is_no_clue}
-use Rattle.tree_model.specs.Tree.{Hash, leaf}
-use Rattle.tree_model.specs.Path.{fold_bytes}
+use Rattle.tree_model.specs.Tree.{Hash}
 use Rattle.merkle_tree.specs.declared.head.Head.{Head}
 use Rattle.audit_core.proofs.RootLaws.{same_digest, same_bytes, is_root_means, is_root_of}
 use Rattle.clue_lineage.specs.declared.answer.Run.{Run}
 use Rattle.clue_lineage.specs.declared.answer.LineageNo.{LineageNo}
 use Rattle.clue_lineage.specs.declared.answer.LineageNo.TheVariants.{Malformed, HeadUnknown, LineageClue, LineageLink, LeafPath}
-use Rattle.clue_lineage.specs.Lineages.{Item, Lineage, IsLineage, spelling}
+use Rattle.clue_lineage.specs.Lineages.{Item, Lineage}
 use Rattle.clue_lineage.specs.Reading.{lineage_of, break_of}
-use Rattle.clue_lineage.specs.Accepting.{is_record, is_record_of, follows, leads, first_stranger, first_break_behind, first_break, run_of, unless, refusals, first_refusal, acceptance_under, acceptance_of, acceptance, IsRecordOf, Follows, AreBehind, AreLinked, Leads, IsAccepted}
+use Rattle.clue_lineage.specs.Accepting.{is_record, is_record_of, follows, leads, first_stranger, first_break_behind, first_break, run_of, unless, first_refusal, acceptance_under, acceptance_of, acceptance, IsRecordOf, Follows, AreBehind, AreLinked, Leads, IsAccepted}
 use Rattle.clue_lineage.proofs.Spelled.{lineage_of_found, lineage_of_only}
 
 -- ---- a refusal after the other

@@ -1,8 +1,8 @@
 -- The records of a clue follow one another.
-use Rattle.std.proofs.Common.{◌≡◌, ℕ, zero, suc, ◌+◌, ◌-◌, ◌<◌, ◌≤◌, Bool, true, false, cond, List, [], ◌∷◌, ◌++◌, length, map, take, drop, inl, inr, refl, sym, ap, subst, ◌∙◌, arith, append-nil, append_assoc, length-append}
+use Rattle.std.proofs.Common.{◌≡◌, ℕ, zero, suc, ◌+◌, ◌-◌, ◌<◌, ◌≤◌, Bool, true, false, cond, List, [], ◌∷◌, ◌++◌, length, map, take, drop, inl, inr, refl, sym, ap, subst, ◌∙◌, arith, append-nil, append_assoc}
 use Rattle.std.specs.Prelude.{filter, nat_le, nat_lt, not, ⊤, ◌&&◌, ◌==◌, bytes_eq, IsTrue}
 use Rattle.std.proofs.lemmas.Bool.{cases_Bool, leb-true, leb-false, le-leb, ltb-true, eqb-true, true≢false, and_parts}
-use Rattle.std.proofs.lemmas.List.{map-append, length-map, drop_all}
+use Rattle.std.proofs.lemmas.List.{length-map, drop_all}
 use Rattle.std.proofs.lemmas.List.Elements.{filter-append}
 use Rattle.ledger_bytes.specs.declared.digest.Digest.{Digest}
 use Rattle.audit_core.proofs.RootLaws.{same_digest}
@@ -12,7 +12,7 @@ use Rattle.journal_record.specs.declared.header.Header.{Header}
 use Rattle.journal_record.specs.declared.header.Kind.{Kind}
 use Rattle.journal_record.specs.declared.header.Kind.TheVariants as kind
 use Rattle.ledger_model.specs.Clues.{has_clue, is_of_clue, numbers_of, jsns_with, last_of, next_ordinal, last_journal}
-use Rattle.ledger_model.specs.History.{History, history, journals}
+use Rattle.ledger_model.specs.History.{history}
 use Rattle.ledger_model.specs.Lawful.{IsNext, IsNextOf, AreNext, AreLawful}
 
 -- records whose ordinals count up from n, each naming the number of the one before, and the first this number

@@ -1,9 +1,8 @@
 -- A lineage that is accepted tells the list's journals, or it clashes with them.
-use Rattle.std.proofs.Common.{◌≡◌, ◌⊎◌, inl, inr, ℕ, ◌<◌, Bool, true, List, [], ◌∷◌, ◌++◌, length, map, get_or, Option, Some, None, Result, Ok, Err, refl, sym, ap, subst, ◌∙◌}
+use Rattle.std.proofs.Common.{◌≡◌, ◌⊎◌, inl, inr, ℕ, ◌<◌, List, [], ◌∷◌, length, map, get_or, Some, None, Result, Ok, Err, refl, sym, ap, subst, ◌∙◌}
 use Rattle.std.specs.Prelude.{is_some, IsOk}
 use Rattle.std.specs.Result.{is_ok}
 use Rattle.std.specs.List.{AllByRecursion}
-use Rattle.std.specs.Str.{bytes_eq}
 use Rattle.std.proofs.lemmas.List.{get_or-map}
 use Rattle.ledger_bytes.specs.Digests.{digest}
 use Rattle.ledger_bytes.specs.declared.digest.Digest.{Digest}
@@ -16,7 +15,7 @@ use Rattle.tree_model.proofs.PathClashes.{Makes}
 use Rattle.merkle_tree.specs.declared.clash.Clash.{Clash as ClashRecord}
 use Rattle.merkle_tree.specs.declared.head.Head.{Head}
 use Rattle.merkle_tree.specs.Strings.{pair_of}
-use Rattle.audit_core.specs.Parts.{first_of_parts, PathGives, IsClashOf, Finds}
+use Rattle.audit_core.specs.Parts.{first_of_parts, IsClashOf}
 use Rattle.audit_core.proofs.PartLaws.{told_same, same_told, Agree, first_none, placed_leads_on}
 use Rattle.clue_lineage.specs.declared.answer.Run.{Run}
 use Rattle.clue_lineage.specs.declared.answer.LineageNo.{LineageNo}
@@ -25,9 +24,9 @@ use Rattle.clue_lineage.specs.declared.answer.LineageVerdict.{LineageVerdict}
 use Rattle.clue_lineage.specs.declared.answer.LineageVerdict.TheVariants.{Unaccepted, True, Clash}
 use Rattle.clue_lineage.specs.Lineages.{Item, Lineage}
 use Rattle.clue_lineage.specs.Reading.{lineage_of, break_of}
-use Rattle.clue_lineage.specs.Accepting.{acceptance_under, acceptance_of, acceptance, Leads}
-use Rattle.clue_lineage.specs.Judging.{own_head, own_acceptance, IsOf, AreOf, IsTrueOf, Gives, item_parts, parts_of, clash_in, clash_of, Judges, JudgesRead}
-use Rattle.clue_lineage.proofs.Accepted.{Passes, under_passes}
+use Rattle.clue_lineage.specs.Accepting.{acceptance_under, acceptance_of, acceptance}
+use Rattle.clue_lineage.specs.Judging.{own_head, own_acceptance, IsOf, AreOf, IsTrueOf, Gives, parts_of, clash_in, clash_of, Judges, JudgesRead}
+use Rattle.clue_lineage.proofs.Accepted.{under_passes}
 
 module _ (hash : Hash) (list : List (List ℕ)) where
   pub gives_of : (clue : Digest) (l : Lineage) (run : Run) → acceptance_under hash clue (own_head hash list) l ≡ Ok run → AllByRecursion (Gives hash list) l.items

@@ -1,5 +1,5 @@
 -- What a lineage is made of, and that it is accepted.
-use Rattle.std.proofs.Common.{◌≡◌, ◌≢◌, ℕ, zero, suc, ◌+◌, ◌-◌, ◌*◌, ◌/◌, ◌%◌, ◌<◌, ◌≤◌, ◌^◌, Bool, true, false, cond, List, [], ◌∷◌, ◌++◌, length, map, take, drop, get_or, Option, Some, None, Result, Ok, Err, inl, inr, refl, sym, ap, subst, ◌∙◌, arith, append-nil, append_assoc, length-append}
+use Rattle.std.proofs.Common.{◌≡◌, ◌≢◌, ℕ, zero, suc, ◌+◌, ◌-◌, ◌*◌, ◌/◌, ◌<◌, ◌≤◌, ◌^◌, Bool, true, false, cond, List, [], ◌∷◌, ◌++◌, length, map, take, drop, get_or, Option, Some, None, Result, Ok, Err, inl, inr, refl, sym, ap, subst, ◌∙◌, arith, append-nil, append_assoc, length-append}
 use Rattle.std.specs.Prelude.{All, filter, nat_le, slice_get, min, ◌==◌, IsOk, IfOk, IfErr}
 use Rattle.std.specs.List.{concat, AllByRecursion}
 use Rattle.std.specs.Option.{option_map}
@@ -8,8 +8,7 @@ use Rattle.std.proofs.lemmas.Bool.{cases_Bool, cases_lt, leb-true, le-leb}
 use Rattle.std.proofs.lemmas.List.{map-append, take_all, take_more, drop_all, drop-map, take-map, length-map, length-take}
 use Rattle.std.proofs.lemmas.List.Elements.{All-nil, All-cons, All-head, All-tail}
 use Rattle.std.proofs.lemmas.List.Folds.{concat-append}
-use Rattle.std.proofs.lemmas.Option.{slice_get-map, slice_get_within, slice_get-get_or, get_or_from_slice_get, same_Some}
-use Rattle.ledger_bytes.specs.Digests.{digest}
+use Rattle.std.proofs.lemmas.Option.{slice_get-map, slice_get_within, get_or_from_slice_get, same_Some}
 use Rattle.ledger_bytes.specs.declared.digest.Digest.{Digest}
 use Rattle.sha2.specs.Sha256.{sha256}
 use Rattle.sha2.proofs.Facts256.{length-sha256}
@@ -20,26 +19,25 @@ use Rattle.journal_record.specs.Rules.{IsHeader, is_no_clue}
 use Rattle.journal_record.specs.declared.header.Header.{Header}
 use Rattle.tree_model.specs.Path.{path, path_length, fold_bytes}
 use Rattle.tree_model.specs.Tree as tree
-use Rattle.tree_model.proofs.Folds.{path_gives_root, fold_bytes-concat, fold_bytes_parts}
+use Rattle.tree_model.proofs.Folds.{path_gives_root, fold_bytes-concat}
 use Rattle.tree_model.proofs.Paths.{path_length_below, length-path}
 use Rattle.tree_model.proofs.Widths.{IsWide, path_wide}
 use Rattle.merkle_batch.specs.Rows.{Levels, StandsFor}
-use Rattle.merkle_tree.specs.declared.head.Head.{Head}
 use Rattle.proof_codec.specs.Proofs.{with_count, IsDigests}
-use Rattle.ledger_model.specs.Clues.{is_of_clue, numbers_of, jsns_with}
+use Rattle.ledger_model.specs.Clues.{is_of_clue, jsns_with}
 use Rattle.ledger_model.specs.History as model
 use Rattle.ledger_model.specs.History.{History, journals, leaf_digest}
 use Rattle.ledger_model.specs.Lawful.{AreLawful}
 use Rattle.ledger_model.specs.Proofs.{path_in}
 use Rattle.ledger_model.specs.Texts.{kept_with}
 use Rattle.ledger_model.proofs.LawfulLaws.{AreFrom, lawful_from}
-use Rattle.ledger_book.specs.Books.{Kept, Stands, Serves, headers as book_headers, leaf_digests, sealed_size}
-use Rattle.ledger_book.specs.Seals.{head_at, head_of}
+use Rattle.ledger_book.specs.Books.{Kept, Serves, headers as book_headers, leaf_digests, sealed_size}
+use Rattle.ledger_book.specs.Seals.{head_of}
 use Rattle.ledger_book.proofs.StandsLaws.{point_is, digests_of}
 use Rattle.clue_lineage.specs.declared.answer.LineageErr.{LineageErr}
 use Rattle.clue_lineage.specs.declared.answer.LineageErr.TheVariants.{NoLineage, NoMemory}
-use Rattle.clue_lineage.specs.Lineages.{Item, Lineage, item_text, items_text, front_text, spelling, IsItem, IsLineage}
-use Rattle.clue_lineage.specs.Accepting.{run_of, acceptance, IsRecordOf, Follows, AreBehind, AreLinked, Leads, IsAccepted}
+use Rattle.clue_lineage.specs.Lineages.{item_text, items_text, front_text, spelling, IsItem}
+use Rattle.clue_lineage.specs.Accepting.{run_of, acceptance, IsRecordOf, AreBehind, AreLinked, Leads, IsAccepted}
 use Rattle.clue_lineage.specs.Making.{records_of, kept_records, shown_from, item_in, lineage_over, lineage_in, Makes, StandsIn}
 use Rattle.clue_lineage.proofs.Accepted.{accepted_only}
 use Rattle.clue_lineage.proofs.Chains.{Chain, chain_drop, chain_take, numbers_behind, ordinals_behind, clued_is_record, own_clue, lawful_chain}

@@ -1,26 +1,24 @@
 -- The headers of a lawful history keep the rule of clues.
-use Rattle.std.proofs.Common.{◌≡◌, ℕ, zero, suc, ◌+◌, ◌<◌, Bool, true, false, cond, inl, inr, List, [], ◌∷◌, ◌++◌, length, map, get_or, take, Result, Ok, Err, refl, sym, ap, subst, ◌∙◌, arith, append-nil, append_assoc}
-use Rattle.std.specs.Prelude.{filter, not, ◌&&◌, bytes_eq}
+use Rattle.std.proofs.Common.{◌≡◌, ℕ, zero, suc, ◌<◌, true, false, inl, inr, List, [], ◌∷◌, ◌++◌, length, map, get_or, take, Ok, refl, sym, ap, subst, ◌∙◌, arith, append-nil, append_assoc}
+use Rattle.std.specs.Prelude.{filter, bytes_eq}
 use Rattle.std.specs.List.{AllByRecursion}
-use Rattle.std.proofs.lemmas.Bool.{cases_Bool, true≢false, and_parts}
+use Rattle.std.proofs.lemmas.Bool.{cases_Bool, true≢false}
 use Rattle.std.proofs.lemmas.List.{length-map, map-append, take_at}
 use Rattle.ledger_bytes.specs.declared.digest.Digest.{Digest}
-use Rattle.ledger_bytes.specs.declared.failure.Bad.{Bad}
 use Rattle.ledger_bytes.proofs.Fields.{ok_is}
-use Rattle.audit_core.proofs.RootLaws.{same_digest, same_bytes}
+use Rattle.audit_core.proofs.RootLaws.{same_bytes}
 use Rattle.journal_record.specs.Entry.{Entry}
 use Rattle.journal_record.specs.Header as headers
 use Rattle.journal_record.specs.Reading.{header_of}
 use Rattle.journal_record.specs.Rules.{IsHeader, is_no_clue}
 use Rattle.journal_record.specs.declared.header.Header.{Header}
-use Rattle.journal_record.specs.declared.header.Kind.TheVariants.{Content}
 use Rattle.journal_record.proofs.ReadingLaws.{header_of_only}
-use Rattle.ledger_model.specs.Clues.{has_clue, is_of_clue, numbers_of, last_of}
+use Rattle.ledger_model.specs.Clues.{is_of_clue, numbers_of, last_of}
 use Rattle.ledger_model.specs.History.{History, history, journals, leaves}
 use Rattle.ledger_model.specs.Lawful.{IsNext, AreNext, AreLawful}
 use Rattle.clue_lineage.specs.Lineages.{Item}
 use Rattle.clue_lineage.specs.Accepting.{is_record_of}
-use Rattle.clue_lineage.specs.Runs.{reads_record, is_of, read_number, number_of, records_in, IsNextIn, KeepsClueRule, AreWide}
+use Rattle.clue_lineage.specs.Runs.{reads_record, is_of, read_number, number_of, records_in, KeepsClueRule, AreWide}
 use Rattle.clue_lineage.proofs.Accepted.{record_means, record_told}
 use Rattle.clue_lineage.proofs.Chains.{record_numbers, own_clue, clued_is_record}
 

@@ -1,9 +1,8 @@
 -- A run by ordinals is all records of a clue between two of them.
-use Rattle.std.proofs.Common.{◌≡◌, ℕ, zero, suc, ◌+◌, ◌-◌, ◌<◌, ◌≤◌, Bool, true, false, cond, inl, inr, List, [], ◌∷◌, ◌++◌, length, map, get_or, take, drop, Result, Ok, Err, refl, sym, ap, subst, ◌∙◌, arith, length-drop, length-take-le, length-append, append-nil, append_assoc}
+use Rattle.std.proofs.Common.{◌≡◌, ℕ, zero, suc, ◌+◌, ◌-◌, ◌<◌, ◌≤◌, Bool, true, false, cond, inl, inr, List, [], ◌∷◌, ◌++◌, length, get_or, take, drop, Result, Ok, Err, refl, sym, ap, subst, ◌∙◌, arith, length-drop, length-take-le, length-append, append-nil, append_assoc}
 use Rattle.std.specs.Prelude.{filter, nat_le, nat_lt, ◌&&◌, ◌==◌, All}
 use Rattle.std.specs.List.{AllByRecursion}
-use Rattle.std.specs.Str.{bytes_eq}
-use Rattle.std.proofs.lemmas.Bool.{cases_Bool, leb-true, leb-false, le-leb, lt-leb, ltb-true, and_parts}
+use Rattle.std.proofs.lemmas.Bool.{cases_Bool, leb-true, leb-false, le-leb, lt-leb, ltb-true}
 use Rattle.std.proofs.lemmas.List.{get_or-take, get_or-drop, ext_get_or, length-map, take_at, drop_all}
 use Rattle.std.proofs.lemmas.List.Elements.{All-head, All-tail, filter-append}
 use Rattle.ledger_bytes.specs.declared.digest.Digest.{Digest}
@@ -18,11 +17,11 @@ use Rattle.journal_record.proofs.ReadingLaws.{header_of_only}
 use Rattle.tree_model.specs.Tree.{Hash}
 use Rattle.merkle_tree.specs.declared.head.Head.{Head}
 use Rattle.clue_lineage.specs.declared.answer.Run.{Run}
-use Rattle.clue_lineage.specs.Lineages.{Item, Lineage, IsItem, IsLineage}
+use Rattle.clue_lineage.specs.Lineages.{Item, Lineage, IsItem}
 use Rattle.clue_lineage.specs.Reading.{lineage_of}
-use Rattle.clue_lineage.specs.Accepting.{is_record_of, last_ordinal, run_of, acceptance, IsRecordOf, AreBehind, AreLinked, IsAccepted}
+use Rattle.clue_lineage.specs.Accepting.{last_ordinal, run_of, acceptance, IsRecordOf, AreBehind, AreLinked}
 use Rattle.clue_lineage.specs.Judging.{IsOf, AreOf, IsTrueOf}
-use Rattle.clue_lineage.specs.Runs.{reads_record, is_of, read_ordinal, ordinal_of, records_in, IsNextIn, KeepsClueRule, is_between, records_between, headers_of, headers_read}
+use Rattle.clue_lineage.specs.Runs.{reads_record, is_of, read_ordinal, ordinal_of, records_in, KeepsClueRule, records_between, headers_of, headers_read}
 use Rattle.clue_lineage.proofs.Accepted.{record_means, record_told, accepted_found}
 use Rattle.clue_lineage.proofs.Spelled.{lineage_of_only}
 

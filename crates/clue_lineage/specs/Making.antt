@@ -1,5 +1,5 @@
 -- The lineage that a ledger makes of a clue.
-use Rattle.std.specs.Prelude.{◌≡◌, ◌≢◌, ℕ, ◌≤◌, nat_le, Bool, List, [], map, take, filter, slice_get, Some, Result, Ok, Err, ⊤}
+use Rattle.std.specs.Prelude.{◌≡◌, ◌≢◌, ℕ, ◌≤◌, nat_le, List, [], map, take, filter, slice_get, Some, Result, Ok, Err, ⊤}
 use Rattle.ledger_bytes.specs.declared.digest.Digest.{Digest}
 use Rattle.journal_record.specs.Entry.{Entry}
 use Rattle.ledger_model.specs.Clues.{is_of_clue}

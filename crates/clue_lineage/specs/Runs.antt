@@ -1,5 +1,5 @@
 -- The rule of clues over a list of headers, and the records of a clue between two ordinals.
-use Rattle.std.specs.Prelude.{◌≡◌, ℕ, ◌+◌, ◌<◌, nat_le, Bool, true, false, ◌&&◌, List, [], length, map, take, get_or, filter, Result, Ok, Err}
+use Rattle.std.specs.Prelude.{◌≡◌, ℕ, ◌+◌, ◌<◌, nat_le, Bool, false, ◌&&◌, List, [], length, map, take, get_or, filter, Result, Ok, Err}
 use Rattle.std.specs.List.{AllByRecursion}
 use Rattle.ledger_bytes.specs.declared.digest.Digest.{Digest}
 use Rattle.ledger_bytes.specs.declared.failure.Bad.{Bad}
@@ -10,7 +10,6 @@ use Rattle.journal_record.specs.Rules.{is_no_clue}
 use Rattle.journal_record.specs.declared.header.Header.{Header}
 use Rattle.journal_record.specs.declared.header.Kind.TheVariants.{Content}
 use Rattle.ledger_model.specs.Clues.{last_of}
-use Rattle.clue_lineage.specs.declared.answer.Run.{Run}
 use Rattle.clue_lineage.specs.Lineages.{Item, Lineage}
 use Rattle.clue_lineage.specs.Accepting.{is_record_of}
 

@@ -1,4 +1,4 @@
-use Rattle.std.proofs.Common.{◌≡◌, ◌+◌, length}
+use Rattle.std.proofs.Common.{◌≡◌, length}
 use Rattle.std.specs.List.{list_all}
 use Rattle.clue_lineage.specs.Accepting.{leads}
 use Rattle.clue_lineage.proofs.acceptance.all_lead.Given as goal

@@ -1,4 +1,4 @@
-use Rattle.std.proofs.Common.{◌≡◌, ◌+◌, length}
+use Rattle.std.proofs.Common.{◌≡◌, length}
 use Rattle.clue_lineage.specs.Accepting.{last_ordinal, run_of}
 use Rattle.clue_lineage.proofs.acceptance.run_of.Given as goal
 

@@ -1,4 +1,4 @@
-use Rattle.std.proofs.Common.{◌≡◌, ℕ, List, ◌/◌, length, sym, ap, ◌∙◌}
+use Rattle.std.proofs.Common.{ℕ, List, ◌/◌, length, sym, ap, ◌∙◌}
 use Rattle.ledger_bytes.specs.Digests.{digest}
 use Rattle.tree_model.specs.Tree.{mth, cut}
 use Rattle.tree_model.proofs.Pieces.{length-cut}

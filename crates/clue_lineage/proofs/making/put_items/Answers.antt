@@ -1,4 +1,4 @@
-use Rattle.std.proofs.Common.{rules, ◌≡◌, ℕ, List, sym, ◌∙◌}
+use Rattle.std.proofs.Common.{rules}
 use Rattle.journal_record.specs.Entry.{Entry}
 use Rattle.journal_record.specs.Header.{HasWidths}
 use Rattle.clue_lineage.specs.Making.{StandsIn}

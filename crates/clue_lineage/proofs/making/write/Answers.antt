@@ -1,4 +1,4 @@
-use Rattle.std.proofs.Common.{◌≡◌, ap, sym, ◌∙◌}
+use Rattle.std.proofs.Common.{◌∙◌}
 use Rattle.clue_lineage.proofs.Made.{all_written}
 use Rattle.clue_lineage.proofs.making.write.Goals as goal
 

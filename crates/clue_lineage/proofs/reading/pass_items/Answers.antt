@@ -1,4 +1,4 @@
-use Rattle.std.proofs.Common.{rules, ◌≡◌, ◌+◌, ◌*◌, ◌≤◌, length, sym, ap, subst, ◌∙◌, arith}
+use Rattle.std.proofs.Common.{rules, ◌≡◌, ◌+◌, length, ap, subst, arith}
 use Rattle.clue_lineage.specs.Lineages.{Item}
 use Rattle.clue_lineage.specs.Reading.{behind}
 use Rattle.clue_lineage.proofs.Passing.{Passed, none_passed, one_passed, one_broken, all_passed}

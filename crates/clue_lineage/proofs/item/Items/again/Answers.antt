@@ -1,4 +1,4 @@
-use Rattle.std.proofs.Common.{sym, ap, ◌∙◌, length, arith}
+use Rattle.std.proofs.Common.{arith}
 use Rattle.clue_lineage.proofs.Spelled.{items_counted}
 use Rattle.clue_lineage.proofs.item.Items.again.Goals as goal
 

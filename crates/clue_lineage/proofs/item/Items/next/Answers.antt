@@ -1,4 +1,4 @@
-use Rattle.std.proofs.Common.{◌≡◌, ℕ, ◌+◌, ◌-◌, ◌<◌, length, List, ◌∷◌, drop, sym, ap, subst, ◌∙◌, arith}
+use Rattle.std.proofs.Common.{ℕ, ◌-◌, List, ◌∷◌, sym, ap, subst, ◌∙◌, arith}
 use Rattle.clue_lineage.specs.Lineages.{Item}
 use Rattle.clue_lineage.specs.Reading.{HasItems, items_in}
 use Rattle.clue_lineage.proofs.Spelled.{none_in, never_broken, long_enough, others_left, first_taken}

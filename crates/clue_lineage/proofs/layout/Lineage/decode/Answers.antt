@@ -1,6 +1,6 @@
-use Rattle.std.proofs.Common.{rules, ◌≡◌, ℕ, List, Ok, sym, ap, subst, ◌∙◌, arith}
+use Rattle.std.proofs.Common.{rules, ℕ, List, sym, ap, subst, ◌∙◌, arith}
 use Rattle.clue_lineage.specs.Lineages.{Item, Lineage}
-use Rattle.clue_lineage.specs.Reading.{HasItems, items_in, lineage_of}
+use Rattle.clue_lineage.specs.Reading.{HasItems, items_in}
 use Rattle.clue_lineage.proofs.Spelled.{broken_front, broken_items, broken_end, whole_read, front_within, has_items, items_kept, read_so}
 use Rattle.clue_lineage.proofs.layout.Lineage.decode.Goals as goal
 
