@@ -14,8 +14,8 @@ Promised b p count (Here r) = Returns b p count r
 Promised b p count (There child) = (child.promise.board.value ≡ b) × (child.promise.pass.value ≡ p) × (child.promise.count ≡ count)
 
 -- there is room for so many hands, and for what they hand back
-abbrev pub HasRoom : ℕ → Room → Type 0
-HasRoom n room = (room.hands.items ≡ []) × (n ≤ vec_capacity room.hands) × (room.done.items ≡ []) × (n ≤ vec_capacity room.done)
+abbrev pub HasProverRoom : ℕ → Room → Type 0
+HasProverRoom n room = (room.hands.items ≡ []) × (n ≤ vec_capacity room.hands) × (room.done.items ≡ []) × (n ≤ vec_capacity room.done)
 
 -- two lists are as long, and R holds of the elements at each place
 unfoldable pub EachGives : {A B : Type 0} → (A → B → Type 0) → List A → List B → Type 0

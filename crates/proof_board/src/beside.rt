@@ -3,7 +3,7 @@
 ghost use Rattle.std.specs.Prelude.{◌≡◌, ◌≤◌, ℕ, [], All, List, vec_len, vec_capacity};
 ghost use Rattle.proof_board.specs.Words.{IsPassOf};
 ghost use Rattle.proof_board.specs.Returning.{Returns};
-ghost use Rattle.proof_board.specs.Hands.{Promised, EachGives, HasRoom};
+ghost use Rattle.proof_board.specs.Hands.{Promised, EachGives, HasProverRoom};
 ghost use Rattle.proof_board.specs.declared.board.Board.{Board};
 ghost use Rattle.proof_board.specs.declared.pass.ProverPass.{ProverPass};
 
@@ -83,7 +83,7 @@ pub fn prove_beside<R: Threads + Wait + Sync, S: Session<Back = B> + Drop, B>(
     session: S,
 ) -> (B, Vec<Returned>)
     requires board { All (IsPassOf board.now) passes.items }
-    requires room { HasRoom (vec_len passes) room }
+    requires room { HasProverRoom (vec_len passes) room }
     requires can { S.can session }
     ensures gives { S.gives session result.0 }
     ensures len { vec_len result.1 ≡ vec_len passes }

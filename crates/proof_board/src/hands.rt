@@ -1,7 +1,7 @@
 //! What a prover is to do in a thread of its own, and what it hands back.
 
 ghost use Rattle.std.specs.Prelude.{IfOk};
-ghost use Rattle.proof_board.specs.Hands.{HasRoom};
+ghost use Rattle.proof_board.specs.Hands.{HasProverRoom};
 
 use crate::board::Board;
 use crate::pass::ProverPass;
@@ -72,7 +72,7 @@ pub struct Room {
 impl Room {
     /// Room for so many provers.
     pub fn new(alloc: Global, provers: usize) -> Result<Room, NoMemory>
-        ensures { IfOk result (HasRoom provers) }
+        ensures { IfOk result (HasProverRoom provers) }
     {
         Ok(Room {
             hands: Vec::with_capacity(alloc, provers)?,
