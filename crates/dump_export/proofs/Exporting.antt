@@ -74,7 +74,7 @@ asked_both a b c p q = record { entries = q.entries ∙ p.entries; origin = q.or
 
 -- ---- faults
 
-none_none : (x y z : SinkState) → MeetsNone x y → MeetsNone y z → MeetsNone x z
+pub none_none : (x y z : SinkState) → MeetsNone x y → MeetsNone y z → MeetsNone x z
 none_none x y z p q = (q.0 ∙ p.0, q.1 ∙ p.1)
 
 none_one : (x y z : SinkState) → MeetsNone x y → MeetsOne y z → MeetsOne x z
@@ -89,7 +89,7 @@ behind_none disk notary sink x y z p to q = record {
   sink_is = to q.sink_is;
 }
 
-met_behind : (r : Answer) (x y z : Handed) → MeetsNothing x y → MeetsBy r y z → MeetsBy r x z
+pub met_behind : (r : Answer) (x y z : Handed) → MeetsNothing x y → MeetsBy r y z → MeetsBy r x z
 met_behind (Ok end) x y z p q = behind_none _ _ _ x y z p (none_none x.sink y.sink z.sink p.sink_is) q
 met_behind (Err DiskFault) x y z p q = behind_none _ _ _ x y z p (none_none x.sink y.sink z.sink p.sink_is) q
 met_behind (Err NotaryFault) x y z p q = behind_none _ _ _ x y z p (none_none x.sink y.sink z.sink p.sink_is) q
@@ -101,7 +101,7 @@ pub met_none : (x : Handed) → MeetsNothing x x
 met_none x = record { disk_is = refl; notary_is = refl; sink_is = (refl, refl) }
 
 -- one piece
-put_met : (r : Answer) (file : DiskState) (notary : NotaryState) (s t : SinkState) → MatchResult r (λ (_ : Unit {0}). MeetsNone s t) (λ e. (e ≡ WriteFault) × MeetsOne s t) → MeetsBy r (handed file notary s) (handed file notary t)
+pub put_met : (r : Answer) (file : DiskState) (notary : NotaryState) (s t : SinkState) → MatchResult r (λ (_ : Unit {0}). MeetsNone s t) (λ e. (e ≡ WriteFault) × MeetsOne s t) → MeetsBy r (handed file notary s) (handed file notary t)
 put_met (Ok end) file notary s t m = record { disk_is = refl; notary_is = refl; sink_is = m }
 put_met (Err e) file notary s t m =
     subst (λ (x : DumpErr). MeetsCause x (handed file notary s) (handed file notary t)) (sym m.0) (record { disk_is = refl; notary_is = refl; sink_is = m.1 })

@@ -28,7 +28,7 @@ use Rattle.ledger_open.proofs.PieceLaws.{get_drop, journal_at, none_there, IsJou
 use Rattle.time_peg.specs.Entries.{NotaryState}
 use Rattle.dump_model.specs.Shown.{shown}
 use Rattle.dump_export.specs.Damages.{shown_journals, IsShownWhole, IsOtherPart, IsDamageOf, IsWholeIn}
-use Rattle.dump_export.specs.Exports.{Handed, handed, done, IsBookOf, Writes, shown_item, DamagesOf, DamagesAt, IsShownText, IsUndamaged, MeetsCause, Puts, ReadEnds, TellsDamage, TellsOneDamage}
+use Rattle.dump_export.specs.Exports.{Handed, handed, done, IsBookOf, Writes, shown_item, DamagesOf, DamagesAt, IsShownText, IsUndamaged, MeetsCause, ReadEnds, TellsDamage, TellsOneDamage}
 use Rattle.dump_export.specs.Texts.{first_journals}
 use Rattle.dump_export.specs.declared.failure.DumpErr.{DumpErr}
 use Rattle.dump_export.specs.declared.failure.DumpErr.TheVariants.{DiskFault, NotaryFault, WriteFault, Damaged, NoMemory}
@@ -163,12 +163,6 @@ one_unread h floor n NotaryFault sink at low d = tt
 one_unread h floor n WriteFault sink at low d = tt
 one_unread h floor n (Damaged damage) sink at low d = (d.e, shown_there h floor n d.e at low d.there, d.damages, refl)
 one_unread h floor n NoMemory sink at low d = tt
-
--- one that is read is whole
-pub one_read : (h : History) (floor n : ℕ) (bytes : List ℕ) (r : Answer) (s t : SinkState) → floor ≡ point h → floor ≤ n → IsShownText h n bytes → Puts bytes r s t → TellsOneDamage h (n - floor) r s t
-one_read h floor n bytes (Ok end) s t at low is put = (is.e, shown_there h floor n is.e at low is.there, is.whole)
-one_read h floor n bytes (Err e) s t at low is put =
-    subst (λ (x : DumpErr). TellsOneDamage h (n - floor) (Err x) s t) (sym put.met.0) tt
 
 -- one whole journal more
 pub whole_more : (h : History) (k : ℕ) (e : Entry) → All (IsWholeIn h) (take k (shown_journals h)) → slice_get (shown_journals h) k ≡ Some e → IsWholeIn h e → All (IsWholeIn h) (take (k + 1) (shown_journals h))

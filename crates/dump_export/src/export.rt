@@ -44,9 +44,10 @@ fn write_from<D: Disk, N: Notary, K: Sink>(
 }
 
 /// Writes the dump of an opened ledger, whose files stand on these disks, beside this notary's list. Of the disks only the
-/// open file's is read. What is written is a beginning of the dump, also where it ends early; a journal that is damaged ends
-/// it, and nothing of that journal is written. The memory that it takes doesn't grow with the number of journals, but for the
-/// base, nor with that of the entries.
+/// open file's is read, in pages of 64 KiB or of one longer piece, and journals are written in pieces of 64 KiB or somewhat more. What is written
+/// is a beginning of the dump, also where it ends early. A journal that is damaged ends it, with all in front of it written, and nothing of that
+/// journal is; behind another error the last journals that were read may be missing. The memory that it takes doesn't grow with the number of
+/// journals, but for the base, nor with that of the entries.
 pub fn write_dump<D: Disk, N: Notary, K: Sink>(
     alloc: Global,
     opened: &Opened,

@@ -1,4 +1,4 @@
-//! A journal is read from the open file, held against its header's digests, and spelled as a dump has it.
+//! A journal is read from a page of the open file, held against its header's digests, and spelled as a dump has it.
 
 ghost use Rattle.std.specs.Prelude.{◌≡◌, ◌≢◌, ◌<◌, ◌≤◌, ◌^◌, false, if◌then◌else◌, None, Some, IsTrue, IfOk, IfErr, OnOk, length, option_map};
 ghost use Rattle.journal_record.specs.Entry.{content_digest_of, who_digest_of};
@@ -10,15 +10,17 @@ ghost use Rattle.ledger_open.specs.Pieces.{IsReadAs, WasOnlyRead};
 ghost use Rattle.ledger_open.specs.Places.{entry_at};
 ghost use Rattle.dump_export.specs.Damages.{IsShownWhole};
 ghost use Rattle.dump_export.specs.Exports.{DamagesAt, DamagesOf, IsShownText, ReadEnds, shown_item, IsOtherWho};
+ghost use Rattle.dump_export.specs.Pages.{IsPageOf};
 
 use crate::DumpErr;
+use crate::page::Page;
 use block_file::{Damage, PlaceAt};
 use journal_record::{Body, Header, Record, content_digest, who_digest};
 use ledger_book::Book;
 use ledger_bytes::{Bytes, Digest};
 use ledger_disk::Disk;
 use ledger_model::View;
-use ledger_open::{Places, kept_place, read_piece};
+use ledger_open::{Places, kept_place};
 use std::alloc::Global;
 
 // A part of journal `jsn` is to have the digest that is kept of it.
@@ -37,10 +39,13 @@ fn check_part(jsn: u64, kept: Digest, found: Digest) -> Result<(), DumpErr>
 fn read_content<D: Disk>(
     alloc: Global,
     file: &mut D,
+    page: &mut Page,
     header: &Header,
     place: &PlaceAt,
     hidden: bool,
 ) -> Result<Option<Vec<u8>>, DumpErr>
+    requires page { IsTrue D.tells → IsPageOf page.old (D.state file.old).bytes.seen }
+    ensures page { IsTrue D.tells → IsPageOf page.new (D.state file.new).bytes.seen }
     ensures content { IfOk result (λ content. IsTrue D.tells → option_map (λ v. v.items) content
         ≡ (if hidden then None else Some (entry_at (D.state file.old).bytes.seen header.now place.now).content)) }
     ensures whole { OnOk result (IsTrue D.tells → hidden ≡ false
@@ -57,7 +62,7 @@ fn read_content<D: Disk>(
     if hidden {
         return Ok(None);
     }
-    let content = read_piece(alloc, file, place.content_at, place.content_len)?;
+    let content = page.piece(alloc, file, place.content_at, place.content_len)?;
     check_part(header.jsn, header.content_digest, content_digest(&content))?;
     Ok(Some(content))
 }
@@ -66,9 +71,12 @@ fn read_content<D: Disk>(
 fn read_who<D: Disk>(
     alloc: Global,
     file: &mut D,
+    page: &mut Page,
     header: &Header,
     place: &PlaceAt,
 ) -> Result<Vec<u8>, DumpErr>
+    requires page { IsTrue D.tells → IsPageOf page.old (D.state file.old).bytes.seen }
+    ensures page { IsTrue D.tells → IsPageOf page.new (D.state file.new).bytes.seen }
     ensures who { IfOk result (λ who. IsTrue D.tells
         → who.items ≡ (entry_at (D.state file.old).bytes.seen header.now place.now).who) }
     ensures size { IfOk result (λ who. length who.items < 2 ^ 32) }
@@ -83,7 +91,7 @@ fn read_who<D: Disk>(
     ensures no_fault { OnOk result ((D.state file.new).faults ≡ (D.state file.old).faults) }
     ensures err { IfErr result (λ e. ReadEnds e (D.state file.old).faults (D.state file.new).faults) }
 {
-    let who = read_piece(alloc, file, place.who_at, place.who_len)?;
+    let who = page.piece(alloc, file, place.who_at, place.who_len)?;
     check_part(header.jsn, header.who_digest, who_digest(&who))?;
     Ok(who)
 }
@@ -122,10 +130,13 @@ fn spell(
 fn read_parts<D: Disk>(
     alloc: Global,
     file: &mut D,
+    page: &mut Page,
     header: &Header,
     place: &PlaceAt,
     hidden: bool,
 ) -> Result<Bytes, DumpErr>
+    requires page { IsTrue D.tells → IsPageOf page.old (D.state file.old).bytes.seen }
+    ensures page { IsTrue D.tells → IsPageOf page.new (D.state file.new).bytes.seen }
     ensures bytes { IfOk result (λ bytes. IsTrue D.tells → bytes
         ≡ item_text (shown_item hidden (entry_at (D.state file.old).bytes.seen header.now place.now))) }
     ensures whole { OnOk result (IsTrue D.tells
@@ -138,8 +149,8 @@ fn read_parts<D: Disk>(
     ensures no_fault { OnOk result ((D.state file.new).faults ≡ (D.state file.old).faults) }
     ensures err { IfErr result (λ e. ReadEnds e (D.state file.old).faults (D.state file.new).faults) }
 {
-    let content = read_content(alloc, file, header, place, hidden)?;
-    let who = read_who(alloc, file, header, place)?;
+    let content = read_content(alloc, file, page, header, place, hidden)?;
+    let who = read_who(alloc, file, page, header, place)?;
     spell(alloc, header, &content, who.as_slice())
 }
 
@@ -157,10 +168,13 @@ pub(crate) fn read_journal<D: Disk>(
     book: &Book,
     places: &Places,
     file: &mut D,
+    page: &mut Page,
     n: u64,
 ) -> Result<Bytes, DumpErr>
     requires low { book.now.floor ≤ n }
     requires high { n < book.now.size }
+    requires page { IsTrue D.tells → IsPageOf page.old (D.state file.old).bytes.seen }
+    ensures page { IsTrue D.tells → IsPageOf page.new (D.state file.new).bytes.seen }
     ensures bytes { IfOk result (λ bytes. IsTrue D.tells → (h : History)
         → IsReadAs book.now places.now.list (D.state file.old).bytes.seen h → IsShownText h n bytes) }
     ensures damages { IfErr result (λ e. IsTrue D.tells → (h : History)
@@ -173,7 +187,7 @@ pub(crate) fn read_journal<D: Disk>(
 {
     let hidden = is_hidden(book, n);
     match (book.header(n), kept_place(book, places, n)) {
-        (Some(header), Some(place)) => read_parts(alloc, file, header, &place, hidden),
+        (Some(header), Some(place)) => read_parts(alloc, file, page, header, &place, hidden),
         _ => Err(DumpErr::Damaged(Damage::Entry { jsn: n })),
     }
 }

@@ -7,6 +7,7 @@ mod failure;
 mod front;
 mod journal;
 mod journals;
+mod page;
 mod piece;
 mod tail;
 
