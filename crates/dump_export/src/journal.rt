@@ -163,7 +163,7 @@ fn is_hidden(book: &Book, n: u64) -> bool
 
 /// The bytes of journal `n` in a dump, which the open file has. Its content, where it isn't hidden, and its who are read
 /// first, each whole, and must have the digests that its header names.
-pub(crate) fn read_journal<D: Disk>(
+pub fn read_journal<D: Disk>(
     alloc: Global,
     book: &Book,
     places: &Places,

@@ -13,3 +13,4 @@ mod tail;
 
 pub use export::write_dump;
 pub use failure::DumpErr;
+pub use journal::read_journal;

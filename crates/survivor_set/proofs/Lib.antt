@@ -6,3 +6,4 @@ pub mod Rows
 pub mod Checked
 pub mod Growth
 pub mod Revived
+pub mod Kept

@@ -3,3 +3,4 @@ pub mod Reading
 pub mod Steps
 pub mod Carries
 pub mod Outcomes
+pub mod Keeping

@@ -1,11 +1,12 @@
 //! A set is carried on to a later time journal.
 
-ghost use Rattle.std.specs.Prelude.{◌≡◌, ◌≤◌, ◌<◌, OnOk, slice_get};
+ghost use Rattle.std.specs.Prelude.{◌≡◌, ◌≤◌, ◌<◌, IfErr, OnOk, slice_get};
 ghost use Rattle.ledger_book.specs.Books.{Serves};
 ghost use Rattle.ledger_model.specs.History.{History, journals};
 ghost use Rattle.survivor_set.specs.Carries.{Fits, FitsPath, PutsCarried, PutsAll};
 ghost use Rattle.survivor_set.specs.Outcomes as outcome;
 ghost use Rattle.survivor_set.specs.Outcomes.{CarriesOn, Tells};
+ghost use Rattle.survivor_set.specs.Keeping.{IsDiskless};
 ghost use Rattle.survivor_set.specs.Sets.{IsSaved};
 
 use crate::checking::check_set;
@@ -55,10 +56,11 @@ fn check_later(book: &Book, set: &Set, point: u64) -> Result<(), SetErr>
 }
 
 // The journal at a point, where there is one, tells a time.
-fn check_time(book: &Book, point: u64) -> Result<(), SetErr>
+pub(crate) fn check_time(book: &Book, point: u64) -> Result<(), SetErr>
     requires { book.now.floor ≤ point }
-    ensures { (h : History) → Serves book.now h
+    ensures judged { (h : History) → Serves book.now h
         → Tells result (outcome.time_refusal (slice_get (journals h) point)) }
+    ensures own { IfErr result IsDiskless }
 {
     let Some(header) = book.header(point) else {
         return Ok(());
@@ -68,7 +70,8 @@ fn check_time(book: &Book, point: u64) -> Result<(), SetErr>
 
 // A journal of this kind tells a time.
 fn check_kind(kind: Kind) -> Result<(), SetErr>
-    ensures { Tells result (outcome.kind_refusal kind) }
+    ensures judged { Tells result (outcome.kind_refusal kind) }
+    ensures own { IfErr result IsDiskless }
 {
     if kind == Kind::Time {
         return Ok(());

@@ -44,7 +44,7 @@ pub(crate) fn carried_path<H: TreeHash>(
 }
 
 // Digests, one after the other.
-fn row_of(alloc: Global, digests: &[Digest]) -> Result<Bytes, NoMemory>
+pub(crate) fn row_of(alloc: Global, digests: &[Digest]) -> Result<Bytes, NoMemory>
     ensures cuts { IfOk result (λ row. cut 32 row ≡ map (λ d. d.0) digests.now) }
     ensures len { IfOk result (λ row. length row ≡ 32 * length digests.now) }
 {

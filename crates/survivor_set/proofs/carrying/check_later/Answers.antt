@@ -16,4 +16,4 @@ returns-then-point-clause-judged c = λ h s.
 pub returns-clause-judged : goal.returns-clause-judged
 returns-clause-judged c = λ h s.
     let all = size_of h c.tree.result.now (c.tree.ensures.stands h s.stands) in
-    later_time h c.args.set.now c.args.point (omega (arith, c.if-point-size.false, c.size-size.ensures, all)) c.check_time.result (omega (arith, c.if-point.false, c.point.ensures)) (c.check_time.ensures h s)
+    later_time h c.args.set.now c.args.point (omega (arith, c.if-point-size.false, c.size-size.ensures, all)) c.check_time.result (omega (arith, c.if-point.false, c.point.ensures)) (c.check_time.ensures.judged h s)
