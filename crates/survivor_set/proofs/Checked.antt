@@ -1,13 +1,13 @@
 -- What judging a set answers, and what a set that was judged is worth.
-use Rattle.std.specs.Prelude.{IsErr, IsErrAnd, OnOk, nat_le, nat_lt, bytes_eq, not, All, slice_get, option_map, Result, Ok, Err}
+use Rattle.std.specs.Prelude.{IsErr, IsErrAnd, OnOk, bytes_eq, not, All, slice_get, option_map, Result, Ok, Err}
 use Rattle.std.specs.Option.{option_or, is_some}
-use Rattle.std.proofs.Common.{◌≡◌, ℕ, zero, suc, ◌+◌, ◌-◌, ◌*◌, ◌<◌, ◌≤◌, Bool, true, false, cond, List, [], ◌∷◌, ◌++◌, length, map, get_or, take, drop, Option, Some, None, refl, sym, ap, ap₂, ◌∙◌, subst, arith}
+use Rattle.std.proofs.Common.{◌≡◌, ℕ, ◌+◌, ◌<◌, ◌≤◌, Bool, true, false, cond, List, [], ◌∷◌, map, take, drop, Option, Some, None, refl, sym, ap, ap₂, ◌∙◌, subst}
 use Rattle.std.proofs.lemmas.Bool.{le-leb, lt-leb, lt-ltb, le-ltb}
 use Rattle.std.proofs.lemmas.List.{at_drop_more, length-map, take-map}
 use Rattle.std.proofs.lemmas.List.Elements.{All-nil, All-cons}
 use Rattle.std.proofs.lemmas.Option.{get_or_from_slice_get, slice_get_within}
 use Rattle.sha2.specs.Sha256.{sha256}
-use Rattle.tree_model.specs.Path.{fold_bytes, path_length}
+use Rattle.tree_model.specs.Path.{fold_bytes}
 use Rattle.tree_model.specs.Tree as tree
 use Rattle.tree_model.proofs.Folds.{fold_bytes_parts}
 use Rattle.merkle_batch.specs.Rows.{Levels, StandsFor}

@@ -1,8 +1,8 @@
 -- What is carried on of a set.
 use Rattle.std.specs.Prelude.{⊤, OnOk, All, slice_get, nat_le, nat_lt, not, bytes_eq, Result, Ok, Err, IsErr, IsErrAnd, option_map}
-use Rattle.std.specs.List.{concat, flat_map}
+use Rattle.std.specs.List.{concat}
 use Rattle.std.specs.Option.{option_or}
-use Rattle.std.proofs.Common.{◌≡◌, ℕ, zero, suc, ◌+◌, ◌-◌, ◌*◌, ◌/◌, ◌%◌, ◌<◌, ◌≤◌, ◌^◌, Bool, true, false, cond, List, [], ◌∷◌, ◌++◌, length, map, get_or, take, drop, Option, Some, None, refl, sym, ap, ap₂, ◌∙◌, subst, arith, append_assoc, append-nil}
+use Rattle.std.proofs.Common.{◌≡◌, ℕ, ◌+◌, ◌*◌, ◌<◌, ◌≤◌, ◌^◌, Bool, true, false, cond, List, [], ◌∷◌, ◌++◌, length, map, get_or, take, Option, Some, None, refl, sym, ap, ap₂, ◌∙◌, subst, arith, append_assoc, append-nil}
 use Rattle.std.proofs.lemmas.Bool.{le-leb, lt-leb, lt-ltb, le-ltb}
 use Rattle.std.proofs.lemmas.Grind.{flat_map-append}
 use Rattle.std.proofs.lemmas.List.{take_more, map-append, length-map}
@@ -18,20 +18,19 @@ use Rattle.tree_model.proofs.Widths.{IsWide, path_wide}
 use Rattle.merkle_batch.specs.Rows.{Levels, StandsFor}
 use Rattle.ledger_bytes.specs.Digests.{digest}
 use Rattle.ledger_bytes.specs.declared.digest.Digest.{Digest}
-use Rattle.ledger_bytes.specs.declared.refusal.Refusal.{Refusal}
 use Rattle.ledger_bytes.specs.declared.refusal.Refusal.TheVariants.{NoJournal, Purged, RootDiffers, Damaged}
 use Rattle.journal_record.specs.Entry.{Entry, content_digest_of, who_digest_of}
 use Rattle.journal_record.specs.Header.{spelling}
 use Rattle.journal_record.specs.declared.header.Header.{Header}
-use Rattle.ledger_model.specs.Getting.{damage, who_damage}
+use Rattle.ledger_model.specs.Getting.{damage}
 use Rattle.journal_record.specs.Items.{Item, IsItem}
 use Rattle.ledger_model.specs.History as model
 use Rattle.ledger_model.specs.History.{History, journals, id, size, point, leaf_digest}
 use Rattle.ledger_book.specs.Books.{leaf_digests}
 use Rattle.proof_maker.specs.Making.{is_fault}
 use Rattle.survivor_set.specs.Sets.{Saved, SavedSet, IsSaved, saved_text, survivors_text, front_text, set_text}
-use Rattle.survivor_set.specs.Carries.{Fits, FitsPath, HasPath, carried_over, PutsCarried, PutsAll}
-use Rattle.survivor_set.specs.Outcomes.{Tells, AreOf, IsSurvivorOf, path_below, carried_set, later_refusal, time_refusal, kind_refusal, path_refusal, body_damage, survivor_refusal, survivors_refusal, front_refusal, set_refusal, carry_refusal, EndsBy, CarriesOn}
+use Rattle.survivor_set.specs.Carries.{FitsPath, HasPath, carried_over, PutsCarried, PutsAll}
+use Rattle.survivor_set.specs.Outcomes.{Tells, AreOf, IsSurvivorOf, carried_set, later_refusal, time_refusal, kind_refusal, path_refusal, body_damage, survivor_refusal, survivors_refusal, front_refusal, set_refusal, carry_refusal, EndsBy, CarriesOn}
 use Rattle.survivor_set.specs.declared.failure.SetErr.{SetErr}
 use Rattle.survivor_set.specs.declared.failure.SetErr.TheVariants.{Refused, Bad, NotBelow, OtherLedger, LeafPath, DiskFault, NoMemory}
 

@@ -1,8 +1,8 @@
 -- What is kept, and what is answered where something isn't.
-use Rattle.std.specs.Prelude.{⊤, OnOk, IsErr, IsErrAnd, nat_le, nat_lt, bytes_eq, map, slice_get, option_map, Result, Ok, Err}
-use Rattle.std.specs.List.{concat, flat_map}
+use Rattle.std.specs.Prelude.{IsErr, IsErrAnd, nat_le, nat_lt, bytes_eq, map, slice_get, option_map, Result, Ok, Err}
+use Rattle.std.specs.List.{concat}
 use Rattle.std.specs.Option.{option_or}
-use Rattle.std.proofs.Common.{◌≡◌, ℕ, zero, suc, ◌+◌, ◌*◌, ◌/◌, ◌%◌, ◌<◌, ◌≤◌, ◌^◌, Bool, true, false, cond, inl, inr, ◌⊎◌, List, [], ◌∷◌, ◌++◌, length, take, Option, Some, None, refl, sym, ap, ap₂, ◌∙◌, subst, arith, append_assoc, append-nil}
+use Rattle.std.proofs.Common.{◌≡◌, ℕ, suc, ◌*◌, ◌/◌, ◌%◌, ◌<◌, ◌≤◌, ◌^◌, Bool, true, false, cond, inl, inr, List, [], ◌∷◌, ◌++◌, length, take, Option, Some, None, refl, sym, ap, ◌∙◌, subst, arith, append_assoc, append-nil}
 use Rattle.std.proofs.lemmas.Bool.{le-leb, lt-leb, lt-ltb, le-ltb}
 use Rattle.std.proofs.lemmas.Slice.Eq.{bytes_eq-Decides}
 use Rattle.sha2.specs.Sha256.{sha256}
@@ -13,16 +13,14 @@ use Rattle.tree_model.proofs.Pieces.{concat-cut}
 use Rattle.merkle_batch.specs.declared.tree.TreeErr.{TreeErr}
 use Rattle.merkle_batch.specs.declared.tree.TreeErr.TheVariants as tree_err
 use Rattle.block_file.specs.declared.failure.Damage.{Damage}
-use Rattle.block_file.specs.declared.failure.Damage.TheVariants as damages
-use Rattle.dump_export.specs.Damages.{IsContentWhole, IsShownWhole, IsOtherPart, IsDamageOf}
-use Rattle.dump_export.specs.Exports.{DamagesAt, DamagesOf, IsShownText, ReadEnds}
+use Rattle.dump_export.specs.Damages.{IsContentWhole, IsShownWhole, IsDamageOf}
+use Rattle.dump_export.specs.Exports.{DamagesAt, IsShownText, ReadEnds}
 use Rattle.dump_export.specs.declared.failure.DumpErr.{DumpErr}
 use Rattle.dump_export.specs.declared.failure.DumpErr.TheVariants as dump_err
 use Rattle.dump_model.specs.Shown.{shown}
 use Rattle.journal_record.specs.Entry.{Entry, content_digest_of, who_digest_of}
 use Rattle.journal_record.specs.Header.{code_of}
 use Rattle.proof_codec.specs.Reading.{is_time}
-use Rattle.journal_record.specs.Items.{item_text}
 use Rattle.ledger_bytes.specs.Digests.{digest}
 use Rattle.ledger_bytes.specs.declared.digest.Digest.{Digest}
 use Rattle.ledger_bytes.specs.declared.refusal.Refusal.{Refusal}
@@ -34,7 +32,7 @@ use Rattle.ledger_model.specs.History.{History, journals, id, size, point}
 use Rattle.ledger_model.specs.Targets.{is_hidden}
 use Rattle.survivor_set.specs.Sets.{Saved, SavedSet, saved_text, survivors_text, front_text, set_text}
 use Rattle.survivor_set.specs.Outcomes.{Tells, of_tree, path_below, time_refusal}
-use Rattle.survivor_set.specs.Keeping.{IsKeptAt, AreKept, IsSetOf, point_refusal, place_refusal, damage_of, journal_refusal, number_refusal, numbers_refusal, keep_refusal, StopsBy, KeepsOne, KeepsAll, Keeps, PutsKept, of_dump}
+use Rattle.survivor_set.specs.Keeping.{AreKept, point_refusal, place_refusal, damage_of, journal_refusal, number_refusal, numbers_refusal, StopsBy, KeepsOne, KeepsAll, Keeps, PutsKept, of_dump}
 use Rattle.survivor_set.specs.declared.failure.SetErr.{SetErr}
 use Rattle.survivor_set.specs.declared.failure.SetErr.TheVariants.{Refused, Bad, NotBelow, OtherLedger, LeafPath, DiskFault, NoMemory}
 use Rattle.survivor_set.proofs.Checked.{or_err, or_ok}

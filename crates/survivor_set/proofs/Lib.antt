@@ -7,3 +7,4 @@ pub mod Checked
 pub mod Growth
 pub mod Revived
 pub mod Kept
+pub mod Stays

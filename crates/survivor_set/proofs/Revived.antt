@@ -1,7 +1,7 @@
 -- What is proved of a survivor.
-use Rattle.std.specs.Prelude.{IfErr, IfOk, IsErr, IsErrAnd, slice_get, option_map, Result, Ok, Err}
+use Rattle.std.specs.Prelude.{IfErr, IsErr, IsErrAnd, slice_get, option_map, Result, Ok, Err}
 use Rattle.std.specs.List.{concat}
-use Rattle.std.proofs.Common.{◌≡◌, ℕ, ◌*◌, ◌+◌, ◌<◌, ◌≤◌, ◌^◌, Bool, true, List, [], length, map, get_or, take, Option, Some, None, refl, sym, ap, ◌∙◌, subst, arith, inl, inr}
+use Rattle.std.proofs.Common.{◌≡◌, ℕ, ◌*◌, ◌<◌, ◌^◌, Bool, List, [], length, get_or, take, Option, Some, None, refl, sym, ap, ◌∙◌, subst, arith, inl, inr}
 use Rattle.std.proofs.lemmas.List.{take_all}
 use Rattle.std.proofs.lemmas.Option.{get_or_from_slice_get, slice_get_within, slice_get-map, same_Some}
 use Rattle.sha2.specs.Sha256.{sha256}

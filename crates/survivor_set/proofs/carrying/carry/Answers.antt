@@ -1,4 +1,4 @@
-use Rattle.std.proofs.Common.{◌++◌, ◌∙◌, ap, sym, List, ℕ}
+use Rattle.std.proofs.Common.{◌++◌, ◌∙◌, ap, List, ℕ}
 use Rattle.ledger_book.specs.Books.{leaf_digests}
 use Rattle.survivor_set.specs.Sets.{front_text}
 use Rattle.survivor_set.specs.Outcomes.{set_refusal, later_refusal}

@@ -1,4 +1,4 @@
-use Rattle.std.proofs.Common.{◌∙◌, sym, arith}
+use Rattle.std.proofs.Common.{◌∙◌, arith}
 use Rattle.survivor_set.proofs.Checked.{size_of}
 use Rattle.survivor_set.proofs.Growth.{later_absent, later_below, later_time}
 use Rattle.survivor_set.proofs.carrying.check_later.Goals as goal

@@ -1,4 +1,3 @@
-use Rattle.std.proofs.Common.{subst, sym}
 use Rattle.ledger_model.specs.History.{journals}
 use Rattle.survivor_set.proofs.Checked.{tells_of}
 use Rattle.survivor_set.proofs.Growth.{time_kind}

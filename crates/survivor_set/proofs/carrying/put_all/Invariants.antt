@@ -1,4 +1,4 @@
-use Rattle.std.proofs.Common.{◌≡◌, take}
+use Rattle.std.proofs.Common.{take}
 use Rattle.survivor_set.specs.Carries.{PutsAll}
 use Rattle.survivor_set.proofs.carrying.put_all.Given as goal
 

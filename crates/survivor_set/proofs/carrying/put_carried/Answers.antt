@@ -1,4 +1,4 @@
-use Rattle.std.proofs.Common.{◌≡◌, ◌∙◌, ap, sym, subst, ℕ, length}
+use Rattle.std.proofs.Common.{◌∙◌, ap, length}
 use Rattle.survivor_set.proofs.Growth.{is_saved, puts_same, puts_other}
 use Rattle.survivor_set.proofs.carrying.put_carried.Goals as goal
 

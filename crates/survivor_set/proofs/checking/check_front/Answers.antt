@@ -1,8 +1,6 @@
-use Rattle.std.proofs.Common.{◌∙◌, sym, ap, arith}
+use Rattle.std.proofs.Common.{◌∙◌, sym, arith}
 use Rattle.std.proofs.lemmas.Bool.{true≢false}
-use Rattle.ledger_book.proofs.StandsLaws.{point_is}
 use Rattle.ledger_book.specs.Books.{leaf_digests}
-use Rattle.ledger_bytes.specs.declared.digest.Digest.{Digest}
 use Rattle.survivor_set.proofs.Checked.{other_id, same_id, absent, purged, other_root, same_root, size_of, root_of}
 use Rattle.survivor_set.proofs.checking.check_front.Goals as goal
 

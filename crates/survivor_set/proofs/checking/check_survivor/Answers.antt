@@ -1,9 +1,5 @@
-use Rattle.std.specs.Prelude.{option_map}
-use Rattle.std.proofs.Common.{◌∙◌, ap, ap₂, sym, subst, List, ℕ, Option}
-use Rattle.journal_record.specs.declared.header.Header.{Header}
-use Rattle.ledger_model.specs.Getting.{damage}
-use Rattle.survivor_set.specs.Outcomes.{Tells, path_refusal, body_damage, survivor_refusal}
-use Rattle.survivor_set.specs.declared.failure.SetErr.TheVariants.{Refused}
+use Rattle.std.proofs.Common.{◌∙◌, subst}
+use Rattle.survivor_set.specs.Outcomes.{Tells}
 use Rattle.survivor_set.proofs.Checked.{handed_err, path_first, body_next, who_last, path_seen, body_seen_as, who_seen}
 use Rattle.survivor_set.proofs.checking.check_survivor.Goals as goal
 

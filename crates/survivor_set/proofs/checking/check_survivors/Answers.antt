@@ -1,4 +1,3 @@
-use Rattle.std.proofs.Common.{arith}
 use Rattle.survivor_set.proofs.Checked.{handed_err, refused_here, passed_here}
 use Rattle.survivor_set.proofs.checking.check_survivors.Goals as goal
 

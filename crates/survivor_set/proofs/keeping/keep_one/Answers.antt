@@ -1,7 +1,6 @@
 use Rattle.std.proofs.Common.{sym, subst}
 use Rattle.dump_export.specs.Exports.{IsShownText}
-use Rattle.survivor_set.specs.Keeping.{StopsBy, number_refusal}
-use Rattle.survivor_set.proofs.Kept.{place_stops, keeps_one, read_stops}
+use Rattle.survivor_set.proofs.Kept.{place_stops, keeps_one}
 use Rattle.survivor_set.proofs.keeping.keep_one.Goals as goal
 
 pub returns-in_err-check_place-clause-kept : goal.returns-in_err-check_place-clause-kept
