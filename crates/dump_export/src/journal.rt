@@ -161,9 +161,9 @@ fn is_hidden(book: &Book, n: u64) -> bool
     matches!(book.view(n), View::Occulted)
 }
 
-/// The bytes of journal `n` in a dump, which the open file has. Its content, where it isn't hidden, and its who are read
-/// first, each whole, and must have the digests that its header names.
-pub fn read_journal<D: Disk>(
+/// The bytes of journal `n` in a dump, which the open file has, by a page of the file from which others may be read too. Its content,
+/// where it isn't hidden, and its who are read first, each whole, and must have the digests that its header names.
+pub(crate) fn read_journal<D: Disk>(
     alloc: Global,
     book: &Book,
     places: &Places,
@@ -190,4 +190,27 @@ pub fn read_journal<D: Disk>(
         (Some(header), Some(place)) => read_parts(alloc, file, page, header, &place, hidden),
         _ => Err(DumpErr::Damaged(Damage::Entry { jsn: n })),
     }
+}
+
+/// The bytes of one journal in a dump, which the open file has. Its content, where it isn't hidden, and its who are read first, each
+/// whole, and must have the digests that its header names: else that damage is told, and `DiskFault` comes where the file fails.
+pub fn dump_journal<D: Disk>(
+    alloc: Global,
+    book: &Book,
+    places: &Places,
+    file: &mut D,
+    n: u64,
+) -> Result<Bytes, DumpErr>
+    requires low { book.now.floor ≤ n }
+    requires high { n < book.now.size }
+    ensures bytes { IfOk result (λ bytes. IsTrue D.tells → (h : History)
+        → IsReadAs book.now places.now.list (D.state file.old).bytes.seen h → IsShownText h n bytes) }
+    ensures damages { IfErr result (λ e. IsTrue D.tells → (h : History)
+        → IsReadAs book.now places.now.list (D.state file.old).bytes.seen h → DamagesAt h n e) }
+    ensures read { WasOnlyRead D.tells (D.state file.old) (D.state file.new) }
+    ensures no_fault { OnOk result ((D.state file.new).faults ≡ (D.state file.old).faults) }
+    ensures err { IfErr result (λ e. ReadEnds e (D.state file.old).faults (D.state file.new).faults) }
+{
+    let mut page = Page::new(alloc);
+    read_journal(alloc, book, places, file, &mut page, n)
 }

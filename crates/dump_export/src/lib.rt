@@ -13,4 +13,4 @@ mod tail;
 
 pub use export::write_dump;
 pub use failure::DumpErr;
-pub use journal::read_journal;
+pub use journal::dump_journal;

@@ -89,6 +89,7 @@ served_origin scheme tells (Some (command.Dry genesis)) ending before now s = s.
 served_origin scheme tells (Some (command.Init genesis)) ending before now s = ap (λ (n : NotaryState). n.origin) s.unasked
 served_origin scheme tells (Some command.Run) ending before now s = s.failures.fails.origin
 served_origin scheme tells (Some command.Export) ending before now s = s.asked.origin
+served_origin scheme tells (Some (command.Lineage clue from)) ending before now s = ap (λ (n : NotaryState). n.origin) s.unasked
 served_origin scheme tells (Some (command.Sign signing)) ending before now s = ap (λ (n : NotaryState). n.origin) s.notary_is
 served_origin scheme tells (Some (command.Chain text)) ending before now s = ap (λ (n : NotaryState). n.origin) s.notary_is
 served_origin scheme tells (Some (command.Soak seed count stop)) ending before now s = ap (λ (n : NotaryState). n.origin) s.notary_is

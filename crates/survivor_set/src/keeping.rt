@@ -16,7 +16,7 @@ use crate::carrying::check_time;
 use crate::paths::row_of;
 use crate::writing::{put_front, put_spelled};
 use block_file::Damage;
-use dump_export::{DumpErr, read_journal};
+use dump_export::{DumpErr, dump_journal};
 use ledger_book::Book;
 use ledger_bytes::{Bytes, FieldWriter, Refusal};
 use ledger_disk::Disk;
@@ -144,7 +144,7 @@ fn keep_one<D: Disk>(
     ensures faults { CountsDisk result (D.state file.old).faults (D.state file.new).faults }
 {
     check_place(book, point, n)?;
-    match read_journal(alloc, book, places, file, n) {
+    match dump_journal(alloc, book, places, file, n) {
         Ok(item) => put_kept(alloc, book, point, n, item.as_slice(), fields),
         Err(e) => Err(of_dump(book.size(), e)),
     }
