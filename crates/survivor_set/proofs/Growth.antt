@@ -29,8 +29,8 @@ use Rattle.ledger_model.specs.History.{History, journals, id, size, point, leaf_
 use Rattle.ledger_book.specs.Books.{leaf_digests}
 use Rattle.proof_maker.specs.Making.{is_fault}
 use Rattle.survivor_set.specs.Sets.{Saved, SavedSet, IsSaved, saved_text, survivors_text, front_text, set_text}
-use Rattle.survivor_set.specs.Carries.{FitsPath, HasPath, carried_over, PutsCarried, PutsAll}
-use Rattle.survivor_set.specs.Outcomes.{Tells, AreOf, IsSurvivorOf, carried_set, later_refusal, time_refusal, kind_refusal, path_refusal, body_damage, survivor_refusal, survivors_refusal, front_refusal, set_refusal, carry_refusal, EndsBy, CarriesOn}
+use Rattle.survivor_set.specs.Carries.{HasPath, carried_over, PutsCarried, PutsAll}
+use Rattle.survivor_set.specs.Outcomes.{Tells, AreJournalsOf, IsSurvivorOf, carried_set, later_refusal, time_refusal, kind_refusal, path_refusal, body_damage, survivor_refusal, survivors_refusal, front_refusal, set_refusal, carry_refusal, CarryEnds, CarriesOn}
 use Rattle.survivor_set.specs.declared.failure.SetErr.{SetErr}
 use Rattle.survivor_set.specs.declared.failure.SetErr.TheVariants.{Refused, Bad, NotBelow, OtherLedger, LeafPath, DiskFault, NoMemory}
 
@@ -67,12 +67,6 @@ puts_other (Ok done) t p q n x item made row below old new n_is item_is below_is
 at_here : (P : Saved → Type 0) (xs : List Saved) (i : ℕ) (x : Saved) → slice_get xs i ≡ Some x → All P xs → P x
 at_here P xs i x here each = subst P (get_or_from_slice_get xs i x x here) (each i x (slice_get_within xs i x here))
 
-pub fits_here : (p : ℕ) (xs : List Saved) (i : ℕ) (x : Saved) → slice_get xs i ≡ Some x → All (FitsPath p) xs → FitsPath p x
-fits_here p = at_here (FitsPath p)
-
-pub of_here : (h : History) (p : ℕ) (xs : List Saved) (i : ℕ) (x : Saved) → slice_get xs i ≡ Some x → All (IsSurvivorOf h p) xs → IsSurvivorOf h p x
-of_here h p = at_here (IsSurvivorOf h p)
-
 pub puts_more : (t : Levels) (p q : ℕ) (xs : List Saved) (i : ℕ) (x : Saved) (old mid new : List ℕ) → slice_get xs i ≡ Some x → PutsAll t p q xs (take i xs) old mid → PutsCarried t p q x mid new → PutsAll t p q xs (take (i + 1) xs) old new
 puts_more t p q xs i x old mid new here far puts = λ leaves stands each.
     let f = carried_over leaves q in
@@ -95,13 +89,13 @@ has_path h p x is =
     ap (cut 32) is.path_is ∙ cut-concat 32 (omega arith) (path sha256 x.item.header.jsn leaves)
     (path_wide sha256 length-sha256 (length leaves) x.item.header.jsn leaves (All-take IsWide p (leaf_digests h) (leaves_wide h)))
 
-have_paths : (h : History) (s : SavedSet) → AreOf h s → All (HasPath (leaf_digests h) s.point) s.survivors
+have_paths : (h : History) (s : SavedSet) → AreJournalsOf h s → All (HasPath (leaf_digests h) s.point) s.survivors
 have_paths h s are = λ k d lt. has_path h s.point (get_or s.survivors k d) (are k d lt)
 
 -- ---- the carried set
 
 pub carried_told : (h : History) (s : SavedSet) (t : Levels) (q : ℕ) (id root : Digest) (count : ℕ) (mid new : List ℕ) → StandsFor sha256 t (leaf_digests h) → id ≡ s.id → root.0 ≡ model.root h q → count ≡ length s.survivors
-    → mid ≡ front_text id q root count → PutsAll t s.point q s.survivors s.survivors mid new → AreOf h s → new ≡ set_text (carried_set h q s)
+    → mid ≡ front_text id q root count → PutsAll t s.point q s.survivors s.survivors mid new → AreJournalsOf h s → new ≡ set_text (carried_set h q s)
 unfolding carried_set set_text
 carried_told h s t q id root count mid new stands id_is root_is count_is front puts are =
     let xs = map (carried_over (leaf_digests h) q) s.survivors in
@@ -211,7 +205,7 @@ later_refuses : (h : History) (s : SavedSet) (q : ℕ) → Refuses (later_refusa
 unfolding later_refusal
 later_refuses h s q = if_refuses _ (Some (Refused _)) _ (some_refuses _ refl) (if_refuses _ (Some (NotBelow _)) _ (some_refuses _ tt) (time_refuses (slice_get (journals h) q)))
 
-pub ended : (why : Option SetErr) → Refuses why → (e : SetErr) → why ≡ Some e → EndsBy why e
+pub ended : (why : Option SetErr) → Refuses why → (e : SetErr) → why ≡ Some e → CarryEnds why e
 ended why refuses (Refused x) is = is
 ended why refuses (Bad x) is = refuses (Bad x) is
 ended why refuses (NotBelow p) is = is
@@ -223,8 +217,3 @@ ended why refuses NoMemory is = absurd (refuses NoMemory is)
 pub carries_err : (h : History) (s : SavedSet) (q : ℕ) (r : Result (List ℕ) SetErr) (e : SetErr) → IsErr r × IsErrAnd r (λ f. f ≡ e) → carry_refusal h s q ≡ Some e → CarriesOn h s q r
 carries_err h s q (Ok bytes) e is why = absurd (cc is.0)
 carries_err h s q (Err f) e is why = ended (carry_refusal h s q) (or_refuses (set_refusal h s) (later_refusal h s q) (set_refuses h s) (later_refuses h s q)) f (why ∙ ap Some (sym is.1))
-
--- memory was wanting where nothing is refused
-pub carries_none : (h : History) (s : SavedSet) (q : ℕ) (r : Result (List ℕ) SetErr) → IsErr r × IsErrAnd r (λ f. f ≡ NoMemory) → carry_refusal h s q ≡ None → CarriesOn h s q r
-carries_none h s q (Ok bytes) is why = absurd (cc is.0)
-carries_none h s q (Err f) is why = subst (EndsBy (carry_refusal h s q)) (sym is.1) why

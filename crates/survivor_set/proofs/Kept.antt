@@ -14,8 +14,7 @@ use Rattle.merkle_batch.specs.declared.tree.TreeErr.{TreeErr}
 use Rattle.merkle_batch.specs.declared.tree.TreeErr.TheVariants as tree_err
 use Rattle.block_file.specs.declared.failure.Damage.{Damage}
 use Rattle.dump_export.specs.Damages.{IsContentWhole, IsShownWhole, IsDamageOf}
-use Rattle.dump_export.specs.Exports.{DamagesAt, IsShownText, ReadEnds}
-use Rattle.dump_export.specs.declared.failure.DumpErr.{DumpErr}
+use Rattle.dump_export.specs.Exports.{IsShownText}
 use Rattle.dump_export.specs.declared.failure.DumpErr.TheVariants as dump_err
 use Rattle.dump_model.specs.Shown.{shown}
 use Rattle.journal_record.specs.Entry.{Entry, content_digest_of, who_digest_of}
@@ -32,7 +31,7 @@ use Rattle.ledger_model.specs.History.{History, journals, id, size, point}
 use Rattle.ledger_model.specs.Targets.{is_hidden}
 use Rattle.survivor_set.specs.Sets.{Saved, SavedSet, saved_text, survivors_text, front_text, set_text}
 use Rattle.survivor_set.specs.Outcomes.{Tells, of_tree, path_below, time_refusal}
-use Rattle.survivor_set.specs.Keeping.{AreKept, point_refusal, place_refusal, damage_of, journal_refusal, number_refusal, numbers_refusal, StopsBy, KeepsOne, KeepsAll, Keeps, PutsKept, of_dump}
+use Rattle.survivor_set.specs.Keeping.{AreKept, point_refusal, place_refusal, damage_of, journal_refusal, number_refusal, numbers_refusal, StopsBy, KeepsOne, KeepsAll, KeepsSet, PutsKept, of_dump}
 use Rattle.survivor_set.specs.declared.failure.SetErr.{SetErr}
 use Rattle.survivor_set.specs.declared.failure.SetErr.TheVariants.{Refused, Bad, NotBelow, OtherLedger, LeafPath, DiskFault, NoMemory}
 use Rattle.survivor_set.proofs.Checked.{or_err, or_ok}
@@ -116,25 +115,6 @@ damaged hidden e d n (inr both) =
     let found = who_digest_of e.who in
     ap (λ o. option_map Refused (option_or o (who_damage e.header e.who))) (content_none hidden e both.0) ∙ ap (option_map Refused) (other_damage kept found both.1.1) ∙ ap (λ x. Some (of_dump n (dump_err.Damaged x))) (sym both.1.0)
 
--- a journal that isn't read whole
-pub read_stops : (h : History) (p n all : ℕ) (e : DumpErr) (before after : ℕ) → place_refusal h p n ≡ None → ReadEnds e before after → DamagesAt h n e → StopsBy (number_refusal h p n) (of_dump all e)
-read_stops h p n all dump_err.DiskFault before after none ends at = tt
-read_stops h p n all dump_err.NotaryFault before after none ends at = absurd ends
-read_stops h p n all dump_err.WriteFault before after none ends at = absurd ends
-read_stops h p n all dump_err.NoMemory before after none ends at = tt
-read_stops h p n all (dump_err.Damaged d) before after none ends at =
-    let hidden = is_hidden h at.e.header.jsn in
-    let why : number_refusal h p n ≡ Some (of_dump all (dump_err.Damaged d)) =
-    or_ok (place_refusal h p n) (journal_refusal h (slice_get (journals h) n)) none ∙ ap (journal_refusal h) at.there ∙ damaged hidden at.e d all at.damages in
-    refused d why (of_part hidden at.e d at.damages)
-  where
-    of_part : (hidden : Bool) (e : Entry) (d : Damage) → IsDamageOf hidden e d → (kept : Digest) × (found : Digest) × (of_dump all (dump_err.Damaged d) ≡ Refused (Damaged kept found))
-    of_part hidden e d (inl both) = (e.header.content_digest, digest (content_digest_of e.content), ap (λ x. of_dump all (dump_err.Damaged x)) both.1.0)
-    of_part hidden e d (inr both) = (e.header.who_digest, digest (who_digest_of e.who), ap (λ x. of_dump all (dump_err.Damaged x)) both.1.0)
-
-    refused : (d : Damage) → number_refusal h p n ≡ Some (of_dump all (dump_err.Damaged d)) → (kept : Digest) × (found : Digest) × (of_dump all (dump_err.Damaged d) ≡ Refused (Damaged kept found)) → StopsBy (number_refusal h p n) (of_dump all (dump_err.Damaged d))
-    refused d why is = subst (StopsBy (number_refusal h p n)) (sym is.2) (why ∙ ap Some is.2)
-
 -- one that is read, and added or not
 pub keeps_one : (h : History) (p n : ℕ) (book : Kept) (item : List ℕ) (r : Result (Unit {0}) SetErr) (old new : List ℕ) → Stands book h → place_refusal h p n ≡ None → IsShownText h n item → PutsKept book p n item r old new → KeepsOne h p n r old new
 unfolding saved_text
@@ -183,11 +163,6 @@ stops_then a b e none is = subst (λ o. StopsBy o e) (sym (or_ok a b none)) is
 pub keeps_none : (h : History) (p : ℕ) (ns old : List ℕ) → ns ≡ [] → KeepsAll h p ns (Ok tt) old old
 keeps_none h p ns old is = subst (λ (l : List ℕ). KeepsAll h p l (Ok tt) old old) (sym is) (refl, [], tt, sym (append-nil old))
 
-pub keeps_stop : (h : History) (p n : ℕ) (rest ns : List ℕ) (r : Result (Unit {0}) SetErr) (e : SetErr) (old mid : List ℕ) → ns ≡ n ∷ rest → IsErr r × IsErrAnd r (λ f. f ≡ e) → StopsBy (number_refusal h p n) e → KeepsAll h p ns r old mid
-keeps_stop h p n rest ns (Ok done) e old mid ns_are is stops = absurd (cc is.0)
-keeps_stop h p n rest ns (Err f) e old mid ns_are is stops =
-    subst (λ (l : List ℕ). StopsBy (numbers_refusal h p l) f) (sym ns_are) (stops_first (number_refusal h p n) (numbers_refusal h p rest) f (subst (StopsBy (number_refusal h p n)) (sym is.1) stops))
-
 pub keeps_more : (h : History) (p n : ℕ) (rest ns : List ℕ) (one : Result (Unit {0}) SetErr) (r : Result (Unit {0}) SetErr) (done : Unit {0}) (old mid new : List ℕ) → ns ≡ n ∷ rest → KeepsOne h p n (Ok done) old mid → KeepsAll h p rest r mid new → KeepsAll h p ns r old new
 keeps_more h p n rest ns one (Ok end) done old mid new ns_are first behind =
     subst (λ (l : List ℕ). KeepsAll h p l (Ok end) old new) (sym ns_are)
@@ -223,16 +198,12 @@ point_refuses h p e is = go e is (refuses e is)
     go : (e : SetErr) → point_refusal h p ≡ Some e → (w : Refusal) × (e ≡ Refused w) → StopsBy (point_refusal h p) e
     go e is w = subst (StopsBy (point_refusal h p)) (sym w.1) (is ∙ ap Some w.1)
 
-pub point_stops : (h : History) (p : ℕ) (ns : List ℕ) (r : Result (List ℕ) SetErr) (e : SetErr) → IsErr r × IsErrAnd r (λ f. f ≡ e) → point_refusal h p ≡ Some e → Keeps h p ns r
+pub point_stops : (h : History) (p : ℕ) (ns : List ℕ) (r : Result (List ℕ) SetErr) (e : SetErr) → IsErr r × IsErrAnd r (λ f. f ≡ e) → point_refusal h p ≡ Some e → KeepsSet h p ns r
 point_stops h p ns (Ok bytes) e is why = absurd (cc is.0)
 point_stops h p ns (Err f) e is why = stops_first (point_refusal h p) (numbers_refusal h p ns) f (point_refuses h p f (why ∙ ap Some (sym is.1)))
 
-pub numbers_stop : (h : History) (p : ℕ) (ns : List ℕ) (r : Result (List ℕ) SetErr) (e : SetErr) → IsErr r × IsErrAnd r (λ f. f ≡ e) → point_refusal h p ≡ None → StopsBy (numbers_refusal h p ns) e → Keeps h p ns r
-numbers_stop h p ns (Ok bytes) e is none stops = absurd (cc is.0)
-numbers_stop h p ns (Err f) e is none stops = stops_then (point_refusal h p) (numbers_refusal h p ns) f none (subst (StopsBy (numbers_refusal h p ns)) (sym is.1) stops)
-
 pub keeps_set : (h : History) (p : ℕ) (ns : List ℕ) (mine root : Digest) (count : ℕ) (old mid new bytes : List ℕ) → point_refusal h p ≡ None → mine.0 ≡ id h → root.0 ≡ model.root h p → count ≡ length ns → mid ≡ front_text mine p root count
-    → KeepsAll h p ns (Ok tt) mid new → bytes ≡ new → Keeps h p ns (Ok bytes)
+    → KeepsAll h p ns (Ok tt) mid new → bytes ≡ new → KeepsSet h p ns (Ok bytes)
 unfolding set_text
 keeps_set h p ns mine root count old mid new bytes none mine_is root_is count_is front all end =
     let s : SavedSet = record { id = digest (id h); point = p; root = digest (model.root h p); survivors = all.1 } in

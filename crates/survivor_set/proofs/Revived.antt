@@ -1,7 +1,7 @@
 -- What is proved of a survivor.
 use Rattle.std.specs.Prelude.{IfErr, IsErr, IsErrAnd, slice_get, option_map, Result, Ok, Err}
 use Rattle.std.specs.List.{concat}
-use Rattle.std.proofs.Common.{◌≡◌, ℕ, ◌*◌, ◌<◌, ◌^◌, Bool, List, [], length, get_or, take, Option, Some, None, refl, sym, ap, ◌∙◌, subst, arith, inl, inr}
+use Rattle.std.proofs.Common.{◌≡◌, ℕ, ◌*◌, ◌<◌, ◌^◌, Bool, List, [], length, get_or, take, Option, Some, None, sym, ap, ◌∙◌, subst, arith, inl}
 use Rattle.std.proofs.lemmas.List.{take_all}
 use Rattle.std.proofs.lemmas.Option.{get_or_from_slice_get, slice_get_within, slice_get-map, same_Some}
 use Rattle.sha2.specs.Sha256.{sha256}
@@ -16,12 +16,10 @@ use Rattle.journal_record.specs.declared.header.Header.{Header}
 use Rattle.ledger_model.specs.Bounds.{has_bound}
 use Rattle.ledger_model.specs.History.{History, journals, size, leaf_digest}
 use Rattle.ledger_book.specs.Books.{leaf_digests}
-use Rattle.proof_maker.specs.Parts.{AreDigests, LeadsUp, IsNotaryErr}
+use Rattle.proof_maker.specs.Parts.{AreDigests, LeadsUp}
 use Rattle.proof_maker.specs.declared.made.Made.{Made}
-use Rattle.proof_maker.specs.declared.made.MakeErr.{MakeErr}
-use Rattle.proof_maker.specs.declared.made.MakeErr.TheVariants as make_err
 use Rattle.survivor_set.specs.Sets.{Saved, SavedSet}
-use Rattle.survivor_set.specs.Outcomes.{Tells, IsSurvivorOf, IsOwn, Revives, RevivesNot, set_refusal, survivors_refusal, of_make}
+use Rattle.survivor_set.specs.Outcomes.{Tells, IsSurvivorOf, IsOwn, Revives, RevivesNot, set_refusal, survivors_refusal}
 use Rattle.survivor_set.specs.declared.failure.SetErr.{SetErr}
 use Rattle.survivor_set.specs.declared.failure.SetErr.TheVariants.{Refused, Bad, NotBelow, OtherLedger, LeafPath, DiskFault, NoMemory}
 use Rattle.survivor_set.proofs.Growth.{IsRefusing, Refuses, survivors_refuse, set_refuses, has_path}
@@ -77,17 +75,6 @@ revives_err h es s x (Err f) e is why = revives_not (set_refusal h s) (has_bound
 -- where nothing refuses the set
 pub revives_from : (h : History) (es : List (List ℕ)) (s : SavedSet) (x : Saved) (r : Result Made SetErr) → set_refusal h s ≡ None → Revives h es None s.point x r → Revives h es (set_refusal h s) s.point x r
 revives_from h es s x r none is = subst (λ (w : Option SetErr). Revives h es w s.point x r) (sym none) is
-
--- the notary's failure, or want of memory
-notary_not : (bound : Bool) (e : MakeErr) → IsNotaryErr bound e → (let none : Option SetErr = None in RevivesNot none bound (of_make e))
-notary_not bound (make_err.Refused why) is = inr (is.0, is.1, refl)
-notary_not bound make_err.NoMemory is = refl
-
-pub revives_fault : (h : History) (es : List (List ℕ)) (p n : ℕ) (x : Saved) (r : Result Made SetErr) (e : MakeErr) → IsErr r × IsErrAnd r (λ f. f ≡ of_make e) → n ≡ x.item.header.jsn → IsNotaryErr (has_bound h n) e → (let none : Option SetErr = None in Revives h es none p x r)
-revives_fault h es p n x (Ok made) e is n_is why = absurd (cc is.0)
-revives_fault h es p n x (Err f) e is n_is why =
-    let bound = has_bound h x.item.header.jsn in
-    subst (λ (g : SetErr). RevivesNot None bound g) (sym is.1) (notary_not bound e (subst (λ (b : Bool). IsNotaryErr b e) (ap (has_bound h) n_is) why))
 
 -- it's the survivor that is asked for
 pub asked_for : (xs : List Saved) (i : ℕ) (x y : Saved) → slice_get xs i ≡ Some y → slice_get xs i ≡ Some x → y ≡ x

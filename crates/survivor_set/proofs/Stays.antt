@@ -14,7 +14,7 @@ use Rattle.ledger_model.proofs.HideLaws.{number_at}
 use Rattle.ledger_model.proofs.LawfulLaws.{lawful_from}
 use Rattle.survivor_set.specs.Sets.{Saved, SavedSet}
 use Rattle.survivor_set.specs.Keeping.{IsKeptAt, AreKept, IsSetOf}
-use Rattle.survivor_set.specs.Outcomes.{AreOf, IsSurvivorOf, path_below}
+use Rattle.survivor_set.specs.Outcomes.{AreJournalsOf, IsSurvivorOf, path_below}
 
 slice_more : {A : Type 0} (xs ys : List A) (n : ℕ) (e : A) → slice_get xs n ≡ Some e → slice_get (xs ++ ys) n ≡ Some e
 slice_more [] ys n e is = absurd cc
@@ -44,5 +44,5 @@ module _ (h g : History) (p : ℕ) (lawful : AreLawful (journals h)) (begins : B
   stays_each (n ∷ ns) [] are = absurd are
   stays_each (n ∷ ns) (x ∷ xs) are = All-cons (IsSurvivorOf g p) x xs (stays_one n x are.0) (stays_each ns xs are.1)
 
-pub stays_of : (h g : History) (p : ℕ) (ns : List ℕ) (s : SavedSet) → AreLawful (journals h) → Begins (journals h) (journals g) → p ≤ size h → IsSetOf h p ns s → AreOf g s
+pub stays_of : (h g : History) (p : ℕ) (ns : List ℕ) (s : SavedSet) → AreLawful (journals h) → Begins (journals h) (journals g) → p ≤ size h → IsSetOf h p ns s → AreJournalsOf g s
 stays_of h g p ns s lawful begins within is = subst (λ (q : ℕ). All (IsSurvivorOf g q) s.survivors) (sym is.point_is) (stays_each h g p lawful begins within ns s.survivors is.are)

@@ -107,9 +107,9 @@ KeepsAll h p ns (Ok done) old new = (numbers_refusal h p ns ≡ None) × (xs : L
 KeepsAll h p ns (Err e) old new = StopsBy (numbers_refusal h p ns) e
 
 -- what comes of keeping the journals with these numbers at a point: the bytes of their set, where nothing refuses it
-abbrev pub Keeps : History → ℕ → List ℕ → Result (List ℕ) SetErr → Type 0
-Keeps h p ns (Ok bytes) = (keep_refusal h p ns ≡ None) × (s : SavedSet) × IsSetOf h p ns s × (bytes ≡ set_text s)
-Keeps h p ns (Err e) = StopsBy (keep_refusal h p ns) e
+abbrev pub KeepsSet : History → ℕ → List ℕ → Result (List ℕ) SetErr → Type 0
+KeepsSet h p ns (Ok bytes) = (keep_refusal h p ns ≡ None) × (s : SavedSet) × IsSetOf h p ns s × (bytes ≡ set_text s)
+KeepsSet h p ns (Err e) = StopsBy (keep_refusal h p ns) e
 
 -- the disk's count of faults rises by one exactly where its failure is answered; at the end of its type it stays
 abbrev pub CountsDisk : {A : Type 0} → Result A SetErr → ℕ → ℕ → Type 0

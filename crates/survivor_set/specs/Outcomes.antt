@@ -55,8 +55,8 @@ pub record IsSurvivorOf (h : History) (p : ℕ) (x : Saved) : Type 0 where
   pub path_is : x.path ≡ path_below h p x.item.header.jsn
 
 -- each survivor of a set is a journal of this history
-abbrev pub AreOf : History → SavedSet → Type 0
-AreOf h s = All (IsSurvivorOf h s.point) s.survivors
+abbrev pub AreJournalsOf : History → SavedSet → Type 0
+AreJournalsOf h s = All (IsSurvivorOf h s.point) s.survivors
 
 -- ---- why a set is refused
 
@@ -136,20 +136,20 @@ abbrev pub carry_refusal : History → SavedSet → ℕ → Option SetErr
 carry_refusal h s q = option_or (set_refusal h s) (later_refusal h s q)
 
 -- a call that takes memory ends with an error: that of a refusal, or for want of memory where nothing is refused
-abbrev pub EndsBy : Option SetErr → SetErr → Type 0
-EndsBy why (Refused refusal) = why ≡ Some (Refused refusal)
-EndsBy why (Bad bad) = ⊥
-EndsBy why (NotBelow p) = why ≡ Some (NotBelow p)
-EndsBy why (OtherLedger kept) = why ≡ Some (OtherLedger kept)
-EndsBy why LeafPath = why ≡ Some LeafPath
-EndsBy why DiskFault = ⊥
-EndsBy why NoMemory = why ≡ None
+abbrev pub CarryEnds : Option SetErr → SetErr → Type 0
+CarryEnds why (Refused refusal) = why ≡ Some (Refused refusal)
+CarryEnds why (Bad bad) = ⊥
+CarryEnds why (NotBelow p) = why ≡ Some (NotBelow p)
+CarryEnds why (OtherLedger kept) = why ≡ Some (OtherLedger kept)
+CarryEnds why LeafPath = why ≡ Some LeafPath
+CarryEnds why DiskFault = ⊥
+CarryEnds why NoMemory = why ≡ None
 
 -- What comes of carrying a set on to journal q: the bytes of the carried set, where its survivors are journals of this history, and
 -- why there are none where something refuses it.
 abbrev pub CarriesOn : History → SavedSet → ℕ → Result (List ℕ) SetErr → Type 0
-CarriesOn h s q (Ok bytes) = (carry_refusal h s q ≡ None) × (AreOf h s → bytes ≡ set_text (carried_set h q s))
-CarriesOn h s q (Err e) = EndsBy (carry_refusal h s q) e
+CarriesOn h s q (Ok bytes) = (carry_refusal h s q ≡ None) × (AreJournalsOf h s → bytes ≡ set_text (carried_set h q s))
+CarriesOn h s q (Err e) = CarryEnds (carry_refusal h s q) e
 
 -- ---- what is still proved
 

@@ -8,7 +8,7 @@ ghost use Rattle.ledger_open.specs.Pieces.{IsReadAs, WasOnlyRead};
 ghost use Rattle.twin_file.specs.Twin.{open_of, other_of};
 ghost use Rattle.twin_file.specs.Which.{in_a_of};
 ghost use Rattle.survivor_set.specs.Keeping as keeping;
-ghost use Rattle.survivor_set.specs.Keeping.{AreAscending, CountsDisk, IsDiskless, Keeps, KeepsAll, KeepsOne};
+ghost use Rattle.survivor_set.specs.Keeping.{AreAscending, CountsDisk, IsDiskless, KeepsSet, KeepsAll, KeepsOne};
 ghost use Rattle.survivor_set.specs.Outcomes.{Tells};
 
 use crate::SetErr;
@@ -23,7 +23,7 @@ use ledger_disk::Disk;
 use ledger_open::{Opened, Places};
 use std::alloc::Global;
 
-/// Keeps the journals with these numbers in front of a time journal: the bytes of a set that holds each as the ledger shows it, and
+/// KeepsSet the journals with these numbers in front of a time journal: the bytes of a set that holds each as the ledger shows it, and
 /// its path. The point is judged first: `NoJournal` where it is at least the ledger's size, `Purged` where it lies below the ledger's
 /// point, and `NotTime` where it tells no time. Then number by number: `Purged` below the ledger's point, `NotBelow` with the point
 /// where the number isn't below that, and `Damaged` where a content that isn't hidden, or a who, has another digest than its header
@@ -43,7 +43,7 @@ pub fn keep<D: Disk>(
     ensures answer { IsTrue D.tells → (h : History)
         → IsReadAs opened.now.book opened.now.places.list
         (open_of (in_a_of opened.now.twin) (D.state a.old) (D.state b.old)).bytes.seen h
-        → Keeps h point ns.now result }
+        → KeepsSet h point ns.now result }
     ensures read { WasOnlyRead D.tells
         (open_of (in_a_of opened.now.twin) (D.state a.old) (D.state b.old))
         (open_of (in_a_of opened.now.twin) (D.state a.new) (D.state b.new)) }
@@ -60,7 +60,7 @@ pub fn keep<D: Disk>(
     }
 }
 
-// Keeps journals of a ledger with this book, whose open file stands on this disk.
+// KeepsSet journals of a ledger with this book, whose open file stands on this disk.
 fn keep_from<D: Disk>(
     alloc: Global,
     book: &Book,
@@ -72,7 +72,7 @@ fn keep_from<D: Disk>(
     requires few { length ns.now ≤ 64 }
     ensures answer { IsTrue D.tells → (h : History)
         → IsReadAs book.now places.now.list (D.state file.old).bytes.seen h
-        → Keeps h point ns.now result }
+        → KeepsSet h point ns.now result }
     ensures read { WasOnlyRead D.tells (D.state file.old) (D.state file.new) }
     ensures faults { CountsDisk result (D.state file.old).faults (D.state file.new).faults }
 {
