@@ -13,10 +13,12 @@ use ledger_io::{Ending, Sink, Source, finish, write_all};
 use member_book::Verifier;
 use merkle_tree::Head;
 use std::alloc::Global;
+use std::thread::Threads;
 
 /// Audits the dump that `source` gives, against the id of a ledger and the heads of it and of its notary, and writes the
 /// report's line to `sink`. It answers the exit status.
-pub(crate) fn run_dump<S: Source, K: Sink, V: Verifier>(
+pub(crate) fn run_dump<R: Threads + Sync, S: Source, K: Sink, V: Verifier>(
+    rt: &R,
     alloc: Global,
     source: &mut S,
     sink: &mut K,
@@ -39,7 +41,7 @@ pub(crate) fn run_dump<S: Source, K: Sink, V: Verifier>(
         → (S.state source.new).faults ≡ count_after (S.state source.old).faults }
     ensures write_fault { result ≡ 3 → MeetsOne (K.state sink.old) (K.state sink.new) }
 {
-    match audit(alloc, source, id, ledger, notary, verifier) {
+    match audit(rt, alloc, source, id, ledger, notary, verifier) {
         Ok(report) => tell(alloc, sink, &report),
         Err(error) => finish(sink, ending_for(error)),
     }

@@ -17,6 +17,7 @@ use ledger_bytes::{NoMemory, Sha, TreeHash};
 use ledger_io::{Ending, Sink, Source, finish};
 use member_book::Verifier;
 use std::alloc::Global;
+use std::thread::Threads;
 
 /// The program: runs the command that the words after the program's name make. `script` answers the audit script that
 /// `source` gives, and writes the replies to `sink`. `dump ID SIZE ROOT NSIZE NROOT` audits the dump that `source` gives
@@ -38,7 +39,8 @@ use std::alloc::Global;
 /// reading or writing met that one. Lines that ended before a fault of reading are answered first.
 /// The last line is written by one attempt; a fault there doesn't change the status. No line of a script holds a member's
 /// approval, so that the verifier is asked only of a dump.
-pub fn audit_top<S: Source, K: Sink, V: Verifier>(
+pub fn audit_top<R: Threads + Sync, S: Source, K: Sink, V: Verifier>(
+    rt: &R,
     alloc: Global,
     words: &[String],
     source: &mut S,
@@ -67,7 +69,7 @@ pub fn audit_top<S: Source, K: Sink, V: Verifier>(
     match Command::read(alloc, words) {
         Ok(Some(Command::Script)) => audit_run::<Sha, S, K, V>(alloc, source, sink, verifier),
         Ok(Some(Command::Dump { id, ledger, notary })) => {
-            run_dump(alloc, source, sink, &id, &ledger, &notary, verifier)
+            run_dump(rt, alloc, source, sink, &id, &ledger, &notary, verifier)
         }
         Ok(Some(Command::Lineage { clue, head })) => {
             run_lineage(alloc, source, sink, &clue, &head)

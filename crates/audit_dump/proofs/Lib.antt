@@ -22,4 +22,5 @@ pub mod Meetings
 pub mod Noted
 pub mod Ended
 pub mod Walked
+pub mod Ahead
 pub mod Audited

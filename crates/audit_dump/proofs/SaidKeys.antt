@@ -224,21 +224,20 @@ module _ (scheme : Scheme) (known : List (List ℕ)) (message : List ℕ) (membe
   pub not_read : (bad : Bad) → Err bad ≡ said_of who → member < 2 ^ 32 → IsOf scheme known message member who → ⊥
   not_read bad e lt is = let never = e ∙ only_told who is.by (omega (arith, lt, is.member_is)) is.shown.short is.who_is in cc
 
-  pub key_told : (m : ℕ) (proof : List ℕ) (key kept : Option Digest) (good : Bool) → IsBytes who → member < 2 ^ 32 → Ok (said_by m proof) ≡ said_of who → m ≡ member
-      → option_map (λ (d : Digest). d.0) key ≡ scheme message proof → option_map (λ (d : Digest). d.0) kept ≡ slice_get known member → good ≡ is_key_of key (option_map (λ (d : Digest). d.0) kept)
-      → (good ≡ true → IsOf scheme known message member who) × (IsOf scheme known message member who → good ≡ true)
-  key_told m proof key kept good plain lt e same shown is_kept told =
+  pub key_told : (m : ℕ) (proof : List ℕ) (key : Option Digest) → IsBytes who → member < 2 ^ 32 → Ok (said_by m proof) ≡ said_of who → m ≡ member
+      → option_map (λ (d : Digest). d.0) key ≡ scheme message proof
+      → (is_key_of key (slice_get known member) ≡ true → IsOf scheme known message member who) × (IsOf scheme known message member who → is_key_of key (slice_get known member) ≡ true)
+  key_told m proof key plain lt e same shown =
       let found = only_is who (said_by m proof) plain (sym e) in
-      let verdict : good ≡ is_key_of key (slice_get known member) = told ∙ ap (is_key_of key) is_kept in
       let key_is : key ≡ option_map digest (scheme message proof) = key_found key (scheme message proof) shown in (
         λ ok. record {
           by = record { member = m; key = key; proof = proof };
           who_is = found.0;
           member_is = same;
           shown = record { short = found.1.short; key_is = key_is };
-          key_is = sym verdict ∙ ok;
+          key_is = ok;
         },
         λ is.
             let as_shown : key ≡ is.by.key = key_is ∙ (ap (λ (p : List ℕ). option_map digest (scheme message p)) (read_is m proof e lt is).1 ∙ sym is.shown.key_is) in
-            verdict ∙ (ap (λ (k : Option Digest). is_key_of k (slice_get known member)) as_shown ∙ is.key_is),
+            ap (λ (k : Option Digest). is_key_of k (slice_get known member)) as_shown ∙ is.key_is,
       )

@@ -8,7 +8,7 @@ use Rattle.std.proofs.lemmas.List.{append-nil}
 use Rattle.std.proofs.lemmas.List.Elements.{All-nil, All-push, recursion_from_All}
 use Rattle.ledger_bytes.specs.Fields.{Unread, left_from}
 use Rattle.ledger_io.specs.Outside.{SourceState}
-use Rattle.ledger_io.specs.Windows.{Seen, HasSeen, HasEnough}
+use Rattle.ledger_io.specs.Windows.{Seen, HasEnough}
 use Rattle.ledger_io.specs.declared.failure.LineErr.{LineErr}
 use Rattle.ledger_io.specs.declared.failure.LineErr.TheVariants.{NoMemory}
 use Rattle.journal_record.specs.Entry.{Entry}
@@ -24,6 +24,7 @@ use Rattle.audit_dump.specs.Fronts.{HasReadOn, front_of, unread}
 use Rattle.audit_dump.specs.Journals.{HasReadJournals, HasWalked}
 use Rattle.audit_dump.specs.Known.{journal_of, journals_of}
 use Rattle.audit_dump.specs.Passing.{early_of}
+use Rattle.audit_dump.specs.Prepared.{HasReadThere}
 use Rattle.audit_dump.specs.Reading.{AreGood, IsGood}
 use Rattle.audit_dump.specs.Reports.{Counts, fault_at}
 use Rattle.audit_dump.specs.Reports.Check.{form, early}
@@ -38,7 +39,7 @@ use Rattle.audit_dump.specs.declared.report.Fault.{Fault}
 use Rattle.audit_dump.specs.declared.report.Report.{Report}
 use Rattle.audit_dump.specs.declared.walking.Break.{Break}
 use Rattle.audit_dump.specs.declared.journals.Journals.{Journals}
-use Rattle.audit_dump.proofs.Fronts.{read_all, read_none, read_trans, unread_place}
+use Rattle.audit_dump.proofs.Fronts.{read_none, read_trans, unread_place}
 use Rattle.audit_dump.proofs.Parts.{items_back}
 use Rattle.audit_dump.proofs.Walks.{errors_then}
 
@@ -61,10 +62,10 @@ pub walked_none : (a : SourceState) (x : Seen) → HasWalked a a x x []
 walked_none a x = record { bytes = []; read_bytes = read_none a x; parts = append-nil x.held; each = All-nil IsItem }
 
 -- more bytes, and nothing taken
-pub walked_seen : (a b c : SourceState) (x y z : Seen) (items : List Item) (bs : List ℕ) → HasWalked a b x y items → HasSeen b c y z bs → HasWalked a c x z items
-walked_seen a b c x y z items bs w s = record {
+pub walked_seen : (a b c : SourceState) (x y z : Seen) (items : List Item) → HasWalked a b x y items → HasReadThere b c y z → HasWalked a c x z items
+walked_seen a b c x y z items w s = let bs = s.bytes in record {
   bytes = w.bytes ++ bs;
-  read_bytes = read_trans a b c x y z w.bytes bs w.read_bytes (read_all b c y z bs s);
+  read_bytes = read_trans a b c x y z w.bytes bs w.read_bytes s.read_bytes;
   parts = sym (append_assoc x.held w.bytes bs) ∙ ap (λ t. t ++ bs) w.parts ∙ append_assoc (flat_map item_text items) y.held bs ∙ ap (λ t. flat_map item_text items ++ t) (sym s.held);
   each = w.each;
 }
@@ -91,17 +92,17 @@ pub walked_failed : (a b c : SourceState) (x y z : Seen) (bs : List ℕ) (e : Li
 walked_failed a b c x y z bs e r same is = record { bytes = bs ++ is.bytes; read_bytes = read_trans a b c x y z bs is.bytes r is.read_bytes; enough = errors_then a b c most_bytes z e same is.enough }
 
 -- where the next one can't be read
-pub walked_fails : (a b c : SourceState) (x y z : Seen) (items : List Item) (bs : List ℕ) (e : LineErr) → HasWalked a b x y items → HasSeen b c y z bs → b.faults ≡ a.faults → HasEnough b c most_bytes z (Err e)
+pub walked_fails : (a b c : SourceState) (x y z : Seen) (items : List Item) (e : LineErr) → HasWalked a b x y items → HasReadThere b c y z → b.faults ≡ a.faults → HasEnough b c most_bytes z (Err e)
     → HasFailed most_bytes a c x z e
-walked_fails a b c x y z items bs e w s same is = record {
-  bytes = w.bytes ++ bs;
-  read_bytes = read_trans a b c x y z w.bytes bs w.read_bytes (read_all b c y z bs s);
+walked_fails a b c x y z items e w s same is = record {
+  bytes = w.bytes ++ s.bytes;
+  read_bytes = read_trans a b c x y z w.bytes s.bytes w.read_bytes s.read_bytes;
   enough = errors_then a b c most_bytes z e same is;
 }
 
 -- where memory is wanted for the next one
-pub memory_wanted : (a b c : SourceState) (x y z : Seen) (items : List Item) (bs : List ℕ) → HasWalked a b x y items → HasSeen b c y z bs → c.faults ≡ a.faults → HasFailed most_bytes a c x z NoMemory
-memory_wanted a b c x y z items bs w s same = record { bytes = w.bytes ++ bs; read_bytes = read_trans a b c x y z w.bytes bs w.read_bytes (read_all b c y z bs s); enough = same }
+pub memory_wanted : (a b c : SourceState) (x y z : Seen) (items : List Item) → HasWalked a b x y items → HasReadThere b c y z → c.faults ≡ a.faults → HasFailed most_bytes a c x z NoMemory
+memory_wanted a b c x y z items w s same = record { bytes = w.bytes ++ s.bytes; read_bytes = read_trans a b c x y z w.bytes s.bytes w.read_bytes s.read_bytes; enough = same }
 
 -- ---- the input
 

@@ -13,6 +13,7 @@ pub mod Bytes
 pub mod Walking
 pub mod Tails
 pub mod Placed
+pub mod Prepared
 pub mod Fronts
 pub mod Told
 pub mod Notes

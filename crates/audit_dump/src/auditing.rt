@@ -31,6 +31,7 @@ use ledger_io::{LineErr, Source, Window};
 use member_book::Verifier;
 use merkle_tree::Head;
 use std::alloc::Global;
+use std::thread::Threads;
 
 /// Why there is no report of a dump.
 #[derive(Clone, Copy, Debug, PartialEq, Eq)]
@@ -49,7 +50,8 @@ pub enum AuditErr {
 /// checked as it is read, so memory grows with the number of journals, clues and members, and not with their contents: of a
 /// journal its header, its leaf and two marks are kept. Each journal's header, content and who are hashed once, and each
 /// entry of the notary once. An error is told where no fault was found before.
-pub fn audit<S: Source, V: Verifier>(
+pub fn audit<R: Threads + Sync, S: Source, V: Verifier>(
+    rt: &R,
     alloc: Global,
     source: &mut S,
     id: &Digest,
@@ -69,14 +71,15 @@ pub fn audit<S: Source, V: Verifier>(
         notary: *notary,
     };
     let mut window = Window::new(alloc);
-    match report_dump(alloc, &mut window, source, &given, verifier) {
+    match report_dump(rt, alloc, &mut window, source, &given, verifier) {
         Ok(report) => Ok(report),
         Err(e) => Err(told(e)),
     }
 }
 
 // The report of what is still to be read, a dump.
-fn report_dump<S: Source, V: Verifier>(
+fn report_dump<R: Threads + Sync, S: Source, V: Verifier>(
+    rt: &R,
     alloc: Global,
     window: &mut Window,
     source: &mut S,
@@ -92,13 +95,14 @@ fn report_dump<S: Source, V: Verifier>(
         window.old window.new) }
 {
     match read_front(window, source, alloc)? {
-        Ok(front) => report_behind(alloc, window, source, given, verifier, &front),
+        Ok(front) => report_behind(rt, alloc, window, source, given, verifier, &front),
         Err(broken) => Ok(without_journals(0, &broken)),
     }
 }
 
 // The report of what is still to be read behind a front: the number of the journals, they, and what stands behind them.
-fn report_behind<S: Source, V: Verifier>(
+fn report_behind<R: Threads + Sync, S: Source, V: Verifier>(
+    rt: &R,
     alloc: Global,
     window: &mut Window,
     source: &mut S,
@@ -116,13 +120,14 @@ fn report_behind<S: Source, V: Verifier>(
         window.old window.new) }
 {
     match read_count(window, source)? {
-        Ok(count) => report_journals(alloc, window, source, given, verifier, front, count),
+        Ok(count) => report_journals(rt, alloc, window, source, given, verifier, front, count),
         Err(broken) => Ok(without_journals(first_of(front), &broken)),
     }
 }
 
 // The report of what is still to be read: so many journals, and what stands behind them.
-fn report_journals<S: Source, V: Verifier>(
+fn report_journals<R: Threads + Sync, S: Source, V: Verifier>(
+    rt: &R,
     alloc: Global,
     window: &mut Window,
     source: &mut S,
@@ -142,6 +147,7 @@ fn report_journals<S: Source, V: Verifier>(
 {
     let mut journals = Journals::behind(alloc, front)?;
     report_by(
+        rt,
         alloc,
         window,
         source,
@@ -154,7 +160,8 @@ fn report_journals<S: Source, V: Verifier>(
 }
 
 // The same, where no journal was read so far.
-fn report_by<S: Source, V: Verifier>(
+fn report_by<R: Threads + Sync, S: Source, V: Verifier>(
+    rt: &R,
     alloc: Global,
     window: &mut Window,
     source: &mut S,
@@ -173,7 +180,7 @@ fn report_by<S: Source, V: Verifier>(
     ensures errors { IfErr result (HasFailed most_bytes (S.state source.old) (S.state source.new)
         window.old window.new) }
 {
-    let outcome = read_journals(alloc, window, source, verifier, front, count, journals)?;
+    let outcome = read_journals(rt, alloc, window, source, verifier, front, count, journals)?;
     let counts = journals.counts();
     match outcome {
         Outcome::All => {

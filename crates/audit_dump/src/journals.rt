@@ -14,6 +14,7 @@ ghost use Rattle.audit_dump.specs.Ending.{IsOwnId};
 ghost use Rattle.audit_dump.specs.Known.{journals_of};
 ghost use Rattle.audit_dump.specs.Notes.{AreInOrder};
 ghost use Rattle.audit_dump.specs.Passing.{StandsSomewhere};
+ghost use Rattle.audit_dump.specs.Prepared.{IsPrepared};
 ghost use Rattle.audit_dump.specs.Reports.{Counts};
 ghost use Rattle.audit_dump.specs.Told.{report_of};
 
@@ -22,6 +23,7 @@ use crate::claims::Claims;
 use crate::erasing::Erasures;
 use crate::front::Front;
 use crate::passing::{EarlyCheck, Standing};
+use crate::preparing::Prepared;
 use crate::report::Report;
 use journal_record::{Body, Header, Kind, Record};
 use ledger_bytes::{Digest, NoMemory, Sha};
@@ -82,22 +84,24 @@ impl Journals {
         })
     }
 
-    // Checks the next journal, and keeps what is needed of it where it passes; else it tells the check that it fails first, and
+    // Checks the next journal, of which this was made ahead, and keeps what is needed of it where it passes; else it tells the check that it fails first, and
     // the counts stay as they were. After an `Err` nothing is known of what is kept.
     pub(crate) fn take<V: Verifier>(
         &mut self,
         alloc: Global,
         verifier: &V,
         journal: &Record,
+        ahead: &Prepared,
     ) -> Result<Option<EarlyCheck>, NoMemory>
         requires rules { IsItem journal.now }
+        requires ahead { IsPrepared (V.shows verifier.now) self.old.id.0 journal.now ahead.now }
         requires kept { AreKeptSomewhere self.old }
         ensures { IfOk result (λ told. (id : DigestRecord) (start : Option BaseRecord)
             (items : List Item) → AreKept id start items self.old
             → IsToldNext (V.shows verifier.now) id start items journal.now told self.new) }
     {
         let id = self.id;
-        if let Some(check) = check_at(alloc, verifier, &id, &mut self.standing, journal)? {
+        if let Some(check) = check_at(alloc, verifier, &id, &mut self.standing, journal, ahead)? {
             return Ok(Some(check));
         }
         self.note(journal)?;
@@ -152,15 +156,17 @@ fn check_at<V: Verifier>(
     id: &Digest,
     standing: &mut Option<Standing>,
     journal: &Record,
+    ahead: &Prepared,
 ) -> Result<Option<EarlyCheck>, NoMemory>
     requires rules { IsItem journal.now }
+    requires ahead { IsPrepared (V.shows verifier.now) id.now.0 journal.now ahead.now }
     requires stands { IfSome standing.old StandsSomewhere }
     ensures { IfOk result (λ told. (start : Option BaseRecord) (items : List Item)
         → StandsAt standing.old start items
         → IsToldAt (V.shows verifier.now) id.now.0 start items journal.now told standing.new) }
 {
     if let Some(kept) = standing {
-        return kept.check_next(alloc, verifier, id, journal);
+        return kept.check_next(alloc, verifier, id, journal, ahead);
     }
     match Standing::with_first(alloc, journal)? {
         Ok(first) => {

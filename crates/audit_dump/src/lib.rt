@@ -20,6 +20,7 @@ mod late;
 mod laws;
 mod passing;
 mod placing;
+mod preparing;
 mod purging;
 mod reading;
 mod report;

@@ -11,17 +11,20 @@ ghost use Rattle.pseudo_genesis.specs.Bases.{IsBase, HasWidths};
 ghost use Rattle.pseudo_genesis.specs.declared.base.Base.{Base as BaseRecord};
 ghost use Rattle.ledger_model.specs.Behind.{next_number};
 ghost use Rattle.ledger_model.specs.Scheme.{Scheme};
+ghost use Rattle.ledger_book.specs.Steps.{IsLeafOf};
 ghost use Rattle.audit_dump.specs.Deciding.{IsRootBelow};
 ghost use Rattle.audit_dump.specs.Passing.{IsHeadOver, IsToldOf, IsToldOfFirst, StandsAfter, StandsSomewhere, TakesNext, admitted_by};
+ghost use Rattle.audit_dump.specs.Prepared.{IsPrepared};
 
 use crate::contents::is_kept_whole;
 use crate::deciding::is_placed;
+use crate::preparing::Prepared;
 use crate::purging::{needed_by, root_asked, root_in};
 use journal_record::{Body, Header, Kind, Record};
 use ledger_book::{Book, Limits};
-use ledger_bytes::{Digest, NoMemory, Sha};
+use ledger_bytes::{Digest, NoMemory};
 use member_book::{MemberBook, Verifier};
-use merkle_tree::{Head, leaf_of};
+use merkle_tree::Head;
 use pseudo_genesis::Base;
 use std::alloc::Global;
 use std::marker::Model;
@@ -99,8 +102,8 @@ impl Standing {
         Ok(Ok(Standing { book, members }))
     }
 
-    // Checks the next journal, and keeps what the later ones need of it where it is good; else it tells the check that it fails
-    // first. A purge costs a look at each header from the point in force up to its own, so all purges together look at each
+    // Checks the next journal, of which this was made ahead, and keeps what the later ones need of it where it is good; else it tells
+    // the check that it fails first. A purge costs a look at each header from the point in force up to its own, so all purges together look at each
     // once. After a check that fails, and after an `Err`, nothing is known of what is kept. The only error is that memory is
     // wanted.
     pub(crate) fn check_next<V: Verifier>(
@@ -109,8 +112,10 @@ impl Standing {
         verifier: &V,
         id: &Digest,
         journal: &Record,
+        ahead: &Prepared,
     ) -> Result<Option<EarlyCheck>, NoMemory>
         requires rules { IsItem journal.now }
+        requires ahead { IsPrepared (V.shows verifier.now) id.now.0 journal.now ahead.now }
         requires stands { StandsSomewhere self.old }
         ensures { IfOk result (λ told. (start : Option BaseRecord) (before : List Entry)
             → StandsAfter self.old start before
@@ -118,14 +123,24 @@ impl Standing {
     {
         let needed = needed_by(alloc, &self.book, &journal.header)?;
         let root = root_asked(&self.book, &journal.header);
-        if !takes_next(&mut self.book, &journal.header)? {
+        if !takes_next(&mut self.book, &journal.header, &ahead.leaf)? {
             return Ok(Some(EarlyCheck::Order));
         }
-        if !is_kept_whole(journal) {
+        if !ahead.whole {
             return Ok(Some(EarlyCheck::Parts));
         }
         let owners = needed.as_slice();
-        if !is_placed(alloc, verifier, id, &self.members, journal, owners, root)? {
+        let key = ahead.key;
+        if !is_placed(
+            alloc,
+            verifier,
+            id,
+            &self.members,
+            journal,
+            key,
+            owners,
+            root,
+        )? {
             return Ok(Some(EarlyCheck::Approvals));
         }
         admit_by(&mut self.members, &journal.header)?;
@@ -166,14 +181,14 @@ fn first_keys(content: &[u8]) -> (Digest, Digest)
     (Digest(operator), Digest(regulator))
 }
 
-// Takes a header into the book as that of the next journal, and tells whether it is.
-fn takes_next(book: &mut Book, header: &Header) -> Result<bool, NoMemory>
-    requires { IsHeader header.now }
+// Takes a header with its leaf digest into the book as that of the next journal, and tells whether it is.
+fn takes_next(book: &mut Book, header: &Header, leaf: &Digest) -> Result<bool, NoMemory>
+    requires layout { IsHeader header.now }
+    requires leaf { IsLeafOf header.now leaf.now }
     ensures { IfOk result (TakesNext book.old header.now book.new) }
 {
     let _size = book.size();
-    let leaf = leaf_of::<Sha>(&header.encode());
-    match book.replay(header, &leaf)? {
+    match book.replay(header, leaf)? {
         Ok(()) => Ok(true),
         Err(_) => Ok(false),
     }

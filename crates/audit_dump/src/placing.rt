@@ -1,6 +1,6 @@
 //! Whether those placed a journal who had to.
 
-ghost use Rattle.std.specs.Prelude.{◌≡◌, ◌↔◌, ◌<◌, ◌≤◌, ◌^◌, IsTrue, IfOk, length, map, option_map};
+ghost use Rattle.std.specs.Prelude.{◌≡◌, ◌↔◌, ◌<◌, ◌≤◌, ◌^◌, ℕ, List, true, slice_get, IsTrue, IfOk, length, map, option_map};
 ghost use Rattle.journal_record.specs.Members.{keys, is_key_of};
 ghost use Rattle.ledger_bytes.specs.declared.limits.TheConstants.{MEMBER_LIMIT};
 ghost use Rattle.member_book.specs.Approvals.{approvals_refusal};
@@ -13,6 +13,28 @@ use ledger_bytes::{Bytes, Digest, NoMemory};
 use member_book::{MemberBook, Verifier};
 use std::alloc::Global;
 
+// The key that the bytes `who` show, where they are one approval of a message by this member. It takes no memory.
+pub(crate) fn key_in<V: Verifier>(
+    verifier: &V,
+    message: &Digest,
+    member: u32,
+    who: &[u8],
+) -> Option<Digest>
+    ensures { (known : List (List ℕ)) → (is_key_of result (slice_get known member) ≡ true)
+        ↔ IsOf (V.shows verifier.now) known message.now.0 member who.now }
+{
+    match only_said(who) {
+        Ok(said) => {
+            if said.member == member {
+                verifier.key_of(message, said.proof)
+            } else {
+                None
+            }
+        }
+        Err(_) => None,
+    }
+}
+
 // Whether the bytes `who` are one approval of a message, by this member and with this member's key. It takes no memory.
 pub(crate) fn is_of<V: Verifier>(
     verifier: &V,
@@ -24,16 +46,11 @@ pub(crate) fn is_of<V: Verifier>(
     ensures { IsTrue result ↔ IsOf
         (V.shows verifier.now) (keys known.now) message.now.0 member who.now }
 {
-    match only_said(who) {
-        Ok(said) => {
-            said.member == member && is_key(verifier.key_of(message, said.proof), known.key(member))
-        }
-        Err(_) => false,
-    }
+    is_key(key_in(verifier, message, member, who), known.key(member))
 }
 
 // Whether a proof shows a key, and it is this one.
-fn is_key(shown: Option<Digest>, kept: Option<Digest>) -> bool
+pub(crate) fn is_key(shown: Option<Digest>, kept: Option<Digest>) -> bool
     ensures { result ≡ is_key_of shown (option_map (λ d. d.0) kept) }
 {
     match (shown, kept) {

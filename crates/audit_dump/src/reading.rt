@@ -4,18 +4,21 @@ ghost use Rattle.std.specs.Prelude.{◌≡◌, [], List, IfOk, IfErr, OnOk, Opti
 ghost use Rattle.ledger_bytes.specs.declared.digest.Digest.{Digest as DigestRecord};
 ghost use Rattle.journal_record.specs.Items.{Item, most_bytes};
 ghost use Rattle.pseudo_genesis.specs.declared.base.Base.{Base as BaseRecord};
-ghost use Rattle.audit_dump.specs.Journals.{AreKept, AreKeptSomewhere, HasReadJournals, IsOfItem, IsToldIn};
+ghost use Rattle.audit_dump.specs.Journals.{AreKept, AreKeptSomewhere, HasReadJournals, IsToldIn};
+ghost use Rattle.audit_dump.specs.Prepared.{IsPreparedIn};
 ghost use Rattle.audit_dump.specs.Tails.{HasFailed};
 
 use crate::front::Front;
 use crate::journals::Journals;
 use crate::passing::EarlyCheck;
-use crate::walking::{Break, next_item};
+use crate::preparing::{Prepared, Queue, next_prepared};
+use crate::walking::Break;
 use journal_record::Record;
 use ledger_bytes::NoMemory;
 use ledger_io::{LineErr, Source, Window};
 use member_book::Verifier;
 use std::alloc::Global;
+use std::thread::Threads;
 
 // How the reading of a dump's journals ends.
 #[derive(Clone, Copy, Debug, PartialEq, Eq)]
@@ -29,7 +32,8 @@ pub(crate) enum Outcome {
 }
 
 // Reads so many journals, and takes each that passes from the window, up to the first that breaks or fails.
-pub(crate) fn read_journals<S: Source, V: Verifier>(
+pub(crate) fn read_journals<R: Threads + Sync, S: Source, V: Verifier>(
+    rt: &R,
     alloc: Global,
     window: &mut Window,
     source: &mut S,
@@ -45,11 +49,14 @@ pub(crate) fn read_journals<S: Source, V: Verifier>(
     ensures errors { IfErr result (HasFailed most_bytes (S.state source.old) (S.state source.new)
         window.old window.new) }
 {
+    let id = &front.id;
+    let mut queue = Queue::new(alloc);
     for read in 0..count {
-        match next_item(window, source) {
-            Ok(Ok(len)) => {
-                match check_item(alloc, verifier, &window.as_slice()[..len], journals) {
-                    Ok(None) => window.consume(len),
+        match next_prepared(rt, alloc, window, source, verifier, id, &mut queue) {
+            Ok(Ok(next)) => {
+                let bytes = &window.as_slice()[..next.len];
+                match check_item(alloc, verifier, bytes, &next, journals) {
+                    Ok(None) => window.consume(next.len),
                     Ok(Some(check)) => return Ok(Outcome::Failed(check)),
                     Err(NoMemory) => return Err(LineErr::NoMemory),
                 }
@@ -61,21 +68,22 @@ pub(crate) fn read_journals<S: Source, V: Verifier>(
     Ok(Outcome::All)
 }
 
-// Checks the journal that these bytes are, and keeps what is needed of it where it passes.
+// Checks the journal that these bytes are, of which this was made ahead, and keeps what is needed of it where it passes.
 fn check_item<V: Verifier>(
     alloc: Global,
     verifier: &V,
     bytes: &[u8],
+    ahead: &Prepared,
     journals: &mut Journals,
 ) -> Result<Option<EarlyCheck>, NoMemory>
-    requires is { IsOfItem bytes.now }
+    requires is { IsPreparedIn (V.shows verifier.now) journals.old.id.0 bytes.now ahead.now }
     requires kept { AreKeptSomewhere journals.old }
     ensures { IfOk result (λ told. (id : DigestRecord) (start : Option BaseRecord)
         (items : List Item) → AreKept id start items journals.old
         → IsToldIn (V.shows verifier.now) id start items bytes.now told journals.new) }
 {
     match Record::decode(bytes) {
-        Ok(journal) => journals.take(alloc, verifier, &journal),
+        Ok(journal) => journals.take(alloc, verifier, &journal, ahead),
         Err(_) => unreachable!(),
     }
 }

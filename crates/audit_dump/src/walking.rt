@@ -53,7 +53,7 @@ pub(crate) fn next_item<S: Source>(
 }
 
 // How many bytes the journal has with which these begin, the last of an input, at this place of it.
-fn item_len(bytes: &[u8], start: u64) -> Result<usize, Break>
+pub(crate) fn item_len(bytes: &[u8], start: u64) -> Result<usize, Break>
     requires { start ≤ script_limit }
     ensures begins { BeginsWith start bytes.now result }
     ensures bytes { IsBytes bytes.now }

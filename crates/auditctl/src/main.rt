@@ -18,8 +18,8 @@ fn main(rt: HostRuntime) -> ExitCode {
     let words = words.as_slice();
     ExitCode::from(match words.split_first() {
         Some((scheme, words)) if scheme.as_str() == "chain" => {
-            audit_top(rt.alloc(), words, &mut source, &mut sink, &ChainScheme)
+            audit_top(&rt, rt.alloc(), words, &mut source, &mut sink, &ChainScheme)
         }
-        _ => audit_top(rt.alloc(), words, &mut source, &mut sink, &TagScheme),
+        _ => audit_top(&rt, rt.alloc(), words, &mut source, &mut sink, &TagScheme),
     })
 }

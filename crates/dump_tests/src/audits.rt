@@ -9,6 +9,7 @@ use member_book::TagScheme;
 use merkle_tree::Head;
 use std::alloc::Global;
 use std::test::Fail;
+use std::thread::Threads;
 
 const ID: &str = "64915354a6547b1f887e596e872fd13b2abdc860729da9fe31180a81726cf4a2";
 
@@ -36,7 +37,12 @@ const CHANGED: [(usize, u8, u8, u64, u64, u64); 14] = [
 ];
 
 // The report of bytes against the worked ledger's heads, where these calls of the source fail.
-fn told(alloc: Global, bytes: &[u8], fails: &[u64]) -> Result<Result<Report, AuditErr>, Fail> {
+fn told<R: Threads + Sync>(
+    rt: &R,
+    alloc: Global,
+    bytes: &[u8],
+    fails: &[u64],
+) -> Result<Result<Report, AuditErr>, Fail> {
     let mut fail_at = Vec::new(alloc);
     fail_at.extend_from_slice(fails)?;
     let mut source = MemSource::new(Bytes::copy_of(alloc, bytes)?, fail_at);
@@ -49,7 +55,7 @@ fn told(alloc: Global, bytes: &[u8], fails: &[u64]) -> Result<Result<Report, Aud
         root: Digest(<[u8; 32]>::from_hex(NOTARY_ROOT)?),
     };
     let id = Digest(<[u8; 32]>::from_hex(ID)?);
-    Ok(audit(alloc, &mut source, &id, &ledger, &notary, &TagScheme))
+    Ok(audit(rt, alloc, &mut source, &id, &ledger, &notary, &TagScheme))
 }
 
 // The report behind so many journals, of which so many are time journals.
@@ -68,13 +74,16 @@ fn report(read: u64, times: u64, fault: Option<Fault>) -> Report {
 fn a_dump_is_audited(rt: HostRuntime) -> Result<(), Fail> {
     let alloc = rt.alloc();
     let mut bytes = dump(alloc)?;
-    assert_eq!(rt; told(alloc, bytes.as_slice(), &[])?, Ok(report(5, 1, None)));
+    assert_eq!(rt;
+        told(&rt, alloc, bytes.as_slice(), &[])?,
+        Ok(report(5, 1, None))
+    );
     let cut = Fault {
         check: Check::Form,
         place: 1379,
     };
     assert_eq!(rt;
-        told(alloc, bytes.get(..LEN - 1).unwrap_or(&[]), &[])?,
+        told(&rt, alloc, bytes.get(..LEN - 1).unwrap_or(&[]), &[])?,
         Ok(report(5, 1, Some(cut)))
     );
     bytes.push(0)?;
@@ -83,11 +92,11 @@ fn a_dump_is_audited(rt: HostRuntime) -> Result<(), Fail> {
         place: 1380,
     };
     assert_eq!(rt;
-        told(alloc, bytes.as_slice(), &[])?,
+        told(&rt, alloc, bytes.as_slice(), &[])?,
         Ok(report(5, 1, Some(more)))
     );
     assert_eq!(rt;
-        told(alloc, bytes.as_slice(), &[0])?,
+        told(&rt, alloc, bytes.as_slice(), &[0])?,
         Err(AuditErr::ReadFault)
     );
     Ok(())
@@ -122,7 +131,7 @@ fn changed_dumps_are_told(rt: HostRuntime) -> Result<(), Fail> {
             place: *place,
         };
         assert_eq!(rt;
-            told(alloc, bytes.as_slice(), &[])?,
+            told(&rt, alloc, bytes.as_slice(), &[])?,
             Ok(report(*read, *times, Some(fault)))
         );
     }

@@ -6,6 +6,7 @@ use ledger_io::{MemSink, MemSource};
 use member_book::TagScheme;
 use std::alloc::Global;
 use std::test::Fail;
+use std::thread::Threads;
 
 // A head that is trusted, the proof of its one journal, the same cut, and for another claim.
 const SCRIPT: &str = "\
@@ -57,20 +58,20 @@ const FAULTY: [Faulty; 8] = [
 ];
 
 /// Whether a run ends and writes as the row says.
-fn ends_so(alloc: Global, row: &Faulty) -> Result<bool, NoMemory> {
+fn ends_so<R: Threads + Sync>(rt: &R, alloc: Global, row: &Faulty) -> Result<bool, NoMemory> {
     let (word, (read, write, room), want_status, want) = *row;
     let words = vec![in alloc; String::from_str(alloc, word)?]?;
     let script = Bytes::copy_of(alloc, SCRIPT.as_bytes())?;
     let mut source = MemSource::new(script, [read].to_vec(alloc)?);
     let mut sink = MemSink::new(alloc, room, [write].to_vec(alloc)?)?;
-    let status = audit_top(alloc, &words, &mut source, &mut sink, &TagScheme);
+    let status = audit_top(rt, alloc, &words, &mut source, &mut sink, &TagScheme);
     Ok(status == want_status && sink.written() == want.as_bytes())
 }
 
 #[test]
 fn tells_faults(rt: HostRuntime) -> Result<(), Fail> {
     for row in &FAULTY {
-        let is_so = ends_so(rt.alloc(), row)?;
+        let is_so = ends_so(&rt, rt.alloc(), row)?;
         assert!(rt; is_so, "at {row:?}");
     }
     Ok(())

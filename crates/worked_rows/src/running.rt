@@ -32,7 +32,7 @@ pub(crate) fn run<R: Threads + Wait + Sync>(rt: &R, alloc: Global, row: &Row) ->
     let (status, list) = match row.program {
         Program::Ledger => run_ledger(rt, alloc, row, &mut source, &mut sink, &mut a, &mut b)?,
         Program::Auditor => {
-            let status = audit_top(alloc, words, &mut source, &mut sink, &TagScheme);
+            let status = audit_top(rt, alloc, words, &mut source, &mut sink, &TagScheme);
             (status, None)
         }
         Program::ToyAuditor => {

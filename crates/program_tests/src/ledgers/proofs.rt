@@ -80,7 +80,7 @@ fn put_heads(alloc: Global, audit: &mut Vec<u8>, told: &str) -> Result<Option<()
 }
 
 /// What the auditor answers to what these replies prove.
-fn audited(alloc: Global, replies: &str) -> Result<Option<String>, NoMemory> {
+fn audited<R: Threads + Sync>(rt: &R, alloc: Global, replies: &str) -> Result<Option<String>, NoMemory> {
     let mut audit = Vec::new(alloc);
     for reply in replies.lines() {
         let Some(()) = put_audit(alloc, &mut audit, reply)? else {
@@ -90,7 +90,7 @@ fn audited(alloc: Global, replies: &str) -> Result<Option<String>, NoMemory> {
     let words = strings(alloc, &["script"])?;
     let mut source = MemSource::new(Bytes::copy_of(alloc, audit.as_slice())?, Vec::new(alloc));
     let mut sink = MemSink::new(alloc, AMPLE, Vec::new(alloc))?;
-    audit_top(alloc, &words, &mut source, &mut sink, &TagScheme);
+    audit_top(rt, alloc, &words, &mut source, &mut sink, &TagScheme);
     let written = sink.written().to_vec(alloc)?;
     Ok(String::from_utf8(written).ok())
 }
@@ -106,7 +106,7 @@ fn what_is_proved_is_accepted(rt: HostRuntime) -> Result<(), Fail> {
     let (status, replies) = run(&rt, alloc, &DEMO, script.as_slice(), faults)?;
     assert_eq!(rt; status, 0);
     let replies = String::from_utf8(replies).map_err(|_| "no text")?;
-    let answers = audited(alloc, &replies)?.ok_or("another reply")?;
+    let answers = audited(&rt, alloc, &replies)?.ok_or("another reply")?;
     assert_eq!(rt; answers.lines().count(), AUDITED);
     assert!(rt; answers.lines().all(|answer| answer.ends_with(" yes")));
     Ok(())
