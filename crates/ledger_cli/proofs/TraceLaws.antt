@@ -1,7 +1,6 @@
 -- Lemmas on the writing of a lineage of a ledger that is opened.
 use Rattle.std.specs.Prelude.{IsTrue}
-use Rattle.std.proofs.Common.{◌≡◌, ℕ, inl, inr, Bool, List, [], Option, Some, None, refl, sym, ap, subst, ◌∙◌}
-use Rattle.std.specs.Io.KnownBytes.{Appends}
+use Rattle.std.proofs.Common.{◌≡◌, ℕ, inl, Bool, List, [], Option, None, refl, sym, subst}
 use Rattle.std.proofs.KnownBytes.{Appends-nil}
 use Rattle.batch_committer.specs.Opened.{kept_from, IsOpened}
 use Rattle.batch_committer.specs.World.{Pair, pair, world}

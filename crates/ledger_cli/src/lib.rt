@@ -23,7 +23,8 @@ pub use denial::Denial;
 pub use ending::LedgerEnding;
 pub use laws::{
     a_run_counts_the_failures_of_its_notary, a_run_that_a_disk_ends_cuts_no_line,
-    a_written_receipt_is_shown,    lines_of_one_lane_are_answered_in_order, the_list_of_a_notary_goes_on,
+    a_written_receipt_is_shown, lines_of_one_lane_are_answered_in_order,
+    the_list_of_a_notary_goes_on,
 };
 pub use main_call::{Keeping, ledger_main};
 pub use session::run_session;

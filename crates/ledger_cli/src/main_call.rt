@@ -116,7 +116,9 @@ fn wants_notary(alloc: Global, words: &[String]) -> Result<bool, NoMemory>
     ensures err { OnErr result (IsSome (command_of (map string_bytes words.now))) }
 {
     match Command::read(alloc, words)? {
-        Some(Command::Init(_) | Command::Run | Command::Export | Command::Lineage { .. }) => Ok(true),
+        Some(Command::Init(_) | Command::Run | Command::Export | Command::Lineage { .. }) => Ok(
+            true,
+        ),
         Some(Command::Dry(_) | Command::Sign(_) | Command::Chain(_) | Command::Soak { .. })
         | None => Ok(false),
     }

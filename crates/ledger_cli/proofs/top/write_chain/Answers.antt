@@ -1,8 +1,4 @@
-use Rattle.std.proofs.Common.{List, ℕ, ◌∙◌, refl, subst}
-use Rattle.ledger_io.specs.Outside.{SourceState}
-use Rattle.batch_committer.specs.World.{Pair}
-use Rattle.time_peg.specs.Entries.{NotaryState}
-use Rattle.ledger_io.specs.declared.ending.Ending.TheVariants.{NoMemory}
+use Rattle.std.proofs.Common.{List, ℕ, ◌∙◌, subst}
 use Rattle.ledger_cli.specs.Runs.{handed, Signs}
 use Rattle.ledger_cli.proofs.TopLaws.{wrote_nothing}
 use Rattle.ledger_cli.proofs.top.write_chain.Goals as goal
