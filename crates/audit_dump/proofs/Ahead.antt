@@ -1,17 +1,16 @@
 -- Bytes that are cut into journals, and what is made of these ahead.
 use Rattle.std.specs.List.{flat_map}
 use Rattle.std.specs.Prelude.{slice_index_or}
-use Rattle.std.proofs.Common.{◌≡◌, ℕ, ◌+◌, ◌<◌, ◌≤◌, List, [], ◌∷◌, ◌++◌, length, length-append, map, All, refl, take, drop, take_at, drop_at, append_assoc, arith, sym, ap, ap₂, subst, suc, ◌∙◌}
+use Rattle.std.proofs.Common.{◌≡◌, ℕ, ◌<◌, ◌≤◌, List, [], ◌∷◌, ◌++◌, length, length-append, map, All, refl, take, drop, take_at, drop_at, append_assoc, arith, sym, ap, ap₂, subst, suc, ◌∙◌}
 use Rattle.std.proofs.lemmas.Grind.{flat_map-append}
 use Rattle.std.proofs.lemmas.List.{append-nil, length-map, map-append, take-append-drop}
 use Rattle.std.proofs.lemmas.List.Elements.{All-cons, All-get_or, All-nil, All-push}
 use Rattle.std.proofs.Math.ListN.{get_or-map}
 use denote.Ref.{Bor}
-use Rattle.journal_record.specs.Items.{Item, item_text}
 use Rattle.ledger_model.specs.Scheme.{Scheme}
 use Rattle.audit_dump.specs.Journals.{IsOfItem}
 use Rattle.audit_dump.specs.Walking.{HasItem}
-use Rattle.audit_dump.specs.Prepared.{ArePrepared, IsEntry, IsPreparedIn}
+use Rattle.audit_dump.specs.Prepared.{ArePrepared, IsPreparedWhole, IsPreparedIn}
 use Rattle.audit_dump.specs.declared.preparing.Prepared.{Prepared}
 
 -- one journal more is cut off
@@ -58,7 +57,7 @@ each_of items i d all lt =
 
 -- what is known of journals one by one is known of the bytes that begin with them
 pub prepared_each : (scheme : Scheme) (id : List ℕ) (items : List (Bor (List ℕ))) (list : List Prepared) (rest : List ℕ) → length list ≡ length items
-    → ((i : ℕ) (d : Bor (List ℕ)) (e : Prepared) → i < length items → IsEntry scheme id (slice_index_or items i d).now (slice_index_or list i e))
+    → ((i : ℕ) (d : Bor (List ℕ)) (e : Prepared) → i < length items → IsPreparedWhole scheme id (slice_index_or items i d).now (slice_index_or list i e))
     → ArePrepared scheme id (flat_map (λ item. item) (lent items) ++ rest) list
 prepared_each scheme id [] [] rest same each = tt
 prepared_each scheme id [] (p ∷ list) rest same each = absurd (omega (arith, same))

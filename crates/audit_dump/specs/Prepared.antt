@@ -32,8 +32,8 @@ abbrev pub IsPreparedIn : Scheme → List ℕ → List ℕ → Prepared → Type
 IsPreparedIn scheme id bytes ahead = (item : Item) × IsItem item × (bytes ≡ item_text item) × IsPrepared scheme id item ahead
 
 -- the same, with how many bytes they are
-abbrev pub IsEntry : Scheme → List ℕ → List ℕ → Prepared → Type 0
-IsEntry scheme id bytes ahead = (ahead.len ≡ length bytes) × IsPreparedIn scheme id bytes ahead
+abbrev pub IsPreparedWhole : Scheme → List ℕ → List ℕ → Prepared → Type 0
+IsPreparedWhole scheme id bytes ahead = (ahead.len ≡ length bytes) × IsPreparedIn scheme id bytes ahead
 
 -- bytes begin with these journals, one after the other
 pub record AreCut (bytes : List ℕ) (items : List (List ℕ)) : Type 0 where

@@ -4,7 +4,7 @@ ghost use Rattle.std.specs.Prelude.{◌≡◌, ◌≤◌, ℕ, List, [], ◌∷�
 ghost use Rattle.ledger_io.specs.Windows.{HasEnough};
 ghost use Rattle.journal_record.specs.Items.{most_bytes};
 ghost use Rattle.audit_dump.specs.Journals.{IsOfItem};
-ghost use Rattle.audit_dump.specs.Prepared.{AreCut, ArePrepared, HasReadThere, IsEntry, IsNextPrepared};
+ghost use Rattle.audit_dump.specs.Prepared.{AreCut, ArePrepared, HasReadThere, IsPreparedWhole, IsNextPrepared};
 ghost use Rattle.audit_dump.specs.Walking.{HasItem};
 
 use crate::contents::is_kept_whole;
@@ -146,7 +146,7 @@ fn prepare<R: Threads + Sync, V: Verifier>(
     let prepare_at = |index: usize, ahead: &mut Prepared|
         requires { (index < length items.now)
             × ((d : _) → IsOfItem (slice_index_or items.now index d).now) }
-        ensures { (d : _) → IsEntry (V.shows verifier.entry.now) id.entry.now.0
+        ensures { (d : _) → IsPreparedWhole (V.shows verifier.entry.now) id.entry.now.0
             (slice_index_or items.entry.now index d).now ahead.exit.now }
     {
         *ahead = prepared_of(verifier, id, items[index]);
@@ -177,7 +177,7 @@ fn cut<'a>(alloc: Global, bytes: &'a [u8], first: usize) -> Result<Vec<&'a [u8]>
 // What the bytes of a journal alone tell.
 fn prepared_of<V: Verifier>(verifier: &V, id: &Digest, bytes: &[u8]) -> Prepared
     requires { IsOfItem bytes.now }
-    ensures { IsEntry (V.shows verifier.now) id.now.0 bytes.now result }
+    ensures { IsPreparedWhole (V.shows verifier.now) id.now.0 bytes.now result }
 {
     match Record::decode(bytes) {
         Ok(journal) => Prepared {

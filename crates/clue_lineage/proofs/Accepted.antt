@@ -19,7 +19,7 @@ use Rattle.clue_lineage.specs.declared.answer.LineageNo.{LineageNo}
 use Rattle.clue_lineage.specs.declared.answer.LineageNo.TheVariants.{Malformed, HeadUnknown, LineageClue, LineageLink, LeafPath}
 use Rattle.clue_lineage.specs.Lineages.{Item, Lineage}
 use Rattle.clue_lineage.specs.Reading.{lineage_of, break_of}
-use Rattle.clue_lineage.specs.Accepting.{is_record, is_record_of, follows, leads, first_stranger, first_break_behind, first_break, run_of, unless, first_refusal, acceptance_under, acceptance_of, acceptance, IsRecordOf, Follows, AreBehind, AreLinked, Leads, IsAccepted}
+use Rattle.clue_lineage.specs.Accepting.{is_record, is_record_of, follows, leads, first_stranger, first_break_behind, first_break, run_of, unless, first_refusal, acceptance_under, acceptance_of, acceptance, IsRecordOf, Follows, FollowOn, AreLinked, Leads, IsAccepted}
 use Rattle.clue_lineage.proofs.Spelled.{lineage_of_found, lineage_of_only}
 
 -- ---- a refusal after the other
@@ -83,13 +83,13 @@ stranger_none : (clue : Digest) (at : ℕ) (items : List Item) → AllByRecursio
 stranger_none clue at [] all = refl
 stranger_none clue at (item ∷ more) all = rw (record_told clue item all.0) (stranger_none clue (at + 1) more all.1)
 
-no_break : (before : Header) (at : ℕ) (items : List Item) → first_break_behind before at items ≡ None → AreBehind before items
+no_break : (before : Header) (at : ℕ) (items : List Item) → first_break_behind before at items ≡ None → FollowOn before items
 no_break before at [] e = tt
 no_break before at (item ∷ more) e =
     let one = passed_over (follows before item.header) at (first_break_behind item.header (at + 1) more) e in
     (follows_means before item.header one.0, no_break item.header (at + 1) more one.1)
 
-break_none : (before : Header) (at : ℕ) (items : List Item) → AreBehind before items → first_break_behind before at items ≡ None
+break_none : (before : Header) (at : ℕ) (items : List Item) → FollowOn before items → first_break_behind before at items ≡ None
 break_none before at [] all = refl
 break_none before at (item ∷ more) all = rw (follows_told before item.header all.0) (break_none item.header (at + 1) more all.1)
 

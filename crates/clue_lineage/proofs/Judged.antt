@@ -25,7 +25,7 @@ use Rattle.clue_lineage.specs.declared.answer.LineageVerdict.TheVariants.{Unacce
 use Rattle.clue_lineage.specs.Lineages.{Item, Lineage}
 use Rattle.clue_lineage.specs.Reading.{lineage_of, break_of}
 use Rattle.clue_lineage.specs.Accepting.{acceptance_under, acceptance_of, acceptance}
-use Rattle.clue_lineage.specs.Judging.{own_head, own_acceptance, IsOf, AreOf, IsTrueOf, Gives, parts_of, clash_in, clash_of, Judges, JudgesRead}
+use Rattle.clue_lineage.specs.Judging.{own_head, own_acceptance, IsOf, AreOfList, IsTrueOf, Gives, parts_of, clash_in, clash_of, Judges, JudgesRead}
 use Rattle.clue_lineage.proofs.Accepted.{under_passes}
 
 module _ (hash : Hash) (list : List (List ℕ)) where
@@ -106,7 +106,7 @@ pub accepted_true : (hash : Hash) → Makes hash → (bytes : List ℕ) (clue : 
     → IsTrueOf list bytes ⊎ Clashes hash (clash_of hash list bytes)
 unfolding acceptance IsTrueOf clash_of
 accepted_true hash makes bytes clue head run list e size root = by (lineage_of bytes) refl where
-  by : (read : Result Lineage Bad) → lineage_of bytes ≡ read → AreOf list read ⊎ Clashes hash (clash_in hash list read)
+  by : (read : Result Lineage Bad) → lineage_of bytes ≡ read → AreOfList list read ⊎ Clashes hash (clash_in hash list read)
   by (Err bad) is = absurd (let never : Err (Malformed (break_of bad)) ≡ Ok run = ap (acceptance_of hash clue head) (sym is) ∙ e in cc)
   by (Ok l) is =
       let own : acceptance_under hash clue (own_head hash list) l ≡ Ok run = ap (λ (h : Head). acceptance_under hash clue h l) (sym (head_same hash list head size root)) ∙ ap (acceptance_of hash clue head) (sym is) ∙ e in

@@ -37,7 +37,7 @@ use Rattle.ledger_book.proofs.StandsLaws.{point_is, digests_of}
 use Rattle.clue_lineage.specs.declared.answer.LineageErr.{LineageErr}
 use Rattle.clue_lineage.specs.declared.answer.LineageErr.TheVariants.{NoLineage, NoMemory}
 use Rattle.clue_lineage.specs.Lineages.{item_text, items_text, front_text, spelling, IsItem}
-use Rattle.clue_lineage.specs.Accepting.{run_of, acceptance, IsRecordOf, AreBehind, AreLinked, Leads, IsAccepted}
+use Rattle.clue_lineage.specs.Accepting.{run_of, acceptance, IsRecordOf, FollowOn, AreLinked, Leads, IsAccepted}
 use Rattle.clue_lineage.specs.Making.{records_of, kept_records, shown_from, item_in, lineage_over, lineage_in, Makes, StandsIn}
 use Rattle.clue_lineage.proofs.Accepted.{accepted_only}
 use Rattle.clue_lineage.proofs.Chains.{Chain, chain_drop, chain_take, numbers_behind, ordinals_behind, clued_is_record, own_clue, lawful_chain}
@@ -270,7 +270,7 @@ module _ (h : History) (few : model.size h < 2 ^ 32) where
   items_fit clue (e ∷ es) shown wide =
       All-cons IsItem (item_in h e) (map (item_in h) es) (record { rules = shown.0.layout; widths = wide.0; path = path_digests e.header.jsn }) (items_fit clue es shown.1 wide.1)
 
-  behind_items : (x : Header) (n : ℕ) (es : List Entry) → x.clue_ord ≡ n → Chain (n + 1) x.jsn es → AreBehind x (map (item_in h) es)
+  behind_items : (x : Header) (n : ℕ) (es : List Entry) → x.clue_ord ≡ n → Chain (n + 1) x.jsn es → FollowOn x (map (item_in h) es)
   behind_items x n [] is chain = tt
   behind_items x n (e ∷ es) is chain = (record { ordinal = omega (arith, chain.0, is); previous = chain.1 }, behind_items e.header (n + 1) es chain.0 chain.3)
 

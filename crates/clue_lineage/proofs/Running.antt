@@ -19,8 +19,8 @@ use Rattle.merkle_tree.specs.declared.head.Head.{Head}
 use Rattle.clue_lineage.specs.declared.answer.Run.{Run}
 use Rattle.clue_lineage.specs.Lineages.{Item, Lineage, IsItem}
 use Rattle.clue_lineage.specs.Reading.{lineage_of}
-use Rattle.clue_lineage.specs.Accepting.{last_ordinal, run_of, acceptance, IsRecordOf, AreBehind, AreLinked}
-use Rattle.clue_lineage.specs.Judging.{IsOf, AreOf, IsTrueOf}
+use Rattle.clue_lineage.specs.Accepting.{last_ordinal, run_of, acceptance, IsRecordOf, FollowOn, AreLinked}
+use Rattle.clue_lineage.specs.Judging.{IsOf, AreOfList, IsTrueOf}
 use Rattle.clue_lineage.specs.Runs.{reads_record, is_of, read_ordinal, ordinal_of, records_in, KeepsClueRule, records_between, headers_of, headers_read}
 use Rattle.clue_lineage.proofs.Accepted.{record_means, record_told, accepted_found}
 use Rattle.clue_lineage.proofs.Spelled.{lineage_of_only}
@@ -216,7 +216,7 @@ module _ (clue : Digest) (list : List (List ℕ)) where
     numbered = ap read_ordinal (header_read item t.fits) ∙ is;
   }
 
-  run_behind : (before : Header) (n : ℕ) (items : List Item) → before.clue_ord ≡ n → AreBehind before items → AllByRecursion (Told clue list) items
+  run_behind : (before : Header) (n : ℕ) (items : List Item) → before.clue_ord ≡ n → FollowOn before items → AllByRecursion (Told clue list) items
       → (i : ℕ) → i < length (headers_of items) → IsAt (is_of clue) ordinal_of list (n + 1 + i) (get_or (headers_of items) i [])
   run_behind before n [] is behind told i inside = absurd (omega (arith, inside))
   run_behind before n (x ∷ xs) is behind told zero inside = at_place x (n + 1 + 0) told.0 (omega (arith, behind.0.ordinal, is))
@@ -233,7 +233,7 @@ module _ (clue : Digest) (list : List (List ℕ)) where
       (run_behind x.header x.header.clue_ord xs refl linked told.1 i (omega (arith, inside)))
 
 -- the ordinals of a run count up
-last_behind : (before : Header) (items : List Item) → AreBehind before items → last_ordinal before.clue_ord items ≡ before.clue_ord + length items
+last_behind : (before : Header) (items : List Item) → FollowOn before items → last_ordinal before.clue_ord items ≡ before.clue_ord + length items
 last_behind before [] behind = omega arith
 last_behind before (x ∷ xs) behind = omega (arith, last_behind x.header xs behind.1, behind.0.ordinal)
 
@@ -264,7 +264,7 @@ true_is_whole hash bytes clue head run list plain e of rule =
     let a = accepted_found hash bytes clue head run plain e in
     let items = a.lineage.items in
     let read : lineage_of bytes ≡ Ok a.lineage = lineage_of_only bytes a.lineage a.is_lineage a.text in
-    let own : AllByRecursion (IsOf list) items = subst (λ (r : Result Lineage Bad). AreOf list r) read of in
+    let own : AllByRecursion (IsOf list) items = subst (λ (r : Result Lineage Bad). AreOfList list r) read of in
     let told = told_all clue list items a.is_lineage.items a.records own in
     let first : run.first ≡ (run_of items).first = ap (λ (r : Run). r.first) a.run_is in
     let low : 1 ≤ (run_of items).first = first_some clue items a.some a.is_lineage.some a.is_lineage.items a.records in

@@ -113,14 +113,14 @@ pub record Follows (before x : Header) : Type 0 where
   pub previous : x.clue_prev ≡ before.jsn
 
 -- each of some journals follows the one in front of it, and the first of them this one
-abbrev pub AreBehind : Header → List Item → Type 0
-AreBehind before [] = ⊤
-AreBehind before (item ∷ more) = Follows before item.header × AreBehind item.header more
+abbrev pub FollowOn : Header → List Item → Type 0
+FollowOn before [] = ⊤
+FollowOn before (item ∷ more) = Follows before item.header × FollowOn item.header more
 
 -- each journal but the first follows the one in front of it
 abbrev pub AreLinked : List Item → Type 0
 AreLinked [] = ⊤
-AreLinked (item ∷ more) = AreBehind item.header more
+AreLinked (item ∷ more) = FollowOn item.header more
 
 -- a journal's leaf leads along its path to a head's root, under the head's size
 abbrev pub Leads : Hash → Head → Item → Type 0

@@ -31,13 +31,13 @@ pub record IsOf (list : List (List ℕ)) (item : Item) : Type 0 where
   pub stands : get_or list item.header.jsn [] ≡ headers.spelling item.header
 
 -- what was read is a lineage of which each journal is the list's at its number
-abbrev pub AreOf : List (List ℕ) → Result Lineage Bad → Type 0
-AreOf list (Ok l) = AllByRecursion (IsOf list) l.items
-AreOf list (Err bad) = ⊥
+abbrev pub AreOfList : List (List ℕ) → Result Lineage Bad → Type 0
+AreOfList list (Ok l) = AllByRecursion (IsOf list) l.items
+AreOfList list (Err bad) = ⊥
 
 -- the bytes spell a lineage of which each journal is the list's at its number
 unfoldable pub IsTrueOf : List (List ℕ) → List ℕ → Type 0
-IsTrueOf list bytes = AreOf list (lineage_of bytes)
+IsTrueOf list bytes = AreOfList list (lineage_of bytes)
 
 -- a journal's path leads to the list's root
 abbrev pub Gives : Hash → List (List ℕ) → Item → Type 0

@@ -74,15 +74,6 @@ none_told book from clue sink none = record {
   faults = λ source disks notary. record { source_is = refl; sink_is = (refl, refl); disks_are = record { a = refl; b = refl } };
 }
 
--- memory was missing
-pub memory_told : (book : Kept) (from : ℕ) (clue : Digest) (sink : SinkState) → TellsLineage book from clue (Run run.NoMemory) sink sink
-memory_told book from clue sink = record {
-  part = [];
-  appended = Appends-nil sink.held;
-  written = λ h s. refl;
-  faults = λ source disks notary. record { source_is = inl refl; sink_is = (refl, refl); disks_are = record { a = refl; b = refl } };
-}
-
 -- ---- a ledger that is opened, and a lineage is written
 
 pub traced : (tells : Bool) (source : SourceState) (sink t : SinkState) (n : NotaryState) (old now : Pair) (k : Known) (in_a : Bool) (start : Option Base) (blocks : List (List Entry))

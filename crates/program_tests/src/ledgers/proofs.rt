@@ -80,7 +80,11 @@ fn put_heads(alloc: Global, audit: &mut Vec<u8>, told: &str) -> Result<Option<()
 }
 
 /// What the auditor answers to what these replies prove.
-fn audited<R: Threads + Sync>(rt: &R, alloc: Global, replies: &str) -> Result<Option<String>, NoMemory> {
+fn audited<R: Threads + Sync>(
+    rt: &R,
+    alloc: Global,
+    replies: &str,
+) -> Result<Option<String>, NoMemory> {
     let mut audit = Vec::new(alloc);
     for reply in replies.lines() {
         let Some(()) = put_audit(alloc, &mut audit, reply)? else {

@@ -1,5 +1,5 @@
 use Rattle.std.proofs.Common.{◌≡◌, ◌^◌, ◌<◌, Ok, arith}
-use Rattle.std.proofs.lemmas.Bool.{eqb-true, false≢true}
+use Rattle.std.proofs.lemmas.Bool.{false≢true}
 use Rattle.audit_dump.specs.Said.{said_by, said_of}
 use Rattle.audit_dump.proofs.SaidKeys.{key_told, other_member, not_read}
 use Rattle.audit_dump.proofs.placing.key_in.Goals as goal

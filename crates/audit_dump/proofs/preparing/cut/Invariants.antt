@@ -1,5 +1,5 @@
 use Rattle.std.specs.List.{flat_map}
-use Rattle.std.proofs.Common.{◌≡◌, ◌≤◌, List, ℕ, ◌++◌, length, map, All}
+use Rattle.std.proofs.Common.{◌≡◌, ◌≤◌, ◌++◌, length, map, All}
 use Rattle.audit_dump.specs.Journals.{IsOfItem}
 use Rattle.audit_dump.proofs.preparing.cut.Given as goal
 

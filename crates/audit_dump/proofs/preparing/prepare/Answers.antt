@@ -3,7 +3,7 @@ use Rattle.std.specs.List.{flat_map}
 use Rattle.std.specs.Prelude.{slice_index_or}
 use denote.Ref.{Bor}
 use Rattle.audit_dump.specs.Journals.{IsOfItem}
-use Rattle.audit_dump.specs.Prepared.{ArePrepared, IsEntry}
+use Rattle.audit_dump.specs.Prepared.{ArePrepared, IsPreparedWhole}
 use Rattle.audit_dump.specs.declared.preparing.Prepared.{Prepared}
 use Rattle.audit_dump.proofs.Ahead.{each_of, lent, prepared_each}
 use Rattle.audit_dump.proofs.preparing.prepare.Goals as goal
@@ -30,4 +30,4 @@ returns-clause-prepared g c =
     (prepared_each scheme id items list cut.rest same (λ i d e lt.
     let changed = c.for_each_mut.ensures i e (omega (arith, lt, c.as_mut_slice.ensures.len, c.in_ok-list.ensures.len, c.as_slice-items.ensures.len)) in
     let call = changed.1.call in
-    subst (λ (p : Prepared). IsEntry scheme id (slice_index_or items i d).now p) changed.1.left (search rules))))
+    subst (λ (p : Prepared). IsPreparedWhole scheme id (slice_index_or items i d).now p) changed.1.left (search rules))))
