@@ -4,6 +4,7 @@
 - A ledger of chains is made by `chain init`, so its folder has the file `chain`. A record is signed by chains, and one is forged
   from the operator's public key alone. With the word `chain` and without it the signed one is placed and the forged one refused (15).
 - `chain init` where there is a ledger of tags is refused, and leaves no file `chain`: that ledger goes on with tag proofs.
+- `chain init` whose line can't be written (status 3) has made the ledger: the file `chain` stays, and a forged record is refused.
 - A folder that isn't there ends with `fail 4 disk`.
 - Where the file `chain` is taken away, the word alone keeps the forged one out: without it the record is placed. That is the danger that
   stays, and this script tells it as what is so.
@@ -71,6 +72,14 @@ def main():
         expect(not os.path.exists(os.path.join(plain, "chain")), "and leaves no file chain")
         told = verdicts(program, ["run", plain], [append_line(bytes.fromhex(ledger), b"hi")])
         expect(told == (0, [b"ok 1"]), "the ledger of tags goes on")
+        unwritten = os.path.join(top, "unwritten")
+        os.mkdir(unwritten)
+        with open("/dev/full", "wb") as full:
+            status = subprocess.run([program, "chain", "init", unwritten, "demo", key, REGULATOR], stdout=full).returncode
+        expect(status == 3 and os.path.exists(os.path.join(unwritten, "chain")), "init whose line can't be written leaves the file chain")
+        ledger = ran(program, ["run", unwritten], b"0 head\n")[1].split()[2].decode()
+        told = verdicts(program, ["run", unwritten], lines_of(program, ledger, key, "03", 3))
+        expect(told == (0, [b"ok 1", b"no 15"]), "and its ledger takes signatures alone")
         expect(ran(program, ["chain", "run", os.path.join(top, "none")]) == (4, b"fail 4 disk\n"), "a folder that isn't there")
     return 1 if faults else 0
 

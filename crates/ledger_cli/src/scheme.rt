@@ -64,7 +64,7 @@ impl Mark {
         File::open(rt, self.folder.as_str())?.sync_all()
     }
 
-    /// Removes the file again, where no ledger was made. One that stays does no harm: it is looked at by the scheme that shows no key.
+    /// Removes the file again, where there was a ledger already, and so none was made. One that stays refuses tag proofs, and lets nothing in.
     pub(crate) fn remove(&self, rt: &HostRuntime) {
         let _ = fs::remove_file(rt, self.path.as_str());
     }

@@ -142,7 +142,8 @@ fn run_on_files<R: Threads + Wait + Sync, S: Source, K: Sink>(
         disks,
         keeping,
     );
-    if settled.is_new && status != 0 {
+    // (refused, since there was a ledger already: with each other status this run may have made one)
+    if settled.is_new && status == 8 {
         mark.remove(rt);
     }
     Ok(status)
