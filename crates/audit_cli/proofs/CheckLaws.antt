@@ -1,5 +1,5 @@
 -- Lemmas on a run over a lineage.
-use Rattle.std.proofs.Common.{◌≡◌, ◌<◌, ℕ, List, [], length, take, drop, Result, Ok, Err, refl, sym, ◌∙◌, subst, arith, take-append-drop}
+use Rattle.std.proofs.Common.{◌≡◌, ◌<◌, ℕ, List, length, take, drop, Result, Ok, Err, refl, sym, ◌∙◌, subst, arith, take-append-drop}
 use Rattle.std.proofs.lemmas.List.{length-take-le}
 use Rattle.sha2.specs.Sha256.{sha256}
 use Rattle.ledger_bytes.specs.declared.digest.Digest.{Digest}

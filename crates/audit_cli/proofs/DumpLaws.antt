@@ -11,12 +11,14 @@ use Rattle.ledger_model.specs.Scheme.{Scheme}
 use Rattle.audit_dump.specs.Bytes.{IsReportOf}
 use Rattle.audit_dump.specs.Reports.{Fault, Report}
 use Rattle.audit_dump.specs.Told.{fault_of, report_of}
+use Rattle.audit_dump.specs.declared.late.Given.{Given}
 use Rattle.audit_dump.specs.declared.report.Fault.{Fault as FaultTold}
 use Rattle.audit_dump.proofs.Truth.{true_bytes}
 use Rattle.merkle_tree.specs.declared.head.Head.{Head}
 use Rattle.ledger_bytes.specs.declared.digest.Digest.{Digest}
 use Rattle.audit_cli.specs.Dumps.{Reported, SoundDump, WritesLine, status_behind}
 use Rattle.audit_cli.specs.ReportLines.{report_line}
+use Rattle.audit_cli.proofs.RuleLaws.{dump_rule, lawful_dump, under_head}
 
 -- a line that was written in part
 pub line_part : (report : Report) (piece : List ℕ) (before after : SinkState) (error : WriteErr) → piece ≡ report_line report → WritesFirst before.held after.held piece error
@@ -58,6 +60,15 @@ told_sound scheme id ledger notary status before after r zero_is =
       consumed = r.tells.consumed;
       at_end = r.tells.end (told_none r.report.fault none);
       sound = λ plain.
-          let dump = true_bytes scheme (record { id = id; ledger = ledger; notary = notary }) r.tells.bytes (report_of r.report) plain is none in
-          record { dump = dump.0; dump_is = dump.1; text = dump.2; holds = dump.4 };
+          let given : Given = record { id = id; ledger = ledger; notary = notary } in
+          let dump = true_bytes scheme given r.tells.bytes (report_of r.report) plain is none in
+          record {
+            dump = dump.0;
+            dump_is = dump.1;
+            text = dump.2;
+            head = under_head scheme given dump.0 (report_of r.report) dump.1 dump.3 none;
+            lawful = lawful_dump scheme given dump.0 (report_of r.report) dump.1 dump.3 none;
+            rule = dump_rule scheme given dump.0 (report_of r.report) dump.1 dump.3 none;
+            holds = dump.4;
+          };
     }

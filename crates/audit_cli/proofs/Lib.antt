@@ -2,6 +2,7 @@ pub mod TextLaws
 pub mod SessionLaws
 pub mod TopLaws
 pub mod DumpLaws
+pub mod RuleLaws
 pub mod CheckLaws
 pub mod JudgedLines
 pub mod YesLaws

@@ -13,10 +13,14 @@ use Rattle.ledger_io.specs.declared.ending.Ending.TheVariants.{Done, Usage, Read
 use Rattle.merkle_tree.specs.declared.head.Head.{Head}
 use Rattle.tree_model.specs.Tree.{mth}
 use Rattle.tree_model.specs.TreeClash.{ShowsOr}
+use Rattle.ledger_model.specs.Lawful.{AreLawful}
 use Rattle.ledger_model.specs.Scheme.{Scheme}
-use Rattle.dump_model.specs.Dumps.{Dump, IsDump, dump_text}
+use Rattle.dump_model.specs.Checks.{HasLedgerHead}
+use Rattle.dump_model.specs.Dumps.{Dump, IsDump, dump_text, leaves_of}
 use Rattle.dump_model.specs.Truth.{IsTrueDump, dump_clash}
+use Rattle.clue_lineage.specs.Runs.{KeepsClueRule}
 use Rattle.audit_dump.specs.Audits.{IsAuditErr, TellsReport}
+use Rattle.audit_dump.specs.Known.{journals_of}
 use Rattle.audit_dump.specs.Reports.{Fault, Report}
 use Rattle.audit_dump.specs.Told.{report_of}
 use Rattle.audit_dump.specs.declared.auditing.AuditErr.{AuditErr}
@@ -83,12 +87,16 @@ RanDump scheme id ledger notary status before after = Reported scheme id ledger 
 
 -- ---- what is so
 
--- The bytes are those of a dump, and it is true of all lists under these heads, or two different strings with one digest are
--- shown.
+-- The bytes are those of a dump with this head of the ledger, and it is true of all lists under these heads, or two different
+-- strings with one digest are shown. Where no base stands in front, its journals are such as a ledger may have, and their
+-- headers keep the rule of clues.
 pub record IsTrueText (ledger notary : Head) (bytes : List ℕ) : Type 0 where
   pub dump : Dump
   pub dump_is : IsDump dump
   pub text : bytes ≡ dump_text dump
+  pub head : HasLedgerHead sha256 dump ledger
+  pub lawful : dump.base ≡ None → AreLawful (journals_of dump.items)
+  pub rule : dump.base ≡ None → KeepsClueRule (leaves_of dump)
   pub holds : (headers entries : List (List ℕ)) → length headers ≡ ledger.size → mth sha256 headers ≡ ledger.root.0
       → length entries ≡ notary.size → mth sha256 entries ≡ notary.root.0
       → ShowsOr sha256 (IsTrueDump sha256 headers entries dump) (dump_clash sha256 headers entries dump)

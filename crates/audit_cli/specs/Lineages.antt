@@ -15,7 +15,11 @@ use Rattle.ledger_io.specs.declared.failure.LineErr.{LineErr}
 use Rattle.ledger_io.specs.declared.failure.LineErr.TheVariants as line_err
 use Rattle.merkle_tree.specs.declared.head.Head.{Head}
 use Rattle.script_lines.specs.Words.{spaced_words}
+use Rattle.tree_model.specs.Clash.{Clashes}
 use Rattle.clue_lineage.specs.Accepting.{acceptance, IsAccepted}
+use Rattle.clue_lineage.specs.Judging.{clash_of}
+use Rattle.clue_lineage.specs.Reading.{lineage_of}
+use Rattle.clue_lineage.specs.Runs.{headers_read, records_between}
 use Rattle.clue_lineage.specs.declared.answer.LineageNo.{LineageNo}
 use Rattle.clue_lineage.specs.declared.answer.LineageNo.TheVariants as lineage_no
 use Rattle.clue_lineage.specs.declared.answer.Run.{Run}
@@ -123,3 +127,11 @@ pub record SoundLineage (clue : Digest) (head : Head) (before after : Outside) :
   pub at_end : IsAtEnd after.source.left
   pub run : Run
   pub accepted : IsBytes bytes → IsAccepted sha256 bytes clue head run
+
+-- The headers of a lineage's journals are all records of the clue in a list of headers whose ordinals are within the run's, in
+-- order; or the lineage and the list show two different strings with one digest.
+-- Example: a list has records of the clue with the ordinals 1 to 5. A lineage that is accepted as the run from 4 to 5 has the
+-- headers of the last two of them.
+abbrev pub IsWholeIn : List (List ℕ) → List ℕ → Digest → Run → Type 0
+IsWholeIn list bytes clue run =
+    (headers_read (lineage_of bytes) ≡ records_between clue run.first run.last list) ⊎ Clashes sha256 (clash_of sha256 list bytes)

@@ -1,7 +1,9 @@
 //! Laws of the words that make commands, and of an audit script's replies: each stands in its place, and what `yes`,
-//! `true` and `clash` tell is so.
+//! `true` and `clash` tell is so. What a dump without a fault says of the lineages under its head.
 
 ghost use Rattle.std.specs.Prelude.{◌≡◌, true, ◌⊎◌, ◌↔◌, ◌+◌, ℕ, List, [], ◌∷◌, ◌++◌, length, codes, None, Some, Ok};
+ghost use Rattle.sha2.specs.Sha256.{sha256};
+ghost use Rattle.ledger_bytes.specs.Fields.{IsBytes};
 ghost use Rattle.ledger_bytes.specs.declared.digest.Digest.{Digest as DigestRecord};
 ghost use Rattle.merkle_tree.specs.declared.head.Head.{Head as HeadRecord};
 ghost use Rattle.proof_codec.specs.declared.claim.Claim.{Claim as ClaimRecord};
@@ -13,6 +15,16 @@ ghost use Rattle.script_lines.specs.declared.said.Which.{Which as Tree};
 ghost use Rattle.ledger_io.specs.Lines.{lines_of};
 ghost use Rattle.tree_model.specs.Tree.{Hash, mth};
 ghost use Rattle.tree_model.specs.Clash.{Clashes, IsClash};
+ghost use Rattle.tree_model.specs.TreeClash.{ShowsOr, tree_clash};
+ghost use Rattle.ledger_model.specs.Lawful.{AreLawful};
+ghost use Rattle.ledger_model.specs.Scheme.{Scheme};
+ghost use Rattle.dump_model.specs.Dumps.{Dump as DumpRecord, IsDump, leaves_of};
+ghost use Rattle.audit_dump.specs.declared.late.Given.{Given};
+ghost use Rattle.audit_dump.specs.Known.{journals_of};
+ghost use Rattle.audit_dump.specs.Reports.{Report, IsReport};
+ghost use Rattle.clue_lineage.specs.declared.answer.Run.{Run};
+ghost use Rattle.clue_lineage.specs.Accepting.{acceptance, IsAccepted};
+ghost use Rattle.clue_lineage.specs.Runs.{KeepsClueRule};
 ghost use Rattle.audit_core.specs.Trust.{Trust, root_of};
 ghost use Rattle.audit_core.specs.Truth.{Lists, lists_of, HasJournal, IsTrueOf};
 ghost use Rattle.audit_core.specs.Judgement.{IsAcceptedByOwn, IsUnderHead, leaf_clash, clash_of};
@@ -22,7 +34,9 @@ ghost use Rattle.audit_cli.specs.declared.line.Line.TheVariants.{Extend, Check, 
 ghost use Rattle.audit_cli.specs.declared.reply.Reply.{Reply as ReplyRecord};
 ghost use Rattle.audit_cli.specs.declared.reply.Reply.TheVariants.{Yes, True, Clash};
 ghost use Rattle.audit_cli.specs.declared.words.Command.TheVariants.{Script, Dump, Lineage};
+ghost use Rattle.audit_cli.specs.Dumps.{IsTrueText};
 ghost use Rattle.audit_cli.specs.Grammar.{line_of};
+ghost use Rattle.audit_cli.specs.Lineages.{IsWholeIn};
 ghost use Rattle.audit_cli.specs.Replies.{reply_text, IsOneLine};
 ghost use Rattle.audit_cli.specs.Answers.{answer_to};
 ghost use Rattle.audit_cli.specs.Sound.{IsSoundText};
@@ -141,4 +155,42 @@ pub fn words_make_commands()
         → is_plain_word name_word ≡ true → clue_of name_word ≡ Some name → head_of size root ≡ Some head
         → command_of (codes "lineage" ∷ name_word ∷ size ∷ root ∷ [])
         ≡ Some (Lineage (named_clue name) head) }
+{}
+
+/// Where the report of a dump without a base has no fault, the dump's journals are such as a ledger may have, one after the other,
+/// and their headers keep the rule of clues: each record's ordinal is one more than how many records of its clue stand in front
+/// of it, and it names the number of the last of them.
+///
+/// Of a dump with a base it says nothing: the records in front of the base aren't there to be counted.
+pub fn audited_dumps_keep_the_clue_rule()
+    ensures lawful { (scheme : Scheme) (given : Given) (dump : DumpRecord) (report : Report)
+        → IsDump dump → IsReport scheme given dump report → report.fault ≡ None → dump.base ≡ None
+        → AreLawful (journals_of dump.items) }
+    ensures rule { (scheme : Scheme) (given : Given) (dump : DumpRecord) (report : Report)
+        → IsDump dump → IsReport scheme given dump report → report.fault ≡ None → dump.base ≡ None
+        → KeepsClueRule (leaves_of dump) }
+    // So does each list of headers under the ledger's head that was given, or the dump and the list show two different strings
+    // with one digest.
+    ensures lists { (scheme : Scheme) (given : Given) (dump : DumpRecord) (report : Report)
+        (headers : List (List ℕ)) → IsDump dump → IsReport scheme given dump report
+        → report.fault ≡ None → dump.base ≡ None
+        → length headers ≡ given.ledger.size → mth sha256 headers ≡ given.ledger.root.0
+        → ShowsOr sha256 (KeepsClueRule headers) (tree_clash sha256 [] 0 (leaves_of dump) headers) }
+{}
+
+/// Where the report of a dump without a base has no fault, and a lineage is accepted under the same head of the ledger, the
+/// lineage's headers are all records of the clue in that dump with an ordinal from the run's first to its last, in order; or the
+/// lineage and the dump show two different strings with one digest. That the last is the clue's last isn't said.
+pub fn lineages_under_audited_heads_are_whole()
+    ensures reported { (scheme : Scheme) (given : Given) (dump : DumpRecord) (report : Report)
+        (bytes : List ℕ) (clue : DigestRecord) (run : Run)
+        → IsDump dump → IsReport scheme given dump report → report.fault ≡ None → dump.base ≡ None
+        → IsBytes bytes → acceptance sha256 bytes clue given.ledger ≡ Ok run
+        → IsWholeIn (leaves_of dump) bytes clue run }
+    // The same by what two runs of the program read that ended with the status 0: one over the dump (`SoundDump`), and one over
+    // the lineage (`SoundLineage`).
+    ensures read { (ledger notary : HeadRecord) (text bytes : List ℕ) (clue : DigestRecord) (run : Run)
+        → (told : IsTrueText ledger notary text) → told.dump.base ≡ None
+        → IsBytes bytes → IsAccepted sha256 bytes clue ledger run
+        → IsWholeIn (leaves_of told.dump) bytes clue run }
 {}

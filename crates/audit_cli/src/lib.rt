@@ -15,9 +15,9 @@ mod top;
 mod words;
 
 pub use laws::{
-    checked_claims_are_true, extended_heads_go_on, judged_claims_are_told,
-    judged_clashes_are_clashes, replies_are_lines, replies_stand_in_place, scripts_are_sound,
-    words_make_commands,
+    audited_dumps_keep_the_clue_rule, checked_claims_are_true, extended_heads_go_on,
+    judged_claims_are_told, judged_clashes_are_clashes, lineages_under_audited_heads_are_whole,
+    replies_are_lines, replies_stand_in_place, scripts_are_sound, words_make_commands,
 };
 pub use report_line::report_text;
 pub use top::{audit_run, audit_top};
