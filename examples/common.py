@@ -3,6 +3,7 @@ import argparse
 import hashlib
 import os
 import subprocess
+import sys
 
 BIN = os.path.join(os.path.dirname(os.path.dirname(os.path.realpath(__file__))), "bin")
 WRAPPER = os.path.join(BIN, "ledgerctl")
@@ -17,12 +18,12 @@ def words_of(text):
     return parser
 
 
-# The program itself. Where none was named, it is the one that bin/ledgerctl keeps, which is proved and built first.
-def built_program(named):
+# The program itself. Where none was named, it is the one that bin/ledgerctl or bin/auditctl keeps, which is proved and built first.
+def built_program(named, name="ledgerctl"):
     if named:
         return os.path.realpath(named)
-    subprocess.run([WRAPPER], stdin=subprocess.DEVNULL, stdout=subprocess.DEVNULL)
-    return os.path.join(BIN, ".built", "ledgerctl")
+    subprocess.run([os.path.join(BIN, name)], stdin=subprocess.DEVNULL, stdout=subprocess.DEVNULL)
+    return os.path.join(BIN, ".built", name)
 
 
 # Makes a ledger, and answers its id.
@@ -48,7 +49,7 @@ def append_line(ledger, content):
     key = bytes.fromhex(OPERATOR)
     digest = hashlib.sha256(b"\x02" + content).digest()
     message = hashlib.sha256(b"\x03" + ledger + bytes(4) + bytes(32) + len(content).to_bytes(4, "big") + digest).digest()
-    return f"0 append 0 - {content.hex()} {proof(key, message)}\n".encode()
+    return f"0 append 0 - {content.hex() or '-'} {proof(key, message)}\n".encode()
 
 
 # A line that purges all journals in front of a point over which this is the root, with the operator's approval.
@@ -126,3 +127,21 @@ def leaf_of(reply):
     if len(words) < 3 or words[1] not in (b"whole", b"occulted"):
         return None
     return hashlib.sha256(b"\0" + bytes.fromhex(words[2].decode())).hexdigest()
+
+
+# Runs a program from a small process of its own: what the system tells of a process's memory begins with that of the one which started it.
+STARTER = """
+import os, subprocess, sys, time
+begin = time.perf_counter()
+with open(sys.argv[1], "rb") as source, open(sys.argv[2], "wb") as sink:
+    run = subprocess.Popen(sys.argv[3:], stdin=source, stdout=sink)
+    _, status, used = os.wait4(run.pid, 0)
+print(time.perf_counter() - begin, used.ru_maxrss, os.waitstatus_to_exitcode(status))
+"""
+
+
+# How long a program ran, how much memory it held at most, in KiB, and its status.
+def timed(words, given, taken):
+    told = subprocess.run([sys.executable, "-c", STARTER, given or os.devnull, taken, *words], capture_output=True, check=True)
+    seconds, memory, status = told.stdout.split()
+    return float(seconds), int(memory), int(status)

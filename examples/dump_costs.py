@@ -15,7 +15,7 @@ import sys
 import tempfile
 import time
 
-from common import append_line, built_program, made_ledger, words_of
+from common import append_line, built_program, made_ledger, timed, words_of
 
 
 def main():
@@ -70,24 +70,6 @@ def measured(program, auditor, folder, count, times):
     told = {name: statistics.median(value) if isinstance(value, list) else value for name, value in told.items()}
     told["size"] = os.path.getsize(dump)
     return told
-
-
-# Runs a program from a small process of its own: what the system tells of a process's memory begins with that of the one which started it.
-STARTER = """
-import os, subprocess, sys, time
-begin = time.perf_counter()
-with open(sys.argv[1], "rb") as source, open(sys.argv[2], "wb") as sink:
-    run = subprocess.Popen(sys.argv[3:], stdin=source, stdout=sink)
-    _, status, used = os.wait4(run.pid, 0)
-print(time.perf_counter() - begin, used.ru_maxrss, os.waitstatus_to_exitcode(status))
-"""
-
-
-# How long a program ran, how much memory it held at most, in KiB, and its status.
-def timed(words, given, taken):
-    told = subprocess.run([sys.executable, "-c", STARTER, given or os.devnull, taken, *words], capture_output=True, check=True)
-    seconds, memory, status = told.stdout.split()
-    return float(seconds), int(memory), int(status)
 
 
 # How long it takes to read a dump without a base, and to hash each header.

@@ -44,7 +44,7 @@ tells_of r a b is = subst (Tells r) (sym is)
 
 -- ---- survivors one after the other
 
-drop_here : (xs : List Saved) (i : ℕ) (x : Saved) → slice_get xs i ≡ Some x → drop i xs ≡ x ∷ drop (i + 1) xs
+pub drop_here : (xs : List Saved) (i : ℕ) (x : Saved) → slice_get xs i ≡ Some x → drop i xs ≡ x ∷ drop (i + 1) xs
 drop_here xs i x is = at_drop_more (λ t. t) xs i x (slice_get_within xs i x is) ∙ ap (λ y. y ∷ drop (i + 1) xs) (get_or_from_slice_get xs i x x is)
 
 module _ (s : SavedSet) (xs : List Saved) (i : ℕ) (x : Saved) (here : slice_get xs i ≡ Some x) (far : survivors_refusal s s.survivors ≡ survivors_refusal s (drop i xs)) where
@@ -159,7 +159,7 @@ unfolding set_refusal
 front_then h s r none = tells_of r _ _ (or_ok (front_refusal h s) (survivors_refusal s s.survivors) none)
 
 -- neither of two refusals
-neither : (a b : Option SetErr) → option_or a b ≡ None → (a ≡ None) × (b ≡ None)
+pub neither : (a b : Option SetErr) → option_or a b ≡ None → (a ≡ None) × (b ≡ None)
 neither None b is = (refl, is)
 neither (Some e) b is = absurd cc
 
@@ -181,7 +181,7 @@ fits_one s x none =
     let parts = fold_bytes_parts sha256 leaf x.item.header.jsn s.point x.path there in
     record { below = parts.0; len = parts.1 }
 
-fits_each : (s : SavedSet) (xs : List Saved) → survivors_refusal s xs ≡ None → All (FitsPath s.point) xs
+pub fits_each : (s : SavedSet) (xs : List Saved) → survivors_refusal s xs ≡ None → All (FitsPath s.point) xs
 fits_each s [] none = All-nil (FitsPath s.point)
 fits_each s (x ∷ xs) none =
     let both = neither (survivor_refusal s x) (survivors_refusal s xs) none in

@@ -2,12 +2,12 @@
 use Rattle.std.specs.Prelude.{⊤, OnOk, All, slice_get, nat_le, nat_lt, not, bytes_eq, Result, Ok, Err, IsErr, IsErrAnd, option_map}
 use Rattle.std.specs.List.{concat}
 use Rattle.std.specs.Option.{option_or}
-use Rattle.std.proofs.Common.{◌≡◌, ℕ, ◌+◌, ◌*◌, ◌<◌, ◌≤◌, ◌^◌, Bool, true, false, cond, List, [], ◌∷◌, ◌++◌, length, map, get_or, take, Option, Some, None, refl, sym, ap, ap₂, ◌∙◌, subst, arith, append_assoc, append-nil}
-use Rattle.std.proofs.lemmas.Bool.{le-leb, lt-leb, lt-ltb, le-ltb}
+use Rattle.std.proofs.Common.{◌≡◌, ℕ, ◌+◌, ◌*◌, ◌<◌, ◌≤◌, ◌^◌, Bool, true, false, cond, inl, inr, List, [], ◌∷◌, ◌++◌, length, map, get_or, take, Option, Some, None, refl, sym, ap, ap₂, ◌∙◌, subst, arith, append_assoc, append-nil}
+use Rattle.std.proofs.lemmas.Bool.{cases_lt, le-leb, lt-leb, lt-ltb, le-ltb}
 use Rattle.std.proofs.lemmas.Grind.{flat_map-append}
 use Rattle.std.proofs.lemmas.List.{take_more, map-append, length-map}
 use Rattle.std.proofs.lemmas.List.Elements.{All-map, All-take}
-use Rattle.std.proofs.lemmas.Option.{get_or_from_slice_get, slice_get_within, slice_get-map}
+use Rattle.std.proofs.lemmas.Option.{none-some, get_or_from_slice_get, slice_get_within, slice_get-map}
 use Rattle.sha2.specs.Sha256.{sha256}
 use Rattle.sha2.proofs.Facts256.{length-sha256}
 use Rattle.tree_model.specs.Path.{path, path_length}
@@ -79,7 +79,7 @@ puts_more t p q xs i x old mid new here far puts = λ leaves stands each.
 
 -- ---- of a history
 
-leaves_wide : (h : History) → All IsWide (leaf_digests h)
+pub leaves_wide : (h : History) → All IsWide (leaf_digests h)
 leaves_wide h = All-map IsWide leaf_digest (journals h) (λ k d lt. length-sha256 (0 ∷ spelling (get_or (journals h) k d).header))
 
 pub has_path : (h : History) (p : ℕ) (x : Saved) → IsSurvivorOf h p x → HasPath (leaf_digests h) p x
@@ -118,6 +118,16 @@ module _ (h : History) (s : SavedSet) (q : ℕ) where
     pub later_time : {A : Type 0} (r : Result A SetErr) → s.point ≤ q → Tells r (time_refusal (slice_get (journals h) q)) → Tells r (later_refusal h s q)
     unfolding later_refusal
     later_time r from time = rw (lt-leb (size h) q there, le-ltb q s.point from) time
+
+  -- a set can be carried on to a journal where nothing refuses it
+  pub later_passes : later_refusal h s q ≡ None → (s.point ≤ q) × (q < size h)
+  later_passes none = elim (cases_lt q (size h)) [
+    | inr above ↦ absurd (none-some (Refused (NoJournal (size h))) (sym none ∙ later_absent (size h) refl above))
+    | inl there ↦ elim (cases_lt q s.point) [
+      | inl below ↦ absurd (none-some (NotBelow s.point) (sym none ∙ later_below there s.point refl below))
+      | inr from ↦ (from, there)
+    ]
+  ]
 
 -- the kind of the journal at a point
 pub time_kind : (js : List Entry) (n floor : ℕ) (header : Header) → floor ≤ n → Some header ≡ cond (nat_le floor n) (slice_get (map (λ (j : Entry). j.header) js) n) None → time_refusal (slice_get js n) ≡ kind_refusal header.kind

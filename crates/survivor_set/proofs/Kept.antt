@@ -3,7 +3,8 @@ use Rattle.std.specs.Prelude.{IsErr, IsErrAnd, nat_le, nat_lt, bytes_eq, map, sl
 use Rattle.std.specs.List.{concat}
 use Rattle.std.specs.Option.{option_or}
 use Rattle.std.proofs.Common.{◌≡◌, ℕ, suc, ◌*◌, ◌/◌, ◌%◌, ◌<◌, ◌≤◌, ◌^◌, Bool, true, false, cond, inl, inr, List, [], ◌∷◌, ◌++◌, length, take, Option, Some, None, refl, sym, ap, ◌∙◌, subst, arith, append_assoc, append-nil}
-use Rattle.std.proofs.lemmas.Bool.{le-leb, lt-leb, lt-ltb, le-ltb}
+use Rattle.std.proofs.lemmas.Bool.{cases_lt, le-leb, lt-leb, lt-ltb, le-ltb}
+use Rattle.std.proofs.lemmas.Option.{none-some}
 use Rattle.std.proofs.lemmas.Slice.Eq.{bytes_eq-Decides}
 use Rattle.sha2.specs.Sha256.{sha256}
 use Rattle.tree_model.specs.Path.{path, path_length}
@@ -29,12 +30,13 @@ use Rattle.ledger_model.specs.Getting.{damage, content_damage, who_damage}
 use Rattle.ledger_model.specs.History as model
 use Rattle.ledger_model.specs.History.{History, journals, id, size, point}
 use Rattle.ledger_model.specs.Targets.{is_hidden}
-use Rattle.survivor_set.specs.Sets.{Saved, SavedSet, saved_text, survivors_text, front_text, set_text}
+use Rattle.survivor_set.specs.Sets.{Saved, SavedSet, IsSet, saved_text, survivors_text, front_text, set_text}
 use Rattle.survivor_set.specs.Outcomes.{Tells, of_tree, path_below, time_refusal}
-use Rattle.survivor_set.specs.Keeping.{AreKept, point_refusal, place_refusal, damage_of, journal_refusal, number_refusal, numbers_refusal, StopsBy, KeepsOne, KeepsAll, KeepsSet, PutsKept, of_dump}
+use Rattle.survivor_set.specs.Keeping.{AreKept, IsSetOf, keep_refusal, point_refusal, place_refusal, damage_of, journal_refusal, number_refusal, numbers_refusal, StopsBy, KeepsOne, KeepsAll, KeepsSet, PutsKept, of_dump}
 use Rattle.survivor_set.specs.declared.failure.SetErr.{SetErr}
 use Rattle.survivor_set.specs.declared.failure.SetErr.TheVariants.{Refused, Bad, NotBelow, OtherLedger, LeafPath, DiskFault, NoMemory}
 use Rattle.survivor_set.proofs.Checked.{or_err, or_ok}
+use Rattle.survivor_set.proofs.Wholes.{set_only}
 
 -- ---- by numbers
 
@@ -59,6 +61,26 @@ module _ (h : History) (p : ℕ) where
   pub place_above : (n : ℕ) → point h ≤ n → p ≤ n → place_refusal h p n ≡ Some (NotBelow p)
   unfolding place_refusal
   place_above n kept above = rw (le-ltb n (point h) kept, le-leb p n above) refl
+
+  -- journals can be kept in front of a journal where nothing refuses it
+  pub point_passes : point_refusal h p ≡ None → (point h ≤ p) × (p < size h)
+  point_passes none = elim (cases_lt p (size h)) [
+    | inr above ↦ absurd (none-some (Refused (NoJournal (size h))) (sym none ∙ point_absent (size h) refl above))
+    | inl there ↦ elim (cases_lt p (point h)) [
+      | inl below ↦ absurd (none-some (Refused (Purged (point h))) (sym none ∙ point_purged there (point h) refl below))
+      | inr kept ↦ (kept, there)
+    ]
+  ]
+
+  -- .. and one is kept where its number isn't refused
+  pub place_passes : (n : ℕ) → place_refusal h p n ≡ None → (point h ≤ n) × (n < p)
+  place_passes n none = elim (cases_lt n (point h)) [
+    | inl below ↦ absurd (none-some (Refused (Purged (point h))) (sym none ∙ place_purged n (point h) refl below))
+    | inr kept ↦ elim (cases_lt n p) [
+      | inl front ↦ (kept, front)
+      | inr above ↦ absurd (none-some (NotBelow p) (sym none ∙ place_above n kept above))
+    ]
+  ]
 
   pub place_none : (n : ℕ) → point h ≤ n → n < p → place_refusal h p n ≡ None
   unfolding place_refusal
@@ -170,7 +192,7 @@ keeps_more h p n rest ns one (Ok end) done old mid new ns_are first behind =
 keeps_more h p n rest ns one (Err e) done old mid new ns_are first behind =
     subst (λ (l : List ℕ). StopsBy (numbers_refusal h p l) e) (sym ns_are) (stops_then (number_refusal h p n) (numbers_refusal h p rest) e first.0 behind)
 
-kept_count : (h : History) (p : ℕ) (ns : List ℕ) (xs : List Saved) → AreKept h p ns xs → length ns ≡ length xs
+pub kept_count : (h : History) (p : ℕ) (ns : List ℕ) (xs : List Saved) → AreKept h p ns xs → length ns ≡ length xs
 kept_count h p [] [] are = refl
 kept_count h p [] (x ∷ xs) are = absurd are
 kept_count h p (n ∷ ns) [] are = absurd are
@@ -203,11 +225,13 @@ point_stops h p ns (Ok bytes) e is why = absurd (cc is.0)
 point_stops h p ns (Err f) e is why = stops_first (point_refusal h p) (numbers_refusal h p ns) f (point_refuses h p f (why ∙ ap Some (sym is.1)))
 
 pub keeps_set : (h : History) (p : ℕ) (ns : List ℕ) (mine root : Digest) (count : ℕ) (old mid new bytes : List ℕ) → point_refusal h p ≡ None → mine.0 ≡ id h → root.0 ≡ model.root h p → count ≡ length ns → mid ≡ front_text mine p root count
-    → KeepsAll h p ns (Ok tt) mid new → bytes ≡ new → KeepsSet h p ns (Ok bytes)
+    → KeepsAll h p ns (Ok tt) mid new → bytes ≡ new → ((s : SavedSet) → keep_refusal h p ns ≡ None → IsSetOf h p ns s → IsSet s) → KeepsSet h p ns (Ok bytes)
 unfolding set_text
-keeps_set h p ns mine root count old mid new bytes none mine_is root_is count_is front all end =
+keeps_set h p ns mine root count old mid new bytes none mine_is root_is count_is front all end rules =
     let s : SavedSet = record { id = digest (id h); point = p; root = digest (model.root h p); survivors = all.1 } in
     let number : count ≡ length all.1 = count_is ∙ kept_count h p ns all.1 all.2 in
     let text : bytes ≡ set_text s =
     end ∙ all.3 ∙ ap (λ (t : List ℕ). t ++ survivors_text all.1) (front ∙ ap (λ (d : List ℕ). front_text (digest d) p root count) mine_is ∙ ap (λ (d : List ℕ). front_text (digest (id h)) p (digest d) count) root_is ∙ ap (λ (k : ℕ). front_text (digest (id h)) p (digest (model.root h p)) k) number) in
-    (or_ok (point_refusal h p) (numbers_refusal h p ns) none ∙ all.0, s, record { id_is = refl; point_is = refl; root_is = refl; are = all.2 }, text)
+    let passed = or_ok (point_refusal h p) (numbers_refusal h p ns) none ∙ all.0 in
+    let of : IsSetOf h p ns s = record { id_is = refl; point_is = refl; root_is = refl; are = all.2 } in
+    (passed, s, of, text, set_only bytes s (rules s passed of) text)

@@ -8,3 +8,7 @@ pub mod Growth
 pub mod Revived
 pub mod Kept
 pub mod Stays
+pub mod Shows
+pub mod Readable
+pub mod Passing
+pub mod Lives

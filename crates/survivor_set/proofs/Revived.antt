@@ -52,7 +52,7 @@ own_of (Bad bad) is = tt
 own_of (NotBelow p) is = tt
 own_of (OtherLedger kept) is = tt
 own_of LeafPath is = tt
-own_of DiskFault is = tt
+own_of DiskFault is = is
 own_of NoMemory is = tt
 
 pub survivors_own : {A : Type 0} (s : SavedSet) (r : Result A SetErr) → Tells r (survivors_refusal s s.survivors) → IfErr r IsOwn

@@ -1,11 +1,12 @@
 -- What is kept of a history, and why it isn't.
-use Rattle.std.specs.Prelude.{◌≡◌, ℕ, ◌/◌, ◌<◌, length, nat_le, nat_lt, Bool, if◌then◌else◌, List, [], ◌∷◌, ◌++◌, slice_get, Option, Some, None, option_map, Result, Ok, Err, ⊤}
+use Rattle.std.specs.Prelude.{◌≡◌, ℕ, ◌/◌, ◌<◌, length, nat_le, nat_lt, Bool, if◌then◌else◌, List, [], ◌∷◌, ◌++◌, map, drop, slice_get, All, Option, Some, None, option_map, Result, Ok, Err, ⊤}
 use Rattle.std.specs.Option.{option_or}
 use Rattle.block_file.specs.declared.failure.Damage.TheVariants.{Content}
 use Rattle.dump_export.specs.declared.failure.DumpErr.{DumpErr}
 use Rattle.dump_export.specs.declared.failure.DumpErr.TheVariants as dump_err
 use Rattle.dump_model.specs.Shown.{shown}
 use Rattle.journal_record.specs.Entry.{Entry}
+use Rattle.journal_record.specs.Items.{IsItem}
 use Rattle.ledger_book.specs.Books.{Kept, Stands}
 use Rattle.ledger_bytes.specs.Causes.{count_after}
 use Rattle.ledger_bytes.specs.Digests.{digest}
@@ -15,6 +16,7 @@ use Rattle.ledger_model.specs.Getting.{content_damage, who_damage}
 use Rattle.ledger_model.specs.History.{History, journals, id, size, point, root}
 use Rattle.ledger_model.specs.Targets.{is_hidden}
 use Rattle.survivor_set.specs.Outcomes.{path_below, time_refusal}
+use Rattle.survivor_set.specs.Reading.{set_of}
 use Rattle.survivor_set.specs.Sets.{Saved, SavedSet, saved_text, survivors_text, set_text}
 use Rattle.survivor_set.specs.declared.failure.SetErr.{SetErr}
 use Rattle.survivor_set.specs.declared.failure.SetErr.TheVariants.{Refused, Bad, NotBelow, OtherLedger, LeafPath, DiskFault, NoMemory}
@@ -44,6 +46,11 @@ pub record IsSetOf (h : History) (p : ℕ) (ns : List ℕ) (s : SavedSet) : Type
   pub point_is : s.point ≡ p
   pub root_is : s.root ≡ digest (root h p)
   pub are : AreKept h p ns s.survivors
+
+-- all journals that the ledger shows can stand in a set: their headers keep their rules, and what is shown of their parts has the
+-- length that there may be
+abbrev pub AreShowable : History → Type 0
+AreShowable h = All IsItem (map (shown h) (drop (point h) (journals h)))
 
 -- ---- why it isn't made
 
@@ -106,9 +113,10 @@ abbrev pub KeepsAll : History → ℕ → List ℕ → Result (Unit {0}) SetErr 
 KeepsAll h p ns (Ok done) old new = (numbers_refusal h p ns ≡ None) × (xs : List Saved) × AreKept h p ns xs × (new ≡ old ++ survivors_text xs)
 KeepsAll h p ns (Err e) old new = StopsBy (numbers_refusal h p ns) e
 
--- what comes of keeping the journals with these numbers at a point: the bytes of their set, where nothing refuses it
+-- what comes of keeping the journals with these numbers at a point: the bytes of their set, which is read back from them, where nothing
+-- refuses it
 abbrev pub KeepsSet : History → ℕ → List ℕ → Result (List ℕ) SetErr → Type 0
-KeepsSet h p ns (Ok bytes) = (keep_refusal h p ns ≡ None) × (s : SavedSet) × IsSetOf h p ns s × (bytes ≡ set_text s)
+KeepsSet h p ns (Ok bytes) = (keep_refusal h p ns ≡ None) × (s : SavedSet) × IsSetOf h p ns s × (bytes ≡ set_text s) × (set_of bytes ≡ Ok s)
 KeepsSet h p ns (Err e) = StopsBy (keep_refusal h p ns) e
 
 -- the disk's count of faults rises by one exactly where its failure is answered; at the end of its type it stays

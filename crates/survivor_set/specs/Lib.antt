@@ -4,3 +4,4 @@ pub mod Steps
 pub mod Carries
 pub mod Outcomes
 pub mod Keeping
+pub mod Lives

@@ -25,6 +25,7 @@ use Rattle.proof_maker.specs.Making.{IsMade, is_fault}
 use Rattle.proof_maker.specs.declared.made.Made.{Made}
 use Rattle.proof_maker.specs.declared.made.MakeErr.{MakeErr}
 use Rattle.proof_maker.specs.declared.made.MakeErr.TheVariants as make_err
+use Rattle.survivor_set.specs.Reading.{set_of}
 use Rattle.survivor_set.specs.Sets.{Saved, SavedSet, set_text}
 use Rattle.survivor_set.specs.declared.failure.SetErr.{SetErr}
 use Rattle.survivor_set.specs.declared.failure.SetErr.TheVariants.{Refused, Bad, NotBelow, OtherLedger, LeafPath, DiskFault, NoMemory}
@@ -145,22 +146,23 @@ CarryEnds why LeafPath = why ≡ Some LeafPath
 CarryEnds why DiskFault = ⊥
 CarryEnds why NoMemory = why ≡ None
 
--- What comes of carrying a set on to journal q: the bytes of the carried set, where its survivors are journals of this history, and
--- why there are none where something refuses it.
+-- What comes of carrying a set on to journal q: the bytes of the carried set, which is read back from them, where its survivors are
+-- journals of this history; and why there are none where something refuses it.
 abbrev pub CarriesOn : History → SavedSet → ℕ → Result (List ℕ) SetErr → Type 0
-CarriesOn h s q (Ok bytes) = (carry_refusal h s q ≡ None) × (AreJournalsOf h s → bytes ≡ set_text (carried_set h q s))
+CarriesOn h s q (Ok bytes) =
+    (carry_refusal h s q ≡ None) × (AreJournalsOf h s → bytes ≡ set_text (carried_set h q s)) × (AreJournalsOf h s → set_of bytes ≡ Ok (carried_set h q s))
 CarriesOn h s q (Err e) = CarryEnds (carry_refusal h s q) e
 
 -- ---- what is still proved
 
--- a failure of the notary is no refusal of a set
+-- a failure of the notary or of a disk is no refusal of a set
 abbrev pub IsOwn : SetErr → Type 0
 IsOwn (Refused why) = is_fault why ≡ false
 IsOwn (Bad bad) = ⊤
 IsOwn (NotBelow p) = ⊤
 IsOwn (OtherLedger kept) = ⊤
 IsOwn LeafPath = ⊤
-IsOwn DiskFault = ⊤
+IsOwn DiskFault = ⊥
 IsOwn NoMemory = ⊤
 
 -- why no proof is made of a survivor, where a set is refused or isn't: the refusal; or the notary failed, which is asked only

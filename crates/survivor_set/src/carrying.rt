@@ -26,7 +26,9 @@ use std::alloc::Global;
 /// hashes as a path has digests.
 pub fn carry(alloc: Global, book: &Book, set: &Set, point: u64) -> Result<Bytes, SetErr>
     requires settled { book.now.sealed ≡ book.now.size }
-    ensures { (h : History) → Serves book.now h → CarriesOn h set.now point result }
+    ensures answer { (h : History) → Serves book.now h → CarriesOn h set.now point result }
+    // It asks no disk.
+    ensures own { IfErr result IsDiskless }
 {
     check_set(book, set)?;
     check_later(book, set, point)?;
@@ -44,6 +46,7 @@ fn check_later(book: &Book, set: &Set, point: u64) -> Result<(), SetErr>
     ensures judged { (h : History) → Serves book.now h → Tells result (outcome.later_refusal h set.now point) }
     ensures from { OnOk result (set.now.point ≤ point) }
     ensures more { OnOk result (point < book.now.tree.size) }
+    ensures own { IfErr result IsDiskless }
 {
     let size = book.tree().size();
     if point >= size {

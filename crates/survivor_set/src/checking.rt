@@ -23,7 +23,7 @@ use merkle_tree::{fold_path, leaf_of};
 pub fn check_set(book: &Book, set: &Set) -> Result<(), SetErr>
     ensures judged { (h : History) → Serves book.now h → Tells result (outcome.set_refusal h set.now) }
     ensures fits { OnOk result (Fits book.now.tree set.now) }
-    // It asks no notary.
+    // It asks no notary and no disk.
     ensures own { IfErr result IsOwn }
 {
     check_front(book, set)?;

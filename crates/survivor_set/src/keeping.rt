@@ -23,7 +23,7 @@ use ledger_disk::Disk;
 use ledger_open::{Opened, Places};
 use std::alloc::Global;
 
-/// KeepsSet the journals with these numbers in front of a time journal: the bytes of a set that holds each as the ledger shows it, and
+/// Keeps the journals with these numbers in front of a time journal: the bytes of a set that holds each as the ledger shows it, and
 /// its path. The point is judged first: `NoJournal` where it is at least the ledger's size, `Purged` where it lies below the ledger's
 /// point, and `NotTime` where it tells no time. Then number by number: `Purged` below the ledger's point, `NotBelow` with the point
 /// where the number isn't below that, and `Damaged` where a content that isn't hidden, or a who, has another digest than its header
@@ -60,7 +60,7 @@ pub fn keep<D: Disk>(
     }
 }
 
-// KeepsSet journals of a ledger with this book, whose open file stands on this disk.
+// Keeps journals of a ledger with this book, whose open file stands on this disk.
 fn keep_from<D: Disk>(
     alloc: Global,
     book: &Book,
@@ -69,7 +69,9 @@ fn keep_from<D: Disk>(
     point: u64,
     ns: &[u64],
 ) -> Result<Bytes, SetErr>
+    requires some { 1 ≤ length ns.now }
     requires few { length ns.now ≤ 64 }
+    requires ascending { AreAscending ns.now }
     ensures answer { IsTrue D.tells → (h : History)
         → IsReadAs book.now places.now.list (D.state file.old).bytes.seen h
         → KeepsSet h point ns.now result }

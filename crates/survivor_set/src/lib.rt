@@ -18,6 +18,10 @@ pub use carrying::carry;
 pub use checking::check_set;
 pub use failure::SetErr;
 pub use keeping::keep;
-pub use laws::kept_journals_stay;
+pub use laws::{
+    carried_journals_stay, carried_sets_keep_the_rules, good_sets_are_carried,
+    good_survivors_are_revived, kept_journals_stay, kept_sets_keep_the_rules, kept_sets_live_on,
+    only_purges_refuse_carried_sets, only_purges_refuse_kept_sets,
+};
 pub use reviving::{revive, revive_judged};
 pub use set::{SURVIVOR_LIMIT, Set, Survivor};

@@ -1,6 +1,6 @@
 //! What is still proved of a survivor, also where the ledger has purged its journal.
 
-ghost use Rattle.std.specs.Prelude.{◌≡◌, ◌<◌, true, length, Some, None, slice_get, IfOk};
+ghost use Rattle.std.specs.Prelude.{◌≡◌, ◌<◌, true, length, Some, None, slice_get, IfOk, IfErr};
 ghost use Rattle.sha2.specs.Sha256.{sha256};
 ghost use Rattle.audit_core.specs.Acceptance.{IsAccepted};
 ghost use Rattle.audit_core.specs.Trust.{Trust};
@@ -10,6 +10,7 @@ ghost use Rattle.ledger_model.specs.History.{History};
 ghost use Rattle.ledger_model.specs.Pegs.{Pegged};
 ghost use Rattle.proof_maker.specs.Making.{TrustsHead, TrustsList};
 ghost use Rattle.survivor_set.specs.Carries.{Fits};
+ghost use Rattle.survivor_set.specs.Keeping.{IsDiskless};
 ghost use Rattle.survivor_set.specs.Outcomes.{CountsFaults, IsSurvivorOf, Revives, set_refusal};
 ghost use Rattle.survivor_set.specs.Sets.{Saved};
 
@@ -42,6 +43,8 @@ pub fn revive<N: Notary>(
     ensures same { (N.state notary.new).entries ≡ (N.state notary.old).entries }
     ensures origin { (N.state notary.new).origin ≡ (N.state notary.old).origin }
     ensures faults { CountsFaults result (N.state notary.old).faults (N.state notary.new).faults }
+    // It asks no disk.
+    ensures own { IfErr result IsDiskless }
     // Who trusts the ledger's head accepts it, where there is a bound with the notary's.
     ensures accepted { IfOk result (λ made. (h : History) (trust : Trust) (x : Saved)
         → Serves book.now h → slice_get set.now.survivors i ≡ Some x
@@ -70,6 +73,8 @@ pub fn revive_judged<N: Notary>(
     ensures same { (N.state notary.new).entries ≡ (N.state notary.old).entries }
     ensures origin { (N.state notary.new).origin ≡ (N.state notary.old).origin }
     ensures faults { CountsFaults result (N.state notary.old).faults (N.state notary.new).faults }
+    // It asks no disk.
+    ensures own { IfErr result IsDiskless }
     ensures accepted { IfOk result (λ made. (h : History) (trust : Trust) (x : Saved)
         → Serves book.now h → slice_get set.now.survivors i ≡ Some x
         → IsSurvivorOf h set.now.point x → Pegged h (N.state notary.old).entries → TrustsHead trust h

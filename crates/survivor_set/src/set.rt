@@ -99,7 +99,7 @@ pub struct Set<'a> {
 
 impl<'a> Model for Set<'a> {
     ghost use Rattle.std.specs.Prelude.{◌≡◌, ◌≤◌, length, Ok};
-    ghost use Rattle.survivor_set.specs.Sets.{SavedSet};
+    ghost use Rattle.survivor_set.specs.Sets.{SavedSet, IsSet};
     ghost use Rattle.survivor_set.specs.Reading.{set_of, survivors_in};
 
     ghost Value = { SavedSet };
@@ -116,7 +116,12 @@ impl<'a> Model for Set<'a> {
       point = s.point;
       root = s.root;
       survivors = survivors_in s.bytes.now;
-    })) × (length (survivors_in s.bytes.now) ≡ s.count) × (1 ≤ s.count) × (s.count ≤ 64) };
+    })) × (length (survivors_in s.bytes.now) ≡ s.count) × (1 ≤ s.count) × (s.count ≤ 64) × IsSet (record {
+      id = s.id;
+      point = s.point;
+      root = s.root;
+      survivors = survivors_in s.bytes.now;
+    }) };
 }
 
 impl<'a> Set<'a> {
@@ -166,6 +171,8 @@ impl<'a> Set<'a> {
         ensures count { result ≡ length self.now.survivors }
         ensures some { 1 ≤ result }
         ensures few { result ≤ 64 }
+        // A set that was read keeps every rule of one.
+        ensures rules { IsSet self.now }
     {
         self.count
     }

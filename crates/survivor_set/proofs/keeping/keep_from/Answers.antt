@@ -4,6 +4,8 @@ use Rattle.ledger_book.specs.Books.{leaf_digests}
 use Rattle.survivor_set.specs.Sets.{front_text}
 use Rattle.survivor_set.proofs.Checked.{root_told, size_of}
 use Rattle.survivor_set.proofs.Kept.{point_stops, keeps_set}
+use Rattle.survivor_set.proofs.Readable.{kept_is_set}
+use Rattle.survivor_set.proofs.Shows.{showable}
 use Rattle.survivor_set.proofs.keeping.keep_from.Goals as goal
 
 pub returns-in_err-check_point-clause-answer : goal.returns-in_err-check_point-clause-answer
@@ -23,3 +25,4 @@ returns-clause-answer g c = λ tells h r.
     (c.id.ensures h s) (c.in_ok-root.ensures.root (leaf_digests h) (c.tree.ensures.stands h s) ∙ root_told h c.args.point) refl
     (c.in_ok-put_front.ensures ∙ ap (λ (t : List ℕ). t ++ front_text c.id.result c.args.point c.in_ok-root.root (length c.args.ns.now)) c.new-fields.ensures)
     (c.in_ok-keep_all.ensures.kept tells h r) c.finish.ensures
+    (λ t none of. kept_is_set h c.args.point s.lawful (showable _ h s.lawful r.erased) c.args.ns.now t c.requires.some c.requires.few c.requires.ascending none of)
