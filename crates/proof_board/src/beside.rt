@@ -31,8 +31,8 @@ pub trait Session: Sized {
         ensures { gives self result };
 }
 
-// Starts the provers: the first with seed 0, and so on.
-fn start_all<'s, 'e: 's, R: Threads + Wait + Sync>(
+/// Starts a prover with each of the passes in a scope: the first with seed 0, and so on.
+pub fn start_all<'s, 'e: 's, R: Threads + Wait + Sync>(
     scope: &'s Scope<'s, &'e ()>,
     rt: &'e R,
     board: &'e Board,
@@ -57,8 +57,8 @@ fn start_all<'s, 'e: 's, R: Threads + Wait + Sync>(
     hands
 }
 
-// Waits for the provers.
-fn finish_all<R: Threads>(rt: &R, hands: Vec<Hand>, mut done: Vec<Returned>) -> Vec<Returned>
+/// Waits for provers that were started, and answers what each of them hands back.
+pub fn finish_all<R: Threads>(rt: &R, hands: Vec<Hand>, mut done: Vec<Returned>) -> Vec<Returned>
     requires room { (done.items ≡ []) × (vec_len hands ≤ vec_capacity done) }
     ensures len { vec_len result ≡ vec_len hands }
     ensures returned { (b : Board) (count : ℕ) (passes : List ProverPass)

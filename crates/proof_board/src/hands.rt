@@ -65,8 +65,8 @@ pub enum Hand {
 /// Room for the hands of provers, and for what they hand back.
 #[derive(Drop)]
 pub struct Room {
-    pub(crate) hands: Vec<Hand>,
-    pub(crate) done: Vec<Returned>,
+    pub hands: Vec<Hand>,
+    pub done: Vec<Returned>,
 }
 
 impl Room {

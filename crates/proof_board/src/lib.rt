@@ -21,7 +21,7 @@ mod view;
 mod writer;
 mod writing;
 
-pub use beside::{Session, prove_beside};
+pub use beside::{Session, finish_all, prove_beside, start_all};
 pub use board::{Board, BoardErr};
 pub use hands::{Hand, Orders, Returned, Room, Tally, Task};
 pub use opening::open_board;
