@@ -37,28 +37,28 @@ no_keys message proof = None
 
 -- ---- two disks, of which one has the open file
 
-open_bytes : (in_a : Bool) (a b : DiskState) → (open_of in_a a b).bytes ≡ open_of in_a a.bytes b.bytes
+pub open_bytes : (in_a : Bool) (a b : DiskState) → (open_of in_a a b).bytes ≡ open_of in_a a.bytes b.bytes
 open_bytes true a b = refl
 open_bytes false a b = refl
 
 -- both have the same bytes where the open one has and the other is the same
-same_bytes : (in_a : Bool) (now last : Pair) → (open_of in_a last.a last.b).bytes ≡ (open_of in_a now.a now.b).bytes → other_of in_a last.a last.b ≡ other_of in_a now.a now.b
+pub same_bytes : (in_a : Bool) (now last : Pair) → (open_of in_a last.a last.b).bytes ≡ (open_of in_a now.a now.b).bytes → other_of in_a last.a last.b ≡ other_of in_a now.a now.b
     → (last.a.bytes ≡ now.a.bytes) × (last.b.bytes ≡ now.b.bytes)
 same_bytes true now last same other = (same, ap (λ (d : DiskState). d.bytes) other)
 same_bytes false now last same other = (ap (λ (d : DiskState). d.bytes) other, same)
 
-none_failed : (in_a : Bool) (old now last : Pair) → (open_of in_a last.a last.b).faults ≡ (open_of in_a now.a now.b).faults → other_of in_a last.a last.b ≡ other_of in_a now.a now.b
+pub none_failed : (in_a : Bool) (old now last : Pair) → (open_of in_a last.a last.b).faults ≡ (open_of in_a now.a now.b).faults → other_of in_a last.a last.b ≡ other_of in_a now.a now.b
     → now.a.faults ≡ old.a.faults → now.b.faults ≡ old.b.faults → NoDiskFailed old last
 none_failed true old now last same other a b = record { a = same ∙ a; b = ap (λ (d : DiskState). d.faults) other ∙ b }
 none_failed false old now last same other a b = record { a = ap (λ (d : DiskState). d.faults) other ∙ a; b = same ∙ b }
 
-one_failed : (in_a : Bool) (old now last : Pair) → (open_of in_a last.a last.b).faults ≡ count_after (open_of in_a now.a now.b).faults → other_of in_a last.a last.b ≡ other_of in_a now.a now.b
+pub one_failed : (in_a : Bool) (old now last : Pair) → (open_of in_a last.a last.b).faults ≡ count_after (open_of in_a now.a now.b).faults → other_of in_a last.a last.b ≡ other_of in_a now.a now.b
     → now.a.faults ≡ old.a.faults → now.b.faults ≡ old.b.faults → OneFailed old last
 one_failed true old now last more other a b = inl (more ∙ ap count_after a, ap (λ (d : DiskState). d.faults) other ∙ b)
 one_failed false old now last more other a b = inr (ap (λ (d : DiskState). d.faults) other ∙ a, more ∙ ap count_after b)
 
 -- what is known of disks where nothing is pending is known of ones with the same bytes
-still_quiet : (now last : Pair) (h : History) → last.a.bytes ≡ now.a.bytes → last.b.bytes ≡ now.b.bytes → IsQuietFor now h → IsQuietFor last h
+pub still_quiet : (now last : Pair) (h : History) → last.a.bytes ≡ now.a.bytes → last.b.bytes ≡ now.b.bytes → IsQuietFor now h → IsQuietFor last h
 still_quiet now last h a b q = record {
   a = subst IsSettled (sym a) q.a;
   b = subst IsSettled (sym b) q.b;

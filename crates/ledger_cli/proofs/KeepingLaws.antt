@@ -13,7 +13,8 @@ use Rattle.notary_ledger.specs.Opening.{CountsOpenAt}
 use Rattle.time_peg.specs.Entries.{NotaryState, Times}
 use Rattle.ledger_cli.specs.Endings.{status_of, last_line, HasWords}
 use Rattle.ledger_cli.specs.Keeping.{Given, names_folder, ending_of_keeper, IsLeftListed, IsUntouched, RanOnKeeper, WantsMemory, KeeperFailed, RanWith, RanMain}
-use Rattle.ledger_cli.specs.Runs.{Finishes, Handed, ServedBy}
+use Rattle.ledger_cli.specs.Program.{Finishes, ServedBy}
+use Rattle.ledger_cli.specs.Runs.{Handed}
 use Rattle.ledger_cli.specs.declared.ending.LedgerEnding.{LedgerEnding}
 use Rattle.ledger_cli.specs.declared.ending.LedgerEnding.TheVariants.{Run, DiskFault}
 use Rattle.ledger_cli.specs.declared.words.Command.{Command}
@@ -90,6 +91,10 @@ served_origin scheme tells (Some (command.Init genesis)) ending before now s = a
 served_origin scheme tells (Some command.Run) ending before now s = s.failures.fails.origin
 served_origin scheme tells (Some command.Export) ending before now s = s.asked.origin
 served_origin scheme tells (Some (command.Lineage clue from)) ending before now s = ap (λ (n : NotaryState). n.origin) s.unasked
+served_origin scheme tells (Some (command.Keep point numbers)) ending before now s = ap (λ (n : NotaryState). n.origin) s.unasked
+served_origin scheme tells (Some (command.Carry point)) ending before now s = ap (λ (n : NotaryState). n.origin) s.unasked
+served_origin scheme tells (Some command.Revive) ending before now s = s.asks.asked.origin
+served_origin scheme tells (Some (command.Board provers count)) ending before now s = ap (λ (n : NotaryState). n.origin) s.notary_is ∙ s.ran.failures.fails.origin
 served_origin scheme tells (Some (command.Sign signing)) ending before now s = ap (λ (n : NotaryState). n.origin) s.notary_is
 served_origin scheme tells (Some (command.Chain text)) ending before now s = ap (λ (n : NotaryState). n.origin) s.notary_is
 served_origin scheme tells (Some (command.Soak seed count stop)) ending before now s = ap (λ (n : NotaryState). n.origin) s.notary_is

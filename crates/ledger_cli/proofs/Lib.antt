@@ -12,6 +12,9 @@ pub mod PegLaws
 pub mod LastLaws
 pub mod StopLaws
 pub mod TakeLaws
+pub mod FollowLaws
+pub mod BoardLaws
+pub mod BesideLaws
 pub mod TopLaws
 pub mod KeepingLaws
 pub mod PieceLaws
@@ -21,5 +24,7 @@ pub mod OrderLaws
 pub mod HaltLaws
 pub mod ShownLaws
 pub mod RunsLaws
-pub mod TraceLaws
+pub mod AskLaws
+pub mod NumberLaws
+pub mod SurviveLaws
 pub mod CutLaws

@@ -32,8 +32,9 @@ use Rattle.ledger_open.specs.declared.failure.OpenErr.TheVariants as open_err
 use Rattle.ledger_open.proofs.OpenLaws.{pair_opens, reopened_only}
 use Rattle.time_peg.specs.Entries.{NotaryState}
 use Rattle.twin_file.specs.Twin.{open_of}
+use Rattle.ledger_cli.specs.Asking.{OpensAndWrites}
 use Rattle.ledger_cli.specs.Endings.{ending_of_opening, line_of, refusal_of}
-use Rattle.ledger_cli.specs.Runs.{Handed, handed, FaultsBy, HasNone, LeaveFoundedOrShut, Exports, IsNotOpened, NotaryFailsBy, SettledAsRead, StayAsRead, IsUnstarted, IsRefused, IsMadeOf, RunsAgain, RunsNew, Makes, TracesClue, ledger_line, Runs}
+use Rattle.ledger_cli.specs.Runs.{Handed, handed, FaultsBy, HasNone, LeaveFoundedOrShut, Exports, IsNotOpened, NotaryFailsBy, SettledAsRead, StayAsRead, IsUnstarted, IsRefused, IsMadeOf, RunsAgain, RunsNew, Makes, ledger_line, Runs}
 use Rattle.ledger_cli.specs.declared.ending.LedgerEnding.{LedgerEnding}
 use Rattle.ledger_cli.specs.declared.ending.LedgerEnding.TheVariants.{Run}
 use Rattle.ledger_bytes.specs.Digests.{digest}
@@ -187,17 +188,16 @@ module _ (scheme : Scheme) (tells : Bool) (source : SourceState) (sink : SinkSta
     notary_fails = notary_same e;
   }
 
-  -- .. and no lineage
-  pub not_traced : (e : OpenErr) → e ≢ open_err.Exists → (IsTrue tells → IsOpenErr old.a.bytes.seen old.b.bytes.seen e)
+  -- .. and no text of it
+  pub not_written : (IsText : History → List ℕ → Type 0) (HasCause : History → LedgerEnding → Type 0) (e : OpenErr) → e ≢ open_err.Exists → (IsTrue tells → IsOpenErr old.a.bytes.seen old.b.bytes.seen e)
       → (e ≢ open_err.DiskFault → IsTrue tells → (now.a.bytes ≡ settled_state old.a.bytes.seen) × (now.b.bytes ≡ settled_state old.b.bytes.seen))
       → (IsTrue tells → (f : OpenErr) → (IsOutside f → ⊥) → IsOpenErr old.a.bytes.seen old.b.bytes.seen f → StandsAsRead old.a.bytes now.a.bytes × StandsAsRead old.b.bytes now.b.bytes)
       → (IsTrue tells → StandsAsRead old.a.bytes now.a.bytes × StandsAsRead old.b.bytes now.b.bytes ⊎ ((h : History) → PairFor old.a.bytes.seen old.b.bytes.seen h → EachStands h))
       → (IsTrue tells → IsSettled old.a.bytes → IsSettled old.b.bytes → (h : History) → IsCleanPair old.a.bytes.seen old.b.bytes.seen h → (now.a.bytes ≡ old.a.bytes) × (now.b.bytes ≡ old.b.bytes))
-      → CountsTwoErr e old.a.faults now.a.faults old.b.faults now.b.faults → (from : ℕ) (clue : Digest) → TracesClue from clue tells (ending_of_opening e) (handed source sink old n) (handed source sink now n)
-  not_traced e other err same kept images clean counts from clue = record {
+      → CountsTwoErr e old.a.faults now.a.faults old.b.faults now.b.faults
+      → OpensAndWrites IsText HasCause tells (ending_of_opening e) (handed source sink old n) (handed source sink now n)
+  not_written IsText HasCause e other err same kept images clean counts = record {
     serves = λ t h p. inr (not_read e err same images clean t h p);
-    unread = refl;
-    unasked = refl;
     exact = (not_opened e other err same kept images clean counts).exact;
     faults = counts_ended source sink n old now e counts;
   }
@@ -227,12 +227,10 @@ module _ (scheme : Scheme) (tells : Bool) (source : SourceState) (sink : SinkSta
         notary_fails = refl;
       })
 
-  pub trace_unstarted : now ≡ old → (from : ℕ) (clue : Digest) → TracesClue from clue tells (Run run.NoMemory) (handed source sink old n) (handed source sink now n)
-  trace_unstarted is from clue =
-      subst (λ (d : Pair). TracesClue from clue tells (Run run.NoMemory) (handed source sink old n) (handed source sink d n)) (sym is) (record {
+  pub write_unstarted : (IsText : History → List ℕ → Type 0) (HasCause : History → LedgerEnding → Type 0) → now ≡ old → OpensAndWrites IsText HasCause tells (Run run.NoMemory) (handed source sink old n) (handed source sink now n)
+  write_unstarted IsText HasCause is =
+      subst (λ (d : Pair). OpensAndWrites IsText HasCause tells (Run run.NoMemory) (handed source sink old n) (handed source sink d n)) (sym is) (record {
         serves = λ t h p. inr (record { outside = inr refl; unstarted = record { unread = refl; unwritten = refl; unasked = refl }; left = λ is. record { a = inl refl; b = inl refl }; images = inl (record { a = inl refl; b = inl refl }); clean = λ q c. (refl, refl) });
-        unread = refl;
-        unasked = refl;
         exact = λ t f cause not. (record { unread = refl; unwritten = refl; unasked = refl }, inl (inr refl, record { a = inl refl; b = inl refl }));
         faults = record { source_is = inl refl; sink_is = (refl, refl); disks_are = record { a = refl; b = refl } };
       })

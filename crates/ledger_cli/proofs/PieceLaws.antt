@@ -388,6 +388,12 @@ module _ {S : Type 0} (tell : S → Told) (scheme : Scheme) (key : List ℕ) (te
         },
       )
 
+-- nothing more is done for want of memory
+nothing_more : (tells : Bool) (s t : At) (next : History → History) (due : History → List Due) → Goes tells (world_at s) next due (world_at t) → EndsOnTheWay tells (world_at s) next due end.NoMemory (world_at t)
+nothing_more tells s t next due g =
+    ended_as tells (world_at s) (world_at t) next next (λ h. due h ++ []) due end.NoMemory (λ h p. refl) (λ h p. append-nil (due h))
+    (ended_then tells (world_at s) (world_at t) (world_at t) next (λ h. h) due (λ h. []) end.NoMemory g (no_memory tells (world_at t) t.held.kept (λ h. h) (λ h. []) (λ h p. grows_not h)))
+
 -- ---- pieces and windows
 
 module _ (scheme : Scheme) (tells : Bool) (got first : List ℕ) (items lines : List LaneLine) (s t : At) (first_is : got ≡ first) (lines_are : items ≡ lines) where
@@ -399,6 +405,27 @@ module _ (scheme : Scheme) (tells : Bool) (got first : List ℕ) (items lines : 
 
   pub piece_broken : (why : CommitErr) → TakesPiece scheme tells got items (Some why) s t → PieceBroken scheme tells first lines why s t
   piece_broken why x = subst (λ (y : List ℕ × List LaneLine). PieceBroken scheme tells y.0 y.1 why s t) (λ i. (first_is i, lines_are i)) x
+
+-- its lines were all taken, and nothing more is for want of memory
+pub piece_lacks : (scheme : Scheme) (tells : Bool) (first : List ℕ) (lines : List LaneLine) (s t : At) → PieceTaken scheme tells first lines s t → PieceBroken scheme tells first lines end.NoMemory s t
+piece_lacks scheme tells first lines s t x = record {
+  steps = x.steps;
+  rest = [];
+  is_order = subst (λ (l : List Said). IsOrderOf first lines l) (sym (append-nil (map said_by x.steps))) x.is_order;
+  ended = inl (nothing_more tells s t (λ h. after_steps scheme h x.steps) (λ h. dues scheme h x.steps) x.goes);
+  took = x.took;
+  fails = x.fails;
+}
+
+-- .. at the end of a window
+pub window_lacks : (scheme : Scheme) (tells : Bool) (first : List ℕ) (lines : List LaneLine) (s t : At) → WindowTaken scheme tells first lines s t → WindowBroken scheme tells first lines end.NoMemory s t
+window_lacks scheme tells first lines s t x = inr (record {
+  steps = x.steps;
+  is_order = x.is_order;
+  ended = nothing_more tells s t (λ h. close (after_steps scheme h x.steps)) (λ h. dues scheme h x.steps) x.goes;
+  took = x.took;
+  fails = x.fails;
+})
 
 -- no line at all
 pub piece_empty : (scheme : Scheme) (tells : Bool) (first : List ℕ) (lines : List LaneLine) (s : At) → lines ≡ [] → PieceTaken scheme tells first lines s s

@@ -253,7 +253,7 @@ with_rest front late current part rest o p k =
     ∙ sym (filter-append (λ (l : Said). l.lane == k) (map said_by current) late) ∙ o k
 
 -- .. of which some first lines stand as steps
-with_behind : (front : List Said) (current behind : List Step) (rest later : List Said) → map said_by behind ++ later ≡ rest → IsOrder front (map said_by current ++ rest) → IsOrder front (map said_by (current ++ behind) ++ later)
+pub with_behind : (front : List Said) (current behind : List Step) (rest later : List Said) → map said_by behind ++ later ≡ rest → IsOrder front (map said_by current ++ rest) → IsOrder front (map said_by (current ++ behind) ++ later)
 with_behind front current behind rest later split o =
     subst (IsOrder front)
     (ap (λ (l : List Said). map said_by current ++ l) (sym split) ∙ sym (append_assoc (map said_by current) (map said_by behind) later) ∙ ap (λ (l : List Said). l ++ later) (sym (map-append said_by current behind)))
@@ -287,7 +287,7 @@ stop_as scheme h part disks first_n n why lines IsSo so a =
       so a.0 a.2,
     )
 
-halt : (scheme : Scheme) (tells : Bool) (first_w : World) (first_n n : NotaryState) (before now : SourceState) (reading : Reading) (script : List (List ℕ)) (input : HasGiven before now reading script) (done : List (List Step)) (current : List Step)
+pub halt : (scheme : Scheme) (tells : Bool) (first_w : World) (first_n n : NotaryState) (before now : SourceState) (reading : Reading) (script : List (List ℕ)) (input : HasGiven before now reading script) (done : List (List Step)) (current : List Step)
     → ((h : History) → Holds tells first_w h → TookOn scheme h first_n done current n)
     → HasRoom first_w.kept → first_w.kept.dues ≡ [] → (rest : List Said) (why : CommitErr) (t : World) (x : Halts scheme tells first_w n done current rest why t) → CanGoOn n script done (current ++ x.behind) → FailsIn (length script) first_n n
     → Runs scheme tells first_w (ending_of_end why) (handed before first_w.sink first_w.disks first_n) (handed now t.sink t.disks n)
@@ -313,7 +313,7 @@ can_later n script line done current can tail =
     }
 
 -- nothing more is done for want of memory
-lacking : (scheme : Scheme) (tells : Bool) (first_w w : World) (done : List (List Step)) (current : List Step) → Goes tells first_w (reached scheme done current) (owed scheme done current) w → EndsOnTheWay tells first_w (reached scheme done current) (owed scheme done current) end.NoMemory w
+pub lacking : (scheme : Scheme) (tells : Bool) (first_w w : World) (done : List (List Step)) (current : List Step) → Goes tells first_w (reached scheme done current) (owed scheme done current) w → EndsOnTheWay tells first_w (reached scheme done current) (owed scheme done current) end.NoMemory w
 lacking scheme tells first_w w done current g =
     ended_as tells first_w w (reached scheme done current) (reached scheme done current) (λ h. owed scheme done current h ++ []) (owed scheme done current) end.NoMemory (λ h p. refl) (λ h p. append-nil (owed scheme done current h))
     (ended_then tells first_w w w (reached scheme done current) (λ h. h) (owed scheme done current) (λ h. []) end.NoMemory g (no_memory tells w w.kept (λ h. h) (λ h. []) (λ h p. grows_not h)))

@@ -17,14 +17,17 @@ use Rattle.ledger_soak.specs.declared.running.SoakEnd.{SoakEnd}
 use Rattle.ledger_soak.specs.declared.running.SoakEnd.TheVariants as soak
 use Rattle.time_peg.specs.Entries.{NotaryState}
 use Rattle.ledger_cli.specs.Endings.{status_of, last_line, HasWords}
-use Rattle.ledger_cli.specs.Runs.{Handed, handed, FaultsBy, NothingFailed, ServedBy, Finishes, Signs, ending_of_soak}
+use Rattle.ledger_cli.specs.Program.{ServedBy, Finishes}
+use Rattle.ledger_cli.specs.Runs.{Handed, handed, FaultsBy, NothingFailed, Signs, ending_of_soak}
 use Rattle.ledger_cli.specs.declared.ending.LedgerEnding.{LedgerEnding}
 use Rattle.ledger_cli.specs.declared.ending.LedgerEnding.TheVariants.{Run, DiskFault, Damaged, Empty, Exists, NewerFormat, NotaryFault, Refused}
 use Rattle.ledger_cli.specs.declared.words.Command.{Command}
 use Rattle.ledger_cli.specs.declared.words.Command.TheVariants as command
 use Rattle.ledger_cli.proofs.FailureLaws.{fails_unread}
 use Rattle.ledger_cli.proofs.CarryLaws.{first_short}
-use Rattle.ledger_cli.proofs.OpeningLaws.{again_unstarted, dump_unstarted, trace_unstarted}
+use Rattle.ledger_cli.proofs.BesideLaws.{board_unstarted}
+use Rattle.ledger_cli.proofs.OpeningLaws.{again_unstarted, dump_unstarted, write_unstarted}
+use Rattle.ledger_cli.proofs.SurviveLaws.{none_read, unasked}
 
 -- ---- a piece of a text
 
@@ -74,7 +77,18 @@ unstarted_by scheme tells (Some (command.Init genesis)) x some = record {
 }
 unstarted_by scheme tells (Some command.Run) x some = again_unstarted scheme tells x.source x.sink x.notary x.disks x.disks refl
 unstarted_by scheme tells (Some command.Export) x some = dump_unstarted scheme tells x.source x.sink x.notary x.disks x.disks refl
-unstarted_by scheme tells (Some (command.Lineage clue from)) x some = trace_unstarted scheme tells x.source x.sink x.notary x.disks x.disks refl from clue
+unstarted_by scheme tells (Some (command.Lineage clue from)) x some = record { opens = write_unstarted scheme tells x.source x.sink x.notary x.disks x.disks _ _ refl; unread = refl; unasked = refl }
+unstarted_by scheme tells (Some (command.Keep point numbers)) x some = record { opens = write_unstarted scheme tells x.source x.sink x.notary x.disks x.disks _ _ refl; unread = refl; unasked = refl }
+unstarted_by scheme tells (Some (command.Carry point)) x some =
+    record { read = []; consumed = none_read x.source.left; has_read = tt; opens = write_unstarted scheme tells x.source x.sink x.notary x.disks x.disks _ _ refl; unasked = refl }
+unstarted_by scheme tells (Some command.Revive) x some = record {
+  read = [];
+  consumed = none_read x.source.left;
+  has_read = tt;
+  opens = write_unstarted scheme tells x.source x.sink x.notary x.disks x.disks _ _ refl;
+  asks = record { asked = unasked x.notary; counts = refl };
+}
+unstarted_by scheme tells (Some (command.Board provers count)) x some = board_unstarted scheme tells provers count x.source x.sink x.notary x.disks x.disks refl
 unstarted_by scheme tells (Some (command.Sign signing)) x some = wrote_nothing _ x
 unstarted_by scheme tells (Some (command.Chain text)) x some = wrote_nothing _ x
 unstarted_by scheme tells (Some (command.Soak seed count stop)) x some = record { end = soak.NoMemory; ending_is = refl; soaked = refl; source_is = refl; disks_are = refl; notary_is = refl }
@@ -110,7 +124,11 @@ served_faults scheme tells (Some (command.Dry genesis)) met before now s = inr s
 served_faults scheme tells (Some (command.Init genesis)) met before now s = inr s.faults
 served_faults scheme tells (Some command.Run) met before now s = inr s.faults
 served_faults scheme tells (Some command.Export) met before now s = inr s.faults
-served_faults scheme tells (Some (command.Lineage clue from)) met before now s = inr s.faults
+served_faults scheme tells (Some (command.Lineage clue from)) met before now s = inr s.opens.faults
+served_faults scheme tells (Some (command.Keep point numbers)) met before now s = inr s.opens.faults
+served_faults scheme tells (Some (command.Carry point)) met before now s = inr s.opens.faults
+served_faults scheme tells (Some command.Revive) met before now s = inr s.opens.faults
+served_faults scheme tells (Some (command.Board provers count)) met before now s = inr s.faults
 served_faults scheme tells (Some (command.Sign signing)) met before now s = inr (subst (λ e. FaultsBy e before now) (sym s.ending_is) (signed_faults _ s.plain before now s.wrote s.disks_are))
 served_faults scheme tells (Some (command.Chain text)) met before now s = inr (subst (λ e. FaultsBy e before now) (sym s.ending_is) (signed_faults _ s.plain before now s.wrote s.disks_are))
 served_faults scheme tells (Some (command.Soak seed count stop)) met before now s = inr (subst (λ e. FaultsBy e before now) (sym s.ending_is) (soaked_faults seed count stop s.end before now s.soaked s.source_is s.disks_are))

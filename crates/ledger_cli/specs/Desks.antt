@@ -1,5 +1,5 @@
--- What a desk tells, which is a committer with its disks, its sink and its notary, each by reference; and what it does with a piece.
-use Rattle.std.specs.Prelude.{◌≡◌, Bool, List, [], ◌∷◌, ℕ, Result, MatchResult}
+-- What a desk tells, which is a committer with its disks, its sink, its notary and what follows it, each by reference; and what it does with a piece.
+use Rattle.std.specs.Prelude.{◌≡◌, Bool, List, [], ◌∷◌, ℕ, Option, Result, MatchResult}
 use Rattle.batch_committer.specs.World.{pair}
 use Rattle.batch_committer.specs.declared.failure.CommitErr.{CommitErr}
 use Rattle.lane_work.specs.declared.kinds.LaneLine.{LaneLine}
@@ -7,24 +7,30 @@ use Rattle.ledger_disk.specs.Disk.{DiskState}
 use Rattle.ledger_io.specs.Outside.{SourceState, SinkState}
 use Rattle.ledger_model.specs.Scheme.{Scheme}
 use Rattle.time_peg.specs.Entries.{NotaryState}
-use Rattle.ledger_cli.specs.Pieces.{At, at, IsOpen, Told, told, PieceTaken, PieceBroken, WindowTaken, WindowBroken}
+use Rattle.ledger_cli.specs.Boards.{Posted, lasting_of}
+use Rattle.ledger_cli.specs.Pieces.{At, at, IsOpen, Told, told, stays, PieceTaken, PieceBroken, WindowTaken, WindowBroken}
 use Rattle.ledger_cli.specs.Runs.{Handed, handed}
 use Rattle.ledger_cli.specs.declared.desk.Desk.{Desk}
 
--- what a desk's parts tell, by what a disk, a sink and a notary tell
-abbrev pub at_desk : {D K N : Type 0} → (D → DiskState) → (K → SinkState) → (N → NotaryState) → Desk D K N → At
-at_desk disk sink notary s = at s.committer.now (pair (disk s.a.now) (disk s.b.now)) (sink s.sink.now) (notary s.notary.now)
+-- what a desk's parts tell, by what a disk, a sink, a notary and a follower tell
+abbrev pub at_desk : {D K N W : Type 0} → (D → DiskState) → (K → SinkState) → (N → NotaryState) → (W → Option Posted) → Desk D K N W → At
+at_desk disk sink notary board s =
+    at s.committer.now (pair (disk s.a.now) (disk s.b.now)) (sink s.sink.now) (notary s.notary.now) (board s.follower.now)
 
--- what a desk tells, with the names of its references and the end that it met
-abbrev pub told_desk : {D K N : Type 0} → (D → DiskState) → (K → SinkState) → (N → NotaryState) → Desk D K N → Told
-told_desk disk sink notary s =
-    told (s.committer.ghost_name ∷ s.a.ghost_name ∷ s.b.ghost_name ∷ s.sink.ghost_name ∷ s.notary.ghost_name ∷ []) s.end (at_desk disk sink notary s)
+-- the names of a desk's references
+abbrev pub names_at : {D K N W : Type 0} → Desk D K N W → List ℕ
+names_at s = s.committer.ghost_name ∷ s.a.ghost_name ∷ s.b.ghost_name ∷ s.sink.ghost_name ∷ s.notary.ghost_name ∷ s.follower.ghost_name ∷ []
 
--- the references are those that were handed in
-abbrev pub SameDesk : {D K N : Type 0} → Desk D K N → Desk D K N → Type 0
-SameDesk old new =
+-- what a desk tells, with what stays of it and the end that it met
+abbrev pub told_desk : {D K N W : Type 0} → (D → DiskState) → (K → SinkState) → (N → NotaryState) → (W → Option Posted) → Desk D K N W → Told
+told_desk disk sink notary board s = told (stays (names_at s) (lasting_of (board s.follower.now))) s.end (at_desk disk sink notary board s)
+
+-- the references are those that were handed in, and the board that follows is the same
+abbrev pub SameDesk : {D K N W : Type 0} → (W → Option Posted) → Desk D K N W → Desk D K N W → Type 0
+SameDesk board old new =
     (new.committer.ghost_name ≡ old.committer.ghost_name) × (new.a.ghost_name ≡ old.a.ghost_name) × (new.b.ghost_name ≡ old.b.ghost_name)
-    × (new.sink.ghost_name ≡ old.sink.ghost_name) × (new.notary.ghost_name ≡ old.notary.ghost_name)
+    × (new.sink.ghost_name ≡ old.sink.ghost_name) × (new.notary.ghost_name ≡ old.notary.ghost_name) × (new.follower.ghost_name ≡ old.follower.ghost_name)
+    × (lasting_of (board new.follower.now) ≡ lasting_of (board old.follower.now))
 
 -- what a run is handed with them
 abbrev pub handed_at : SourceState → At → Handed

@@ -6,15 +6,21 @@ use Rattle.block_file.specs.declared.failure.Damage.{Damage}
 use Rattle.block_file.specs.declared.failure.Damage.TheVariants as damage
 use Rattle.dump_export.specs.declared.failure.DumpErr.{DumpErr}
 use Rattle.dump_export.specs.declared.failure.DumpErr.TheVariants as dumps
+use Rattle.ledger_bytes.specs.declared.failure.Bad.{Bad}
+use Rattle.ledger_bytes.specs.declared.failure.Bad.TheVariants as bad_bytes
+use Rattle.ledger_bytes.specs.declared.refusal.Refusal.{Refusal}
 use Rattle.ledger_io.specs.Endings as run
 use Rattle.ledger_io.specs.declared.ending.Ending.TheVariants as ending
 use Rattle.ledger_open.specs.declared.failure.OpenErr.{OpenErr}
 use Rattle.ledger_open.specs.declared.failure.OpenErr.TheVariants as open_err
+use Rattle.script_lines.specs.Replies.{refusal_words}
 use Rattle.script_lines.specs.Words.{hex_of, spaced_words}
 use Rattle.ledger_cli.specs.declared.ending.LedgerEnding.{LedgerEnding}
 use Rattle.ledger_cli.specs.declared.ending.LedgerEnding.TheVariants.{Run, DiskFault, Damaged, Empty, Exists, NewerFormat, NotaryFault, Refused}
 use Rattle.ledger_cli.specs.declared.denial.Denial.{Denial}
-use Rattle.ledger_cli.specs.declared.denial.Denial.TheVariants.{NoLineage}
+use Rattle.ledger_cli.specs.declared.denial.Denial.TheVariants.{NoLineage, Said, NoSet, NotBelow, OtherLedger, LeafPath}
+use Rattle.survivor_set.specs.declared.failure.SetErr.{SetErr}
+use Rattle.survivor_set.specs.declared.failure.SetErr.TheVariants as set_err
 
 -- the exit status of an ending: a number that a script can look at
 abbrev pub status_of : LedgerEnding → ℕ
@@ -41,9 +47,31 @@ damage_line (damage.Entry jsn) = line_of (codes "fail 5 entry") (decimal jsn ∷
 damage_line (damage.Root block kept found) = line_of (codes "fail 5 root") (decimal block ∷ hex_of kept ∷ hex_of found ∷ [])
 damage_line (damage.Content jsn kept found) = line_of (codes "fail 5 content") (decimal jsn ∷ hex_of kept ∷ hex_of found ∷ [])
 
+-- the line that tells that something is refused, by its code and its fields
+abbrev pub no_line : List (List ℕ) → List ℕ
+no_line words = line_of (codes "no") words
+
+-- the line of a refusal with a code that lines of a script have too
+abbrev pub said_line : Refusal → List ℕ
+said_line refusal = no_line (refusal_words refusal)
+
+-- the line that tells why bytes spell nothing: the place, or what was found
+abbrev pub bad_line : Bad → List ℕ
+bad_line (bad_bytes.Short at) = no_line (decimal 1 ∷ decimal at ∷ [])
+bad_line (bad_bytes.Trailing at) = no_line (decimal 2 ∷ decimal at ∷ [])
+bad_line (bad_bytes.BadKind found) = no_line (decimal 8 ∷ decimal found ∷ [])
+bad_line (bad_bytes.BadFixedField at) = no_line (decimal 9 ∷ decimal at ∷ [])
+bad_line (bad_bytes.NewerFormat found) = no_line (decimal 31 ∷ decimal found ∷ [])
+bad_line bad_bytes.TooLong = no_line (decimal 32 ∷ [])
+
 -- the line that tells why a command is refused
 abbrev pub denial_line : Denial → List ℕ
-denial_line NoLineage = codes "no 53\n"
+denial_line NoLineage = no_line (decimal 53 ∷ [])
+denial_line (Said refusal) = said_line refusal
+denial_line (NoSet bad) = bad_line bad
+denial_line (NotBelow point) = no_line (decimal 51 ∷ decimal point ∷ [])
+denial_line (OtherLedger kept) = no_line (decimal 52 ∷ hex_of kept ∷ [])
+denial_line LeafPath = no_line (decimal 35 ∷ [])
 
 -- the line that tells an ending; there is none where the run went well, or where its output can't be written
 abbrev pub last_line : LedgerEnding → List ℕ
@@ -72,6 +100,16 @@ ending_of_end end.WriteFault = Run ending.WriteFault
 ending_of_end end.NoMemory = Run ending.NoMemory
 ending_of_end end.Closed = Run ending.NoMemory
 
+-- the ending that an error of making, carrying on or reviving a set of survivors brings
+abbrev pub ending_of_set : SetErr → LedgerEnding
+ending_of_set (set_err.Refused refusal) = Refused (Said refusal)
+ending_of_set (set_err.Bad bad) = Refused (NoSet bad)
+ending_of_set (set_err.NotBelow point) = Refused (NotBelow point)
+ending_of_set (set_err.OtherLedger kept) = Refused (OtherLedger kept)
+ending_of_set set_err.LeafPath = Refused LeafPath
+ending_of_set set_err.DiskFault = DiskFault
+ending_of_set set_err.NoMemory = Run ending.NoMemory
+
 -- the ending that the writing of a dump brings
 abbrev pub ending_of_export : Result (Unit {0}) DumpErr → LedgerEnding
 ending_of_export (Ok end) = Run ending.Done
@@ -90,7 +128,7 @@ HasWords Empty = ⊥
 HasWords Exists = ⊥
 HasWords (NewerFormat found) = ⊤
 HasWords NotaryFault = ⊥
-HasWords (Refused why) = ⊥
+HasWords (Refused why) = ⊤
 
 -- the error for which a ledger wasn't opened, where the ending tells one
 abbrev pub refusal_of : LedgerEnding → Option OpenErr

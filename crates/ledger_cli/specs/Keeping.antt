@@ -15,7 +15,8 @@ use Rattle.notary_ledger.specs.Opening.{KeepsList}
 use Rattle.notary_ledger.specs.Slots.{Lists, MayList}
 use Rattle.time_peg.specs.Entries.{IsList, Making, NotaryState, Times}
 use Rattle.ledger_cli.specs.Endings.{last_line}
-use Rattle.ledger_cli.specs.Runs.{Handed, handed, RanProgram}
+use Rattle.ledger_cli.specs.Program.{RanProgram}
+use Rattle.ledger_cli.specs.Runs.{Handed, handed}
 use Rattle.ledger_cli.specs.declared.ending.LedgerEnding.{LedgerEnding}
 use Rattle.ledger_cli.specs.declared.ending.LedgerEnding.TheVariants.{Run, DiskFault}
 use Rattle.ledger_cli.specs.declared.words.Command.{Command}
@@ -47,7 +48,15 @@ names_folder (Some (command.Init genesis)) = true
 names_folder (Some command.Run) = true
 names_folder (Some command.Export) = true
 names_folder (Some (command.Lineage clue from)) = true
-names_folder other = false
+names_folder (Some (command.Board provers count)) = true
+names_folder (Some (command.Keep point numbers)) = true
+names_folder (Some (command.Carry point)) = true
+names_folder (Some command.Revive) = true
+names_folder (Some (command.Dry genesis)) = false
+names_folder (Some (command.Sign signing)) = false
+names_folder (Some (command.Chain text)) = false
+names_folder (Some (command.Soak seed count stop)) = false
+names_folder None = false
 
 -- how a run ends whose notary can't be taken up
 abbrev pub ending_of_keeper : FileErr → LedgerEnding

@@ -6,8 +6,13 @@ pub mod Signing
 pub mod Chaining
 pub mod Words
 pub mod Endings
+pub mod Boards
 pub mod Runs
+pub mod Asking
+pub mod Surviving
+pub mod Program
 pub mod Shown
 pub mod Keeping
 pub mod Pieces
 pub mod Desks
+pub mod Beside

@@ -19,18 +19,21 @@ use Rattle.ledger_model.specs.Took.{Took}
 use Rattle.ledger_model.specs.Windows.{Said}
 use Rattle.ledger_model.specs.declared.job.Job.TheVariants.{Anchor}
 use Rattle.time_peg.specs.Entries.{NotaryState}
+use Rattle.ledger_cli.specs.Boards.{Posted, Lasting}
 use Rattle.ledger_cli.specs.Failures.{FailsIn}
 
--- where a session stands: what its committer, its disks, its sink and its notary tell
+-- where a session stands: what its committer, its disks, its sink and its notary tell, and what is known of the board that follows it,
+-- where there is one
 pub record At : Type 0 where
   pub held : Held
   pub disks : Pair
   pub sink : SinkState
   pub notary : NotaryState
+  pub board : Option Posted
 
 -- the same by its parts
-abbrev pub at : Held → Pair → SinkState → NotaryState → At
-at held disks sink notary = record { held = held; disks = disks; sink = sink; notary = notary }
+abbrev pub at : Held → Pair → SinkState → NotaryState → Option Posted → At
+at held disks sink notary board = record { held = held; disks = disks; sink = sink; notary = notary; board = board }
 
 -- of these the committer, the disks and the sink
 abbrev pub world_at : At → World
@@ -63,14 +66,23 @@ EndsBehind scheme tells steps rest end w t = EndsThere scheme tells steps end w 
 
 -- ---- one item
 
--- a session seen from within: which values it borrows, the end that was met, and where it stands
-pub record Told : Type 0 where
+-- what stays as it is in a session: which values it borrows, and which board follows it
+pub record Stays : Type 0 where
   pub names : List ℕ
+  pub board : Option Lasting
+
+-- the same by its parts
+abbrev pub stays : List ℕ → Option Lasting → Stays
+stays names board = record { names = names; board = board }
+
+-- a session seen from within: what stays of it, the end that was met, and where it stands
+pub record Told : Type 0 where
+  pub names : Stays
   pub end : Option CommitErr
   pub at : At
 
 -- the same by its parts
-abbrev pub told : List ℕ → Option CommitErr → At → Told
+abbrev pub told : Stays → Option CommitErr → At → Told
 told names end at = record { names = names; end = end; at = at }
 
 -- what the offer of one item did: it was taken and the taker goes on, or the run ended at it

@@ -1,5 +1,5 @@
 -- What a run of the program did, from the bytes that came in to the bytes that went out and the files that are left.
-use Rattle.std.specs.Prelude.{◌≡◌, ◌≢◌, ℕ, ◌⊎◌, Bool, IsTrue, List, [], ◌∷◌, codes, decimal, Option, None, Some, IsSome, IsSomeAnd, IfSome, IsOk, Result, ⊤}
+use Rattle.std.specs.Prelude.{◌≡◌, ◌≢◌, ℕ, ◌⊎◌, Bool, IsTrue, List, [], ◌∷◌, codes, decimal, Option, None, Some, IsSome, IsSomeAnd, IfSome, Result, ⊤}
 use Rattle.std.specs.Io.KnownBytes.{Consumes, Appends}
 use Rattle.batch_committer.specs.World.{Pair, World, Holds, OneFailed}
 use Rattle.batch_committer.specs.Opened.{IsQuietFor}
@@ -15,7 +15,6 @@ use Rattle.ledger_bytes.specs.Causes.{count_after}
 use Rattle.ledger_disk.specs.Disk.{MayLeave, settled_state}
 use Rattle.ledger_io.specs.Outside.{SourceState, SinkState, Outside, outside, MeetsNone, MeetsOne}
 use Rattle.ledger_io.specs.Runs.{Answered, EndsReading, SomeOfScript, FallsShort, AreWhole, Wrote}
-use Rattle.ledger_io.specs.Writing.{WritesLast}
 use Rattle.ledger_io.specs.declared.ending.Ending.{Ending}
 use Rattle.ledger_io.specs.declared.ending.Ending.TheVariants as run
 use Rattle.ledger_io.specs.declared.failure.LineErr.{LineErr}
@@ -46,24 +45,14 @@ use Rattle.proof_maker.specs.Written.{AllGood}
 use Rattle.time_peg.specs.Entries.{NotaryState, IsList}
 use Rattle.ledger_bytes.specs.Digests.{digest}
 use Rattle.script_lines.specs.Words.{hex_of}
-use Rattle.ledger_cli.specs.Endings.{line_of, status_of, last_line, refusal_of, ending_of_export, HasWords}
-use Rattle.ledger_cli.specs.Chaining.{chain_line}
-use Rattle.ledger_cli.specs.Signing.{signed_text}
+use Rattle.ledger_cli.specs.Boards.{TellsBehind}
+use Rattle.ledger_cli.specs.Endings.{line_of, refusal_of, ending_of_export}
 use Rattle.ledger_cli.specs.Failures.{FailsByLines}
 use Rattle.ledger_cli.specs.Heads.{HeadsLeadOn}
 use Rattle.ledger_cli.specs.Leaving.{AreClean, AreErased}
 use Rattle.ledger_cli.specs.Taken.{taken, TookSome}
 use Rattle.ledger_cli.specs.declared.ending.LedgerEnding.{LedgerEnding}
 use Rattle.ledger_cli.specs.declared.ending.LedgerEnding.TheVariants.{Run, DiskFault, Damaged, Empty, Exists, NewerFormat, NotaryFault, Refused}
-use Rattle.ledger_cli.specs.declared.denial.Denial.TheVariants.{NoLineage}
-use Rattle.clue_lineage.specs.Accepting.{acceptance}
-use Rattle.clue_lineage.specs.Making.{lineage_in, shown_from}
-use Rattle.clue_lineage.specs.Lineages.{spelling}
-use Rattle.ledger_book.specs.Books.{Kept, Serves}
-use Rattle.ledger_book.specs.Seals.{head_of}
-use Rattle.sha2.specs.Sha256.{sha256}
-use Rattle.ledger_cli.specs.declared.words.Command.{Command}
-use Rattle.ledger_cli.specs.declared.words.Command.TheVariants as command
 
 -- ---- what a run is handed
 
@@ -388,56 +377,6 @@ pub record Exports (tells : Bool) (ending : LedgerEnding) (before after_all : Ha
   pub faults : FaultsBy ending before after_all
   pub notary_fails : NotaryFailsBy ending before.notary.faults after_all.notary.faults
 
--- a text is the lineage of a clue's records of a history that are kept, from an ordinal on; there are some, and who trusts the
--- history's head accepts it
-pub record IsLineageOf (from : ℕ) (clue : Digest) (h : History) (written_text : List ℕ) : Type 0 where
-  pub some : shown_from from clue h ≢ []
-  pub text_is : written_text ≡ spelling (lineage_in from clue h)
-  pub accepted : IsOk (acceptance sha256 written_text clue (head_of h))
-
--- What is written of that lineage, by the ending: all of it; a part of it, where the sink failed; and nothing where no such record
--- is kept, or memory was missing.
-abbrev pub TracedBy : ℕ → Digest → History → LedgerEnding → List ℕ → Type 0
-TracedBy from clue h (Run run.Done) written = IsLineageOf from clue h written
-TracedBy from clue h (Run run.Usage) written = ⊥
-TracedBy from clue h (Run run.ReadFault) written = ⊥
-TracedBy from clue h (Run run.WriteFault) written = (whole : List ℕ) × IsLineageOf from clue h whole × FallsShort written whole
-TracedBy from clue h (Run run.NoMemory) written = written ≡ []
-TracedBy from clue h (Run run.LineTooLong) written = ⊥
-TracedBy from clue h (Run run.ScriptTooLong) written = ⊥
-TracedBy from clue h DiskFault written = ⊥
-TracedBy from clue h (Damaged damage) written = ⊥
-TracedBy from clue h Empty written = ⊥
-TracedBy from clue h Exists written = ⊥
-TracedBy from clue h (NewerFormat found) written = ⊥
-TracedBy from clue h NotaryFault written = ⊥
-TracedBy from clue h (Refused NoLineage) written = (written ≡ []) × (shown_from from clue h ≡ [])
-
--- a book's lineage of a clue was written so, for each history that the book serves, and nothing else was met than what the ending tells
-pub record TellsLineage (book : Kept) (from : ℕ) (clue : Digest) (ending : LedgerEnding) (before now : SinkState) : Type 0 where
-  pub part : List ℕ
-  pub appended : Appends before.held now.held part
-  pub written : (h : History) → Serves book h → TracedBy from clue h ending part
-  pub faults : (source : SourceState) (disks : Pair) (notary : NotaryState) → FaultsBy ending (handed source before disks notary) (handed source now disks notary)
-
--- The lineage of this history's records was written, whole or in part. Nothing is pending on the disks, and they are clean for the history.
-pub record WritesLineage (from : ℕ) (clue : Digest) (h : History) (ending : LedgerEnding) (before after_all : Handed) : Type 0 where
-  pub part : List ℕ
-  pub appended : Appends before.sink.held after_all.sink.held part
-  pub written : TracedBy from clue h ending part
-  pub quiet : IsQuietFor after_all.disks h
-
--- what `lineage` does: the ledger that is there is opened, and the lineage of a clue's records is written
-pub record TracesClue (from : ℕ) (clue : Digest) (tells : Bool) (ending : LedgerEnding) (before after_all : Handed) : Type 0 where
-  -- whatever history the pair stood for
-  pub serves : IsTrue tells → (h : History) → StandFor before.disks h → WritesLineage from clue h ending before after_all ⊎ IsNotOpened h ending before after_all
-  pub unread : after_all.source ≡ before.source
-  pub unasked : after_all.notary ≡ before.notary
-  -- what shows damage, or is no ledger, isn't opened, and a refusal has its cause
-  pub exact : IsTrue tells → (e : OpenErr) → IsOpenErr before.disks.a.bytes.seen before.disks.b.bytes.seen e → (IsOutside e → ⊥)
-      → LeftAsRead (λ met. IsSomeAnd (refusal_of met) (IsOpenErr before.disks.a.bytes.seen before.disks.b.bytes.seen)) ending before after_all
-  pub faults : FaultsBy ending before after_all
-
 -- the line that tells a new ledger: its id, its size and its root
 abbrev pub ledger_line : Genesis → List ℕ
 ledger_line genesis =
@@ -523,30 +462,14 @@ pub record Soaks (seed count stop : ℕ) (ending : LedgerEnding) (before after_a
   pub disks_are : after_all.disks ≡ before.disks
   pub notary_is : after_all.notary ≡ before.notary
 
--- what a run did by the command that its words ask for: everything but the last line
-abbrev pub ServedBy : Scheme → Bool → Option Command → LedgerEnding → Handed → Handed → Type 0
-ServedBy scheme tells None ending before after_all = (ending ≡ Run run.Usage) × (after_all ≡ before)
-ServedBy scheme tells (Some (command.Dry genesis)) ending before after_all = RunsNew scheme genesis tells ending before after_all
-ServedBy scheme tells (Some (command.Init genesis)) ending before after_all = Makes genesis tells ending before after_all
-ServedBy scheme tells (Some command.Run) ending before after_all = RunsAgain scheme tells ending before after_all
-ServedBy scheme tells (Some command.Export) ending before after_all = Exports tells ending before after_all
-ServedBy scheme tells (Some (command.Lineage clue from)) ending before after_all = TracesClue from clue tells ending before after_all
-ServedBy scheme tells (Some (command.Sign signing)) ending before after_all = Signs (signed_text signing) ending before after_all
-ServedBy scheme tells (Some (command.Chain text)) ending before after_all = Signs (chain_line text) ending before after_all
-ServedBy scheme tells (Some (command.Soak seed count stop)) ending before after_all = Soaks seed count stop ending before after_all
-
--- The last line was written by one attempt, and this is the status. Where the line is made of words and there is no memory for them,
--- the run ends for want of memory.
-pub record Finishes (met : LedgerEnding) (status : ℕ) (before now : SinkState) : Type 0 where
-  pub ending : LedgerEnding
-  pub told : (ending ≡ met) ⊎ ((ending ≡ Run run.NoMemory) × HasWords met)
-  pub status_is : status ≡ status_of ending
-  pub last : WritesLast (last_line ending) before now
-
--- what a run of the program did with some words, to its exit status
-pub record RanProgram (scheme : Scheme) (tells : Bool) (words : Option Command) (status : ℕ) (before after_all : Handed) : Type 0 where
+-- What `board` does: the ledger that is there is opened, and the script is run on it, as `run` does, with so many provers beside it.
+-- Behind the replies their lines are written.
+pub record RunsBoard (scheme : Scheme) (tells : Bool) (provers count : ℕ) (ending : LedgerEnding) (before after_all : Handed) : Type 0 where
+  -- how the script's run ended, and what it left
   pub met : LedgerEnding
-  -- the sink as it was in front of the last line
-  pub sink : SinkState
-  pub served : ServedBy scheme tells words met before (handed after_all.source sink after_all.disks after_all.notary)
-  pub finishes : Finishes met status sink after_all.sink
+  pub mid : Handed
+  pub ran : RunsAgain scheme tells met before mid
+  pub told : TellsBehind (λ h. IsTrue tells × StandFor before.disks h) provers count met ending (outside_of mid) (outside_of after_all)
+  pub disks_are : after_all.disks ≡ mid.disks
+  pub notary_is : after_all.notary ≡ mid.notary
+  pub faults : FaultsBy ending before after_all

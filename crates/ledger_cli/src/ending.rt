@@ -5,7 +5,7 @@ ghost use Rattle.script_lines.specs.Words.{word_text};
 ghost use Rattle.ledger_cli.specs.Endings as spec;
 ghost use Rattle.ledger_cli.specs.Endings.{status_of, HasWords};
 
-use crate::denial::Denial;
+use crate::denial::{Denial, put_denial};
 use batch_committer::CommitErr;
 use block_file::Damage;
 use dump_export::DumpErr;
@@ -13,6 +13,8 @@ use ledger_bytes::NoMemory;
 use ledger_io::Ending;
 use ledger_open::OpenErr;
 use script_lines::{Word, put_words};
+use std::alloc::Global;
+use survivor_set::SetErr;
 
 /// How a run of the program ended. Each ending has an exit status and a last line.
 #[derive(Clone, Copy, Debug, PartialEq, Eq)]
@@ -62,13 +64,14 @@ impl LedgerEnding {
             LedgerEnding::Empty => Some(b"fail 8 empty\n"),
             LedgerEnding::Exists => Some(b"fail 8 exists\n"),
             LedgerEnding::NotaryFault => Some(b"fail 11 notary\n"),
-            LedgerEnding::Refused(Denial::NoLineage) => Some(b"no 53\n"),
-            LedgerEnding::Damaged(_) | LedgerEnding::NewerFormat { .. } => None,
+            LedgerEnding::Damaged(_)
+            | LedgerEnding::NewerFormat { .. }
+            | LedgerEnding::Refused(_) => None,
         }
     }
 
     /// Appends the line that is written last, with its newline, where it is made of words.
-    pub fn put_line(self, out: &mut Vec<u8>) -> Result<(), NoMemory>
+    pub fn put_line(self, out: &mut Vec<u8>, alloc: Global) -> Result<(), NoMemory>
         ensures { HasWords self → OnOk result
             (out.new.items ≡ out.old.items ++ spec.last_line self) }
     {
@@ -77,6 +80,7 @@ impl LedgerEnding {
             LedgerEnding::NewerFormat { found } => {
                 put_line(out, b"fail 9 format", &[Word::Number(u64::from(found))])
             }
+            LedgerEnding::Refused(why) => put_denial(out, alloc, &why),
             _ => Ok(()),
         }
     }
@@ -172,6 +176,24 @@ impl From<CommitErr> for LedgerEnding {
             CommitErr::DiskFault => LedgerEnding::DiskFault,
             CommitErr::WriteFault => LedgerEnding::Run(Ending::WriteFault),
             CommitErr::NoMemory | CommitErr::Closed => LedgerEnding::Run(Ending::NoMemory),
+        }
+    }
+}
+
+impl From<SetErr> for LedgerEnding {
+    ghost use Rattle.ledger_cli.specs.Endings.{ending_of_set};
+
+    ghost from_gives = { λ e ending. ending ≡ ending_of_set e };
+
+    fn from(e: SetErr) -> Self {
+        match e {
+            SetErr::Refused(refusal) => LedgerEnding::Refused(Denial::Said(refusal)),
+            SetErr::Bad(bad) => LedgerEnding::Refused(Denial::NoSet(bad)),
+            SetErr::NotBelow { point } => LedgerEnding::Refused(Denial::NotBelow { point }),
+            SetErr::OtherLedger { kept } => LedgerEnding::Refused(Denial::OtherLedger { kept }),
+            SetErr::LeafPath => LedgerEnding::Refused(Denial::LeafPath),
+            SetErr::DiskFault => LedgerEnding::DiskFault,
+            SetErr::NoMemory => LedgerEnding::Run(Ending::NoMemory),
         }
     }
 }

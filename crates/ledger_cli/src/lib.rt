@@ -2,17 +2,26 @@
 //! bytes that are written, what is left of them and the exit status.
 #![tactic(auto)]
 
+mod beside;
+mod boarding;
 mod chaining;
 mod denial;
 mod desk;
 mod ending;
+mod follower;
 mod laws;
 mod main_call;
+mod numbers;
 mod piece;
+mod posting;
+mod reviving;
 mod scheme;
+mod scripted;
 mod session;
 mod signing;
 mod standard;
+mod surviving;
+mod tallies;
 mod top;
 mod tracing;
 mod window;

@@ -116,9 +116,16 @@ fn wants_notary(alloc: Global, words: &[String]) -> Result<bool, NoMemory>
     ensures err { OnErr result (IsSome (command_of (map string_bytes words.now))) }
 {
     match Command::read(alloc, words)? {
-        Some(Command::Init(_) | Command::Run | Command::Export | Command::Lineage { .. }) => Ok(
-            true,
-        ),
+        Some(
+            Command::Init(_)
+            | Command::Run
+            | Command::Export
+            | Command::Lineage { .. }
+            | Command::Board { .. }
+            | Command::Keep { .. }
+            | Command::Carry { .. }
+            | Command::Revive,
+        ) => Ok(true),
         Some(Command::Dry(_) | Command::Sign(_) | Command::Chain(_) | Command::Soak { .. })
         | None => Ok(false),
     }

@@ -3,6 +3,7 @@
 ghost use Rattle.std.specs.Prelude.{◌≡◌, [], false, None, OnOk, IfErr};
 ghost use Rattle.batch_committer.specs.World.{pair, world, Fits, HasRoom};
 ghost use Rattle.ledger_io.specs.declared.ending.Ending.TheVariants as run;
+ghost use Rattle.ledger_cli.specs.Boards.{lasting_of};
 ghost use Rattle.ledger_cli.specs.Desks.{at_desk, handed_at, SameDesk};
 ghost use Rattle.ledger_cli.specs.Endings.{refusal_of};
 ghost use Rattle.ledger_cli.specs.Pieces.{world_at, IsOpen};
@@ -11,6 +12,7 @@ ghost use Rattle.ledger_cli.specs.declared.ending.LedgerEnding.TheVariants as en
 
 use crate::desk::Desk;
 use crate::ending::LedgerEnding;
+use crate::follower::{Follower, Nobody};
 use crate::piece::Piece;
 use crate::window::Window;
 use batch_committer::Committer;
@@ -70,12 +72,50 @@ pub fn run_session<
         (handed (S.state source.new) (K.state sink.new) (pair (D.state a.new) (D.state b.new)) (N.state notary.new)) }
     ensures unrefused { refusal_of result ≡ None }
 {
+    let mut nobody = Nobody;
+    follow_session(tools, committer, a, b, source, sink, notary, &mut nobody)
+}
+
+/// Answers the lines of a script on a ledger, as [`run_session`] does, and lets a follower look whenever something was placed.
+/// Where the follower lacks memory the session ends for want of it.
+pub(crate) fn follow_session<
+    R: Threads + Wait + Sync,
+    S: Source,
+    K: Sink,
+    D: Disk,
+    N: Notary,
+    V: Verifier,
+    G: Gate,
+    W: Follower,
+>(
+    tools: &Tools<R, V, G>,
+    committer: &mut Committer,
+    a: &mut D,
+    b: &mut D,
+    source: &mut S,
+    sink: &mut K,
+    notary: &mut N,
+    follower: &mut W,
+) -> LedgerEnding
+    requires open { committer.old.ended ≡ false }
+    requires fits { Fits D.tells (world committer.old.kept (pair (D.state a.old) (D.state b.old))
+        (K.state sink.old)) }
+    requires room { HasRoom committer.old.kept }
+    requires none { committer.old.kept.dues ≡ [] }
+    ensures ran { Runs (V.shows tools.now.verifier.now) D.tells (world committer.old.kept
+        (pair (D.state a.old) (D.state b.old)) (K.state sink.old)) result
+        (handed (S.state source.old) (K.state sink.old) (pair (D.state a.old) (D.state b.old)) (N.state notary.old))
+        (handed (S.state source.new) (K.state sink.new) (pair (D.state a.new) (D.state b.new)) (N.state notary.new)) }
+    ensures unrefused { refusal_of result ≡ None }
+    ensures same { lasting_of (W.board follower.new) ≡ lasting_of (W.board follower.old) }
+{
     let mut desk = Desk {
         committer,
         a,
         b,
         sink,
         notary,
+        follower,
         end: None,
     };
     match answer_lines(&mut desk, tools, source) {
@@ -92,6 +132,7 @@ fn answer_lines<
     'b,
     's,
     'n,
+    'w,
     R: Threads + Wait + Sync,
     S: Source,
     K: Sink,
@@ -99,23 +140,24 @@ fn answer_lines<
     N: Notary,
     V: Verifier,
     G: Gate,
+    W: Follower,
 >(
-    desk: &mut Desk<'c, 'a, 'b, 's, 'n, D, K, N>,
+    desk: &mut Desk<'c, 'a, 'b, 's, 'n, 'w, D, K, N, W>,
     tools: &Tools<R, V, G>,
     source: &mut S,
 ) -> Result<(), LedgerEnding>
     requires fresh { desk.old.end ≡ None }
-    requires open { IsOpen D.tells (at_desk D.state K.state N.state desk.old) }
+    requires open { IsOpen D.tells (at_desk D.state K.state N.state W.board desk.old) }
     requires none { desk.old.committer.now.kept.dues ≡ [] }
-    ensures same { SameDesk desk.old desk.new }
+    ensures same { SameDesk W.board desk.old desk.new }
     ensures done { OnOk result (Runs (V.shows tools.now.verifier.now) D.tells
-        (world_at (at_desk D.state K.state N.state desk.old)) (ending.Run run.Done)
-        (handed_at (S.state source.old) (at_desk D.state K.state N.state desk.old))
-        (handed_at (S.state source.new) (at_desk D.state K.state N.state desk.new))) }
+        (world_at (at_desk D.state K.state N.state W.board desk.old)) (ending.Run run.Done)
+        (handed_at (S.state source.old) (at_desk D.state K.state N.state W.board desk.old))
+        (handed_at (S.state source.new) (at_desk D.state K.state N.state W.board desk.new))) }
     ensures ended { IfErr result (λ e. Runs (V.shows tools.now.verifier.now) D.tells
-        (world_at (at_desk D.state K.state N.state desk.old)) e
-        (handed_at (S.state source.old) (at_desk D.state K.state N.state desk.old))
-        (handed_at (S.state source.new) (at_desk D.state K.state N.state desk.new))) }
+        (world_at (at_desk D.state K.state N.state W.board desk.old)) e
+        (handed_at (S.state source.old) (at_desk D.state K.state N.state W.board desk.old))
+        (handed_at (S.state source.new) (at_desk D.state K.state N.state W.board desk.new))) }
     ensures unrefused { IfErr result (λ e. refusal_of e ≡ None) }
 {
     let mut lines = Lines::new(tools.alloc);

@@ -21,7 +21,7 @@ use std::thread::Threads;
 const DRY_ROOM: usize = 67_108_864;
 
 /// Runs the program over standard input and standard output, by the words of its command line, and answers its exit
-/// status. `init`, `run`, `export` and `lineage` use the files `ledger.a`, `ledger.b` and `notary` of their folder, which has to be there, the
+/// status. The forms that name a folder use the files `ledger.a`, `ledger.b` and `notary` of it, which has to be there, the
 /// system's clock, and 32 bytes of `/dev/urandom` as the seed of salts; `dry` uses two disks in memory of 67,108,864 bytes
 /// each. The three files are locked, and so told apart, before anything is written. Proofs are those of the tag scheme; behind the word
 /// `chain` in front of all others they are those of the scheme of chains. `init` behind that word makes the file `chain` in the
@@ -47,16 +47,20 @@ pub fn ledger_standard<R: Threads + Wait + Sync>(rt: &HostRuntime, threads: &R) 
     }
 }
 
-// The folder that `init`, `run`, `export` or `lineage` is to use.
+// The folder that the words name, where they begin as a form with one does.
 fn folder_of(words: &[String]) -> Option<&str> {
-    match words {
-        [verb, folder] if verb.as_str() == "run" || verb.as_str() == "export" => {
-            Some(folder.as_str())
-        }
-        [verb, folder, _, _] if verb.as_str() == "lineage" => Some(folder.as_str()),
-        [verb, folder, _, _, _] if verb.as_str() == "init" => Some(folder.as_str()),
-        _ => None,
-    }
+    let (verb, folder) = match words {
+        [verb, folder, ..] => (verb.as_str(), folder.as_str()),
+        _ => return None,
+    };
+    let names = match words.len() {
+        2 => verb == "run" || verb == "export" || verb == "revive",
+        3 => verb == "carry",
+        4 => verb == "lineage" || verb == "keep" || verb == "board",
+        5 => verb == "init",
+        _ => false,
+    };
+    if names { Some(folder) } else { None }
 }
 
 // Runs the words with proofs of a scheme. No line is held.

@@ -5,16 +5,20 @@ ghost use Rattle.batch_committer.specs.World.{Pair, pair, OneFailed};
 ghost use Rattle.ledger_bytes.specs.Causes.{count_after};
 ghost use Rattle.ledger_io.specs.Outside.{SourceState, MeetsOne};
 ghost use Rattle.time_peg.specs.Entries.{NotaryState};
-ghost use Rattle.ledger_cli.specs.Runs.{handed, Exports, Finishes, Makes, NothingFailed, RanProgram, RunsAgain, RunsNew, ServedBy, Signs, Soaks};
+ghost use Rattle.ledger_cli.specs.Program.{Finishes, RanProgram, ServedBy};
+ghost use Rattle.ledger_cli.specs.Runs.{handed, Exports, Makes, NothingFailed, RunsAgain, RunsNew, Signs, Soaks};
 ghost use Rattle.ledger_cli.specs.Chaining.{HasRange, chain_line};
 ghost use Rattle.ledger_cli.specs.Signing.{signed_text};
 ghost use Rattle.ledger_cli.specs.Words.{command_of};
 
 use crate::Command;
+use crate::beside::run_board;
 use crate::chaining::ChainText;
 use crate::ending::{LedgerEnding, ending_of_export, put_line};
+use crate::reviving::revive_set;
 use crate::session::run_session;
 use crate::signing::Signing;
+use crate::surviving::{carry_set, keep_journals};
 use crate::tracing::trace;
 use batch_committer::Committer;
 use dump_export::write_dump;
@@ -35,24 +39,26 @@ use time_peg::Notary;
 /// The program: runs the command that the words after the program's name make. `init` makes a ledger of the two disks.
 /// `run` opens the ledger that is there, and runs the script that `source` gives on it; its replies are written to `sink`,
 /// a receipt once its block is on the disk for good. `dry` does both with a new ledger. `export` opens the ledger that is there, reads nothing else,
-/// and writes its dump, beside the notary's list. `lineage` opens it too, and writes the lineage of a clue's records. `sign`, `chainkey` and `chainsign` read nothing, use no disk
-/// and write one text. `soak` reads nothing and uses no disk that is handed in. Whose key a proof shows is what the verifier says. Anchors are stamped by `notary`; where that fails
+/// and writes its dump, beside the notary's list. `lineage` opens it too, and writes the lineage of a clue's records, and `keep` a set of
+/// some journals. `carry` and `revive` open it and read the input, which is a set of survivors: the one writes it again for a later point,
+/// the other its survivors' views and proofs. `board` does what `run` does, with provers beside it, and writes
+/// their lines behind the replies. `sign`, `chainkey` and `chainsign` read nothing, use no disk and write one text. `soak` reads nothing and uses no disk that is handed in. Whose key a proof shows is what the verifier says. Anchors are stamped by `notary`; where that fails
 /// the line is refused and the run goes on. It answers the exit status:
 ///
 /// | Status | Comes | Last line |
 /// |---|---|---|
-/// | 0 | the input was read to its end and every line has its reply, or the text was written | none |
+/// | 0 | the input was read to its end and every line has its reply, and behind these `board` has its lines, or the text was written | none |
 /// | 1 | exactly where the words are of no form | `fail 1 usage` |
 /// | 2 | only where the source failed | `fail 2 read` |
 /// | 3 | only where the sink failed, or took nothing of a piece that wasn't empty | none |
 /// | 4 | only where a disk failed | `fail 4 disk` |
-/// | 5 | `run`, `export`, `lineage`: the open file is damaged; `export`: a journal that it shows isn't what its header says | `fail 5` and the damage |
+/// | 5 | the open file is damaged; `export`: a journal that it shows isn't what its header says | `fail 5` and the damage |
 /// | 6 | want of memory | `fail 6 memory` |
-/// | 7 | a line or the script is too long | `fail 7 line`, `fail 7 script` |
-/// | 8 | `run`, `export`, `lineage` where there is no ledger, `init` and `dry` where there is one | `fail 8 empty`, `fail 8 exists` |
-/// | 9 | `run`, `export`, `lineage`: the version of an open file isn't 1 | `fail 9 format` and the version |
+/// | 7 | a line, the script or a set is too long | `fail 7 line`, `fail 7 script` |
+/// | 8 | `init` and `dry` where there is a ledger, each other form that opens one where there is none | `fail 8 exists`, `fail 8 empty` |
+/// | 9 | the version of an open file isn't 1 | `fail 9 format` and the version |
 /// | 11 | `export`: only where the notary failed | `fail 11 notary` |
-/// | 12 | `lineage`: exactly where the opened ledger keeps no such record | `no 53` |
+/// | 12 | `lineage`: exactly where the opened ledger keeps no such record; `keep`, `carry`, `revive`: where what was asked is refused, or the notary failed | `no`, a code and its fields |
 ///
 /// Of several, the first that happens is the status: a run that is done met no fault, and one that ends with a fault met
 /// that one. Lines that ended before a fault of reading are answered first. The last line is written by one attempt; a
@@ -101,7 +107,7 @@ pub(crate) fn finish_run<K: Sink>(alloc: Global, sink: &mut K, met: LedgerEnding
         return met.status();
     }
     let mut line = Vec::new(alloc);
-    match met.put_line(&mut line) {
+    match met.put_line(&mut line, alloc) {
         Ok(()) => {
             write_last(sink, line.as_slice());
             met.status()
@@ -140,6 +146,18 @@ fn run_words<
         Ok(Some(Command::Export)) => export(tools.rt, tools.alloc, sink, a, b, notary),
         Ok(Some(Command::Lineage { clue, from })) => {
             trace(tools.rt, tools.alloc, &clue, from, sink, a, b)
+        }
+        Ok(Some(Command::Board { provers, count })) => {
+            run_board(tools, provers, count, source, sink, a, b, notary)
+        }
+        Ok(Some(Command::Keep { point, numbers })) => {
+            keep_journals(tools.rt, tools.alloc, point, numbers.as_slice(), sink, a, b)
+        }
+        Ok(Some(Command::Carry { point })) => {
+            carry_set(tools.rt, tools.alloc, point, source, sink, a, b)
+        }
+        Ok(Some(Command::Revive)) => {
+            revive_set(tools.rt, tools.alloc, source, sink, a, b, notary)
         }
         Ok(Some(Command::Sign(signing))) => sign(&signing, sink),
         Ok(Some(Command::Chain(text))) => write_chain(tools.alloc, &text, sink),

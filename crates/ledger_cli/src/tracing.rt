@@ -2,9 +2,10 @@
 
 ghost use Rattle.std.specs.Prelude.{◌≡◌};
 ghost use Rattle.batch_committer.specs.World.{pair};
-ghost use Rattle.ledger_io.specs.Outside.{SourceState};
+ghost use Rattle.ledger_io.specs.Outside.{SourceState, outside};
 ghost use Rattle.time_peg.specs.Entries.{NotaryState};
-ghost use Rattle.ledger_cli.specs.Runs.{handed, TellsLineage, TracesClue};
+ghost use Rattle.ledger_cli.specs.Asking.{IsLineageOf, IsUntraced, TellsOne, TracesClue};
+ghost use Rattle.ledger_cli.specs.Runs.{handed};
 
 use crate::denial::Denial;
 use crate::ending::LedgerEnding;
@@ -42,7 +43,8 @@ pub(crate) fn trace<R: Threads, K: Sink, D: Disk>(
 // Writes the lineage of a clue from a book.
 fn tell<K: Sink>(alloc: Global, book: &Book, clue: &Digest, from: u32, sink: &mut K) -> LedgerEnding
     requires settled { book.now.sealed ≡ book.now.size }
-    ensures { TellsLineage book.now from clue.now result (K.state sink.old) (K.state sink.new) }
+    ensures { (source : SourceState) → TellsOne book.now (IsLineageOf from clue.now) (IsUntraced from clue.now) result
+        (outside source (K.state sink.old)) (outside source (K.state sink.new)) }
 {
     match lineage(alloc, book, clue, from) {
         Ok(text) => write_text(text.as_slice(), sink),

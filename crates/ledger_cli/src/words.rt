@@ -1,10 +1,12 @@
 //! The command that the words of the command line of `ledgerctl` make.
 
 ghost use Rattle.std.specs.Prelude.{◌≡◌, map, string_bytes, IfOk, IfSome, OnErr, IsSome};
-ghost use Rattle.ledger_cli.specs.Words.{HasSizes, chain_sign_from, dry_of, genesis_of, init_of, key_of, of_four, of_more, in_folder, lineage_of, of_three, of_two, sign_of, soak_of};
+ghost use Rattle.ledger_cli.specs.Words.{HasSizes, board_of, chain_sign_from, dry_of, genesis_of, init_of, key_of, of_four, of_more, carry_of, in_folder, keep_of, lineage_of, of_three, of_two, sign_of, soak_of};
 
 use crate::chaining::{ChainText, read_key, read_signature};
+use crate::numbers::read_numbers;
 use crate::signing::{Signing, read_request};
+use arrayvec::ArrayVec;
 use journal_record::clue_digest;
 use ledger_bytes::{Bytes, Digest, NoMemory};
 use ledger_model::Genesis;
@@ -29,6 +31,27 @@ pub enum Command {
         /// The least ordinal, at least 1.
         from: u32,
     },
+    /// `board DIR K COUNT`: what `run` does, and beside it provers, whose lines are written behind the replies.
+    Board {
+        /// How many provers, from 1 to 8.
+        provers: u8,
+        /// How many proofs each of them makes, from 1 to 100,000.
+        count: u32,
+    },
+    /// `keep DIR POINT LIST`: the ledger that is there, and the set of some journals in front of a time journal. It reads no input.
+    Keep {
+        /// The time journal's number.
+        point: u64,
+        /// The numbers of the journals that are kept, 1 to 64 of them in ascending order.
+        numbers: ArrayVec<u64, 64>,
+    },
+    /// `carry DIR POINT`: the ledger that is there, and the set of survivors of the input, carried on to a later time journal.
+    Carry {
+        /// The later time journal's number.
+        point: u64,
+    },
+    /// `revive DIR`: the ledger that is there, and the views and the proofs of the survivors of the input's set.
+    Revive,
     /// `sign ID KEY` and a request: the request's message, and the key's proof of it. It reads no input.
     Sign(Signing),
     /// `chainkey` or `chainsign`: what is made of a seed in the scheme of chains. It reads no input.
@@ -51,11 +74,17 @@ const SOAK_JOBS: u64 = 100_000;
 /// After how many calls of `write`, `cut` and `sync` the disks of a `soak` may stop at the latest.
 const SOAK_CALLS: u64 = 1_000_000;
 
+/// The most provers of a `board`.
+const BOARD_PROVERS: u64 = 8;
+
+/// The most proofs of each prover of a `board`.
+const BOARD_PROOFS: u64 = 100_000;
+
 impl Command {
     ghost use Rattle.ledger_cli.specs.Words.{command_of};
 
-    /// The command that the words after the program's name make, or None where they are of no form. The folder of
-    /// `init`, `run`, `export` and `lineage` isn't part of it: the disks over its files are handed in.
+    /// The command that the words after the program's name make, or None where they are of no form. The folder of a
+    /// ledger isn't part of it: the disks over its files are handed in.
     pub fn read(alloc: Global, words: &[String]) -> Result<Option<Self>, NoMemory>
         ensures ok { IfOk result (λ command. command ≡ command_of (map string_bytes words.now)) }
         ensures sizes { IfOk result (λ command. IfSome command HasSizes) }
@@ -63,7 +92,7 @@ impl Command {
     {
         match words {
             [verb, folder] => Ok(read_two(verb.as_str(), folder.as_str())),
-            [verb, seed, size] => Ok(read_three(verb.as_str(), seed.as_str(), size.as_str())),
+            [verb, second, third] => Ok(read_three(verb.as_str(), second.as_str(), third.as_str())),
             [verb, name, operator, regulator] => read_four(
                 alloc,
                 verb.as_str(),
@@ -92,20 +121,36 @@ fn read_two(verb: &str, folder: &str) -> Option<Command>
         read_folder(Command::Run, folder)
     } else if verb == "export" {
         read_folder(Command::Export, folder)
+    } else if verb == "revive" {
+        read_folder(Command::Revive, folder)
     } else {
         None
     }
 }
 
-fn read_three(verb: &str, seed: &str, size: &str) -> Option<Command>
-    ensures read { result ≡ of_three verb.now seed.now size.now }
+fn read_three(verb: &str, second: &str, third: &str) -> Option<Command>
+    ensures read { result ≡ of_three verb.now second.now third.now }
     ensures sizes { IfSome result HasSizes }
 {
     if verb == "chainkey" {
-        read_key(seed, size).map(Command::Chain)
+        read_key(second, third).map(Command::Chain)
+    } else if verb == "carry" {
+        read_carry(second, third)
     } else {
         None
     }
+}
+
+#[tactic(auto, unfolding(crate::specs::Words::carry_of))]
+fn read_carry(folder: &str, point: &str) -> Option<Command>
+    ensures read { result ≡ carry_of folder.now point.now }
+    ensures sizes { IfSome result HasSizes }
+{
+    if folder.is_empty() {
+        return None;
+    }
+    let point = read_number(point.as_bytes(), u64::MAX)?;
+    Some(Command::Carry { point })
 }
 
 // The name of a folder has at least one byte.
@@ -139,6 +184,10 @@ fn read_four(
         Ok(read_soak(name, operator, regulator))
     } else if verb == "lineage" {
         Ok(read_lineage(name, operator, regulator))
+    } else if verb == "keep" {
+        Ok(read_keep(name, operator, regulator))
+    } else if verb == "board" {
+        Ok(read_board(name, operator, regulator))
     } else {
         Ok(None)
     }
@@ -173,6 +222,35 @@ fn read_lineage(folder: &str, name: &str, from: &str) -> Option<Command>
         return None;
     }
     Some(Command::Lineage { clue, from })
+}
+
+#[tactic(auto, unfolding(crate::specs::Words::keep_of))]
+fn read_keep(folder: &str, point: &str, numbers: &str) -> Option<Command>
+    ensures read { result ≡ keep_of folder.now point.now numbers.now }
+    ensures sizes { IfSome result HasSizes }
+{
+    if folder.is_empty() {
+        return None;
+    }
+    let point = read_number(point.as_bytes(), u64::MAX)?;
+    let numbers = read_numbers(numbers)?;
+    Some(Command::Keep { point, numbers })
+}
+
+#[tactic(auto, unfolding(crate::specs::Words::board_of))]
+fn read_board(folder: &str, provers: &str, count: &str) -> Option<Command>
+    ensures read { result ≡ board_of folder.now provers.now count.now }
+    ensures sizes { IfSome result HasSizes }
+{
+    if folder.is_empty() {
+        return None;
+    }
+    let provers = read_number(provers.as_bytes(), BOARD_PROVERS)? as u8;
+    let count = read_number(count.as_bytes(), BOARD_PROOFS)? as u32;
+    if provers == 0 || count == 0 {
+        return None;
+    }
+    Some(Command::Board { provers, count })
 }
 
 // Five words and more.

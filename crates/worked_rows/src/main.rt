@@ -15,7 +15,7 @@
 //! A folder may hold rows that are like one another in the place of one: `words`, whose lines are the words of a row each
 //! with tabs between them; or `damages`, whose lines are HEX STATUS LINE: the first disk before and behind the run, the
 //! status, and the one line that is wanted; or `changes`, whose lines are WORDS, CHANGE, STATUS and LINE with tabs between
-//! them: the words with spaces, what becomes of the dump in `dump`, in hexadecimal digits, before it is read, the status,
+//! them: the words with spaces, what becomes of the input in `input`, in hexadecimal digits, before it is read, the status,
 //! and the one line that is wanted. CHANGE is `-` for nothing, `cut N` for its first N bytes, `byte AT VALUE` for another
 //! value of one byte, or `more` for a byte 00 behind it.
 #![tactic(auto)]

@@ -24,14 +24,12 @@ pub(crate) fn rows<R: Files + AllocGlobal>(folder: &Folder<R>) -> Result<Vec<Row
 fn row<R: Files + AllocGlobal>(folder: &Folder<R>) -> Result<Row> {
     let alloc = folder.alloc();
     let args = folder.text("args")?;
-    let a = folder.disk_if_there("files/before-a")?;
-    let b = folder.disk_if_there("files/before-b")?;
     Ok(Row {
         name: String::from_str(alloc, folder.name)?,
         program: program(folder)?,
         words: words_of_lines(alloc, args.as_str())?,
         script: script(folder)?,
-        before: [a.unwrap_or(Vec::new(alloc)), b.unwrap_or(Vec::new(alloc))],
+        before: before(folder)?,
         list: folder.disk_if_there("files/before-notary")?,
         wanted: Wanted {
             status: status(folder.text("status")?.as_str())?,
@@ -43,6 +41,14 @@ fn row<R: Files + AllocGlobal>(folder: &Folder<R>) -> Result<Row> {
             list: folder.disk_if_there("files/notary")?,
         },
     })
+}
+
+// What stands on the two disks before the run.
+fn before<R: Files + AllocGlobal>(folder: &Folder<R>) -> Result<[Vec<u8>; 2]> {
+    let alloc = folder.alloc();
+    let a = folder.disk_if_there("files/before-a")?;
+    let b = folder.disk_if_there("files/before-b")?;
+    Ok([a.unwrap_or(Vec::new(alloc)), b.unwrap_or(Vec::new(alloc))])
 }
 
 /// A row for each line, which has its words. Its disks stay empty.
@@ -104,19 +110,19 @@ fn row_of_damage<R: Files + AllocGlobal>(folder: &Folder<R>, line: &str) -> Resu
     })
 }
 
-/// A row for each line, which has its words, what becomes of the dump that the folder holds, and how the run ends.
+/// A row for each line, which has its words, what becomes of the input that the folder holds, and how the run ends.
 fn rows_of_changes<R: Files + AllocGlobal>(folder: &Folder<R>, lines: &str) -> Result<Vec<Row>> {
-    let dump = folder.disk_if_there("dump")?.context("no dump")?;
+    let input = folder.disk_if_there("input")?.context("no input")?;
     let mut rows = Vec::new(folder.alloc());
     for line in lines.lines() {
-        rows.push(row_of_change(folder, &dump, line)?)?;
+        rows.push(row_of_change(folder, &input, line)?)?;
     }
     Ok(rows)
 }
 
 fn row_of_change<R: Files + AllocGlobal>(
     folder: &Folder<R>,
-    dump: &[u8],
+    input: &[u8],
     line: &str,
 ) -> Result<Row> {
     let alloc = folder.alloc();
@@ -129,9 +135,9 @@ fn row_of_change<R: Files + AllocGlobal>(
         name: format!(in alloc; "{}: {line}", folder.name)?,
         program: program(folder)?,
         words: words_between(alloc, words, ' ')?,
-        script: changed(alloc, dump, change)?,
-        before: [Vec::new(alloc), Vec::new(alloc)],
-        list: None,
+        script: changed(alloc, input, change)?,
+        before: before(folder)?,
+        list: folder.disk_if_there("files/before-notary")?,
         wanted: Wanted {
             status: status(ending)?,
             output: format!(in alloc; "{told}\n")?.into_bytes(),
@@ -141,9 +147,9 @@ fn row_of_change<R: Files + AllocGlobal>(
     })
 }
 
-// What becomes of a dump by a change.
-fn changed(alloc: Global, dump: &[u8], change: &str) -> Result<Vec<u8>> {
-    let mut bytes = dump.to_vec(alloc)?;
+// What becomes of an input by a change.
+fn changed(alloc: Global, input: &[u8], change: &str) -> Result<Vec<u8>> {
+    let mut bytes = input.to_vec(alloc)?;
     let mut fields = change.split(' ');
     match fields.next().context("no change")? {
         "-" => {}

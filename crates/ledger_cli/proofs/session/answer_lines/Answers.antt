@@ -9,7 +9,7 @@ pub loop-line-init : goal.loop-line-init
 loop-line-init g c = record {
   ready = c.requires.open;
   fresh = c.requires.fresh;
-  same = (refl, refl, refl, refl, refl);
+  same = (refl, refl, refl, refl, refl, refl, refl);
   sofar = sofar_begins _ _ _ _ _ _ _ _ _ _ _ c.new-lines.ensures c.new-piece.ensures.lines c.new-piece.ensures.first c.new-piece.ensures.next c.new-window.ensures.lines c.new-window.ensures.bytes;
 }
 
@@ -41,7 +41,7 @@ pub returns-in_err-end_window-in-Err : goal.returns-in_err-end_window-in-Err
 returns-in_err-end_window-in-Err g c =
     let e = c.in-Err.ensures in
     let end = ends_failed _ _ _ _ _ _ _ _ _ _ _ _ _ _ c.requires.open.room c.requires.none c.loop-line.invariant.sofar _ _ _ e.gives.1 c.in-Err.error c.in_default.not-NoMemory e.counts e.gives.2 in record {
-      same = (c.in_err-end_window-in-Err.ensures.same.0 ∙ c.loop-line.invariant.same.0, c.in_err-end_window-in-Err.ensures.same.1 ∙ c.loop-line.invariant.same.1, c.in_err-end_window-in-Err.ensures.same.2 ∙ c.loop-line.invariant.same.2, c.in_err-end_window-in-Err.ensures.same.3 ∙ c.loop-line.invariant.same.3, c.in_err-end_window-in-Err.ensures.same.4 ∙ c.loop-line.invariant.same.4);
+      same = (c.in_err-end_window-in-Err.ensures.same.0 ∙ c.loop-line.invariant.same.0, c.in_err-end_window-in-Err.ensures.same.1 ∙ c.loop-line.invariant.same.1, c.in_err-end_window-in-Err.ensures.same.2 ∙ c.loop-line.invariant.same.2, c.in_err-end_window-in-Err.ensures.same.3 ∙ c.loop-line.invariant.same.3, c.in_err-end_window-in-Err.ensures.same.4 ∙ c.loop-line.invariant.same.4, c.in_err-end_window-in-Err.ensures.same.5 ∙ c.loop-line.invariant.same.5, c.in_err-end_window-in-Err.ensures.same.6 ∙ c.loop-line.invariant.same.6);
       done = not_done _ _ c.from_residual-in_err-end_window-in-Err.result c.from_residual-in_err-end_window-in-Err.ensures.1;
       ended =
           ends_as _ c.from_residual-in_err-end_window-in-Err.result _ c.from_residual-in_err-end_window-in-Err.ensures.1
@@ -53,7 +53,7 @@ pub returns-in-Err : goal.returns-in-Err
 returns-in-Err g c =
     let e = c.in-Err.ensures in
     let end = ends_failed _ _ _ _ _ _ _ _ _ _ _ _ _ _ c.requires.open.room c.requires.none c.loop-line.invariant.sofar _ _ _ e.gives.1 c.in-Err.error c.in_default.not-NoMemory e.counts e.gives.2 in record {
-      same = (c.in_ok-end_window-in-Err.ensures.same.0 ∙ c.loop-line.invariant.same.0, c.in_ok-end_window-in-Err.ensures.same.1 ∙ c.loop-line.invariant.same.1, c.in_ok-end_window-in-Err.ensures.same.2 ∙ c.loop-line.invariant.same.2, c.in_ok-end_window-in-Err.ensures.same.3 ∙ c.loop-line.invariant.same.3, c.in_ok-end_window-in-Err.ensures.same.4 ∙ c.loop-line.invariant.same.4);
+      same = (c.in_ok-end_window-in-Err.ensures.same.0 ∙ c.loop-line.invariant.same.0, c.in_ok-end_window-in-Err.ensures.same.1 ∙ c.loop-line.invariant.same.1, c.in_ok-end_window-in-Err.ensures.same.2 ∙ c.loop-line.invariant.same.2, c.in_ok-end_window-in-Err.ensures.same.3 ∙ c.loop-line.invariant.same.3, c.in_ok-end_window-in-Err.ensures.same.4 ∙ c.loop-line.invariant.same.4, c.in_ok-end_window-in-Err.ensures.same.5 ∙ c.loop-line.invariant.same.5, c.in_ok-end_window-in-Err.ensures.same.6 ∙ c.loop-line.invariant.same.6);
       done = tt;
       ended = rw c.from.ensures (ran_whole _ _ _ _ _ _ _ _ _ _ _ _ _ _ c.requires.open.room c.requires.none c.loop-line.invariant.sofar _ _ _ e.gives.1 (Some c.in-Err.error) end _ refl refl _ c.in_ok-end_window-in-Err.ensures.takes.0 c.in_ok-end_window-in-Err.ensures.takes.2);
       unrefused = refl;
@@ -87,7 +87,7 @@ loop-line-preserved-in-Continue-branch-3 g c =
     let taken = c.in_ok-end_window.ensures in record {
       ready = taken.takes.1;
       fresh = taken.fresh;
-      same = (taken.same.0 ∙ c.loop-line.invariant.same.0, taken.same.1 ∙ c.loop-line.invariant.same.1, taken.same.2 ∙ c.loop-line.invariant.same.2, taken.same.3 ∙ c.loop-line.invariant.same.3, taken.same.4 ∙ c.loop-line.invariant.same.4);
+      same = (taken.same.0 ∙ c.loop-line.invariant.same.0, taken.same.1 ∙ c.loop-line.invariant.same.1, taken.same.2 ∙ c.loop-line.invariant.same.2, taken.same.3 ∙ c.loop-line.invariant.same.3, taken.same.4 ∙ c.loop-line.invariant.same.4, taken.same.5 ∙ c.loop-line.invariant.same.5, taken.same.6 ∙ c.loop-line.invariant.same.6);
       sofar = sofar_window _ _ _ _ _ _ _ _ _ _ _ _ _ _ c.requires.open.room c.requires.none c.loop-line.invariant.sofar _ _ _ e.gives.1 c.in-Ok-Some.line e.counts e.gives.2 added.lines.0 added.lines.1 _ added.next full _ refl refl _ added.lines.2 _ _ _ _ _ _ (rw added.first at taken.takes.0) taken.none taken.first taken.next c.if-full.ensures.lines c.if-full.ensures.bytes;
     }
 
@@ -118,7 +118,7 @@ loop-line-preserved-in-Continue-branch-4 g c =
     let full = ap (λ (l : List ℕ). fills_window (c.loop-line.window.lines + 1) (c.loop-line.window.bytes + length l)) (sym c.as_slice.ensures) ∙ sym c.if-full.ensures.full in
     let all = sofar_added _ _ _ _ _ _ _ _ _ _ _ _ _ _ c.requires.open.room c.requires.none c.loop-line.invariant.sofar _ _ _ e.gives.1 c.in-Ok-Some.line e.counts e.gives.2 added.lines.0 added.lines.1 _ added.next _ _ _ _ added.first added.lines.2 full c.if-full.ensures.lines (c.if-full.ensures.bytes ∙ ap (λ (l : List ℕ). c.loop-line.window.bytes + length l) c.as_slice.ensures) in
     let taken = c.in_ok-take_piece.ensures in
-    record { ready = taken.takes.1; fresh = taken.fresh; same = (taken.same.0 ∙ c.loop-line.invariant.same.0, taken.same.1 ∙ c.loop-line.invariant.same.1, taken.same.2 ∙ c.loop-line.invariant.same.2, taken.same.3 ∙ c.loop-line.invariant.same.3, taken.same.4 ∙ c.loop-line.invariant.same.4); sofar = rw c.is_due.ensures (sofar_taken _ _ _ _ _ _ _ _ _ _ _ _ _ _ c.requires.open.room c.requires.none all _ _ _ _ _ refl refl taken.takes.0 taken.none taken.first taken.next) }
+    record { ready = taken.takes.1; fresh = taken.fresh; same = (taken.same.0 ∙ c.loop-line.invariant.same.0, taken.same.1 ∙ c.loop-line.invariant.same.1, taken.same.2 ∙ c.loop-line.invariant.same.2, taken.same.3 ∙ c.loop-line.invariant.same.3, taken.same.4 ∙ c.loop-line.invariant.same.4, taken.same.5 ∙ c.loop-line.invariant.same.5, taken.same.6 ∙ c.loop-line.invariant.same.6); sofar = rw c.is_due.ensures (sofar_taken _ _ _ _ _ _ _ _ _ _ _ _ _ _ c.requires.open.room c.requires.none all _ _ _ _ _ refl refl taken.takes.0 taken.none taken.first taken.next) }
 
 pub returns-in_err-take_piece-clause-ended : goal.returns-in_err-take_piece-clause-ended
 returns-in_err-take_piece-clause-ended g c =

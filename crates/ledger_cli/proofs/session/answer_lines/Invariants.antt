@@ -8,12 +8,12 @@ use Rattle.ledger_cli.proofs.session.answer_lines.Given as goal
 -- the desk, as the loop's turn begins
 abbrev pub invariant-loop-line : goal.invariant-loop-line
 invariant-loop-line g l =
-    let first = at_desk g.D.Disk.state g.K.Sink.state g.N.Notary.state l.fn.desk in
-    let now = at_desk g.D.Disk.state g.K.Sink.state g.N.Notary.state l.desk in
+    let first = at_desk g.D.Disk.state g.K.Sink.state g.N.Notary.state g.W.Follower.board l.fn.desk in
+    let now = at_desk g.D.Disk.state g.K.Sink.state g.N.Notary.state g.W.Follower.board l.desk in
     record {
       ready : IsOpen g.D.Disk.tells now;
       fresh : l.desk.end ≡ None;
-      same : SameDesk l.fn.desk l.desk;
+      same : SameDesk g.W.Follower.board l.fn.desk l.desk;
       sofar : SoFar (g.V.Verifier.shows l.fn.tools.verifier.now) g.D.Disk.tells (world_at first) (world_at now) first.notary now.notary (g.S.Source.state l.fn.source) (g.S.Source.state l.source) l.lines l.piece.first l.piece.next l.piece.lines.items l.window.lines l.window.bytes;
     }
 

@@ -1,0 +1,121 @@
+//! How a board follows a ledger.
+
+ghost use Rattle.std.specs.Prelude.{◌≡◌, ◌-◌, ◌≤◌, ◌<◌, [], List, ℕ, All, MatchBool, map, take, drop, length, IfOk, IsTrue};
+ghost use Rattle.sha2.specs.Sha256.{sha256};
+ghost use Rattle.merkle_batch.specs.Rows.{StandsFor};
+ghost use Rattle.ledger_cli.specs.Boards.{IsBlockEnd, lasting};
+ghost use Rattle.ledger_book.specs.Books.{Serves};
+ghost use Rattle.ledger_model.specs.History.{History};
+ghost use Rattle.ledger_model.specs.Lawful.{IsBlock};
+ghost use Rattle.proof_board.specs.Words.{history_of, waiting_of};
+ghost use Rattle.ledger_cli.specs.Beside.{IsAlone, IsPublished, posted_by};
+
+use crate::follower::Follower;
+use crate::posting::Posting;
+use journal_record::Kind;
+use ledger_book::Book;
+use ledger_bytes::{Digest, NoMemory, Sha};
+use merkle_batch::Tree;
+use std::alloc::Global;
+use std::sync::Wait;
+
+/// How many leaves a board keeps at most, but for those with which it began.
+pub(crate) const BOARD_LIMIT: u64 = 1_048_576;
+
+// The digests of a tree's leaves from one on, up to another. There are none where the tree has forgotten one of them.
+fn leaves_between(
+    alloc: Global,
+    tree: &Tree<Sha>,
+    from: u64,
+    to: u64,
+) -> Result<Vec<Digest>, NoMemory>
+    requires order { from ≤ to }
+    requires within { to ≤ tree.now.size }
+    ensures digests { IfOk result (λ v. (ds : List (List ℕ)) → StandsFor sha256 tree.now ds
+        → map (λ d. d.0) v.items ≡ take (to - from) (drop from ds)) }
+    ensures count { IfOk result (λ v. length v.items ≡ to - from) }
+{
+    let mut leaves = Vec::new(alloc);
+    for n in from..to {
+        let Ok(leaf) = tree.leaf(n) else {
+            return Err(NoMemory);
+        };
+        leaves.push(leaf)?;
+    }
+    Ok(leaves)
+}
+
+// Whether a book's last journal stands in a block of its own: it is of a kind that shares none.
+fn ends_alone(book: &Book) -> bool
+    ensures { IsTrue result → (h : History) → Serves book.now h → IsAlone h }
+{
+    match book.header(book.size() - 1) {
+        Some(header) => !matches!(header.kind, Kind::Content | Kind::Member),
+        None => false,
+    }
+}
+
+impl<'r, R: Wait> Posting<'r, R> {
+    // The greatest size, among those that the board may have, at which a block of a book ended since the last look, where no journal
+    // waits. One job ends one block, or two: the open one, and that of a journal which stands alone.
+    fn last_end(&self, book: &Book) -> u64
+        ensures within { self.now.size < result → result ≤ book.now.tree.size }
+        ensures few { self.now.size < result → result ≤ self.now.limit }
+        ensures ended { self.now.size < result → (h : History) → Serves book.now h
+            → All IsBlock h.closed → h.waiting ≡ [] → IsBlockEnd h result }
+        ensures whole { book.now.tree.size ≤ self.now.limit → result ≡ book.now.tree.size }
+    {
+        let size = book.tree().size();
+        if size <= self.limit {
+            size
+        } else if size - 1 == self.limit && ends_alone(book) {
+            size - 1
+        } else {
+            self.size
+        }
+    }
+
+    // Publishes the leaves of a tree up to this size, as one batch. Where memory is missing, none is published from then on.
+    fn publish_to(&mut self, tree: &Tree<Sha>, size: u64)
+        requires more { self.old.size < size }
+        requires within { size ≤ tree.now.size }
+        requires none { waiting_of self.old.writer ≡ [] }
+        ensures same { lasting (posted_by self.new) ≡ lasting (posted_by self.old) }
+        ensures published { MatchBool self.new.lacking (history_of self.new.writer ≡ history_of self.old.writer)
+            (IsPublished self.old self.new tree.now size) }
+    {
+        self.lacking = true;
+        let Ok(leaves) = leaves_between(self.alloc, tree, self.size, size) else {
+            return;
+        };
+        let Ok(()) = self.writer.add(leaves.as_slice()) else {
+            return;
+        };
+        if let Ok(head) = self.writer.publish(self.rt) {
+            self.size = head.size;
+            self.lacking = false;
+        }
+    }
+}
+
+impl<'r, R: Wait> Follower for Posting<'r, R> {
+    ghost use Rattle.std.specs.Prelude.{Some};
+    ghost use Rattle.ledger_cli.specs.Beside.{posted_by};
+
+    ghost board = { λ s. Some (posted_by s) };
+
+    /// Publishes the leaves of whole blocks that were added since the last look, where no journal waits.
+    fn look(&mut self, book: &Book) {
+        if self.lacking || book.unsealed() != 0 {
+            return;
+        }
+        let end = self.last_end(book);
+        if self.size < end {
+            self.publish_to(book.tree(), end);
+        }
+    }
+
+    fn lacks(&self) -> bool {
+        self.lacking
+    }
+}
