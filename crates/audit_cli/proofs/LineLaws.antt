@@ -86,6 +86,7 @@ fields_are refusals.NotaryFull = tt
 fields_are (refusals.Full kept size) = (number_word kept, (number_word size, tt))
 fields_are (refusals.BadSize size) = (number_word size, tt)
 fields_are refusals.CluesFull = tt
+fields_are (refusals.NumberTaken jsn) = (number_word jsn, tt)
 
 reply_are : (given : Reply) → AreWords (reply_words given)
 reply_are reply.Yes = (literal (codes "yes") refl, tt)

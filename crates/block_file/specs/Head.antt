@@ -1,5 +1,5 @@
 -- The head of a file, and when a file is open.
-use Rattle.std.specs.Prelude.{◌≡◌, ◌≢◌, ◌⊎◌, ℕ, ◌-◌, ◌<◌, ◌≤◌, List, [], ◌∷◌, ◌++◌, length, get_or, take, drop, replicate, Option, Some, None, Result, Ok, Err, MatchResult}
+use Rattle.std.specs.Prelude.{◌≡◌, ◌≢◌, ◌⊎◌, ◌||◌, ◌==◌, Bool, false, IsTrue, ℕ, ◌-◌, ◌<◌, ◌≤◌, List, [], ◌∷◌, ◌++◌, length, get_or, take, drop, replicate, Option, Some, None, Result, Ok, Err, MatchResult}
 use Rattle.std.specs.Int.{from_be_bytes, to_be_bytes, w64}
 use Rattle.sha2.specs.Sha256.{sha256}
 use Rattle.ledger_bytes.specs.Tags.{byte_of}
@@ -58,9 +58,13 @@ number_at at file = from_be_bytes w64 (take 8 (drop at file))
 abbrev pub digest_of : List ℕ → List ℕ
 digest_of base = sha256 (byte_of tag.Base ∷ base)
 
--- the gate and the head of a file, of this generation and with this base
+-- whether files of this version are known: new ones have the second, and both have one layout
+abbrev pub is_format : ℕ → Bool
+is_format version = version == 1 || version == 2
+
+-- the gate and the head of a new file, of this generation and with this base
 abbrev pub head_of : ℕ → ℕ → List ℕ → List ℕ
-head_of gate generation base = (gate ∷ magic) ++ (1 ∷ []) ++ to_be_bytes w64 generation ++ to_be_bytes w64 (length base) ++ digest_of base ++ replicate 6 0
+head_of gate generation base = (gate ∷ magic) ++ (2 ∷ []) ++ to_be_bytes w64 generation ++ to_be_bytes w64 (length base) ++ digest_of base ++ replicate 6 0
 
 -- all that stands before the blocks of a file: its gate, its head and its base
 abbrev pub front_of : ℕ → ℕ → List ℕ → List ℕ
@@ -75,6 +79,10 @@ pub record IsOpen (file : List ℕ) : Type 0 where
   pub long : 65 ≤ length file
   pub gate : get_or file 0 0 ≡ 1
 
+-- the version that a file's head names
+abbrev pub version_in : List ℕ → ℕ
+version_in file = get_or file 9 0
+
 -- the generation that a file's head names: of two open files the greater one is taken
 abbrev pub generation_of : List ℕ → ℕ
 generation_of file = number_at 10 file
@@ -83,11 +91,12 @@ generation_of file = number_at 10 file
 pub record HasHead (file : List ℕ) : Type 0 where
   pub is_open : IsOpen file
   pub magic_is : take 8 (drop 1 file) ≡ magic
-  pub version : get_or file 9 0 ≡ 1
+  pub version : IsTrue (is_format (version_in file))
 
--- what is told of a file's head is what stands there: generation, and length and digest of the base
+-- what is told of a file's head is what stands there: version and generation, and length and digest of the base
 pub record Names (file : List ℕ) (head : FileHead) : Type 0 where
   pub has : HasHead file
+  pub version : head.version ≡ version_in file
   pub generation : head.generation ≡ generation_of file
   pub base_len : head.base_len ≡ number_at 18 file
   pub base_digest : head.base_digest.0 ≡ take 32 (drop 26 file)
@@ -96,7 +105,7 @@ pub record Names (file : List ℕ) (head : FileHead) : Type 0 where
 abbrev pub IsHeadErr : List ℕ → FileErr → Type 0
 IsHeadErr file DiskFault = Unit {0}
 IsHeadErr file NoMemory = ⊥
-IsHeadErr file (NewerFormat found) = IsOpen file × (take 8 (drop 1 file) ≡ magic) × (found ≡ get_or file 9 0) × (found ≢ 1)
+IsHeadErr file (NewerFormat found) = IsOpen file × (take 8 (drop 1 file) ≡ magic) × (found ≡ version_in file) × (is_format found ≡ false)
 IsHeadErr file (Damaged Magic) = IsOpen file × (take 8 (drop 1 file) ≢ magic)
 IsHeadErr file (Damaged (BaseForm at)) = ⊥
 IsHeadErr file (Damaged (Base kept found)) = ⊥

@@ -74,7 +74,7 @@ pub enum FileErr {
     DiskFault,
     #[error("the file is damaged: {0}")]
     Damaged(Damage),
-    /// The file's version, at offset 9, isn't 1.
+    /// The file's version, at offset 9, is neither 1 nor 2.
     #[error("version {found} is not known")]
     NewerFormat { found: u8 },
     #[error("out of memory")]

@@ -54,8 +54,8 @@ impl BlockFile {
         if read_byte(disk, 0)? != 1 {
             return Ok(None);
         }
-        check_form(disk)?;
-        let head = read_fields(disk)?;
+        let version = check_form(disk)?;
+        let head = read_fields(disk, version)?;
         Ok(Some(head))
     }
 

@@ -4,7 +4,7 @@
 //! |---|---|---|---|
 //! | file gate | 0 | 1 | 01 is open, every other byte is shut |
 //! | magic | 1 | 8 | ASCII `LEDGERDB` |
-//! | version | 9 | 1 | 1 |
+//! | version | 9 | 1 | 2, or 1 in an older file |
 //! | generation | 10 | 8 | from 1 |
 //! | base_len | 18 | 8 | the length of the base |
 //! | base digest | 26 | 32 | SHA-256 of the byte 07 and the base |

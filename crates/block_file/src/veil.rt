@@ -5,7 +5,7 @@ ghost use Rattle.ledger_disk.specs.Disk.{MayLeave, settled_state, CountsFault};
 ghost use Rattle.block_file.specs.Head.{head_of};
 ghost use Rattle.block_file.specs.File.{IsVeiled};
 
-use crate::head::{MAGIC, base_digest};
+use crate::head::{MAGIC, NEW_FORMAT, base_digest};
 use ledger_bytes::Failed;
 use ledger_disk::Disk;
 
@@ -34,7 +34,7 @@ pub(crate) fn add_head<D: Disk>(disk: &mut D, generation: u64, base: &[u8]) -> R
     ensures faults { CountsFault result (D.state disk.old).faults (D.state disk.new).faults }
 {
     add(disk, 1, &MAGIC)?;
-    add(disk, 9, &[1])?;
+    add(disk, 9, &[NEW_FORMAT])?;
     add(disk, 10, &generation.to_be_bytes())?;
     add(disk, 18, &(base.len() as u64).to_be_bytes())?;
     add(disk, 26, &base_digest(base).0)?;

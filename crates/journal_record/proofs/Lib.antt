@@ -1,6 +1,7 @@
 pub mod Spelling
 pub mod TagLaws
 pub mod ReadingSteps
+pub mod Versions
 pub mod ReadingLaws
 pub mod WholeLaws
 pub mod ItemLaws

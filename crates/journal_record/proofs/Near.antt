@@ -8,12 +8,12 @@ use Rattle.ledger_bytes.specs.declared.failure.Bad.{Bad}
 use Rattle.ledger_bytes.specs.Fields.{Unread, left_from, ◌>>=◌, bytes_at, number_at, digest_at, check, IsBytes}
 use Rattle.journal_record.specs.declared.approval.TheConstants.{WHO_LIMIT}
 use Rattle.journal_record.specs.declared.header.Header.{Header}
-use Rattle.journal_record.specs.Reading.{front_at, clue_at, own_at, parts_at, header_at, known_version, known_kind}
-use Rattle.journal_record.specs.Rules.{IsHeader, jsn_ok, member_ok, clue_ok, clue_ord_ok, clue_prev_ok, a_ok, b_ok, content_len_ok}
+use Rattle.journal_record.specs.Reading.{carried_at, layout_at, front_at, clue_at, own_at, parts_at, fields_at, header_at, known_version, known_kind}
+use Rattle.journal_record.specs.Rules.{IsHeader, jsn_ok, member_ok, clue_ok, clue_ord_ok, clue_prev_ok, version_of, carries_a, carries_len, a_ok, b_ok, content_len_ok}
 use Rattle.journal_record.specs.declared.header.Kind.{Kind}
 use Rattle.journal_record.specs.declared.header.Kind.TheVariants as kind
 use Rattle.journal_record.proofs.ReadingLaws.{header_back}
-use Rattle.std.specs.Prelude.{IsTrue, if◌then◌else◌, ◌==◌}
+use Rattle.std.specs.Prelude.{IsTrue, ◌&&◌, if◌then◌else◌, ◌==◌}
 use Rattle.journal_record.specs.Items.{Item, with_more, TookFew, IsLocal, content_at, body_at, state_ok, who_place, who_at, item_at, most_bytes}
 
 -- one field
@@ -90,6 +90,11 @@ pub local_check : {B : Type 0} (ok : Bool) (at : ℕ) (f : Unread → Result (B 
 local_check true at f n near = near refl
 local_check false at f n near = record { few = λ l. tt; same = λ whole longer rest more long. refl }
 
+-- one reading or another
+if_local : {A : Type 0} (test : Bool) (f g : Unread → Result (A × Unread) Bad) (n : ℕ) → IsLocal n f → IsLocal n g → IsLocal n (λ l. if test then f l else g l)
+if_local true f g n yes_near no_near = yes_near
+if_local false f g n yes_near no_near = no_near
+
 -- ---- a header
 
 front_local : IsLocal 14 front_at
@@ -107,32 +112,64 @@ clue_local kind jsn = local_then digest_at _ 32 12 digest_local
     (λ ord. local_check (clue_ord_ok clue ord) 46 _ 8 (λ _. local_then (number_at w64) _ 8 0 (number_local w64)
     (λ prev. local_check (clue_prev_ok jsn ord prev) 50 _ 0 (λ _. nothing_local _))))))
 
-own_local : (kind : Kind) (jsn : ℕ) → IsLocal 48 (own_at kind jsn)
+own_local : (version : ℕ) (kind : Kind) (jsn : ℕ) → IsLocal 48 (own_at version kind jsn)
 unfolding own_at
-own_local kind jsn = local_then (number_at w64) _ 8 40 (number_local w64)
-    (λ a. local_check (a_ok kind jsn a) 58 _ 40 (λ _. local_then (number_at w64) _ 8 32 (number_local w64)
+own_local version kind jsn = local_then (number_at w64) _ 8 40 (number_local w64)
+    (λ a. local_check (a_ok kind jsn a && carries_a version kind a) 58 _ 40 (λ _. local_then (number_at w64) _ 8 32 (number_local w64)
     (λ b. local_check (b_ok kind b) 66 _ 32 (λ _. local_then digest_at _ 32 0 digest_local (λ link. nothing_local _)))))
 
-parts_local : (kind : Kind) → IsLocal 68 (parts_at kind)
+parts_local : (version : ℕ) (kind : Kind) → IsLocal 68 (parts_at version kind)
 unfolding parts_at
-parts_local kind = local_then (number_at w32) _ 4 64 (number_local w32)
-    (λ len. local_check (content_len_ok kind len) 106 _ 64 (λ _. local_then digest_at _ 32 32 digest_local
+parts_local version kind = local_then (number_at w32) _ 4 64 (number_local w32)
+    (λ len. local_check (content_len_ok kind len && carries_len version kind len) 106 _ 64 (λ _. local_then digest_at _ 32 32 digest_local
     (λ content. local_then digest_at _ 32 0 digest_local (λ who. nothing_local _))))
+
+fields_local : IsLocal 174 fields_at
+unfolding fields_at
+fields_local = local_then front_at _ 14 160 front_local
+    (λ front. local_then (clue_at front.kind front.jsn) _ 44 116 (clue_local front.kind front.jsn)
+    (λ clue. local_then (own_at front.version front.kind front.jsn) _ 48 68 (own_local front.version front.kind front.jsn)
+    (λ own. local_then (parts_at front.version front.kind) _ 68 0 (parts_local front.version front.kind) (λ parts. nothing_local _))))
+
+-- what shows whether the version is the header's own
+carried_local : (version : ℕ) (kind : Kind) → IsLocal 108 (carried_at version kind)
+unfolding carried_at
+carried_local version kind = if_local (version == 1) (λ l. Ok (tt, l)) _ 108 (local_more (λ l. Ok (tt, l)) 0 108 (omega arith) (nothing_local tt))
+    (local_then (bytes_at 56) _ 56 52 (bytes_local 56)
+    (λ skipped. local_then (number_at w64) _ 8 44 (number_local w64)
+    (λ a. local_then (bytes_at 40) _ 40 4 (bytes_local 40)
+    (λ between. local_then (number_at w32) _ 4 0 (number_local w32)
+    (λ len. local_check (version_of kind a len == 2) 0 _ 0 (λ _. nothing_local tt))))))
+
+layout_local : IsLocal 110 layout_at
+unfolding layout_at
+layout_local = local_then (number_at w8) _ 1 109 (number_local w8)
+    (λ version. local_after (known_version version) _ 109 (λ _ _. local_then (number_at w8) _ 1 108 (number_local w8)
+    (λ code. local_after (known_kind code) _ 108 (λ kind _. carried_local version kind))))
+
+-- a reading behind a look at what it reads
+local_guard : {A B : Type 0} (guard : Unread → Result (A × Unread) Bad) (read : Unread → Result (B × Unread) Bad) (m n : ℕ) → m ≤ n → IsLocal m guard → IsLocal n read → IsLocal n (λ l. guard l >>= λ _. read l)
+local_guard {A} guard read m n le first second = record {
+  few = λ l. few l (guard l);
+  same = λ whole longer rest more long.
+      ap (λ r. r >>= λ _. read (left_from longer (rest ++ more))) (first.same whole longer rest more (omega (arith, le, long)))
+      ∙ same whole longer rest more long (guard (left_from whole rest));
+}
+  where
+    few : (l : Unread) (r : Result (A × Unread) Bad) → TookFew n l (r >>= λ _. read l)
+    few l (Ok x) = second.few l
+    few l (Err bad) = tt
+    same : (whole longer : ℕ) (rest more : List ℕ) → n ≤ length rest → (r : Result (A × Unread) Bad)
+        → (with_more longer more r >>= λ _. read (left_from longer (rest ++ more))) ≡ with_more longer more (r >>= λ _. read (left_from whole rest))
+    same whole longer rest more long (Ok x) = second.same whole longer rest more long
+    same whole longer rest more long (Err bad) = refl
 
 -- a header looks at its 174 bytes alone
 pub header_local : IsLocal 174 header_at
 unfolding header_at
-header_local = local_then front_at _ 14 160 front_local
-    (λ front. local_then (clue_at front.kind front.jsn) _ 44 116 (clue_local front.kind front.jsn)
-    (λ clue. local_then (own_at front.kind front.jsn) _ 48 68 (own_local front.kind front.jsn)
-    (λ own. local_then (parts_at front.kind) _ 68 0 (parts_local front.kind) (λ parts. nothing_local _))))
+header_local = local_guard layout_at fields_at 110 174 (omega arith) layout_local fields_local
 
 -- ---- a journal of a dump
-
--- one reading or another
-if_local : {A : Type 0} (test : Bool) (f g : Unread → Result (A × Unread) Bad) (n : ℕ) → IsLocal n f → IsLocal n g → IsLocal n (λ l. if test then f l else g l)
-if_local true f g n yes_near no_near = yes_near
-if_local false f g n yes_near no_near = no_near
 
 content_local : (h : Header) (state : ℕ) → IsLocal h.content_len (content_at h state)
 content_local h state = if_local (state == 0) (λ l. bytes_at h.content_len l >>= λ content. Ok (Some content.0, content.1)) (λ l. Ok (None, l)) h.content_len

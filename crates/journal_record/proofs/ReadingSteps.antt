@@ -1,8 +1,8 @@
 -- Steps of a reading: a field and the rule that it keeps, and a text that is all of the bytes.
-use Rattle.std.proofs.Common.{◌≡◌, ℕ, zero, suc, ◌-◌, Bool, true, cond, eqb, List, [], ◌++◌, length, Option, Some, None, Result, Ok, Err, refl, sym, ap, subst, ◌∙◌}
+use Rattle.std.proofs.Common.{◌≡◌, ℕ, zero, suc, ◌-◌, Bool, true, cond, eqb, List, [], ◌++◌, length, Option, Some, None, Result, Ok, Err, refl, sym, ap, subst, ◌∙◌, ◌+◌, take, append_assoc, arith, inl, inr}
 use Rattle.std.specs.Prelude.{ok_or}
-use Rattle.std.proofs.lemmas.Bool.{eqb-true}
-use Rattle.std.proofs.lemmas.List.{append-nil, nil_from_length}
+use Rattle.std.proofs.lemmas.Bool.{eqb-true, cases_lt}
+use Rattle.std.proofs.lemmas.List.{append-nil, nil_from_length, take-append-le}
 use Rattle.ledger_bytes.specs.declared.failure.Bad.{Bad}
 use Rattle.ledger_bytes.specs.declared.failure.Bad.TheVariants.{Trailing}
 use Rattle.ledger_bytes.specs.Fields.{Unread, left_from, ◌>>=◌, end_at, IsBytes, Took, ReadsBack}
@@ -12,6 +12,7 @@ use Rattle.journal_record.specs.declared.header.Kind.TheVariants.{Genesis, Conte
 use Rattle.journal_record.specs.Header.{code_of}
 use Rattle.journal_record.specs.Rules.{kind_of}
 use Rattle.journal_record.specs.Reading.{known_kind}
+use Rattle.std.proofs.Math.Seq.{take-append-add}
 
 -- a reading's answer
 abbrev pub ended : {A : Type 0} → A → Unread → Result (A × Unread) Bad
@@ -47,6 +48,27 @@ pub field_text : {A B : Type 0} (read : Unread → Result (A × Unread) Bad) (ok
     → IsTextOf read whole t x → ok x ≡ true → IsTextOf (λ l. f (x, l)) whole u y → IsTextOf (λ l. read l >>= ruled ok bad f) whole (t ++ u) y
 field_text read ok bad f whole t u x y first rule second =
     text_then read (ruled ok bad f) whole t u x y first (subst (λ b. IsTextOf (λ l. test b (bad x) >>= λ _. f (x, l)) whole u y) (sym rule) second)
+
+-- what is looked at in front, before the whole is read from the same place
+pub guard_text : {A B : Type 0} (guard : Unread → Result (A × Unread) Bad) (read : Unread → Result (B × Unread) Bad) (whole : ℕ) (p q : List ℕ) (u : A) (x : B)
+    → IsTextOf guard whole p u → IsTextOf read whole (p ++ q) x → IsTextOf (λ l. guard l >>= λ _. read l) whole (p ++ q) x
+guard_text guard read whole p q u x first second = record {
+  again = λ rest.
+      ap (λ (s : List ℕ). guard (left_from whole s) >>= λ _. read (left_from whole ((p ++ q) ++ rest))) (append_assoc p q rest)
+      ∙ (ap (λ r. r >>= λ _. read (left_from whole ((p ++ q) ++ rest))) (first.again (q ++ rest)) ∙ second.again rest);
+  cut = λ k lt.
+      elim (cases_lt k (length p)) [
+        | inl within ↦
+            let e : take k (p ++ q) ≡ take k p = take-append-le k p q (omega arith) in
+            ap (λ (s : List ℕ). guard (left_from whole s) >>= λ _. read (left_from whole (take k (p ++ q)))) e
+            ∙ ap (λ r. r >>= λ _. read (left_from whole (take k (p ++ q)))) (first.cut k within)
+        | inr past ↦
+            let n : k ≡ length p + (k - length p) = omega arith in
+            let e : take k (p ++ q) ≡ p ++ take (k - length p) q = ap (λ (i : ℕ). take i (p ++ q)) n ∙ take-append-add p q (k - length p) in
+            ap (λ (s : List ℕ). guard (left_from whole s) >>= λ _. read (left_from whole (take k (p ++ q)))) e
+            ∙ (ap (λ r. r >>= λ _. read (left_from whole (take k (p ++ q)))) (first.again (take (k - length p) q)) ∙ second.cut k lt)
+      ];
+}
 
 -- what was taken is what is answered
 pub answered : {A : Type 0} (text : A → List ℕ) (fits : A → Type 0) (l : Unread) (x y : A) (b c : Unread) → ended x b ≡ ended y c → Took l (text x) b → fits x → Took l (text y) c × fits y

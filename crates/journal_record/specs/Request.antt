@@ -1,16 +1,20 @@
 -- The messages that members prove, and the digests of names.
-use Rattle.std.specs.Prelude.{ℕ, ◌==◌, if◌then◌else◌, List, ◌∷◌, ◌++◌, length}
+use Rattle.std.specs.Prelude.{ℕ, ◌==◌, if◌then◌else◌, List, [], ◌∷◌, ◌++◌, length}
 use Rattle.std.specs.Int.{w32, w64, to_be_bytes}
 use Rattle.sha2.specs.Sha256.{sha256}
 use Rattle.ledger_bytes.specs.Digests.{zero_digest}
 use Rattle.ledger_bytes.specs.Tags.{byte_of}
 use Rattle.ledger_bytes.specs.declared.tag.Tag.TheVariants as tag
 
--- the digest of a request to append: the ledger's identity, the member, the clue's digest, and the length and the
--- digest of the content
-abbrev pub request_digest_of : List ℕ → ℕ → List ℕ → ℕ → List ℕ → List ℕ
-request_digest_of id member clue content_len content_digest =
-    sha256 (byte_of tag.AppendRequest ∷ (id ++ to_be_bytes w32 member ++ clue ++ to_be_bytes w32 content_len ++ content_digest))
+-- a request's number, where it has one: 0 stands for none
+abbrev pub number_bytes : ℕ → List ℕ
+number_bytes number = if number == 0 then [] else to_be_bytes w64 number
+
+-- the digest of a request to append: the ledger's identity, the member, the clue's digest, the length and the digest of the
+-- content, and the request's number, where it has one
+abbrev pub request_digest_of : List ℕ → ℕ → List ℕ → ℕ → List ℕ → ℕ → List ℕ
+request_digest_of id member clue content_len content_digest number =
+    sha256 (byte_of tag.AppendRequest ∷ (id ++ to_be_bytes w32 member ++ clue ++ to_be_bytes w32 content_len ++ content_digest ++ number_bytes number))
 
 -- the digest of a request to admit a member: the ledger's identity, the new member's number, and its key
 abbrev pub member_request_digest_of : List ℕ → ℕ → List ℕ → List ℕ

@@ -1,5 +1,5 @@
 -- What each field of a header may be, by the fields in front of it.
-use Rattle.std.specs.Prelude.{ℕ, zero, suc, Bool, true, ◌&&◌, ◌==◌, nat_lt, nat_le, if◌then◌else◌, IsTrue, Option, Some, None}
+use Rattle.std.specs.Prelude.{ℕ, zero, suc, Bool, true, ◌&&◌, ◌||◌, ◌==◌, nat_lt, nat_le, if◌then◌else◌, IsTrue, Option, Some, None}
 use Rattle.std.specs.Str.{bytes_eq}
 use Rattle.ledger_bytes.specs.Digests.{zero_digest}
 use Rattle.ledger_bytes.specs.declared.digest.Digest.{Digest}
@@ -23,9 +23,27 @@ kind_of (suc (suc (suc (suc (suc (suc n)))))) = None
 abbrev pub is_no_clue : Digest → Bool
 is_no_clue clue = bytes_eq clue.0 zero_digest.0
 
--- headers of this layout have version 1
-abbrev pub version_ok : ℕ → Bool
-version_ok version = version == 1
+-- The version of a header, by three of its other fields: 1 exactly where the first version can carry them. A record with a
+-- number needs the second.
+abbrev pub version_of : Kind → ℕ → ℕ → ℕ
+version_of Content a content_len = if a == 0 then 1 else 2
+version_of kind a content_len = 1
+
+-- a version that is known
+abbrev pub is_version : ℕ → Bool
+is_version version = version == 1 || version == 2
+
+-- a header has its own version, and no other
+abbrev pub version_ok : ℕ → Kind → ℕ → ℕ → Bool
+version_ok version kind a content_len = version == version_of kind a content_len
+
+-- this version carries what goes by the kind, as far as `a` tells it
+abbrev pub carries_a : ℕ → Kind → ℕ → Bool
+carries_a version kind a = nat_le (version_of kind a 0) version
+
+-- .. and as far as the content's length tells it
+abbrev pub carries_len : ℕ → Kind → ℕ → Bool
+carries_len version kind content_len = nat_le (version_of kind 0 content_len) version
 
 -- a genesis journal is journal 0, and no other is
 abbrev pub jsn_ok : Kind → ℕ → Bool
@@ -51,10 +69,10 @@ abbrev pub clue_prev_ok : ℕ → ℕ → ℕ → Bool
 clue_prev_ok jsn clue_ord clue_prev =
     if nat_le clue_ord 1 then clue_prev == 0 else nat_lt 0 clue_prev && nat_lt clue_prev jsn
 
--- a new member's number, a notary's index, an earlier journal, or a point behind journal 0 and in front of the purge
+-- a record's number, or 0 where it has none; a new member's number, a notary's index, an earlier journal, or a point behind journal 0 and in front of the purge
 abbrev pub a_ok : Kind → ℕ → ℕ → Bool
 a_ok Genesis jsn a = a == 0
-a_ok Content jsn a = a == 0
+a_ok Content jsn a = true
 a_ok Member jsn a = nat_le 2 a && nat_lt a MEMBER_LIMIT
 a_ok Time jsn a = nat_lt a NOTARY_LIMIT
 a_ok Occult jsn a = nat_lt a jsn
@@ -73,7 +91,7 @@ content_len_ok kind content_len = content_len == 0
 
 -- every field of a header keeps its rule; links and digests have none
 pub record IsHeader (h : Header) : Type 0 where
-  pub version : IsTrue (version_ok h.version)
+  pub version : IsTrue (version_ok h.version h.kind h.a h.content_len)
   pub jsn : IsTrue (jsn_ok h.kind h.jsn)
   pub member : IsTrue (member_ok h.kind h.member)
   pub clue : IsTrue (clue_ok h.kind h.clue)

@@ -25,6 +25,6 @@ pub use request::{
     clue_digest, member_request_digest, name_digest, occult_request_digest, purge_request_digest,
     request_digest,
 };
-pub use rules::NOTARY_LIMIT;
+pub use rules::{NOTARY_LIMIT, version_of};
 pub use stamp::Stamp;
 pub use tags::{tag_key, tag_of};

@@ -7,7 +7,8 @@ ghost use Rattle.journal_record.specs.Rules.{IsHeader};
 ghost use Rattle.journal_record.specs.Reading as reading;
 
 use crate::rules::{
-    a_ok, b_ok, clue_ok, clue_ord_ok, clue_prev_ok, content_len_ok, jsn_ok, member_ok, version_ok,
+    a_ok, b_ok, carries_a, carries_len, clue_ok, clue_ord_ok, clue_prev_ok, content_len_ok,
+    is_version, jsn_ok, member_ok, version_of,
 };
 use crate::whole::{kind_of, read_whole};
 use crate::{Header, Kind};
@@ -74,10 +75,48 @@ fn read_by_fields(bytes: &[u8]) -> Result<Header, Bad>
 pub fn take_header(reader: &mut FieldReader) -> Result<Header, Bad>
     ensures { ReadsFields result reader.new (reading.header_at reader.old) }
 {
+    let mut ahead = reader.again();
+    look_at_layout(&mut ahead)?;
+    take_fields(reader)
+}
+
+/// Version and kind, and whether this is the header's own version.
+#[tactic(auto, unfolding(crate::specs::Reading::layout_at))]
+fn look_at_layout(reader: &mut FieldReader) -> Result<(), Bad>
+    ensures { ReadsFields result reader.new (reading.layout_at reader.old) }
+{
+    let version = reader.take_u8()?;
+    known_version(version)?;
+    let code = reader.take_u8()?;
+    let kind = known_kind(code)?;
+    look_behind(reader, version, kind)
+}
+
+/// Whether the second version is the header's own, by fields that stand further behind.
+#[tactic(auto, unfolding(crate::specs::Reading::carried_at))]
+fn look_behind(reader: &mut FieldReader, version: u8, kind: Kind) -> Result<(), Bad>
+    ensures { ReadsFields result reader.new (reading.carried_at version kind reader.old) }
+{
+    if version == 1 {
+        return Ok(());
+    }
+    let _front = reader.take_slice(56)?;
+    let a = reader.take_u64()?;
+    let _between = reader.take_slice(40)?;
+    let content_len = reader.take_u32()?;
+    check_field(version_of(kind, a, content_len) == 2, 0)?;
+    Ok(())
+}
+
+/// The fields of a header, each judged as it is met.
+#[tactic(auto, unfolding(crate::specs::Reading::fields_at))]
+fn take_fields(reader: &mut FieldReader) -> Result<Header, Bad>
+    ensures { ReadsFields result reader.new (reading.fields_at reader.old) }
+{
     let front = take_front(reader)?;
     let clue = take_clue(reader, front.kind, front.jsn)?;
-    let own = take_own(reader, front.kind, front.jsn)?;
-    let parts = take_parts(reader, front.kind)?;
+    let own = take_own(reader, front.version, front.kind, front.jsn)?;
+    let parts = take_parts(reader, front.version, front.kind)?;
     Ok(Header {
         version: front.version,
         kind: front.kind,
@@ -136,11 +175,16 @@ fn take_clue(reader: &mut FieldReader, kind: Kind, jsn: u64) -> Result<ClueField
 
 /// What goes by the kind: two numbers and a link.
 #[tactic(auto, unfolding(crate::specs::Reading::own_at))]
-fn take_own(reader: &mut FieldReader, kind: Kind, jsn: u64) -> Result<OwnFields, Bad>
-    ensures { ReadsFields result reader.new (reading.own_at kind jsn reader.old) }
+fn take_own(
+    reader: &mut FieldReader,
+    version: u8,
+    kind: Kind,
+    jsn: u64,
+) -> Result<OwnFields, Bad>
+    ensures { ReadsFields result reader.new (reading.own_at version kind jsn reader.old) }
 {
     let a = reader.take_u64()?;
-    check_field(a_ok(kind, jsn, a), 58)?;
+    check_field(a_ok(kind, jsn, a) && carries_a(version, kind, a), 58)?;
     let b = reader.take_u64()?;
     check_field(b_ok(kind, b), 66)?;
     let link = reader.take_digest()?;
@@ -149,11 +193,14 @@ fn take_own(reader: &mut FieldReader, kind: Kind, jsn: u64) -> Result<OwnFields,
 
 /// The content's length, and the digests of content and who.
 #[tactic(auto, unfolding(crate::specs::Reading::parts_at))]
-fn take_parts(reader: &mut FieldReader, kind: Kind) -> Result<Parts, Bad>
-    ensures { ReadsFields result reader.new (reading.parts_at kind reader.old) }
+fn take_parts(reader: &mut FieldReader, version: u8, kind: Kind) -> Result<Parts, Bad>
+    ensures { ReadsFields result reader.new (reading.parts_at version kind reader.old) }
 {
     let content_len = reader.take_u32()?;
-    check_field(content_len_ok(kind, content_len), 106)?;
+    check_field(
+        content_len_ok(kind, content_len) && carries_len(version, kind, content_len),
+        106,
+    )?;
     let content_digest = reader.take_digest()?;
     let who_digest = reader.take_digest()?;
     Ok(Parts {
@@ -166,7 +213,7 @@ fn take_parts(reader: &mut FieldReader, kind: Kind) -> Result<Parts, Bad>
 fn known_version(version: u8) -> Result<(), Bad>
     ensures { result ≡ reading.known_version version }
 {
-    if version_ok(version) {
+    if is_version(version) {
         Ok(())
     } else {
         Err(Bad::NewerFormat { found: version })

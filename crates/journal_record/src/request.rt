@@ -12,16 +12,18 @@ use ledger_bytes::{Digest, Tag};
 
 /// The message that a member proves to append a journal: SHA-256 of the byte 03, the ledger's identity (32 bytes), the
 /// member's number (4 bytes, big-endian), the clue's digest (32 bytes, zeros where there is no clue), the content's
-/// length (4 bytes, big-endian) and the content's digest (32 bytes, see [`content_digest`](crate::content_digest)).
+/// length (4 bytes, big-endian), the content's digest (32 bytes, see [`content_digest`](crate::content_digest)), and the
+/// request's number (8 bytes, big-endian), which is left out where it is 0.
 pub fn request_digest(
     id: &Digest,
     member: u32,
     clue: &Digest,
     content_len: u32,
     content_digest: &Digest,
+    number: u64,
 ) -> Digest
     ensures { result.0 ≡ request_digest_of id.now.0 member clue.now.0 content_len
-        content_digest.now.0 }
+        content_digest.now.0 number }
 {
     let mut message = Filling::new();
     message.put(&[Tag::AppendRequest.byte()]);
@@ -30,6 +32,9 @@ pub fn request_digest(
     message.put(&clue.0);
     message.put(&content_len.to_be_bytes());
     message.put(&content_digest.0);
+    if number != 0 {
+        message.put(&number.to_be_bytes());
+    }
     message.digest()
 }
 

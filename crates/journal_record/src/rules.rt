@@ -6,7 +6,11 @@ ghost use Rattle.journal_record.specs.Rules as rule;
 use crate::{Header, Kind};
 use ledger_bytes::{CONTENT_LIMIT, Digest, MEMBER_LIMIT};
 
-const VERSION: u8 = 1;
+/// The version of the first layout, which carries no number of a record.
+const FIRST_VERSION: u8 = 1;
+
+/// The version that carries what the first doesn't.
+const SECOND_VERSION: u8 = 2;
 
 const OPERATOR: u32 = 0;
 
@@ -25,10 +29,44 @@ pub(crate) fn is_no_clue(clue: &Digest) -> bool
     *clue == Digest::ZERO
 }
 
-pub(crate) fn version_ok(version: u8) -> bool
-    ensures { result ≡ rule.version_ok version }
+/// The version of a header with these fields: 1 exactly where the first version can carry them.
+pub fn version_of(kind: Kind, a: u64, _content_len: u32) -> u8
+    ensures { result ≡ rule.version_of kind a _content_len }
 {
-    version == VERSION
+    match kind {
+        Kind::Content => {
+            if a == 0 {
+                FIRST_VERSION
+            } else {
+                SECOND_VERSION
+            }
+        }
+        _ => FIRST_VERSION,
+    }
+}
+
+pub(crate) fn is_version(version: u8) -> bool
+    ensures { result ≡ rule.is_version version }
+{
+    version == FIRST_VERSION || version == SECOND_VERSION
+}
+
+pub(crate) fn version_ok(version: u8, kind: Kind, a: u64, content_len: u32) -> bool
+    ensures { result ≡ rule.version_ok version kind a content_len }
+{
+    version == version_of(kind, a, content_len)
+}
+
+pub(crate) fn carries_a(version: u8, kind: Kind, a: u64) -> bool
+    ensures { result ≡ rule.carries_a version kind a }
+{
+    version_of(kind, a, 0) <= version
+}
+
+pub(crate) fn carries_len(version: u8, kind: Kind, content_len: u32) -> bool
+    ensures { result ≡ rule.carries_len version kind content_len }
+{
+    version_of(kind, 0, content_len) <= version
 }
 
 pub(crate) fn jsn_ok(kind: Kind, jsn: u64) -> bool
@@ -82,7 +120,8 @@ pub(crate) fn a_ok(kind: Kind, jsn: u64, a: u64) -> bool
     ensures { result ≡ rule.a_ok kind jsn a }
 {
     match kind {
-        Kind::Genesis | Kind::Content => a == 0,
+        Kind::Genesis => a == 0,
+        Kind::Content => true,
         Kind::Member => FIRST_MEMBER <= a && a < MEMBER_LIMIT as u64,
         Kind::Time => a < NOTARY_LIMIT,
         Kind::Occult => a < jsn,
@@ -126,7 +165,7 @@ pub(crate) fn keeps_rules(header: &Header) -> bool
         content_len,
         ..
     } = *header;
-    version_ok(version)
+    version_ok(version, kind, a, content_len)
         && jsn_ok(kind, jsn)
         && member_ok(kind, member)
         && clue_ok(kind, &clue)

@@ -116,6 +116,7 @@ refusal_are refusals.NotaryFull = number 28
 refusal_are (refusals.Full kept size) = (decimal_word 29, (decimal_word kept, (decimal_word size, tt)))
 refusal_are (refusals.BadSize size) = coded 33 size
 refusal_are refusals.CluesFull = number 42
+refusal_are (refusals.NumberTaken jsn) = coded 48 jsn
 
 stamp_are : (s : Option (ℕ × ℕ)) → AreWords (stamp_words s)
 stamp_are None = tt

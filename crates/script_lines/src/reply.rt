@@ -395,7 +395,8 @@ pub fn put_refusal(out: &mut Vec<u8>, refusal: &Refusal) -> Result<(), NoMemory>
         Refusal::NoJournal { size: number }
         | Refusal::Purged { point: number }
         | Refusal::AlreadyOcculted { by: number }
-        | Refusal::BadSize { size: number } => put_no(out, code, &[Word::Number(*number)]),
+        | Refusal::BadSize { size: number }
+        | Refusal::NumberTaken { jsn: number } => put_no(out, code, &[Word::Number(*number)]),
         Refusal::LeafDiffers { kept } | Refusal::RootDiffers { kept } => {
             put_no(out, code, &[Word::Hash(*kept)])
         }

@@ -1,7 +1,8 @@
 -- One file is taken of two.
 use Rattle.std.specs.Prelude.{Bool, true, false, Option, Some, None, IsSomeAnd, option_map}
-use Rattle.std.proofs.Common.{◌≡◌, ◌⊎◌, inl, inr, ℕ, ◌<◌, ◌≤◌, List, refl, ◌∙◌, ap, subst, arith}
-use Rattle.block_file.specs.Head.{IsShut, IsOpen, HasHead, IsHeadErr, IsResumeErr, generation_of, number_at}
+use Rattle.std.proofs.Common.{◌≡◌, ◌⊎◌, inl, inr, ℕ, ◌<◌, ◌≤◌, List, refl, sym, ◌∙◌, ap, subst, arith}
+use Rattle.std.proofs.lemmas.Bool.{true≢false}
+use Rattle.block_file.specs.Head.{IsShut, IsOpen, HasHead, IsHeadErr, IsResumeErr, is_format, generation_of, number_at}
 use Rattle.block_file.specs.declared.failure.Damage.TheVariants.{Magic, BaseForm, Base, Length, Entry, Root, Content}
 use Rattle.block_file.specs.declared.failure.FileErr.{FileErr}
 use Rattle.block_file.specs.declared.failure.FileErr.TheVariants.{DiskFault, Damaged, NewerFormat, NoMemory}
@@ -45,7 +46,7 @@ pub head_err : (file : List ℕ) (e : FileErr) → (IsShut file ⊎ HasHead file
 head_err file DiskFault side err = refl
 head_err file NoMemory side err = absurd err
 head_err file (NewerFormat found) (inl shut) err = shut_open file shut err.0
-head_err file (NewerFormat found) (inr has) err = absurd (err.3 (err.2 ∙ has.version))
+head_err file (NewerFormat found) (inr has) err = absurd (true≢false (sym has.version ∙ ap is_format (sym err.2) ∙ err.3))
 head_err file (Damaged Magic) (inl shut) err = shut_open file shut err.0
 head_err file (Damaged Magic) (inr has) err = absurd (err.1 has.magic_is)
 head_err file (Damaged (BaseForm at)) side err = absurd err

@@ -9,7 +9,7 @@ use Rattle.ledger_disk.specs.Disk.{DiskState, State, KeepsLength, settled_state}
 use Rattle.twin_file.specs.Images.{AllOpenTo, AllOpenToEither, AllShut, IsCopied, IsCopying, IsQuiet, KeepsPassed, StaysOpen}
 use Rattle.twin_file.specs.Places.{HasCopy, HasTail, IsBuiltCopy, IsLonger}
 use Rattle.twin_file.specs.Twin.{open_of, other_of, next_generation}
-use Rattle.twin_file.specs.Which.{in_a_of, generation_in, file_of, copy_of}
+use Rattle.twin_file.specs.Which.{in_a_of, generation_in, format_in, file_of, copy_of}
 use Rattle.twin_file.specs.declared.twin.Twin.{Twin}
 
 -- both disks were read alone, and a fault was counted by one of them
@@ -63,6 +63,7 @@ pub record StaysCopying (in_a : Bool) (a b a_new b_new : State) : Type 0 where
 pub record TakesOver (old new : Twin) : Type 0 where
   pub in_a : in_a_of new ≡ not (in_a_of old)
   pub generation : generation_in new ≡ next_generation (generation_in old)
+  pub version : format_in new ≡ 2
   pub copy : copy_of new ≡ None
   pub file : copy_of old ≡ Some (file_of new)
 

@@ -1,5 +1,5 @@
 -- What a crash may leave of two files, of which one is open.
-use Rattle.std.specs.Prelude.{◌≡◌, ◌⊎◌, ℕ, ◌^◌, ◌<◌, Bool, not, List, [], ◌∷◌, drop}
+use Rattle.std.specs.Prelude.{◌≡◌, ◌⊎◌, ℕ, ◌^◌, ◌<◌, Bool, not, List, [], ◌∷◌, length, take, drop}
 use Rattle.ledger_disk.specs.Disk.{State, MayLeave}
 use Rattle.block_file.specs.File.{IsSettled, IsVeiled, whole_file}
 use Rattle.block_file.specs.Head.{IsShut, HasHead, generation_of, front_of}
@@ -62,6 +62,10 @@ pub record IsCopied (in_a : Bool) (generation : ℕ) (base : List ℕ) (blocks :
 -- where nothing was pending before, whatever a crash leaves afterwards opens to the open file
 abbrev pub StaysOpen : Bool → State → State → State → State → Type 0
 StaysOpen in_a a b a_new b_new = IsQuiet in_a a b → AllOpenTo in_a (open_of in_a a b).seen a_new b_new
+
+-- where nothing was pending before, whatever a crash leaves afterwards is a front of what was there
+abbrev pub LeavesFront : State → State → Type 0
+LeavesFront old new = IsSettled old → (image : List ℕ) → MayLeave new image → image ≡ take (length image) old.seen
 
 -- a file that would be passed over beside the open one is so whatever a crash leaves of it
 abbrev pub KeepsPassed : State → State → Type 0

@@ -6,7 +6,7 @@ ghost use Rattle.block_file.specs.Head.{CountsAlone, IsShut, front_of};
 ghost use Rattle.block_file.specs.FileView.{gate_of};
 ghost use Rattle.ledger_disk.specs.Disk.{MayLeave, settled_state};
 ghost use Rattle.twin_file.specs.Calls.{IsBegun};
-ghost use Rattle.twin_file.specs.Images.{KeepsPassed};
+ghost use Rattle.twin_file.specs.Images.{KeepsPassed, LeavesFront};
 ghost use Rattle.twin_file.specs.Places.{HasTail};
 
 use block_file::{BlockFile, FileErr};
@@ -27,6 +27,7 @@ pub fn begin<D: Disk>(disk: &mut D, generation: u64, base: &[u8]) -> Result<Bloc
 /// Cuts a file to nothing, for good.
 pub fn wipe_file<D: Disk>(disk: &mut D) -> Result<(), FileErr>
     ensures ok { OnOk result (IsTrue D.tells → (D.state disk.new).bytes ≡ settled_state []) }
+    ensures front { IsTrue D.tells → LeavesFront (D.state disk.old).bytes (D.state disk.new).bytes }
     ensures images { IsTrue D.tells → KeepsPassed (D.state disk.old).bytes (D.state disk.new).bytes }
     ensures told { OnOk result ((D.state disk.new).told ≡ Some 0) }
     ensures faults { CountsAlone result (D.state disk.old).faults (D.state disk.new).faults }

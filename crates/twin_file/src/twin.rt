@@ -6,11 +6,11 @@ ghost use Rattle.block_file.specs.Head.{Counts, CountsTwoAlone, IsResumeErr, fro
 ghost use Rattle.block_file.specs.FileView.{gate_of, base_len_of};
 ghost use Rattle.ledger_disk.specs.Disk.{MayLeave, settled_state, KeepsLength};
 ghost use Rattle.twin_file.specs.Calls.{AreRead, IsAtFirst, IsBegun, AddsPiece, IsHalfSwitched, IsSwitched, KeepsOpen, SparesOpen, StaysCopying, TakesOver};
-ghost use Rattle.twin_file.specs.Images.{AreShut, IsCopying, IsMadeOrShut, IsQuiet};
+ghost use Rattle.twin_file.specs.Images.{AreShut, IsCopying, IsMadeOrShut, IsQuiet, LeavesFront};
 ghost use Rattle.twin_file.specs.Picking.{IsReopened, view};
 ghost use Rattle.twin_file.specs.Places.{HasCopy, HasTail, IsBuilt, IsBuiltCopy};
 ghost use Rattle.twin_file.specs.Twin.{open_of, other_of, OpensTo, IsReopenErr, next_generation};
-ghost use Rattle.twin_file.specs.Which.{in_a_of, generation_in, file_of, copy_of, view_of, SameOpen};
+ghost use Rattle.twin_file.specs.Which.{in_a_of, generation_in, format_in, file_of, copy_of, view_of, SameOpen};
 
 use crate::copy::{extend, unveil_other};
 use crate::parts::{begin, clear, make_first, wipe_file};
@@ -25,6 +25,7 @@ use ledger_disk::Disk;
 pub struct Twin {
     in_a: bool,
     generation: u64,
+    version: u8,
     file: BlockFile,
     copy: Option<BlockFile>,
 }
@@ -77,7 +78,7 @@ impl Twin {
         ensures quiet { OnOk result (IsTrue D.tells → AreShut (D.state a.old).bytes (D.state b.old).bytes
             → IsQuiet true (D.state a.new).bytes (D.state b.new).bytes) }
 
-        ensures twin { IfOk result (λ twin. (in_a_of twin ≡ true) × (generation_in twin ≡ 1)
+        ensures twin { IfOk result (λ twin. (in_a_of twin ≡ true) × (generation_in twin ≡ 1) × (format_in twin ≡ 2)
             × (gate_of (file_of twin) ≡ 65 + length block.now) × (copy_of twin ≡ None)) }
         ensures built { IfOk result (λ twin. IsTrue D.tells
             → IsBuilt (front_of 1 1 []) (block.now ∷ []) (D.state a.new).bytes.seen (file_of twin)) }
@@ -90,6 +91,7 @@ impl Twin {
         Ok(Twin {
             in_a: true,
             generation: 1,
+            version: 2,
             file,
             copy: None,
         })
@@ -116,6 +118,13 @@ impl Twin {
         ensures { result ≡ generation_in self.now }
     {
         self.generation
+    }
+
+    /// The version of the open file: 1 or 2.
+    pub fn version(&self) -> u8
+        ensures { result ≡ format_in self.now }
+    {
+        self.version
     }
 
     /// Begins a copy in the other file, whose generation is one greater, or 2^64 - 1 where that is reached. A copy that
@@ -228,6 +237,7 @@ impl Twin {
             self.file = file;
             self.in_a = !self.in_a;
             self.generation = self.generation.saturating_add(1);
+            self.version = 2;
         }
     }
 
@@ -239,6 +249,11 @@ impl Twin {
         // A crash at any time leaves the open file as it was, and a file that is passed over.
         ensures images { IsTrue D.tells → SparesOpen (in_a_of self.old)
             (D.state a.old).bytes (D.state b.old).bytes (D.state a.new).bytes (D.state b.new).bytes }
+
+        // .. and a front of the other one.
+        ensures front { IsTrue D.tells → LeavesFront
+            (other_of (in_a_of self.old) (D.state a.old).bytes (D.state b.old).bytes)
+            (other_of (in_a_of self.old) (D.state a.new).bytes (D.state b.new).bytes) }
 
         // After it nothing is pending.
         ensures quiet { OnOk result (IsTrue D.tells
@@ -290,7 +305,7 @@ fn look<D: Disk>(a: &mut D, b: &mut D) -> Result<Option<Twin>, FileErr>
 fn resume<D: Disk>(disk: &mut D, head: &FileHead, in_a: bool) -> Result<Option<Twin>, FileErr>
     requires { IsSomeAnd (D.state disk.old).told (λ n. 65 ≤ n) }
     ensures twin { IfOk result (λ found. IsSomeAnd found
-        (λ twin. view_of twin ≡ view in_a head.now.generation (64 + head.now.base_len)
+        (λ twin. view_of twin ≡ view in_a head.now.generation head.now.version (64 + head.now.base_len)
         head.now.base_len head.now.base_digest.0)) }
     ensures begins { IfOk result (λ found. IfSome found (λ twin.
         gate_of (file_of twin) ≡ 64 + base_len_of (file_of twin))) }
@@ -308,6 +323,7 @@ fn resume<D: Disk>(disk: &mut D, head: &FileHead, in_a: bool) -> Result<Option<T
     Ok(Some(Twin {
         in_a,
         generation: head.generation,
+        version: head.version,
         file,
         copy: None,
     }))

@@ -1,5 +1,5 @@
 use Rattle.std.proofs.Common.{rules, true, false, refl}
-use Rattle.twin_file.proofs.OpenLaws.{spares}
+use Rattle.twin_file.proofs.OpenLaws.{spares, front_at}
 use Rattle.twin_file.proofs.twin.Twin.wipe.Goals as goal
 
 pub returns-in_err-wipe_file-clause-images : goal.returns-in_err-wipe_file-clause-images
@@ -19,3 +19,15 @@ returns-in_ok-wipe_file-clause-kept g c = record { same = search rules; from = s
 
 pub returns-in_ok-wipe_file-2-clause-kept : goal.returns-in_ok-wipe_file-2-clause-kept
 returns-in_ok-wipe_file-2-clause-kept g c = record { same = search rules; from = search rules; faults = search rules }
+
+pub returns-in_err-wipe_file-clause-front : goal.returns-in_err-wipe_file-clause-front
+returns-in_err-wipe_file-clause-front g c told = front_at true _ _ _ _ c.if-self.true (c.wipe_file.ensures.front told)
+
+pub returns-in_err-wipe_file-2-clause-front : goal.returns-in_err-wipe_file-2-clause-front
+returns-in_err-wipe_file-2-clause-front g c told = front_at false _ _ _ _ c.if-self.false (c.wipe_file-else-self.ensures.front told)
+
+pub returns-in_ok-wipe_file-clause-front : goal.returns-in_ok-wipe_file-clause-front
+returns-in_ok-wipe_file-clause-front g c told = front_at true _ _ _ _ c.if-self.true (c.wipe_file.ensures.front told)
+
+pub returns-in_ok-wipe_file-2-clause-front : goal.returns-in_ok-wipe_file-2-clause-front
+returns-in_ok-wipe_file-2-clause-front g c told = front_at false _ _ _ _ c.if-self.false (c.wipe_file-else-self.ensures.front told)
