@@ -159,6 +159,7 @@ local_guard {A} guard read m n le first second = record {
     few : (l : Unread) (r : Result (A × Unread) Bad) → TookFew n l (r >>= λ _. read l)
     few l (Ok x) = second.few l
     few l (Err bad) = tt
+
     same : (whole longer : ℕ) (rest more : List ℕ) → n ≤ length rest → (r : Result (A × Unread) Bad)
         → (with_more longer more r >>= λ _. read (left_from longer (rest ++ more))) ≡ with_more longer more (r >>= λ _. read (left_from whole rest))
     same whole longer rest more long (Ok x) = second.same whole longer rest more long

@@ -1,12 +1,12 @@
 -- What is read as a header is spelled so and keeps the rules, and what does is read.
-use Rattle.std.proofs.Common.{◌≡◌, ◌≢◌, ℕ, ◌^◌, ◌<◌, true, List, [], ◌∷◌, ◌++◌, length, length-append, take, arith, Result, Ok, Err, sym, ap, subst, ◌∙◌, append_assoc, ◌-◌, ◌&&◌, Bool, false, cond, eqb, inl, inr, refl}
+use Rattle.std.proofs.Common.{◌≡◌, ◌≢◌, ℕ, ◌^◌, ◌<◌, true, List, [], ◌∷◌, ◌++◌, length, length-append, take, arith, Result, Ok, Err, sym, ap, subst, ◌∙◌, append_assoc, ◌&&◌, Bool, false, cond, eqb, inl, inr}
 use Rattle.std.specs.Int.{w8, w32, w64, to_be_bytes}
 use Rattle.std.specs.Prelude.{IfOk}
 use Rattle.std.proofs.lemmas.List.{append-nil}
 use Rattle.ledger_bytes.specs.declared.digest.Digest.{Digest}
 use Rattle.ledger_bytes.specs.declared.failure.Bad.{Bad}
 use Rattle.ledger_bytes.specs.declared.failure.Bad.TheVariants.{BadFixedField, NewerFormat, Short, Trailing}
-use Rattle.ledger_bytes.specs.Fields.{Unread, ◌>>=◌, number_at, digest_at, IsBytes, Took, ReadsBack, left_from, bytes_at, end_at}
+use Rattle.ledger_bytes.specs.Fields.{Unread, ◌>>=◌, number_at, digest_at, IsBytes, Took, ReadsBack, left_from, bytes_at}
 use Rattle.ledger_bytes.proofs.Fields.{bind_ok, Took-then, wide32, wide64, number_back, byte_back, digest_back, IsTextOf, text_none, text_then, digest_text, number_text, byte_text, cut_told, trailing_told, check_ok, bytes_again, number_again, byte_again, bytes_text}
 use Rattle.journal_record.specs.declared.header.Header.{Header}
 use Rattle.journal_record.specs.declared.header.Kind.{Kind}
@@ -516,18 +516,18 @@ unfolding carried_at
 carried_text h whole x =
     elim (bool_cases (eqb h.version 1)) [
       | inl first ↦ (
-          [],
-          behind_kind h,
-          spelling_ahead h,
-          subst (λ b. IsTextOf (λ l. cond b (Ok (tt, l)) (look_ahead h.kind l)) whole [] tt) (sym first) (text_none whole tt),
-        )
+        [],
+        behind_kind h,
+        spelling_ahead h,
+        subst (λ b. IsTextOf (λ l. cond b (Ok (tt, l)) (look_ahead h.kind l)) whole [] tt) (sym first) (text_none whole tt),
+      )
       | inr other ↦ (
-          ahead h,
-          digests h,
-          spelling_ahead h,
-          subst (λ b. IsTextOf (λ l. cond b (Ok (tt, l)) (look_ahead h.kind l)) whole (ahead h) tt) (sym other)
-          (looked_text h whole x.widths (own_second h.version h.kind h.a h.content_len x.rules.version other)),
-        )
+        ahead h,
+        digests h,
+        spelling_ahead h,
+        subst (λ b. IsTextOf (λ l. cond b (Ok (tt, l)) (look_ahead h.kind l)) whole (ahead h) tt) (sym other)
+            (looked_text h whole x.widths (own_second h.version h.kind h.a h.content_len x.rules.version other)),
+      )
     ]
 
 layout_text : (h : Header) (whole : ℕ) → IsWhole h → (p q : List ℕ) × (spelling h ≡ p ++ q) × IsTextOf layout_at whole p tt

@@ -175,12 +175,7 @@ fn take_clue(reader: &mut FieldReader, kind: Kind, jsn: u64) -> Result<ClueField
 
 /// What goes by the kind: two numbers and a link.
 #[tactic(auto, unfolding(crate::specs::Reading::own_at))]
-fn take_own(
-    reader: &mut FieldReader,
-    version: u8,
-    kind: Kind,
-    jsn: u64,
-) -> Result<OwnFields, Bad>
+fn take_own(reader: &mut FieldReader, version: u8, kind: Kind, jsn: u64) -> Result<OwnFields, Bad>
     ensures { ReadsFields result reader.new (reading.own_at version kind jsn reader.old) }
 {
     let a = reader.take_u64()?;
