@@ -1,5 +1,5 @@
 -- A block that isn't read has one damage.
-use Rattle.std.proofs.Common.{◌≡◌, ◌⊎◌, inl, inr, ℕ, ◌<◌, ◌+◌, ◌≤◌, List, [], ◌++◌, sym, ◌∙◌, ap, arith, append-nil}
+use Rattle.std.proofs.Common.{◌≡◌, ◌⊎◌, inl, inr, ℕ, ◌<◌, ◌+◌, List, [], sym, ◌∙◌, ap, arith, append-nil}
 use Rattle.std.proofs.lemmas.Bool.{true≢false, cases_lt}
 use Rattle.journal_record.specs.Blocks.{body_of}
 use Rattle.journal_record.specs.Records.{BreaksAt}

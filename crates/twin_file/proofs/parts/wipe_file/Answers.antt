@@ -1,6 +1,6 @@
 use Rattle.std.proofs.Common.{arith, inr, subst}
 use Rattle.ledger_disk.specs.Disk.{State, MayLeave}
-use Rattle.twin_file.proofs.OpenLaws.{scrap_passed, cut_scrap, cut_front, emptied_front}
+use Rattle.twin_file.proofs.OpenLaws.{scrap_passed, cut_scrap, cut_front}
 use Rattle.twin_file.proofs.parts.wipe_file.Goals as goal
 
 pub returns-in_err-cut-clause-images : goal.returns-in_err-cut-clause-images
