@@ -70,12 +70,12 @@ module _ (scheme : Scheme) (limits : Limits) (h : History) where
   unfolding members
   same_keys = refl
 
-  pub record_is : (member : ℕ) (clue : Digest) (content proof : List ℕ) → length proof ≤ PROOF_LIMIT → own_refusal limits h (append_with scheme (id h) member clue content proof) ≡ None
-      → IsPlacedBy scheme (id h) None (journals h) (shown_whole (record_placed scheme h member clue content proof)) kind.Content
+  pub record_is : (member : ℕ) (clue : Digest) (content proof : List ℕ) (number : ℕ) → length proof ≤ PROOF_LIMIT → own_refusal limits h (append_with scheme (id h) member clue content proof number) ≡ None
+      → IsPlacedBy scheme (id h) None (journals h) (shown_whole (record_placed scheme h member clue content proof number)) kind.Content
   unfolding append_with append_header
-  record_is member clue content proof fits e =
-      let by = approval_of scheme member (request_with (id h) member clue content) proof in
-      let key = (none_first (wrong_key_in (keys h) member by.key) _ (none_first (unknown_in (keys h) member) _ (none_first (fullness limits h) _ e).1).1).0 in (
+  record_is member clue content proof number fits e =
+      let by = approval_of scheme member (request_with (id h) member clue content number) proof in
+      let key = (none_first (wrong_key_in (keys h) member by.key) _ (none_first (unknown_in (keys h) member) _ e).1).0 in (
         record { by = by; who_is = refl; member_is = refl; shown = record { short = is_short proof fits; key_is = refl }; key_is = ap (λ known. is_key_of by.key (slice_get known member)) same_keys ∙ key_shown (keys h) member by.key key },
         refl,
       )

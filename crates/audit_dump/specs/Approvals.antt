@@ -60,7 +60,7 @@ pub record AreInForm (known : List (List ℕ)) (needed : List ℕ) (who : List �
 
 -- the digest that a member approves for a record with this header
 abbrev pub record_request : List ℕ → Header → List ℕ
-record_request id x = request_digest_of id x.member x.clue.0 x.content_len x.content_digest.0
+record_request id x = request_digest_of id x.member x.clue.0 x.content_len x.content_digest.0 x.a
 
 -- a record is placed by the member that its header names, and the header links what the member approved
 abbrev pub IsPlacedRecord : Scheme → List ℕ → List (List ℕ) → Item → Type 0

@@ -15,10 +15,10 @@ abbrev pub shown_whole : Entry → Item
 shown_whole journal = record { header = journal.header; body = Some journal.content; who = journal.who }
 
 -- the record that a member's job places
-abbrev pub record_placed : Scheme → History → ℕ → Digest → List ℕ → List ℕ → Entry
-record_placed scheme h member clue content proof =
-    let request = request_with (id h) member clue content in
-    append_journal h member clue content (digest (content_digest_of content)) (digest request) (approval_of scheme member request proof)
+abbrev pub record_placed : Scheme → History → ℕ → Digest → List ℕ → List ℕ → ℕ → Entry
+record_placed scheme h member clue content proof number =
+    let request = request_with (id h) member clue content number in
+    append_journal h member clue content (digest (content_digest_of content)) (digest request) (approval_of scheme member request proof) number
 
 -- the journal of a new member that the operator's job places
 abbrev pub member_placed : Scheme → History → ℕ → Digest → List ℕ → Entry

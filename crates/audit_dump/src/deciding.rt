@@ -86,6 +86,7 @@ pub(crate) fn record_key<V: Verifier>(verifier: &V, id: &Digest, journal: &Recor
         &header.clue,
         header.content_len,
         &header.content_digest,
+        header.a,
     );
     if header.link == request {
         key_in(verifier, &request, header.member, journal.who)

@@ -9,14 +9,14 @@ use Rattle.journal_record.specs.Request.{clue_digest_of, member_request_digest_o
 use Rattle.journal_record.specs.Tags.{tag_proof_of}
 use Rattle.ledger_bytes.specs.Digests.{digest}
 use Rattle.ledger_bytes.specs.declared.limits.TheConstants.{CONTENT_LIMIT}
-use Rattle.script_lines.specs.Spellings.{◌>>=◌, bytes_of, clue_of, digest_of, number_of}
+use Rattle.script_lines.specs.Spellings.{◌>>=◌, bytes_of, clue_of, digest_of, number_of, request_number_of}
 use Rattle.ledger_cli.specs.declared.signing.Request.{Request}
 use Rattle.ledger_cli.specs.declared.signing.Request.TheVariants.{Append, NewMember, Occult, Purge}
 use Rattle.ledger_cli.specs.declared.signing.Signing.{Signing}
 
 -- the message that approves a request on the ledger with this id
 abbrev pub message_for : List ℕ → Request → List ℕ
-message_for id (Append member clue content_len content_digest) = request_digest_of id member clue.0 content_len content_digest.0
+message_for id (Append member clue content_len content_digest number) = request_digest_of id member clue.0 content_len content_digest.0 number
 message_for id (NewMember number key) = member_request_digest_of id number key.0
 message_for id (Occult target leaf) = occult_request_digest_of id target leaf.0
 message_for id (Purge point root) = purge_request_digest_of id point root.0
@@ -38,18 +38,25 @@ signed_text signing =
 abbrev pub clue_of_word : List ℕ → Option (List ℕ)
 clue_of_word word = if list_any (λ b. b == 32) word then None else clue_of word
 
--- a request to append a content under a clue's name, as a member
-abbrev pub append_of : ℕ → List ℕ → List ℕ → Request
-append_of member clue content =
-    Append member (digest (clue_digest_of clue)) (length content) (digest (content_digest_of content))
+-- a request to append a content under a clue's name, as a member, with a number, or 0 where it has none
+abbrev pub append_of : ℕ → List ℕ → List ℕ → ℕ → Request
+append_of member clue content number =
+    Append member (digest (clue_digest_of clue)) (length content) (digest (content_digest_of content)) number
 
--- the request of the words behind `append`: `MEMBER CLUE CONTENT`
+-- the number that the words behind a content give a request: one word, or none, which 0 stands for
+abbrev pub number_behind : List (List ℕ) → Option ℕ
+number_behind [] = Some 0
+number_behind (word ∷ []) = request_number_of word
+number_behind words = None
+
+-- the request of the words behind `append`: `MEMBER CLUE CONTENT`, or the same with a number as its last word
 unfoldable pub append_from : List (List ℕ) → Option Request
-append_from (member_word ∷ clue_word ∷ content_word ∷ []) = do
+append_from (member_word ∷ clue_word ∷ content_word ∷ words) = do
+  number ← number_behind words
   member ← number_of (2 ^ 32 - 1) member_word
   clue ← clue_of_word clue_word
   content ← bytes_of CONTENT_LIMIT content_word
-  Some (append_of member clue content)
+  Some (append_of member clue content number)
 append_from words = None
 
 -- a number that is at most `most` and a digest, as two words

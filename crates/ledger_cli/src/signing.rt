@@ -1,7 +1,7 @@
 //! The command `sign`: a member's request, and the message and the proof that are written for it.
 
 ghost use Rattle.std.specs.Prelude.{◌≡◌, ◌≤◌, ◌+◌, ◌*◌, length, map, string_bytes, option_map, IfOk, IfSome, OnErr, IsSome};
-ghost use Rattle.ledger_cli.specs.Signing.{append_from, member_from, occult_from, purge_from, clue_of_word, hex_line, numbered_digest, request_of};
+ghost use Rattle.ledger_cli.specs.Signing.{append_from, member_from, occult_from, purge_from, clue_of_word, hex_line, number_behind, numbered_digest, request_of};
 
 use journal_record::{
     clue_digest, content_digest, member_request_digest, occult_request_digest,
@@ -9,7 +9,9 @@ use journal_record::{
 };
 use ledger_bytes::{CONTENT_LIMIT, Digest, NoMemory};
 use member_book::tag_proof;
-use script_lines::{is_bytes, read_bytes, read_clue, read_digest, read_number};
+use script_lines::{
+    is_bytes, read_bytes, read_clue, read_digest, read_number, read_request_number,
+};
 use std::alloc::Global;
 
 /// A request that is to be proved: on which ledger, and by which key.
@@ -25,7 +27,7 @@ pub struct Signing {
 /// What a member asks for, as the member's message has it.
 #[derive(Clone, Copy, Debug, PartialEq, Eq)]
 pub enum Request {
-    /// A journal is to be added: `append MEMBER CLUE CONTENT`.
+    /// A journal is to be added: `append MEMBER CLUE CONTENT`, or the same with a number as its last word.
     Append {
         /// The member who asks.
         member: u32,
@@ -34,6 +36,8 @@ pub enum Request {
         /// The content's length in bytes, up to 65,536.
         content_len: u32,
         content_digest: Digest,
+        /// The number that the member gives the request, or 0 where it gives none.
+        number: u64,
     },
     /// A member is to be added: `member NUMBER NEWKEY`.
     NewMember {
@@ -72,7 +76,8 @@ impl Signing {
                 clue,
                 content_len,
                 content_digest,
-            } => request_digest(id, *member, clue, *content_len, content_digest),
+                number,
+            } => request_digest(id, *member, clue, *content_len, content_digest, *number),
             Request::NewMember { number, key } => member_request_digest(id, *number, key),
             Request::Occult { target, leaf } => occult_request_digest(id, *target, leaf),
             Request::Purge { point, root } => purge_request_digest(id, *point, root),
@@ -132,7 +137,10 @@ fn read_append(alloc: Global, fields: &[String]) -> Result<Option<Request>, NoMe
     ensures ok { IfOk result (λ request. request ≡ append_from (map string_bytes fields.now)) }
     ensures err { OnErr result (IsSome (append_from (map string_bytes fields.now))) }
 {
-    let [member, clue, content] = fields else {
+    let [member, clue, content, behind @ ..] = fields else {
+        return Ok(None);
+    };
+    let Some(number) = read_number_behind(behind) else {
         return Ok(None);
     };
     let Some(member) = read_number(member.as_bytes(), u64::from(u32::MAX)) else {
@@ -154,7 +162,19 @@ fn read_append(alloc: Global, fields: &[String]) -> Result<Option<Request>, NoMe
         clue: clue_digest(clue),
         content_len: content.as_slice().len() as u32,
         content_digest: content_digest(content.as_slice()),
+        number,
     }))
+}
+
+// The number of a request, as the last of its words, or 0 where that is missing.
+fn read_number_behind(words: &[String]) -> Option<u64>
+    ensures { result ≡ number_behind (map string_bytes words.now) }
+{
+    match words {
+        [] => Some(0),
+        [number] => read_request_number(number.as_bytes()),
+        _ => None,
+    }
 }
 
 // A field of a line holds no space, and a word may.

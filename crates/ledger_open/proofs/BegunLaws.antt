@@ -6,7 +6,7 @@ use Rattle.std.proofs.lemmas.List.Concat.{flat_map-append}
 use Rattle.block_file.specs.declared.block.TheConstants.{BLOCK_HEAD_LEN}
 use Rattle.block_file.specs.Blocks.{IsOpenBlock}
 use Rattle.block_file.specs.File.{IsFileOf, open_blocks}
-use Rattle.block_file.specs.Head.{HasHead, digest_of, number_at, generation_of}
+use Rattle.block_file.specs.Head.{HasHead, digest_of, number_at, generation_of, is_format}
 use Rattle.journal_record.specs.Blocks.{block_bytes, leaves_of, IsBlock, written_blocks}
 use Rattle.journal_record.specs.Entry.{Entry}
 use Rattle.ledger_model.specs.History.{journals_of}
@@ -53,7 +53,7 @@ module _ (file : List ℕ) (h : HasHead file) (base : List ℕ) (len : number_at
     size = size;
     gate = get_or-take (64 + length base) file 0 0 (omega arith) ∙ h.is_open.gate;
     magic_is = piece_same 1 8 (omega arith) ∙ h.magic_is;
-    version = get_or-take (64 + length base) file 9 0 (omega arith) ∙ h.version;
+    version = ap is_format (get_or-take (64 + length base) file 9 0 (omega arith)) ∙ h.version;
     generation_is = number_same 10 (omega arith);
     base_len = number_same 18 (omega arith) ∙ len;
     digest = λ some. piece_same 26 32 (omega arith) ∙ digest some;

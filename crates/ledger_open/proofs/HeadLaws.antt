@@ -4,7 +4,7 @@ use Rattle.std.proofs.Common.{◌≡◌, inl, inr, subst, ℕ, ◌+◌, ◌≤�
 use Rattle.std.specs.Int.{from_be_bytes, w64}
 use Rattle.std.proofs.lemmas.List.{take-append-le, drop-append-le, get_or_append_left}
 use Rattle.block_file.specs.File.{open_blocks}
-use Rattle.block_file.specs.Head.{HasHead, generation_of}
+use Rattle.block_file.specs.Head.{HasHead, generation_of, is_format}
 use Rattle.journal_record.specs.Blocks.{written_blocks}
 use Rattle.journal_record.specs.Entry.{Entry}
 use Rattle.ledger_model.specs.History.{History}
@@ -37,7 +37,7 @@ module _ (floor : Floor) (generation : ℕ) (bs : List (List Entry)) (file : Lis
   has_head = record {
     is_open = record { long = omega (arith, some, x.head.size, ap length file_is, length-append x.front tail); gate = byte 0 (omega arith) ∙ x.head.gate };
     magic_is = piece 1 8 (omega arith) ∙ x.head.magic_is;
-    version = byte 9 (omega arith) ∙ x.head.version;
+    version = ap is_format (byte 9 (omega arith)) ∙ x.head.version;
   }
 
   pub generation_is : generation_of file ≡ generation

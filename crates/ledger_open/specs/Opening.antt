@@ -171,7 +171,7 @@ CountsOpen result x1 x2 y1 y2 = MatchResult result (λ _. (x2 ≡ x1) × (y2 ≡
 -- the file that is taken. 5. All that stands behind its head (`IsDamage`). A fault of a disk and want of memory may come at
 -- any time. But for these a pair has one cause at most (`a_pair_has_one_cause_of_refusal`), and none where it stands for a
 -- history (`a_standing_pair_opens`).
--- Example: a has no bytes, and b is open with the magic and version 2: `NewerFormat 2`. Or both heads are known, of
+-- Example: a has no bytes, and b is open with the magic and version 3: `NewerFormat 3`. Or both heads are known, of
 -- generation 3 in a and 5 in b: b is taken, and a wrong root in its block 2 is told, while the blocks of a aren't looked at.
 abbrev pub IsOpenErr : List ℕ → List ℕ → OpenErr → Type 0
 IsOpenErr a b DiskFault = Unit {0}

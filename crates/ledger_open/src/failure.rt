@@ -20,7 +20,7 @@ pub enum OpenErr {
     /// There is a ledger already: one of the files is open.
     #[error("there is a ledger")]
     Exists,
-    /// The version of a file, at offset 9, isn't 1.
+    /// The version of a file, at offset 9, is neither 1 nor 2.
     #[error("version {found} is not known")]
     NewerFormat { found: u8 },
     #[error("out of memory")]

@@ -9,6 +9,7 @@ use Rattle.script_lines.specs.Replies.{reply_text}
 use Rattle.script_lines.specs.declared.reply.Reply.{Reply as AnyReply}
 use Rattle.script_lines.specs.declared.reply.Reply.TheVariants as reply
 use Rattle.ledger_model.specs.Anchors.{stamp_of}
+use Rattle.ledger_model.specs.Appends.{append_journal}
 use Rattle.ledger_bytes.specs.Digests.{digest}
 use Rattle.ledger_bytes.specs.declared.refusal.Refusal.TheVariants.{NotaryFault}
 use Rattle.sha2.specs.Sha256.{sha256}
@@ -19,7 +20,8 @@ use Rattle.std.proofs.lemmas.Fmt.{decimal_digit}
 use Rattle.ledger_model.specs.History.{History, id, size, root, blocks, point, close}
 use Rattle.ledger_model.specs.Judgements.{own_refusal}
 use Rattle.ledger_model.specs.Limits.{real_limits}
-use Rattle.ledger_model.specs.Outcomes.{judged_outcome, accepted_outcome, anchor_outcome, outcome}
+use Rattle.ledger_model.specs.Numbers.{repeated}
+use Rattle.ledger_model.specs.Outcomes.{judged_outcome, accepted_outcome, anchor_outcome, record_outcome, outcome}
 use Rattle.ledger_model.specs.Proofs.{shown_of, prove_refusal}
 use Rattle.ledger_model.specs.Rules.{judged_at}
 use Rattle.ledger_model.specs.Step.{Step}
@@ -59,7 +61,11 @@ head_unproved g step =
 
 accepted_unproved : (g : History) (step : Step) (job : Job) → ((n : ℕ) → job ≡ Prove n → ⊥) → Proves (answer_for g step (accepted_outcome g (stamp_of step) job))
 accepted_unproved g step (Refused why) other = refl
-accepted_unproved g step (Append member clue content content_digest request by) other = refl
+accepted_unproved g step (Append member clue content content_digest request by number) other = by_repeat (repeated g member number request)
+  where
+    by_repeat : (again : Option ℕ) → Proves (answer_for g step (record_outcome g again (append_journal g member clue content content_digest request by number)))
+    by_repeat None = refl
+    by_repeat (Some n) = refl
 accepted_unproved g step (NewMember number key by) other = refl
 accepted_unproved g step Anchor other = anchor_unproved g step (stamp_of step)
 accepted_unproved g step (Occult target leaf given) other = refl
@@ -80,7 +86,7 @@ proves_only h step job other =
 pub asks_for : (h : History) (step : Step) (job : Job) → is_reply is_proof_reply (answer_to h step job) ≡ true → (n : ℕ) × (job ≡ Prove n)
 asks_for h step (Prove n) is = (n, refl)
 asks_for h step (Refused why) is = absurd (true≢false (sym is ∙ proves_only h step (Refused why) (λ n e. let bad : ⊥ = cc in bad)))
-asks_for h step (Append member clue content content_digest request by) is = absurd (true≢false (sym is ∙ proves_only h step (Append member clue content content_digest request by) (λ n e. let bad : ⊥ = cc in bad)))
+asks_for h step (Append member clue content content_digest request by number) is = absurd (true≢false (sym is ∙ proves_only h step (Append member clue content content_digest request by number) (λ n e. let bad : ⊥ = cc in bad)))
 asks_for h step (NewMember number key by) is = absurd (true≢false (sym is ∙ proves_only h step (NewMember number key by) (λ n e. let bad : ⊥ = cc in bad)))
 asks_for h step Anchor is = absurd (true≢false (sym is ∙ proves_only h step Anchor (λ n e. let bad : ⊥ = cc in bad)))
 asks_for h step (Occult target leaf given) is = absurd (true≢false (sym is ∙ proves_only h step (Occult target leaf given) (λ n e. let bad : ⊥ = cc in bad)))

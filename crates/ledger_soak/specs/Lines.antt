@@ -48,7 +48,7 @@ clue_name clue = codes "c" ++ decimal clue
 -- the line of a record, approved by the member who places it, on the ledger with this id
 unfoldable pub record_line : List ℕ → ℕ → ℕ → List ℕ → List ℕ
 record_line id member clue content =
-    let message = request_digest_of id member (clue_digest_of (clue_name clue)) (length content) (content_digest_of content) in
+    let message = request_digest_of id member (clue_digest_of (clue_name clue)) (length content) (content_digest_of content) 0 in
     line_with (codes "append" ∷ decimal member ∷ clue_name clue ∷ hex_or_dash content ∷ hex_or_dash (proof_by member message) ∷ [])
 
 -- the line that asks for an anchor

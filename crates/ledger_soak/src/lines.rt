@@ -76,6 +76,7 @@ fn record_line(
         &clue_digest(name.as_slice()),
         content.len() as u32,
         &content_digest(content),
+        0,
     );
     line_with(
         alloc,
