@@ -58,10 +58,10 @@ pub fn kept_journals_are_next()
 /// pass one after the other.
 pub fn accepted_jobs_are_placed()
     ensures records { (scheme : Scheme) (limits : Limits) (h : History) (member : ℕ) (clue : Digest)
-        (content proof : List ℕ) → length proof ≤ PROOF_LIMIT
-        → own_refusal limits h (append_with scheme (id h) member clue content proof) ≡ None
+        (content proof : List ℕ) (number : ℕ) → length proof ≤ PROOF_LIMIT
+        → own_refusal limits h (append_with scheme (id h) member clue content proof number) ≡ None
         → IsPlacedBy scheme (id h) None (journals h)
-        (shown_whole (record_placed scheme h member clue content proof)) kind.Content }
+        (shown_whole (record_placed scheme h member clue content proof number)) kind.Content }
     ensures members { (scheme : Scheme) (limits : Limits) (h : History) (number : ℕ) (key : Digest)
         (proof : List ℕ) → length proof ≤ PROOF_LIMIT
         → own_refusal limits h (member_job scheme (id h) number key proof) ≡ None

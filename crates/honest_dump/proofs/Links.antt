@@ -49,7 +49,7 @@ use Rattle.audit_dump.specs.Ending.Late.{of_purge}
 use Rattle.honest_dump.specs.Runs.{IsOfRuns, PassesHonestly, first_blocks}
 use Rattle.honest_dump.proofs.Facts.{IsMade, all_at, all_places, next_at}
 use Rattle.honest_dump.proofs.Fewer.{first_grows, first_journals, first_lawful, first_some, rest, runs_keep}
-use Rattle.honest_dump.proofs.Running.{Places, wider, id_close, run_keeps}
+use Rattle.honest_dump.proofs.Running.{Places, wider, id_close, run_keeps, unrepeated}
 
 -- ---- the base at a journal stays
 
@@ -145,7 +145,7 @@ module _ (scheme : Scheme) where
   line_links : (h : History) (making : Option Making) (step : Step) (what : Result Line Refusal) (e : Entry) → Places scheme h making step what e → Links h e
   unfolding append_with append_header member_job member_header occult_job occult_header purge_job purge_header time_header
   line_links h making step (Err refusal) e p = let never = p.placed in absurd cc
-  line_links h making step (Ok (line.Append member clue content proof)) e p = subst (Links h) (same_Some _ e p.placed) (λ purge. absurd cc)
+  line_links h making step (Ok (line.Append member clue content proof number)) e p = subst (Links h) (unrepeated _ _ e p.placed).1 (λ purge. absurd cc)
   line_links h making step (Ok (line.NewMember number key proof)) e p = subst (Links h) (same_Some _ e p.placed) (λ purge. absurd cc)
   line_links h making step (Ok line.Anchor) e p = by_stamp (stamp_of step) p.placed where
     by_stamp : (o : Option Stamp) → option_map (time_journal (size h)) o ≡ Some e → Links h e

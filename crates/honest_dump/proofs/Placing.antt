@@ -32,7 +32,7 @@ use Rattle.audit_dump.specs.Placed.{shown_whole}
 use Rattle.audit_dump.proofs.Placed.{record_is, occult_is, member_is, purge_is}
 use Rattle.honest_dump.specs.Runs.{IsOfRuns, first_blocks}
 use Rattle.honest_dump.proofs.Fewer.{first_grows, first_journals, first_some, rest, runs_keep}
-use Rattle.honest_dump.proofs.Running.{Places, wider, id_close, run_keeps}
+use Rattle.honest_dump.proofs.Running.{Places, wider, id_close, run_keeps, unrepeated}
 
 -- ---- something holds of each journal behind those in front of it
 
@@ -71,9 +71,9 @@ module _ (scheme : Scheme) where
   line_placed : (h : History) (making : Option Making) (step : Step) (what : Result Line Refusal) (e : Entry) → Places scheme h making step what e → IsPlaced scheme (id h) (journals h) e
   unfolding append_with append_header member_job member_header occult_job occult_header purge_job purge_header time_header
   line_placed h making step (Err refusal) e p = let never = p.placed in absurd cc
-  line_placed h making step (Ok (line.Append member clue content proof)) e p =
+  line_placed h making step (Ok (line.Append member clue content proof number)) e p =
       let parts = and_parts (nat_le (length clue) NAME_LIMIT && nat_le (length content) CONTENT_LIMIT) (nat_le (length proof) PROOF_LIMIT) p.fits in
-      subst (IsPlaced scheme (id h) (journals h)) (same_Some _ e p.placed) (record_is scheme real_limits h member (clue_of clue) content proof (leb-true (length proof) PROOF_LIMIT parts.1) p.accepted)
+      subst (IsPlaced scheme (id h) (journals h)) (unrepeated _ _ e p.placed).1 (record_is scheme real_limits h member (clue_of clue) content proof number (leb-true (length proof) PROOF_LIMIT parts.1) p.accepted)
   line_placed h making step (Ok (line.NewMember number key proof)) e p =
       subst (IsPlaced scheme (id h) (journals h)) (same_Some _ e p.placed) (member_is scheme real_limits h number key proof (leb-true (length proof) PROOF_LIMIT p.fits) p.accepted)
   line_placed h making step (Ok line.Anchor) e p = by_stamp (stamp_of step) p.placed where

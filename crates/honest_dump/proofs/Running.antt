@@ -1,6 +1,7 @@
 -- What each journal that is placed keeps true holds of each history that a run makes.
 use Rattle.std.specs.Prelude.{nat_le}
 use Rattle.std.proofs.Common.{◌≡◌, ℕ, ◌||◌, true, false, cond, List, [], ◌∷◌, ◌++◌, length, Option, Some, None, Result, refl, sym, ap, ◌∙◌, subst}
+use Rattle.std.proofs.lemmas.Option.{same_Some}
 use Rattle.ledger_bytes.specs.declared.limits.TheConstants.{BLOCK_LIMIT}
 use Rattle.ledger_bytes.specs.declared.refusal.Refusal.{Refusal}
 use Rattle.journal_record.specs.Entry.{Entry}
@@ -15,14 +16,16 @@ use Rattle.ledger_model.specs.Judgements.{own_refusal}
 use Rattle.ledger_model.specs.Lawful.{AreLawful, IsLawful}
 use Rattle.ledger_model.specs.Limits.{real_limits}
 use Rattle.ledger_model.specs.Notary.{Attends, ChangesBy}
+use Rattle.ledger_model.specs.Numbers.{unless_repeated}
 use Rattle.ledger_model.specs.Outcomes.{placed_journal, after_judgement, with_job}
 use Rattle.ledger_model.specs.Rules.{job_for, job_of, closes_before, closes_after, judged_at, settled_history, after_job, after_step, after_steps, after}
 use Rattle.ledger_model.specs.Scheme.{Scheme}
 use Rattle.ledger_model.specs.Step.{Step}
 use Rattle.ledger_model.specs.Took.{notary_after, Took, TookAll}
 use Rattle.ledger_model.specs.declared.job.Job.{Job}
+use Rattle.ledger_model.proofs.AcceptedLaws.{IsNew}
 use Rattle.ledger_model.proofs.KeepLaws.{journals_close, journals_wider, close_lawful, step_lawful, steps_lawful}
-use Rattle.honest_dump.proofs.Lines.{WhatHasKey, spoken_has}
+use Rattle.honest_dump.proofs.Lines.{WhatFits, spoken_has}
 
 -- the history with a journal more, which waits
 abbrev pub wider : History → Entry → History
@@ -33,7 +36,7 @@ pub record Places (scheme : Scheme) (h : History) (making : Option Making) (step
   pub lawful : IsLawful h
   pub more : AreLawful (journals h ++ e ∷ [])
   pub fits : fits_what what ≡ true
-  pub key : WhatHasKey what
+  pub short : WhatFits what
   pub accepted : own_refusal real_limits h (job_for scheme (id h) what) ≡ None
   pub placed : placed_journal h (stamp_of step) (job_for scheme (id h) what) ≡ Some e
   pub changes : ChangesBy h making step (job_for scheme (id h) what)
@@ -41,6 +44,11 @@ pub record Places (scheme : Scheme) (h : History) (making : Option Making) (step
 pub id_close : (h : History) → id (close h) ≡ id h
 unfolding id
 id_close h = ap first_leaf_digest (journals_close h)
+
+-- a record that is placed repeats none, and is the one that its job gives
+pub unrepeated : (again : Option ℕ) (record_of e : Entry) → unless_repeated again (Some record_of) ≡ Some e → IsNew again × (record_of ≡ e)
+unrepeated None record_of e is = (refl, same_Some record_of e is)
+unrepeated (Some n) record_of e is = absurd cc
 
 module _ (scheme : Scheme) (Keeps : History → Type 0) (ended : (h : History) → Keeps h → Keeps (close h))
     (placing : (h : History) (making : Option Making) (step : Step) (what : Result Line Refusal) (e : Entry) → Places scheme h making step what e → Keeps h → Keeps (wider h e)) where
@@ -57,17 +65,17 @@ module _ (scheme : Scheme) (Keeps : History → Type 0) (ended : (h : History) �
   settled_journals job h = elim (closes_after job || nat_le BLOCK_LIMIT (length h.waiting)) as (λ full. journals (cond full (close h) h) ≡ journals h) [ true ↦ journals_close h | false ↦ refl ]
 
   -- what the judgement of a job leaves
-  by_judgement : (g : History) (making : Option Making) (step : Step) (what : Result Line Refusal) (job : Job) → job ≡ job_for scheme (id g) what → IsLawful g → fits_what what ≡ true → WhatHasKey what → ChangesBy g making step job
+  by_judgement : (g : History) (making : Option Making) (step : Step) (what : Result Line Refusal) (job : Job) → job ≡ job_for scheme (id g) what → IsLawful g → fits_what what ≡ true → WhatFits what → ChangesBy g making step job
       → IsLawful (settled_history job (after_judgement (own_refusal real_limits g job) (placed_journal g (stamp_of step) job) g)) → Keeps g
       → (r : Option Refusal) → own_refusal real_limits g job ≡ r → (o : Option Entry) → placed_journal g (stamp_of step) job ≡ o → Keeps (settled_history job (after_judgement r o g))
-  by_judgement g making step what job is l fits key changes later k (Some why) r o p = settled job g k
-  by_judgement g making step what job is l fits key changes later k None r None p = settled job g k
-  by_judgement g making step what job is l fits key changes later k None r (Some e) p =
+  by_judgement g making step what job is l fits short changes later k (Some why) r o p = settled job g k
+  by_judgement g making step what job is l fits short changes later k None r None p = settled job g k
+  by_judgement g making step what job is l fits short changes later k None r (Some e) p =
       settled job (wider g e) (placing g making step what e (record {
         lawful = l;
         more = subst AreLawful (ap (λ x. journals (settled_history job (after_judgement x (placed_journal g (stamp_of step) job) g))) r ∙ ap (λ x. journals (settled_history job (after_judgement None x g))) p ∙ settled_journals job (wider g e) ∙ journals_wider g e) later.journals_are;
         fits = fits;
-        key = key;
+        short = short;
         accepted = ap (own_refusal real_limits g) (sym is) ∙ r;
         placed = ap (placed_journal g (stamp_of step)) (sym is) ∙ p;
         changes = subst (ChangesBy g making step) is changes;

@@ -3,7 +3,7 @@ use Rattle.std.specs.Int.{w16, w32, to_be_bytes}
 use Rattle.std.specs.Prelude.{All, IsTrue, nat_le, nat_lt, ◌==◌, ◌&&◌, if◌then◌else◌}
 use Rattle.std.specs.List.{list_all}
 use Rattle.std.specs.Option.{option_map}
-use Rattle.std.proofs.Common.{◌≡◌, ℕ, zero, suc, ◌+◌, ◌*◌, ◌<◌, ◌≤◌, Bool, true, false, cond, List, [], ◌∷◌, ◌++◌, length, map, get_or, Option, Some, None, Result, Ok, Err, refl, sym, ap, ◌∙◌, subst, arith, append-nil, length-append}
+use Rattle.std.proofs.Common.{◌≡◌, ℕ, zero, suc, ◌+◌, ◌*◌, ◌^◌, ◌<◌, ◌≤◌, Bool, true, false, cond, List, [], ◌∷◌, ◌++◌, length, map, get_or, Option, Some, None, Result, Ok, Err, refl, sym, ap, ◌∙◌, subst, arith, append-nil, length-append}
 use Rattle.std.proofs.lemmas.Bool.{and_parts, eqb-true, leb-true, ltb-true}
 use Rattle.std.proofs.lemmas.List.Elements.{All-nil, All-cons, All-push}
 use Rattle.std.proofs.lemmas.Option.{same_Some}
@@ -30,7 +30,8 @@ use Rattle.time_peg.specs.Entries.{Making}
 use Rattle.ledger_model.specs.Anchors.{stamp_of, time_header, time_journal}
 use Rattle.ledger_model.specs.Appends.{approval_of, request_with, append_header, append_with, clue_of, member_header, member_job, occult_header, occult_job, purge_header, purge_job}
 use Rattle.ledger_model.specs.Clues.{jsns_with, last_journal, next_ordinal}
-use Rattle.journal_record.specs.Rules.{clue_prev_ok, is_no_clue}
+use Rattle.journal_record.specs.declared.header.Kind.TheVariants as kind
+use Rattle.journal_record.specs.Rules.{version_of, clue_prev_ok, is_no_clue}
 use Rattle.ledger_model.specs.Genesis.{HasKeys, genesis_header, new_ledger}
 use Rattle.ledger_model.specs.History.{History, id, journals, leaf_digest, size, close}
 use Rattle.ledger_model.specs.Limits.{real_limits}
@@ -42,7 +43,7 @@ use Rattle.ledger_model.proofs.FitLaws.{size_few}
 use Rattle.ledger_model.proofs.KeepLaws.{journals_close, journals_wider, real_within}
 use Rattle.ledger_model.proofs.LawfulLaws.{numbers_few}
 use Rattle.ledger_model.proofs.PegLaws.{stamped_fits}
-use Rattle.honest_dump.proofs.Running.{Places, wider}
+use Rattle.honest_dump.proofs.Running.{Places, unrepeated, wider}
 
 -- a journal's numbers fit their fields, its digests have 32 bytes, and its who isn't too long
 pub record HasSizes (e : Entry) : Type 0 where
@@ -89,26 +90,31 @@ prev_few jsn ord prev ok = by (nat_le ord 1) ok where
   by true ok = omega (arith, eqb-true prev 0 ok)
   by false ok = omega (arith, ltb-true prev jsn (and_parts (nat_lt 0 prev) (nat_lt prev jsn) ok).1)
 
+-- the version of a record has one byte
+version_few : (number len : ℕ) → version_of kind.Content number len < 2 ^ 8
+version_few number len = elim (number == 0) as (λ none. cond none 1 2 < 2 ^ 8) [ true ↦ omega arith | false ↦ omega arith ]
+
 -- ---- the journal that a line places
 
 module _ (scheme : Scheme) (h : History) (making : Option Making) (step : Step) where
   placed_sizes : (what : Result Line Refusal) (e : Entry) → Places scheme h making step what e → HasSizes e
   unfolding append_with append_header member_job member_header occult_job occult_header purge_job purge_header time_header
   placed_sizes (Err refusal) e p = let never = p.placed in absurd cc
-  placed_sizes (Ok (line.Append member clue content proof)) e p =
+  placed_sizes (Ok (line.Append member clue content proof number)) e p =
       let parts = and_parts (nat_le (length clue) NAME_LIMIT && nat_le (length content) CONTENT_LIMIT) (nat_le (length proof) PROOF_LIMIT) p.fits in
       let front = and_parts (nat_le (length clue) NAME_LIMIT) (nat_le (length content) CONTENT_LIMIT) parts.0 in
-      let request = request_with (id h) member (clue_of clue) content in
+      let request = request_with (id h) member (clue_of clue) content number in
+      let own = unrepeated _ _ e p.placed in
       let by = approval_of scheme member request proof in
-      let next = record_next real_limits real_within h member (clue_of clue) content (digest (content_digest_of content)) (digest request) by p.accepted p.lawful.journals_are (leb-true (length content) CONTENT_LIMIT front.1) in
-      subst HasSizes (same_Some _ e p.placed) (record {
+      let next = record_next real_limits real_within h member (clue_of clue) content (digest (content_digest_of content)) (digest request) by number p.accepted own.0 p.lawful.journals_are (leb-true (length content) CONTENT_LIMIT front.1) in
+      subst HasSizes own.1 (record {
         widths = record {
-          version = omega arith;
+          version = version_few number (length content);
           jsn = omega (arith, size_few h p.lawful);
           member = omega (arith, ltb-true member MEMBER_LIMIT next.layout.member);
           clue_ord = omega (arith, ord_few h (clue_of clue), next.below);
           clue_prev = omega (arith, prev_few (size h) (next_ordinal h (clue_of clue)) (last_journal h (clue_of clue)) next.layout.clue_prev, size_few h p.lawful);
-          a = omega arith;
+          a = p.short;
           b = omega arith;
           content_len = omega (arith, leb-true (length content) CONTENT_LIMIT front.1);
           clue = clue_wide clue;
@@ -132,7 +138,7 @@ module _ (scheme : Scheme) (h : History) (making : Option Making) (step : Step) 
           b = omega arith;
           content_len = omega arith;
           clue = refl;
-          link = p.key;
+          link = p.short;
           content_digest = length-sha256 _;
           who_digest = length-sha256 _;
         };
