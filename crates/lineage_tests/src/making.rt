@@ -42,6 +42,7 @@ fn record(alloc: Global, clue: Digest) -> Result<Job, NoMemory>
             key: Some(OPERATOR),
             proof: Bytes::copy_of(alloc, b"")?,
         },
+        number: 0,
     })
 }
 

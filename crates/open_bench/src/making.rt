@@ -100,7 +100,7 @@ fn gather_record(
 ) -> Result<()> {
     let content = number.to_be_bytes();
     let clue = clue_of(number, clues);
-    let request = request_digest(&book.id(), 0, &clue, 8, &content_digest(&content));
+    let request = request_digest(&book.id(), 0, &clue, 8, &content_digest(&content), 0);
     let Outcome::Placed(placed) = book.apply(&job(alloc, &content, clue, request)?)? else {
         bail!("a record was refused");
     };
@@ -145,5 +145,6 @@ fn job(alloc: Global, content: &[u8; 8], clue: Digest, request: Digest) -> Resul
         content_digest,
         request,
         by: approval(alloc, &request)?,
+        number: 0,
     })
 }

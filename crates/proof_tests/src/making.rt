@@ -76,7 +76,7 @@ fn record(alloc: Global, id: &Digest, proof: &[u8]) -> Result<Job, NoMemory>
 {
     let content = Bytes::copy_of(alloc, b"")?;
     let digest = content_digest(content.as_slice());
-    let request = request_digest(id, 0, &Digest::ZERO, 0, &digest);
+    let request = request_digest(id, 0, &Digest::ZERO, 0, &digest, 0);
     Ok(Job::Append {
         member: 0,
         clue: Digest::ZERO,
@@ -88,6 +88,7 @@ fn record(alloc: Global, id: &Digest, proof: &[u8]) -> Result<Job, NoMemory>
             key: Some(OPERATOR),
             proof: Bytes::copy_of(alloc, proof)?,
         },
+        number: 0,
     })
 }
 
