@@ -1,5 +1,5 @@
 -- What is read of numbers, bytes and approvals keeps to the limits of a line.
-use Rattle.std.proofs.Common.{◌≡◌, ℕ, suc, ◌*◌, ◌-◌, ◌^◌, ◌<◌, ◌≤◌, ◌&&◌, nat_le, true, false, cond, List, [], ◌∷◌, length, Option, Some, None, Result, Ok, Err, All, refl, ap, subst, arith}
+use Rattle.std.proofs.Common.{◌≡◌, ℕ, suc, ◌*◌, ◌-◌, ◌^◌, ◌<◌, ◌≤◌, ◌==◌, ◌&&◌, nat_le, if◌then◌else◌, Bool, true, false, cond, List, [], ◌∷◌, length, Option, Some, None, Result, Ok, Err, All, refl, ap, subst, arith}
 use Rattle.std.specs.Option.{option_and_then}
 use Rattle.std.specs.Result.{result_ok}
 use Rattle.std.proofs.lemmas.Bool.{and_from, and_parts, le-leb, leb-true}
@@ -11,7 +11,7 @@ use Rattle.hex.proofs.HexLemmas.{decode_of-ok}
 use Rattle.ledger_bytes.specs.declared.limits.TheConstants.{APPROVAL_LIMIT, PROOF_LIMIT}
 use Rattle.script_lines.specs.Limits.{fits_approvals}
 use Rattle.script_lines.specs.Parts.{parts, all_of, with_first}
-use Rattle.script_lines.specs.Spellings.{number_of, bytes_of, is_dash, is_decimal, value_behind, approval_from, approval_of, approvals_from, approvals_of}
+use Rattle.script_lines.specs.Spellings.{number_of, request_number_of, bytes_of, is_dash, is_decimal, value_behind, approval_from, approval_of, approvals_from, approvals_of}
 use Rattle.script_lines.specs.declared.said.SaidApproval.{SaidApproval}
 
 pub number_low : (most : ℕ) (text : List ℕ) (n : ℕ) → number_of most text ≡ Some n → n ≤ most
@@ -22,6 +22,17 @@ number_low most text n is =
           omega (arith, same, leb-true (value_behind 0 text) most (and_parts (is_decimal text) (nat_le (value_behind 0 text) most) fits).1)
       | false ↦ λ fits read. absurd cc
     ] refl is
+
+pub request_number_low : (text : List ℕ) (n : ℕ) → request_number_of text ≡ Some n → n ≤ 2 ^ 64 - 1
+request_number_low text n is = by (number_of (2 ^ 64 - 1) text) (λ m read. number_low (2 ^ 64 - 1) text m read) is where
+  kept : (none : Bool) (m : ℕ) → cond none None (Some m) ≡ Some n → m ≡ n
+  kept true m read = absurd cc
+  kept false m read = cc
+  numbered : Option ℕ → Option ℕ
+  numbered read = option_and_then read (λ (m : ℕ). if m == 0 then None else Some m)
+  by : (read : Option ℕ) → ((m : ℕ) → read ≡ Some m → m ≤ 2 ^ 64 - 1) → numbered read ≡ Some n → n ≤ 2 ^ 64 - 1
+  by None low some = absurd cc
+  by (Some m) low some = subst (λ k. k ≤ 2 ^ 64 - 1) (kept (m == 0) m some) (low m refl)
 
 -- what is there is what was found
 found : (read : Result (List ℕ) FromHexError) (bytes : List ℕ) → result_ok read ≡ Some bytes → read ≡ Ok bytes

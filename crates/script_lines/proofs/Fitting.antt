@@ -4,10 +4,10 @@ use Rattle.std.specs.Str.{bytes_eq}
 use Rattle.std.proofs.lemmas.Bool.{and_from, and_parts, le-leb, leb-true}
 use Rattle.ledger_bytes.specs.declared.limits.TheConstants.{CONTENT_LIMIT, NAME_LIMIT, PROOF_LIMIT}
 use Rattle.ledger_bytes.specs.declared.refusal.Refusal.{Refusal}
-use Rattle.script_lines.specs.Fields.{UnreadFields, fields_of, read_or_bad, field_from, field_at, end_from, end_at}
+use Rattle.script_lines.specs.Fields.{UnreadFields, fields_of, read_or_bad, field_from, field_at, optional_from, optional_at, end_from, end_at}
 use Rattle.script_lines.specs.Grammar.{◌>>=◌, append_at, member_at, anchor_at, occult_at, purge_at, get_at, prove_at, extend_at, clue_at, head_at, verb_at, asked_by, lane_of, spoken_by, spoken_at, spoken_line}
 use Rattle.script_lines.specs.Limits.{fits_line, fits_approvals, is_of_form, fits_what}
-use Rattle.script_lines.specs.Spellings.{text_of, number_of, bytes_of, digest_of, clue_of, name_of, which_of, approvals_of, is_dash}
+use Rattle.script_lines.specs.Spellings.{text_of, number_of, request_number_of, bytes_of, digest_of, clue_of, name_of, which_of, approvals_of, is_dash}
 use Rattle.script_lines.specs.declared.line.Line.{Line}
 use Rattle.script_lines.specs.declared.line.Line.TheVariants.{Append, NewMember, Anchor, Occult, Purge, Get, Prove, Extend, Clue, Head}
 use Rattle.script_lines.proofs.Approving.{bytes_short, approvals_short, approvals_fit}
@@ -25,6 +25,12 @@ field_gives : {A : Type 0} (P : A → Type 0) (read : List ℕ → Option A) (le
 field_gives P read left keeps = by left.fields where
   by : (fields : List (List ℕ)) → Gives P (field_from read left.column fields)
   by [] = refl
+  by (field ∷ fields) = gives_or P left.column (read field) _ (keeps field)
+
+optional_gives : {A : Type 0} (P : A → Type 0) (read : List ℕ → Option A) (missing : A) (left : UnreadFields) → P missing → ((text : List ℕ) (x : A) → read text ≡ Some x → P x) → Gives P (optional_at read missing left)
+optional_gives P read missing left none keeps = by left.fields where
+  by : (fields : List (List ℕ)) → Gives P (optional_from read missing left.column fields)
+  by [] = none
   by (field ∷ fields) = gives_or P left.column (read field) _ (keeps field)
 
 -- the rest of a line behind a field
@@ -66,8 +72,9 @@ append_fits fields =
     then_fits (λ clue. length clue ≤ NAME_LIMIT) _ _ (field_gives (λ clue. length clue ≤ NAME_LIMIT) clue_of member.1 clue_short) (λ clue c.
     then_fits (λ content. length content ≤ CONTENT_LIMIT) _ _ (field_gives (λ content. length content ≤ CONTENT_LIMIT) (bytes_of CONTENT_LIMIT) clue.1 (bytes_short CONTENT_LIMIT)) (λ content d.
     then_fits (λ proof. length proof ≤ PROOF_LIMIT) _ _ (field_gives (λ proof. length proof ≤ PROOF_LIMIT) (bytes_of PROOF_LIMIT) content.1 (bytes_short PROOF_LIMIT)) (λ proof p.
-    end_fits proof.1 (Append member.0 clue.0 content.0 proof.0)
-    (and_from _ _ (and_from _ _ (le-leb (length clue.0) NAME_LIMIT c) (le-leb (length content.0) CONTENT_LIMIT d)) (le-leb (length proof.0) PROOF_LIMIT p))))))
+    then_fits Any _ _ (optional_gives Any request_number_of 0 proof.1 tt (λ text x is. tt)) (λ number n.
+    end_fits number.1 (Append member.0 clue.0 content.0 proof.0 number.0)
+    (and_from _ _ (and_from _ _ (le-leb (length clue.0) NAME_LIMIT c) (le-leb (length content.0) CONTENT_LIMIT d)) (le-leb (length proof.0) PROOF_LIMIT p)))))))
 
 member_fits : (fields : UnreadFields) → fits_what (member_at fields) ≡ true
 unfolding member_at

@@ -1,5 +1,5 @@
 -- A line's text is read as the line.
-use Rattle.std.proofs.Common.{◌≡◌, ℕ, ◌-◌, ◌^◌, ◌<◌, ◌==◌, ◌&&◌, nat_le, nat_lt, not, lit<, Bool, true, false, List, [], ◌∷◌, ◌++◌, length, codes, decimal, Some, Result, Ok, refl, ap, ◌∙◌, append-nil, arith}
+use Rattle.std.proofs.Common.{◌≡◌, ℕ, ◌-◌, ◌^◌, ◌<◌, ◌==◌, ◌&&◌, nat_le, nat_lt, not, if◌then◌else◌, lit<, Bool, true, false, List, [], ◌∷◌, ◌++◌, length, codes, decimal, Some, Result, Ok, refl, ap, ◌∙◌, append-nil, arith}
 use Rattle.std.specs.List.{list_all}
 use Rattle.std.specs.Result.{result_ok}
 use Rattle.std.specs.Option.{option_map}
@@ -13,11 +13,11 @@ use Rattle.hex.proofs.HexLemmas.{decode_sized-encode_lower}
 use Rattle.ledger_bytes.specs.Digests.{digest}
 use Rattle.ledger_bytes.specs.declared.digest.Digest.{Digest}
 use Rattle.ledger_bytes.specs.declared.refusal.Refusal.{Refusal}
-use Rattle.script_lines.specs.Fields.{field_at}
-use Rattle.script_lines.specs.Grammar.{append_at, member_at, anchor_at, occult_at, purge_at, get_at, prove_at, extend_at, clue_at, head_at, spoken_line, spoken_at}
+use Rattle.script_lines.specs.Fields.{field_at, optional_at, end_at}
+use Rattle.script_lines.specs.Grammar.{◌>>=◌, append_at, member_at, anchor_at, occult_at, purge_at, get_at, prove_at, extend_at, clue_at, head_at, spoken_line, spoken_at}
 use Rattle.script_lines.specs.Parts.{parts}
-use Rattle.script_lines.specs.Sayings.{approvals_text, clue_text, line_words, line_text, IsOneField, IsName, IsClue, IsSayable}
-use Rattle.script_lines.specs.Spellings.{text_of, digest_of, clue_of, name_of, is_dash}
+use Rattle.script_lines.specs.Sayings.{approvals_text, clue_text, number_words, line_words, line_text, IsOneField, IsName, IsClue, IsSayable}
+use Rattle.script_lines.specs.Spellings.{text_of, request_number_of, digest_of, clue_of, name_of, is_dash}
 use Rattle.script_lines.specs.Words.{hex_of, hex_or_dash, spaced_words, which_text}
 use Rattle.script_lines.specs.declared.line.Line.{Line}
 use Rattle.script_lines.specs.declared.line.Line.TheVariants.{Append, NewMember, Anchor, Occult, Purge, Get, Prove, Extend, Clue, Head}
@@ -60,15 +60,28 @@ clue_of-text (byte ∷ name) is =
     let never : is_dash (byte ∷ name) ≡ false = differs (is_dash (byte ∷ name)) (λ passes. is.1 ((bytes_eq-Decides (byte ∷ name) (codes "-")).0 passes)) in
     cond-false (is_dash (byte ∷ name)) _ _ never ∙ name_of-name (byte ∷ name) is.0
 
-append_at-words : (member : ℕ) (clue content proof : List ℕ) → IsSayable (Append member clue content proof)
-    → append_at (record { column = 3; fields = decimal member ∷ clue_text clue ∷ hex_or_dash content ∷ hex_or_dash proof ∷ [] }) ≡ Ok (Append member clue content proof)
+-- the number of a request is read from its words
+request_number_of-decimal : (number : ℕ) → (number == 0) ≡ false → number < 2 ^ 64 → request_number_of (decimal number) ≡ Some number
+request_number_of-decimal number some small = rw (number_of-decimal (2 ^ 64 - 1) number (lit< tt) (omega arith), some) refl
+
+none_is : (number : ℕ) → (number == 0) ≡ true → 0 ≡ number
+none_is number none = grind arith
+
+append_at-words : (member : ℕ) (clue content proof : List ℕ) (number : ℕ) → IsSayable (Append member clue content proof number)
+    → append_at (record { column = 3; fields = decimal member ∷ clue_text clue ∷ hex_or_dash content ∷ hex_or_dash proof ∷ number_words number }) ≡ Ok (Append member clue content proof number)
 unfolding append_at
-append_at-words member clue content proof is =
+append_at-words member clue content proof number is =
     let m = number_of-word member is.0 in
     let c = clue_of-text clue is.1 in
     let b = bytes_of-hex 65536 content is.2 in
     let p = bytes_of-hex 4096 proof is.3 in
-    rw (m, c, b, p) refl
+    rw (m, c, b, p) (by (number == 0) (none_is number) (λ some. request_number_of-decimal number some is.4)) where
+  line : ℕ → Line
+  line = Append member clue content proof
+  by : (none : Bool) → (none ≡ true → 0 ≡ number) → (none ≡ false → request_number_of (decimal number) ≡ Some number)
+      → (optional_at request_number_of 0 (record { column = 7; fields = if none then [] else decimal number ∷ [] }) >>= (λ read. end_at read.1 >>= (λ end. Ok (line read.0)))) ≡ Ok (line number)
+  by true zero_is read = ap (λ n. Ok (line n)) (zero_is refl)
+  by false zero_is read = rw (read refl) refl
 
 member_at-words : (number : ℕ) (key : Digest) (proof : List ℕ) → IsSayable (NewMember number key proof)
     → member_at (record { column = 3; fields = decimal number ∷ hex_of key ∷ hex_or_dash proof ∷ [] }) ≡ Ok (NewMember number key proof)
@@ -134,9 +147,15 @@ which-whole : (which : Which) → IsOneField (which_text which)
 which-whole Ledger = literal-whole (codes "ledger") refl
 which-whole Notary = literal-whole (codes "notary") refl
 
+number-whole : (number : ℕ) → number < 2 ^ 64 → AreFields (number_words number)
+number-whole number small = elim (number == 0) as (λ none. AreFields (if none then [] else decimal number ∷ [])) [
+  | true ↦ tt
+  | false ↦ (decimal-whole 32 refl number small, tt)
+]
+
 words-whole : (line : Line) → IsSayable line → AreFields (line_words line)
-words-whole (Append member clue content proof) is =
-    (literal-whole (codes "append") refl, (decimal-whole 32 refl member (omega arith), (clue-whole clue is.1, (hex-whole 32 refl refl content is.2.1, (hex-whole 32 refl refl proof is.3.1, tt)))))
+words-whole (Append member clue content proof number) is =
+    (literal-whole (codes "append") refl, (decimal-whole 32 refl member (omega arith), (clue-whole clue is.1, (hex-whole 32 refl refl content is.2.1, (hex-whole 32 refl refl proof is.3.1, number-whole number is.4)))))
 words-whole (NewMember number key proof) is =
     (literal-whole (codes "member") refl, (decimal-whole 32 refl number (omega arith), (digits-whole 32 refl key.0 is.2, (hex-whole 32 refl refl proof is.3.1, tt))))
 words-whole Anchor is = (literal-whole (codes "anchor") refl, tt)
@@ -155,7 +174,7 @@ abbrev said_by : List (List ℕ) → ℕ × Result Line Refusal
 said_by fields = spoken_at (field_at text_of (record { column = 1; fields = fields }))
 
 said_by-words : (line : Line) → IsSayable line → (let said : ℕ × Result Line Refusal = (0, Ok line) in said_by (codes "0" ∷ line_words line) ≡ said)
-said_by-words (Append member clue content proof) is = ap (λ (read : Result Line Refusal). (0, read)) (append_at-words member clue content proof is)
+said_by-words (Append member clue content proof number) is = ap (λ (read : Result Line Refusal). (0, read)) (append_at-words member clue content proof number is)
 said_by-words (NewMember number key proof) is = ap (λ (read : Result Line Refusal). (0, read)) (member_at-words number key proof is)
 said_by-words Anchor is = ap (λ (read : Result Line Refusal). (0, read)) anchor_at-words
 said_by-words (Occult target leaf given) is = ap (λ (read : Result Line Refusal). (0, read)) (occult_at-words target leaf given is)

@@ -5,18 +5,18 @@ use Rattle.std.proofs.Common.{◌≡◌, ℕ, ◌-◌, ◌^◌, if◌then◌else
 use Rattle.std.proofs.lemmas.List.Elements.{All-weaker}
 use Rattle.ledger_bytes.specs.declared.limits.TheConstants.{CONTENT_LIMIT, PROOF_LIMIT}
 use Rattle.ledger_bytes.specs.declared.refusal.Refusal.{Refusal}
-use Rattle.script_lines.specs.Fields.{UnreadFields, fields_of, next_column, read_or_bad, field_from, field_at, end_from, end_at}
+use Rattle.script_lines.specs.Fields.{UnreadFields, fields_of, next_column, read_or_bad, field_from, field_at, optional_from, optional_at, end_from, end_at}
 use Rattle.script_lines.specs.Grammar.{◌>>=◌, append_at, member_at, anchor_at, occult_at, purge_at, get_at, prove_at, extend_at, clue_at, head_at, verb_at, asked_by, lane_of, spoken_by, spoken_at, spoken_line}
 use Rattle.script_lines.specs.Receipts.{FitsWord, RefusalFits}
-use Rattle.script_lines.specs.Spellings.{text_of, number_of, bytes_of, digest_of, clue_of, which_of, approvals_of}
+use Rattle.script_lines.specs.Spellings.{text_of, number_of, request_number_of, bytes_of, digest_of, clue_of, which_of, approvals_of}
 use Rattle.script_lines.specs.declared.line.Line.{Line}
 use Rattle.script_lines.specs.declared.line.Line.TheVariants.{Append, NewMember, Anchor, Occult, Purge, Get, Prove, Extend, Clue, Head}
 use Rattle.script_lines.specs.declared.said.SaidApproval.{SaidApproval}
-use Rattle.script_lines.proofs.Approving.{IsShortApproval, number_low, approvals_short}
+use Rattle.script_lines.proofs.Approving.{IsShortApproval, number_low, request_number_low, approvals_short}
 
--- the numbers that a refusal of the line may tell
+-- the numbers of a line that a refusal of it or its journal may tell
 abbrev pub LineFits : Line → Type 0
-LineFits (Append member clue content proof) = FitsWord member
+LineFits (Append member clue content proof number) = FitsWord member × FitsWord number
 LineFits (NewMember number key proof) = ⊤
 LineFits Anchor = ⊤
 LineFits (Occult target leaf given) = All (λ by. FitsWord by.member) given
@@ -49,6 +49,13 @@ field_gives P read left here keeps = by left.fields where
   by [] = here
   by (field ∷ fields) = gives_or P left.column (read field) _ here (next_fits left.column) (keeps field)
 
+optional_gives : {A : Type 0} (P : A → Type 0) (read : List ℕ → Option A) (missing : A) (left : UnreadFields) → FitsWord left.column → P missing
+    → ((text : List ℕ) (x : A) → read text ≡ Some x → P x) → Gives P (optional_at read missing left)
+optional_gives P read missing left here none keeps = by left.fields where
+  by : (fields : List (List ℕ)) → Gives P (optional_from read missing left.column fields)
+  by [] = (none, here)
+  by (field ∷ fields) = gives_or P left.column (read field) _ here (next_fits left.column) (keeps field)
+
 then_fits : {A : Type 0} (P : A → Type 0) (first : Result (A × UnreadFields) Refusal) (second : A × UnreadFields → Result Line Refusal)
     → Gives P first → ((x : A × UnreadFields) → P x.0 → FitsWord x.1.column → WhatFits (second x)) → WhatFits (first >>= second)
 then_fits P (Ok x) second first_fits fits = fits x first_fits.0 first_fits.1
@@ -66,6 +73,9 @@ Any x = Unit {0}
 number_fits : (text : List ℕ) (n : ℕ) → number_of (2 ^ 32 - 1) text ≡ Some n → FitsWord n
 number_fits text n is = omega (arith, number_low (2 ^ 32 - 1) text n is)
 
+request_number_fits : (text : List ℕ) (n : ℕ) → request_number_of text ≡ Some n → FitsWord n
+request_number_fits text n is = let low = request_number_low text n is in omega (arith, low)
+
 members_fit : (text : List ℕ) (given : List SaidApproval) → approvals_of text ≡ Some given → All (λ by. FitsWord by.member) given
 members_fit text given is =
     All-weaker IsShortApproval (λ by. FitsWord by.member) (λ by short. omega (arith, short.member)) given (approvals_short text given is).each
@@ -77,7 +87,8 @@ append_fits fields here =
     then_fits Any _ _ (field_gives Any clue_of member.1 a (λ text x is. tt)) (λ clue c b.
     then_fits Any _ _ (field_gives Any (bytes_of CONTENT_LIMIT) clue.1 b (λ text x is. tt)) (λ content d e.
     then_fits Any _ _ (field_gives Any (bytes_of PROOF_LIMIT) content.1 e (λ text x is. tt)) (λ proof p f.
-    end_fits proof.1 (Append member.0 clue.0 content.0 proof.0) f m))))
+    then_fits FitsWord _ _ (optional_gives FitsWord request_number_of 0 proof.1 f (omega arith) request_number_fits) (λ number n g.
+    end_fits number.1 (Append member.0 clue.0 content.0 proof.0 number.0) g (m, n))))))
 
 member_fits : (fields : UnreadFields) → FitsWord fields.column → WhatFits (member_at fields)
 unfolding member_at

@@ -41,6 +41,16 @@ field_from read column (field ∷ fields) =
 abbrev pub field_at : {A : Type 0} → (List ℕ → Option A) → UnreadFields → Result (A × UnreadFields) Refusal
 field_at read left = field_from read left.column left.fields
 
+-- what the first of some fields reads as, and the fields behind it; where there is none it reads as `missing`
+abbrev pub optional_from : {A : Type 0} → (List ℕ → Option A) → A → ℕ → List (List ℕ) → Result (A × UnreadFields) Refusal
+optional_from read missing column [] = Ok (missing, record { column = column; fields = [] })
+optional_from read missing column (field ∷ fields) = field_from read column (field ∷ fields)
+
+-- what the first field reads as, and the fields behind it. One that is ill-formed is refused with its column; where no
+-- field is left it reads as `missing`
+abbrev pub optional_at : {A : Type 0} → (List ℕ → Option A) → A → UnreadFields → Result (A × UnreadFields) Refusal
+optional_at read missing left = optional_from read missing left.column left.fields
+
 -- no field is left; else the first that is left is refused with its column
 abbrev pub end_from : ℕ → List (List ℕ) → Result (Unit {0}) Refusal
 end_from column [] = Ok tt

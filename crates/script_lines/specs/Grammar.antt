@@ -4,8 +4,8 @@ use Rattle.std.specs.Str.{bytes_eq}
 use Rattle.ledger_bytes.specs.declared.limits.TheConstants.{CONTENT_LIMIT, PROOF_LIMIT}
 use Rattle.ledger_bytes.specs.declared.refusal.Refusal.{Refusal}
 use Rattle.ledger_bytes.specs.declared.refusal.Refusal.TheVariants.{BadVerb, BadLane}
-use Rattle.script_lines.specs.Fields.{UnreadFields, fields_of, field_at, end_at}
-use Rattle.script_lines.specs.Spellings.{text_of, number_of, bytes_of, digest_of, clue_of, which_of, approvals_of}
+use Rattle.script_lines.specs.Fields.{UnreadFields, fields_of, field_at, optional_at, end_at}
+use Rattle.script_lines.specs.Spellings.{text_of, number_of, request_number_of, bytes_of, digest_of, clue_of, which_of, approvals_of}
 use Rattle.script_lines.specs.declared.line.Line.{Line}
 use Rattle.script_lines.specs.declared.line.Line.TheVariants.{Append, NewMember, Anchor, Occult, Purge, Get, Prove, Extend, Clue, Head}
 
@@ -15,15 +15,17 @@ abbrev pub ◌>>=◌ : {A B : Type 0} → Result A Refusal → (A → Result B R
 Ok x >>= second = second x
 Err refusal >>= second = Err refusal
 
--- what the fields behind `append` say: `append MEMBER CLUE CONTENT PROOF`
+-- what the fields behind `append` say: `append MEMBER CLUE CONTENT PROOF`, or the same with a number as its last field;
+-- 0 stands for no number
 unfoldable pub append_at : UnreadFields → Result Line Refusal
 append_at fields = do
   member ← field_at (number_of (2 ^ 32 - 1)) fields
   clue ← field_at clue_of member.1
   content ← field_at (bytes_of CONTENT_LIMIT) clue.1
   proof ← field_at (bytes_of PROOF_LIMIT) content.1
-  end ← end_at proof.1
-  Ok (Append member.0 clue.0 content.0 proof.0)
+  number ← optional_at request_number_of 0 proof.1
+  end ← end_at number.1
+  Ok (Append member.0 clue.0 content.0 proof.0 number.0)
 
 -- what the fields behind `member` say: `member NUMBER KEY PROOF`
 unfoldable pub member_at : UnreadFields → Result Line Refusal

@@ -14,7 +14,7 @@ fits_approvals given = nat_le (length given) APPROVAL_LIMIT && list_all (λ by. 
 
 -- nothing in the line is longer than a line may give
 abbrev pub fits_line : Line → Bool
-fits_line (Append member clue content proof) =
+fits_line (Append member clue content proof number) =
     nat_le (length clue) NAME_LIMIT && nat_le (length content) CONTENT_LIMIT && nat_le (length proof) PROOF_LIMIT
 fits_line (NewMember number key proof) = nat_le (length proof) PROOF_LIMIT
 fits_line Anchor = true

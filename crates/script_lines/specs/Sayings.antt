@@ -1,5 +1,5 @@
 -- Lines as they are written.
-use Rattle.std.specs.Prelude.{◌≡◌, ◌≢◌, ℕ, ◌<◌, ◌≤◌, ◌^◌, ◌==◌, false, List, [], ◌∷◌, ◌++◌, length, All, codes, decimal, ⊤}
+use Rattle.std.specs.Prelude.{◌≡◌, ◌≢◌, ℕ, ◌<◌, ◌≤◌, ◌^◌, ◌==◌, false, if◌then◌else◌, List, [], ◌∷◌, ◌++◌, length, All, codes, decimal, ⊤}
 use Rattle.hex.specs.Hex.{IsBytes}
 use Rattle.ledger_bytes.specs.declared.limits.TheConstants.{APPROVAL_LIMIT, CONTENT_LIMIT, NAME_LIMIT, PROOF_LIMIT}
 use Rattle.script_lines.specs.Words.{hex_of, hex_or_dash, spaced_words, which_text}
@@ -26,10 +26,14 @@ abbrev pub approvals_text : List SaidApproval → List ℕ
 approvals_text [] = codes "-"
 approvals_text (by ∷ given) = approval_text by ++ approvals_behind given
 
+-- the number of a request, or no word where it has none
+abbrev pub number_words : ℕ → List (List ℕ)
+number_words number = if number == 0 then [] else decimal number ∷ []
+
 -- the words of a line behind its lane
 abbrev pub line_words : Line → List (List ℕ)
-line_words (Append member clue content proof) =
-    codes "append" ∷ decimal member ∷ clue_text clue ∷ hex_or_dash content ∷ hex_or_dash proof ∷ []
+line_words (Append member clue content proof number) =
+    codes "append" ∷ decimal member ∷ clue_text clue ∷ hex_or_dash content ∷ hex_or_dash proof ∷ number_words number
 line_words (NewMember number key proof) = codes "member" ∷ decimal number ∷ hex_of key ∷ hex_or_dash proof ∷ []
 line_words Anchor = codes "anchor" ∷ []
 line_words (Occult target leaf given) = codes "occult" ∷ decimal target ∷ hex_of leaf ∷ approvals_text given ∷ []
@@ -70,8 +74,8 @@ pub record IsSayableApproval (by : SaidApproval) : Type 0 where
 
 -- a line can say this: its parts keep to their limits. `lines_are_read_back` says that its text is read as the line
 abbrev pub IsSayable : Line → Type 0
-IsSayable (Append member clue content proof) =
-    (member < 2 ^ 32) × IsClue clue × IsShort CONTENT_LIMIT content × IsShort PROOF_LIMIT proof
+IsSayable (Append member clue content proof number) =
+    (member < 2 ^ 32) × IsClue clue × IsShort CONTENT_LIMIT content × IsShort PROOF_LIMIT proof × (number < 2 ^ 64)
 IsSayable (NewMember number key proof) = (number < 2 ^ 32) × (length key.0 ≡ 32) × IsBytes key.0 × IsShort PROOF_LIMIT proof
 IsSayable Anchor = ⊤
 IsSayable (Occult target leaf given) =

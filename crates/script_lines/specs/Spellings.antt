@@ -42,6 +42,12 @@ abbrev pub number_of : ℕ → List ℕ → Option ℕ
 number_of most text =
     if is_decimal text && nat_le (value_behind 0 text) most then Some (value_behind 0 text) else None
 
+-- the number that a member gives a request, from 1 to 2^64 - 1
+abbrev pub request_number_of : List ℕ → Option ℕ
+request_number_of text = do
+  number ← number_of (2 ^ 64 - 1) text
+  if number == 0 then None else Some number
+
 -- no bytes as `-`, or 1 to `most` bytes as hexadecimal digits of either case
 abbrev pub bytes_of : ℕ → List ℕ → Option (List ℕ)
 bytes_of most text =

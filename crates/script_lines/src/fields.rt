@@ -2,13 +2,14 @@
 
 ghost use Rattle.std.specs.Prelude.{◌≡◌, ◌≤◌, length, All, Ok, Err, IfErr, IfOk, MatchResult};
 ghost use Rattle.ledger_bytes.specs.declared.limits.TheConstants.{APPROVAL_LIMIT, NAME_LIMIT, PROOF_LIMIT};
-ghost use Rattle.script_lines.specs.Fields.{fields_of, behind, field_at, end_at, taken_field};
+ghost use Rattle.script_lines.specs.Fields.{fields_of, behind, field_at, optional_at, end_at, taken_field};
 ghost use Rattle.script_lines.specs.Reading.{IsStopAt, TakesFields};
-ghost use Rattle.script_lines.specs.Spellings.{text_of, number_of, bytes_of, digest_of, clue_of, which_of, approvals_of, mark_of};
+ghost use Rattle.script_lines.specs.Spellings.{text_of, number_of, request_number_of, bytes_of, digest_of, clue_of, which_of, approvals_of, mark_of};
 
 use crate::said::{SaidApproval, Which};
 use crate::spellings::{
-    read_approvals, read_bytes, read_clue, read_digest, read_mark, read_number, read_which,
+    read_approvals, read_bytes, read_clue, read_digest, read_mark, read_number,
+    read_request_number, read_which,
 };
 use crate::splits::cut;
 use crate::stop::Stop;
@@ -20,7 +21,7 @@ use std::marker::Model;
 /// with the column of the first; columns count from 1. They are cut off one at a time.
 ///
 /// Each reader reads the first field and goes on behind it. It answers `BadField` with that field's column exactly
-/// where the field is missing or isn't of the reader's form.
+/// where the field is missing or isn't of the reader's form; the number of a request may be missing.
 #[derive(Drop)]
 pub struct Fields<'a> {
     column: u32,
@@ -84,6 +85,20 @@ impl<'a> Fields<'a> {
     {
         let column = self.column();
         read_number(self.text()?, most).ok_or(bad_field(column))
+    }
+
+    /// The number of a request, from 1 to 2^64 - 1 without a leading zero, as a field that may be missing: 0 where no
+    /// field is left.
+    pub fn request_number(&mut self) -> Result<u64, Refusal>
+        ensures takes { optional_at request_number_of 0 self.old ≡ taken_field result self.new }
+        ensures goes_on { self.new ≡ behind self.old }
+        ensures refused { IfErr result (λ refusal. refusal ≡ Refusal.BadField self.old.column) }
+    {
+        let column = self.column();
+        match self.text() {
+            Ok(text) => read_request_number(text).ok_or(bad_field(column)),
+            Err(_) => Ok(0),
+        }
     }
 
     /// 64 hexadecimal digits of either case.

@@ -6,7 +6,7 @@ use ledger_bytes::{Bytes, Digest, Items};
 /// What a line of a script asks for.
 #[derive(Debug, Drop)]
 pub enum Line {
-    /// A journal is to be added: `append MEMBER CLUE CONTENT PROOF`.
+    /// A journal is to be added: `append MEMBER CLUE CONTENT PROOF`, or with a last field, `append MEMBER CLUE CONTENT PROOF NUMBER`.
     Append {
         /// The member who asks.
         member: u32,
@@ -16,6 +16,8 @@ pub enum Line {
         content: Bytes,
         /// The member's proof, up to 4,096 bytes.
         proof: Bytes,
+        /// The number by which the member tells this request from others. 0 where the line has none.
+        number: u64,
     },
     /// A member is to be added: `member NUMBER KEY PROOF`.
     NewMember {

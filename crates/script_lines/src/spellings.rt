@@ -3,7 +3,7 @@
 ghost use Rattle.std.specs.Prelude.{◌≡◌, ◌≤◌, ◌↔◌, length, option_map, All, IsTrue, IfOk, IfSome, IsSome};
 ghost use Rattle.std.specs.Char.{is_ascii_digit, is_ascii_hexdigit};
 ghost use Rattle.std.specs.List.{list_all};
-ghost use Rattle.script_lines.specs.Spellings.{is_decimal, number_of, bytes_of, digest_of, clue_of, name_of, which_of, approval_of, approvals_of, mark_of};
+ghost use Rattle.script_lines.specs.Spellings.{is_decimal, number_of, request_number_of, bytes_of, digest_of, clue_of, name_of, which_of, approval_of, approvals_of, mark_of};
 
 use crate::said::{SaidApproval, Which};
 use crate::splits::{cut, split_once};
@@ -31,6 +31,17 @@ pub fn read_number(text: &[u8], most: u64) -> Option<u64>
         }
     }
     Some(number)
+}
+
+/// The number that a member gives a request, from 1 to 2^64 - 1 without a leading zero; None where the text is no such
+/// number.
+pub fn read_request_number(text: &[u8]) -> Option<u64>
+    ensures { result ≡ request_number_of text.now }
+{
+    match read_number(text, u64::MAX)? {
+        0 => None,
+        number => Some(number),
+    }
 }
 
 fn is_decimal(text: &[u8]) -> bool

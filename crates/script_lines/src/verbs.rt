@@ -122,12 +122,14 @@ fn read_append(alloc: Global, mut fields: Fields) -> Result<Line, Stop>
     let clue = fields.clue(alloc)?;
     let content = fields.bytes(alloc, CONTENT_LIMIT as usize)?;
     let proof = fields.bytes(alloc, PROOF_LIMIT)?;
+    let number = fields.request_number()?;
     fields.end()?;
     Ok(Line::Append {
         member: member as u32,
         clue,
         content,
         proof,
+        number,
     })
 }
 
