@@ -28,8 +28,10 @@ request_number_low text n is = by (number_of (2 ^ 64 - 1) text) (λ m read. numb
   kept : (none : Bool) (m : ℕ) → cond none None (Some m) ≡ Some n → m ≡ n
   kept true m read = absurd cc
   kept false m read = cc
+
   numbered : Option ℕ → Option ℕ
-  numbered read = option_and_then read (λ (m : ℕ). if m == 0 then None else Some m)
+  numbered read = option_and_then (λ (m : ℕ). if m == 0 then None else Some m) read
+
   by : (read : Option ℕ) → ((m : ℕ) → read ≡ Some m → m ≤ 2 ^ 64 - 1) → numbered read ≡ Some n → n ≤ 2 ^ 64 - 1
   by None low some = absurd cc
   by (Some m) low some = subst (λ k. k ≤ 2 ^ 64 - 1) (kept (m == 0) m some) (low m refl)

@@ -76,12 +76,13 @@ append_at-words member clue content proof number is =
     let b = bytes_of-hex 65536 content is.2 in
     let p = bytes_of-hex 4096 proof is.3 in
     rw (m, c, b, p) (by (number == 0) (none_is number) (λ some. request_number_of-decimal number some is.4)) where
-  line : ℕ → Line
-  line = Append member clue content proof
-  by : (none : Bool) → (none ≡ true → 0 ≡ number) → (none ≡ false → request_number_of (decimal number) ≡ Some number)
-      → (optional_at request_number_of 0 (record { column = 7; fields = if none then [] else decimal number ∷ [] }) >>= (λ read. end_at read.1 >>= (λ end. Ok (line read.0)))) ≡ Ok (line number)
-  by true zero_is read = ap (λ n. Ok (line n)) (zero_is refl)
-  by false zero_is read = rw (read refl) refl
+      line : ℕ → Line
+      line = Append member clue content proof
+
+      by : (none : Bool) → (none ≡ true → 0 ≡ number) → (none ≡ false → request_number_of (decimal number) ≡ Some number)
+          → (optional_at request_number_of 0 (record { column = 7; fields = if none then [] else decimal number ∷ [] }) >>= (λ read. end_at read.1 >>= (λ end. Ok (line read.0)))) ≡ Ok (line number)
+      by true zero_is read = ap (λ n. Ok (line n)) (zero_is refl)
+      by false zero_is read = rw (read refl) refl
 
 member_at-words : (number : ℕ) (key : Digest) (proof : List ℕ) → IsSayable (NewMember number key proof)
     → member_at (record { column = 3; fields = decimal number ∷ hex_of key ∷ hex_or_dash proof ∷ [] }) ≡ Ok (NewMember number key proof)
