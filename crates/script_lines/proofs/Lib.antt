@@ -4,7 +4,6 @@ pub mod Filled
 pub mod Given
 pub mod Hexes
 pub mod Numbers
-pub mod Optionals
 pub mod Sayings
 pub mod Separate
 pub mod Fitting
