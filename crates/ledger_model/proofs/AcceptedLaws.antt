@@ -1,7 +1,7 @@
 -- An accepted job places the next journal, and its parts have their digests.
 use Rattle.std.specs.Prelude.{IsTrue, nat_lt, nat_le, bytes_eq, ◌==◌}
 use Rattle.std.proofs.Common.{◌≡◌, ℕ, ◌+◌, ◌<◌, ◌≤◌, ◌&&◌, ◌||◌, Bool, true, false, cond, not, List, [], ◌∷◌, length, ◌++◌, map, get_or, drop, Option, Some, None, refl, sym, ◌∙◌, ap, arith}
-use Rattle.std.proofs.lemmas.Bool.{eqb-true, le-leb, lt-leb, lt-ltb, leb-false, ltb-true, ltb-false, true≢false, and_from}
+use Rattle.std.proofs.lemmas.Bool.{eqb-true, eq-eqb, le-leb, lt-leb, lt-ltb, leb-false, ltb-true, ltb-false, true≢false, and_from}
 use Rattle.std.proofs.lemmas.List.{length-map}
 use Rattle.std.proofs.lemmas.Slice.Eq.{bytes_eq-Decides}
 use Rattle.std.specs.Option.{is_some}
@@ -12,7 +12,7 @@ use Rattle.ledger_bytes.specs.declared.refusal.Refusal.{Refusal}
 use Rattle.ledger_bytes.specs.declared.refusal.Refusal.TheVariants.{CluesFull, MemberNumber, MembersFull}
 use Rattle.journal_record.specs.Entry.{Entry, content_digest_of}
 use Rattle.journal_record.specs.Members.{is_known, number_refusal}
-use Rattle.journal_record.specs.Rules.{IsHeader, is_no_clue, clue_ord_ok, clue_prev_ok}
+use Rattle.journal_record.specs.Rules.{IsHeader, is_no_clue, clue_ord_ok, clue_prev_ok, version_of}
 use Rattle.journal_record.specs.declared.approval.Approval.{Approval}
 use Rattle.journal_record.specs.declared.header.Header.{Header}
 use Rattle.journal_record.specs.declared.header.Kind.{Kind}
@@ -33,9 +33,11 @@ use Rattle.ledger_model.specs.Lawful.{IsNextOccult, IsNextPurge, IsNext, AreLawf
 use Rattle.ledger_model.specs.Limits.{real_limits, AreWithin}
 use Rattle.ledger_model.specs.Members.{members, keys}
 use Rattle.ledger_model.specs.Needs.{purge_needs}
+use Rattle.ledger_model.specs.Numbers.{numbered, number_taken, repeated, unless_repeated}
 use Rattle.ledger_model.specs.Targets.{hider, kind_at, leaf_at}
 use Rattle.ledger_model.specs.declared.limits.Limits.{Limits}
 use Rattle.ledger_model.proofs.HideLaws.{hidden_is}
+use Rattle.ledger_model.proofs.RepeatLaws.{none_numbered}
 use Rattle.ledger_model.proofs.LawfulLaws.{lawful_from, genesis_first, some_journal, lawful_members, AreBetween, numbers_between, last_between}
 
 -- no refusal
@@ -45,6 +47,10 @@ IsNone o = let none : Option Refusal = None in o ≡ none
 none_first : (r : Option Refusal) (row : List (Option Refusal)) → IsNone (first_refusal (r ∷ row)) → IsNone r × IsNone (first_refusal row)
 none_first None row is = (refl, is)
 none_first (Some x) row is = absurd cc
+
+-- nothing is repeated
+abbrev pub IsNew : Option ℕ → Type 0
+IsNew o = let none : Option ℕ = None in o ≡ none
 
 if_none : (b : Bool) (x : Refusal) → IsNone (cond b (Some x) None) → b ≡ false
 if_none true x is = absurd cc
@@ -98,30 +104,34 @@ prev_ok h clue numbers = elim (is_no_clue clue) as (λ v. cond (nat_le (cond v 0
 ]
 
 -- a member's record that is accepted
-module _ (limits : Limits) (within : AreWithin limits) (h : History) (member : ℕ) (clue : Digest) (content : List ℕ) (content_digest request : Digest) (by : Approval) (judged : IsNone (first_refusal (append_judgements limits h member clue by.key))) where
+module _ (limits : Limits) (within : AreWithin limits) (h : History) (member : ℕ) (clue : Digest) (content : List ℕ) (content_digest request : Digest) (by : Approval) (number : ℕ) (judged : IsNone (first_refusal (append_judgements limits h member clue number request by.key))) (new : IsNew (repeated h member number request)) where
   abbrev placed_record : Entry
-  placed_record = append_journal h member clue content content_digest request by
+  placed_record = append_journal h member clue content content_digest request by number
+
+  -- what is looked at where nothing is repeated
+  looked_at : IsNone (unknown_in (keys h) member) × IsNone (number_taken h member number request) × IsNone (fullness limits h) × IsNone (clues_full limits h clue)
+  looked_at =
+      let a = none_first (unknown_in (keys h) member) _ judged in
+      let b = none_first (wrong_key_in (keys h) member by.key) _ a.1 in
+      let c = none_first (number_taken h member number request) _ b.1 in
+      let d = none_first (unless_repeated (repeated h member number request) (fullness limits h)) _ c.1 in
+      let e = none_first (unless_repeated (repeated h member number request) (clues_full limits h clue)) _ d.1 in
+      (a.0, c.0, sym (ap (λ r. unless_repeated r (fullness limits h)) new) ∙ d.0, sym (ap (λ r. unless_repeated r (clues_full limits h clue)) new) ∙ e.0)
 
   room : size h < real_limits.size
-  room = let less = room_is limits h (none_first (fullness limits h) _ judged).0 in omega (arith, less, within.size)
+  room = let less = room_is limits h looked_at.2 in omega (arith, less, within.size)
 
   known : member < length (members h)
   known =
-      let a = none_first (fullness limits h) _ judged in
-      let b = none_first (unknown_in (keys h) member) _ a.1 in
-      omega (arith, ltb-true member (length (keys h)) (if_not (is_known (keys h) member) _ b.0), length-map (members h) (λ (m : Member). m.key.0))
+      omega (arith, ltb-true member (length (keys h)) (if_not (is_known (keys h) member) _ looked_at.0), length-map (members h) (λ (m : Member). m.key.0))
 
   clue_room : IsNone (clues_full real_limits h clue)
-  clue_room =
-      let a = none_first (fullness limits h) _ judged in
-      let b = none_first (unknown_in (keys h) member) _ a.1 in
-      let c = none_first (wrong_key_in (keys h) member by.key) _ b.1 in
-      clues_room limits h clue within.clues (none_first (clues_full limits h clue) _ c.1).0
+  clue_room = clues_room limits h clue within.clues looked_at.3
 
   record_layout : AreLawful (journals h) → length content ≤ CONTENT_LIMIT → IsHeader placed_record.header
   unfolding append_header members
   record_layout lawful long = record {
-    version = refl;
+    version = eq-eqb (version_of kind.Content number (length content)) (version_of kind.Content number (length content)) refl;
     jsn = lt-ltb 0 (size h) (omega (arith, some_journal (journals h) lawful));
     member = lt-ltb member MEMBER_LIMIT (omega (arith, known, (lawful_members (journals h) lawful).1));
     clue = refl;
@@ -134,12 +144,12 @@ module _ (limits : Limits) (within : AreWithin limits) (h : History) (member : �
 
   -- its journal is the next one
   pub record_next : AreLawful (journals h) → length content ≤ CONTENT_LIMIT → IsNext (history [] (journals h)) placed_record.header
-  unfolding append_header members next_ordinal last_journal jsns_with clues_full clue_count
+  unfolding append_header members next_ordinal last_journal jsns_with clues_full clue_count numbered point
   record_next lawful long = record {
     layout = record_layout lawful long;
     jsn = refl;
     below = room;
-    own = record { member = known; clue_ord = refl; clue_prev = refl; room = clue_room };
+    own = record { member = known; clue_ord = refl; clue_prev = refl; room = clue_room; fresh = none_numbered h member number request looked_at.1 new };
   }
 
 -- an anchor that is accepted
@@ -341,10 +351,10 @@ stamp_few step stamp = by_full (nat_le NOTARY_LIMIT (length step.before)) refl s
   by_full false e false is = omega (arith, leb-false NOTARY_LIMIT (length step.before) e, first_index (length step.before) (drop (length step.before) step.after) stamp is)
 
 -- .. and its parts have their digests
-pub record_whole : (h : History) (member : ℕ) (clue : Digest) (content : List ℕ) (content_digest request : Digest) (by : Approval)
-    → bytes_eq content_digest.0 (content_digest_of content) ≡ true → IsWhole (append_journal h member clue content content_digest request by)
+pub record_whole : (h : History) (member : ℕ) (clue : Digest) (content : List ℕ) (content_digest request : Digest) (by : Approval) (number : ℕ)
+    → bytes_eq content_digest.0 (content_digest_of content) ≡ true → IsWhole (append_journal h member clue content content_digest request by number)
 unfolding append_header
-record_whole h member clue content content_digest request by is = record {
+record_whole h member clue content content_digest request by number is = record {
   length_is = refl;
   content_is = (bytes_eq-Decides content_digest.0 (content_digest_of content)).0 is;
   who_is = refl;
@@ -355,8 +365,8 @@ module _ (limits : Limits) (within : AreWithin limits) (h : History) (number : �
   member_room : size h < real_limits.size
   member_room = let less = room_is limits h (none_first (fullness limits h) _ judged).0 in omega (arith, less, within.size)
 
-  numbered : (length (members h) < MEMBER_LIMIT) × (number ≡ length (members h))
-  numbered = by_test (nat_le MEMBER_LIMIT (length (members h))) refl (none_first (number_refusal (members h) number) _ (none_first (fullness limits h) _ judged).1).0 where
+  next_number : (length (members h) < MEMBER_LIMIT) × (number ≡ length (members h))
+  next_number = by_test (nat_le MEMBER_LIMIT (length (members h))) refl (none_first (number_refusal (members h) number) _ (none_first (fullness limits h) _ judged).1).0 where
     by_test : (test : Bool) → nat_le MEMBER_LIMIT (length (members h)) ≡ test
         → IsNone (cond test (Some MembersFull) (cond (number == length (members h)) None (Some (MemberNumber (length (members h)))))) → (length (members h) < MEMBER_LIMIT) × (number ≡ length (members h))
     by_test true e none = absurd cc
@@ -371,14 +381,14 @@ module _ (limits : Limits) (within : AreWithin limits) (h : History) (number : �
     clue = refl;
     clue_ord = refl;
     clue_prev = refl;
-    a = and_from _ _ (le-leb 2 number (omega (arith, numbered.1, (lawful_members (journals h) lawful).0))) (lt-ltb number MEMBER_LIMIT (omega (arith, numbered.0, numbered.1)));
+    a = and_from _ _ (le-leb 2 number (omega (arith, next_number.1, (lawful_members (journals h) lawful).0))) (lt-ltb number MEMBER_LIMIT (omega (arith, next_number.0, next_number.1)));
     b = refl;
     content_len = refl;
   }
 
   pub member_next : AreLawful (journals h) → IsNext (history [] (journals h)) (member_journal (size h) number key by).header
   unfolding member_header members
-  member_next lawful = record { layout = member_layout lawful; jsn = refl; below = member_room; own = numbered.1 }
+  member_next lawful = record { layout = member_layout lawful; jsn = refl; below = member_room; own = next_number.1 }
 
 pub member_whole : (jsn number : ℕ) (key : Digest) (by : Approval) → IsWhole (member_journal jsn number key by)
 unfolding member_header

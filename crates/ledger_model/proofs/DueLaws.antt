@@ -12,12 +12,13 @@ use Rattle.script_lines.specs.declared.reply.Reply.TheVariants as reply
 use Rattle.std.specs.Option.{option_map}
 use Rattle.ledger_model.specs.Anchors.{stamp_of, time_journal}
 use Rattle.ledger_model.specs.Appends.{append_journal, member_journal, occult_journal, purge_journal}
-use Rattle.ledger_model.specs.Dues.{due_for, dues, reply_at, dues_text, IsWithin}
+use Rattle.ledger_model.specs.Dues.{due_for, dues, IsWithin}
 use Rattle.ledger_model.specs.Growing.{Grows}
 use Rattle.ledger_model.specs.History.{History, id, journals_of, size, root, close, block_of, end_of}
 use Rattle.ledger_model.specs.Judgements.{own_refusal}
 use Rattle.ledger_model.specs.Limits.{real_limits}
-use Rattle.ledger_model.specs.Outcomes.{with_waiting, anchor_outcome, after_judgement, with_job, placed_as, judged_outcome, outcome}
+use Rattle.ledger_model.specs.Numbers.{repeated, unless_repeated}
+use Rattle.ledger_model.specs.Outcomes.{record_outcome, with_waiting, anchor_outcome, after_judgement, with_job, placed_as, judged_outcome, outcome}
 use Rattle.ledger_model.specs.Rules.{settled_history, job_of, after_job, after_step, after_steps, after_window, after}
 use Rattle.ledger_model.specs.Scheme.{Scheme}
 use Rattle.ledger_model.specs.Step.{Step}
@@ -29,6 +30,7 @@ use Rattle.ledger_model.specs.declared.job.Job.{Job}
 use Rattle.ledger_model.specs.declared.job.Job.TheVariants.{Refused, Append, NewMember, Anchor, Occult, Purge, Get, Prove, Extend, Clue, Head}
 use Rattle.ledger_model.specs.declared.outcome.Query.TheVariants as query
 use Rattle.ledger_model.proofs.ProveLaws.{asked}
+use Rattle.ledger_model.proofs.RepeatLaws.{repeated_within}
 use Rattle.ledger_model.proofs.GrowLaws.{IsEnded, moves_close, grows_not, grows_moved, grows_job, grows_settled, size_close, grows_then, grows_size, size_closed, root_kept, block_of-grows, end_of-grows, end_of-le, block_of-ended, end_of-ended}
 
 -- each receipt's journal has a number of this range
@@ -38,62 +40,50 @@ AllWithin low high (due ∷ dues) = IsWithin low high due.answer × AllWithin lo
 
 -- a journal that is placed has the next number
 within_judged : (k : History) (step : Step) (job : Job) (refusal : Option Refusal) (journal : Entry)
-    → IsWithin (size k) (size (settled_history job (after_judgement refusal (Some journal) k))) (answer_for k step (judged_outcome refusal (placed_as (size k) journal)))
+    → IsWithin 0 (size (settled_history job (after_judgement refusal (Some journal) k))) (answer_for k step (judged_outcome refusal (placed_as (size k) journal)))
 within_judged k step job (Some refusal) journal = tt
 within_judged k step job None journal =
     let g = with_waiting (Some journal) k in
     let placed : size k + 1 ≤ size g = omega (arith, length-append (journals_of k.closed) (k.waiting ++ journal ∷ []), length-append k.waiting (journal ∷ []), length-append (journals_of k.closed) k.waiting) in
     (omega arith, omega (arith, placed, grows_size g (settled_history job g) (grows_settled job g)))
 
+-- a record that is repeated is there
+within_record : (k : History) (step : Step) (job : Job) (refusal : Option Refusal) (again : Option ℕ) (journal : Entry) → ((n : ℕ) → again ≡ Some n → n < size k)
+    → IsWithin 0 (size (settled_history job (after_judgement refusal (unless_repeated again (Some journal)) k))) (answer_for k step (judged_outcome refusal (record_outcome k again journal)))
+within_record k step job refusal None journal there = within_judged k step job refusal journal
+within_record k step job (Some refusal) (Some n) journal there = tt
+within_record k step job None (Some n) journal there = (omega arith, omega (arith, there n refl, grows_size k (settled_history job k) (grows_settled job k)))
+
 -- a time journal has the next number
 within_anchor : (k : History) (step : Step) (refusal : Option Refusal) (stamp : Option Stamp)
-    → IsWithin (size k) (size (settled_history Anchor (after_judgement refusal (option_map (time_journal (size k)) stamp) k))) (answer_for k step (judged_outcome refusal (anchor_outcome k stamp)))
+    → IsWithin 0 (size (settled_history Anchor (after_judgement refusal (option_map (time_journal (size k)) stamp) k))) (answer_for k step (judged_outcome refusal (anchor_outcome k stamp)))
 within_anchor k step (Some refusal) stamp = tt
 within_anchor k step None None = tt
 within_anchor k step None (Some stamp) = within_judged k step Anchor None (time_journal (size k) stamp)
 
--- the end of the open block adds none
-within_closed : (k : History) (step : Step) → IsWithin (size k) (size (after_job k step Anchor)) (answer_to k step Anchor)
-unfolding after_job answer_to with_job outcome
-within_closed k step =
-    subst (λ n. IsWithin n (size (after_job k step Anchor)) (answer_to k step Anchor)) (size_close k)
-    (within_anchor (close k) step (own_refusal real_limits (close k) Anchor) (stamp_of step))
-
-within_occult : (k : History) (step : Step) (target : ℕ) (leaf : Digest) (given : List Approval)
-    → IsWithin (size k) (size (after_job k step (Occult target leaf given))) (answer_to k step (Occult target leaf given))
-unfolding after_job answer_to with_job outcome
-within_occult k step target leaf given =
-    let job = Occult target leaf given in
-    subst (λ n. IsWithin n (size (after_job k step job)) (answer_to k step job)) (size_close k)
-    (within_judged (close k) step job (own_refusal real_limits (close k) job) (occult_journal (size (close k)) target leaf given))
-
-within_purge : (k : History) (step : Step) (p : ℕ) (told : Digest) (given : List Approval)
-    → IsWithin (size k) (size (after_job k step (Purge p told given))) (answer_to k step (Purge p told given))
-unfolding after_job answer_to with_job outcome
-within_purge k step p told given =
-    let job = Purge p told given in
-    subst (λ n. IsWithin n (size (after_job k step job)) (answer_to k step job)) (size_close k)
-    (within_judged (close k) step job (own_refusal real_limits (close k) job) (purge_journal (close k) p given))
-
--- a receipt's journal is the one that the job places
-pub within_job : (k : History) (step : Step) (job : Job) → IsWithin (size k) (size (after_job k step job)) (answer_to k step job)
+-- a receipt's journal is there: it is the one that the job places, or that it repeats
+pub within_job : (k : History) (step : Step) (job : Job) → IsWithin 0 (size (after_job k step job)) (answer_to k step job)
 unfolding after_job answer_to with_job outcome
 within_job k step (Refused refusal) = tt
-within_job k step (Append member clue content content_digest request by) =
-    let job = Append member clue content content_digest request by in
-    within_judged k step job (own_refusal real_limits k job) (append_journal k member clue content content_digest request by)
+within_job k step (Append member clue content content_digest request by number) =
+    let job = Append member clue content content_digest request by number in
+    within_record k step job (own_refusal real_limits k job) (repeated k member number request) (append_journal k member clue content content_digest request by number) (λ n is. (repeated_within k member number request n is).1)
 within_job k step (NewMember number key by) =
     let job = NewMember number key by in within_judged k step job (own_refusal real_limits k job) (member_journal (size k) number key by)
-within_job k step Anchor = within_closed k step
-within_job k step (Occult target leaf given) = within_occult k step target leaf given
-within_job k step (Purge p told given) = within_purge k step p told given
+within_job k step Anchor = within_anchor (close k) step (own_refusal real_limits (close k) Anchor) (stamp_of step)
+within_job k step (Occult target leaf given) =
+    let job = Occult target leaf given in
+    within_judged (close k) step job (own_refusal real_limits (close k) job) (occult_journal (size (close k)) target leaf given)
+within_job k step (Purge p told given) =
+    let job = Purge p told given in
+    within_judged (close k) step job (own_refusal real_limits (close k) job) (purge_journal (close k) p given)
 within_job k step (Get n) = tt
 within_job k step (Prove n) = asked (IsWithin _ _) (close k) step (own_refusal real_limits (close k) (Prove n)) (query.Prove n) (λ why is. tt) tt
 within_job k step (Extend which m) = asked (IsWithin _ _) (close k) step (own_refusal real_limits (close k) (Extend which m)) (query.Extend which m) (λ why is. tt) tt
 within_job k step (Clue clue) = tt
 within_job k step Head = tt
 
-within_step : (scheme : Scheme) (k : History) (step : Step) → IsWithin (size k) (size (after_step scheme k step)) (due_for scheme k step).answer
+within_step : (scheme : Scheme) (k : History) (step : Step) → IsWithin 0 (size (after_step scheme k step)) (due_for scheme k step).answer
 unfolding after_step
 within_step scheme k step = within_job k step (job_of scheme (id k) step.line)
 
@@ -121,14 +111,14 @@ pub all_wider : (low lower high : ℕ) (ds : List Due) → lower ≤ low → All
 all_wider low lower high [] l w = tt
 all_wider low lower high (due ∷ ds) l w = (within_wider low lower high high due.answer l (omega arith) w.0, all_wider low lower high ds l w.1)
 
--- the receipts of some steps are for journals that these place
-pub dues_within : (scheme : Scheme) (k : History) (steps : List Step) → AllWithin (size k) (size (after_steps scheme k steps)) (dues scheme k steps)
+-- the receipts of some steps are for journals that are there
+pub dues_within : (scheme : Scheme) (k : History) (steps : List Step) → AllWithin 0 (size (after_steps scheme k steps)) (dues scheme k steps)
 dues_within scheme k [] = tt
 dues_within scheme k (step ∷ steps) =
     let g = after_step scheme k step in
     let last = after_steps scheme g steps in (
-      within_wider (size k) (size k) (size g) (size last) (due_for scheme k step).answer (omega arith) (grows_size g last (grows_steps scheme g steps)) (within_step scheme k step),
-      all_wider (size g) (size k) (size last) (dues scheme g steps) (grows_size k g (grows_step scheme k step)) (dues_within scheme g steps),
+      within_wider 0 0 (size g) (size last) (due_for scheme k step).answer (omega arith) (grows_size g last (grows_steps scheme g steps)) (within_step scheme k step),
+      dues_within scheme g steps,
     )
 
 -- the replies of answers in one history are those in another
@@ -164,32 +154,9 @@ pub after_steps-append : (scheme : Scheme) (k : History) (xs ys : List Step) →
 after_steps-append scheme k [] ys = refl
 after_steps-append scheme k (x ∷ xs) ys = after_steps-append scheme (after_step scheme k x) xs ys
 
--- what a block that has ended makes of the answers that were due for it
-receipt_ended : (k g : History) (jsn : ℕ) (leaf : Digest) (stamp : Option Stamp) → k.waiting ≡ [] → (e : IsEnded k g) → size k ≤ jsn → jsn < size g → reply_in g (Receipt jsn leaf stamp) ≡ reply_at (length g.closed - 1) (size g) (root g (size g)) (Receipt jsn leaf stamp)
-receipt_ended k g jsn leaf stamp none e above below =
-    let at = end_of-ended k g jsn none e above below in
-    ap (λ b. reply.Placed jsn leaf b (end_of g jsn) (digest (root g (end_of g jsn))) (told_stamp stamp)) (block_of-ended k g jsn none e above below)
-    ∙ ap (λ n. reply.Placed jsn leaf (length g.closed - 1) n (digest (root g n)) (told_stamp stamp)) at
-
-pub answer_ended : (k g : History) (answer : Answer) → k.waiting ≡ [] → (size g ≡ size k) ⊎ IsEnded k g → IsWithin (size k) (size g) answer → reply_in g answer ≡ reply_at (length g.closed - 1) (size g) (root g (size g)) answer
-answer_ended k g (Reply reply) none ended w = refl
-answer_ended k g (Receipt jsn leaf stamp) none ended w =
-    elim ended [ inl same ↦ absurd (let no : ⊥ = omega (arith, same, w.0, w.1) in no) | inr e ↦ receipt_ended k g jsn leaf stamp none e w.0 w.1 ]
-
-dues_ended : (scheme : Scheme) (k g j : History) (steps : List Step) → k.waiting ≡ [] → (size g ≡ size k) ⊎ IsEnded k g → AllWithin (size k) (size g) (dues scheme j steps) → steps_text scheme g j steps ≡ dues_text (length g.closed - 1) (size g) (root g (size g)) (dues scheme j steps)
-unfolding step_text
-dues_ended scheme k g j [] none ended w = refl
-dues_ended scheme k g j (step ∷ steps) none ended w =
-    ap (λ r. reply_text step.lane step.index r ++ steps_text scheme g (after_step scheme j step) steps) (answer_ended k g (due_for scheme j step).answer none ended w.0)
-    ∙ ap (λ rest. reply_text step.lane step.index (reply_at (length g.closed - 1) (size g) (root g (size g)) (due_for scheme j step).answer) ++ rest) (dues_ended scheme k g (after_step scheme j step) steps none ended w.1)
-
 pub all_higher : (low high higher : ℕ) (ds : List Due) → high ≤ higher → AllWithin low high ds → AllWithin low higher ds
 all_higher low high higher [] h w = tt
 all_higher low high higher (due ∷ ds) h w = (within_wider low low high higher due.answer (omega arith) h w.0, all_higher low high higher ds h w.1)
-
-no_more : (k g : History) → k.waiting ≡ [] → g.waiting ≡ [] → (g.closed ≡ k.closed) ⊎ IsEnded k g → (size g ≡ size k) ⊎ IsEnded k g
-no_more k g none ended b =
-    elim b [ inl same ↦ inl (size_closed g ended ∙ ap (λ bs. length (journals_of bs)) same ∙ sym (size_closed k none)) | inr e ↦ inr e ]
 
 -- what is due for steps and more
 pub dues-append : (scheme : Scheme) (k : History) (xs ys : List Step) → dues scheme k (xs ++ ys) ≡ dues scheme k xs ++ dues scheme (after_steps scheme k xs) ys

@@ -1,6 +1,6 @@
 -- The numbers of each reply that is due in a run are as programs have them, and so are the leaf digests of receipts.
 use Rattle.std.specs.Prelude.{⊤, All, IsTrue, nat_le, nat_lt, filter, slice_get, find, min, bytes_eq}
-use Rattle.std.proofs.Common.{◌≡◌, ℕ, suc, ◌+◌, ◌<◌, ◌≤◌, ◌&&◌, ◌==◌, not, Bool, true, false, ◌||◌, cond, List, [], ◌∷◌, ◌++◌, length, map, drop, option_map, Option, Some, None, Result, Ok, Err, refl, sym, ap, subst, arith, append_assoc, append-nil, length-append}
+use Rattle.std.proofs.Common.{◌≡◌, ℕ, zero, suc, ◌+◌, ◌<◌, ◌≤◌, ◌&&◌, ◌==◌, not, Bool, true, false, ◌||◌, cond, List, [], ◌∷◌, ◌++◌, length, map, get_or, drop, option_map, Option, Some, None, Result, Ok, Err, refl, sym, ap, subst, arith, append_assoc, append-nil, length-append}
 use Rattle.std.specs.List.{list_all, fold, position_or_len, reduce}
 use Rattle.std.proofs.lemmas.Bool.{and_parts, eqb-true, leb-true, ltb-true}
 use Rattle.std.proofs.lemmas.List.{length-map}
@@ -33,14 +33,15 @@ use Rattle.ledger_model.specs.Appends.{approval_of, append_with, member_job, occ
 use Rattle.ledger_model.specs.Clues.{numbers_of, jsns_with, clue_count}
 use Rattle.ledger_model.specs.Dues.{IsWithin, due_for, dues, all_dues, due_reply, due_replies, IsCounted, AllCounted, EachCounted}
 use Rattle.ledger_model.specs.Growing.{Grows}
-use Rattle.ledger_model.specs.History.{History, id, journals, journals_of, size, root, blocks, point, block_from, end_from, block_of, end_of, close}
+use Rattle.ledger_model.specs.History.{History, id, journals, journals_of, leaf_digest, size, root, blocks, point, block_from, end_from, block_of, end_of, close}
 use Rattle.ledger_model.specs.Judgements.{kept_count, is_full, fullness, hard_fullness, life_fullness, unknown_in, wrong_key_in, clues_full, own_refusal}
 use Rattle.member_book.specs.Erasures.{absent, purged, purged_up_to, is_record, no_record, is_time, no_time, hidden_by, other_leaf, other_root, first_refusal}
 use Rattle.ledger_model.specs.Lawful.{AreNext, IsBlock, IsLawful}
 use Rattle.ledger_model.specs.Limits.{real_limits}
 use Rattle.ledger_model.specs.Members.{members, keys}
 use Rattle.ledger_model.specs.Needs.{is_taken, purge_needs}
-use Rattle.ledger_model.specs.Outcomes.{placed_as, anchor_outcome, judged_outcome, outcome}
+use Rattle.ledger_model.specs.Numbers.{link_at, taken_by, numbered, number_taken, repeated, unless_repeated}
+use Rattle.ledger_model.specs.Outcomes.{record_outcome, placed_as, anchor_outcome, judged_outcome, outcome}
 use Rattle.ledger_model.specs.Anchors.{stamp_of, time_journal, no_stamp, is_full_list}
 use Rattle.ledger_model.specs.Rules.{job_for, job_of, closes_before, judged_at, after_step, after_steps, after_window, after}
 use Rattle.ledger_model.specs.Proofs.{prove_refusal, extend_refusal}
@@ -68,6 +69,7 @@ use Rattle.ledger_model.proofs.GetLaws.{get_fits}
 use Rattle.ledger_model.proofs.GrowLaws.{length-journals_of, grows_close, grows_size, grows_then}
 use Rattle.ledger_model.proofs.KeepLaws.{run_lawful, close_lawful, step_lawful, steps_lawful}
 use Rattle.ledger_model.proofs.ProveLaws.{asked, told_proof, told_extension}
+use Rattle.ledger_model.proofs.RepeatLaws.{numbered_within}
 use Rattle.ledger_model.proofs.LawfulLaws.{AreFrom, lawful_from, some_journal, lawful_members, AreBetween, numbers_between, numbers_few, point_below}
 
 -- how much a lawful history holds
@@ -168,6 +170,19 @@ clues_fit : (h : History) (clue : Digest) → MayFit (clues_full real_limits h c
 unfolding clues_full
 clues_fit h clue =
     elim (not (is_no_clue clue) && length (jsns_with h clue) == 0 && nat_le real_limits.clues (clue_count h)) as (λ v. MayFit (cond v (Some refusals.CluesFull) None)) [ true ↦ tt | false ↦ tt ]
+
+unless_fits : (again : Option ℕ) (refusal : Option Refusal) → MayFit refusal → MayFit (unless_repeated again refusal)
+unless_fits None refusal f = f
+unless_fits (Some n) refusal f = tt
+
+taken_fits : (h : History) (member number : ℕ) (request : Digest) → IsLawful h → MayFit (number_taken h member number request)
+unfolding number_taken
+taken_fits h member number request l = by_found (numbered h member number) refl where
+  by_found : (found : Option ℕ) → numbered h member number ≡ found → MayFit (taken_by h request found)
+  by_found None is = tt
+  by_found (Some n) is =
+      let few : FitsWord n = omega (arith, (numbered_within h member number n is).1, size_few h l) in
+      elim (bytes_eq request.0 (link_at h n)) as (λ v. MayFit (cond v None (Some (refusals.NumberTaken n)))) [ true ↦ tt | false ↦ few ]
 
 number_fits : (ms : List Member) (number : ℕ) → FitsWord (length ms) → MayFit (number_refusal ms number)
 number_fits ms number f =
@@ -304,7 +319,7 @@ needs_fit h p l = (omega arith, owners_fit 0 (point h) p (journals h) (lawful_fr
 -- the numbers of a job that a refusal may tell
 abbrev pub JobFits : Job → Type 0
 JobFits (Refused refusal) = RefusalFits refusal
-JobFits (Append member clue content content_digest request by) = FitsWord member
+JobFits (Append member clue content content_digest request by number) = FitsWord member
 JobFits (NewMember number key by) = ⊤
 JobFits Anchor = ⊤
 JobFits (Occult target leaf given) = (length given ≤ APPROVAL_LIMIT) × MembersFit given
@@ -317,9 +332,10 @@ JobFits Head = ⊤
 
 own_fits : (h : History) (job : Job) → IsLawful h → JobFits job → MayFit (own_refusal real_limits h job)
 own_fits h (Refused refusal) l f = f
-own_fits h (Append member clue content content_digest request by) l f =
-    first_fits (fullness real_limits h ∷ unknown_in (keys h) member ∷ wrong_key_in (keys h) member by.key ∷ clues_full real_limits h clue ∷ [])
-    (full_fits h l, (unknown_fits (keys h) member f, (wrong_fits (keys h) member by.key f, (clues_fit h clue, tt))))
+own_fits h (Append member clue content content_digest request by number) l f =
+    let again = repeated h member number request in
+    first_fits (unknown_in (keys h) member ∷ wrong_key_in (keys h) member by.key ∷ number_taken h member number request ∷ unless_repeated again (fullness real_limits h) ∷ unless_repeated again (clues_full real_limits h clue) ∷ [])
+    (unknown_fits (keys h) member f, (wrong_fits (keys h) member by.key f, (taken_fits h member number request l, (unless_fits again (fullness real_limits h) (full_fits h l), (unless_fits again (clues_full real_limits h clue) (clues_fit h clue), tt)))))
 own_fits h (NewMember number key by) l f =
     first_fits (fullness real_limits h ∷ number_refusal (members h) number ∷ wrong_key_in (keys h) 0 by.key ∷ [])
     (full_fits h l, (number_fits (members h) number (omega (arith, members_few h l)), (wrong_fits (keys h) 0 by.key (omega arith), tt)))
@@ -395,6 +411,16 @@ placed_fits : (h : History) (step : Step) (refusal : Option Refusal) (journal : 
 placed_fits h step (Some refusal) journal c f = f
 placed_fits h step None journal c f = (leaf_bytes journal, c.stamp)
 
+leaf_at_bytes : (js : List Entry) (n : ℕ) → IsBytes (digest (get_or (map leaf_digest js) n [])).0
+leaf_at_bytes [] n = λ i. omega arith
+leaf_at_bytes (j ∷ js) zero = leaf_bytes j
+leaf_at_bytes (j ∷ js) (suc n) = leaf_at_bytes js n
+
+record_fits : (h : History) (step : Step) (refusal : Option Refusal) (again : Option ℕ) (journal : Entry) → IsCounted step → MayFit refusal → AnswerFits (answer_for h step (judged_outcome refusal (record_outcome h again journal)))
+record_fits h step refusal None journal c f = placed_fits h step refusal journal c f
+record_fits h step (Some refusal) (Some n) journal c f = f
+record_fits h step None (Some n) journal c f = (leaf_at_bytes (journals h) n, tt)
+
 no_stamp_fits : (step : Step) → AnswerFits (Reply (reply.Refused (no_stamp step)))
 no_stamp_fits step = elim (is_full_list step.before) as (λ v. AnswerFits (Reply (reply.Refused (cond v refusals.NotaryFull refusals.NotaryFault)))) [ true ↦ tt | false ↦ tt ]
 
@@ -416,9 +442,9 @@ asked_fits h step job q f told = asked AnswerFits h step (own_refusal real_limit
 outcome_fits : (h : History) (step : Step) (job : Job) → IsLawful h → IsCounted step → JobFits job → AnswerFits (answer_for h step (outcome real_limits (stamp_of step) h job))
 unfolding outcome
 outcome_fits h step (Refused refusal) l c f = f
-outcome_fits h step (Append member clue content content_digest request by) l c f =
-    let job = Append member clue content content_digest request by in
-    placed_fits h step (own_refusal real_limits h job) (append_journal h member clue content content_digest request by) c (own_fits h job l f)
+outcome_fits h step (Append member clue content content_digest request by number) l c f =
+    let job = Append member clue content content_digest request by number in
+    record_fits h step (own_refusal real_limits h job) (repeated h member number request) (append_journal h member clue content content_digest request by number) c (own_fits h job l f)
 outcome_fits h step (NewMember number key by) l c f =
     let job = NewMember number key by in placed_fits h step (own_refusal real_limits h job) (member_journal (size h) number key by) c (own_fits h job l f)
 outcome_fits h step Anchor l c f = anchor_fits h step (own_refusal real_limits h Anchor) (stamp_of step) c (own_fits h Anchor l f)
@@ -483,7 +509,7 @@ part_fits scheme h f steps l k c later =
     let last = after_steps scheme h steps in
     steps_fit scheme h f steps l k c
     (all_higher 0 (size last) (size f) (dues scheme h steps) (grows_size last f later)
-    (all_wider (size h) 0 (size last) (dues scheme h steps) (omega arith) (dues_within scheme h steps)))
+    (dues_within scheme h steps))
 
 pub window_fits : (scheme : Scheme) (h f : History) (steps : List Step) → IsLawful h → IsLawful f → AllCounted steps → Grows (after_window scheme h steps) f → AllFit (due_replies f (dues scheme h steps))
 window_fits scheme h f steps l k c later =

@@ -36,7 +36,8 @@ use Rattle.ledger_model.specs.Step.{Step}
 use Rattle.ledger_model.specs.declared.genesis.Genesis.{Genesis}
 use Rattle.ledger_model.specs.declared.job.Job.{Job}
 use Rattle.ledger_model.specs.declared.job.Job.TheVariants.{Refused, Append, NewMember, Anchor, Occult, Purge, Get, Prove, Extend, Clue, Head}
-use Rattle.ledger_model.proofs.AcceptedLaws.{record_next, record_whole, member_next, member_whole, occult_next, occult_whole, purge_next, purge_whole, time_next, time_whole, stamp_few}
+use Rattle.ledger_model.specs.Numbers.{repeated, unless_repeated}
+use Rattle.ledger_model.proofs.AcceptedLaws.{IsNew, record_next, record_whole, member_next, member_whole, occult_next, occult_whole, purge_next, purge_whole, time_next, time_whole, stamp_few}
 use Rattle.ledger_model.proofs.GrowLaws.{journals_of-push, close_none}
 use Rattle.ledger_model.proofs.LawfulLaws.{lawful_more}
 
@@ -93,13 +94,20 @@ placed_lawful h job (Some refusal) j l is next = settled_lawful h job l
 placed_lawful h job None j l is next =
     settled_keeps (wider h j) job (subst AreLawful (sym (journals_wider h j)) (next refl)) l.blocks_are (omega (arith, l.waiting_is.room, length-append h.waiting (j ∷ []))) (all_gather h.waiting j l.waiting_is.gathered is)
 
+-- a member's record that is placed, or refused, or that repeats one
+record_lawful : (h : History) (job : Job) (refusal : Option Refusal) (again : Option ℕ) (j : Entry) → IsLawful h → gathers j.header.kind ≡ true → (refusal ≡ None → IsNew again → AreLawful (journals h ++ j ∷ []))
+    → IsLawful (settled_history job (after_judgement refusal (unless_repeated again (Some j)) h))
+record_lawful h job refusal None j l is next = placed_lawful h job refusal j l is (λ none. next none refl)
+record_lawful h job (Some refusal) (Some n) j l is next = settled_lawful h job l
+record_lawful h job None (Some n) j l is next = settled_lawful h job l
+
 pub real_within : AreWithin real_limits
 real_within = record { soft = omega arith; hard = omega arith; size = omega arith; clues = omega arith }
 
 -- the parts of a job that fits
-content_short : (member : ℕ) (clue : Digest) (content : List ℕ) (content_digest request : Digest) (by : _) → fits_job (Append member clue content content_digest request by) ≡ true
+content_short : (member : ℕ) (clue : Digest) (content : List ℕ) (content_digest request : Digest) (by : _) (number : ℕ) → fits_job (Append member clue content content_digest request by number) ≡ true
     → (length content ≤ CONTENT_LIMIT) × (bytes_eq content_digest.0 (content_digest_of content) ≡ true)
-content_short member clue content content_digest request by fits =
+content_short member clue content content_digest request by number fits =
     let parts = and_parts (nat_le (length content) CONTENT_LIMIT && bytes_eq content_digest.0 (content_digest_of content)) (fits_approval member by) fits in
     let front = and_parts (nat_le (length content) CONTENT_LIMIT) (bytes_eq content_digest.0 (content_digest_of content)) parts.0 in
     (leb-true (length content) CONTENT_LIMIT front.0, front.1)
@@ -128,10 +136,10 @@ unplaced (Some refusal) h = refl
 pub job_lawful : (h : History) (step : Step) (job : Job) → fits_job job ≡ true → IsLawful h → IsLawful (after_job h step job)
 unfolding after_job with_job append_header member_header
 job_lawful h step (Refused refusal) fits l = settled_lawful h (Refused refusal) l
-job_lawful h step (Append member clue content content_digest request by) fits l =
-    let job = Append member clue content content_digest request by in
-    placed_lawful h job (own_refusal real_limits h job) (append_journal h member clue content content_digest request by) l refl
-    (λ none. lawful_more (journals h) _ l.journals_are (record_next real_limits real_within h member clue content content_digest request by none l.journals_are (content_short member clue content content_digest request by fits).0))
+job_lawful h step (Append member clue content content_digest request by number) fits l =
+    let job = Append member clue content content_digest request by number in
+    record_lawful h job (own_refusal real_limits h job) (repeated h member number request) (append_journal h member clue content content_digest request by number) l refl
+    (λ none new. lawful_more (journals h) _ l.journals_are (record_next real_limits real_within h member clue content content_digest request by number none new l.journals_are (content_short member clue content content_digest request by number fits).0))
 job_lawful h step (NewMember number key by) fits l =
     let job = NewMember number key by in
     placed_lawful h job (own_refusal real_limits h job) (member_journal _ number key by) l refl
@@ -164,6 +172,11 @@ placed_sound : (h : History) (job : Job) (refusal : Option Refusal) (j : Entry) 
 placed_sound h job (Some refusal) j s whole = settled_sound h job s
 placed_sound h job None j s whole = settled_sound (wider h j) job (subst (All IsWhole) (sym (journals_wider h j)) (All-push IsWhole (journals h) j s whole))
 
+record_sound : (h : History) (job : Job) (refusal : Option Refusal) (again : Option ℕ) (j : Entry) → IsSound h → IsWhole j → IsSound (settled_history job (after_judgement refusal (unless_repeated again (Some j)) h))
+record_sound h job refusal None j s whole = placed_sound h job refusal j s whole
+record_sound h job (Some refusal) (Some n) j s whole = settled_sound h job s
+record_sound h job None (Some n) j s whole = settled_sound h job s
+
 anchor_sound : (h : History) (refusal : Option Refusal) (stamp : Option Stamp) → IsSound h → IsSound (settled_history Anchor (after_judgement refusal (option_map (time_journal (size h)) stamp) h))
 anchor_sound h (Some refusal) stamp s = settled_sound h Anchor s
 anchor_sound h None None s = settled_sound h Anchor s
@@ -172,9 +185,9 @@ anchor_sound h None (Some stamp) s = placed_sound h Anchor None (time_journal (s
 pub job_sound : (h : History) (step : Step) (job : Job) → fits_job job ≡ true → IsSound h → IsSound (after_job h step job)
 unfolding after_job with_job
 job_sound h step (Refused refusal) fits s = settled_sound h (Refused refusal) s
-job_sound h step (Append member clue content content_digest request by) fits s =
-    let job = Append member clue content content_digest request by in
-    placed_sound h job (own_refusal real_limits h job) _ s (record_whole h member clue content content_digest request by (content_short member clue content content_digest request by fits).1)
+job_sound h step (Append member clue content content_digest request by number) fits s =
+    let job = Append member clue content content_digest request by number in
+    record_sound h job (own_refusal real_limits h job) (repeated h member number request) _ s (record_whole h member clue content content_digest request by number (content_short member clue content content_digest request by number fits).1)
 job_sound h step (NewMember number key by) fits s =
     let job = NewMember number key by in placed_sound h job (own_refusal real_limits h job) _ s (member_whole _ number key by)
 job_sound h step Anchor fits s = anchor_sound (close h) (own_refusal real_limits (close h) Anchor) (stamp_of step) (close_sound h s)
@@ -191,9 +204,9 @@ job_sound h step (Clue clue) fits s = settled_sound (close h) (Clue clue) (close
 job_sound h step Head fits s = settled_sound (close h) Head (close_sound h s)
 
 -- the job of a line fits
-pub record_fits : (scheme : Scheme) (id : List ℕ) (member : ℕ) (clue : Digest) (content proof : List ℕ) → length content ≤ CONTENT_LIMIT → length proof ≤ PROOF_LIMIT → fits_job (append_with scheme id member clue content proof) ≡ true
+pub record_fits : (scheme : Scheme) (id : List ℕ) (member : ℕ) (clue : Digest) (content proof : List ℕ) (number : ℕ) → length content ≤ CONTENT_LIMIT → length proof ≤ PROOF_LIMIT → fits_job (append_with scheme id member clue content proof number) ≡ true
 unfolding append_with
-record_fits scheme id member clue content proof c p =
+record_fits scheme id member clue content proof number c p =
     and_from _ _ (and_from _ _ (le-leb (length content) CONTENT_LIMIT c) ((bytes_eq-Decides (content_digest_of content) (content_digest_of content)).1 refl))
     (and_from _ _ (eq-eqb member member refl) (le-leb (length proof) PROOF_LIMIT p))
 
@@ -230,7 +243,7 @@ for_fits scheme id (Err refusal) fits = fits
 for_fits scheme id (Ok (line.Append member clue content proof)) fits =
     let parts = and_parts (nat_le (length clue) NAME_LIMIT && nat_le (length content) CONTENT_LIMIT) (nat_le (length proof) PROOF_LIMIT) fits in
     let front = and_parts (nat_le (length clue) NAME_LIMIT) (nat_le (length content) CONTENT_LIMIT) parts.0 in
-    record_fits scheme id member _ content proof (leb-true (length content) CONTENT_LIMIT front.1) (leb-true (length proof) PROOF_LIMIT parts.1)
+    record_fits scheme id member _ content proof 0 (leb-true (length content) CONTENT_LIMIT front.1) (leb-true (length proof) PROOF_LIMIT parts.1)
 for_fits scheme id (Ok (line.NewMember number key proof)) fits = member_fits scheme id number key proof (leb-true (length proof) PROOF_LIMIT fits)
 for_fits scheme id (Ok (line.Get n)) fits = refl
 for_fits scheme id (Ok (line.Prove n)) fits = refl

@@ -7,6 +7,7 @@ pub mod DueLaws
 pub mod RunLaws
 pub mod PreparedLaws
 pub mod GetLaws
+pub mod RepeatLaws
 pub mod WaitLaws
 pub mod WrittenLaws
 pub mod PlaceLaws

@@ -27,7 +27,7 @@ window_lines scheme f h steps later =
     let g = after_window scheme h steps in
     let last = after_steps scheme h steps in
     lines_are scheme f h steps
-    ∙ steps_kept scheme h g f (size h) steps (close_none last) later (all_higher (size h) (size last) (size g) (dues scheme h steps) (grows_size last g (grows_close last)) (dues_within scheme h steps))
+    ∙ steps_kept scheme h g f 0 steps (close_none last) later (all_higher 0 (size last) (size g) (dues scheme h steps) (grows_size last g (grows_close last)) (dues_within scheme h steps))
 
 -- what is due for some windows is their text
 pub run_lines : (scheme : Scheme) (h f : History) (windows : List (List Step)) → Grows (after scheme h windows) f → due_lines f (all_dues scheme h windows) ≡ text scheme h windows

@@ -1,6 +1,6 @@
 -- Lemmas on receipts that wait for their block's end, and on what is written once it has ended.
 use Rattle.std.specs.Prelude.{slice_get}
-use Rattle.std.proofs.Common.{true, false, cond, ◌≡◌, ℕ, zero, suc, ◌-◌, ◌≤◌, ◌⊎◌, inl, inr, List, [], ◌∷◌, ◌++◌, length, Option, Some, None, refl, ap, sym, subst, ◌∙◌, arith, append_assoc, append-nil, length-append}
+use Rattle.std.proofs.Common.{true, false, cond, ◌≡◌, ℕ, zero, suc, ◌-◌, ◌<◌, ◌≤◌, ◌⊎◌, inl, inr, List, [], ◌∷◌, ◌++◌, length, Option, Some, None, refl, ap, sym, subst, ◌∙◌, arith, append_assoc, append-nil, length-append}
 use Rattle.std.proofs.lemmas.List.{map-append, length-map}
 use Rattle.std.proofs.lemmas.List.Concat.{flat_map-append}
 use Rattle.std.proofs.lemmas.Option.{none-some, slice_get_within}
@@ -11,12 +11,13 @@ use Rattle.ledger_bytes.specs.declared.refusal.Refusal.{Refusal}
 use Rattle.journal_record.specs.Entry.{Entry}
 use Rattle.script_lines.specs.Replies.{reply_text}
 use Rattle.ledger_model.specs.Appends.{append_journal, member_journal, occult_journal, purge_journal}
-use Rattle.ledger_model.specs.Dues.{IsWithin, due_line, due_lines, due_text, dues_text, digests_of, HasLeaf, IsHeadOf, IsWaiting, AllWaiting, IsIn, AllIn}
+use Rattle.ledger_model.specs.Dues.{IsWithin, due_line, due_lines, digests_of, HasLeaf, IsHeadOf, IsWaiting, AllWaiting, IsIn, AllIn}
 use Rattle.ledger_model.specs.Growing.{Grows}
 use Rattle.ledger_model.specs.History.{History, history, id, blocks, point, journals, journals_of, size, root, close, leaf_digest}
 use Rattle.ledger_model.specs.Judgements.{own_refusal}
 use Rattle.ledger_model.specs.Limits.{real_limits}
-use Rattle.ledger_model.specs.Outcomes.{placed_journal, with_waiting, after_judgement, with_job, placed_as, anchor_outcome, judged_outcome, outcome}
+use Rattle.ledger_model.specs.Numbers.{repeated, unless_repeated}
+use Rattle.ledger_model.specs.Outcomes.{record_outcome, placed_journal, with_waiting, after_judgement, with_job, placed_as, anchor_outcome, judged_outcome, outcome}
 use Rattle.ledger_model.specs.Anchors.{stamp_of, time_journal}
 use Rattle.std.specs.Option.{option_map}
 use Rattle.sha2.specs.Sha256.{sha256}
@@ -39,7 +40,8 @@ use Rattle.ledger_model.specs.declared.answer.Answer.TheVariants.{Reply, Receipt
 use Rattle.ledger_model.specs.declared.due.Due.{Due}
 use Rattle.ledger_model.specs.declared.job.Job.{Job}
 use Rattle.ledger_model.specs.declared.job.Job.TheVariants.{Refused, Append, NewMember, Anchor, Occult, Purge, Get, Prove, Extend, Clue, Head}
-use Rattle.ledger_model.proofs.DueLaws.{answer_kept, answer_ended}
+use Rattle.ledger_model.proofs.DueLaws.{answer_kept}
+use Rattle.ledger_model.proofs.RepeatLaws.{leaf_there, point_before, repeated_within}
 use Rattle.ledger_model.specs.declared.outcome.Outcome.TheVariants.{Reading}
 use Rattle.ledger_model.specs.declared.outcome.Query.{Query}
 use Rattle.ledger_model.proofs.GetLaws.{get_told}
@@ -102,7 +104,7 @@ waits_closed h g x = ap (λ (k : History). k.closed) x.is
 still_waiting : (h g : History) (answer : Answer) → Waits h g → IsWaiting h answer → IsWaiting g answer
 still_waiting h g (Reply reply) x w = (w.0, subst (λ (bs : List (List Entry)). OfHead (IsHeadOf (journals_of bs)) reply) (sym (waits_closed h g x)) w.1)
 still_waiting h g (Receipt jsn leaf stamp) x w = (
-  omega (arith, w.0, ap (λ bs. length (journals_of bs)) (waits_closed h g x)),
+  subst (λ (bs : List (List Entry)). (length (journals_of bs) ≤ jsn) ⊎ (point (history bs []) ≤ jsn)) (sym (waits_closed h g x)) w.0,
   ap (λ js. slice_get (digests_of js) jsn) (waits_journals h g x) ∙ leaf_more (journals h) x.more jsn leaf w.1,
 )
 
@@ -122,9 +124,16 @@ waiting-first h (d ∷ xs) ys x = (x.0, waiting-first h xs ys x.1)
 placed_waits : (h : History) (step : Step) (refusal : Option Refusal) (journal : Entry) → IsWaiting (after_judgement refusal (Some journal) h) (answer_for h step (judged_outcome refusal (placed_as (size h) journal)))
 placed_waits h step (Some refusal) journal = (tt, tt)
 placed_waits h step None journal = (
-  omega (arith, length-append (journals_of h.closed) h.waiting),
+  inl (omega (arith, length-append (journals_of h.closed) h.waiting)),
   ap (λ js. slice_get (digests_of js) (size h)) (sym (append_assoc (journals_of h.closed) h.waiting (journal ∷ []))) ∙ leaf_last (journals h) journal,
 )
+
+-- a record that is repeated is there
+record_waits : (h : History) (step : Step) (refusal : Option Refusal) (again : Option ℕ) (journal : Entry) → ((n : ℕ) → again ≡ Some n → (point h ≤ n) × (n < size h))
+    → IsWaiting (after_judgement refusal (unless_repeated again (Some journal)) h) (answer_for h step (judged_outcome refusal (record_outcome h again journal)))
+record_waits h step refusal None journal there = placed_waits h step refusal journal
+record_waits h step (Some refusal) (Some n) journal there = (tt, tt)
+record_waits h step None (Some n) journal there = (inr (omega (arith, (there n refl).0, point_before h)), leaf_there h n (there n refl).1)
 
 anchor_waits : (h : History) (step : Step) (refusal : Option Refusal) (stamp : Option Stamp)
     → IsWaiting (after_judgement refusal (option_map (time_journal (size h)) stamp) h) (answer_for h step (judged_outcome refusal (anchor_outcome h stamp)))
@@ -165,8 +174,8 @@ asked_waits h step (Some refusal) q told = (tt, tt)
 pub answer_waits : (h : History) (step : Step) (job : Job) → (closes_before job ≡ true → h.waiting ≡ []) → IsWaiting (with_job real_limits (stamp_of step) h job) (answer_for h step (outcome real_limits (stamp_of step) h job))
 unfolding outcome with_job
 answer_waits h step (Refused refusal) settled = (tt, tt)
-answer_waits h step (Append member clue content content_digest request by) settled =
-    placed_waits h step (own_refusal real_limits h (Append member clue content content_digest request by)) (append_journal h member clue content content_digest request by)
+answer_waits h step (Append member clue content content_digest request by number) settled =
+    record_waits h step (own_refusal real_limits h (Append member clue content content_digest request by number)) (repeated h member number request) (append_journal h member clue content content_digest request by number) (λ n is. repeated_within h member number request n is)
 answer_waits h step (NewMember number key by) settled = placed_waits h step (own_refusal real_limits h (NewMember number key by)) (member_journal (size h) number key by)
 answer_waits h step Anchor settled = anchor_waits h step (own_refusal real_limits h Anchor) (stamp_of step)
 answer_waits h step (Occult target leaf given) settled = placed_waits h step (own_refusal real_limits h (Occult target leaf given)) (occult_journal (size h) target leaf given)
@@ -236,29 +245,19 @@ all_in_ended h (d ∷ ds) x = (in_ended h d.answer x.0, all_in_ended h ds x.1)
 
 -- lines at a block's end
 
-pub within_of : (h g : History) (answer : Answer) → size h ≤ size g → IsWaiting h answer → IsWithin (size (history h.closed [])) (size g) answer
-within_of h g (Reply reply) le x = tt
-within_of h g (Receipt jsn leaf stamp) le x =
-    (omega (arith, x.0, ap length (append-nil (journals_of h.closed))), omega (arith, le, leaf_within (journals h) jsn leaf x.1))
-
-ended_of : (h : History) → (size (close h) ≡ size (history h.closed [])) ⊎ IsEnded (history h.closed []) (close h)
-ended_of h =
-    elim (moves_close h).blocks_are [
-      | inl same ↦ inl (size_closed (close h) (close_none h) ∙ ap (λ bs. length (journals_of bs)) same ∙ sym (size_closed (history h.closed []) refl))
-      | inr e ↦ inr (record { block = e.block; closed_are = e.closed_are; none = e.none })
-    ]
+within_of : (h : History) (answer : Answer) → IsWaiting h answer → IsWithin 0 (size (close h)) answer
+within_of h (Reply reply) x = tt
+within_of h (Receipt jsn leaf stamp) x =
+    (omega arith, omega (arith, grows_size h (close h) (grows_close h), leaf_within (journals h) jsn leaf x.1))
 
 -- the line that is due where the open block has ended
-line_ended : (h f : History) (due : Due) → Grows (close h) f → IsWaiting h due.answer → due_line f due ≡ due_text (length (close h).closed - 1) (size (close h)) (root (close h) (size (close h))) due
+line_ended : (h f : History) (due : Due) → Grows (close h) f → IsWaiting h due.answer → due_line f due ≡ due_line (close h) due
 line_ended h f due later x =
-    let g = close h in
-    let k = history h.closed [] in
-    let within = within_of h g due.answer (grows_size h g (grows_close h)) x in
-    ap (reply_text due.lane due.index) (answer_kept g f (size k) due.answer (close_none h) later within ∙ answer_ended k g due.answer refl (ended_of h) within)
+    ap (reply_text due.lane due.index) (answer_kept (close h) f 0 due.answer (close_none h) later (within_of h due.answer x))
 
 -- what is written at a block's end are the lines of all that was due, in each later history
-pub lines_ended : (h f : History) (ds : List Due) → Grows (close h) f → AllWaiting h ds → dues_text (length (close h).closed - 1) (size (close h)) (root (close h) (size (close h))) ds ≡ due_lines f ds
+pub lines_ended : (h f : History) (ds : List Due) → Grows (close h) f → AllWaiting h ds → due_lines (close h) ds ≡ due_lines f ds
 lines_ended h f [] later x = refl
 lines_ended h f (d ∷ ds) later x =
     let g = close h in
-    ap (λ l. l ++ dues_text (length g.closed - 1) (size g) (root g (size g)) ds) (sym (line_ended h f d later x.0)) ∙ ap (λ l. due_line f d ++ l) (lines_ended h f ds later x.1)
+    ap (λ l. l ++ due_lines g ds) (sym (line_ended h f d later x.0)) ∙ ap (λ l. due_line f d ++ l) (lines_ended h f ds later x.1)

@@ -5,6 +5,7 @@ use Rattle.ledger_bytes.specs.Digests.{digest}
 use Rattle.ledger_bytes.specs.declared.digest.Digest.{Digest}
 use Rattle.journal_record.specs.Approval.{who_of}
 use Rattle.journal_record.specs.Entry.{Entry, content_digest_of, who_digest_of}
+use Rattle.journal_record.specs.Rules.{version_of}
 use Rattle.journal_record.specs.Request.{request_digest_of, member_request_digest_of, occult_request_digest_of, purge_request_digest_of, clue_digest_of}
 use Rattle.journal_record.specs.declared.approval.Approval.{Approval}
 use Rattle.journal_record.specs.declared.header.Header.{Header}
@@ -19,8 +20,8 @@ use Rattle.ledger_model.specs.declared.job.Job.{Job}
 use Rattle.ledger_model.specs.declared.job.Job.TheVariants.{Append, NewMember, Occult, Purge}
 
 -- the digest that a member approves for a record with this clue and this content
-abbrev pub request_with : List ℕ → ℕ → Digest → List ℕ → List ℕ
-request_with id member clue content = request_digest_of id member clue.0 (length content) (content_digest_of content)
+abbrev pub request_with : List ℕ → ℕ → Digest → List ℕ → ℕ → List ℕ
+request_with id member clue content number = request_digest_of id member clue.0 (length content) (content_digest_of content) number
 
 -- the clue of a name; no name is no clue
 abbrev pub clue_of : List ℕ → Digest
@@ -31,10 +32,10 @@ abbrev pub approval_of : Scheme → ℕ → List ℕ → List ℕ → Approval
 approval_of scheme member message proof = record { member = member; key = option_map digest (scheme message proof); proof = proof }
 
 -- the job of a record with a clue on the ledger with this id
-unfoldable pub append_with : Scheme → List ℕ → ℕ → Digest → List ℕ → List ℕ → Job
-append_with scheme id member clue content proof =
-    let request = request_with id member clue content in
-    Append member clue content (digest (content_digest_of content)) (digest request) (approval_of scheme member request proof)
+unfoldable pub append_with : Scheme → List ℕ → ℕ → Digest → List ℕ → List ℕ → ℕ → Job
+append_with scheme id member clue content proof number =
+    let request = request_with id member clue content number in
+    Append member clue content (digest (content_digest_of content)) (digest request) (approval_of scheme member request proof) number
 
 -- the job of a new member on the ledger with this id
 unfoldable pub member_job : Scheme → List ℕ → ℕ → Digest → List ℕ → Job
@@ -52,17 +53,18 @@ purge_job scheme id p told given =
     let request = purge_request_digest_of id p told.0 in
     Purge p told (map (λ by. approval_of scheme by.member request by.proof) given)
 
--- the header of a record that is journal jsn, with its clue, its number among the clue's journals, and the clue's journal before it
-unfoldable pub append_header : ℕ → ℕ → Digest → ℕ → ℕ → List ℕ → Digest → Digest → Approval → Header
-append_header jsn member clue ordinal previous content content_digest request by = record {
-  version = 1;
+-- the header of a record that is journal jsn, with its clue, its number among the clue's journals, the clue's journal before it,
+-- and the request's number, or 0
+unfoldable pub append_header : ℕ → ℕ → Digest → ℕ → ℕ → List ℕ → Digest → Digest → Approval → ℕ → Header
+append_header jsn member clue ordinal previous content content_digest request by number = record {
+  version = version_of kind.Content number (length content);
   kind = kind.Content;
   jsn = jsn;
   member = member;
   clue = clue;
   clue_ord = ordinal;
   clue_prev = previous;
-  a = 0;
+  a = number;
   b = 0;
   link = request;
   content_len = length content;
@@ -72,9 +74,9 @@ append_header jsn member clue ordinal previous content content_digest request by
 
 -- a member's record as the next journal of a history: its clue's ordinal and the clue's journal before it are those of the
 -- history
-abbrev pub append_journal : History → ℕ → Digest → List ℕ → Digest → Digest → Approval → Entry
-append_journal h member clue content content_digest request by = record {
-  header = append_header (size h) member clue (next_ordinal h clue) (last_journal h clue) content content_digest request by;
+abbrev pub append_journal : History → ℕ → Digest → List ℕ → Digest → Digest → Approval → ℕ → Entry
+append_journal h member clue content content_digest request by number = record {
+  header = append_header (size h) member clue (next_ordinal h clue) (last_journal h clue) content content_digest request by number;
   content = content;
   who = who_of (by ∷ []);
 }

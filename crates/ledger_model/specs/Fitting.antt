@@ -15,7 +15,7 @@ fits_approval member by = by.member == member && nat_le (length by.proof) PROOF_
 -- whether a line may make the job: its parts are no longer than a line may give, and belong together
 abbrev pub fits_job : Job → Bool
 fits_job (Refused refusal) = is_of_form refusal
-fits_job (Append member clue content content_digest request by) =
+fits_job (Append member clue content content_digest request by number) =
     nat_le (length content) CONTENT_LIMIT && bytes_eq content_digest.0 (content_digest_of content) && fits_approval member by
 fits_job (NewMember number key by) = fits_approval 0 by
 fits_job Anchor = true

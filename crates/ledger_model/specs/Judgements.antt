@@ -13,6 +13,7 @@ use Rattle.ledger_model.specs.Clues.{jsns_with, clue_count}
 use Rattle.ledger_model.specs.History.{History, size, point, root}
 use Rattle.ledger_model.specs.Members.{members, keys}
 use Rattle.ledger_model.specs.Needs.{purge_needs}
+use Rattle.ledger_model.specs.Numbers.{number_taken, repeated, unless_repeated}
 use Rattle.ledger_model.specs.Proofs.{prove_refusal, extend_refusal}
 use Rattle.ledger_model.specs.Targets.{kind_at, leaf_at, hider}
 use Rattle.ledger_model.specs.declared.job.Job.{Job}
@@ -54,11 +55,16 @@ clues_full limits h clue =
     then Some CluesFull
     else None
 
--- what may refuse a member's record whose proof shows this key, in its order: no room, no such member, another key, no room
--- for its clue
-abbrev pub append_judgements : Limits → History → ℕ → Digest → Option Digest → List (Option Refusal)
-append_judgements limits h member clue shown =
-    fullness limits h ∷ unknown_in (keys h) member ∷ wrong_key_in (keys h) member shown ∷ clues_full limits h clue ∷ []
+-- What may refuse a member's record whose proof shows this key, in its order: no such member, another key, a number of another
+-- request; and where it repeats none, no room, and no room for its clue.
+abbrev pub append_judgements : Limits → History → ℕ → Digest → ℕ → Digest → Option Digest → List (Option Refusal)
+append_judgements limits h member clue number request shown =
+    unknown_in (keys h) member
+    ∷ wrong_key_in (keys h) member shown
+    ∷ number_taken h member number request
+    ∷ unless_repeated (repeated h member number request) (fullness limits h)
+    ∷ unless_repeated (repeated h member number request) (clues_full limits h clue)
+    ∷ []
 
 -- what may refuse a new member, where the proof of member 0 shows this key, in its order: no room, another number than the
 -- next, another key
@@ -83,7 +89,7 @@ purge_judgements limits h p told given =
 -- what may refuse a job by the history alone, in its order: one equation for each kind of job
 abbrev pub own_judgements : Limits → History → Job → List (Option Refusal)
 own_judgements limits h (Refused refusal) = Some refusal ∷ []
-own_judgements limits h (Append member clue content content_digest request by) = append_judgements limits h member clue by.key
+own_judgements limits h (Append member clue content content_digest request by number) = append_judgements limits h member clue number request by.key
 own_judgements limits h (NewMember number key by) = member_judgements limits h number by.key
 own_judgements limits h Anchor = hard_fullness limits h ∷ []
 own_judgements limits h (Occult target leaf given) = occult_judgements limits h target leaf given

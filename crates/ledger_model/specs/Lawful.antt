@@ -12,6 +12,7 @@ use Rattle.ledger_model.specs.History.{History, history, journals, size, point}
 use Rattle.ledger_model.specs.Judgements.{clues_full}
 use Rattle.ledger_model.specs.Limits.{real_limits}
 use Rattle.ledger_model.specs.Members.{members}
+use Rattle.ledger_model.specs.Numbers.{numbered}
 use Rattle.ledger_model.specs.Targets.{is_hidden, kind_at, leaf_at}
 
 -- a header may be the next record: the member is known, the clue's numbers are the next ones, and there is room for the clue
@@ -20,6 +21,8 @@ pub record IsNextRecord (h : History) (x : Header) : Type 0 where
   pub clue_ord : x.clue_ord ≡ next_ordinal h x.clue
   pub clue_prev : x.clue_prev ≡ last_journal h x.clue
   pub room : clues_full real_limits h x.clue ≡ None
+  -- no kept record of the member has its number
+  pub fresh : numbered h x.member x.a ≡ None
 
 -- a header may be the next occult: it names a record that is kept and that none hides yet, by its number and its leaf digest
 pub record IsNextOccult (h : History) (x : Header) : Type 0 where

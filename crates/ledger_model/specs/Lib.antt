@@ -12,6 +12,7 @@ pub mod Appends
 pub mod Needs
 pub mod Headers
 pub mod Anchors
+pub mod Numbers
 pub mod Judgements
 pub mod Fitting
 pub mod Outcomes

@@ -10,13 +10,14 @@ use Rattle.ledger_model.specs.Anchors.{time_journal}
 use Rattle.ledger_model.specs.Appends.{append_journal, member_journal, occult_journal, purge_journal}
 use Rattle.ledger_model.specs.History.{History, history, size, point, leaf_digest}
 use Rattle.ledger_model.specs.Judgements.{own_refusal}
-use Rattle.ledger_model.specs.Targets.{is_hidden}
+use Rattle.ledger_model.specs.Numbers.{repeated, unless_repeated}
+use Rattle.ledger_model.specs.Targets.{is_hidden, leaf_at}
 use Rattle.ledger_model.specs.declared.job.Job.{Job}
 use Rattle.ledger_model.specs.declared.job.Job.TheVariants as job
 use Rattle.ledger_model.specs.declared.limits.Limits.{Limits}
 use Rattle.ledger_model.specs.declared.outcome.Outcome.{Outcome}
 use Rattle.ledger_model.specs.declared.outcome.PlacedJournal.{PlacedJournal}
-use Rattle.ledger_model.specs.declared.outcome.Outcome.TheVariants.{Refused, Placed, Reading}
+use Rattle.ledger_model.specs.declared.outcome.Outcome.TheVariants.{Refused, Placed, Again, Reading}
 use Rattle.ledger_model.specs.declared.outcome.Query.{Query}
 use Rattle.ledger_model.specs.declared.outcome.Query.TheVariants as query
 use Rattle.ledger_model.specs.declared.view.View.{View}
@@ -25,7 +26,8 @@ use Rattle.ledger_model.specs.declared.view.View.TheVariants.{Absent, Purged, Oc
 -- the journal that an accepted job places, where it places one: an anchor does once it has its stamp
 abbrev pub placed_journal : History → Option Stamp → Job → Option Entry
 placed_journal h stamp (job.Refused refusal) = None
-placed_journal h stamp (job.Append member clue content content_digest request by) = Some (append_journal h member clue content content_digest request by)
+placed_journal h stamp (job.Append member clue content content_digest request by number) =
+    unless_repeated (repeated h member number request) (Some (append_journal h member clue content content_digest request by number))
 placed_journal h stamp (job.NewMember number key by) = Some (member_journal (size h) number key by)
 placed_journal h stamp job.Anchor = option_map (time_journal (size h)) stamp
 placed_journal h stamp (job.Occult target leaf given) = Some (occult_journal (size h) target leaf given)
@@ -68,16 +70,21 @@ placed_with jsn journal = record { jsn = jsn; leaf = digest (leaf_digest journal
 abbrev pub placed_as : ℕ → Entry → Outcome
 placed_as jsn journal = Placed (placed_with jsn journal)
 
+-- what comes of a member's record: it is placed, or repeats one that was placed
+abbrev pub record_outcome : History → Option ℕ → Entry → Outcome
+record_outcome h None journal = placed_as (size h) journal
+record_outcome h (Some n) journal = Again n (digest (leaf_at h n))
+
 -- what comes of an accepted anchor: without a stamp it asks for one
 abbrev pub anchor_outcome : History → Option Stamp → Outcome
 anchor_outcome h None = Reading query.Stamp
 anchor_outcome h (Some stamp) = placed_as (size h) (time_journal (size h) stamp)
 
--- what comes of a job that nothing refuses: a journal is placed, or something is read
+-- what comes of a job that nothing refuses: a journal is placed, or was placed before, or something is read
 abbrev pub accepted_outcome : History → Option Stamp → Job → Outcome
 accepted_outcome h stamp (job.Refused refusal) = Refused refusal
-accepted_outcome h stamp (job.Append member clue content content_digest request by) =
-    placed_as (size h) (append_journal h member clue content content_digest request by)
+accepted_outcome h stamp (job.Append member clue content content_digest request by number) =
+    record_outcome h (repeated h member number request) (append_journal h member clue content content_digest request by number)
 accepted_outcome h stamp (job.NewMember number key by) = placed_as (size h) (member_journal (size h) number key by)
 accepted_outcome h stamp job.Anchor = anchor_outcome h stamp
 accepted_outcome h stamp (job.Occult target leaf given) = placed_as (size h) (occult_journal (size h) target leaf given)
@@ -102,6 +109,7 @@ outcome limits stamp h job = judged_outcome (own_refusal limits h job) (accepted
 abbrev pub AsksFor : Job → Outcome → Type 0
 AsksFor job (Refused refusal) = ⊤
 AsksFor job (Placed placed) = ⊤
+AsksFor job (Again jsn leaf) = ⊤
 AsksFor job (Reading query) = query_of job ≡ Some query
 
 -- What of journal n can be shown, by the first of these that holds: it isn't there, it was purged, its content is hidden, it

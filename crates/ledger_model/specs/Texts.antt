@@ -1,5 +1,5 @@
 -- What is written for a run.
-use Rattle.std.specs.Prelude.{if◌then◌else◌, ℕ, List, [], ◌∷◌, ◌++◌, length, filter, Option, nat_le}
+use Rattle.std.specs.Prelude.{if◌then◌else◌, ℕ, List, [], ◌∷◌, ◌++◌, length, filter, Option, None, nat_le}
 use Rattle.std.specs.Option.{option_map}
 use Rattle.sha2.specs.Sha256.{sha256}
 use Rattle.tree_model.specs.Tree.{mth}
@@ -29,7 +29,7 @@ use Rattle.ledger_model.specs.declared.answer.Answer.{Answer}
 use Rattle.ledger_model.specs.declared.answer.Answer.TheVariants.{Reply, Receipt}
 use Rattle.ledger_model.specs.declared.job.Job.{Job}
 use Rattle.ledger_model.specs.declared.outcome.Outcome.{Outcome}
-use Rattle.ledger_model.specs.declared.outcome.Outcome.TheVariants.{Refused, Placed, Reading}
+use Rattle.ledger_model.specs.declared.outcome.Outcome.TheVariants.{Refused, Placed, Again, Reading}
 use Rattle.ledger_model.specs.declared.outcome.Query.{Query}
 use Rattle.ledger_model.specs.declared.outcome.Query.TheVariants.{Stamp as StampOf, Get, Prove, Extend, Clue, Head}
 
@@ -72,6 +72,7 @@ told_reply h step Head =
 abbrev pub answer_for : History → Step → Outcome → Answer
 answer_for h step (Refused refusal) = Reply (reply.Refused refusal)
 answer_for h step (Placed placed) = Receipt placed.jsn placed.leaf (stamp_of step)
+answer_for h step (Again jsn leaf) = Receipt jsn leaf None
 answer_for h step (Reading query) = Reply (told_reply h step query)
 
 -- the answer to a job, judged against all that was placed before it

@@ -24,6 +24,8 @@ pub enum Job {
         request: Digest,
         /// The member's approval of the request.
         by: Approval,
+        /// The number that the member gives the request, or 0 where it gives none.
+        number: u64,
     },
     /// A new member.
     NewMember {
