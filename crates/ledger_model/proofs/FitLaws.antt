@@ -385,7 +385,7 @@ given_fit scheme message given fits f = (
 for_fits : (scheme : Scheme) (id : List ℕ) (what : Result Line Refusal) → fits_what what ≡ true → WhatFits what → JobFits (job_for scheme id what)
 unfolding append_with member_job occult_job purge_job
 for_fits scheme id (Err refusal) fits f = f
-for_fits scheme id (Ok (line.Append member clue content proof)) fits f = f
+for_fits scheme id (Ok (line.Append member clue content proof number)) fits f = f.0
 for_fits scheme id (Ok (line.NewMember number key proof)) fits f = tt
 for_fits scheme id (Ok (line.Get n)) fits f = tt
 for_fits scheme id (Ok (line.Prove n)) fits f = tt

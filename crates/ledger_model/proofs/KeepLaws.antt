@@ -240,10 +240,10 @@ purge_fits scheme id p told given fits = shown_fit scheme (purge_request_digest_
 
 for_fits : (scheme : Scheme) (id : List ℕ) (what : Result Line Refusal) → fits_what what ≡ true → fits_job (job_for scheme id what) ≡ true
 for_fits scheme id (Err refusal) fits = fits
-for_fits scheme id (Ok (line.Append member clue content proof)) fits =
+for_fits scheme id (Ok (line.Append member clue content proof number)) fits =
     let parts = and_parts (nat_le (length clue) NAME_LIMIT && nat_le (length content) CONTENT_LIMIT) (nat_le (length proof) PROOF_LIMIT) fits in
     let front = and_parts (nat_le (length clue) NAME_LIMIT) (nat_le (length content) CONTENT_LIMIT) parts.0 in
-    record_fits scheme id member _ content proof 0 (leb-true (length content) CONTENT_LIMIT front.1) (leb-true (length proof) PROOF_LIMIT parts.1)
+    record_fits scheme id member _ content proof number (leb-true (length content) CONTENT_LIMIT front.1) (leb-true (length proof) PROOF_LIMIT parts.1)
 for_fits scheme id (Ok (line.NewMember number key proof)) fits = member_fits scheme id number key proof (leb-true (length proof) PROOF_LIMIT fits)
 for_fits scheme id (Ok (line.Get n)) fits = refl
 for_fits scheme id (Ok (line.Prove n)) fits = refl

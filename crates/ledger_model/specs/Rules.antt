@@ -19,7 +19,7 @@ use Rattle.ledger_model.specs.declared.job.Job.TheVariants.{Refused, Append, New
 -- read
 abbrev pub job_for : Scheme → List ℕ → Result Line Refusal → Job
 job_for scheme id (Err refusal) = Refused refusal
-job_for scheme id (Ok (line.Append member clue content proof)) = append_with scheme id member (clue_of clue) content proof 0
+job_for scheme id (Ok (line.Append member clue content proof number)) = append_with scheme id member (clue_of clue) content proof number
 job_for scheme id (Ok (line.NewMember number key proof)) = member_job scheme id number key proof
 job_for scheme id (Ok line.Anchor) = Anchor
 job_for scheme id (Ok (line.Occult target leaf given)) = occult_job scheme id target leaf given
