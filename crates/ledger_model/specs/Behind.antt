@@ -1,5 +1,5 @@
 -- What may be next behind a base, where nobody can look at the journals in front of it.
-use Rattle.std.specs.Prelude.{◌≡◌, ℕ, ◌+◌, ◌-◌, ◌<◌, ◌≤◌, ◌&&◌, ◌==◌, Bool, true, false, if◌then◌else◌, List, [], ◌∷◌, ◌++◌, length, map, filter, Option, Some, None, ⊤}
+use Rattle.std.specs.Prelude.{◌≡◌, ℕ, ◌+◌, ◌-◌, ◌<◌, ◌≤◌, ◌&&◌, ◌==◌, Bool, true, false, if◌then◌else◌, List, [], ◌∷◌, ◌++◌, length, map, filter, drop, Option, Some, None, ⊤}
 use Rattle.std.specs.List.{list_any}
 use Rattle.ledger_bytes.specs.declared.digest.Digest.{Digest}
 use Rattle.clue_index.specs.Added.{Added, trail_of, different_clues}
@@ -14,6 +14,7 @@ use Rattle.ledger_model.specs.Clues.{has_clue}
 use Rattle.ledger_model.specs.History.{history, is_purge, greatest_point}
 use Rattle.ledger_model.specs.Limits.{real_limits}
 use Rattle.ledger_model.specs.Members.{members, admitted_members}
+use Rattle.ledger_model.specs.Numbers.{numbered_in}
 use Rattle.ledger_model.specs.Targets.{is_occult, kind_at, leaf_at}
 use Rattle.pseudo_genesis.specs.declared.base.Base.{Base}
 
@@ -61,12 +62,19 @@ previous_in a clue = if is_no_clue clue then 0 else last_of (trail_of a clue.0)
 abbrev pub HasRoomFor : ℕ → Added → Digest → Type 0
 HasRoomFor most a clue = is_no_clue clue ≡ false → count_of (trail_of a clue.0) ≡ 0 → length (different_clues a) < most
 
--- a member's record that may be next: the member is known, the clue's numbers are the next ones, and there is room for the clue
+-- the last record of a member with this number among some journals from the point on, where the first of them is journal `first`
+abbrev pub numbered_from : ℕ → ℕ → List Entry → ℕ → ℕ → Option ℕ
+numbered_from first point journals member number =
+    numbered_in (first + (point - first)) (drop (point - first) journals) member number
+
+-- a member's record that may be next: the member is known, the clue's numbers are the next ones, there is room for the clue, and
+-- none of the member's records from the point on has its number
 pub record IsRecordBehind (start : Option Base) (journals : List Entry) (x : Header) : Type 0 where
   pub member : x.member < count_behind start journals
   pub clue_ord : x.clue_ord ≡ ordinal_in (clues_behind start journals) x.clue
   pub clue_prev : x.clue_prev ≡ previous_in (clues_behind start journals) x.clue
   pub room : HasRoomFor real_limits.clues (clues_behind start journals) x.clue
+  pub fresh : numbered_from (first_of start) (greatest_point journals) journals x.member x.a ≡ None
 
 -- An occult that may be next: none of the journals hides its target. A target that is there is a record from the point on, and
 -- the link is its leaf digest. Of one in front of the base nothing more can be asked, until the purge to the base's own point
