@@ -17,17 +17,17 @@ some_digest : (o : Option Digest) → o ≡ option_map digest (option_map (λ (d
 some_digest (Some d) = refl
 some_digest None = refl
 
-pub record_is : (scheme : Scheme) (id : List ℕ) (member : ℕ) (clue : Digest) (content proof slice shown : List ℕ) (count : ℕ) (content_digest request : Digest) (key : Option Digest)
-    → content_digest.0 ≡ content_digest_of slice → slice ≡ content → request.0 ≡ request_digest_of id member clue.0 count content_digest.0 → count ≡ length content
+pub record_is : (scheme : Scheme) (id : List ℕ) (member : ℕ) (clue : Digest) (content proof slice shown : List ℕ) (count : ℕ) (content_digest request : Digest) (key : Option Digest) (number : ℕ)
+    → content_digest.0 ≡ content_digest_of slice → slice ≡ content → request.0 ≡ request_digest_of id member clue.0 count content_digest.0 number → count ≡ length content
     → option_map (λ (d : Digest). d.0) key ≡ scheme request.0 shown → shown ≡ proof
-    → Append member clue content content_digest request (record { member = member; key = key; proof = proof }) ≡ append_with scheme id member clue content proof
+    → Append member clue content content_digest request (record { member = member; key = key; proof = proof }) number ≡ append_with scheme id member clue content proof number
 unfolding append_with
-record_is scheme id member clue content proof slice shown count content_digest request key c s r n k p =
-    let job : Digest → Digest → Option Digest → Job = λ x y z. Append member clue content x y (record { member = member; key = z; proof = proof }) in
+record_is scheme id member clue content proof slice shown count content_digest request key number c s r n k p =
+    let job : Digest → Digest → Option Digest → Job = λ x y z. Append member clue content x y (record { member = member; key = z; proof = proof }) number in
     let same : content_digest.0 ≡ content_digest_of content = c ∙ ap content_digest_of s in
-    let asked : request.0 ≡ request_with id member clue content = r ∙ ap (λ x. request_digest_of id member clue.0 x content_digest.0) n ∙ ap (request_digest_of id member clue.0 (length content)) same in
-    let shows : key ≡ option_map digest (scheme (request_with id member clue content) proof) = some_digest key ∙ ap (option_map digest) (k ∙ ap (λ x. scheme x shown) asked ∙ ap (scheme (request_with id member clue content)) p) in
-    ap (λ x. job (digest x) request key) same ∙ ap (λ x. job (digest (content_digest_of content)) (digest x) key) asked ∙ ap (job (digest (content_digest_of content)) (digest (request_with id member clue content))) shows
+    let asked : request.0 ≡ request_with id member clue content number = r ∙ ap (λ x. request_digest_of id member clue.0 x content_digest.0 number) n ∙ ap (λ x. request_digest_of id member clue.0 (length content) x number) same in
+    let shows : key ≡ option_map digest (scheme (request_with id member clue content number) proof) = some_digest key ∙ ap (option_map digest) (k ∙ ap (λ x. scheme x shown) asked ∙ ap (scheme (request_with id member clue content number)) p) in
+    ap (λ x. job (digest x) request key) same ∙ ap (λ x. job (digest (content_digest_of content)) (digest x) key) asked ∙ ap (job (digest (content_digest_of content)) (digest (request_with id member clue content number))) shows
 
 pub member_is : (scheme : Scheme) (id : List ℕ) (number : ℕ) (key : Digest) (proof shown : List ℕ) (request : Digest) (found : Option Digest)
     → request.0 ≡ member_request_digest_of id number key.0 → option_map (λ (d : Digest). d.0) found ≡ scheme request.0 shown → shown ≡ proof

@@ -52,6 +52,7 @@ fn prepare_line<V: Verifier>(
             clue,
             content,
             proof,
+            number,
         } => record_job(
             verifier,
             id,
@@ -59,6 +60,7 @@ fn prepare_line<V: Verifier>(
             clue_digest(clue.as_slice()),
             content,
             proof,
+            number,
         ),
         Line::NewMember { number, key, proof } => member_job(verifier, id, number, key, proof),
         Line::Anchor => Job::Anchor,

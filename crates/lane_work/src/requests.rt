@@ -16,8 +16,9 @@ use member_book::Verifier;
 use script_lines::SaidApproval;
 use std::alloc::Global;
 
-/// The job of a member's record with this clue, or with 32 zero bytes for none, on the ledger with this id: with the
-/// digests that the member approves, and the key that the proof shows to this verifier.
+/// The job of a member's record with this clue, or with 32 zero bytes for none, and with this number of the request, or 0 for
+/// none, on the ledger with this id: with the digests that the member approves, and the key that the proof shows to this
+/// verifier.
 pub(crate) fn record_job<V: Verifier>(
     verifier: &V,
     id: &Digest,
@@ -25,15 +26,17 @@ pub(crate) fn record_job<V: Verifier>(
     clue: Digest,
     content: Bytes,
     proof: Bytes,
+    number: u64,
 ) -> Job
     requires content { length content ≤ CONTENT_LIMIT }
     requires proof { length proof ≤ PROOF_LIMIT }
     ensures job { result ≡ appends.append_with
-        (V.shows verifier.now) id.now.0 member clue content proof }
+        (V.shows verifier.now) id.now.0 member clue content proof number }
     ensures fits { fits_job result ≡ true }
 {
     let digest = content_digest(content.as_slice());
-    let request = request_digest(id, member, &clue, content.as_slice().len() as u32, &digest);
+    let content_len = content.as_slice().len() as u32;
+    let request = request_digest(id, member, &clue, content_len, &digest, number);
     let key = verifier.key_of(&request, proof.as_slice());
     Job::Append {
         member,
@@ -42,6 +45,7 @@ pub(crate) fn record_job<V: Verifier>(
         content_digest: digest,
         request,
         by: Approval { member, key, proof },
+        number,
     }
 }
 
