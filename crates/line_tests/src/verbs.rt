@@ -7,21 +7,22 @@ use std::test::Fail;
 /// What a line is.
 #[derive(Clone, Copy, Debug, PartialEq, Eq)]
 enum Form {
-    /// The member, and the lengths of clue, content and proof.
-    Append(u32, usize, usize, usize),
+    /// The member, the lengths of clue, content and proof, and the number.
+    Append(u32, usize, usize, usize, u64),
     Other,
     No(Refusal),
 }
 
-/// A member with the bytes of an append: clue, content and proof.
-fn append_of(line: Line) -> Option<(u32, Bytes, Bytes, Bytes)> {
+/// A member with the bytes of an append, which are clue, content and proof, and with its number.
+fn append_of(line: Line) -> Option<(u32, Bytes, Bytes, Bytes, u64)> {
     match line {
         Line::Append {
             member,
             clue,
             content,
             proof,
-        } => Some((member, clue, content, proof)),
+            number,
+        } => Some((member, clue, content, proof, number)),
         _ => None,
     }
 }
@@ -30,11 +31,12 @@ fn form_of(rt: &HostRuntime, line: &[u8]) -> Result<Form, NoMemory> {
     let Spoken { lane: _, what } = read_line(rt.alloc(), line)?;
     let form = match what {
         Ok(line) => match append_of(line) {
-            Some((member, clue, content, proof)) => Form::Append(
+            Some((member, clue, content, proof, number)) => Form::Append(
                 member,
                 clue.as_slice().len(),
                 content.as_slice().len(),
                 proof.as_slice().len(),
+                number,
             ),
             None => Form::Other,
         },
@@ -50,7 +52,7 @@ fn at(column: u32) -> Form {
 #[test]
 fn keeps_to_limits(rt: HostRuntime) -> Result<(), Fail> {
     for (content, proof, wanted) in [
-        (65_536, 4_096, Form::Append(3, 0, 65_536, 4_096)),
+        (65_536, 4_096, Form::Append(3, 0, 65_536, 4_096, 0)),
         (65_537, 4_097, at(5)),
         (1, 4_097, at(6)),
     ] {
@@ -77,15 +79,36 @@ fn keeps_to_limits(rt: HostRuntime) -> Result<(), Fail> {
     Ok(())
 }
 
+// What stands behind the proof of an append.
+#[test]
+fn reads_the_number_of_a_request(rt: HostRuntime) -> Result<(), Fail> {
+    for (text, wanted) in [
+        ("", Form::Append(2, 0, 1, 0, 0)),
+        (" 1", Form::Append(2, 0, 1, 0, 1)),
+        (" 18446744073709551615", Form::Append(2, 0, 1, 0, u64::MAX)),
+        (" 18446744073709551616", at(7)),
+        (" 0", at(7)),
+        (" 07", at(7)),
+        (" -", at(7)),
+        (" ", at(7)),
+        (" 7 ", at(8)),
+    ] {
+        let mut line = b"0 append 2 - 61 -".to_vec(rt.alloc())?;
+        line.extend_from_slice(text.as_bytes())?;
+        assert_eq!(rt; form_of(&rt, line.as_slice())?, wanted, "at{text}");
+    }
+    Ok(())
+}
+
 #[test]
 fn keeps_what_a_line_says(rt: HostRuntime) -> Result<(), Fail> {
-    let Spoken { lane, what } = read_line(rt.alloc(), b"0 append 2 inv 616263 031C")?;
+    let Spoken { lane, what } = read_line(rt.alloc(), b"0 append 2 inv 616263 031C 7")?;
     assert_eq!(rt; lane, 0);
     let Ok(line) = what else {
         return Err("not a line".into());
     };
-    let (member, clue, content, proof) = append_of(line).ok_or("not an append")?;
-    assert_eq!(rt; member, 2);
+    let (member, clue, content, proof, number) = append_of(line).ok_or("not an append")?;
+    assert_eq!(rt; (member, number), (2, 7));
     assert_eq!(rt; clue.as_slice(), b"inv".as_slice());
     assert_eq!(rt; content.as_slice(), b"abc".as_slice());
     assert_eq!(rt; proof.as_slice(), [0x03, 0x1c].as_slice());

@@ -13,7 +13,7 @@ use std::test::Fail;
 
 // The file of a new ledger: no base, and one block of one journal with a content of 64 bytes.
 const NEW: [&str; 8] = [
-    "014c454447455244420100000000000000010000000000000000ca358758f6d27e6cf45272937977a748fd88391db679",
+    "014c454447455244420200000000000000010000000000000000ca358758f6d27e6cf45272937977a748fd88391db679",
     "ceda7dc7bf1f005ee879000000000000010000000100000000000000f264915354a6547b1f887e596e872fd13b2abdc8",
     "60729da9fe31180a81726cf4a20100000000000000000000000000000000000000000000000000000000000000000000",
     "000000000000000000000000000000000000000000000000000000000000000000000000000000914cc74d53cd826148",
@@ -41,7 +41,7 @@ const BLOCK: [&str; 12] = [
 
 // The file of a ledger that was purged: generation 2, a base of 215 bytes, and three blocks.
 const PURGED: [&str; 25] = [
-    "014c4544474552444201000000000000000200000000000000d72a4f3bb2a8d77b22b9d180252a2a074a9cbc7278cc6d",
+    "014c4544474552444202000000000000000200000000000000d72a4f3bb2a8d77b22b9d180252a2a074a9cbc7278cc6d",
     "931e821222b583f6e5160000000000000164915354a6547b1f887e596e872fd13b2abdc860729da9fe31180a81726cf4",
     "a2000000000000000300000000000000025d0c93a2c3f5b439800c35082b570525c1c42d311dfab11205d0376c51f95c",
     "f9817aa9248d10780808af00a473b7890eae59c8604ea4d237ff2dfac7b43e8e75000301010101010101010101010101",
@@ -153,6 +153,7 @@ fn write_new(rt: &impl Abort, alloc: Global, disk: &mut MemDisk) -> Result<(), F
 /// Reads its head and its block.
 fn read_new(rt: &impl Abort, alloc: Global, disk: &mut MemDisk) -> Result<(), Fail> {
     let head = FileHead {
+        version: 2,
         generation: 1,
         base_len: 0,
         base_digest: digest("ca358758f6d27e6cf45272937977a748fd88391db679ceda7dc7bf1f005ee879")?,
@@ -173,6 +174,24 @@ fn has_first_journal(rt: &impl Abort, read: &BlockAt) -> Result<(), Fail> {
         assert_eq!(rt; (record.who_at, record.who_len), (351, 0));
     }
     assert_eq!(rt; read.records.as_slice().len(), 1);
+    Ok(())
+}
+
+#[test]
+fn a_file_of_either_version_is_read(rt: HostRuntime) -> Result<(), Fail> {
+    let new = decode_lines(rt.alloc(), &NEW)?;
+    for (version, found) in [
+        (1, Ok(1)),
+        (2, Ok(1)),
+        (3, Err(FileErr::NewerFormat { found: 3 })),
+    ] {
+        let mut disk = changed_disk(rt.alloc(), &new, &[(9, version)])?;
+        assert_eq!(rt;
+            count_blocks(rt.alloc(), &mut disk),
+            found,
+            "of version {version}"
+        );
+    }
     Ok(())
 }
 

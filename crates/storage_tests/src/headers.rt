@@ -217,15 +217,43 @@ fn encodes_and_decodes_each_kind(rt: HostRuntime) -> Result<(), Fail> {
         let header = header_of(&row)?;
         let bytes = header.encode();
         let text = hex::encode(rt.alloc(), bytes)?;
-        let read = match row.version {
-            1 => Ok(header),
-            found => Err(Bad::NewerFormat { found }),
+        // Without a number there is no header of version 2.
+        let read = match (row.version, row.a) {
+            (2, 0) => Err(Bad::BadFixedField { at: 0 }),
+            _ => Ok(header),
         };
         assert_eq!(rt;
             (text.as_str(), Header::decode(&bytes)),
             (row.bytes, read),
             "at journal {}",
             row.jsn
+        );
+    }
+    Ok(())
+}
+
+// A journal of `ROWS`, a byte of it and what stands there instead, and why that is refused.
+const CHANGED: [(usize, usize, u8, Bad); 6] = [
+    (2, 0, 0, Bad::NewerFormat { found: 0 }),
+    (2, 0, 3, Bad::NewerFormat { found: 3 }),
+    (2, 0, 2, Bad::BadFixedField { at: 0 }),
+    (3, 0, 2, Bad::BadFixedField { at: 0 }),
+    (8, 65, 0, Bad::BadFixedField { at: 0 }),
+    (2, 65, 1, Bad::BadFixedField { at: 58 }),
+];
+
+#[test]
+fn refuses_what_another_version_carries(rt: HostRuntime) -> Result<(), Fail> {
+    for (journal, at, byte, refusal) in CHANGED {
+        let row = ROWS.get(journal).ok_or("no row")?;
+        let mut bytes = <[u8; 174]>::from_hex(row.bytes)?;
+        if let Some(place) = bytes.get_mut(at) {
+            *place = byte;
+        }
+        assert_eq!(rt;
+            Header::decode(&bytes),
+            Err(refusal),
+            "at byte {at} of journal {journal}"
         );
     }
     Ok(())

@@ -107,14 +107,15 @@ fn copy_and_take_over(rt: &impl Abort, a: &mut MemDisk, b: &mut MemDisk) -> Resu
     let mut twin = Twin::make(a, b, &[7, 8, 9])?;
     assert_eq!(rt; twin.file().tail(), 68);
     take_over(&mut twin, a, b, &[5], 64, 4)?;
-    assert_eq!(rt; (twin.in_a(), twin.generation()), (false, 2));
+    let told = (twin.in_a(), twin.generation(), twin.version());
+    assert_eq!(rt; told, (false, 2, 2));
     assert_eq!(rt; twin.file().tail(), 69);
     assert_eq!(rt; a.len(), Ok(0));
     Ok(())
 }
 
 fn is_copied(rt: &impl Abort, alloc: Global, copy: &Bytes) -> Result<(), Fail> {
-    let mut want = b"\x01LEDGERDB\x01\0\0\0\0\0\0\0\x02\0\0\0\0\0\0\0\x01".to_vec(alloc)?;
+    let mut want = b"\x01LEDGERDB\x02\0\0\0\0\0\0\0\x02\0\0\0\0\0\0\0\x01".to_vec(alloc)?;
     want.extend_from_slice(&BASE_DIGEST)?;
     want.extend_from_slice(&[0, 0, 0, 0, 0, 0, 5, 1, 7, 8, 9, 0])?;
     assert_eq!(rt; copy.as_slice(), want.as_slice());
