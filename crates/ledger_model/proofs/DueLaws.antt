@@ -1,11 +1,10 @@
 -- Lemmas on what is due: when a block has ended, the lines that are due for it are the text of its steps.
-use Rattle.std.proofs.Common.{◌≡◌, ℕ, ◌+◌, ◌-◌, ◌<◌, ◌≤◌, ◌⊎◌, inl, inr, List, [], ◌∷◌, ◌++◌, length, Option, Some, None, refl, ap, sym, subst, ◌∙◌, arith, append_assoc, length-append}
+use Rattle.std.proofs.Common.{◌≡◌, ℕ, ◌+◌, ◌<◌, ◌≤◌, List, [], ◌∷◌, ◌++◌, Option, Some, None, refl, ap, sym, ◌∙◌, arith, append_assoc, length-append}
 use Rattle.std.specs.Prelude.{⊤}
 use Rattle.ledger_bytes.specs.Digests.{digest}
 use Rattle.ledger_bytes.specs.declared.digest.Digest.{Digest}
 use Rattle.ledger_bytes.specs.declared.refusal.Refusal.{Refusal}
 use Rattle.journal_record.specs.Entry.{Entry}
-use Rattle.journal_record.specs.declared.approval.Approval.{Approval}
 use Rattle.journal_record.specs.declared.stamp.Stamp.{Stamp}
 use Rattle.script_lines.specs.Replies.{reply_text}
 use Rattle.script_lines.specs.declared.reply.Reply.TheVariants as reply
@@ -31,7 +30,7 @@ use Rattle.ledger_model.specs.declared.job.Job.TheVariants.{Refused, Append, New
 use Rattle.ledger_model.specs.declared.outcome.Query.TheVariants as query
 use Rattle.ledger_model.proofs.ProveLaws.{asked}
 use Rattle.ledger_model.proofs.RepeatLaws.{repeated_within}
-use Rattle.ledger_model.proofs.GrowLaws.{IsEnded, moves_close, grows_not, grows_moved, grows_job, grows_settled, size_close, grows_then, grows_size, size_closed, root_kept, block_of-grows, end_of-grows, end_of-le, block_of-ended, end_of-ended}
+use Rattle.ledger_model.proofs.GrowLaws.{moves_close, grows_not, grows_moved, grows_job, grows_settled, grows_then, grows_size, root_kept, block_of-grows, end_of-grows, end_of-le}
 
 -- each receipt's journal has a number of this range
 abbrev pub AllWithin : ℕ → ℕ → List Due → Type 0

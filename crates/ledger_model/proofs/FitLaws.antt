@@ -64,7 +64,7 @@ use Rattle.tree_model.specs.Tree.{mth}
 use Rattle.ledger_model.specs.declared.job.Job.{Job}
 use Rattle.ledger_model.specs.declared.job.Job.TheVariants.{Refused, Append, NewMember, Anchor, Occult, Purge, Get, Prove, Extend, Clue, Head}
 use Rattle.ledger_model.proofs.ByteLaws.{leaf_bytes}
-use Rattle.ledger_model.proofs.DueLaws.{grows_steps, AllWithin, all_wider, all_higher, dues_within, grows_windows}
+use Rattle.ledger_model.proofs.DueLaws.{grows_steps, AllWithin, all_higher, dues_within, grows_windows}
 use Rattle.ledger_model.proofs.GetLaws.{get_fits}
 use Rattle.ledger_model.proofs.GrowLaws.{length-journals_of, grows_close, grows_size, grows_then}
 use Rattle.ledger_model.proofs.KeepLaws.{run_lawful, close_lawful, step_lawful, steps_lawful}

@@ -1,7 +1,7 @@
 -- Lemmas on the numbers of members' records.
-use Rattle.std.specs.Prelude.{slice_get, bytes_eq, ◌==◌}
+use Rattle.std.specs.Prelude.{bytes_eq, ◌==◌}
 use Rattle.std.specs.Option.{option_or}
-use Rattle.std.proofs.Common.{◌≡◌, ℕ, zero, suc, ◌+◌, ◌<◌, ◌≤◌, Bool, true, false, cond, List, [], ◌∷◌, length, length-drop, map, drop, get_or, Option, Some, None, refl, sym, ap, ◌∙◌, arith, append-nil}
+use Rattle.std.proofs.Common.{◌≡◌, ℕ, zero, suc, ◌+◌, ◌<◌, ◌≤◌, Bool, true, false, cond, List, [], ◌∷◌, length, length-drop, map, drop, get_or, Option, Some, None, refl, ap, arith, append-nil}
 use Rattle.ledger_model.proofs.LawfulLaws.{two_points}
 use Rattle.ledger_bytes.specs.Digests.{digest}
 use Rattle.ledger_bytes.specs.declared.digest.Digest.{Digest}
@@ -10,7 +10,7 @@ use Rattle.ledger_bytes.specs.declared.refusal.Refusal.TheVariants.{NumberTaken}
 use Rattle.journal_record.specs.Entry.{Entry}
 use Rattle.ledger_model.specs.Dues.{HasLeaf}
 use Rattle.ledger_model.specs.History.{History, history, journals, journals_of, size, point, greatest_point, leaf_digest}
-use Rattle.ledger_model.specs.Numbers.{is_numbered, place_from, numbered_in, numbered, link_at, taken_by, repeated_by, number_taken, repeated, unless_repeated}
+use Rattle.ledger_model.specs.Numbers.{is_numbered, place_from, numbered, link_at, taken_by, repeated_by, number_taken, repeated}
 use Rattle.ledger_model.specs.Targets.{leaf_at}
 
 -- a place that is found is one of those that are looked at

@@ -1,6 +1,6 @@
 -- Lemmas on receipts that wait for their block's end, and on what is written once it has ended.
 use Rattle.std.specs.Prelude.{slice_get}
-use Rattle.std.proofs.Common.{true, false, cond, ◌≡◌, ℕ, zero, suc, ◌-◌, ◌<◌, ◌≤◌, ◌⊎◌, inl, inr, List, [], ◌∷◌, ◌++◌, length, Option, Some, None, refl, ap, sym, subst, ◌∙◌, arith, append_assoc, append-nil, length-append}
+use Rattle.std.proofs.Common.{true, false, cond, ◌≡◌, ℕ, zero, suc, ◌<◌, ◌≤◌, ◌⊎◌, inl, inr, List, [], ◌∷◌, ◌++◌, length, Option, Some, None, refl, ap, sym, subst, ◌∙◌, arith, append_assoc, append-nil, length-append}
 use Rattle.std.proofs.lemmas.List.{map-append, length-map}
 use Rattle.std.proofs.lemmas.List.Concat.{flat_map-append}
 use Rattle.std.proofs.lemmas.Option.{none-some, slice_get_within}
@@ -46,7 +46,7 @@ use Rattle.ledger_model.specs.declared.outcome.Outcome.TheVariants.{Reading}
 use Rattle.ledger_model.specs.declared.outcome.Query.{Query}
 use Rattle.ledger_model.proofs.GetLaws.{get_told}
 use Rattle.ledger_model.proofs.ProveLaws.{told_proof}
-use Rattle.ledger_model.proofs.GrowLaws.{IsEnded, moves_close, close_none, grows_close, grows_size, size_closed, root_kept}
+use Rattle.ledger_model.proofs.GrowLaws.{close_none, grows_close, grows_size, size_closed, root_kept}
 
 -- an element that is there stays there
 pub slice_get-more : {A : Type 0} (xs ys : List A) (i : ℕ) (a : A) → slice_get xs i ≡ Some a → slice_get (xs ++ ys) i ≡ Some a
