@@ -475,10 +475,6 @@ carried_second : (version : ℕ) (kind : Kind) (l : Unread) → eqb version 1 �
 unfolding carried_at
 carried_second version kind l other = ap (λ b. cond b (Ok (tt, l)) (look_ahead kind l)) other
 
-carried_first : (version : ℕ) (kind : Kind) (l : Unread) → eqb version 1 ≡ true → carried_at version kind l ≡ Ok (tt, l)
-unfolding carried_at
-carried_first version kind l first = ap (λ b. cond b (Ok (tt, l)) (look_ahead kind l)) first
-
 -- a second version that was let through is the header's own
 second_taken : (h : Header) (whole : ℕ) (rest : List ℕ) (u : Unit {0} × Unread) → HasWidths h → is_version h.version ≡ true → eqb h.version 1 ≡ false
     → layout_at (left_from whole (spelling h ++ rest)) ≡ Ok u → is_second h ≡ true

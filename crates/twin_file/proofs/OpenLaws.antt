@@ -1,13 +1,13 @@
 -- What a crash leaves of two files.
 use Rattle.std.specs.Prelude.{Bool, true, false, not}
-use Rattle.std.proofs.Common.{◌≡◌, ◌≢◌, ◌⊎◌, inl, inr, ℕ, ◌+◌, ◌-◌, ◌<◌, ◌≤◌, List, [], ◌∷◌, length, get_or, take, drop, refl, sym, ◌∙◌, ap, subst, arith, length-take}
+use Rattle.std.proofs.Common.{◌≡◌, ◌≢◌, ◌⊎◌, inl, inr, ℕ, ◌+◌, ◌-◌, ◌<◌, ◌≤◌, List, ◌∷◌, length, get_or, take, drop, refl, sym, ◌∙◌, ap, subst, arith, length-take}
 use Rattle.std.proofs.lemmas.Bool.{cases_lt}
 use Rattle.std.proofs.lemmas.List.{get_or-take, drop-take, take-take, take_all}
 use Rattle.std.specs.Int.{from_be_bytes, w64}
 use Rattle.ledger_disk.specs.Disk.{State, MayLeave, MayHaveCut, cut_to, settled_state}
 use Rattle.ledger_disk.proofs.Guarding.{settled_image, cut_image}
 use Rattle.block_file.specs.File.{IsSettled, IsVeiled, IsScrapOf}
-use Rattle.block_file.specs.Head.{IsShut, HasHead, is_format, version_in, generation_of}
+use Rattle.block_file.specs.Head.{IsShut, HasHead, is_format, generation_of}
 use Rattle.block_file.proofs.VeilLaws.{veiled_gate, veiled_shut}
 use Rattle.twin_file.specs.Calls.{SparesOpen, StaysCopying}
 use Rattle.twin_file.specs.Twin.{choice, Yields, IsPassed, OpensTo}
@@ -20,19 +20,12 @@ part_of_front at n k file within =
     let is : k ≡ at + m = omega arith in
     ap (λ (j : ℕ). take n (drop at (take j file))) is ∙ ap (λ (l : List ℕ). take n l) (drop-take at m file) ∙ take-take n m (drop at file) (omega arith)
 
-pub take_head : (k : ℕ) (file : List ℕ) → 65 ≤ k → HasHead file → HasHead (take k file)
+take_head : (k : ℕ) (file : List ℕ) → 65 ≤ k → HasHead file → HasHead (take k file)
 take_head k file long has = record {
   is_open = record { long = omega (arith, has.is_open.long, length-take k file); gate = get_or-take k file 0 0 (omega arith) ∙ has.is_open.gate };
   magic_is = part_of_front 1 8 k file (omega arith) ∙ has.magic_is;
   version = ap is_format (get_or-take k file 9 0 (omega arith)) ∙ has.version;
 }
-
--- .. and its version and its generation
-pub take_version : (k : ℕ) (file : List ℕ) → 65 ≤ k → version_in (take k file) ≡ version_in file
-take_version k file long = get_or-take k file 9 0 (omega arith)
-
-pub take_generation : (k : ℕ) (file : List ℕ) → 65 ≤ k → generation_of (take k file) ≡ generation_of file
-take_generation k file long = ap (λ (l : List ℕ). from_be_bytes w64 l) (part_of_front 10 8 k file (omega arith))
 
 take_passed : (in_a : Bool) (most k : ℕ) (file : List ℕ) → (k < 65) ⊎ (65 ≤ k) → IsPassed in_a most file → IsPassed in_a most (take k file)
 take_passed in_a most k file (inl short) passed = inl (inl (omega (arith, length-take k file)))
@@ -57,12 +50,6 @@ cut_front old new image quiet (inr cut) left =
 
 pub cut_scrap : (old new : State) (image : List ℕ) → IsSettled old → MayHaveCut 0 old new → MayLeave new image → IsScrapOf old.seen image
 cut_scrap old new image quiet cut left = inl (cut_front old new image quiet cut left)
-
--- nothing is left of a file that was cut to nothing
-pub emptied_front : (old new : State) → new ≡ settled_state [] → LeavesFront old new
-emptied_front old new now quiet image left =
-    let is : image ≡ [] = settled_image [] image (subst (λ (s : State). MayLeave s image) now left) in
-    is ∙ sym (ap (λ (l : List ℕ). take (length l) old.seen) is)
 
 pub front_at : {in_a : Bool} (x : Bool) (a b a_new b_new : State) → in_a ≡ x → LeavesFront (choice x b a) (choice x b_new a_new) → LeavesFront (choice in_a b a) (choice in_a b_new a_new)
 front_at x a b a_new b_new here keeps = subst (λ (y : Bool). LeavesFront (choice y b a) (choice y b_new a_new)) (sym here) keeps
