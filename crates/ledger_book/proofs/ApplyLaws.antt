@@ -24,17 +24,22 @@ use Rattle.ledger_model.specs.History.{History, size, leaf_digest, is_purge}
 use Rattle.journal_record.specs.declared.rules.TheConstants.{NOTARY_LIMIT}
 use Rattle.ledger_model.specs.Anchors.{time_header, time_journal}
 use Rattle.ledger_model.specs.Members.{is_member}
-use Rattle.ledger_model.specs.Judgements.{own_refusal, hard_fullness}
-use Rattle.ledger_book.proofs.JudgeLaws.{first_one, hard_not}
+use Rattle.ledger_model.specs.Judgements.{own_refusal, hard_fullness, fullness, clues_full, append_judgements}
+use Rattle.member_book.specs.Erasures.{first_refusal}
+use Rattle.ledger_book.specs.Requests.{request_judgements, room_judgements}
+use Rattle.ledger_book.proofs.JudgeLaws.{first_one, hard_not, passed_before, refused_before}
 use Rattle.ledger_model.specs.Lawful.{gathers}
 use Rattle.ledger_model.specs.Limits.{AreWithin}
+use Rattle.ledger_model.specs.Numbers.{repeated, unless_repeated}
+use Rattle.ledger_model.specs.Targets.{leaf_at}
+use Rattle.ledger_model.proofs.RepeatLaws.{repeated_within}
 use Rattle.ledger_model.specs.Outcomes as outcomes
 use Rattle.ledger_model.specs.Outcomes.{placed_journal, with_waiting, after_judgement, placed_as, placed_with, accepted_outcome, judged_outcome}
 use Rattle.ledger_model.specs.declared.job.Job.{Job}
 use Rattle.ledger_model.specs.declared.job.Job.TheVariants.{Append, NewMember, Anchor, Occult}
 use Rattle.ledger_model.specs.declared.limits.Limits.{Limits}
 use Rattle.ledger_model.specs.declared.outcome.Outcome.{Outcome}
-use Rattle.ledger_model.specs.declared.outcome.Outcome.TheVariants.{Refused, Placed, Reading}
+use Rattle.ledger_model.specs.declared.outcome.Outcome.TheVariants.{Refused, Placed, Again, Reading}
 use Rattle.ledger_model.specs.declared.outcome.PlacedJournal.{PlacedJournal}
 use Rattle.ledger_model.specs.declared.outcome.Query.{Query}
 use Rattle.ledger_model.proofs.AcceptedLaws.{record_next, member_next, occult_next, time_next}
@@ -73,6 +78,33 @@ applies_reading limits stamp h job query k none is told s = record {
   widths = λ p journal no _. absurd (let never : ⊥ = cc no in never);
 }
 
+-- .. or one that was placed before
+pub applies_again : (limits : Limits) (stamp : Option Stamp) (h : History) (job : Job) (jsn : ℕ) (leaf : Digest) (k : Kept) → own_refusal limits h job ≡ None → placed_journal h stamp job ≡ None → accepted_outcome h stamp job ≡ Again jsn leaf
+    → Serves k h → Applies limits stamp h job (Again jsn leaf) k
+unfolding outcomes.outcome outcomes.with_job
+applies_again limits stamp h job jsn leaf k none is told s = record {
+  outcome_is = sym (ap (λ r. judged_outcome r (accepted_outcome h stamp job)) none ∙ told);
+  serves = subst (Serves k) (sym (ap (λ r. after_judgement r (placed_journal h stamp job) h) none ∙ ap (λ o. with_waiting o h) is)) s;
+  widths = λ p journal no _. absurd (let never : ⊥ = cc no in never);
+}
+
+-- what is judged of a member's record, in its two halves
+module _ (limits : Limits) (h : History) (member : ℕ) (clue : Digest) (number : ℕ) (request : Digest) (shown : Option Digest) where
+  abbrev looked_at : Option ℕ → List (Option Refusal)
+  looked_at again = unless_repeated again (fullness limits h) ∷ unless_repeated again (clues_full limits h clue) ∷ []
+
+  pub request_refused : (refusal : Refusal) → Some refusal ≡ first_refusal (request_judgements h member number request shown) → Some refusal ≡ first_refusal (append_judgements limits h member clue number request shown)
+  request_refused refusal is = refused_before (request_judgements h member number request shown) (looked_at (repeated h member number request)) refusal is
+
+  pub request_repeated : (n : ℕ) → first_refusal (request_judgements h member number request shown) ≡ None → Some n ≡ repeated h member number request → first_refusal (append_judgements limits h member clue number request shown) ≡ None
+  request_repeated n passed again =
+      sym (passed_before (request_judgements h member number request shown) (looked_at (repeated h member number request)) None (sym passed) (ap (λ o. first_refusal (looked_at o)) again))
+
+  pub request_new : (told : Option Refusal) → first_refusal (request_judgements h member number request shown) ≡ None → (let none : Option ℕ = None in none ≡ repeated h member number request) → told ≡ first_refusal (room_judgements limits h clue)
+      → told ≡ first_refusal (append_judgements limits h member clue number request shown)
+  request_new told passed new is =
+      passed_before (request_judgements h member number request shown) (looked_at (repeated h member number request)) told (sym passed) (is ∙ ap (λ o. first_refusal (looked_at o)) new)
+
 -- the book still serves where its floor and its point are as they were
 pub serves_after : (old new : Kept) (h g : History) → Serves old h → IsSame old new → Stands new g → Serves new g
 serves_after old new h g s same stands = record {
@@ -82,23 +114,23 @@ serves_after old new h g s same stands = record {
 }
 
 -- a record at its place
-module _ (h : History) (member : ℕ) (clue : Digest) (content : List ℕ) (content_digest request : Digest) (by : Approval) (header : Header) where
+module _ (h : History) (member : ℕ) (clue : Digest) (content : List ℕ) (content_digest request : Digest) (by : Approval) (number : ℕ) (header : Header) where
   abbrev pub record_journal : Entry
-  record_journal = append_journal h member clue content content_digest request by
+  record_journal = append_journal h member clue content content_digest request by number
 
-  pub record_header_is : (jsn ordinal previous : ℕ) → header ≡ append_header jsn member clue ordinal previous content content_digest request by → jsn ≡ size h → ordinal ≡ next_ordinal h clue → previous ≡ last_journal h clue
+  pub record_header_is : (jsn ordinal previous : ℕ) → header ≡ append_header jsn member clue ordinal previous content content_digest request by number → jsn ≡ size h → ordinal ≡ next_ordinal h clue → previous ≡ last_journal h clue
       → record_journal.header ≡ header
   record_header_is jsn ordinal previous is j o p =
-      sym (is ∙ ap (λ x. append_header x member clue ordinal previous content content_digest request by) j
-      ∙ ap (λ x. append_header (size h) member clue x previous content content_digest request by) o
-      ∙ ap (λ x. append_header (size h) member clue (next_ordinal h clue) x content content_digest request by) p)
+      sym (is ∙ ap (λ x. append_header x member clue ordinal previous content content_digest request by number) j
+      ∙ ap (λ x. append_header (size h) member clue x previous content content_digest request by number) o
+      ∙ ap (λ x. append_header (size h) member clue (next_ordinal h clue) x content content_digest request by number) p)
 
   pub record_kind : record_journal.header ≡ header → is_member header.kind ≡ false
   unfolding append_header
   record_kind is = ap (λ (x : Header). is_member x.kind) (sym is)
 
-  pub record_may : (limits : Limits) (k : Kept) → AreWithin limits → own_refusal limits h (Append member clue content content_digest request by) ≡ None → length content ≤ CONTENT_LIMIT → Stands k h → record_journal.header ≡ header → MayPlace h header
-  record_may limits k within none long s is = subst (MayPlace h) is (record_next limits within h member clue content content_digest request by none s.lawful long)
+  pub record_may : (limits : Limits) (k : Kept) → AreWithin limits → own_refusal limits h (Append member clue content content_digest request by number) ≡ None → (let none : Option ℕ = None in repeated h member number request ≡ none) → length content ≤ CONTENT_LIMIT → Stands k h → record_journal.header ≡ header → MayPlace h header
+  record_may limits k within none new long s is = subst (MayPlace h) is (record_next limits within h member clue content content_digest request by number none new s.lawful long)
 
 -- a new member at its place
 module _ (h : History) (number : ℕ) (key : Digest) (by : Approval) (header : Header) where
@@ -152,9 +184,9 @@ pub asked_room : (old new : Kept) (o : Outcome) (q : Query) → Anchors old o �
 asked_room old new o q told is same = subst HasOperatorRoom (sym (same (subst PlacesNothing (sym is) tt))) (subst (Anchors old) is told)
 
 -- a record and a new member may share their block with others
-pub content_gathers : (jsn member : ℕ) (clue : Digest) (ordinal previous : ℕ) (content : List ℕ) (content_digest request : Digest) (by : Approval) (header : Header) → header ≡ append_header jsn member clue ordinal previous content content_digest request by → gathers header.kind ≡ true
+pub content_gathers : (jsn member : ℕ) (clue : Digest) (ordinal previous : ℕ) (content : List ℕ) (content_digest request : Digest) (by : Approval) (number : ℕ) (header : Header) → header ≡ append_header jsn member clue ordinal previous content content_digest request by number → gathers header.kind ≡ true
 unfolding append_header
-content_gathers jsn member clue ordinal previous content content_digest request by header is = ap (λ (x : Header). gathers x.kind) is
+content_gathers jsn member clue ordinal previous content content_digest request by number header is = ap (λ (x : Header). gathers x.kind) is
 
 pub gathers_no_purge : (k : Kind) → gathers k ≡ true → is_purge k ≡ false
 gathers_no_purge kind.Genesis is = refl
@@ -175,6 +207,10 @@ occult_no_purge jsn target leaf given header is = ap (λ (x : Header). is_purge 
 pub member_gathers : (jsn number : ℕ) (key : Digest) (by : Approval) (header : Header) → header ≡ member_header jsn number key by → gathers header.kind ≡ true
 unfolding member_header
 member_gathers jsn number key by header is = ap (λ (x : Header). gathers x.kind) is
+
+pub member_sort : (jsn number : ℕ) (key : Digest) (by : Approval) (header : Header) → header ≡ member_header jsn number key by → header.kind ≡ kind.Member
+unfolding member_header
+member_sort jsn number key by header is = ap (λ (x : Header). x.kind) is
 
 -- a result that is no error, or is one
 pub on_ok_all : {T E : Type 0} {A : Type 0} (result : Result T E) → A → OnOk result A

@@ -20,14 +20,16 @@ use Rattle.journal_record.specs.declared.header.Kind.TheVariants as kind
 use Rattle.ledger_model.specs.Bases.{clue_mark_of, clues_added}
 use Rattle.ledger_model.specs.Clues.{has_clue, is_of_clue, numbers_of, jsns_with, clue_count, next_ordinal, last_journal}
 use Rattle.ledger_model.specs.Clues as model_clues
-use Rattle.ledger_model.specs.History.{History, history, journals, point}
+use Rattle.ledger_model.specs.History.{History, history, journals, point, greatest_point}
 use Rattle.ledger_model.specs.Judgements.{clues_full}
 use Rattle.ledger_model.specs.Lawful.{AreLawful, IsNext, IsNextOf, IsNextRecord}
 use Rattle.ledger_model.specs.Limits.{real_limits}
 use Rattle.ledger_model.specs.Targets.{is_hidden, kind_at, leaf_at}
 use Rattle.ledger_model.proofs.HideLaws.{hidden_is, hider_is, hider_of}
 use Rattle.ledger_model.proofs.MarkLaws.{marks}
-use Rattle.ledger_model.specs.Behind.{clues_behind, names, IsRecordBehind, IsOwnBehind, IsNextBehind}
+use Rattle.ledger_model.specs.Numbers.{numbered}
+use Rattle.ledger_book.proofs.NumberedLaws.{from_floor}
+use Rattle.ledger_model.specs.Behind.{numbered_from, clues_behind, names, IsRecordBehind, IsOwnBehind, IsNextBehind}
 
 -- whether a journal is hidden, as the numbers of those that hide others tell it
 pub found_named : (n : ℕ) (es : List Entry) → is_some (hider_of es n) ≡ list_any (names n) es
@@ -108,6 +110,10 @@ module _ (es : List Entry) where
   less_none : (n : ℕ) → n - 0 ≡ n
   less_none n = omega arith
 
+  fresh_is : (x : Header) → numbered_from 0 (greatest_point es) es x.member x.a ≡ numbered h x.member x.a
+  unfolding point
+  fresh_is x = from_floor h 0 (greatest_point es) x.member x.a refl (omega arith)
+
   record_to : (x : Header) → IsNextRecord h x → IsRecordBehind None es x
   unfolding next_ordinal last_journal jsns_with clues_full clue_count
   record_to x own = record {
@@ -115,6 +121,7 @@ module _ (es : List Entry) where
     clue_ord = own.clue_ord ∙ ap (λ n. cond (is_no_clue x.clue) 0 (n + 1)) (sym (count_is x.clue));
     clue_prev = own.clue_prev ∙ ap (λ n. cond (is_no_clue x.clue) 0 n) (sym (last_is x.clue));
     room = λ has none. let n = no_room h x.clue own.room has (sym (count_is x.clue) ∙ none) in subst (λ k. k < 1_048_576) (sym clue_count_is) n;
+    fresh = fresh_is x ∙ own.fresh;
   }
 
   record_from : (x : Header) → IsRecordBehind None es x → IsNextRecord h x
@@ -124,6 +131,7 @@ module _ (es : List Entry) where
     clue_ord = own.clue_ord ∙ ap (λ n. cond (is_no_clue x.clue) 0 (n + 1)) (count_is x.clue);
     clue_prev = own.clue_prev ∙ ap (λ n. cond (is_no_clue x.clue) 0 n) (last_is x.clue);
     room = by_room (is_no_clue x.clue) (length (numbers_of x.clue es) == 0) refl refl;
+    fresh = sym (fresh_is x) ∙ own.fresh;
   } where
     by_room : (nc none : Bool) → is_no_clue x.clue ≡ nc → (length (numbers_of x.clue es) == 0) ≡ none → cond ((not (is_no_clue x.clue) && length (numbers_of x.clue es) == 0) && nat_le 1_048_576 (clue_count h)) (Some CluesFull) None ≡ None
     by_room true none is_nc is_none = ap (λ v. full v (length (numbers_of x.clue es) == 0) (nat_le 1_048_576 (clue_count h))) is_nc

@@ -5,6 +5,7 @@ use Rattle.ledger_bytes.specs.declared.digest.Digest.{Digest}
 use Rattle.journal_record.specs.Approval.{who_of}
 use Rattle.journal_record.specs.Entry.{content_digest_of, who_digest_of}
 use Rattle.journal_record.specs.Request.{name_digest_of}
+use Rattle.journal_record.specs.Rules.{version_of}
 use Rattle.journal_record.specs.declared.approval.Approval.{Approval}
 use Rattle.journal_record.specs.declared.header.Header.{Header}
 use Rattle.journal_record.specs.declared.header.Kind.{Kind}
@@ -40,12 +41,13 @@ genesis_is genesis link content who l c w =
     ∙ ap (λ x. header_with kind.Genesis 0 0 zero_digest 0 0 0 (digest (name_digest_of genesis.name)) 64 (digest x) who) c
     ∙ ap (λ x. header_with kind.Genesis 0 0 zero_digest 0 0 0 (digest (name_digest_of genesis.name)) 64 (digest (content_digest_of (founders_content genesis))) (digest x)) w
 
-pub record_is : (jsn member : ℕ) (clue : Digest) (ordinal previous count : ℕ) (content : List ℕ) (content_digest request who : Digest) (by : Approval) → length content ≡ count → who.0 ≡ who_digest_of (who_of (by ∷ []))
-    → header_with kind.Content jsn member clue ordinal previous 0 request count content_digest who ≡ append_header jsn member clue ordinal previous content content_digest request by
+pub record_is : (version jsn member : ℕ) (clue : Digest) (ordinal previous count : ℕ) (content : List ℕ) (content_digest request who : Digest) (by : Approval) (number : ℕ) → version ≡ version_of kind.Content number count → length content ≡ count → who.0 ≡ who_digest_of (who_of (by ∷ []))
+    → record (header_with kind.Content jsn member clue ordinal previous number request count content_digest who) { version = version } ≡ append_header jsn member clue ordinal previous content content_digest request by number
 unfolding append_header
-record_is jsn member clue ordinal previous count content content_digest request who by n w =
-    ap (λ x. header_with kind.Content jsn member clue ordinal previous 0 request count content_digest (digest x)) w
-    ∙ ap (λ x. header_with kind.Content jsn member clue ordinal previous 0 request x content_digest (digest (who_digest_of (who_of (by ∷ []))))) (sym n)
+record_is version jsn member clue ordinal previous count content content_digest request who by number v n w =
+    ap (λ x. record (header_with kind.Content jsn member clue ordinal previous number request count content_digest who) { version = x }) v
+    ∙ ap (λ x. record (header_with kind.Content jsn member clue ordinal previous number request count content_digest (digest x)) { version = version_of kind.Content number count }) w
+    ∙ ap (λ x. record (header_with kind.Content jsn member clue ordinal previous number request x content_digest (digest (who_digest_of (who_of (by ∷ []))))) { version = version_of kind.Content number x }) (sym n)
 
 pub plain_is : (k : Kind) (jsn a b : ℕ) (link content who_digest : Digest) (who : List ℕ) → content.0 ≡ content_digest_of [] → who_digest.0 ≡ who_digest_of who
     → record (header_with k jsn 0 zero_digest 0 0 a link 0 content who_digest) { b = b } ≡ plain_header k jsn a b link who

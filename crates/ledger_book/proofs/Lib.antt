@@ -1,3 +1,4 @@
+pub mod NumberedLaws
 pub mod HeaderLaws
 pub mod ClueLaws
 pub mod MemberLaws
@@ -15,6 +16,7 @@ mod AskLaws
 mod DropLaws
 pub mod BehindLaws
 pub mod BaseLaws
+mod BlockLaws
 mod NamedLaws
 mod TellLaws
 mod NextLaws

@@ -1,7 +1,7 @@
 -- Lemmas on a header that is the next one of a history: it is so for who sees only what stands behind a base of it; once the
 -- purge to the base's own point was seen, it is the other way round too.
 use Rattle.std.specs.List.{list_any, AllByRecursion}
-use Rattle.std.specs.Prelude.{Bool, true, false, cond, Some, None, get_or, filter, nat_le, bytes_eq, zero, suc, not, T}
+use Rattle.std.specs.Prelude.{Bool, true, false, cond, Some, None, get_or, filter, max, nat_le, bytes_eq, zero, suc, not, T}
 use Rattle.std.specs.FinMap.{entries, is_sorted, entries_sorted}
 use Rattle.std.specs.Set.{distinct_count}
 use Rattle.std.proofs.Common.{◌≡◌, ℕ, ◌+◌, ◌-◌, ◌<◌, ◌≤◌, ◌&&◌, ◌||◌, ◌==◌, List, [], ◌∷◌, ◌++◌, length, map, take, drop, refl, sym, ◌∙◌, ap, subst, arith, append-nil, append_assoc, length-append, length-drop, take-append-drop}
@@ -18,7 +18,7 @@ use Rattle.clue_index.proofs.CarryLaws.{trail_begun, given, listed_begun}
 use Rattle.clue_index.proofs.TrailLaws.{count_seen, last_seen}
 use Rattle.journal_record.specs.Entry.{Entry}
 use Rattle.ledger_model.specs.Clues.{has_clue, numbers_of, jsns_with, clue_count, next_ordinal, last_journal}
-use Rattle.ledger_model.proofs.LawfulLaws.{AreFrom, lawful_from, later_seen, front_from, take_few}
+use Rattle.ledger_model.proofs.LawfulLaws.{AreFrom, lawful_from, later_seen, two_points, point_below, front_from, take_few}
 use Rattle.ledger_model.specs.Bases.{clue_mark_of, clues_added, front}
 use Rattle.ledger_model.proofs.EarlyLaws.{states_early}
 use Rattle.ledger_model.proofs.MarkLaws.{marks, marks_low}
@@ -45,6 +45,7 @@ use Rattle.ledger_model.specs.Targets.{is_hidden, kind_at, leaf_at}
 use Rattle.ledger_model.proofs.HideLaws.{none_named}
 use Rattle.pseudo_genesis.specs.declared.base.Base.{Base}
 use Rattle.ledger_model.specs.Behind.{names, count_behind, clues_behind, IsRecordBehind, IsOwnBehind, BeginsWell, IsNextBehind, AreBehind, has_own_purge}
+use Rattle.ledger_book.proofs.NumberedLaws.{fresh_behind, from_floor}
 use Rattle.ledger_book.proofs.OwnLaws.{own_least, false_where}
 use Rattle.ledger_book.proofs.GroundLaws.{full, no_room, numbers_same, last_same, clues_same, found_named, hidden_named, there}
 use Rattle.ledger_model.specs.Lawful.{AreLawful, AreNext, IsFounded, IsNext, IsNextOf, IsNextRecord}
@@ -203,6 +204,14 @@ module _ (h : History) (b : Base) (lawful : AreLawful (journals h)) (some : 1 �
   unfolding point
   low_points = drop_points p js
 
+  -- no journal from the base and the point behind it on lies in front of the point
+  high_points : point (history [] js) ≤ p + (greatest_point es - p)
+  unfolding point
+  high_points =
+      let parts : greatest_point js ≡ max (greatest_point (take p js)) (greatest_point es) = ap greatest_point (sym (take-append-drop p js)) ∙ two_points (take p js) es in
+      let low : greatest_point (take p js) < p = point_below p 0 0 (take p js) (front_from 0 p js from) (take_few p js) (omega (arith, some)) in
+      omega (arith, parts, low)
+
   -- a record
   record_behind : (x : Header) → IsNextRecord (history [] js) x → IsRecordBehind (Some b) es x
   unfolding next_ordinal last_journal members clue_count jsns_with clues_full
@@ -211,6 +220,7 @@ module _ (h : History) (b : Base) (lawful : AreLawful (journals h)) (some : 1 �
     clue_ord = own.clue_ord ∙ ap (λ n. cond (is_no_clue x.clue) 0 (n + 1)) (sym (count_is x.clue));
     clue_prev = own.clue_prev ∙ ap (λ n. cond (is_no_clue x.clue) 0 n) (sym (last_is x.clue));
     room = λ has none. let n = no_room (history [] js) x.clue own.room has (sym (count_is x.clue) ∙ none) in omega (arith, n, clue_count_is);
+    fresh = fresh_behind (history [] js) p (greatest_point es) x.member x.a high_points own.fresh;
   }
 
   own_behind : (x : Header) (k : Kind) → IsNextOf (history [] js) x k → IsOwnBehind (Some b) es x k
@@ -254,6 +264,10 @@ module _ (h : History) (b : Base) (lawful : AreLawful (journals h)) (some : 1 �
     unfolding seen_point
     point_is = later_seen h p lawful seen
 
+    point_same : greatest_point es ≡ point (history [] js)
+    unfolding point
+    point_same = point_is
+
     record_next : (x : Header) → IsRecordBehind (Some b) es x → IsNextRecord (history [] js) x
     unfolding next_ordinal last_journal members clue_count jsns_with clues_full
     record_next x own = record {
@@ -261,6 +275,7 @@ module _ (h : History) (b : Base) (lawful : AreLawful (journals h)) (some : 1 �
       clue_ord = own.clue_ord ∙ ap (λ n. cond (is_no_clue x.clue) 0 (n + 1)) (count_is x.clue);
       clue_prev = own.clue_prev ∙ ap (λ n. cond (is_no_clue x.clue) 0 n) (last_is x.clue);
       room = by_room (is_no_clue x.clue) (length (numbers_of x.clue js) == 0) refl refl;
+      fresh = sym (from_floor (history [] js) p (greatest_point es) x.member x.a point_same seen) ∙ own.fresh;
     } where
       by_room : (nc none : Bool) → is_no_clue x.clue ≡ nc → (length (numbers_of x.clue js) == 0) ≡ none → cond ((not (is_no_clue x.clue) && length (numbers_of x.clue js) == 0) && nat_le 1_048_576 (clue_count (history [] js))) (Some CluesFull) None ≡ None
       by_room true none is_nc is_none = ap (λ v. full v (length (numbers_of x.clue js) == 0) (nat_le 1_048_576 (clue_count (history [] js)))) is_nc

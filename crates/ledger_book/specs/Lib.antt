@@ -1,9 +1,13 @@
+pub mod Numbered
+pub mod Requests
 pub mod Hiders
 pub mod Books
+pub mod Places
 pub mod Facts
 pub mod Reading
 pub mod Basing
 pub mod Steps
 pub mod Replaying
 pub mod Seals
+pub mod Blocks
 pub mod Purges

@@ -9,7 +9,7 @@ use Rattle.ledger_model.specs.Targets.{kind_at}
 use Rattle.ledger_model.specs.declared.job.Job.{Job}
 use Rattle.ledger_model.specs.declared.job.Job.TheVariants as asked
 use Rattle.ledger_model.specs.declared.outcome.Outcome.{Outcome}
-use Rattle.ledger_model.specs.declared.outcome.Outcome.TheVariants.{Refused, Placed, Reading}
+use Rattle.ledger_model.specs.declared.outcome.Outcome.TheVariants.{Refused, Placed, Again, Reading}
 
 -- what a book tells of the journal that a purge names is so in this history, as far as it is looked at
 pub record ArePurgeFacts (h : History) (facts : PurgeFacts) (n : ℕ) : Type 0 where
@@ -27,12 +27,13 @@ owners_in headers = 0 ∷ map (λ x. x.member) (filter (λ x. is_record x.kind) 
 abbrev pub point_of : ℕ → Outcome → ℕ → ℕ
 point_of p (Refused refusal) point = point
 point_of p (Placed placed) point = p
+point_of p (Again jsn leaf) point = point
 point_of p (Reading query) point = point
 
 -- the point after a job: only a purge changes it
 abbrev pub point_after : Job → Outcome → ℕ → ℕ
 point_after (asked.Refused refusal) told point = point
-point_after (asked.Append member clue content content_digest request by) told point = point
+point_after (asked.Append member clue content content_digest request by number) told point = point
 point_after (asked.NewMember number key by) told point = point
 point_after asked.Anchor told point = point
 point_after (asked.Occult target leaf given) told point = point

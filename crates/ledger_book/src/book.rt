@@ -25,6 +25,7 @@ ghost use Rattle.ledger_book.specs.Steps.{IsSame};
 mod applying;
 mod asking;
 mod basing;
+mod blocks;
 mod judging;
 mod placing;
 mod purging;
@@ -33,6 +34,7 @@ mod replaying;
 use crate::Sealed;
 use crate::headers::first_header;
 use crate::hiders::Hiders;
+use crate::numbers::NumberIndex;
 use clue_index::ClueIndex;
 use journal_record::Header;
 use ledger_bytes::{Digest, NoMemory, Sha, TimeMark};
@@ -66,6 +68,8 @@ pub struct Book {
     clues: ClueIndex,
     /// Which of the kept journals are hidden, and by which.
     hiders: Hiders,
+    /// Which of the kept records have which number.
+    numbers: NumberIndex,
     /// The time journals from the point on.
     times: TimeIndex,
     headers: Vec<Header>,
@@ -78,6 +82,7 @@ impl Model for Book {
     ghost use Rattle.std.specs.List.{AllByRecursion};
     ghost use Rattle.ledger_model.specs.Limits.{AreWithin};
     ghost use Rattle.ledger_book.specs.Books.{Kept};
+    ghost use Rattle.ledger_book.specs.Numbered.{Indexes};
 
     ghost Value = { Kept };
 
@@ -104,7 +109,8 @@ impl Model for Book {
         × (b.blocks ≤ b.head.size) × (b.head.size ≤ b.size)
         × (b.head.size < b.size → vec_len b.ends < vec_capacity b.ends) × (b.tree.size ≡ b.size)
         × (b.tree.floor ≡ b.floor) × (b.floor + vec_len b.headers ≡ b.size)
-        × AllByRecursion (λ m. m.jsn < b.size) b.times };
+        × AllByRecursion (λ m. m.jsn < b.size) b.times
+        × Indexes b.numbers b.floor b.headers.items };
 }
 
 impl Book {

@@ -12,7 +12,7 @@ ghost use Rattle.ledger_book.specs.Steps.{IsLeafOf};
 
 use journal_record::{
     Approval, Header, Kind, Stamp, approval_digest, approvals_digest, content_digest, name_digest,
-    who_digest,
+    version_of, who_digest,
 };
 use ledger_bytes::{Digest, Sha};
 use ledger_model::{Genesis, PlacedJournal};
@@ -48,7 +48,7 @@ pub(crate) struct Numbers {
     pub(crate) previous: u64,
 }
 
-/// The header of a member's record with this clue and these numbers.
+/// The header of a member's record with this clue and these numbers, whose request has this number, or 0.
 pub(crate) fn record_header(
     numbers: Numbers,
     member: u32,
@@ -57,22 +57,23 @@ pub(crate) fn record_header(
     content_digest: &Digest,
     request: &Digest,
     by: &Approval,
+    number: u64,
 ) -> Header
     requires { length by.now.proof < 2 ^ 16 }
     ensures { (content : List ℕ) → length content ≡ content_len
         → result ≡ append_header numbers.jsn member clue.now numbers.ordinal numbers.previous content
         content_digest.now
-        request.now by.now }
+        request.now by.now number }
 {
     Header {
-        version: 1,
+        version: version_of(Kind::Content, number, content_len),
         kind: Kind::Content,
         jsn: numbers.jsn,
         member,
         clue: *clue,
         clue_ord: numbers.ordinal,
         clue_prev: numbers.previous,
-        a: 0,
+        a: number,
         b: 0,
         link: *request,
         content_len,

@@ -6,6 +6,7 @@ mod book;
 mod headers;
 mod hiders;
 mod laws;
+mod numbers;
 mod prepared;
 mod sealed;
 

@@ -48,7 +48,8 @@ impl Book {
                 content_digest,
                 request,
                 by,
-            } => self.apply_record(*member, clue, content, content_digest, request, by),
+                number,
+            } => self.apply_record(*member, clue, content, content_digest, request, by, *number),
             Job::NewMember { number, key, by } => self.apply_member(*number, key, by),
             Job::Anchor => match self.hard_refusal() {
                 Some(refusal) => Ok(Outcome::Refused(refusal)),
@@ -77,7 +78,7 @@ impl Book {
         }
     }
 
-    // Judges a member's record, and places it where it is accepted.
+    // Judges a member's record, and places it where it is accepted and repeats none.
     fn apply_record(
         &mut self,
         member: u32,
@@ -86,13 +87,14 @@ impl Book {
         content_digest: &Digest,
         request: &Digest,
         by: &Approval,
+        number: u64,
     ) -> Result<Outcome, NoMemory>
         requires content { length content.now ≤ CONTENT_LIMIT }
         requires proof { length by.now.proof ≤ PROOF_LIMIT }
         ensures ok { IfOk result (λ outcome. (stamp : Option StampRecord) (h : History)
             → Serves self.old h
             → Applies self.old.limits stamp h
-            (asked.Append member clue.now content.now content_digest.now request.now by.now) outcome
+            (asked.Append member clue.now content.now content_digest.now request.now by.now number) outcome
             self.new) }
         ensures number { IfOk result (HasNumber self.old self.new) }
         ensures gathers { OnOk result (OpenGathers self.old → OpenGathers self.new) }
@@ -101,7 +103,15 @@ impl Book {
         ensures unchanged { IfOk result (λ outcome. PlacesNothing outcome → self.new ≡ self.old) }
         ensures places { IfOk result NeverReads }
     {
-        let numbers = match self.judge_record(member, clue, by) {
+        let again = match self.judge_request(member, number, request, by) {
+            Ok(again) => again,
+            Err(refusal) => return Ok(Outcome::Refused(refusal)),
+        };
+        if let Some(jsn) = again {
+            let leaf = self.leaf_of(jsn);
+            return Ok(Outcome::Again { jsn, leaf });
+        }
+        let numbers = match self.judge_record(clue) {
             Ok(numbers) => numbers,
             Err(refusal) => return Ok(Outcome::Refused(refusal)),
         };
@@ -114,6 +124,7 @@ impl Book {
             content_digest,
             request,
             by,
+            number,
         );
         let placed = placed_with(numbers.jsn, &header);
         self.place_record(&header, placed.leaf)?;

@@ -15,6 +15,7 @@ ghost use Rattle.ledger_book.specs.Reading.{EndsWith, StandsBehind};
 
 use super::Book;
 use crate::hiders::Hiders;
+use crate::numbers::NumberIndex;
 use clue_index::ClueIndex;
 use ledger_bytes::{Digest, Items, NoMemory, keep_from};
 use ledger_model::Limits;
@@ -60,6 +61,7 @@ impl Book {
             members,
             clues,
             hiders: Hiders::new(alloc),
+            numbers: NumberIndex::new(alloc),
             times: TimeIndex::new(alloc),
             headers: Vec::new(alloc),
             tree,
@@ -137,6 +139,7 @@ impl Book {
         let _ = self.tree.forget_below(p);
         self.clues.drop_below(p);
         self.hiders.drop_below(p);
+        self.numbers.drop_below(p);
         self.floor = p;
     }
 }

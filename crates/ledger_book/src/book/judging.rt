@@ -12,14 +12,17 @@ ghost use Rattle.ledger_bytes.specs.declared.digest.Digest.{Digest as DigestReco
 ghost use Rattle.ledger_model.specs.Clues.{next_ordinal, last_journal};
 ghost use Rattle.ledger_model.specs.History as model;
 ghost use Rattle.ledger_model.specs.History.{History, history};
+ghost use Rattle.ledger_model.specs.Numbers.{repeated, link_at};
 ghost use Rattle.ledger_model.specs.Targets.{leaf_at};
 ghost use Rattle.pseudo_genesis.specs.declared.base.Base.{Base};
 ghost use Rattle.ledger_model.specs.Behind.{HasRoomFor, first_of, ordinal_in};
-ghost use Rattle.ledger_model.specs.Judgements.{fullness, hard_fullness, unknown_in, wrong_key_in, clues_full, append_judgements, member_judgements, occult_judgements};
+ghost use Rattle.ledger_model.specs.Judgements.{fullness, hard_fullness, unknown_in, wrong_key_in, clues_full, member_judgements, occult_judgements};
 ghost use Rattle.member_book.specs.Erasures.{first_refusal};
 ghost use Rattle.ledger_model.specs.Limits.{AreWithin, real_limits};
 ghost use Rattle.ledger_book.specs.Books.{Stands, Serves};
 ghost use Rattle.ledger_book.specs.Facts.{AreFacts, AreFactsBehind, kind_in};
+ghost use Rattle.ledger_book.specs.Numbered.{told_number};
+ghost use Rattle.ledger_book.specs.Requests.{request_judgements, room_judgements};
 ghost use Rattle.ledger_book.specs.Reading.{StandsBehind};
 ghost use Rattle.ledger_book.specs.Steps.{HasOperatorRoom};
 
@@ -31,18 +34,63 @@ use ledger_bytes::{Digest, Refusal};
 use ledger_model::Limits;
 
 impl Book {
-    /// The numbers of a member's next record with this clue, or why it is refused.
-    pub(super) fn judge_record(
+    /// The record that a member's request repeats, where it does, or why the request is refused.
+    pub(super) fn judge_request(
         &self,
         member: u32,
-        clue: &Digest,
+        number: u64,
+        request: &Digest,
         by: &Approval,
-    ) -> Result<Numbers, Refusal>
+    ) -> Result<Option<u64>, Refusal>
         ensures refused { IfErr result (λ refusal. (h : History) → Serves self.now h
-            → Some refusal ≡ first_refusal
-            (append_judgements self.now.limits h member clue.now by.now.key)) }
+            → Some refusal ≡ first_refusal (request_judgements h member number request.now by.now.key)) }
+        ensures passed { IfOk result (λ again. (h : History) → Serves self.now h
+            → first_refusal (request_judgements h member number request.now by.now.key) ≡ None) }
+        ensures again { IfOk result (λ again. (h : History) → Serves self.now h
+            → again ≡ repeated h member number request.now) }
+    {
+        if let Some(refusal) = self.key_refusal(member, &by.key) {
+            return Err(refusal);
+        }
+        let Some(jsn) = self.numbered(member, number) else {
+            return Ok(None);
+        };
+        if *request == self.link_of(jsn) {
+            return Ok(Some(jsn));
+        }
+        Err(Refusal::NumberTaken { jsn })
+    }
+
+    /// The last kept record of a member that has this number, where there is one; 0 is no number.
+    pub(super) fn numbered(&self, member: u32, number: u64) -> Option<u64>
+        ensures { result ≡ told_number self.now.floor self.now.point member number self.now.headers }
+    {
+        if number == 0 {
+            return None;
+        }
+        if self.floor <= self.point {
+            return self.numbers.of(member, number, self.point);
+        }
+        self.numbers.of(member, number, self.floor)
+    }
+
+    // The link of a journal that is kept.
+    fn link_of(&self, n: u64) -> Digest
+        ensures { (h : History) → Serves self.now h → self.now.floor ≤ n → n < model.size h
+            → result.0 ≡ link_at h n }
+    {
+        match self.header(n) {
+            Some(header) => header.link,
+            None => Digest::ZERO,
+        }
+    }
+
+    /// The numbers of a member's next record with this clue, or why there is no room for it.
+    pub(super) fn judge_record(&self, clue: &Digest) -> Result<Numbers, Refusal>
+        ensures refused { IfErr result (λ refusal. (h : History) → Serves self.now h
+            → Some refusal ≡ first_refusal (room_judgements self.now.limits h clue.now)) }
         ensures passed { IfOk result (λ numbers. (h : History) → Serves self.now h
-            → first_refusal (append_judgements self.now.limits h member clue.now by.now.key) ≡ None) }
+            → first_refusal (room_judgements self.now.limits h clue.now) ≡ None) }
         ensures jsn { IfOk result (λ numbers. numbers.jsn ≡ self.now.size) }
         ensures ordinal { IfOk result (λ numbers. (h : History) → Stands self.now h
             → numbers.ordinal ≡ next_ordinal h clue.now) }
@@ -52,9 +100,6 @@ impl Book {
         ensures within { AreWithin self.now.limits }
     {
         if let Some(refusal) = self.full_refusal() {
-            return Err(refusal);
-        }
-        if let Some(refusal) = self.key_refusal(member, &by.key) {
             return Err(refusal);
         }
         let numbers = self.numbers_of(clue);
@@ -197,7 +242,7 @@ impl Book {
     }
 
     // The leaf digest of a journal that is kept.
-    fn leaf_of(&self, n: u64) -> Digest
+    pub(super) fn leaf_of(&self, n: u64) -> Digest
         ensures list { (h : History) → Serves self.now h → self.now.floor ≤ n → n < model.size h
             → result ≡ digest (leaf_at h n) }
         ensures behind { (start : Option Base) (journals : List Entry)

@@ -90,13 +90,20 @@ impl Book {
         self.headers.reserve(1)?;
         self.tree.reserve(1)?;
         self.ends.reserve(1)?;
-        add_to_indexes(
+        let before = self.numbers.add(header, self.size)?;
+        let _added = match add_to_indexes(
             &mut self.times,
             &mut self.clues,
             &mut self.hiders,
             self.size,
             header,
-        )?;
+        ) {
+            Ok(added) => added,
+            Err(error) => {
+                self.numbers.take_back(header, self.size, before);
+                return Err(error);
+            }
+        };
         self.tree.add_leaves(&[leaf]);
         self.headers.push_reserved(*header);
         self.size += 1;
@@ -110,6 +117,7 @@ impl Book {
         requires room { self.old.size < real_limits.size }
         requires leaf { IsLeafOf header.now leaf }
         requires few { length self.old.members < MEMBER_LIMIT }
+        requires kind { header.now.kind ≡ kind.Member }
         ensures ok { OnOk result ((h : History) (journal : Entry) → Stands self.old h
             → journal.header ≡ header.now
             → header.now.kind ≡ kind.Member → MayPlace h header.now

@@ -11,12 +11,14 @@ ghost use Rattle.ledger_model.specs.Limits.{AreWithin, real_limits};
 ghost use Rattle.pseudo_genesis.specs.declared.base.Base.{Base};
 ghost use Rattle.ledger_model.specs.Behind.{IsNextBehind, IsOwnBehind, IsRecordBehind, IsOccultBehind, IsPurgeBehind};
 ghost use Rattle.ledger_book.specs.Books.{Stands, Serves};
+ghost use Rattle.ledger_book.specs.Places.{HasNextPlace, HasPlaceBehind};
 ghost use Rattle.ledger_book.specs.Reading.{StandsBehind};
 ghost use Rattle.ledger_book.specs.Replaying.{IsFirst, begun_with, Replays};
 ghost use Rattle.ledger_book.specs.Steps.{IsAsBefore, IsLater, IsLeafOf, MayPlace, point_with};
 
 use super::Book;
 use crate::hiders::Hiders;
+use crate::numbers::NumberIndex;
 use block_file::Damage;
 use clue_index::ClueIndex;
 use erase_rules::target_refusal;
@@ -53,6 +55,8 @@ impl Book {
     {
         let leaf = leaf_of::<Sha>(&header.encode());
         let members = MemberBook::new(alloc, operator, regulator)?;
+        let mut numbers = NumberIndex::new(alloc);
+        let _ = numbers.add(header, 0)?;
         let headers = vec![in alloc; *header]?;
         let mut tree = Tree::new(alloc);
         tree.reserve(1)?;
@@ -74,6 +78,7 @@ impl Book {
             members,
             clues: ClueIndex::new(alloc),
             hiders: Hiders::new(alloc),
+            numbers,
             times: TimeIndex::new(alloc),
             headers,
             tree,
@@ -152,13 +157,27 @@ impl Book {
     }
 
     // Whether a member's record is the next one, where its number is: the member is known, the clue's numbers are the
-    // next ones, and there is room for the clue.
+    // next ones, there is room for the clue, and no kept record of the member has the number of its request.
     fn is_next_record(&self, header: &Header) -> bool
         requires { self.now.size < real_limits.size }
-        ensures next { (h : History) → Stands self.now h → IsTrue result ↔ IsNextRecord h header.now }
+        ensures next { (h : History) → Serves self.now h → IsTrue result ↔ IsNextRecord h header.now }
         ensures behind { (start : Option Base) (journals : List Entry)
             → StandsBehind self.now start journals
             → IsTrue result ↔ IsRecordBehind start journals header.now }
+    {
+        if let Some(_jsn) = self.numbered(header.member, header.a) {
+            return false;
+        }
+        self.has_next_place(header)
+    }
+
+    // .. but for the number of its request.
+    fn has_next_place(&self, header: &Header) -> bool
+        requires { self.now.size < real_limits.size }
+        ensures next { (h : History) → Stands self.now h → IsTrue result ↔ HasNextPlace h header.now }
+        ensures behind { (start : Option Base) (journals : List Entry)
+            → StandsBehind self.now start journals
+            → IsTrue result ↔ HasPlaceBehind start journals header.now }
     {
         if header.member >= self.members.count() {
             return false;

@@ -1,4 +1,6 @@
-use Rattle.std.proofs.Common.{◌∙◌, [], List, length, map, refl, subst, ap}
+use Rattle.std.proofs.Common.{rules, arith, ◌∙◌, [], List, length, map, refl, sym, subst, ap}
+use Rattle.journal_record.specs.declared.header.Header.{Header}
+use Rattle.ledger_book.specs.Numbered.{Indexes}
 use Rattle.sha2.specs.Sha256.{sha256}
 use Rattle.ledger_bytes.specs.declared.digest.Digest.{Digest}
 use Rattle.merkle_batch.specs.Over.{StandsOver}
@@ -26,8 +28,8 @@ returns-clause-stands c = λ h ends.
       members_are = c.in_ok-members.ensures ∙ ap (map member_with) c.as_slice.ensures;
       clues = clues;
       hiders = c.new-2.ensures;
-      times = c.new-3.ensures;
-      headers_are = c.new-4.ensures.items;
+      times = c.new-4.ensures;
+      headers_are = c.new-5.ensures.items;
       tree_is = λ ds size peaks. c.in_ok-tree.ensures.stands ds size (ap (map (λ (d : Digest). d.0)) c.as_slice-3.ensures ∙ peaks);
       root_is = c.root-root.ensures.list;
     }) ends (some_point b c.requires.base)
@@ -49,9 +51,24 @@ returns-clause-behind c =
       members_are = c.in_ok-members.ensures ∙ ap (map member_with) c.as_slice.ensures;
       clues = clues;
       hiders = c.new-2.ensures;
-      times = c.new-3.ensures;
-      headers_are = c.new-4.ensures.items;
+      times = c.new-4.ensures;
+      headers_are = c.new-5.ensures.items;
       tree_is = λ ds size peaks. c.in_ok-tree.ensures.stands ds size (ap (map (λ (d : Digest). d.0)) c.as_slice-3.ensures ∙ peaks);
       root_is = c.root-root.ensures.list;
     })
     (subst (λ (ds : List Digest). StandsOver sha256 c.in_ok-tree.tree b.point (map (λ (d : Digest). d.0) ds) []) c.as_slice-3.ensures (c.in_ok-tree.ensures.over (ap length c.as_slice-3.ensures ∙ c.requires.base.peaks)))
+
+pub invariant_of-result : goal.invariant_of-result
+invariant_of-result c = (
+  search (rules, arith),
+  search (rules, arith),
+  c.requires.limits,
+  search (rules, arith),
+  search (rules, arith),
+  search (rules, arith),
+  search (rules, arith),
+  search (rules, arith),
+  search (rules, arith),
+  search (rules, arith),
+  subst (λ (xs : List Header). Indexes c.new-3.result c.args.base.now.point xs) (sym c.new-5.ensures.items) (c.new-3.ensures c.args.base.now.point),
+)

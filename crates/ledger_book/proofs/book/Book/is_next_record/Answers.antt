@@ -1,36 +1,30 @@
-use Rattle.std.proofs.Common.{◌<◌, ◌↔◌, length, ap, sym, subst, ◌∙◌, arith}
-use Rattle.std.specs.Prelude.{IsTrue}
-use Rattle.std.specs.Option.{is_none}
-use Rattle.ledger_model.specs.Limits.{real_limits}
-use Rattle.ledger_model.specs.declared.limits.Limits.{Limits}
-use Rattle.ledger_model.specs.Behind.{HasRoomFor, clues_behind}
-use Rattle.ledger_book.specs.Books.{Kept}
-use Rattle.ledger_book.proofs.FactLaws.{none_told}
-use Rattle.ledger_book.proofs.NextLaws.{never, few_behind}
+use Rattle.std.proofs.Common.{ℕ, Option, sym, ◌∙◌}
+use Rattle.ledger_book.proofs.NextLaws.{never}
+use Rattle.ledger_book.proofs.NumberedLaws.{told_stands, told_behind, some_none}
 use Rattle.ledger_book.proofs.book.Book.is_next_record.Goals as goal
 
-pub returns-then-header-numbers-clause-behind : goal.returns-then-header-numbers-clause-behind
-returns-then-header-numbers-clause-behind c = λ start es s.
-    let k = c.args.self.now in
-    let few : k.size < 4_294_967_295 = c.requires in
-    let ordinal = c.numbers_of-numbers.ensures.ordinal_in (clues_behind start es) s.clues (few_behind k start es s few c.args.header.now.clue.0) in
-    never (λ own. c.if-header-numbers.true (own.clue_ord ∙ sym ordinal))
+pub returns-in-Some-clause-next : goal.returns-in-Some-clause-next
+returns-in-Some-clause-next c = λ h s.
+    let x = c.args.header.now in
+    never (λ own. some_none c.numbered.result c.in-Some._jsn c.in-Some.is (c.numbered.ensures ∙ (told_stands c.args.self.now h x.member x.a s ∙ own.fresh)))
+
+pub returns-in-Some-clause-behind : goal.returns-in-Some-clause-behind
+returns-in-Some-clause-behind c = λ start es s.
+    let x = c.args.header.now in
+    never (λ own. some_none c.numbered.result c.in-Some._jsn c.in-Some.is (c.numbered.ensures ∙ (told_behind c.args.self.now start es x.member x.a s ∙ own.fresh)))
+
+pub returns-clause-next : goal.returns-clause-next
+returns-clause-next c = λ h s.
+    let x = c.args.header.now in
+    let told = c.has_next_place.ensures.next h s.stands in (
+      λ yes. let own = told.0 yes in record { member = own.member; clue_ord = own.clue_ord; clue_prev = own.clue_prev; room = own.room; fresh = sym (told_stands c.args.self.now h x.member x.a s) ∙ (sym c.numbered.ensures ∙ c.in_default.is) },
+      λ own. told.1 (record { member = own.member; clue_ord = own.clue_ord; clue_prev = own.clue_prev; room = own.room }),
+    )
 
 pub returns-clause-behind : goal.returns-clause-behind
 returns-clause-behind c = λ start es s.
-    let k = c.args.self.now in
     let x = c.args.header.now in
-    let a = clues_behind start es in
-    let few : k.size < 4_294_967_295 = c.requires in
-    let ordinal = c.numbers_of-numbers.ensures.ordinal_in a s.clues (few_behind k start es s few x.clue.0) in
-    let told : IsTrue c.is_none.result ↔ HasRoomFor real_limits.clues a x.clue =
-    subst (λ v. IsTrue v ↔ HasRoomFor real_limits.clues a x.clue) (none_told c.clue_refusal.result c.is_none.result c.is_none.ensures)
-    (subst (λ (l : Limits). IsTrue (is_none c.clue_refusal.result) ↔ HasRoomFor l.clues a x.clue) c.real.ensures (c.clue_refusal.ensures.room a x.clue s.clues ordinal)) in (
-      λ yes. record {
-        member = omega (arith, c.if-header-count.false, c.count.ensures.count, ap (λ (b : Kept). length b.members) c.self.view_is, s.members);
-        clue_ord = c.if-header-numbers.false ∙ ordinal;
-        clue_prev = c.if-header-numbers-2.false ∙ c.numbers_of-numbers.ensures.previous_in a s.clues;
-        room = told.0 yes;
-      },
-      λ own. told.1 own.room,
+    let told = c.has_next_place.ensures.behind start es s in (
+      λ yes. let own = told.0 yes in record { member = own.member; clue_ord = own.clue_ord; clue_prev = own.clue_prev; room = own.room; fresh = sym (told_behind c.args.self.now start es x.member x.a s) ∙ (sym c.numbered.ensures ∙ c.in_default.is) },
+      λ own. told.1 (record { member = own.member; clue_ord = own.clue_ord; clue_prev = own.clue_prev; room = own.room }),
     )

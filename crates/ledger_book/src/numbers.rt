@@ -1,0 +1,129 @@
+ghost use Rattle.std.specs.Prelude.{◌≡◌, ℕ, ◌+◌, ◌<◌, ◌^◌, List, [], ◌∷◌, ◌++◌, length, None, Some, OnOk, OnErr, IfOk};
+ghost use Rattle.journal_record.specs.declared.header.Header.{Header as HeaderRecord};
+ghost use Rattle.ledger_book.specs.Numbered.{key_of, from_on, told_of, is_numbered, Indexes, Puts, IsAdded, IsSameIndex};
+
+use journal_record::{Header, Kind};
+use ledger_bytes::NoMemory;
+use std::alloc::Global;
+use std::collections::BTreeMap;
+use std::marker::Model;
+
+/// Which record of a member has which number: the last one of each. A contract sees the pairs of a key and a journal.
+#[derive(Drop)]
+pub(crate) struct NumberIndex {
+    by: BTreeMap<[u8; 12], u64>,
+}
+
+impl Model for NumberIndex {
+    ghost use Rattle.std.specs.Prelude.{ℕ, List};
+
+    ghost Value = { List (List ℕ × ℕ) };
+
+    ghost view = { λ x. x.by.entries };
+}
+
+impl NumberIndex {
+    /// Nothing has a number.
+    pub(crate) fn new(alloc: Global) -> Self
+        ensures { (first : ℕ) → Indexes result first [] }
+    {
+        NumberIndex {
+            by: BTreeMap::new(alloc),
+        }
+    }
+
+    /// The last record of the member that has the number, where it is journal `first` or a later one.
+    pub(crate) fn of(&self, member: u32, number: u64, first: u64) -> Option<u64>
+        ensures told { result ≡ from_on first (told_of (key_of member number) self.now) }
+        ensures wide { (member < 2 ^ 32) × (number < 2 ^ 64) }
+    {
+        match self.told(&key(member, number)) {
+            Some(jsn) => { if first <= jsn { Some(jsn) } else { None } }
+            None => None,
+        }
+    }
+
+    /// Adds journal `jsn`, the next one behind those that were added, and answers what its key told before. After an `Err`
+    /// all is as before.
+    pub(crate) fn add(&mut self, header: &Header, jsn: u64) -> Result<Option<u64>, NoMemory>
+        ensures ok { OnOk result ((first : ℕ) (xs : List HeaderRecord) → Indexes self.old first xs
+            → jsn ≡ first + length xs → Indexes self.new first (xs ++ header.now ∷ [])) }
+        ensures told { IfOk result (λ before. IsAdded header.now self.old jsn before self.new) }
+        ensures err { OnErr result (self.new ≡ self.old) }
+    {
+        if !is_numbered(header) {
+            return Ok(None);
+        }
+        let key = key(header.member, header.a);
+        let before = self.told(&key);
+        self.put(&key, jsn)?;
+        Ok(before)
+    }
+
+    /// Takes back an addition by what it answered. It takes no memory.
+    pub(crate) fn take_back(&mut self, header: &Header, jsn: u64, before: Option<u64>)
+        ensures { (first : List (List ℕ × ℕ)) → IsAdded header.now first jsn before self.old
+            → IsSameIndex first self.new }
+    {
+        if !is_numbered(header) {
+            return;
+        }
+        let key = key(header.member, header.a);
+        match before {
+            Some(last) => {
+                let _ = self.put(&key, last);
+            }
+            None => self.forget(&key),
+        }
+    }
+
+    /// Keeps the journals from journal `p` on.
+    pub(crate) fn drop_below(&mut self, p: u64)
+        ensures { (key : List ℕ) → from_on p (told_of key self.new) ≡ from_on p (told_of key self.old) }
+    {
+        self.by.retain(|_, jsn| *jsn >= p);
+    }
+
+    // What a key tells.
+    fn told(&self, key: &[u8; 12]) -> Option<u64>
+        ensures { result ≡ told_of key.now self.now }
+    {
+        self.by.get(key).copied()
+    }
+
+    // The key tells this journal from now on. That takes memory only where it told none.
+    fn put(&mut self, key: &[u8; 12], jsn: u64) -> Result<(), NoMemory>
+        ensures ok { OnOk result (Puts self.old self.new key.now (Some jsn)) }
+        ensures absent { OnErr result (told_of key.now self.old ≡ None) }
+        ensures err { OnErr result (self.new ≡ self.old) }
+    {
+        self.by.insert(*key, jsn)?;
+        Ok(())
+    }
+
+    // The key tells nothing from now on.
+    fn forget(&mut self, key: &[u8; 12])
+        ensures { Puts self.old self.new key.now None }
+    {
+        let _ = self.by.remove(key);
+    }
+}
+
+// Whether a header is that of a record with a number.
+fn is_numbered(header: &Header) -> bool
+    ensures { result ≡ is_numbered header.now }
+{
+    header.kind == Kind::Content && header.a != 0
+}
+
+// A member and a number as 12 bytes.
+fn key(member: u32, number: u64) -> [u8; 12]
+    ensures key { result ≡ key_of member number }
+    ensures wide { (member < 2 ^ 32) × (number < 2 ^ 64) }
+{
+    let mut key = [0; 12];
+    let (front, rest) = key.split_at_mut(4);
+    front.copy_from_slice(&member.to_be_bytes());
+    rest.copy_from_slice(&number.to_be_bytes());
+    key
+}
