@@ -1,3 +1,5 @@
+//! An index of the numbers that members give their requests.
+
 ghost use Rattle.std.specs.Prelude.{◌≡◌, ℕ, ◌+◌, ◌<◌, ◌^◌, List, [], ◌∷◌, ◌++◌, length, None, Some, OnOk, OnErr, IfOk};
 ghost use Rattle.journal_record.specs.declared.header.Header.{Header as HeaderRecord};
 ghost use Rattle.ledger_book.specs.Numbered.{key_of, from_on, told_of, is_numbered, Indexes, Puts, IsAdded, IsSameIndex};
@@ -37,10 +39,8 @@ impl NumberIndex {
         ensures told { result ≡ from_on first (told_of (key_of member number) self.now) }
         ensures wide { (member < 2 ^ 32) × (number < 2 ^ 64) }
     {
-        match self.told(&key(member, number)) {
-            Some(jsn) => { if first <= jsn { Some(jsn) } else { None } }
-            None => None,
-        }
+        let jsn = self.told(&key(member, number))?;
+        if first <= jsn { Some(jsn) } else { None }
     }
 
     /// Adds journal `jsn`, the next one behind those that were added, and answers what its key told before. After an `Err`
