@@ -1,4 +1,4 @@
--- Lemmas on what is due: when a block has ended, the lines that are due for it are the text of its steps.
+-- Lemmas on what is due: each receipt's journal is there, and what is due is the same in each later history.
 use Rattle.std.proofs.Common.{◌≡◌, ℕ, ◌+◌, ◌<◌, ◌≤◌, List, [], ◌∷◌, ◌++◌, Option, Some, None, refl, ap, sym, ◌∙◌, arith, append_assoc, length-append}
 use Rattle.std.specs.Prelude.{⊤}
 use Rattle.ledger_bytes.specs.Digests.{digest}
@@ -105,10 +105,6 @@ grows_windows scheme k (window ∷ windows) =
 pub within_wider : (low lower high higher : ℕ) (answer : Answer) → lower ≤ low → high ≤ higher → IsWithin low high answer → IsWithin lower higher answer
 within_wider low lower high higher (Reply reply) l h w = tt
 within_wider low lower high higher (Receipt jsn leaf stamp) l h w = (omega (arith, w.0), omega (arith, w.1))
-
-pub all_wider : (low lower high : ℕ) (ds : List Due) → lower ≤ low → AllWithin low high ds → AllWithin lower high ds
-all_wider low lower high [] l w = tt
-all_wider low lower high (due ∷ ds) l w = (within_wider low lower high high due.answer l (omega arith) w.0, all_wider low lower high ds l w.1)
 
 -- the receipts of some steps are for journals that are there
 pub dues_within : (scheme : Scheme) (k : History) (steps : List Step) → AllWithin 0 (size (after_steps scheme k steps)) (dues scheme k steps)

@@ -1,7 +1,7 @@
 -- Lemmas on how a history grows, and on what stays true of the part that was there.
 use Rattle.std.specs.Prelude.{Bool, ◌||◌}
-use Rattle.std.proofs.Common.{◌≡◌, ℕ, ◌+◌, ◌-◌, ◌<◌, ◌≤◌, ◌⊎◌, inl, inr, true, false, cond, nat_lt, nat_le, List, [], ◌∷◌, ◌++◌, length, map, take, Option, Some, None, refl, ap, sym, ◌∙◌, arith, append_assoc, append-nil, length-append}
-use Rattle.std.proofs.lemmas.Bool.{lt-ltb, le-ltb, ltb-false}
+use Rattle.std.proofs.Common.{◌≡◌, ℕ, ◌+◌, ◌<◌, ◌≤◌, ◌⊎◌, inl, inr, true, false, cond, nat_lt, nat_le, List, [], ◌∷◌, ◌++◌, length, map, take, Option, Some, None, refl, ap, sym, ◌∙◌, arith, append_assoc, append-nil, length-append}
+use Rattle.std.proofs.lemmas.Bool.{ltb-false}
 use Rattle.std.proofs.lemmas.List.{map-append, length-map, take-append-le}
 use Rattle.std.proofs.lemmas.List.Concat.{flat_map-append}
 use Rattle.sha2.specs.Sha256.{sha256}
@@ -98,19 +98,6 @@ end_from-le n (block ∷ blocks) jsn below above =
       | false ↦ λ e. omega (arith, length-journals_of block blocks, end_from-le (n + length block) blocks jsn (omega (arith, length-journals_of block blocks)) (omega (arith, ltb-false jsn (n + length block) e)))
     ] refl
 
--- the journals of the last of some blocks
-block_from-last : (n : ℕ) (blocks : List (List Entry)) (block : List Entry) (jsn : ℕ) → n + length (journals_of blocks) ≤ jsn → jsn < n + length (journals_of blocks) + length block → block_from n (blocks ++ block ∷ []) jsn ≡ length blocks
-block_from-last n [] block jsn above below = let e : nat_lt jsn (n + length block) ≡ true = lt-ltb jsn (n + length block) (omega arith) in rw e refl
-block_from-last n (first ∷ blocks) block jsn above below =
-    let e : nat_lt jsn (n + length first) ≡ false = le-ltb jsn (n + length first) (omega (arith, length-journals_of first blocks)) in
-    rw e (ap (λ x. x + 1) (block_from-last (n + length first) blocks block jsn (omega (arith, length-journals_of first blocks)) (omega (arith, length-journals_of first blocks))) ∙ omega arith)
-
-end_from-last : (n : ℕ) (blocks : List (List Entry)) (block : List Entry) (jsn : ℕ) → n + length (journals_of blocks) ≤ jsn → jsn < n + length (journals_of blocks) + length block → end_from n (blocks ++ block ∷ []) jsn ≡ n + length (journals_of blocks) + length block
-end_from-last n [] block jsn above below = let e : nat_lt jsn (n + length block) ≡ true = lt-ltb jsn (n + length block) (omega arith) in rw e (omega arith)
-end_from-last n (first ∷ blocks) block jsn above below =
-    let e : nat_lt jsn (n + length first) ≡ false = le-ltb jsn (n + length first) (omega (arith, length-journals_of first blocks)) in
-    rw e (end_from-last (n + length first) blocks block jsn (omega (arith, length-journals_of first blocks)) (omega (arith, length-journals_of first blocks)) ∙ omega (arith, length-journals_of first blocks))
-
 -- nothing came behind
 pub grows_not : (k : History) → Grows k k
 grows_not k = record { more = []; journals_are = sym (append-nil (journals k)); blocks = []; closed_are = sym (append-nil k.closed) }
@@ -193,27 +180,6 @@ end_of-grows k g jsn none a below = ap (λ bs. end_from 0 bs jsn) a.closed_are �
 pub end_of-le : (k : History) (jsn : ℕ) → k.waiting ≡ [] → jsn < size k → end_of k jsn ≤ size k
 unfolding end_of
 end_of-le k jsn none below = omega (arith, end_from-le 0 k.closed jsn (omega (arith, size_closed k none)) (omega arith), size_closed k none)
-
--- how many journals there are once a block more has ended
-ended_size : (k g : History) (e : IsEnded k g) → size g ≡ length (journals_of k.closed) + length e.block
-ended_size k g e =
-    size_closed g e.none ∙ ap (λ bs. length (journals_of bs)) e.closed_are ∙ ap length (flat_map-append (λ (b : List Entry). b) k.closed (e.block ∷ []))
-    ∙ omega (arith, length-append (journals_of k.closed) (e.block ++ []), ap length (append-nil e.block))
-
--- what a receipt says where its block is the last
-pub block_of-ended : (k g : History) (jsn : ℕ) → k.waiting ≡ [] → (e : IsEnded k g) → size k ≤ jsn → jsn < size g → block_of g jsn ≡ length g.closed - 1
-unfolding block_of
-block_of-ended k g jsn none e above below =
-    ap (λ bs. block_from 0 bs jsn) e.closed_are
-    ∙ block_from-last 0 k.closed e.block jsn (omega (arith, size_closed k none)) (omega (arith, size_closed k none, ended_size k g e))
-    ∙ omega (arith, ap length e.closed_are, length-append k.closed (e.block ∷ []))
-
-pub end_of-ended : (k g : History) (jsn : ℕ) → k.waiting ≡ [] → (e : IsEnded k g) → size k ≤ jsn → jsn < size g → end_of g jsn ≡ size g
-unfolding end_of
-end_of-ended k g jsn none e above below =
-    ap (λ bs. end_from 0 bs jsn) e.closed_are
-    ∙ end_from-last 0 k.closed e.block jsn (omega (arith, size_closed k none)) (omega (arith, size_closed k none, ended_size k g e))
-    ∙ omega (arith, ended_size k g e)
 
 -- where nothing waits, the open block has nothing to end
 pub close_settled : (k : History) → k.waiting ≡ [] → k ≡ close k

@@ -129,7 +129,7 @@ anchor_lawful h None (Some stamp) l none is few =
     alone_lawful h None j l none (λ accepted. lawful_more (journals h) j l.journals_are (time_next real_limits real_within h stamp (sym is) l.journals_are (few stamp refl)))
 
 -- a job that only asks places nothing
-unplaced : (refusal : Option Refusal) (h : History) → after_judgement refusal None h ≡ h
+pub unplaced : (refusal : Option Refusal) (h : History) → after_judgement refusal None h ≡ h
 unplaced None h = refl
 unplaced (Some refusal) h = refl
 

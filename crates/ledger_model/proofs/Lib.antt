@@ -8,6 +8,7 @@ pub mod RunLaws
 pub mod PreparedLaws
 pub mod GetLaws
 pub mod RepeatLaws
+pub mod OnceLaws
 pub mod WaitLaws
 pub mod WrittenLaws
 pub mod PlaceLaws

@@ -14,6 +14,7 @@ pub mod Headers
 pub mod Anchors
 pub mod Numbers
 pub mod Judgements
+pub mod Repeats
 pub mod Fitting
 pub mod Outcomes
 pub mod Lawful

@@ -67,8 +67,8 @@ told_reply h step Head =
     if step.failed then reply.Refused NotaryFault
     else reply.Head (digest (id h)) (size h) (digest (root h (size h))) (blocks h) (point h) (length step.after) (digest (mth sha256 step.after))
 
--- the answer to a job that is judged against h, by what came of it: a refusal, a receipt that waits for its block's end, or
--- what is told
+-- the answer to a job that is judged against h, by what came of it: a refusal, a receipt that waits for its block's end, one that
+-- is told once more, or what is read
 abbrev pub answer_for : History → Step → Outcome → Answer
 answer_for h step (Refused refusal) = Reply (reply.Refused refusal)
 answer_for h step (Placed placed) = Receipt placed.jsn placed.leaf (stamp_of step)

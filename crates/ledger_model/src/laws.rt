@@ -3,7 +3,9 @@
 ghost use Rattle.std.specs.Prelude.{◌≡◌, ◌≢◌, ℕ, ◌+◌, ◌^◌, ◌<◌, ◌≤◌, List, [], ◌++◌, length, All, Option, Some, None, slice_get, true, false};
 ghost use Rattle.std.specs.List.{flat_map, list_all};
 ghost use Rattle.ledger_bytes.specs.Begins.{Begins};
+ghost use Rattle.ledger_bytes.specs.Digests.{digest};
 ghost use Rattle.ledger_bytes.specs.declared.digest.Digest.{Digest};
+ghost use Rattle.ledger_bytes.specs.declared.refusal.Refusal.TheVariants as refusals;
 ghost use Rattle.journal_record.specs.Entry.{Entry};
 ghost use Rattle.journal_record.specs.Header.{spelling};
 ghost use Rattle.journal_record.specs.Rules.{IsHeader};
@@ -31,14 +33,16 @@ ghost use Rattle.ledger_model.specs.Lawful.{IsLawful, IsSound};
 ghost use Rattle.ledger_model.specs.Limits.{real_limits};
 ghost use Rattle.ledger_model.specs.Members.{keys};
 ghost use Rattle.ledger_model.specs.Needs.{HaveSame};
+ghost use Rattle.ledger_model.specs.Numbers.{link_at, numbered, repeated};
 ghost use Rattle.ledger_model.specs.Outcomes.{accepted_outcome, placed_as, placed_journal, view};
 ghost use Rattle.ledger_model.specs.Pegs.{Pegged};
 ghost use Rattle.ledger_model.specs.Prepared.{prepared_items, after_jobs, job_dues};
 ghost use Rattle.ledger_model.specs.Proofs.{shown_of, extension_in, list_extension};
+ghost use Rattle.ledger_model.specs.Repeats.{IsKeptRecord, who_refusal};
 ghost use Rattle.ledger_model.specs.Rules.{after_job, after_steps, after};
 ghost use Rattle.ledger_model.specs.Scheme.{Scheme};
 ghost use Rattle.ledger_model.specs.Step.{Step};
-ghost use Rattle.ledger_model.specs.Targets.{hider, is_hidden, kind_at};
+ghost use Rattle.ledger_model.specs.Targets.{hider, is_hidden, kind_at, leaf_at};
 ghost use Rattle.ledger_model.specs.Texts.{text, answer_to, proof_reply, extension_reply};
 ghost use Rattle.ledger_model.specs.Took.{counts_after, NoneCall, Took, TookAll, GoesOnMade};
 ghost use Rattle.ledger_model.specs.Windows.{Said, said_lines, windows, AllButLastWhole, NoneWholeBefore};
@@ -229,6 +233,56 @@ pub fn what_is_placed_is_told()
         → accepted_outcome h stamp job ≡ placed_as (size h) journal }
     ensures placed { (h : History) (stamp : Option StampRecord) (job : Job) (placed : PlacedJournal)
         → accepted_outcome h stamp job ≡ outcomes.Placed placed → placed_journal h stamp job ≢ None }
+{}
+
+/// The record that is found under a member's number is kept, and has this number. In a lawful history no other kept record of the
+/// member has it, so each of them is found under its own.
+pub fn a_number_is_one_record()
+    ensures found { (h : History) (member number n : ℕ) → numbered h member number ≡ Some n
+        → IsKeptRecord h member number n }
+    ensures only { (h : History) (member number n : ℕ) → IsLawful h → 0 < number
+        → IsKeptRecord h member number n → numbered h member number ≡ Some n }
+{}
+
+/// A record is asked for once more where a kept record of the member has its number and answers the same request: then nothing
+/// changes, and that record's receipt is told, without a stamp. No bound of the ledger refuses it: only that there is no such
+/// member, or that the proof shows another key. Where the kept record answers another request, the number is taken.
+pub fn a_repeat_is_told_its_record()
+    ensures repeat { (h : History) (member number : ℕ) (request : Digest) (n : ℕ)
+        → numbered h member number ≡ Some n → request.0 ≡ link_at h n
+        → repeated h member number request ≡ Some n }
+    ensures same { (h : History) (step : Step) (member : ℕ) (clue : Digest) (content : List ℕ)
+        (content_digest request : Digest) (by : Approval) (number n : ℕ)
+        → IsLawful h → repeated h member number request ≡ Some n
+        → after_job h step (jobs.Append member clue content content_digest request by number) ≡ h }
+    ensures told { (h : History) (step : Step) (member : ℕ) (clue : Digest) (content : List ℕ)
+        (content_digest request : Digest) (by : Approval) (number n : ℕ)
+        → repeated h member number request ≡ Some n → who_refusal h member by.key ≡ None
+        → answer_to h step (jobs.Append member clue content content_digest request by number)
+        ≡ answers.Receipt n (digest (leaf_at h n)) None }
+    ensures refused { (h : History) (member : ℕ) (clue : Digest) (content : List ℕ)
+        (content_digest request : Digest) (by : Approval) (number n : ℕ)
+        → repeated h member number request ≡ Some n
+        → own_refusal real_limits h (jobs.Append member clue content content_digest request by number)
+        ≡ who_refusal h member by.key }
+    ensures taken { (h : History) (member : ℕ) (clue : Digest) (content : List ℕ)
+        (content_digest request : Digest) (by : Approval) (number n : ℕ)
+        → numbered h member number ≡ Some n → request.0 ≢ link_at h n
+        → who_refusal h member by.key ≡ None
+        → own_refusal real_limits h (jobs.Append member clue content content_digest request by number)
+        ≡ Some (refusals.NumberTaken n) }
+{}
+
+/// Where a numbered record was placed, the same request is a repeat of it.
+pub fn a_placed_number_is_repeated()
+    ensures { (h : History) (step : Step) (member : ℕ) (clue : Digest) (content : List ℕ)
+        (content_digest request : Digest) (by : Approval) (number : ℕ)
+        → IsLawful h → 0 < number
+        → fits_job (jobs.Append member clue content content_digest request by number) ≡ true
+        → own_refusal real_limits h (jobs.Append member clue content content_digest request by number) ≡ None
+        → repeated h member number request ≡ None
+        → repeated (after_job h step (jobs.Append member clue content content_digest request by number)) member number request
+        ≡ Some (size h) }
 {}
 
 /// Where what was written begins the lines of dues whose journals stand in some blocks, and these begin those of the history in
