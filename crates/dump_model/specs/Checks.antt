@@ -1,5 +1,5 @@
 -- What is checked of a whole dump, under the heads of a ledger and a notary.
-use Rattle.std.specs.Prelude.{◌≡◌, ℕ, ◌+◌, ◌==◌, ◌&&◌, Bool, true, false, List, ◌∷◌, length, All, IfSome, bytes_eq, is_none}
+use Rattle.std.specs.Prelude.{◌≡◌, ℕ, ◌+◌, ◌==◌, ◌&&◌, Bool, true, List, ◌∷◌, length, All, IfSome, bytes_eq, is_none}
 use Rattle.std.specs.List.{list_any}
 use Rattle.ledger_bytes.specs.Tags.{byte_of}
 use Rattle.ledger_bytes.specs.declared.tag.Tag.TheVariants as tag
