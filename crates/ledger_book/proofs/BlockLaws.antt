@@ -1,14 +1,17 @@
 -- Lemmas on the block that holds a kept journal: it is found among the sizes above the floor at which blocks have ended.
-use Rattle.std.specs.Prelude.{nat_le, nat_lt, cond, slice_get, get_or, filter, Option, Some}
+use Rattle.std.specs.Prelude.{nat_le, nat_lt, cond, slice_get, get_or, filter, ◌&&◌, Option, Some, None, Result, Ok, Err, IfOk, IsOk}
+use Rattle.std.specs.Result.{result_ok}
 use Rattle.std.specs.List.Sorted.{IsPartitionedBy, IsPartitionPoint, IsNonDecreasingBy}
 use Rattle.std.proofs.Common.{◌≡◌, ℕ, zero, suc, ◌+◌, ◌-◌, ◌<◌, ◌≤◌, Bool, true, false, List, [], ◌∷◌, length, refl, sym, ap, subst, ◌∙◌, arith, length-append}
 use Rattle.std.proofs.lemmas.Bool.{le-leb, lt-leb, leb-true, lt-ltb, le-ltb, ltb-true, ltb-false, true≢false}
 use Rattle.std.proofs.lemmas.List.Kept.{IsNonDecreasingBy-filter}
 use Rattle.std.proofs.lemmas.List.Sorted.{IsPartitionedBy-leb}
+use Rattle.std.proofs.lemmas.Option.{slice_get_within}
 use Rattle.journal_record.specs.Entry.{Entry}
 use Rattle.ledger_model.specs.Ends.{ends_from}
 use Rattle.ledger_model.specs.History.{History, journals_of, ends, block_from, end_from, block_of, end_of}
-use Rattle.ledger_book.specs.Books.{Kept, Stands, ends_above}
+use Rattle.ledger_book.specs.Books.{Kept, Stands, ends_above, sealed_size}
+use Rattle.ledger_book.specs.Blocks.{if_sealed, told_block}
 
 -- sizes never fall from block to block
 least : (m : ℕ) (bs : List (List Entry)) (i d : ℕ) → i < length (ends_from m bs) → m ≤ get_or (ends_from m bs) i d
@@ -23,8 +26,10 @@ never_fall m (b ∷ bs) zero (suc j) d le lt = least (m + length b) bs j d (omeg
 never_fall m (b ∷ bs) (suc i) zero d le lt = absurd (omega (arith, le))
 never_fall m (b ∷ bs) (suc i) (suc j) d le lt = never_fall (m + length b) bs i j d (omega (arith, le)) (omega (arith, lt))
 
-pub ends_parted : (floor n : ℕ) (h : History) → IsPartitionedBy (λ (e : ℕ). nat_le e n) (ends_above floor h)
-ends_parted floor n h = IsPartitionedBy-leb (λ (e : ℕ). e) (ends_above floor h) n (IsNonDecreasingBy-filter (λ (e : ℕ). e) (λ (e : ℕ). nat_lt floor e) (ends h) (never_fall 0 h.closed))
+pub ends_parted : (k : Kept) (h : History) (n : ℕ) → Stands k h → IsPartitionedBy (λ (e : ℕ). nat_le e n) k.ends
+ends_parted k h n s =
+    subst (λ (l : List ℕ). IsPartitionedBy (λ (e : ℕ). nat_le e n) l) (sym s.counts.ends)
+    (IsPartitionedBy-leb (λ (e : ℕ). e) (ends_above k.floor h) n (IsNonDecreasingBy-filter (λ (e : ℕ). e) (λ (e : ℕ). nat_lt k.floor e) (ends h) (never_fall 0 h.closed)))
 
 -- the place of the first size behind a journal
 abbrev pub IsBehind : ℕ → List ℕ → ℕ → Type 0
@@ -136,3 +141,54 @@ module _ (k : Kept) (h : History) (n i : ℕ) (s : Stands k h) (low : k.floor �
   pub end_found : slice_get k.ends i ≡ Some (end_of h n)
   unfolding end_of
   end_found = ap (λ (l : List ℕ). slice_get l i) s.counts.ends ∙ holder.end_is
+
+-- .. is there
+pub end_within : (k : Kept) (h : History) (n i : ℕ) → Stands k h → k.floor ≤ n → n < k.sealed → IsBehind n k.ends i → i < length k.ends
+end_within k h n i s low lt at = slice_get_within k.ends i (end_of h n) (end_found k h n i s low lt at)
+
+-- of a kept journal whose block has ended, all is told that there is
+pub told_here : {A : Type 0} (k : Kept) (h : History) (n : ℕ) (told : A) → Stands k h → k.floor ≤ n → n < k.sealed → if_sealed k.floor h n told ≡ Some told
+told_here k h n told s low lt =
+    ap (λ v. cond (v && nat_lt n (sealed_size h)) (Some told) None) (le-leb k.floor n low)
+    ∙ ap (λ v. cond v (Some told) None) (lt-ltb n (sealed_size h) (omega (arith, lt, s.counts.sealed_is)))
+
+-- a block that is the journal's is the one that is told
+pub tells : (k : Kept) (h : History) (n block end : ℕ) → Stands k h → k.floor ≤ n → n < k.sealed → block ≡ block_of h n → end ≡ end_of h n → ◌≡◌ {A = Option (ℕ × ℕ)} (Some (block, end)) (told_block k.floor h n)
+tells k h n block end s low lt block_is end_is =
+    ap (λ m. Some (m, end)) block_is ∙ ap (λ m. Some (block_of h n, m)) end_is ∙ sym (told_here k h n (block_of h n, end_of h n) s low lt)
+
+-- where a block is told, the journal is kept and its block has ended, and it is that block
+pub told_when : (floor : ℕ) (h : History) (n block end : ℕ) → ◌≡◌ {A = Option (ℕ × ℕ)} (Some (block, end)) (told_block floor h n) → (floor ≤ n) × (n < sealed_size h) × (block ≡ block_of h n) × (end ≡ end_of h n)
+told_when floor h n block end is = by_test (nat_le floor n) (nat_lt n (sealed_size h)) refl refl is where
+  by_test : (v w : Bool) → nat_le floor n ≡ v → nat_lt n (sealed_size h) ≡ w → ◌≡◌ {A = Option (ℕ × ℕ)} (Some (block, end)) (cond (v && w) (Some (block_of h n, end_of h n)) None)
+      → (floor ≤ n) × (n < sealed_size h) × (block ≡ block_of h n) × (end ≡ end_of h n)
+  by_test true true low lt told =
+      let same : ◌≡◌ {A = ℕ × ℕ} (block, end) (block_of h n, end_of h n) = cc told in
+      (leb-true floor n low, ltb-true n (sealed_size h) lt, ap (λ (p : ℕ × ℕ). p.0) same, ap (λ (p : ℕ × ℕ). p.1) same)
+  by_test true false low lt told = absurd cc
+  by_test false w low lt told = absurd cc
+
+-- a block ends behind its journals, and no later than all blocks
+end_bounds : (m n : ℕ) (bs : List (List Entry)) → m ≤ n → n < m + length (journals_of bs) → (n < end_from m bs n) × (end_from m bs n ≤ m + length (journals_of bs))
+end_bounds m n [] le lt = absurd (omega (arith, le, lt))
+end_bounds m n (b ∷ bs) le lt =
+    let all = length-append b (journals_of bs) in
+    elim (nat_lt n (m + length b)) as (λ v. nat_lt n (m + length b) ≡ v → (n < cond v (m + length b) (end_from (m + length b) bs n)) × (cond v (m + length b) (end_from (m + length b) bs n) ≤ m + length (journals_of (b ∷ bs)))) [
+      | true ↦ λ is. (ltb-true n (m + length b) is, omega (arith, all))
+      | false ↦ λ is.
+          let later = end_bounds (m + length b) n bs (ltb-false n (m + length b) is) (omega (arith, lt, all)) in
+          (later.0, omega (arith, later.1, all))
+    ] refl
+
+pub end_between : (h : History) (n : ℕ) → n < sealed_size h → (n < end_of h n) × (end_of h n ≤ sealed_size h)
+unfolding end_of
+end_between h n lt = let at = end_bounds 0 n h.closed (omega arith) (omega (arith, lt)) in (at.0, omega (arith, at.1))
+
+-- what an answer that isn't an error tells
+pub if_told : {T E : Type 0} (answer : Result T E) (told : T) (P : T → Type 0) → Some told ≡ result_ok answer → IfOk answer P → P told
+if_told (Ok value) told P is p = subst P (let same : value ≡ told = cc is in same) p
+if_told (Err error) told P is p = absurd cc
+
+pub not_ok : {T E : Type 0} (answer : Result T E) → (let none : Option T = None in none ≡ result_ok answer) → IsOk answer → ⊥
+not_ok (Ok value) is ok = absurd cc
+not_ok (Err error) is ok = absurd cc
