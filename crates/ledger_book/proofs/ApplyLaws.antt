@@ -31,8 +31,6 @@ use Rattle.ledger_book.proofs.JudgeLaws.{first_one, hard_not, passed_before, ref
 use Rattle.ledger_model.specs.Lawful.{gathers}
 use Rattle.ledger_model.specs.Limits.{AreWithin}
 use Rattle.ledger_model.specs.Numbers.{repeated, unless_repeated}
-use Rattle.ledger_model.specs.Targets.{leaf_at}
-use Rattle.ledger_model.proofs.RepeatLaws.{repeated_within}
 use Rattle.ledger_model.specs.Outcomes as outcomes
 use Rattle.ledger_model.specs.Outcomes.{placed_journal, with_waiting, after_judgement, placed_as, placed_with, accepted_outcome, judged_outcome}
 use Rattle.ledger_model.specs.declared.job.Job.{Job}

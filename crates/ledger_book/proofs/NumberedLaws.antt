@@ -17,11 +17,8 @@ use Rattle.std.proofs.lemmas.Slice.Eq.{bytes_eq-Decides}
 use Rattle.ledger_bytes.proofs.Fields.{wide32, wide64}
 use Rattle.journal_record.specs.Entry.{Entry}
 use Rattle.journal_record.specs.declared.header.Header.{Header}
-use Rattle.journal_record.specs.declared.header.Kind.{Kind}
-use Rattle.journal_record.specs.declared.header.Kind.TheVariants as kind
 use Rattle.member_book.specs.Erasures.{is_record}
 use Rattle.ledger_bytes.specs.declared.digest.Digest.{Digest}
-use Rattle.ledger_bytes.specs.declared.refusal.Refusal.{Refusal}
 use Rattle.ledger_bytes.specs.declared.refusal.Refusal.TheVariants.{NumberTaken}
 use Rattle.ledger_model.specs.History.{History, journals, point, greatest_point}
 use Rattle.ledger_model.specs.Numbers.{place_from, numbered_in, numbered, link_at, taken_by, repeated_by, number_taken, repeated}

@@ -1,9 +1,5 @@
-use Rattle.std.proofs.Common.{arith, ◌≡◌, ◌≤◌, ◌<◌, Some, ap, sym, subst, ◌∙◌, take}
-use Rattle.sha2.specs.Sha256.{sha256}
-use Rattle.tree_model.specs.Tree.{root}
+use Rattle.std.proofs.Common.{arith, ◌≡◌, Some, ap, sym, subst, ◌∙◌}
 use Rattle.ledger_bytes.specs.Digests.{digest}
-use Rattle.ledger_bytes.specs.declared.digest.Digest.{Digest}
-use Rattle.merkle_tree.specs.declared.head.Head.{Head}
 use Rattle.ledger_model.specs.History as model
 use Rattle.ledger_model.specs.History.{block_of, end_of}
 use Rattle.ledger_book.specs.Blocks.{told_end}

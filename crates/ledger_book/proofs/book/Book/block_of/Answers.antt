@@ -1,4 +1,4 @@
-use Rattle.std.proofs.Common.{rules, tests, arith, List, ◌≡◌, ◌≤◌, ◌<◌, ◌-◌, ℕ, length, nat_le, get_or, sym, subst, ap, ◌∙◌}
+use Rattle.std.proofs.Common.{rules, tests, arith, List, ◌≡◌, ◌≤◌, ◌<◌, ℕ, length, nat_le, get_or, sym, subst, ap, ◌∙◌}
 use Rattle.std.proofs.lemmas.Bool.{ltb-false}
 use Rattle.std.proofs.lemmas.List.Sorted.{IsPartitionPoint-from_clause}
 use Rattle.std.proofs.lemmas.Option.{get_or_from_slice_get}

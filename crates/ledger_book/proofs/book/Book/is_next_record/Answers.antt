@@ -1,4 +1,4 @@
-use Rattle.std.proofs.Common.{ℕ, Option, sym, ◌∙◌}
+use Rattle.std.proofs.Common.{sym, ◌∙◌}
 use Rattle.ledger_book.proofs.NextLaws.{never}
 use Rattle.ledger_book.proofs.NumberedLaws.{told_stands, told_behind, some_none}
 use Rattle.ledger_book.proofs.book.Book.is_next_record.Goals as goal

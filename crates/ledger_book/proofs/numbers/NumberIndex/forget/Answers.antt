@@ -1,4 +1,4 @@
-use Rattle.std.proofs.Common.{◌≡◌, ap, ◌∙◌, cond, Option, None, ℕ}
+use Rattle.std.proofs.Common.{ap, ◌∙◌, cond, Option, None, ℕ}
 use Rattle.std.proofs.lemmas.Map.Text.{is_eq-slice_cmp}
 use Rattle.std.specs.Str.{bytes_eq}
 use Rattle.ledger_book.specs.Numbered.{told_of}
