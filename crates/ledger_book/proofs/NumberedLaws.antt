@@ -1,7 +1,7 @@
 -- Lemmas on the last record with a number.
-use Rattle.std.specs.Prelude.{◌==◌, nat_le, not, slice_get, get_or, filter, Result, Ok, Err, OnOk, OnErr}
+use Rattle.std.specs.Prelude.{◌==◌, nat_le, max, not, slice_get, get_or, filter, Result, Ok, Err, OnOk, OnErr}
 use Rattle.std.specs.Int.{w32, w64, to_be_bytes, from_be_bytes}
-use Rattle.std.specs.Option.{option_or}
+use Rattle.std.specs.Option.{is_some, option_or}
 use Rattle.std.specs.Str.{bytes_eq}
 use Rattle.std.specs.Cmp.Lexicographic.{slice_cmp}
 use Rattle.std.specs.List.{AllByRecursion}
@@ -274,12 +274,20 @@ fresh_behind h p g m r le none =
 
 -- ---- what a book tells, by its index
 
-pub told_high : (entries : List (List ℕ × ℕ)) (first point m r : ℕ) (xs : List Header) → (r == 0) ≡ false → m < 2 ^ 32 → r < 2 ^ 64 → Indexes entries first xs → first ≤ point → from_on point (told_of (key_of m r) entries) ≡ told_number first point m r xs
-told_high entries first point m r xs none mw rw_ index le = sym (further first point (told_of (key_of m r) entries) le) ∙ told_by entries first point m r xs none mw rw_ index
+-- a journal that is in front of neither
+from_both : (p q : ℕ) (o : Option ℕ) → from_on (max p q) o ≡ from_on p (from_on q o)
+from_both p q None = refl
+from_both p q (Some n) = by_first (nat_le q n) refl where
+  by_last : (v : Bool) → nat_le p n ≡ v → q ≤ n → from_on (max p q) (Some n) ≡ cond v (Some n) None
+  by_last true is low = ap (λ v. cond v (Some n) None) (le-leb (max p q) n (let le = leb-true p n is in omega (arith, le, low)))
+  by_last false is low = ap (λ v. cond v (Some n) None) (lt-leb (max p q) n (let lt = leb-false p n is in omega (arith, lt)))
 
-pub told_low : (entries : List (List ℕ × ℕ)) (first point m r : ℕ) (xs : List Header) → (r == 0) ≡ false → m < 2 ^ 32 → r < 2 ^ 64 → Indexes entries first xs → point ≤ first → from_on first (told_of (key_of m r) entries) ≡ told_number first point m r xs
-told_low entries first point m r xs none mw rw_ index le =
-    sym (less_far point first (from_on first (told_of (key_of m r) entries)) le (further first first (told_of (key_of m r) entries) (omega arith))) ∙ told_by entries first point m r xs none mw rw_ index
+  by_first : (v : Bool) → nat_le q n ≡ v → from_on (max p q) (Some n) ≡ from_on p (cond v (Some n) None)
+  by_first true is = by_last (nat_le p n) refl (leb-true q n is)
+  by_first false is = ap (λ v. cond v (Some n) None) (lt-leb (max p q) n (let lt = leb-false q n is in omega (arith, lt)))
+
+pub told_last : (entries : List (List ℕ × ℕ)) (first point m r : ℕ) (xs : List Header) → (r == 0) ≡ false → m < 2 ^ 32 → r < 2 ^ 64 → Indexes entries first xs → from_on (max point first) (told_of (key_of m r) entries) ≡ told_number first point m r xs
+told_last entries first point m r xs none mw rw_ index = from_both point first (told_of (key_of m r) entries) ∙ told_by entries first point m r xs none mw rw_ index
 
 pub told_zero : (first point m r : ℕ) (xs : List Header) → r ≡ 0 → IsNothing (told_number first point m r xs)
 told_zero first point m r xs is = ap (λ b. cond b None (from_on point (last_with first m r xs))) (eq-eqb r 0 is)
@@ -334,5 +342,9 @@ link_is k h n x s le is =
     (ap (λ i. slice_get (map (λ (e : Entry). e.header) (journals h)) i) (let at : n ≡ k.floor + (n - k.floor) = omega (arith, le) in at)
     ∙ (sym (get_drop k.floor (n - k.floor) (map (λ (e : Entry). e.header) (journals h))) ∙ (ap (λ l. slice_get l (n - k.floor)) (sym s.tree.headers_are) ∙ is)))
 
-pub some_none : (o : Option ℕ) (n : ℕ) → o ≡ Some n → IsNothing o → ⊥
-some_none o n some none = nothing_some n (sym none ∙ some)
+pub some_known : (o : Option ℕ) → is_some o ≡ true → IsNothing o → ⊥
+some_known o some none = true≢false (sym some ∙ ap is_some none)
+
+pub none_known : (o : Option ℕ) → is_some o ≡ false → IsNothing o
+none_known None none = refl
+none_known (Some n) none = absurd (true≢false none)

@@ -68,10 +68,7 @@ impl Book {
         if number == 0 {
             return None;
         }
-        if self.floor <= self.point {
-            return self.numbers.of(member, number, self.point);
-        }
-        self.numbers.of(member, number, self.floor)
+        self.numbers.of(member, number, self.point.max(self.floor))
     }
 
     // The link of a journal that is kept.

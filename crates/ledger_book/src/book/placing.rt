@@ -91,19 +91,19 @@ impl Book {
         self.tree.reserve(1)?;
         self.ends.reserve(1)?;
         let before = self.numbers.add(header, self.size)?;
-        let _added = match add_to_indexes(
+        match add_to_indexes(
             &mut self.times,
             &mut self.clues,
             &mut self.hiders,
             self.size,
             header,
         ) {
-            Ok(added) => added,
+            Ok(()) => {}
             Err(error) => {
                 self.numbers.take_back(header, self.size, before);
                 return Err(error);
             }
-        };
+        }
         self.tree.add_leaves(&[leaf]);
         self.headers.push_reserved(*header);
         self.size += 1;

@@ -165,7 +165,7 @@ impl Book {
             → StandsBehind self.now start journals
             → IsTrue result ↔ IsRecordBehind start journals header.now }
     {
-        if let Some(_jsn) = self.numbered(header.member, header.a) {
+        if self.numbered(header.member, header.a).is_some() {
             return false;
         }
         self.has_next_place(header)
