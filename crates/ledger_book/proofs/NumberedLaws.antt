@@ -28,7 +28,7 @@ use Rattle.ledger_book.specs.Books.{Kept, Stands, Serves}
 use Rattle.ledger_book.specs.Reading.{StandsBehind}
 use Rattle.ledger_book.proofs.StandsLaws.{point_is}
 use Rattle.ledger_model.specs.Numbers as model
-use Rattle.ledger_book.specs.Numbered.{key_of, is_numbered, is_with, last_with, from_on, told_of, Indexes, Puts, IsAdded, IsSameIndex, told_number}
+use Rattle.ledger_book.specs.Numbered.{key_of, is_numbered, is_with, last_with, from_on, told_of, IndexesNumbers, PutsNumber, IsAdded, IsSameIndex, told_number}
 
 abbrev IsNothing : Option ℕ → Type 0
 IsNothing o = let none : Option ℕ = None in o ≡ none
@@ -129,19 +129,16 @@ further p q (Some n) le = by_test (nat_le p n) refl where
 
 -- ---- the index
 
-pub none_indexed : (first : ℕ) → Indexes [] first []
-none_indexed first m r mw some rw_ = refl
-
 added_by : (first at : ℕ) (b : Bool) (old : Option ℕ) (last : Option ℕ) → first ≤ at → from_on first old ≡ last → from_on first (cond b (Some at) old) ≡ cond b (Some at) last
 added_by first at true old last le is = ap (λ v. cond v (Some at) None) (le-leb first at le)
 added_by first at false old last le is = is
 
 -- a header more
-pub unnumbered_added : (entries : List (List ℕ × ℕ)) (first : ℕ) (xs : List Header) (x : Header) → is_numbered x ≡ false → Indexes entries first xs → Indexes entries first (xs ++ x ∷ [])
+pub unnumbered_added : (entries : List (List ℕ × ℕ)) (first : ℕ) (xs : List Header) (x : Header) → is_numbered x ≡ false → IndexesNumbers entries first xs → IndexesNumbers entries first (xs ++ x ∷ [])
 unnumbered_added entries first xs x none index m r mw some rw_ =
     index m r mw some rw_ ∙ sym (last_more first m r xs x ∙ ap (λ v. cond v (Some (first + length xs)) (last_with first m r xs)) (none_with x m r none some))
 
-pub numbered_added : (old new : List (List ℕ × ℕ)) (first jsn : ℕ) (xs : List Header) (x : Header) → is_numbered x ≡ true → x.member < 2 ^ 32 → x.a < 2 ^ 64 → Puts old new (key_of x.member x.a) (Some jsn) → Indexes old first xs → jsn ≡ first + length xs → Indexes new first (xs ++ x ∷ [])
+pub numbered_added : (old new : List (List ℕ × ℕ)) (first jsn : ℕ) (xs : List Header) (x : Header) → is_numbered x ≡ true → x.member < 2 ^ 32 → x.a < 2 ^ 64 → PutsNumber old new (key_of x.member x.a) (Some jsn) → IndexesNumbers old first xs → jsn ≡ first + length xs → IndexesNumbers new first (xs ++ x ∷ [])
 numbered_added old new first jsn xs x some xm xa puts index at m r mw one rw_ =
     ap (from_on first) (puts (key_of m r))
     ∙ (added_by first jsn (bytes_eq (key_of x.member x.a) (key_of m r)) (told_of (key_of m r) old) (last_with first m r xs) (omega (arith, at)) (index m r mw one rw_)
@@ -150,28 +147,28 @@ numbered_added old new first jsn xs x some xm xa puts index at m r mw one rw_ =
     ∙ sym (last_more first m r xs x))))
 
 -- an index that tells the same
-pub same_indexed : (old new : List (List ℕ × ℕ)) (first : ℕ) (xs : List Header) → IsSameIndex old new → Indexes old first xs → Indexes new first xs
+pub same_indexed : (old new : List (List ℕ × ℕ)) (first : ℕ) (xs : List Header) → IsSameIndex old new → IndexesNumbers old first xs → IndexesNumbers new first xs
 same_indexed old new first xs same index m r mw some rw_ = ap (from_on first) (same (key_of m r)) ∙ index m r mw some rw_
 
 -- what was put is taken back
-pub taken_back : (first old new : List (List ℕ × ℕ)) (key : List ℕ) (jsn : ℕ) (before : Option ℕ) → Puts first old key (Some jsn) → before ≡ told_of key first → Puts old new key before → IsSameIndex first new
+pub taken_back : (first old new : List (List ℕ × ℕ)) (key : List ℕ) (jsn : ℕ) (before : Option ℕ) → PutsNumber first old key (Some jsn) → before ≡ told_of key first → PutsNumber old new key before → IsSameIndex first new
 taken_back first old new key jsn before puts is back k =
     back k ∙ (ap (λ o. cond (bytes_eq key k) before o) (puts k) ∙ by_key (bytes_eq key k) refl) where
       by_key : (b : Bool) → bytes_eq key k ≡ b → cond b before (cond b (Some jsn) (told_of k first)) ≡ told_of k first
       by_key true e = is ∙ ap (λ l. told_of l first) ((bytes_eq-Decides key k).0 e)
       by_key false e = refl
 
-pub put_back : {T E : Type 0} (result : Result T E) (first old new : List (List ℕ × ℕ)) (x : Header) (key : List ℕ) (jsn last : ℕ) → key ≡ key_of x.member x.a → is_numbered x ≡ true → OnOk result (Puts old new key (Some last)) → OnErr result (IsNothing (told_of key old))
+pub put_back : {T E : Type 0} (result : Result T E) (first old new : List (List ℕ × ℕ)) (x : Header) (key : List ℕ) (jsn last : ℕ) → key ≡ key_of x.member x.a → is_numbered x ≡ true → OnOk result (PutsNumber old new key (Some last)) → OnErr result (IsNothing (told_of key old))
     → IsAdded x first jsn (Some last) old → IsSameIndex first new
 put_back (Ok t) first old new x key jsn last at some ok absent added =
-    taken_back first old new key jsn (Some last) (subst (λ k. Puts first old k (Some jsn)) (sym at) (added.puts some)) (added.before_is some ∙ ap (λ k. told_of k first) (sym at)) ok
+    taken_back first old new key jsn (Some last) (subst (λ k. PutsNumber first old k (Some jsn)) (sym at) (added.puts some)) (added.before_is some ∙ ap (λ k. told_of k first) (sym at)) ok
 put_back (Err e) first old new x key jsn last at some ok absent added =
     let told : told_of key old ≡ Some jsn =
     ap (λ k. told_of k old) at ∙ added.puts some (key_of x.member x.a) ∙ ap (λ b. cond b (Some jsn) (told_of (key_of x.member x.a) first)) ((bytes_eq-Decides (key_of x.member x.a) (key_of x.member x.a)).1 refl) in
     absurd (nothing_some jsn (sym absent ∙ told))
 
 -- the headers from a journal on, where what is told of journals in front of it may be dropped
-pub cut_indexed : (entries cut : List (List ℕ × ℕ)) (first p : ℕ) (xs ys : List Header) → first ≤ p → ys ≡ drop (p - first) xs → ((key : List ℕ) → from_on p (told_of key cut) ≡ from_on p (told_of key entries)) → Indexes entries first xs → Indexes cut p ys
+pub cut_indexed : (entries cut : List (List ℕ × ℕ)) (first p : ℕ) (xs ys : List Header) → first ≤ p → ys ≡ drop (p - first) xs → ((key : List ℕ) → from_on p (told_of key cut) ≡ from_on p (told_of key entries)) → IndexesNumbers entries first xs → IndexesNumbers cut p ys
 cut_indexed entries cut first p xs ys le is kept_same index m r mw some rw_ =
     kept_same (key_of m r) ∙ sym (further first p (told_of (key_of m r) entries) le) ∙ (ap (from_on p) (index m r mw some rw_) ∙ (sym (kept first p m r xs le) ∙ ap (last_with p m r) (sym is)))
 
@@ -209,7 +206,7 @@ number_some : (r : ℕ) → (r == 0) ≡ false → 1 ≤ r
 number_some zero none = absurd (true≢false none)
 number_some (suc r) none = omega arith
 
-pub told_by : (entries : List (List ℕ × ℕ)) (first point m r : ℕ) (xs : List Header) → (r == 0) ≡ false → m < 2 ^ 32 → r < 2 ^ 64 → Indexes entries first xs → from_on point (from_on first (told_of (key_of m r) entries)) ≡ told_number first point m r xs
+pub told_by : (entries : List (List ℕ × ℕ)) (first point m r : ℕ) (xs : List Header) → (r == 0) ≡ false → m < 2 ^ 32 → r < 2 ^ 64 → IndexesNumbers entries first xs → from_on point (from_on first (told_of (key_of m r) entries)) ≡ told_number first point m r xs
 told_by entries first point m r xs none mw rw_ index =
     ap (from_on point) (index m r mw (number_some r none) rw_) ∙ sym (ap (λ b. cond b None (from_on point (last_with first m r xs))) none)
 
@@ -286,11 +283,8 @@ from_both p q (Some n) = by_first (nat_le q n) refl where
   by_first true is = by_last (nat_le p n) refl (leb-true q n is)
   by_first false is = ap (λ v. cond v (Some n) None) (lt-leb (max p q) n (let lt = leb-false q n is in omega (arith, lt)))
 
-pub told_last : (entries : List (List ℕ × ℕ)) (first point m r : ℕ) (xs : List Header) → (r == 0) ≡ false → m < 2 ^ 32 → r < 2 ^ 64 → Indexes entries first xs → from_on (max point first) (told_of (key_of m r) entries) ≡ told_number first point m r xs
+pub told_last : (entries : List (List ℕ × ℕ)) (first point m r : ℕ) (xs : List Header) → (r == 0) ≡ false → m < 2 ^ 32 → r < 2 ^ 64 → IndexesNumbers entries first xs → from_on (max point first) (told_of (key_of m r) entries) ≡ told_number first point m r xs
 told_last entries first point m r xs none mw rw_ index = from_both point first (told_of (key_of m r) entries) ∙ told_by entries first point m r xs none mw rw_ index
-
-pub told_zero : (first point m r : ℕ) (xs : List Header) → r ≡ 0 → IsNothing (told_number first point m r xs)
-told_zero first point m r xs is = ap (λ b. cond b None (from_on point (last_with first m r xs))) (eq-eqb r 0 is)
 
 pub told_stands : (k : Kept) (h : History) (m r : ℕ) → Serves k h → told_number k.floor k.point m r k.headers ≡ numbered h m r
 told_stands k h m r s =

@@ -37,17 +37,17 @@ abbrev pub told_of : List ℕ → List (List ℕ × ℕ) → Option ℕ
 told_of key entries = lookup (is_at (slice_cmp nat_cmp key)) entries
 
 -- of each member and number, an index tells the last record among these headers; of journals in front of them it may tell more
-abbrev pub Indexes : List (List ℕ × ℕ) → ℕ → List Header → Type 0
-Indexes entries first xs = (member number : ℕ) → member < 2 ^ 32 → 1 ≤ number → number < 2 ^ 64 → from_on first (told_of (key_of member number) entries) ≡ last_with first member number xs
+abbrev pub IndexesNumbers : List (List ℕ × ℕ) → ℕ → List Header → Type 0
+IndexesNumbers entries first xs = (member number : ℕ) → member < 2 ^ 32 → 1 ≤ number → number < 2 ^ 64 → from_on first (told_of (key_of member number) entries) ≡ last_with first member number xs
 
 -- one key tells this, and all others what they told
-abbrev pub Puts : List (List ℕ × ℕ) → List (List ℕ × ℕ) → List ℕ → Option ℕ → Type 0
-Puts old new key told = (k : List ℕ) → told_of k new ≡ (if bytes_eq key k then told else told_of k old)
+abbrev pub PutsNumber : List (List ℕ × ℕ) → List (List ℕ × ℕ) → List ℕ → Option ℕ → Type 0
+PutsNumber old new key told = (k : List ℕ) → told_of k new ≡ (if bytes_eq key k then told else told_of k old)
 
 -- the index after a journal with this header, and what its key told before
 pub record IsAdded (x : Header) (old : List (List ℕ × ℕ)) (jsn : ℕ) (before : Option ℕ) (new : List (List ℕ × ℕ)) : Type 0 where
   pub same : is_numbered x ≡ false → new ≡ old
-  pub puts : is_numbered x ≡ true → Puts old new (key_of x.member x.a) (Some jsn)
+  pub puts : is_numbered x ≡ true → PutsNumber old new (key_of x.member x.a) (Some jsn)
   pub before_is : is_numbered x ≡ true → before ≡ told_of (key_of x.member x.a) old
 
 -- two indexes tell the same

@@ -82,7 +82,7 @@ impl Model for Book {
     ghost use Rattle.std.specs.List.{AllByRecursion};
     ghost use Rattle.ledger_model.specs.Limits.{AreWithin};
     ghost use Rattle.ledger_book.specs.Books.{Kept};
-    ghost use Rattle.ledger_book.specs.Numbered.{Indexes};
+    ghost use Rattle.ledger_book.specs.Numbered.{IndexesNumbers};
 
     ghost Value = { Kept };
 
@@ -110,7 +110,7 @@ impl Model for Book {
         × (b.head.size < b.size → vec_len b.ends < vec_capacity b.ends) × (b.tree.size ≡ b.size)
         × (b.tree.floor ≡ b.floor) × (b.floor + vec_len b.headers ≡ b.size)
         × AllByRecursion (λ m. m.jsn < b.size) b.times
-        × Indexes b.numbers b.floor b.headers.items };
+        × IndexesNumbers b.numbers b.floor b.headers.items };
 }
 
 impl Book {

@@ -2,7 +2,7 @@
 
 ghost use Rattle.std.specs.Prelude.{◌≡◌, ℕ, ◌+◌, ◌<◌, ◌^◌, List, [], ◌∷◌, ◌++◌, length, None, Some, OnOk, OnErr, IfOk};
 ghost use Rattle.journal_record.specs.declared.header.Header.{Header as HeaderRecord};
-ghost use Rattle.ledger_book.specs.Numbered.{key_of, from_on, told_of, is_numbered, Indexes, Puts, IsAdded, IsSameIndex};
+ghost use Rattle.ledger_book.specs.Numbered.{key_of, from_on, told_of, is_numbered, IndexesNumbers, PutsNumber, IsAdded, IsSameIndex};
 
 use journal_record::{Header, Kind};
 use ledger_bytes::NoMemory;
@@ -27,7 +27,7 @@ impl Model for NumberIndex {
 impl NumberIndex {
     /// Nothing has a number.
     pub(crate) fn new(alloc: Global) -> Self
-        ensures { (first : ℕ) → Indexes result first [] }
+        ensures { (first : ℕ) → IndexesNumbers result first [] }
     {
         NumberIndex {
             by: BTreeMap::new(alloc),
@@ -46,8 +46,8 @@ impl NumberIndex {
     /// Adds journal `jsn`, the next one behind those that were added, and answers what its key told before. After an `Err`
     /// all is as before.
     pub(crate) fn add(&mut self, header: &Header, jsn: u64) -> Result<Option<u64>, NoMemory>
-        ensures ok { OnOk result ((first : ℕ) (xs : List HeaderRecord) → Indexes self.old first xs
-            → jsn ≡ first + length xs → Indexes self.new first (xs ++ header.now ∷ [])) }
+        ensures ok { OnOk result ((first : ℕ) (xs : List HeaderRecord) → IndexesNumbers self.old first xs
+            → jsn ≡ first + length xs → IndexesNumbers self.new first (xs ++ header.now ∷ [])) }
         ensures told { IfOk result (λ before. IsAdded header.now self.old jsn before self.new) }
         ensures err { OnErr result (self.new ≡ self.old) }
     {
@@ -93,7 +93,7 @@ impl NumberIndex {
 
     // The key tells this journal from now on. That takes memory only where it told none.
     fn put(&mut self, key: &[u8; 12], jsn: u64) -> Result<(), NoMemory>
-        ensures ok { OnOk result (Puts self.old self.new key.now (Some jsn)) }
+        ensures ok { OnOk result (PutsNumber self.old self.new key.now (Some jsn)) }
         ensures absent { OnErr result (told_of key.now self.old ≡ None) }
         ensures err { OnErr result (self.new ≡ self.old) }
     {
@@ -103,7 +103,7 @@ impl NumberIndex {
 
     // The key tells nothing from now on.
     fn forget(&mut self, key: &[u8; 12])
-        ensures { Puts self.old self.new key.now None }
+        ensures { PutsNumber self.old self.new key.now None }
     {
         let _ = self.by.remove(key);
     }

@@ -1,6 +1,6 @@
 use Rattle.std.proofs.Common.{rules, arith, ◌∙◌, [], List, length, map, refl, sym, subst, ap}
 use Rattle.journal_record.specs.declared.header.Header.{Header}
-use Rattle.ledger_book.specs.Numbered.{Indexes}
+use Rattle.ledger_book.specs.Numbered.{IndexesNumbers}
 use Rattle.sha2.specs.Sha256.{sha256}
 use Rattle.ledger_bytes.specs.declared.digest.Digest.{Digest}
 use Rattle.merkle_batch.specs.Over.{StandsOver}
@@ -70,5 +70,5 @@ invariant_of-result c = (
   search (rules, arith),
   search (rules, arith),
   search (rules, arith),
-  subst (λ (xs : List Header). Indexes c.new-3.result c.args.base.now.point xs) (sym c.new-5.ensures.items) (c.new-3.ensures c.args.base.now.point),
+  subst (λ (xs : List Header). IndexesNumbers c.new-3.result c.args.base.now.point xs) (sym c.new-5.ensures.items) (c.new-3.ensures c.args.base.now.point),
 )

@@ -1,6 +1,6 @@
 use Rattle.std.proofs.Common.{rules, arith, List, [], refl, sym, subst}
 use Rattle.journal_record.specs.declared.header.Header.{Header}
-use Rattle.ledger_book.specs.Numbered.{Indexes}
+use Rattle.ledger_book.specs.Numbered.{IndexesNumbers}
 use Rattle.ledger_book.proofs.GenesisLaws.{serves_first, behind_first}
 use Rattle.ledger_book.proofs.book.Book.from_first.Goals as goal
 
@@ -26,5 +26,5 @@ invariant_of-result c = (
   search (rules, arith),
   search (rules, arith),
   search (rules, arith),
-  subst (λ (xs : List Header). Indexes c.add.new.self 0 xs) (sym c.in_ok-headers.ensures.items) (c.in_ok-add.ensures.ok 0 [] (c.new-numbers.ensures 0) refl),
+  subst (λ (xs : List Header). IndexesNumbers c.add.new.self 0 xs) (sym c.in_ok-headers.ensures.items) (c.in_ok-add.ensures.ok 0 [] (c.new-numbers.ensures 0) refl),
 )
