@@ -21,10 +21,10 @@ use ledger_bytes::{Bytes, Digest, NoMemory};
 use ledger_model::{Job, Outcome, PlacedJournal, Query};
 
 impl Book {
-    /// Judges a job, and places its journal in the open block where it is accepted. A refusal changes nothing, and so
-    /// does an `Err`. The open block isn't ended by this: the caller ends it where it is full, before a job that asks for
-    /// that, and behind one whose journal is a block of its own. An anchor that is accepted asks for a stamp of the notary,
-    /// with which [`Book::place_time`] places its journal.
+    /// Judges a job, and places its journal in the open block where it is accepted. A refusal changes nothing; neither does
+    /// a request that repeats a kept record's, which is told that record, nor an `Err`. The open block isn't ended by this:
+    /// the caller ends it where it is full, before a job that asks for that, and behind one whose journal is a block of its
+    /// own. An anchor that is accepted asks for a stamp of the notary, with which [`Book::place_time`] places its journal.
     pub fn apply(&mut self, job: &Job) -> Result<Outcome, NoMemory>
         requires fits { fits_job job.now ≡ true }
         ensures ok { IfOk result (λ outcome. (h : History) → Serves self.old h

@@ -9,8 +9,8 @@ use super::Book;
 use merkle_tree::Head;
 
 impl Book {
-    /// The number of the block in which journal `n` stands, and the size where it ends, as a receipt of the journal has them: where
-    /// the journal is kept and its block has ended. They are found by a search, without memory.
+    /// The number of the block in which journal `n` stands, and the size where it ends, as a receipt of the journal has
+    /// them: where the journal is kept and its block has ended. They are found by a search, without memory.
     pub fn block_of(&self, n: u64) -> Option<(u64, u64)>
         ensures { (h : History) → Stands self.now h → result ≡ told_block self.now.floor h n }
     {
@@ -23,8 +23,8 @@ impl Book {
         Some((self.blocks.saturating_sub(later as u64), end))
     }
 
-    /// The number of the block in which journal `n` stands, and the head where it ends: all that a receipt of the journal tells of
-    /// its block. For the root nothing is hashed but one row of the tree, and it takes no memory.
+    /// The number of the block in which journal `n` stands, and the head where it ends: all that a receipt of the journal
+    /// tells of its block. The root costs a hash for each level of the tree, and no memory.
     pub fn block_end(&self, n: u64) -> Option<(u64, Head)>
         ensures { (h : History) → Stands self.now h → result ≡ told_end self.now.floor h n }
     {
