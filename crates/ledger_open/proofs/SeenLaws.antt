@@ -13,7 +13,8 @@ use Rattle.journal_record.specs.declared.header.Header.{Header}
 use Rattle.journal_record.specs.declared.header.Kind.{Kind}
 use Rattle.journal_record.specs.declared.header.Kind.TheVariants as kind
 use Rattle.ledger_book.proofs.GroundLaws.{ground_next}
-use Rattle.ledger_model.specs.Behind.{first_of, count_behind, clues_behind, has_own_purge, is_purge_to, names, IsOwnBehind, BeginsWell, IsNextBehind, AreBehind}
+use Rattle.ledger_book.proofs.NumberedLaws.{told_numbered}
+use Rattle.ledger_model.specs.Behind.{first_of, count_behind, clues_behind, numbered_from, has_own_purge, is_purge_to, names, IsOwnBehind, BeginsWell, IsNextBehind, AreBehind}
 use Rattle.ledger_model.specs.Bases.{clue_mark_of}
 use Rattle.ledger_model.specs.Clues.{has_clue}
 use Rattle.ledger_model.specs.History.{history, greatest_point}
@@ -75,6 +76,12 @@ module _ (start : Option Base) (hid gone : ℕ → Bool) (es fs : List Entry) (a
   points : greatest_point es ≡ greatest_point fs
   points = greatest_kept hid gone es fs a
 
+  fresh_kept : (first m r : ℕ) → numbered_from first (greatest_point es) es m r ≡ numbered_from first (greatest_point fs) fs m r
+  fresh_kept first m r =
+      let headers : List Header = map (λ (e : Entry). e.header) es in
+      sym (told_numbered first (greatest_point es) m r es headers refl) ∙ told_numbered first (greatest_point es) m r fs headers (header_map_same hid gone (λ (x : Header). x) es fs a)
+      ∙ ap (λ p. numbered_from first p fs m r) points
+
   owned_kept : (s : Option Base) → has_own_purge s es ≡ has_own_purge s fs
   owned_kept None = refl
   owned_kept (Some b) = header_any_same hid gone (is_purge_to b.point) es fs a
@@ -86,6 +93,7 @@ module _ (start : Option Base) (hid gone : ℕ → Bool) (es fs : List Entry) (a
     clue_ord = o.clue_ord ∙ ap (λ (t : Added). cond (is_no_clue x.clue) 0 (count_of (trail_of t x.clue.0) + 1)) (clues_kept start);
     clue_prev = o.clue_prev ∙ ap (λ (t : Added). cond (is_no_clue x.clue) 0 (last_of (trail_of t x.clue.0))) (clues_kept start);
     room = λ has none. subst (λ (t : Added). length (different_clues t) < 1_048_576) (clues_kept start) (o.room has (ap (λ (t : Added). count_of (trail_of t x.clue.0)) (clues_kept start) ∙ none));
+    fresh = sym (fresh_kept (first_of start) x.member x.a) ∙ o.fresh;
   }
   own_kept x kind.Member o = o ∙ count_same start
   own_kept x kind.Time o = tt
