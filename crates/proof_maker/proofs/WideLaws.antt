@@ -1,5 +1,5 @@
 -- Along a run the headers of time journals keep the widths of their layout.
-use Rattle.std.proofs.Common.{◌≡◌, ◌<◌, ◌^◌, ◌||◌, inl, inr, true, false, cond, length, slice_get, Option, Some, None, refl, sym, ap, ◌∙◌, subst, arith}
+use Rattle.std.proofs.Common.{◌≡◌, ◌<◌, ◌^◌, ◌||◌, inl, inr, true, false, cond, length, slice_get, ℕ, Option, Some, None, refl, sym, ap, ◌∙◌, subst, arith}
 use Rattle.std.specs.Prelude.{nat_le}
 use Rattle.std.specs.Option.{option_map}
 use Rattle.sha2.proofs.Facts256.{length-sha256}
@@ -17,6 +17,7 @@ use Rattle.ledger_model.specs.Lawful.{IsLawful}
 use Rattle.ledger_model.specs.Limits.{real_limits}
 use Rattle.time_peg.specs.Entries.{Making}
 use Rattle.ledger_model.specs.Notary.{ChangesBy}
+use Rattle.ledger_model.specs.Numbers.{repeated, unless_repeated}
 use Rattle.ledger_model.specs.Outcomes.{with_waiting, after_judgement, with_job}
 use Rattle.ledger_model.specs.Rules.{closes_before, closes_after, judged_at, settled_history, after_job}
 use Rattle.ledger_model.specs.Step.{Step}
@@ -56,6 +57,11 @@ module _ (h : History) (wide : HasWideTimes h) where
   unplaced (Some refusal) = wide
   unplaced None = wide
 
+  -- a record that is placed, or that repeats one
+  recorded : (refusal : Option Refusal) (again : Option ℕ) (x : Entry) → (refusal ≡ None → x.header.kind ≡ kind.Time → HasWidths x.header) → HasWideTimes (after_judgement refusal (unless_repeated again (Some x)) h)
+  recorded refusal None x new = placed refusal x new
+  recorded refusal (Some n) x new = unplaced refusal
+
   -- the header of a time journal
   time_wide : (s : Stamp) → size h < 2 ^ 64 → s.index < NOTARY_LIMIT → s.time < 2 ^ 64 → length s.salt.0 ≡ 32 → HasWidths (time_header (size h) s)
   unfolding time_header
@@ -83,8 +89,9 @@ module _ (h : History) (wide : HasWideTimes h) where
   job_wide : (making : Option Making) (step : Step) (job : Job) → size h < 2 ^ 64 → ChangesBy h making step job → HasWideTimes (with_job real_limits (stamp_of step) h job)
   unfolding with_job append_header member_header occult_header purge_header
   job_wide making step (Refused refusal) few changes = wide
-  job_wide making step (Append member clue content content_digest request by) few changes =
-      placed (own_refusal real_limits h (Append member clue content content_digest request by)) (append_journal h member clue content content_digest request by) (λ none time. absurd (let no : ⊥ = cc time in no))
+  job_wide making step (Append member clue content content_digest request by number) few changes =
+      recorded (own_refusal real_limits h (Append member clue content content_digest request by number)) (repeated h member number request) (append_journal h member clue content content_digest request by number)
+      (λ none time. absurd (let no : ⊥ = cc time in no))
   job_wide making step (NewMember number key by) few changes = placed (own_refusal real_limits h (NewMember number key by)) (member_journal (size h) number key by) (λ none time. absurd (let no : ⊥ = cc time in no))
   job_wide making step Anchor few changes = anchor_wide making step few changes (own_refusal real_limits h Anchor) (stamp_of step) refl refl
   job_wide making step (Occult target leaf given) few changes =

@@ -30,7 +30,8 @@ use Rattle.member_book.specs.Erasures.{first_refusal}
 use Rattle.ledger_model.specs.Lawful.{IsLawful}
 use Rattle.ledger_model.specs.Limits.{real_limits}
 use Rattle.ledger_model.specs.Notary.{ChangesBy}
-use Rattle.ledger_model.specs.Outcomes.{placed_as, anchor_outcome, judged_outcome, outcome}
+use Rattle.ledger_model.specs.Numbers.{repeated}
+use Rattle.ledger_model.specs.Outcomes.{placed_as, record_outcome, anchor_outcome, judged_outcome, outcome}
 use Rattle.ledger_model.specs.Pegs.{Pegged}
 use Rattle.ledger_model.specs.Proofs.{shown_of, prove_refusal, extend_refusal, size_refusal, extension_in, list_extension}
 use Rattle.ledger_model.specs.Rules.{job_of, judged_at, after_step, after_steps, after_window}
@@ -127,6 +128,11 @@ placed_good : (g : History) (es : List (List ℕ)) (step : Step) (refusal : Opti
 placed_good g es step (Some why) jsn journal = tt
 placed_good g es step None jsn journal = tt
 
+record_good : (g : History) (es : List (List ℕ)) (step : Step) (refusal : Option Refusal) (again : Option ℕ) (journal : Entry) → IsGoodAnswer g es (answer_for g step (judged_outcome refusal (record_outcome g again journal)))
+record_good g es step refusal None journal = placed_good g es step refusal (model.size g) journal
+record_good g es step (Some why) (Some n) journal = tt
+record_good g es step None (Some n) journal = tt
+
 anchor_good : (g : History) (es : List (List ℕ)) (step : Step) (refusal : Option Refusal) (stamp : Option Stamp) → IsGoodAnswer g es (answer_for g step (judged_outcome refusal (anchor_outcome g stamp)))
 anchor_good g es step (Some why) stamp = tt
 anchor_good g es step None None = tt
@@ -159,8 +165,8 @@ list_good g step m list =
 pub good_answer : (making : Option Making) (h : History) (step : Step) (job : Job) → IsLawful h → HasWideTimes h → Pegged h step.before → ChangesBy (judged_at h job) making step job → IsGoodAnswer (judged_at h job) step.after (answer_to h step job)
 unfolding answer_to outcome
 good_answer making h step (Refused refusal) lawful wide pegged changes = tt
-good_answer making h step (Append member clue content content_digest request by) lawful wide pegged changes =
-    placed_good h step.after step (own_refusal real_limits h (Append member clue content content_digest request by)) (model.size h) (append_journal h member clue content content_digest request by)
+good_answer making h step (Append member clue content content_digest request by number) lawful wide pegged changes =
+    record_good h step.after step (own_refusal real_limits h (Append member clue content content_digest request by number)) (repeated h member number request) (append_journal h member clue content content_digest request by number)
 good_answer making h step (NewMember number key by) lawful wide pegged changes = placed_good h step.after step (own_refusal real_limits h (NewMember number key by)) (model.size h) (member_journal (model.size h) number key by)
 good_answer making h step Anchor lawful wide pegged changes = anchor_good (close h) step.after step (own_refusal real_limits (close h) Anchor) (stamp_of step)
 good_answer making h step (Occult target leaf given) lawful wide pegged changes =
