@@ -41,7 +41,7 @@ version_ok version kind a content_len = version == version_of kind a content_len
 abbrev pub carries_a : ℕ → Kind → ℕ → Bool
 carries_a version kind a = nat_le (version_of kind a 0) version
 
--- .. and as far as the content's length tells it
+-- this version carries what goes by the kind, as far as the content's length tells it
 abbrev pub carries_len : ℕ → Kind → ℕ → Bool
 carries_len version kind content_len = nat_le (version_of kind 0 content_len) version
 

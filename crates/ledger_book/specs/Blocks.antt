@@ -15,6 +15,6 @@ if_sealed floor h n told = if nat_le floor n && nat_lt n (sealed_size h) then So
 abbrev pub told_block : ℕ → History → ℕ → Option (ℕ × ℕ)
 told_block floor h n = if_sealed floor h n (block_of h n, end_of h n)
 
--- .. with the root there
+-- the number of the journal's block, and the head where it ends
 abbrev pub told_end : ℕ → History → ℕ → Option (ℕ × Head)
 told_end floor h n = if_sealed floor h n (block_of h n, head_at h (end_of h n))
