@@ -21,7 +21,7 @@ module _ (gate generation : ℕ) (base : List ℕ) where
   z = replicate {A = ℕ} 6 0
 
   abbrev ten : List ℕ
-  ten = (gate ∷ magic) ++ 1 ∷ []
+  ten = (gate ∷ magic) ++ 2 ∷ []
 
   regroup : (t a b c d e : List ℕ) → ((((t ++ a) ++ b) ++ c) ++ d) ++ e ≡ t ++ (a ++ (b ++ (c ++ (d ++ e))))
   regroup t a b c d e = simp append_assoc

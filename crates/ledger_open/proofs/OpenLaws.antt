@@ -84,7 +84,7 @@ pub record IsTakenAs (a b : List ℕ) (x : Bool) (twin : Twin) : Type 0 where
 pub taken_as : (a b : List ℕ) (found : Option Twin) (twin : Twin) (x : Bool) → found ≡ Some twin → IsLooked a b (option_map view_of found) → in_a_of twin ≡ x → IsTakenAs a b x twin
 taken_as a b found twin x is looked which =
     let l = subst (λ (o : Option Twin). IsLooked a b (option_map view_of o)) is looked in
-    subst (λ (y : Bool). IsTakenAs a b y twin) which (record { taken = l.0; generation = l.1; head = record { head = l.0.head; base_len = l.3; base_digest = l.4 } })
+    subst (λ (y : Bool). IsTakenAs a b y twin) which (record { taken = l.0; generation = l.1; head = record { head = l.0.head; base_len = l.4; base_digest = l.5 } })
 
 pub taken_at : (a b a_now b_now : State) (x : Bool) (twin : Twin) → a_now ≡ a → b_now ≡ b → IsTakenAs a.seen b.seen x twin → IsTaken x a_now.seen b_now.seen
 taken_at a b a_now b_now x twin same_a same_b t =

@@ -9,7 +9,7 @@ use Rattle.ledger_open.proofs.founding.init.Goals as goal
 
 pub returns-in-Ok-clause-ok : goal.returns-in-Ok-clause-ok
 returns-in-Ok-clause-ok g c =
-    let place = first_tail c.args.genesis.now c.as_slice.result.now (gate_of (file_of c.in-Ok.twin)) c.in_ok-made.ensures.keys (c.as_slice.ensures ∙ c.in_ok-made.ensures.block) c.in-Ok.ensures.twin.2 in
+    let place = first_tail c.args.genesis.now c.as_slice.result.now (gate_of (file_of c.in-Ok.twin)) c.in_ok-made.ensures.keys (c.as_slice.ensures ∙ c.in_ok-made.ensures.block) c.in-Ok.ensures.twin.3 in
     (subst (λ (n : ℕ). Knows (known_from c.in_ok-made.made.book c.in_ok-made.made.places.list n) None (new_ledger c.args.genesis.now).closed) (sym place) c.in_ok-made.ensures.known, c.in-Ok.ensures.twin.0)
 
 pub returns-in-Ok-clause-images : goal.returns-in-Ok-clause-images
