@@ -24,7 +24,7 @@ use Rattle.ledger_model.specs.History.{History, journals_of, leaves, root, close
 use Rattle.ledger_model.specs.Lawful.{AllGather}
 use Rattle.ledger_model.specs.Limits.{real_limits}
 use Rattle.ledger_model.specs.declared.due.Due.{Due}
-use Rattle.ledger_model.proofs.GrowLaws.{grows_close, close_none, close_settled}
+use Rattle.ledger_model.proofs.GrowLaws.{grows_close, close_none, close_settled, size_close, size_closed}
 use Rattle.ledger_model.proofs.WaitLaws.{begins_closed, lines_ended, all_in_ended}
 use Rattle.ledger_book.specs.Books as books
 use Rattle.ledger_book.specs.Books.{Stands, Serves, sealed_size}
@@ -39,7 +39,7 @@ use Rattle.ledger_open.specs.Standing.{floor_behind}
 use Rattle.block_file.specs.declared.place.PlaceAt.{PlaceAt}
 use Rattle.batch_committer.specs.Committed.{IsCommitted, IsUncommitted, IsStanding, IsFinished, IsUnfinished, open_bytes}
 use Rattle.block_file.specs.Writing as spell
-use Rattle.batch_committer.specs.Steps.{settled_text}
+use Rattle.batch_committer.specs.Steps.{AllKept, AreLastFrom}
 use Rattle.batch_committer.specs.World.{CommitterState, World, Pair, world, Fits, Located, Keeps, IsCleanFor, Holds, Writes, Goes, Says, LeftAtTheEnd, EndsOnTheWay, IsUnanswered, sealed_part}
 use Rattle.batch_committer.specs.declared.failure.CommitErr.{CommitErr}
 use Rattle.batch_committer.specs.declared.failure.CommitErr.TheVariants.{DiskFault, WriteFault, NoMemory}
@@ -47,6 +47,7 @@ use Rattle.batch_committer.proofs.Closing.{next_bytes, root_closed, closed_is, c
 use Rattle.batch_committer.proofs.Finishing.{held_ledger, tails_clean, clean_for, located_clean, standing}
 use Rattle.batch_committer.proofs.Ordering.{order_wider}
 use Rattle.batch_committer.proofs.Parting.{TailsAt}
+use Rattle.batch_committer.proofs.Spelling.{last_closed, dues_kept}
 use Rattle.batch_committer.proofs.WayLaws.{begins_not, failed_from}
 
 -- where the tail gate stands of a history that is held
@@ -84,7 +85,7 @@ pub end_unspelled : (tells : Bool) (w : World) (k : CommitterState) → EndsOnTh
 end_unspelled tells w k = no_memory tells w k close (λ h. []) (λ h p. grows_close h)
 
 -- all that was due is written
-pub writes_ended : (h : History) (ds : List Due) (text : List ℕ) → AllWaiting h ds → text ≡ settled_text (close h) ds → Writes (close h) ds [] [] text
+pub writes_ended : (h : History) (ds : List Due) (text : List ℕ) → AllWaiting h ds → text ≡ due_lines (close h) ds → Writes (close h) ds [] [] text
 writes_ended h ds text waits is = record {
   done = ds;
   split = refl;
@@ -93,7 +94,7 @@ writes_ended h ds text waits is = record {
 }
 
 -- the first of what is due, up to a fault of the sink
-says_first : (h f : History) (ds : List Due) (text : List ℕ) (taken : ℕ) → AllWaiting h ds → text ≡ settled_text (close h) ds → taken < length text → Grows (close h) f → Says WriteFault (take taken text) (due_lines f ds)
+says_first : (h f : History) (ds : List Due) (text : List ℕ) (taken : ℕ) → AllWaiting h ds → text ≡ due_lines (close h) ds → taken < length text → Grows (close h) f → Says WriteFault (take taken text) (due_lines f ds)
 says_first h f ds text taken waits is few y =
     subst (Says WriteFault (take taken text)) (is ∙ lines_ended h f ds y waits)
     (record { rest = drop taken text; is = sym (take-append-drop taken text) }, omega (arith, few, length-take taken text))
@@ -119,7 +120,7 @@ pub record AtEnd (tells : Bool) (w : World) (block text : List ℕ) : Type 0 whe
   pub some : (h : History) → Holds tells w h → 1 ≤ length h.waiting
   pub most : (h : History) → Holds tells w h → length h.waiting ≤ BLOCK_LIMIT
   pub block_is : (h : History) → Holds tells w h → block ≡ next_bytes h
-  pub text_is : (h : History) → Holds tells w h → text ≡ settled_text (close h) w.kept.dues
+  pub text_is : (h : History) → Holds tells w h → text ≡ due_lines (close h) w.kept.dues
 
 -- an open ledger by its parts
 abbrev pub ledger_of : books.Kept → List PlaceAt → Pair → ℕ → Bool → ℕ → Ledger
@@ -249,9 +250,9 @@ located_same old new h floor places place l = record {
 
 -- ---- nothing waits for the end of the open block: what is due is written
 
-module _ (tells : Bool) (w : World) (text : List ℕ) (none : (h : History) → Holds tells w h → h.waiting ≡ []) (text_is : (h : History) → Holds tells w h → text ≡ settled_text h w.kept.dues) where
-  text_then : (h : History) → Holds tells w h → text ≡ settled_text (close h) w.kept.dues
-  text_then h p = text_is h p ∙ ap (λ (g : History). settled_text g w.kept.dues) (close_settled h (none h p))
+module _ (tells : Bool) (w : World) (text : List ℕ) (none : (h : History) → Holds tells w h → h.waiting ≡ []) (text_is : (h : History) → Holds tells w h → text ≡ due_lines h w.kept.dues) where
+  text_then : (h : History) → Holds tells w h → text ≡ due_lines (close h) w.kept.dues
+  text_then h p = text_is h p ∙ ap (λ (g : History). due_lines g w.kept.dues) (close_settled h (none h p))
 
   pub write_goes : (k : CommitterState) (sink : SinkState) → k.book ≡ w.kept.book → k.gate ≡ w.kept.gate → k.in_a ≡ w.kept.in_a → k.body ≡ w.kept.body → k.places ≡ w.kept.places → k.dues ≡ []
       → Appends w.sink.held sink.held text → MeetsNone w.sink sink → Goes tells w close (λ h. []) (world k w.disks sink)
@@ -310,14 +311,18 @@ block_spelled h count root_is body c r b =
     ∙ append_assoc (to_be_bytes w32 (length h.waiting)) (to_be_bytes w64 (length (body_of h.waiting)) ++ mth sha256 (leaves h)) (body_of h.waiting)
     ∙ ap (λ l. to_be_bytes w32 (length h.waiting) ++ l) (append_assoc (to_be_bytes w64 (length (body_of h.waiting))) (mth sha256 (leaves h)) (body_of h.waiting))
 
-pub at_end : (tells : Bool) (w : World) (book : books.Kept) (count : ℕ) (head : Head) (block text : List ℕ) → ((h : History) → Serves w.kept.book h → Serves book (close h)) → ((h : History) → Serves w.kept.book h → count ≡ length h.waiting)
-    → ((g : History) → Serves book g → head ≡ seals.head_of g) → block ≡ spell.block_head count (length w.kept.body) head.root.0 ++ w.kept.body → ((g : History) → Serves book g → g.waiting ≡ [] → text ≡ settled_text g w.kept.dues)
+pub at_end : (tells : Bool) (w : World) (book : books.Kept) (count first : ℕ) (head : Head) (block text : List ℕ) → book.floor ≡ w.kept.book.floor → first ≡ w.kept.book.sealed → ((h : History) → Serves w.kept.book h → Serves book (close h)) → ((h : History) → Serves w.kept.book h → count ≡ length h.waiting)
+    → ((g : History) → Serves book g → head ≡ seals.head_of g) → block ≡ spell.block_head count (length w.kept.body) head.root.0 ++ w.kept.body → ((g : History) → Serves book g → AreLastFrom first g → AllKept book w.kept.dues → text ≡ due_lines g w.kept.dues)
     → 1 ≤ count → count ≤ BLOCK_LIMIT → AtEnd tells w block text
-at_end tells w book count head block text serves counts heads block_is text_is some few = record {
+at_end tells w book count first head block text floor from serves counts heads block_is text_is some few = record {
   some = λ h p. subst (λ n. 1 ≤ n) (counts h p.keeps.serves) some;
   most = λ h p. subst (λ n. n ≤ BLOCK_LIMIT) (counts h p.keeps.serves) few;
   block_is = λ h p. block_is ∙ block_spelled h count head.root.0 w.kept.body (counts h p.keeps.serves) (ap (λ (x : Head). x.root.0) (heads (close h) (serves h p.keeps.serves))) p.keeps.body;
-  text_is = λ h p. text_is (close h) (serves h p.keeps.serves) (close_none h);
+  text_is = λ h p.
+      let s = serves h p.keeps.serves in
+      text_is (close h) s
+      (subst (λ n. AreLastFrom n (close h)) (sym (from ∙ p.keeps.serves.stands.counts.sealed_is)) (last_closed h (subst (λ n. 1 ≤ n) (counts h p.keeps.serves) some)))
+      (dues_kept w.kept book h p.keeps floor (s.stands.counts.sealed_is ∙ sym (size_closed (close h) (close_none h)) ∙ size_close h));
 }
 
 -- the book once the open block has ended

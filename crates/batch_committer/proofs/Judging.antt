@@ -24,7 +24,8 @@ use Rattle.ledger_model.specs.History.{History, history, journals, journals_of, 
 use Rattle.ledger_model.specs.Judgements.{own_refusal}
 use Rattle.ledger_model.specs.Lawful.{IsNext, AreNext, AllGather, gathers}
 use Rattle.ledger_model.specs.Limits.{real_limits}
-use Rattle.ledger_model.specs.Outcomes.{placed_journal, with_waiting, after_judgement, with_job, judged_outcome, accepted_outcome, outcome, placed_as, placed_with, query_of}
+use Rattle.ledger_model.specs.Numbers.{repeated, unless_repeated}
+use Rattle.ledger_model.specs.Outcomes.{placed_journal, with_waiting, after_judgement, with_job, judged_outcome, accepted_outcome, record_outcome, outcome, placed_as, placed_with, query_of}
 use Rattle.ledger_model.specs.Rules.{closes_before, closes_after}
 use Rattle.ledger_model.specs.Step.{Step}
 use Rattle.ledger_model.specs.Texts.{answer_for}
@@ -54,11 +55,17 @@ use Rattle.batch_committer.proofs.Ordering.{order_then}
 
 -- ---- what came of a job
 
+-- a record that is repeated changes nothing
+record_same : (h : History) (again : Option ℕ) (j : Entry) → PlacesNothing (judged_outcome None (record_outcome h again j)) → after_judgement None (unless_repeated again (Some j)) h ≡ h
+record_same h None j none = absurd none
+record_same h (Some n) j none = refl
+
 -- a job that placed nothing changes nothing
 judged_same : (stamp : Option Stamp) (h : History) (job : Job) (refusal : Option Refusal) (o : Outcome) → PlacesNothing o → o ≡ judged_outcome refusal (accepted_outcome h stamp job) → after_judgement refusal (placed_journal h stamp job) h ≡ h
 judged_same stamp h job (Some refusal) o none is = refl
 judged_same stamp h (Refused why) None o none is = refl
-judged_same stamp h (Append member clue content content_digest request by) None o none is = absurd (subst PlacesNothing is none)
+judged_same stamp h (Append member clue content content_digest request by number) None o none is =
+    record_same h (repeated h member number request) (append_journal h member clue content content_digest request by number) (subst PlacesNothing is none)
 judged_same stamp h (NewMember number key by) None o none is = absurd (subst PlacesNothing is none)
 judged_same None h Anchor None o none is = refl
 judged_same (Some stamp) h Anchor None o none is = absurd (subst PlacesNothing is none)
@@ -85,6 +92,11 @@ pub record WasPlaced (stamp : Option Stamp) (limits : Limits) (h : History) (job
   pub placed_is : placed_journal h stamp job ≡ Some journal
   pub after : with_job limits stamp h job ≡ with_waiting (Some journal) h
 
+-- a record that is placed repeats none
+record_as : (h : History) (again : Option ℕ) (j : Entry) (placed : PlacedJournal) → came.Placed placed ≡ record_outcome h again j → (placed.header ≡ spelling j.header) × (unless_repeated again (Some j) ≡ Some j)
+record_as h None j placed is = (placed_header placed (size h) j is, refl)
+record_as h (Some n) j placed is = absurd (let no : ⊥ = cc is in no)
+
 record IsJudgedAs (stamp : Option Stamp) (h : History) (job : Job) (refusal : Option Refusal) (placed : PlacedJournal) : Type 0 where
   accepted : refusal ≡ None
   journal : Entry
@@ -94,8 +106,9 @@ record IsJudgedAs (stamp : Option Stamp) (h : History) (job : Job) (refusal : Op
 judged_as : (stamp : Option Stamp) (h : History) (job : Job) (refusal : Option Refusal) (placed : PlacedJournal) → came.Placed placed ≡ judged_outcome refusal (accepted_outcome h stamp job) → IsJudgedAs stamp h job refusal placed
 judged_as stamp h job (Some refusal) placed is = absurd (let no : ⊥ = cc is in no)
 judged_as stamp h (Refused why) None placed is = absurd (let no : ⊥ = cc is in no)
-judged_as stamp h (Append member clue content content_digest request by) None placed is =
-    let j = append_journal h member clue content content_digest request by in record { accepted = refl; journal = j; header_is = placed_header placed (size h) j is; placed_is = refl }
+judged_as stamp h (Append member clue content content_digest request by number) None placed is =
+    let j = append_journal h member clue content content_digest request by number in
+    let new = record_as h (repeated h member number request) j placed is in record { accepted = refl; journal = j; header_is = new.0; placed_is = new.1 }
 judged_as stamp h (NewMember number key by) None placed is =
     let j = member_journal (size h) number key by in record { accepted = refl; journal = j; header_is = placed_header placed (size h) j is; placed_is = refl }
 judged_as None h Anchor None placed is = absurd (let no : ⊥ = cc is in no)
@@ -160,11 +173,16 @@ pub record IsMade (job : Job) (journal : Entry) : Type 0 where
 made_as : (job : Job) (got journal : Entry) → got ≡ journal → IsMade job got → IsMade job journal
 made_as job got journal is m = subst (IsMade job) is m
 
+record_is : (again : Option ℕ) (got journal : Entry) → unless_repeated again (Some got) ≡ Some journal → got ≡ journal
+record_is None got journal is = cc is
+record_is (Some n) got journal is = absurd (none-some journal is)
+
 pub is_made : (stamp : Option Stamp) (h : History) (job : Job) (journal : Entry) → fits_job job ≡ true → placed_journal h stamp job ≡ Some journal → IsMade job journal
 unfolding append_header member_header time_header occult_header purge_header
 is_made stamp h (Refused why) journal fits is = absurd (none-some journal is)
-is_made stamp h (Append member clue content content_digest request by) journal fits is =
-    made_as (Append member clue content content_digest request by) (append_journal h member clue content content_digest request by) journal (cc is)
+is_made stamp h (Append member clue content content_digest request by number) journal fits is =
+    made_as (Append member clue content content_digest request by number) (append_journal h member clue content content_digest request by number) journal
+    (record_is (repeated h member number request) (append_journal h member clue content content_digest request by number) journal is)
     (record { content = content; given = by ∷ []; parts = (refl, refl); content_is = refl; who_is = refl; len = refl; few = who_few by (proof_few member by (and_parts (nat_le (length content) CONTENT_LIMIT && bytes_eq content_digest.0 (content_digest_of content)) (fits_approval member by) fits).1); gathers_is = λ other. refl })
 is_made stamp h (NewMember number key by) journal fits is =
     made_as (NewMember number key by) (member_journal (size h) number key by) journal (cc is)
@@ -325,7 +343,7 @@ judged_placed stamp old mid new h step job o placed answer p all none fits appli
 -- a job that asks for something ends the open block first
 pub asks_closes : (job : Job) (q : Query) → query_of job ≡ Some q → closes_before job ≡ true
 asks_closes (Refused refusal) q is = absurd (let no : ⊥ = cc is in no)
-asks_closes (Append member clue content content_digest request by) q is = absurd (let no : ⊥ = cc is in no)
+asks_closes (Append member clue content content_digest request by number) q is = absurd (let no : ⊥ = cc is in no)
 asks_closes (NewMember number key by) q is = absurd (let no : ⊥ = cc is in no)
 asks_closes Anchor q is = refl
 asks_closes (Occult target leaf given) q is = absurd (let no : ⊥ = cc is in no)
@@ -339,7 +357,7 @@ asks_closes Head q is = refl
 -- .. and so does one whose journal is a block of its own
 pub alone_first : (job : Job) → closes_after job ≡ true → closes_before job ≡ true
 alone_first (Refused refusal) alone = absurd (true≢false (sym alone))
-alone_first (Append member clue content content_digest request by) alone = absurd (true≢false (sym alone))
+alone_first (Append member clue content content_digest request by number) alone = absurd (true≢false (sym alone))
 alone_first (NewMember number key by) alone = absurd (true≢false (sym alone))
 alone_first Anchor alone = refl
 alone_first (Occult target leaf given) alone = refl

@@ -1,5 +1,7 @@
 pub mod WayLaws
 pub mod Parting
+pub mod LastBlock
+pub mod Spelling
 pub mod Ordering
 pub mod Closing
 pub mod Finishing

@@ -1,11 +1,12 @@
 -- The steps that a committer takes, one after the other.
-use Rattle.std.specs.Prelude.{◌≡◌, ◌≢◌, ℕ, ◌+◌, ◌-◌, ◌≤◌, false, List, [], ◌∷◌, ◌++◌, length}
+use Rattle.std.specs.Prelude.{◌≡◌, ◌≢◌, ℕ, ◌+◌, ◌-◌, ◌<◌, ◌≤◌, false, List, [], ◌∷◌, ◌++◌, length, All}
+use Rattle.ledger_bytes.specs.Digests.{digest}
 use Rattle.journal_record.specs.Blocks.{record_bytes, body_of, AreFrom}
 use Rattle.journal_record.specs.Entry.{Entry}
 use Rattle.journal_record.specs.Header.{HasWidths}
 use Rattle.journal_record.specs.declared.approval.Approval.{Approval}
-use Rattle.ledger_model.specs.Dues.{dues_text}
-use Rattle.ledger_model.specs.History.{History, size, root, point}
+use Rattle.ledger_model.specs.Dues.{IsWithin}
+use Rattle.ledger_model.specs.History.{History, blocks, root, point, block_of, end_of}
 use Rattle.ledger_model.specs.Anchors.{stamp_of}
 use Rattle.ledger_model.specs.Lawful.{AllGather}
 use Rattle.ledger_model.specs.Limits.{real_limits}
@@ -17,8 +18,9 @@ use Rattle.ledger_model.specs.declared.answer.Answer.{Answer}
 use Rattle.ledger_model.specs.declared.due.Due.{Due}
 use Rattle.ledger_model.specs.declared.job.Job.{Job}
 use Rattle.ledger_model.specs.declared.job.Job.TheVariants.{Append, NewMember, Anchor, Occult, Purge}
-use Rattle.ledger_book.specs.Books.{Serves, sealed_size}
+use Rattle.ledger_book.specs.Books.{Kept, Serves, sealed_size}
 use Rattle.ledger_book.specs.Steps.{OpenGathers}
+use Rattle.script_lines.specs.BlockEnds.{BlockEnd, block_end}
 use Rattle.block_file.specs.Places.{body_from, place_at}
 use Rattle.ledger_open.specs.Places.{AreInOrder}
 use Rattle.batch_committer.specs.World.{CommitterState, Located, sealed_part}
@@ -27,13 +29,26 @@ use Rattle.batch_committer.specs.World.{CommitterState, Located, sealed_part}
 abbrev pub due_by : History → Step → Job → Due
 due_by g step job = record { lane = step.lane; index = step.index; answer = answer_for g step (outcome real_limits (stamp_of step) g job) }
 
--- the text that is due where the last block of a history has ended, and all receipts are of that block
-abbrev pub settled_text : History → List Due → List ℕ
-settled_text h dues = dues_text (length h.closed - 1) (size h) (root h (size h)) dues
+-- the end of the block that holds a journal, as its receipt tells it
+abbrev pub end_in : History → ℕ → BlockEnd
+end_in h jsn = block_end (block_of h jsn) (end_of h jsn) (digest (root h (end_of h jsn)))
+
+-- the end of the last block that has ended
+abbrev pub last_end : History → BlockEnd
+last_end h = block_end (blocks h - 1) (sealed_size h) (digest (root h (sealed_size h)))
+
+-- From this journal on, every journal of the ended blocks stands in the last of them.
+-- Example: with the blocks [0] [1 2 3] [4 5] that is so from journal 4 on, and from journal 6 on, of which there is none.
+abbrev pub AreLastFrom : ℕ → History → Type 0
+AreLastFrom first h = (jsn : ℕ) → first ≤ jsn → jsn < sealed_size h → end_in h jsn ≡ last_end h
+
+-- of all that is due each receipt's journal stands in a block that has ended, and none is told that is no longer kept
+abbrev pub AllKept : Kept → List Due → Type 0
+AllKept book dues = All (λ due. IsWithin book.floor book.sealed due.answer) dues
 
 -- the content and the approvals of a job that may place a journal; no other job has these
 abbrev pub HasParts : Job → List ℕ → List Approval → Type 0
-HasParts (Append member clue record_content content_digest request by) content given = (content ≡ record_content) × (given ≡ by ∷ [])
+HasParts (Append member clue record_content content_digest request by number) content given = (content ≡ record_content) × (given ≡ by ∷ [])
 HasParts (NewMember number key by) content given = (content ≡ []) × (given ≡ by ∷ [])
 HasParts Anchor content given = (content ≡ []) × (given ≡ [])
 HasParts (Occult target leaf approvals) content given = (content ≡ []) × (given ≡ approvals)

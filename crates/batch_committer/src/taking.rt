@@ -170,11 +170,13 @@ impl Taking {
         if count == 0 {
             return self.write_dues(sink);
         }
+        let first = self.opened.book.sealed_size();
         self.opened.book.seal();
         spell(
             self.alloc,
             &mut self.text,
             &self.opened.book,
+            first,
             self.dues.as_slice(),
         )?;
         self.block.finish(count, &self.opened.book.head().root)?;
@@ -204,10 +206,12 @@ impl Taking {
             close (λ h. []) end
             (world self.new disks (K.state sink.new))) }
     {
+        let first = self.opened.book.sealed_size();
         spell(
             self.alloc,
             &mut self.text,
             &self.opened.book,
+            first,
             self.dues.as_slice(),
         )?;
         write_all(sink, self.text.as_slice())?;
@@ -324,7 +328,8 @@ impl Taking {
         Ok(())
     }
 
-    // Judges a job, gathers what it places, and answers what is due for it.
+    // Judges a job, gathers what it places, and answers what is due for it. Where the job was taken before that is the receipt
+    // of the journal which it placed then.
     fn judge<D: Disk, N: Notary>(
         &mut self,
         a: &mut D,
@@ -366,6 +371,11 @@ impl Taking {
                     stamp: None,
                 })
             }
+            Outcome::Again { jsn, leaf } => Ok(Answer::Receipt {
+                jsn,
+                leaf,
+                stamp: None,
+            }),
             Outcome::Reading(query) => match query {
                 Query::Stamp => self.anchor(notary),
                 Query::Head => Ok(Answer::Reply(head_reply(&self.opened.book, notary))),

@@ -36,7 +36,7 @@ fn record(alloc: Global, id: &Digest, number: u64) -> Result<Job, NoMemory>
     let clue = clue_of(number);
     let content = Bytes::copy_of(alloc, b"")?;
     let digest = content_digest(content.as_slice());
-    let request = request_digest(id, 0, &clue, 0, &digest);
+    let request = request_digest(id, 0, &clue, 0, &digest, 0);
     let proof = Bytes::copy_of(alloc, b"")?;
     Ok(Job::Append {
         member: 0,
@@ -49,6 +49,7 @@ fn record(alloc: Global, id: &Digest, number: u64) -> Result<Job, NoMemory>
             key: Some(OPERATOR),
             proof,
         },
+        number: 0,
     })
 }
 

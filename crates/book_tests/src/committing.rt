@@ -56,6 +56,36 @@ const RECORD_AND_HEAD: &str =
     89713d47487c9be9875bd8f6a471f021f10440bea34709c459dce3a170313951 2 0 0 \
     e3b0c44298fc1c149afbf4c8996fb92427ae41e4649b934ca495991b7852b855\n";
 
+// What is written in one block for a record with a number, the same once more, another record of the member with that number,
+// and one of another member.
+const REPEAT_THAT_WAITS: &str = "\
+    0.1 ok 1 ef911ff1aa71d0114e773248ae8b93ef36a18faee2de2d3684a77dcade792807 1 3 \
+    26f49ec2d8af52f9c1ea13672ed89aa723149e235cb40869e371f5b0eac73a1e\n\
+    0.2 ok 1 ef911ff1aa71d0114e773248ae8b93ef36a18faee2de2d3684a77dcade792807 1 3 \
+    26f49ec2d8af52f9c1ea13672ed89aa723149e235cb40869e371f5b0eac73a1e\n\
+    0.3 no 48 1\n\
+    0.4 ok 2 7f90f030bd8cd4a9d13226cf23d39407eb8668e035efb0ee0589634bcecdc80f 1 3 \
+    26f49ec2d8af52f9c1ea13672ed89aa723149e235cb40869e371f5b0eac73a1e\n";
+
+// What is written for repeats of an earlier run, of the open block and of the last block, where none waits any more.
+const REPEATS_OF_TWO_RUNS: &str = "\
+    0.1 ok 2 14dfcfb152503a90cf4fd91e65e34777776390e1e1d8d37e9bc567119db424e1 1 4 \
+    4c8864e9304001ec822d179e43c0d6cb13a708ccaf0cb49d446a58991066b4ec\n\
+    0.2 ok 4 0f335240cbd170280c329e712effc3f96404a518843f715a3b58518760260a60 2 6 \
+    646a0694439919017ee3ffdc622c4b61c66ca410392a72da41b58ca646c850ab\n\
+    0.3 ok 4 0f335240cbd170280c329e712effc3f96404a518843f715a3b58518760260a60 2 6 \
+    646a0694439919017ee3ffdc622c4b61c66ca410392a72da41b58ca646c850ab\n\
+    0.4 no 48 3\n\
+    0.5 ok 5 8990248f0ddcb04457f919fcd9e5499c0e7f9c9f0b120e5bb4057d33e6e5518a 2 6 \
+    646a0694439919017ee3ffdc622c4b61c66ca410392a72da41b58ca646c850ab\n\
+    0.6 ok 5 8990248f0ddcb04457f919fcd9e5499c0e7f9c9f0b120e5bb4057d33e6e5518a 2 6 \
+    646a0694439919017ee3ffdc622c4b61c66ca410392a72da41b58ca646c850ab\n\
+    0.10 head 64915354a6547b1f887e596e872fd13b2abdc860729da9fe31180a81726cf4a2 6 \
+    646a0694439919017ee3ffdc622c4b61c66ca410392a72da41b58ca646c850ab 3 0 0 \
+    e3b0c44298fc1c149afbf4c8996fb92427ae41e4649b934ca495991b7852b855\n\
+    0.11 ok 2 14dfcfb152503a90cf4fd91e65e34777776390e1e1d8d37e9bc567119db424e1 1 4 \
+    4c8864e9304001ec822d179e43c0d6cb13a708ccaf0cb49d446a58991066b4ec\n";
+
 // What is told of journal 2 where that block stands behind journal 0.
 const WHOLE_2: &str = "\
     0.1 whole 01010000000000000002000000023536d837609504a8406dcb211cb403cb9290736cc3a94b2fa060\
@@ -85,22 +115,25 @@ const WHO_AT: usize = 825;
 // More room than any of these runs takes.
 const AMPLE: usize = 65_536;
 
-/// The job of a record of a member.
+/// The job of a record of a member: without a name it has no clue, and by 0 it has no number.
 fn record(
     alloc: Global,
     id: &Digest,
     member: u32,
-    key: &Digest,
-    clue: Digest,
-    content: &[u8],
+    name: &str,
+    content: &str,
+    number: u64,
 ) -> Result<Job, NoMemory>
     requires { length content.now ≤ 64 }
     ensures { IfOk result (λ job. fits_job job ≡ true) }
 {
-    let content = Bytes::copy_of(alloc, content)?;
+    let key = key_of(member);
+    let clue = clue_of(name);
+    let content = Bytes::copy_of(alloc, content.as_bytes())?;
     let digest = content_digest(content.as_slice());
-    let request = request_digest(id, member, &clue, content.as_slice().len() as u32, &digest);
-    let proof = Bytes::copy_of(alloc, &tag_proof(key, &request))?;
+    let len = content.as_slice().len() as u32;
+    let request = request_digest(id, member, &clue, len, &digest, number);
+    let proof = Bytes::copy_of(alloc, &tag_proof(&key, &request))?;
     Ok(Job::Append {
         member,
         clue,
@@ -109,10 +142,29 @@ fn record(
         request,
         by: Approval {
             member,
-            key: Some(*key),
+            key: Some(key),
             proof,
         },
+        number,
     })
+}
+
+/// The key of a member.
+fn key_of(member: u32) -> Digest {
+    match member {
+        0 => OPERATOR,
+        1 => REGULATOR,
+        _ => THIRD,
+    }
+}
+
+/// The clue of a name.
+fn clue_of(name: &str) -> Digest {
+    if name.is_empty() {
+        Digest::ZERO
+    } else {
+        clue_digest(name.as_bytes())
+    }
 }
 
 /// The job of a new member, number 2.
@@ -172,23 +224,25 @@ fn worked_file(alloc: Global) -> Result<Vec<u8>, Fail> {
 /// What a line asks for.
 #[derive(Clone, Copy)]
 enum Ask {
-    /// A record of the operator without content.
-    Empty,
+    /// A record of this member, with the clue of this name, this content and this number.
+    Record(u32, &'static str, &'static str, u64),
     /// Member 2.
     Member,
-    /// The record abc of member 2 with the clue inv.
-    Abc,
     Head,
     Get(u64),
 }
+
+/// A record of the operator without content.
+const EMPTY: Ask = Ask::Record(0, "", "", 0);
 
 fn job_of(alloc: Global, id: &Digest, ask: Ask) -> Result<Job, NoMemory>
     ensures { IfOk result (λ job. fits_job job ≡ true) }
 {
     match ask {
-        Ask::Empty => record(alloc, id, 0, &OPERATOR, Digest::ZERO, b""),
+        Ask::Record(member, name, content, number) => {
+            record(alloc, id, member, name, content, number)
+        }
         Ask::Member => third_member(alloc, id),
-        Ask::Abc => record(alloc, id, 2, &THIRD, clue_digest(b"inv"), b"abc"),
         Ask::Head => Ok(Job::Head),
         Ask::Get(n) => Ok(Job::Get { n }),
     }
@@ -278,7 +332,7 @@ impl<D: Disk + Drop, K: Sink + Drop> Bench<D, K> {
     fn offer_records(&mut self, alloc: Global, count: u64) -> Result<(), CommitErr> {
         let id = self.id();
         for index in 1..=count {
-            let job = job_of(alloc, &id, Ask::Empty)?;
+            let job = job_of(alloc, &id, EMPTY)?;
             self.offer(index, job)?;
         }
         Ok(())
@@ -336,7 +390,7 @@ fn run_records<R: Threads, D: Disk + Drop>(
     Ok((run, sink, a, b))
 }
 
-/// What is written for these lines and a flush, and the first disk then.
+/// What is written for these lines and a flush, and the first disk then; the second is empty.
 fn run_lines<R: Threads>(
     rt: &R,
     alloc: Global,
@@ -486,7 +540,8 @@ fn a_fault_of_the_sink_ends_the_run(rt: HostRuntime) -> Result<(), Fail> {
 #[test]
 fn a_block_has_the_worked_bytes_and_is_read_back(rt: HostRuntime) -> Result<(), Fail> {
     let alloc = rt.alloc();
-    let lines = [(1, Ask::Member), (2, Ask::Abc), (1, Ask::Get(2))];
+    let abc = Ask::Record(2, "inv", "abc", 0);
+    let lines = [(1, Ask::Member), (2, abc), (1, Ask::Get(2))];
     let (sink, a) = run_lines(&rt, alloc, new_pair(alloc)?, &lines)?;
     assert_eq!(rt; a.bytes()?.as_slice(), worked_file(alloc)?.as_slice());
     assert!(rt; sink.written().ends_with(WHOLE_2.as_bytes()));
@@ -494,11 +549,54 @@ fn a_block_has_the_worked_bytes_and_is_read_back(rt: HostRuntime) -> Result<(), 
 }
 
 #[test]
-fn a_job_that_asks_ends_the_block_before_it(rt: HostRuntime) -> Result<(), Fail> {
+fn a_job_that_asks_ends_the_block_before_it_and_a_repeat_ends_none(
+    rt: HostRuntime,
+) -> Result<(), Fail> {
     let alloc = rt.alloc();
-    let lines = [(1, Ask::Empty), (2, Ask::Head)];
-    let (sink, _) = run_lines(&rt, alloc, new_pair(alloc)?, &lines)?;
-    assert_eq!(rt; sink.written(), RECORD_AND_HEAD.as_bytes());
+    let seventh = Ask::Record(0, "", "a", 7);
+    let rows: [(&[(u64, Ask)], &str); 2] = [
+        (&[(1, EMPTY), (2, Ask::Head)], RECORD_AND_HEAD),
+        (
+            &[
+                (1, seventh),
+                (2, seventh),
+                (3, Ask::Record(0, "", "b", 7)),
+                (4, Ask::Record(1, "", "a", 7)),
+            ],
+            REPEAT_THAT_WAITS,
+        ),
+    ];
+    for (lines, wanted) in rows {
+        let (sink, _) = run_lines(&rt, alloc, new_pair(alloc)?, lines)?;
+        assert_eq!(rt; sink.written(), wanted.as_bytes());
+    }
+    Ok(())
+}
+
+#[test]
+fn a_repeat_is_told_the_block_of_its_first_journal(rt: HostRuntime) -> Result<(), Fail> {
+    let alloc = rt.alloc();
+    let seventh = Ask::Record(2, "inv", "a", 7);
+    let ninth = Ask::Record(2, "", "x", 9);
+    let greatest = Ask::Record(0, "", "", u64::MAX);
+    let first = [
+        (1, Ask::Member),
+        (2, seventh),
+        (3, Ask::Record(2, "inv", "b", 8)),
+    ];
+    let later = [
+        (1, seventh),
+        (2, ninth),
+        (3, ninth),
+        (4, Ask::Record(2, "inv", "zz", 8)),
+        (5, greatest),
+        (6, greatest),
+        (10, Ask::Head),
+        (11, seventh),
+    ];
+    let (_, a) = run_lines(&rt, alloc, new_pair(alloc)?, &first)?;
+    let (sink, _) = run_lines(&rt, alloc, (a, empty_disk(alloc)?), &later)?;
+    assert_eq!(rt; sink.written(), REPEATS_OF_TWO_RUNS.as_bytes());
     Ok(())
 }
 

@@ -49,6 +49,20 @@ returns-in-Refused-clause-judged g c =
           },
     )
 
+pub returns-in-Again-clause-judged : goal.returns-in-Again-clause-judged
+returns-in-Again-clause-judged g c =
+    let n = g.N.Notary.state c.args.notary.now in (
+      false,
+      λ h lane index line sink holds.
+          let p = subst (λ (k : CommitterState). Keeps k h) (sym c.self.view_is) holds.keeps in
+          let step = step_in n n false lane index line in
+          let a = c.in_ok-refusal.ensures.ok h p.serves in
+          record {
+            judged = judged_same_kept _ _ h step c.args.job.now _ _ p a (subst PlacesNothing (sym c.in-Again.is) tt) c.in_ok-refusal.ensures.unchanged refl refl refl (sym (ap (answer_for h step) c.in-Again.is)) (unstamped n false lane index line);
+            attended = attends_other n h lane index line c.args.job.now (λ is none. let asks = anchor_asks _ h c.args.job.now _ _ (real_applies None c.self.inside.opened.book _ h c.args.job.now _ p.limits a) is none in let no : ⊥ = cc (asks, c.in-Again.is) in no);
+          },
+    )
+
 pub returns-in_ok-gather_placed-in-Placed-clause-judged : goal.returns-in_ok-gather_placed-in-Placed-clause-judged
 returns-in_ok-gather_placed-in-Placed-clause-judged g c =
     let n = g.N.Notary.state c.args.notary.now in
@@ -154,6 +168,10 @@ returns-in_ok-reply-in-Clue-clause-judged g c =
 pub returns-in-Refused-clause-gathers : goal.returns-in-Refused-clause-gathers
 returns-in-Refused-clause-gathers g c = λ other all.
     subst OpenGathers (sym (c.in_ok-refusal.ensures.unchanged (subst PlacesNothing (sym c.in-Refused.is) tt))) (subst (λ (k : CommitterState). OpenGathers k.book) (sym c.self.view_is) all)
+
+pub returns-in-Again-clause-gathers : goal.returns-in-Again-clause-gathers
+returns-in-Again-clause-gathers g c = λ other all.
+    subst OpenGathers (sym (c.in_ok-refusal.ensures.unchanged (subst PlacesNothing (sym c.in-Again.is) tt))) (subst (λ (k : CommitterState). OpenGathers k.book) (sym c.self.view_is) all)
 
 pub returns-in-Head-clause-gathers : goal.returns-in-Head-clause-gathers
 returns-in-Head-clause-gathers g c = λ other all.

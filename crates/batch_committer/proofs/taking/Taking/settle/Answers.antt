@@ -7,7 +7,8 @@ use Rattle.twin_file.specs.Which.{copy_of}
 use Rattle.block_file.specs.Writing.{block_head}
 use Rattle.batch_committer.specs.World.{pair}
 use Rattle.batch_committer.specs.contracts.taking.Taking.{the_view}
-use Rattle.batch_committer.specs.Steps.{settled_text}
+use Rattle.ledger_model.specs.Dues.{due_lines}
+use Rattle.batch_committer.specs.Steps.{AllKept}
 use Rattle.batch_committer.proofs.Ending.{end_unspelled, at_end, end_goes, end_uncommitted, end_unfinished, end_unwritten, serves_closed, count_few, fits_finished, order_ended, finished_as, unfinished_as, ledger_is, named_at, shut_bytes, generation_stays, fits_at, goes_at, ended_at, first_of_text}
 use Rattle.batch_committer.proofs.WayLaws.{err_is, ended_by}
 use Rattle.batch_committer.proofs.taking.Taking.settle.Goals as goal
@@ -36,11 +37,11 @@ returns-in_err-commit-clause-err g c =
     (ended_by g.D.Disk.tells _ _ close (λ h. []) _ _ e.only
     (ended_at g.D.Disk.tells _ _ c.self.view_is _ (g.K.Sink.state c.args.sink.now) _ close (λ h. []) _
     (end_uncommitted g.D.Disk.tells _ c.as_slice-2.result.now c.spell.new.text.items
-    (at_end g.D.Disk.tells _ c.seal.new.self c.unsealed-count.result c.head.result _ _
+    (at_end g.D.Disk.tells _ c.seal.new.self c.unsealed-count.result c.sealed_size-first.result c.head.result _ _ c.seal.ensures.same.floor c.sealed_size-first.ensures.value
     (λ h s. serves_closed c.self.inside.opened.book c.seal.new.self h s (c.seal.ensures.stands h s.stands) c.seal.ensures.same)
     (λ h s. c.unsealed-count.ensures.count h s.stands) (λ h s. c.head.ensures h s.stands)
     (c.as_slice-2.ensures ∙ ap (λ l. l ++ c.finish.new.self.body) c.in_ok-finish.ensures.head ∙ ap (λ l. block_head c.unsealed-count.result (length c.self.inside.block.body) c.head.result.root.0 ++ l) c.in_ok-finish.ensures.body)
-    (λ h s none. c.in_ok-spell.ensures h s none ∙ ap (settled_text h) c.as_slice.ensures.value)
+    (λ h s last kept. c.in_ok-spell.ensures h s last (subst (AllKept c.seal.new.self) (sym c.as_slice.ensures.value) kept) ∙ ap (due_lines h) c.as_slice.ensures.value)
     (omega (arith, c.if-count-eq0.false)) (count_few c.self.inside.opened.book c.unsealed-count.result is f.few))
     _ _ e.err)))
 
@@ -56,10 +57,10 @@ returns-in_err-gone-clause-err g c =
     (ended_by g.D.Disk.tells _ _ close (λ h. []) _ _ u.only
     (ended_at g.D.Disk.tells _ _ c.self.view_is _ (g.K.Sink.state c.args.sink.now) _ close (λ h. []) _
     (end_unfinished g.D.Disk.tells _ c.as_slice-2.result.now c.spell.new.text.items
-    (at_end g.D.Disk.tells _ c.seal.new.self c.unsealed-count.result c.head.result _ _ closed
+    (at_end g.D.Disk.tells _ c.seal.new.self c.unsealed-count.result c.sealed_size-first.result c.head.result _ _ c.seal.ensures.same.floor c.sealed_size-first.ensures.value closed
     (λ h s. c.unsealed-count.ensures.count h s.stands) (λ h s. c.head.ensures h s.stands)
     (c.as_slice-2.ensures ∙ ap (λ l. l ++ c.finish.new.self.body) c.in_ok-finish.ensures.head ∙ ap (λ l. block_head c.unsealed-count.result (length c.self.inside.block.body) c.head.result.root.0 ++ l) c.in_ok-finish.ensures.body)
-    (λ h s none. c.in_ok-spell.ensures h s none ∙ ap (settled_text h) c.as_slice.ensures.value)
+    (λ h s last kept. c.in_ok-spell.ensures h s last (subst (AllKept c.seal.new.self) (sym c.as_slice.ensures.value) kept) ∙ ap (due_lines h) c.as_slice.ensures.value)
     (omega (arith, c.if-count-eq0.false)) (count_few c.self.inside.opened.book c.unsealed-count.result is f.few))
     c.seal.new.self mid
     (record { serves = closed; same = c.seal.ensures.same; committed = e.ok; named = λ told. named_at _ _ mid (f.generation told ∙ sym (generation_stays g.D.Disk.tells _ _ _ _ _ e.ok told)) })
@@ -78,10 +79,10 @@ returns-in_err-written-clause-err g c =
     err_is _ c.from_residual-in_err-written.result _ c.from_residual-in_err-written.ensures.1
     (ended_at g.D.Disk.tells _ _ c.self.view_is _ _ _ close (λ h. []) _
     (end_unwritten g.D.Disk.tells _ c.as_slice-2.result.now c.as_slice-3.result.now
-    (at_end g.D.Disk.tells _ c.seal.new.self c.unsealed-count.result c.head.result _ _ closed
+    (at_end g.D.Disk.tells _ c.seal.new.self c.unsealed-count.result c.sealed_size-first.result c.head.result _ _ c.seal.ensures.same.floor c.sealed_size-first.ensures.value closed
     (λ h s. c.unsealed-count.ensures.count h s.stands) (λ h s. c.head.ensures h s.stands)
     (c.as_slice-2.ensures ∙ ap (λ l. l ++ c.finish.new.self.body) c.in_ok-finish.ensures.head ∙ ap (λ l. block_head c.unsealed-count.result (length c.self.inside.block.body) c.head.result.root.0 ++ l) c.in_ok-finish.ensures.body)
-    (λ h s none. c.as_slice-3.ensures.value ∙ c.in_ok-spell.ensures h s none ∙ ap (settled_text h) c.as_slice.ensures.value)
+    (λ h s last kept. c.as_slice-3.ensures.value ∙ c.in_ok-spell.ensures h s last (subst (AllKept c.seal.new.self) (sym c.as_slice.ensures.value) kept) ∙ ap (due_lines h) c.as_slice.ensures.value)
     (omega (arith, c.if-count-eq0.false)) (count_few c.self.inside.opened.book c.unsealed-count.result is f.few))
     c.seal.new.self mid
     (record { serves = closed; same = c.seal.ensures.same; committed = e.ok; named = λ told. named_at _ _ mid (f.generation told ∙ sym (generation_stays g.D.Disk.tells _ _ _ _ _ e.ok told)) })
@@ -98,10 +99,10 @@ returns-clause-ok g c =
     let mid = pair (g.D.Disk.state c.commit.new.a) (g.D.Disk.state c.commit.new.b) in
     goes_at g.D.Disk.tells _ _ c.self.view_is _ _ _ close (λ h. [])
     (end_goes g.D.Disk.tells _ c.as_slice-2.result.now c.as_slice-3.result.now
-    (at_end g.D.Disk.tells _ c.seal.new.self c.unsealed-count.result c.head.result _ _ closed
+    (at_end g.D.Disk.tells _ c.seal.new.self c.unsealed-count.result c.sealed_size-first.result c.head.result _ _ c.seal.ensures.same.floor c.sealed_size-first.ensures.value closed
     (λ h s. c.unsealed-count.ensures.count h s.stands) (λ h s. c.head.ensures h s.stands)
     (c.as_slice-2.ensures ∙ ap (λ l. l ++ c.finish.new.self.body) c.in_ok-finish.ensures.head ∙ ap (λ l. block_head c.unsealed-count.result (length c.self.inside.block.body) c.head.result.root.0 ++ l) c.in_ok-finish.ensures.body)
-    (λ h s none. c.as_slice-3.ensures.value ∙ c.in_ok-spell.ensures h s none ∙ ap (settled_text h) c.as_slice.ensures.value)
+    (λ h s last kept. c.as_slice-3.ensures.value ∙ c.in_ok-spell.ensures h s last (subst (AllKept c.seal.new.self) (sym c.as_slice.ensures.value) kept) ∙ ap (due_lines h) c.as_slice.ensures.value)
     (omega (arith, c.if-count-eq0.false)) (count_few c.self.inside.opened.book c.unsealed-count.result is f.few))
     c.seal.new.self mid
     (record { serves = closed; same = c.seal.ensures.same; committed = e.ok; named = λ told. named_at _ _ mid (f.generation told ∙ sym (generation_stays g.D.Disk.tells _ _ _ _ _ e.ok told)) })

@@ -1,9 +1,9 @@
 use Rattle.std.proofs.Common.{◌≡◌, [], sym, ap, subst, refl, ◌∙◌}
 use Rattle.ledger_model.specs.History.{History, close}
 use Rattle.ledger_book.specs.Books.{Serves}
-use Rattle.batch_committer.specs.Steps.{settled_text}
 use Rattle.batch_committer.specs.World.{CommitterState}
 use Rattle.batch_committer.proofs.Ending.{end_unspelled, write_goes, write_unwritten, first_of_text, goes_at, ended_at}
+use Rattle.batch_committer.proofs.Spelling.{spelled_settled}
 use Rattle.batch_committer.proofs.WayLaws.{err_is}
 use Rattle.batch_committer.proofs.taking.Taking.write_dues.Goals as goal
 
@@ -19,7 +19,7 @@ returns-in_err-write_all-clause-err g c =
     (λ tells disks.
     ended_at tells _ _ c.self.view_is disks (g.K.Sink.state c.args.sink.now) _ close (λ h. []) _
     (write_unwritten tells _ c.as_slice-2.result.now (λ h p. none h p.keeps.serves)
-    (λ h p. c.as_slice-2.ensures.value ∙ c.in_ok-spell.ensures h p.keeps.serves (none h p.keeps.serves) ∙ ap (settled_text h) c.as_slice.ensures.value)
+    (λ h p. c.as_slice-2.ensures.value ∙ spelled_settled _ c.sealed_size-first.result _ _ h p.keeps c.sealed_size-first.ensures.value (none h p.keeps.serves) (c.in_ok-spell.ensures h p.keeps.serves) c.as_slice.ensures.value)
     _ _ t.0 t.1 t.2 e.once))
 
 pub returns-clause-ok : goal.returns-clause-ok
@@ -28,5 +28,5 @@ returns-clause-ok g c = λ tells disks.
     let o = c.in_ok-write_all.ensures in
     goes_at tells _ _ c.self.view_is disks (g.K.Sink.state c.args.sink.now) _ close (λ h. [])
     (write_goes tells _ c.as_slice-2.result.now (λ h p. none h p.keeps.serves)
-    (λ h p. c.as_slice-2.ensures.value ∙ c.in_ok-spell.ensures h p.keeps.serves (none h p.keeps.serves) ∙ ap (settled_text h) c.as_slice.ensures.value)
+    (λ h p. c.as_slice-2.ensures.value ∙ spelled_settled _ c.sealed_size-first.result _ _ h p.keeps c.sealed_size-first.ensures.value (none h p.keeps.serves) (c.in_ok-spell.ensures h p.keeps.serves) c.as_slice.ensures.value)
     _ _ refl refl refl refl refl c.clear.ensures.items o.ok o.once)
