@@ -44,12 +44,13 @@ def proof(key, message):
     return (key + hashlib.sha256(b"\x40" + key + message).digest()).hex()
 
 
-# The same line, made without the program.
-def append_line(ledger, content):
+# The same line, made without the program, with a number where it isn't 0.
+def append_line(ledger, content, number=0):
     key = bytes.fromhex(OPERATOR)
     digest = hashlib.sha256(b"\x02" + content).digest()
-    message = hashlib.sha256(b"\x03" + ledger + bytes(4) + bytes(32) + len(content).to_bytes(4, "big") + digest).digest()
-    return f"0 append 0 - {content.hex() or '-'} {proof(key, message)}\n".encode()
+    request = b"\x03" + ledger + bytes(4) + bytes(32) + len(content).to_bytes(4, "big") + digest
+    message = hashlib.sha256(request + (number.to_bytes(8, "big") if number else b"")).digest()
+    return f"0 append 0 - {content.hex() or '-'} {proof(key, message)}{f' {number}' if number else ''}\n".encode()
 
 
 # A line that purges all journals in front of a point over which this is the root, with the operator's approval.

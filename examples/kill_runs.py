@@ -37,7 +37,7 @@ def main():
         print("a head and the receipt before it", "came" if answered else "didn't come", "while the script went on")
         receipts, stamps, lost, cut, silent = {}, {}, 0, 0, 0
         for turn in range(words.times):
-            printed = killed_run(program, folder, line * 40 + b"0 anchor\n", chance.uniform(0, 0.25))
+            printed = killed_run(program, folder, endless(line * 40 + b"0 anchor\n"), chance.uniform(0, 0.25))
             new = receipts_in(printed)
             cut += not printed.endswith(b"\n")
             silent += not new
@@ -69,12 +69,12 @@ def answers_at_once(program, folder, line):
     return came == [[b"ok"], [b"head"]]
 
 
-# What a run prints that is given these lines again and again, and killed some time after its first receipt.
-def killed_run(program, folder, lines, seconds):
+# What a run prints that is given lines by this function, and killed some time after its first receipt.
+def killed_run(program, folder, feed, seconds):
     run = subprocess.Popen([program, "run", folder], stdin=subprocess.PIPE, stdout=subprocess.PIPE)
     printed, begun = [], threading.Event()
     reader = threading.Thread(target=read_all, args=(run.stdout, printed, begun))
-    feeder = threading.Thread(target=feed, args=(run.stdin, lines))
+    feeder = threading.Thread(target=feed, args=(run.stdin,))
     reader.start()
     feeder.start()
     begun.wait(PATIENCE)
@@ -94,12 +94,16 @@ def read_all(pipe, printed, begun):
     begun.set()
 
 
-def feed(pipe, lines):
-    try:
-        while True:
-            pipe.write(lines)
-    except OSError:
-        pass
+# Writes these lines again and again.
+def endless(lines):
+    def feed(pipe):
+        try:
+            while True:
+                pipe.write(lines)
+        except OSError:
+            pass
+
+    return feed
 
 
 if __name__ == "__main__":
