@@ -1,6 +1,6 @@
 -- A journal is read alike wherever it stands in an input, but for where the input ends, and its fields have near places.
 use Rattle.std.specs.Int.{Width, byte_len, w8, w32, w64}
-use Rattle.std.specs.Prelude.{nat_le, ok_or, if◌then◌else◌, ◌==◌, ⊤}
+use Rattle.std.specs.Prelude.{nat_le, ok_or, if◌then◌else◌, ◌==◌, ◌&&◌, ⊤}
 use Rattle.std.proofs.Common.{◌≡◌, ℕ, ◌+◌, ◌≤◌, ◌^◌, Bool, true, false, List, length, arith, Result, Ok, Err, Option, Some, None, refl, ap, ◌∙◌, inl, inr}
 use Rattle.std.proofs.lemmas.Bool.{cases_lt, lt-ltb, le-ltb}
 use Rattle.ledger_bytes.specs.declared.failure.Bad.{Bad}
@@ -9,8 +9,8 @@ use Rattle.ledger_bytes.specs.Fields.{Unread, left_from, ◌>>=◌, bytes_at, nu
 use Rattle.journal_record.specs.declared.approval.TheConstants.{WHO_LIMIT}
 use Rattle.journal_record.specs.declared.header.Header.{Header}
 use Rattle.journal_record.specs.declared.header.Kind.{Kind}
-use Rattle.journal_record.specs.Reading.{front_at, clue_at, own_at, parts_at, header_at, known_version, known_kind}
-use Rattle.journal_record.specs.Rules.{kind_of, version_ok, jsn_ok, member_ok, clue_ok, clue_ord_ok, clue_prev_ok, a_ok, b_ok, content_len_ok}
+use Rattle.journal_record.specs.Reading.{carried_at, layout_at, front_at, clue_at, own_at, parts_at, fields_at, header_at, known_version, known_kind}
+use Rattle.journal_record.specs.Rules.{kind_of, is_version, version_of, carries_a, carries_len, jsn_ok, member_ok, clue_ok, clue_ord_ok, clue_prev_ok, a_ok, b_ok, content_len_ok}
 use Rattle.journal_record.specs.Items.{Item, content_at, body_at, state_ok, who_place, who_at, item_at}
 use Rattle.journal_record.proofs.ReadingLaws.{header_back}
 use Rattle.audit_dump.specs.Walking.{field_place, in_whole}
@@ -112,6 +112,21 @@ module _ (most : ℕ) where
   moves_if true f g one other = one
   moves_if false f g one other = other
 
+  -- a reading behind a look at what it reads
+  moves_behind : {A B : Type 0} (guard : Unread → Result (A × Unread) Bad) (read : Unread → Result (B × Unread) Bad) → Moves most guard → Moves most read → Moves most (λ l. guard l >>= λ _. read l)
+  moves_behind {A} guard read first second = record {
+    same = λ whole longer rest. ap (λ r. r >>= λ _. read (left_from longer rest)) (first.same whole longer rest) ∙ same whole longer rest (guard (left_from whole rest));
+    near = λ l. near l (guard l) (first.near l);
+  }
+    where
+      same : (whole longer : ℕ) (rest : List ℕ) (r : Result (A × Unread) Bad)
+          → (with_whole longer r >>= λ _. read (left_from longer rest)) ≡ with_whole longer (r >>= λ _. read (left_from whole rest))
+      same whole longer rest (Ok x) = second.same whole longer rest
+      same whole longer rest (Err bad) = refl
+      near : (l : Unread) (r : Result (A × Unread) Bad) → IsNear most r → IsNear most (r >>= λ _. read l)
+      near l (Ok x) low = second.near l
+      near l (Err bad) low = low
+
   -- ---- a header
 
   test_plain : (ok : Bool) (version : ℕ) → IsPlain most (tested ok version)
@@ -119,7 +134,7 @@ module _ (most : ℕ) where
   test_plain false version = (λ whole. refl, omega arith)
 
   version_plain : (version : ℕ) → IsPlain most (known_version version)
-  version_plain version = test_plain (version_ok version) version
+  version_plain version = test_plain (is_version version) version
 
   kind_plain : (code : ℕ) → IsPlain most (known_kind code)
   kind_plain code = go (kind_of code)
@@ -144,24 +159,44 @@ module _ (most : ℕ) where
         (λ ord. moves_check (clue_ord_ok clue ord) 46 _ (omega (arith, some)) (moves_then (number_at w64) _ (number_moves w64)
         (λ prev. moves_check (clue_prev_ok jsn ord prev) 50 _ (omega (arith, some)) (nothing_moves _))))))
 
-    own_moves : (kind : Kind) (jsn : ℕ) → Moves most (own_at kind jsn)
+    own_moves : (version : ℕ) (kind : Kind) (jsn : ℕ) → Moves most (own_at version kind jsn)
     unfolding own_at
-    own_moves kind jsn = moves_then (number_at w64) _ (number_moves w64)
-        (λ a. moves_check (a_ok kind jsn a) 58 _ (omega (arith, some)) (moves_then (number_at w64) _ (number_moves w64)
+    own_moves version kind jsn = moves_then (number_at w64) _ (number_moves w64)
+        (λ a. moves_check (a_ok kind jsn a && carries_a version kind a) 58 _ (omega (arith, some)) (moves_then (number_at w64) _ (number_moves w64)
         (λ b. moves_check (b_ok kind b) 66 _ (omega (arith, some)) (moves_then digest_at _ digest_moves (λ link. nothing_moves _)))))
 
-    parts_move : (kind : Kind) → Moves most (parts_at kind)
+    parts_move : (version : ℕ) (kind : Kind) → Moves most (parts_at version kind)
     unfolding parts_at
-    parts_move kind = moves_then (number_at w32) _ (number_moves w32)
-        (λ len. moves_check (content_len_ok kind len) 106 _ (omega (arith, some)) (moves_then digest_at _ digest_moves
+    parts_move version kind = moves_then (number_at w32) _ (number_moves w32)
+        (λ len. moves_check (content_len_ok kind len && carries_len version kind len) 106 _ (omega (arith, some)) (moves_then digest_at _ digest_moves
         (λ content. moves_then digest_at _ digest_moves (λ who. nothing_moves _))))
+
+    fields_move : Moves most fields_at
+    unfolding fields_at
+    fields_move = moves_then front_at _ front_moves
+        (λ front. moves_then (clue_at front.kind front.jsn) _ (clue_moves front.kind front.jsn)
+        (λ clue. moves_then (own_at front.version front.kind front.jsn) _ (own_moves front.version front.kind front.jsn)
+        (λ own. moves_then (parts_at front.version front.kind) _ (parts_move front.version front.kind) (λ parts. nothing_moves _))))
+
+    -- what shows whether the version is the header's own
+    carried_moves : (version : ℕ) (kind : Kind) → Moves most (carried_at version kind)
+    unfolding carried_at
+    carried_moves version kind = moves_if (version == 1) (λ l. Ok (tt, l)) _ (nothing_moves tt)
+        (moves_then (bytes_at 56) _ (bytes_move 56)
+        (λ skipped. moves_then (number_at w64) _ (number_moves w64)
+        (λ a. moves_then (bytes_at 40) _ (bytes_move 40)
+        (λ between. moves_then (number_at w32) _ (number_moves w32)
+        (λ len. moves_check (version_of kind a len == 2) 0 _ (omega arith) (nothing_moves tt))))))
+
+    layout_moves : Moves most layout_at
+    unfolding layout_at
+    layout_moves = moves_then (number_at w8) _ (number_moves w8)
+        (λ version. moves_after (known_version version) _ (version_plain version) (λ _. moves_then (number_at w8) _ (number_moves w8)
+        (λ code. moves_after (known_kind code) _ (kind_plain code) (λ kind. carried_moves version kind))))
 
     header_moves : Moves most header_at
     unfolding header_at
-    header_moves = moves_then front_at _ front_moves
-        (λ front. moves_then (clue_at front.kind front.jsn) _ (clue_moves front.kind front.jsn)
-        (λ clue. moves_then (own_at front.kind front.jsn) _ (own_moves front.kind front.jsn)
-        (λ own. moves_then (parts_at front.kind) _ (parts_move front.kind) (λ parts. nothing_moves _))))
+    header_moves = moves_behind layout_at fields_at layout_moves fields_move
 
     -- ---- behind a header
 
