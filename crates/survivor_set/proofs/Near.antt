@@ -1,6 +1,6 @@
 -- The fields of a journal have near places: a place in a set and theirs have a sum.
 use Rattle.std.specs.Int.{Width, byte_len, w8, w32, w64}
-use Rattle.std.specs.Prelude.{nat_le, ok_or, if◌then◌else◌, ◌==◌, ⊤}
+use Rattle.std.specs.Prelude.{nat_le, ok_or, if◌then◌else◌, ◌==◌, ◌&&◌, ⊤}
 use Rattle.std.proofs.Common.{◌≡◌, ℕ, ◌+◌, ◌≤◌, ◌^◌, Bool, true, false, List, length, arith, Result, Ok, Err, Option, Some, None, refl, subst, inl, inr}
 use Rattle.std.proofs.lemmas.Bool.{cases_lt, lt-ltb, le-ltb}
 use Rattle.ledger_bytes.specs.declared.failure.Bad.{Bad}
@@ -9,8 +9,8 @@ use Rattle.ledger_bytes.specs.Fields.{Unread, ◌>>=◌, bytes_at, number_at, di
 use Rattle.journal_record.specs.declared.approval.TheConstants.{WHO_LIMIT}
 use Rattle.journal_record.specs.declared.header.Header.{Header}
 use Rattle.journal_record.specs.declared.header.Kind.{Kind}
-use Rattle.journal_record.specs.Reading.{front_at, clue_at, own_at, parts_at, header_at, known_version, known_kind}
-use Rattle.journal_record.specs.Rules.{kind_of, version_ok, jsn_ok, member_ok, clue_ok, clue_ord_ok, clue_prev_ok, a_ok, b_ok, content_len_ok}
+use Rattle.journal_record.specs.Reading.{carried_at, layout_at, front_at, clue_at, own_at, parts_at, fields_at, header_at, known_version, known_kind}
+use Rattle.journal_record.specs.Rules.{kind_of, is_version, version_of, carries_a, carries_len, jsn_ok, member_ok, clue_ok, clue_ord_ok, clue_prev_ok, a_ok, b_ok, content_len_ok}
 use Rattle.journal_record.specs.Items.{Item, content_at, body_at, state_ok, who_place, who_at, item_at}
 use Rattle.journal_record.proofs.ReadingLaws.{header_back}
 use Rattle.survivor_set.specs.Steps.{IsNearBad}
@@ -58,7 +58,7 @@ module _ (most : ℕ) where
   test_near false version = tt
 
   version_near : (version : ℕ) → IsNear most (known_version version)
-  version_near version = test_near (version_ok version) version
+  version_near version = test_near (is_version version) version
 
   kind_near : (code : ℕ) → IsNear most (known_kind code)
   kind_near code = go (kind_of code)
@@ -88,24 +88,44 @@ module _ (most : ℕ) where
         (λ ord. near_then (check (clue_ord_ok clue.0 ord.0) 46) _ (check_near (clue_ord_ok clue.0 ord.0) 46 (omega (arith, some))) (λ _. near_then (number_at w64 ord.1) _ (number_near w64 ord.1)
         (λ prev. near_then (check (clue_prev_ok jsn ord.0 prev.0) 50) _ (check_near (clue_prev_ok jsn ord.0 prev.0) 50 (omega (arith, some))) (λ _. tt))))))
 
-    own_near : (kind : Kind) (jsn : ℕ) (l : Unread) → IsNear most (own_at kind jsn l)
+    own_near : (version : ℕ) (kind : Kind) (jsn : ℕ) (l : Unread) → IsNear most (own_at version kind jsn l)
     unfolding own_at
-    own_near kind jsn l = near_then (number_at w64 l) _ (number_near w64 l)
-        (λ a. near_then (check (a_ok kind jsn a.0) 58) _ (check_near (a_ok kind jsn a.0) 58 (omega (arith, some))) (λ _. near_then (number_at w64 a.1) _ (number_near w64 a.1)
+    own_near version kind jsn l = near_then (number_at w64 l) _ (number_near w64 l)
+        (λ a. near_then (check (a_ok kind jsn a.0 && carries_a version kind a.0) 58) _ (check_near (a_ok kind jsn a.0 && carries_a version kind a.0) 58 (omega (arith, some))) (λ _. near_then (number_at w64 a.1) _ (number_near w64 a.1)
         (λ b. near_then (check (b_ok kind b.0) 66) _ (check_near (b_ok kind b.0) 66 (omega (arith, some))) (λ _. near_then (digest_at b.1) _ (digest_near b.1) (λ link. tt)))))
 
-    parts_near : (kind : Kind) (l : Unread) → IsNear most (parts_at kind l)
+    parts_near : (version : ℕ) (kind : Kind) (l : Unread) → IsNear most (parts_at version kind l)
     unfolding parts_at
-    parts_near kind l = near_then (number_at w32 l) _ (number_near w32 l)
-        (λ len. near_then (check (content_len_ok kind len.0) 106) _ (check_near (content_len_ok kind len.0) 106 (omega (arith, some))) (λ _. near_then (digest_at len.1) _ (digest_near len.1)
+    parts_near version kind l = near_then (number_at w32 l) _ (number_near w32 l)
+        (λ len. near_then (check (content_len_ok kind len.0 && carries_len version kind len.0) 106) _ (check_near (content_len_ok kind len.0 && carries_len version kind len.0) 106 (omega (arith, some))) (λ _. near_then (digest_at len.1) _ (digest_near len.1)
         (λ content. near_then (digest_at content.1) _ (digest_near content.1) (λ who. tt))))
+
+    fields_near : (l : Unread) → IsNear most (fields_at l)
+    unfolding fields_at
+    fields_near l = near_then (front_at l) _ (front_near l)
+        (λ front. near_then (clue_at front.0.kind front.0.jsn front.1) _ (clue_near front.0.kind front.0.jsn front.1)
+        (λ clue. near_then (own_at front.0.version front.0.kind front.0.jsn clue.1) _ (own_near front.0.version front.0.kind front.0.jsn clue.1)
+        (λ own. near_then (parts_at front.0.version front.0.kind own.1) _ (parts_near front.0.version front.0.kind own.1) (λ parts. tt))))
+
+    -- what shows whether the version is the header's own
+    carried_near : (version : ℕ) (kind : Kind) (l : Unread) → IsNear most (carried_at version kind l)
+    unfolding carried_at
+    carried_near version kind l = if_near (version == 1) (Ok (tt, l)) _ tt
+        (near_then (bytes_at 56 l) _ (bytes_near 56 l)
+        (λ skipped. near_then (number_at w64 skipped.1) _ (number_near w64 skipped.1)
+        (λ a. near_then (bytes_at 40 a.1) _ (bytes_near 40 a.1)
+        (λ between. near_then (number_at w32 between.1) _ (number_near w32 between.1)
+        (λ len. near_then (check (version_of kind a.0 len.0 == 2) 0) _ (check_near (version_of kind a.0 len.0 == 2) 0 (omega arith)) (λ _. tt))))))
+
+    layout_near : (l : Unread) → IsNear most (layout_at l)
+    unfolding layout_at
+    layout_near l = near_then (number_at w8 l) _ (number_near w8 l)
+        (λ version. near_then (known_version version.0) _ (version_near version.0) (λ _. near_then (number_at w8 version.1) _ (number_near w8 version.1)
+        (λ code. near_then (known_kind code.0) _ (kind_near code.0) (λ kind. carried_near version.0 kind code.1))))
 
     header_near : (l : Unread) → IsNear most (header_at l)
     unfolding header_at
-    header_near l = near_then (front_at l) _ (front_near l)
-        (λ front. near_then (clue_at front.0.kind front.0.jsn front.1) _ (clue_near front.0.kind front.0.jsn front.1)
-        (λ clue. near_then (own_at front.0.kind front.0.jsn clue.1) _ (own_near front.0.kind front.0.jsn clue.1)
-        (λ own. near_then (parts_at front.0.kind own.1) _ (parts_near front.0.kind own.1) (λ parts. tt))))
+    header_near l = near_then (layout_at l) _ (layout_near l) (λ _. fields_near l)
 
     content_near : (h : Header) (state : ℕ) (l : Unread) → IsNear most (content_at h state l)
     content_near h state l = if_near (state == 0) (bytes_at h.content_len l >>= λ content. Ok (Some content.0, content.1)) (Ok (None, l))
