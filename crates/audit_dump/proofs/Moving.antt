@@ -123,6 +123,7 @@ module _ (most : ℕ) where
           → (with_whole longer r >>= λ _. read (left_from longer rest)) ≡ with_whole longer (r >>= λ _. read (left_from whole rest))
       same whole longer rest (Ok x) = second.same whole longer rest
       same whole longer rest (Err bad) = refl
+
       near : (l : Unread) (r : Result (A × Unread) Bad) → IsNear most r → IsNear most (r >>= λ _. read l)
       near l (Ok x) low = second.near l
       near l (Err bad) low = low
