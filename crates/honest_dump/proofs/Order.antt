@@ -1,8 +1,9 @@
 -- Whether a journal is the next one depends on headers alone, so it doesn't matter which contents a dump leaves out.
 use Rattle.std.specs.Prelude.{All, IfSome, zero, suc, filter, if◌then◌else◌}
 use Rattle.std.specs.List.{list_any, fold}
-use Rattle.std.proofs.Common.{◌≡◌, ℕ, ◌+◌, ◌-◌, ◌<◌, ◌||◌, max, Bool, true, false, cond, List, [], ◌∷◌, ◌++◌, length, map, get_or, drop, Option, Some, None, refl, sym, ap, ◌∙◌, subst, arith}
-use Rattle.std.proofs.lemmas.List.{map-append, length-map}
+use Rattle.std.specs.Option.{option_or}
+use Rattle.std.proofs.Common.{◌≡◌, ℕ, ◌+◌, ◌-◌, ◌<◌, ◌==◌, ◌||◌, max, Bool, true, false, cond, List, [], ◌∷◌, ◌++◌, length, map, get_or, drop, Option, Some, None, refl, sym, ap, ◌∙◌, subst, arith}
+use Rattle.std.proofs.lemmas.List.{map-append, length-map, drop-map}
 use Rattle.std.proofs.lemmas.List.Elements.{All-map, All-drop}
 use Rattle.std.proofs.lemmas.Simd.{map-map}
 use Rattle.clue_index.specs.Added.{Added, Mark, trail_of, different_clues}
@@ -15,10 +16,11 @@ use Rattle.journal_record.specs.declared.header.Kind.TheVariants as kind
 use Rattle.journal_record.specs.declared.member.Member.{Member}
 use Rattle.pseudo_genesis.specs.declared.base.Base.{Base}
 use Rattle.ledger_model.specs.Bases.{base_of, clue_mark_of}
-use Rattle.ledger_model.specs.Behind.{AreBehind, BeginsWell, IsNextBehind, IsOwnBehind, clues_behind, count_behind, first_of, has_own_purge, is_purge_to, names}
+use Rattle.ledger_model.specs.Behind.{AreBehind, BeginsWell, IsNextBehind, IsOwnBehind, clues_behind, count_behind, first_of, has_own_purge, is_purge_to, names, numbered_from}
 use Rattle.ledger_model.specs.Clues.{has_clue}
 use Rattle.ledger_model.specs.History.{History, history, journals, greatest_point, leaf_digest, point, purge_point}
 use Rattle.ledger_model.specs.Members.{admits, admitted_members, founders, member_of, members}
+use Rattle.ledger_model.specs.Numbers.{is_numbered, numbered_in, place_from}
 use Rattle.ledger_model.specs.Targets.{is_hidden, kind_at, leaf_at}
 use Rattle.dump_model.specs.Shown.{base_at, shown, ledger_dump}
 use Rattle.audit_dump.specs.Contents.{IsKeptWhole}
@@ -78,6 +80,22 @@ module _ (h : History) where
   own_purge_seen None es = refl
   own_purge_seen (Some b) es = any_seen (is_purge_to b.point) es
 
+  places_seen : (n : ℕ) (p : Entry → Bool) → ((e : Entry) → p (seen h e) ≡ p e) → (es : List Entry) → place_from n p (seen_all es) ≡ place_from n p es
+  places_seen n p same [] = refl
+  places_seen n p same (e ∷ es) =
+      ap (λ v. option_or (place_from (n + 1) p (seen_all es)) (if v then Some n else None)) (same e)
+      ∙ ap (λ (o : Option ℕ). option_or o (if p e then Some n else None)) (places_seen (n + 1) p same es)
+
+  numbers_seen : (n member number : ℕ) (es : List Entry) → numbered_in n (seen_all es) member number ≡ numbered_in n es member number
+  numbers_seen n member number es = ap (λ (o : Option ℕ). if number == 0 then None else o) (places_seen n (is_numbered member number) (λ e. refl) es)
+
+  fresh_seen : (first member number : ℕ) (es : List Entry) → numbered_from first (greatest_point (seen_all es)) (seen_all es) member number ≡ numbered_from first (greatest_point es) es member number
+  fresh_seen first member number es =
+      let p = greatest_point es in
+      ap (λ (q : ℕ). numbered_from first q (seen_all es) member number) (points_seen es)
+      ∙ ap (λ (l : List Entry). numbered_in (first + (p - first)) l member number) (drop-map (seen h) (p - first) es)
+      ∙ numbers_seen (first + (p - first)) member number (drop (p - first) es)
+
   -- ---- the next journal
 
   own_seen : (start : Option Base) (es : List Entry) (x : Header) (k : Kind) → IsOwnBehind start es x k → IsOwnBehind start (seen_all es) x k
@@ -88,6 +106,7 @@ module _ (h : History) where
         clue_ord = o.clue_ord ∙ ap (λ (t : Added). cond (is_no_clue x.clue) 0 (count_of (trail_of t x.clue.0) + 1)) same;
         clue_prev = o.clue_prev ∙ ap (λ (t : Added). cond (is_no_clue x.clue) 0 (last_of (trail_of t x.clue.0))) same;
         room = λ has none. subst (λ (t : Added). length (different_clues t) < 1_048_576) same (o.room has (ap (λ (t : Added). count_of (trail_of t x.clue.0)) same ∙ none));
+        fresh = fresh_seen (first_of start) x.member x.a es ∙ o.fresh;
       }
   own_seen start es x kind.Member o = o ∙ sym (count_seen start es)
   own_seen start es x kind.Time o = tt
