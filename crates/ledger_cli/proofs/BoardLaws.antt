@@ -25,8 +25,8 @@ use Rattle.proof_board.specs.declared.pass.ProverPass.{ProverPass}
 use Rattle.proof_board.specs.declared.view.Growth.{Growth}
 use Rattle.sha2.proofs.Facts256.{length-sha256}
 use Rattle.std.proofs.Common.{get_or}
-use Rattle.ledger_cli.specs.Boards.{TellsBehind, prover_line, prover_lines}
-use Rattle.ledger_cli.specs.Beside.{AllAccepted, AreTallies, WritesTallies}
+use Rattle.ledger_cli.specs.Boards.{EndsWith, TellsBehind, board_text, prover_line, prover_lines}
+use Rattle.ledger_cli.specs.Beside.{AllAccepted, AreTallies}
 use Rattle.ledger_cli.specs.Runs.{Handed, handed, outside_of, FaultsBy}
 use Rattle.ledger_cli.specs.declared.ending.LedgerEnding.{LedgerEnding}
 use Rattle.ledger_cli.specs.declared.ending.LedgerEnding.TheVariants.{Run, DiskFault, Damaged, Empty, Exists, NewerFormat, NotaryFault, Refused}
@@ -85,56 +85,56 @@ digests_wide h = All-map IsWide leaf_digest (journals h) (λ k d lt. length-sha2
 -- ---- what is written behind the replies
 
 -- nothing is, where the script's run isn't done
-pub told_nothing : (IsFirst : History → Type 0) (provers count : ℕ) (met : LedgerEnding) (x : Outside) → met ≢ Run run.Done → TellsBehind IsFirst provers count met met x x
-told_nothing IsFirst provers count (Run run.Done) x not = absurd (not refl)
-told_nothing IsFirst provers count (Run run.Usage) x not = (refl, refl)
-told_nothing IsFirst provers count (Run run.ReadFault) x not = (refl, refl)
-told_nothing IsFirst provers count (Run run.WriteFault) x not = (refl, refl)
-told_nothing IsFirst provers count (Run run.NoMemory) x not = (refl, refl)
-told_nothing IsFirst provers count (Run run.LineTooLong) x not = (refl, refl)
-told_nothing IsFirst provers count (Run run.ScriptTooLong) x not = (refl, refl)
-told_nothing IsFirst provers count DiskFault x not = (refl, refl)
-told_nothing IsFirst provers count (Damaged damage) x not = (refl, refl)
-told_nothing IsFirst provers count Empty x not = (refl, refl)
-told_nothing IsFirst provers count Exists x not = (refl, refl)
-told_nothing IsFirst provers count (NewerFormat found) x not = (refl, refl)
-told_nothing IsFirst provers count NotaryFault x not = (refl, refl)
-told_nothing IsFirst provers count (Refused why) x not = (refl, refl)
+pub told_nothing : (IsFirst : History → Type 0) (provers count : ℕ) (tallies : List Tally) (published : ℕ) (met : LedgerEnding) (x : Outside) → met ≢ Run run.Done → TellsBehind IsFirst provers count tallies published met met x x
+told_nothing IsFirst provers count tallies published (Run run.Done) x not = absurd (not refl)
+told_nothing IsFirst provers count tallies published (Run run.Usage) x not = (refl, refl)
+told_nothing IsFirst provers count tallies published (Run run.ReadFault) x not = (refl, refl)
+told_nothing IsFirst provers count tallies published (Run run.WriteFault) x not = (refl, refl)
+told_nothing IsFirst provers count tallies published (Run run.NoMemory) x not = (refl, refl)
+told_nothing IsFirst provers count tallies published (Run run.LineTooLong) x not = (refl, refl)
+told_nothing IsFirst provers count tallies published (Run run.ScriptTooLong) x not = (refl, refl)
+told_nothing IsFirst provers count tallies published DiskFault x not = (refl, refl)
+told_nothing IsFirst provers count tallies published (Damaged damage) x not = (refl, refl)
+told_nothing IsFirst provers count tallies published Empty x not = (refl, refl)
+told_nothing IsFirst provers count tallies published Exists x not = (refl, refl)
+told_nothing IsFirst provers count tallies published (NewerFormat found) x not = (refl, refl)
+told_nothing IsFirst provers count tallies published NotaryFault x not = (refl, refl)
+told_nothing IsFirst provers count tallies published (Refused why) x not = (refl, refl)
 
 -- the lines of provers are
-pub told_lines : (IsFirst : History → Type 0) (provers count : ℕ) (results : List (Result Tally NoMemory)) (published : ℕ) (met ending : LedgerEnding) (before now : Outside) → met ≡ Run run.Done → length results ≡ provers
-    → ((h : History) → IsFirst h → AllAccepted count results) → WritesTallies results published ending before now → TellsBehind IsFirst provers count met ending before now
-told_lines IsFirst provers count results published met ending before now is many all w =
-    subst (λ (m : LedgerEnding). TellsBehind IsFirst provers count m ending before now) (sym is) (elim w [
-      | inl x ↦ inl (record {
-        tallies = x.0;
-        published = published;
-        provers_are = (let e = ap length x.1 in let m = length-map {B = Result Tally NoMemory} x.0 Ok in omega (arith, e, m, many));
-        accepted = λ h f. tallies_accepted count results x.0 (all h f) x.1;
-        plain = x.2.0;
-        ending_is = x.2.1;
-        wrote = x.2.2;
-      })
-      | inr none ↦ inr none
-    ])
+pub told_lines : (IsFirst : History → Type 0) (provers count : ℕ) (results : List (Result Tally NoMemory)) (tallies : List Tally) (published : ℕ) (met ending : LedgerEnding) (before now : Outside) → met ≡ Run run.Done → length results ≡ provers
+    → ((h : History) → IsFirst h → AllAccepted count results) → AreTallies results tallies → ((plain : Ending) × (ending ≡ Run plain) × Wrote (board_text tallies published) plain before now)
+    → TellsBehind IsFirst provers count tallies published met ending before now
+told_lines IsFirst provers count results tallies published met ending before now is many all are w =
+    subst (λ (m : LedgerEnding). TellsBehind IsFirst provers count tallies published m ending before now) (sym is) (inl (record {
+      provers_are = (let e = ap length are in let m = length-map {B = Result Tally NoMemory} tallies Ok in omega (arith, e, m, many));
+      accepted = λ h f. tallies_accepted count results tallies (all h f) are;
+      plain = w.0;
+      ending_is = w.1;
+      wrote = w.2;
+    }))
+
+-- .. or there was no memory for them
+pub told_none : (IsFirst : History → Type 0) (provers count : ℕ) (tallies : List Tally) (published : ℕ) (met ending : LedgerEnding) (before now : Outside) → met ≡ Run run.Done → EndsWith (Run run.NoMemory) ending before now → TellsBehind IsFirst provers count tallies published met ending before now
+told_none IsFirst provers count tallies published met ending before now is none = subst (λ (m : LedgerEnding). TellsBehind IsFirst provers count tallies published m ending before now) (sym is) (inr none)
 
 -- what is told where the run began with some histories is told where it began with these alone
-pub told_first : (IsFirst IsNow : History → Type 0) (provers count : ℕ) (met ending : LedgerEnding) (before now : Outside) → ((h : History) → IsNow h → IsFirst h) → TellsBehind IsFirst provers count met ending before now → TellsBehind IsNow provers count met ending before now
-told_first IsFirst IsNow provers count (Run run.Done) ending before now to (inl x) = inl (record { tallies = x.tallies; published = x.published; provers_are = x.provers_are; accepted = λ h f. x.accepted h (to h f); plain = x.plain; ending_is = x.ending_is; wrote = x.wrote })
-told_first IsFirst IsNow provers count (Run run.Done) ending before now to (inr x) = inr x
-told_first IsFirst IsNow provers count (Run run.Usage) ending before now to x = x
-told_first IsFirst IsNow provers count (Run run.ReadFault) ending before now to x = x
-told_first IsFirst IsNow provers count (Run run.WriteFault) ending before now to x = x
-told_first IsFirst IsNow provers count (Run run.NoMemory) ending before now to x = x
-told_first IsFirst IsNow provers count (Run run.LineTooLong) ending before now to x = x
-told_first IsFirst IsNow provers count (Run run.ScriptTooLong) ending before now to x = x
-told_first IsFirst IsNow provers count DiskFault ending before now to x = x
-told_first IsFirst IsNow provers count (Damaged damage) ending before now to x = x
-told_first IsFirst IsNow provers count Empty ending before now to x = x
-told_first IsFirst IsNow provers count Exists ending before now to x = x
-told_first IsFirst IsNow provers count (NewerFormat found) ending before now to x = x
-told_first IsFirst IsNow provers count NotaryFault ending before now to x = x
-told_first IsFirst IsNow provers count (Refused why) ending before now to x = x
+pub told_first : (IsFirst IsNow : History → Type 0) (provers count : ℕ) (tallies : List Tally) (published : ℕ) (met ending : LedgerEnding) (before now : Outside) → ((h : History) → IsNow h → IsFirst h) → TellsBehind IsFirst provers count tallies published met ending before now → TellsBehind IsNow provers count tallies published met ending before now
+told_first IsFirst IsNow provers count tallies published (Run run.Done) ending before now to (inl x) = inl (record { provers_are = x.provers_are; accepted = λ h f. x.accepted h (to h f); plain = x.plain; ending_is = x.ending_is; wrote = x.wrote })
+told_first IsFirst IsNow provers count tallies published (Run run.Done) ending before now to (inr x) = inr x
+told_first IsFirst IsNow provers count tallies published (Run run.Usage) ending before now to x = x
+told_first IsFirst IsNow provers count tallies published (Run run.ReadFault) ending before now to x = x
+told_first IsFirst IsNow provers count tallies published (Run run.WriteFault) ending before now to x = x
+told_first IsFirst IsNow provers count tallies published (Run run.NoMemory) ending before now to x = x
+told_first IsFirst IsNow provers count tallies published (Run run.LineTooLong) ending before now to x = x
+told_first IsFirst IsNow provers count tallies published (Run run.ScriptTooLong) ending before now to x = x
+told_first IsFirst IsNow provers count tallies published DiskFault ending before now to x = x
+told_first IsFirst IsNow provers count tallies published (Damaged damage) ending before now to x = x
+told_first IsFirst IsNow provers count tallies published Empty ending before now to x = x
+told_first IsFirst IsNow provers count tallies published Exists ending before now to x = x
+told_first IsFirst IsNow provers count tallies published (NewerFormat found) ending before now to x = x
+told_first IsFirst IsNow provers count tallies published NotaryFault ending before now to x = x
+told_first IsFirst IsNow provers count tallies published (Refused why) ending before now to x = x
 
 -- ---- faults
 
@@ -164,19 +164,19 @@ module _ (before mid now : Handed) (disks_are : now.disks ≡ mid.disks) (notary
   lacking_faults f = record { source_is = inl f.source_is; sink_is = f.sink_is; disks_are = f.disks_are }
 
   -- the whole run met what its ending tells
-  pub faults_behind : (IsFirst : History → Type 0) (provers count : ℕ) (met ending : LedgerEnding) → FaultsBy met before mid → TellsBehind IsFirst provers count met ending (outside_of mid) (outside_of now) → FaultsBy ending before now
-  faults_behind IsFirst provers count (Run run.Done) ending f (inl x) = subst (λ (e : LedgerEnding). FaultsBy e before now) (sym x.ending_is) (line_faults _ x.plain f x.wrote)
-  faults_behind IsFirst provers count (Run run.Done) ending f (inr x) = same_faults (Run run.NoMemory) ending x.0 x.1 (lacking_faults f)
-  faults_behind IsFirst provers count (Run run.Usage) ending f x = absurd f
-  faults_behind IsFirst provers count (Run run.ReadFault) ending f x = same_faults (Run run.ReadFault) ending x.0 x.1 f
-  faults_behind IsFirst provers count (Run run.WriteFault) ending f x = same_faults (Run run.WriteFault) ending x.0 x.1 f
-  faults_behind IsFirst provers count (Run run.NoMemory) ending f x = same_faults (Run run.NoMemory) ending x.0 x.1 f
-  faults_behind IsFirst provers count (Run run.LineTooLong) ending f x = same_faults (Run run.LineTooLong) ending x.0 x.1 f
-  faults_behind IsFirst provers count (Run run.ScriptTooLong) ending f x = same_faults (Run run.ScriptTooLong) ending x.0 x.1 f
-  faults_behind IsFirst provers count DiskFault ending f x = same_faults DiskFault ending x.0 x.1 f
-  faults_behind IsFirst provers count (Damaged damage) ending f x = same_faults (Damaged damage) ending x.0 x.1 f
-  faults_behind IsFirst provers count Empty ending f x = same_faults Empty ending x.0 x.1 f
-  faults_behind IsFirst provers count Exists ending f x = same_faults Exists ending x.0 x.1 f
-  faults_behind IsFirst provers count (NewerFormat found) ending f x = same_faults (NewerFormat found) ending x.0 x.1 f
-  faults_behind IsFirst provers count NotaryFault ending f x = same_faults NotaryFault ending x.0 x.1 f
-  faults_behind IsFirst provers count (Refused why) ending f x = same_faults (Refused why) ending x.0 x.1 f
+  pub faults_behind : (IsFirst : History → Type 0) (provers count : ℕ) (tallies : List Tally) (published : ℕ) (met ending : LedgerEnding) → FaultsBy met before mid → TellsBehind IsFirst provers count tallies published met ending (outside_of mid) (outside_of now) → FaultsBy ending before now
+  faults_behind IsFirst provers count tallies published (Run run.Done) ending f (inl x) = subst (λ (e : LedgerEnding). FaultsBy e before now) (sym x.ending_is) (line_faults _ x.plain f x.wrote)
+  faults_behind IsFirst provers count tallies published (Run run.Done) ending f (inr x) = same_faults (Run run.NoMemory) ending x.0 x.1 (lacking_faults f)
+  faults_behind IsFirst provers count tallies published (Run run.Usage) ending f x = absurd f
+  faults_behind IsFirst provers count tallies published (Run run.ReadFault) ending f x = same_faults (Run run.ReadFault) ending x.0 x.1 f
+  faults_behind IsFirst provers count tallies published (Run run.WriteFault) ending f x = same_faults (Run run.WriteFault) ending x.0 x.1 f
+  faults_behind IsFirst provers count tallies published (Run run.NoMemory) ending f x = same_faults (Run run.NoMemory) ending x.0 x.1 f
+  faults_behind IsFirst provers count tallies published (Run run.LineTooLong) ending f x = same_faults (Run run.LineTooLong) ending x.0 x.1 f
+  faults_behind IsFirst provers count tallies published (Run run.ScriptTooLong) ending f x = same_faults (Run run.ScriptTooLong) ending x.0 x.1 f
+  faults_behind IsFirst provers count tallies published DiskFault ending f x = same_faults DiskFault ending x.0 x.1 f
+  faults_behind IsFirst provers count tallies published (Damaged damage) ending f x = same_faults (Damaged damage) ending x.0 x.1 f
+  faults_behind IsFirst provers count tallies published Empty ending f x = same_faults Empty ending x.0 x.1 f
+  faults_behind IsFirst provers count tallies published Exists ending f x = same_faults Exists ending x.0 x.1 f
+  faults_behind IsFirst provers count tallies published (NewerFormat found) ending f x = same_faults (NewerFormat found) ending x.0 x.1 f
+  faults_behind IsFirst provers count tallies published NotaryFault ending f x = same_faults NotaryFault ending x.0 x.1 f
+  faults_behind IsFirst provers count tallies published (Refused why) ending f x = same_faults (Refused why) ending x.0 x.1 f

@@ -23,21 +23,21 @@ use Rattle.ledger_cli.specs.declared.ending.LedgerEnding.TheVariants.{Run, DiskF
 
 -- ---- what is told of a run is told of what it was handed before the disks were opened
 
-pub serves_from : (scheme : Scheme) (h : History) (ending : LedgerEnding) (source : SourceState) (sink : SinkState) (n : NotaryState) (d e : Pair) (now : Handed) → RunsOn scheme h ending (handed source sink d n) now → RunsOn scheme h ending (handed source sink e n) now
-serves_from scheme h (Run run.Done) source sink n d e now s = record { read = s.read; replies = s.replies; consumed = s.consumed; appended = s.appended; replied = s.replied }
-serves_from scheme h (Run run.Usage) source sink n d e now s = absurd s.replied
-serves_from scheme h (Run run.ReadFault) source sink n d e now s = record { read = s.read; replies = s.replies; consumed = s.consumed; appended = s.appended; replied = s.replied }
-serves_from scheme h (Run run.WriteFault) source sink n d e now s = record { read = s.read; replies = s.replies; consumed = s.consumed; appended = s.appended; replied = s.replied }
-serves_from scheme h (Run run.NoMemory) source sink n d e now s = record { read = s.read; replies = s.replies; consumed = s.consumed; appended = s.appended; replied = s.replied }
-serves_from scheme h (Run run.LineTooLong) source sink n d e now s = record { read = s.read; replies = s.replies; consumed = s.consumed; appended = s.appended; replied = s.replied }
-serves_from scheme h (Run run.ScriptTooLong) source sink n d e now s = record { read = s.read; replies = s.replies; consumed = s.consumed; appended = s.appended; replied = s.replied }
-serves_from scheme h DiskFault source sink n d e now s = record { read = s.read; replies = s.replies; consumed = s.consumed; appended = s.appended; replied = s.replied }
-serves_from scheme h (Damaged damage) source sink n d e now s = absurd s.replied
-serves_from scheme h Empty source sink n d e now s = absurd s.replied
-serves_from scheme h Exists source sink n d e now s = absurd s.replied
-serves_from scheme h (NewerFormat found) source sink n d e now s = absurd s.replied
-serves_from scheme h NotaryFault source sink n d e now s = absurd s.replied
-serves_from scheme h (Refused why) source sink n d e now s = absurd s.replied
+pub serves_from : (scheme : Scheme) (h : History) (IsSo : History → Type 0) (ending : LedgerEnding) (source : SourceState) (sink : SinkState) (n : NotaryState) (d e : Pair) (now : Handed) → RunsOn scheme h IsSo ending (handed source sink d n) now → RunsOn scheme h IsSo ending (handed source sink e n) now
+serves_from scheme h IsSo (Run run.Done) source sink n d e now s = record { read = s.read; replies = s.replies; consumed = s.consumed; appended = s.appended; replied = s.replied }
+serves_from scheme h IsSo (Run run.Usage) source sink n d e now s = absurd s.replied
+serves_from scheme h IsSo (Run run.ReadFault) source sink n d e now s = record { read = s.read; replies = s.replies; consumed = s.consumed; appended = s.appended; replied = s.replied }
+serves_from scheme h IsSo (Run run.WriteFault) source sink n d e now s = record { read = s.read; replies = s.replies; consumed = s.consumed; appended = s.appended; replied = s.replied }
+serves_from scheme h IsSo (Run run.NoMemory) source sink n d e now s = record { read = s.read; replies = s.replies; consumed = s.consumed; appended = s.appended; replied = s.replied }
+serves_from scheme h IsSo (Run run.LineTooLong) source sink n d e now s = record { read = s.read; replies = s.replies; consumed = s.consumed; appended = s.appended; replied = s.replied }
+serves_from scheme h IsSo (Run run.ScriptTooLong) source sink n d e now s = record { read = s.read; replies = s.replies; consumed = s.consumed; appended = s.appended; replied = s.replied }
+serves_from scheme h IsSo DiskFault source sink n d e now s = record { read = s.read; replies = s.replies; consumed = s.consumed; appended = s.appended; replied = s.replied }
+serves_from scheme h IsSo (Damaged damage) source sink n d e now s = absurd s.replied
+serves_from scheme h IsSo Empty source sink n d e now s = absurd s.replied
+serves_from scheme h IsSo Exists source sink n d e now s = absurd s.replied
+serves_from scheme h IsSo (NewerFormat found) source sink n d e now s = absurd s.replied
+serves_from scheme h IsSo NotaryFault source sink n d e now s = absurd s.replied
+serves_from scheme h IsSo (Refused why) source sink n d e now s = absurd s.replied
 
 module _ (source : SourceState) (sink : SinkState) (n : NotaryState) (d e : Pair) (now : Handed) (a : d.a.faults ≡ e.a.faults) (b : d.b.faults ≡ e.b.faults) where
   none_from : (S : ℕ → ℕ → Type 0) (K : SinkState → SinkState → Type 0) → Faults S K NoDiskFailed (handed source sink d n) now → Faults S K NoDiskFailed (handed source sink e n) now

@@ -6,7 +6,7 @@ use Rattle.ledger_io.specs.Runs.{AreWhole}
 use Rattle.ledger_model.specs.History.{History}
 use Rattle.ledger_model.specs.Scheme.{Scheme}
 use Rattle.time_peg.specs.Entries.{IsList}
-use Rattle.ledger_cli.specs.Runs.{Handed, StandFor, RunsAgain}
+use Rattle.ledger_cli.specs.Runs.{Handed, Anything, StandFor, RunsAgain}
 use Rattle.ledger_cli.specs.declared.ending.LedgerEnding.TheVariants.{DiskFault}
 
 -- what was written to an empty sink is what the sink holds
@@ -17,7 +17,7 @@ all_written replies written is whole = subst AreWhole (sym is) whole
 none_written : (written : List ℕ) → Some written ≡ Some [] → AreWhole written
 none_written written is = inl (cc is)
 
-pub none_cut : (scheme : Scheme) (before now : Handed) (h : History) (written : List ℕ) → RunsAgain scheme true DiskFault before now → StandFor before.disks h
+pub none_cut : (scheme : Scheme) (before now : Handed) (h : History) (written : List ℕ) → RunsAgain scheme true Anything DiskFault before now → StandFor before.disks h
     → IsList before.notary.entries → before.sink.held ≡ Some [] → now.sink.held ≡ Some written → AreWhole written
 none_cut scheme before now h written ran stands list old is =
     elim (ran.serves refl h stands list) [

@@ -13,6 +13,7 @@ use Rattle.ledger_model.specs.Lawful.{IsBlock, gathers}
 use Rattle.proof_board.specs.History.{Digests}
 use Rattle.proof_board.specs.declared.view.Base.{Base}
 use Rattle.proof_board.proofs.Fronts.{prefix_shorter}
+use Rattle.ledger_model.specs.Growing.{Grows}
 use Rattle.ledger_model.specs.Ends.{ends_from}
 use Rattle.ledger_model.specs.History.{History, ends, journals, journals_of, size}
 use Rattle.ledger_model.proofs.EndLaws.{ends_split}
@@ -22,17 +23,22 @@ use Rattle.std.specs.Prelude.{MatchBool}
 use Rattle.std.proofs.Common.{Bool}
 use Rattle.std.proofs.lemmas.List.{length-map}
 use Rattle.sha2.specs.Sha256.{sha256}
-use Rattle.ledger_book.specs.Books.{Kept, Serves, leaf_digests}
+use Rattle.ledger_book.specs.Books.{Kept, Serves, headers, leaf_digests}
 use Rattle.ledger_model.specs.History.{leaf_digest}
 use Rattle.merkle_batch.specs.Rows.{Levels}
 use Rattle.merkle_batch.proofs.Keeping.{stands_size}
 use Rattle.proof_board.proofs.Fronts.{prefix_self}
 use Rattle.proof_board.specs.Words.{shown_by, history_of}
 use Rattle.ledger_cli.specs.declared.posting.Posting.{Posting}
-use Rattle.ledger_cli.specs.Beside.{IsAlone, IsPublished, posted_by}
-use Rattle.ledger_cli.specs.Boards.{Posted, Lasting, IsBlockEnd, IsShownSize, IsPosted, board_limit, lasting, published_size, list_size}
+use Rattle.ledger_cli.specs.Beside.{IsPublished, posted_by}
+use Rattle.ledger_cli.specs.Boards.{Posted, Lasting, IsAlone, IsBlockEnd, IsNextTo, IsShownSize, IsPosted, board_limit, lasting, published_size, list_size}
 
 -- ---- block ends stay
+
+grown_end : (h g : History) (n : ℕ) → Grows h g → IsBlockEnd h n → IsBlockEnd g n
+grown_end h g n a e =
+    subst (λ (bs : List (List Entry)). Contains (ends_from 0 bs) n) (sym a.closed_are)
+    (subst (λ (l : List ℕ). Contains l n) (sym (ends_split 0 h.closed a.blocks)) (Contains-append_left (ends_from 0 h.closed) (ends_from (0 + length (journals_of h.closed)) a.blocks) n e))
 
 -- ---- the last block's end
 
@@ -110,6 +116,13 @@ alone_end h none blocks alone some =
       | inr past ↦ absurd (let no : ⊥ = cc (sym (ap (option_map (λ (x : Entry). x.header)) past.1) ∙ got) in no)
     ])
 
+-- the last journal has this header, and so this kind
+pub alone_is : (h : History) (x : Header) → slice_get (headers h) (size h - 1) ≡ Some x → gathers x.kind ≡ false → IsAlone h
+alone_is h x is kind = (x, is, kind)
+
+pub alone_not : (h : History) (x : Header) → slice_get (headers h) (size h - 1) ≡ Some x → gathers x.kind ≡ true → IsAlone h → ⊥
+alone_not h x is kind alone = true≢false (sym kind ∙ ap (λ (y : Header). gathers y.kind) (same_Some _ _ (sym is ∙ alone.1)) ∙ alone.2)
+
 -- ---- a look
 
 -- the beginnings of a list with one element more
@@ -122,26 +135,38 @@ push_cases {A = A} xs ys y (rest, is) = by rest is
         let l = ap length is in let m = length-append xs (z ∷ rest) in let n = length-append ys (y ∷ []) in
         inl (prefix_shorter xs ys (ys ++ y ∷ []) (z ∷ rest, is) (y ∷ [], refl) (omega (arith, l, m, n)))
 
--- what a board shows once it has published up to a size
-module _ (first : ℕ) (h : History) (old new : Posted) (f : IsPosted first h old) (base : new.growth.base ≡ old.growth.base) where
+-- what a board shows once its ledger went on by one step
+module _ (first : ℕ) (h g : History) (old new : Posted) (next : IsNextTo h g) (f : IsPosted first h old) (base : new.growth.base ≡ old.growth.base) where
+  shown_on : (l : List Digests) → IsPrefix l old.growth.at.log → 0 < length l → IsShownSize first old.growth.base.floor g (list_size old.growth.base l)
+  shown_on l begins some = let s = f.shown l begins some in record { ended = grown_end h g (list_size old.growth.base l) next.grows s.ended; few = s.few }
+
+  -- an end of a block that the board may keep is shown, or is one with which the step ended
+  pub shown_or_new : old.lacking ≡ false → (n : ℕ) → IsBlockEnd g n → n ≤ old.growth.base.floor + board_limit
+      → (n ≤ published_size old.growth) ⊎ ((g.waiting ≡ []) × ((n ≡ size g) ⊎ ((n ≡ size g - 1) × IsAlone g)))
+  shown_or_new not n e few = elim (next.ended n e) [ inl before ↦ inl (f.most not n before few) | inr now ↦ inr now ]
+
   -- nothing was published
-  pub posted_same : new.growth.at.log ≡ old.growth.at.log → (new.lacking ≡ false → new.waiting ≡ []) → IsPosted first h new
-  posted_same log waits = record {
-    shown = λ l begins some. subst (λ (b : Base). IsShownSize first b.floor h (list_size b l)) (sym base) (f.shown l (subst (IsPrefix l) log begins) some);
+  pub posted_same : new.growth.at.log ≡ old.growth.at.log → (new.lacking ≡ false → new.waiting ≡ [])
+      → (new.lacking ≡ false → (n : ℕ) → IsBlockEnd g n → n ≤ old.growth.base.floor + board_limit → n ≤ published_size old.growth) → IsPosted first g new
+  posted_same log waits most = record {
+    shown = λ l begins some. subst (λ (b : Base). IsShownSize first b.floor g (list_size b l)) (sym base) (shown_on l (subst (IsPrefix l) log begins) some);
     some = subst (λ (l : List Digests). 0 < length l) (sym log) f.some;
     none_waits = waits;
+    most = λ not n e few. subst (λ (y : Base × List Digests). n ≤ list_size y.0 y.1) (λ i. (sym base i, sym log i)) (most not n e (subst (λ (b : Base). n ≤ b.floor + board_limit) base few));
   }
 
   -- one batch was
-  pub posted_more : (batch : Digests) (to : ℕ) → new.growth.at.log ≡ old.growth.at.log ++ batch ∷ [] → published_size new.growth ≡ to → (new.lacking ≡ false → new.waiting ≡ []) → IsBlockEnd h to → to ≤ old.growth.base.floor + board_limit → IsPosted first h new
-  posted_more batch to log is waits ended few = record {
-    shown = λ l begins some. subst (λ (b : Base). IsShownSize first b.floor h (list_size b l)) (sym base)
+  pub posted_more : (batch : Digests) (to : ℕ) → new.growth.at.log ≡ old.growth.at.log ++ batch ∷ [] → published_size new.growth ≡ to → (new.lacking ≡ false → new.waiting ≡ []) → IsBlockEnd g to → to ≤ old.growth.base.floor + board_limit
+      → ((n : ℕ) → IsBlockEnd g n → n ≤ old.growth.base.floor + board_limit → n ≤ to) → IsPosted first g new
+  posted_more batch to log is waits ended few most = record {
+    shown = λ l begins some. subst (λ (b : Base). IsShownSize first b.floor g (list_size b l)) (sym base)
         (elim (push_cases l old.growth.at.log batch (subst (IsPrefix l) log begins)) [
-          | inl less ↦ f.shown l less some
-          | inr whole ↦ subst (IsShownSize first old.growth.base.floor h) (sym (is_to l whole)) (record { ended = ended; few = inl few })
+          | inl less ↦ shown_on l less some
+          | inr whole ↦ subst (IsShownSize first old.growth.base.floor g) (sym (is_to l whole)) (record { ended = ended; few = inl few })
         ]);
     some = subst (λ (l : List Digests). 0 < length l) (sym log) (omega (arith, length-append old.growth.at.log (batch ∷ [])));
     none_waits = waits;
+    most = λ not n e below. subst (λ (m : ℕ). n ≤ m) (sym is) (most n e (subst (λ (b : Base). n ≤ b.floor + board_limit) base below));
   }
     where
       is_to : (l : List Digests) → l ≡ old.growth.at.log ++ batch ∷ [] → list_size old.growth.base l ≡ to
@@ -151,24 +176,17 @@ module _ (first : ℕ) (h : History) (old new : Posted) (f : IsPosted first h ol
 pub tree_size : (k : Kept) (h : History) → Serves k h → k.tree.size ≡ size h
 tree_size k h s = let l = stands_size sha256 k.tree (leaf_digests h) s.stands.tree.leaves in let m = length-map (journals h) leaf_digest in omega (arith, l, m)
 
-module _ {R : Type 0} (first : ℕ) (h : History) (old new : Posting R) (tree : Levels) (to : ℕ) (f : IsPosted first h (posted_by old)) (same : lasting (posted_by new) ≡ lasting (posted_by old))
+module _ {R : Type 0} (first : ℕ) (h g : History) (old new : Posting R) (tree : Levels) (to : ℕ) (next : IsNextTo h g) (f : IsPosted first h (posted_by old)) (same : lasting (posted_by new) ≡ lasting (posted_by old))
     (x : MatchBool new.lacking (history_of new.writer ≡ history_of old.writer) (IsPublished old new tree to)) where
   base_same : (shown_by new.writer).base ≡ (shown_by old.writer).base
   base_same = ap (λ (l : Lasting). l.base) same
 
-  pub look_follows : IsBlockEnd h to → to ≤ (shown_by old.writer).base.floor + board_limit → IsPosted first h (posted_by new)
-  look_follows ended few = by new.lacking refl x
+  pub look_follows : IsBlockEnd g to → to ≤ (shown_by old.writer).base.floor + board_limit → ((n : ℕ) → IsBlockEnd g n → n ≤ (shown_by old.writer).base.floor + board_limit → n ≤ to) → IsPosted first g (posted_by new)
+  look_follows ended few most = by new.lacking refl x
     where
-      by : (b : Bool) → new.lacking ≡ b → MatchBool b (history_of new.writer ≡ history_of old.writer) (IsPublished old new tree to) → IsPosted first h (posted_by new)
-      by true is same_log = posted_same first h (posted_by old) (posted_by new) f base_same same_log (λ no. absurd (true≢false (sym is ∙ no)))
-      by false is y = posted_more first h (posted_by old) (posted_by new) f base_same y.batch to y.history y.size_is (λ no. y.none_waits) ended few
-
-  pub look_up : new.lacking ≡ false → published_size (shown_by new.writer) ≡ to
-  look_up not = by new.lacking not x
-    where
-      by : (b : Bool) → b ≡ false → MatchBool b (history_of new.writer ≡ history_of old.writer) (IsPublished old new tree to) → published_size (shown_by new.writer) ≡ to
-      by true is y = absurd (true≢false is)
-      by false is y = y.size_is
+      by : (b : Bool) → new.lacking ≡ b → MatchBool b (history_of new.writer ≡ history_of old.writer) (IsPublished old new tree to) → IsPosted first g (posted_by new)
+      by true is same_log = posted_same first h g (posted_by old) (posted_by new) next f base_same same_log (λ no. absurd (true≢false (sym is ∙ no))) (λ no. absurd (true≢false (sym is ∙ no)))
+      by false is y = posted_more first h g (posted_by old) (posted_by new) next f base_same y.batch to y.history y.size_is (λ no. y.none_waits) ended few most
 
 -- a board shows no more than there is
 pub posted_le : (first : ℕ) (h : History) (p : Posted) → IsPosted first h p → published_size p.growth ≤ size h

@@ -273,8 +273,8 @@ module _ (scheme : Scheme) (tells : Bool) (w : World) (h : History) (p : Holds t
         said_is : x.sofar ≡ due_lines last (owed scheme done current h)
         said_is = written.text last (grows_not last) (after_none scheme h steps none) ∙ ap (due_lines last) all_done
 
-        pub answered : AnswersOn scheme h t.disks first n script x.sofar
-        answered = record {
+        pub answered : (IsAfter : History → Type 0) → IsAfter (close (reached scheme done current h)) → AnswersOn scheme h IsAfter t.disks first n script x.sofar
+        answered IsAfter so = record {
           answers = record {
             steps = steps;
             merge = merge;
@@ -295,4 +295,5 @@ module _ (scheme : Scheme) (tells : Bool) (w : World) (h : History) (p : Holds t
             pegs = pegged_last;
             clean = quiet_clean t.disks last quiet i j l r;
           };
+          so = subst IsAfter last_is so;
         }

@@ -12,7 +12,10 @@ pub mod PegLaws
 pub mod LastLaws
 pub mod StopLaws
 pub mod TakeLaws
+pub mod NextLaws
 pub mod FollowLaws
+pub mod SizeLaws
+pub mod MappedLaws
 pub mod BoardLaws
 pub mod BesideLaws
 pub mod TopLaws

@@ -34,7 +34,7 @@ use Rattle.time_peg.specs.Entries.{NotaryState}
 use Rattle.twin_file.specs.Twin.{open_of}
 use Rattle.ledger_cli.specs.Asking.{OpensAndWrites}
 use Rattle.ledger_cli.specs.Endings.{ending_of_opening, line_of, refusal_of}
-use Rattle.ledger_cli.specs.Runs.{Handed, handed, FaultsBy, HasNone, LeaveFoundedOrShut, Exports, IsNotOpened, NotaryFailsBy, SettledAsRead, StayAsRead, IsUnstarted, IsRefused, IsMadeOf, RunsAgain, RunsNew, Makes, ledger_line, Runs}
+use Rattle.ledger_cli.specs.Runs.{Handed, handed, Anything, FaultsBy, HasNone, LeaveFoundedOrShut, Exports, IsNotOpened, NotaryFailsBy, SettledAsRead, StayAsRead, IsUnstarted, IsRefused, IsMadeOf, RunsAgain, RunsNew, Makes, ledger_line, Runs}
 use Rattle.ledger_cli.specs.declared.ending.LedgerEnding.{LedgerEnding}
 use Rattle.ledger_cli.specs.declared.ending.LedgerEnding.TheVariants.{Run}
 use Rattle.ledger_bytes.specs.Digests.{digest}
@@ -83,13 +83,13 @@ module _ (scheme : Scheme) (tells : Bool) (source : SourceState) (sink : SinkSta
   stood h p (inl both) = inl (stay both)
   stood h p (inr each) = inr (each h p)
 
-  pub not_opened : (e : OpenErr) → e ≢ open_err.Exists → (IsTrue tells → IsOpenErr old.a.bytes.seen old.b.bytes.seen e)
+  pub not_opened : (IsSo : History → History → Type 0) (e : OpenErr) → e ≢ open_err.Exists → (IsTrue tells → IsOpenErr old.a.bytes.seen old.b.bytes.seen e)
       → (e ≢ open_err.DiskFault → IsTrue tells → (now.a.bytes ≡ settled_state old.a.bytes.seen) × (now.b.bytes ≡ settled_state old.b.bytes.seen))
       → (IsTrue tells → (f : OpenErr) → (IsOutside f → ⊥) → IsOpenErr old.a.bytes.seen old.b.bytes.seen f → StandsAsRead old.a.bytes now.a.bytes × StandsAsRead old.b.bytes now.b.bytes)
       → (IsTrue tells → StandsAsRead old.a.bytes now.a.bytes × StandsAsRead old.b.bytes now.b.bytes ⊎ ((h : History) → PairFor old.a.bytes.seen old.b.bytes.seen h → EachStands h))
       → (IsTrue tells → IsSettled old.a.bytes → IsSettled old.b.bytes → (h : History) → IsCleanPair old.a.bytes.seen old.b.bytes.seen h → (now.a.bytes ≡ old.a.bytes) × (now.b.bytes ≡ old.b.bytes))
-      → CountsTwoErr e old.a.faults now.a.faults old.b.faults now.b.faults → RunsAgain scheme tells (ending_of_opening e) (handed source sink old n) (handed source sink now n)
-  not_opened open_err.DiskFault other err same kept images clean counts = record {
+      → CountsTwoErr e old.a.faults now.a.faults old.b.faults now.b.faults → RunsAgain scheme tells IsSo (ending_of_opening e) (handed source sink old n) (handed source sink now n)
+  not_opened IsSo open_err.DiskFault other err same kept images clean counts = record {
     serves = λ t h p l. inr (record { outside = inl refl; unstarted = unstarted; left = λ is. absurd (let no : ⊥ = cc is in no); images = stood h p (images t); clean = λ q. clean t q.a q.b h });
     unstarted = λ some. unstarted;
     refused = λ t. tt;
@@ -99,7 +99,7 @@ module _ (scheme : Scheme) (tells : Bool) (source : SourceState) (sink : SinkSta
     faults = counts_ended source sink n old now open_err.DiskFault counts;
     failures = fails_unread source n;
   }
-  not_opened open_err.NoMemory other err same kept images clean counts = record {
+  not_opened IsSo open_err.NoMemory other err same kept images clean counts = record {
     serves = λ t h p l. inr (record { outside = inr refl; unstarted = unstarted; left = λ is. let now_is = same (λ no. let none : ⊥ = cc no in none) t in record { a = inr now_is.0; b = inr now_is.1 }; images = stood h p (images t); clean = λ q. clean t q.a q.b h });
     unstarted = λ some. unstarted;
     refused = λ t. tt;
@@ -109,7 +109,7 @@ module _ (scheme : Scheme) (tells : Bool) (source : SourceState) (sink : SinkSta
     faults = counts_ended source sink n old now open_err.NoMemory counts;
     failures = fails_unread source n;
   }
-  not_opened (open_err.Damaged damage) other err same kept images clean counts = record {
+  not_opened IsSo (open_err.Damaged damage) other err same kept images clean counts = record {
     serves = λ t h p l. absurd (pair_opens old.a.bytes.seen old.b.bytes.seen h p (open_err.Damaged damage) (err t));
     unstarted = λ some. unstarted;
     refused = refusal (same (λ is. let no : ⊥ = cc is in no)) (open_err.Damaged damage) err;
@@ -119,7 +119,7 @@ module _ (scheme : Scheme) (tells : Bool) (source : SourceState) (sink : SinkSta
     faults = counts_ended source sink n old now (open_err.Damaged damage) counts;
     failures = fails_unread source n;
   }
-  not_opened open_err.Empty other err same kept images clean counts = record {
+  not_opened IsSo open_err.Empty other err same kept images clean counts = record {
     serves = λ t h p l. absurd (pair_opens old.a.bytes.seen old.b.bytes.seen h p open_err.Empty (err t));
     unstarted = λ some. unstarted;
     refused = refusal (same (λ is. let no : ⊥ = cc is in no)) open_err.Empty err;
@@ -129,7 +129,7 @@ module _ (scheme : Scheme) (tells : Bool) (source : SourceState) (sink : SinkSta
     faults = counts_ended source sink n old now open_err.Empty counts;
     failures = fails_unread source n;
   }
-  not_opened open_err.Exists other err same kept images clean counts = record {
+  not_opened IsSo open_err.Exists other err same kept images clean counts = record {
     serves = λ t h p l. absurd (err t);
     unstarted = λ some. unstarted;
     refused = refusal (same (λ is. let no : ⊥ = cc is in no)) open_err.Exists err;
@@ -139,7 +139,7 @@ module _ (scheme : Scheme) (tells : Bool) (source : SourceState) (sink : SinkSta
     faults = counts_ended source sink n old now open_err.Exists counts;
     failures = fails_unread source n;
   }
-  not_opened (open_err.NewerFormat found) other err same kept images clean counts = record {
+  not_opened IsSo (open_err.NewerFormat found) other err same kept images clean counts = record {
     serves = λ t h p l. absurd (pair_opens old.a.bytes.seen old.b.bytes.seen h p (open_err.NewerFormat found) (err t));
     unstarted = λ some. unstarted;
     refused = refusal (same (λ is. let no : ⊥ = cc is in no)) (open_err.NewerFormat found) err;
@@ -183,7 +183,7 @@ module _ (scheme : Scheme) (tells : Bool) (source : SourceState) (sink : SinkSta
     serves = λ t h p. inr (not_read e err same images clean t h p);
     unread = refl;
     asked = record { entries = refl; origin = refl };
-    exact = (not_opened e other err same kept images clean counts).exact;
+    exact = (not_opened Anything e other err same kept images clean counts).exact;
     faults = counts_ended source sink n old now e counts;
     notary_fails = notary_same e;
   }
@@ -198,14 +198,14 @@ module _ (scheme : Scheme) (tells : Bool) (source : SourceState) (sink : SinkSta
       → OpensAndWrites IsText HasCause tells (ending_of_opening e) (handed source sink old n) (handed source sink now n)
   not_written IsText HasCause e other err same kept images clean counts = record {
     serves = λ t h p. inr (not_read e err same images clean t h p);
-    exact = (not_opened e other err same kept images clean counts).exact;
+    exact = (not_opened Anything e other err same kept images clean counts).exact;
     faults = counts_ended source sink n old now e counts;
   }
 
   -- nothing was done for want of memory
-  pub again_unstarted : now ≡ old → RunsAgain scheme tells (Run run.NoMemory) (handed source sink old n) (handed source sink now n)
-  again_unstarted is =
-      subst (λ (d : Pair). RunsAgain scheme tells (Run run.NoMemory) (handed source sink old n) (handed source sink d n)) (sym is) (record {
+  pub again_unstarted : (IsSo : History → History → Type 0) → now ≡ old → RunsAgain scheme tells IsSo (Run run.NoMemory) (handed source sink old n) (handed source sink now n)
+  again_unstarted IsSo is =
+      subst (λ (d : Pair). RunsAgain scheme tells IsSo (Run run.NoMemory) (handed source sink old n) (handed source sink d n)) (sym is) (record {
         serves = λ t h p l. inr (record { outside = inr refl; unstarted = record { unread = refl; unwritten = refl; unasked = refl }; left = λ is. record { a = inl refl; b = inl refl }; images = inl (record { a = inl refl; b = inl refl }); clean = λ q c. (refl, refl) });
         unstarted = λ some. record { unread = refl; unwritten = refl; unasked = refl };
         refused = λ t. tt;
@@ -246,11 +246,11 @@ module _ (scheme : Scheme) (tells : Bool) (source : SourceState) (sink : SinkSta
     pub begins_none : kept.dues ≡ []
     begins_none = ap (λ (x : CommitterState). x.dues) kept_is
 
-    pub ran_again : (limits : k.book.limits ≡ real_limits) (r : IsTrue tells → IsReopened in_a k start blocks old.a.bytes old.b.bytes now.a.bytes now.b.bytes) (a : now.a.faults ≡ old.a.faults) (b : now.b.faults ≡ old.b.faults)
-        (ending : LedgerEnding) (last : Handed) → Runs scheme tells (world kept now sink) ending (handed source sink now n) last → refusal_of ending ≡ None → RunsAgain scheme tells ending (handed source sink old n) last
-    ran_again limits r a b ending last ran started = record {
+    pub ran_again : (IsSo : History → History → Type 0) (limits : k.book.limits ≡ real_limits) (r : IsTrue tells → IsReopened in_a k start blocks old.a.bytes old.b.bytes now.a.bytes now.b.bytes) (a : now.a.faults ≡ old.a.faults) (b : now.b.faults ≡ old.b.faults)
+        (ending : LedgerEnding) (last : Handed) → Runs scheme tells (world kept now sink) IsSo ending (handed source sink now n) last → refusal_of ending ≡ None → RunsAgain scheme tells IsSo ending (handed source sink old n) last
+    ran_again IsSo limits r a b ending last ran started = record {
       serves = λ t h p l.
-          inl (serves_from scheme h ending source sink n now old last
+          inl (serves_from scheme h (IsSo h) ending source sink n now old last
           (ran.serves h (subst (λ (x : CommitterState). Holds tells (world x now sink) h) (sym kept_is) (opened_held tells k in_a generation start blocks old.a.bytes old.b.bytes now sink h opened limits t (r t) p)) (none_waits old.a.bytes.seen old.b.bytes.seen h p) l));
       unstarted = λ some. absurd (no_refusal ending started some);
       refused = λ t. of_lines ending _ started;
@@ -446,10 +446,10 @@ module _ (genesis : Genesis) (tells : Bool) (source : SourceState) (sink : SinkS
       pub new_none : kept.dues ≡ []
       new_none = ap (λ (x : CommitterState). x.dues) here
 
-      pub ran_new : (scheme : Scheme) (limits : k.book.limits ≡ real_limits) (ending : LedgerEnding) (last : Handed) → Runs scheme tells (world kept now sink) ending (handed source sink now n) last → refusal_of ending ≡ None → RunsNew scheme genesis tells ending (handed source sink old n) last
+      pub ran_new : (scheme : Scheme) (limits : k.book.limits ≡ real_limits) (ending : LedgerEnding) (last : Handed) → Runs scheme tells (world kept now sink) Anything ending (handed source sink now n) last → refusal_of ending ≡ None → RunsNew scheme genesis tells ending (handed source sink old n) last
       ran_new scheme limits ending last ran started = record {
         serves = λ t none l.
-            inl (serves_from scheme (new_ledger genesis) ending source sink n now old last
+            inl (serves_from scheme (new_ledger genesis) (Anything (new_ledger genesis)) ending source sink n now old last
             (ran.serves (new_ledger genesis) (subst (λ (x : CommitterState). Holds tells (world x now sink) (new_ledger genesis)) (sym here) (founded_held tells k genesis now sink keys opened limits t (founded t))) refl l));
         unstarted = λ some. absurd (no_refusal ending started some);
         only = of_lines ending _ started;

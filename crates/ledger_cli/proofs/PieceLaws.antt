@@ -1,10 +1,10 @@
 -- Lemmas on the lines of a piece, as they are offered to a committer.
-use Rattle.std.specs.Prelude.{◌||◌}
+use Rattle.std.specs.Prelude.{◌||◌, All}
 use Rattle.std.specs.Option.{option_map}
 use Rattle.std.proofs.Common.{◌≡◌, ℕ, ◌+◌, ◌≤◌, ◌⊎◌, Bool, true, cond, List, [], ◌∷◌, ◌++◌, length, drop, map, Option, None, Some, inl, inr, refl, ap, sym, subst, ◌∙◌, arith, append_assoc, append-nil, length-append}
 use Rattle.std.proofs.lemmas.List.{map-append}
 use Rattle.batch_committer.specs.Attending.{step_in, Attended, FailsAtMostOnce, TakesJob, EndsAt, EndsUnasked, EndsTaking}
-use Rattle.batch_committer.specs.World.{Keeps, Holds, HasRoom, Goes, EndsOnTheWay}
+use Rattle.batch_committer.specs.World.{World, Keeps, Holds, HasRoom, Goes, EndsOnTheWay}
 use Rattle.batch_committer.specs.declared.failure.CommitErr.{CommitErr}
 use Rattle.batch_committer.specs.declared.failure.CommitErr.TheVariants as end
 use Rattle.batch_committer.proofs.Ending.{no_memory}
@@ -43,7 +43,11 @@ use Rattle.ledger_model.proofs.PreparedLaws.{after_items, dues_of_items, id_kept
 use Rattle.ledger_model.proofs.TookLaws.{took_then}
 use Rattle.ledger_cli.specs.Failures.{FailsIn}
 use Rattle.ledger_cli.proofs.FailureLaws.{fails_none, fails_once, fails_then, fails_wider, order_few}
-use Rattle.ledger_cli.specs.Pieces.{At, world_at, IsOpen, TakesPiece, Told, Answered, PieceTaken, PieceBroken, WindowTaken, WindowBroken}
+use Rattle.ledger_book.specs.Books.{Kept, Serves}
+use Rattle.ledger_model.specs.Lawful.{IsBlock}
+use Rattle.ledger_cli.specs.Boards.{Posted, IsFollowed, IsNextTo}
+use Rattle.ledger_cli.proofs.NextLaws.{next_job, next_close}
+use Rattle.ledger_cli.specs.Pieces.{At, world_at, GoesAlong, FollowsAlong, IsOpen, TakesPiece, Told, Answered, PieceTaken, PieceBroken, WindowTaken, WindowBroken}
 
 -- ---- a chain of values is one of what they tell
 
@@ -55,6 +59,13 @@ module _ {S X W : Type 0} (tell : S → W) (step : W → X → Flow → W → Ty
 
   seen_stops : (s : S) (xs : List X) (t : S) → Stops (λ s x f t. step (tell s) x f (tell t)) s xs t → Stops step (tell s) xs (tell t)
   seen_stops s xs t g = record { front = g.front; last = g.last; rest = g.rest; split = g.split; mid = tell g.mid; goes = seen_goes s g.front g.mid g.goes; stops = g.stops }
+
+-- ---- a look of the board
+
+pub goes_along : (tells : Bool) (w : World) (old new : Option Posted) (book : Kept) → book ≡ w.kept.book
+    → ((first : ℕ) (h g : History) → Serves book g → All IsBlock g.closed → IsNextTo h g → IsFollowed first h old → IsFollowed first g new)
+    → (first : ℕ) (h g : History) → Holds tells w g → IsNextTo h g → IsFollowed first h old → IsFollowed first g new
+goes_along tells w old new book is look first h g p next f = look first h g (subst (λ (k : Kept). Serves k g) (sym is) p.keeps.serves) p.disks.erased.lawful.blocks_are next f
 
 -- ---- jobs, on the ledger with an id
 
@@ -170,6 +181,7 @@ module _ (scheme : Scheme) (key : List ℕ) (tells : Bool) where
     steps : List Step
     said : map said_by steps ≡ xs
     goes : Goes tells (world_at s.at) (jobs_after steps) (jobs_due steps) (world_at t.at)
+    follows : FollowsAlong tells s.at (jobs_after steps) t.at
     took : (h : History) → Holds tells (world_at s.at) h → IsKnown key h → Took scheme h s.at.notary steps t.at.notary
     fails : FailsIn (length xs) s.at.notary t.at.notary
     still : IsOpen tells t.at
@@ -185,17 +197,20 @@ module _ (scheme : Scheme) (key : List ℕ) (tells : Bool) where
 
   chain_goes : (s : Told) (xs : List Said) (t : Told) → IsOpen tells s.at → lanes.Goes (OffersLine scheme key (Answered tells)) s xs t → Came s xs t
   unfolding lanes.Goes
-  chain_goes s [] t open_ g = subst (Came s []) (sym g) (record { names = refl; end = refl; steps = []; said = refl; goes = goes_same tells (world_at s.at); took = λ h p k. refl; fails = fails_none s.at.notary; still = open_ })
+  chain_goes s [] t open_ g = subst (Came s []) (sym g) (record { names = refl; end = refl; steps = []; said = refl; goes = goes_same tells (world_at s.at); follows = λ first h p f. f; took = λ h p k. refl; fails = fails_none s.at.notary; still = open_ })
   chain_goes s (x ∷ xs) t open_ g =
       let m = g.0 in
       let o = g.1 in
       let more = chain_goes m xs t o.2.2 g.2 in
-      let one = item_goes s.at m.at x o.0 o.1 o.2.4 in record {
+      let one = item_goes s.at m.at x o.0 o.1 o.2.5 in record {
         names = more.names ∙ o.2.0;
         end = more.end ∙ o.2.1;
         steps = one.step ∷ more.steps;
         said = ap (λ (y : Said). y ∷ map said_by more.steps) one.said ∙ ap (λ (l : List Said). x ∷ l) more.said;
         goes = goes_then tells (world_at s.at) (world_at m.at) (world_at t.at) (jobs_after (one.step ∷ [])) (jobs_after more.steps) (jobs_due (one.step ∷ [])) (jobs_due more.steps) one.goes more.goes;
+        follows = λ first h p f.
+            let next = jobs_after (one.step ∷ []) h in
+            more.follows first next (one.goes.holds h p) (o.2.4 first h next (one.goes.holds h p) (next_job h one.step (job_of scheme key one.step.line)) f);
         took = λ h p k.
             let a = one.attended h p in
             took_on h s.at.notary m.at.notary t.at.notary one.step more.steps k one.before a.0 a.1
@@ -334,6 +349,7 @@ module _ {S : Type 0} (tell : S → Told) (scheme : Scheme) (key : List ℕ) (te
       steps = c.steps;
       is_order = subst (λ (l : List Said). IsOrderOf first lines l) (sym c.said) is;
       goes = steps_go scheme key tells (tell s).at key_is open_.room c.steps (tell t).at c.goes;
+      follows = λ first h p f. subst (λ (g : History). IsFollowed first g (tell t).at.board) (steps_as scheme key tells c.steps h (known scheme key tells (tell s).at key_is open_.room h p)) (c.follows first h p f);
       took = λ h p. c.took h p (known scheme key tells (tell s).at key_is open_.room h p);
       fails = fails_wider (length order) (length lines) (tell s).at.notary (tell t).at.notary (order_few first lines order is) c.fails;
     },
@@ -434,6 +450,7 @@ piece_empty scheme tells first lines s none = record {
   steps = [];
   is_order = λ k. sym (ap (λ (ls : List LaneLine). numbered (slice_index first k) (lines_of k ls)) none);
   goes = goes_same tells (world_at s);
+  follows = λ first h p f. f;
   took = λ h p. refl;
   fails = fails_wider 0 (length lines) s.notary s.notary (omega arith) (fails_none s.notary);
 }
@@ -445,14 +462,17 @@ module _ (scheme : Scheme) (tells : Bool) (first : List ℕ) (lines : List LaneL
   fails_same : FailsIn (length lines) s.notary t.notary
   fails_same = subst (FailsIn (length lines) s.notary) (sym same) x.fails
 
-  pub window_taken : Goes tells (world_at m) close (λ h. []) (world_at t) → WindowTaken scheme tells first lines s t
-  window_taken f = record {
+  pub window_taken : Goes tells (world_at m) close (λ h. []) (world_at t) → GoesAlong tells m t → WindowTaken scheme tells first lines s t
+  window_taken f along = record {
     steps = x.steps;
     is_order = x.is_order;
     goes =
         goes_as tells (world_at s) (world_at t) (λ h. close (after_steps scheme h x.steps)) (λ h. close (after_steps scheme h x.steps)) (λ h. dues scheme h x.steps ++ []) (λ h. dues scheme h x.steps)
         (λ h p. refl) (λ h p. append-nil (dues scheme h x.steps))
         (goes_then tells (world_at s) (world_at m) (world_at t) (λ h. after_steps scheme h x.steps) close (λ h. dues scheme h x.steps) (λ h. []) x.goes f);
+    follows = λ start h p k.
+        let last = after_steps scheme h x.steps in
+        along start last (close last) (f.holds last (x.goes.holds h p)) (next_close last) (x.follows start h p k);
     took = took_same;
     fails = fails_same;
   }

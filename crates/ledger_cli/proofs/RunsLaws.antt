@@ -34,11 +34,12 @@ use Rattle.ledger_model.specs.Texts.{text}
 use Rattle.ledger_model.specs.Took.{Took}
 use Rattle.ledger_model.specs.Windows.{Said, said_lines, windows, numbered_line, count_of, line_bytes, fills_window}
 use Rattle.ledger_model.specs.declared.job.Job.TheVariants.{Anchor}
-use Rattle.ledger_model.proofs.GrowLaws.{grows_not}
+use Rattle.ledger_model.proofs.GrowLaws.{close_none, grows_not}
 use Rattle.ledger_model.proofs.LaneLaws.{said_after-append}
 use Rattle.ledger_model.proofs.WindowLaws.{IsCut, cut_none, cut_more, cut_whole, line_bytes-push}
 use Rattle.ledger_cli.specs.Endings.{ending_of_end}
-use Rattle.ledger_cli.specs.Pieces.{At, world_at, EndsThere, EndsAtAnchor, EndsBehind, PieceTaken, PieceBroken, WindowTaken, WindowBroken}
+use Rattle.ledger_cli.specs.Boards.{Posted, HasFollowed, IsFollowed, is_lacking}
+use Rattle.ledger_cli.specs.Pieces.{At, world_at, FollowsAlong, EndsThere, EndsAtAnchor, EndsBehind, PieceTaken, PieceBroken, WindowTaken, WindowBroken}
 use Rattle.ledger_cli.specs.Runs.{handed, StopsOn, Runs}
 use Rattle.ledger_cli.specs.Taken.{taken}
 use Rattle.ledger_cli.specs.declared.ending.LedgerEnding.TheVariants.{Run}
@@ -132,7 +133,7 @@ count_few j (l ∷ ls) =
 
 -- These lines were given. Whole windows were taken, of the window at hand some lines, each in some order, and the others wait. The
 -- notary took part in all steps so far.
-pub record SoFar (scheme : Scheme) (tells : Bool) (first_w w : World) (first_n n : NotaryState) (before now : SourceState) (reading : Reading) (first next : List ℕ) (piece : List LaneLine) (lines bytes : ℕ) : Type 0 where
+pub record SoFar (scheme : Scheme) (tells : Bool) (first_w w : World) (first_n n : NotaryState) (first_b b : Option Posted) (before now : SourceState) (reading : Reading) (first next : List ℕ) (piece : List LaneLine) (lines bytes : ℕ) : Type 0 where
   pub script : List (List ℕ)
   pub input : HasGiven before now reading script
   pub windows_are : List (List Said)
@@ -149,16 +150,18 @@ pub record SoFar (scheme : Scheme) (tells : Bool) (first_w w : World) (first_n n
   pub few : length piece ≤ lines
   pub goes : Goes tells first_w (reached scheme done current) (owed scheme done current) w
   pub took : (h : History) → Holds tells first_w h → TookOn scheme h first_n done current n
+  -- the board, where there is one, follows where this came to
+  pub follows : (number : ℕ) (h : History) → Holds tells first_w h → IsFollowed number h first_b → IsFollowed number (reached scheme done current h) b
   -- how many lines were taken, at each of which the notary failed once at most
   pub tried : ℕ
   pub tried_are : tried + length piece ≤ length script
   pub fails : FailsIn tried first_n n
 
-pub sofar_begins : (scheme : Scheme) (tells : Bool) (w : World) (n : NotaryState) (before : SourceState) (reading : Reading) (first next : List ℕ) (piece : List LaneLine) (lines bytes : ℕ)
+pub sofar_begins : (scheme : Scheme) (tells : Bool) (w : World) (n : NotaryState) (b : Option Posted) (before : SourceState) (reading : Reading) (first next : List ℕ) (piece : List LaneLine) (lines bytes : ℕ)
     → reading ≡ record { held = []; total = 0; ended = false; failed = None } → piece ≡ [] → ((k : ℕ) → k < 8 → slice_index first k ≡ 1) → ((k : ℕ) → k < 8 → slice_index next k ≡ 1) → lines ≡ 0 → bytes ≡ 0
-    → SoFar scheme tells w w n n before before reading first next piece lines bytes
+    → SoFar scheme tells w w n n b b before before reading first next piece lines bytes
 unfolding numbered
-sofar_begins scheme tells w n before reading first next piece lines bytes is none f m lines_are bytes_are = record {
+sofar_begins scheme tells w n b before reading first next piece lines bytes is none f m lines_are bytes_are = record {
   script = [];
   input = read_none before reading is;
   windows_are = [];
@@ -179,6 +182,7 @@ sofar_begins scheme tells w n before reading first next piece lines bytes is non
   few = let e = ap length none in omega (arith, e);
   goes = goes_same tells w;
   took = λ h p. took_none scheme h n;
+  follows = λ number h p f. f;
   tried = 0;
   tried_are = let e = ap length none in omega (arith, e);
   fails = fails_none n;
@@ -287,17 +291,17 @@ stop_as scheme h part disks first_n n why lines IsSo so a =
       so a.0 a.2,
     )
 
-pub halt : (scheme : Scheme) (tells : Bool) (first_w : World) (first_n n : NotaryState) (before now : SourceState) (reading : Reading) (script : List (List ℕ)) (input : HasGiven before now reading script) (done : List (List Step)) (current : List Step)
+pub halt : (scheme : Scheme) (tells : Bool) (IsSo : History → History → Type 0) (first_w : World) (first_n n : NotaryState) (before now : SourceState) (reading : Reading) (script : List (List ℕ)) (input : HasGiven before now reading script) (done : List (List Step)) (current : List Step)
     → ((h : History) → Holds tells first_w h → TookOn scheme h first_n done current n)
     → HasRoom first_w.kept → first_w.kept.dues ≡ [] → (rest : List Said) (why : CommitErr) (t : World) (x : Halts scheme tells first_w n done current rest why t) → CanGoOn n script done (current ++ x.behind) → FailsIn (length script) first_n n
-    → Runs scheme tells first_w (ending_of_end why) (handed before first_w.sink first_w.disks first_n) (handed now t.sink t.disks n)
-halt scheme tells first_w first_n n before now reading script input done current took room no_dues rest why t x can fails =
+    → Runs scheme tells first_w IsSo (ending_of_end why) (handed before first_w.sink first_w.disks first_n) (handed now t.sink t.disks n)
+halt scheme tells IsSo first_w first_n n before now reading script input done current took room no_dues rest why t x can fails =
     let all = x.ended in record {
       serves = λ h p none list.
           let stop = stopped scheme tells first_w h p room none no_dues first_n list script (few_lines before now reading script input) done current n rest why t x can (took h p) in
           let here = stop [] in
-          serve_stop scheme h why first_w t before now first_n n all.part input.read all.cause input.consumed all.appended here.0 here.2
-          (λ IsSo so. some_of_given (StopsOn scheme h all.part t.disks first_n n (CleanBy why h all.part) IsSo) before now reading script input IsSo (λ tail. stop_as scheme h all.part t.disks first_n n why (script ++ tail) IsSo so (stop tail)));
+          serve_stop scheme h (IsSo h) why first_w t before now first_n n all.part input.read all.cause input.consumed all.appended here.0 here.2
+          (λ IsText so. some_of_given (StopsOn scheme h all.part t.disks first_n n (CleanBy why h all.part) IsText) before now reading script input IsText (λ tail. stop_as scheme h all.part t.disks first_n n why (script ++ tail) IsText so (stop tail)));
       ends = reads_stop why before now;
       faults = faults_stop why first_w t before now first_n n (inl input.faults) all.cause;
       failures = fails_read before now first_n n (length script) input.read input.consumed (given_few before now reading script input) fails;
@@ -318,8 +322,8 @@ lacking scheme tells first_w w done current g =
     ended_as tells first_w w (reached scheme done current) (reached scheme done current) (λ h. owed scheme done current h ++ []) (owed scheme done current) end.NoMemory (λ h p. refl) (λ h p. append-nil (owed scheme done current h))
     (ended_then tells first_w w w (reached scheme done current) (λ h. h) (owed scheme done current) (λ h. []) end.NoMemory g (no_memory tells w w.kept (λ h. h) (λ h. []) (λ h p. grows_not h)))
 
-module _ (scheme : Scheme) (tells : Bool) (first_w w : World) (first_n n : NotaryState) (before now : SourceState) (reading : Reading) (first next : List ℕ) (piece : List LaneLine) (lines window_bytes : ℕ)
-    (room : HasRoom first_w.kept) (no_dues : first_w.kept.dues ≡ []) (s : SoFar scheme tells first_w w first_n n before now reading first next piece lines window_bytes) where
+module _ (scheme : Scheme) (tells : Bool) (first_w w : World) (first_n n : NotaryState) (first_b b : Option Posted) (before now : SourceState) (reading : Reading) (first next : List ℕ) (piece : List LaneLine) (lines window_bytes : ℕ)
+    (room : HasRoom first_w.kept) (no_dues : first_w.kept.dues ≡ []) (s : SoFar scheme tells first_w w first_n n first_b b before now reading first next piece lines window_bytes) where
   -- nothing more is done for want of memory
   lacks_here : Halts scheme tells first_w n s.done s.current s.late end.NoMemory w
   lacks_here = halts_there scheme tells first_w n s.done s.current s.late end.NoMemory w (lacking scheme tells first_w w s.done s.current s.goes)
@@ -345,12 +349,30 @@ module _ (scheme : Scheme) (tells : Bool) (first_w w : World) (first_n n : Notar
     fails_all : (t : At) → FailsIn (length piece) held.notary t.notary → FailsIn (length s.script) first_n t.notary
     fails_all t f = fails_wider (s.tried + length piece) (length s.script) first_n t.notary s.tried_are (fails_to t (length piece) f)
 
+  -- the board went along with lines that are taken
+  module _ (held t : At) (same : world_at held ≡ w) (same_b : held.board ≡ b) where
+    board_there : (number : ℕ) (h : History) → Holds tells first_w h → IsFollowed number h first_b → IsFollowed number (reached scheme s.done s.current h) held.board
+    board_there number h p f = subst (IsFollowed number (reached scheme s.done s.current h)) (sym same_b) (s.follows number h p f)
+
+    held_there : (h : History) → Holds tells first_w h → Holds tells (world_at held) (reached scheme s.done s.current h)
+    held_there h p = subst (λ (x : World). Holds tells x (reached scheme s.done s.current h)) (sym same) (s.goes.holds h p)
+
+    follow_on : (steps : List Step) → FollowsAlong tells held (λ h. after_steps scheme h steps) t → (number : ℕ) (h : History) → Holds tells first_w h → IsFollowed number h first_b → IsFollowed number (reached scheme s.done (s.current ++ steps) h) t.board
+    follow_on steps x number h p f =
+        subst (λ (g : History). IsFollowed number g t.board) (reach_on scheme h s.done s.current steps)
+        (x number (reached scheme s.done s.current h) (held_there h p) (board_there number h p f))
+
+    follow_end : (steps : List Step) → FollowsAlong tells held (λ h. close (after_steps scheme h steps)) t → (number : ℕ) (h : History) → Holds tells first_w h → IsFollowed number h first_b → IsFollowed number (close (reached scheme s.done (s.current ++ steps) h)) t.board
+    follow_end steps x number h p f =
+        subst (λ (g : History). IsFollowed number (close g) t.board) (reach_on scheme h s.done s.current steps)
+        (x number (reached scheme s.done s.current h) (held_there h p) (board_there number h p f))
+
   -- ---- a piece
 
   -- its lines were taken
-  pub sofar_taken : (held : At) (t : At) (new_first new_next : List ℕ) (new_piece : List LaneLine) → world_at held ≡ w → held.notary ≡ n → PieceTaken scheme tells first piece held t → new_piece ≡ [] → new_first ≡ next → new_next ≡ next
-      → SoFar scheme tells first_w (world_at t) first_n t.notary before now reading new_first new_next new_piece lines window_bytes
-  sofar_taken held t new_first new_next new_piece same same_n x none f g = record {
+  pub sofar_taken : (held : At) (t : At) (new_first new_next : List ℕ) (new_piece : List LaneLine) → world_at held ≡ w → held.notary ≡ n → held.board ≡ b → PieceTaken scheme tells first piece held t → new_piece ≡ [] → new_first ≡ next → new_next ≡ next
+      → SoFar scheme tells first_w (world_at t) first_n t.notary first_b t.board before now reading new_first new_next new_piece lines window_bytes
+  sofar_taken held t new_first new_next new_piece same same_n same_b x none f g = record {
     script = s.script;
     input = s.input;
     windows_are = s.windows_are;
@@ -367,19 +389,20 @@ module _ (scheme : Scheme) (tells : Bool) (first_w w : World) (first_n n : Notar
     few = let e = ap length none in omega (arith, e);
     goes = go_on scheme tells first_w (world_at held) (world_at t) s.done s.current x.steps (goes_here held same same_n) x.goes;
     took = take_on scheme tells first_w (world_at held) first_n held.notary t.notary s.done s.current x.steps (goes_here held same same_n) (took_here held same same_n) x.took;
+    follows = follow_on held t same same_b x.steps x.follows;
     tried = s.tried + length piece;
     tried_are = let e = ap length none in let l = s.tried_are in omega (arith, e, l);
     fails = fails_to held same same_n t (length piece) x.fails;
   }
 
   -- .. or the run ended on the way
-  pub ran_broken : (held t : At) (why : CommitErr) → world_at held ≡ w → held.notary ≡ n → PieceBroken scheme tells first piece why held t
-      → Runs scheme tells first_w (ending_of_end why) (handed before first_w.sink first_w.disks first_n) (handed now t.sink t.disks t.notary)
-  ran_broken held t why same same_n x =
+  pub ran_broken : (IsSo : History → History → Type 0) (held t : At) (why : CommitErr) → world_at held ≡ w → held.notary ≡ n → PieceBroken scheme tells first piece why held t
+      → Runs scheme tells first_w IsSo (ending_of_end why) (handed before first_w.sink first_w.disks first_n) (handed now t.sink t.disks t.notary)
+  ran_broken IsSo held t why same same_n x =
       let taken = late_taken first next piece s.script s.late (map said_by x.steps ++ x.rest) s.are_late x.is_order in
       let broken = break_on scheme tells first_w (world_at held) (world_at t) s.done s.current x.steps (goes_here held same same_n) t.notary x.rest why x.ended in
       let order = with_rest s.front s.late s.current x.steps x.rest s.order taken in
-      halt scheme tells first_w first_n t.notary before now reading s.script s.input s.done (s.current ++ x.steps)
+      halt scheme tells IsSo first_w first_n t.notary before now reading s.script s.input s.done (s.current ++ x.steps)
       (take_on scheme tells first_w (world_at held) first_n held.notary t.notary s.done s.current x.steps (goes_here held same same_n) (took_here held same same_n) x.took)
       room no_dues x.rest why (world_at t) broken
       (part_open t.notary s.script s.windows_are s.front s.done ((s.current ++ x.steps) ++ broken.behind) broken.later s.cut s.merge (with_behind s.front (s.current ++ x.steps) broken.behind x.rest broken.later broken.split order)) (fails_all held same same_n t x.fails)
@@ -406,7 +429,7 @@ module _ (scheme : Scheme) (tells : Bool) (first_w w : World) (first_n n : Notar
 
     -- ---- reading ended
 
-    module _ (end : Option LineErr) (e : EndsReading end before after_read read s.script) (held : At) (same : world_at held ≡ w) (same_n : held.notary ≡ n) where
+    module _ (end : Option LineErr) (e : EndsReading end before after_read read s.script) (held : At) (same : world_at held ≡ w) (same_n : held.notary ≡ n) (same_b : held.board ≡ b) where
       here : Goes tells first_w (reached scheme s.done s.current) (owed scheme s.done s.current) (world_at held)
       here = goes_here held same same_n
 
@@ -420,14 +443,16 @@ module _ (scheme : Scheme) (tells : Bool) (first_w w : World) (first_n n : Notar
       last_order steps o = with_order s.front s.late s.current steps s.order (late_taken first next piece s.script s.late (map said_by steps) s.are_late o)
 
       -- .. and the last lines were taken, and the last block ended
-      pub ran_whole : (t : At) → WindowTaken scheme tells first piece held t → t.held.kept.dues ≡ [] → Runs scheme tells first_w (Run (ending_after end)) (handed before first_w.sink first_w.disks first_n) (handed after_read t.sink t.disks t.notary)
-      ran_whole t x no_more =
+      pub ran_whole : (t : At) → WindowTaken scheme tells first piece held t → t.held.kept.dues ≡ [] → is_lacking t.board ≡ false → Runs scheme tells first_w (HasFollowed first_b t.board) (Run (ending_after end)) (handed before first_w.sink first_w.disks first_n) (handed after_read t.sink t.disks t.notary)
+      ran_whole t x no_more none_lacks =
           let now_taken = s.current ++ x.steps in
           let all = whole_end t x in record {
             serves = λ h p none list.
-                serve_end scheme h end first_w (world_at t) before after_read first_n t.notary all.sofar read s.script all.no_fault.sink consumed all.appended e
+                serve_end scheme h (HasFollowed first_b t.board h) end first_w (world_at t) before after_read first_n t.notary all.sofar read s.script all.no_fault.sink consumed all.appended e
                 (answered scheme tells first_w h p room none no_dues first_n list s.script few_here s.done now_taken t.notary (last_merge s.script s.windows_are s.front s.done now_taken s.cut s.merge (last_order x.steps x.is_order))
-                (take_on scheme tells first_w (world_at held) first_n held.notary t.notary s.done s.current x.steps here there x.took h p) (world_at t) all no_more);
+                (take_on scheme tells first_w (world_at held) first_n held.notary t.notary s.done s.current x.steps here there x.took h p) (world_at t) all no_more
+                (HasFollowed first_b t.board h)
+                (record { follows = λ number f. follow_end held t same same_b x.steps x.follows number h p f; none_waits = close_none (reached scheme s.done now_taken h); none_lacks = none_lacks }));
             ends = reads_end end before after_read read s.script consumed e;
             faults = faults_end end (handed before first_w.sink first_w.disks first_n) (handed after_read t.sink t.disks t.notary) read s.script e all.no_fault.a all.no_fault.b all.no_fault.sink;
             failures = failures_read t x.fails;
@@ -441,8 +466,8 @@ module _ (scheme : Scheme) (tells : Bool) (first_w w : World) (first_n n : Notar
               (goes_then tells first_w (world_at held) (world_at t) (reached scheme s.done s.current) (λ h. close (after_steps scheme h x.steps)) (owed scheme s.done s.current) (λ h. dues scheme h x.steps) here x.goes)
 
       -- .. or they weren't
-      pub ran_cut : (t : At) (why : CommitErr) → WindowBroken scheme tells first piece why held t → Runs scheme tells first_w (ending_of_end why) (handed before first_w.sink first_w.disks first_n) (handed after_read t.sink t.disks t.notary)
-      ran_cut t why (inl x) =
+      pub ran_cut : (IsSo : History → History → Type 0) (t : At) (why : CommitErr) → WindowBroken scheme tells first piece why held t → Runs scheme tells first_w IsSo (ending_of_end why) (handed before first_w.sink first_w.disks first_n) (handed after_read t.sink t.disks t.notary)
+      ran_cut IsSo t why (inl x) =
           let taken = late_taken first next piece s.script s.late (map said_by x.steps ++ x.rest) s.are_late x.is_order in
           let broken = break_on scheme tells first_w (world_at held) (world_at t) s.done s.current x.steps here t.notary x.rest why x.ended in
           let all = broken.ended in
@@ -452,13 +477,13 @@ module _ (scheme : Scheme) (tells : Bool) (first_w w : World) (first_n n : Notar
                 let stop = subst (λ l. SomeAnswer (StopsOn scheme h all.part t.disks first_n t.notary (CleanBy why h all.part) (SaidOf why all.part)) l (SaidOf why all.part)) (append-nil s.script)
                 (stopped scheme tells first_w h p room none no_dues first_n list s.script few_here s.done (s.current ++ x.steps) t.notary x.rest why (world_at t) broken can
                 (take_on scheme tells first_w (world_at held) first_n held.notary t.notary s.done s.current x.steps here there x.took h p) []) in
-                serve_stop scheme h why first_w (world_at t) before after_read first_n t.notary all.part read all.cause consumed all.appended stop.0 stop.2
-                (λ IsSo so. inr (end, s.script, e, stop_as scheme h all.part t.disks first_n t.notary why s.script IsSo so stop));
+                serve_stop scheme h (IsSo h) why first_w (world_at t) before after_read first_n t.notary all.part read all.cause consumed all.appended stop.0 stop.2
+                (λ IsText so. inr (end, s.script, e, stop_as scheme h all.part t.disks first_n t.notary why s.script IsText so stop));
             ends = reads_stop why before after_read;
             faults = faults_stop why first_w (world_at t) before after_read first_n t.notary (at_most_once end before after_read read s.script e) all.cause;
             failures = failures_read t x.fails;
           }
-      ran_cut t why (inr x) =
+      ran_cut IsSo t why (inr x) =
           let now_taken = s.current ++ x.steps in
           let all =
           ended_as tells first_w (world_at t) (λ h. close (after_steps scheme (reached scheme s.done s.current h) x.steps)) (λ k. close (reached scheme s.done (s.current ++ x.steps) k))
@@ -468,8 +493,8 @@ module _ (scheme : Scheme) (tells : Bool) (first_w w : World) (first_n n : Notar
             serves = λ h p none list.
                 let stop = stopped_last scheme tells first_w h p room none no_dues first_n list s.script few_here s.done now_taken t.notary (last_merge s.script s.windows_are s.front s.done now_taken s.cut s.merge (last_order x.steps x.is_order))
                 (take_on scheme tells first_w (world_at held) first_n held.notary t.notary s.done s.current x.steps here there x.took h p) why (world_at t) all in
-                serve_stop scheme h why first_w (world_at t) before after_read first_n t.notary all.part read all.cause consumed all.appended stop.0 stop.2
-                (λ IsSo so. inr (end, s.script, e, stop_as scheme h all.part t.disks first_n t.notary why s.script IsSo so stop));
+                serve_stop scheme h (IsSo h) why first_w (world_at t) before after_read first_n t.notary all.part read all.cause consumed all.appended stop.0 stop.2
+                (λ IsText so. inr (end, s.script, e, stop_as scheme h all.part t.disks first_n t.notary why s.script IsText so stop));
             ends = reads_stop why before after_read;
             faults = faults_stop why first_w (world_at t) before after_read first_n t.notary (at_most_once end before after_read read s.script e) all.cause;
             failures = failures_read t x.fails;
@@ -486,8 +511,8 @@ module _ (scheme : Scheme) (tells : Bool) (first_w w : World) (first_n n : Notar
         ]
 
     -- a line can't be read for want of memory
-    pub ran_starved : after_read.faults ≡ now.faults → Gives now after_read reading new bytes (Err NoMemory) → Runs scheme tells first_w (Run run.NoMemory) (handed before first_w.sink first_w.disks first_n) (handed after_read w.sink w.disks n)
-    ran_starved k g =
+    pub ran_starved : (IsSo : History → History → Type 0) → after_read.faults ≡ now.faults → Gives now after_read reading new bytes (Err NoMemory) → Runs scheme tells first_w IsSo (Run run.NoMemory) (handed before first_w.sink first_w.disks first_n) (handed after_read w.sink w.disks n)
+    ran_starved IsSo k g =
         elim g [
           | inl again ↦ absurd (let no : ⊥ = cc (again.0, s.input.sound) in no)
           | inr f ↦
@@ -495,8 +520,8 @@ module _ (scheme : Scheme) (tells : Bool) (first_w w : World) (first_n n : Notar
                 serves = λ h p none list.
                     let stop = stopped scheme tells first_w h p room none no_dues first_n list s.script few_here s.done s.current n s.late end.NoMemory w lacks_here can_here (s.took h p) in
                     let here = stop [] in
-                    serve_stop scheme h end.NoMemory first_w w before after_read first_n n all.part read all.cause consumed all.appended here.0 here.2
-                    (λ IsSo so. some_at_failure before now after_read reading new bytes s.script s.input r (StopsOn scheme h all.part w.disks first_n n AreClean IsSo) IsSo k f (λ tail. stop_as scheme h all.part w.disks first_n n end.NoMemory (s.script ++ tail) IsSo so (stop tail)));
+                    serve_stop scheme h (IsSo h) end.NoMemory first_w w before after_read first_n n all.part read all.cause consumed all.appended here.0 here.2
+                    (λ IsText so. some_at_failure before now after_read reading new bytes s.script s.input r (StopsOn scheme h all.part w.disks first_n n AreClean IsText) IsText k f (λ tail. stop_as scheme h all.part w.disks first_n n end.NoMemory (s.script ++ tail) IsText so (stop tail)));
                 ends = tt;
                 faults = faults_stop end.NoMemory first_w w before after_read first_n n (inl (k ∙ s.input.faults)) all.cause;
                 failures = fails_read before after_read first_n n s.tried read consumed (let f = given_more before now reading s.script s.input bytes in let l = s.tried_are in omega (arith, f, l)) s.fails;
@@ -519,8 +544,8 @@ module _ (scheme : Scheme) (tells : Bool) (first_w w : World) (first_n n : Notar
       said_now = said_after-append [] s.script (line ∷ [])
 
       -- .. for which there is no memory
-      pub ran_lacking : Runs scheme tells first_w (Run run.NoMemory) (handed before first_w.sink first_w.disks first_n) (handed after_read w.sink w.disks n)
-      ran_lacking = halt scheme tells first_w first_n n before after_read new script_now more s.done s.current s.took room no_dues s.late end.NoMemory w lacks_here (can_later n s.script line s.done (s.current ++ lacks_here.behind) can_here) (fails_wider s.tried (length script_now) first_n n (let l = s.tried_are in let e = length-append s.script (line ∷ []) in omega (arith, l, e)) s.fails)
+      pub ran_lacking : (IsSo : History → History → Type 0) → Runs scheme tells first_w IsSo (Run run.NoMemory) (handed before first_w.sink first_w.disks first_n) (handed after_read w.sink w.disks n)
+      ran_lacking IsSo = halt scheme tells IsSo first_w first_n n before after_read new script_now more s.done s.current s.took room no_dues s.late end.NoMemory w lacks_here (can_later n s.script line s.done (s.current ++ lacks_here.behind) can_here) (fails_wider s.tried (length script_now) first_n n (let l = s.tried_are in let e = length-append s.script (line ∷ []) in omega (arith, l, e)) s.fails)
 
       order_now : IsOrder (s.front ++ x ∷ []) (map said_by s.current ++ (s.late ++ x ∷ []))
       order_now = subst (IsOrder (s.front ++ x ∷ [])) (append_assoc (map said_by s.current) s.late (x ∷ [])) (order_append s.front (x ∷ []) (map said_by s.current ++ s.late) (x ∷ []) s.order (order_same (x ∷ [])))
@@ -534,7 +559,7 @@ module _ (scheme : Scheme) (tells : Bool) (first_w w : World) (first_n n : Notar
 
         -- .. and waits
         pub sofar_added : (new_first : List ℕ) (new_piece : List LaneLine) (new_lines new_bytes : ℕ) → new_first ≡ first → new_piece ≡ piece ++ l ∷ [] → fills_window (lines + 1) (window_bytes + length line) ≡ false
-            → new_lines ≡ lines + 1 → new_bytes ≡ window_bytes + length line → SoFar scheme tells first_w w first_n n before after_read new new_first new_next new_piece new_lines new_bytes
+            → new_lines ≡ lines + 1 → new_bytes ≡ window_bytes + length line → SoFar scheme tells first_w w first_n n first_b b before after_read new new_first new_next new_piece new_lines new_bytes
         sofar_added new_first new_piece new_lines new_bytes f p e lines_now bytes_now = record {
           script = script_now;
           input = more;
@@ -552,6 +577,7 @@ module _ (scheme : Scheme) (tells : Bool) (first_w w : World) (first_n n : Notar
           few = (let a = ap length p in let b = length-append piece (l ∷ []) in let c = s.few in omega (arith, a, b, c, lines_now));
           goes = s.goes;
           took = s.took;
+          follows = s.follows;
           tried = s.tried;
           tried_are = (let a = ap length p in let b = length-append piece (l ∷ []) in let c = length-append s.script (line ∷ []) in let d = s.tried_are in omega (arith, a, b, c, d));
           fails = s.fails;
@@ -568,7 +594,7 @@ module _ (scheme : Scheme) (tells : Bool) (first_w w : World) (first_n n : Notar
             omega (arith, a, b, d, u, v, w)
 
         -- .. and makes the window whole
-        module _ (e : fills_window (lines + 1) (window_bytes + length line) ≡ true) (held : At) (same : world_at held ≡ w) (same_n : held.notary ≡ n) (new_piece : List LaneLine) (p : new_piece ≡ piece ++ l ∷ []) where
+        module _ (e : fills_window (lines + 1) (window_bytes + length line) ≡ true) (held : At) (same : world_at held ≡ w) (same_n : held.notary ≡ n) (same_b : held.board ≡ b) (new_piece : List LaneLine) (p : new_piece ≡ piece ++ l ∷ []) where
           cut_now : IsCut (said_lines script_now) (s.windows_are ++ (s.front ++ x ∷ []) ∷ []) []
           cut_now = subst (λ xs. IsCut xs (s.windows_are ++ (s.front ++ x ∷ []) ∷ []) []) (sym said_now) (cut_whole (said_lines s.script) s.windows_are s.front x s.cut (full_is true e))
 
@@ -587,7 +613,7 @@ module _ (scheme : Scheme) (tells : Bool) (first_w w : World) (first_n n : Notar
               (order_merge (s.front ++ x ∷ []) (s.current ++ steps) (with_order (s.front ++ x ∷ []) (s.late ++ x ∷ []) s.current steps order_now (taken_now (map said_by steps) o)), tt)
 
           pub sofar_window : (t : At) (last_first last_next : List ℕ) (last_piece : List LaneLine) (new_lines new_bytes : ℕ) → WindowTaken scheme tells first new_piece held t → last_piece ≡ [] → last_first ≡ new_next → last_next ≡ new_next → new_lines ≡ 0 → new_bytes ≡ 0
-              → SoFar scheme tells first_w (world_at t) first_n t.notary before after_read new last_first last_next last_piece new_lines new_bytes
+              → SoFar scheme tells first_w (world_at t) first_n t.notary first_b t.board before after_read new last_first last_next last_piece new_lines new_bytes
           sofar_window t last_first last_next last_piece new_lines new_bytes y none f nx lines_now bytes_now = record {
             script = script_now;
             input = more;
@@ -605,23 +631,25 @@ module _ (scheme : Scheme) (tells : Bool) (first_w w : World) (first_n n : Notar
             few = let d = ap length none in omega (arith, d);
             goes = end_on scheme tells first_w (world_at held) (world_at t) s.done s.current y.steps (goes_here held same same_n) y.goes;
             took = λ h q. window_took scheme h first_n s.done (s.current ++ y.steps) t.notary (take_on scheme tells first_w (world_at held) first_n held.notary t.notary s.done s.current y.steps (goes_here held same same_n) (took_here held same same_n) y.took h q);
+            follows = λ number h q f.
+                subst (λ (g : History). IsFollowed number g t.board) (window_on scheme h s.done (s.current ++ y.steps)) (follow_end held t same same_b y.steps y.follows number h q f);
             tried = s.tried + length new_piece;
             tried_are = let e = ap length none in let a = few_now in omega (arith, e, a);
             fails = fails_to held same same_n t (length new_piece) y.fails;
           }
 
-          pub ran_unended : (t : At) (why : CommitErr) → WindowBroken scheme tells first new_piece why held t → Runs scheme tells first_w (ending_of_end why) (handed before first_w.sink first_w.disks first_n) (handed after_read t.sink t.disks t.notary)
-          ran_unended t why (inl y) =
+          pub ran_unended : (IsSo : History → History → Type 0) (t : At) (why : CommitErr) → WindowBroken scheme tells first new_piece why held t → Runs scheme tells first_w IsSo (ending_of_end why) (handed before first_w.sink first_w.disks first_n) (handed after_read t.sink t.disks t.notary)
+          ran_unended IsSo t why (inl y) =
               let broken = break_on scheme tells first_w (world_at held) (world_at t) s.done s.current y.steps (goes_here held same same_n) t.notary y.rest why y.ended in
               let order = with_rest (s.front ++ x ∷ []) (s.late ++ x ∷ []) s.current y.steps y.rest order_now (taken_now (map said_by y.steps ++ y.rest) y.is_order) in
-              halt scheme tells first_w first_n t.notary before after_read new script_now more s.done (s.current ++ y.steps)
+              halt scheme tells IsSo first_w first_n t.notary before after_read new script_now more s.done (s.current ++ y.steps)
               (take_on scheme tells first_w (world_at held) first_n held.notary t.notary s.done s.current y.steps (goes_here held same same_n) (took_here held same same_n) y.took)
               room no_dues y.rest why (world_at t) broken
               (part_whole t.notary script_now s.windows_are (s.front ++ x ∷ []) s.done ((s.current ++ y.steps) ++ broken.behind) broken.later cut_now s.merge (with_behind (s.front ++ x ∷ []) (s.current ++ y.steps) broken.behind y.rest broken.later broken.split order)) (fails_now t y.fails)
-          ran_unended t why (inr y) =
+          ran_unended IsSo t why (inr y) =
               let whole = s.done ++ (s.current ++ y.steps) ∷ [] in
               let stays = halts_there scheme tells first_w t.notary whole [] [] why (world_at t) (unend_on scheme tells first_w (world_at held) (world_at t) s.done s.current y.steps (goes_here held same same_n) why y.ended) in
-              halt scheme tells first_w first_n t.notary before after_read new script_now more whole []
+              halt scheme tells IsSo first_w first_n t.notary before after_read new script_now more whole []
               (λ h q. window_took scheme h first_n s.done (s.current ++ y.steps) t.notary (take_on scheme tells first_w (world_at held) first_n held.notary t.notary s.done s.current y.steps (goes_here held same same_n) (took_here held same same_n) y.took h q))
               room no_dues [] why (world_at t) stays
               (part_open t.notary script_now (s.windows_are ++ (s.front ++ x ∷ []) ∷ []) [] whole ([] ++ stays.behind) stays.later cut_now (merge_now y.steps y.is_order) (with_behind [] [] stays.behind [] stays.later stays.split (order_same []))) (fails_now t y.fails)

@@ -65,21 +65,21 @@ faults_stop end.Closed w t before now n m once e = absurd e
 -- ---- how a session ends
 
 -- a stop, by what is known of some text of the script and of what is left
-pub serve_stop : (scheme : Scheme) (h : History) (end : CommitErr) (w t : World) (before now : SourceState) (n m : NotaryState) (part read : List ℕ) → EndsBy end w t
+pub serve_stop : (scheme : Scheme) (h : History) (IsAfter : History → Type 0) (end : CommitErr) (w t : World) (before now : SourceState) (n m : NotaryState) (part read : List ℕ) → EndsBy end w t
     → Consumes before.left now.left read → Appends w.sink.held t.sink.held part → (some : List ℕ) → SaidOf end part some
     → ((IsSo : List ℕ → Type 0) → ((whole : List ℕ) → SaidOf end part whole → IsSo whole) → SomeOfScript (StopsOn scheme h part t.disks n m (CleanBy end h part) IsSo) before now read IsSo)
-    → RunsOn scheme h (ending_of_end end) (handed before w.sink w.disks n) (handed now t.sink t.disks m)
-serve_stop scheme h end.DiskFault w t before now n m part read cause consumed appended some said so = record { read = read; replies = part; consumed = consumed; appended = appended; replied = (said.0, so (Begins part) (λ whole s. s.1)) }
-serve_stop scheme h end.WriteFault w t before now n m part read cause consumed appended some said so = record { read = read; replies = part; consumed = consumed; appended = appended; replied = so (FallsShort part) (λ whole s. s) }
-serve_stop scheme h end.NoMemory w t before now n m part read cause consumed appended some said so = record { read = read; replies = part; consumed = consumed; appended = appended; replied = (said.0, so (Begins part) (λ whole s. s.1)) }
-serve_stop scheme h end.Closed w t before now n m part read cause consumed appended some said so = absurd cause
+    → RunsOn scheme h IsAfter (ending_of_end end) (handed before w.sink w.disks n) (handed now t.sink t.disks m)
+serve_stop scheme h IsAfter end.DiskFault w t before now n m part read cause consumed appended some said so = record { read = read; replies = part; consumed = consumed; appended = appended; replied = (said.0, so (Begins part) (λ whole s. s.1)) }
+serve_stop scheme h IsAfter end.WriteFault w t before now n m part read cause consumed appended some said so = record { read = read; replies = part; consumed = consumed; appended = appended; replied = so (FallsShort part) (λ whole s. s) }
+serve_stop scheme h IsAfter end.NoMemory w t before now n m part read cause consumed appended some said so = record { read = read; replies = part; consumed = consumed; appended = appended; replied = (said.0, so (Begins part) (λ whole s. s.1)) }
+serve_stop scheme h IsAfter end.Closed w t before now n m part read cause consumed appended some said so = absurd cause
 
 -- the lines that the end of reading leaves are answered
-pub serve_end : (scheme : Scheme) (h : History) (end : Option LineErr) (w t : World) (before now : SourceState) (n m : NotaryState) (replies read : List ℕ) (script : List (List ℕ)) → MeetsNone w.sink t.sink
-    → Consumes before.left now.left read → Appends w.sink.held t.sink.held replies → EndsReading end before now read script → AnswersOn scheme h t.disks n m script replies
-    → RunsOn scheme h (Run (ending_after end)) (handed before w.sink w.disks n) (handed now t.sink t.disks m)
-serve_end scheme h None w t before now n m replies read script sink consumed appended e a = record { read = read; replies = replies; consumed = consumed; appended = appended; replied = record { lines = script; ended = e; answered = a; written = sink } }
-serve_end scheme h (Some ReadFault) w t before now n m replies read script sink consumed appended e a = record { read = read; replies = replies; consumed = consumed; appended = appended; replied = record { lines = script; ended = e; answered = a; written = sink } }
-serve_end scheme h (Some LineTooLong) w t before now n m replies read script sink consumed appended e a = record { read = read; replies = replies; consumed = consumed; appended = appended; replied = record { lines = script; ended = e; answered = a; written = sink } }
-serve_end scheme h (Some ScriptTooLong) w t before now n m replies read script sink consumed appended e a = record { read = read; replies = replies; consumed = consumed; appended = appended; replied = record { lines = script; ended = e; answered = a; written = sink } }
-serve_end scheme h (Some NoMemory) w t before now n m replies read script sink consumed appended e a = absurd e
+pub serve_end : (scheme : Scheme) (h : History) (IsAfter : History → Type 0) (end : Option LineErr) (w t : World) (before now : SourceState) (n m : NotaryState) (replies read : List ℕ) (script : List (List ℕ)) → MeetsNone w.sink t.sink
+    → Consumes before.left now.left read → Appends w.sink.held t.sink.held replies → EndsReading end before now read script → AnswersOn scheme h IsAfter t.disks n m script replies
+    → RunsOn scheme h IsAfter (Run (ending_after end)) (handed before w.sink w.disks n) (handed now t.sink t.disks m)
+serve_end scheme h IsAfter None w t before now n m replies read script sink consumed appended e a = record { read = read; replies = replies; consumed = consumed; appended = appended; replied = record { lines = script; ended = e; answered = a; written = sink } }
+serve_end scheme h IsAfter (Some ReadFault) w t before now n m replies read script sink consumed appended e a = record { read = read; replies = replies; consumed = consumed; appended = appended; replied = record { lines = script; ended = e; answered = a; written = sink } }
+serve_end scheme h IsAfter (Some LineTooLong) w t before now n m replies read script sink consumed appended e a = record { read = read; replies = replies; consumed = consumed; appended = appended; replied = record { lines = script; ended = e; answered = a; written = sink } }
+serve_end scheme h IsAfter (Some ScriptTooLong) w t before now n m replies read script sink consumed appended e a = record { read = read; replies = replies; consumed = consumed; appended = appended; replied = record { lines = script; ended = e; answered = a; written = sink } }
+serve_end scheme h IsAfter (Some NoMemory) w t before now n m replies read script sink consumed appended e a = absurd e

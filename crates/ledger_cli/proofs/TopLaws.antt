@@ -18,7 +18,7 @@ use Rattle.ledger_soak.specs.declared.running.SoakEnd.TheVariants as soak
 use Rattle.time_peg.specs.Entries.{NotaryState}
 use Rattle.ledger_cli.specs.Endings.{status_of, last_line, HasWords}
 use Rattle.ledger_cli.specs.Program.{ServedBy, Finishes}
-use Rattle.ledger_cli.specs.Runs.{Handed, handed, FaultsBy, NothingFailed, Signs, ending_of_soak}
+use Rattle.ledger_cli.specs.Runs.{Handed, handed, Anything, FaultsBy, NothingFailed, Signs, ending_of_soak}
 use Rattle.ledger_cli.specs.declared.ending.LedgerEnding.{LedgerEnding}
 use Rattle.ledger_cli.specs.declared.ending.LedgerEnding.TheVariants.{Run, DiskFault, Damaged, Empty, Exists, NewerFormat, NotaryFault, Refused}
 use Rattle.ledger_cli.specs.declared.words.Command.{Command}
@@ -75,7 +75,7 @@ unstarted_by scheme tells (Some (command.Init genesis)) x some = record {
   images = λ t. inl (record { a = inl refl; b = inl refl });
   faults = nothing x;
 }
-unstarted_by scheme tells (Some command.Run) x some = again_unstarted scheme tells x.source x.sink x.notary x.disks x.disks refl
+unstarted_by scheme tells (Some command.Run) x some = again_unstarted scheme tells x.source x.sink x.notary x.disks x.disks Anything refl
 unstarted_by scheme tells (Some command.Export) x some = dump_unstarted scheme tells x.source x.sink x.notary x.disks x.disks refl
 unstarted_by scheme tells (Some (command.Lineage clue from)) x some = record { opens = write_unstarted scheme tells x.source x.sink x.notary x.disks x.disks _ _ refl; unread = refl; unasked = refl }
 unstarted_by scheme tells (Some (command.Keep point numbers)) x some = record { opens = write_unstarted scheme tells x.source x.sink x.notary x.disks x.disks _ _ refl; unread = refl; unasked = refl }

@@ -1,10 +1,6 @@
 -- What a session does with provers beside it.
-use Rattle.std.specs.Prelude.{◌≡◌, ◌⊎◌, ℕ, ◌-◌, Bool, false, None, Some, All, List, [], ◌∷◌, ◌++◌, Result, Ok, IfOk, map, take, drop, slice_get}
+use Rattle.std.specs.Prelude.{◌≡◌, ◌⊎◌, ℕ, ◌-◌, Bool, None, Some, All, List, [], ◌∷◌, ◌++◌, Result, Ok, IfOk, map, take, drop}
 use Rattle.sha2.specs.Sha256.{sha256}
-use Rattle.journal_record.specs.declared.header.Header.{Header}
-use Rattle.ledger_book.specs.Books.{headers}
-use Rattle.ledger_model.specs.History.{History, size}
-use Rattle.ledger_model.specs.Lawful.{gathers}
 use Rattle.merkle_batch.specs.Rows.{Levels, StandsFor}
 use Rattle.proof_board.specs.History.{Digests}
 use Rattle.batch_committer.specs.World.{World, pair, world, Holds}
@@ -18,7 +14,7 @@ use Rattle.ledger_io.specs.Outside.{Outside, SourceState, SinkState}
 use Rattle.ledger_io.specs.Runs.{Wrote}
 use Rattle.ledger_io.specs.declared.ending.Ending.{Ending}
 use Rattle.ledger_io.specs.declared.ending.Ending.TheVariants as run
-use Rattle.ledger_cli.specs.Boards.{Posted, posted, published_size, board_text, EndsWith, TellsBehind}
+use Rattle.ledger_cli.specs.Boards.{Posted, posted, published_size, board_text, EndsWith, TellsBehind, TellsSizes}
 use Rattle.ledger_cli.specs.Endings.{refusal_of}
 use Rattle.ledger_cli.specs.Runs.{Handed, handed, outside_of, Runs}
 use Rattle.ledger_cli.specs.declared.ending.LedgerEnding.{LedgerEnding}
@@ -29,10 +25,6 @@ use Rattle.ledger_cli.specs.declared.posting.Posting.{Posting}
 -- what is known of the board that a writer posts to
 abbrev pub posted_by : {R : Type 0} → Posting R → Posted
 posted_by p = posted (shown_by p.writer) (waiting_of p.writer) p.lacking
-
--- the last journal of a history is of a kind that shares no block
-abbrev pub IsAlone : History → Type 0
-IsAlone h = (x : Header) × (slice_get (headers h) (size h - 1) ≡ Some x) × (gathers x.kind ≡ false)
 
 -- a writer published one batch: the leaves of each list that a tree stands for, from where the published list ended up to this size
 pub record IsPublished {R : Type 0} (old new : Posting R) (tree : Levels) (to : ℕ) : Type 0 where
@@ -76,8 +68,11 @@ SameScript old new =
 pub record RunsBeside (scheme : Scheme) (tells : Bool) (w : World) (provers count : ℕ) (ending : LedgerEnding) (before after_all : Handed) : Type 0 where
   pub met : LedgerEnding
   pub mid : Handed
-  pub ran : Runs scheme tells w met before mid
+  -- what the provers did, and the size that was published last
+  pub tallies : List Tally
+  pub published : ℕ
+  pub ran : Runs scheme tells w (TellsSizes tallies published) met before mid
   pub unrefused : refusal_of met ≡ None
-  pub told : TellsBehind (Holds tells w) provers count met ending (outside_of mid) (outside_of after_all)
+  pub told : TellsBehind (Holds tells w) provers count tallies published met ending (outside_of mid) (outside_of after_all)
   pub disks_are : after_all.disks ≡ mid.disks
   pub notary_is : after_all.notary ≡ mid.notary

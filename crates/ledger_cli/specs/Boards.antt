@@ -1,11 +1,15 @@
 -- The board beside a run: what is known of it, and what is written of its provers.
-use Rattle.std.specs.Prelude.{◌≡◌, ◌⊎◌, ⊤, ℕ, ◌+◌, ◌<◌, ◌≤◌, Bool, false, All, Contains, List, [], ◌∷◌, ◌++◌, codes, decimal, length, Option, Some, None, option_map}
+use Rattle.std.specs.Prelude.{◌≡◌, ◌⊎◌, ⊤, ℕ, ◌+◌, ◌-◌, ◌<◌, ◌≤◌, Bool, false, All, Contains, List, [], ◌∷◌, ◌++◌, codes, decimal, length, Option, Some, None, option_map, slice_get}
 use mathlib.Core.List.{IsPrefix}
+use Rattle.journal_record.specs.declared.header.Header.{Header}
+use Rattle.ledger_book.specs.Books.{headers}
 use Rattle.ledger_io.specs.Outside.{Outside}
 use Rattle.ledger_io.specs.Runs.{Wrote}
 use Rattle.ledger_io.specs.declared.ending.Ending.{Ending}
 use Rattle.ledger_io.specs.declared.ending.Ending.TheVariants as run
-use Rattle.ledger_model.specs.History.{History, ends, size}
+use Rattle.ledger_model.specs.Growing.{Grows}
+use Rattle.ledger_model.specs.History.{History, ends, point, size}
+use Rattle.ledger_model.specs.Lawful.{gathers}
 use Rattle.logbook.specs.Pages.{Book}
 use Rattle.proof_board.specs.History.{Digests, all_leaves}
 use Rattle.proof_board.specs.declared.view.Base.{Base}
@@ -63,28 +67,61 @@ board_limit = 1048576
 abbrev pub IsBlockEnd : History → ℕ → Type 0
 IsBlockEnd h n = Contains (ends h) n
 
+-- the last journal of a history is of a kind that shares no block
+abbrev pub IsAlone : History → Type 0
+IsAlone h = (x : Header) × (slice_get (headers h) (size h - 1) ≡ Some x) × (gathers x.kind ≡ false)
+
+-- One history is next to another: it goes on from it, and each block that ended on the way ended where nothing waits any more, or in
+-- front of a last journal that stands alone.
+pub record IsNextTo (h g : History) : Type 0 where
+  pub grows : Grows h g
+  pub ended : (n : ℕ) → IsBlockEnd g n → IsBlockEnd h n ⊎ ((g.waiting ≡ []) × ((n ≡ size g) ⊎ ((n ≡ size g - 1) × IsAlone g)))
+
+-- Example: blocks end at 1 and 4 in h, and journal 4 waits. Behind an anchor that gets its stamp blocks end at 1, 4, 5 and 6, and nothing
+-- waits: the block that ended at 5 stands in front of journal 5, the anchor's, which stands alone.
+
 -- A list of this size may have been published of this history by a board with this floor, which began with so many leaves: it ends where
 -- a block does, and doesn't go beyond what the board may keep, or is the first.
 pub record IsShownSize (first floor : ℕ) (h : History) (n : ℕ) : Type 0 where
   pub ended : IsBlockEnd h n
   pub few : (n ≤ floor + board_limit) ⊎ (n ≡ first)
 
--- The board that began with so many leaves follows this history: each list that it showed is one of those. Nothing waits to be published,
--- unless memory was missing.
+-- The board that began with so many leaves follows this history: each list that it showed is one of those. Unless memory was missing,
+-- nothing waits to be published, and the last list that it showed is as long as each that ends where a block does and that it may keep.
 pub record IsPosted (first : ℕ) (h : History) (p : Posted) : Type 0 where
   pub shown : (log : List Digests) → IsPrefix log p.growth.at.log → 0 < length log → IsShownSize first p.growth.base.floor h (list_size p.growth.base log)
   pub some : 0 < length p.growth.at.log
   pub none_waits : p.lacking ≡ false → p.waiting ≡ []
+  pub most : p.lacking ≡ false → (n : ℕ) → IsBlockEnd h n → n ≤ p.growth.base.floor + board_limit → n ≤ published_size p.growth
 
 -- this history is followed by the board, where there is one
 abbrev pub IsFollowed : ℕ → History → Option Posted → Type 0
 IsFollowed first h None = ⊤
 IsFollowed first h (Some p) = IsPosted first h p
 
--- the board, where there is one, shows all of this history, where it may keep that, unless memory was missing
-abbrev pub CatchesUp : History → Option Posted → Type 0
-CatchesUp h None = ⊤
-CatchesUp h (Some p) = p.lacking ≡ false → size h ≤ p.growth.base.floor + board_limit → published_size p.growth ≡ size h
+-- What is so of a board that follows, where there is one, after a run from h to g: it follows g, where it followed h, nothing waits in g,
+-- and memory wasn't missing for it.
+pub record HasFollowed (before now : Option Posted) (h g : History) : Type 0 where
+  pub follows : (first : ℕ) → IsFollowed first h before → IsFollowed first g now
+  pub none_waits : g.waiting ≡ []
+  pub none_lacks : is_lacking now ≡ false
+
+-- ---- the sizes that are told
+
+-- What is told of sizes beside a run from h to g, whose board keeps no leaves in front of the point of h. Each is that of a list that may
+-- have been published: it ends where a block of g does, and doesn't go beyond what the board may keep, or is all of h. None that a prover
+-- saw is greater than the one that was published last. That is as great as each end of a block of g that the board may keep, and is all of
+-- g, where the board may keep that.
+pub record TellsSizes (tallies : List Tally) (published : ℕ) (h g : History) : Type 0 where
+  pub seen : All (λ t. IsShownSize (size h) (point h) g t.size) tallies
+  pub last : IsShownSize (size h) (point h) g published
+  pub within : All (λ t. t.size ≤ published) tallies
+  pub most : (n : ℕ) → IsBlockEnd g n → n ≤ point h + board_limit → n ≤ published
+  pub whole : size g ≤ point h + board_limit → published ≡ size g
+
+-- Example: a ledger that was never purged has 1,048,570 journals, and a run adds blocks of 4, 2 and 3. The board may keep 1,048,576 leaves.
+-- A prover may tell 1,048,570, 1,048,574 or 1,048,576, and 1,048,576 is the size that was published last: the block
+-- behind it doesn't fit.
 
 -- ---- what is written of provers
 
@@ -105,11 +142,10 @@ published_line size = line_of (codes "published") (decimal size ∷ [])
 abbrev pub board_text : List Tally → ℕ → List ℕ
 board_text ts published = prover_lines 0 ts ++ published_line published
 
--- The lines of so many provers were written, whole or in part, or there was no memory for them. Where some history is one with
+-- The lines of so many provers, which did this, and of the size that was published last were written, whole or in part, or there was no
+-- memory for them. Where some history is one with
 -- which the run began, each prover made this many proofs, and each was accepted.
-pub record TellsProvers (IsFirst : History → Type 0) (provers count : ℕ) (ending : LedgerEnding) (before after_all : Outside) : Type 0 where
-  pub tallies : List Tally
-  pub published : ℕ
+pub record TellsProvers (IsFirst : History → Type 0) (provers count : ℕ) (tallies : List Tally) (published : ℕ) (ending : LedgerEnding) (before after_all : Outside) : Type 0 where
   pub provers_are : length tallies ≡ provers
   pub accepted : (h : History) → IsFirst h → All (λ t. t.accepted ≡ count) tallies
   pub plain : Ending
@@ -122,18 +158,18 @@ EndsWith met ending before after_all = (ending ≡ met) × (after_all ≡ before
 
 -- What `board` writes behind the replies, by the ending of the script's run, and how it ends then. Where all lines of the script were
 -- answered, and no prover lacked memory, it tells its provers.
-abbrev pub TellsBehind : (History → Type 0) → ℕ → ℕ → LedgerEnding → LedgerEnding → Outside → Outside → Type 0
-TellsBehind IsFirst provers count (Run run.Done) ending before after_all = TellsProvers IsFirst provers count ending before after_all ⊎ EndsWith (Run run.NoMemory) ending before after_all
-TellsBehind IsFirst provers count (Run run.Usage) ending before after_all = EndsWith (Run run.Usage) ending before after_all
-TellsBehind IsFirst provers count (Run run.ReadFault) ending before after_all = EndsWith (Run run.ReadFault) ending before after_all
-TellsBehind IsFirst provers count (Run run.WriteFault) ending before after_all = EndsWith (Run run.WriteFault) ending before after_all
-TellsBehind IsFirst provers count (Run run.NoMemory) ending before after_all = EndsWith (Run run.NoMemory) ending before after_all
-TellsBehind IsFirst provers count (Run run.LineTooLong) ending before after_all = EndsWith (Run run.LineTooLong) ending before after_all
-TellsBehind IsFirst provers count (Run run.ScriptTooLong) ending before after_all = EndsWith (Run run.ScriptTooLong) ending before after_all
-TellsBehind IsFirst provers count DiskFault ending before after_all = EndsWith DiskFault ending before after_all
-TellsBehind IsFirst provers count (Damaged damage) ending before after_all = EndsWith (Damaged damage) ending before after_all
-TellsBehind IsFirst provers count Empty ending before after_all = EndsWith Empty ending before after_all
-TellsBehind IsFirst provers count Exists ending before after_all = EndsWith Exists ending before after_all
-TellsBehind IsFirst provers count (NewerFormat found) ending before after_all = EndsWith (NewerFormat found) ending before after_all
-TellsBehind IsFirst provers count NotaryFault ending before after_all = EndsWith NotaryFault ending before after_all
-TellsBehind IsFirst provers count (Refused why) ending before after_all = EndsWith (Refused why) ending before after_all
+abbrev pub TellsBehind : (History → Type 0) → ℕ → ℕ → List Tally → ℕ → LedgerEnding → LedgerEnding → Outside → Outside → Type 0
+TellsBehind IsFirst provers count tallies published (Run run.Done) ending before after_all = TellsProvers IsFirst provers count tallies published ending before after_all ⊎ EndsWith (Run run.NoMemory) ending before after_all
+TellsBehind IsFirst provers count tallies published (Run run.Usage) ending before after_all = EndsWith (Run run.Usage) ending before after_all
+TellsBehind IsFirst provers count tallies published (Run run.ReadFault) ending before after_all = EndsWith (Run run.ReadFault) ending before after_all
+TellsBehind IsFirst provers count tallies published (Run run.WriteFault) ending before after_all = EndsWith (Run run.WriteFault) ending before after_all
+TellsBehind IsFirst provers count tallies published (Run run.NoMemory) ending before after_all = EndsWith (Run run.NoMemory) ending before after_all
+TellsBehind IsFirst provers count tallies published (Run run.LineTooLong) ending before after_all = EndsWith (Run run.LineTooLong) ending before after_all
+TellsBehind IsFirst provers count tallies published (Run run.ScriptTooLong) ending before after_all = EndsWith (Run run.ScriptTooLong) ending before after_all
+TellsBehind IsFirst provers count tallies published DiskFault ending before after_all = EndsWith DiskFault ending before after_all
+TellsBehind IsFirst provers count tallies published (Damaged damage) ending before after_all = EndsWith (Damaged damage) ending before after_all
+TellsBehind IsFirst provers count tallies published Empty ending before after_all = EndsWith Empty ending before after_all
+TellsBehind IsFirst provers count tallies published Exists ending before after_all = EndsWith Exists ending before after_all
+TellsBehind IsFirst provers count tallies published (NewerFormat found) ending before after_all = EndsWith (NewerFormat found) ending before after_all
+TellsBehind IsFirst provers count tallies published NotaryFault ending before after_all = EndsWith NotaryFault ending before after_all
+TellsBehind IsFirst provers count tallies published (Refused why) ending before after_all = EndsWith (Refused why) ending before after_all

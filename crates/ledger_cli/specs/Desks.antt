@@ -1,5 +1,5 @@
 -- What a desk tells, which is a committer with its disks, its sink, its notary and what follows it, each by reference; and what it does with a piece.
-use Rattle.std.specs.Prelude.{◌≡◌, Bool, List, [], ◌∷◌, ℕ, Option, Result, MatchResult}
+use Rattle.std.specs.Prelude.{◌≡◌, Bool, false, List, [], ◌∷◌, ℕ, Option, Result, MatchResult}
 use Rattle.batch_committer.specs.World.{pair}
 use Rattle.batch_committer.specs.declared.failure.CommitErr.{CommitErr}
 use Rattle.lane_work.specs.declared.kinds.LaneLine.{LaneLine}
@@ -7,7 +7,7 @@ use Rattle.ledger_disk.specs.Disk.{DiskState}
 use Rattle.ledger_io.specs.Outside.{SourceState, SinkState}
 use Rattle.ledger_model.specs.Scheme.{Scheme}
 use Rattle.time_peg.specs.Entries.{NotaryState}
-use Rattle.ledger_cli.specs.Boards.{Posted, lasting_of}
+use Rattle.ledger_cli.specs.Boards.{Posted, is_lacking, lasting_of}
 use Rattle.ledger_cli.specs.Pieces.{At, at, IsOpen, Told, told, stays, PieceTaken, PieceBroken, WindowTaken, WindowBroken}
 use Rattle.ledger_cli.specs.Runs.{Handed, handed}
 use Rattle.ledger_cli.specs.declared.desk.Desk.{Desk}
@@ -41,7 +41,8 @@ abbrev pub TakesLines : {T : Type 0} → Scheme → Bool → List ℕ → List L
 TakesLines scheme tells first lines result s t =
     MatchResult result (λ _. PieceTaken scheme tells first lines s t × IsOpen tells t) (λ end. PieceBroken scheme tells first lines end s t)
 
--- the lines of a piece were taken and the open block was ended, behind which nothing waits; or the run ended on the way
+-- the lines of a piece were taken and the open block was ended, behind which nothing waits, and memory wasn't missing for the board; or the
+-- run ended on the way
 abbrev pub TakesWindow : {T : Type 0} → Scheme → Bool → List ℕ → List LaneLine → Result T CommitErr → At → At → Type 0
 TakesWindow scheme tells first lines result s t =
-    MatchResult result (λ _. WindowTaken scheme tells first lines s t × IsOpen tells t × (t.held.kept.dues ≡ [])) (λ end. WindowBroken scheme tells first lines end s t)
+    MatchResult result (λ _. WindowTaken scheme tells first lines s t × IsOpen tells t × (t.held.kept.dues ≡ []) × (is_lacking t.board ≡ false)) (λ end. WindowBroken scheme tells first lines end s t)

@@ -19,7 +19,7 @@ use Rattle.ledger_model.specs.Took.{Took}
 use Rattle.ledger_model.specs.Windows.{Said}
 use Rattle.ledger_model.specs.declared.job.Job.TheVariants.{Anchor}
 use Rattle.time_peg.specs.Entries.{NotaryState}
-use Rattle.ledger_cli.specs.Boards.{Posted, Lasting}
+use Rattle.ledger_cli.specs.Boards.{Posted, Lasting, IsFollowed, IsNextTo}
 use Rattle.ledger_cli.specs.Failures.{FailsIn}
 
 -- where a session stands: what its committer, its disks, its sink and its notary tell, and what is known of the board that follows it,
@@ -44,6 +44,16 @@ pub record IsOpen (tells : Bool) (s : At) : Type 0 where
   pub unended : s.held.ended ≡ false
   pub fits : Fits tells (world_at s)
   pub room : HasRoom s.held.kept
+
+-- the board went along with one step of the ledger: it follows each history that is held now, where it followed one to which that is next
+abbrev pub GoesAlong : Bool → At → At → Type 0
+GoesAlong tells s t =
+    (first : ℕ) (h g : History) → Holds tells (world_at t) g → IsNextTo h g → IsFollowed first h s.board → IsFollowed first g t.board
+
+-- the board went along on a way: it follows the history to which this led, where it followed the one that was held
+abbrev pub FollowsAlong : Bool → At → (History → History) → At → Type 0
+FollowsAlong tells s next t =
+    (first : ℕ) (h : History) → Holds tells (world_at s) h → IsFollowed first h s.board → IsFollowed first (next h) t.board
 
 -- ---- where a run ended
 
@@ -88,7 +98,7 @@ told names end at = record { names = names; end = end; at = at }
 -- what the offer of one item did: it was taken and the taker goes on, or the run ended at it
 abbrev pub Answered : Bool → Told → Prepared → Flow → Told → Type 0
 Answered tells s item GoOn t =
-    (t.names ≡ s.names) × (t.end ≡ s.end) × IsOpen tells t.at × FailsAtMostOnce s.at.notary t.at.notary
+    (t.names ≡ s.names) × (t.end ≡ s.end) × IsOpen tells t.at × FailsAtMostOnce s.at.notary t.at.notary × GoesAlong tells s.at t.at
     × ((failed : Bool) × ((line : List ℕ) → TakesJob tells (world_at s.at) (world_at t.at) s.at.notary t.at.notary (step_in s.at.notary t.at.notary failed item.lane item.index line) item.job))
 Answered tells s item Stop t =
     (t.names ≡ s.names) × FailsAtMostOnce s.at.notary t.at.notary
@@ -103,6 +113,7 @@ pub record PieceTaken (scheme : Scheme) (tells : Bool) (first : List ℕ) (lines
   pub steps : List Step
   pub is_order : IsOrderOf first lines (map said_by steps)
   pub goes : Goes tells (world_at s) (λ h. after_steps scheme h steps) (λ h. dues scheme h steps) (world_at t)
+  pub follows : FollowsAlong tells s (λ h. after_steps scheme h steps) t
   pub took : (h : History) → Holds tells (world_at s) h → Took scheme h s.notary steps t.notary
   pub fails : FailsIn (length lines) s.notary t.notary
 
@@ -125,6 +136,7 @@ pub record WindowTaken (scheme : Scheme) (tells : Bool) (first : List ℕ) (line
   pub steps : List Step
   pub is_order : IsOrderOf first lines (map said_by steps)
   pub goes : Goes tells (world_at s) (λ h. close (after_steps scheme h steps)) (λ h. dues scheme h steps) (world_at t)
+  pub follows : FollowsAlong tells s (λ h. close (after_steps scheme h steps)) t
   pub took : (h : History) → Holds tells (world_at s) h → Took scheme h s.notary steps t.notary
   pub fails : FailsIn (length lines) s.notary t.notary
 

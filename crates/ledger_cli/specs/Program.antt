@@ -7,7 +7,7 @@ use Rattle.ledger_model.specs.Scheme.{Scheme}
 use Rattle.ledger_cli.specs.Asking.{TracesClue}
 use Rattle.ledger_cli.specs.Chaining.{chain_line}
 use Rattle.ledger_cli.specs.Endings.{status_of, last_line, HasWords}
-use Rattle.ledger_cli.specs.Runs.{Handed, handed, Exports, Makes, RunsAgain, RunsBoard, RunsNew, Signs, Soaks}
+use Rattle.ledger_cli.specs.Runs.{Handed, handed, Anything, Exports, Makes, RunsAgain, RunsBoard, RunsNew, Signs, Soaks}
 use Rattle.ledger_cli.specs.Signing.{signed_text}
 use Rattle.ledger_cli.specs.Surviving.{CarriesSet, KeepsJournals, RevivesSet}
 use Rattle.ledger_cli.specs.declared.ending.LedgerEnding.{LedgerEnding}
@@ -20,7 +20,7 @@ abbrev pub ServedBy : Scheme → Bool → Option Command → LedgerEnding → Ha
 ServedBy scheme tells None ending before after_all = (ending ≡ Run run.Usage) × (after_all ≡ before)
 ServedBy scheme tells (Some (command.Dry genesis)) ending before after_all = RunsNew scheme genesis tells ending before after_all
 ServedBy scheme tells (Some (command.Init genesis)) ending before after_all = Makes genesis tells ending before after_all
-ServedBy scheme tells (Some command.Run) ending before after_all = RunsAgain scheme tells ending before after_all
+ServedBy scheme tells (Some command.Run) ending before after_all = RunsAgain scheme tells Anything ending before after_all
 ServedBy scheme tells (Some command.Export) ending before after_all = Exports tells ending before after_all
 ServedBy scheme tells (Some (command.Lineage clue from)) ending before after_all = TracesClue from clue tells ending before after_all
 ServedBy scheme tells (Some (command.Board provers count)) ending before after_all = RunsBoard scheme tells provers count ending before after_all

@@ -45,7 +45,8 @@ use Rattle.proof_maker.specs.Written.{AllGood}
 use Rattle.time_peg.specs.Entries.{NotaryState, IsList}
 use Rattle.ledger_bytes.specs.Digests.{digest}
 use Rattle.script_lines.specs.Words.{hex_of}
-use Rattle.ledger_cli.specs.Boards.{TellsBehind}
+use Rattle.proof_board.specs.declared.hands.Tally.{Tally}
+use Rattle.ledger_cli.specs.Boards.{TellsBehind, TellsSizes}
 use Rattle.ledger_cli.specs.Endings.{line_of, refusal_of, ending_of_export}
 use Rattle.ledger_cli.specs.Failures.{FailsByLines}
 use Rattle.ledger_cli.specs.Heads.{HeadsLeadOn}
@@ -211,12 +212,13 @@ abbrev pub AllStand : History → History → NotaryState → NotaryState → Li
 AllStand h whole first last replies IsSoClean disks =
     (a b : List ℕ) → MayLeave disks.a.bytes a → MayLeave disks.b.bytes b → MayStand h whole first last replies IsSoClean a b
 
--- the lines are answered, and the two files are clean for the history after them
-pub record AnswersOn (scheme : Scheme) (h : History) (disks : Pair) (first last : NotaryState) (lines : List (List ℕ)) (replies : List ℕ) : Type 0 where
+-- the lines are answered, the two files are clean for the history after them, and this is so of it
+pub record AnswersOn (scheme : Scheme) (h : History) (IsSo : History → Type 0) (disks : Pair) (first last : NotaryState) (lines : List (List ℕ)) (replies : List ℕ) : Type 0 where
   pub answers : Answers scheme h lines replies first last
   pub clean : IsCleanPair disks.a.bytes.seen disks.b.bytes.seen (after scheme h answers.steps)
   pub quiet : AreQuiet disks
   pub images : AllStand h (after scheme h answers.steps) first last replies AreClean disks
+  pub so : IsSo (after scheme h answers.steps)
 
 -- A run stopped on its way. A text answers the lines: that of a merge of them of which some first steps were taken. Along these
 -- the notary goes from one state to the other; the others stand as ones in which it failed, which isn't counted. What was
@@ -240,9 +242,9 @@ pub record StopsOn (scheme : Scheme) (h : History) (replies : List ℕ) (disks :
 -- [0] [1 2 3], `images_taken` one from [0] to [0] [1].
 
 -- all lines that count are answered: those that stand whole in what was read, by how reading ended
-abbrev pub AnswersAll : Scheme → History → Option LineErr → List ℕ → List ℕ → Handed → Handed → Type 0
-AnswersAll scheme h end read replies before after_all =
-    Answered (AnswersOn scheme h after_all.disks before.notary after_all.notary) end read replies (outside_of before) (outside_of after_all)
+abbrev pub AnswersAll : Scheme → History → (History → Type 0) → Option LineErr → List ℕ → List ℕ → Handed → Handed → Type 0
+AnswersAll scheme h IsSo end read replies before after_all =
+    Answered (AnswersOn scheme h IsSo after_all.disks before.notary after_all.notary) end read replies (outside_of before) (outside_of after_all)
 
 -- The run stopped: some text that answers the script has this property, and that of the steps that were taken has it too. What
 -- is left is a beginning of their history.
@@ -256,31 +258,32 @@ StopsSo scheme h read replies before after_all IsSoClean IsSo =
 -- Example: `0 head`, a newline and `0 he` were read, and writing failed in the reply. 1. Some text begins with what was
 -- written that answers `0 head` and any further lines. 2. Where the source had ended too, it answers `0 head` and `0 he`.
 
--- what was written before the last line, and what is left in the files, by the ending
-abbrev pub Replies : Scheme → History → LedgerEnding → List ℕ → List ℕ → Handed → Handed → Type 0
-Replies scheme h (Run run.Done) read replies before after_all = AnswersAll scheme h None read replies before after_all
-Replies scheme h (Run run.Usage) read replies before after_all = ⊥
-Replies scheme h (Run run.ReadFault) read replies before after_all = AnswersAll scheme h (Some line_err.ReadFault) read replies before after_all
-Replies scheme h (Run run.WriteFault) read replies before after_all = StopsSo scheme h read replies before after_all AreClean (FallsShort replies)
-Replies scheme h (Run run.NoMemory) read replies before after_all = AreWhole replies × StopsSo scheme h read replies before after_all AreClean (Begins replies)
-Replies scheme h (Run run.LineTooLong) read replies before after_all = AnswersAll scheme h (Some line_err.LineTooLong) read replies before after_all
-Replies scheme h (Run run.ScriptTooLong) read replies before after_all = AnswersAll scheme h (Some line_err.ScriptTooLong) read replies before after_all
-Replies scheme h DiskFault read replies before after_all = AreWhole replies × StopsSo scheme h read replies before after_all (AreErased h replies) (Begins replies)
-Replies scheme h (Damaged damage) read replies before after_all = ⊥
-Replies scheme h Empty read replies before after_all = ⊥
-Replies scheme h Exists read replies before after_all = ⊥
-Replies scheme h (NewerFormat found) read replies before after_all = ⊥
-Replies scheme h NotaryFault read replies before after_all = ⊥
-Replies scheme h (Refused why) read replies before after_all = ⊥
+-- what was written before the last line, and what is left in the files, by the ending; and what is so of the history after all lines, where
+-- all were answered that count
+abbrev pub Replies : Scheme → History → (History → Type 0) → LedgerEnding → List ℕ → List ℕ → Handed → Handed → Type 0
+Replies scheme h IsSo (Run run.Done) read replies before after_all = AnswersAll scheme h IsSo None read replies before after_all
+Replies scheme h IsSo (Run run.Usage) read replies before after_all = ⊥
+Replies scheme h IsSo (Run run.ReadFault) read replies before after_all = AnswersAll scheme h IsSo (Some line_err.ReadFault) read replies before after_all
+Replies scheme h IsSo (Run run.WriteFault) read replies before after_all = StopsSo scheme h read replies before after_all AreClean (FallsShort replies)
+Replies scheme h IsSo (Run run.NoMemory) read replies before after_all = AreWhole replies × StopsSo scheme h read replies before after_all AreClean (Begins replies)
+Replies scheme h IsSo (Run run.LineTooLong) read replies before after_all = AnswersAll scheme h IsSo (Some line_err.LineTooLong) read replies before after_all
+Replies scheme h IsSo (Run run.ScriptTooLong) read replies before after_all = AnswersAll scheme h IsSo (Some line_err.ScriptTooLong) read replies before after_all
+Replies scheme h IsSo DiskFault read replies before after_all = AreWhole replies × StopsSo scheme h read replies before after_all (AreErased h replies) (Begins replies)
+Replies scheme h IsSo (Damaged damage) read replies before after_all = ⊥
+Replies scheme h IsSo Empty read replies before after_all = ⊥
+Replies scheme h IsSo Exists read replies before after_all = ⊥
+Replies scheme h IsSo (NewerFormat found) read replies before after_all = ⊥
+Replies scheme h IsSo NotaryFault read replies before after_all = ⊥
+Replies scheme h IsSo (Refused why) read replies before after_all = ⊥
 
--- what a run of a script did on the ledger with this history: everything but the last line
-pub record RunsOn (scheme : Scheme) (h : History) (ending : LedgerEnding) (before after_all : Handed) : Type 0 where
+-- what a run of a script did on the ledger with this history: everything but the last line; and what is so of the history after all lines
+pub record RunsOn (scheme : Scheme) (h : History) (IsSo : History → Type 0) (ending : LedgerEnding) (before after_all : Handed) : Type 0 where
   -- the bytes that were read, and those that were written
   pub read : List ℕ
   pub replies : List ℕ
   pub consumed : Consumes before.source.left after_all.source.left read
   pub appended : Appends before.sink.held after_all.sink.held replies
-  pub replied : Replies scheme h ending read replies before after_all
+  pub replied : Replies scheme h IsSo ending read replies before after_all
 
 -- nothing was read or written, and the notary is as it was
 pub record IsUnstarted (before after_all : Handed) : Type 0 where
@@ -288,9 +291,14 @@ pub record IsUnstarted (before after_all : Handed) : Type 0 where
   pub unwritten : after_all.sink ≡ before.sink
   pub unasked : after_all.notary ≡ before.notary
 
--- a script is run on the history that a committer and its disks have, where no journal waits, with a notary that keeps a list
-pub record Runs (scheme : Scheme) (tells : Bool) (w : World) (ending : LedgerEnding) (before after_all : Handed) : Type 0 where
-  pub serves : (h : History) → Holds tells w h → h.waiting ≡ [] → IsList before.notary.entries → RunsOn scheme h ending before after_all
+-- nothing more is said of the history before a run and of the one after it
+abbrev pub Anything : History → History → Type 0
+Anything h g = ⊤
+
+-- a script is run on the history that a committer and its disks have, where no journal waits, with a notary that keeps a list; and this is so
+-- of that history and the one after all lines
+pub record Runs (scheme : Scheme) (tells : Bool) (w : World) (IsSo : History → History → Type 0) (ending : LedgerEnding) (before after_all : Handed) : Type 0 where
+  pub serves : (h : History) → Holds tells w h → h.waiting ≡ [] → IsList before.notary.entries → RunsOn scheme h (IsSo h) ending before after_all
   pub ends : ReadsBy ending before.source after_all.source
   pub faults : FaultsBy ending before after_all
   pub failures : NotaryFails before after_all
@@ -325,11 +333,11 @@ pub record IsNotOpened (h : History) (ending : LedgerEnding) (before after_all :
   pub clean : AreQuiet before.disks → IsCleanPair before.disks.a.bytes.seen before.disks.b.bytes.seen h
       → (after_all.disks.a.bytes ≡ before.disks.a.bytes) × (after_all.disks.b.bytes ≡ before.disks.b.bytes)
 
--- what `run` does: the ledger that is there is opened, and the script is run on it
-pub record RunsAgain (scheme : Scheme) (tells : Bool) (ending : LedgerEnding) (before after_all : Handed) : Type 0 where
+-- what `run` does: the ledger that is there is opened, and the script is run on it; and this is so of its history and the one after all lines
+pub record RunsAgain (scheme : Scheme) (tells : Bool) (IsSo : History → History → Type 0) (ending : LedgerEnding) (before after_all : Handed) : Type 0 where
   -- whatever history the pair stood for, where the notary keeps a list
   pub serves : IsTrue tells → (h : History) → StandFor before.disks h → IsList before.notary.entries
-      → RunsOn scheme h ending before after_all ⊎ IsNotOpened h ending before after_all
+      → RunsOn scheme h (IsSo h) ending before after_all ⊎ IsNotOpened h ending before after_all
   -- a refusal reads and writes nothing, whatever the disks tell
   pub unstarted : IsSome (refusal_of ending) → IsUnstarted before after_all
   pub refused : IsTrue tells → IfSome (refusal_of ending) (λ e. IsRefused e before.disks after_all.disks)
@@ -429,7 +437,7 @@ pub record IsNotMade (genesis : Genesis) (ending : LedgerEnding) (before after_a
 
 -- what `dry` does: a new ledger is made, and the script is run on it
 pub record RunsNew (scheme : Scheme) (genesis : Genesis) (tells : Bool) (ending : LedgerEnding) (before after_all : Handed) : Type 0 where
-  pub serves : IsTrue tells → HasNone before.disks → IsList before.notary.entries → RunsOn scheme (new_ledger genesis) ending before after_all ⊎ IsNotMade genesis ending before after_all
+  pub serves : IsTrue tells → HasNone before.disks → IsList before.notary.entries → RunsOn scheme (new_ledger genesis) (Anything (new_ledger genesis)) ending before after_all ⊎ IsNotMade genesis ending before after_all
   -- a refusal reads and writes nothing, whatever the disks tell
   pub unstarted : IsSome (refusal_of ending) → IsUnstarted before after_all
   -- .. and there is one, whatever the disks tell
@@ -463,13 +471,16 @@ pub record Soaks (seed count stop : ℕ) (ending : LedgerEnding) (before after_a
   pub notary_is : after_all.notary ≡ before.notary
 
 -- What `board` does: the ledger that is there is opened, and the script is run on it, as `run` does, with so many provers beside it.
--- Behind the replies their lines are written.
+-- Behind the replies their lines are written, with sizes of lists that were published.
 pub record RunsBoard (scheme : Scheme) (tells : Bool) (provers count : ℕ) (ending : LedgerEnding) (before after_all : Handed) : Type 0 where
   -- how the script's run ended, and what it left
   pub met : LedgerEnding
   pub mid : Handed
-  pub ran : RunsAgain scheme tells met before mid
-  pub told : TellsBehind (λ h. IsTrue tells × StandFor before.disks h) provers count met ending (outside_of mid) (outside_of after_all)
+  -- what the provers did, and the size that was published last
+  pub tallies : List Tally
+  pub published : ℕ
+  pub ran : RunsAgain scheme tells (TellsSizes tallies published) met before mid
+  pub told : TellsBehind (λ h. IsTrue tells × StandFor before.disks h) provers count tallies published met ending (outside_of mid) (outside_of after_all)
   pub disks_are : after_all.disks ≡ mid.disks
   pub notary_is : after_all.notary ≡ mid.notary
   pub faults : FaultsBy ending before after_all

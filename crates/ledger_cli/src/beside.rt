@@ -8,7 +8,7 @@ ghost use Rattle.proof_board.specs.History.{Digests, IsWide, all_leaves};
 ghost use Rattle.proof_board.specs.Growing.{IsListOf};
 ghost use Rattle.proof_board.specs.Hands.{EachGives, HasPartRoom, HasProverRoom};
 ghost use Rattle.proof_board.specs.Words.{shown_by, history_of, waiting_of, IsNew, IsPassOf, IsWriterOf};
-ghost use Rattle.ledger_cli.specs.Boards.{lasting_of};
+ghost use Rattle.ledger_cli.specs.Boards.{HasFollowed, lasting_of};
 ghost use Rattle.ledger_cli.specs.Beside.{handed_to, world_of, RunsBeside, SameScript, WritesTallies};
 ghost use Rattle.ledger_cli.specs.Endings.{refusal_of};
 ghost use Rattle.ledger_cli.specs.declared.ending.LedgerEnding.TheVariants as ending;
@@ -63,6 +63,7 @@ fn open<'r, R: Wait>(
     ensures len { IfOk result (λ x. vec_len x.passes ≡ provers) }
     ensures passes { IfOk result (λ x. All (λ p. IsPassOf x.board p
         × IsNew (shown_by x.posting.writer) p) x.passes.items) }
+    ensures floor { IfOk result (λ x. (shown_by x.posting.writer).base.floor ≡ book.now.floor) }
     ensures begins { IfOk result (λ x. (length (history_of x.posting.writer) ≡ 1)
         × (waiting_of x.posting.writer ≡ [])) }
     ensures room { IfOk result (λ x. HasProverRoom provers x.room × HasPartRoom provers x.parts) }
@@ -129,7 +130,8 @@ fn run_script<
     requires passes { All (IsPassOf board.now) passes.items }
     requires hands { HasProverRoom (vec_len passes) room }
     ensures back { SameScript script.entry result.0 }
-    ensures ran { Runs (V.shows tools.now.verifier.now) D.tells (world_of D.state K.state script.entry) result.1
+    ensures ran { Runs (V.shows tools.now.verifier.now) D.tells (world_of D.state K.state script.entry)
+        (HasFollowed (W.board script.entry.follower.now) (W.board result.0.follower.now)) result.1
         (handed_to S.state K.state D.state N.state script.entry) (handed_to S.state K.state D.state N.state result.0) }
     ensures unrefused { refusal_of result.1 ≡ None }
     ensures same { lasting_of (W.board result.0.follower.now) ≡ lasting_of (W.board script.entry.follower.now) }
@@ -150,7 +152,8 @@ fn run_script<
             requires room { HasRoom script.committer.now.kept }
             requires none { script.committer.now.kept.dues ≡ [] }
             ensures back { SameScript script.entry result.0 }
-            ensures ran { Runs (V.shows verifier.entry.now) D.tells (world_of D.state K.state script.entry) result.1
+            ensures ran { Runs (V.shows verifier.entry.now) D.tells (world_of D.state K.state script.entry)
+                (HasFollowed (W.board script.entry.follower.now) (W.board result.0.follower.now)) result.1
                 (handed_to S.state K.state D.state N.state script.entry) (handed_to S.state K.state D.state N.state result.0) }
             ensures unrefused { refusal_of result.1 ≡ None }
             ensures same { lasting_of (W.board result.0.follower.now) ≡ lasting_of (W.board script.entry.follower.now) }
@@ -223,7 +226,8 @@ fn run_lent<
     requires passes { All (IsPassOf board.now) passes.items }
     requires hands { HasProverRoom (vec_len passes) room }
     ensures ran { Runs (V.shows tools.now.verifier.now) D.tells (world committer.old.kept
-        (pair (D.state a.old) (D.state b.old)) (K.state sink.old)) result.0
+        (pair (D.state a.old) (D.state b.old)) (K.state sink.old))
+        (HasFollowed (W.board follower.old) (W.board follower.new)) result.0
         (handed (S.state source.old) (K.state sink.old) (pair (D.state a.old) (D.state b.old)) (N.state notary.old))
         (handed (S.state source.new) (K.state sink.new) (pair (D.state a.new) (D.state b.new)) (N.state notary.new)) }
     ensures unrefused { refusal_of result.0 ≡ None }

@@ -1,14 +1,14 @@
 //! How a board follows a ledger.
 
-ghost use Rattle.std.specs.Prelude.{◌≡◌, ◌-◌, ◌≤◌, ◌<◌, [], List, ℕ, All, MatchBool, map, take, drop, length, IfOk, IsTrue};
+ghost use Rattle.std.specs.Prelude.{◌≡◌, ◌⊎◌, ◌-◌, ◌≤◌, ◌<◌, [], List, ℕ, All, MatchBool, map, take, drop, length, IfOk};
 ghost use Rattle.sha2.specs.Sha256.{sha256};
 ghost use Rattle.merkle_batch.specs.Rows.{StandsFor};
-ghost use Rattle.ledger_cli.specs.Boards.{IsBlockEnd, lasting};
+ghost use Rattle.ledger_cli.specs.Boards.{IsAlone, IsBlockEnd, lasting};
 ghost use Rattle.ledger_book.specs.Books.{Serves};
-ghost use Rattle.ledger_model.specs.History.{History};
+ghost use Rattle.ledger_model.specs.History.{History, size};
 ghost use Rattle.ledger_model.specs.Lawful.{IsBlock};
 ghost use Rattle.proof_board.specs.Words.{history_of, waiting_of};
-ghost use Rattle.ledger_cli.specs.Beside.{IsAlone, IsPublished, posted_by};
+ghost use Rattle.ledger_cli.specs.Beside.{IsPublished, posted_by};
 
 use crate::follower::Follower;
 use crate::posting::Posting;
@@ -47,7 +47,7 @@ fn leaves_between(
 
 // Whether a book's last journal stands in a block of its own: it is of a kind that shares none.
 fn ends_alone(book: &Book) -> bool
-    ensures { IsTrue result → (h : History) → Serves book.now h → IsAlone h }
+    ensures { (h : History) → Serves book.now h → MatchBool result (IsAlone h) (IsAlone h → ⊥) }
 {
     match book.header(book.size() - 1) {
         Some(header) => !matches!(header.kind, Kind::Content | Kind::Member),
@@ -63,7 +63,8 @@ impl<'r, R: Wait> Posting<'r, R> {
         ensures few { self.now.size < result → result ≤ self.now.limit }
         ensures ended { self.now.size < result → (h : History) → Serves book.now h
             → All IsBlock h.closed → h.waiting ≡ [] → IsBlockEnd h result }
-        ensures whole { book.now.tree.size ≤ self.now.limit → result ≡ book.now.tree.size }
+        ensures most { (h : History) → Serves book.now h → (n : ℕ)
+            → (n ≡ size h) ⊎ ((n ≡ size h - 1) × IsAlone h) → n ≤ self.now.limit → n ≤ result }
     {
         let size = book.tree().size();
         if size <= self.limit {

@@ -15,7 +15,7 @@ ghost use Rattle.ledger_model.specs.Windows.{said_lines, windows};
 ghost use Rattle.script_lines.specs.Receipts.{IsReceipted};
 ghost use Rattle.ledger_bytes.specs.declared.digest.Digest.{Digest};
 ghost use Rattle.ledger_model.specs.Lawful.{IsSound};
-ghost use Rattle.ledger_cli.specs.Runs.{Answers, Handed, MayStand, RunsAgain, StandFor};
+ghost use Rattle.ledger_cli.specs.Runs.{Answers, Anything, Handed, MayStand, RunsAgain, StandFor};
 ghost use Rattle.ledger_cli.specs.Leaving.{AreClean, AreErased};
 ghost use Rattle.ledger_cli.specs.Shown.{IsShown};
 ghost use Rattle.ledger_cli.specs.Taken.{taken, TookSome};
@@ -65,7 +65,7 @@ pub fn a_written_receipt_is_shown()
 /// A run that a failing disk ends wrote whole lines alone, also where a write was pending on a disk at the call.
 pub fn a_run_that_a_disk_ends_cuts_no_line()
     ensures { (scheme : Scheme) (before now : Handed) (h : History) (written : List ℕ)
-        → RunsAgain scheme true ending.DiskFault before now → StandFor before.disks h
+        → RunsAgain scheme true Anything ending.DiskFault before now → StandFor before.disks h
         → IsList before.notary.entries → before.sink.held ≡ Some [] → now.sink.held ≡ Some written
         → AreWhole written }
 {}

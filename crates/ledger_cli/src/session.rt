@@ -3,11 +3,11 @@
 ghost use Rattle.std.specs.Prelude.{◌≡◌, [], false, None, OnOk, IfErr};
 ghost use Rattle.batch_committer.specs.World.{pair, world, Fits, HasRoom};
 ghost use Rattle.ledger_io.specs.declared.ending.Ending.TheVariants as run;
-ghost use Rattle.ledger_cli.specs.Boards.{lasting_of};
+ghost use Rattle.ledger_cli.specs.Boards.{HasFollowed, lasting_of};
 ghost use Rattle.ledger_cli.specs.Desks.{at_desk, handed_at, SameDesk};
 ghost use Rattle.ledger_cli.specs.Endings.{refusal_of};
 ghost use Rattle.ledger_cli.specs.Pieces.{world_at, IsOpen};
-ghost use Rattle.ledger_cli.specs.Runs.{handed, Runs};
+ghost use Rattle.ledger_cli.specs.Runs.{handed, Anything, Runs};
 ghost use Rattle.ledger_cli.specs.declared.ending.LedgerEnding.TheVariants as ending;
 
 use crate::desk::Desk;
@@ -67,7 +67,7 @@ pub fn run_session<
     requires room { HasRoom committer.old.kept }
     requires none { committer.old.kept.dues ≡ [] }
     ensures ran { Runs (V.shows tools.now.verifier.now) D.tells (world committer.old.kept
-        (pair (D.state a.old) (D.state b.old)) (K.state sink.old)) result
+        (pair (D.state a.old) (D.state b.old)) (K.state sink.old)) Anything result
         (handed (S.state source.old) (K.state sink.old) (pair (D.state a.old) (D.state b.old)) (N.state notary.old))
         (handed (S.state source.new) (K.state sink.new) (pair (D.state a.new) (D.state b.new)) (N.state notary.new)) }
     ensures unrefused { refusal_of result ≡ None }
@@ -103,7 +103,8 @@ pub(crate) fn follow_session<
     requires room { HasRoom committer.old.kept }
     requires none { committer.old.kept.dues ≡ [] }
     ensures ran { Runs (V.shows tools.now.verifier.now) D.tells (world committer.old.kept
-        (pair (D.state a.old) (D.state b.old)) (K.state sink.old)) result
+        (pair (D.state a.old) (D.state b.old)) (K.state sink.old))
+        (HasFollowed (W.board follower.old) (W.board follower.new)) result
         (handed (S.state source.old) (K.state sink.old) (pair (D.state a.old) (D.state b.old)) (N.state notary.old))
         (handed (S.state source.new) (K.state sink.new) (pair (D.state a.new) (D.state b.new)) (N.state notary.new)) }
     ensures unrefused { refusal_of result ≡ None }
@@ -151,11 +152,13 @@ fn answer_lines<
     requires none { desk.old.committer.now.kept.dues ≡ [] }
     ensures same { SameDesk W.board desk.old desk.new }
     ensures done { OnOk result (Runs (V.shows tools.now.verifier.now) D.tells
-        (world_at (at_desk D.state K.state N.state W.board desk.old)) (ending.Run run.Done)
+        (world_at (at_desk D.state K.state N.state W.board desk.old))
+        (HasFollowed (W.board desk.old.follower.now) (W.board desk.new.follower.now)) (ending.Run run.Done)
         (handed_at (S.state source.old) (at_desk D.state K.state N.state W.board desk.old))
         (handed_at (S.state source.new) (at_desk D.state K.state N.state W.board desk.new))) }
     ensures ended { IfErr result (λ e. Runs (V.shows tools.now.verifier.now) D.tells
-        (world_at (at_desk D.state K.state N.state W.board desk.old)) e
+        (world_at (at_desk D.state K.state N.state W.board desk.old))
+        (HasFollowed (W.board desk.old.follower.now) (W.board desk.new.follower.now)) e
         (handed_at (S.state source.old) (at_desk D.state K.state N.state W.board desk.old))
         (handed_at (S.state source.new) (at_desk D.state K.state N.state W.board desk.new))) }
     ensures unrefused { IfErr result (λ e. refusal_of e ≡ None) }

@@ -6,7 +6,7 @@ ghost use Rattle.ledger_bytes.specs.Causes.{count_after};
 ghost use Rattle.ledger_io.specs.Outside.{SourceState, MeetsOne};
 ghost use Rattle.time_peg.specs.Entries.{NotaryState};
 ghost use Rattle.ledger_cli.specs.Program.{Finishes, RanProgram, ServedBy};
-ghost use Rattle.ledger_cli.specs.Runs.{handed, Exports, Makes, NothingFailed, RunsAgain, RunsNew, Signs, Soaks};
+ghost use Rattle.ledger_cli.specs.Runs.{handed, Anything, Exports, Makes, NothingFailed, RunsAgain, RunsNew, Signs, Soaks};
 ghost use Rattle.ledger_cli.specs.Chaining.{HasRange, chain_line};
 ghost use Rattle.ledger_cli.specs.Signing.{signed_text};
 ghost use Rattle.ledger_cli.specs.Words.{command_of};
@@ -191,7 +191,7 @@ fn run_again<
     b: &mut D,
     notary: &mut N,
 ) -> LedgerEnding
-    ensures { RunsAgain (V.shows tools.now.verifier.now) D.tells result
+    ensures { RunsAgain (V.shows tools.now.verifier.now) D.tells Anything result
         (handed (S.state source.old) (K.state sink.old) (pair (D.state a.old) (D.state b.old)) (N.state notary.old))
         (handed (S.state source.new) (K.state sink.new) (pair (D.state a.new) (D.state b.new)) (N.state notary.new)) }
 {

@@ -24,4 +24,4 @@ returns-in-Ok g c =
 
 pub returns-in-Err : goal.returns-in-Err
 returns-in-Err g c =
-    rw c.from.ensures (board_unopened _ g.D.Disk.tells c.args.provers c.args.count _ _ _ _ _ c.in-Err.error (not_opened _ g.D.Disk.tells _ _ _ _ _ c.in-Err.error c.in-Err.ensures.only c.in-Err.ensures.err c.in-Err.ensures.same c.in-Err.ensures.refused c.in-Err.ensures.synced c.in-Err.ensures.clean c.in-Err.ensures.faults))
+    rw c.from.ensures (board_unopened _ g.D.Disk.tells c.args.provers c.args.count _ _ _ _ _ c.in-Err.error (not_opened _ g.D.Disk.tells _ _ _ _ _ _ c.in-Err.error c.in-Err.ensures.only c.in-Err.ensures.err c.in-Err.ensures.same c.in-Err.ensures.refused c.in-Err.ensures.synced c.in-Err.ensures.clean c.in-Err.ensures.faults))

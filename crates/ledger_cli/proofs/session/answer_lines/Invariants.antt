@@ -14,7 +14,7 @@ invariant-loop-line g l =
       ready : IsOpen g.D.Disk.tells now;
       fresh : l.desk.end ≡ None;
       same : SameDesk g.W.Follower.board l.fn.desk l.desk;
-      sofar : SoFar (g.V.Verifier.shows l.fn.tools.verifier.now) g.D.Disk.tells (world_at first) (world_at now) first.notary now.notary (g.S.Source.state l.fn.source) (g.S.Source.state l.source) l.lines l.piece.first l.piece.next l.piece.lines.items l.window.lines l.window.bytes;
+      sofar : SoFar (g.V.Verifier.shows l.fn.tools.verifier.now) g.D.Disk.tells (world_at first) (world_at now) first.notary now.notary first.board now.board (g.S.Source.state l.fn.source) (g.S.Source.state l.source) l.lines l.piece.first l.piece.next l.piece.lines.items l.window.lines l.window.bytes;
     }
 
 -- how much may be read yet, and how much of what was read is left

@@ -19,8 +19,8 @@ returns-in-Ok g c =
     let r = c.in-Ok.ensures.ok in
     let counts = c.in-Ok.ensures.faults in
     ran_again _ g.D.Disk.tells _ _ _ _ _ (known_from o.book o.places.list (gate_of (file_of o.twin))) (in_a_of o.twin) (generation_in o.twin) r.0 r.1 (record { knows = r.2; told = told_at (in_a_of o.twin) _ _ _ c.in-Ok.ensures.told }) _ (c.new-committer.ensures.kept ∙ ap (first_kept o.book o.places.list (gate_of (file_of o.twin)) (in_a_of o.twin) (generation_in o.twin)) c.in-Ok.ensures.copy)
-    (c.in-Ok.ensures.limits ∙ c.real.ensures) r.3 counts.0 counts.1 c.run_session.result _ c.run_session.ensures.ran c.run_session.ensures.unrefused
+    _ (c.in-Ok.ensures.limits ∙ c.real.ensures) r.3 counts.0 counts.1 c.run_session.result _ c.run_session.ensures.ran c.run_session.ensures.unrefused
 
 pub returns-in-Err : goal.returns-in-Err
 returns-in-Err g c =
-    rw c.from.ensures (not_opened _ g.D.Disk.tells _ _ _ _ _ c.in-Err.e c.in-Err.ensures.only c.in-Err.ensures.err c.in-Err.ensures.same c.in-Err.ensures.refused c.in-Err.ensures.synced c.in-Err.ensures.clean c.in-Err.ensures.faults)
+    rw c.from.ensures (not_opened _ g.D.Disk.tells _ _ _ _ _ _ c.in-Err.e c.in-Err.ensures.only c.in-Err.ensures.err c.in-Err.ensures.same c.in-Err.ensures.refused c.in-Err.ensures.synced c.in-Err.ensures.clean c.in-Err.ensures.faults)

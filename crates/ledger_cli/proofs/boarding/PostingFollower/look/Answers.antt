@@ -1,31 +1,45 @@
-use Rattle.std.proofs.Common.{◌≡◌, ◌+◌, length, ap, ◌∙◌, arith}
+use Rattle.std.proofs.Common.{◌≡◌, ◌+◌, inl, inr, length, refl, ap, sym, ◌∙◌, arith, true≢false}
 use Rattle.proof_board.proofs.Paired.{none_left}
 use Rattle.proof_board.specs.Words.{shown_by}
 use Rattle.ledger_cli.specs.Beside.{posted_by}
-use Rattle.ledger_cli.specs.Boards.{Lasting, board_limit, published_size}
-use Rattle.ledger_cli.proofs.FollowLaws.{look_follows, look_up, posted_le, tree_size}
+use Rattle.ledger_cli.specs.Boards.{board_limit, published_size}
+use Rattle.ledger_cli.proofs.FollowLaws.{look_follows, posted_same, shown_or_new}
+use Rattle.ledger_cli.proofs.boarding.PostingFollower.look.Goals.{then-self-via-then-self, then-self-via-else-self+then-unsealed-ne0}
 use Rattle.ledger_cli.proofs.boarding.PostingFollower.look.Goals as goal
 
 pub returns-then-self-end-clause-follows : goal.returns-then-self-end-clause-follows
-returns-then-self-end-clause-follows g c = λ first h serves blocks f.
-    let none : length h.waiting ≡ 0 = (let n = c.unsealed.ensures.count h serves.stands in omega (arith, n, c.if-unsealed-ne0.false)) in
-    let limited : c.args.self.now.limit ≡ (shown_by c.args.self.now.writer).base.floor + board_limit = c.args.self.now.limited in
-    look_follows first h c.args.self.now c.publish_to.new.self c.tree.result.now c.last_end-end.result f c.publish_to.ensures.same c.publish_to.ensures.published
-    (c.last_end-end.ensures.ended c.if-self-end.true h serves blocks (none_left h.waiting none)) (let few = c.last_end-end.ensures.few c.if-self-end.true in omega (arith, few, limited))
+returns-then-self-end-clause-follows g c = λ first h k serves blocks next f.
+    let old = c.args.self.now in
+    let none : length k.waiting ≡ 0 = (let n = c.unsealed.ensures.count k serves.stands in omega (arith, n, c.if-unsealed-ne0.false)) in
+    let limited : old.limit ≡ (shown_by old.writer).base.floor + board_limit = old.limited in
+    let sized : old.size ≡ published_size (shown_by old.writer) = old.sized in
+    look_follows first h k old c.publish_to.new.self c.tree.result.now c.last_end-end.result next f c.publish_to.ensures.same c.publish_to.ensures.published
+    (c.last_end-end.ensures.ended c.if-self-end.true k serves blocks (none_left k.waiting none)) (let few = c.last_end-end.ensures.few c.if-self-end.true in omega (arith, few, limited))
+    (λ n e few. elim (shown_or_new first h k (posted_by old) (posted_by old) next f refl c.if-self.false n e few) [
+      | inl shown ↦ omega (arith, shown, sized, c.if-self-end.true)
+      | inr new ↦ c.last_end-end.ensures.most k serves n new.1 (omega (arith, few, limited))
+    ])
 
-pub returns-then-self-end-clause-up : goal.returns-then-self-end-clause-up
-returns-then-self-end-clause-up g c = λ first h serves blocks none f not few.
-    let up = look_up first h c.args.self.now c.publish_to.new.self c.tree.result.now c.last_end-end.result f c.publish_to.ensures.same c.publish_to.ensures.published not in
-    let base : (shown_by c.publish_to.new.self.writer).base.floor ≡ (shown_by c.args.self.now.writer).base.floor = ap (λ (l : Lasting). l.base.floor) c.publish_to.ensures.same in
-    let limited : c.args.self.now.limit ≡ (shown_by c.args.self.now.writer).base.floor + board_limit = c.args.self.now.limited in
-    let tree = tree_size c.args.book.now h serves in
-    up ∙ c.last_end-end.ensures.whole (omega (arith, tree, few, base, limited)) ∙ tree
+pub returns-else-self-end-clause-follows : goal.returns-else-self-end-clause-follows
+returns-else-self-end-clause-follows g c = λ first h k serves blocks next f.
+    let old = c.args.self.now in
+    let limited : old.limit ≡ (shown_by old.writer).base.floor + board_limit = old.limited in
+    let sized : old.size ≡ published_size (shown_by old.writer) = old.sized in
+    posted_same first h k (posted_by old) (posted_by old) next f refl refl f.none_waits
+    (λ no n e few. elim (shown_or_new first h k (posted_by old) (posted_by old) next f refl no n e few) [
+      | inl shown ↦ shown
+      | inr new ↦ (let most = c.last_end-end.ensures.most k serves n new.1 (omega (arith, few, limited)) in omega (arith, most, sized, c.if-self-end.false))
+    ])
 
-pub returns-else-self-end-clause-up : goal.returns-else-self-end-clause-up
-returns-else-self-end-clause-up g c = λ first h serves blocks none f not few.
-    let limited : c.args.self.now.limit ≡ (shown_by c.args.self.now.writer).base.floor + board_limit = c.args.self.now.limited in
-    let sized : c.args.self.now.size ≡ published_size (shown_by c.args.self.now.writer) = c.args.self.now.sized in
-    let tree = tree_size c.args.book.now h serves in
-    let whole = c.last_end-end.ensures.whole (omega (arith, tree, few, limited)) in
-    let most = posted_le first h (posted_by c.args.self.now) f in
-    omega (arith, whole, tree, most, sized, c.if-self-end.false)
+-- nothing was looked at, as memory was missing before, or a journal waits
+pub returns-then-self-clause-follows : goal.returns-then-self-clause-follows
+returns-then-self-clause-follows g c = λ first h k serves blocks next f.
+    let old = c.args.self.now in
+    posted_same first h k (posted_by old) (posted_by old) next f refl refl f.none_waits
+    (λ no n e few. elim (shown_or_new first h k (posted_by old) (posted_by old) next f refl no n e few) [
+      | inl shown ↦ shown
+      | inr new ↦ absurd (elim c.then-self.branch [
+        | then-self-via-then-self w ↦ true≢false (sym w.if-self.true ∙ no)
+        | then-self-via-else-self+then-unsealed-ne0 w ↦ w.if-unsealed-ne0.true (w.unsealed.ensures.count k serves.stands ∙ ap length new.0)
+      ])
+    ])
