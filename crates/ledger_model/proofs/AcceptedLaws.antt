@@ -10,7 +10,8 @@ use Rattle.ledger_bytes.specs.declared.digest.Digest.{Digest}
 use Rattle.ledger_bytes.specs.declared.limits.TheConstants.{MEMBER_LIMIT, CONTENT_LIMIT}
 use Rattle.ledger_bytes.specs.declared.refusal.Refusal.{Refusal}
 use Rattle.ledger_bytes.specs.declared.refusal.Refusal.TheVariants.{CluesFull, MemberNumber, MembersFull}
-use Rattle.journal_record.specs.Entry.{Entry, content_digest_of}
+use Rattle.journal_record.specs.Approval.{who_of}
+use Rattle.journal_record.specs.Entry.{Entry, content_digest_of, who_digest_of}
 use Rattle.journal_record.specs.Members.{is_known, number_refusal}
 use Rattle.journal_record.specs.Rules.{IsHeader, is_no_clue, clue_ord_ok, clue_prev_ok, version_of}
 use Rattle.journal_record.specs.declared.approval.Approval.{Approval}
@@ -104,9 +105,9 @@ prev_ok h clue numbers = elim (is_no_clue clue) as (λ v. cond (nat_le (cond v 0
 ]
 
 -- a member's record that is accepted
-module _ (limits : Limits) (within : AreWithin limits) (h : History) (member : ℕ) (clue : Digest) (content : List ℕ) (content_digest request : Digest) (by : Approval) (number : ℕ) (judged : IsNone (first_refusal (append_judgements limits h member clue number request by.key))) (new : IsNew (repeated h member number request)) where
+module _ (limits : Limits) (within : AreWithin limits) (h : History) (member : ℕ) (clue : Digest) (content : List ℕ) (content_digest request : Digest) (by : Approval) (who : Digest) (number : ℕ) (judged : IsNone (first_refusal (append_judgements limits h member clue number request by.key))) (new : IsNew (repeated h member number request)) where
   abbrev placed_record : Entry
-  placed_record = append_journal h member clue content content_digest request by number
+  placed_record = append_journal h member clue content content_digest request by who number
 
   -- what is looked at where nothing is repeated
   looked_at : IsNone (unknown_in (keys h) member) × IsNone (number_taken h member number request) × IsNone (fullness limits h) × IsNone (clues_full limits h clue)
@@ -351,13 +352,14 @@ stamp_few step stamp = by_full (nat_le NOTARY_LIMIT (length step.before)) refl s
   by_full false e false is = omega (arith, leb-false NOTARY_LIMIT (length step.before) e, first_index (length step.before) (drop (length step.before) step.after) stamp is)
 
 -- .. and its parts have their digests
-pub record_whole : (h : History) (member : ℕ) (clue : Digest) (content : List ℕ) (content_digest request : Digest) (by : Approval) (number : ℕ)
-    → bytes_eq content_digest.0 (content_digest_of content) ≡ true → IsWhole (append_journal h member clue content content_digest request by number)
+pub record_whole : (h : History) (member : ℕ) (clue : Digest) (content : List ℕ) (content_digest request : Digest) (by : Approval) (who : Digest) (number : ℕ)
+    → bytes_eq content_digest.0 (content_digest_of content) ≡ true → bytes_eq who.0 (who_digest_of (who_of (by ∷ []))) ≡ true
+    → IsWhole (append_journal h member clue content content_digest request by who number)
 unfolding append_header
-record_whole h member clue content content_digest request by number is = record {
+record_whole h member clue content content_digest request by who number is told = record {
   length_is = refl;
   content_is = (bytes_eq-Decides content_digest.0 (content_digest_of content)).0 is;
-  who_is = refl;
+  who_is = (bytes_eq-Decides who.0 (who_digest_of (who_of (by ∷ [])))).0 told;
 }
 
 -- a new member that is accepted

@@ -64,9 +64,9 @@ within_anchor k step None (Some stamp) = within_judged k step Anchor None (time_
 pub within_job : (k : History) (step : Step) (job : Job) → IsWithin 0 (size (after_job k step job)) (answer_to k step job)
 unfolding after_job answer_to with_job outcome
 within_job k step (Refused refusal) = tt
-within_job k step (Append member clue content content_digest request by number) =
-    let job = Append member clue content content_digest request by number in
-    within_record k step job (own_refusal real_limits k job) (repeated k member number request) (append_journal k member clue content content_digest request by number) (λ n is. (repeated_within k member number request n is).1)
+within_job k step (Append member clue content content_digest request by who number) =
+    let job = Append member clue content content_digest request by who number in
+    within_record k step job (own_refusal real_limits k job) (repeated k member number request) (append_journal k member clue content content_digest request by who number) (λ n is. (repeated_within k member number request n is).1)
 within_job k step (NewMember number key by) =
     let job = NewMember number key by in within_judged k step job (own_refusal real_limits k job) (member_journal (size k) number key by)
 within_job k step Anchor = within_anchor (close k) step (own_refusal real_limits (close k) Anchor) (stamp_of step)

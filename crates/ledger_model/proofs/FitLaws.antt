@@ -319,7 +319,7 @@ needs_fit h p l = (omega arith, owners_fit 0 (point h) p (journals h) (lawful_fr
 -- the numbers of a job that a refusal may tell
 abbrev pub JobFits : Job → Type 0
 JobFits (Refused refusal) = RefusalFits refusal
-JobFits (Append member clue content content_digest request by number) = FitsWord member
+JobFits (Append member clue content content_digest request by who number) = FitsWord member
 JobFits (NewMember number key by) = ⊤
 JobFits Anchor = ⊤
 JobFits (Occult target leaf given) = (length given ≤ APPROVAL_LIMIT) × MembersFit given
@@ -332,7 +332,7 @@ JobFits Head = ⊤
 
 own_fits : (h : History) (job : Job) → IsLawful h → JobFits job → MayFit (own_refusal real_limits h job)
 own_fits h (Refused refusal) l f = f
-own_fits h (Append member clue content content_digest request by number) l f =
+own_fits h (Append member clue content content_digest request by who number) l f =
     let again = repeated h member number request in
     first_fits (unknown_in (keys h) member ∷ wrong_key_in (keys h) member by.key ∷ number_taken h member number request ∷ unless_repeated again (fullness real_limits h) ∷ unless_repeated again (clues_full real_limits h clue) ∷ [])
     (unknown_fits (keys h) member f, (wrong_fits (keys h) member by.key f, (taken_fits h member number request l, (unless_fits again (fullness real_limits h) (full_fits h l), (unless_fits again (clues_full real_limits h clue) (clues_fit h clue), tt)))))
@@ -442,9 +442,9 @@ asked_fits h step job q f told = asked AnswerFits h step (own_refusal real_limit
 outcome_fits : (h : History) (step : Step) (job : Job) → IsLawful h → IsCounted step → JobFits job → AnswerFits (answer_for h step (outcome real_limits (stamp_of step) h job))
 unfolding outcome
 outcome_fits h step (Refused refusal) l c f = f
-outcome_fits h step (Append member clue content content_digest request by number) l c f =
-    let job = Append member clue content content_digest request by number in
-    record_fits h step (own_refusal real_limits h job) (repeated h member number request) (append_journal h member clue content content_digest request by number) c (own_fits h job l f)
+outcome_fits h step (Append member clue content content_digest request by who number) l c f =
+    let job = Append member clue content content_digest request by who number in
+    record_fits h step (own_refusal real_limits h job) (repeated h member number request) (append_journal h member clue content content_digest request by who number) c (own_fits h job l f)
 outcome_fits h step (NewMember number key by) l c f =
     let job = NewMember number key by in placed_fits h step (own_refusal real_limits h job) (member_journal (size h) number key by) c (own_fits h job l f)
 outcome_fits h step Anchor l c f = anchor_fits h step (own_refusal real_limits h Anchor) (stamp_of step) c (own_fits h Anchor l f)

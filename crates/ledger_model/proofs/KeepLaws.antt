@@ -13,7 +13,8 @@ use Rattle.std.proofs.lemmas.Slice.Eq.{bytes_eq-Decides}
 use Rattle.ledger_bytes.specs.declared.digest.Digest.{Digest}
 use Rattle.ledger_bytes.specs.declared.limits.TheConstants.{APPROVAL_LIMIT, BLOCK_LIMIT, NAME_LIMIT, CONTENT_LIMIT, PROOF_LIMIT}
 use Rattle.ledger_bytes.specs.declared.refusal.Refusal.{Refusal}
-use Rattle.journal_record.specs.Entry.{Entry, content_digest_of}
+use Rattle.journal_record.specs.Approval.{who_of}
+use Rattle.journal_record.specs.Entry.{Entry, content_digest_of, who_digest_of}
 use Rattle.journal_record.specs.Request.{occult_request_digest_of, purge_request_digest_of}
 use Rattle.journal_record.specs.declared.approval.Approval.{Approval}
 use Rattle.script_lines.specs.Grammar.{spoken_line}
@@ -22,7 +23,7 @@ use Rattle.script_lines.specs.declared.said.SaidApproval.{SaidApproval}
 use Rattle.script_lines.specs.declared.line.Line.{Line}
 use Rattle.script_lines.specs.declared.line.Line.TheVariants as line
 use Rattle.script_lines.proofs.Fitting.{spoken_fits}
-use Rattle.ledger_model.specs.Appends.{approval_of, append_with, member_job, occult_job, purge_job, append_header, append_journal, member_header, member_journal, occult_journal, purge_journal}
+use Rattle.ledger_model.specs.Appends.{approval_of, request_with, append_with, member_job, occult_job, purge_job, append_header, append_journal, member_header, member_journal, occult_journal, purge_journal}
 use Rattle.ledger_model.specs.Fitting.{fits_approval, fits_job}
 use Rattle.ledger_model.specs.Genesis.{HasKeys, genesis_header, genesis_journal, new_ledger}
 use Rattle.ledger_model.specs.History.{History, history, journals, journals_of, size, id, close_by, close}
@@ -105,12 +106,16 @@ pub real_within : AreWithin real_limits
 real_within = record { soft = omega arith; hard = omega arith; size = omega arith; clues = omega arith }
 
 -- the parts of a job that fits
-content_short : (member : ℕ) (clue : Digest) (content : List ℕ) (content_digest request : Digest) (by : _) (number : ℕ) → fits_job (Append member clue content content_digest request by number) ≡ true
-    → (length content ≤ CONTENT_LIMIT) × (bytes_eq content_digest.0 (content_digest_of content) ≡ true)
-content_short member clue content content_digest request by number fits =
-    let parts = and_parts (nat_le (length content) CONTENT_LIMIT && bytes_eq content_digest.0 (content_digest_of content)) (fits_approval member by) fits in
-    let front = and_parts (nat_le (length content) CONTENT_LIMIT) (bytes_eq content_digest.0 (content_digest_of content)) parts.0 in
-    (leb-true (length content) CONTENT_LIMIT front.0, front.1)
+content_short : (member : ℕ) (clue : Digest) (content : List ℕ) (content_digest request : Digest) (by : Approval) (who : Digest) (number : ℕ) → fits_job (Append member clue content content_digest request by who number) ≡ true
+    → (length content ≤ CONTENT_LIMIT) × (bytes_eq content_digest.0 (content_digest_of content) ≡ true) × (bytes_eq who.0 (who_digest_of (who_of (by ∷ []))) ≡ true)
+content_short member clue content content_digest request by who number fits =
+    let short = nat_le (length content) CONTENT_LIMIT in
+    let same = bytes_eq content_digest.0 (content_digest_of content) in
+    let told = bytes_eq who.0 (who_digest_of (who_of (by ∷ []))) in
+    let parts = and_parts (short && same && told) (fits_approval member by) fits in
+    let digests = and_parts (short && same) told parts.0 in
+    let front = and_parts short same digests.0 in
+    (leb-true (length content) CONTENT_LIMIT front.0, front.1, digests.1)
 
 -- a journal that is a block of its own, where nothing waits
 alone_lawful : (h : History) (refusal : Option Refusal) (j : Entry) → IsLawful h → h.waiting ≡ [] → (refusal ≡ None → AreLawful (journals h ++ j ∷ [])) → IsLawful (close (after_judgement refusal (Some j) h))
@@ -136,10 +141,10 @@ unplaced (Some refusal) h = refl
 pub job_lawful : (h : History) (step : Step) (job : Job) → fits_job job ≡ true → IsLawful h → IsLawful (after_job h step job)
 unfolding after_job with_job append_header member_header
 job_lawful h step (Refused refusal) fits l = settled_lawful h (Refused refusal) l
-job_lawful h step (Append member clue content content_digest request by number) fits l =
-    let job = Append member clue content content_digest request by number in
-    record_lawful h job (own_refusal real_limits h job) (repeated h member number request) (append_journal h member clue content content_digest request by number) l refl
-    (λ none new. lawful_more (journals h) _ l.journals_are (record_next real_limits real_within h member clue content content_digest request by number none new l.journals_are (content_short member clue content content_digest request by number fits).0))
+job_lawful h step (Append member clue content content_digest request by who number) fits l =
+    let job = Append member clue content content_digest request by who number in
+    record_lawful h job (own_refusal real_limits h job) (repeated h member number request) (append_journal h member clue content content_digest request by who number) l refl
+    (λ none new. lawful_more (journals h) _ l.journals_are (record_next real_limits real_within h member clue content content_digest request by who number none new l.journals_are (content_short member clue content content_digest request by who number fits).0))
 job_lawful h step (NewMember number key by) fits l =
     let job = NewMember number key by in
     placed_lawful h job (own_refusal real_limits h job) (member_journal _ number key by) l refl
@@ -185,9 +190,10 @@ anchor_sound h None (Some stamp) s = placed_sound h Anchor None (time_journal (s
 pub job_sound : (h : History) (step : Step) (job : Job) → fits_job job ≡ true → IsSound h → IsSound (after_job h step job)
 unfolding after_job with_job
 job_sound h step (Refused refusal) fits s = settled_sound h (Refused refusal) s
-job_sound h step (Append member clue content content_digest request by number) fits s =
-    let job = Append member clue content content_digest request by number in
-    record_sound h job (own_refusal real_limits h job) (repeated h member number request) _ s (record_whole h member clue content content_digest request by number (content_short member clue content content_digest request by number fits).1)
+job_sound h step (Append member clue content content_digest request by who number) fits s =
+    let job = Append member clue content content_digest request by who number in
+    let parts = content_short member clue content content_digest request by who number fits in
+    record_sound h job (own_refusal real_limits h job) (repeated h member number request) _ s (record_whole h member clue content content_digest request by who number parts.1 parts.2)
 job_sound h step (NewMember number key by) fits s =
     let job = NewMember number key by in placed_sound h job (own_refusal real_limits h job) _ s (member_whole _ number key by)
 job_sound h step Anchor fits s = anchor_sound (close h) (own_refusal real_limits (close h) Anchor) (stamp_of step) (close_sound h s)
@@ -203,11 +209,15 @@ job_sound h step (Extend which m) fits s =
 job_sound h step (Clue clue) fits s = settled_sound (close h) (Clue clue) (close_sound h s)
 job_sound h step Head fits s = settled_sound (close h) Head (close_sound h s)
 
+same_bytes : (bytes : List ℕ) → bytes_eq bytes bytes ≡ true
+same_bytes bytes = (bytes_eq-Decides bytes bytes).1 refl
+
 -- the job of a line fits
 pub record_fits : (scheme : Scheme) (id : List ℕ) (member : ℕ) (clue : Digest) (content proof : List ℕ) (number : ℕ) → length content ≤ CONTENT_LIMIT → length proof ≤ PROOF_LIMIT → fits_job (append_with scheme id member clue content proof number) ≡ true
 unfolding append_with
 record_fits scheme id member clue content proof number c p =
-    and_from _ _ (and_from _ _ (le-leb (length content) CONTENT_LIMIT c) ((bytes_eq-Decides (content_digest_of content) (content_digest_of content)).1 refl))
+    let who = who_of (approval_of scheme member (request_with id member clue content number) proof ∷ []) in
+    and_from _ _ (and_from _ _ (and_from _ _ (le-leb (length content) CONTENT_LIMIT c) (same_bytes (content_digest_of content))) (same_bytes (who_digest_of who)))
     (and_from _ _ (eq-eqb member member refl) (le-leb (length proof) PROOF_LIMIT p))
 
 member_fits : (scheme : Scheme) (id : List ℕ) (number : ℕ) (key : Digest) (proof : List ℕ) → length proof ≤ PROOF_LIMIT → fits_job (member_job scheme id number key proof) ≡ true

@@ -216,9 +216,9 @@ no_more None (Some x) = refl
 no_more None None = refl
 
 -- a repeat is refused for who asks alone
-pub repeat_refused : (h : History) (member : ℕ) (clue : Digest) (content : List ℕ) (content_digest request : Digest) (by : Approval) (number n : ℕ) → repeated h member number request ≡ Some n
-    → own_refusal real_limits h (Append member clue content content_digest request by number) ≡ who_refusal h member by.key
-repeat_refused h member clue content content_digest request by number n is =
+pub repeat_refused : (h : History) (member : ℕ) (clue : Digest) (content : List ℕ) (content_digest request : Digest) (by : Approval) (who : Digest) (number n : ℕ) → repeated h member number request ≡ Some n
+    → own_refusal real_limits h (Append member clue content content_digest request by who number) ≡ who_refusal h member by.key
+repeat_refused h member clue content content_digest request by who number n is =
     let unknown = unknown_in (keys h) member in
     let wrong = wrong_key_in (keys h) member by.key in
     let full = fullness real_limits h in
@@ -232,25 +232,25 @@ repeat_refused h member clue content content_digest request by number n is =
 settled_same : (h : History) → IsLawful h → cond (nat_le BLOCK_LIMIT (length h.waiting)) (close h) h ≡ h
 settled_same h l = ap (λ full. cond full (close h) h) (lt-leb BLOCK_LIMIT (length h.waiting) l.waiting_is.room)
 
-pub repeat_same : (h : History) (step : Step) (member : ℕ) (clue : Digest) (content : List ℕ) (content_digest request : Digest) (by : Approval) (number n : ℕ) → IsLawful h → repeated h member number request ≡ Some n
-    → after_job h step (Append member clue content content_digest request by number) ≡ h
+pub repeat_same : (h : History) (step : Step) (member : ℕ) (clue : Digest) (content : List ℕ) (content_digest request : Digest) (by : Approval) (who : Digest) (number n : ℕ) → IsLawful h → repeated h member number request ≡ Some n
+    → after_job h step (Append member clue content content_digest request by who number) ≡ h
 unfolding after_job with_job
-repeat_same h step member clue content content_digest request by number n l is =
-    let job = Append member clue content content_digest request by number in
+repeat_same h step member clue content content_digest request by who number n l is =
+    let job = Append member clue content content_digest request by who number in
     let refusal = own_refusal real_limits h job in
-    let journal = append_journal h member clue content content_digest request by number in
+    let journal = append_journal h member clue content content_digest request by who number in
     ap (λ r. settled_history job (after_judgement refusal (unless_repeated r (Some journal)) h)) is
     ∙ ap (settled_history job) (unplaced refusal h)
     ∙ settled_same h l
 
 -- a repeat is told the receipt of the record that it repeats
-pub repeat_told : (h : History) (step : Step) (member : ℕ) (clue : Digest) (content : List ℕ) (content_digest request : Digest) (by : Approval) (number n : ℕ) → repeated h member number request ≡ Some n
-    → (let none : Option Refusal = None in who_refusal h member by.key ≡ none) → answer_to h step (Append member clue content content_digest request by number) ≡ Receipt n (digest (leaf_at h n)) None
+pub repeat_told : (h : History) (step : Step) (member : ℕ) (clue : Digest) (content : List ℕ) (content_digest request : Digest) (by : Approval) (who : Digest) (number n : ℕ) → repeated h member number request ≡ Some n
+    → (let none : Option Refusal = None in who_refusal h member by.key ≡ none) → answer_to h step (Append member clue content content_digest request by who number) ≡ Receipt n (digest (leaf_at h n)) None
 unfolding answer_to outcome
-repeat_told h step member clue content content_digest request by number n is none =
-    let job = Append member clue content content_digest request by number in
-    let journal = append_journal h member clue content content_digest request by number in
-    ap (λ refusal. answer_for h step (judged_outcome refusal (record_outcome h (repeated h member number request) journal))) (repeat_refused h member clue content content_digest request by number n is ∙ none)
+repeat_told h step member clue content content_digest request by who number n is none =
+    let job = Append member clue content content_digest request by who number in
+    let journal = append_journal h member clue content content_digest request by who number in
+    ap (λ refusal. answer_for h step (judged_outcome refusal (record_outcome h (repeated h member number request) journal))) (repeat_refused h member clue content content_digest request by who number n is ∙ none)
     ∙ ap (λ r. answer_for h step (record_outcome h r journal)) is
 
 -- another request with the number is refused
@@ -265,9 +265,9 @@ other_taken h member number request n found other =
     ap (taken_by h request) found
     ∙ ap (λ b. cond b None (Some (NumberTaken n))) (false_from_ne_true (bytes_eq request.0 (link_at h n)) (λ same. other ((bytes_eq-Decides request.0 (link_at h n)).0 same)))
 
-pub taken_refused : (h : History) (member : ℕ) (clue : Digest) (content : List ℕ) (content_digest request : Digest) (by : Approval) (number n : ℕ) → numbered h member number ≡ Some n → request.0 ≢ link_at h n
-    → (let none : Option Refusal = None in who_refusal h member by.key ≡ none) → own_refusal real_limits h (Append member clue content content_digest request by number) ≡ Some (NumberTaken n)
-taken_refused h member clue content content_digest request by number n found other none =
+pub taken_refused : (h : History) (member : ℕ) (clue : Digest) (content : List ℕ) (content_digest request : Digest) (by : Approval) (who : Digest) (number n : ℕ) → numbered h member number ≡ Some n → request.0 ≢ link_at h n
+    → (let none : Option Refusal = None in who_refusal h member by.key ≡ none) → own_refusal real_limits h (Append member clue content content_digest request by who number) ≡ Some (NumberTaken n)
+taken_refused h member clue content content_digest request by who number n found other none =
     let again = repeated h member number request in
     let full = unless_repeated again (fullness real_limits h) in
     let clues = unless_repeated again (clues_full real_limits h clue) in
@@ -280,13 +280,13 @@ taken_refused h member clue content content_digest request by number n found oth
 settled_journals : (h : History) (job : Job) → journals (settled_history job h) ≡ journals h
 settled_journals h job = elim (closes_after job || nat_le BLOCK_LIMIT (length h.waiting)) as (λ v. journals (cond v (close h) h) ≡ journals h) [ true ↦ journals_close h | false ↦ refl ]
 
-placed_there : (h : History) (step : Step) (member : ℕ) (clue : Digest) (content : List ℕ) (content_digest request : Digest) (by : Approval) (number : ℕ)
-    → (let none : Option Refusal = None in own_refusal real_limits h (Append member clue content content_digest request by number) ≡ none) → (let none : Option ℕ = None in repeated h member number request ≡ none)
-    → journals (after_job h step (Append member clue content content_digest request by number)) ≡ journals h ++ append_journal h member clue content content_digest request by number ∷ []
+placed_there : (h : History) (step : Step) (member : ℕ) (clue : Digest) (content : List ℕ) (content_digest request : Digest) (by : Approval) (who : Digest) (number : ℕ)
+    → (let none : Option Refusal = None in own_refusal real_limits h (Append member clue content content_digest request by who number) ≡ none) → (let none : Option ℕ = None in repeated h member number request ≡ none)
+    → journals (after_job h step (Append member clue content content_digest request by who number)) ≡ journals h ++ append_journal h member clue content content_digest request by who number ∷ []
 unfolding after_job with_job
-placed_there h step member clue content content_digest request by number accepted new =
-    let job = Append member clue content content_digest request by number in
-    let journal = append_journal h member clue content content_digest request by number in
+placed_there h step member clue content content_digest request by who number accepted new =
+    let job = Append member clue content content_digest request by who number in
+    let journal = append_journal h member clue content content_digest request by who number in
     settled_journals (with_job real_limits (stamp_of step) h job) job
     ∙ ap (λ refusal. journals (after_judgement refusal (unless_repeated (repeated h member number request) (Some journal)) h)) accepted
     ∙ ap (λ r. journals (with_waiting (unless_repeated r (Some journal)) h)) new
@@ -300,17 +300,17 @@ link_there g n journal at =
     get_or_from_slice_get (map (λ (e : Entry). e.header.link.0) (journals g)) n journal.header.link.0 []
     (slice_get-map (λ (e : Entry). e.header.link.0) (journals g) n ∙ ap (option_map (λ (e : Entry). e.header.link.0)) at)
 
-pub placed_repeated : (h : History) (step : Step) (member : ℕ) (clue : Digest) (content : List ℕ) (content_digest request : Digest) (by : Approval) (number : ℕ) → IsLawful h → 0 < number
-    → fits_job (Append member clue content content_digest request by number) ≡ true
-    → (let none : Option Refusal = None in own_refusal real_limits h (Append member clue content content_digest request by number) ≡ none) → (let none : Option ℕ = None in repeated h member number request ≡ none)
-    → repeated (after_job h step (Append member clue content content_digest request by number)) member number request ≡ Some (size h)
+pub placed_repeated : (h : History) (step : Step) (member : ℕ) (clue : Digest) (content : List ℕ) (content_digest request : Digest) (by : Approval) (who : Digest) (number : ℕ) → IsLawful h → 0 < number
+    → fits_job (Append member clue content content_digest request by who number) ≡ true
+    → (let none : Option Refusal = None in own_refusal real_limits h (Append member clue content content_digest request by who number) ≡ none) → (let none : Option ℕ = None in repeated h member number request ≡ none)
+    → repeated (after_job h step (Append member clue content content_digest request by who number)) member number request ≡ Some (size h)
 unfolding append_header point
-placed_repeated h step member clue content content_digest request by number l some fits accepted new =
-    let job = Append member clue content content_digest request by number in
-    let journal = append_journal h member clue content content_digest request by number in
+placed_repeated h step member clue content content_digest request by who number l some fits accepted new =
+    let job = Append member clue content content_digest request by who number in
+    let journal = append_journal h member clue content content_digest request by who number in
     let g = after_job h step job in
     let lawful : IsLawful g = job_lawful h step job fits l in
-    let are = placed_there h step member clue content content_digest request by number accepted new in
+    let are = placed_there h step member clue content content_digest request by who number accepted new in
     let at : slice_get (journals g) (size h) ≡ Some journal = last_at h g journal are in
     let longer : size g ≡ size h + 1 = ap length are ∙ length-append (journals h) (journal ∷ []) in
     let below : point g < size g = point_below (size g) 0 0 (journals g) (lawful_from (journals g) lawful.journals_are) (omega arith) (omega (arith, some_journal (journals g) lawful.journals_are)) in

@@ -285,12 +285,12 @@ module _ (making : Option Making) (q : ℕ) (h : History) (step : Step) (some : 
 judged_pegged : {q : ℕ} (making : Option Making) (h : History) (step : Step) (job : Job) → 0 < size h → PeggedFrom q h step.before → ChangesBy h making step job → PeggedFrom q (with_job real_limits (stamp_of step) h job) step.after
 unfolding with_job append_header member_header occult_header purge_header
 judged_pegged {q} making h step (Refused refusal) some p attends = subst (PeggedFrom q h) (sym attends) p
-judged_pegged {q} making h step (Append member clue content content_digest request by number) some p attends =
-    by_repeat (own_refusal real_limits h (Append member clue content content_digest request by number)) (repeated h member number request) (λ time. cc)
+judged_pegged {q} making h step (Append member clue content content_digest request by who number) some p attends =
+    by_repeat (own_refusal real_limits h (Append member clue content content_digest request by who number)) (repeated h member number request) (λ time. cc)
   where
-    by_repeat : (refusal : Option Refusal) (again : Option ℕ) → ((append_journal h member clue content content_digest request by number).header.kind ≡ kind.Time → ⊥)
-        → PeggedFrom q (after_judgement refusal (unless_repeated again (Some (append_journal h member clue content content_digest request by number))) h) step.after
-    by_repeat refusal None not_time = untimed q h step.after some (subst (PeggedFrom q h) (sym attends) p) refusal (append_journal h member clue content content_digest request by number) not_time
+    by_repeat : (refusal : Option Refusal) (again : Option ℕ) → ((append_journal h member clue content content_digest request by who number).header.kind ≡ kind.Time → ⊥)
+        → PeggedFrom q (after_judgement refusal (unless_repeated again (Some (append_journal h member clue content content_digest request by who number))) h) step.after
+    by_repeat refusal None not_time = untimed q h step.after some (subst (PeggedFrom q h) (sym attends) p) refusal (append_journal h member clue content content_digest request by who number) not_time
     by_repeat refusal (Some n) not_time = unplaced refusal h step.after (subst (PeggedFrom q h) (sym attends) p)
 judged_pegged {q} making h step (NewMember number key by) some p attends =
     untimed q h step.after some (subst (PeggedFrom q h) (sym attends) p) (own_refusal real_limits h (NewMember number key by)) (member_journal (size h) number key by) (λ time. cc)

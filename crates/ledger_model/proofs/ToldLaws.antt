@@ -24,8 +24,8 @@ record_told h (Some n) one journal is = absurd (none-some journal is)
 
 pub placed_told : (h : History) (stamp : Option Stamp) (job : Job) (journal : Entry) → placed_journal h stamp job ≡ Some journal → accepted_outcome h stamp job ≡ placed_as (size h) journal
 placed_told h stamp (Refused refusal) journal is = absurd (none-some journal is)
-placed_told h stamp (Append member clue content content_digest request by number) journal is =
-    record_told h (repeated h member number request) (append_journal h member clue content content_digest request by number) journal is
+placed_told h stamp (Append member clue content content_digest request by who number) journal is =
+    record_told h (repeated h member number request) (append_journal h member clue content content_digest request by who number) journal is
 placed_told h stamp (NewMember number key by) journal is = told_as h _ journal is
 placed_told h None Anchor journal is = absurd (none-some journal is)
 placed_told h (Some stamp) Anchor journal is = told_as h (time_journal (size h) stamp) journal is
@@ -43,8 +43,8 @@ told_record h (Some n) one placed is = absurd cc
 
 pub told_placed : (h : History) (stamp : Option Stamp) (job : Job) (placed : PlacedJournal) → accepted_outcome h stamp job ≡ outcomes.Placed placed → placed_journal h stamp job ≢ None
 told_placed h stamp (Refused refusal) placed is = absurd cc
-told_placed h stamp (Append member clue content content_digest request by number) placed is =
-    told_record h (repeated h member number request) (append_journal h member clue content content_digest request by number) placed is
+told_placed h stamp (Append member clue content content_digest request by who number) placed is =
+    told_record h (repeated h member number request) (append_journal h member clue content content_digest request by who number) placed is
 told_placed h stamp (NewMember number key by) placed is = λ none. none-some _ (sym none)
 told_placed h None Anchor placed is = absurd cc
 told_placed h (Some stamp) Anchor placed is = λ none. none-some _ (sym none)

@@ -174,8 +174,8 @@ asked_waits h step (Some refusal) q told = (tt, tt)
 pub answer_waits : (h : History) (step : Step) (job : Job) → (closes_before job ≡ true → h.waiting ≡ []) → IsWaiting (with_job real_limits (stamp_of step) h job) (answer_for h step (outcome real_limits (stamp_of step) h job))
 unfolding outcome with_job
 answer_waits h step (Refused refusal) settled = (tt, tt)
-answer_waits h step (Append member clue content content_digest request by number) settled =
-    record_waits h step (own_refusal real_limits h (Append member clue content content_digest request by number)) (repeated h member number request) (append_journal h member clue content content_digest request by number) (λ n is. repeated_within h member number request n is)
+answer_waits h step (Append member clue content content_digest request by who number) settled =
+    record_waits h step (own_refusal real_limits h (Append member clue content content_digest request by who number)) (repeated h member number request) (append_journal h member clue content content_digest request by who number) (λ n is. repeated_within h member number request n is)
 answer_waits h step (NewMember number key by) settled = placed_waits h step (own_refusal real_limits h (NewMember number key by)) (member_journal (size h) number key by)
 answer_waits h step Anchor settled = anchor_waits h step (own_refusal real_limits h Anchor) (stamp_of step)
 answer_waits h step (Occult target leaf given) settled = placed_waits h step (own_refusal real_limits h (Occult target leaf given)) (occult_journal (size h) target leaf given)

@@ -35,7 +35,8 @@ approval_of scheme member message proof = record { member = member; key = option
 unfoldable pub append_with : Scheme → List ℕ → ℕ → Digest → List ℕ → List ℕ → ℕ → Job
 append_with scheme id member clue content proof number =
     let request = request_with id member clue content number in
-    Append member clue content (digest (content_digest_of content)) (digest request) (approval_of scheme member request proof) number
+    let by = approval_of scheme member request proof in
+    Append member clue content (digest (content_digest_of content)) (digest request) by (digest (who_digest_of (who_of (by ∷ [])))) number
 
 -- the job of a new member on the ledger with this id
 unfoldable pub member_job : Scheme → List ℕ → ℕ → Digest → List ℕ → Job
@@ -54,9 +55,9 @@ purge_job scheme id p told given =
     Purge p told (map (λ by. approval_of scheme by.member request by.proof) given)
 
 -- the header of a record that is journal jsn, with its clue, its number among the clue's journals, the clue's journal before it,
--- and the request's number, or 0
-unfoldable pub append_header : ℕ → ℕ → Digest → ℕ → ℕ → List ℕ → Digest → Digest → Approval → ℕ → Header
-append_header jsn member clue ordinal previous content content_digest request by number = record {
+-- the digests of its content, its request and its who bytes, and the request's number, or 0
+unfoldable pub append_header : ℕ → ℕ → Digest → ℕ → ℕ → List ℕ → Digest → Digest → Digest → ℕ → Header
+append_header jsn member clue ordinal previous content content_digest request who number = record {
   version = version_of kind.Content number (length content);
   kind = kind.Content;
   jsn = jsn;
@@ -69,14 +70,14 @@ append_header jsn member clue ordinal previous content content_digest request by
   link = request;
   content_len = length content;
   content_digest = content_digest;
-  who_digest = digest (who_digest_of (who_of (by ∷ [])));
+  who_digest = who;
 }
 
 -- a member's record as the next journal of a history: its clue's ordinal and the clue's journal before it are those of the
 -- history
-abbrev pub append_journal : History → ℕ → Digest → List ℕ → Digest → Digest → Approval → ℕ → Entry
-append_journal h member clue content content_digest request by number = record {
-  header = append_header (size h) member clue (next_ordinal h clue) (last_journal h clue) content content_digest request by number;
+abbrev pub append_journal : History → ℕ → Digest → List ℕ → Digest → Digest → Approval → Digest → ℕ → Entry
+append_journal h member clue content content_digest request by who number = record {
+  header = append_header (size h) member clue (next_ordinal h clue) (last_journal h clue) content content_digest request who number;
   content = content;
   who = who_of (by ∷ []);
 }

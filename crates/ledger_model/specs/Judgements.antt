@@ -89,7 +89,7 @@ purge_judgements limits h p told given =
 -- what may refuse a job by the history alone, in its order: one equation for each kind of job
 abbrev pub own_judgements : Limits → History → Job → List (Option Refusal)
 own_judgements limits h (Refused refusal) = Some refusal ∷ []
-own_judgements limits h (Append member clue content content_digest request by number) = append_judgements limits h member clue number request by.key
+own_judgements limits h (Append member clue content content_digest request by who number) = append_judgements limits h member clue number request by.key
 own_judgements limits h (NewMember number key by) = member_judgements limits h number by.key
 own_judgements limits h Anchor = hard_fullness limits h ∷ []
 own_judgements limits h (Occult target leaf given) = occult_judgements limits h target leaf given

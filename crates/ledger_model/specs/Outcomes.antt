@@ -26,8 +26,8 @@ use Rattle.ledger_model.specs.declared.view.View.TheVariants.{Absent, Purged, Oc
 -- the journal that an accepted job places, where it places one: an anchor does once it has its stamp
 abbrev pub placed_journal : History → Option Stamp → Job → Option Entry
 placed_journal h stamp (job.Refused refusal) = None
-placed_journal h stamp (job.Append member clue content content_digest request by number) =
-    unless_repeated (repeated h member number request) (Some (append_journal h member clue content content_digest request by number))
+placed_journal h stamp (job.Append member clue content content_digest request by who number) =
+    unless_repeated (repeated h member number request) (Some (append_journal h member clue content content_digest request by who number))
 placed_journal h stamp (job.NewMember number key by) = Some (member_journal (size h) number key by)
 placed_journal h stamp job.Anchor = option_map (time_journal (size h)) stamp
 placed_journal h stamp (job.Occult target leaf given) = Some (occult_journal (size h) target leaf given)
@@ -83,8 +83,8 @@ anchor_outcome h (Some stamp) = placed_as (size h) (time_journal (size h) stamp)
 -- what comes of a job that nothing refuses: a journal is placed, or was placed before, or something is read
 abbrev pub accepted_outcome : History → Option Stamp → Job → Outcome
 accepted_outcome h stamp (job.Refused refusal) = Refused refusal
-accepted_outcome h stamp (job.Append member clue content content_digest request by number) =
-    record_outcome h (repeated h member number request) (append_journal h member clue content content_digest request by number)
+accepted_outcome h stamp (job.Append member clue content content_digest request by who number) =
+    record_outcome h (repeated h member number request) (append_journal h member clue content content_digest request by who number)
 accepted_outcome h stamp (job.NewMember number key by) = placed_as (size h) (member_journal (size h) number key by)
 accepted_outcome h stamp job.Anchor = anchor_outcome h stamp
 accepted_outcome h stamp (job.Occult target leaf given) = placed_as (size h) (occult_journal (size h) target leaf given)

@@ -37,7 +37,7 @@ job_of scheme id line = job_for scheme id (spoken_line line).1
 -- whether a job ends the open block before it is judged
 abbrev pub closes_before : Job → Bool
 closes_before (Refused refusal) = false
-closes_before (Append member clue content content_digest request by number) = false
+closes_before (Append member clue content content_digest request by who number) = false
 closes_before (NewMember number key by) = false
 closes_before other = true
 

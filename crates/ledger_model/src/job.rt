@@ -24,6 +24,8 @@ pub enum Job {
         request: Digest,
         /// The member's approval of the request.
         by: Approval,
+        /// The digest of the approval's bytes, as the header of the record tells it.
+        who: Digest,
         /// The number that the member gives the request, or 0 where it gives none.
         number: u64,
     },

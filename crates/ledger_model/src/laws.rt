@@ -252,36 +252,36 @@ pub fn a_repeat_is_told_its_record()
         → numbered h member number ≡ Some n → request.0 ≡ link_at h n
         → repeated h member number request ≡ Some n }
     ensures same { (h : History) (step : Step) (member : ℕ) (clue : Digest) (content : List ℕ)
-        (content_digest request : Digest) (by : Approval) (number n : ℕ)
+        (content_digest request : Digest) (by : Approval) (who : Digest) (number n : ℕ)
         → IsLawful h → repeated h member number request ≡ Some n
-        → after_job h step (jobs.Append member clue content content_digest request by number) ≡ h }
+        → after_job h step (jobs.Append member clue content content_digest request by who number) ≡ h }
     ensures told { (h : History) (step : Step) (member : ℕ) (clue : Digest) (content : List ℕ)
-        (content_digest request : Digest) (by : Approval) (number n : ℕ)
+        (content_digest request : Digest) (by : Approval) (who : Digest) (number n : ℕ)
         → repeated h member number request ≡ Some n → who_refusal h member by.key ≡ None
-        → answer_to h step (jobs.Append member clue content content_digest request by number)
+        → answer_to h step (jobs.Append member clue content content_digest request by who number)
         ≡ answers.Receipt n (digest (leaf_at h n)) None }
     ensures refused { (h : History) (member : ℕ) (clue : Digest) (content : List ℕ)
-        (content_digest request : Digest) (by : Approval) (number n : ℕ)
+        (content_digest request : Digest) (by : Approval) (who : Digest) (number n : ℕ)
         → repeated h member number request ≡ Some n
-        → own_refusal real_limits h (jobs.Append member clue content content_digest request by number)
+        → own_refusal real_limits h (jobs.Append member clue content content_digest request by who number)
         ≡ who_refusal h member by.key }
     ensures taken { (h : History) (member : ℕ) (clue : Digest) (content : List ℕ)
-        (content_digest request : Digest) (by : Approval) (number n : ℕ)
+        (content_digest request : Digest) (by : Approval) (who : Digest) (number n : ℕ)
         → numbered h member number ≡ Some n → request.0 ≢ link_at h n
         → who_refusal h member by.key ≡ None
-        → own_refusal real_limits h (jobs.Append member clue content content_digest request by number)
+        → own_refusal real_limits h (jobs.Append member clue content content_digest request by who number)
         ≡ Some (refusals.NumberTaken n) }
 {}
 
 /// Where a numbered record was placed, the same request is a repeat of it.
 pub fn a_placed_number_is_repeated()
     ensures { (h : History) (step : Step) (member : ℕ) (clue : Digest) (content : List ℕ)
-        (content_digest request : Digest) (by : Approval) (number : ℕ)
+        (content_digest request : Digest) (by : Approval) (who : Digest) (number : ℕ)
         → IsLawful h → 0 < number
-        → fits_job (jobs.Append member clue content content_digest request by number) ≡ true
-        → own_refusal real_limits h (jobs.Append member clue content content_digest request by number) ≡ None
+        → fits_job (jobs.Append member clue content content_digest request by who number) ≡ true
+        → own_refusal real_limits h (jobs.Append member clue content content_digest request by who number) ≡ None
         → repeated h member number request ≡ None
-        → repeated (after_job h step (jobs.Append member clue content content_digest request by number)) member number request
+        → repeated (after_job h step (jobs.Append member clue content content_digest request by who number)) member number request
         ≡ Some (size h) }
 {}
 
