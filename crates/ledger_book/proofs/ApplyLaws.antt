@@ -112,23 +112,23 @@ serves_after old new h g s same stands = record {
 }
 
 -- a record at its place
-module _ (h : History) (member : ℕ) (clue : Digest) (content : List ℕ) (content_digest request : Digest) (by : Approval) (number : ℕ) (header : Header) where
+module _ (h : History) (member : ℕ) (clue : Digest) (content : List ℕ) (content_digest request : Digest) (by : Approval) (who : Digest) (number : ℕ) (header : Header) where
   abbrev pub record_journal : Entry
-  record_journal = append_journal h member clue content content_digest request by number
+  record_journal = append_journal h member clue content content_digest request by who number
 
-  pub record_header_is : (jsn ordinal previous : ℕ) → header ≡ append_header jsn member clue ordinal previous content content_digest request by number → jsn ≡ size h → ordinal ≡ next_ordinal h clue → previous ≡ last_journal h clue
+  pub record_header_is : (jsn ordinal previous : ℕ) → header ≡ append_header jsn member clue ordinal previous content content_digest request who number → jsn ≡ size h → ordinal ≡ next_ordinal h clue → previous ≡ last_journal h clue
       → record_journal.header ≡ header
   record_header_is jsn ordinal previous is j o p =
-      sym (is ∙ ap (λ x. append_header x member clue ordinal previous content content_digest request by number) j
-      ∙ ap (λ x. append_header (size h) member clue x previous content content_digest request by number) o
-      ∙ ap (λ x. append_header (size h) member clue (next_ordinal h clue) x content content_digest request by number) p)
+      sym (is ∙ ap (λ x. append_header x member clue ordinal previous content content_digest request who number) j
+      ∙ ap (λ x. append_header (size h) member clue x previous content content_digest request who number) o
+      ∙ ap (λ x. append_header (size h) member clue (next_ordinal h clue) x content content_digest request who number) p)
 
   pub record_kind : record_journal.header ≡ header → is_member header.kind ≡ false
   unfolding append_header
   record_kind is = ap (λ (x : Header). is_member x.kind) (sym is)
 
-  pub record_may : (limits : Limits) (k : Kept) → AreWithin limits → own_refusal limits h (Append member clue content content_digest request by number) ≡ None → (let none : Option ℕ = None in repeated h member number request ≡ none) → length content ≤ CONTENT_LIMIT → Stands k h → record_journal.header ≡ header → MayPlace h header
-  record_may limits k within none new long s is = subst (MayPlace h) is (record_next limits within h member clue content content_digest request by number none new s.lawful long)
+  pub record_may : (limits : Limits) (k : Kept) → AreWithin limits → own_refusal limits h (Append member clue content content_digest request by who number) ≡ None → (let none : Option ℕ = None in repeated h member number request ≡ none) → length content ≤ CONTENT_LIMIT → Stands k h → record_journal.header ≡ header → MayPlace h header
+  record_may limits k within none new long s is = subst (MayPlace h) is (record_next limits within h member clue content content_digest request by who number none new s.lawful long)
 
 -- a new member at its place
 module _ (h : History) (number : ℕ) (key : Digest) (by : Approval) (header : Header) where
@@ -182,9 +182,9 @@ pub asked_room : (old new : Kept) (o : Outcome) (q : Query) → Anchors old o �
 asked_room old new o q told is same = subst HasOperatorRoom (sym (same (subst PlacesNothing (sym is) tt))) (subst (Anchors old) is told)
 
 -- a record and a new member may share their block with others
-pub content_gathers : (jsn member : ℕ) (clue : Digest) (ordinal previous : ℕ) (content : List ℕ) (content_digest request : Digest) (by : Approval) (number : ℕ) (header : Header) → header ≡ append_header jsn member clue ordinal previous content content_digest request by number → gathers header.kind ≡ true
+pub content_gathers : (jsn member : ℕ) (clue : Digest) (ordinal previous : ℕ) (content : List ℕ) (content_digest request who : Digest) (number : ℕ) (header : Header) → header ≡ append_header jsn member clue ordinal previous content content_digest request who number → gathers header.kind ≡ true
 unfolding append_header
-content_gathers jsn member clue ordinal previous content content_digest request by number header is = ap (λ (x : Header). gathers x.kind) is
+content_gathers jsn member clue ordinal previous content content_digest request who number header is = ap (λ (x : Header). gathers x.kind) is
 
 pub gathers_no_purge : (k : Kind) → gathers k ≡ true → is_purge k ≡ false
 gathers_no_purge kind.Genesis is = refl

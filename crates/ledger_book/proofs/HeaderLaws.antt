@@ -41,13 +41,12 @@ genesis_is genesis link content who l c w =
     ∙ ap (λ x. header_with kind.Genesis 0 0 zero_digest 0 0 0 (digest (name_digest_of genesis.name)) 64 (digest x) who) c
     ∙ ap (λ x. header_with kind.Genesis 0 0 zero_digest 0 0 0 (digest (name_digest_of genesis.name)) 64 (digest (content_digest_of (founders_content genesis))) (digest x)) w
 
-pub record_is : (version jsn member : ℕ) (clue : Digest) (ordinal previous count : ℕ) (content : List ℕ) (content_digest request who : Digest) (by : Approval) (number : ℕ) → version ≡ version_of kind.Content number count → length content ≡ count → who.0 ≡ who_digest_of (who_of (by ∷ []))
-    → record (header_with kind.Content jsn member clue ordinal previous number request count content_digest who) { version = version } ≡ append_header jsn member clue ordinal previous content content_digest request by number
+pub record_is : (version jsn member : ℕ) (clue : Digest) (ordinal previous count : ℕ) (content : List ℕ) (content_digest request who : Digest) (number : ℕ) → version ≡ version_of kind.Content number count → length content ≡ count
+    → record (header_with kind.Content jsn member clue ordinal previous number request count content_digest who) { version = version } ≡ append_header jsn member clue ordinal previous content content_digest request who number
 unfolding append_header
-record_is version jsn member clue ordinal previous count content content_digest request who by number v n w =
+record_is version jsn member clue ordinal previous count content content_digest request who number v n =
     ap (λ x. record (header_with kind.Content jsn member clue ordinal previous number request count content_digest who) { version = x }) v
-    ∙ ap (λ x. record (header_with kind.Content jsn member clue ordinal previous number request count content_digest (digest x)) { version = version_of kind.Content number count }) w
-    ∙ ap (λ x. record (header_with kind.Content jsn member clue ordinal previous number request x content_digest (digest (who_digest_of (who_of (by ∷ []))))) { version = version_of kind.Content number x }) (sym n)
+    ∙ ap (λ x. record (header_with kind.Content jsn member clue ordinal previous number request x content_digest who) { version = version_of kind.Content number x }) (sym n)
 
 pub plain_is : (k : Kind) (jsn a b : ℕ) (link content who_digest : Digest) (who : List ℕ) → content.0 ≡ content_digest_of [] → who_digest.0 ≡ who_digest_of who
     → record (header_with k jsn 0 zero_digest 0 0 a link 0 content who_digest) { b = b } ≡ plain_header k jsn a b link who

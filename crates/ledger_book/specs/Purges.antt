@@ -33,7 +33,7 @@ point_of p (Reading query) point = point
 -- the point after a job: only a purge changes it
 abbrev pub point_after : Job → Outcome → ℕ → ℕ
 point_after (asked.Refused refusal) told point = point
-point_after (asked.Append member clue content content_digest request by number) told point = point
+point_after (asked.Append member clue content content_digest request by who number) told point = point
 point_after (asked.NewMember number key by) told point = point
 point_after asked.Anchor told point = point
 point_after (asked.Occult target leaf given) told point = point

@@ -48,7 +48,8 @@ pub(crate) struct Numbers {
     pub(crate) previous: u64,
 }
 
-/// The header of a member's record with this clue and these numbers, whose request has this number, or 0.
+/// The header of a member's record with this clue and these numbers, whose request has this number, or 0, and whose who bytes
+/// have this digest.
 pub(crate) fn record_header(
     numbers: Numbers,
     member: u32,
@@ -56,14 +57,13 @@ pub(crate) fn record_header(
     content_len: u32,
     content_digest: &Digest,
     request: &Digest,
-    by: &Approval,
+    who: &Digest,
     number: u64,
 ) -> Header
-    requires { length by.now.proof < 2 ^ 16 }
     ensures { (content : List ℕ) → length content ≡ content_len
         → result ≡ append_header numbers.jsn member clue.now numbers.ordinal numbers.previous content
         content_digest.now
-        request.now by.now number }
+        request.now who.now number }
 {
     Header {
         version: version_of(Kind::Content, number, content_len),
@@ -78,7 +78,7 @@ pub(crate) fn record_header(
         link: *request,
         content_len,
         content_digest: *content_digest,
-        who_digest: approval_digest(by),
+        who_digest: *who,
     }
 }
 

@@ -45,11 +45,12 @@ impl Book {
                 member,
                 clue,
                 content,
-                content_digest,
+                content_digest: digest,
                 request,
                 by,
+                who,
                 number,
-            } => self.apply_record(*member, clue, content, content_digest, request, by, *number),
+            } => self.apply_record(*member, clue, content, digest, request, by, who, *number),
             Job::NewMember { number, key, by } => self.apply_member(*number, key, by),
             Job::Anchor => match self.hard_refusal() {
                 Some(refusal) => Ok(Outcome::Refused(refusal)),
@@ -87,15 +88,15 @@ impl Book {
         content_digest: &Digest,
         request: &Digest,
         by: &Approval,
+        who: &Digest,
         number: u64,
     ) -> Result<Outcome, NoMemory>
-        requires content { length content.now ≤ CONTENT_LIMIT }
-        requires proof { length by.now.proof ≤ PROOF_LIMIT }
+        requires { length content.now ≤ CONTENT_LIMIT }
         ensures ok { IfOk result (λ outcome. (stamp : Option StampRecord) (h : History)
             → Serves self.old h
             → Applies self.old.limits stamp h
-            (asked.Append member clue.now content.now content_digest.now request.now by.now number) outcome
-            self.new) }
+            (asked.Append member clue.now content.now content_digest.now request.now by.now who.now number)
+            outcome self.new) }
         ensures number { IfOk result (HasNumber self.old self.new) }
         ensures gathers { OnOk result (OpenGathers self.old → OpenGathers self.new) }
         ensures err { OnErr result (IsAsBefore self.old self.new) }
@@ -123,7 +124,7 @@ impl Book {
             content_len,
             content_digest,
             request,
-            by,
+            who,
             number,
         );
         let placed = placed_with(numbers.jsn, &header);
