@@ -14,8 +14,8 @@ use Rattle.journal_record.specs.Blocks.{record_bytes, body_of, block_bytes, leav
 use Rattle.journal_record.specs.Records.{IsReadable, AreReadable}
 use Rattle.ledger_bytes.specs.declared.limits.TheConstants.{BLOCK_LIMIT}
 use Rattle.block_file.specs.File.{open_blocks, IsFileOf}
-use Rattle.block_file.specs.Head.{number_at}
-use Rattle.ledger_open.specs.Heads.{IsFront}
+use Rattle.block_file.specs.Head.{version_in, number_at}
+use Rattle.ledger_open.specs.Heads.{Edition, edition_from, IsFront}
 use Rattle.ledger_open.specs.Standing.{Floor, HasBlocks}
 use Rattle.ledger_open.proofs.SizeLaws.{GivesDigests, readable}
 
@@ -102,20 +102,22 @@ number_front at x r long =
     ap (λ (l : List ℕ). from_be_bytes w64 (take 8 l)) (drop-append-le at x r (omega (arith, long)))
     ∙ ap (λ (l : List ℕ). from_be_bytes w64 l) (take-append-le 8 (drop at x) r (omega (arith, long, length-drop at x)))
 
--- the head of a file tells its generation and its base
-pub front_again : (g i : ℕ) (b c f e r s : List ℕ) → IsFront g b f → IsFront i c e → f ++ r ≡ e ++ s → (g ≡ i) × (b ≡ c) × (r ≡ s)
+-- the head of a file tells its edition and its base
+pub front_again : (g i : Edition) (b c f e r s : List ℕ) → IsFront g b f → IsFront i c e → f ++ r ≡ e ++ s → (g ≡ i) × (b ≡ c) × (r ≡ s)
 front_again g i b c f e r s ff ee is =
     let count : length b ≡ length c =
     sym ff.base_len ∙ sym (number_front 18 f r (omega (arith, ff.size))) ∙ ap (number_at 18) is ∙ number_front 18 e s (omega (arith, ee.size)) ∙ ee.base_len in
     let one = same_fronts f e r s (omega (arith, ff.size, ee.size, count)) is in
-    (sym ff.generation_is ∙ ap (number_at 10) one.0 ∙ ee.generation_is, sym ff.base_is ∙ ap (λ (l : List ℕ). drop 64 l) one.0 ∙ ee.base_is, one.1)
+    let version = sym ff.version ∙ ap version_in one.0 ∙ ee.version in
+    let number = sym ff.generation_is ∙ ap (number_at 10) one.0 ∙ ee.generation_is in
+    (ap (λ (v : ℕ). edition_from v g.number) version ∙ ap (edition_from i.version) number, sym ff.base_is ∙ ap (λ (l : List ℕ). drop 64 l) one.0 ∙ ee.base_is, one.1)
 
 -- a file by its front, and what is behind it
 pub flat : (front : List ℕ) (blocks : List (List ℕ)) (file : List ℕ) (s : IsFileOf front blocks file) → file ≡ front ++ (open_blocks blocks ++ s.gate ∷ s.rest)
 flat front blocks file s = s.is ∙ append_assoc front (open_blocks blocks) (s.gate ∷ s.rest)
 
 -- a file has one list of blocks
-pub blocks_unique : (floor : Floor) (g i : ℕ) (bs cs : List (List Entry)) (image : List ℕ) → GivesDigests floor.root → HasBlocks floor g bs image → HasBlocks floor i cs image → (g ≡ i) × (bs ≡ cs)
+pub blocks_unique : (floor : Floor) (g i : Edition) (bs cs : List (List Entry)) (image : List ℕ) → GivesDigests floor.root → HasBlocks floor g bs image → HasBlocks floor i cs image → (g ≡ i) × (bs ≡ cs)
 blocks_unique floor g i bs cs image size x y =
     let one = front_again g i floor.base floor.base x.front y.front _ _ x.head y.head (sym (flat x.front _ image x.stands) ∙ flat y.front _ image y.stands) in
     (one.0, blocks_again floor.root size [] floor.first bs cs x.stands.gate y.stands.gate x.stands.rest y.stands.rest x.lawful y.lawful x.stands.shut y.stands.shut one.2)

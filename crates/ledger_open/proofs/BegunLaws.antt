@@ -6,14 +6,14 @@ use Rattle.std.proofs.lemmas.List.Concat.{flat_map-append}
 use Rattle.block_file.specs.declared.block.TheConstants.{BLOCK_HEAD_LEN}
 use Rattle.block_file.specs.Blocks.{IsOpenBlock}
 use Rattle.block_file.specs.File.{IsFileOf, open_blocks}
-use Rattle.block_file.specs.Head.{HasHead, digest_of, number_at, generation_of, is_format}
+use Rattle.block_file.specs.Head.{HasHead, digest_of, number_at}
 use Rattle.journal_record.specs.Blocks.{block_bytes, leaves_of, IsBlock, written_blocks}
 use Rattle.journal_record.specs.Entry.{Entry}
 use Rattle.ledger_model.specs.History.{journals_of}
 use Rattle.pseudo_genesis.specs.Bases.{base_spelling}
 use Rattle.pseudo_genesis.specs.declared.base.Base.{Base}
 use Rattle.ledger_open.specs.Damages.{Begun, IsReadTo}
-use Rattle.ledger_open.specs.Heads.{IsFront}
+use Rattle.ledger_open.specs.Heads.{IsFront, edition_of}
 use Rattle.ledger_open.specs.Opening.{HasFile}
 use Rattle.block_file.specs.Places.{body_from, record_len}
 use Rattle.ledger_open.specs.Standing.{Floor, ground, floor_of, floor_from}
@@ -47,13 +47,14 @@ module _ (file : List ℕ) (h : HasHead file) (base : List ℕ) (len : number_at
       sym (take-append-le n (drop at front) rest (omega (arith, le, size, length-drop at front)))
       ∙ ap (λ (l : List ℕ). take n l) (sym (drop-append-le at front rest (omega (arith, le, size)))) ∙ ap (λ (l : List ℕ). take n (drop at l)) whole
 
-  is_front : IsFront (generation_of file) base front
+  is_front : IsFront (edition_of file) base front
   unfolding front
   is_front = record {
     size = size;
     gate = get_or-take (64 + length base) file 0 0 (omega arith) ∙ h.is_open.gate;
     magic_is = piece_same 1 8 (omega arith) ∙ h.magic_is;
-    version = ap is_format (get_or-take (64 + length base) file 9 0 (omega arith)) ∙ h.version;
+    version = get_or-take (64 + length base) file 9 0 (omega arith);
+    format = h.version;
     generation_is = number_same 10 (omega arith);
     base_len = number_same 18 (omega arith) ∙ len;
     digest = λ some. piece_same 26 32 (omega arith) ∙ digest some;
@@ -63,9 +64,9 @@ module _ (file : List ℕ) (h : HasHead file) (base : List ℕ) (len : number_at
   -- in front of its first gate
   begun_front : (floor : Floor) → base ≡ floor.base → Begun floor file [] (64 + length base)
   begun_front floor same = record {
-    generation = generation_of file;
+    edition = edition_of file;
     front = front;
-    head = subst (λ (b : List ℕ). IsFront (generation_of file) b front) same is_front;
+    head = subst (λ (b : List ℕ). IsFront (edition_of file) b front) same is_front;
     lawful = tt;
     rest = rest;
     is = sym whole ∙ ap (λ (l : List ℕ). l ++ rest) (sym (append-nil front));
@@ -87,7 +88,7 @@ readto_start file start s = record { begins = s; begun = begun_start file start 
 pub begun_more : (floor : Floor) → GivesDigests floor.root → (file : List ℕ) (ks : List (List Entry)) (at : ℕ) (root : List ℕ) (es : List Entry) → Begun floor file ks at → IsOpenBlock at root es file → root ≡ floor.root (leaves_of (journals_of ks) ++ leaves_of es)
     → IsBlock (floor.first + length (journals_of ks)) es → Begun floor file (ks ++ es ∷ []) (body_from at + sum_by record_len es)
 begun_more floor digests file ks at root es b o root_is block = record {
-  generation = b.generation;
+  edition = b.edition;
   front = b.front;
   head = b.head;
   lawful = blocks_more floor.first ks es b.lawful block;
@@ -112,7 +113,7 @@ begun_more floor digests file ks at root es b o root_is block = record {
 
 -- the next gate is shut: the file has the blocks that were read
 pub begun_ends : (start : Option Base) (file : List ℕ) (ks : List (List Entry)) (at : ℕ) → Begun (floor_from start) file ks at → get_or file at 0 ≢ 1 → at + 1 ≤ length file → HasFile start ks file
-begun_ends start file ks at b shut inside = (b.generation, record { front = b.front; head = b.head; lawful = b.lawful; stands = by_rest b.rest b.is }) where
+begun_ends start file ks at b shut inside = (b.edition, record { front = b.front; head = b.head; lawful = b.lawful; stands = by_rest b.rest b.is }) where
   by_rest : (rest : List ℕ) → file ≡ (b.front ++ open_blocks (written_blocks (floor_from start).root [] ks)) ++ rest → IsFileOf b.front (written_blocks (floor_from start).root [] ks) file
   by_rest [] is = absurd (omega (arith, inside, b.place, ap length is, length-append (b.front ++ open_blocks (written_blocks (floor_from start).root [] ks)) []))
   by_rest (g ∷ gs) is = record {

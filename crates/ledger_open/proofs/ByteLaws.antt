@@ -8,6 +8,7 @@ use Rattle.block_file.specs.Head.{front_of, generation_of}
 use Rattle.block_file.specs.FileView.{gate_of}
 use Rattle.block_file.specs.declared.file.BlockFile.{BlockFile}
 use Rattle.ledger_disk.specs.Disk.{State, settled_state}
+use Rattle.ledger_open.specs.Heads.{edition_from, edition_of}
 use Rattle.ledger_open.specs.Places.{AreInOrder}
 use Rattle.block_file.specs.Places.{moved_place}
 use Rattle.ledger_open.specs.Purging.{Ledger, IsAtGate, copied_file, open_disk}
@@ -71,6 +72,9 @@ module _ (generation from to : ℕ) (base file : List ℕ) (inside : from ≤ to
 pub copied_generation : (g from to : ℕ) (base file : List ℕ) → next_generation g ≡ generation_of (copied_file (next_generation g) base from to file)
 copied_generation g from to base file = sym (generation_before (next_generation g) base (take (to - from) (drop from file)) (omega arith))
 
+pub copied_edition : (g from to : ℕ) (base file : List ℕ) → edition_from 2 (next_generation g) ≡ edition_of (copied_file (next_generation g) base from to file)
+copied_edition g from to base file = ap (edition_from 2) (copied_generation g from to base file)
+
 -- the places of what stays
 pub order_left : (gate place first : ℕ) (places : List PlaceAt) → gate ≤ place → first + (place - gate) < 2 ^ 64 → 64 ≤ first → AreInOrder gate place places → AreInOrder 64 (first + (place - gate)) (map (moved_place gate first) places)
 order_left gate place first places inside fits low order =
@@ -78,10 +82,10 @@ order_left gate place first places inside fits low order =
     order_low 64 (gate - gate + first) (first + (place - gate)) (map (moved_place gate first) places) (omega (arith, low)) (subst (λ (n : ℕ). AreInOrder (gate - gate + first) n (map (moved_place gate first) places)) (omega (arith, inside)) o)
 
 -- a ledger whose open file is such a copy
-pub gate_copied : (l m : Ledger) (from : ℕ) (base : List ℕ) → from ≤ l.known.gate → open_disk m ≡ settled_state (copied_file (next_generation l.generation) base from l.known.gate (open_disk l).seen)
-    → m.known.gate ≡ 64 + length base + (l.known.gate - from) → m.generation ≡ next_generation l.generation → IsAtGate l → IsAtGate m
+pub gate_copied : (l m : Ledger) (from : ℕ) (base : List ℕ) → from ≤ l.known.gate → open_disk m ≡ settled_state (copied_file (next_generation l.edition.number) base from l.known.gate (open_disk l).seen)
+    → m.known.gate ≡ 64 + length base + (l.known.gate - from) → m.edition ≡ edition_from 2 (next_generation l.edition.number) → IsAtGate l → IsAtGate m
 gate_copied l m from base inside is at next g =
-    let seen : (open_disk m).seen ≡ copied_file (next_generation l.generation) base from l.known.gate (open_disk l).seen = ap (λ (s : State). s.seen) is in record {
-      shut = subst (λ (n : ℕ). IsShutAt n (open_disk m).seen) (sym at) (subst (IsShutAt (64 + length base + (l.known.gate - from))) (sym seen) (copied_shut (next_generation l.generation) from l.known.gate base (open_disk l).seen inside (omega (arith, g.shut.0))));
-      generation = next ∙ copied_generation l.generation from l.known.gate base (open_disk l).seen ∙ sym (ap generation_of seen);
+    let seen : (open_disk m).seen ≡ copied_file (next_generation l.edition.number) base from l.known.gate (open_disk l).seen = ap (λ (s : State). s.seen) is in record {
+      shut = subst (λ (n : ℕ). IsShutAt n (open_disk m).seen) (sym at) (subst (IsShutAt (64 + length base + (l.known.gate - from))) (sym seen) (copied_shut (next_generation l.edition.number) from l.known.gate base (open_disk l).seen inside (omega (arith, g.shut.0))));
+      edition = next ∙ copied_edition l.edition.number from l.known.gate base (open_disk l).seen ∙ sym (ap edition_of seen);
     }

@@ -1,9 +1,10 @@
 -- A file that was read, cut behind its tail gate, and of which was given up what the last journal hides: as it stays, and
 -- copied from the point on.
-use Rattle.std.specs.Prelude.{All, false, Option, Some, None}
+use Rattle.std.specs.Prelude.{All, sum_by, false, Option, Some, None}
 use Rattle.std.proofs.Common.{◌≡◌, ◌≢◌, inl, inr, ℕ, ◌+◌, ◌-◌, ◌^◌, ◌<◌, ◌≤◌, List, [], ◌∷◌, ◌++◌, length, get_or, take, replicate, refl, sym, ◌∙◌, ap, subst, arith}
-use Rattle.std.proofs.lemmas.List.{nil_from_length, take_all, take_at, get_or-drop}
-use Rattle.std.proofs.lemmas.List.Elements.{All-contains, All-take}
+use Rattle.std.proofs.lemmas.List.{nil_from_length, take_all, take_at, take-take, get_or-drop}
+use Rattle.std.proofs.lemmas.List.Elements.{All-append, All-cons, All-contains, All-nil, All-take}
+use Rattle.std.proofs.lemmas.List.Sums.{sum_by-cons}
 use Rattle.block_file.proofs.WriteLaws.{tail_shut}
 use Rattle.block_file.specs.File.{IsShutAt, tail_of, whole_file}
 use Rattle.block_file.specs.Head.{front_of, generation_of}
@@ -20,9 +21,9 @@ use Rattle.pseudo_genesis.specs.Bases.{base_spelling}
 use Rattle.pseudo_genesis.specs.declared.base.Base.{Base}
 use Rattle.twin_file.specs.Twin.{next_generation}
 use Rattle.ledger_open.specs.Cutting.{first_gate, gate_behind}
-use Rattle.ledger_open.specs.Erasing.{ErasesOne, last_target, given_up}
+use Rattle.ledger_open.specs.Erasing.{AreBetween, ErasesOne, last_target, given_up}
 use Rattle.ledger_open.specs.Opening.{Known, Knows, GoesOn, HasFile}
-use Rattle.block_file.specs.Places.{after_at}
+use Rattle.block_file.specs.Places.{body_from, record_len, places_in, places_at, after_at}
 use Rattle.ledger_open.specs.Purging.{copied_file}
 use Rattle.ledger_open.specs.Standing.{Floor, floor_from, floor_behind, Parts, SameButHidden, StandsBy, StandsFor, IsClean, hidden_before, point_before}
 use Rattle.block_file.specs.declared.place.PlaceAt.{PlaceAt}
@@ -43,6 +44,20 @@ use Rattle.ledger_open.proofs.StandLaws.{base_there, lower, rest, rest_taken}
 use Rattle.ledger_open.proofs.TargetLaws.{target_is}
 use Rattle.ledger_open.proofs.WholeLaws.{goes_on, floor_same, floor_there}
 use Rattle.ledger_open.proofs.WidthLaws.{spelling_fits}
+
+-- contents stand behind a place in front of the first gate
+between_in : (low end at : ℕ) (es : List Entry) → low ≤ at → at + sum_by record_len es ≤ end → AreBetween low end (places_in at es)
+between_in low end at [] first le = All-nil (λ (p : PlaceAt). (low ≤ p.content_at) × (p.content_at + p.content_len ≤ end))
+between_in low end at (e ∷ es) first le =
+    All-cons (λ (p : PlaceAt). (low ≤ p.content_at) × (p.content_at + p.content_len ≤ end)) _ (places_in (at + record_len e) es) (omega (arith, first), omega (arith, le, sum_by-cons record_len e es))
+    (between_in low end (at + record_len e) es (omega (arith, first)) (omega (arith, le, sum_by-cons record_len e es)))
+
+pub between_at : (low at : ℕ) (bs : List (List Entry)) → low ≤ at → AreBetween low (after_at at bs) (places_at at bs)
+between_at low at [] first = All-nil (λ (p : PlaceAt). (low ≤ p.content_at) × (p.content_at + p.content_len ≤ at))
+between_at low at (b ∷ bs) first =
+    All-append (λ (p : PlaceAt). (low ≤ p.content_at) × (p.content_at + p.content_len ≤ after_at at (b ∷ bs))) (places_in (body_from at) b) (places_at (body_from at + sum_by record_len b) bs)
+    (between_in low (after_at at (b ∷ bs)) (body_from at) b (omega (arith, first)) (after_most 0 0 (body_from at + sum_by record_len b) bs))
+    (between_at low (body_from at + sum_by record_len b) bs (omega (arith, first)))
 
 -- ---- a file that was read
 
@@ -85,6 +100,30 @@ module _ (k : Known) (start : Option Base) (blocks : List (List Entry)) (old : L
           let gate : get_or new k.gate 0 ≡ get_or cut k.gate 0 =
           ap (λ (n : ℕ). get_or new n 0) split ∙ sym (get_or-drop at new (k.gate - at) 0) ∙ ap (λ (l : List ℕ). get_or l (k.gate - at) 0) out.after ∙ get_or-drop at cut (k.gate - at) 0 ∙ ap (λ (n : ℕ). get_or cut n 0) (sym split) in
           subst (IsShutAt k.gate) (sym is) (omega (arith, out.size, cut_size), λ open_now. cut_shut.1 (sym gate ∙ open_now))
+
+    -- .. and all in front of the first gate
+    abbrev first_at : ℕ
+    first_at = first_gate (floor_from start)
+
+    first_low : first_at ≤ k.gate
+    first_low = omega (arith, knows.tail, after_most 0 0 first_at blocks)
+
+    places_low : AreBetween first_at k.gate k.places
+    places_low =
+        subst (λ (end : ℕ). AreBetween first_at end k.places) (sym knows.tail) (subst (AreBetween first_at (after_at first_at blocks)) (sym knows.places) (between_at first_at first_at blocks (omega arith)))
+
+    cut_front : take first_at cut ≡ take first_at old
+    cut_front = take-take first_at (k.gate + 1) old (omega (arith, first_low))
+
+    pub erased_front : take first_at bytes ≡ take first_at old
+    erased_front = by_case one where
+      by_case : ErasesOne k.places cut bytes → take first_at bytes ≡ take first_at old
+      by_case (inl same) = ap (take first_at) same ∙ cut_front
+      by_case (inr (p, there, is)) =
+          let place : (first_at ≤ p.content_at) × (p.content_at + p.content_len ≤ k.gate) = All-contains (λ (q : PlaceAt). (first_at ≤ q.content_at) × (q.content_at + q.content_len ≤ k.gate)) k.places p places_low there in
+          let new = overlay p.content_at (replicate p.content_len 0) cut in
+          let out = (zeros_outside p.content_at p.content_len cut (omega (arith, place.1, cut_size))).0 in
+          ap (take first_at) is ∙ sym (take-take first_at p.content_at new place.0) ∙ ap (take first_at) out.before ∙ take-take first_at p.content_at cut place.0 ∙ cut_front
 
     -- so does a copy
     module _ (generation : ℕ) (base : List ℕ) (front behind : List (List Entry)) (are : blocks ≡ front ++ behind) where
@@ -155,9 +194,9 @@ module _ (k : Known) (start : Option Base) (blocks : List (List Entry)) (old : L
       floor = s.floor;
       begins = s.begins;
       file = record {
-        generation = x.generation;
+        edition = x.edition;
         parts = x.parts;
-        keeps = record { blocks = x.keeps.blocks; file = cut_has from x.generation x.keeps.blocks old x.keeps.file k.gate own_tail; same = x.keeps.same };
+        keeps = record { blocks = x.keeps.blocks; file = cut_has from x.edition x.keeps.blocks old x.keeps.file k.gate own_tail; same = x.keeps.same };
         early = x.early;
         none = x.none;
         lawful = x.lawful;
@@ -228,7 +267,7 @@ module _ (k : Known) (start : Option Base) (blocks : List (List Entry)) (old : L
         abbrev generation : ℕ
         generation = next_generation (generation_of old)
 
-        next_is : generation ≡ x.generation + 1
+        next_is : generation ≡ x.edition.number + 1
         next_is = omega (arith, stands_generation old h s, lower s.floor (hidden_before h) old h x under, size_few h x.lawful)
 
         copy_is : copied_file generation (base_spelling base) (gate_behind (floor_from start) front) k.gate cut ≡ whole_file (front_of 1 generation (base_spelling base)) (rest s.floor (hidden_before h) cut h y under)

@@ -9,7 +9,7 @@ use Rattle.journal_record.specs.Header.{spelling}
 use Rattle.journal_record.specs.Blocks.{block_bytes, leaves_of, AreBlocks, written_blocks}
 use Rattle.block_file.specs.File.{IsFileOf}
 use Rattle.ledger_model.specs.History.{History, journals_of}
-use Rattle.ledger_open.specs.Heads.{IsFront}
+use Rattle.ledger_open.specs.Heads.{Edition, IsFront}
 use Rattle.ledger_open.specs.Standing.{HasBlocks, SameButHidden, floor_behind}
 use Rattle.ledger_open.proofs.FloorLaws.{floor_root, floor_first}
 use Rattle.ledger_open.proofs.KeptLaws.{all_kept, header_map_same}
@@ -73,11 +73,11 @@ module _ (h : History) (gone mid kept : List (List Entry)) (are : h.closed ≡ g
         ∙ sym (written_above (floor_behind h gone).root (leaves_of (journals_of mid)) [] ks)
         ∙ written_same (λ xs. (floor_behind h gone).root (leaves_of (journals_of mid) ++ xs)) (floor_behind h (gone ++ mid)).root root_later [] ks
 
-    pub copied : (generation next : ℕ) (image new front : List ℕ) → (x : HasBlocks (floor_behind h gone) generation (fs ++ ks) image)
+    pub copied : (edition next : Edition) (image new front : List ℕ) → (x : HasBlocks (floor_behind h gone) edition (fs ++ ks) image)
         → length (journals_of fs) ≡ length (journals_of mid) → IsFront next (floor_behind h (gone ++ mid)).base front
         → IsFileOf front (drop (length fs) (written_blocks (floor_behind h gone).root [] (fs ++ ks))) new
         → HasBlocks (floor_behind h (gone ++ mid)) next ks new
-    copied generation next image new front x count head stands = record {
+    copied edition next image new front x count head stands = record {
       front = front;
       head = head;
       lawful = subst (λ (n : ℕ). AreBlocks n ks) (omega (arith, floor_first h gone, floor_first h (gone ++ mid), journals_more gone mid, count)) (blocks_behind (floor_behind h gone).first fs ks x.lawful);

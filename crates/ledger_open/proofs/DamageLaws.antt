@@ -18,6 +18,7 @@ use Rattle.ledger_model.specs.Lawful as lawful
 use Rattle.ledger_model.specs.Lawful.{IsFounded}
 use Rattle.pseudo_genesis.specs.Bases.{base_spelling}
 use Rattle.pseudo_genesis.specs.declared.base.Base.{Base as Begins}
+use Rattle.ledger_open.specs.Heads.{Edition}
 use Rattle.ledger_open.specs.Damages.{IsReadTo, IsNextHere, IsNotNext, CanShare, IsOtherRoot, IsOtherContent, IsBlockDamage, EndsEarly, IsCutShort, IsDamage}
 use Rattle.ledger_open.specs.Opening.{HasWhole}
 use Rattle.ledger_open.specs.Standing.{Floor, ground, floor_of, floor_from, HasBlocks}
@@ -58,7 +59,7 @@ next_of start ks b bs l =
 
 -- ---- a file with blocks begins with its base
 
-module _ (floor : Floor) (generation : ℕ) (cs : List (List Entry)) (file : List ℕ) (x : HasBlocks floor generation cs file) where
+module _ (floor : Floor) (edition : Edition) (cs : List (List Entry)) (file : List ℕ) (x : HasBlocks floor edition cs file) where
   tail : List ℕ
   tail = open_blocks (written_blocks floor.root [] cs) ++ x.stands.gate ∷ x.stands.rest
 
@@ -81,22 +82,22 @@ module _ (floor : Floor) (generation : ℕ) (cs : List (List Entry)) (file : Lis
       ap (λ (l : List ℕ). take 32 (drop 26 l)) file_is ∙ ap (λ (l : List ℕ). take 32 l) (drop-append-le 26 x.front tail (omega (arith, x.head.size)))
       ∙ take-append-le 32 (drop 26 x.front) tail (omega (arith, x.head.size, length-drop 26 x.front)) ∙ x.head.digest some
 
-  base_there : base_in file ≡ floor.base
+  pub base_there : base_in file ≡ floor.base
   base_there =
       ap (λ (n : ℕ). take n (drop 64 file)) number_is ∙ ap (λ (l : List ℕ). take (length floor.base) (drop 64 l)) file_is
       ∙ ap (take (length floor.base)) (drop-append-le 64 x.front tail (omega (arith, x.head.size)) ∙ ap (λ (l : List ℕ). l ++ tail) x.head.base_is) ∙ take_at floor.base tail (length floor.base) refl
 
-pub starts : (start : Option Begins) (generation : ℕ) (cs : List (List Entry)) (file : List ℕ) → HasBlocks (floor_from start) generation cs file → IsDecoded start → IsStart file start
-starts None generation cs file x d = (has_head ground generation cs file x, number_is ground generation cs file x)
-starts (Some b) generation cs file x d =
+pub starts : (start : Option Begins) (edition : Edition) (cs : List (List Entry)) (file : List ℕ) → HasBlocks (floor_from start) edition cs file → IsDecoded start → IsStart file start
+starts None edition cs file x d = (has_head ground edition cs file x, number_is ground edition cs file x)
+starts (Some b) edition cs file x d =
     let floor = floor_of b in
     let some : length (base_spelling b) ≢ 0 = λ none. let n = spelled_some b in omega (arith, n, none) in
-    let bytes = base_there floor generation cs file x in
-    let digest = digest_there floor generation cs file x some in (
-      has_head floor generation cs file x,
+    let bytes = base_there floor edition cs file x in
+    let digest = digest_there floor edition cs file x some in (
+      has_head floor edition cs file x,
       record {
-        some = λ none. some (sym (number_is floor generation cs file x) ∙ none);
-        there = fits_there floor generation cs file x;
+        some = λ none. some (sym (number_is floor edition cs file x) ∙ none);
+        there = fits_there floor edition cs file x;
         digest = digest ∙ ap digest_of (sym bytes);
       },
       d,
@@ -108,7 +109,7 @@ module _ (file : List ℕ) (start : Option Begins) (cs : List (List Entry)) (w :
   floor = floor_from start
 
   begins : IsStart file start
-  begins = starts start w.generation cs file w.has w.base
+  begins = starts start w.edition cs file w.has w.base
 
   digests : GivesDigests floor.root
   digests = digests_from start w.base
@@ -119,7 +120,7 @@ module _ (file : List ℕ) (start : Option Begins) (cs : List (List Entry)) (w :
 
   -- what follows behind the blocks that were read
   back : (ks : List (List Entry)) (at : ℕ) → IsReadTo file start ks at → IsBehind floor file ks cs at
-  back ks at r = behind floor digests w.generation file ks cs at r.begun w.has
+  back ks at r = behind floor digests w.edition file ks cs at r.begun w.has
 
   block_here : (ks : List (List Entry)) (at : ℕ) (x : IsBehind floor file ks cs at) (b : List Entry) (bs : List (List Entry)) → x.more ≡ b ∷ bs → AreBlock (next_number start (journals_of ks)) b
   block_here ks at x b bs is = are_block (next_number start (journals_of ks)) b (subst (λ (n : ℕ). IsBlock n b) (omega (arith, first_same start)) (behind_block floor digests file ks cs at x b bs is))

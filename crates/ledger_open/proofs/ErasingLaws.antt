@@ -10,6 +10,7 @@ use Rattle.ledger_disk.specs.Guards.{Outside}
 use Rattle.ledger_model.specs.History.{History, history, journals_of, journals, size, point}
 use Rattle.ledger_model.specs.Targets.{is_occult, is_hidden}
 use Rattle.ledger_model.proofs.PointLaws.{points_few}
+use Rattle.ledger_open.specs.Heads.{Edition}
 use Rattle.ledger_open.specs.Erasing.{content_place, content_size, IsOutsideOf, IsZeroedIn, target_of, last_target, with_zeros, given_up}
 use Rattle.block_file.specs.Places.{content_in, body_from, record_len, places_in, places_at}
 use Rattle.ledger_open.specs.Standing.{Floor, floor_behind, Parts, AreZeros, AllKept, SameButHidden, KeepsBlocks, StandsBy, StandsFor, IsErased, hidden_before, point_before}
@@ -73,7 +74,7 @@ module _ (floor : Floor) (bs : List (List Entry)) (n : ℕ) where
   size_is : content_size floor bs n ≡ get_or (lengths_of (journals_of bs)) (n - floor.first) 0
   size_is = ap (λ (l : List ℕ). get_or l (n - floor.first) 0) (lens_from (64 + length floor.base) bs)
 
-  module _ (digests : GivesDigests floor.root) (generation : ℕ) (hid gone : ℕ → Bool) (image : List ℕ) (keeps : KeepsBlocks floor generation hid gone bs image) (here : IsIn floor bs n) where
+  module _ (digests : GivesDigests floor.root) (edition : Edition) (hid gone : ℕ → Bool) (image : List ℕ) (keeps : KeepsBlocks floor edition hid gone bs image) (here : IsIn floor bs n) where
     is : n ≡ floor.first + (n - floor.first)
     is = omega (arith, here.first)
 
@@ -85,21 +86,21 @@ module _ (floor : Floor) (bs : List (List Entry)) (n : ℕ) where
     content_within =
         subst (λ (m : ℕ). m + content_size floor bs n ≤ length image) (sym place_is)
         (subst (λ (m : ℕ). get_or (content_places (64 + length floor.base) bs) (n - floor.first) 0 + m ≤ length image) (sym size_is)
-        (within_file floor digests generation hid gone bs image keeps n (n - floor.first) is lt))
+        (within_file floor digests edition hid gone bs image keeps n (n - floor.first) is lt))
 
     -- where it is gone, zeros stand there
     pub content_gone : gone n ≡ true → AreZeros (take (content_size floor bs n) (drop (content_place floor bs n) image))
     content_gone z =
         subst (λ (m : ℕ). AreZeros (take m (drop (content_place floor bs n) image))) (sym size_is)
         (subst (λ (m : ℕ). AreZeros (take (get_or (lengths_of (journals_of bs)) (n - floor.first) 0) (drop m image))) (sym place_is)
-        (gone_read floor digests generation hid gone bs image keeps n (n - floor.first) is lt z))
+        (gone_read floor digests edition hid gone bs image keeps n (n - floor.first) is lt z))
 
     -- other bytes there change nothing else
     pub content_other : (gone′ : ℕ → Bool) (new : List ℕ) → hid n ≡ true → Outside (content_place floor bs n) (content_size floor bs n) image new
         → ((m : ℕ) → gone′ m ≡ true → ((m ≡ n) × AreZeros (take (content_size floor bs n) (drop (content_place floor bs n) new))) ⊎ ((m ≢ n) × (gone m ≡ true)))
-        → KeepsBlocks floor generation hid gone′ bs new
+        → KeepsBlocks floor edition hid gone′ bs new
     content_other gone′ new hides out zeroed =
-        given_in floor digests generation hid gone bs image keeps n (n - floor.first) is lt gone′ new hides
+        given_in floor digests edition hid gone bs image keeps n (n - floor.first) is lt gone′ new hides
         (subst (λ (m : ℕ). Outside (get_or (content_places (64 + length floor.base) bs) (n - floor.first) 0) m image new) size_is (subst (λ (m : ℕ). Outside m (content_size floor bs n) image new) place_is out))
         (λ m z. subst (λ (k : ℕ). ((m ≡ n) × AreZeros (take (get_or (lengths_of (journals_of bs)) (n - floor.first) 0) (drop k new))) ⊎ ((m ≢ n) × (gone m ≡ true))) place_is
         (subst (λ (k : ℕ). ((m ≡ n) × AreZeros (take k (drop (content_place floor bs n) new))) ⊎ ((m ≢ n) × (gone m ≡ true))) size_is (zeroed m z)))
@@ -174,8 +175,8 @@ target_at floor h n (inr at) t = at ∙ sym t.point_is
 -- ---- an image that stands for a history
 
 -- the same blocks, of which other contents are gone
-again : (floor : ℕ) (gone gone′ : ℕ → Bool) (image new : List ℕ) (h : History) (x : StandsBy floor gone image h) → KeepsBlocks (floor_behind h x.parts.gone) x.generation (is_hidden h) gone′ x.parts.kept new → StandsBy floor gone′ new h
-again floor gone gone′ image new h x keeps = record { generation = x.generation; parts = x.parts; keeps = keeps; early = x.early; none = x.none; lawful = x.lawful; wide = x.wide }
+abbrev again : (floor : ℕ) (gone gone′ : ℕ → Bool) (image new : List ℕ) (h : History) (x : StandsBy floor gone image h) → KeepsBlocks (floor_behind h x.parts.gone) x.edition (is_hidden h) gone′ x.parts.kept new → StandsBy floor gone′ new h
+again floor gone gone′ image new h x keeps = record { edition = x.edition; parts = x.parts; keeps = keeps; early = x.early; none = x.none; lawful = x.lawful; wide = x.wide }
 
 abbrev floor_in : {floor : ℕ} {gone : ℕ → Bool} {image : List ℕ} {h : History} → StandsBy floor gone image h → Floor
 floor_in {h = h} x = floor_behind h x.parts.gone
@@ -189,21 +190,24 @@ module _ (image new : List ℕ) (h : History) (x : StandsFor image h) (n : ℕ) 
 
   module _ (out : IsOutsideOf x.file n new) where
     -- whatever stands there, the image stands for the history
-    while_erasing : StandsFor new h
-    while_erasing = record {
-      floor = x.floor;
-      begins = x.begins;
-      file = again x.floor (hidden_before h) (hidden_before h) image new h x.file
-          (content_other (floor_in x.file) x.file.parts.kept n (digests_in x.floor (hidden_before h) image h x.file) x.file.generation (is_hidden h) (hidden_before h) image x.file.keeps here (hidden_before h) new t.hidden out
-          (λ m z. inr (λ same. true≢false (sym z ∙ ap (hidden_before h) same ∙ t.first), z)));
-    }
+    while_erasing : (s : StandsFor new h) × (s.file.edition ≡ x.file.edition)
+    while_erasing = (
+      record {
+        floor = x.floor;
+        begins = x.begins;
+        file = again x.floor (hidden_before h) (hidden_before h) image new h x.file
+            (content_other (floor_in x.file) x.file.parts.kept n (digests_in x.floor (hidden_before h) image h x.file) x.file.edition (is_hidden h) (hidden_before h) image x.file.keeps here (hidden_before h) new t.hidden out
+            (λ m z. inr (λ same. true≢false (sym z ∙ ap (hidden_before h) same ∙ t.first), z)));
+      },
+      refl,
+    )
 
     -- .. and where zeros do, all that is hidden is gone
     erased : IsZeroedIn x.file n new → IsErased new h
     erased zeros =
         subst (λ (p : ℕ). StandsBy p (is_hidden h) new h) (target_at x.floor h n x.begins t)
         (again x.floor (hidden_before h) (is_hidden h) image new h x.file
-        (content_other (floor_in x.file) x.file.parts.kept n (digests_in x.floor (hidden_before h) image h x.file) x.file.generation (is_hidden h) (hidden_before h) image x.file.keeps here (is_hidden h) new t.hidden out zeroed)) where
+        (content_other (floor_in x.file) x.file.parts.kept n (digests_in x.floor (hidden_before h) image h x.file) x.file.edition (is_hidden h) (hidden_before h) image x.file.keeps here (is_hidden h) new t.hidden out zeroed)) where
           zeroed : (m : ℕ) → is_hidden h m ≡ true → ((m ≡ n) × IsZeroedIn x.file n new) ⊎ ((m ≢ n) × (hidden_before h m ≡ true))
           zeroed m z = elim (m == n) as (λ v. (m == n) ≡ v → ((m ≡ n) × IsZeroedIn x.file n new) ⊎ ((m ≢ n) × (hidden_before h m ≡ true))) [
             | true ↦ λ e. inl (eqb-true m n e, zeros)
@@ -212,7 +216,7 @@ module _ (image new : List ℕ) (h : History) (x : StandsFor image h) (n : ℕ) 
                 elim (t.only m z) [ inl same ↦ absurd (other same) | inr before ↦ inr (other, before) ]
           ] refl
 
-pub meanwhile : (image new : List ℕ) (h : History) (n : ℕ) (x : StandsFor image h) → last_target h ≡ Some n → IsOutsideOf x.file n new → StandsFor new h
+pub meanwhile : (image new : List ℕ) (h : History) (n : ℕ) (x : StandsFor image h) → last_target h ≡ Some n → IsOutsideOf x.file n new → (s : StandsFor new h) × (s.file.edition ≡ x.file.edition)
 meanwhile image new h n x is out = while_erasing image new h x n (target_is h x.file.lawful.journals_are n is) out
 
 pub erased_by : (image new : List ℕ) (h : History) (n : ℕ) (x : StandsFor image h) → last_target h ≡ Some n → IsOutsideOf x.file n new → IsZeroedIn x.file n new → IsErased new h
@@ -227,10 +231,10 @@ module _ (image : List ℕ) (h : History) (x : IsErased image h) (n : ℕ) (t : 
   inside = target_in (point h) h x.none x.parts (omega arith) n t
 
   within_erased : content_place (floor_in x) x.parts.kept n + content_size (floor_in x) x.parts.kept n ≤ length image
-  within_erased = content_within (floor_in x) x.parts.kept n (digests_in (point h) (is_hidden h) image h x) x.generation (is_hidden h) (is_hidden h) image x.keeps inside
+  within_erased = content_within (floor_in x) x.parts.kept n (digests_in (point h) (is_hidden h) image h x) x.edition (is_hidden h) (is_hidden h) image x.keeps inside
 
   pub hidden_read : IsZeroedIn x n image
-  hidden_read = content_gone (floor_in x) x.parts.kept n (digests_in (point h) (is_hidden h) image h x) x.generation (is_hidden h) (is_hidden h) image x.keeps inside t.hidden
+  hidden_read = content_gone (floor_in x) x.parts.kept n (digests_in (point h) (is_hidden h) image h x) x.edition (is_hidden h) (is_hidden h) image x.keeps inside t.hidden
 
   pub zeros_read : take (content_size (floor_in x) x.parts.kept n) (drop (content_place (floor_in x) x.parts.kept n) image) ≡ replicate (content_size (floor_in x) x.parts.kept n) 0
   zeros_read =
@@ -258,7 +262,7 @@ given_erased image h x at = by_target (last_target h) refl where
       let t = target_is h x.file.lawful.journals_are n is in
       let place = content_place (floor_in x.file) x.file.parts.kept n in
       let len = content_size (floor_in x.file) x.file.parts.kept n in
-      let z = zeros_outside place len image (content_within (floor_in x.file) x.file.parts.kept n (digests_in x.floor (hidden_before h) image h x.file) x.file.generation (is_hidden h) (hidden_before h) image x.file.keeps (target_in x.floor h x.file.none x.file.parts (omega (arith, target_at x.floor h n x.begins t)) n t)) in
+      let z = zeros_outside place len image (content_within (floor_in x.file) x.file.parts.kept n (digests_in x.floor (hidden_before h) image h x.file) x.file.edition (is_hidden h) (hidden_before h) image x.file.keeps (target_in x.floor h x.file.none x.file.parts (omega (arith, target_at x.floor h n x.begins t)) n t)) in
       let same = some_is (floor_in x.file) x.file.parts.kept image n (last ∙ is) in
       (subst (λ (l : List ℕ). IsErased l h) (sym same) (erased_by image (overlay place (replicate len 0) image) h n x is z.0 z.1), ap length same ∙ z.0.size)
 

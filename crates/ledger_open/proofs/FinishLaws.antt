@@ -193,7 +193,7 @@ module _ (book : Kept) (places : List PlaceAt) (old new : State) (h : History) (
   target_h : last_target h ≡ Some c.0
   target_h = sym (last_is_kept book places h (are_of book places h e)) ∙ c.1
 
-  pub still : (image : List ℕ) → StandsFor old.seen h → Outside p.content_at n old.seen image → StandsFor image h
+  pub still : (image : List ℕ) (stands : StandsFor old.seen h) → Outside p.content_at n old.seen image → (s : StandsFor image h) × (s.file.edition ≡ stands.file.edition)
   still image stands out =
       let there : Outside (content_place at_floor e.parts.kept c.0) (content_size at_floor e.parts.kept c.0) old.seen image =
       subst (λ (m : ℕ). Outside (content_place at_floor e.parts.kept c.0) m old.seen image) size_is (subst (λ (m : ℕ). Outside m n old.seen image) c.2 out) in
@@ -249,8 +249,8 @@ given_clean old new h x none at g =
           (omega (arith, g.size, ap length none, gates, ends_at x.floor (hidden_before h) old.seen h x.file, ends_at (point h) (is_hidden h) new.seen h e));
     }
 
-pub left_alone : (old new : State) (h : History) → IsSettled old → (image : List ℕ) → new ≡ old → StandsFor old.seen h → MayLeave new image → StandsFor image h
-left_alone old new h quiet image same stands left = subst (λ (x : List ℕ). StandsFor x h) (sym (settled_image old.seen image (subst (λ (s : State). MayLeave s image) (same ∙ quiet) left))) stands
+pub left_alone : (old new : State) (h : History) → IsSettled old → (image : List ℕ) → new ≡ old → (stands : StandsFor old.seen h) → MayLeave new image → (s : StandsFor image h) × (s.file.edition ≡ stands.file.edition)
+left_alone old new h quiet image same stands left = subst (λ (x : List ℕ). (s : StandsFor x h) × (s.file.edition ≡ stands.file.edition)) (sym (settled_image old.seen image (subst (λ (s : State). MayLeave s image) (same ∙ quiet) left))) (stands, refl)
 
 pub both_ways : {T E P : Type 0} (r : Result T E) (A B : Type 0) → OnOk r A → OnErr r B → (A → P) → (B → P) → P
 both_ways (Ok t) A B a b f g = f a

@@ -5,7 +5,7 @@ use Rattle.std.proofs.Common.{◌≡◌, ◌≢◌, inl, inr, ℕ, ◌+◌, ◌-
 use Rattle.std.proofs.lemmas.List.{nil_from_length, take-append-drop}
 use Rattle.std.proofs.lemmas.List.Folds.{list_any-append}
 use Rattle.block_file.specs.File.{IsSettled, open_blocks, whole_file}
-use Rattle.block_file.specs.Head.{front_of, generation_of}
+use Rattle.block_file.specs.Head.{front_of, generation_of, version_in}
 use Rattle.block_file.specs.FileView.{gate_of}
 use Rattle.block_file.specs.declared.file.BlockFile.{BlockFile}
 use Rattle.journal_record.specs.Blocks.{written_blocks}
@@ -27,6 +27,7 @@ use Rattle.twin_file.specs.Places.{HasTail}
 use Rattle.twin_file.specs.Twin.{choice, IsPassed, next_generation}
 use Rattle.ledger_open.specs.Cutting.{FallsAway, IsBaseAt, IsCutAt, first_gate, gate_behind}
 use Rattle.block_file.specs.Places.{after_at, places_at}
+use Rattle.ledger_open.specs.Heads.{Edition, edition_from}
 use Rattle.ledger_open.specs.Places.{places_from}
 use Rattle.ledger_open.specs.declared.opened.Opened.{Opened}
 use Rattle.ledger_open.specs.declared.purging.Cut.{Cut}
@@ -34,7 +35,7 @@ use Rattle.ledger_open.specs.declared.purging.Gone.{Gone}
 use Rattle.ledger_open.specs.Purging.{Ledger, open_disk, other_disk, StandsOpen, IsCleanOpen, IsPurged, KeepsFrom, LetsGo, MayMove, IsEither, AllEither, copied_file}
 use Rattle.ledger_open.specs.Standing.{Floor, StandsBy, StandsFor, IsErased, IsClean, IsBeside, PairFor, floor_behind, floor_of, hidden_before, point_before}
 use Rattle.ledger_open.proofs.FloorLaws.{floor_first, floor_digests}
-use Rattle.ledger_open.proofs.HeadLaws.{stands_head, stands_generation}
+use Rattle.ledger_open.proofs.HeadLaws.{stands_head, stands_generation, beside_passes}
 use Rattle.ledger_open.proofs.KeptLaws.{same_weaker}
 use Rattle.ledger_open.proofs.MoveLaws.{next_fits, turned}
 use Rattle.ledger_open.proofs.PartLaws.{one_parts}
@@ -96,7 +97,7 @@ none_new h some apart n =
 
 abbrev erased_now : (image : List ℕ) (h : History) → ((n : ℕ) → is_hidden h n ≡ hidden_before h n) → (x : StandsBy (point h) (hidden_before h) image h) → IsErased image h
 erased_now image h same x = record {
-  generation = x.generation;
+  edition = x.edition;
   parts = x.parts;
   keeps = record {
     blocks = x.keeps.blocks;
@@ -153,7 +154,7 @@ module _ (floor : ℕ) (image : List ℕ) (h : History) (x : StandsBy floor (hid
         )
 
   -- and a purge hides nothing
-  pub copy_clean : base ≡ base_spelling (base_of h (point h)) → next ≡ x.generation + 1 → next < 2 ^ 64 → length base < 2 ^ 64 → point_before h ≢ point h → IsClean copy h
+  pub copy_clean : base ≡ base_spelling (base_of h (point h)) → next ≡ x.edition.number + 1 → next < 2 ^ 64 → length base < 2 ^ 64 → point_before h ≢ point h → IsClean copy h
   copy_clean spelled next_is fits short purge =
       let new = copy_stands floor (hidden_before h) image h x below base next spelled next_is fits short in
       let e = erased_now copy h (none_new h (some_journal (journals h) x.lawful.journals_are) purge) new in
@@ -161,7 +162,7 @@ module _ (floor : ℕ) (image : List ℕ) (h : History) (x : StandsBy floor (hid
 
 -- ---- two files
 
-pub pair_of : (x : Bool) (a b : State) (h : History) (s : StandsFor (choice x a b).seen h) → IsBeside h s.file.generation (choice x b a).seen → PairFor a.seen b.seen h
+pub pair_of : (x : Bool) (a b : State) (h : History) (s : StandsFor (choice x a b).seen h) → IsBeside h s.file.edition (choice x b a).seen → PairFor a.seen b.seen h
 pair_of true a b h s beside = record { in_a = true; stands = s; beside = beside }
 pair_of false a b h s beside = record { in_a = false; stands = s; beside = beside }
 
@@ -230,24 +231,21 @@ module _ (l : Ledger) (h : History) (s : StandsOpen l h) where
     pub floor_under : old.first < l.known.book.point
     floor_under = omega (arith, floor_first h x.parts.gone, x.parts.at, under, point_book)
 
-    own_generation : l.generation ≡ x.generation
-    own_generation = s.generation ∙ stands_generation (open_disk l).seen h s.stands
+    own_generation : l.edition.number ≡ x.edition.number
+    own_generation = ap (λ (e : Edition). e.number) s.edition ∙ stands_generation (open_disk l).seen h s.stands
 
-    lower : x.generation + 1 ≤ size h
+    lower : x.edition.number ≤ size h
     lower = stands_lower s.stands.floor (hidden_before h) (open_disk l).seen h x under
 
-    pub may_move : MayMove l.in_a l.generation l.a l.b
+    pub may_move : MayMove l.in_a l.edition.number l.a l.b
     may_move = record {
       quiet_a = s.quiet_a;
       quiet_b = s.quiet_b;
       head = stands_head (open_disk l).seen h s.stands;
-      generation_is = s.generation;
+      generation_is = ap (λ (e : Edition). e.number) s.edition;
       fits = omega (arith, own_generation, lower, size_few h x.lawful);
-      passed = beside_passed s.beside;
-    } where
-      beside_passed : IsBeside h x.generation (other_disk l).seen → IsPassed false l.generation (other_disk l).seen
-      beside_passed (inl none) = inl (inl (omega (arith, none)))
-      beside_passed (inr past) = subst (λ (n : ℕ). IsPassed false n (other_disk l).seen) (sym own_generation) past.1
+      passed = subst (λ (n : ℕ). IsPassed false n (other_disk l).seen) (sym own_generation) (beside_passes h false x.edition (other_disk l).seen s.beside);
+    }
 
     -- the blocks that are copied
     abbrev pub copied : List (List ℕ)
@@ -261,13 +259,16 @@ module _ (l : Ledger) (h : History) (s : StandsOpen l h) where
       base_same = base.base_is h s.ends.serves ∙ ap (base_of h) point_book
 
       abbrev new : List ℕ
-      new = whole_file (front_of 1 (next_generation l.generation) bytes) copied
+      new = whole_file (front_of 1 (next_generation l.edition.number) bytes) copied
 
-      next_is : next_generation l.generation ≡ x.generation + 1
+      next_is : next_generation l.edition.number ≡ x.edition.number + 1
       next_is = omega (arith, own_generation, lower, size_few h x.lawful)
 
       new_stands : StandsBy (point h) (hidden_before h) new h
-      new_stands = copy_stands s.stands.floor (hidden_before h) (open_disk l).seen h x under bytes (next_generation l.generation) (base.spelled ∙ ap base_spelling base_same) next_is (omega (arith, next_is, lower, size_few h x.lawful)) base.short
+      new_stands = copy_stands s.stands.floor (hidden_before h) (open_disk l).seen h x under bytes (next_generation l.edition.number) (base.spelled ∙ ap base_spelling base_same) next_is (omega (arith, next_is, lower, size_few h x.lawful)) base.short
+
+      new_version : version_in new ≡ 2
+      new_version = refl
 
       new_for : StandsFor new h
       new_for = record { floor = point h; begins = inl refl; file = new_stands }
@@ -275,13 +276,13 @@ module _ (l : Ledger) (h : History) (s : StandsOpen l h) where
       -- whatever is open, it stands for the history
       pub either_pairs : (a_new b_new : State) → AllEither l.in_a (open_disk l).seen new a_new b_new → (image_a image_b : List ℕ) → MayLeave a_new image_a → MayLeave b_new image_b → PairFor image_a image_b h
       either_pairs a_new b_new either image_a image_b la lb = by_case (either image_a image_b la lb) where
-        moved : (f g : List ℕ) (is : f ≡ g) (t : StandsFor g h) (u : StandsFor f h) → generation_of g ≡ u.file.generation
+        moved : (f g : List ℕ) (is : f ≡ g) (t : StandsFor g h) (u : StandsFor f h) → generation_of g ≡ u.file.edition.number
         moved f g is t u = ap generation_of (sym is) ∙ stands_generation f h u
 
         pair_at : (y : Bool) (f : List ℕ) → choice y image_a image_b ≡ f → StandsFor f h → IsPassed false (generation_of f) (choice y image_b image_a) → PairFor image_a image_b h
         pair_at y f is t passed =
             let u : StandsFor (choice y image_a image_b) h = subst (λ (i : List ℕ). StandsFor i h) (sym is) t in
-            record { in_a = y; stands = u; beside = inr (purge, subst (λ (n : ℕ). IsPassed false n (choice y image_b image_a)) (moved (choice y image_a image_b) f is t u) passed) }
+            record { in_a = y; stands = u; beside = inr (inl (inl purge, subst (λ (n : ℕ). IsPassed false n (choice y image_b image_a)) (moved (choice y image_a image_b) f is t u) passed)) }
 
         by_case : IsEither l.in_a (open_disk l).seen new image_a image_b → PairFor image_a image_b h
         by_case (inl o) = pair_at l.in_a (open_disk l).seen o.0 s.stands o.1
@@ -292,7 +293,7 @@ module _ (l : Ledger) (h : History) (s : StandsOpen l h) where
 
       clean_new : IsClean new h
       clean_new =
-          copy_clean s.stands.floor (open_disk l).seen h x under bytes (next_generation l.generation) (base.spelled ∙ ap base_spelling base_same) next_is (omega (arith, next_is, lower, size_few h x.lawful)) base.short purge
+          copy_clean s.stands.floor (open_disk l).seen h x under bytes (next_generation l.edition.number) (base.spelled ∙ ap base_spelling base_same) next_is (omega (arith, next_is, lower, size_few h x.lawful)) base.short purge
 
     -- the purge is finished
     pub finished : (tells : Bool) (m : Ledger) → (p : IsPurged tells old front behind l m) → IsTrue tells → IsCleanOpen m h
@@ -310,7 +311,8 @@ module _ (l : Ledger) (h : History) (s : StandsOpen l h) where
       tail = p.tail ∙ ap (λ (f : Floor). gate_behind f behind) (sym new_at);
       clean = subst (λ (i : List ℕ). IsClean i h) (sym seen) (clean_new p.bytes p.base);
       empty = ap (λ (t : State). length t.seen) (p.wiped told);
-      generation = p.generation ∙ sym (ap generation_of seen ∙ file_generation (next_generation l.generation) p.bytes copied (next_fits l.in_a l.generation l.a l.b may_move));
+      newer = newer_now;
+      edition = p.edition ∙ λ i. edition_from (sym newer_now i) (sym (ap generation_of seen ∙ file_generation (next_generation l.edition.number) p.bytes copied (next_fits l.in_a l.edition.number l.a l.b may_move)) i);
     } where
       floor_now : m.known.book.floor ≡ point h
       floor_now = p.book.floor ∙ point_book
@@ -320,23 +322,26 @@ module _ (l : Ledger) (h : History) (s : StandsOpen l h) where
 
       open_is : open_disk m ≡ settled_state (new p.bytes p.base)
       open_is =
-          p.copied told ∙ ap (λ (g : ℕ). settled_state (copied_file g p.bytes (gate_behind old front) l.known.gate (open_disk l).seen)) p.generation
-          ∙ ap (λ (bs : List ℕ). settled_state ((front_of 1 (next_generation l.generation) p.bytes ++ bs) ++ 0 ∷ [])) taken
+          p.copied told ∙ ap (λ (g : ℕ). settled_state (copied_file g p.bytes (gate_behind old front) l.known.gate (open_disk l).seen)) (ap (λ (e : Edition). e.number) p.edition)
+          ∙ ap (λ (bs : List ℕ). settled_state ((front_of 1 (next_generation l.edition.number) p.bytes ++ bs) ++ 0 ∷ [])) taken
 
       seen : (open_disk m).seen ≡ new p.bytes p.base
       seen = ap (λ (t : State). t.seen) open_is
+
+      newer_now : version_in (open_disk m).seen ≡ 2
+      newer_now = ap version_in seen ∙ new_version p.bytes p.base
 
       quiet : IsSettled m.a × IsSettled m.b
       quiet = both_settled m.in_a m.a m.b (settled_is (open_disk m) (new p.bytes p.base) open_is) (settled_is (other_disk m) [] (p.wiped told))
 
     -- each pair of images, by what moving over says of it
     pub moved_pairs : (cut : Cut) (bytes slice : List ℕ) → slice ≡ bytes → IsBaseAt l.known.book l.known.book.point bytes → IsCutAt old front cut → (a_new b_new : State)
-        → ((blocks : List (List ℕ)) → MayMove l.in_a l.generation l.a l.b → take (l.known.gate - cut.gate) (drop cut.gate (open_disk l).seen) ≡ open_blocks blocks
-        → AllEither l.in_a (open_disk l).seen (whole_file (front_of 1 (next_generation l.generation) slice) blocks) a_new b_new)
+        → ((blocks : List (List ℕ)) → MayMove l.in_a l.edition.number l.a l.b → take (l.known.gate - cut.gate) (drop cut.gate (open_disk l).seen) ≡ open_blocks blocks
+        → AllEither l.in_a (open_disk l).seen (whole_file (front_of 1 (next_generation l.edition.number) slice) blocks) a_new b_new)
         → (image_a image_b : List ℕ) → MayLeave a_new image_a → MayLeave b_new image_b → PairFor image_a image_b h
     moved_pairs cut bytes slice same base at a_new b_new each =
         either_pairs bytes base a_new b_new
-        (subst (λ (t : List ℕ). AllEither l.in_a (open_disk l).seen (whole_file (front_of 1 (next_generation l.generation) t) copied) a_new b_new) same
+        (subst (λ (t : List ℕ). AllEither l.in_a (open_disk l).seen (whole_file (front_of 1 (next_generation l.edition.number) t) copied) a_new b_new) same
         (each copied may_move (ap (λ (n : ℕ). take (l.known.gate - n) (drop n (open_disk l).seen)) at.gate ∙ taken)))
 
 -- what memory lets go of leaves the files, and of the book what it counts
@@ -360,21 +365,21 @@ tail_few false told_a None file has few_a few_b = absurd has
 pub purged : (tells : Bool) (floor : Floor) (front behind : List (List Entry)) (l m : Ledger) (cut : Cut) (bytes slice : List ℕ) → FallsAway l.known floor front behind → slice ≡ bytes → IsBaseAt l.known.book l.known.book.point bytes
     → IsCutAt floor front cut → KeepsFrom l.known.book.point l.known.book m.known.book → (first : ℕ) → first ≡ 64 + length slice
     → ((blocks : List (List Entry)) → drop cut.count l.known.places ≡ places_at cut.gate blocks → after_at first blocks < 2 ^ 64 → m.known.places ≡ places_at first blocks)
-    → m.known.gate ≡ 64 + length slice + (l.known.gate - cut.gate) → m.known.gate < 2 ^ 64 → m.in_a ≡ not l.in_a → m.generation ≡ next_generation l.generation
-    → (IsTrue tells → open_disk m ≡ settled_state (copied_file (next_generation l.generation) slice cut.gate l.known.gate (open_disk l).seen))
+    → m.known.gate ≡ 64 + length slice + (l.known.gate - cut.gate) → m.known.gate < 2 ^ 64 → m.in_a ≡ not l.in_a → m.edition ≡ edition_from 2 (next_generation l.edition.number)
+    → (IsTrue tells → open_disk m ≡ settled_state (copied_file (next_generation l.edition.number) slice cut.gate l.known.gate (open_disk l).seen))
     → (IsTrue tells → other_disk m ≡ settled_state []) → IsPurged tells floor front behind l m
-purged tells floor front behind l m cut bytes slice falls same base at keeps first first_is moves place_is fits in_a generation copied wiped = record {
+purged tells floor front behind l m cut bytes slice falls same base at keeps first first_is moves place_is fits in_a edition copied wiped = record {
   bytes = bytes;
   base = base;
   book = keeps;
   places = moves behind here (omega (arith, end_is, fits)) ∙ ap (λ (n : ℕ). places_at n behind) gate_is;
   tail = end_is ∙ ap (λ (n : ℕ). after_at n behind) gate_is;
   in_a = in_a;
-  generation = generation;
+  edition = edition;
   copied = λ told.
-      copied told ∙ ap (λ (t : List ℕ). settled_state (copied_file (next_generation l.generation) t cut.gate l.known.gate (open_disk l).seen)) same
-      ∙ ap (λ (n : ℕ). settled_state (copied_file (next_generation l.generation) bytes n l.known.gate (open_disk l).seen)) at.gate
-      ∙ ap (λ (g : ℕ). settled_state (copied_file g bytes (gate_behind floor front) l.known.gate (open_disk l).seen)) (sym generation);
+      copied told ∙ ap (λ (t : List ℕ). settled_state (copied_file (next_generation l.edition.number) t cut.gate l.known.gate (open_disk l).seen)) same
+      ∙ ap (λ (n : ℕ). settled_state (copied_file (next_generation l.edition.number) bytes n l.known.gate (open_disk l).seen)) at.gate
+      ∙ ap (λ (g : ℕ). settled_state (copied_file g bytes (gate_behind floor front) l.known.gate (open_disk l).seen)) (sym (ap (λ (e : Edition). e.number) edition));
   wiped = wiped;
 } where
   gate_is : first ≡ 64 + length (base_spelling base.base)

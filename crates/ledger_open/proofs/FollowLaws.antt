@@ -7,6 +7,7 @@ use Rattle.journal_record.specs.Blocks.{block_bytes, leaves_of, AreFrom, IsBlock
 use Rattle.journal_record.specs.Entry.{Entry}
 use Rattle.journal_record.specs.Header.{spelling}
 use Rattle.ledger_model.specs.History.{journals_of}
+use Rattle.ledger_open.specs.Heads.{Edition}
 use Rattle.ledger_open.specs.Damages.{Begun}
 use Rattle.ledger_open.specs.Standing.{Floor, HasBlocks}
 use Rattle.ledger_open.proofs.AgainLaws.{block_again, front_again, flat}
@@ -52,11 +53,11 @@ pub record IsBehind (floor : Floor) (file : List ℕ) (ks cs : List (List Entry)
   pub shut : gate ≢ 1
   pub left : drop at file ≡ open_blocks (written_blocks floor.root (leaves_of (journals_of ks)) more) ++ gate ∷ rest
 
-pub behind : (floor : Floor) → GivesDigests floor.root → (generation : ℕ) (file : List ℕ) (ks cs : List (List Entry)) (at : ℕ) → Begun floor file ks at → HasBlocks floor generation cs file → IsBehind floor file ks cs at
-behind floor digests generation file ks cs at b x =
+pub behind : (floor : Floor) → GivesDigests floor.root → (edition : Edition) (file : List ℕ) (ks cs : List (List Entry)) (at : ℕ) → Begun floor file ks at → HasBlocks floor edition cs file → IsBehind floor file ks cs at
+behind floor digests edition file ks cs at b x =
     let parts : b.front ++ (open_blocks (written_blocks floor.root [] ks) ++ b.rest) ≡ x.front ++ (open_blocks (written_blocks floor.root [] cs) ++ x.stands.gate ∷ x.stands.rest) =
     sym (append_assoc b.front (open_blocks (written_blocks floor.root [] ks)) b.rest) ∙ sym b.is ∙ flat x.front (written_blocks floor.root [] cs) file x.stands in
-    let one = front_again b.generation generation floor.base floor.base b.front x.front _ _ b.head x.head parts in
+    let one = front_again b.edition edition floor.base floor.base b.front x.front _ _ b.head x.head parts in
     let f = follows floor.root digests [] floor.first ks cs b.rest x.stands.gate x.stands.rest b.lawful x.lawful x.stands.shut one.2 in
     record {
       more = f.more;
@@ -189,7 +190,7 @@ pub readings : (floor : Floor) → GivesDigests floor.root → (file : List ℕ)
 readings floor digests file ks cs at place x y =
     let parts : x.front ++ (open_blocks (written_blocks floor.root [] ks) ++ x.rest) ≡ y.front ++ (open_blocks (written_blocks floor.root [] cs) ++ y.rest) =
     sym (append_assoc x.front (open_blocks (written_blocks floor.root [] ks)) x.rest) ∙ sym x.is ∙ y.is ∙ append_assoc y.front (open_blocks (written_blocks floor.root [] cs)) y.rest in
-    let one = front_again x.generation y.generation floor.base floor.base x.front y.front _ _ x.head y.head parts in
+    let one = front_again x.edition y.edition floor.base floor.base x.front y.front _ _ x.head y.head parts in
     let left = begun_left floor file ks at x in
     let right = begun_left floor file cs place y in
     elim (compare floor.root digests [] floor.first ks cs x.rest y.rest x.lawful y.lawful one.2) [

@@ -9,8 +9,8 @@ use Rattle.ledger_model.specs.Targets.{is_hidden}
 use Rattle.ledger_model.specs.declared.genesis.Genesis.{Genesis}
 use Rattle.journal_record.specs.Blocks.{IsEntry, written_blocks, body_of, record_bytes, block_bytes, leaves_of}
 use Rattle.block_file.specs.File.{whole_file}
-use Rattle.block_file.specs.Head.{IsShut, front_of, digest_of}
-use Rattle.ledger_open.specs.Heads.{IsFront}
+use Rattle.block_file.specs.Head.{IsShut, front_of, digest_of, version_in}
+use Rattle.ledger_open.specs.Heads.{edition_from, IsFront}
 use Rattle.std.specs.Int.{to_be_bytes, w32, w64}
 use Rattle.std.specs.Prelude.{None}
 use Rattle.std.proofs.lemmas.List.Elements.{All-nil}
@@ -43,13 +43,14 @@ use Rattle.ledger_model.proofs.KeepLaws.{founded_lawful}
 use Rattle.ledger_open.specs.Standing.{ground, IsKept, IsClean, IsCleanPair, StandsFor}
 
 -- the front of a file of generation 1 without a base
-first_front : IsFront 1 [] (front_of 1 1 [])
+first_front : IsFront (edition_from 2 1) [] (front_of 1 1 [])
 first_front =
     let size : length (digest_of []) ≡ 32 = length-sha256 (7 ∷ []) in record {
       size = omega (arith, tail_size 1 1 [], length-append (front_of 1 1 []) []);
       gate = refl;
       magic_is = refl;
       version = refl;
+      format = refl;
       generation_is = refl;
       base_len = refl;
       digest = λ some. absurd (some refl);
@@ -99,7 +100,7 @@ module _ (genesis : Genesis) (operator : length genesis.operator.0 ≡ 32) (regu
   pub founded_clean : IsClean (whole_file (front_of 1 1 []) (written_blocks (ground).root [] blocks)) (new_ledger genesis)
   founded_clean = record {
     erased = record {
-      generation = 1;
+      edition = edition_from 2 1;
       parts = record { gone = []; kept = (new_ledger genesis).closed; are = refl; at = sym floor_is };
       keeps = record {
         blocks = blocks;
@@ -111,7 +112,7 @@ module _ (genesis : Genesis) (operator : length genesis.operator.0 ≡ 32) (regu
         };
         same = ((kept_is, tt), tt);
       };
-      early = early_at (point (new_ledger genesis)) (point (new_ledger genesis)) 1 (size (new_ledger genesis)) refl (omega arith);
+      early = early_at (point (new_ledger genesis)) (point (new_ledger genesis)) 1 (size (new_ledger genesis) + 2) refl (omega arith);
       none = refl;
       lawful = founded_lawful genesis;
       wide = record { headers = All-nil (λ (e : Entry). HasWidths e.header); founders = tt };
@@ -182,5 +183,6 @@ founded_pair genesis a b keys f =
     record {
       in_a = true;
       clean = subst (λ (l : List ℕ). IsClean l (new_ledger genesis)) (sym (ap (λ (s : State). s.seen) f.first)) (founded_clean genesis keys.operator keys.regulator);
+      newer = ap (λ (s : State). version_in s.seen) f.first;
       empty = ap (λ (s : State). length s.seen) f.second;
     }

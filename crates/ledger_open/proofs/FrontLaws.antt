@@ -7,7 +7,7 @@ use Rattle.std.proofs.lemmas.Nat.{from_be_bytes-to_be_bytes_8}
 use Rattle.sha2.proofs.Facts256.{length-sha256}
 use Rattle.block_file.specs.File.{IsFileOf, whole_file}
 use Rattle.block_file.specs.Head.{front_of, digest_of, magic}
-use Rattle.ledger_open.specs.Heads.{IsFront}
+use Rattle.ledger_open.specs.Heads.{edition_from, IsFront}
 use Rattle.twin_file.proofs.HeadLaws.{tail_size}
 
 module _ (gate generation : ℕ) (base : List ℕ) where
@@ -44,12 +44,13 @@ module _ (gate generation : ℕ) (base : List ℕ) where
   behind_digest : drop 58 (front_of gate generation base) ≡ z ++ base
   behind_digest = sym (drop-drop 32 26 (front_of gate generation base)) ∙ ap (drop 32) behind_n ∙ drop_at (digest_of base) (z ++ base) 32 wide
 
-  pub front_is : gate ≡ 1 → generation < 2 ^ 64 → length base < 2 ^ 64 → IsFront generation base (front_of gate generation base)
+  pub front_is : gate ≡ 1 → generation < 2 ^ 64 → length base < 2 ^ 64 → IsFront (edition_from 2 generation) base (front_of gate generation base)
   front_is open_now few short = record {
     size = sym (ap length (append-nil (front_of gate generation base))) ∙ tail_size gate generation base;
     gate = open_now;
     magic_is = refl;
     version = refl;
+    format = refl;
     generation_is = ap (λ (l : List ℕ). from_be_bytes w64 (take 8 l)) behind_ten ∙ ap (λ (l : List ℕ). from_be_bytes w64 l) (take_at g (n ++ (digest_of base ++ (z ++ base))) 8 refl) ∙ from_be_bytes-to_be_bytes_8 generation few;
     base_len = ap (λ (l : List ℕ). from_be_bytes w64 (take 8 l)) behind_g ∙ ap (λ (l : List ℕ). from_be_bytes w64 l) (take_at n (digest_of base ++ (z ++ base)) 8 refl) ∙ from_be_bytes-to_be_bytes_8 (length base) short;
     digest = λ some. ap (take 32) behind_n ∙ take_at (digest_of base) (z ++ base) 32 wide;

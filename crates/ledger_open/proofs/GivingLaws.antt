@@ -13,6 +13,7 @@ use Rattle.block_file.specs.File.{open_blocks}
 use Rattle.ledger_disk.specs.Guards.{Outside}
 use Rattle.block_file.specs.Places.{content_in, record_size, body_from, record_len}
 use Rattle.ledger_open.proofs.AgainLaws.{flat}
+use Rattle.ledger_open.specs.Heads.{Edition}
 use Rattle.ledger_open.specs.Standing.{Floor, HasBlocks, AreZeros, IsKept, AllKept, SameButHidden, KeepsBlocks}
 use Rattle.ledger_open.proofs.SizeLaws.{GivesDigests}
 use Rattle.ledger_open.proofs.KeptLaws.{all_kept, header_map_same}
@@ -141,7 +142,7 @@ blocks_put n m i c (b ∷ bs) a is lt size =
     ] refl
 
 -- the bytes of a file that keeps blocks, with a hole for a content
-module _ (floor : Floor) (digests : GivesDigests floor.root) (generation : ℕ) (blocks : List (List Entry)) (image : List ℕ) (x : HasBlocks floor generation blocks image) (n i : ℕ) (is : n ≡ floor.first + i) (lt : i < length (journals_of blocks)) where
+module _ (floor : Floor) (digests : GivesDigests floor.root) (edition : Edition) (blocks : List (List Entry)) (image : List ℕ) (x : HasBlocks floor edition blocks image) (n i : ℕ) (is : n ≡ floor.first + i) (lt : i < length (journals_of blocks)) where
   abbrev place : ℕ
   place = get_or (content_places (64 + length floor.base) blocks) i 0
 
@@ -172,7 +173,7 @@ module _ (floor : Floor) (digests : GivesDigests floor.root) (generation : ℕ) 
   own_read = ap (λ (l : List ℕ). take len (drop place l)) image_is ∙ hole_read text len place hole own own_size
 
   -- a file with other bytes in that place has other bytes in that content
-  pub changed : (new : List ℕ) → Outside place len image new → HasBlocks floor generation (put n (take len (drop place new)) blocks) new
+  pub changed : (new : List ℕ) → Outside place len image new → HasBlocks floor edition (put n (take len (drop place new)) blocks) new
   changed new out =
       let other = hole_outside text len place hole own image new own_size image_is out in
       record {
@@ -197,7 +198,7 @@ contents_gone hid gone n m zero (x ∷ xs) (y ∷ ys) a f is lt z = a.0.zeroed (
 contents_gone hid gone n m (suc j) (x ∷ xs) (y ∷ ys) a f is lt z = contents_gone hid gone n (m + 1) j xs ys a.1 f.1 (omega (arith, is)) (omega (arith, lt)) z
 
 -- a file that keeps blocks of a history: all by places of the history
-module _ (floor : Floor) (digests : GivesDigests floor.root) (generation : ℕ) (hid gone : ℕ → Bool) (bs : List (List Entry)) (image : List ℕ) (x : KeepsBlocks floor generation hid gone bs image) (n i : ℕ) (is : n ≡ floor.first + i) (lt : i < length (journals_of bs)) where
+module _ (floor : Floor) (digests : GivesDigests floor.root) (edition : Edition) (hid gone : ℕ → Bool) (bs : List (List Entry)) (image : List ℕ) (x : KeepsBlocks floor edition hid gone bs image) (n i : ℕ) (is : n ≡ floor.first + i) (lt : i < length (journals_of bs)) where
   abbrev at : ℕ
   at = get_or (content_places (64 + length floor.base) bs) i 0
 
@@ -216,10 +217,10 @@ module _ (floor : Floor) (digests : GivesDigests floor.root) (generation : ℕ) 
   read_is : take size_at (drop at image) ≡ get_or (contents_of (journals_of x.blocks)) i []
   read_is =
       sym (ap (λ (k : ℕ). take k (drop (get_or (content_places (64 + length floor.base) x.blocks) i 0) image)) size_is ∙ ap (λ (k : ℕ). take size_at (drop k image)) at_is)
-      ∙ own_read floor digests generation x.blocks image x.file n i is there
+      ∙ own_read floor digests edition x.blocks image x.file n i is there
 
   pub within : at + size_at ≤ length image
-  within = subst (λ (k : ℕ). k + size_at ≤ length image) at_is (subst (λ (k : ℕ). get_or (content_places (64 + length floor.base) x.blocks) i 0 + k ≤ length image) size_is (own_within floor digests generation x.blocks image x.file n i is there))
+  within = subst (λ (k : ℕ). k + size_at ≤ length image) at_is (subst (λ (k : ℕ). get_or (content_places (64 + length floor.base) x.blocks) i 0 + k ≤ length image) size_is (own_within floor digests edition x.blocks image x.file n i is there))
 
   -- What is read at a journal's place is its content, where that isn't hidden ..
   pub shown_read : hid n ≡ false → take size_at (drop at image) ≡ get_or (contents_of (journals_of bs)) i []
@@ -232,12 +233,12 @@ module _ (floor : Floor) (digests : GivesDigests floor.root) (generation : ℕ) 
   -- Other bytes at the place of a hidden content: the file keeps the same.
   pub given_up : (gone′ : ℕ → Bool) (new : List ℕ) → hid n ≡ true → Outside at size_at image new
       → ((m : ℕ) → gone′ m ≡ true → ((m ≡ n) × AreZeros (take size_at (drop at new))) ⊎ ((m ≢ n) × (gone m ≡ true)))
-      → KeepsBlocks floor generation hid gone′ bs new
+      → KeepsBlocks floor edition hid gone′ bs new
   given_up gone′ new hides out zeroed = record {
     blocks = put n (take size_at (drop at new)) x.blocks;
-    file = subst (λ (c : List ℕ). HasBlocks floor generation (put n c x.blocks) new)
+    file = subst (λ (c : List ℕ). HasBlocks floor edition (put n c x.blocks) new)
         (ap (λ (k : ℕ). take k (drop (get_or (content_places (64 + length floor.base) x.blocks) i 0) new)) size_is ∙ ap (λ (k : ℕ). take size_at (drop k new)) at_is)
-        (changed floor digests generation x.blocks image x.file n i is there new
+        (changed floor digests edition x.blocks image x.file n i is there new
         (subst (λ (k : ℕ). Outside (get_or (content_places (64 + length floor.base) x.blocks) i 0) k image new) (sym size_is) (subst (λ (k : ℕ). Outside k size_at image new) (sym at_is) out)));
     same = same_put hid gone gone′ n (take size_at (drop at new)) hides zeroed bs x.blocks x.same;
   }

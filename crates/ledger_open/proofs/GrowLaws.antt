@@ -19,6 +19,7 @@ use Rattle.ledger_model.specs.Targets.{is_occult, hides, is_hidden_by, is_hidden
 use Rattle.ledger_model.proofs.BaseLaws.{more_journals}
 use Rattle.ledger_model.proofs.HideLaws.{named_before}
 use Rattle.ledger_model.proofs.LawfulLaws.{hide_none, lawful_from, some_journal, two_points}
+use Rattle.ledger_open.specs.Heads.{Edition}
 use Rattle.ledger_open.specs.Growing.{HasBlockMore}
 use Rattle.ledger_open.specs.Standing.{Floor, floor_behind, HasBlocks, AllKept, SameButHidden, hidden_before, point_before, StandsFor, IsErased, StandsBy, Reads}
 use Rattle.ledger_open.proofs.FloorLaws.{floor_first, floor_kept}
@@ -30,7 +31,7 @@ use Rattle.ledger_open.proofs.PartLaws.{size_parts, stands_whole, early_most}
 -- an image that has a history with more zeros has it with fewer
 pub stands_weaker : (floor : ℕ) (gone gone′ : ℕ → Bool) (image : List ℕ) (h : History) → ((n : ℕ) → gone′ n ≡ true → gone n ≡ true) → StandsBy floor gone image h → StandsBy floor gone′ image h
 stands_weaker floor gone gone′ image h fewer x = record {
-  generation = x.generation;
+  edition = x.edition;
   parts = x.parts;
   keeps = record {
     blocks = x.keeps.blocks;
@@ -75,11 +76,11 @@ blocks_more n [] b a bb = (subst (λ (m : ℕ). IsBlock m b) (omega arith) bb, t
 blocks_more n (c ∷ cs) b a bb = (a.0, blocks_more (n + length c) cs b a.1 (subst (λ (m : ℕ). IsBlock m b) (omega (arith, length-append c (journals_of cs))) bb))
 
 -- a file that has a block more
-pub file_more : (floor : Floor) (generation : ℕ) (bs : List (List Entry)) (b : List Entry) (image new : List ℕ) (x : HasBlocks floor generation bs image)
+pub file_more : (floor : Floor) (edition : Edition) (bs : List (List Entry)) (b : List Entry) (image new : List ℕ) (x : HasBlocks floor edition bs image)
     → IsBlock (floor.first + length (journals_of bs)) b
     → IsFileOf x.front (written_blocks floor.root [] bs ++ block_bytes (floor.root (leaves_of (journals_of bs) ++ leaves_of b)) b ∷ []) new
-    → HasBlocks floor generation (bs ++ b ∷ []) new
-file_more floor generation bs b image new x bb stands = record {
+    → HasBlocks floor edition (bs ++ b ∷ []) new
+file_more floor edition bs b image new x bb stands = record {
   front = x.front;
   head = x.head;
   lawful = blocks_more floor.first bs b x.lawful bb;
@@ -230,9 +231,9 @@ module _ (image new : List ℕ) (h : History) (b : List Entry) (x : IsErased ima
         inl (omega (arith, new_point, none))
   ] refl
 
-  early_then : x.generation + cond (point h == point more) 0 1 ≤ size more
+  early_then : x.edition.number + cond (point h == point more) 0 1 + 1 ≤ size more + x.edition.version
   early_then =
-      let before = early_most (point h == point h) x.generation (size h) x.early in
+      let before = early_most (point h == point h) x.edition.number (size h + x.edition.version) x.early in
       omega (arith, bb.some, ap length joined, length-append (journals h) b, before, most (point h == point more)) where
         most : (v : Bool) → cond v 0 1 ≤ 1
         most true = omega arith
@@ -246,12 +247,12 @@ module _ (image new : List ℕ) (h : History) (b : List Entry) (x : IsErased ima
   pub grown : HasBlockMore x.keeps.file b new → StandsBy (point h) (hidden_before more) new more
   grown stands =
       let floor = floor_behind h x.parts.gone in
-      let has : HasBlocks (floor_behind h x.parts.gone) x.generation (x.keeps.blocks ++ b ∷ []) new =
-      file_more (floor_behind h x.parts.gone) x.generation x.keeps.blocks b image new x.keeps.file (subst (λ (m : ℕ). IsBlock m b) (sym number) bb) stands in
+      let has : HasBlocks (floor_behind h x.parts.gone) x.edition (x.keeps.blocks ++ b ∷ []) new =
+      file_more (floor_behind h x.parts.gone) x.edition x.keeps.blocks b image new x.keeps.file (subst (λ (m : ℕ). IsBlock m b) (sym number) bb) stands in
       record {
-        generation = x.generation;
+        edition = x.edition;
         parts = record { gone = x.parts.gone; kept = x.parts.kept ++ b ∷ []; are = ap (λ (l : List (List Entry)). l ++ b ∷ []) x.parts.are ∙ append_assoc x.parts.gone x.parts.kept (b ∷ []); at = x.parts.at };
-        keeps = record { blocks = x.keeps.blocks ++ b ∷ []; file = subst (λ (f : Floor). HasBlocks f x.generation (x.keeps.blocks ++ b ∷ []) new) (sym floor_same) has; same = same_then };
+        keeps = record { blocks = x.keeps.blocks ++ b ∷ []; file = subst (λ (f : Floor). HasBlocks f x.edition (x.keeps.blocks ++ b ∷ []) new) (sym floor_same) has; same = same_then };
         early = early_then;
         none = refl;
         lawful = lawful_then;

@@ -17,12 +17,13 @@ use Rattle.pseudo_genesis.specs.declared.base.Base.{Base}
 use Rattle.twin_file.specs.Twin.{choice, IsTaken, next_generation}
 use Rattle.ledger_open.specs.Cutting.{gate_behind}
 use Rattle.ledger_open.specs.Erasing.{ErasesOne, given_up, WritesZeros, WritesOne}
+use Rattle.ledger_open.specs.Heads.{Edition, edition_of}
 use Rattle.ledger_open.specs.Opening.{Known, Knows, GoesOn, HasFile}
 use Rattle.ledger_open.specs.Purging.{Ledger, open_disk, other_disk, copied_file, IsPurged, Purges, IsPurgedStill}
-use Rattle.ledger_open.specs.Reopened.{Remembers, OpenFile, open_file, WasRead, IsHere, IsCutAndErased, IsReopened, WasMoved, KnowsReopened}
+use Rattle.ledger_open.specs.Reopened.{Remembers, OpenFile, open_file, WasRead, IsHere, IsCutAndErased, IsMended, WasMoved, KnowsMended}
 use Rattle.ledger_open.specs.Standing.{Floor, SameButHidden, floor_from}
 use Rattle.ledger_open.proofs.OwnPurges.{first_reached}
-use Rattle.ledger_open.proofs.ByteLaws.{copied_generation}
+use Rattle.ledger_open.proofs.ByteLaws.{copied_edition}
 use Rattle.ledger_open.proofs.CopyLaws.{blocks_behind}
 use Rattle.ledger_open.proofs.ErasingLaws.{given_alike}
 use Rattle.ledger_open.proofs.FallLaws.{FallsThere, falls_there}
@@ -94,14 +95,14 @@ goes_behind start front behind h base g at is =
 
 pub record IsErasedHere (start : Option Base) (blocks : List (List Entry)) (l : Ledger) (a b : State) : Type 0 where
   pub has : HasFile start blocks (choice l.in_a a b).seen
-  pub here : IsHere l.in_a l.generation a b
+  pub here : IsHere l.in_a l.edition a b
   pub erased : IsCutAndErased (open_file l.in_a start blocks l.known.gate) l.known.places (choice l.in_a a b).seen (open_disk l).seen
   pub quiet : IsSettled (open_disk l)
   pub other_quiet : IsSettled (other_disk l)
-  pub generation : l.generation ≡ generation_of (open_disk l).seen
+  pub edition : l.edition ≡ edition_of (open_disk l).seen
 
 module _ (tells : Bool) (l m : Ledger) (start : Option Base) (blocks : List (List Entry)) (knows : Knows l.known start blocks) (a b a4 b4 : State) (done : IsTrue tells → IsErasedHere start blocks l a b)
-    (same : l.known.book.point ≤ l.known.book.floor → (m.known ≡ l.known) × (m.in_a ≡ l.in_a) × (m.generation ≡ l.generation)) (still : IsTrue tells → IsPurgedStill l m.a m.b) (purges : Purges tells l m)
+    (same : l.known.book.point ≤ l.known.book.floor → (m.known ≡ l.known) × (m.in_a ≡ l.in_a) × (m.edition ≡ l.edition)) (still : IsTrue tells → IsPurgedStill l m.a m.b) (purges : Purges tells l m)
     (stays : IsTrue tells → choice m.in_a a4 b4 ≡ choice m.in_a m.a m.b) where
   abbrev was : OpenFile
   was = open_file l.in_a start blocks l.known.gate
@@ -117,7 +118,7 @@ module _ (tells : Bool) (l m : Ledger) (start : Option Base) (blocks : List (Lis
     other_same : IsTrue tells → other_disk m ≡ other_disk l
     other_same told = ap (λ (v : Bool). choice v m.b m.a) (same most).1 ∙ ap (λ (s : State). choice l.in_a m.b s) (still told most).0 ∙ ap (λ (s : State). choice l.in_a s l.a) (still told most).1
 
-    stays_known : (IsTrue tells → IsSettled (other_disk m) → choice m.in_a b4 a4 ≡ settled_state []) → KnowsReopened tells m.in_a m.known a b a4 b4
+    stays_known : (IsTrue tells → IsSettled (other_disk m) → choice m.in_a b4 a4 ≡ settled_state []) → KnowsMended tells m.in_a m.known a b a4 b4
     stays_known cleared = (
       start,
       blocks,
@@ -151,7 +152,7 @@ module _ (tells : Bool) (l m : Ledger) (start : Option Base) (blocks : List (Lis
     at : (floor_from start).first + length (journals_of there.front) ≡ purged.base.base.point
     at = there.falls.point ∙ sym purged.base.point
 
-    moved_known : (IsTrue tells → IsSettled (other_disk m) → choice m.in_a b4 a4 ≡ settled_state []) → KnowsReopened tells m.in_a m.known a b a4 b4
+    moved_known : (IsTrue tells → IsSettled (other_disk m) → choice m.in_a b4 a4 ≡ settled_state []) → KnowsMended tells m.in_a m.known a b a4 b4
     moved_known cleared = (
       Some purged.base.base,
       there.behind,
@@ -186,25 +187,25 @@ module _ (tells : Bool) (l m : Ledger) (start : Option Base) (blocks : List (Lis
               at = at;
               open_is =
                   stays told ∙ purged.copied told
-                  ∙ ap (λ (g : ℕ). settled_state (copied_file g purged.bytes (gate_behind (floor_from start) there.front) l.known.gate (open_disk l).seen)) (purged.generation ∙ ap next_generation d.here.generation_is)
+                  ∙ ap (λ (g : ℕ). settled_state (copied_file g purged.bytes (gate_behind (floor_from start) there.front) l.known.gate (open_disk l).seen)) (ap (λ (e : Edition). e.number) purged.edition ∙ ap (λ (e : Edition). next_generation e.number) d.here.edition_is)
                   ∙ ap (λ (bytes : List ℕ). settled_state (copied_file (next_generation (generation_of (choice l.in_a a b).seen)) bytes (gate_behind (floor_from start) there.front) l.known.gate (open_disk l).seen)) purged.base.spelled;
             });
             other_is = cleared told (settled_is (other_disk m) [] (purged.wiped told));
           },
     )
 
-  pub known_left : (IsTrue tells → IsSettled (other_disk m) → choice m.in_a b4 a4 ≡ settled_state []) → KnowsReopened tells m.in_a m.known a b a4 b4
+  pub known_left : (IsTrue tells → IsSettled (other_disk m) → choice m.in_a b4 a4 ≡ settled_state []) → KnowsMended tells m.in_a m.known a b a4 b4
   known_left cleared = elim (cases_lt l.known.book.floor l.known.book.point) [ inl below ↦ moved_known below cleared | inr most ↦ stays_known most cleared ]
 
-  -- the generation that is kept is that of the open file
-  pub generation_left : IsTrue tells → m.generation ≡ generation_of (choice m.in_a a4 b4).seen
-  generation_left told = elim (cases_lt l.known.book.floor l.known.book.point) [
+  -- the edition that is kept is that of the open file
+  pub edition_left : IsTrue tells → m.edition ≡ edition_of (choice m.in_a a4 b4).seen
+  edition_left told = elim (cases_lt l.known.book.floor l.known.book.point) [
     | inl below ↦
         let p = purged below in
         let from = gate_behind (floor_from start) (there below).front in
-        p.generation ∙ copied_generation l.generation from l.known.gate p.bytes (open_disk l).seen
-        ∙ sym (ap (λ (s : State). generation_of s.seen) (stays told ∙ p.copied told ∙ ap (λ (g : ℕ). settled_state (copied_file g p.bytes from l.known.gate (open_disk l).seen)) p.generation))
-    | inr most ↦ (same most).2 ∙ (done told).generation ∙ sym (ap (λ (s : State). generation_of s.seen) (open_same most told))
+        p.edition ∙ copied_edition l.edition.number from l.known.gate p.bytes (open_disk l).seen
+        ∙ sym (ap (λ (s : State). edition_of s.seen) (stays told ∙ p.copied told ∙ ap (λ (g : ℕ). settled_state (copied_file g p.bytes from l.known.gate (open_disk l).seen)) (ap (λ (e : Edition). e.number) p.edition)))
+    | inr most ↦ (same most).2 ∙ (done told).edition ∙ sym (ap (λ (s : State). edition_of s.seen) (open_same most told))
   ]
 
 -- ---- of two disks that read as these
@@ -213,8 +214,8 @@ seen_same : (v : Bool) (a b a_now b_now : State) → a_now.seen ≡ a.seen → b
 seen_same true a b a_now b_now ea eb = ea
 seen_same false a b a_now b_now ea eb = eb
 
-pub reopened_as : (y : Bool) (k : Known) (start : Option Base) (blocks : List (List Entry)) (a b a_now b_now a_new b_new : State) → a_now.seen ≡ a.seen → b_now.seen ≡ b.seen → IsReopened y k start blocks a_now b_now a_new b_new → IsReopened y k start blocks a b a_new b_new
-reopened_as y k start blocks a b a_now b_now a_new b_new ea eb r =
+pub mended_as : (y : Bool) (k : Known) (start : Option Base) (blocks : List (List Entry)) (a b a_now b_now a_new b_new : State) → a_now.seen ≡ a.seen → b_now.seen ≡ b.seen → IsMended y k start blocks a_now b_now a_new b_new → IsMended y k start blocks a b a_new b_new
+mended_as y k start blocks a b a_now b_now a_new b_new ea eb r =
     let seen : (choice r.was.in_a a_now b_now).seen ≡ (choice r.was.in_a a b).seen = seen_same r.was.in_a a b a_now b_now ea eb in
     record {
       was = r.was;

@@ -1,5 +1,6 @@
 pub mod SizeLaws
 pub mod HeadLaws
+pub mod OldLaws
 pub mod AgainLaws
 pub mod KeptLaws
 pub mod HidingLaws
@@ -25,6 +26,7 @@ pub mod BegunLaws
 pub mod CauseLaws
 pub mod CleanLaws
 pub mod ReopenLaws
+pub mod CarryLaws
 pub mod FirstLaws
 pub mod MoreLaws
 pub mod AheadLaws

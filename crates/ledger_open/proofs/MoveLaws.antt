@@ -1,6 +1,6 @@
 -- Two files of which one takes over: what each pair of images is meanwhile.
 use Rattle.std.specs.Prelude.{Bool, true, false, not, Option, Some, None, Result, Ok, Err, OnOk}
-use Rattle.std.proofs.Common.{◌≡◌, ◌⊎◌, inl, inr, ℕ, ◌+◌, ◌-◌, ◌^◌, ◌<◌, List, [], ◌∷◌, ◌++◌, take, drop, refl, sym, ◌∙◌, ap, subst, arith}
+use Rattle.std.proofs.Common.{◌≡◌, ◌⊎◌, inl, inr, ℕ, ◌+◌, ◌-◌, ◌^◌, ◌<◌, List, [], ◌∷◌, ◌++◌, length, take, drop, refl, sym, ◌∙◌, ap, subst, arith}
 use Rattle.block_file.specs.File.{IsSettled, open_blocks, whole_file}
 use Rattle.block_file.specs.Head.{IsShut, HasHead, front_of, generation_of}
 use Rattle.block_file.specs.declared.file.BlockFile.{BlockFile}
@@ -8,10 +8,11 @@ use Rattle.ledger_disk.proofs.Guarding.{settled_image}
 use Rattle.ledger_disk.specs.Disk.{State, MayLeave, settled_state}
 use Rattle.twin_file.proofs.HeadLaws.{generation_is}
 use Rattle.twin_file.proofs.OpenLaws.{chosen}
-use Rattle.twin_file.specs.Images.{AllShut, AllOpenToEither, IsCopied, IsCopying, IsQuiet, KeepsPassed}
+use Rattle.twin_file.specs.Images.{AllShut, AllOpenToEither, IsCopied, IsCopying, IsQuiet, KeepsPassed, LeavesFront}
 use Rattle.twin_file.specs.Places.{IsBuiltCopy}
 use Rattle.twin_file.specs.Twin.{choice, IsTaken, IsPassed, OpensTo, next_generation}
 use Rattle.ledger_open.specs.Purging.{MayMove, IsEither, AllEither}
+use Rattle.ledger_open.proofs.OldLaws.{whole_front, front_passed}
 
 -- ---- two of a kind
 
@@ -58,11 +59,13 @@ stays_open x a b a_new b_new new quiet same passed image_a image_b la lb =
     inl (settled_image (choice x a b).seen (choice x image_a image_b) (subst (λ (s : State). MayLeave s (choice x image_a image_b)) (same ∙ quiet) both.0), passed (choice x image_b image_a) both.1)
 
 -- the new one is open, and the old one is passed over
-pub took_over : (x : Bool) (a_new b_new : State) (old new : List ℕ) → choice x b_new a_new ≡ settled_state new → ((image : List ℕ) → MayLeave (choice x a_new b_new) image → IsPassed false (generation_of new) image)
+pub took_over : (x : Bool) (a_new b_new : State) (old new : List ℕ) → choice x b_new a_new ≡ settled_state new
+    → ((image : List ℕ) → MayLeave (choice x a_new b_new) image → IsPassed false (generation_of new) image × (image ≡ take (length image) old))
     → AllEither x old new a_new b_new
 took_over x a_new b_new old new now passed image_a image_b la lb =
     let both = chosen x a_new b_new image_a image_b la lb in
-    inr (settled_image new (choice x image_b image_a) (subst (λ (s : State). MayLeave s (choice x image_b image_a)) now both.1), passed (choice x image_a image_b) both.0)
+    let there = passed (choice x image_a image_b) both.0 in
+    inr (settled_image new (choice x image_b image_a) (subst (λ (s : State). MayLeave s (choice x image_b image_a)) now both.1), there.0, there.1)
 
 module _ (x : Bool) (g : ℕ) (a b : State) (m : MayMove x g a b) where
   old : List ℕ
@@ -114,24 +117,25 @@ module _ (x : Bool) (g : ℕ) (a b : State) (m : MayMove x g a b) where
     by_case : (OpensTo x (choice x a b).seen image_a image_b × IsShut (choice x image_b image_a)) ⊎ OpensTo (not x) new image_a image_b → IsEither x (choice x a b).seen new image_a image_b
     by_case (inl o) = inl (o.0.is, inl o.1)
     by_case (inr o) =
-        inr (sym (turned x image_a image_b) ∙ o.is, inr (subst HasHead (sym one) m.head, omega (arith, ap generation_of one, is_newer, generation_is (next_generation g) base blocks next_fits)))
+        inr (sym (turned x image_a image_b) ∙ o.is, inr (subst HasHead (sym one) m.head, omega (arith, ap generation_of one, is_newer, generation_is (next_generation g) base blocks next_fits)), whole_front (choice x a b).seen (choice x image_a image_b) one)
 
   -- .. and the old one is being wiped
   pub wiped_pairs : (w : Bool) (a3 b3 a4 b4 : State) (base : List ℕ) (blocks : List (List ℕ)) → w ≡ not x → choice x a3 b3 ≡ choice x a b
-      → choice x b3 a3 ≡ settled_state (whole_file (front_of 1 (next_generation g) base) blocks) → choice w a4 b4 ≡ choice w a3 b3 → KeepsPassed (choice w b3 a3) (choice w b4 a4)
+      → choice x b3 a3 ≡ settled_state (whole_file (front_of 1 (next_generation g) base) blocks) → choice w a4 b4 ≡ choice w a3 b3 → LeavesFront (choice w b3 a3) (choice w b4 a4)
       → AllEither x (choice x a b).seen (whole_file (front_of 1 (next_generation g) base) blocks) a4 b4
-  wiped_pairs w a3 b3 a4 b4 base blocks e same now stays keeps =
+  wiped_pairs w a3 b3 a4 b4 base blocks e same now stays leaves =
       took_over x a4 b4 (choice x a b).seen new
       (sym (turned x a4 b4) ∙ at_choice (not x) w e a4 b4 a3 b3 stays ∙ turned x a3 b3 ∙ now)
-      (λ image left.
-      subst (λ (n : ℕ). IsPassed false n image) (sym (generation_is (next_generation g) base blocks next_fits))
-      (here quiet_then false (next_generation g) passed_then image left))
+      (λ image left. (
+        subst (λ (n : ℕ). IsPassed false n image) (sym (generation_is (next_generation g) base blocks next_fits)) (front_passed (choice x a3 b3) (choice x a4 b4) here quiet_then false (next_generation g) passed_then image left),
+        here quiet_then image left ∙ ap (λ (s : State). take (length image) s.seen) same,
+      ))
     where
       new : List ℕ
       new = whole_file (front_of 1 (next_generation g) base) blocks
 
-      here : KeepsPassed (choice x a3 b3) (choice x a4 b4)
-      here = subst (λ (v : State × State). KeepsPassed v.0 v.1) (λ i. (turned x b3 a3 i, turned x b4 a4 i)) (subst (λ (v : Bool). KeepsPassed (choice v b3 a3) (choice v b4 a4)) e keeps)
+      here : LeavesFront (choice x a3 b3) (choice x a4 b4)
+      here = subst (λ (v : State × State). LeavesFront v.0 v.1) (λ i. (turned x b3 a3 i, turned x b4 a4 i)) (subst (λ (v : Bool). LeavesFront (choice v b3 a3) (choice v b4 a4)) e leaves)
 
       quiet_then : IsSettled (choice x a3 b3)
       quiet_then = subst IsSettled (sym same) quiet_open
@@ -201,6 +205,6 @@ module _ (x y z : Bool) (g : ℕ) (a b a1 b1 a2 b2 a3 b3 : State) (base : List �
         (ap (λ (s : State). s.seen) (subst (λ (v : Bool). choice v a2 b2 ≡ choice x a b) (sym here) first_two))
         (either (next_generation g) base blocks (is_copied x g a b m z a2 b2 base blocks here first_two copying copy_seen)))
 
-    pub wipe_left : (w : Bool) (a4 b4 : State) → w ≡ not z → choice z b3 a3 ≡ settled_state (1 ∷ drop 1 (choice z b2 a2).seen) → choice w a4 b4 ≡ choice w a3 b3 → KeepsPassed (choice w b3 a3) (choice w b4 a4)
+    pub wipe_left : (w : Bool) (a4 b4 : State) → w ≡ not z → choice z b3 a3 ≡ settled_state (1 ∷ drop 1 (choice z b2 a2).seen) → choice w a4 b4 ≡ choice w a3 b3 → LeavesFront (choice w b3 a3) (choice w b4 a4)
         → AllEither x (choice x a b).seen (whole_file (front_of 1 (next_generation g) base) blocks) a4 b4
-    wipe_left w a4 b4 turns now stays keeps = wiped_pairs x g a b m w a3 b3 a4 b4 base blocks (turns ∙ ap not here) all_three (opened_copy now) stays keeps
+    wipe_left w a4 b4 turns now stays leaves = wiped_pairs x g a b m w a3 b3 a4 b4 base blocks (turns ∙ ap not here) all_three (opened_copy now) stays leaves

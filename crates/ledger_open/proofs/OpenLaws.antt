@@ -3,7 +3,7 @@ use Rattle.std.specs.Prelude.{Bool, true, false, Option, Some, option_map, Resul
 use Rattle.std.proofs.Common.{◌≡◌, ◌≢◌, ◌⊎◌, inl, inr, refl, ℕ, ◌+◌, List, [], ◌∷◌, ◌++◌, length, take, sym, ◌∙◌, ap, subst, arith, append_assoc, length-append}
 use Rattle.std.proofs.lemmas.List.{take_at}
 use Rattle.block_file.specs.File.{IsSettled, open_blocks, tail_of}
-use Rattle.block_file.specs.Head.{IsShut, IsOpen, HasHead, IsHeadErr, IsResumeErr, generation_of, number_at}
+use Rattle.block_file.specs.Head.{IsShut, IsOpen, HasHead, IsHeadErr, IsResumeErr, number_at, version_in}
 use Rattle.block_file.specs.declared.failure.Damage.{Damage}
 use Rattle.block_file.specs.declared.failure.Damage.TheVariants as damages
 use Rattle.block_file.specs.declared.failure.FileErr.{FileErr}
@@ -20,10 +20,11 @@ use Rattle.twin_file.specs.Picking.{IsReopened as IsLooked}
 use Rattle.twin_file.specs.Twin.{choice, IsTaken, IsReopenErr}
 use Rattle.twin_file.specs.Which.{in_a_of, generation_in, file_of, view_of}
 use Rattle.twin_file.specs.declared.twin.Twin.{Twin}
+use Rattle.ledger_open.specs.Heads.{Edition, edition_from, edition_of, edition_in}
 use Rattle.ledger_open.specs.Damages.{IsDamage}
 use Rattle.ledger_open.specs.Opening.{GoesOn, Known, Knows, HasLawfulBlocks, HasFile, IsHeadOf, IsOutside, IsOpenErr, as_open}
 use Rattle.block_file.specs.Places.{after_at}
-use Rattle.ledger_open.specs.Reopened.{Remembers, IsReopened}
+use Rattle.ledger_open.specs.Reopened.{Remembers, IsMended}
 use Rattle.ledger_open.specs.Standing.{Floor, floor_from, HasBlocks, StandsFor, IsBeside, PairFor}
 use Rattle.ledger_open.specs.Starts.{IsDecoded, HasBase}
 use Rattle.ledger_open.specs.declared.failure.OpenErr.{OpenErr}
@@ -35,19 +36,19 @@ use Rattle.ledger_open.proofs.StartLaws.{digests_from}
 use Rattle.ledger_open.proofs.WholeLaws.{goes_on, stands_lawful}
 
 -- where the tail gate of a file with blocks stands
-pub tail_is : (start : Option Base) → IsDecoded start → (generation : ℕ) (bs : List (List Entry)) (file : List ℕ) (x : HasBlocks (floor_from start) generation bs file) → tail_of x.front (written_blocks (floor_from start).root [] bs) ≡ after_at (64 + length (floor_from start).base) bs
-tail_is start decoded generation bs file x = tail_place (floor_from start) (digests_from start decoded) x.front (64 + length (floor_from start).base) bs x.lawful x.head.size
+pub tail_is : (start : Option Base) → IsDecoded start → (edition : Edition) (bs : List (List Entry)) (file : List ℕ) (x : HasBlocks (floor_from start) edition bs file) → tail_of x.front (written_blocks (floor_from start).root [] bs) ≡ after_at (64 + length (floor_from start).base) bs
+tail_is start decoded edition bs file x = tail_place (floor_from start) (digests_from start decoded) x.front (64 + length (floor_from start).base) bs x.lawful x.head.size
 
 -- a file that was read is whole
 pub lawful_file : {start : Option Base} {k : Known} {blocks : List (List Entry)} {file : List ℕ} → Knows k start blocks → HasFile start blocks file → HasLawfulBlocks file
-lawful_file {start = start} {blocks = blocks} knows has = (start, blocks, record { generation = has.0; has = has.1; base = knows.base; legal = knows.legal; reached = knows.reached })
+lawful_file {start = start} {blocks = blocks} knows has = (start, blocks, record { edition = has.0; has = has.1; base = knows.base; legal = knows.legal; reached = knows.reached })
 
 -- ---- which file is taken
 
 -- the file that is taken stands for the history, and the other is beside it
 pub record IsTakenFor (x : Bool) (a b : List ℕ) (h : History) : Type 0 where
   pub stands : StandsFor (choice x a b) h
-  pub beside : IsBeside h stands.file.generation (choice x b a)
+  pub beside : IsBeside h stands.file.edition (choice x b a)
 
 pub taken_pair : (x : Bool) (a b : List ℕ) (h : History) → IsTaken x a b → PairFor a b h → IsTakenFor x a b h
 taken_pair x a b h t p = subst (λ (y : Bool). IsTakenFor y a b h) (sym (taken_is x a b h t p)) (record { stands = p.stands; beside = p.beside })
@@ -78,13 +79,13 @@ synced s m e = e ∙ ap settled_state (sym (ap (λ (s : State). s.seen) e))
 
 pub record IsTakenAs (a b : List ℕ) (x : Bool) (twin : Twin) : Type 0 where
   pub taken : IsTaken x a b
-  pub generation : generation_in twin ≡ generation_of (choice x a b)
+  pub edition : edition_in twin ≡ edition_of (choice x a b)
   pub head : IsHeadOf (choice x a b) (file_of twin)
 
 pub taken_as : (a b : List ℕ) (found : Option Twin) (twin : Twin) (x : Bool) → found ≡ Some twin → IsLooked a b (option_map view_of found) → in_a_of twin ≡ x → IsTakenAs a b x twin
 taken_as a b found twin x is looked which =
     let l = subst (λ (o : Option Twin). IsLooked a b (option_map view_of o)) is looked in
-    subst (λ (y : Bool). IsTakenAs a b y twin) which (record { taken = l.0; generation = l.1; head = record { head = l.0.head; base_len = l.4; base_digest = l.5 } })
+    subst (λ (y : Bool). IsTakenAs a b y twin) which (record { taken = l.0; edition = ap (λ n. edition_from n (generation_in twin)) l.2 ∙ ap (edition_from (version_in (choice (in_a_of twin) a b))) l.1; head = record { head = l.0.head; base_len = l.4; base_digest = l.5 } })
 
 pub taken_at : (a b a_now b_now : State) (x : Bool) (twin : Twin) → a_now ≡ a → b_now ≡ b → IsTakenAs a.seen b.seen x twin → IsTaken x a_now.seen b_now.seen
 taken_at a b a_now b_now x twin same_a same_b t =
@@ -139,7 +140,7 @@ module _ (x : Bool) (a b : List ℕ) (t : IsTaken x a b) (w : HasLawfulBlocks (c
   opened_only errors.Exists why = why
   opened_only (errors.NewerFormat found) why = by_looks (files.NewerFormat found) (λ same. let no : ⊥ = cc same in no) why
   opened_only (errors.Damaged damage) (inl why) =
-      resume_no (choice x a b) damage (fits_there (floor_from w.0) w.2.generation w.1 (choice x a b) w.2.has) (by_looks (files.Damaged damage) (λ same. let no : ⊥ = cc same in no) why)
+      resume_no (choice x a b) damage (fits_there (floor_from w.0) w.2.edition w.1 (choice x a b) w.2.has) (by_looks (files.Damaged damage) (λ same. let no : ⊥ = cc same in no) why)
   opened_only (errors.Damaged damage) (inr why) =
       none_damaged (choice x a b) w.0 w.1 w.2 damage (subst (λ (y : Bool). IsDamage (choice y a b) damage) (taken_once a b why.0 x why.1 t) why.2)
 
@@ -147,12 +148,12 @@ module _ (x : Bool) (a b : List ℕ) (t : IsTaken x a b) (w : HasLawfulBlocks (c
 pub pair_opens : (a b : List ℕ) (h : History) (p : PairFor a b h) (e : OpenErr) → IsOpenErr a b e → IsOutside e
 pair_opens a b h p e why = opened_only p.in_a a b (pair_takes a b h p) (stands_lawful (choice p.in_a a b) h p.stands) e why
 
-state_seen : (x : Bool) (a b : State) → (choice x a b).seen ≡ choice x a.seen b.seen
+pub state_seen : (x : Bool) (a b : State) → (choice x a b).seen ≡ choice x a.seen b.seen
 state_seen true a b = refl
 state_seen false a b = refl
 
-pub reopened_only : (k : Known) (x : Bool) (start : Option Base) (ks : List (List Entry)) (a b a_new b_new : State) (e : OpenErr) → IsReopened x k start ks a b a_new b_new → IsOpenErr a.seen b.seen e → IsOutside e
-reopened_only k x start ks a b a_new b_new e r why =
+pub mended_only : (k : Known) (x : Bool) (start : Option Base) (ks : List (List Entry)) (a b a_new b_new : State) (e : OpenErr) → IsMended x k start ks a b a_new b_new → IsOpenErr a.seen b.seen e → IsOutside e
+mended_only k x start ks a b a_new b_new e r why =
     let w : HasLawfulBlocks (choice r.was.in_a a b).seen = lawful_file r.read.knows r.read.has in
     opened_only r.was.in_a a.seen b.seen r.read.taken (subst HasLawfulBlocks (state_seen r.was.in_a a b) w) e why
 
@@ -175,13 +176,13 @@ pub stands_open : (x : Bool) (a b : State) (h : History) → IsTaken x a.seen b.
 stands_open x a b h t p = subst (λ (file : List ℕ). StandsFor file h) (sym (state_seen x a b)) (taken_pair x a.seen b.seen h t p).stands
 
 -- a history that the pair stands for goes on with what was read
-pub pair_goes : (k : Known) (x : Bool) (start : Option Base) (ks : List (List Entry)) (a b a_new b_new : State) (h : History) (r : IsReopened x k start ks a b a_new b_new) → PairFor a.seen b.seen h → GoesOn r.was.start r.was.blocks h
-pair_goes k x start ks a b a_new b_new h r p =
+pub mended_goes : (k : Known) (x : Bool) (start : Option Base) (ks : List (List Entry)) (a b a_new b_new : State) (h : History) (r : IsMended x k start ks a b a_new b_new) → PairFor a.seen b.seen h → GoesOn r.was.start r.was.blocks h
+mended_goes k x start ks a b a_new b_new h r p =
     goes_on (choice r.was.in_a a b).seen h r.was.start r.was.blocks r.read.has.0 (stands_open r.was.in_a a b h r.read.taken p) r.read.knows.base r.read.has.1
 
 -- .. and what was opened serves it
-pub pair_served : (k : Known) (x : Bool) (start : Option Base) (ks : List (List Entry)) (a b a_new b_new : State) (h : History) → Remembers k start ks → IsReopened x k start ks a b a_new b_new → PairFor a.seen b.seen h → Serves k.book h
-pair_served k x start ks a b a_new b_new h knows r p = r.serves h (pair_goes k x start ks a b a_new b_new h r p)
+pub mended_serves : (k : Known) (x : Bool) (start : Option Base) (ks : List (List Entry)) (a b a_new b_new : State) (h : History) → Remembers k start ks → IsMended x k start ks a b a_new b_new → PairFor a.seen b.seen h → Serves k.book h
+mended_serves k x start ks a b a_new b_new h knows r p = r.serves h (mended_goes k x start ks a b a_new b_new h r p)
 
 -- a pair whose open file is whole has no other cause of refusal than a fault or want of memory
 pub whole_opens : (x : Bool) (a b na nb : List ℕ) → na ≡ a → nb ≡ b → IsTaken x na nb → HasLawfulBlocks (choice x na nb) → (e : OpenErr) → IsOpenErr a b e → IsOutside e
@@ -190,13 +191,13 @@ whole_opens x a b na nb ea eb t w e why =
 
 -- ---- a file that was cut behind its tail gate
 
-module _ (floor : Floor) (generation : ℕ) (bs : List (List Entry)) (file : List ℕ) (x : HasBlocks floor generation bs file) (at : ℕ) (ends : tail_of x.front (written_blocks floor.root [] bs) ≡ at) where
+module _ (floor : Floor) (edition : Edition) (bs : List (List Entry)) (file : List ℕ) (x : HasBlocks floor edition bs file) (at : ℕ) (ends : tail_of x.front (written_blocks floor.root [] bs) ≡ at) where
   cut_is : take (at + 1) file ≡ (x.front ++ open_blocks (written_blocks floor.root [] bs)) ++ x.stands.gate ∷ []
   cut_is =
       ap (λ (l : List ℕ). take (at + 1) l) (x.stands.is ∙ sym (append_assoc (x.front ++ open_blocks (written_blocks floor.root [] bs)) (x.stands.gate ∷ []) x.stands.rest))
       ∙ take_at ((x.front ++ open_blocks (written_blocks floor.root [] bs)) ++ x.stands.gate ∷ []) x.stands.rest (at + 1) (omega (arith, ends, length-append (x.front ++ open_blocks (written_blocks floor.root [] bs)) (x.stands.gate ∷ [])))
 
-  pub cut_has : HasBlocks floor generation bs (take (at + 1) file)
+  pub cut_has : HasBlocks floor edition bs (take (at + 1) file)
   cut_has = record { front = x.front; head = x.head; lawful = x.lawful; stands = record { gate = x.stands.gate; rest = []; is = cut_is; shut = x.stands.shut } }
 
   pub cut_length : length (take (at + 1) file) ≡ at + 1

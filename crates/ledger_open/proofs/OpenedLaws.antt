@@ -1,25 +1,24 @@
 -- An open ledger whose file was read stands for each history that its files stand for, while what was left undone is done.
 use Rattle.std.specs.Prelude.{Bool, true, false, Option, Some, None, sum_by}
-use Rattle.std.specs.Int.{from_be_bytes, w64}
 use Rattle.std.proofs.Common.{◌≡◌, inl, inr, ℕ, ◌+◌, ◌≤◌, List, [], ◌∷◌, length, take, drop, refl, sym, ◌∙◌, ap, subst, arith}
 use Rattle.std.proofs.lemmas.Bool.{cases_lt}
-use Rattle.std.proofs.lemmas.List.{nil_from_length, drop-take, take-take, take_all}
+use Rattle.std.proofs.lemmas.List.{nil_from_length, take-take, take_all}
 use Rattle.std.proofs.lemmas.List.Elements.{All-nil, All-cons, All-append}
 use Rattle.std.proofs.lemmas.List.Sums.{sum_by-cons}
 use Rattle.block_file.specs.File.{IsSettled, IsFileOf, tail_of}
-use Rattle.block_file.specs.Head.{generation_of}
 use Rattle.journal_record.specs.Entry.{Entry}
 use Rattle.ledger_disk.proofs.Guarding.{settled_image}
 use Rattle.ledger_disk.specs.Disk.{State, DiskState, MayLeave, settled_state}
 use Rattle.ledger_model.specs.History.{History}
 use Rattle.ledger_model.specs.Targets.{is_hidden}
 use Rattle.pseudo_genesis.specs.declared.base.Base.{Base}
-use Rattle.twin_file.specs.Images.{KeepsPassed}
+use Rattle.twin_file.specs.Images.{LeavesFront}
 use Rattle.twin_file.specs.Twin.{choice, IsTaken}
 use Rattle.ledger_open.specs.Cutting.{gate_behind}
 use Rattle.ledger_open.specs.Erasing.{EndsAs, AreOf, AreBetween, last_target, StandsMeanwhile, LeavesShown, LeavesErased, LeavesRest}
 use Rattle.ledger_open.specs.Opening.{Known, Knows, GoesOn, HasFile, AreUnchanged}
 use Rattle.block_file.specs.Places.{body_from, record_len, places_in, places_at, after_at}
+use Rattle.ledger_open.specs.Heads.{Edition, edition_of}
 use Rattle.ledger_open.specs.Places.{places_from}
 use Rattle.ledger_open.specs.Purging.{Ledger, open_disk, other_disk, StandsOpen, FinishesPurge, IsPurgedStill}
 use Rattle.ledger_open.specs.Reopened.{IsHere, StandsTrimmed, PairStandsStill}
@@ -27,12 +26,13 @@ use Rattle.ledger_open.specs.Standing.{Floor, floor_of, floor_from, floor_behind
 use Rattle.ledger_open.specs.Starts.{IsDecoded}
 use Rattle.block_file.specs.declared.place.PlaceAt.{PlaceAt}
 use Rattle.ledger_open.proofs.CleanLaws as file
-use Rattle.ledger_open.proofs.CleanLaws.{clean_size, own_tail}
+use Rattle.ledger_open.proofs.CleanLaws.{clean_size, own_tail, between_at}
 use Rattle.ledger_open.proofs.FinishedLaws.{both_settled}
 use Rattle.ledger_open.proofs.GrowLaws.{erased_stands}
 use Rattle.ledger_open.proofs.ErasingLaws.{target_at}
 use Rattle.ledger_open.proofs.FinishLaws.{are_of}
 use Rattle.ledger_open.proofs.MoveLaws.{settled_both}
+use Rattle.ledger_open.proofs.OldLaws.{same_edition, old_front, front_passed}
 use Rattle.twin_file.proofs.OpenLaws.{chosen}
 use Rattle.ledger_open.proofs.OpenLaws.{taken_pair}
 use Rattle.ledger_open.proofs.PartLaws.{none_gone}
@@ -73,7 +73,7 @@ image_of s image quiet left = settled_image s.seen image (subst (λ (t : State).
 pub record StandsIn (floor : ℕ) (h : History) (other file : List ℕ) : Type 0 where
   pub stands : StandsFor file h
   pub floor_is : stands.floor ≡ floor
-  pub beside : IsBeside h stands.file.generation other
+  pub beside : IsBeside h stands.file.edition other
 
 pub stands_in : (x : Bool) (a b : State) (h : History) → IsTaken x a.seen b.seen → PairFor a.seen b.seen h → (floor : ℕ) × StandsIn floor h (choice x b a).seen (choice x a b).seen
 stands_in true a b h t p = let q = taken_pair true a.seen b.seen h t p in (q.stands.floor, record { stands = q.stands; floor_is = refl; beside = q.beside })
@@ -84,30 +84,10 @@ pair_images : (x : Bool) (h : History) (image_a image_b : List ℕ) (floor : ℕ
 pair_images x h image_a image_b floor other s quiet left = record {
   in_a = x;
   stands = s.stands;
-  beside = subst (IsBeside h s.stands.file.generation) (sym (image_of other (choice x image_b image_a) quiet left)) s.beside;
+  beside = subst (IsBeside h s.stands.file.edition) (sym (image_of other (choice x image_b image_a) quiet left)) s.beside;
 }
 
 -- ---- the head of a file
-
-generation_part : (file : List ℕ) → take 8 (drop 10 (take 64 file)) ≡ take 8 (drop 10 file)
-generation_part file = ap (λ (l : List ℕ). take 8 l) (drop-take 10 54 file) ∙ take-take 8 54 (drop 10 file) (omega arith)
-
-pub by_head : (new old : List ℕ) → take 64 new ≡ take 64 old → generation_of new ≡ generation_of old
-by_head new old is = ap (λ (l : List ℕ). from_be_bytes w64 l) (sym (generation_part new) ∙ ap (λ (l : List ℕ). take 8 (drop 10 l)) is ∙ generation_part old)
-
--- contents stand behind the head
-between_in : (low end at : ℕ) (es : List Entry) → low ≤ at → at + sum_by record_len es ≤ end → AreBetween low end (places_in at es)
-between_in low end at [] first le = All-nil (λ (p : PlaceAt). (low ≤ p.content_at) × (p.content_at + p.content_len ≤ end))
-between_in low end at (e ∷ es) first le =
-    All-cons (λ (p : PlaceAt). (low ≤ p.content_at) × (p.content_at + p.content_len ≤ end)) _ (places_in (at + record_len e) es) (omega (arith, first), omega (arith, le, sum_by-cons record_len e es))
-    (between_in low end (at + record_len e) es (omega (arith, first)) (omega (arith, le, sum_by-cons record_len e es)))
-
-between_at : (low at : ℕ) (bs : List (List Entry)) → low ≤ at → AreBetween low (after_at at bs) (places_at at bs)
-between_at low at [] first = All-nil (λ (p : PlaceAt). (low ≤ p.content_at) × (p.content_at + p.content_len ≤ at))
-between_at low at (b ∷ bs) first =
-    All-append (λ (p : PlaceAt). (low ≤ p.content_at) × (p.content_at + p.content_len ≤ after_at at (b ∷ bs))) (places_in (body_from at) b) (places_at (body_from at + sum_by record_len b) bs)
-    (between_in low (after_at at (b ∷ bs)) (body_from at) b (omega (arith, first)) (after_most 0 0 (body_from at + sum_by record_len b) bs))
-    (between_at low (body_from at + sum_by record_len b) bs (omega (arith, first)))
 
 -- ---- a file that was read
 
@@ -165,7 +145,7 @@ module _ (k : Known) (start : Option Base) (blocks : List (List Entry)) (knows :
     tail_read = tail_goes h goes
 
     -- an image of it that has the same blocks behind the same front
-    again : (other image_now : List ℕ) → IsBeside h s.file.generation other → ((front : List ℕ) (ws : List (List ℕ)) → IsFileOf front ws image → tail_of front ws ≡ k.gate → IsFileOf front ws image_now) → StandsIn k.book.floor h other image_now
+    again : (other image_now : List ℕ) → IsBeside h s.file.edition other → ((front : List ℕ) (ws : List (List ℕ)) → IsFileOf front ws image → tail_of front ws ≡ k.gate → IsFileOf front ws image_now) → StandsIn k.book.floor h other image_now
     again other image_now beside same =
         let x = s.file in
         let f = x.keeps.file in
@@ -174,7 +154,7 @@ module _ (k : Known) (start : Option Base) (blocks : List (List Entry)) (knows :
             floor = s.floor;
             begins = s.begins;
             file = record {
-              generation = x.generation;
+              edition = x.edition;
               parts = x.parts;
               keeps = record { blocks = x.keeps.blocks; file = record { front = f.front; head = f.head; lawful = f.lawful; stands = same f.front _ f.stands (own_tail k start blocks image knows has h s) }; same = x.keeps.same };
               early = x.early;
@@ -190,7 +170,7 @@ module _ (k : Known) (start : Option Base) (blocks : List (List Entry)) (knows :
   -- ---- step by step
 
   -- the file that was read is taken of the two
-  module _ (x : Bool) (generation : ℕ) (a b : State) (has : HasFile start blocks (choice x a b).seen) (here : IsHere x generation a b) where
+  module _ (x : Bool) (edition : Edition) (a b : State) (has : HasFile start blocks (choice x a b).seen) (here : IsHere x edition a b) where
     open_quiet : IsSettled (choice x a b)
     open_quiet = settled_both x a b here.quiet_a here.quiet_b
 
@@ -208,7 +188,7 @@ module _ (k : Known) (start : Option Base) (blocks : List (List Entry)) (knows :
       cut_image : (h : History) → PairFor a.seen b.seen h → (image : List ℕ) → MayLeave (choice x a1 b1) image → StandsIn k.book.floor h (choice x b1 a1).seen image
       cut_image h p image left =
           let s = stands_in x a b h here.taken p in
-          again h (choice x a b).seen has s.1.stands (choice x b1 a1).seen image (subst (λ (o : State). IsBeside h s.1.stands.file.generation o.seen) (sym other) s.1.beside)
+          again h (choice x a b).seen has s.1.stands (choice x b1 a1).seen image (subst (λ (o : State). IsBeside h s.1.stands.file.edition o.seen) (sym other) s.1.beside)
           (λ front ws stands tail. images open_quiet front ws stands tail image left)
 
       pub cut_pairs : PairStandsStill a b a1 b1
@@ -244,9 +224,9 @@ module _ (k : Known) (start : Option Base) (blocks : List (List Entry)) (knows :
                 let target = target_is h ends.serves.stands.lawful n is in
                 let now = meanwhile h ends cut_quiet before.stands image left in
                 record {
-                  stands = now;
-                  floor_is = target_at now.floor h n now.begins target ∙ sym (target_at k.book.floor h n ends.begins target);
-                  beside = elim before.beside [ inl none ↦ inl none | inr purge ↦ absurd (purge.0 (sym target.point_is)) ];
+                  stands = now.0;
+                  floor_is = target_at now.0.floor h n now.0.begins target ∙ sym (target_at k.book.floor h n ends.begins target);
+                  beside = subst (λ (e : Edition). IsBeside h e (choice x b1 a1).seen) (sym now.1) before.beside;
                 }
 
           pub given_pairs : PairStandsStill a b a2 b2
@@ -256,13 +236,13 @@ module _ (k : Known) (start : Option Base) (blocks : List (List Entry)) (knows :
 
           -- once that is done
           module _ (quiet2 : IsSettled (choice x a2 b2)) (rest : LeavesRest k.places (choice x a1 b1) (choice x a2 b2)) where
-            pub generation_given : generation ≡ generation_of (choice x a2 b2).seen
-            generation_given = here.generation_is ∙ sym (by_head (choice x a2 b2).seen (choice x a b).seen ((rest 64 k.gate between_read).before ∙ cut_head))
+            pub edition_given : edition ≡ edition_of (choice x a2 b2).seen
+            edition_given = here.edition_is ∙ sym (same_edition (choice x a2 b2).seen (choice x a b).seen ((rest 64 k.gate between_read).before ∙ cut_head))
 
             pub quiet_both : IsSettled a2 × IsSettled b2
             quiet_both = both_settled x a2 b2 quiet2 other_quiet2
 
-            pub opened_stands : (h : History) → PairFor a.seen b.seen h → StandsOpen (record { known = k; in_a = x; generation = generation; a = a2; b = b2 }) h
+            pub opened_stands : (h : History) → PairFor a.seen b.seen h → StandsOpen (record { known = k; in_a = x; edition = edition; a = a2; b = b2 }) h
             opened_stands h p =
                 let s = given_image h p (choice x a2 b2).seen (left_own (choice x a2 b2) quiet2) in
                 record {
@@ -273,15 +253,15 @@ module _ (k : Known) (start : Option Base) (blocks : List (List Entry)) (knows :
                   stands = s.stands;
                   floor = s.floor_is;
                   beside = s.beside;
-                  generation = generation_given;
+                  edition = edition_given;
                 }
 
 -- ---- while the other file is cleared
 
 cleared_images : (y : Bool) (h : History) (floor : ℕ) (a3 b3 a4 b4 : State) → StandsIn floor h (choice y b3 a3).seen (choice y a3 b3).seen → IsSettled (choice y a3 b3) → IsSettled (choice y b3 a3) → choice y a4 b4 ≡ choice y a3 b3
-    → KeepsPassed (choice y b3 a3) (choice y b4 a4) → ((choice y b3 a3).seen ≡ [] → choice y b4 a4 ≡ choice y b3 a3)
+    → LeavesFront (choice y b3 a3) (choice y b4 a4) → ((choice y b3 a3).seen ≡ [] → choice y b4 a4 ≡ choice y b3 a3)
     → (image_a image_b : List ℕ) → MayLeave a4 image_a → MayLeave b4 image_b → PairFor image_a image_b h
-cleared_images y h floor a3 b3 a4 b4 s quiet other_quiet stays passed idle image_a image_b la lb =
+cleared_images y h floor a3 b3 a4 b4 s quiet other_quiet stays front idle image_a image_b la lb =
     let both = chosen y a4 b4 image_a image_b la lb in
     let same : choice y image_a image_b ≡ (choice y a3 b3).seen = image_of (choice y a3 b3) (choice y image_a image_b) quiet (subst (λ (o : State). MayLeave o (choice y image_a image_b)) stays both.0) in
     let t : StandsIn floor h (choice y b3 a3).seen (choice y image_a image_b) = subst (StandsIn floor h (choice y b3 a3).seen) (sym same) s in
@@ -293,19 +273,20 @@ cleared_images y h floor a3 b3 a4 b4 s quiet other_quiet stays passed idle image
             let empty : (choice y b3 a3).seen ≡ [] = nil_from_length (choice y b3 a3).seen none in
             let is : choice y image_b image_a ≡ (choice y b3 a3).seen = image_of (choice y b3 a3) (choice y image_b image_a) other_quiet (subst (λ (o : State). MayLeave o (choice y image_b image_a)) (idle empty) both.1) in
             inl (ap length is ∙ none)
-        | inr purge ↦ inr (purge.0, passed other_quiet false t.stands.file.generation purge.1 (choice y image_b image_a) both.1)
+        | inr (inl past) ↦ inr (inl (past.0, front_passed (choice y b3 a3) (choice y b4 a4) front other_quiet false t.stands.file.edition.number past.1 (choice y image_b image_a) both.1))
+        | inr (inr old) ↦ inr (inr (old.0, old_front t.stands.file.edition.number (choice y b3 a3).seen (choice y image_b image_a) old.1 (front other_quiet (choice y image_b image_a) both.1)))
       ];
     }
 
 -- the purge was finished, or there was none
 pub cleared_pairs : (l m : Ledger) (a4 b4 : State) (h : History) → StandsOpen l h → FinishesPurge l m → IsPurgedStill l m.a m.b → (l.known.book.point ≤ l.known.book.floor → m.in_a ≡ l.in_a) → choice m.in_a a4 b4 ≡ choice m.in_a m.a m.b
-    → KeepsPassed (other_disk m) (choice m.in_a b4 a4) → ((other_disk m).seen ≡ [] → choice m.in_a b4 a4 ≡ other_disk m)
+    → LeavesFront (other_disk m) (choice m.in_a b4 a4) → ((other_disk m).seen ≡ [] → choice m.in_a b4 a4 ≡ other_disk m)
     → (image_a image_b : List ℕ) → MayLeave a4 image_a → MayLeave b4 image_b → PairFor image_a image_b h
-cleared_pairs l m a4 b4 h s finishes still same stays passed idle = elim (cases_lt l.known.book.floor l.known.book.point) [
+cleared_pairs l m a4 b4 h s finishes still same stays front idle = elim (cases_lt l.known.book.floor l.known.book.point) [
   | inl below ↦
       let c = finishes below h s in
       cleared_images m.in_a h (erased_stands (open_disk m).seen h c.clean.erased).floor m.a m.b a4 b4 (record { stands = erased_stands (open_disk m).seen h c.clean.erased; floor_is = refl; beside = inl c.empty }) (settled_both m.in_a m.a m.b c.quiet_a c.quiet_b) (settled_both m.in_a m.b m.a c.quiet_b c.quiet_a)
-      stays passed idle
+      stays front idle
   | inr most ↦
       let files = still most in
       let quiet_a : IsSettled m.a = subst IsSettled (sym files.0) s.quiet_a in
@@ -313,12 +294,12 @@ cleared_pairs l m a4 b4 h s finishes still same stays passed idle = elim (cases_
       let here : StandsIn l.known.book.floor h (choice m.in_a l.b l.a).seen (choice m.in_a l.a l.b).seen = subst (λ (v : Bool). StandsIn l.known.book.floor h (choice v l.b l.a).seen (choice v l.a l.b).seen) (sym (same most)) (record { stands = s.stands; floor_is = s.floor; beside = s.beside }) in
       let now : StandsIn l.known.book.floor h (other_disk m).seen (open_disk m).seen =
       subst (λ (u : State). StandsIn l.known.book.floor h (choice m.in_a m.b u).seen (choice m.in_a u m.b).seen) (sym files.0) (subst (λ (u : State). StandsIn l.known.book.floor h (choice m.in_a u l.a).seen (choice m.in_a l.a u).seen) (sym files.1) here) in
-      cleared_images m.in_a h l.known.book.floor m.a m.b a4 b4 now (settled_both m.in_a m.a m.b quiet_a quiet_b) (settled_both m.in_a m.b m.a quiet_b quiet_a) stays passed idle
+      cleared_images m.in_a h l.known.book.floor m.a m.b a4 b4 now (settled_both m.in_a m.a m.b quiet_a quiet_b) (settled_both m.in_a m.b m.a quiet_b quiet_a) stays front idle
 ]
 
 -- ---- a pair that was clean
 
-module _ (k : Known) (start : Option Base) (blocks : List (List Entry)) (knows : Knows k start blocks) (x : Bool) (generation : ℕ) (a b : State) (has : HasFile start blocks (choice x a b).seen) (here : IsHere x generation a b) (h : History) (c : IsCleanPair a.seen b.seen h) where
+module _ (k : Known) (start : Option Base) (blocks : List (List Entry)) (knows : Knows k start blocks) (x : Bool) (edition : Edition) (a b : State) (has : HasFile start blocks (choice x a b).seen) (here : IsHere x edition a b) (h : History) (c : IsCleanPair a.seen b.seen h) where
   clean : IsClean (choice x a b).seen h × ((choice x b a).seen ≡ [])
   clean = clean_seen x a b h (clean_taken x a.seen b.seen h here.taken c)
 

@@ -95,11 +95,11 @@ one_history : (p q : ℕ) (zeros zeros′ : ℕ → Bool) (image : List ℕ) (h 
 one_history p q zeros zeros′ image h k x y begins one =
     let fx = x.keeps.file in
     let fy = y.keeps.file in
-    let heads = front_again x.generation y.generation (floor_behind h x.parts.gone).base (floor_behind k y.parts.gone).base fx.front fy.front _ _ fx.head fy.head (sym (flat fx.front _ image fx.stands) ∙ flat fy.front _ image fy.stands) in
+    let heads = front_again x.edition y.edition (floor_behind h x.parts.gone).base (floor_behind k y.parts.gone).base fx.front fy.front _ _ fx.head fy.head (sym (flat fx.front _ image fx.stands) ∙ flat fy.front _ image fy.stands) in
     let floors = floors_same h k x.parts.gone y.parts.gone (blocks_some x.parts.gone (first_ones p h x.lawful.blocks_are x.parts)) (blocks_some y.parts.gone (first_ones q k y.lawful.blocks_are y.parts)) one heads.1 in
     let at : p ≡ q = sym x.parts.at ∙ floors.1 ∙ y.parts.at in
-    let fy′ : HasBlocks (floor_behind h x.parts.gone) y.generation y.keeps.blocks image = subst (λ (f : Floor). HasBlocks f y.generation y.keeps.blocks image) (sym floors.0) fy in
-    let same : x.keeps.blocks ≡ y.keeps.blocks = (blocks_unique (floor_behind h x.parts.gone) x.generation y.generation x.keeps.blocks y.keeps.blocks image (floor_digests h x.parts.gone x.parts.kept x.parts.are) fx fy′).1 in
+    let fy′ : HasBlocks (floor_behind h x.parts.gone) y.edition y.keeps.blocks image = subst (λ (f : Floor). HasBlocks f y.edition y.keeps.blocks image) (sym floors.0) fy in
+    let same : x.keeps.blocks ≡ y.keeps.blocks = (blocks_unique (floor_behind h x.parts.gone) x.edition y.edition x.keeps.blocks y.keeps.blocks image (floor_digests h x.parts.gone x.parts.kept x.parts.are) fx fy′).1 in
     let kept : SameButHidden (is_hidden k) zeros′ y.parts.kept x.keeps.blocks = subst (λ (bs : List (List Entry)). SameButHidden (is_hidden k) zeros′ y.parts.kept bs) (sym same) y.keeps.same in
     let hide : (n : ℕ) → p ≤ n → is_hidden h n ≡ is_hidden k n =
     λ n le. hidden_here p zeros image h x n le ∙ ap (λ (bs : List (List Entry)). list_any (names n) (journals_of bs)) same ∙ sym (hidden_here q zeros′ image k y n (omega (arith, le, at))) in

@@ -10,8 +10,7 @@ use Rattle.ledger_model.specs.History.{History, journals, journals_of, size, poi
 use Rattle.ledger_model.specs.Lawful.{IsBlock, IsLawful}
 use Rattle.ledger_model.proofs.LawfulLaws.{two_points}
 use Rattle.ledger_model.proofs.PointLaws.{points_few, splits_at_point}
-use Rattle.twin_file.specs.Twin.{other_of}
-use Rattle.ledger_open.specs.Standing.{Parts, StandsBy, StandsFor, PairFor, IsBeside, hidden_before, point_before}
+use Rattle.ledger_open.specs.Standing.{Parts, StandsBy, StandsFor, PairFor, hidden_before, point_before}
 
 -- ---- the parts of a history
 
@@ -88,26 +87,18 @@ stands_whole image h s at = subst (λ (n : ℕ). StandsBy n (hidden_before h) im
 
 -- ---- the generation of a file
 
-early_by : (begins : Bool) (generation most : ℕ) → begins ≡ true → generation ≤ most → generation + (if begins then 0 else 1) ≤ most
+early_by : (begins : Bool) (generation most : ℕ) → begins ≡ true → generation + 1 ≤ most → generation + (if begins then 0 else 1) + 1 ≤ most
 early_by true generation most is le = omega (arith, le)
 early_by false generation most is le = absurd (true≢false (sym is))
 
-pub early_at : (floor at generation most : ℕ) → floor ≡ at → generation ≤ most → generation + (if floor == at then 0 else 1) ≤ most
+pub early_at : (floor at generation most : ℕ) → floor ≡ at → generation + 1 ≤ most → generation + (if floor == at then 0 else 1) + 1 ≤ most
 early_at floor at generation most is le = early_by (floor == at) generation most (eq-eqb floor at is) le
 
-pub early_most : (begins : Bool) (generation most : ℕ) → generation + (if begins then 0 else 1) ≤ most → generation ≤ most
+pub early_most : (begins : Bool) (generation most : ℕ) → generation + (if begins then 0 else 1) + 1 ≤ most → generation + 1 ≤ most
 early_most true generation most le = omega (arith, le)
 early_most false generation most le = omega (arith, le)
 
 -- ---- which of two files it is
-
-beside_none : (h : History) (generation : ℕ) (other : List ℕ) → point h ≡ 0 → IsBeside h generation other → length other ≡ 0
-beside_none h generation other none (inl empty) = empty
-beside_none h generation other none (inr passed) = absurd (passed.0 (none_before h none ∙ sym none))
-
--- the other file is empty where no purge has a point above 0
-pub is_alone : (a b : List ℕ) (h : History) → point h ≡ 0 → (p : PairFor a b h) → length (other_of p.in_a a b) ≡ 0
-is_alone a b h none p = beside_none h p.stands.file.generation (other_of p.in_a a b) none p.beside
 
 pub sides_pair : (a b : List ℕ) (h : History) → (StandsFor a h × (length b ≡ 0)) ⊎ (StandsFor b h × (length a ≡ 0)) → PairFor a b h
 sides_pair a b h (inl x) = record { in_a = true; stands = x.0; beside = inl x.1 }

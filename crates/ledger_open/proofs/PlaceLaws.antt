@@ -16,6 +16,7 @@ use Rattle.journal_record.specs.declared.header.Header.{Header}
 use Rattle.ledger_model.specs.History.{History, journals_of}
 use Rattle.ledger_model.specs.Targets.{is_hidden}
 use Rattle.block_file.specs.Places.{content_in, record_size, body_from, record_len, place_at, place_of_record, places_in, places_at, after_at}
+use Rattle.ledger_open.specs.Heads.{Edition}
 use Rattle.ledger_open.specs.Places.{entry_at, AllAt, places_from}
 use Rattle.ledger_open.specs.Standing.{Floor, floor_behind, HasBlocks, IsKept, AllKept, SameButHidden, StandsBy}
 use Rattle.block_file.specs.declared.place.PlaceAt.{PlaceAt}
@@ -103,9 +104,9 @@ open_here at root es file o r =
     (sym (drop-drop (body_from 0) at file) ∙ ap (λ (l : List ℕ). drop (body_from 0) l) o.is ∙ body_behind root es (o.gate ∷ o.rest) o.digest)
 
 -- the journals of a file stand at its places
-pub file_here : (floor : Floor) → GivesDigests floor.root → (generation : ℕ) (bs : List (List Entry)) (image : List ℕ) → HasBlocks floor generation bs image
+pub file_here : (floor : Floor) → GivesDigests floor.root → (edition : Edition) (bs : List (List Entry)) (image : List ℕ) → HasBlocks floor edition bs image
     → AreHere image (journals_of bs) (places_at (64 + length floor.base) bs)
-file_here floor digests generation bs image x =
+file_here floor digests edition bs image x =
     blocks_here image floor.root digests [] floor.first (64 + length floor.base) bs (x.stands.gate ∷ x.stands.rest) x.lawful
     (ap (λ (l : List ℕ). drop (64 + length floor.base) l) (flat x.front (written_blocks floor.root [] bs) image x.stands)
     ∙ drop_at x.front (open_blocks (written_blocks floor.root [] bs) ++ x.stands.gate ∷ x.stands.rest) (64 + length floor.base) x.head.size)
@@ -162,7 +163,7 @@ kept_at floor gone image h x =
     kept_here (is_hidden h) gone image (journals_of x.parts.kept) (journals_of x.keeps.blocks) (places_at at x.parts.kept)
     (all_kept (is_hidden h) gone x.parts.kept x.keeps.blocks x.keeps.same)
     (subst (AreHere image (journals_of x.keeps.blocks)) (sym (places_kept (is_hidden h) gone at x.parts.kept x.keeps.blocks x.keeps.same))
-    (file_here from (floor_digests h x.parts.gone x.parts.kept x.parts.are) x.generation x.keeps.blocks image x.keeps.file))
+    (file_here from (floor_digests h x.parts.gone x.parts.kept x.parts.are) x.edition x.keeps.blocks image x.keeps.file))
 
 -- ---- where blocks end
 

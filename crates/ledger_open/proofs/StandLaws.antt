@@ -1,6 +1,6 @@
 -- The copy of a file that stands for a history, from the point on, stands for it too.
 use Rattle.std.specs.Prelude.{All, Bool, true, false, if◌then◌else◌}
-use Rattle.std.proofs.Common.{◌≡◌, ℕ, ◌+◌, ◌-◌, ◌^◌, ◌<◌, ◌≤◌, ◌==◌, List, [], ◌∷◌, ◌++◌, length, take, drop, refl, sym, ◌∙◌, ap, subst, arith}
+use Rattle.std.proofs.Common.{◌≡◌, inl, inr, ℕ, ◌+◌, ◌-◌, ◌^◌, ◌<◌, ◌≤◌, ◌==◌, List, [], ◌∷◌, ◌++◌, length, take, drop, refl, sym, ◌∙◌, ap, subst, arith}
 use Rattle.std.proofs.lemmas.Bool.{eqb-true}
 use Rattle.std.proofs.lemmas.List.{take_at, drop_at}
 use Rattle.std.proofs.lemmas.List.Elements.{All-take}
@@ -23,7 +23,7 @@ use Rattle.ledger_model.specs.Targets.{is_hidden}
 use Rattle.pseudo_genesis.specs.Bases as bases
 use Rattle.pseudo_genesis.specs.Bases.{IsBase, base_spelling}
 use Rattle.ledger_open.specs.Cutting.{first_gate, gate_behind}
-use Rattle.ledger_open.specs.Heads.{IsFront}
+use Rattle.ledger_open.specs.Heads.{edition_from, IsFront}
 use Rattle.ledger_open.specs.Standing.{Floor, HasBlocks, SameButHidden, AllKept, HasFounders, AreWide, StandsBy, floor_behind}
 use Rattle.ledger_open.proofs.CopyLaws.{Halves, copied, halves, same_leaves, same_count, written_parts, length_written}
 use Rattle.ledger_open.proofs.FloorLaws.{floor_digests}
@@ -31,6 +31,7 @@ use Rattle.ledger_open.proofs.FrontLaws.{front_is, whole_stands}
 use Rattle.ledger_open.proofs.HidingLaws.{from_blocks}
 use Rattle.ledger_open.proofs.KeptLaws.{all_kept}
 use Rattle.ledger_open.proofs.PartLaws as parts
+use Rattle.ledger_open.proofs.HeadLaws.{one_or_two}
 use Rattle.ledger_open.proofs.PartLaws.{early_at}
 use Rattle.ledger_open.proofs.PlaceLaws.{after_kept, tail_place}
 use Rattle.ledger_open.proofs.PlaceMoves.{copied_bytes}
@@ -105,35 +106,39 @@ module _ (floor : ℕ) (zeros : ℕ → Bool) (image : List ℕ) (h : History) (
       rules_at h gone behind (point h) x.lawful x.none (split.closed_are h x.lawful x.none floor x.parts below) (split.gone_at h x.lawful x.none floor x.parts below) (omega (arith, below)) (points_few h 0 x.lawful.journals_are).0 (standing_wide floor zeros image h x)
       (wide_front (journals_of gone) (journals_of behind) (parts.halves (point h) h x.none (split.parts_there h x.lawful x.none floor x.parts below))).founders
 
-  pub lower : x.generation + 1 ≤ size h
+  -- its generation is at most the size
+  pub lower : x.edition.number ≤ size h
   lower = by_floor (floor == point h) refl x.early where
-    by_floor : (v : Bool) → (floor == point h) ≡ v → x.generation + (if v then 0 else 1) ≤ size h → x.generation + 1 ≤ size h
+    version : x.edition.version ≤ 2
+    version = elim (one_or_two x.edition.version x.keeps.file.head.format) [ inl one ↦ omega (arith, one) | inr two ↦ omega (arith, two) ]
+
+    by_floor : (v : Bool) → (floor == point h) ≡ v → x.edition.number + (if v then 0 else 1) + 1 ≤ size h + x.edition.version → x.edition.number ≤ size h
     by_floor true is early = let same : floor ≡ point h = eqb-true floor (point h) is in absurd (omega (arith, same, below))
-    by_floor false is early = early
+    by_floor false is early = omega (arith, early, version)
 
   -- the copy stands for the history
-  pub copy_stands : (base : List ℕ) (next : ℕ) → base ≡ base_spelling (base_of h (point h)) → next ≡ x.generation + 1 → next < 2 ^ 64 → length base < 2 ^ 64 → StandsBy (point h) zeros (whole_file (front_of 1 next base) rest) h
+  pub copy_stands : (base : List ℕ) (next : ℕ) → base ≡ base_spelling (base_of h (point h)) → next ≡ x.edition.number + 1 → next < 2 ^ 64 → length base < 2 ^ 64 → StandsBy (point h) zeros (whole_file (front_of 1 next base) rest) h
   unfolding rest
   copy_stands base next spelled is fits short =
       let t = two in
       let there = split.parts_there h x.lawful x.none floor x.parts below in
       let whole : h.closed ≡ x.parts.gone ++ (front ++ behind) = x.parts.are ∙ ap (λ (l : List (List Entry)). x.parts.gone ++ l) (split.kept_are h x.lawful x.none floor x.parts below) in
       let new_floor = split.floor_there h x.lawful x.none floor x.parts below in
-      let file : HasBlocks old x.generation (t.first ++ t.second) image = subst (λ (l : List (List Entry)). HasBlocks old x.generation l image) t.are x.keeps.file in
+      let file : HasBlocks old x.edition (t.first ++ t.second) image = subst (λ (l : List (List Entry)). HasBlocks old x.edition l image) t.are x.keeps.file in
       let new = whole_file (front_of 1 next base) (drop (length t.first) (written_blocks old.root [] x.keeps.blocks)) in
       let stands : IsFileOf (front_of 1 next base) (drop (length t.first) (written_blocks old.root [] (t.first ++ t.second))) new =
       subst (λ (l : List (List Entry)). IsFileOf (front_of 1 next base) (drop (length t.first) (written_blocks old.root [] l)) new) t.are (whole_stands (front_of 1 next base) (drop (length t.first) (written_blocks old.root [] x.keeps.blocks))) in
-      let head : IsFront next (floor_behind h (x.parts.gone ++ front)).base (front_of 1 next base) =
-      subst (λ (l : List ℕ). IsFront next l (front_of 1 next base)) (spelled ∙ ap (λ (f : Floor). f.base) (sym new_floor)) (front_is 1 next base refl fits short) in
+      let head : IsFront (edition_from 2 next) (floor_behind h (x.parts.gone ++ front)).base (front_of 1 next base) =
+      subst (λ (l : List ℕ). IsFront (edition_from 2 next) l (front_of 1 next base)) (spelled ∙ ap (λ (f : Floor). f.base) (sym new_floor)) (front_is 1 next base refl fits short) in
       record {
-        generation = next;
+        edition = edition_from 2 next;
         parts = there;
         keeps = record {
           blocks = t.second;
-          file = copied h x.parts.gone front behind whole t.first t.second (same_leaves hid zeros front t.first t.one) x.generation next image new (front_of 1 next base) file (same_count hid zeros front t.first t.one) head stands;
+          file = copied h x.parts.gone front behind whole t.first t.second (same_leaves hid zeros front t.first t.one) x.edition (edition_from 2 next) image new (front_of 1 next base) file (same_count hid zeros front t.first t.one) head stands;
           same = t.two;
         };
-        early = early_at (point h) (point h) next (size h) refl (omega (arith, is, lower));
+        early = early_at (point h) (point h) next (size h + 2) refl (omega (arith, is, lower));
         none = x.none;
         lawful = x.lawful;
         wide = wide_front (journals_of (x.parts.gone ++ front)) (journals_of behind) (parts.halves (point h) h x.none there);

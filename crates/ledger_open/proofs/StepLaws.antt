@@ -2,24 +2,24 @@
 use Rattle.std.specs.Prelude.{Bool, IsTrue}
 use Rattle.std.proofs.Common.{◌≡◌, ℕ, ◌+◌, ◌≤◌, [], length, take, sym, ◌∙◌, ap, subst}
 use Rattle.block_file.specs.File.{IsSettled}
-use Rattle.block_file.specs.Head.{generation_of}
 use Rattle.block_file.specs.FileView.{gate_of}
 use Rattle.ledger_disk.specs.Disk.{State, DiskState, settled_state}
 use Rattle.ledger_model.specs.History.{History}
-use Rattle.twin_file.specs.Images.{KeepsPassed}
+use Rattle.twin_file.specs.Images.{LeavesFront}
 use Rattle.twin_file.specs.Twin.{choice}
-use Rattle.twin_file.specs.Which.{in_a_of, generation_in, file_of}
+use Rattle.twin_file.specs.Which.{in_a_of, file_of}
 use Rattle.twin_file.specs.declared.twin.Twin.{Twin}
 use Rattle.ledger_open.specs.Erasing.{StandsMeanwhile, LeavesShown, LeavesErased, LeavesRest, WritesZeros, WritesOne}
 use Rattle.ledger_open.specs.Opening.{known_from, AreUnchanged}
 use Rattle.ledger_open.specs.Purging.{Ledger, ledger_at, other_disk, StandsOpen, FinishesPurge, StandsPurging, IsPurgedStill, Purges}
-use Rattle.ledger_open.specs.Reopened.{KnowsReopened, WasReadHere, IsCleanStill, PairStandsStill, StandsTrimmed}
+use Rattle.ledger_open.specs.Heads.{edition_in, edition_of}
+use Rattle.ledger_open.specs.Reopened.{KnowsMended, WasReadHere, IsCleanStill, PairStandsStill, StandsTrimmed}
 use Rattle.ledger_open.specs.Standing.{PairFor, IsCleanPair}
 use Rattle.ledger_open.specs.declared.opened.Opened.{Opened}
 use Rattle.ledger_open.proofs.FinishedLaws.{settled_is}
-use Rattle.ledger_open.proofs.LeftLaws.{IsErasedHere, cut_erased, known_left, generation_left}
+use Rattle.ledger_open.proofs.LeftLaws.{IsErasedHere, cut_erased, known_left, edition_left}
 use Rattle.ledger_open.proofs.MoveLaws.{settled_both}
-use Rattle.ledger_open.proofs.OpenedLaws.{by_bytes, on_bytes, cut_pairs, given_pairs, generation_given, opened_stands, cleared_pairs, clean_cut, clean_given, clean_point, clean_cleared}
+use Rattle.ledger_open.proofs.OpenedLaws.{by_bytes, on_bytes, cut_pairs, given_pairs, edition_given, opened_stands, cleared_pairs, clean_cut, clean_given, clean_point, clean_cleared}
 
 -- the same of the bytes of two disks, where the open file is told by another value
 on_twin : (P : State → State → Type 0) (t u : Twin) → t ≡ u → (a b c d : DiskState) → P (choice (in_a_of t) a b).bytes (choice (in_a_of t) c d).bytes → P (choice (in_a_of u) a.bytes b.bytes) (choice (in_a_of u) c.bytes d.bytes)
@@ -47,10 +47,10 @@ module _ (tells : Bool) (o : Opened) (a b : DiskState) (read : WasReadHere tells
     left1 = by_bytes x b a b1 a1 other1
 
     pub trim_pairs : IsTrue tells → PairStandsStill a.bytes b.bytes a1.bytes b1.bytes
-    trim_pairs told = cut_pairs _ read.start read.blocks read.knows x (generation_in o.twin) a.bytes b.bytes (read.has told) (read.here told) a1.bytes b1.bytes (images1 told) left1
+    trim_pairs told = cut_pairs _ read.start read.blocks read.knows x (edition_in o.twin) a.bytes b.bytes (read.has told) (read.here told) a1.bytes b1.bytes (images1 told) left1
 
     pub trim_clean : (IsTrue tells → length old.seen ≡ place + 1 → mid ≡ old) → IsTrue tells → IsCleanStill a.bytes b.bytes a1.bytes b1.bytes
-    trim_clean idle told qa qb h c = clean_cut _ read.start read.blocks read.knows x (generation_in o.twin) a.bytes b.bytes (read.has told) (read.here told) h c a1.bytes b1.bytes (idle told) left1
+    trim_clean idle told qa qb h c = clean_cut _ read.start read.blocks read.knows x (edition_in o.twin) a.bytes b.bytes (read.has told) (read.here told) h c a1.bytes b1.bytes (idle told) left1
 
     -- what the last journal hides is given up
     module _ (t : Twin) (e : t ≡ o.twin) (cut : IsTrue tells → mid ≡ settled_state (take (place + 1) old.seen)) (a2 b2 : DiskState)
@@ -72,11 +72,11 @@ module _ (tells : Bool) (o : Opened) (a b : DiskState) (read : WasReadHere tells
 
       pub erase_pairs : IsTrue tells → PairStandsStill a.bytes b.bytes a2.bytes b2.bytes
       erase_pairs told =
-          given_pairs _ read.start read.blocks read.knows x (generation_in o.twin) a.bytes b.bytes (read.has told) (read.here told) a1.bytes b1.bytes (images1 told) left1 (cut told) a2.bytes b2.bytes (meanwhile told) (shown told) left2
+          given_pairs _ read.start read.blocks read.knows x (edition_in o.twin) a.bytes b.bytes (read.has told) (read.here told) a1.bytes b1.bytes (images1 told) left1 (cut told) a2.bytes b2.bytes (meanwhile told) (shown told) left2
 
       erased_clean : IsTrue tells → (h : History) → IsCleanPair a.bytes.seen b.bytes.seen h → AreUnchanged a.bytes b.bytes a2.bytes b2.bytes
       erased_clean told h c =
-          clean_given _ read.start read.blocks read.knows x (generation_in o.twin) a.bytes b.bytes (read.has told) (read.here told) h c a1.bytes b1.bytes a2.bytes b2.bytes (cut told) left1
+          clean_given _ read.start read.blocks read.knows x (edition_in o.twin) a.bytes b.bytes (read.has told) (read.here told) h c a1.bytes b1.bytes a2.bytes b2.bytes (cut told) left1
           (on_twin (LeavesErased o.book o.places.list) t o.twin e a1 b1 a2 b2 (idle2 told)) left2
 
       pub erase_clean : IsTrue tells → IsCleanStill a.bytes b.bytes a2.bytes b2.bytes
@@ -110,13 +110,13 @@ module _ (tells : Bool) (o : Opened) (a b : DiskState) (read : WasReadHere tells
 
         here : IsTrue tells → (h : History) → PairFor a.bytes.seen b.bytes.seen h → StandsOpen l h
         here told h s =
-            opened_stands _ read.start read.blocks read.knows x (generation_in o.twin) a.bytes b.bytes (read.has told) (read.here told) a1.bytes b1.bytes (images1 told) left1 (cut told) a2.bytes b2.bytes (meanwhile told) (shown told) left2 (quiet told) (rest told) h s
+            opened_stands _ read.start read.blocks read.knows x (edition_in o.twin) a.bytes b.bytes (read.has told) (read.here told) a1.bytes b1.bytes (images1 told) left1 (cut told) a2.bytes b2.bytes (meanwhile told) (shown told) left2 (quiet told) (rest told) h s
 
         pub purge_pairs : IsTrue tells → PairStandsStill a.bytes b.bytes a3.bytes b3.bytes
         purge_pairs told h s = subst (λ (r : Opened). StandsPurging (ledger_at r a2.bytes b2.bytes) a3.bytes b3.bytes) f (images3 told) h (here told h s)
 
         most : IsTrue tells → (h : History) → IsCleanPair a.bytes.seen b.bytes.seen h → o.book.point ≤ o.book.floor
-        most told h c = clean_point _ read.start read.blocks read.knows x (generation_in o.twin) a.bytes b.bytes (read.has told) (read.here told) h c
+        most told h c = clean_point _ read.start read.blocks read.knows x (edition_in o.twin) a.bytes b.bytes (read.has told) (read.here told) h c
 
         purged_clean : IsTrue tells → (h : History) → IsCleanPair a.bytes.seen b.bytes.seen h → AreUnchanged a.bytes b.bytes a3.bytes b3.bytes
         purged_clean told h c =
@@ -129,7 +129,7 @@ module _ (tells : Bool) (o : Opened) (a b : DiskState) (read : WasReadHere tells
 
         -- the other file is cleared
         module _ (finishes3 : IsTrue tells → FinishesPurge (ledger_at p a2.bytes b2.bytes) m) (purges3 : Purges tells (ledger_at p a2.bytes b2.bytes) m) (y : Bool) (g : y ≡ in_a_of q.twin) (a4 b4 : DiskState) (stays4 : choice y a4 b4 ≡ choice y a3 b3)
-            (passed4 : IsTrue tells → KeepsPassed (choice y b3.bytes a3.bytes) (choice y b4.bytes a4.bytes))
+            (front4 : IsTrue tells → LeavesFront (choice y b3.bytes a3.bytes) (choice y b4.bytes a4.bytes))
             (idle4 : IsTrue tells → (choice y b3.bytes a3.bytes).seen ≡ [] → choice y b4.bytes a4.bytes ≡ choice y b3.bytes a3.bytes) where
           stays : choice m.in_a a4.bytes b4.bytes ≡ choice m.in_a a3.bytes b3.bytes
           stays = by_bytes m.in_a a3 b3 a4 b4 (subst (λ (v : Bool). choice v a4 b4 ≡ choice v a3 b3) g stays4)
@@ -140,11 +140,11 @@ module _ (tells : Bool) (o : Opened) (a b : DiskState) (read : WasReadHere tells
           pub clear_pairs : IsTrue tells → PairStandsStill a.bytes b.bytes a4.bytes b4.bytes
           clear_pairs told h s =
               cleared_pairs l m a4.bytes b4.bytes h (here told h s) (subst (λ (r : Opened). FinishesPurge (ledger_at r a2.bytes b2.bytes) m) f (finishes3 told)) (still told) (λ le. ap (λ (r : Opened). in_a_of r.twin) (same le)) stays
-              (subst (λ (v : Bool). KeepsPassed (choice v b3.bytes a3.bytes) (choice v b4.bytes a4.bytes)) g (passed4 told)) (idle told)
+              (subst (λ (v : Bool). LeavesFront (choice v b3.bytes a3.bytes) (choice v b4.bytes a4.bytes)) g (front4 told)) (idle told)
 
           pub clear_clean : IsTrue tells → IsCleanStill a.bytes b.bytes a4.bytes b4.bytes
           clear_clean told qa qb h c =
-              clean_cleared _ read.start read.blocks read.knows x (generation_in o.twin) a.bytes b.bytes (read.has told) (read.here told) h c m a4.bytes b4.bytes (ap (λ (r : Opened). in_a_of r.twin) (same (most told h c))) (purged_clean told h c) stays (idle told)
+              clean_cleared _ read.start read.blocks read.knows x (edition_in o.twin) a.bytes b.bytes (read.has told) (read.here told) h c m a4.bytes b4.bytes (ap (λ (r : Opened). in_a_of r.twin) (same (most told h c))) (purged_clean told h c) stays (idle told)
 
           done : IsTrue tells → IsErasedHere read.start read.blocks l a.bytes b.bytes
           done told = record {
@@ -153,20 +153,20 @@ module _ (tells : Bool) (o : Opened) (a b : DiskState) (read : WasReadHere tells
             erased = cut_erased _ read.start read.blocks read.knows x old.seen mid new (cut told) (on_twin (WritesZeros o.book o.places.list) t o.twin e a1 b1 a2 b2 (bytes2 told)) (on_twin (WritesOne o.places.list) t o.twin e a1 b1 a2 b2 (one2 told));
             quiet = quiet told;
             other_quiet = subst IsSettled (sym (left2 ∙ left1)) (settled_both x b.bytes a.bytes (read.here told).quiet_b (read.here told).quiet_a);
-            generation =
-                generation_given _ read.start read.blocks read.knows x (generation_in o.twin) a.bytes b.bytes (read.has told) (read.here told) a1.bytes b1.bytes (images1 told) left1 (cut told) a2.bytes b2.bytes (meanwhile told) (shown told) left2 (quiet told) (rest told);
+            edition =
+                edition_given _ read.start read.blocks read.knows x (edition_in o.twin) a.bytes b.bytes (read.has told) (read.here told) a1.bytes b1.bytes (images1 told) left1 (cut told) a2.bytes b2.bytes (meanwhile told) (shown told) left2 (quiet told) (rest told);
           }
 
-          same_known : l.known.book.point ≤ l.known.book.floor → (m.known ≡ l.known) × (m.in_a ≡ l.in_a) × (m.generation ≡ l.generation)
-          same_known le = (ap (λ (r : Opened). known_from r.book r.places.list (gate_of (file_of r.twin))) (same le), ap (λ (r : Opened). in_a_of r.twin) (same le), ap (λ (r : Opened). generation_in r.twin) (same le))
+          same_known : l.known.book.point ≤ l.known.book.floor → (m.known ≡ l.known) × (m.in_a ≡ l.in_a) × (m.edition ≡ l.edition)
+          same_known le = (ap (λ (r : Opened). known_from r.book r.places.list (gate_of (file_of r.twin))) (same le), ap (λ (r : Opened). in_a_of r.twin) (same le), ap (λ (r : Opened). edition_in r.twin) (same le))
 
           purges : Purges tells l m
           purges = subst (λ (r : Opened). Purges tells (ledger_at r a2.bytes b2.bytes) m) f purges3
 
-          pub clear_known : (IsTrue tells → IsSettled (choice y b3.bytes a3.bytes) → choice y b4.bytes a4.bytes ≡ settled_state []) → KnowsReopened tells m.in_a m.known a.bytes b.bytes a4.bytes b4.bytes
+          pub clear_known : (IsTrue tells → IsSettled (choice y b3.bytes a3.bytes) → choice y b4.bytes a4.bytes ≡ settled_state []) → KnowsMended tells m.in_a m.known a.bytes b.bytes a4.bytes b4.bytes
           clear_known cleared =
               known_left tells l m read.start read.blocks read.knows a.bytes b.bytes a4.bytes b4.bytes done same_known still purges (λ told. stays)
               (λ told. subst (λ (v : Bool). IsSettled (choice v b3.bytes a3.bytes) → choice v b4.bytes a4.bytes ≡ settled_state []) g (cleared told))
 
-          pub clear_generation : IsTrue tells → generation_in q.twin ≡ generation_of (choice (in_a_of q.twin) a4.bytes b4.bytes).seen
-          clear_generation told = generation_left tells l m read.start read.blocks read.knows a.bytes b.bytes a4.bytes b4.bytes done same_known still purges (λ told. stays) told
+          pub clear_edition : IsTrue tells → edition_in q.twin ≡ edition_of (choice (in_a_of q.twin) a4.bytes b4.bytes).seen
+          clear_edition told = edition_left tells l m read.start read.blocks read.knows a.bytes b.bytes a4.bytes b4.bytes done same_known still purges (λ told. stays) told

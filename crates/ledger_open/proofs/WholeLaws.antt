@@ -21,6 +21,7 @@ use Rattle.ledger_model.specs.History.{History, history, journals, journals_of, 
 use Rattle.ledger_model.specs.Lawful.{AreLawful, IsBlock}
 use Rattle.ledger_model.specs.Targets.{is_hidden, kind_at}
 use Rattle.pseudo_genesis.specs.declared.base.Base.{Base}
+use Rattle.ledger_open.specs.Heads.{Edition}
 use Rattle.ledger_open.specs.Damages.{IsDamage}
 use Rattle.ledger_open.specs.Opening.{GoesOn, HasWhole, HasLawfulBlocks}
 use Rattle.ledger_open.specs.Standing.{Floor, floor_from, floor_behind, HasBlocks, SameButHidden, StandsBy, StandsFor, AllKept, hidden_before, point_before}
@@ -66,25 +67,25 @@ module _ (image : List ℕ) (h : History) (s : StandsFor image h) where
   pub start_of : HasStart h x.parts.gone
   start_of = own_start x.parts.gone refl
 
-  pub own_blocks : HasBlocks (floor_from start_of.start) x.generation x.keeps.blocks image
-  own_blocks = subst (λ (f : Floor). HasBlocks f x.generation x.keeps.blocks image) start_of.floor x.keeps.file
+  pub own_blocks : HasBlocks (floor_from start_of.start) x.edition x.keeps.blocks image
+  own_blocks = subst (λ (f : Floor). HasBlocks f x.edition x.keeps.blocks image) start_of.floor x.keeps.file
 
-  start_is : (start : Option Base) (blocks : List (List Entry)) (generation : ℕ) → IsDecoded start → HasBlocks (floor_from start) generation blocks image → start_of.start ≡ start
-  start_is start blocks generation decoded y = start_once image start_of.start start (starts start_of.start x.generation x.keeps.blocks image own_blocks start_of.decoded) (starts start generation blocks image y decoded)
+  start_is : (start : Option Base) (blocks : List (List Entry)) (edition : Edition) → IsDecoded start → HasBlocks (floor_from start) edition blocks image → start_of.start ≡ start
+  start_is start blocks edition decoded y = start_once image start_of.start start (starts start_of.start x.edition x.keeps.blocks image own_blocks start_of.decoded) (starts start edition blocks image y decoded)
 
   -- a file with this base, or none, begins there
-  pub floor_same : (start : Option Base) (blocks : List (List Entry)) (generation : ℕ) → IsDecoded start → HasBlocks (floor_from start) generation blocks image → floor_behind h x.parts.gone ≡ floor_from start
-  floor_same start blocks generation decoded y = start_of.floor ∙ ap floor_from (start_is start blocks generation decoded y)
+  pub floor_same : (start : Option Base) (blocks : List (List Entry)) (edition : Edition) → IsDecoded start → HasBlocks (floor_from start) edition blocks image → floor_behind h x.parts.gone ≡ floor_from start
+  floor_same start blocks edition decoded y = start_of.floor ∙ ap floor_from (start_is start blocks edition decoded y)
 
-  pub floor_there : (start : Option Base) (blocks : List (List Entry)) (generation : ℕ) → IsDecoded start → HasBlocks (floor_from start) generation blocks image → s.floor ≡ (floor_from start).first
-  floor_there start blocks generation decoded y = sym (floor_first h x.parts.gone ∙ x.parts.at) ∙ ap (λ (f : Floor). f.first) (floor_same start blocks generation decoded y)
+  pub floor_there : (start : Option Base) (blocks : List (List Entry)) (edition : Edition) → IsDecoded start → HasBlocks (floor_from start) edition blocks image → s.floor ≡ (floor_from start).first
+  floor_there start blocks edition decoded y = sym (floor_first h x.parts.gone ∙ x.parts.at) ∙ ap (λ (f : Floor). f.first) (floor_same start blocks edition decoded y)
 
   -- a history that a file with these blocks stands for goes on with them
-  pub goes_by : (start : Option Base) (blocks : List (List Entry)) (generation : ℕ) → IsDecoded start → HasBlocks (floor_from start) generation blocks image → GoesOn start blocks h
-  goes_by start blocks generation decoded y =
-      let is : start_of.start ≡ start = start_is start blocks generation decoded y in
-      let fx : HasBlocks (floor_from start) x.generation x.keeps.blocks image = subst (λ (t : Option Base). HasBlocks (floor_from t) x.generation x.keeps.blocks image) is own_blocks in
-      let one : x.keeps.blocks ≡ blocks = (blocks_unique (floor_from start) x.generation generation x.keeps.blocks blocks image (digests_from start decoded) fx y).1 in
+  pub goes_by : (start : Option Base) (blocks : List (List Entry)) (edition : Edition) → IsDecoded start → HasBlocks (floor_from start) edition blocks image → GoesOn start blocks h
+  goes_by start blocks edition decoded y =
+      let is : start_of.start ≡ start = start_is start blocks edition decoded y in
+      let fx : HasBlocks (floor_from start) x.edition x.keeps.blocks image = subst (λ (t : Option Base). HasBlocks (floor_from t) x.edition x.keeps.blocks image) is own_blocks in
+      let one : x.keeps.blocks ≡ blocks = (blocks_unique (floor_from start) x.edition edition x.keeps.blocks blocks image (digests_from start decoded) fx y).1 in
       record {
         lawful = x.lawful;
         none = x.none;
@@ -94,8 +95,8 @@ module _ (image : List ℕ) (h : History) (s : StandsFor image h) where
             (same_weaker (is_hidden h) (hidden_before h) (is_hidden h) (λ n. false) (λ n s. s) (λ n z. let no : ⊥ = true≢false (sym z) in absurd no) x.parts.kept x.keeps.blocks x.keeps.same);
       }
 
-pub goes_on : (image : List ℕ) (h : History) (start : Option Base) (blocks : List (List Entry)) (generation : ℕ) → StandsFor image h → IsDecoded start → HasBlocks (floor_from start) generation blocks image → GoesOn start blocks h
-goes_on image h start blocks generation s decoded y = goes_by image h s start blocks generation decoded y
+pub goes_on : (image : List ℕ) (h : History) (start : Option Base) (blocks : List (List Entry)) (edition : Edition) → StandsFor image h → IsDecoded start → HasBlocks (floor_from start) edition blocks image → GoesOn start blocks h
+goes_on image h start blocks edition s decoded y = goes_by image h s start blocks edition decoded y
 
 -- ---- what a file has of a history is whole
 
@@ -183,7 +184,7 @@ module _ (image : List ℕ) (h : History) (s : StandsFor image h) where
   pub stands_whole : HasWhole image (start_of image h s).start s.file.keeps.blocks
   unfolding start_of own_start
   stands_whole = record {
-    generation = s.file.generation;
+    edition = s.file.edition;
     has = own_blocks image h s;
     base = (start_of image h s).decoded;
     legal = record {

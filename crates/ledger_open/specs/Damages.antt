@@ -12,15 +12,15 @@ use Rattle.ledger_model.specs.Behind.{next_number, IsNextBehind, AreBehind}
 use Rattle.ledger_model.specs.History.{journals_of}
 use Rattle.ledger_model.specs.Lawful.{AllGather}
 use Rattle.pseudo_genesis.specs.declared.base.Base.{Base as BaseRecord}
-use Rattle.ledger_open.specs.Heads.{IsFront}
+use Rattle.ledger_open.specs.Heads.{Edition, IsFront}
 use Rattle.ledger_open.specs.Standing.{Floor, ground, floor_from}
 use Rattle.ledger_open.specs.Starts.{AreLegal, HasBase, HasDigest, HasOwnPurge, IsStart, IsBadForm, base_in, blocks_before}
 
 -- a file begins with a head and these blocks, from this floor on, and the next gate is at this place
 pub record Begun (floor : Floor) (file : List ℕ) (blocks : List (List Entry)) (at : ℕ) : Type 0 where
-  pub generation : ℕ
+  pub edition : Edition
   pub front : List ℕ
-  pub head : IsFront generation floor.base front
+  pub head : IsFront edition floor.base front
   pub lawful : AreBlocks floor.first blocks
   pub rest : List ℕ
   pub is : file ≡ (front ++ open_blocks (written_blocks floor.root [] blocks)) ++ rest

@@ -107,11 +107,11 @@ WritesZeros book places old new =
     (h : History) (are : AreOf book places h) → IsSettled old
     → new ≡ settled_state (given_up (floor_behind h are.parts.gone) are.parts.kept old.seen)
 
--- while a content is given up, a crash at any time leaves a file that stands for the history
+-- while a content is given up, a crash at any time leaves a file of the same edition that stands for the history
 abbrev pub StandsMeanwhile : Kept → List PlaceAt → State → State → Type 0
 StandsMeanwhile book places old new =
-    (h : History) → EndsAs book places h → IsSettled old → StandsFor old.seen h
-    → (image : List ℕ) → MayLeave new image → StandsFor image h
+    (h : History) → EndsAs book places h → IsSettled old → (stands : StandsFor old.seen h)
+    → (image : List ℕ) → MayLeave new image → (s : StandsFor image h) × (s.file.edition ≡ stands.file.edition)
 
 -- where the last journal hides nothing, nothing was written
 abbrev pub LeavesShown : Kept → List PlaceAt → State → State → Type 0

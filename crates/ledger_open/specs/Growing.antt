@@ -11,6 +11,7 @@ use Rattle.ledger_model.specs.History.{History, history, journals, journals_of, 
 use Rattle.ledger_model.specs.Lawful.{AreNext, IsBlock}
 use Rattle.ledger_model.specs.Targets.{hides}
 use Rattle.ledger_model.specs.declared.genesis.Genesis.{Genesis}
+use Rattle.ledger_open.specs.Heads.{Edition}
 use Rattle.ledger_open.specs.Standing.{Floor, ground, StandsFor, IsErased, IsClean, HasBlocks}
 
 -- a history with one block more, and none open
@@ -21,7 +22,7 @@ with_block block h = history (h.closed ++ block ∷ []) []
 -- Example: a file begins with journal 0 and has the blocks [0] and [1 2]. With [3] more a file has the same front, the
 -- blocks [0], [1 2] and [3], each behind an open gate, and a shut gate; the last block names the root over journals 0 to 3.
 -- In a file behind a base at journal 10 the block [10] names the root over the base's peaks and journal 10.
-abbrev pub HasBlockMore : {floor : Floor} {generation : ℕ} {blocks : List (List Entry)} {image : List ℕ} → HasBlocks floor generation blocks image → List Entry → List ℕ → Type 0
+abbrev pub HasBlockMore : {floor : Floor} {edition : Edition} {blocks : List (List Entry)} {image : List ℕ} → HasBlocks floor edition blocks image → List Entry → List ℕ → Type 0
 HasBlockMore {floor = floor} {blocks = blocks} x block new =
     IsFileOf x.front (written_blocks floor.root [] blocks ++ block_bytes (floor.root (leaves_of (journals_of blocks) ++ leaves_of block)) block ∷ []) new
 

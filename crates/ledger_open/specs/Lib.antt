@@ -12,4 +12,5 @@ pub mod Erasing
 pub mod Pieces
 pub mod Cutting
 pub mod Purging
+pub mod Carrying
 pub mod Reopened

@@ -18,6 +18,7 @@ use Rattle.pseudo_genesis.specs.declared.base.Base.{Base}
 use Rattle.twin_file.specs.Twin.{open_of, IsTaken, IsReopenErr}
 use Rattle.ledger_open.specs.Damages.{IsDamage, IsReadTo}
 use Rattle.block_file.specs.Places.{places_at, after_at}
+use Rattle.ledger_open.specs.Heads.{Edition}
 use Rattle.ledger_open.specs.Starts.{IsDecoded, IsBaseOf, AreLegal, HasOwnPurge}
 use Rattle.ledger_open.specs.Standing.{floor_from, HasBlocks, Parts, SameButHidden}
 use Rattle.ledger_open.specs.Taking.{Goes}
@@ -84,11 +85,11 @@ pub record HasRead (tells : Bool) (file : List ℕ) (k : Known) : Type 0 where
   pub taken : HasTaken k start blocks
   pub begun : IsTrue tells → IsReadTo file start blocks k.gate
 
--- An open file has this base, or none, and lawful blocks, of some generation, and so no damage: none of its journals is
+-- An open file has this base, or none, and lawful blocks, of some edition, and so no damage: none of its journals is
 -- missing or wrong.
 pub record HasWhole (file : List ℕ) (start : Option Base) (blocks : List (List Entry)) : Type 0 where
-  pub generation : ℕ
-  pub has : HasBlocks (floor_from start) generation blocks file
+  pub edition : Edition
+  pub has : HasBlocks (floor_from start) edition blocks file
   pub base : IsDecoded start
   pub legal : AreLegal start blocks
   pub reached : HasOwnPurge start (journals_of blocks)
@@ -97,9 +98,9 @@ pub record HasWhole (file : List ℕ) (start : Option Base) (blocks : List (List
 abbrev pub HasLawfulBlocks : List ℕ → Type 0
 HasLawfulBlocks file = (start : Option Base) × (blocks : List (List Entry)) × HasWhole file start blocks
 
--- an open file has this base, or none, and these blocks, of some generation
+-- an open file has this base, or none, and these blocks, of some edition
 abbrev pub HasFile : Option Base → List (List Entry) → List ℕ → Type 0
-HasFile start blocks file = (generation : ℕ) × HasBlocks (floor_from start) generation blocks file
+HasFile start blocks file = (edition : Edition) × HasBlocks (floor_from start) edition blocks file
 
 -- some blocks are known; and where the disk tells its bytes, the file has them
 pub record HasKnown (tells : Bool) (file : List ℕ) (k : Known) : Type 0 where

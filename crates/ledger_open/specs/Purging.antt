@@ -1,16 +1,17 @@
 -- How a purge is finished: what stays is copied into the other file, which is opened, and the old one is wiped.
 use Rattle.std.specs.Prelude.{◌≡◌, ◌⊎◌, ℕ, ◌+◌, ◌-◌, ◌^◌, ◌<◌, ◌≤◌, Bool, false, IsTrue, not, List, [], ◌∷◌, ◌++◌, length, take, drop, map, Option, Some, None, ⊤}
 use Rattle.block_file.specs.File.{IsSettled, IsShutAt}
-use Rattle.block_file.specs.Head.{HasHead, front_of, generation_of}
+use Rattle.block_file.specs.Head.{HasHead, front_of, generation_of, version_in}
 use Rattle.block_file.specs.FileView.{gate_of}
 use Rattle.journal_record.specs.Entry.{Entry}
 use Rattle.ledger_book.specs.Books.{Kept, Serves}
 use Rattle.ledger_disk.specs.Disk.{State, MayLeave, settled_state}
 use Rattle.ledger_model.specs.History.{History, point}
 use Rattle.twin_file.specs.Twin.{open_of, other_of, IsPassed, next_generation}
-use Rattle.twin_file.specs.Which.{in_a_of, generation_in, file_of}
+use Rattle.twin_file.specs.Which.{in_a_of, file_of}
 use Rattle.ledger_open.specs.Cutting.{FallsAway, IsBaseAt, gate_behind}
 use Rattle.ledger_open.specs.Erasing.{EndsAs}
+use Rattle.ledger_open.specs.Heads.{Edition, edition_from, edition_of, edition_in}
 use Rattle.ledger_open.specs.Opening.{Known, known_from}
 use Rattle.ledger_open.specs.Places.{AreInOrder, places_from}
 use Rattle.ledger_open.specs.Standing.{Floor, floor_of, floor_behind, StandsFor, IsErased, IsClean, IsBeside, PairFor}
@@ -20,12 +21,12 @@ use Rattle.ledger_open.specs.declared.purging.Gone.{Gone}
 
 -- ---- an open ledger
 
--- a ledger that is open: what is known of it, which of its two files is open, of which generation that is, and what both
+-- a ledger that is open: what is known of it, which of its two files is open, of which edition that is, and what both
 -- disks hold
 pub record Ledger : Type 0 where
   pub known : Known
   pub in_a : Bool
-  pub generation : ℕ
+  pub edition : Edition
   pub a : State
   pub b : State
 
@@ -35,7 +36,7 @@ ledger_at opened a b =
     record {
       known = known_from opened.book opened.places.list (gate_of (file_of opened.twin));
       in_a = in_a_of opened.twin;
-      generation = generation_in opened.twin;
+      edition = edition_in opened.twin;
       a = a;
       b = b;
     }
@@ -48,10 +49,10 @@ open_disk l = open_of l.in_a l.a l.b
 abbrev pub other_disk : Ledger → State
 other_disk l = other_of l.in_a l.a l.b
 
--- the gate where a ledger's open file ends is shut, and the generation that is kept is that file's own
+-- the gate where a ledger's open file ends is shut, and the edition that is kept is that file's own
 pub record IsAtGate (l : Ledger) : Type 0 where
   pub shut : IsShutAt l.known.gate (open_disk l).seen
-  pub generation : l.generation ≡ generation_of (open_disk l).seen
+  pub edition : l.edition ≡ edition_of (open_disk l).seen
 
 -- ---- the copy
 
@@ -94,9 +95,9 @@ pub record IsPurged (tells : Bool) (floor : Floor) (front behind : List (List En
   pub places : new.known.places ≡ places_from (floor_of base.base) behind
   pub tail : new.known.gate ≡ gate_behind (floor_of base.base) behind
   pub in_a : new.in_a ≡ not old.in_a
-  pub generation : new.generation ≡ next_generation old.generation
+  pub edition : new.edition ≡ edition_from 2 (next_generation old.edition.number)
   pub copied : IsTrue tells
-      → open_disk new ≡ settled_state (copied_file new.generation bytes (gate_behind floor front) old.known.gate (open_disk old).seen)
+      → open_disk new ≡ settled_state (copied_file new.edition.number bytes (gate_behind floor front) old.known.gate (open_disk old).seen)
   pub wiped : IsTrue tells → other_disk new ≡ settled_state []
 
 -- where an open file begins in front of the book's point, the blocks in front of the point fall away, whatever blocks it has
@@ -117,12 +118,13 @@ pub record MayMove (in_a : Bool) (generation : ℕ) (a b : State) : Type 0 where
   pub fits : generation + 1 < 2 ^ 64
   pub passed : IsPassed false generation (other_of in_a a b).seen
 
--- In two images the old file is there as it was and the other is passed over, or the new file is there and the old place is
--- passed over.
+-- In two images the old file is there as it was and the other is passed over, or the new file is there and in the old place
+-- stands a front of the old one, which is passed over.
 abbrev pub IsEither : Bool → List ℕ → List ℕ → List ℕ → List ℕ → Type 0
 IsEither in_a old new image_a image_b =
     ((open_of in_a image_a image_b ≡ old) × IsPassed false (generation_of old) (other_of in_a image_a image_b))
-    ⊎ ((other_of in_a image_a image_b ≡ new) × IsPassed false (generation_of new) (open_of in_a image_a image_b))
+    ⊎ ((other_of in_a image_a image_b ≡ new) × IsPassed false (generation_of new) (open_of in_a image_a image_b)
+    × (open_of in_a image_a image_b ≡ take (length (open_of in_a image_a image_b)) old))
 
 -- in each pair of images the old file is open or the new one, with the other passed over
 abbrev pub AllEither : Bool → List ℕ → List ℕ → State → State → Type 0
@@ -140,8 +142,8 @@ pub record StandsOpen (l : Ledger) (h : History) : Type 0 where
   pub tail : l.known.gate ≡ gate_behind (floor_behind h ends.parts.gone) ends.parts.kept
   pub stands : StandsFor (open_disk l).seen h
   pub floor : stands.floor ≡ l.known.book.floor
-  pub beside : IsBeside h stands.file.generation (other_disk l).seen
-  pub generation : l.generation ≡ generation_of (open_disk l).seen
+  pub beside : IsBeside h stands.file.edition (other_disk l).seen
+  pub edition : l.edition ≡ edition_of (open_disk l).seen
 
 -- An open ledger is one of this history, and nothing is left undone: the pair is clean, and nothing is pending.
 pub record IsCleanOpen (l : Ledger) (h : History) : Type 0 where
@@ -151,8 +153,9 @@ pub record IsCleanOpen (l : Ledger) (h : History) : Type 0 where
   pub floor : l.known.book.floor ≡ point h
   pub tail : l.known.gate ≡ gate_behind (floor_behind h ends.parts.gone) ends.parts.kept
   pub clean : IsClean (open_disk l).seen h
+  pub newer : version_in (open_disk l).seen ≡ 2
   pub empty : length (other_disk l).seen ≡ 0
-  pub generation : l.generation ≡ generation_of (open_disk l).seen
+  pub edition : l.edition ≡ edition_of (open_disk l).seen
 
 -- What the last journal of this history takes away is gone: the open file begins at the point, all that is hidden is zeros there for
 -- good, and nothing is pending. `what_is_left_undone_is_finished` says that an occult and a purge come to this.

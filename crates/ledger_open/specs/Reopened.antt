@@ -10,7 +10,9 @@ use Rattle.ledger_model.specs.History.{History, journals_of, greatest_point}
 use Rattle.pseudo_genesis.specs.Bases.{HasCounts, base_spelling}
 use Rattle.pseudo_genesis.specs.declared.base.Base.{Base}
 use Rattle.twin_file.specs.Twin.{open_of, other_of, IsTaken, next_generation}
+use Rattle.ledger_open.specs.Carrying.{StaysNewer, WasCarried}
 use Rattle.ledger_open.specs.Erasing.{ErasesOne, given_up}
+use Rattle.ledger_open.specs.Heads.{Edition, edition_of}
 use Rattle.ledger_open.specs.Opening.{Known, Knows, GoesOn, HasFile, AreUnchanged}
 use Rattle.ledger_open.specs.Places.{places_from}
 use Rattle.ledger_open.specs.Cutting.{gate_behind}
@@ -51,12 +53,12 @@ pub record WasRead (file : OpenFile) (a b : State) : Type 0 where
   pub knows : Knows known file.start file.blocks
   pub tail : known.gate ≡ file.gate
 
--- one of two files is taken, which has this generation, and nothing is pending
-pub record IsHere (in_a : Bool) (generation : ℕ) (a b : State) : Type 0 where
+-- one of two files is taken, which has this edition, and nothing is pending
+pub record IsHere (in_a : Bool) (edition : Edition) (a b : State) : Type 0 where
   pub taken : IsTaken in_a a.seen b.seen
   pub quiet_a : IsSettled a
   pub quiet_b : IsSettled b
-  pub generation_is : generation ≡ generation_of (open_of in_a a b).seen
+  pub edition_is : edition ≡ edition_of (open_of in_a a b).seen
 
 -- An open ledger was read, and nothing was written to its files. Where the disks tell their bytes, the open one has these blocks.
 pub record WasReadHere (tells : Bool) (l : Ledger) : Type 0 where
@@ -64,7 +66,7 @@ pub record WasReadHere (tells : Bool) (l : Ledger) : Type 0 where
   pub blocks : List (List Entry)
   pub knows : Knows l.known start blocks
   pub has : IsTrue tells → HasFile start blocks (open_disk l).seen
-  pub here : IsTrue tells → IsHere l.in_a l.generation l.a l.b
+  pub here : IsTrue tells → IsHere l.in_a l.edition l.a l.b
 
 -- A file was cut behind its tail gate, and zeros stand in it for what the last journal hides.
 pub record IsCutAndErased (was : OpenFile) (places : List PlaceAt) (old new : List ℕ) : Type 0 where
@@ -96,11 +98,10 @@ pub record WasMoved (was now : OpenFile) (generation : ℕ) (bytes : List ℕ) (
   pub open_is : open_of now.in_a a_new b_new
       ≡ settled_state (copied_file (next_generation generation) (base_spelling base) (gate_behind (floor_from was.start) front) was.gate bytes)
 
--- Which file was taken and read; it was cut and erased; each history that goes on with its blocks goes on with those that
--- are known now, and the book is one of it; and what the open file is. The other file is empty, and nothing is pending.
--- `an_opened_book_stands_for_the_history` and `an_opened_pair_is_clean` say what follows for a pair that stood for a
--- history.
-pub record IsReopened (in_a : Bool) (k : Known) (start : Option Base) (blocks : List (List Entry)) (a b a_new b_new : State) : Type 0 where
+-- What a crash left undone in a pair was done. Which file was taken and read; it was cut and erased; each history that goes on
+-- with its blocks goes on with those that are known now, and the book is one of it; and what the open file is. The other file
+-- is empty, and nothing is pending.
+pub record IsMended (in_a : Bool) (k : Known) (start : Option Base) (blocks : List (List Entry)) (a b a_new b_new : State) : Type 0 where
   pub was : OpenFile
   pub read : WasRead was a b
   pub bytes : List ℕ
@@ -110,6 +111,22 @@ pub record IsReopened (in_a : Bool) (k : Known) (start : Option Base) (blocks : 
   pub left : StaysOpen was (open_file in_a start blocks k.gate) bytes a_new b_new
       ⊎ WasMoved was (open_file in_a start blocks k.gate) (generation_of (open_of was.in_a a b).seen) bytes a_new b_new
   pub other_is : other_of in_a a_new b_new ≡ settled_state []
+
+-- some blocks are known; and where the disks tell their bytes, the pair was mended as these
+abbrev pub KnowsMended : Bool → Bool → Known → State → State → State → State → Type 0
+KnowsMended tells in_a k a b a_new b_new =
+    (start : Option Base) × (blocks : List (List Entry)) × Remembers k start blocks
+    × (IsTrue tells → IsMended in_a k start blocks a b a_new b_new)
+
+-- A pair was opened: first what a crash left undone was done, which comes to a pair of which nothing is pending; then a file of
+-- the first version was carried over, and one of the second stayed as it was. `an_opened_book_stands_for_the_history` and
+-- `an_opened_pair_is_clean` say what follows for a pair that stood for a history.
+pub record IsReopened (in_a : Bool) (k : Known) (start : Option Base) (blocks : List (List Entry)) (a b a_new b_new : State) : Type 0 where
+  pub in_a_then : Bool
+  pub a_then : State
+  pub b_then : State
+  pub mended : IsMended in_a_then k start blocks a b a_then b_then
+  pub left : StaysNewer in_a_then in_a a_then b_then a_new b_new ⊎ WasCarried in_a_then in_a a_then b_then a_new b_new
 
 -- some blocks are known; and where the disks tell their bytes, the pair was reopened as these
 abbrev pub KnowsReopened : Bool → Bool → Known → State → State → State → State → Type 0

@@ -1,9 +1,10 @@
 -- What a pair of files stands for: a history, of which hidden contents aren't kept, nor blocks before a file's floor.
-use Rattle.std.specs.Prelude.{◌≡◌, ◌≢◌, ◌⊎◌, ℕ, ◌+◌, ◌-◌, ◌≤◌, ◌==◌, Bool, true, false, if◌then◌else◌, All, List, [], ◌∷◌, ◌++◌, length, map, take, slice_get, replicate, Option, Some, None, ⊤}
+use Rattle.std.specs.Prelude.{◌≡◌, ◌≢◌, ◌⊎◌, ℕ, ◌+◌, ◌-◌, ◌<◌, ◌≤◌, ◌==◌, Bool, true, false, if◌then◌else◌, All, List, [], ◌∷◌, ◌++◌, length, map, take, slice_get, replicate, Option, Some, None, ⊤}
 use Rattle.sha2.specs.Sha256.{sha256}
 use Rattle.tree_model.specs.RootFrom.{root_from}
 use Rattle.tree_model.specs.Tree.{mth, leaf}
 use Rattle.block_file.specs.File.{IsFileOf}
+use Rattle.block_file.specs.Head.{HasHead, generation_of, version_in}
 use Rattle.journal_record.specs.Blocks.{AreBlocks, written_blocks}
 use Rattle.journal_record.specs.Entry.{Entry}
 use Rattle.journal_record.specs.Header.{HasWidths}
@@ -14,7 +15,7 @@ use Rattle.ledger_model.specs.History.{History, journals, journals_of, size, poi
 use Rattle.ledger_model.specs.Lawful.{IsLawful}
 use Rattle.ledger_model.specs.Targets.{is_hidden_by, is_hidden}
 use Rattle.twin_file.specs.Twin.{open_of, other_of, IsPassed}
-use Rattle.ledger_open.specs.Heads.{IsFront}
+use Rattle.ledger_open.specs.Heads.{Edition, IsFront}
 
 -- ---- the blocks of a file
 
@@ -48,10 +49,10 @@ abbrev pub floor_behind : History → List (List Entry) → Floor
 floor_behind h [] = ground
 floor_behind h (b ∷ bs) = floor_of (base_of h (length (journals_of (b ∷ bs))))
 
--- an open file of this generation that begins at this floor, and has these blocks
-pub record HasBlocks (floor : Floor) (generation : ℕ) (blocks : List (List Entry)) (image : List ℕ) : Type 0 where
+-- an open file of this edition that begins at this floor, and has these blocks
+pub record HasBlocks (floor : Floor) (edition : Edition) (blocks : List (List Entry)) (image : List ℕ) : Type 0 where
   pub front : List ℕ
-  pub head : IsFront generation floor.base front
+  pub head : IsFront edition floor.base front
   pub lawful : AreBlocks floor.first blocks
   pub stands : IsFileOf front (written_blocks floor.root [] blocks) image
 
@@ -81,10 +82,10 @@ SameButHidden hid gone [] [] = ⊤
 SameButHidden hid gone (b ∷ bs) (c ∷ cs) = AllKept hid gone b c × SameButHidden hid gone bs cs
 SameButHidden hid gone _ _ = ⊥
 
--- a file of this generation, from this floor on, keeps these blocks of a history that hides and has given up these contents
-pub record KeepsBlocks (floor : Floor) (generation : ℕ) (hid gone : ℕ → Bool) (bs : List (List Entry)) (image : List ℕ) : Type 0 where
+-- a file of this edition, from this floor on, keeps these blocks of a history that hides and has given up these contents
+pub record KeepsBlocks (floor : Floor) (edition : Edition) (hid gone : ℕ → Bool) (bs : List (List Entry)) (image : List ℕ) : Type 0 where
   pub blocks : List (List Entry)
-  pub file : HasBlocks floor generation blocks image
+  pub file : HasBlocks floor edition blocks image
   pub same : SameButHidden hid gone bs blocks
 
 -- ---- histories
@@ -116,12 +117,14 @@ pub record AreWide (es : List Entry) : Type 0 where
   pub founders : HasFounders es
 
 -- The image has this history from this journal on, where these contents are zeros, and those that are hidden beside them
--- may be any bytes. Its generation is at most the size, and less where it doesn't begin at the point.
+-- may be any bytes. The generation of a file of the first version is at most the size, and that of a file of the second, into
+-- which one of the first may have been carried over, at most one more; each of these bounds is one lower where the file doesn't
+-- begin at the point.
 pub record StandsBy (floor : ℕ) (zeros : ℕ → Bool) (image : List ℕ) (h : History) : Type 0 where
-  pub generation : ℕ
+  pub edition : Edition
   pub parts : Parts floor h
-  pub keeps : KeepsBlocks (floor_behind h parts.gone) generation (is_hidden h) zeros parts.kept image
-  pub early : generation + (if floor == point h then 0 else 1) ≤ size h
+  pub keeps : KeepsBlocks (floor_behind h parts.gone) edition (is_hidden h) zeros parts.kept image
+  pub early : edition.number + (if floor == point h then 0 else 1) + 1 ≤ size h + edition.version
   pub none : h.waiting ≡ []
   pub lawful : IsLawful h
   pub wide : AreWide (journals_of parts.gone)
@@ -149,20 +152,37 @@ pub record IsClean (image : List ℕ) (h : History) : Type 0 where
   pub erased : IsErased image h
   pub ends : erased.keeps.file.stands.rest ≡ []
 
--- The file beside an open one of this generation is empty; or it is passed over, where the last journal is a purge.
-abbrev pub IsBeside : History → ℕ → List ℕ → Type 0
-IsBeside h generation other = (length other ≡ 0) ⊎ ((point_before h ≢ point h) × IsPassed false generation other)
+-- What an older file may have left beside one of this generation: fewer bytes than a head has, or a file of the first version that
+-- gives way.
+abbrev pub IsOld : ℕ → List ℕ → Type 0
+IsOld generation other = (length other < 65) ⊎ (HasHead other × (version_in other ≡ 1) × (generation_of other < generation))
+
+-- The file beside an open one of this edition is empty; or it is passed over, where the last journal is a purge or the open file
+-- has the first version and may be carried over; or the open file has the second version, and this is what is left of the one
+-- that was carried over into it.
+abbrev pub IsBeside : History → Edition → List ℕ → Type 0
+IsBeside h edition other =
+    (length other ≡ 0)
+    ⊎ ((((point_before h ≢ point h) ⊎ (edition.version ≡ 1)) × IsPassed false edition.number other)
+    ⊎ ((edition.version ≡ 2) × IsOld edition.number other))
 
 -- a pair of files stands for a history: one of them does, and the other may be beside it
 pub record PairFor (a b : List ℕ) (h : History) : Type 0 where
   pub in_a : Bool
   pub stands : StandsFor (open_of in_a a b) h
-  pub beside : IsBeside h stands.file.generation (other_of in_a a b)
+  pub beside : IsBeside h stands.file.edition (other_of in_a a b)
 
--- one of two files is clean for a history, and the other one is empty
+-- A pair of files as a session leaves it: it stands for the history, and the other file is empty, or the last journal is a
+-- purge. What carrying a file over leaves meanwhile isn't among them.
+pub record PairOpen (a b : List ℕ) (h : History) : Type 0 where
+  pub pair : PairFor a b h
+  pub alone : (length (other_of pair.in_a a b) ≡ 0) ⊎ (point_before h ≢ point h)
+
+-- one of two files is clean for a history and has the second version, and the other one is empty
 pub record IsCleanPair (a b : List ℕ) (h : History) : Type 0 where
   pub in_a : Bool
   pub clean : IsClean (open_of in_a a b) h
+  pub newer : version_in (open_of in_a a b) ≡ 2
   pub empty : length (other_of in_a a b) ≡ 0
 
 -- Two histories of which a file keeps the same, from the point on, or from the point before the last journal: behind the

@@ -9,7 +9,8 @@ ghost use Rattle.ledger_disk.specs.Disk.{KeepsLength};
 ghost use Rattle.ledger_model.specs.Genesis.{HasKeys, new_ledger, genesis_journal};
 ghost use Rattle.ledger_model.specs.Limits.{AreWithin};
 ghost use Rattle.twin_file.specs.Places.{HasTail};
-ghost use Rattle.twin_file.specs.Which.{in_a_of, generation_in, file_of, copy_of};
+ghost use Rattle.twin_file.specs.Which.{in_a_of, file_of, copy_of};
+ghost use Rattle.ledger_open.specs.Heads.{edition_from, edition_in};
 ghost use Rattle.ledger_open.specs.Founding.{IsOneOpen, IsFounded, LeavesFoundedOrShut};
 ghost use Rattle.ledger_open.specs.Opening.{known_from, Knows, IsOutside, AreSettled, StandAsRead, WereSettled, CountsRead, CountsOpen};
 ghost use Rattle.ledger_open.specs.Standing.{ground};
@@ -98,7 +99,7 @@ pub fn init<D: Disk>(
     ensures shut { OnOk result (IsTrue D.tells
         → IsShut (D.state a.old).bytes.seen × IsShut (D.state b.old).bytes.seen) }
     ensures told { IfOk result (λ opened. HasTail (D.state a.new).told (file_of opened.twin)) }
-    ensures twin { IfOk result (λ opened. (generation_in opened.twin ≡ 1)
+    ensures twin { IfOk result (λ opened. (edition_in opened.twin ≡ edition_from 2 1)
         × (copy_of opened.twin ≡ None)) }
     ensures err { IfErr result (λ e. IsOutside e ⊎ (e ≡ errors.Exists)) }
     ensures exists { IfErr result (λ e. e ≡ errors.Exists → IsTrue D.tells

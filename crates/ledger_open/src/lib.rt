@@ -3,6 +3,7 @@
 
 mod ahead;
 mod base;
+mod carrying;
 mod erasing;
 mod failure;
 mod first;

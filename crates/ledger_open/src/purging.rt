@@ -7,7 +7,7 @@ ghost use Rattle.block_file.specs.FileView.{gate_of};
 ghost use Rattle.ledger_disk.specs.Disk.{settled_state};
 ghost use Rattle.twin_file.specs.Places.{HasTail};
 ghost use Rattle.twin_file.specs.Twin.{open_of, other_of, next_generation};
-ghost use Rattle.twin_file.specs.Which.{in_a_of, generation_in, file_of, copy_of};
+ghost use Rattle.twin_file.specs.Which.{in_a_of, generation_in, format_in, file_of, copy_of};
 ghost use Rattle.ledger_open.specs.Erasing.{AllInside};
 ghost use Rattle.ledger_open.specs.Opening.{CountsOpen};
 ghost use Rattle.ledger_open.specs.Cutting.{IsBaseAt, IsCutOf, IsPrepared};
@@ -84,9 +84,9 @@ pub fn prepare(alloc: Global, book: &Book, places: &Places) -> Result<Option<Pur
     }
 }
 
-// Copies what stands between this gate and the tail gate into the other file, behind this base, opens it, and wipes the old
-// one.
-fn move_over<D: Disk>(
+/// Copies what stands between this gate and the tail gate into the other file, behind this base, opens it, and wipes the old
+/// one.
+pub(crate) fn move_over<D: Disk>(
     a: &mut D,
     b: &mut D,
     twin: &mut Twin,
@@ -116,7 +116,8 @@ fn move_over<D: Disk>(
         (whole_file (front_of 1 (next_generation (generation_in twin.old)) base.now) blocks)
         (D.state a.new).bytes (D.state b.new).bytes }
     ensures twin { OnOk result ((in_a_of twin.new ≡ not (in_a_of twin.old))
-        × (generation_in twin.new ≡ next_generation (generation_in twin.old)) × (copy_of twin.new ≡ None)
+        × (generation_in twin.new ≡ next_generation (generation_in twin.old)) × (format_in twin.new ≡ 2)
+        × (copy_of twin.new ≡ None)
         × (gate_of (file_of twin.new) ≡ 64 + length base.now + (gate_of (file_of twin.old) - gate))) }
     ensures told { OnOk result (HasTail (open_of (in_a_of twin.new) (D.state a.new).told (D.state b.new).told)
         (file_of twin.new)) }

@@ -2,21 +2,22 @@
 
 ghost use Rattle.std.specs.Prelude.{◌≡◌, ◌≢◌, ◌⊎◌, ◌+◌, [], None, take, length, IsTrue, IfOk, IfErr, OnOk, OnErr};
 ghost use Rattle.block_file.specs.File.{IsSettled};
-ghost use Rattle.block_file.specs.Head.{generation_of};
 ghost use Rattle.block_file.specs.FileView.{gate_of, base_len_of};
 ghost use Rattle.ledger_disk.specs.Disk.{settled_state, CountsFault};
 ghost use Rattle.ledger_model.specs.Limits.{AreWithin};
-ghost use Rattle.twin_file.specs.Images.{KeepsPassed};
+ghost use Rattle.twin_file.specs.Images.{LeavesFront};
 ghost use Rattle.twin_file.specs.Places.{HasTail};
 ghost use Rattle.twin_file.specs.Twin.{open_of, other_of};
-ghost use Rattle.twin_file.specs.Which.{in_a_of, generation_in, file_of, copy_of};
+ghost use Rattle.twin_file.specs.Which.{in_a_of, file_of, copy_of};
 ghost use Rattle.ledger_open.specs.Cutting.{IsPrepared};
+ghost use Rattle.ledger_open.specs.Heads.{edition_in, edition_of};
 ghost use Rattle.ledger_open.specs.Opening.{known_from, IsHeadOf, HasKnown, HasLawfulBlocks, IsOutside, IsReadErr, IsOpenErr, AreSettled, AreUnchanged, StandAsRead, WereSettled, CountsRead, CountsOpen};
 ghost use Rattle.ledger_open.specs.Purging.{ledger_at};
-ghost use Rattle.ledger_open.specs.Reopened.{KnowsReopened, WasReadHere, IsHere, IsCleanStill, PairStandsStill, StandsTrimmed};
+ghost use Rattle.ledger_open.specs.Reopened.{KnowsMended, KnowsReopened, WasReadHere, IsHere, IsCleanStill, PairStandsStill, StandsTrimmed};
 ghost use Rattle.ledger_open.specs.declared.failure.OpenErr.{OpenErr as OpenErrRecord};
 ghost use Rattle.ledger_open.specs.declared.failure.OpenErr.TheVariants as errors;
 
+use crate::carrying::{base_to_carry, carry};
 use crate::erasing::finish_erasures;
 use crate::purging::{Purge, complete, prepare};
 use crate::reading::read_file;
@@ -33,7 +34,7 @@ fn clear<D: Disk>(disk: &mut D) -> Result<(), OpenErr>
         → (D.state disk.new).bytes ≡ settled_state []) }
     ensures idle { IsTrue D.tells → (D.state disk.old).bytes.seen ≡ []
         → (D.state disk.new).bytes ≡ (D.state disk.old).bytes }
-    ensures passed { IsTrue D.tells → KeepsPassed (D.state disk.old).bytes (D.state disk.new).bytes }
+    ensures front { IsTrue D.tells → LeavesFront (D.state disk.old).bytes (D.state disk.new).bytes }
     ensures err { IfErr result (λ e. e ≡ errors.DiskFault) }
     ensures faults { CountsFault result (D.state disk.old).faults (D.state disk.new).faults }
 {
@@ -51,7 +52,7 @@ fn clear_other<D: Disk>(in_a: bool, a: &mut D, b: &mut D) -> Result<(), OpenErr>
     ensures idle { IsTrue D.tells → (other_of in_a (D.state a.old).bytes (D.state b.old).bytes).seen ≡ []
         → (other_of in_a (D.state a.new).bytes (D.state b.new).bytes)
         ≡ (other_of in_a (D.state a.old).bytes (D.state b.old).bytes) }
-    ensures passed { IsTrue D.tells → KeepsPassed (other_of in_a (D.state a.old).bytes (D.state b.old).bytes)
+    ensures front { IsTrue D.tells → LeavesFront (other_of in_a (D.state a.old).bytes (D.state b.old).bytes)
         (other_of in_a (D.state a.new).bytes (D.state b.new).bytes) }
     ensures open_stays { open_of in_a (D.state a.new) (D.state b.new)
         ≡ open_of in_a (D.state a.old) (D.state b.old) }
@@ -77,7 +78,7 @@ fn read_twin<R: Threads, D: Disk>(
     ensures ok { IfOk result (λ opened. HasKnown D.tells (D.state disk.old).bytes.seen
         (known_from opened.book opened.places.list (gate_of (file_of opened.twin)))) }
     ensures same { IfOk result (λ opened. (in_a_of opened.twin ≡ in_a_of twin)
-        × (generation_in opened.twin ≡ generation_in twin) × (copy_of opened.twin ≡ copy_of twin)) }
+        × (edition_in opened.twin ≡ edition_in twin) × (copy_of opened.twin ≡ copy_of twin)) }
     ensures limits { IfOk result (λ opened. opened.book.limits ≡ limits) }
     ensures told { IfOk result (λ opened. HasTail (D.state disk.new).told (file_of opened.twin)) }
     ensures err { IfErr result (λ e. IsTrue D.tells → IsReadErr (D.state disk.old).bytes.seen e) }
@@ -114,7 +115,7 @@ fn read_pair<R: Threads, D: Disk>(
         (open_of (in_a_of twin) (D.state a.old).bytes (D.state b.old).bytes).seen
         (known_from opened.book opened.places.list (gate_of (file_of opened.twin)))) }
     ensures same { IfOk result (λ opened. (in_a_of opened.twin ≡ in_a_of twin)
-        × (generation_in opened.twin ≡ generation_in twin) × (copy_of opened.twin ≡ copy_of twin)) }
+        × (edition_in opened.twin ≡ edition_in twin) × (copy_of opened.twin ≡ copy_of twin)) }
     ensures limits { IfOk result (λ opened. opened.book.limits ≡ limits) }
     ensures told { IfOk result (λ opened. HasTail
         (open_of (in_a_of twin) (D.state a.new).told (D.state b.new).told) (file_of opened.twin)) }
@@ -181,14 +182,14 @@ fn finish_open<D: Disk>(
     requires told { HasTail (open_of (in_a_of opened.old.twin) (D.state a.old).told (D.state b.old).told)
         (file_of opened.old.twin) }
     requires prepared { IsPrepared opened.old.book opened.old.places.list purge }
-    ensures ok { OnOk result (KnowsReopened D.tells (in_a_of opened.new.twin)
+    ensures ok { OnOk result (KnowsMended D.tells (in_a_of opened.new.twin)
         (known_from opened.new.book opened.new.places.list (gate_of (file_of opened.new.twin)))
         (D.state a.old).bytes (D.state b.old).bytes (D.state a.new).bytes (D.state b.new).bytes) }
     ensures limits { opened.new.book.limits ≡ opened.old.book.limits }
     ensures told { OnOk result (HasTail (open_of (in_a_of opened.new.twin) (D.state a.new).told (D.state b.new).told)
         (file_of opened.new.twin)) }
-    ensures generation { OnOk result (IsTrue D.tells → generation_in opened.new.twin
-        ≡ generation_of (open_of (in_a_of opened.new.twin)
+    ensures edition { OnOk result (IsTrue D.tells → edition_in opened.new.twin
+        ≡ edition_of (open_of (in_a_of opened.new.twin)
         (D.state a.new).bytes (D.state b.new).bytes).seen) }
     ensures copy { OnOk result (copy_of opened.old.twin ≡ None → copy_of opened.new.twin ≡ None) }
     ensures images { IsTrue D.tells → PairStandsStill
@@ -205,7 +206,8 @@ fn finish_open<D: Disk>(
     clear_other(opened.twin.in_a(), a, b)
 }
 
-// Reads the file that was taken, and does what a crash left undone. All memory is taken before the first write.
+// Reads the file that was taken, does what a crash left undone, and carries a file of the first version over. All memory is
+// taken before the first write.
 fn open_pair<R: Threads, D: Disk>(
     rt: &R,
     alloc: Global,
@@ -218,7 +220,7 @@ fn open_pair<R: Threads, D: Disk>(
     requires place { gate_of (file_of twin) ≡ 64 + base_len_of (file_of twin) }
     requires head { IsTrue D.tells
         → IsHeadOf (open_of (in_a_of twin) (D.state a.old).bytes (D.state b.old).bytes).seen (file_of twin) }
-    requires here { IsTrue D.tells → IsHere (in_a_of twin) (generation_in twin)
+    requires here { IsTrue D.tells → IsHere (in_a_of twin) (edition_in twin)
         (D.state a.old).bytes (D.state b.old).bytes }
     requires limits { AreWithin limits }
     ensures ok { IfOk result (λ opened. KnowsReopened D.tells (in_a_of opened.twin)
@@ -227,8 +229,8 @@ fn open_pair<R: Threads, D: Disk>(
     ensures limits { IfOk result (λ opened. opened.book.limits ≡ limits) }
     ensures told { IfOk result (λ opened. HasTail
         (open_of (in_a_of opened.twin) (D.state a.new).told (D.state b.new).told) (file_of opened.twin)) }
-    ensures generation { IfOk result (λ opened. IsTrue D.tells → generation_in opened.twin
-        ≡ generation_of (open_of (in_a_of opened.twin)
+    ensures edition { IfOk result (λ opened. IsTrue D.tells → edition_in opened.twin
+        ≡ edition_of (open_of (in_a_of opened.twin)
         (D.state a.new).bytes (D.state b.new).bytes).seen) }
     ensures copy { IfOk result (λ opened. copy_of twin ≡ None → copy_of opened.twin ≡ None) }
     ensures err { IfErr result (λ e. IsTrue D.tells
@@ -246,12 +248,21 @@ fn open_pair<R: Threads, D: Disk>(
     ensures faults { CountsOpen result (D.state a.old).faults (D.state a.new).faults
         (D.state b.old).faults (D.state b.new).faults }
 {
+    let mut twin = twin;
+    let base = match base_to_carry(alloc, &mut twin, a, b) {
+        Ok(base) => base,
+        Err(e) => return Err(e),
+    };
     let mut opened = match read_pair(rt, alloc, twin, a, b, limits) {
         Ok(opened) => opened,
         Err(e) => return Err(e),
     };
     let purge = prepare(alloc, &opened.book, &opened.places)?;
     match finish_open(a, b, &mut opened, purge) {
+        Ok(()) => {}
+        Err(e) => return Err(e),
+    }
+    match carry(a, b, &mut opened.twin, base) {
         Ok(()) => Ok(opened),
         Err(e) => Err(e),
     }
@@ -260,7 +271,8 @@ fn open_pair<R: Threads, D: Disk>(
 /// Opens a ledger from its two disks. Both are synced before they are looked at. The open file is read once, from its
 /// first block on, and the leaf digests of a long ledger's journals are made in a thread beside; what stands behind its tail gate
 /// is cut off, what the last journal hides is given up and what it purges falls away where a crash left that undone, and the
-/// other file is emptied where it isn't. All memory is taken before the first write.
+/// other file is emptied where it isn't. At last a file of the first version is carried over into the other one, which has the
+/// second. All memory is taken before the first write.
 pub fn reopen<R: Threads, D: Disk>(
     rt: &R,
     alloc: Global,
@@ -277,9 +289,9 @@ pub fn reopen<R: Threads, D: Disk>(
         (open_of (in_a_of opened.twin) (D.state a.new).told (D.state b.new).told)
         (file_of opened.twin)) }
 
-    // The generation that is kept is the open file's, and no copy is begun.
-    ensures generation { IfOk result (λ opened. IsTrue D.tells → generation_in opened.twin
-        ≡ generation_of (open_of (in_a_of opened.twin)
+    // The edition that is kept is the open file's, and no copy is begun.
+    ensures edition { IfOk result (λ opened. IsTrue D.tells → edition_in opened.twin
+        ≡ edition_of (open_of (in_a_of opened.twin)
         (D.state a.new).bytes (D.state b.new).bytes).seen) }
     ensures copy { IfOk result (λ opened. copy_of opened.twin ≡ None) }
     ensures err { IfErr result (λ e. IsTrue D.tells

@@ -3,7 +3,7 @@ use Rattle.ledger_open.proofs.FinishLaws.{given_clean}
 use Rattle.ledger_open.proofs.laws.a_content_may_be_given_up.Goals as goal
 
 pub returns-clause-meanwhile : goal.returns-clause-meanwhile
-returns-clause-meanwhile c = meanwhile
+returns-clause-meanwhile c image new h n stands is out = (meanwhile image new h n stands is out).0
 
 pub returns-clause-erased : goal.returns-clause-erased
 returns-clause-erased c = erased_by

@@ -36,4 +36,4 @@ pub returns-clause-images : goal.returns-clause-images
 returns-clause-images g c told blocks m taken =
     wipe_left _ _ _ _ _ _ _ _ _ _ _ _ _ blocks _ _ _ _ c.begin_copy.ensures.which.in_a c.copy_block.ensures.which.in_a
     (c.begin_copy.ensures.kept.same told) (c.copy_block.ensures.kept.same told) (c.switch.ensures.kept.same told) (c.in_ok-begin_copy.ensures.begun.seen told) (c.in_ok-copy_block.ensures.extended.seen told) (range_at _ _ _ (c.tail-tail.ensures ∙ ap gate_of c.file.ensures.value) taken)
-    m (c.in_ok-begin_copy.ensures.copying told) (λ copying. (c.copy_block.ensures.copying told copying).copying) _ _ _ c.in_ok-switch.ensures.which.in_a (c.in_ok-switch.ensures.switched told).ok (c.wipe.ensures.kept.same told) (c.wipe.ensures.images told).passed
+    m (c.in_ok-begin_copy.ensures.copying told) (λ copying. (c.copy_block.ensures.copying told copying).copying) _ _ _ c.in_ok-switch.ensures.which.in_a (c.in_ok-switch.ensures.switched told).ok (c.wipe.ensures.kept.same told) (c.wipe.ensures.front told)

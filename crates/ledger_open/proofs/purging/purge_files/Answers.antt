@@ -1,6 +1,7 @@
 use Rattle.std.specs.Prelude.{Bool, IsTrue}
 use Rattle.std.proofs.Common.{◌≡◌, ◌+◌, List, ℕ, length, map, drop, refl, sym, ap, subst, arith, ◌∙◌}
-use Rattle.twin_file.specs.Which.{file_of}
+use Rattle.twin_file.specs.Which.{file_of, format_in, generation_in}
+use Rattle.ledger_open.specs.Heads.{edition_from, edition_in}
 use Rattle.ledger_open.specs.Cutting.{IsPrepared}
 use Rattle.block_file.specs.FileView.{gate_of}
 use Rattle.ledger_open.specs.Places.{AreInOrder}
@@ -13,6 +14,9 @@ use Rattle.ledger_open.proofs.ByteLaws.{gate_copied, order_left}
 use Rattle.ledger_open.proofs.FinishedLaws.{same_pairs, falls, floor_under, finished, moved_pairs, purged, tail_few}
 use Rattle.ledger_open.proofs.PlaceMoves.{places_moved}
 use Rattle.ledger_open.proofs.purging.purge_files.Goals as goal
+
+edition_moved : (t : Twin) (next : ℕ) → generation_in t ≡ next → format_in t ≡ 2 → edition_in t ≡ edition_from 2 next
+edition_moved t next number version = ap (λ (n : ℕ). edition_from n (generation_in t)) version ∙ ap (edition_from 2) number
 
 finishes : (tells : Bool) (old new : Ledger) → Purges tells old new → (IsTrue tells → IsAtGate old → IsAtGate new) → (AreInOrder 64 old.known.gate old.known.places → AreInOrder 64 new.known.gate new.known.places) → IsDone tells old new
 finishes tells old new purges gate order = record {
@@ -45,13 +49,13 @@ returns-in-Ok-clause-done g c later gone =
     purged g.D.Disk.tells floor front behind _ _ cut c.in-Some.field-0.base c.as_slice.result.now falls_away c.as_slice.ensures prepared.1 (prepared.0.1 _ floor front behind falls_away)
     (subst (λ (n : ℕ). KeepsFrom n c.args.opened.now.book later.book) point gone.book) first_gate first
     (λ blocks are fits. gone.places ∙ ap (map (moved_place cut.gate first_gate)) are ∙ places_moved cut.gate first_gate blocks fits)
-    c.in-Ok.ensures.twin.3 few c.in-Ok.ensures.twin.0 c.in-Ok.ensures.twin.1 c.in-Ok.ensures.bytes c.in-Ok.ensures.wiped)
-    (λ told at. gate_copied _ _ _ c.as_slice.result.now inside (c.in-Ok.ensures.bytes told) c.in-Ok.ensures.twin.3 c.in-Ok.ensures.twin.1 at)
+    c.in-Ok.ensures.twin.4 few c.in-Ok.ensures.twin.0 (edition_moved c.move_over.new.twin _ c.in-Ok.ensures.twin.1 c.in-Ok.ensures.twin.2) c.in-Ok.ensures.bytes c.in-Ok.ensures.wiped)
+    (λ told at. gate_copied _ _ _ c.as_slice.result.now inside (c.in-Ok.ensures.bytes told) c.in-Ok.ensures.twin.4 (edition_moved c.move_over.new.twin _ c.in-Ok.ensures.twin.1 c.in-Ok.ensures.twin.2) at)
     (λ order.
     subst (λ (ps : List PlaceAt). AreInOrder 64 (gate_of (file_of c.move_over.new.twin)) ps) (sym gone.places)
     (subst (λ (n : ℕ). AreInOrder 64 n (map (moved_place cut.gate first_gate) (drop cut.count c.args.opened.now.places.list)))
-    (omega (arith, first, c.in-Ok.ensures.twin.3))
-    (order_left cut.gate (gate_of (file_of c.args.opened.now.twin)) first_gate (drop cut.count c.args.opened.now.places.list) inside (omega (arith, few, first, c.in-Ok.ensures.twin.3)) (omega arith) (prepared.0.0.behind 64 _ order)))))
+    (omega (arith, first, c.in-Ok.ensures.twin.4))
+    (order_left cut.gate (gate_of (file_of c.args.opened.now.twin)) first_gate (drop cut.count c.args.opened.now.places.list) inside (omega (arith, few, first, c.in-Ok.ensures.twin.4)) (omega arith) (prepared.0.0.behind 64 _ order)))))
 
 pub returns-in-Ok-clause-may : goal.returns-in-Ok-clause-may
 returns-in-Ok-clause-may g c =

@@ -8,7 +8,7 @@ use Rattle.ledger_open.specs.Opening.{IsOpenErr, IsReadErr, HasLawfulBlocks}
 use Rattle.ledger_open.specs.declared.failure.OpenErr.{OpenErr}
 use Rattle.ledger_open.specs.declared.failure.OpenErr.TheVariants as errors
 use Rattle.ledger_open.specs.Standing.{PairFor, IsCleanPair}
-use Rattle.ledger_open.proofs.LeftLaws.{reopened_as}
+use Rattle.ledger_open.proofs.CarryLaws.{reopened_as}
 use Rattle.ledger_open.proofs.OpenLaws.{fault_is, same_pair, settled_pair, taken_as, taken_at, look_err, whole_opens}
 use Rattle.ledger_open.proofs.reopening.reopen.Goals as goal
 
