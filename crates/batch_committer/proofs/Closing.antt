@@ -10,6 +10,7 @@ use Rattle.ledger_bytes.specs.declared.limits.TheConstants.{BLOCK_LIMIT}
 use Rattle.journal_record.specs.Blocks.{body_of, block_bytes, leaves_of, written_blocks, AreFrom}
 use Rattle.journal_record.specs.Entry.{Entry}
 use Rattle.journal_record.specs.Header.{spelling}
+use Rattle.block_file.specs.Head.{version_in}
 use Rattle.block_file.specs.declared.block.TheConstants.{BLOCK_HEAD_LEN}
 use Rattle.block_file.specs.File.{IsFileOf, tail_of, open_blocks, IsSettled, HasBlock}
 use Rattle.ledger_disk.proofs.Guarding.{settled_image}
@@ -27,7 +28,7 @@ use Rattle.ledger_open.specs.Growing.{with_block, IsNextBlock}
 use Rattle.block_file.specs.Places.{body_from, record_len, place_at, places_in, places_at, after_at}
 use Rattle.ledger_open.specs.Places.{places_from}
 use Rattle.block_file.specs.declared.place.PlaceAt.{PlaceAt}
-use Rattle.ledger_open.specs.Standing.{Floor, floor_behind, hidden_before, point_before, Parts, StandsBy, StandsFor, IsErased, IsClean, PairFor, IsCleanPair}
+use Rattle.ledger_open.specs.Standing.{Floor, floor_behind, hidden_before, point_before, Parts, StandsBy, StandsFor, IsErased, IsClean, PairFor, PairOpen, IsCleanPair}
 use Rattle.ledger_open.proofs.FloorLaws.{floor_root, floor_digests, floor_kept}
 use Rattle.ledger_open.proofs.GrowLaws.{erased_stands, grown, begins}
 use Rattle.ledger_open.proofs.KeptLaws.{header_map_same, all_kept}
@@ -107,7 +108,7 @@ tail_at floor zeros image h x =
 -- another image with the same front and blocks
 pub stands_by : (image new : List ℕ) (h : History) (x : IsErased image h) → IsFileOf x.keeps.file.front (written_blocks (floor_behind h x.parts.gone).root [] x.keeps.blocks) new → IsErased new h
 stands_by image new h x stands = record {
-  generation = x.generation;
+  edition = x.edition;
   parts = x.parts;
   keeps = record {
     blocks = x.keeps.blocks;
@@ -164,20 +165,25 @@ stands_from floor image h begins x = record { floor = floor; begins = begins; fi
 empty_image : (s : State) (image : List ℕ) → s ≡ settled_state [] → MayLeave s image → length image ≡ 0
 empty_image s image is left = ap length (settled_image [] image (subst (λ (t : State). MayLeave t image) is left))
 
-pub pair_of : (in_a : Bool) (a b : State) (i j : List ℕ) (h : History) → other_of in_a a b ≡ settled_state [] → MayLeave a i → MayLeave b j → StandsFor (open_of in_a i j) h → PairFor i j h
+abbrev pair_of : (in_a : Bool) (a b : State) (i j : List ℕ) (h : History) → other_of in_a a b ≡ settled_state [] → MayLeave a i → MayLeave b j → StandsFor (open_of in_a i j) h → PairFor i j h
 pair_of true a b i j h empty left_a left_b x = record { in_a = true; stands = x; beside = inl (empty_image b j empty left_b) }
 pair_of false a b i j h empty left_a left_b x = record { in_a = false; stands = x; beside = inl (empty_image a i empty left_a) }
+
+-- .. as a session leaves it
+pub pair_alone : (in_a : Bool) (a b : State) (i j : List ℕ) (h : History) → other_of in_a a b ≡ settled_state [] → MayLeave a i → MayLeave b j → StandsFor (open_of in_a i j) h → PairOpen i j h
+pair_alone true a b i j h empty left_a left_b x = record { pair = pair_of true a b i j h empty left_a left_b x; alone = inl (empty_image b j empty left_b) }
+pair_alone false a b i j h empty left_a left_b x = record { pair = pair_of false a b i j h empty left_a left_b x; alone = inl (empty_image a i empty left_a) }
 
 pub open_left : (in_a : Bool) (a b : State) (i j : List ℕ) → MayLeave a i → MayLeave b j → MayLeave (open_of in_a a b) (open_of in_a i j)
 open_left true a b i j left_a left_b = left_a
 open_left false a b i j left_a left_b = left_b
 
 -- a clean pair leaves what it stands for
-pub clean_image : (in_a : Bool) (place : ℕ) (h : History) (a b : State) (i j : List ℕ) → IsCleanFor in_a place h a b → MayLeave a i → MayLeave b j → PairFor i j h
+pub clean_image : (in_a : Bool) (place : ℕ) (h : History) (a b : State) (i j : List ℕ) → IsCleanFor in_a place h a b → MayLeave a i → MayLeave b j → PairOpen i j h
 clean_image in_a place h a b i j x left_a left_b =
     let seen = (open_of in_a a b).seen in
     let is : open_of in_a i j ≡ seen = settled_image seen (open_of in_a i j) (subst (λ (s : State). MayLeave s (open_of in_a i j)) x.quiet (open_left in_a a b i j left_a left_b)) in
-    pair_of in_a a b i j h x.empty left_a left_b (subst (λ (l : List ℕ). StandsFor l h) (sym is) (erased_stands seen h x.erased))
+    pair_alone in_a a b i j h x.empty left_a left_b (subst (λ (l : List ℕ). StandsFor l h) (sym is) (erased_stands seen h x.erased))
 
 -- how long a clean file is
 pub clean_length : (floor : ℕ) (zeros : ℕ → Bool) (image : List ℕ) (h : History) (place : ℕ) (x : StandsBy floor zeros image h) → x.keeps.file.stands.rest ≡ [] → place ≡ gate_behind (floor_behind h x.parts.gone) x.parts.kept → length image ≡ place + 1
@@ -200,6 +206,7 @@ clean_pair true place h a b i j at x left_a left_b =
     record {
       in_a = true;
       clean = subst (λ (l : List ℕ). IsClean l h) (sym is) (record { erased = x.erased; ends = length_clean (point h) (is_hidden h) a.seen h place x.erased x.ends (at x.erased.parts) });
+      newer = ap version_in is ∙ x.newer;
       empty = empty_image b j x.empty left_b;
     }
 clean_pair false place h a b i j at x left_a left_b =
@@ -207,6 +214,7 @@ clean_pair false place h a b i j at x left_a left_b =
     record {
       in_a = false;
       clean = subst (λ (l : List ℕ). IsClean l h) (sym is) (record { erased = x.erased; ends = length_clean (point h) (is_hidden h) b.seen h place x.erased x.ends (at x.erased.parts) });
+      newer = ap version_in is ∙ x.newer;
       empty = empty_image a i x.empty left_a;
     }
 
@@ -248,7 +256,7 @@ module _ (tells : Bool) (w : World) (h : History) (p : Holds tells w h) (some : 
 
   -- .. or that failed
   pub commit_left : (i j : List ℕ) → IsUncommitted tells w.kept.in_a w.kept.gate (next_bytes h) w.disks disks → MayLeave disks.a.bytes i → MayLeave disks.b.bytes j
-      → (PairFor i j (sealed_part h) × IsErasedPair i j (sealed_part h)) ⊎ PairFor i j (sealed_part (close h))
+      → (PairOpen i j (sealed_part h) × IsErasedPair i j (sealed_part h)) ⊎ PairOpen i j (sealed_part (close h))
   commit_left i j c left_a left_b =
       let in_a = w.kept.in_a in
       let x = p.disks.erased in
@@ -256,10 +264,10 @@ module _ (tells : Bool) (w : World) (h : History) (p : Holds tells w h) (some : 
       elim (c.may p.told p.disks.quiet x.keeps.file.front (written_blocks (from).root [] x.keeps.blocks) x.keeps.file.stands tail (open_of in_a i j) (open_left in_a disks.a.bytes disks.b.bytes i j left_a left_b)) [
         | inl s ↦
             let erased = stands_by _ (open_of in_a i j) (sealed_part h) x s in
-            inl (pair_of in_a disks.a.bytes disks.b.bytes i j (sealed_part h) empty left_a left_b (erased_stands _ (sealed_part h) erased), erased_of in_a disks.a.bytes disks.b.bytes i j (sealed_part h) empty left_a left_b erased)
+            inl (pair_alone in_a disks.a.bytes disks.b.bytes i j (sealed_part h) empty left_a left_b (erased_stands _ (sealed_part h) erased), erased_of in_a disks.a.bytes disks.b.bytes i j (sealed_part h) empty left_a left_b erased)
         | inr s ↦
             let g = sealed_part (close h) in
-            inr (pair_of in_a disks.a.bytes disks.b.bytes i j g empty left_a left_b (stands_from (point (sealed_part h)) (open_of in_a i j) g (block_begins w.kept h p.keeps some most _ x) (block_stands w.kept h p.keeps some most _ (open_of in_a i j) x s)))
+            inr (pair_alone in_a disks.a.bytes disks.b.bytes i j g empty left_a left_b (stands_from (point (sealed_part h)) (open_of in_a i j) g (block_begins w.kept h p.keeps some most _ x) (block_stands w.kept h p.keeps some most _ (open_of in_a i j) x s)))
       ]
 
 -- ---- places

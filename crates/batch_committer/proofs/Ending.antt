@@ -10,7 +10,6 @@ use Rattle.block_file.specs.File.{IsShutAt}
 use Rattle.journal_record.specs.Entry.{Entry}
 use Rattle.sha2.specs.Sha256.{sha256}
 use Rattle.tree_model.specs.Tree.{mth}
-use Rattle.block_file.specs.Head.{generation_of}
 use Rattle.ledger_bytes.specs.declared.limits.TheConstants.{BLOCK_LIMIT}
 use Rattle.merkle_tree.specs.declared.head.Head.{Head}
 use Rattle.journal_record.specs.Blocks.{body_of, block_bytes, AreFrom}
@@ -31,6 +30,8 @@ use Rattle.ledger_book.specs.Books.{Stands, Serves, sealed_size}
 use Rattle.ledger_book.specs.Seals as seals
 use Rattle.ledger_book.specs.Steps.{IsSame}
 use Rattle.twin_file.specs.Twin.{open_of}
+use Rattle.ledger_open.proofs.OldLaws.{same_edition}
+use Rattle.ledger_open.specs.Heads.{Edition, edition_of}
 use Rattle.ledger_open.specs.Opening.{known_from}
 use Rattle.block_file.specs.Places.{body_from, places_in}
 use Rattle.ledger_open.specs.Places.{places_from, AreInOrder}
@@ -124,7 +125,7 @@ pub record AtEnd (tells : Bool) (w : World) (block text : List ℕ) : Type 0 whe
 
 -- an open ledger by its parts
 abbrev pub ledger_of : books.Kept → List PlaceAt → Pair → ℕ → Bool → ℕ → Ledger
-ledger_of book places disks place in_a generation = record { known = known_from book places place; in_a = in_a; generation = generation; a = disks.a.bytes; b = disks.b.bytes }
+ledger_of book places disks place in_a edition = record { known = known_from book places place; in_a = in_a; edition = edition; a = disks.a.bytes; b = disks.b.bytes }
 
 -- the ledger in front of what is given up: the block stands behind its file
 abbrev pub mid_ledger : World → books.Kept → List ℕ → Pair → Ledger
@@ -135,7 +136,7 @@ pub record IsAtEnd (tells : Bool) (w : World) (book : books.Kept) (block : List 
   pub serves : (h : History) → Serves w.kept.book h → Serves book (close h)
   pub same : IsSame w.kept.book book
   pub committed : IsCommitted tells w.kept.in_a w.kept.gate block w.disks mid
-  pub named : IsTrue tells → w.kept.generation ≡ generation_of (open_bytes w.kept.in_a mid).seen
+  pub named : IsTrue tells → w.kept.edition ≡ edition_of (open_bytes w.kept.in_a mid).seen
 
 module _ (tells : Bool) (w : World) (block text : List ℕ) (e : AtEnd tells w block text) where
   -- the block is a new one, and nothing that is due was written
@@ -339,20 +340,13 @@ count_few k count is few = omega (arith, is, few)
 pub none_waits : (k : books.Kept) (h : History) → k.size ≡ k.sealed → Serves k h → h.waiting ≡ []
 none_waits k h same s = nil_from_length h.waiting (omega (arith, same, s.stands.counts.size, s.stands.counts.sealed_is, length-append (journals_of h.closed) h.waiting))
 
--- a generation stands in the first 64 bytes
-generation_part : (file : List ℕ) → take 8 (drop 10 (take 64 file)) ≡ take 8 (drop 10 file)
-generation_part file = ap (λ (l : List ℕ). take 8 l) (drop-take 10 54 file) ∙ take-take 8 54 (drop 10 file) (omega arith)
-
-pub by_head : (new old : List ℕ) → take 64 new ≡ take 64 old → generation_of new ≡ generation_of old
-by_head new old is = ap (λ (l : List ℕ). from_be_bytes w64 l) (sym (generation_part new) ∙ ap (λ (l : List ℕ). take 8 (drop 10 l)) is ∙ generation_part old)
-
--- a commit leaves the open file's generation
-pub generation_stays : (tells : Bool) (in_a : Bool) (place : ℕ) (block : List ℕ) (before after : Pair) → IsCommitted tells in_a place block before after → IsTrue tells
-    → generation_of (open_of in_a after.a after.b).bytes.seen ≡ generation_of (open_of in_a before.a before.b).bytes.seen
-generation_stays tells in_a place block before after c told = by in_a (c.head told) where
-  by : (v : Bool) → take 64 (open_bytes v after).seen ≡ take 64 (open_bytes v before).seen → generation_of (open_of v after.a after.b).bytes.seen ≡ generation_of (open_of v before.a before.b).bytes.seen
-  by true is = by_head after.a.bytes.seen before.a.bytes.seen is
-  by false is = by_head after.b.bytes.seen before.b.bytes.seen is
+-- a commit leaves the open file's edition
+pub edition_stays : (tells : Bool) (in_a : Bool) (place : ℕ) (block : List ℕ) (before after : Pair) → IsCommitted tells in_a place block before after → IsTrue tells
+    → edition_of (open_of in_a after.a after.b).bytes.seen ≡ edition_of (open_of in_a before.a before.b).bytes.seen
+edition_stays tells in_a place block before after c told = by in_a (c.head told) where
+  by : (v : Bool) → take 64 (open_bytes v after).seen ≡ take 64 (open_bytes v before).seen → edition_of (open_of v after.a after.b).bytes.seen ≡ edition_of (open_of v before.a before.b).bytes.seen
+  by true is = same_edition after.a.bytes.seen before.a.bytes.seen is
+  by false is = same_edition after.b.bytes.seen before.b.bytes.seen is
 
 -- where the contents of the open block end, once it has ended
 pub order_ended : (k : CommitterState) (block head : List ℕ) → block ≡ head ++ k.body → length head ≡ BLOCK_HEAD_LEN → AreInOrder 64 (body_from k.gate + length k.body) k.places → AreInOrder 64 (k.gate + 1 + length block) k.places
@@ -367,20 +361,20 @@ pub shut_bytes : (in_a : Bool) (place : ℕ) (disks : Pair) → IsShutAt place (
 shut_bytes true place disks s = s
 shut_bytes false place disks s = s
 
-pub named_at : (in_a : Bool) (generation : ℕ) (disks : Pair) → generation ≡ generation_of (open_of in_a disks.a disks.b).bytes.seen → generation ≡ generation_of (open_bytes in_a disks).seen
-named_at true generation disks is = is
-named_at false generation disks is = is
+pub named_at : (in_a : Bool) (edition : Edition) (disks : Pair) → edition ≡ edition_of (open_of in_a disks.a disks.b).bytes.seen → edition ≡ edition_of (open_bytes in_a disks).seen
+named_at true edition disks is = is
+named_at false edition disks is = is
 
-generation_at : (in_a : Bool) (generation : ℕ) (disks : Pair) → generation ≡ generation_of (open_bytes in_a disks).seen → generation ≡ generation_of (open_of in_a disks.a disks.b).bytes.seen
-generation_at true generation disks is = is
-generation_at false generation disks is = is
+edition_at : (in_a : Bool) (edition : Edition) (disks : Pair) → edition ≡ edition_of (open_bytes in_a disks).seen → edition ≡ edition_of (open_of in_a disks.a disks.b).bytes.seen
+edition_at true edition disks is = is
+edition_at false edition disks is = is
 
 -- what the next call asks for, whatever stands in the files
 pub fits_finished : (tells : Bool) (k : CommitterState) (old : Ledger) (mid disks : Pair) (sink : SinkState) → (IsTrue tells → IsAtGate old) → AreInOrder 64 old.known.gate old.known.places → old.known.book.size ≡ old.known.book.sealed → k.copy ≡ None
     → IsFinished tells old (held_ledger k disks) mid disks → Fits tells (world k disks sink)
 fits_finished tells k old mid disks sink gate order none copy f = record {
   reads = record { told = f.told; shut = λ told. shut_at k.in_a k.gate disks (f.gate told (gate told)).shut };
-  generation = λ told. generation_at k.in_a k.generation disks (f.gate told (gate told)).generation;
+  edition = λ told. edition_at k.in_a k.edition disks (f.gate told (gate told)).edition;
   copy = copy;
   few = omega (arith, none, f.size, f.sealed);
   order = order_wider 64 k.gate (body_from k.gate + length k.body) k.places (f.order order) (omega arith);
@@ -393,10 +387,10 @@ finished_as tells l0 l1 new before after is f = subst (λ (l : Ledger). IsFinish
 pub unfinished_as : (tells : Bool) (l0 l1 : Ledger) (before after : Pair) → l0 ≡ l1 → IsUnfinished tells l0 before after → IsUnfinished tells l1 before after
 unfinished_as tells l0 l1 before after is u = subst (λ (l : Ledger). IsUnfinished tells l before after) is u
 
-pub ledger_is : (book : books.Kept) (places : List PlaceAt) (disks : Pair) (place0 place1 : ℕ) (in_a0 in_a1 : Bool) (generation0 generation1 : ℕ) → place0 ≡ place1 → in_a0 ≡ in_a1 → generation0 ≡ generation1
-    → ledger_of book places disks place0 in_a0 generation0 ≡ ledger_of book places disks place1 in_a1 generation1
-ledger_is book places disks place0 place1 in_a0 in_a1 generation0 generation1 place in_a generation =
-    ap (λ (n : ℕ). ledger_of book places disks n in_a0 generation0) place ∙ ap (λ (v : Bool). ledger_of book places disks place1 v generation0) in_a ∙ ap (ledger_of book places disks place1 in_a1) generation
+pub ledger_is : (book : books.Kept) (places : List PlaceAt) (disks : Pair) (place0 place1 : ℕ) (in_a0 in_a1 : Bool) (edition0 edition1 : Edition) → place0 ≡ place1 → in_a0 ≡ in_a1 → edition0 ≡ edition1
+    → ledger_of book places disks place0 in_a0 edition0 ≡ ledger_of book places disks place1 in_a1 edition1
+ledger_is book places disks place0 place1 in_a0 in_a1 edition0 edition1 place in_a edition =
+    ap (λ (n : ℕ). ledger_of book places disks n in_a0 edition0) place ∙ ap (λ (v : Bool). ledger_of book places disks place1 v edition0) in_a ∙ ap (ledger_of book places disks place1 in_a1) edition
 
 -- how far a fault of the sink let the lines be written
 pub first_of_text : (old new : SinkState) (text : List ℕ) (e : WriteErr) → WritesFirst old.held new.held text e → (taken : ℕ) × (taken < length text) × Appends old.held new.held (take taken text)

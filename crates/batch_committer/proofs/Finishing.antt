@@ -3,7 +3,6 @@ use Rattle.std.specs.Prelude.{Bool, true, false}
 use Rattle.std.proofs.Common.{◌≡◌, ◌⊎◌, inl, inr, ℕ, ◌+◌, ◌≤◌, List, [], ◌++◌, length, refl, ap, sym, subst, ◌∙◌, append-nil}
 use Rattle.std.proofs.lemmas.List.{nil_from_length}
 use Rattle.block_file.specs.File.{IsSettled}
-use Rattle.block_file.specs.Head.{generation_of}
 use Rattle.journal_record.specs.Entry.{Entry}
 use Rattle.ledger_bytes.specs.declared.limits.TheConstants.{BLOCK_LIMIT}
 use Rattle.ledger_disk.specs.Disk.{State, settled_state}
@@ -14,6 +13,8 @@ use Rattle.ledger_book.specs.Books as books
 use Rattle.ledger_book.specs.Books.{Serves}
 use Rattle.ledger_book.specs.Steps.{IsSame}
 use Rattle.twin_file.specs.Twin.{open_of, other_of}
+use Rattle.ledger_open.proofs.OldLaws.{same_edition}
+use Rattle.ledger_open.specs.Heads.{edition_of}
 use Rattle.ledger_open.specs.Opening.{known_from}
 use Rattle.block_file.specs.Places.{body_from, places_in}
 use Rattle.ledger_open.specs.Places.{places_from}
@@ -46,7 +47,7 @@ quiet_other false a b x y = x
 
 -- what a committer keeps, with what its disks hold
 abbrev pub held_ledger : CommitterState → Pair → Ledger
-held_ledger k disks = record { known = known_from k.book k.places k.gate; in_a = k.in_a; generation = k.generation; a = disks.a.bytes; b = disks.b.bytes }
+held_ledger k disks = record { known = known_from k.book k.places k.gate; in_a = k.in_a; edition = k.edition; a = disks.a.bytes; b = disks.b.bytes }
 
 pub tails_clean : (l : Ledger) (h : History) → IsCleanOpen l h → TailsAt l.known.gate h
 tails_clean l h c = tails_at h l.known.gate l.known.book.floor c.ends.parts c.clean.erased.lawful.blocks_are c.floor c.tail
@@ -56,6 +57,7 @@ clean_for l h c = record {
   quiet = quiet_open l.in_a l.a l.b c.quiet_a c.quiet_b;
   empty = quiet_other l.in_a l.a l.b c.quiet_a c.quiet_b ∙ ap settled_state (nil_from_length (other_disk l).seen c.empty);
   erased = c.clean.erased;
+  newer = c.newer;
   ends = clean_length (point h) _ (open_disk l).seen h l.known.gate c.clean.erased c.clean.ends (tails_clean l h c c.clean.erased.parts);
 }
 
@@ -85,7 +87,7 @@ module _ (tells : Bool) (w : World) (h : History) (p : Holds tells w h) (some : 
   empty = c.other ∙ p.disks.empty
 
   -- the ledger with the block behind its file stands for the history, as far as the block leaves something undone
-  pub standing : w.kept.generation ≡ generation_of (open_bytes w.kept.in_a mid).seen → IsStanding (held_ledger (record w.kept { book = book; gate = next }) mid) (sealed_part (close h))
+  pub standing : w.kept.edition ≡ edition_of (open_bytes w.kept.in_a mid).seen → IsStanding (held_ledger (record w.kept { book = book; gate = next }) mid) (sealed_part (close h))
   standing named =
       let g = sealed_part (close h) in
       let parts = parts_close w.kept h p.keeps some (begun) in
@@ -104,8 +106,9 @@ module _ (tells : Bool) (w : World) (h : History) (p : Holds tells w h) (some : 
           stands = record { floor = point (sealed_part h); begins = block_begins w.kept h p.keeps some most _ p.disks.erased; file = commit_stands tells w h p some most mid c };
           floor = sym (floor_is);
           beside = inl (ap (λ (s : State). length s.seen) (empty));
-          generation = named;
+          edition = named;
         };
+        newer = ap (λ (e : Edition). e.version) (same_edition _ _ (c.head p.told)) ∙ p.disks.newer;
         ends = c.ends p.told p.disks.ends ∙ ap (λ (n : ℕ). n + 1) (sym at);
         empty = empty;
       }

@@ -5,16 +5,16 @@ use Rattle.std.proofs.Common.{◌≡◌, inl, inr, ℕ, ◌+◌, ◌-◌, ◌<�
 use Rattle.std.proofs.lemmas.Bool.{true≢false, cases_lt}
 use Rattle.std.proofs.lemmas.List.{get_or-drop}
 use Rattle.block_file.specs.File.{IsShutAt}
-use Rattle.block_file.specs.Head.{generation_of}
 use Rattle.ledger_book.specs.Books as books
 use Rattle.ledger_book.proofs.StandsLaws.{point_is}
 use Rattle.ledger_disk.specs.Disk.{DiskState, State, settled_state}
 use Rattle.ledger_disk.specs.Guards.{Outside}
 use Rattle.ledger_model.specs.History.{History, point}
+use Rattle.ledger_open.specs.Heads.{Edition, edition_of}
 use Rattle.ledger_open.specs.Cutting.{IsPrepared, gate_behind}
 use Rattle.ledger_open.specs.Erasing.{GivesUp, LeavesRest, StandsMeanwhile}
 use Rattle.ledger_open.specs.Opening.{CountsTwoErr}
-use Rattle.ledger_open.specs.Purging.{Ledger, FinishesPurge, StandsOpen, IsCleanOpen, IsAtGate}
+use Rattle.ledger_open.specs.Purging.{Ledger, FinishesPurge, StandsOpen, StandsPurging, IsCleanOpen, IsAtGate}
 use Rattle.ledger_open.specs.Standing.{floor_behind, hidden_before}
 use Rattle.ledger_open.specs.Places.{AreInOrder}
 use Rattle.ledger_open.specs.declared.failure.OpenErr.{OpenErr}
@@ -22,11 +22,11 @@ use Rattle.ledger_open.specs.declared.failure.OpenErr.TheVariants.{DiskFault}
 use Rattle.block_file.specs.declared.place.PlaceAt.{PlaceAt}
 use Rattle.ledger_open.specs.declared.purging.Purge.{Purge}
 use Rattle.ledger_open.proofs.FinishLaws.{given_clean}
-use Rattle.ledger_open.proofs.FinishedLaws.{falls, floor_under}
+use Rattle.ledger_open.proofs.FinishedLaws.{falls, floor_under, purge}
 use Rattle.twin_file.specs.Twin.{open_of, other_of}
 use Rattle.batch_committer.specs.Committed.{IsStanding, IsFinished, IsUnfinished, open_bytes, other_bytes}
 use Rattle.batch_committer.specs.World.{Pair}
-use Rattle.batch_committer.proofs.Closing.{pair_of, open_left, length_clean}
+use Rattle.batch_committer.proofs.Closing.{pair_alone, open_left, length_clean}
 use Rattle.batch_committer.proofs.Ending.{by_head, ledger_of}
 use Rattle.batch_committer.proofs.Finishing.{both_quiet, quiet_open}
 use Rattle.batch_committer.proofs.Ordering.{between_order}
@@ -58,13 +58,13 @@ still_shut place old new o s =
 
 -- ---- contents that were given up
 
-module _ (tells : Bool) (book : books.Kept) (places : List PlaceAt) (place : ℕ) (in_a : Bool) (generation : ℕ) (before after : Pair)
+module _ (tells : Bool) (book : books.Kept) (places : List PlaceAt) (place : ℕ) (in_a : Bool) (edition : Edition) (before after : Pair)
     (other : other_of in_a after.a after.b ≡ other_of in_a before.a before.b) where
   abbrev old : Ledger
-  old = ledger_of book places before place in_a generation
+  old = ledger_of book places before place in_a edition
 
   abbrev new : Ledger
-  new = ledger_of book places after place in_a generation
+  new = ledger_of book places after place in_a edition
 
   other_same : other_bytes in_a after ≡ other_bytes in_a before
   other_same = by in_a other where
@@ -87,8 +87,8 @@ module _ (tells : Bool) (book : books.Kept) (places : List PlaceAt) (place : ℕ
       by true x = x
       by false x = x
 
-    same_generation : IsTrue tells → generation_of (open_bytes in_a after).seen ≡ generation_of (open_bytes in_a before).seen
-    same_generation t = by_head (open_bytes in_a after).seen (open_bytes in_a before).seen (rest_bytes t 64 place (between_order 64 64 place places (omega arith) order)).before
+    edition_same : IsTrue tells → edition_of (open_bytes in_a after).seen ≡ edition_of (open_bytes in_a before).seen
+    edition_same t = same_edition (open_bytes in_a after).seen (open_bytes in_a before).seen (rest_bytes t 64 place (between_order 64 64 place places (omega arith) order)).before
 
     -- no purge is left undone: the file begins at the point
     at_point : (h : History) → StandsOpen (old) h → book.floor ≡ point h
@@ -115,7 +115,8 @@ module _ (tells : Bool) (book : books.Kept) (places : List PlaceAt) (place : ℕ
           tail = x.tail;
           clean = given_clean (open_bytes in_a before) (open_bytes in_a after) h x.stands ends floor gone;
           empty = ap (λ (d : State). length d.seen) empty;
-          generation = x.generation ∙ sym (same_generation t);
+          newer = ap (λ (e : Edition). e.version) (edition_same t) ∙ s.newer;
+          edition = x.edition ∙ sym (edition_same t);
         }
 
     pub erased_finished : IsSomeAnd (open_of in_a after.a after.b).told (λ n. place + 1 ≤ n) → (after.a.faults ≡ before.a.faults) × (after.b.faults ≡ before.b.faults) → IsFinished tells (old) (new) before after
@@ -123,7 +124,7 @@ module _ (tells : Bool) (book : books.Kept) (places : List PlaceAt) (place : ℕ
       clean = given;
       gate = λ t g. record {
         shut = still_shut place (open_bytes in_a before).seen (open_bytes in_a after).seen (rest_bytes t 0 place (between_order 0 64 place places (omega arith) order)) g.shut;
-        generation = g.generation ∙ sym (same_generation t);
+        edition = g.edition ∙ sym (edition_same t);
       };
       told = told;
       order = λ o. o;
@@ -139,15 +140,22 @@ module _ (tells : Bool) (book : books.Kept) (places : List PlaceAt) (place : ℕ
       → (IsTrue tells → StandsMeanwhile book places (open_of in_a before.a before.b).bytes (open_of in_a after.a after.b).bytes) → IsUnfinished tells (old) before after
   erased_unfinished e is counts meanwhile = record {
     meanwhile = λ t h s i j left_a left_b.
-        pair_of in_a after.a.bytes after.b.bytes i j h (other_same ∙ s.empty) left_a left_b
-        (by in_a (meanwhile t) h s.stands.ends (quiet_open in_a before.a.bytes before.b.bytes s.stands.quiet_a s.stands.quiet_b) s.stands.stands (open_of in_a i j) (open_left in_a after.a.bytes after.b.bytes i j left_a left_b));
+        pair_alone in_a after.a.bytes after.b.bytes i j h (other_same ∙ s.empty) left_a left_b
+        (by in_a (meanwhile t) h s.stands.ends (quiet_open in_a before.a.bytes before.b.bytes s.stands.quiet_a s.stands.quiet_b) s.stands.stands (open_of in_a i j) (open_left in_a after.a.bytes after.b.bytes i j left_a left_b)).0;
     failed = subst (λ (x : OpenErr). CountsTwoErr x before.a.faults after.a.faults before.b.faults after.b.faults) is counts;
   } where
     by : (v : Bool) → StandsMeanwhile book places (open_of v before.a before.b).bytes (open_of v after.a after.b).bytes → StandsMeanwhile book places (open_bytes v before) (open_bytes v after)
     by true x = x
     by false x = x
 
--- ---- a purge that was finished
+-- ---- a purge that was finished, or a disk failed meanwhile
+
+pub purge_unfinished : (tells : Bool) (old : Ledger) (before after : Pair) (e : OpenErr) → old.known.book.floor < old.known.book.point → e ≡ DiskFault → CountsTwoErr e before.a.faults after.a.faults before.b.faults after.b.faults
+    → (IsTrue tells → StandsPurging old after.a.bytes after.b.bytes) → IsUnfinished tells old before after
+purge_unfinished tells old before after e less is counts images = record {
+  meanwhile = λ t h s i j left_a left_b. record { pair = images t h s.stands i j left_a left_b; alone = inr (purge old h s.stands less) };
+  failed = subst (λ (x : OpenErr). CountsTwoErr x before.a.faults after.a.faults before.b.faults after.b.faults) is counts;
+}
 
 pub purge_finished : (tells : Bool) (old new : Ledger) (before after : Pair) → old.known.book.floor < old.known.book.point → (IsTrue tells → FinishesPurge old new) → (IsTrue tells → IsAtGate old → IsAtGate new)
     → IsSomeAnd (open_of new.in_a after.a after.b).told (λ n. new.known.gate + 1 ≤ n) → (AreInOrder 64 old.known.gate old.known.places → AreInOrder 64 new.known.gate new.known.places) → new.known.book.limits ≡ old.known.book.limits

@@ -1,4 +1,5 @@
 -- A job is taken: the open block may end before it and after it.
+use Rattle.ledger_open.specs.Heads.{edition_of}
 use Rattle.std.specs.Prelude.{◌||◌, Bool, true, false, nat_le, Result, Ok, Err, IfErr}
 use Rattle.std.proofs.Common.{◌≡◌, ◌⊎◌, inl, inr, ℕ, ◌<◌, ◌≤◌, cond, List, [], ◌∷◌, ◌++◌, length, refl, ap, sym, subst, ◌∙◌, arith}
 use Rattle.std.proofs.KnownBytes.{Appends-nil}
@@ -23,7 +24,6 @@ use Rattle.ledger_model.proofs.GrowLaws.{grows_settled, grows_with, grows_after,
 use Rattle.ledger_model.proofs.WaitLaws.{waits_job, waits_closed, all_still_waiting, waiting-append, answer_waits}
 use Rattle.ledger_book.specs.Books.{Serves}
 use Rattle.ledger_book.proofs.OpenLaws.{opens_empty}
-use Rattle.block_file.specs.Head.{generation_of}
 use Rattle.twin_file.specs.Twin.{open_of}
 use Rattle.batch_committer.specs.Steps.{due_by, Judged, KeepsFile, HasGrown, StaysInOrder}
 use Rattle.batch_committer.specs.Read.{WereRead, NoneFailed, ReadingEnds}
@@ -145,7 +145,7 @@ unjudged_ended tells k t old new sink step job end read e =
 pub fits_gathered : (tells : Bool) (old new : CommitterState) (disks : Pair) (sink : SinkState) → Fits tells (world old disks sink) → HasRoom old → HasGrown old new → StaysInOrder old new → KeepsFile old new → Fits tells (world new disks sink)
 fits_gathered tells old new disks sink f room grown order file = record {
   reads = subst (λ v. ReadsAsLeft tells new.gate (open_of v disks.a disks.b)) (sym file.in_a) (subst (λ at. ReadsAsLeft tells at (open_of old.in_a disks.a disks.b)) (sym file.gate) f.reads);
-  generation = λ told. file.generation ∙ f.generation told ∙ sym (ap (λ v. generation_of (open_of v disks.a disks.b).bytes.seen) file.in_a);
+  edition = λ told. file.edition ∙ f.edition told ∙ sym (ap (λ v. edition_of (open_of v disks.a disks.b).bytes.seen) file.in_a);
   copy = file.copy ∙ f.copy;
   few = omega (arith, room.0, grown.0, grown.1);
   order = order f.order;

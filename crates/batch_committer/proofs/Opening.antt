@@ -2,8 +2,8 @@
 use Rattle.std.specs.Prelude.{Bool, true, false, IsTrue, IsSomeAnd, Option, None}
 use Rattle.std.proofs.Common.{◌≡◌, inl, ℕ, ◌+◌, ◌≤◌, List, [], ◌++◌, length, refl, ap, sym, subst, ◌∙◌, arith, append-nil, length-append}
 use Rattle.block_file.proofs.WriteLaws.{tail_shut}
+use Rattle.block_file.specs.Head.{version_in}
 use Rattle.block_file.specs.File.{IsSettled, IsShutAt}
-use Rattle.block_file.specs.Head.{generation_of}
 use Rattle.journal_record.specs.Blocks.{body_of, written_blocks, AreFrom}
 use Rattle.journal_record.specs.Entry.{Entry}
 use Rattle.ledger_disk.specs.Disk.{DiskState, State, settled_state}
@@ -20,6 +20,7 @@ use Rattle.ledger_book.specs.Books.{sealed_size}
 use Rattle.ledger_book.proofs.OpenLaws.{opens_empty, opens_gather}
 use Rattle.twin_file.proofs.HeadLaws.{generation_is}
 use Rattle.twin_file.specs.Twin.{open_of}
+use Rattle.ledger_open.specs.Heads.{Edition, edition_from, edition_of}
 use Rattle.ledger_open.specs.Cutting.{gate_behind}
 use Rattle.ledger_open.specs.Erasing.{EndsAs}
 use Rattle.ledger_open.specs.Founding.{IsFounded}
@@ -32,7 +33,7 @@ use Rattle.ledger_open.specs.Standing.{Floor, ground, floor_from, floor_behind, 
 use Rattle.ledger_open.proofs.FoundingLaws.{founded_clean}
 use Rattle.ledger_open.proofs.KnownLaws.{same_self}
 use Rattle.ledger_open.proofs.OrderLaws.{order_low}
-use Rattle.ledger_open.proofs.ReopenLaws.{reopened_tidy}
+use Rattle.ledger_open.proofs.CarryLaws.{reopened_tidy}
 use Rattle.batch_committer.specs.Opened.{kept_from, IsOpened, IsQuietFor}
 use Rattle.batch_committer.specs.World.{World, Pair, world, Fits, HasRoom, IsCleanFor, Holds, sealed_part}
 use Rattle.batch_committer.proofs.Closing.{clean_image, clean_length, length_clean, tail_at, tails_kept, sealed_same}
@@ -42,9 +43,9 @@ use Rattle.batch_committer.proofs.Parting.{TailsAt, tails_at}
 
 -- ---- a ledger where no journal waits
 
-held_at : (tells : Bool) (k : Known) (in_a : Bool) (generation : ℕ) (disks : Pair) (sink : SinkState) (h : History) (e : EndsAs k.book k.places h) → k.book.floor ≡ point h → k.gate ≡ gate_behind (floor_behind h e.parts.gone) e.parts.kept → k.book.limits ≡ real_limits → IsTrue tells
-    → IsCleanFor in_a k.gate h disks.a.bytes disks.b.bytes → Holds tells (world (kept_from k in_a generation) disks sink) h
-held_at tells k in_a generation disks sink h e floor tail limits told clean =
+held_at : (tells : Bool) (k : Known) (in_a : Bool) (edition : Edition) (disks : Pair) (sink : SinkState) (h : History) (e : EndsAs k.book k.places h) → k.book.floor ≡ point h → k.gate ≡ gate_behind (floor_behind h e.parts.gone) e.parts.kept → k.book.limits ≡ real_limits → IsTrue tells
+    → IsCleanFor in_a k.gate h disks.a.bytes disks.b.bytes → Holds tells (world (kept_from k in_a edition) disks sink) h
+held_at tells k in_a edition disks sink h e floor tail limits told clean =
     let same = sym (sealed_same h e.none) in record {
       told = told;
       keeps = record {
@@ -69,12 +70,12 @@ held_at tells k in_a generation disks sink h e floor tail limits told clean =
 
 -- ---- a ledger that was opened
 
-pub opened_held : (tells : Bool) (k : Known) (in_a : Bool) (generation : ℕ) (start : Option Base) (blocks : List (List Entry)) (a b : State) (disks : Pair) (sink : SinkState) (h : History) → IsOpened k in_a disks start blocks → k.book.limits ≡ real_limits → IsTrue tells
-    → IsReopened in_a k start blocks a b disks.a.bytes disks.b.bytes → PairFor a.seen b.seen h → Holds tells (world (kept_from k in_a generation) disks sink) h
-opened_held tells k in_a generation start blocks a b disks sink h o limits told r p =
+pub opened_held : (tells : Bool) (k : Known) (in_a : Bool) (edition : Edition) (start : Option Base) (blocks : List (List Entry)) (a b : State) (disks : Pair) (sink : SinkState) (h : History) → IsOpened k in_a disks start blocks → k.book.limits ≡ real_limits → IsTrue tells
+    → IsReopened in_a k start blocks a b disks.a.bytes disks.b.bytes → PairFor a.seen b.seen h → Holds tells (world (kept_from k in_a edition) disks sink) h
+opened_held tells k in_a edition start blocks a b disks sink h o limits told r p =
     let e = opened_ends k in_a start blocks a b disks.a.bytes disks.b.bytes o.knows r h p in
-    let c = reopened_tidy k in_a start blocks a b disks.a.bytes disks.b.bytes o.knows r in
-    held_at tells k in_a generation disks sink h e.ends e.floor e.tail limits told (record { quiet = c.quiet; empty = c.empty; erased = e.erased; ends = c.ends })
+    let c = reopened_tidy k in_a start blocks a b disks.a.bytes disks.b.bytes r o.knows in
+    held_at tells k in_a edition disks sink h e.ends e.floor e.tail limits told (record { quiet = c.quiet; empty = c.empty; erased = e.erased; newer = e.newer; ends = c.ends })
 
 -- ---- what a call asks for
 
@@ -89,28 +90,28 @@ shut_at : (in_a : Bool) (place : ℕ) (disks : Pair) → IsShutAt place (open_of
 shut_at true place disks s = s
 shut_at false place disks s = s
 
-generation_at : (in_a : Bool) (generation : ℕ) (disks : Pair) → generation ≡ generation_of (open_of in_a disks.a.bytes disks.b.bytes).seen → generation ≡ generation_of (open_of in_a disks.a disks.b).bytes.seen
-generation_at true generation disks is = is
-generation_at false generation disks is = is
+edition_at : (in_a : Bool) (edition : Edition) (disks : Pair) → edition ≡ edition_of (open_of in_a disks.a.bytes disks.b.bytes).seen → edition ≡ edition_of (open_of in_a disks.a disks.b).bytes.seen
+edition_at true edition disks is = is
+edition_at false edition disks is = is
 
-fits_of : (tells : Bool) (k : Known) (in_a : Bool) (generation : ℕ) (disks : Pair) (sink : SinkState) (start : Option Base) (blocks : List (List Entry)) → IsOpened k in_a disks start blocks → (IsTrue tells → IsShutAt k.gate (open_of in_a disks.a.bytes disks.b.bytes).seen)
-    → (IsTrue tells → generation ≡ generation_of (open_of in_a disks.a.bytes disks.b.bytes).seen)
-    → Fits tells (world (kept_from k in_a generation) disks sink)
-fits_of tells k in_a generation disks sink start blocks o shut is = record {
+fits_of : (tells : Bool) (k : Known) (in_a : Bool) (edition : Edition) (disks : Pair) (sink : SinkState) (start : Option Base) (blocks : List (List Entry)) → IsOpened k in_a disks start blocks → (IsTrue tells → IsShutAt k.gate (open_of in_a disks.a.bytes disks.b.bytes).seen)
+    → (IsTrue tells → edition ≡ edition_of (open_of in_a disks.a.bytes disks.b.bytes).seen)
+    → Fits tells (world (kept_from k in_a edition) disks sink)
+fits_of tells k in_a edition disks sink start blocks o shut is = record {
   reads = record { told = o.told; shut = λ told. shut_at in_a k.gate disks (shut told) };
-  generation = λ told. generation_at in_a generation disks (is told);
+  edition = λ told. edition_at in_a edition disks (is told);
   copy = refl;
   few = omega (arith, o.knows.settled);
   order = order_known k blocks o.knows;
 }
 
-pub opened_fits : (tells : Bool) (k : Known) (in_a : Bool) (generation : ℕ) (start : Option Base) (blocks : List (List Entry)) (a b : State) (disks : Pair) (sink : SinkState) → IsOpened k in_a disks start blocks
-    → (IsTrue tells → IsReopened in_a k start blocks a b disks.a.bytes disks.b.bytes) → (IsTrue tells → generation ≡ generation_of (open_of in_a disks.a.bytes disks.b.bytes).seen) → Fits tells (world (kept_from k in_a generation) disks sink)
-opened_fits tells k in_a generation start blocks a b disks sink o r is =
-    fits_of tells k in_a generation disks sink start blocks o (λ told. (reopened_tidy k in_a start blocks a b disks.a.bytes disks.b.bytes o.knows (r told)).shut) is
+pub opened_fits : (tells : Bool) (k : Known) (in_a : Bool) (edition : Edition) (start : Option Base) (blocks : List (List Entry)) (a b : State) (disks : Pair) (sink : SinkState) → IsOpened k in_a disks start blocks
+    → (IsTrue tells → IsReopened in_a k start blocks a b disks.a.bytes disks.b.bytes) → (IsTrue tells → edition ≡ edition_of (open_of in_a disks.a.bytes disks.b.bytes).seen) → Fits tells (world (kept_from k in_a edition) disks sink)
+opened_fits tells k in_a edition start blocks a b disks sink o r is =
+    fits_of tells k in_a edition disks sink start blocks o (λ told. (reopened_tidy k in_a start blocks a b disks.a.bytes disks.b.bytes (r told) o.knows).shut) is
 
-pub opened_room : (k : Known) (in_a : Bool) (generation : ℕ) (start : Option Base) (blocks : List (List Entry)) (disks : Pair) → IsOpened k in_a disks start blocks → HasRoom (kept_from k in_a generation)
-opened_room k in_a generation start blocks disks o = (omega (arith, o.knows.settled), opens_empty k.book o.knows.settled)
+pub opened_room : (k : Known) (in_a : Bool) (edition : Edition) (start : Option Base) (blocks : List (List Entry)) (disks : Pair) → IsOpened k in_a disks start blocks → HasRoom (kept_from k in_a edition)
+opened_room k in_a edition start blocks disks o = (omega (arith, o.knows.settled), opens_empty k.book o.knows.settled)
 
 -- ---- a ledger that was made
 
@@ -150,11 +151,12 @@ module _ (k : Known) (genesis : Genesis) (disks : Pair) (keys : HasKeys genesis)
     quiet = f.first ∙ ap settled_state (sym seen_is);
     empty = f.second;
     erased = subst (λ (l : List ℕ). IsErased l (new_ledger genesis)) (sym seen_is) (new_clean).erased;
+    newer = ap version_in seen_is;
     ends = ap length seen_is ∙ clean_length (point (new_ledger genesis)) (is_hidden (new_ledger genesis)) (new_file genesis) (new_ledger genesis) k.gate (new_clean).erased (new_clean).ends (new_tail (new_clean).erased.parts);
   }
 
-  founded_generation : 1 ≡ generation_of disks.a.bytes.seen
-  founded_generation = sym (ap generation_of seen_is ∙ generation_is 1 [] (written_blocks (ground).root [] (new_ledger genesis).closed) (omega arith))
+  founded_edition : edition_from 2 1 ≡ edition_of disks.a.bytes.seen
+  founded_edition = sym (ap edition_of seen_is ∙ ap (edition_from 2) (generation_is 1 [] (written_blocks (ground).root [] (new_ledger genesis).closed) (omega arith)))
 
   founded_shut : IsShutAt k.gate disks.a.bytes.seen
   founded_shut =
@@ -164,15 +166,15 @@ module _ (k : Known) (genesis : Genesis) (disks : Pair) (keys : HasKeys genesis)
       (tail_shut x.keeps.file.front (written_blocks (floor_behind (new_ledger genesis) x.parts.gone).root [] x.keeps.blocks) (new_file genesis) x.keeps.file.stands))
 
 pub founded_held : (tells : Bool) (k : Known) (genesis : Genesis) (disks : Pair) (sink : SinkState) → HasKeys genesis → IsOpened k true disks None (new_ledger genesis).closed → k.book.limits ≡ real_limits → IsTrue tells → IsFounded genesis disks.a.bytes disks.b.bytes
-    → Holds tells (world (kept_from k true 1) disks sink) (new_ledger genesis)
+    → Holds tells (world (kept_from k true (edition_from 2 1)) disks sink) (new_ledger genesis)
 unfolding new_ends
 founded_held tells k genesis disks sink keys o limits told f =
-    held_at tells k true 1 disks sink (new_ledger genesis) (new_ends k genesis disks keys o.knows f) (o.knows.floor ∙ sym (new_point genesis)) o.knows.tail limits told (founded_for k genesis disks keys o.knows f)
+    held_at tells k true (edition_from 2 1) disks sink (new_ledger genesis) (new_ends k genesis disks keys o.knows f) (o.knows.floor ∙ sym (new_point genesis)) o.knows.tail limits told (founded_for k genesis disks keys o.knows f)
 
 pub founded_fits : (tells : Bool) (k : Known) (genesis : Genesis) (disks : Pair) (sink : SinkState) → HasKeys genesis → IsOpened k true disks None (new_ledger genesis).closed → (IsTrue tells → IsFounded genesis disks.a.bytes disks.b.bytes)
-    → Fits tells (world (kept_from k true 1) disks sink)
+    → Fits tells (world (kept_from k true (edition_from 2 1)) disks sink)
 founded_fits tells k genesis disks sink keys o f =
-    fits_of tells k true 1 disks sink None (new_ledger genesis).closed o (λ told. founded_shut k genesis disks keys o.knows (f told)) (λ told. founded_generation k genesis disks keys o.knows (f told))
+    fits_of tells k true (edition_from 2 1) disks sink None (new_ledger genesis).closed o (λ told. founded_shut k genesis disks keys o.knows (f told)) (λ told. founded_edition k genesis disks keys o.knows (f told))
 
 -- ---- a ledger that is held
 
@@ -183,14 +185,14 @@ quiet_for : (in_a : Bool) (place : ℕ) (disks : Pair) (h : History) → TailsAt
 quiet_for true place disks h at x = record {
   a = x.quiet;
   b = settled_by disks.b.bytes x.empty;
-  clean = record { in_a = true; clean = record { erased = x.erased; ends = length_clean (point h) (is_hidden h) disks.a.bytes.seen h place x.erased x.ends (at x.erased.parts) }; empty = ap (λ (s : State). length s.seen) x.empty };
-  images = λ i j left_a left_b. clean_image true place h disks.a.bytes disks.b.bytes i j x left_a left_b;
+  clean = record { in_a = true; clean = record { erased = x.erased; ends = length_clean (point h) (is_hidden h) disks.a.bytes.seen h place x.erased x.ends (at x.erased.parts) }; newer = x.newer; empty = ap (λ (s : State). length s.seen) x.empty };
+  images = λ i j left_a left_b. (clean_image true place h disks.a.bytes disks.b.bytes i j x left_a left_b).pair;
 }
 quiet_for false place disks h at x = record {
   a = settled_by disks.a.bytes x.empty;
   b = x.quiet;
-  clean = record { in_a = false; clean = record { erased = x.erased; ends = length_clean (point h) (is_hidden h) disks.b.bytes.seen h place x.erased x.ends (at x.erased.parts) }; empty = ap (λ (s : State). length s.seen) x.empty };
-  images = λ i j left_a left_b. clean_image false place h disks.a.bytes disks.b.bytes i j x left_a left_b;
+  clean = record { in_a = false; clean = record { erased = x.erased; ends = length_clean (point h) (is_hidden h) disks.b.bytes.seen h place x.erased x.ends (at x.erased.parts) }; newer = x.newer; empty = ap (λ (s : State). length s.seen) x.empty };
+  images = λ i j left_a left_b. (clean_image false place h disks.a.bytes disks.b.bytes i j x left_a left_b).pair;
 }
 
 pub held_quiet : (tells : Bool) (w : World) (h : History) → Holds tells w h → h.waiting ≡ [] → IsQuietFor w.disks h

@@ -3,7 +3,6 @@ use Rattle.std.specs.Prelude.{Bool, true, false, IsTrue, IsSomeAnd, Option, Some
 use Rattle.std.proofs.Common.{◌≡◌, inl, ℕ, ◌+◌, ◌≤◌, List, [], ◌++◌, refl, ap, sym, subst, ◌∙◌, append-nil}
 use Rattle.std.proofs.KnownBytes.{Appends-nil}
 use Rattle.block_file.specs.File.{IsShutAt}
-use Rattle.block_file.specs.Head.{generation_of}
 use Rattle.journal_record.specs.Entry.{Entry}
 use Rattle.ledger_disk.specs.Disk.{DiskState, State, KeepsLength}
 use Rattle.ledger_io.specs.Outside.{SinkState}
@@ -15,6 +14,7 @@ use Rattle.ledger_book.specs.Books as books
 use Rattle.twin_file.specs.Twin.{open_of}
 use Rattle.ledger_book.specs.Books.{Serves}
 use Rattle.block_file.specs.Places.{body_from, places_in}
+use Rattle.ledger_open.specs.Heads.{edition_of}
 use Rattle.ledger_open.specs.Places.{places_from}
 use Rattle.ledger_open.specs.Standing.{floor_behind, IsErased}
 use Rattle.ledger_open.specs.Pieces.{IsReadAs, WasOnlyRead}
@@ -59,12 +59,12 @@ module _ (tells : Bool) (old new : Pair) (read : WereRead tells old new) where
   reads_by true place s = reads_one place old.a new.a read.a s
   reads_by false place s = reads_one place old.b new.b read.b s
 
-  generation_by : (in_a : Bool) → IsTrue tells → generation_of (open_of in_a new.a new.b).bytes.seen ≡ generation_of (open_of in_a old.a old.b).bytes.seen
-  generation_by true t = ap (λ (b : State). generation_of b.seen) (read.a.bytes t)
-  generation_by false t = ap (λ (b : State). generation_of b.seen) (read.b.bytes t)
+  edition_by : (in_a : Bool) → IsTrue tells → edition_of (open_of in_a new.a new.b).bytes.seen ≡ edition_of (open_of in_a old.a old.b).bytes.seen
+  edition_by true t = ap (λ (b : State). edition_of b.seen) (read.a.bytes t)
+  edition_by false t = ap (λ (b : State). edition_of b.seen) (read.b.bytes t)
 
   pub fits_read : (k : CommitterState) (sink : SinkState) → Fits tells (world k old sink) → Fits tells (world k new sink)
-  fits_read k sink f = record { reads = reads_by k.in_a k.gate f.reads; generation = λ t. f.generation t ∙ sym (generation_by k.in_a t); copy = f.copy; few = f.few; order = f.order }
+  fits_read k sink f = record { reads = reads_by k.in_a k.gate f.reads; edition = λ t. f.edition t ∙ sym (edition_by k.in_a t); copy = f.copy; few = f.few; order = f.order }
 
   -- reading leads to the same history, and nothing becomes due by it
   pub goes_read : (k : CommitterState) (sink : SinkState) → NoneFailed old new → Goes tells (world k old sink) (λ h. h) (λ h. []) (world k new sink)

@@ -1,10 +1,11 @@
 -- What committing a block does to the two disks, and what giving up does what its journal hides or purges.
 use Rattle.std.specs.Prelude.{◌≡◌, ◌⊎◌, ℕ, ◌+◌, ◌≤◌, Bool, IsTrue, IsSomeAnd, List, [], ◌∷◌, ◌++◌, length, take}
 use Rattle.block_file.specs.File.{IsFileOf, tail_of, IsSettled, HasBlock}
+use Rattle.block_file.specs.Head.{version_in}
 use Rattle.ledger_disk.specs.Disk.{State, MayLeave, settled_state}
 use Rattle.ledger_model.specs.History.{History}
 use Rattle.ledger_open.specs.Purging.{Ledger, ledger_at, open_disk, other_disk, StandsOpen, IsCleanOpen, IsAtGate}
-use Rattle.ledger_open.specs.Standing.{PairFor}
+use Rattle.ledger_open.specs.Standing.{PairOpen}
 use Rattle.ledger_open.specs.Places.{AreInOrder}
 use Rattle.ledger_open.specs.declared.opened.Opened.{Opened}
 use Rattle.twin_file.specs.Twin.{open_of, other_of}
@@ -46,9 +47,10 @@ abbrev pub ledger_on : Opened → Pair → Ledger
 ledger_on opened disks = ledger_at opened disks.a.bytes disks.b.bytes
 
 -- Nothing is pending, and the book, the places and the files stand for this history, as far as its last journal leaves something
--- undone: the open file ends with its tail gate, and the other one is empty.
+-- undone: the open file has the second version and ends with its tail gate, and the other one is empty.
 pub record IsStanding (l : Ledger) (h : History) : Type 0 where
   pub stands : StandsOpen l h
+  pub newer : version_in (open_disk l).seen ≡ 2
   pub ends : length (open_disk l).seen ≡ l.known.gate + 1
   pub empty : other_disk l ≡ settled_state []
 
@@ -68,5 +70,5 @@ pub record IsFinished (tells : Bool) (old new : Ledger) (before after : Pair) : 
 -- a disk failed while something was given up: each pair of images stands for the history still
 pub record IsUnfinished (tells : Bool) (old : Ledger) (before after : Pair) : Type 0 where
   pub meanwhile : IsTrue tells → (h : History) → IsStanding old h
-      → (image_a image_b : List ℕ) → MayLeave after.a.bytes image_a → MayLeave after.b.bytes image_b → PairFor image_a image_b h
+      → (image_a image_b : List ℕ) → MayLeave after.a.bytes image_a → MayLeave after.b.bytes image_b → PairOpen image_a image_b h
   pub failed : OneFailed before after

@@ -6,14 +6,15 @@ use Rattle.ledger_disk.specs.Disk.{MayLeave}
 use Rattle.ledger_model.specs.History.{History}
 use Rattle.twin_file.specs.Twin.{open_of}
 use Rattle.pseudo_genesis.specs.declared.base.Base.{Base}
+use Rattle.ledger_open.specs.Heads.{Edition}
 use Rattle.ledger_open.specs.Opening.{Known}
 use Rattle.ledger_open.specs.Reopened.{Remembers}
 use Rattle.ledger_open.specs.Standing.{PairFor, IsCleanPair}
 use Rattle.batch_committer.specs.World.{CommitterState, Pair, first_kept}
 
 -- what a committer begins with on a ledger of which this is known: nothing is due, and no journal waits
-abbrev pub kept_from : Known → Bool → ℕ → CommitterState
-kept_from known in_a generation = first_kept known.book known.places known.gate in_a generation None
+abbrev pub kept_from : Known → Bool → Edition → CommitterState
+kept_from known in_a edition = first_kept known.book known.places known.gate in_a edition None
 
 -- a ledger was made or opened: its file has this base, or none, and these blocks, and the length of that file is told
 pub record IsOpened (known : Known) (in_a : Bool) (disks : Pair) (start : Option Base) (blocks : List (List Entry)) : Type 0 where

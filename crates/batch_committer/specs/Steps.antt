@@ -81,7 +81,7 @@ pub record Judged (new : CommitterState) (g : History) (step : Step) (job : Job)
 pub record KeepsFile (old new : CommitterState) : Type 0 where
   pub gate : new.gate ≡ old.gate
   pub in_a : new.in_a ≡ old.in_a
-  pub generation : new.generation ≡ old.generation
+  pub edition : new.edition ≡ old.edition
   pub copy : new.copy ≡ old.copy
 
 -- the open file and what is due are as before

@@ -6,7 +6,7 @@ use Rattle.ledger_bytes.specs.declared.limits.TheConstants.{BLOCK_LIMIT}
 use Rattle.journal_record.specs.Blocks.{body_of, AreFrom}
 use Rattle.journal_record.specs.Entry.{Entry}
 use Rattle.block_file.specs.File.{IsSettled, IsShutAt}
-use Rattle.block_file.specs.Head.{generation_of}
+use Rattle.block_file.specs.Head.{version_in}
 use Rattle.block_file.specs.declared.file.BlockFile.{BlockFile}
 use Rattle.ledger_disk.specs.Disk.{DiskState, State, MayLeave, OneMore, settled_state}
 use Rattle.ledger_io.specs.Outside.{SinkState, MeetsNone, MeetsOne}
@@ -20,10 +20,11 @@ use Rattle.ledger_book.specs.Books as books
 use Rattle.ledger_book.specs.Books.{Serves, sealed_size}
 use Rattle.ledger_book.specs.Steps.{OpenGathers}
 use Rattle.twin_file.specs.Twin.{open_of, other_of}
+use Rattle.ledger_open.specs.Heads.{Edition, edition_of}
 use Rattle.ledger_open.specs.Cutting.{gate_behind}
 use Rattle.block_file.specs.Places.{body_from, places_in}
 use Rattle.ledger_open.specs.Places.{places_from, AreInOrder}
-use Rattle.ledger_open.specs.Standing.{floor_behind, Parts, IsErased, PairFor, IsCleanPair}
+use Rattle.ledger_open.specs.Standing.{floor_behind, Parts, IsErased, PairOpen, IsCleanPair}
 use Rattle.block_file.specs.declared.place.PlaceAt.{PlaceAt}
 use Rattle.batch_committer.specs.declared.failure.CommitErr.{CommitErr}
 use Rattle.batch_committer.specs.declared.failure.CommitErr.TheVariants.{DiskFault, WriteFault, NoMemory, Closed}
@@ -43,11 +44,11 @@ pair a b = record { a = a; b = b }
 -- is due
 pub record CommitterState : Type 0 where
   pub book : books.Kept
-  -- where the open file's tail gate stands, whether that file is the first, which generation it is, and the copy of it that
+  -- where the open file's tail gate stands, whether that file is the first, which edition it is, and the copy of it that
   -- was begun
   pub gate : ℕ
   pub in_a : Bool
-  pub generation : ℕ
+  pub edition : Edition
   pub copy : Option BlockFile
   -- the records of the open block
   pub body : List ℕ
@@ -57,12 +58,12 @@ pub record CommitterState : Type 0 where
   pub dues : List Due
 
 -- what is kept of a ledger that was made or opened just now
-abbrev pub first_kept : books.Kept → List PlaceAt → ℕ → Bool → ℕ → Option BlockFile → CommitterState
-first_kept book places gate in_a generation copy = record {
+abbrev pub first_kept : books.Kept → List PlaceAt → ℕ → Bool → Edition → Option BlockFile → CommitterState
+first_kept book places gate in_a edition copy = record {
   book = book;
   gate = gate;
   in_a = in_a;
-  generation = generation;
+  edition = edition;
   copy = copy;
   body = [];
   places = places;
@@ -91,12 +92,12 @@ pub record ReadsAsLeft (tells : Bool) (place : ℕ) (d : DiskState) : Type 0 whe
   pub told : IsSomeAnd d.told (λ n. place + 1 ≤ n)
   pub shut : IsTrue tells → IsShutAt place d.bytes.seen
 
--- What each call asks for, also where the disks tell nothing: the open file reads as the calls left it, the generation that
+-- What each call asks for, also where the disks tell nothing: the open file reads as the calls left it, the edition that
 -- is kept is its own, no copy of it was begun, the open block has no more journals than a block may have, and the contents
 -- stand in their order between the head of their file and the place of the next gate.
 pub record Fits (tells : Bool) (w : World) : Type 0 where
   pub reads : ReadsAsLeft tells w.kept.gate (open_of w.kept.in_a w.disks.a w.disks.b)
-  pub generation : IsTrue tells → w.kept.generation ≡ generation_of (open_of w.kept.in_a w.disks.a w.disks.b).bytes.seen
+  pub edition : IsTrue tells → w.kept.edition ≡ edition_of (open_of w.kept.in_a w.disks.a w.disks.b).bytes.seen
   pub copy : w.kept.copy ≡ None
   pub few : w.kept.book.size ≤ w.kept.book.sealed + BLOCK_LIMIT
   pub order : AreInOrder 64 (body_from w.kept.gate + length w.kept.body) w.kept.places
@@ -130,12 +131,13 @@ pub record Keeps (k : CommitterState) (h : History) : Type 0 where
   pub gathered : length h.waiting ≢ 1 → AllGather h.waiting
   pub located : Located k h
 
--- The pair is clean for a history where no journal waits, and nothing is pending: the open file has it and ends with its
--- tail gate, which stands at this place, and the other file is empty.
+-- The pair is clean for a history where no journal waits, and nothing is pending: the open file has it and the second version, and
+-- ends with its tail gate, which stands at this place, and the other file is empty.
 pub record IsCleanFor (in_a : Bool) (place : ℕ) (h : History) (a b : State) : Type 0 where
   pub quiet : IsSettled (open_of in_a a b)
   pub empty : other_of in_a a b ≡ settled_state []
   pub erased : IsErased (open_of in_a a b).seen h
+  pub newer : version_in (open_of in_a a b).seen ≡ 2
   pub ends : length (open_of in_a a b).seen ≡ place + 1
 
 -- This is a history that the committer and its disks have: the disks tell their contents, the committer keeps what it says,
@@ -206,7 +208,7 @@ IsLeftClean Closed h kept done a b = IsCleanPair a b kept
 -- is in them, and what such journals hide is gone.
 pub record LeftStanding (h whole : History) (done : List Due) (end : CommitErr) (a b : List ℕ) : Type 0 where
   pub kept : History
-  pub stands : PairFor a b kept
+  pub stands : PairOpen a b kept
   pub no_shorter : Begins h.closed kept.closed
   pub no_longer : Begins kept.closed whole.closed
   pub receipts : AllIn kept.closed done

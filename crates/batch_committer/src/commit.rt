@@ -5,7 +5,8 @@ ghost use Rattle.block_file.specs.File.{IsFileOf, tail_of, IsSettled, HasBlock};
 ghost use Rattle.block_file.specs.FileView.{gate_of};
 ghost use Rattle.ledger_disk.specs.Disk.{MayLeave};
 ghost use Rattle.twin_file.specs.Twin.{open_of};
-ghost use Rattle.twin_file.specs.Which.{in_a_of, generation_in, file_of, copy_of};
+ghost use Rattle.ledger_open.specs.Heads.{edition_in};
+ghost use Rattle.twin_file.specs.Which.{in_a_of, file_of, copy_of};
 ghost use Rattle.batch_committer.specs.Committed.{IsCommitted, IsUncommitted};
 ghost use Rattle.ledger_bytes.specs.Causes.{count_after};
 ghost use Rattle.batch_committer.specs.World.{pair, ReadsAsLeft};
@@ -31,7 +32,7 @@ pub(crate) fn commit<D: Disk>(
     ensures gate { OnOk result (gate_of (file_of twin.new)
         ≡ gate_of (file_of twin.old) + 1 + length block.now) }
     ensures in_a { in_a_of twin.new ≡ in_a_of twin.old }
-    ensures generation { generation_in twin.new ≡ generation_in twin.old }
+    ensures edition { edition_in twin.new ≡ edition_in twin.old }
     ensures copy { copy_of twin.new ≡ copy_of twin.old }
     ensures err { OnErr result (IsUncommitted D.tells (in_a_of twin.old)
         (gate_of (file_of twin.old)) block.now (pair (D.state a.old) (D.state b.old))
@@ -63,7 +64,7 @@ fn commit_in<D: Disk>(twin: &mut Twin, file: &mut D, block: &[u8]) -> Result<(),
     ensures head { OnOk result (IsTrue D.tells
         → take 64 (D.state file.new).bytes.seen ≡ take 64 (D.state file.old).bytes.seen) }
     ensures in_a { in_a_of twin.new ≡ in_a_of twin.old }
-    ensures generation { generation_in twin.new ≡ generation_in twin.old }
+    ensures edition { edition_in twin.new ≡ edition_in twin.old }
     ensures copy { copy_of twin.new ≡ copy_of twin.old }
     ensures err { OnErr result (IsTrue D.tells → IsSettled (D.state file.old).bytes
         → (front : List ℕ) (blocks : List (List ℕ))

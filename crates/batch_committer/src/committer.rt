@@ -3,7 +3,8 @@
 ghost use Rattle.std.specs.Prelude.{◌≡◌, ◌↔◌, [], Bool, List, ℕ, true, false, is_err, OnOk, IfErr, Err};
 ghost use Rattle.block_file.specs.FileView.{gate_of};
 ghost use Rattle.ledger_model.specs.History.{History, id, close};
-ghost use Rattle.twin_file.specs.Which.{in_a_of, generation_in, file_of, copy_of};
+ghost use Rattle.ledger_open.specs.Heads.{edition_in};
+ghost use Rattle.twin_file.specs.Which.{in_a_of, file_of, copy_of};
 ghost use Rattle.batch_committer.specs.Attending.{step_in, FailsAtMostOnce, TakesJob, EndsTaking};
 ghost use Rattle.batch_committer.specs.World.{pair, world, first_kept, Fits, HasRoom, Keeps, Goes, EndsOnTheWay};
 
@@ -42,7 +43,7 @@ impl Committer {
     pub fn new(alloc: Global, opened: Opened) -> Self
         ensures kept { result.kept ≡ first_kept opened.book opened.places.list
             (gate_of (file_of opened.twin)) (in_a_of opened.twin)
-            (generation_in opened.twin) (copy_of opened.twin) }
+            (edition_in opened.twin) (copy_of opened.twin) }
         ensures ended { result.ended ≡ false }
     {
         Committer {
@@ -58,7 +59,7 @@ impl Committer {
         ensures places { result.now.places.list ≡ self.now.kept.places }
         ensures gate { gate_of (file_of result.now.twin) ≡ self.now.kept.gate }
         ensures in_a { in_a_of result.now.twin ≡ self.now.kept.in_a }
-        ensures generation { generation_in result.now.twin ≡ self.now.kept.generation }
+        ensures edition { edition_in result.now.twin ≡ self.now.kept.edition }
         ensures copy { copy_of result.now.twin ≡ self.now.kept.copy }
     {
         self.inner.opened()

@@ -1,7 +1,7 @@
 //! Laws of a committer's ledger: it holds the lawful history of the files that were made or opened.
 
 ghost use Rattle.std.specs.Prelude.{◌≡◌, ◌≤◌, ℕ, Bool, true, IsTrue, List, [], Option, None};
-ghost use Rattle.block_file.specs.Head.{generation_of};
+ghost use Rattle.ledger_open.specs.Heads.{Edition, edition_from, edition_of};
 ghost use Rattle.journal_record.specs.Entry.{Entry};
 ghost use Rattle.ledger_disk.specs.Disk.{State};
 ghost use Rattle.ledger_io.specs.Outside.{SinkState};
@@ -22,23 +22,23 @@ ghost use Rattle.batch_committer.specs.World.{World, Pair, world, Fits, HasRoom,
 /// What is known of a ledger that was opened is all that the first call asks for. Under the limits of each ledger each
 /// history that the pair stood for is the one that the committer and its disks have.
 pub fn an_opened_ledger_is_held()
-    ensures held { (tells : Bool) (k : Known) (in_a : Bool) (generation : ℕ)
+    ensures held { (tells : Bool) (k : Known) (in_a : Bool) (edition : Edition)
         (start : Option Base) (blocks : List (List Entry))
         (a b : State) (disks : Pair) (sink : SinkState) (h : History)
         → IsOpened k in_a disks start blocks → k.book.limits ≡ real_limits → IsTrue tells
         → IsReopened in_a k start blocks a b disks.a.bytes disks.b.bytes
         → PairFor a.seen b.seen h
-        → Holds tells (world (kept_from k in_a generation) disks sink) h }
-    ensures fits { (tells : Bool) (k : Known) (in_a : Bool) (generation : ℕ)
+        → Holds tells (world (kept_from k in_a edition) disks sink) h }
+    ensures fits { (tells : Bool) (k : Known) (in_a : Bool) (edition : Edition)
         (start : Option Base) (blocks : List (List Entry))
         (a b : State) (disks : Pair) (sink : SinkState)
         → IsOpened k in_a disks start blocks
         → (IsTrue tells → IsReopened in_a k start blocks a b disks.a.bytes disks.b.bytes)
-        → (IsTrue tells → generation ≡ generation_of (open_of in_a disks.a.bytes disks.b.bytes).seen)
-        → Fits tells (world (kept_from k in_a generation) disks sink) }
-    ensures room { (k : Known) (in_a : Bool) (generation : ℕ) (start : Option Base)
+        → (IsTrue tells → edition ≡ edition_of (open_of in_a disks.a.bytes disks.b.bytes).seen)
+        → Fits tells (world (kept_from k in_a edition) disks sink) }
+    ensures room { (k : Known) (in_a : Bool) (edition : Edition) (start : Option Base)
         (blocks : List (List Entry)) (disks : Pair)
-        → IsOpened k in_a disks start blocks → HasRoom (kept_from k in_a generation) }
+        → IsOpened k in_a disks start blocks → HasRoom (kept_from k in_a edition) }
 {}
 
 /// The same of a ledger that was made: it is the new ledger's history.
@@ -46,11 +46,11 @@ pub fn a_new_ledger_is_held()
     ensures held { (tells : Bool) (k : Known) (genesis : Genesis) (disks : Pair) (sink : SinkState)
         → HasKeys genesis → IsOpened k true disks None (new_ledger genesis).closed
         → k.book.limits ≡ real_limits → IsTrue tells → IsFounded genesis disks.a.bytes disks.b.bytes
-        → Holds tells (world (kept_from k true 1) disks sink) (new_ledger genesis) }
+        → Holds tells (world (kept_from k true (edition_from 2 1)) disks sink) (new_ledger genesis) }
     ensures fits { (tells : Bool) (k : Known) (genesis : Genesis) (disks : Pair) (sink : SinkState)
         → HasKeys genesis → IsOpened k true disks None (new_ledger genesis).closed
         → (IsTrue tells → IsFounded genesis disks.a.bytes disks.b.bytes)
-        → Fits tells (world (kept_from k true 1) disks sink) }
+        → Fits tells (world (kept_from k true (edition_from 2 1)) disks sink) }
 {}
 
 /// Where no journal waits, nothing is pending: each pair of images stands for the history that is held.

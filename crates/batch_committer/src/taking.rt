@@ -15,7 +15,8 @@ ghost use Rattle.ledger_model.specs.Rules.{closes_after, closes_before, judged_a
 ghost use Rattle.ledger_model.specs.declared.job.Job.TheVariants as jobs;
 ghost use Rattle.ledger_book.specs.Books.{Serves};
 ghost use Rattle.ledger_book.specs.Steps.{OpenGathers, HasOperatorRoom};
-ghost use Rattle.twin_file.specs.Which.{in_a_of, generation_in, file_of, copy_of};
+ghost use Rattle.ledger_open.specs.Heads.{edition_in};
+ghost use Rattle.twin_file.specs.Which.{in_a_of, file_of, copy_of};
 ghost use Rattle.batch_committer.specs.Read.{WereRead, NoneFailed, ReadingEnds};
 ghost use Rattle.batch_committer.specs.Attending.{step_in, FailsAtMostOnce, TakesJob, EndsTaking, TakesIn, EndsIn, JudgedBy, EndsAsking};
 ghost use Rattle.batch_committer.specs.Steps.{HasParts, IsGathered, KeepsFile, KeepsRest, HasGrown, StaysGathered, StaysInOrder};
@@ -58,7 +59,8 @@ pub(crate) struct Taking {
 
 impl Model for Taking {
     ghost use Rattle.block_file.specs.FileView.{gate_of};
-    ghost use Rattle.twin_file.specs.Which.{in_a_of, generation_in, file_of, copy_of};
+    ghost use Rattle.ledger_open.specs.Heads.{edition_in};
+    ghost use Rattle.twin_file.specs.Which.{in_a_of, file_of, copy_of};
     ghost use Rattle.batch_committer.specs.World.{CommitterState};
 
     ghost Value = { CommitterState };
@@ -67,7 +69,7 @@ impl Model for Taking {
       book = t.opened.book;
       gate = gate_of (file_of t.opened.twin);
       in_a = in_a_of t.opened.twin;
-      generation = generation_in t.opened.twin;
+      edition = edition_in t.opened.twin;
       copy = copy_of t.opened.twin;
       body = t.block.body;
       places = t.opened.places.list;
@@ -79,7 +81,7 @@ impl Taking {
     pub(crate) fn new(alloc: Global, opened: Opened) -> Self
         ensures { result ≡ first_kept opened.book opened.places.list
             (gate_of (file_of opened.twin)) (in_a_of opened.twin)
-            (generation_in opened.twin) (copy_of opened.twin) }
+            (edition_in opened.twin) (copy_of opened.twin) }
     {
         Taking {
             alloc,
@@ -96,7 +98,7 @@ impl Taking {
         ensures places { result.now.places.list ≡ self.now.places }
         ensures gate { gate_of (file_of result.now.twin) ≡ self.now.gate }
         ensures in_a { in_a_of result.now.twin ≡ self.now.in_a }
-        ensures generation { generation_in result.now.twin ≡ self.now.generation }
+        ensures edition { edition_in result.now.twin ≡ self.now.edition }
         ensures copy { copy_of result.now.twin ≡ self.now.copy }
     {
         &self.opened

@@ -3,7 +3,8 @@ use Rattle.std.proofs.Common.{◌+◌, ◌≤◌, sym, ap, subst, ◌∙◌}
 use Rattle.block_file.specs.FileView.{gate_of}
 use Rattle.ledger_book.specs.Books.{Kept}
 use Rattle.twin_file.specs.Twin.{open_of}
-use Rattle.twin_file.specs.Which.{in_a_of, generation_in, file_of}
+use Rattle.ledger_open.specs.Heads.{edition_in}
+use Rattle.twin_file.specs.Which.{in_a_of, file_of}
 use Rattle.twin_file.specs.declared.twin.Twin.{Twin}
 use Rattle.ledger_open.proofs.FinishedLaws.{twin_stays, counts_stay}
 use Rattle.ledger_open.specs.declared.opened.Opened.{Opened}
@@ -43,7 +44,7 @@ returns-in-Ok-finish_erasures-clause-ok g c later is =
     let before = pair (g.D.Disk.state c.args.a.now) (g.D.Disk.state c.args.b.now) in
     let after = pair (g.D.Disk.state c.finish_erasures.new.a) (g.D.Disk.state c.finish_erasures.new.b) in
     subst (λ (x : Opened). IsFinished g.D.Disk.tells (ledger_on o before) (ledger_on x after) before after) (sym (is ∙ e.same))
-    (erased_finished g.D.Disk.tells o.book o.places.list (gate_of (file_of o.twin)) (in_a_of o.twin) (generation_in o.twin) before after e.other
+    (erased_finished g.D.Disk.tells o.book o.places.list (gate_of (file_of o.twin)) (in_a_of o.twin) (edition_in o.twin) before after e.other
     (prepared_none o.book o.places.list c.args.purge c.is_some.result c.is_some.ensures c.if-is_some.false c.requires.prepared) c.requires.order e.ok e.rest e.told e.faults)
 
 pub returns-clause-err : goal.returns-clause-err
@@ -52,4 +53,4 @@ returns-clause-err g c =
     let o = c.args.opened.now in
     let before = pair (g.D.Disk.state c.args.a.now) (g.D.Disk.state c.args.b.now) in
     let after = pair (g.D.Disk.state c.finish_erasures.new.a) (g.D.Disk.state c.finish_erasures.new.b) in
-    erased_unfinished g.D.Disk.tells o.book o.places.list (gate_of (file_of o.twin)) (in_a_of o.twin) (generation_in o.twin) before after e.other _ e.only e.faults e.images
+    erased_unfinished g.D.Disk.tells o.book o.places.list (gate_of (file_of o.twin)) (in_a_of o.twin) (edition_in o.twin) before after e.other _ e.only e.faults e.images

@@ -9,7 +9,7 @@ use Rattle.batch_committer.specs.World.{pair}
 use Rattle.batch_committer.specs.contracts.taking.Taking.{the_view}
 use Rattle.ledger_model.specs.Dues.{due_lines}
 use Rattle.batch_committer.specs.Steps.{AllKept}
-use Rattle.batch_committer.proofs.Ending.{end_unspelled, at_end, end_goes, end_uncommitted, end_unfinished, end_unwritten, serves_closed, count_few, fits_finished, order_ended, finished_as, unfinished_as, ledger_is, named_at, shut_bytes, generation_stays, fits_at, goes_at, ended_at, first_of_text}
+use Rattle.batch_committer.proofs.Ending.{end_unspelled, at_end, end_goes, end_uncommitted, end_unfinished, end_unwritten, serves_closed, count_few, fits_finished, order_ended, finished_as, unfinished_as, ledger_is, named_at, shut_bytes, edition_stays, fits_at, goes_at, ended_at, first_of_text}
 use Rattle.batch_committer.proofs.WayLaws.{err_is, ended_by}
 use Rattle.batch_committer.proofs.taking.Taking.settle.Goals as goal
 
@@ -63,8 +63,8 @@ returns-in_err-gone-clause-err g c =
     (λ h s last kept. c.in_ok-spell.ensures h s last (subst (AllKept c.seal.new.self) (sym c.as_slice.ensures.value) kept) ∙ ap (due_lines h) c.as_slice.ensures.value)
     (omega (arith, c.if-count-eq0.false)) (count_few c.self.inside.opened.book c.unsealed-count.result is f.few))
     c.seal.new.self mid
-    (record { serves = closed; same = c.seal.ensures.same; committed = e.ok; named = λ told. named_at _ _ mid (f.generation told ∙ sym (generation_stays g.D.Disk.tells _ _ _ _ _ e.ok told)) })
-    _ _ (unfinished_as g.D.Disk.tells _ _ mid _ (ledger_is c.seal.new.self c.self.inside.opened.places.list mid _ _ _ _ _ _ e.gate e.in_a e.generation) u.err))))
+    (record { serves = closed; same = c.seal.ensures.same; committed = e.ok; named = λ told. named_at _ _ mid (f.edition told ∙ sym (edition_stays g.D.Disk.tells _ _ _ _ _ e.ok told)) })
+    _ _ (unfinished_as g.D.Disk.tells _ _ mid _ (ledger_is c.seal.new.self c.self.inside.opened.places.list mid _ _ _ _ _ _ e.gate e.in_a e.edition) u.err))))
 
 pub returns-in_err-written-clause-err : goal.returns-in_err-written-clause-err
 returns-in_err-written-clause-err g c =
@@ -85,8 +85,8 @@ returns-in_err-written-clause-err g c =
     (λ h s last kept. c.as_slice-3.ensures.value ∙ c.in_ok-spell.ensures h s last (subst (AllKept c.seal.new.self) (sym c.as_slice.ensures.value) kept) ∙ ap (due_lines h) c.as_slice.ensures.value)
     (omega (arith, c.if-count-eq0.false)) (count_few c.self.inside.opened.book c.unsealed-count.result is f.few))
     c.seal.new.self mid
-    (record { serves = closed; same = c.seal.ensures.same; committed = e.ok; named = λ told. named_at _ _ mid (f.generation told ∙ sym (generation_stays g.D.Disk.tells _ _ _ _ _ e.ok told)) })
-    _ _ (finished_as g.D.Disk.tells _ _ _ mid _ (ledger_is c.seal.new.self c.self.inside.opened.places.list mid _ _ _ _ _ _ e.gate e.in_a e.generation) (u.ok _ c.let_go.ensures)) _ t.0 t.1 t.2 o.once))
+    (record { serves = closed; same = c.seal.ensures.same; committed = e.ok; named = λ told. named_at _ _ mid (f.edition told ∙ sym (edition_stays g.D.Disk.tells _ _ _ _ _ e.ok told)) })
+    _ _ (finished_as g.D.Disk.tells _ _ _ mid _ (ledger_is c.seal.new.self c.self.inside.opened.places.list mid _ _ _ _ _ _ e.gate e.in_a e.edition) (u.ok _ c.let_go.ensures)) _ t.0 t.1 t.2 o.once))
 
 pub returns-clause-ok : goal.returns-clause-ok
 returns-clause-ok g c =
@@ -105,8 +105,8 @@ returns-clause-ok g c =
     (λ h s last kept. c.as_slice-3.ensures.value ∙ c.in_ok-spell.ensures h s last (subst (AllKept c.seal.new.self) (sym c.as_slice.ensures.value) kept) ∙ ap (due_lines h) c.as_slice.ensures.value)
     (omega (arith, c.if-count-eq0.false)) (count_few c.self.inside.opened.book c.unsealed-count.result is f.few))
     c.seal.new.self mid
-    (record { serves = closed; same = c.seal.ensures.same; committed = e.ok; named = λ told. named_at _ _ mid (f.generation told ∙ sym (generation_stays g.D.Disk.tells _ _ _ _ _ e.ok told)) })
-    _ _ (finished_as g.D.Disk.tells _ _ _ mid _ (ledger_is c.seal.new.self c.self.inside.opened.places.list mid _ _ _ _ _ _ e.gate e.in_a e.generation) (u.ok _ c.let_go.ensures)) _ c.clear.ensures c.clear-2.ensures.items o.ok o.once)
+    (record { serves = closed; same = c.seal.ensures.same; committed = e.ok; named = λ told. named_at _ _ mid (f.edition told ∙ sym (edition_stays g.D.Disk.tells _ _ _ _ _ e.ok told)) })
+    _ _ (finished_as g.D.Disk.tells _ _ _ mid _ (ledger_is c.seal.new.self c.self.inside.opened.places.list mid _ _ _ _ _ _ e.gate e.in_a e.edition) (u.ok _ c.let_go.ensures)) _ c.clear.ensures c.clear-2.ensures.items o.ok o.once)
 
 pub returns-clause-fits : goal.returns-clause-fits
 returns-clause-fits g c =
@@ -116,9 +116,9 @@ returns-clause-fits g c =
     let mid = pair (g.D.Disk.state c.commit.new.a) (g.D.Disk.state c.commit.new.b) in
     let order = order_ended (the_view c.self.inside) c.as_slice-2.result.now c.finish.new.self.head (c.as_slice-2.ensures ∙ ap (λ l. c.finish.new.self.head ++ l) c.in_ok-finish.ensures.body) c.in_ok-finish.ensures.size f.order in
     fits_finished g.D.Disk.tells _ _ mid _ _
-    (λ told. record { shut = shut_bytes _ _ mid (e.ok.reads.shut told); generation = named_at _ _ mid (f.generation told ∙ sym (generation_stays g.D.Disk.tells _ _ _ _ _ e.ok told)) })
+    (λ told. record { shut = shut_bytes _ _ mid (e.ok.reads.shut told); edition = named_at _ _ mid (f.edition told ∙ sym (edition_stays g.D.Disk.tells _ _ _ _ _ e.ok told)) })
     order (c.seal.ensures.ended.0 ∙ sym c.seal.ensures.ended.1) (ap copy_of (twin_stays _ _ _ c.let_go.ensures) ∙ u.copy (e.copy ∙ f.copy))
-    (finished_as g.D.Disk.tells _ _ _ mid _ (ledger_is c.seal.new.self c.self.inside.opened.places.list mid _ _ _ _ _ _ e.gate e.in_a e.generation) (u.ok _ c.let_go.ensures))
+    (finished_as g.D.Disk.tells _ _ _ mid _ (ledger_is c.seal.new.self c.self.inside.opened.places.list mid _ _ _ _ _ _ e.gate e.in_a e.edition) (u.ok _ c.let_go.ensures))
 
 pub returns-clause-empty : goal.returns-clause-empty
 returns-clause-empty g c =
