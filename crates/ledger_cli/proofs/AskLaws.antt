@@ -16,10 +16,11 @@ use Rattle.ledger_io.specs.declared.ending.Ending.{Ending}
 use Rattle.ledger_io.specs.declared.ending.Ending.TheVariants as run
 use Rattle.ledger_model.specs.History.{History}
 use Rattle.ledger_model.specs.Limits.{real_limits}
+use Rattle.ledger_open.specs.Heads.{edition_from}
 use Rattle.ledger_open.specs.Opening.{Known}
 use Rattle.ledger_open.specs.Pieces.{IsReadAs}
 use Rattle.ledger_open.specs.Reopened.{IsReopened}
-use Rattle.ledger_open.proofs.OpenLaws.{reopened_only}
+use Rattle.ledger_open.proofs.CarryLaws.{reopened_only}
 use Rattle.pseudo_genesis.specs.declared.base.Base.{Base}
 use Rattle.time_peg.specs.Entries.{NotaryState}
 use Rattle.twin_file.specs.Twin.{open_of, other_of}
@@ -116,15 +117,15 @@ opened_writes tells source s sink t n m old now last k in_a start blocks opened 
       let held = opened_held tells k in_a 0 start blocks old.a.bytes old.b.bytes now sink h opened limits told (r told) p in
       let none = none_waits old.a.bytes.seen old.b.bytes.seen h p in
       let reads : IsReadAs k.book k.places (open_of in_a now.a now.b).bytes.seen h =
-      subst (λ (s : State). IsReadAs k.book k.places s.seen h) (sym (open_bytes in_a now.a now.b)) (read_as_held tells (kept_from k in_a 0) now sink h held none in_a refl) in
+      subst (λ (s : State). IsReadAs k.book k.places s.seen h) (sym (open_bytes in_a now.a now.b)) (read_as_held tells (kept_from k in_a (edition_from 2 0)) now sink h held none in_a refl) in
       let bytes = same_bytes in_a now last (read told) other in
       inl (record {
         part = part;
         appended = appended;
         written = written told h reads;
-        quiet = still_quiet now last h bytes.0 bytes.1 (held_quiet tells (world (kept_from k in_a 0) now sink) h held none);
+        quiet = still_quiet now last h bytes.0 bytes.1 (held_quiet tells (world (kept_from k in_a (edition_from 2 0)) now sink) h held none);
       });
-  exact = λ told e cause not. absurd (not (reopened_only k in_a start blocks old.a.bytes old.b.bytes now.a.bytes now.b.bytes e (r told) cause));
+  exact = λ told e cause not. absurd (not (reopened_only k in_a start blocks old.a.bytes old.b.bytes now.a.bytes now.b.bytes (r told) e cause));
   faults = faults_from source sink n now old (handed s t last m) a b ending met;
 }
 

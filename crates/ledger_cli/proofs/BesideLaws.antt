@@ -14,6 +14,7 @@ use Rattle.ledger_io.proofs.ReadingLaws.{read_none}
 use Rattle.ledger_model.specs.Scheme.{Scheme}
 use Rattle.ledger_model.specs.Limits.{real_limits}
 use Rattle.ledger_model.proofs.WindowLaws.{cut_none}
+use Rattle.ledger_open.specs.Heads.{Edition}
 use Rattle.ledger_open.specs.Opening.{Known}
 use Rattle.ledger_open.specs.Reopened.{IsReopened}
 use Rattle.ledger_open.specs.declared.failure.OpenErr.{OpenErr}
@@ -147,13 +148,13 @@ module _ (scheme : Scheme) (tells : Bool) (provers count : ℕ) (source : Source
         faults = ran.faults;
       }
 
-  module _ (k : Known) (in_a : Bool) (generation : ℕ) (start : Option Base) (blocks : List (List Entry)) (opened : IsOpened k in_a now start blocks) (kept : CommitterState) (kept_is : kept ≡ kept_from k in_a generation) where
+  module _ (k : Known) (in_a : Bool) (edition : Edition) (start : Option Base) (blocks : List (List Entry)) (opened : IsOpened k in_a now start blocks) (kept : CommitterState) (kept_is : kept ≡ kept_from k in_a edition) where
     pub board_ran : (limits : k.book.limits ≡ real_limits) (r : IsTrue tells → IsReopened in_a k start blocks old.a.bytes old.b.bytes now.a.bytes now.b.bytes) (a : now.a.faults ≡ old.a.faults) (b : now.b.faults ≡ old.b.faults)
         (ending : LedgerEnding) (last : Handed) → RunsBeside scheme tells (world kept now sink) provers count ending (handed source sink now n) last → RunsBoard scheme tells provers count ending (handed source sink old n) last
     board_ran limits r a b ending last x =
-        let ran = ran_again scheme tells source sink n old now k in_a generation start blocks opened kept kept_is (TellsSizes x.tallies x.published) limits r a b x.met x.mid x.ran x.unrefused in
+        let ran = ran_again scheme tells source sink n old now k in_a edition start blocks opened kept kept_is (TellsSizes x.tallies x.published) limits r a b x.met x.mid x.ran x.unrefused in
         let told = told_first (Holds tells (world kept now sink)) (λ h. IsTrue tells × StandFor old h) provers count x.tallies x.published x.met ending (outside_of x.mid) (outside_of last)
-        (λ h first. subst (λ (y : CommitterState). Holds tells (world y now sink) h) (sym kept_is) (opened_held tells k in_a generation start blocks old.a.bytes old.b.bytes now sink h opened limits first.0 (r first.0) first.1)) x.told in record {
+        (λ h first. subst (λ (y : CommitterState). Holds tells (world y now sink) h) (sym kept_is) (opened_held tells k in_a edition start blocks old.a.bytes old.b.bytes now sink h opened limits first.0 (r first.0) first.1)) x.told in record {
           met = x.met;
           mid = x.mid;
           tallies = x.tallies;

@@ -11,7 +11,7 @@ use Rattle.ledger_model.specs.History.{History, journals, size, point, greatest_
 use Rattle.ledger_model.specs.Targets.{is_occult, kind_at}
 use Rattle.ledger_model.proofs.PlaceLaws.{point_same}
 use Rattle.ledger_open.specs.Erasing.{target_of, last_target}
-use Rattle.ledger_open.specs.Standing.{PairFor, point_before}
+use Rattle.ledger_open.specs.Standing.{PairOpen, point_before}
 use Rattle.ledger_open.proofs.ErasingLaws.{nothing_open}
 use Rattle.twin_file.specs.Twin.{open_of}
 use Rattle.ledger_cli.specs.Leaving.{is_erasure, ends_in_erasure}
@@ -80,13 +80,13 @@ module _ (h : History) (l : HasLast (journals h)) (none : ends_in_erasure h ≡ 
       ap (λ (js : List Entry). target_of (slice_get js (size h - 1))) l.is ∙ ap (λ n. target_of (slice_get (l.before ++ l.last ∷ []) n)) at
       ∙ ap target_of (got_last l.before l.last) ∙ ap (λ v. cond v (Some l.last.header.a) None) (no_occult l.last.header.kind plain)
 
-  erased_pair : (a b : List ℕ) → PairFor a b h → IsErasedPair a b h
+  erased_pair : (a b : List ℕ) → PairOpen a b h → IsErasedPair a b h
   erased_pair a b p = record {
-    in_a = p.in_a;
-    erased = nothing_open (open_of p.in_a a b) h p.stands target_none (elim p.stands.begins [ inl same ↦ same | inr before ↦ before ∙ point_is ]);
-    empty = elim p.beside [ inl empty ↦ empty | inr other ↦ absurd (other.0 point_is) ];
+    in_a = p.pair.in_a;
+    erased = nothing_open (open_of p.pair.in_a a b) h p.pair.stands target_none (elim p.pair.stands.begins [ inl same ↦ same | inr before ↦ before ∙ point_is ]);
+    empty = elim p.alone [ inl empty ↦ empty | inr purge ↦ absurd (purge point_is) ];
   }
 
 -- of two images that stand for such a history one has it with all that is hidden gone, and the other is empty
-pub erased_then : (a b : List ℕ) (h : History) → 0 < size h → ends_in_erasure h ≡ false → PairFor a b h → IsErasedPair a b h
+pub erased_then : (a b : List ℕ) (h : History) → 0 < size h → ends_in_erasure h ≡ false → PairOpen a b h → IsErasedPair a b h
 erased_then a b h some none p = erased_pair h (has_last (journals h) some) none a b p

@@ -8,7 +8,8 @@ use Rattle.batch_committer.specs.World.{Pair, CommitterState, world, Fits, HasRo
 use Rattle.batch_committer.proofs.Opening.{opened_held, opened_fits, opened_room, founded_held, founded_fits}
 use Rattle.journal_record.specs.Entry.{Entry}
 use Rattle.block_file.specs.File.{IsSettled}
-use Rattle.block_file.specs.Head.{IsShut, IsOpen, generation_of}
+use Rattle.ledger_open.specs.Heads.{Edition, edition_from, edition_of}
+use Rattle.block_file.specs.Head.{IsShut, IsOpen}
 use Rattle.ledger_disk.specs.Disk.{State, MayLeave, settled_state}
 use Rattle.ledger_io.specs.Outside.{SourceState, SinkState, MeetsNone, MeetsOne}
 use Rattle.ledger_io.specs.Runs.{FallsShort}
@@ -29,7 +30,8 @@ use Rattle.ledger_open.specs.Reopened.{Remembers, IsReopened}
 use Rattle.ledger_open.specs.Standing.{PairFor, IsCleanPair}
 use Rattle.ledger_open.specs.declared.failure.OpenErr.{OpenErr}
 use Rattle.ledger_open.specs.declared.failure.OpenErr.TheVariants as open_err
-use Rattle.ledger_open.proofs.OpenLaws.{pair_opens, reopened_only}
+use Rattle.ledger_open.proofs.OpenLaws.{pair_opens}
+use Rattle.ledger_open.proofs.CarryLaws.{reopened_only}
 use Rattle.time_peg.specs.Entries.{NotaryState}
 use Rattle.twin_file.specs.Twin.{open_of}
 use Rattle.ledger_cli.specs.Asking.{OpensAndWrites}
@@ -236,12 +238,12 @@ module _ (scheme : Scheme) (tells : Bool) (source : SourceState) (sink : SinkSta
       })
 
   -- it is opened, and a committer begins with it
-  module _ (k : Known) (in_a : Bool) (generation : ℕ) (start : Option Base) (blocks : List (List Entry)) (opened : IsOpened k in_a now start blocks) (kept : CommitterState) (kept_is : kept ≡ kept_from k in_a generation) where
-    pub again_fits : (IsTrue tells → IsReopened in_a k start blocks old.a.bytes old.b.bytes now.a.bytes now.b.bytes) → (IsTrue tells → generation ≡ generation_of (open_of in_a now.a.bytes now.b.bytes).seen) → Fits tells (world kept now sink)
-    again_fits r is = subst (λ (x : CommitterState). Fits tells (world x now sink)) (sym kept_is) (opened_fits tells k in_a generation start blocks old.a.bytes old.b.bytes now sink opened r is)
+  module _ (k : Known) (in_a : Bool) (edition : Edition) (start : Option Base) (blocks : List (List Entry)) (opened : IsOpened k in_a now start blocks) (kept : CommitterState) (kept_is : kept ≡ kept_from k in_a edition) where
+    pub again_fits : (IsTrue tells → IsReopened in_a k start blocks old.a.bytes old.b.bytes now.a.bytes now.b.bytes) → (IsTrue tells → edition ≡ edition_of (open_of in_a now.a.bytes now.b.bytes).seen) → Fits tells (world kept now sink)
+    again_fits r is = subst (λ (x : CommitterState). Fits tells (world x now sink)) (sym kept_is) (opened_fits tells k in_a edition start blocks old.a.bytes old.b.bytes now sink opened r is)
 
     pub begins_room : HasRoom kept
-    begins_room = subst HasRoom (sym kept_is) (opened_room k in_a generation start blocks now opened)
+    begins_room = subst HasRoom (sym kept_is) (opened_room k in_a edition start blocks now opened)
 
     pub begins_none : kept.dues ≡ []
     begins_none = ap (λ (x : CommitterState). x.dues) kept_is
@@ -251,11 +253,11 @@ module _ (scheme : Scheme) (tells : Bool) (source : SourceState) (sink : SinkSta
     ran_again IsSo limits r a b ending last ran started = record {
       serves = λ t h p l.
           inl (serves_from scheme h (IsSo h) ending source sink n now old last
-          (ran.serves h (subst (λ (x : CommitterState). Holds tells (world x now sink) h) (sym kept_is) (opened_held tells k in_a generation start blocks old.a.bytes old.b.bytes now sink h opened limits t (r t) p)) (none_waits old.a.bytes.seen old.b.bytes.seen h p) l));
+          (ran.serves h (subst (λ (x : CommitterState). Holds tells (world x now sink) h) (sym kept_is) (opened_held tells k in_a edition start blocks old.a.bytes old.b.bytes now sink h opened limits t (r t) p)) (none_waits old.a.bytes.seen old.b.bytes.seen h p) l));
       unstarted = λ some. absurd (no_refusal ending started some);
       refused = λ t. of_lines ending _ started;
       only = of_lines ending _ started;
-      exact = λ t e cause not. absurd (not (reopened_only k in_a start blocks old.a.bytes old.b.bytes now.a.bytes now.b.bytes e (r t) cause));
+      exact = λ t e cause not. absurd (not (reopened_only k in_a start blocks old.a.bytes old.b.bytes now.a.bytes now.b.bytes (r t) e cause));
       ends = ran.ends;
       faults = faults_from source sink n now old last a b ending ran.faults;
       failures = ran.failures;
@@ -433,15 +435,15 @@ module _ (genesis : Genesis) (tells : Bool) (source : SourceState) (sink : SinkS
     made_failed later (WriteFault taken) piece is first one = made_cut later (take taken piece) (first_short (ledger_line genesis) piece taken is first.0) first.1 one
 
     -- .. and a committer begins with it
-    module _ (k : Known) (keys : HasKeys genesis) (opened : IsOpened k true now None (new_ledger genesis).closed) (in_a : Bool) (first : in_a ≡ true) (generation : ℕ) (one : generation ≡ 1) (kept : CommitterState) (kept_is : kept ≡ kept_from k in_a generation) where
-      here : kept ≡ kept_from k true 1
-      here = kept_is ∙ ap (λ v. kept_from k v generation) first ∙ ap (kept_from k true) one
+    module _ (k : Known) (keys : HasKeys genesis) (opened : IsOpened k true now None (new_ledger genesis).closed) (in_a : Bool) (first : in_a ≡ true) (edition : Edition) (one : edition ≡ edition_from 2 1) (kept : CommitterState) (kept_is : kept ≡ kept_from k in_a edition) where
+      here : kept ≡ kept_from k true (edition_from 2 1)
+      here = kept_is ∙ ap (λ v. kept_from k v edition) first ∙ ap (kept_from k true) one
 
       pub new_fits : Fits tells (world kept now sink)
       new_fits = subst (λ (x : CommitterState). Fits tells (world x now sink)) (sym here) (founded_fits tells k genesis now sink keys opened founded)
 
       pub new_room : HasRoom kept
-      new_room = subst HasRoom (sym here) (opened_room k true 1 None (new_ledger genesis).closed now opened)
+      new_room = subst HasRoom (sym here) (opened_room k true (edition_from 2 1) None (new_ledger genesis).closed now opened)
 
       pub new_none : kept.dues ≡ []
       new_none = ap (λ (x : CommitterState). x.dues) here

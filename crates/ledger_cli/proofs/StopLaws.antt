@@ -8,7 +8,7 @@ use Rattle.batch_committer.specs.World.{Pair, LeftAtTheEnd, Says, before_last, I
 use Rattle.journal_record.specs.Entry.{Entry}
 use Rattle.ledger_bytes.specs.Digests.{digest}
 use Rattle.ledger_bytes.specs.declared.digest.Digest.{Digest}
-use Rattle.ledger_open.specs.Standing.{PairFor}
+use Rattle.ledger_open.specs.Standing.{PairOpen}
 use Rattle.ledger_cli.specs.Leaving.{AreClean, AreErased, ends_in_erasure}
 use Rattle.batch_committer.specs.declared.failure.CommitErr.{CommitErr}
 use Rattle.batch_committer.specs.declared.failure.CommitErr.TheVariants.{DiskFault, WriteFault, NoMemory, Closed}
@@ -111,18 +111,18 @@ none_written f kept done part rest lawful none some is fit all leaf r =
     let no : ⊥ = omega (arith, there, l, less) in
     no
 
-left_clean : (end : CommitErr) (h f kept : History) (done : List Due) (part rest a b : List ℕ) → PairFor a b kept → part ++ rest ≡ due_lines f done → AllFit (due_replies f done) → IsLeftClean end h kept done a b → CleanBy end h part kept a b
+left_clean : (end : CommitErr) (h f kept : History) (done : List Due) (part rest a b : List ℕ) → PairOpen a b kept → part ++ rest ≡ due_lines f done → AllFit (due_replies f done) → IsLeftClean end h kept done a b → CleanBy end h part kept a b
 left_clean DiskFault h f kept done part rest a b stands is fit (inl erased) = inl erased
 left_clean DiskFault h f kept done part rest a b stands is fit (inr u) = by (ends_in_erasure kept) refl where
   lawful : IsLawful kept
-  lawful = stands.stands.file.lawful
+  lawful = stands.pair.stands.file.lawful
 
   by : (v : Bool) → ends_in_erasure kept ≡ v → AreErased h part kept a b
   by false none = inl (erased_then a b kept (some_journal kept lawful) none stands)
   by true erases = inr (record {
     erases = erases;
     added = u.added;
-    unwritten = none_written f kept done part rest lawful stands.stands.file.none (let more = u.added in omega (arith, more)) is fit u.unanswered;
+    unwritten = none_written f kept done part rest lawful stands.pair.stands.file.none (let more = u.added in omega (arith, more)) is fit u.unanswered;
   })
 left_clean WriteFault h f kept done part rest a b stands is fit clean = clean
 left_clean NoMemory h f kept done part rest a b stands is fit clean = clean
@@ -133,11 +133,11 @@ pub stop_stands : (h whole f : History) (ds : List Due) (end : CommitErr) (part 
     → h.waiting ≡ [] → (Pegged h first.entries → PeggedFrom (point h) f last.entries) → AllStand h f first last part (CleanBy end h part) disks
 stop_stands h whole f ds end part disks first last s g none fit settled pegs = λ a b x y.
     let l = s.images a b x y in
-    let file = l.stands.stands.file in
+    let file = l.stands.pair.stands.file in
     let longer = begins_then l.kept.closed whole.closed f.closed l.no_longer (begins_closed whole f g) in
     let begun = begins_said end part (due_lines f s.done) (s.said f g none) in record {
       kept = l.kept;
-      stands = l.stands;
+      stands = l.stands.pair;
       no_shorter = l.no_shorter;
       no_longer = longer;
       receipts = λ jsn leaf r. receipt_kept_in f l.kept.closed s.done part begun.rest jsn leaf (sym begun.is) (fit-first f s.done s.rest (subst (λ d. AllFit (due_replies f d)) s.split fit)) l.receipts r;

@@ -10,7 +10,7 @@ use Rattle.ledger_model.specs.History.{History}
 use Rattle.ledger_model.specs.Limits.{real_limits}
 use Rattle.ledger_model.specs.declared.genesis.Genesis.{Genesis}
 use Rattle.pseudo_genesis.specs.declared.base.Base.{Base}
-use Rattle.block_file.specs.Head.{generation_of}
+use Rattle.ledger_open.specs.Heads.{Edition, edition_from, edition_of}
 use Rattle.ledger_open.specs.Founding.{IsFounded}
 use Rattle.ledger_open.specs.Opening.{Known, Knows}
 use Rattle.ledger_open.specs.Reopened.{Remembers, IsReopened}
@@ -39,20 +39,20 @@ remembered : {k : Known} {start : Option Base} {blocks : List (List Entry)} → 
 remembered n = record { serves = λ none. n.serves; lawful = n.lawful; floor = n.floor; places = n.places; tail = n.tail; settled = n.settled }
 
 -- what making a ledger tells
-pub record WasMade (k : Known) (genesis : Genesis) (disks : Pair) (in_a : Bool) (generation : ℕ) (copy : Option BlockFile) : Type 0 where
+pub record WasMade (k : Known) (genesis : Genesis) (disks : Pair) (in_a : Bool) (edition : Edition) (copy : Option BlockFile) : Type 0 where
   pub keys : HasKeys genesis
   pub knows : Knows k None (new_ledger genesis).closed
   pub first : in_a ≡ true
-  pub one : generation ≡ 1
+  pub one : edition ≡ edition_from 2 1
   pub none : copy ≡ None
   pub told : IsSomeAnd disks.a.told (λ n. k.gate + 1 ≤ n)
   pub limits : k.book.limits ≡ real_limits
   pub founded : IsFounded genesis disks.a.bytes disks.b.bytes
 
-module _ (k : Known) (genesis : Genesis) (disks : Pair) (in_a : Bool) (generation : ℕ) (copy : Option BlockFile) (sink : SinkState) (x : WasMade k genesis disks in_a generation copy)
-    (kept : CommitterState) (is : kept ≡ first_kept k.book k.places k.gate in_a generation copy) where
-  made : kept ≡ kept_from k true 1
-  made = is ∙ ap (λ v. first_kept k.book k.places k.gate v generation copy) x.first ∙ ap (λ n. first_kept k.book k.places k.gate true n copy) x.one ∙ ap (first_kept k.book k.places k.gate true 1) x.none
+module _ (k : Known) (genesis : Genesis) (disks : Pair) (in_a : Bool) (edition : Edition) (copy : Option BlockFile) (sink : SinkState) (x : WasMade k genesis disks in_a edition copy)
+    (kept : CommitterState) (is : kept ≡ first_kept k.book k.places k.gate in_a edition copy) where
+  made : kept ≡ kept_from k true (edition_from 2 1)
+  made = is ∙ ap (λ v. first_kept k.book k.places k.gate v edition copy) x.first ∙ ap (λ n. first_kept k.book k.places k.gate true n copy) x.one ∙ ap (first_kept k.book k.places k.gate true (edition_from 2 1)) x.none
 
   made_opened : IsOpened k true disks None (new_ledger genesis).closed
   made_opened = record { knows = remembered x.knows; told = x.told }
@@ -63,7 +63,7 @@ module _ (k : Known) (genesis : Genesis) (disks : Pair) (in_a : Bool) (generatio
   pub made_fits : Fits true (world kept disks sink) × HasRoom kept
   made_fits = (
     subst (λ (y : CommitterState). Fits true (world y disks sink)) (sym made) (founded_fits true k genesis disks sink x.keys made_opened (λ told. x.founded)),
-    subst HasRoom (sym made) (opened_room k true 1 None (new_ledger genesis).closed disks made_opened),
+    subst HasRoom (sym made) (opened_room k true (edition_from 2 1) None (new_ledger genesis).closed disks made_opened),
   )
 
   pub made_none : kept.dues ≡ []
@@ -71,35 +71,35 @@ module _ (k : Known) (genesis : Genesis) (disks : Pair) (in_a : Bool) (generatio
 
 -- ---- one that is opened again
 
-pub record WasOpened (k : Known) (a b : State) (disks : Pair) (in_a : Bool) (generation : ℕ) (copy : Option BlockFile) : Type 0 where
+pub record WasOpened (k : Known) (a b : State) (disks : Pair) (in_a : Bool) (edition : Edition) (copy : Option BlockFile) : Type 0 where
   pub start : Option Base
   pub blocks : List (List Entry)
   pub remembers : Remembers k start blocks
   pub reopened : IsReopened in_a k start blocks a b disks.a.bytes disks.b.bytes
   pub told : IsSomeAnd (open_of in_a disks.a.told disks.b.told) (λ n. k.gate + 1 ≤ n)
-  pub generation_is : generation ≡ generation_of (open_of in_a disks.a.bytes disks.b.bytes).seen
+  pub edition_is : edition ≡ edition_of (open_of in_a disks.a.bytes disks.b.bytes).seen
   pub none : copy ≡ None
   pub limits : k.book.limits ≡ real_limits
 
-module _ (k : Known) (a b : State) (disks : Pair) (in_a : Bool) (generation : ℕ) (copy : Option BlockFile) (sink : SinkState) (x : WasOpened k a b disks in_a generation copy)
-    (kept : CommitterState) (is : kept ≡ first_kept k.book k.places k.gate in_a generation copy) where
-  again : kept ≡ kept_from k in_a generation
-  again = is ∙ ap (first_kept k.book k.places k.gate in_a generation) x.none
+module _ (k : Known) (a b : State) (disks : Pair) (in_a : Bool) (edition : Edition) (copy : Option BlockFile) (sink : SinkState) (x : WasOpened k a b disks in_a edition copy)
+    (kept : CommitterState) (is : kept ≡ first_kept k.book k.places k.gate in_a edition copy) where
+  again : kept ≡ kept_from k in_a edition
+  again = is ∙ ap (first_kept k.book k.places k.gate in_a edition) x.none
 
   again_opened : IsOpened k in_a disks x.start x.blocks
   again_opened = record { knows = x.remembers; told = told_at in_a disks.a disks.b k.gate x.told }
 
   pub again_fits : Fits true (world kept disks sink) × HasRoom kept
   again_fits = (
-    subst (λ (y : CommitterState). Fits true (world y disks sink)) (sym again) (opened_fits true k in_a generation x.start x.blocks a b disks sink again_opened (λ told. x.reopened) (λ told. x.generation_is)),
-    subst HasRoom (sym again) (opened_room k in_a generation x.start x.blocks disks again_opened),
+    subst (λ (y : CommitterState). Fits true (world y disks sink)) (sym again) (opened_fits true k in_a edition x.start x.blocks a b disks sink again_opened (λ told. x.reopened) (λ told. x.edition_is)),
+    subst HasRoom (sym again) (opened_room k in_a edition x.start x.blocks disks again_opened),
   )
 
   pub again_none : kept.dues ≡ []
   again_none = ap (λ (y : CommitterState). y.dues) again
 
   pub again_holds : (h : History) → PairFor a.seen b.seen h → Holds true (world kept disks sink) h
-  again_holds h p = subst (λ (y : CommitterState). Holds true (world y disks sink) h) (sym again) (opened_held true k in_a generation x.start x.blocks a b disks sink h again_opened x.limits refl x.reopened p)
+  again_holds h p = subst (λ (y : CommitterState). Holds true (world y disks sink) h) (sym again) (opened_held true k in_a edition x.start x.blocks a b disks sink h again_opened x.limits refl x.reopened p)
 
 -- ---- the counts of faults play no part
 
@@ -114,7 +114,7 @@ holds_same w t same h p = record {
 pub fits_same : (kept : CommitterState) (p q : Pair) (sink : SinkState) → q.a.bytes ≡ p.a.bytes → q.a.told ≡ p.a.told → q.b.bytes ≡ p.b.bytes → q.b.told ≡ p.b.told → Fits true (world kept p sink) → Fits true (world kept q sink)
 fits_same kept p q sink a at b bt f = record {
   reads = reads_so kept.in_a f.reads;
-  generation = λ t. f.generation t ∙ bytes_so kept.in_a;
+  edition = λ t. f.edition t ∙ bytes_so kept.in_a;
   copy = f.copy;
   few = f.few;
   order = f.order;
@@ -123,6 +123,6 @@ fits_same kept p q sink a at b bt f = record {
   reads_so true r = record { told = rw at r.told; shut = λ t. rw a (r.shut t) }
   reads_so false r = record { told = rw bt r.told; shut = λ t. rw b (r.shut t) }
 
-  bytes_so : (in_a : Bool) → generation_of (open_of in_a p.a p.b).bytes.seen ≡ generation_of (open_of in_a q.a q.b).bytes.seen
-  bytes_so true = ap (λ (s : State). generation_of s.seen) (sym a)
-  bytes_so false = ap (λ (s : State). generation_of s.seen) (sym b)
+  bytes_so : (in_a : Bool) → edition_of (open_of in_a p.a p.b).bytes.seen ≡ edition_of (open_of in_a q.a q.b).bytes.seen
+  bytes_so true = ap (λ (s : State). edition_of s.seen) (sym a)
+  bytes_so false = ap (λ (s : State). edition_of s.seen) (sym b)

@@ -89,10 +89,10 @@ one_of_two h g k none ended waits few no_shorter no_longer = by_rest no_shorter.
 -- what is left on the way stands for the history before or for the one behind
 pub either_left : (h g : History) (done : List Due) (end : CommitErr) (i j : List ℕ) → h.waiting ≡ [] → g.waiting ≡ [] → length g.closed ≤ length h.closed + 1 → LeftStanding h g done end i j → PairFor i j h ⊎ PairFor i j g
 either_left h g done end i j none ended few l =
-    let waits : l.kept.waiting ≡ [] = l.stands.stands.file.none in
+    let waits : l.kept.waiting ≡ [] = l.stands.pair.stands.file.none in
     elim (one_of_two h g l.kept none ended waits few l.no_shorter l.no_longer) [
-      | inl is ↦ inl (subst (PairFor i j) is l.stands)
-      | inr is ↦ inr (subst (PairFor i j) is l.stands)
+      | inl is ↦ inl (subst (PairFor i j) is l.stands.pair)
+      | inr is ↦ inr (subst (PairFor i j) is l.stands.pair)
     ]
 
 -- ---- the history doesn't depend on the sink
