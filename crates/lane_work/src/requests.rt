@@ -7,8 +7,8 @@ ghost use Rattle.ledger_model.specs.Appends as appends;
 ghost use Rattle.ledger_model.specs.Fitting.{fits_job};
 
 use journal_record::{
-    Approval, content_digest, member_request_digest, occult_request_digest, purge_request_digest,
-    request_digest,
+    Approval, approval_digest, content_digest, member_request_digest, occult_request_digest,
+    purge_request_digest, request_digest,
 };
 use ledger_book::Job;
 use ledger_bytes::{Bytes, Digest, Items, NoMemory};
@@ -17,8 +17,8 @@ use script_lines::SaidApproval;
 use std::alloc::Global;
 
 /// The job of a member's record with this clue, or with 32 zero bytes for none, and with this number of the request, or 0 for
-/// none, on the ledger with this id: with the digests that the member approves, and the key that the proof shows to this
-/// verifier.
+/// none, on the ledger with this id: with the digests that the member approves, the key that the proof shows to this
+/// verifier, and the digest of the approval.
 pub(crate) fn record_job<V: Verifier>(
     verifier: &V,
     id: &Digest,
@@ -38,13 +38,16 @@ pub(crate) fn record_job<V: Verifier>(
     let content_len = content.as_slice().len() as u32;
     let request = request_digest(id, member, &clue, content_len, &digest, number);
     let key = verifier.key_of(&request, proof.as_slice());
+    let by = Approval { member, key, proof };
+    let who = approval_digest(&by);
     Job::Append {
         member,
         clue,
         content,
         content_digest: digest,
         request,
-        by: Approval { member, key, proof },
+        by,
+        who,
         number,
     }
 }
