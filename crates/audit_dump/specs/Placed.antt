@@ -1,8 +1,9 @@
 -- The journals that accepted jobs place, as a dump shows them.
-use Rattle.std.specs.Prelude.{ℕ, List, map, Some}
+use Rattle.std.specs.Prelude.{ℕ, List, [], ◌∷◌, map, Some}
 use Rattle.ledger_bytes.specs.Digests.{digest}
 use Rattle.ledger_bytes.specs.declared.digest.Digest.{Digest}
-use Rattle.journal_record.specs.Entry.{Entry, content_digest_of}
+use Rattle.journal_record.specs.Approval.{who_of}
+use Rattle.journal_record.specs.Entry.{Entry, content_digest_of, who_digest_of}
 use Rattle.journal_record.specs.Items.{Item}
 use Rattle.journal_record.specs.Request.{member_request_digest_of, occult_request_digest_of, purge_request_digest_of}
 use Rattle.script_lines.specs.declared.said.SaidApproval.{SaidApproval}
@@ -18,7 +19,8 @@ shown_whole journal = record { header = journal.header; body = Some journal.cont
 abbrev pub record_placed : Scheme → History → ℕ → Digest → List ℕ → List ℕ → ℕ → Entry
 record_placed scheme h member clue content proof number =
     let request = request_with (id h) member clue content number in
-    append_journal h member clue content (digest (content_digest_of content)) (digest request) (approval_of scheme member request proof) number
+    let by = approval_of scheme member request proof in
+    append_journal h member clue content (digest (content_digest_of content)) (digest request) by (digest (who_digest_of (who_of (by ∷ [])))) number
 
 -- the journal of a new member that the operator's job places
 abbrev pub member_placed : Scheme → History → ℕ → Digest → List ℕ → Entry
