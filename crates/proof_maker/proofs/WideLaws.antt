@@ -89,8 +89,8 @@ module _ (h : History) (wide : HasWideTimes h) where
   job_wide : (making : Option Making) (step : Step) (job : Job) → size h < 2 ^ 64 → ChangesBy h making step job → HasWideTimes (with_job real_limits (stamp_of step) h job)
   unfolding with_job append_header member_header occult_header purge_header
   job_wide making step (Refused refusal) few changes = wide
-  job_wide making step (Append member clue content content_digest request by number) few changes =
-      recorded (own_refusal real_limits h (Append member clue content content_digest request by number)) (repeated h member number request) (append_journal h member clue content content_digest request by number)
+  job_wide making step (Append member clue content content_digest request by who number) few changes =
+      recorded (own_refusal real_limits h (Append member clue content content_digest request by who number)) (repeated h member number request) (append_journal h member clue content content_digest request by who number)
       (λ none time. absurd (let no : ⊥ = cc time in no))
   job_wide making step (NewMember number key by) few changes = placed (own_refusal real_limits h (NewMember number key by)) (member_journal (size h) number key by) (λ none time. absurd (let no : ⊥ = cc time in no))
   job_wide making step Anchor few changes = anchor_wide making step few changes (own_refusal real_limits h Anchor) (stamp_of step) refl refl

@@ -165,8 +165,8 @@ list_good g step m list =
 pub good_answer : (making : Option Making) (h : History) (step : Step) (job : Job) → IsLawful h → HasWideTimes h → Pegged h step.before → ChangesBy (judged_at h job) making step job → IsGoodAnswer (judged_at h job) step.after (answer_to h step job)
 unfolding answer_to outcome
 good_answer making h step (Refused refusal) lawful wide pegged changes = tt
-good_answer making h step (Append member clue content content_digest request by number) lawful wide pegged changes =
-    record_good h step.after step (own_refusal real_limits h (Append member clue content content_digest request by number)) (repeated h member number request) (append_journal h member clue content content_digest request by number)
+good_answer making h step (Append member clue content content_digest request by who number) lawful wide pegged changes =
+    record_good h step.after step (own_refusal real_limits h (Append member clue content content_digest request by who number)) (repeated h member number request) (append_journal h member clue content content_digest request by who number)
 good_answer making h step (NewMember number key by) lawful wide pegged changes = placed_good h step.after step (own_refusal real_limits h (NewMember number key by)) (model.size h) (member_journal (model.size h) number key by)
 good_answer making h step Anchor lawful wide pegged changes = anchor_good (close h) step.after step (own_refusal real_limits (close h) Anchor) (stamp_of step)
 good_answer making h step (Occult target leaf given) lawful wide pegged changes =
