@@ -5,7 +5,7 @@ ghost use Rattle.ledger_model.specs.Fitting.{fits_job};
 
 use audit_core::{Heads, accept, check_extension};
 use hex::FromHex;
-use journal_record::{Approval, content_digest, request_digest};
+use journal_record::{Approval, approval_digest, content_digest, request_digest};
 use ledger_book::{Book, Genesis, Job, Limits, Outcome};
 use ledger_bytes::{Bytes, Digest, NoMemory, Refusal, Sha};
 use merkle_tree::Head;
@@ -77,17 +77,20 @@ fn record(alloc: Global, id: &Digest, proof: &[u8]) -> Result<Job, NoMemory>
     let content = Bytes::copy_of(alloc, b"")?;
     let digest = content_digest(content.as_slice());
     let request = request_digest(id, 0, &Digest::ZERO, 0, &digest, 0);
+    let by = Approval {
+        member: 0,
+        key: Some(OPERATOR),
+        proof: Bytes::copy_of(alloc, proof)?,
+    };
+    let who = approval_digest(&by);
     Ok(Job::Append {
         member: 0,
         clue: Digest::ZERO,
         content,
         content_digest: digest,
         request,
-        by: Approval {
-            member: 0,
-            key: Some(OPERATOR),
-            proof: Bytes::copy_of(alloc, proof)?,
-        },
+        by,
+        who,
         number: 0,
     })
 }
