@@ -16,7 +16,7 @@ use Rattle.ledger_bytes.specs.declared.digest.Digest.{Digest}
 use Rattle.ledger_bytes.specs.declared.limits.TheConstants.{APPROVAL_LIMIT, MEMBER_LIMIT, CONTENT_LIMIT, NAME_LIMIT, PROOF_LIMIT}
 use Rattle.ledger_bytes.specs.declared.refusal.Refusal.{Refusal}
 use Rattle.journal_record.specs.Approval.{approval_bytes, who_of}
-use Rattle.journal_record.specs.Entry.{Entry, content_digest_of}
+use Rattle.journal_record.specs.Entry.{Entry, content_digest_of, who_digest_of}
 use Rattle.journal_record.specs.Header.{HasWidths, spelling}
 use Rattle.journal_record.specs.Request.{clue_digest_of, member_request_digest_of, occult_request_digest_of, purge_request_digest_of}
 use Rattle.journal_record.specs.declared.approval.Approval.{Approval}
@@ -106,7 +106,7 @@ module _ (scheme : Scheme) (h : History) (making : Option Making) (step : Step) 
       let request = request_with (id h) member (clue_of clue) content number in
       let own = unrepeated _ _ e p.placed in
       let by = approval_of scheme member request proof in
-      let next = record_next real_limits real_within h member (clue_of clue) content (digest (content_digest_of content)) (digest request) by number p.accepted own.0 p.lawful.journals_are (leb-true (length content) CONTENT_LIMIT front.1) in
+      let next = record_next real_limits real_within h member (clue_of clue) content (digest (content_digest_of content)) (digest request) by (digest (who_digest_of (who_of (by ∷ [])))) number p.accepted own.0 p.lawful.journals_are (leb-true (length content) CONTENT_LIMIT front.1) in
       subst HasSizes own.1 (record {
         widths = record {
           version = version_few number (length content);
