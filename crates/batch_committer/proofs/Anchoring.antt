@@ -101,7 +101,7 @@ job_asking query.Head = Head
 
 asked_by : (job : Job) (q : Query) → query_of job ≡ Some q → job ≡ job_asking q
 asked_by (Refused refusal) q is = absurd (let no : ⊥ = cc is in no)
-asked_by (Append member clue content content_digest request by number) q is = absurd (let no : ⊥ = cc is in no)
+asked_by (Append member clue content content_digest request by who number) q is = absurd (let no : ⊥ = cc is in no)
 asked_by (NewMember number key by) q is = absurd (let no : ⊥ = cc is in no)
 asked_by Anchor q is = let e : query.Stamp ≡ q = cc is in ap job_asking e
 asked_by (Occult target leaf given) q is = absurd (let no : ⊥ = cc is in no)

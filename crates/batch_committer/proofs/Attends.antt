@@ -59,7 +59,7 @@ untouched n h lane index line job asked is none = record {
 -- .. of any other than an anchor, and of an anchor that is refused before it
 pub attends_other : (n : NotaryState) (h : History) (lane index : ℕ) (line : List ℕ) (job : Job) → (job ≡ Anchor → own_refusal real_limits h job ≡ None → ⊥) → Attended n n h (step_in n n false lane index line) job
 attends_other n h lane index line (Refused refusal) not_it = untouched n h lane index line (Refused refusal) false refl refl
-attends_other n h lane index line (Append member clue content content_digest request by number) not_it = untouched n h lane index line (Append member clue content content_digest request by number) false refl refl
+attends_other n h lane index line (Append member clue content content_digest request by who number) not_it = untouched n h lane index line (Append member clue content content_digest request by who number) false refl refl
 attends_other n h lane index line (NewMember number key by) not_it = untouched n h lane index line (NewMember number key by) false refl refl
 attends_other n h lane index line Anchor not_it = by_refusal (own_refusal real_limits h Anchor) refl where
   by_refusal : (o : Option Refusal) → own_refusal real_limits h Anchor ≡ o → Attended n n h (step_in n n false lane index line) Anchor
@@ -76,7 +76,7 @@ attends_other n h lane index line Head not_it = untouched n h lane index line He
 -- of each job but an anchor
 pub untouched_by : (n : NotaryState) (job : Job) → ((h : History) (lane index : ℕ) (line : List ℕ) → Attended n n h (step_in n n false lane index line) job) ⊎ (job ≡ Anchor)
 untouched_by n (Refused refusal) = inl (λ h lane index line. untouched n h lane index line (Refused refusal) false refl refl)
-untouched_by n (Append member clue content content_digest request by number) = inl (λ h lane index line. untouched n h lane index line (Append member clue content content_digest request by number) false refl refl)
+untouched_by n (Append member clue content content_digest request by who number) = inl (λ h lane index line. untouched n h lane index line (Append member clue content content_digest request by who number) false refl refl)
 untouched_by n (NewMember number key by) = inl (λ h lane index line. untouched n h lane index line (NewMember number key by) false refl refl)
 untouched_by n Anchor = inr refl
 untouched_by n (Occult target leaf given) = inl (λ h lane index line. untouched n h lane index line (Occult target leaf given) false refl refl)

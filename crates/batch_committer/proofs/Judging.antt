@@ -11,7 +11,7 @@ use Rattle.ledger_bytes.specs.declared.limits.TheConstants.{APPROVAL_LIMIT, CONT
 use Rattle.ledger_bytes.specs.declared.refusal.Refusal.{Refusal}
 use Rattle.journal_record.specs.Approval.{who_of, approval_bytes}
 use Rattle.journal_record.specs.Blocks.{record_bytes, body_of, IsEntry}
-use Rattle.journal_record.specs.Entry.{Entry, content_digest_of}
+use Rattle.journal_record.specs.Entry.{Entry, content_digest_of, who_digest_of}
 use Rattle.journal_record.specs.Header.{HasWidths, spelling}
 use Rattle.journal_record.specs.declared.approval.Approval.{Approval}
 use Rattle.journal_record.specs.declared.approval.TheConstants.{WHO_LIMIT}
@@ -64,8 +64,8 @@ record_same h (Some n) j none = refl
 judged_same : (stamp : Option Stamp) (h : History) (job : Job) (refusal : Option Refusal) (o : Outcome) → PlacesNothing o → o ≡ judged_outcome refusal (accepted_outcome h stamp job) → after_judgement refusal (placed_journal h stamp job) h ≡ h
 judged_same stamp h job (Some refusal) o none is = refl
 judged_same stamp h (Refused why) None o none is = refl
-judged_same stamp h (Append member clue content content_digest request by number) None o none is =
-    record_same h (repeated h member number request) (append_journal h member clue content content_digest request by number) (subst PlacesNothing is none)
+judged_same stamp h (Append member clue content content_digest request by who number) None o none is =
+    record_same h (repeated h member number request) (append_journal h member clue content content_digest request by who number) (subst PlacesNothing is none)
 judged_same stamp h (NewMember number key by) None o none is = absurd (subst PlacesNothing is none)
 judged_same None h Anchor None o none is = refl
 judged_same (Some stamp) h Anchor None o none is = absurd (subst PlacesNothing is none)
@@ -106,8 +106,8 @@ record IsJudgedAs (stamp : Option Stamp) (h : History) (job : Job) (refusal : Op
 judged_as : (stamp : Option Stamp) (h : History) (job : Job) (refusal : Option Refusal) (placed : PlacedJournal) → came.Placed placed ≡ judged_outcome refusal (accepted_outcome h stamp job) → IsJudgedAs stamp h job refusal placed
 judged_as stamp h job (Some refusal) placed is = absurd (let no : ⊥ = cc is in no)
 judged_as stamp h (Refused why) None placed is = absurd (let no : ⊥ = cc is in no)
-judged_as stamp h (Append member clue content content_digest request by number) None placed is =
-    let j = append_journal h member clue content content_digest request by number in
+judged_as stamp h (Append member clue content content_digest request by who number) None placed is =
+    let j = append_journal h member clue content content_digest request by who number in
     let new = record_as h (repeated h member number request) j placed is in record { accepted = refl; journal = j; header_is = new.0; placed_is = new.1 }
 judged_as stamp h (NewMember number key by) None placed is =
     let j = member_journal (size h) number key by in record { accepted = refl; journal = j; header_is = placed_header placed (size h) j is; placed_is = refl }
@@ -180,10 +180,10 @@ record_is (Some n) got journal is = absurd (none-some journal is)
 pub is_made : (stamp : Option Stamp) (h : History) (job : Job) (journal : Entry) → fits_job job ≡ true → placed_journal h stamp job ≡ Some journal → IsMade job journal
 unfolding append_header member_header time_header occult_header purge_header
 is_made stamp h (Refused why) journal fits is = absurd (none-some journal is)
-is_made stamp h (Append member clue content content_digest request by number) journal fits is =
-    made_as (Append member clue content content_digest request by number) (append_journal h member clue content content_digest request by number) journal
-    (record_is (repeated h member number request) (append_journal h member clue content content_digest request by number) journal is)
-    (record { content = content; given = by ∷ []; parts = (refl, refl); content_is = refl; who_is = refl; len = refl; few = who_few by (proof_few member by (and_parts (nat_le (length content) CONTENT_LIMIT && bytes_eq content_digest.0 (content_digest_of content)) (fits_approval member by) fits).1); gathers_is = λ other. refl })
+is_made stamp h (Append member clue content content_digest request by who number) journal fits is =
+    made_as (Append member clue content content_digest request by who number) (append_journal h member clue content content_digest request by who number) journal
+    (record_is (repeated h member number request) (append_journal h member clue content content_digest request by who number) journal is)
+    (record { content = content; given = by ∷ []; parts = (refl, refl); content_is = refl; who_is = refl; len = refl; few = who_few by (proof_few member by (and_parts (nat_le (length content) CONTENT_LIMIT && bytes_eq content_digest.0 (content_digest_of content) && bytes_eq who.0 (who_digest_of (who_of (by ∷ [])))) (fits_approval member by) fits).1); gathers_is = λ other. refl })
 is_made stamp h (NewMember number key by) journal fits is =
     made_as (NewMember number key by) (member_journal (size h) number key by) journal (cc is)
     (record { content = []; given = by ∷ []; parts = (refl, refl); content_is = refl; who_is = refl; len = refl; few = who_few by (proof_few 0 by fits); gathers_is = λ other. refl })
@@ -343,7 +343,7 @@ judged_placed stamp old mid new h step job o placed answer p all none fits appli
 -- a job that asks for something ends the open block first
 pub asks_closes : (job : Job) (q : Query) → query_of job ≡ Some q → closes_before job ≡ true
 asks_closes (Refused refusal) q is = absurd (let no : ⊥ = cc is in no)
-asks_closes (Append member clue content content_digest request by number) q is = absurd (let no : ⊥ = cc is in no)
+asks_closes (Append member clue content content_digest request by who number) q is = absurd (let no : ⊥ = cc is in no)
 asks_closes (NewMember number key by) q is = absurd (let no : ⊥ = cc is in no)
 asks_closes Anchor q is = refl
 asks_closes (Occult target leaf given) q is = absurd (let no : ⊥ = cc is in no)
@@ -357,7 +357,7 @@ asks_closes Head q is = refl
 -- .. and so does one whose journal is a block of its own
 pub alone_first : (job : Job) → closes_after job ≡ true → closes_before job ≡ true
 alone_first (Refused refusal) alone = absurd (true≢false (sym alone))
-alone_first (Append member clue content content_digest request by number) alone = absurd (true≢false (sym alone))
+alone_first (Append member clue content content_digest request by who number) alone = absurd (true≢false (sym alone))
 alone_first (NewMember number key by) alone = absurd (true≢false (sym alone))
 alone_first Anchor alone = refl
 alone_first (Occult target leaf given) alone = refl

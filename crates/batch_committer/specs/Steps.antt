@@ -48,7 +48,7 @@ AllKept book dues = All (λ due. IsWithin book.floor book.sealed due.answer) due
 
 -- the content and the approvals of a job that may place a journal; no other job has these
 abbrev pub HasParts : Job → List ℕ → List Approval → Type 0
-HasParts (Append member clue record_content content_digest request by number) content given = (content ≡ record_content) × (given ≡ by ∷ [])
+HasParts (Append member clue record_content content_digest request by who number) content given = (content ≡ record_content) × (given ≡ by ∷ [])
 HasParts (NewMember number key by) content given = (content ≡ []) × (given ≡ by ∷ [])
 HasParts Anchor content given = (content ≡ []) × (given ≡ [])
 HasParts (Occult target leaf approvals) content given = (content ≡ []) × (given ≡ approvals)
