@@ -61,9 +61,9 @@ head_unproved g step =
 
 accepted_unproved : (g : History) (step : Step) (job : Job) → ((n : ℕ) → job ≡ Prove n → ⊥) → Proves (answer_for g step (accepted_outcome g (stamp_of step) job))
 accepted_unproved g step (Refused why) other = refl
-accepted_unproved g step (Append member clue content content_digest request by number) other = by_repeat (repeated g member number request)
+accepted_unproved g step (Append member clue content content_digest request by who number) other = by_repeat (repeated g member number request)
   where
-    by_repeat : (again : Option ℕ) → Proves (answer_for g step (record_outcome g again (append_journal g member clue content content_digest request by number)))
+    by_repeat : (again : Option ℕ) → Proves (answer_for g step (record_outcome g again (append_journal g member clue content content_digest request by who number)))
     by_repeat None = refl
     by_repeat (Some n) = refl
 accepted_unproved g step (NewMember number key by) other = refl
@@ -86,7 +86,7 @@ proves_only h step job other =
 pub asks_for : (h : History) (step : Step) (job : Job) → is_reply is_proof_reply (answer_to h step job) ≡ true → (n : ℕ) × (job ≡ Prove n)
 asks_for h step (Prove n) is = (n, refl)
 asks_for h step (Refused why) is = absurd (true≢false (sym is ∙ proves_only h step (Refused why) (λ n e. let bad : ⊥ = cc in bad)))
-asks_for h step (Append member clue content content_digest request by number) is = absurd (true≢false (sym is ∙ proves_only h step (Append member clue content content_digest request by number) (λ n e. let bad : ⊥ = cc in bad)))
+asks_for h step (Append member clue content content_digest request by who number) is = absurd (true≢false (sym is ∙ proves_only h step (Append member clue content content_digest request by who number) (λ n e. let bad : ⊥ = cc in bad)))
 asks_for h step (NewMember number key by) is = absurd (true≢false (sym is ∙ proves_only h step (NewMember number key by) (λ n e. let bad : ⊥ = cc in bad)))
 asks_for h step Anchor is = absurd (true≢false (sym is ∙ proves_only h step Anchor (λ n e. let bad : ⊥ = cc in bad)))
 asks_for h step (Occult target leaf given) is = absurd (true≢false (sym is ∙ proves_only h step (Occult target leaf given) (λ n e. let bad : ⊥ = cc in bad)))
