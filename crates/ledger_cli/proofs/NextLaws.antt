@@ -176,7 +176,7 @@ kind_as journal e kind is = ap (λ (x : Entry). gathers x.header.kind) (sym (sam
 pub next_job : (h : History) (step : Step) (job : Job) → IsNextTo h (after_job h step job)
 unfolding after_job with_job
 next_job h step (Refused why) = next_gathered (own_refusal real_limits h (Refused why)) None h _
-next_job h step (Append member clue content digest request by number) = next_gathered (own_refusal real_limits h (Append member clue content digest request by number)) (placed_journal h (stamp_of step) (Append member clue content digest request by number)) h _
+next_job h step (Append member clue content digest request by who number) = next_gathered (own_refusal real_limits h (Append member clue content digest request by who number)) (placed_journal h (stamp_of step) (Append member clue content digest request by who number)) h _
 next_job h step (NewMember number key by) = next_gathered (own_refusal real_limits h (NewMember number key by)) (placed_journal h (stamp_of step) (NewMember number key by)) h _
 next_job h step Anchor = next_own (own_refusal real_limits (close h) Anchor) (option_map (time_journal (size (close h))) (stamp_of step)) h (by (stamp_of step))
   where
