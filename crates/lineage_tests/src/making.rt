@@ -4,7 +4,7 @@ ghost use Rattle.std.specs.Prelude.{◌≡◌, true, IfOk};
 ghost use Rattle.ledger_model.specs.Fitting.{fits_job};
 
 use clue_lineage::{LineageErr, Run, accept_lineage, lineage};
-use journal_record::{Approval, content_digest};
+use journal_record::{Approval, approval_digest, content_digest};
 use ledger_book::{Book, Genesis, Job, Limits, Outcome};
 use ledger_bytes::{Bytes, Digest, NoMemory, Sha};
 use std::alloc::Global;
@@ -31,17 +31,20 @@ fn record(alloc: Global, clue: Digest) -> Result<Job, NoMemory>
 {
     let content = Bytes::copy_of(alloc, b"")?;
     let content_digest = content_digest(content.as_slice());
+    let by = Approval {
+        member: 0,
+        key: Some(OPERATOR),
+        proof: Bytes::copy_of(alloc, b"")?,
+    };
+    let who = approval_digest(&by);
     Ok(Job::Append {
         member: 0,
         clue,
         content,
         content_digest,
         request: Digest([9; 32]),
-        by: Approval {
-            member: 0,
-            key: Some(OPERATOR),
-            proof: Bytes::copy_of(alloc, b"")?,
-        },
+        by,
+        who,
         number: 0,
     })
 }
