@@ -5,7 +5,9 @@ ghost use Rattle.ledger_model.specs.Fitting.{fits_job};
 
 use anyhow::{Context, Result, bail};
 use block_file::{BlockFile, BlockWriter, FIRST_GATE};
-use journal_record::{Approval, clue_digest, content_digest, request_digest, tag_of};
+use journal_record::{
+    Approval, approval_digest, clue_digest, content_digest, request_digest, tag_of,
+};
 use ledger_book::{Book, Job, Outcome, first_header};
 use ledger_bytes::{Bytes, Digest, NoMemory};
 use ledger_disk::Disk;
@@ -138,13 +140,16 @@ fn job(alloc: Global, content: &[u8; 8], clue: Digest, request: Digest) -> Resul
 {
     let content = Bytes::copy_of(alloc, content)?;
     let content_digest = content_digest(content.as_slice());
+    let by = approval(alloc, &request)?;
+    let who = approval_digest(&by);
     Ok(Job::Append {
         member: 0,
         clue,
         content,
         content_digest,
         request,
-        by: approval(alloc, &request)?,
+        by,
+        who,
         number: 0,
     })
 }
