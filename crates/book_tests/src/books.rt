@@ -7,7 +7,9 @@ ghost use Rattle.ledger_model.specs.Limits.{AreWithin};
 
 use block_file::Damage;
 use hex::FromHex;
-use journal_record::{Approval, Header, Kind, Stamp, content_digest, request_digest};
+use journal_record::{
+    Approval, Header, Kind, Stamp, approval_digest, content_digest, request_digest,
+};
 use ledger_book::{Book, Genesis, Job, Limits, Outcome, Query};
 use ledger_bytes::{BLOCK_LIMIT, Bytes, Digest, NoMemory, Refusal, Sha, TimeMark};
 use merkle_tree::{Head, leaf_of};
@@ -37,18 +39,20 @@ fn record(alloc: Global, id: &Digest, number: u64) -> Result<Job, NoMemory>
     let content = Bytes::copy_of(alloc, b"")?;
     let digest = content_digest(content.as_slice());
     let request = request_digest(id, 0, &clue, 0, &digest, 0);
-    let proof = Bytes::copy_of(alloc, b"")?;
+    let by = Approval {
+        member: 0,
+        key: Some(OPERATOR),
+        proof: Bytes::copy_of(alloc, b"")?,
+    };
+    let who = approval_digest(&by);
     Ok(Job::Append {
         member: 0,
         clue,
         content,
         content_digest: digest,
         request,
-        by: Approval {
-            member: 0,
-            key: Some(OPERATOR),
-            proof,
-        },
+        by,
+        who,
         number: 0,
     })
 }

@@ -6,7 +6,7 @@ ghost use Rattle.ledger_model.specs.Fitting.{fits_job};
 use batch_committer::{CommitErr, Committer};
 use hex::FromHex;
 use journal_record::{
-    Approval, clue_digest, content_digest, member_request_digest, request_digest,
+    Approval, approval_digest, clue_digest, content_digest, member_request_digest, request_digest,
 };
 use ledger_book::{Job, Prepared};
 use ledger_bytes::{Bytes, Digest, NoMemory};
@@ -133,18 +133,20 @@ fn record(
     let digest = content_digest(content.as_slice());
     let len = content.as_slice().len() as u32;
     let request = request_digest(id, member, &clue, len, &digest, number);
-    let proof = Bytes::copy_of(alloc, &tag_proof(&key, &request))?;
+    let by = Approval {
+        member,
+        key: Some(key),
+        proof: Bytes::copy_of(alloc, &tag_proof(&key, &request))?,
+    };
+    let who = approval_digest(&by);
     Ok(Job::Append {
         member,
         clue,
         content,
         content_digest: digest,
         request,
-        by: Approval {
-            member,
-            key: Some(key),
-            proof,
-        },
+        by,
+        who,
         number,
     })
 }
