@@ -1,18 +1,16 @@
 -- A file of the first version is carried over, and what opening leaves.
 use Rattle.std.specs.Prelude.{◌==◌, if◌then◌else◌, All, Bool, true, false, not, Option, Some, None, IsSomeAnd, IsTrue}
-use Rattle.std.proofs.Common.{◌≡◌, ◌≢◌, ◌⊎◌, inl, inr, ℕ, ◌+◌, ◌-◌, ◌^◌, ◌<◌, ◌≤◌, List, [], ◌∷◌, ◌++◌, length, take, drop, refl, sym, ◌∙◌, ap, subst, arith, append_assoc, append-nil, length-append, length-take}
-use Rattle.std.proofs.lemmas.Bool.{eqb-true, eq-eqb}
-use Rattle.std.proofs.lemmas.List.{take_at, drop_at, take-take, nil_from_length}
-use Rattle.std.proofs.lemmas.List.Elements.{All-contains, All-head}
-use Rattle.block_file.specs.File.{IsSettled, IsShutAt, IsFileOf, tail_of, open_blocks, whole_file}
+use Rattle.std.proofs.Common.{◌≡◌, ◌⊎◌, inl, inr, ℕ, ◌+◌, ◌-◌, ◌^◌, ◌<◌, ◌≤◌, List, [], ◌∷◌, ◌++◌, length, take, drop, refl, sym, ◌∙◌, ap, subst, arith, append_assoc, length-append}
+use Rattle.std.proofs.lemmas.Bool.{eq-eqb}
+use Rattle.std.proofs.lemmas.List.{take_at, drop_at}
+use Rattle.std.proofs.lemmas.List.Elements.{All-head}
+use Rattle.block_file.specs.File.{IsSettled, IsShutAt, open_blocks, whole_file}
 use Rattle.block_file.specs.Head.{HasHead, front_of, generation_of, version_in}
-use Rattle.block_file.specs.Places.{after_at}
-use Rattle.block_file.specs.declared.place.PlaceAt.{PlaceAt}
 use Rattle.journal_record.specs.Blocks.{written_blocks}
 use Rattle.journal_record.specs.Entry.{Entry}
 use Rattle.ledger_book.specs.Books.{Serves}
 use Rattle.ledger_disk.proofs.Guarding.{settled_image}
-use Rattle.ledger_disk.specs.Disk.{State, MayLeave, overlay, settled_state}
+use Rattle.ledger_disk.specs.Disk.{State, MayLeave, settled_state}
 use Rattle.ledger_model.proofs.FitLaws.{size_few}
 use Rattle.ledger_model.proofs.PointLaws.{points_few}
 use Rattle.ledger_model.specs.History.{History, journals_of, point, size}
@@ -21,18 +19,18 @@ use Rattle.ledger_model.specs.Bases.{base_of}
 use Rattle.ledger_model.specs.Targets.{is_hidden}
 use Rattle.pseudo_genesis.specs.declared.base.Base.{Base}
 use Rattle.twin_file.proofs.OpenLaws.{chosen}
-use Rattle.twin_file.specs.Twin.{choice, open_of, other_of, IsTaken, IsPassed, next_generation}
+use Rattle.twin_file.specs.Twin.{choice, open_of, IsTaken, IsPassed, next_generation}
 use Rattle.twin_file.proofs.TakeLaws.{taken_once}
 use Rattle.twin_file.specs.Which.{in_a_of, format_in, file_of}
 use Rattle.twin_file.specs.declared.twin.Twin.{Twin}
 use Rattle.block_file.specs.FileView.{gate_of}
 use Rattle.ledger_open.specs.Carrying.{IsBaseToCarry, MayCarry, carried_file, WasCarried, StaysNewer, IsCarried, StandsCarrying}
 use Rattle.ledger_open.specs.Heads.{Edition, edition_from, edition_of, edition_in}
-use Rattle.ledger_open.specs.Opening.{Known, GoesOn, AreSettled, AreUnchanged, IsOpenErr, IsOutside}
+use Rattle.ledger_open.specs.Opening.{Known, GoesOn, AreSettled, IsOpenErr, IsOutside}
 use Rattle.ledger_open.specs.declared.failure.OpenErr.{OpenErr}
 use Rattle.ledger_open.specs.Purging.{MayMove, IsEither, AllEither}
 use Rattle.ledger_open.specs.Reopened.{Remembers, IsMended, IsReopened, IsTidyAt, PairStandsStill, StaysOpen, open_file}
-use Rattle.ledger_open.specs.Standing.{Floor, floor_behind, floor_from, HasBlocks, StandsBy, StandsFor, IsOld, IsClean, IsErased, IsBeside, PairFor, IsCleanPair}
+use Rattle.ledger_open.specs.Standing.{Floor, floor_behind, StandsBy, StandsFor, IsOld, IsClean, IsBeside, PairFor, IsCleanPair}
 use Rattle.ledger_open.specs.Starts.{base_in, IsDecoded}
 use Rattle.ledger_open.proofs.ByteLaws.{copied_generation, copied_length, copied_shut}
 use Rattle.ledger_open.proofs.DamageLaws.{base_there}

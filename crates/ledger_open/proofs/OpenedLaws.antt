@@ -1,10 +1,8 @@
 -- An open ledger whose file was read stands for each history that its files stand for, while what was left undone is done.
-use Rattle.std.specs.Prelude.{Bool, true, false, Option, Some, None, sum_by}
-use Rattle.std.proofs.Common.{◌≡◌, inl, inr, ℕ, ◌+◌, ◌≤◌, List, [], ◌∷◌, length, take, drop, refl, sym, ◌∙◌, ap, subst, arith}
+use Rattle.std.specs.Prelude.{Bool, true, false, Option, Some, None}
+use Rattle.std.proofs.Common.{◌≡◌, inl, inr, ℕ, ◌+◌, ◌≤◌, List, [], length, take, refl, sym, ◌∙◌, ap, subst, arith}
 use Rattle.std.proofs.lemmas.Bool.{cases_lt}
 use Rattle.std.proofs.lemmas.List.{nil_from_length, take-take, take_all}
-use Rattle.std.proofs.lemmas.List.Elements.{All-nil, All-cons, All-append}
-use Rattle.std.proofs.lemmas.List.Sums.{sum_by-cons}
 use Rattle.block_file.specs.File.{IsSettled, IsFileOf, tail_of}
 use Rattle.journal_record.specs.Entry.{Entry}
 use Rattle.ledger_disk.proofs.Guarding.{settled_image}
@@ -17,14 +15,13 @@ use Rattle.twin_file.specs.Twin.{choice, IsTaken}
 use Rattle.ledger_open.specs.Cutting.{gate_behind}
 use Rattle.ledger_open.specs.Erasing.{EndsAs, AreOf, AreBetween, last_target, StandsMeanwhile, LeavesShown, LeavesErased, LeavesRest}
 use Rattle.ledger_open.specs.Opening.{Known, Knows, GoesOn, HasFile, AreUnchanged}
-use Rattle.block_file.specs.Places.{body_from, record_len, places_in, places_at, after_at}
+use Rattle.block_file.specs.Places.{after_at}
 use Rattle.ledger_open.specs.Heads.{Edition, edition_of}
 use Rattle.ledger_open.specs.Places.{places_from}
 use Rattle.ledger_open.specs.Purging.{Ledger, open_disk, other_disk, StandsOpen, FinishesPurge, IsPurgedStill}
 use Rattle.ledger_open.specs.Reopened.{IsHere, StandsTrimmed, PairStandsStill}
 use Rattle.ledger_open.specs.Standing.{Floor, floor_of, floor_from, floor_behind, StandsFor, IsErased, IsClean, IsBeside, PairFor, IsCleanPair}
 use Rattle.ledger_open.specs.Starts.{IsDecoded}
-use Rattle.block_file.specs.declared.place.PlaceAt.{PlaceAt}
 use Rattle.ledger_open.proofs.CleanLaws as file
 use Rattle.ledger_open.proofs.CleanLaws.{clean_size, own_tail, between_at}
 use Rattle.ledger_open.proofs.FinishedLaws.{both_settled}

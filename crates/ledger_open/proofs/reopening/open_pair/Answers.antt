@@ -1,4 +1,3 @@
-use Rattle.std.specs.Prelude.{IsTrue}
 use Rattle.std.proofs.Common.{◌≡◌, ℕ, refl, sym, ap, subst, ◌∙◌}
 use Rattle.ledger_disk.specs.Disk.{State, DiskState}
 use Rattle.block_file.specs.FileView.{gate_of}
