@@ -1,4 +1,5 @@
-//! A new ledger has the worked bytes, a longer file is trimmed, also after a stop, and a clean pair isn't written to.
+//! A new ledger has the worked bytes, a longer file is trimmed and one of version 1 carried over, also after a stop, and a clean
+//! pair isn't written to.
 
 use hex::FromHex;
 use ledger_bytes::{Bytes, Digest};
@@ -180,13 +181,87 @@ fn opens_whole<R: Threads>(
     b: &MemDisk,
     whole: &[u8],
 ) -> Result<bool, Fail> {
-    for pick in [Pick::AllWritten, Pick::NoneWritten, Pick::Torn(1)] {
+    for pick in PICKS {
         let mut left_a = a.crash(pick)?;
         let mut left_b = b.crash(pick)?;
         let size = opened_size(rt, alloc, &mut left_a, &mut left_b);
         let is_so = size == Ok(3) && left_a.len() == Ok(0);
         if !is_so || left_b.bytes()?.as_slice() != whole {
             return Ok(false);
+        }
+    }
+    Ok(true)
+}
+
+// What a crash may make of writes that weren't synced.
+const PICKS: [Pick; 3] = [Pick::AllWritten, Pick::NoneWritten, Pick::Torn(1)];
+
+// More calls than either disk gets where a ledger is carried over.
+const CALLS: u64 = 24;
+
+#[test]
+fn a_ledger_of_version_1_is_carried_over_wherever_disks_stop(rt: HostRuntime) -> Result<(), Fail> {
+    let alloc = rt.alloc();
+    let (a, b) = (
+        disk_of(alloc, &edition(alloc, 1, 1)?)?,
+        disk_of(alloc, &[0])?,
+    );
+    let carried = edition(alloc, 2, 2)?;
+    for stop in 0..CALLS {
+        let (opened, a, b) = open_until(&rt, alloc, &a, &b, Pick::AllWritten, stop)?;
+        let is_one = opened == Ok(3) || opened == Err(OpenErr::DiskFault);
+        assert!(rt; is_one, "at {stop}");
+        assert!(rt; stays_carried(&rt, alloc, &a, &b, &carried)?, "at {stop}");
+    }
+    Ok(())
+}
+
+/// The file of a ledger of two blocks, with this version and this generation.
+fn edition(alloc: Global, version: u8, generation: u8) -> Result<Vec<u8>, Fail> {
+    let mut bytes = Vec::new(alloc);
+    for (at, byte) in two_blocks(alloc)?.iter().enumerate() {
+        let byte = match at {
+            9 => version,
+            17 => generation,
+            _ => *byte,
+        };
+        bytes.push(byte)?;
+    }
+    Ok(bytes)
+}
+
+/// The size where a ledger is opened on what a crash leaves of these disks, and the disks then, which stop after so many calls.
+fn open_until<R: Threads>(
+    rt: &R,
+    alloc: Global,
+    a: &MemDisk,
+    b: &MemDisk,
+    pick: Pick,
+    stop: u64,
+) -> Result<(Result<u64, OpenErr>, MemDisk, MemDisk), Fail> {
+    let mut a = FuseDisk::new(a.crash(pick)?, stop);
+    let mut b = FuseDisk::new(b.crash(pick)?, stop);
+    let opened = opened_size(rt, alloc, &mut a, &mut b);
+    Ok((opened, a.into_inner(), b.into_inner()))
+}
+
+/// Whether the ledger is carried over by the opening behind one that stops after any number of calls, whatever crashes leave
+/// of these disks: the second file has these bytes then, and the first one is empty.
+fn stays_carried<R: Threads>(
+    rt: &R,
+    alloc: Global,
+    a: &MemDisk,
+    b: &MemDisk,
+    carried: &[u8],
+) -> Result<bool, Fail> {
+    for pick in PICKS {
+        for stop in 0..CALLS {
+            let (_, a, b) = open_until(rt, alloc, a, b, pick, stop)?;
+            let (opened, a, b) = open_until(rt, alloc, &a, &b, pick, CALLS)?;
+            let is_whole = opened == Ok(3) && a.len() == Ok(0);
+            if !is_whole || b.bytes()?.as_slice() != carried {
+                return Ok(false);
+            }
         }
     }
     Ok(true)
