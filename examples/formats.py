@@ -12,12 +12,16 @@ HEADER_BYTES, ENTRY_BYTES, SLOT_BYTES, WHO_LIMIT, CONTENT_LIMIT = 174, 72, 73, 1
 JOURNAL_LIMIT, NOTARY_LIMIT, CLUE_LIMIT, MEMBER_LIMIT = 4_294_967_295, 16_777_216, 1_048_576, 256
 
 
-class Broken(Exception):
-    """Bytes that don't have their form, with the place at which they break."""
+# How bytes break, by the codes with which a set of survivors is refused.
+SHORT, TRAILING, BAD_KIND, BAD_FIELD, OTHER_VERSION = 1, 2, 8, 9, 31
 
-    def __init__(self, at):
+
+class Broken(Exception):
+    """Bytes that don't have their form: the place at which they break, how, and what is told of it: that place, or what was found."""
+
+    def __init__(self, at, code=BAD_FIELD, told=None):
         super().__init__(f"the bytes break at {at}")
-        self.at = at
+        self.at, self.code, self.told = at, code, at if told is None else told
 
 
 # ---- digests and requests
@@ -236,7 +240,7 @@ class Reader:
 
     def take(self, count):
         if self.at + count > len(self.data):
-            raise Broken(len(self.data))
+            raise Broken(len(self.data), SHORT)
         self.at += count
         return self.data[self.at - count : self.at]
 
@@ -255,7 +259,7 @@ class Reader:
 
     def end(self):
         if self.at < len(self.data):
-            raise Broken(self.at)
+            raise Broken(self.at, TRAILING)
 
 
 # ---- headers
@@ -310,19 +314,24 @@ def read_header(reader):
     start = reader.at
     data = bytes(reader.data[start : start + HEADER_BYTES])
     h = Header(data.ljust(HEADER_BYTES, b"\0"))
-    if data[:1] and h.version not in (1, 2):
-        raise Broken(start)
-    if data[1:2] and h.kind > PURGE:
-        raise Broken(start + 1)
+    check_layout(data, start)
     if len(data) >= 2 and h.version == 2:
         if len(data) < OFFSETS["content_digest"]:
-            raise Broken(len(reader.data))
+            raise Broken(len(reader.data), SHORT)
         if h.kind != RECORD or h.a == 0:
             raise Broken(start)
     if len(data) >= 2:
         check_fields(h, len(data), start)
     reader.take(HEADER_BYTES)
     return h
+
+
+# Tells another version, and then another kind, as far as they are there.
+def check_layout(data, start):
+    if data[:1] and data[0] not in (1, 2):
+        raise Broken(start, OTHER_VERSION, data[0])
+    if data[1:2] and data[1] > PURGE:
+        raise Broken(start + 1, BAD_KIND, data[1])
 
 
 # Tells the first field that breaks its rule, as far as it is whole.
