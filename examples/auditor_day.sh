@@ -43,7 +43,7 @@ esac
 [ $# -ge 2 ] || fail "HEADS and a COMMAND are wanted; --help tells more"
 heads=$1
 shift
-said=$heads.$(date -u +%Y%m%dT%H%M%S)
+said=$heads.$(date -u +%Y%m%dT%H%M%S.%3N)
 behind=${BEHIND:-60}
 id=$(awk '$2 == "ledger" { print $3 }' "$heads")
 size=$(awk '$2 == "ledger" { print $4 }' "$heads")
