@@ -53,7 +53,8 @@ notary=$(awk '$2 == "notary" { print $3 }' "$heads")
 # What is asked. The anchor comes first, so the heads are over it.
 led=("extend ledger $size")
 [ -n "$start" ] || led+=("extend notary $notary")
-{ [ -n "$look" ] || echo "0 anchor"; printf '0 %s\n' "${led[@]}" head; } | "$@" >"$said" || fail "the command ended with $?: $(tail -1 "$said")"
+{ [ -n "$look" ] || echo "0 anchor"; printf '0 %s\n' "${led[@]}" head; } | "$@" >"$said" ||
+  fail "the command ended with $?: $(tail -1 "$said")"
 grep -q "^0\.[0-9]* head $id " "$said" || alarm "this isn't the ledger $id"
 [ -n "$look" ] || grep -q '^0\.1 ok ' "$said" || alarm "no anchor: $(head -1 "$said")"
 
@@ -70,7 +71,8 @@ shown() {
 }
 read -r now_size now_root now_notary now_notary_root < <(awk '$2 == "head" { print $4, $5, $8, $9 }' "$said")
 [ "$(shown ledger)" = "$now_size $now_root" ] || alarm "head tells another head than the extension"
-[ -n "$start" ] || [ "$(shown notary)" = "$now_notary $now_notary_root" ] || alarm "head tells another head of the notary than the extension"
+[ -n "$start" ] || [ "$(shown notary)" = "$now_notary $now_notary_root" ] ||
+  alarm "head tells another head of the notary than the extension"
 
 # The anchor's entry is the last in the notary's list, and its time is now.
 look_at_anchor() {

@@ -274,9 +274,11 @@ class Draft:
         elif kind == 4:
             self.size, self.count = near(self.size, 8, chance), near(len(self.journals), 8, chance) if chance.random() < 0.3 else None
         elif kind == 5:
-            self.given = Given(*(chance.randbytes(32) if it == 0 else it for it in (self.given.id, self.given.size, self.given.root)), self.given.notary_size, chance.randbytes(32))
+            self.given = Given(*vars(self.given).values())
+            self.given.notary_root = chance.randbytes(32)
         else:
-            self.given = Given(chance.randbytes(32), self.given.size, self.given.root, self.given.notary_size, self.given.notary_root)
+            self.given = Given(*vars(self.given).values())
+            self.given.id = chance.randbytes(32)
 
     def change_entries(self):
         chance, at = self.chance, self.chance.randrange(len(self.entries))
@@ -365,9 +367,13 @@ def message_of(fields, roots, leaves, id):
 # ---- changes of proofs
 
 
+# Digests behind their number.
+def counted(digests):
+    return bytes([len(digests) % 256]) + b"".join(digests)
+
+
 # The bytes of a proof by its parts.
 def proof_text(proof):
-    counted = lambda digests: bytes([len(digests) % 256]) + b"".join(digests)
     data = b"\1" + big(proof.size) + big(proof.n) + proof.leaf + counted(proof.path)
     lower, upper = proof.lower, proof.upper
     data += b"\1" + lower.header.data + counted(lower.path) + lower.before + counted(lower.digests) if lower else b"\0"
@@ -454,7 +460,8 @@ class Both:
     def compare_proofs(self, ledger, count):
         given = ledger.given
         heads, notary = {given.size: given.root}, {given.notary_size: given.notary_root}
-        lines = [f"trust ledger {ledger.id.hex()} {given.size} {given.root.hex()}", f"trust notary {given.notary_size} {given.notary_root.hex()}"]
+        lines = [f"trust ledger {ledger.id.hex()} {given.size} {given.root.hex()}"]
+        lines.append(f"trust notary {given.notary_size} {given.notary_root.hex()}")
         own, kinds = [[], []], ["heads", "heads"]
         for number in range(count):
             for line, answer in (self.proof_line(ledger, heads, notary), self.extension_line(ledger, heads, notary)):
@@ -537,7 +544,9 @@ class Both:
         name = chance.choice((name,) * 9 + CLUES)
         answer = proofs.refusal_of_lineage(name, size, root, data)
         headers = [] if answer else [header for header, _ in proofs.Lineage(data).journals]
-        own = (10, " ".join(map(str, ["no", *answer]))) if answer else (0, f"yes {headers[0].clue_ord} {headers[-1].clue_ord} {len(headers)}")
+        own = 10, " ".join(map(str, ["no", *answer]))
+        if not answer:
+            own = 0, f"yes {headers[0].clue_ord} {headers[-1].clue_ord} {len(headers)}"
         reply = self.ran(ledger, ["lineage", name, str(size), root.hex()], data)
         self.note("lineages", answer[0] if answer else 0, own, (reply[0], reply[1].rstrip("\n")), name)
 

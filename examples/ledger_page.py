@@ -74,7 +74,9 @@ def audited(words, data, dump):
         given, from_elsewhere = heads_in(words.heads), True
     report = report_of(data, given, chain_key if words.chain else tag_key)
     fault = report["fault"]
-    told = {"line": json.dumps(report, separators=(",", ":")), "fault": f"{CHECKS[fault[0]]} (check {fault[0]}, at {fault[1]})" if fault else None}
+    told = {"line": json.dumps(report, separators=(",", ":")), "fault": None}
+    if fault:
+        told["fault"] = f"{CHECKS[fault[0]]} (check {fault[0]}, at {fault[1]})"
     if words.report:
         with open(words.report) as file:
             told["other"] = file.read().strip()

@@ -1,6 +1,7 @@
 """Journal proofs, extensions, lineages and sets of survivors, read and judged as docs/FORMATS.md says, without the programs.
 
-Where the page names a code for what isn't accepted, the answer is that code with its fields, and else an empty list. It is written from that page alone.
+Where the page names a code for what isn't accepted, the answer is that code with its fields, and else an empty list. It is written
+from that page alone.
 """
 from formats import (
     RECORD,
