@@ -25,7 +25,7 @@ def main():
     parser.add_argument("times", metavar="TIMES", nargs="?", type=int, default=3)
     words = parser.parse_args()
     program = built_program(words.program)
-    auditor = words.auditor or built_auditor()
+    auditor = built_program(words.auditor, "auditctl")
     room = tempfile.mkdtemp(prefix="dumped-")
     try:
         small = measured(program, auditor, os.path.join(room, "small"), 1, 1)
@@ -39,13 +39,6 @@ def main():
         return 0
     finally:
         shutil.rmtree(room)
-
-
-# The auditor itself, which bin/auditctl proves and builds first.
-def built_auditor():
-    wrapper = os.path.join(os.path.dirname(os.path.dirname(os.path.realpath(__file__))), "bin", "auditctl")
-    subprocess.run([wrapper], stdin=subprocess.DEVNULL, stdout=subprocess.DEVNULL)
-    return os.path.join(os.path.dirname(wrapper), ".built", "auditctl")
 
 
 # The figures of a ledger with so many records.
