@@ -264,9 +264,11 @@ class Draft:
 
     # The base, the entries, the head or what the auditor is given.
     def change_rest(self):
-        chance, kind = self.chance, self.chance.randrange(7)
+        chance, kind, purges = self.chance, self.chance.randrange(8), [it[0] for it in self.journals if it[0]["kind"] == PURGE]
         if kind == 0 and self.base:
             self.base = changed(self.base, chance)
+        elif kind == 7 and purges:
+            purges[-1]["link"] = chance.randbytes(32)
         elif kind in (1, 2):
             self.change_entries()
         elif kind == 3:
@@ -588,7 +590,7 @@ class Both:
         if kind == 0:
             id = chance.randbytes(32)
         elif kind == 1:
-            point = near(point, 8, chance)
+            point = chance.choice((near(point, 8, chance), 1 << 40))
         elif kind == 2:
             root = chance.randbytes(32)
         elif kind == 3:
