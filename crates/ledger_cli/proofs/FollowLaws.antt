@@ -116,10 +116,6 @@ alone_end h none blocks alone some =
       | inr past ↦ absurd (let no : ⊥ = cc (sym (ap (option_map (λ (x : Entry). x.header)) past.1) ∙ got) in no)
     ])
 
--- the last journal has this header, and so this kind
-pub alone_is : (h : History) (x : Header) → slice_get (headers h) (size h - 1) ≡ Some x → gathers x.kind ≡ false → IsAlone h
-alone_is h x is kind = (x, is, kind)
-
 pub alone_not : (h : History) (x : Header) → slice_get (headers h) (size h - 1) ≡ Some x → gathers x.kind ≡ true → IsAlone h → ⊥
 alone_not h x is kind alone = true≢false (sym kind ∙ ap (λ (y : Header). gathers y.kind) (same_Some _ _ (sym is ∙ alone.1)) ∙ alone.2)
 

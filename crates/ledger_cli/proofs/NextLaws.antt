@@ -31,9 +31,6 @@ use Rattle.ledger_model.proofs.GrowLaws.{close_none, close_settled, grows_close,
 use Rattle.ledger_book.specs.Books.{headers}
 use Rattle.ledger_cli.specs.Boards.{IsBlockEnd, IsNextTo}
 
-next_not : (h : History) → IsNextTo h h
-next_not h = record { grows = grows_not h; ended = λ n e. inl e }
-
 -- a block more, with which all ends
 push_ended : (blocks : List (List Entry)) (block : List Entry) (n : ℕ) → Contains (ends_from 0 (blocks ++ block ∷ [])) n → Contains (ends_from 0 blocks) n ⊎ (n ≡ length (journals_of blocks ++ block))
 push_ended blocks block n e =
