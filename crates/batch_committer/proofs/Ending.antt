@@ -1,10 +1,10 @@
 -- The open block ends: it is committed, and then all that is due is written.
 use Rattle.std.specs.Prelude.{Bool, true, false, IsTrue, None}
-use Rattle.std.specs.Int.{w32, w64, to_be_bytes, from_be_bytes}
+use Rattle.std.specs.Int.{w32, w64, to_be_bytes}
 use Rattle.std.specs.Io.KnownBytes.{Appends}
 use Rattle.std.proofs.Common.{◌≡◌, inl, inr, ℕ, ◌+◌, ◌<◌, ◌≤◌, List, [], ◌∷◌, ◌++◌, length, take, drop, refl, ap, sym, subst, ◌∙◌, arith, append_assoc, length-append, length-take, take-append-drop}
 use Rattle.std.proofs.KnownBytes.{Appends-nil}
-use Rattle.std.proofs.lemmas.List.{nil_from_length, drop-take, take-take}
+use Rattle.std.proofs.lemmas.List.{nil_from_length}
 use Rattle.block_file.specs.declared.block.TheConstants.{BLOCK_HEAD_LEN}
 use Rattle.block_file.specs.File.{IsShutAt}
 use Rattle.journal_record.specs.Entry.{Entry}
@@ -124,7 +124,7 @@ pub record AtEnd (tells : Bool) (w : World) (block text : List ℕ) : Type 0 whe
   pub text_is : (h : History) → Holds tells w h → text ≡ due_lines (close h) w.kept.dues
 
 -- an open ledger by its parts
-abbrev pub ledger_of : books.Kept → List PlaceAt → Pair → ℕ → Bool → ℕ → Ledger
+abbrev pub ledger_of : books.Kept → List PlaceAt → Pair → ℕ → Bool → Edition → Ledger
 ledger_of book places disks place in_a edition = record { known = known_from book places place; in_a = in_a; edition = edition; a = disks.a.bytes; b = disks.b.bytes }
 
 -- the ledger in front of what is given up: the block stands behind its file

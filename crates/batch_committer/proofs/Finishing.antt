@@ -14,7 +14,7 @@ use Rattle.ledger_book.specs.Books.{Serves}
 use Rattle.ledger_book.specs.Steps.{IsSame}
 use Rattle.twin_file.specs.Twin.{open_of, other_of}
 use Rattle.ledger_open.proofs.OldLaws.{same_edition}
-use Rattle.ledger_open.specs.Heads.{edition_of}
+use Rattle.ledger_open.specs.Heads.{Edition, edition_of}
 use Rattle.ledger_open.specs.Opening.{known_from}
 use Rattle.block_file.specs.Places.{body_from, places_in}
 use Rattle.ledger_open.specs.Places.{places_from}

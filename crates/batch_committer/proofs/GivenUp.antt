@@ -1,5 +1,5 @@
 -- What the last journal hides or purges was given up, or a disk failed meanwhile.
-use Rattle.std.specs.Prelude.{Bool, true, false, IsTrue, IsSomeAnd, Option, Some, None}
+use Rattle.std.specs.Prelude.{◌≢◌, Bool, true, false, IsTrue, IsSomeAnd, Option, Some, None}
 use Rattle.std.specs.Option.{is_some}
 use Rattle.std.proofs.Common.{◌≡◌, inl, inr, ℕ, ◌+◌, ◌-◌, ◌<◌, ◌≤◌, List, [], length, get_or, drop, refl, ap, sym, subst, ◌∙◌, arith}
 use Rattle.std.proofs.lemmas.Bool.{true≢false, cases_lt}
@@ -10,24 +10,25 @@ use Rattle.ledger_book.proofs.StandsLaws.{point_is}
 use Rattle.ledger_disk.specs.Disk.{DiskState, State, settled_state}
 use Rattle.ledger_disk.specs.Guards.{Outside}
 use Rattle.ledger_model.specs.History.{History, point}
+use Rattle.ledger_open.proofs.OldLaws.{same_edition}
 use Rattle.ledger_open.specs.Heads.{Edition, edition_of}
 use Rattle.ledger_open.specs.Cutting.{IsPrepared, gate_behind}
 use Rattle.ledger_open.specs.Erasing.{GivesUp, LeavesRest, StandsMeanwhile}
 use Rattle.ledger_open.specs.Opening.{CountsTwoErr}
 use Rattle.ledger_open.specs.Purging.{Ledger, FinishesPurge, StandsOpen, StandsPurging, IsCleanOpen, IsAtGate}
-use Rattle.ledger_open.specs.Standing.{floor_behind, hidden_before}
+use Rattle.ledger_open.specs.Standing.{floor_behind, hidden_before, point_before}
 use Rattle.ledger_open.specs.Places.{AreInOrder}
 use Rattle.ledger_open.specs.declared.failure.OpenErr.{OpenErr}
 use Rattle.ledger_open.specs.declared.failure.OpenErr.TheVariants.{DiskFault}
 use Rattle.block_file.specs.declared.place.PlaceAt.{PlaceAt}
 use Rattle.ledger_open.specs.declared.purging.Purge.{Purge}
 use Rattle.ledger_open.proofs.FinishLaws.{given_clean}
-use Rattle.ledger_open.proofs.FinishedLaws.{falls, floor_under, purge}
+use Rattle.ledger_open.proofs.FinishedLaws.{falls, floor_under, under}
 use Rattle.twin_file.specs.Twin.{open_of, other_of}
 use Rattle.batch_committer.specs.Committed.{IsStanding, IsFinished, IsUnfinished, open_bytes, other_bytes}
 use Rattle.batch_committer.specs.World.{Pair}
 use Rattle.batch_committer.proofs.Closing.{pair_alone, open_left, length_clean}
-use Rattle.batch_committer.proofs.Ending.{by_head, ledger_of}
+use Rattle.batch_committer.proofs.Ending.{ledger_of}
 use Rattle.batch_committer.proofs.Finishing.{both_quiet, quiet_open}
 use Rattle.batch_committer.proofs.Ordering.{between_order}
 use Rattle.batch_committer.proofs.Parting.{gate_one}
@@ -150,10 +151,16 @@ module _ (tells : Bool) (book : books.Kept) (places : List PlaceAt) (place : ℕ
 
 -- ---- a purge that was finished, or a disk failed meanwhile
 
+-- where the open file begins in front of the point, the last journal is a purge
+purge_there : (l : Ledger) (h : History) → StandsOpen l h → l.known.book.floor < l.known.book.point → point_before h ≢ point h
+purge_there l h s below same =
+    let less = under l h s below in
+    elim s.stands.begins [ inl at ↦ omega (arith, at, less) | inr at ↦ omega (arith, at, same, less) ]
+
 pub purge_unfinished : (tells : Bool) (old : Ledger) (before after : Pair) (e : OpenErr) → old.known.book.floor < old.known.book.point → e ≡ DiskFault → CountsTwoErr e before.a.faults after.a.faults before.b.faults after.b.faults
     → (IsTrue tells → StandsPurging old after.a.bytes after.b.bytes) → IsUnfinished tells old before after
 purge_unfinished tells old before after e less is counts images = record {
-  meanwhile = λ t h s i j left_a left_b. record { pair = images t h s.stands i j left_a left_b; alone = inr (purge old h s.stands less) };
+  meanwhile = λ t h s i j left_a left_b. record { pair = images t h s.stands i j left_a left_b; alone = inr (purge_there old h s.stands less) };
   failed = subst (λ (x : OpenErr). CountsTwoErr x before.a.faults after.a.faults before.b.faults after.b.faults) is counts;
 }
 

@@ -7,7 +7,7 @@ use Rattle.std.proofs.lemmas.List.Elements.{All-nil, All-cons, All-get_or}
 use Rattle.ledger_bytes.specs.Digests.{digest}
 use Rattle.script_lines.specs.BlockEnds.{block_end}
 use Rattle.ledger_model.specs.Dues.{due_line, due_lines, IsWaiting, AllWaiting, IsWithin}
-use Rattle.ledger_model.specs.History.{History, journals, size, blocks, root, point, close, block_of, end_of}
+use Rattle.ledger_model.specs.History.{History, journals, size, blocks, root, point, close, end_of}
 use Rattle.ledger_model.specs.declared.answer.Answer.{Answer}
 use Rattle.ledger_model.specs.declared.answer.Answer.TheVariants.{Reply, Receipt}
 use Rattle.ledger_model.specs.declared.due.Due.{Due}
@@ -15,7 +15,7 @@ use Rattle.ledger_model.proofs.GrowLaws.{IsEnded, close_none, size_closed}
 use Rattle.ledger_model.proofs.WaitLaws.{leaf_within}
 use Rattle.ledger_book.specs.Books as books
 use Rattle.ledger_book.specs.Books.{sealed_size}
-use Rattle.batch_committer.specs.Steps.{AllKept, AreLastFrom, end_in, last_end}
+use Rattle.batch_committer.specs.Steps.{AllKept, AreLastFrom}
 use Rattle.batch_committer.specs.World.{CommitterState, Keeps, sealed_part}
 use Rattle.batch_committer.proofs.Closing.{closed_is}
 use Rattle.batch_committer.proofs.LastBlock.{block_of-ended, end_of-ended}

@@ -1,4 +1,4 @@
-use Rattle.std.proofs.Common.{◌≡◌, ◌++◌, sym, ap, ◌∙◌}
+use Rattle.std.proofs.Common.{◌++◌, sym, ap, ◌∙◌}
 use Rattle.ledger_model.specs.Dues.{due_line}
 use Rattle.batch_committer.proofs.Spelling.{lines_more, kept_at}
 use Rattle.batch_committer.proofs.dues.spell.Goals as goal

@@ -10,7 +10,7 @@ use Rattle.ledger_open.proofs.FinishedLaws.{twin_stays, counts_stay}
 use Rattle.ledger_open.specs.declared.opened.Opened.{Opened}
 use Rattle.batch_committer.specs.Committed.{ledger_on, IsFinished}
 use Rattle.batch_committer.specs.World.{pair}
-use Rattle.batch_committer.proofs.GivenUp.{prepared_some, prepared_none, erased_finished, erased_unfinished, purge_finished, told_apart, told_together}
+use Rattle.batch_committer.proofs.GivenUp.{prepared_some, prepared_none, erased_finished, erased_unfinished, purge_finished, purge_unfinished, told_apart, told_together}
 use Rattle.batch_committer.proofs.Ordering.{inside_order}
 use Rattle.batch_committer.proofs.giving.give_up.Goals as goal
 
@@ -54,3 +54,11 @@ returns-clause-err g c =
     let before = pair (g.D.Disk.state c.args.a.now) (g.D.Disk.state c.args.b.now) in
     let after = pair (g.D.Disk.state c.finish_erasures.new.a) (g.D.Disk.state c.finish_erasures.new.b) in
     erased_unfinished g.D.Disk.tells o.book o.places.list (gate_of (file_of o.twin)) (in_a_of o.twin) (edition_in o.twin) before after e.other _ e.only e.faults e.images
+
+pub returns-then-is_some-clause-err : goal.returns-then-is_some-clause-err
+returns-then-is_some-clause-err g c =
+    let e = c.in-Err.ensures in
+    let o = c.args.opened.now in
+    let before = pair (g.D.Disk.state c.args.a.now) (g.D.Disk.state c.args.b.now) in
+    let after = pair (g.D.Disk.state c.purge_files.new.a) (g.D.Disk.state c.purge_files.new.b) in
+    purge_unfinished g.D.Disk.tells (ledger_on o before) before after _ (prepared_some o.book o.places.list c.args.purge c.is_some.result c.is_some.ensures c.if-is_some.true c.requires.prepared) e.only e.faults c.purge_files.ensures.left.images

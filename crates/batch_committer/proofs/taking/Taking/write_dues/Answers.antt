@@ -1,4 +1,4 @@
-use Rattle.std.proofs.Common.{◌≡◌, [], sym, ap, subst, refl, ◌∙◌}
+use Rattle.std.proofs.Common.{◌≡◌, [], sym, subst, refl, ◌∙◌}
 use Rattle.ledger_model.specs.History.{History, close}
 use Rattle.ledger_book.specs.Books.{Serves}
 use Rattle.batch_committer.specs.World.{CommitterState}
