@@ -101,7 +101,7 @@ pub dumped : (tells : Bool) (source : SourceState) (sink t : SinkState) (n m : N
     → Exports tells (ending_of_export result) (handed source sink old n) (handed source t last m)
 dumped tells source sink t n m old now last k in_a start blocks opened limits r a b result w damage other = record {
   serves = λ told h p.
-      let held = opened_held tells k in_a 0 start blocks old.a.bytes old.b.bytes now sink h opened limits told (r told) p in
+      let held = opened_held tells k in_a (edition_from 2 0) start blocks old.a.bytes old.b.bytes now sink h opened limits told (r told) p in
       let none = none_waits old.a.bytes.seen old.b.bytes.seen h p in
       let read : IsReadAs k.book k.places (open_of in_a now.a now.b).bytes.seen h =
       subst (λ (s : State). IsReadAs k.book k.places s.seen h) (sym (open_bytes in_a now.a now.b)) (read_as_held tells (kept_from k in_a (edition_from 2 0)) now sink h held none in_a refl) in
