@@ -257,7 +257,7 @@ fn stays_carried<R: Threads>(
     for pick in PICKS {
         for stop in 0..CALLS {
             let (_, a, b) = open_until(rt, alloc, a, b, pick, stop)?;
-            let (opened, a, b) = open_until(rt, alloc, &a, &b, pick, CALLS)?;
+            let (opened, mut a, b) = open_until(rt, alloc, &a, &b, pick, CALLS)?;
             let is_whole = opened == Ok(3) && a.len() == Ok(0);
             if !is_whole || b.bytes()?.as_slice() != carried {
                 return Ok(false);
