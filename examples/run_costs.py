@@ -3,14 +3,16 @@
 
 The ledger is made in a folder of its own, which is removed at the end; with files in memory where TMPDIR names such a folder. The script
 of lines is written before, and read from a file. TIMES times a new ledger is run and opened, and the medians are printed. With --lanes the
-lines go round by so many lanes, with --numbers they are numbered, and with --purge an anchor behind half of them is purged to. Ends with 1
-where a run ends with another status than 0.
+lines go round by so many lanes, with --numbers they are numbered, and with --purge an anchor behind half of them is purged to. With --older
+the file is given version 1, and the opening is measured that carries it over, beside a copy of as many bytes with a sync. Ends with 1 where
+a run ends with another status than 0.
 """
 import os
 import shutil
 import statistics
 import sys
 import tempfile
+import time
 
 from common import append_line, built_program, made_ledger, purge_line, run_script, timed, words_of
 
@@ -21,6 +23,7 @@ def main():
     parser.add_argument("--lanes", type=int, default=1, choices=range(1, 9), help="on how many lanes the lines come")
     parser.add_argument("--numbers", action="store_true", help="the records are numbered")
     parser.add_argument("--purge", action="store_true", help="purge the first half, too")
+    parser.add_argument("--older", action="store_true", help="open the ledger from a file of version 1, too")
     parser.add_argument("count", metavar="COUNT", nargs="?", type=int, default=100_000)
     parser.add_argument("times", metavar="TIMES", nargs="?", type=int, default=5)
     words = parser.parse_args()
@@ -54,10 +57,28 @@ def measured(program, room, words):
         anchors = [int(receipt[2]) for receipt in (line.split() for line in file) if len(receipt) == 9]
     write(script, b"0 head\n")
     yield f"opening, {os.path.getsize(os.path.join(folder, 'ledger.a'))} bytes", timed([program, "run", folder], script, out)
+    if words.older:
+        yield from carried(program, folder, script, out)
     for point in anchors:
         root = run_script(program, folder, f"0 purge {point} {'0' * 64} -\n".encode()).stdout.split()[3].decode()
         write(script, purge_line(ledger, point, root))
         yield "opening, and purging the first half", timed([program, "run", folder], script, out)
+
+
+# What it takes to carry the ledger over from a file of version 1, and to copy as many bytes.
+def carried(program, folder, script, out):
+    path = os.path.join(folder, "ledger.a")
+    with open(path, "r+b") as file:
+        file.seek(9)
+        file.write(b"\x01")
+    begun = time.perf_counter()
+    shutil.copyfile(path, path + ".copy")
+    with open(path + ".copy", "rb") as file:
+        os.fsync(file.fileno())
+    seconds = time.perf_counter() - begun
+    os.remove(path + ".copy")
+    yield "copying as many bytes", (seconds, 0, 0)
+    yield "opening a file of version 1, which is carried over", timed([program, "run", folder], script, out)
 
 
 def write(path, text):
