@@ -1,5 +1,5 @@
 -- What a header's own version is.
-use Rattle.std.proofs.Common.{◌≡◌, ◌⊎◌, ℕ, ◌||◌, Bool, true, false, cond, eqb, leb, inl, inr, refl, sym, ap, ◌∙◌}
+use Rattle.std.proofs.Common.{◌≡◌, ◌⊎◌, ℕ, ◌&&◌, ◌||◌, Bool, true, false, cond, eqb, leb, inl, inr, refl, sym, ap, ◌∙◌}
 use Rattle.std.proofs.lemmas.Bool.{eqb-true}
 use Rattle.journal_record.specs.declared.header.Kind.{Kind}
 use Rattle.journal_record.specs.declared.header.Kind.TheVariants.{Genesis, Content, Member, Time, Occult, Purge}
@@ -18,22 +18,27 @@ one_known : (b : Bool) → is_version (one_of b) ≡ true
 one_known true = refl
 one_known false = refl
 
-one_itself : (b : Bool) → leb (one_of b) (one_of b) ≡ true
-one_itself true = refl
-one_itself false = refl
+-- a test more never makes it the first
+one_more : (p q : Bool) → leb (one_of (p && true)) (one_of (p && q)) ≡ true
+one_more true true = refl
+one_more true false = refl
+one_more false q = refl
 
-one_least : (b : Bool) → leb 1 (one_of b) ≡ true
-one_least true = refl
-one_least false = refl
+one_less : (p q : Bool) → leb (one_of (true && q)) (one_of (p && q)) ≡ true
+one_less true true = refl
+one_less true false = refl
+one_less false true = refl
+one_less false false = refl
 
-one_first : (b : Bool) → leb (one_of b) 1 ≡ true → one_of b ≡ 1
-one_first true x = refl
-one_first false x = absurd cc
+one_both : (p q : Bool) → leb (one_of (p && true)) 1 ≡ true → leb (one_of (true && q)) 1 ≡ true → one_of (p && q) ≡ 1
+one_both true true x y = refl
+one_both true false x y = absurd cc
+one_both false q x y = absurd cc
 
 -- a header's own version is known
 pub version_known : (kind : Kind) (a len : ℕ) → is_version (version_of kind a len) ≡ true
 version_known Genesis a len = refl
-version_known Content a len = one_known (eqb a 0)
+version_known Content a len = one_known (eqb a 0 && leb len 65_536)
 version_known Member a len = refl
 version_known Time a len = refl
 version_known Occult a len = refl
@@ -42,7 +47,7 @@ version_known Purge a len = refl
 -- .. and carries what goes by the kind
 pub version_carries_a : (kind : Kind) (a len : ℕ) → carries_a (version_of kind a len) kind a ≡ true
 version_carries_a Genesis a len = refl
-version_carries_a Content a len = one_itself (eqb a 0)
+version_carries_a Content a len = one_more (eqb a 0) (leb len 65_536)
 version_carries_a Member a len = refl
 version_carries_a Time a len = refl
 version_carries_a Occult a len = refl
@@ -50,7 +55,7 @@ version_carries_a Purge a len = refl
 
 pub version_carries_len : (kind : Kind) (a len : ℕ) → carries_len (version_of kind a len) kind len ≡ true
 version_carries_len Genesis a len = refl
-version_carries_len Content a len = one_least (eqb a 0)
+version_carries_len Content a len = one_less (eqb a 0) (leb len 65_536)
 version_carries_len Member a len = refl
 version_carries_len Time a len = refl
 version_carries_len Occult a len = refl
@@ -59,7 +64,7 @@ version_carries_len Purge a len = refl
 -- fields that the first version carries have it
 first_is : (kind : Kind) (a len : ℕ) → carries_a 1 kind a ≡ true → carries_len 1 kind len ≡ true → version_of kind a len ≡ 1
 first_is Genesis a len x y = refl
-first_is Content a len x y = one_first (eqb a 0) x
+first_is Content a len x y = one_both (eqb a 0) (leb len 65_536) x y
 first_is Member a len x y = refl
 first_is Time a len x y = refl
 first_is Occult a len x y = refl

@@ -23,10 +23,10 @@ kind_of (suc (suc (suc (suc (suc (suc n)))))) = None
 abbrev pub is_no_clue : Digest → Bool
 is_no_clue clue = bytes_eq clue.0 zero_digest.0
 
--- The version of a header, by three of its other fields: 1 exactly where the first version can carry them. A record with a
--- number needs the second.
+-- The version of a header, by three of its other fields: 1 exactly where the first version can carry them. A record
+-- with a number needs the second, and so does one whose content is longer than 65,536 bytes.
 abbrev pub version_of : Kind → ℕ → ℕ → ℕ
-version_of Content a content_len = if a == 0 then 1 else 2
+version_of Content a content_len = if a == 0 && nat_le content_len 65_536 then 1 else 2
 version_of kind a content_len = 1
 
 -- a version that is known

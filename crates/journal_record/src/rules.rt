@@ -6,11 +6,14 @@ ghost use Rattle.journal_record.specs.Rules as rule;
 use crate::{Header, Kind};
 use ledger_bytes::{CONTENT_LIMIT, Digest, MEMBER_LIMIT};
 
-/// The version of the first layout, which carries no number of a record.
+/// The version of the first layout, which carries no number of a record and no content above its limit.
 const FIRST_VERSION: u8 = 1;
 
 /// The version that carries what the first doesn't.
 const SECOND_VERSION: u8 = 2;
+
+/// The longest content that the first version carries.
+const FIRST_CONTENT_LIMIT: u32 = 65_536;
 
 const OPERATOR: u32 = 0;
 
@@ -30,12 +33,12 @@ pub(crate) fn is_no_clue(clue: &Digest) -> bool
 }
 
 /// The version of a header with these fields: 1 exactly where the first version can carry them.
-pub fn version_of(kind: Kind, a: u64, _content_len: u32) -> u8
-    ensures { result ≡ rule.version_of kind a _content_len }
+pub fn version_of(kind: Kind, a: u64, content_len: u32) -> u8
+    ensures { result ≡ rule.version_of kind a content_len }
 {
     match kind {
         Kind::Content => {
-            if a == 0 {
+            if a == 0 && content_len <= FIRST_CONTENT_LIMIT {
                 FIRST_VERSION
             } else {
                 SECOND_VERSION

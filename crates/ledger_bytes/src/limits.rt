@@ -10,7 +10,7 @@ pub const MEMBER_LIMIT: u32 = 256;
 pub const APPROVAL_LIMIT: usize = 256;
 
 /// The most bytes of a content.
-pub const CONTENT_LIMIT: u32 = 65_536;
+pub const CONTENT_LIMIT: u32 = 1_048_576;
 
 /// The most bytes of a proof.
 pub const PROOF_LIMIT: usize = 4_096;

@@ -33,7 +33,7 @@ pub enum Request {
         member: u32,
         /// The clue's digest, 32 zero bytes where there is no clue.
         clue: Digest,
-        /// The content's length in bytes, up to 65,536.
+        /// The content's length in bytes, up to 1,048,576.
         content_len: u32,
         content_digest: Digest,
         /// The number that the member gives the request, or 0 where it gives none.

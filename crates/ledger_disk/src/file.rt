@@ -12,7 +12,7 @@ use std::alloc::Global;
 use std::fs::{File, OpenOptions};
 use std::io;
 use std::os::fd::AsRawFd;
-use std::os::unix::fs::FileExt;
+use std::os::unix::fs::{FileExt, OpenOptionsExt};
 use std::path::Path;
 use std::rt::Files;
 
@@ -21,6 +21,9 @@ const MOST_BYTES: u64 = 1 << 62;
 
 // The first descriptor that is no standard stream.
 const FIRST_FREE: i32 = 3;
+
+// The rights of a file that is made: its owner may read and write it, and nobody else may do anything.
+const OWNER_ALONE: u32 = 0o600;
 
 /// A disk over a real file, which it opens or makes at its first call. It then locks the file (`flock`) until the disk is
 /// dropped, and syncs the file's folder, so that the file's name stands for good from that call's Ok on. The call fails
@@ -94,6 +97,7 @@ fn open<R: Files<File = File>>(files: &R, path: &str) -> io::Result<(File, u64)>
         .read(true)
         .write(true)
         .create(true)
+        .mode(OWNER_ALONE)
         .open(files, path)?;
     // A descriptor below 3 is that of a standard stream which was closed: what is written there would land in the file.
     if file.as_raw_fd() < FIRST_FREE {

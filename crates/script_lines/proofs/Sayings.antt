@@ -73,7 +73,7 @@ unfolding append_at
 append_at-words member clue content proof number is =
     let m = number_of-word member is.0 in
     let c = clue_of-text clue is.1 in
-    let b = bytes_of-hex 65536 content is.2 in
+    let b = bytes_of-hex 1048576 content is.2 in
     let p = bytes_of-hex 4096 proof is.3 in
     rw (m, c, b, p) (by (number == 0) (none_is number) (λ some. request_number_of-decimal number some is.4)) where
       line : ℕ → Line

@@ -12,7 +12,7 @@ pub enum Line {
         member: u32,
         /// The clue's name, up to 64 bytes. No clue is the empty name.
         clue: Bytes,
-        /// What the journal is to hold, up to 65,536 bytes.
+        /// What the journal is to hold, up to 1,048,576 bytes.
         content: Bytes,
         /// The member's proof, up to 4,096 bytes.
         proof: Bytes,
