@@ -281,8 +281,8 @@ pub fn a_placed_number_is_repeated()
         → fits_job (jobs.Append member clue content content_digest request by who number) ≡ true
         → own_refusal real_limits h (jobs.Append member clue content content_digest request by who number) ≡ None
         → repeated h member number request ≡ None
-        → repeated (after_job h step (jobs.Append member clue content content_digest request by who number)) member number request
-        ≡ Some (size h) }
+        → repeated (after_job h step (jobs.Append member clue content content_digest request by who number))
+        member number request ≡ Some (size h) }
 {}
 
 /// Where what was written begins the lines of dues whose journals stand in some blocks, and these begin those of the history in
