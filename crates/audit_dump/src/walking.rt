@@ -29,7 +29,7 @@ pub(crate) struct Break {
 // How many bytes the next journal has, which the window then holds whole; or how it breaks. Nothing is taken from the
 // window.
 //
-// The source is read until the window holds as many bytes as the longest journal has, 1,115,827, or the source ends; each
+// The source is read until the window holds as many bytes as the longest journal has, 2,098,867, or the source ends; each
 // read asks for 64 KiB at most, so memory doesn't grow with the input. `ReadFault` where a read failed, `ScriptTooLong`
 // where 2^40 bytes were read and more are wanted, and `NoMemory`; `LineTooLong` doesn't come. The bytes that were read
 // stay in the window.

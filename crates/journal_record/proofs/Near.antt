@@ -5,6 +5,7 @@ use Rattle.std.specs.Prelude.{nat_le}
 use Rattle.std.proofs.lemmas.Bool.{cases_lt, lt-ltb, le-ltb, leb-true}
 use Rattle.std.proofs.lemmas.List.{take-append-le, drop-append-le}
 use Rattle.ledger_bytes.specs.declared.failure.Bad.{Bad}
+use Rattle.ledger_bytes.specs.declared.limits.TheConstants.{CONTENT_LIMIT}
 use Rattle.ledger_bytes.specs.Fields.{Unread, left_from, ◌>>=◌, bytes_at, number_at, digest_at, check, IsBytes}
 use Rattle.journal_record.specs.declared.approval.TheConstants.{WHO_LIMIT}
 use Rattle.journal_record.specs.declared.header.Header.{Header}
@@ -196,10 +197,10 @@ behind_local h = local_then (body_at h) _ (1 + h.content_len) (4 + WHO_LIMIT) (b
     (λ body. local_then (who_at (who_place h body)) _ (4 + WHO_LIMIT) 0 (who_local (who_place h body)) (λ who. nothing_local _))
 
 -- no header names a longer content
-content_few : (h : Header) → IsHeader h → h.content_len ≤ 65536
+content_few : (h : Header) → IsHeader h → h.content_len ≤ CONTENT_LIMIT
 content_few h rules = few h.kind h.content_len rules.content_len
   where
-    few : (kind : Kind) (len : ℕ) → IsTrue (content_len_ok kind len) → len ≤ 65536
+    few : (kind : Kind) (len : ℕ) → IsTrue (content_len_ok kind len) → len ≤ CONTENT_LIMIT
     few kind.Genesis len ok = grind (arith, ok)
     few kind.Content len ok = grind (arith, ok)
     few kind.Member len ok = grind (arith, ok)

@@ -186,7 +186,7 @@ fn take_who<'a>(reader: &mut FieldReader<'a>, at: u64) -> Result<&'a [u8], Bad>
 
 /// Reading a journal of a dump is the inverse of spelling it: one that keeps every rule is read from its bytes, whatever
 /// follows, and what is read keeps every rule and has these bytes. Where as many bytes are left as the longest journal
-/// has, 1,115,827, neither what stands behind them nor the length of the whole input makes a difference.
+/// has, 2,098,867, neither what stands behind them nor the length of the whole input makes a difference.
 pub fn is_inverse_of_dumping()
     ensures back { ReadsBack items.item_at item_text IsItem }
     ensures near { (whole longer : ℕ) (rest more : List ℕ) → IsBytes rest
