@@ -52,8 +52,8 @@ fn at(column: u32) -> Form {
 #[test]
 fn keeps_to_limits(rt: HostRuntime) -> Result<(), Fail> {
     for (content, proof, wanted) in [
-        (65_536, 4_096, Form::Append(3, 0, 65_536, 4_096, 0)),
-        (65_537, 4_097, at(5)),
+        (1_048_576, 4_096, Form::Append(3, 0, 1_048_576, 4_096, 0)),
+        (1_048_577, 4_097, at(5)),
         (1, 4_097, at(6)),
     ] {
         let mut line = b"0 append 3 - ".to_vec(rt.alloc())?;

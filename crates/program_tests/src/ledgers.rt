@@ -17,6 +17,7 @@ mod disks;
 mod erasing;
 mod exports;
 mod lanes;
+mod large;
 mod notaries;
 mod occults;
 mod proofs;

@@ -217,14 +217,9 @@ fn encodes_and_decodes_each_kind(rt: HostRuntime) -> Result<(), Fail> {
         let header = header_of(&row)?;
         let bytes = header.encode();
         let text = hex::encode(rt.alloc(), bytes)?;
-        // Without a number there is no header of version 2.
-        let read = match (row.version, row.a) {
-            (2, 0) => Err(Bad::BadFixedField { at: 0 }),
-            _ => Ok(header),
-        };
         assert_eq!(rt;
             (text.as_str(), Header::decode(&bytes)),
-            (row.bytes, read),
+            (row.bytes, Ok(header)),
             "at journal {}",
             row.jsn
         );
@@ -233,13 +228,15 @@ fn encodes_and_decodes_each_kind(rt: HostRuntime) -> Result<(), Fail> {
 }
 
 // A journal of `ROWS`, a byte of it and what stands there instead, and why that is refused.
-const CHANGED: [(usize, usize, u8, Bad); 6] = [
+const CHANGED: [(usize, usize, u8, Bad); 8] = [
     (2, 0, 0, Bad::NewerFormat { found: 0 }),
     (2, 0, 3, Bad::NewerFormat { found: 3 }),
     (2, 0, 2, Bad::BadFixedField { at: 0 }),
     (3, 0, 2, Bad::BadFixedField { at: 0 }),
     (8, 65, 0, Bad::BadFixedField { at: 0 }),
     (2, 65, 1, Bad::BadFixedField { at: 58 }),
+    (9, 0, 1, Bad::BadFixedField { at: 106 }),
+    (9, 109, 0, Bad::BadFixedField { at: 0 }),
 ];
 
 #[test]
