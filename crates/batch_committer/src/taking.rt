@@ -173,6 +173,7 @@ impl Taking {
             return self.write_dues(sink);
         }
         let first = self.opened.book.sealed_size();
+        // The block ends in the book before its receipts are spelled, since they tell the root behind it.
         self.opened.book.seal();
         spell(
             self.alloc,
@@ -183,9 +184,13 @@ impl Taking {
         )?;
         self.block.finish(count, &self.opened.book.head().root)?;
         let purge = prepare(self.alloc, &self.opened.book, &self.opened.places)?;
+        // All memory is taken: from here on only a disk or the sink fails, so no block that stands is left without its
+        // receipts for want of memory. They come behind both syncs, and behind what their journal gives up.
         commit(&mut self.opened.twin, a, b, self.block.as_slice())?;
         let gone = give_up(&mut self.opened, a, b, purge)?;
         let written = write_all(sink, self.text.as_slice());
+        // Receipts don't wait until memory is given back. The files have let go of it already, so the book does also where
+        // the receipts couldn't be written.
         let_go(&mut self.opened, gone);
         written?;
         self.block.clear();

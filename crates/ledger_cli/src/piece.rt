@@ -102,6 +102,7 @@ impl Piece {
         if !self.is_alone() {
             return None;
         }
+        // One line is there, or it wouldn't be alone.
         let Some(said) = self.lines.pop() else {
             unreachable!()
         };
