@@ -2,26 +2,35 @@
 use Rattle.std.specs.Prelude.{◌≡◌, ◌⊎◌, ℕ, ◌+◌, List, [], ◌∷◌, ◌++◌, length, take, replicate, Bool, IsTrue}
 use Rattle.ledger_disk.specs.Disk.{State, MayLeave}
 use Rattle.ledger_disk.specs.Guards.{Outside}
-use Rattle.block_file.specs.File.{IsFileOf, HasBlock, IsSettled, IsShutAt, tail_of, with_content}
+use Rattle.block_file.specs.File.{IsFileOf, HasGroup, IsSettled, IsShutAt, tail_of, with_content}
 use Rattle.block_file.specs.FileView.{gate_of}
 use Rattle.block_file.specs.declared.file.BlockFile.{BlockFile}
 
--- This block was added behind the tail gate, and each image has it. The file's head stays.
-pub record AddsBlock (tells : Bool) (file file_new : BlockFile) (block : List ℕ) (old new : State) : Type 0 where
+-- The blocks of this group were added behind the tail gate, in their order, and each image has all of them. The file's head
+-- stays.
+pub record AddsGroup (tells : Bool) (file file_new : BlockFile) (group : List (List ℕ)) (old new : State) : Type 0 where
   pub has : IsTrue tells → (front : List ℕ) (blocks : List (List ℕ)) → IsFileOf front blocks old.seen → tail_of front blocks ≡ gate_of file
-      → HasBlock front blocks block new
+      → HasGroup front blocks group new
   pub images : IsTrue tells → (front : List ℕ) (blocks : List (List ℕ)) → IsFileOf front blocks old.seen → tail_of front blocks ≡ gate_of file
-      → (image : List ℕ) → MayLeave new image → IsFileOf front (blocks ++ block ∷ []) image
+      → (image : List ℕ) → MayLeave new image → IsFileOf front (blocks ++ group) image
   pub gate : IsTrue tells → IsShutAt (gate_of file_new) new.seen
   pub head : IsTrue tells → take 64 new.seen ≡ take 64 old.seen
   -- a file that ended with its tail gate ends with its new one
   pub ends : IsTrue tells → length old.seen ≡ gate_of file + 1 → length new.seen ≡ gate_of file_new + 1
 
+-- This block was added behind the tail gate, and each image has it. The file's head stays.
+abbrev pub AddsBlock : Bool → BlockFile → BlockFile → List ℕ → State → State → Type 0
+AddsBlock tells file file_new block old new = AddsGroup tells file file_new (block ∷ []) old new
+
+-- where nothing was pending, an image has all blocks of the group, in their order, or none of them
+abbrev pub MayAddGroup : ℕ → List (List ℕ) → State → State → Type 0
+MayAddGroup at group old new =
+    IsSettled old → (front : List ℕ) (blocks : List (List ℕ)) → IsFileOf front blocks old.seen → tail_of front blocks ≡ at
+    → (image : List ℕ) → MayLeave new image → IsFileOf front blocks image ⊎ IsFileOf front (blocks ++ group) image
+
 -- where nothing was pending, an image has the block whole or not at all
 abbrev pub MayAddBlock : ℕ → List ℕ → State → State → Type 0
-MayAddBlock at block old new =
-    IsSettled old → (front : List ℕ) (blocks : List (List ℕ)) → IsFileOf front blocks old.seen → tail_of front blocks ≡ at
-    → (image : List ℕ) → MayLeave new image → IsFileOf front blocks image ⊎ IsFileOf front (blocks ++ block ∷ []) image
+MayAddBlock at block old new = MayAddGroup at (block ∷ []) old new
 
 -- where this range is a content in a block, that content is zeros, and all else stands
 abbrev pub ZerosContent : ℕ → ℕ → State → State → Type 0

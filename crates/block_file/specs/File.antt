@@ -66,15 +66,33 @@ IsZeros at n file = take n (drop at file) ≡ replicate n 0
 abbrev pub IsSettled : State → Type 0
 IsSettled s = s ≡ settled_state s.seen
 
--- A file once a block and a new tail gate were written behind the gate at this place, which is shut still: the first step of
--- a commit.
+-- A file once the bytes of a block or of a group, and a new tail gate, were written behind the gate at this place, which is shut
+-- still: the first step of a commit.
 -- Example: in 9 9 00 the gate stands at 2. With the block 5 6 the file is 9 9 00 5 6 00. Of a longer one, 9 9 00 7 7 7 7 7,
 -- the last two bytes stay: 9 9 00 5 6 00 7 7. The second step makes the byte at 2 a 01, and the block counts.
 abbrev pub staged_file : ℕ → List ℕ → List ℕ → List ℕ
-staged_file at block file = take (at + 1) file ++ block ++ 0 ∷ drop (at + 2 + length block) file
+staged_file at bytes file = take (at + 1) file ++ bytes ++ 0 ∷ drop (at + 2 + length bytes) file
+
+-- The bytes of a group of blocks, which are committed together: the first block stands there without its gate, and each further
+-- one behind an open gate. So one gate in front opens all of them.
+-- Example: the group of the blocks 5 6 7, 8 and 9 9 has the bytes 5 6 7 01 8 01 9 9. That of one block has the bytes of the block.
+abbrev pub group_bytes : List (List ℕ) → List ℕ
+group_bytes [] = []
+group_bytes (block ∷ more) = block ++ open_blocks more
+
+-- these bytes are those of a group of one or more blocks
+pub record IsGroupOf (group : List (List ℕ)) (bytes : List ℕ) : Type 0 where
+  pub some : 1 ≤ length group
+  pub is : bytes ≡ group_bytes group
+
+-- All blocks of a group were added to a file, in their order, and nothing is pending, so they are there in each image.
+-- Example: the file of the front 9 9 and the block 5 was 9 9 01 5 00. With the group of the blocks 6 7 and 8 it is
+-- 9 9 01 5 01 6 7 01 8 00, for good.
+pub record HasGroup (front : List ℕ) (blocks group : List (List ℕ)) (s : State) : Type 0 where
+  pub nothing_pending : IsSettled s
+  pub stands : IsFileOf front (blocks ++ group) s.seen
 
 -- A block was added to a file, and nothing is pending, so it is there in each image.
 -- Example: the file of the front 9 9 and the block 5 was 9 9 01 5 00. With the block 6 7 it is 9 9 01 5 01 6 7 00, for good.
-pub record HasBlock (front : List ℕ) (blocks : List (List ℕ)) (block : List ℕ) (s : State) : Type 0 where
-  pub nothing_pending : IsSettled s
-  pub stands : IsFileOf front (blocks ++ block ∷ []) s.seen
+abbrev pub HasBlock : List ℕ → List (List ℕ) → List ℕ → State → Type 0
+HasBlock front blocks block s = HasGroup front blocks (block ∷ []) s

@@ -6,7 +6,7 @@ ghost use Rattle.block_file.specs.Head.{Counts, CountsAlone, CountsTwoAlone, dig
 ghost use Rattle.block_file.specs.Blocks.{AreBlock, IsRead, IsNextBlock, GivesBlock, GivesEnd};
 ghost use Rattle.journal_record.specs.Blocks.{block_bytes};
 ghost use Rattle.journal_record.specs.Entry.{Entry};
-ghost use Rattle.block_file.specs.File.{IsFileOf, IsSettled, IsShutAt, IsZeros, IsVeiled, IsScrapOf, tail_of, whole_file, open_blocks};
+ghost use Rattle.block_file.specs.File.{IsFileOf, IsGroupOf, IsSettled, IsShutAt, IsZeros, IsVeiled, IsScrapOf, tail_of, whole_file, open_blocks};
 
 use crate::copying::put_copy;
 use crate::head::{base_digest, check_form, read_fields};
@@ -34,7 +34,7 @@ pub struct BlockFile {
 }
 
 impl BlockFile {
-    ghost use Rattle.block_file.specs.Changes.{AddsBlock, KeepsOutside, MayAddBlock, ZerosContent};
+    ghost use Rattle.block_file.specs.Changes.{AddsBlock, AddsGroup, KeepsOutside, MayAddBlock, MayAddGroup, ZerosContent};
     ghost use Rattle.block_file.specs.FileView.{gate_of, base_len_of, base_digest_of, KeepsBase};
 
     /// What the head of a file tells, and None where the file is shut. Of an open file the magic is looked at first,
@@ -401,9 +401,31 @@ impl BlockFile {
             (λ n. gate_of self.new + 1 ≤ n)) }
         ensures faults { CountsAlone result (D.state disk.old).faults (D.state disk.new).faults }
     {
-        stage(disk, self.at, block)?;
+        self.commit_blocks(disk, block)
+    }
+
+    /// Commits the blocks of a group together: the first is given without its gate, and each further one behind an open
+    /// gate. They are written behind the tail gate, by one write, with a new tail gate behind them; then the disk is
+    /// synced, the one gate in front is opened by a write of its own, and the disk is synced again.
+    pub fn commit_blocks<D: Disk>(&mut self, disk: &mut D, bytes: &[u8]) -> Result<(), FileErr>
+        requires length { IfSome (D.state disk.old).told (λ n. gate_of self.old + 1 ≤ n) }
+        requires gate { IsTrue D.tells → IsShutAt (gate_of self.old) (D.state disk.old).bytes.seen }
+
+        // Each image has all of them from then on, or, after an error, an image has all or none.
+        ensures ok { OnOk result ((group : List (List ℕ)) → IsGroupOf group bytes.now
+            → AddsGroup D.tells self.old self.new group (D.state disk.old).bytes (D.state disk.new).bytes) }
+        ensures err { OnErr result (IsTrue D.tells → (group : List (List ℕ)) → IsGroupOf group bytes.now
+            → MayAddGroup (gate_of self.old) group (D.state disk.old).bytes (D.state disk.new).bytes) }
+        ensures place { OnOk result (gate_of self.new ≡ gate_of self.old + 1 + length bytes.now) }
+        ensures stays { OnErr result (self.new ≡ self.old) }
+        ensures base { KeepsBase self.old self.new }
+        ensures length { OnOk result (IsSomeAnd (D.state disk.new).told
+            (λ n. gate_of self.new + 1 ≤ n)) }
+        ensures faults { CountsAlone result (D.state disk.old).faults (D.state disk.new).faults }
+    {
+        stage(disk, self.at, bytes)?;
         open_gate(disk, self.at)?;
-        self.at = self.at + 1 + block.len() as u64;
+        self.at = self.at + 1 + bytes.len() as u64;
         Ok(())
     }
 }

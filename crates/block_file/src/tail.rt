@@ -1,4 +1,4 @@
-//! The end of a file of blocks: a block is put behind its tail gate, the gate is opened, and what is left over is cut.
+//! The end of a file of blocks: blocks are put behind its tail gate, the gate is opened, and what is left over is cut.
 
 ghost use Rattle.std.specs.Prelude.{◌≡◌, ◌+◌, ◌^◌, ◌≤◌, ◌++◌, [], ◌∷◌, ℕ, List, length, take, drop, IsTrue, IfSome, IsSomeAnd, Some, OnOk, OnErr, min};
 ghost use Rattle.ledger_disk.specs.Disk.{MayLeave, settled_state, overlay, CountsFault};
@@ -8,22 +8,22 @@ ghost use Rattle.block_file.specs.File.{IsSettled, staged_file};
 use ledger_bytes::Failed;
 use ledger_disk::Disk;
 
-/// Writes a block and a new tail gate behind the shut gate at a place, and syncs.
-pub(crate) fn stage<D: Disk>(disk: &mut D, at: u64, block: &[u8]) -> Result<(), Failed>
+/// Writes the bytes of a group of blocks and a new tail gate behind the shut gate at a place, and syncs.
+pub(crate) fn stage<D: Disk>(disk: &mut D, at: u64, bytes: &[u8]) -> Result<(), Failed>
     requires place { at ≤ 2 ^ 62 }
     requires length { IfSome (D.state disk.old).told (λ n. at + 1 ≤ n) }
     ensures ok { OnOk result (IsTrue D.tells
-        → (D.state disk.new).bytes ≡ settled_state (staged_file at block.now (D.state disk.old).bytes.seen)) }
+        → (D.state disk.new).bytes ≡ settled_state (staged_file at bytes.now (D.state disk.old).bytes.seen)) }
     ensures err { OnErr result (IsTrue D.tells → (front : List ℕ)
         → Guards (D.state disk.old).bytes front → length front ≤ at + 1
         → Guards (D.state disk.new).bytes front) }
     ensures told { OnOk result (IsSomeAnd (D.state disk.new).told
-        (λ n. at + 1 + length block.now + 1 ≤ n)) }
-    ensures fits { OnOk result (at + 2 + length block.now ≤ 2 ^ 62) }
+        (λ n. at + 1 + length bytes.now + 1 ≤ n)) }
+    ensures fits { OnOk result (at + 2 + length bytes.now ≤ 2 ^ 62) }
     ensures faults { CountsFault result (D.state disk.old).faults (D.state disk.new).faults }
 {
-    disk.write(at + 1, block)?;
-    disk.write(at + 1 + block.len() as u64, &[0])?;
+    disk.write(at + 1, bytes)?;
+    disk.write(at + 1 + bytes.len() as u64, &[0])?;
     disk.sync()
 }
 
