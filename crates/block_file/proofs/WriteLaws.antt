@@ -14,7 +14,7 @@ on_err (Ok x) P p = tt
 on_err (Err e) P p = p
 
 -- a gate in front of a group's bytes opens all its blocks
-opened : (group : List (List ℕ)) (bytes : List ℕ) → IsGroupOf group bytes → 1 ∷ bytes ≡ open_blocks group
+pub opened : (group : List (List ℕ)) (bytes : List ℕ) → IsGroupOf group bytes → 1 ∷ bytes ≡ open_blocks group
 opened [] bytes is = absurd (let none : 1 ≤ 0 = is.some in omega (arith, none))
 opened (block ∷ more) bytes is = ap (λ (l : List ℕ). 1 ∷ l) is.is
 

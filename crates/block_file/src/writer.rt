@@ -1,11 +1,12 @@
-//! The bytes of a block, gathered journal by journal before it is committed.
+//! The bytes of a block, gathered journal by journal before it is committed, and of a group of blocks, one after the other.
 
-ghost use Rattle.std.specs.Prelude.{◌≡◌, ◌<◌, ◌^◌, ◌+◌, ◌++◌, [], ◌≤◌, length, drop, All, IfOk, OnOk};
+ghost use Rattle.std.specs.Prelude.{◌≡◌, ◌<◌, ◌^◌, ◌+◌, ◌++◌, [], ◌∷◌, ◌≤◌, ℕ, List, length, take, drop, All, IfOk, OnOk};
 ghost use Rattle.journal_record.specs.Approval.{who_of, approval_bytes};
 ghost use Rattle.journal_record.specs.declared.header.TheConstants.{HEADER_LEN};
 ghost use Rattle.ledger_bytes.specs.declared.limits.TheConstants.{APPROVAL_LIMIT, CONTENT_LIMIT, PROOF_LIMIT};
+ghost use Rattle.block_file.specs.File.{IsGroupOf};
 ghost use Rattle.block_file.specs.Places.{body_from, place_of_lengths};
-ghost use Rattle.block_file.specs.Writing.{block_head, record_with};
+ghost use Rattle.block_file.specs.Writing.{block_head, ended_blocks, record_with};
 
 use crate::block::BLOCK_HEAD_LEN;
 use crate::place::{BODY_BEHIND_GATE, PlaceAt};
@@ -17,21 +18,28 @@ use std::marker::Model;
 /// How many bytes an approval has in front of its proof.
 const APPROVAL_LEN: u32 = 6;
 
-/// The bytes of a block, gathered as journals are placed: room for its head, and the records.
+/// The bytes of a block, gathered as journals are placed: room for its head, and the records. They stand behind those of
+/// the blocks of its group that ended before it.
 #[derive(Drop)]
 pub struct BlockWriter {
     bytes: Vec<u8>,
+    /// Where the block begins: behind its gate, or at 0 where no other ended before it.
+    begins: usize,
 }
 
 impl Model for BlockWriter {
-    ghost use Rattle.std.specs.Prelude.{◌≡◌, ◌≤◌, ◌⊎◌, length, take, drop};
+    ghost use Rattle.std.specs.Prelude.{◌≡◌, ◌+◌, ◌≤◌, ◌⊎◌, length, take, drop};
     ghost use Rattle.block_file.specs.Writing.{BlockBytes};
 
     ghost Value = { BlockBytes };
 
-    ghost invariant = { λ b. (length b.bytes.items ≡ 0) ⊎ (44 ≤ length b.bytes.items) };
+    ghost invariant = { λ b. (length b.bytes.items ≡ b.begins) ⊎ (b.begins + 44 ≤ length b.bytes.items) };
 
-    ghost view = { λ b. record { head = take 44 b.bytes.items; body = drop 44 b.bytes.items } };
+    ghost view = { λ b. record {
+      before = take b.begins b.bytes.items;
+      head = take 44 (drop b.begins b.bytes.items);
+      body = drop 44 (drop b.begins b.bytes.items);
+    } };
 }
 
 impl BlockWriter {
@@ -41,6 +49,7 @@ impl BlockWriter {
     {
         BlockWriter {
             bytes: Vec::new(alloc),
+            begins: 0,
         }
     }
 
@@ -59,6 +68,7 @@ impl BlockWriter {
         requires proofs { All (λ a. length a.proof ≤ PROOF_LIMIT) given.now }
         ensures body { OnOk result (self.new.body
             ≡ self.old.body ++ record_with header.now content.now (who_of given.now)) }
+        ensures before { OnOk result (self.new.before ≡ self.old.before) }
         ensures place { IfOk result (λ place. place ≡ place_of_lengths
             (body_from gate + length self.old.body) (length content.now) (length (who_of given.now))) }
         ensures width { length header.now ≡ HEADER_LEN }
@@ -82,6 +92,7 @@ impl BlockWriter {
         requires proofs { All (λ a. length a.proof ≤ PROOF_LIMIT) given.now }
         ensures body { OnOk result (self.new.body
             ≡ self.old.body ++ record_with header.now content.now (who_of given.now)) }
+        ensures before { OnOk result (self.new.before ≡ self.old.before) }
     {
         self.add(header)?;
         self.add(&who_len.to_be_bytes())?;
@@ -93,6 +104,7 @@ impl BlockWriter {
         requires room { length self.old.head ≡ 44 }
         requires proofs { All (λ a. length a.proof ≤ PROOF_LIMIT) given.now }
         ensures body { OnOk result (self.new.body ≡ self.old.body ++ who_of given.now) }
+        ensures before { OnOk result (self.new.before ≡ self.old.before) }
     {
         for by in given {
             self.put_approval(by)?;
@@ -105,6 +117,7 @@ impl BlockWriter {
         requires proof { length by.now.proof ≤ PROOF_LIMIT }
         ensures room { OnOk result (length self.new.head ≡ 44) }
         ensures body { OnOk result (self.new.body ≡ self.old.body ++ approval_bytes by.now) }
+        ensures before { OnOk result (self.new.before ≡ self.old.before) }
     {
         self.add(&by.front())?;
         self.add(by.proof.as_slice())
@@ -114,8 +127,9 @@ impl BlockWriter {
     fn make_room(&mut self) -> Result<(), NoMemory>
         ensures room { OnOk result (length self.new.head ≡ 44) }
         ensures body { OnOk result (self.new.body ≡ self.old.body) }
+        ensures before { OnOk result (self.new.before ≡ self.old.before) }
     {
-        if self.bytes.as_slice().is_empty() {
+        if self.bytes.len() == self.begins {
             self.bytes.extend_from_slice(&[0; BLOCK_HEAD_LEN])?;
         }
         Ok(())
@@ -125,6 +139,7 @@ impl BlockWriter {
         requires { length self.old.head ≡ 44 }
         ensures room { OnOk result (length self.new.head ≡ 44) }
         ensures body { OnOk result (self.new.body ≡ self.old.body ++ piece.now) }
+        ensures before { OnOk result (self.new.before ≡ self.old.before) }
     {
         Ok(self.bytes.extend_from_slice(piece)?)
     }
@@ -134,7 +149,7 @@ impl BlockWriter {
         ensures len { result ≡ length self.now.body }
         ensures small { result < 2 ^ 63 }
     {
-        self.bytes.as_slice().len().saturating_sub(BLOCK_HEAD_LEN) as u64
+        (self.bytes.len() - self.begins).saturating_sub(BLOCK_HEAD_LEN) as u64
     }
 
     /// Fills the head in: how many journals there are, how many bytes the records have, and this root.
@@ -143,6 +158,7 @@ impl BlockWriter {
             ≡ block_head count (length self.old.body) root.now.0) }
         ensures size { OnOk result (length self.new.head ≡ 44) }
         ensures body { OnOk result (self.new.body ≡ self.old.body) }
+        ensures before { OnOk result (self.new.before ≡ self.old.before) }
     {
         self.make_room()?;
         self.set_head(count, root);
@@ -154,14 +170,39 @@ impl BlockWriter {
         ensures head { self.new.head ≡ block_head count (length self.old.body) root.now.0 }
         ensures size { length self.new.head ≡ 44 }
         ensures body { self.new.body ≡ self.old.body }
+        ensures before { self.new.before ≡ self.old.before }
     {
-        let len = (self.bytes.len() - BLOCK_HEAD_LEN) as u64;
-        overwrite(self.bytes.as_mut_slice(), count, len, root);
+        let len = self.len();
+        overwrite(self.bytes.as_mut_slice(), self.begins, count, len, root);
+    }
+
+    /// Ends the block, whose head was filled in, and begins the next one of its group behind it and an open gate.
+    pub fn begin_next(&mut self) -> Result<(), NoMemory>
+        ensures before { OnOk result (self.new.before
+            ≡ self.old.before ++ (self.old.head ++ self.old.body) ++ 1 ∷ []) }
+        ensures ended { OnOk result ((ended : List (List ℕ)) → self.old.before ≡ ended_blocks ended
+            → self.new.before ≡ ended_blocks (ended ++ (self.old.head ++ self.old.body) ∷ [])) }
+        ensures body { OnOk result (self.new.body ≡ []) }
+    {
+        self.bytes.extend_from_slice(&[1])?;
+        self.begins = self.bytes.len();
+        Ok(())
     }
 
     /// The block's bytes, without its gate.
     pub fn as_slice(&self) -> &[u8]
         ensures { result.now ≡ self.now.head ++ self.now.body }
+    {
+        let (_, block) = self.bytes.as_slice().split_at(self.begins);
+        block
+    }
+
+    /// The bytes of the group: the blocks that ended before this one, and this one, each but the first behind an open
+    /// gate.
+    pub fn group(&self) -> &[u8]
+        ensures bytes { result.now ≡ self.now.before ++ (self.now.head ++ self.now.body) }
+        ensures group { (ended : List (List ℕ)) → self.now.before ≡ ended_blocks ended
+            → IsGroupOf (ended ++ (self.now.head ++ self.now.body) ∷ []) result.now }
     {
         self.bytes.as_slice()
     }
@@ -170,7 +211,16 @@ impl BlockWriter {
     pub fn clear(&mut self)
         ensures { self.new.body ≡ [] }
     {
+        self.begin_group();
+    }
+
+    /// Begins the first block of a group: forgets all blocks and journals, and keeps the memory for those that follow.
+    pub fn begin_group(&mut self)
+        ensures before { self.new.before ≡ [] }
+        ensures body { self.new.body ≡ [] }
+    {
         self.bytes.clear();
+        self.begins = 0;
     }
 }
 
@@ -187,13 +237,14 @@ fn who_len(given: &[Approval]) -> u32
     len
 }
 
-// Puts the head in the place of the first bytes.
-fn overwrite(bytes: &mut [u8], count: u32, len: u64, root: &Digest)
-    requires { 44 ≤ length bytes.old }
-    ensures bytes { bytes.new ≡ block_head count len root.now.0 ++ drop 44 bytes.old }
+// Puts the head in the place of the bytes at an offset.
+fn overwrite(bytes: &mut [u8], at: usize, count: u32, len: u64, root: &Digest)
+    requires { at + 44 ≤ length bytes.old }
+    ensures bytes { bytes.new ≡ take at bytes.old ++ (block_head count len root.now.0 ++ drop 44 (drop at bytes.old)) }
     ensures size { length (block_head count len root.now.0) ≡ 44 }
 {
-    let (head, _) = bytes.split_at_mut(BLOCK_HEAD_LEN);
+    let (_, block) = bytes.split_at_mut(at);
+    let (head, _) = block.split_at_mut(BLOCK_HEAD_LEN);
     let (counts, rest) = head.split_at_mut(4);
     let (lengths, roots) = rest.split_at_mut(8);
     counts.copy_from_slice(&count.to_be_bytes());
