@@ -2,7 +2,7 @@
 
 ghost use Rattle.std.specs.Prelude.{◌^◌, ◌<◌};
 
-use block_file::{BlockAt, BlockFile, Damage, FileErr, FileHead};
+use block_file::{BlockAt, BlockFile, BlockWriter, Damage, FileErr, FileHead};
 use hex::FromHex;
 use journal_record::Kind;
 use ledger_bytes::{Bytes, Digest};
@@ -111,7 +111,7 @@ fn first_block(alloc: Global, disk: &mut MemDisk, first: u64) -> Result<Option<B
     file.next_block(alloc, disk, &mut Vec::new(alloc), first)
 }
 
-/// How many blocks a file has: the one of `NEW`, and then `BLOCK` or not.
+/// How many blocks a file has: the one of `NEW`, and then `BLOCK` or not, and one of journal 3 or not.
 fn count_blocks(alloc: Global, disk: &mut MemDisk) -> Result<u32, FileErr> {
     let Some(head) = BlockFile::head(disk)? else {
         return Ok(0);
@@ -195,12 +195,12 @@ fn a_file_of_either_version_is_read(rt: HostRuntime) -> Result<(), Fail> {
     Ok(())
 }
 
-/// Commits a block behind that of `NEW`, where the disk stops after so many calls of the commit. Tells whether all was done,
-/// whether no fault was counted, and what is left of the disk.
+/// Commits the blocks of a group behind that of `NEW`, where the disk stops after so many calls of the commit. Tells whether all
+/// was done, whether no fault was counted, and what is left of the disk.
 fn commit_until_a_stop(
     alloc: Global,
     disk: MemDisk,
-    block: &[u8],
+    group: &[u8],
     left: u64,
 ) -> Result<(bool, bool, MemDisk), Fail> {
     let mut disk = disk;
@@ -213,7 +213,7 @@ fn commit_until_a_stop(
         return Err("a second block".into());
     };
     let mut fuse = FuseDisk::new(disk, left);
-    let is_done = file.commit_block(&mut fuse, block).is_ok();
+    let is_done = file.commit_blocks(&mut fuse, group).is_ok();
     let is_faultless = fuse.faults() == 0;
     Ok((is_done, is_faultless, fuse.into_inner()))
 }
@@ -228,28 +228,57 @@ fn blocks_left(alloc: Global, disk: &MemDisk) -> Result<[u32; 3], Fail> {
     Ok(counts)
 }
 
-// How many blocks each image has where a commit is stopped after so many calls.
-const STOPPED: [(u64, [u32; 3]); 6] = [
-    (0, [1, 1, 1]),
-    (1, [1, 1, 1]),
-    (2, [1, 1, 1]),
-    (3, [1, 1, 1]),
-    (4, [2, 1, 1]),
-    (5, [2, 2, 2]),
+// In how many images a commit is there which was stopped after so many calls, whole: in each of the three or not.
+const STOPPED: [(u64, [bool; 3]); 6] = [
+    (0, [false, false, false]),
+    (1, [false, false, false]),
+    (2, [false, false, false]),
+    (3, [false, false, false]),
+    (4, [true, false, false]),
+    (5, [true, true, true]),
 ];
 
 #[test]
 fn a_commit_is_stopped_at_each_call(rt: HostRuntime) -> Result<(), Fail> {
     let alloc = rt.alloc();
-    let new = decode_lines(alloc, &NEW)?;
     let block = decode_lines(alloc, &BLOCK)?;
-    for (left, counts) in &STOPPED {
+    stop_commits(&rt, alloc, &block, 1)?;
+    // The same of a group of two blocks, the second of which is that of journal 3.
+    let mut group = block;
+    group.push(1)?;
+    group.extend_from_slice(decode_lines(alloc, &PURGED)?.get(280..502).ok_or("short")?)?;
+    stop_commits(&rt, alloc, &group, 2)
+}
+
+/// Stops the commit of a group of so many blocks at each of its calls.
+fn stop_commits(rt: &impl Abort, alloc: Global, group: &[u8], blocks: u32) -> Result<(), Fail>
+    requires { blocks < 2 ^ 31 }
+{
+    let new = decode_lines(alloc, &NEW)?;
+    for (left, there) in &STOPPED {
         let disk = disk_of(alloc, &new)?;
-        let (is_done, is_faultless, disk) = commit_until_a_stop(alloc, disk, &block, *left)?;
+        let (is_done, is_faultless, disk) = commit_until_a_stop(alloc, disk, group, *left)?;
         let found = (is_done, is_faultless, blocks_left(alloc, &disk)?);
         let is_all = *left == 5;
-        assert_eq!(rt; found, (is_all, is_all, *counts), "after {left}");
+        let counts = there.map(|is_there| if is_there { 1 + blocks } else { 1 });
+        assert_eq!(rt; found, (is_all, is_all, counts), "after {left}");
     }
+    Ok(())
+}
+
+#[test]
+fn a_writer_gathers_a_group(rt: HostRuntime) -> Result<(), Fail> {
+    let root = digest("64915354a6547b1f887e596e872fd13b2abdc860729da9fe31180a81726cf4a2")?;
+    let mut writer = BlockWriter::new(rt.alloc());
+    writer.finish(1, &root)?;
+    let mut group = writer.as_slice().to_vec(rt.alloc())?;
+    group.push(1)?;
+    writer.begin_next()?;
+    writer.finish(2, &root)?;
+    group.extend_from_slice(writer.as_slice())?;
+    assert_eq!(rt; (group.len(), writer.group()), (89, group.as_slice()));
+    writer.begin_group();
+    assert_eq!(rt; writer.group().len(), 0);
     Ok(())
 }
 
