@@ -1,20 +1,17 @@
 -- Lemmas on the last record with a number.
-use Rattle.std.specs.Prelude.{◌==◌, nat_le, max, not, slice_get, get_or, filter, Result, Ok, Err, OnOk, OnErr}
-use Rattle.std.specs.Int.{w32, w64, to_be_bytes, from_be_bytes}
+use Rattle.std.specs.Prelude.{◌==◌, nat_le, nat_lt, max, not, slice_get, get_or, filter, Result, Ok, Err, OnOk, OnErr}
 use Rattle.std.specs.Option.{is_some, option_or}
 use Rattle.std.specs.Str.{bytes_eq}
-use Rattle.std.specs.Cmp.Lexicographic.{slice_cmp}
 use Rattle.std.specs.List.{AllByRecursion}
 use Rattle.std.specs.List.Sorted.{IsStrictlySortedBy}
 use Rattle.std.specs.Map.{keys_of}
-use Rattle.std.specs.Ordering.{is_eq, nat_cmp}
-use Rattle.std.specs.declared.cmp.Ordering.TheVariants.{Less}
-use Rattle.std.proofs.lemmas.Map.Text.{is_eq-slice_cmp}
+use Rattle.std.specs.Ordering.{is_eq, nat_cmp, ordering_then}
+use Rattle.std.specs.declared.cmp.Ordering.{Ordering}
+use Rattle.std.specs.declared.cmp.Ordering.TheVariants.{Less, Equal, Greater}
 use Rattle.std.proofs.Common.{◌≡◌, ℕ, zero, suc, ◌+◌, ◌-◌, ◌<◌, ◌≤◌, ◌^◌, ◌&&◌, Bool, true, false, cond, List, [], ◌∷◌, ◌++◌, length, map, take, drop, Option, Some, None, refl, sym, ap, subst, ◌∙◌, arith, drop-drop}
-use Rattle.std.proofs.lemmas.Bool.{le-leb, lt-leb, leb-true, leb-false, eqb-true, eq-eqb, true≢false, false_from_ne_true, and_parts, and_from}
-use Rattle.std.proofs.lemmas.List.{take_at, drop_at, drop-map}
+use Rattle.std.proofs.lemmas.Bool.{le-leb, lt-leb, leb-true, leb-false, ltb-true, eqb-true, eq-eqb, ne_eqb, true≢false, false_from_ne_true, and_parts, and_from}
+use Rattle.std.proofs.lemmas.List.{drop-map}
 use Rattle.std.proofs.lemmas.Slice.Eq.{bytes_eq-Decides}
-use Rattle.ledger_bytes.proofs.Fields.{wide32, wide64}
 use Rattle.journal_record.specs.Entry.{Entry}
 use Rattle.journal_record.specs.declared.header.Header.{Header}
 use Rattle.member_book.specs.Erasures.{is_record}
@@ -28,7 +25,7 @@ use Rattle.ledger_book.specs.Books.{Kept, Stands, Serves}
 use Rattle.ledger_book.specs.Reading.{StandsBehind}
 use Rattle.ledger_book.proofs.StandsLaws.{point_is}
 use Rattle.ledger_model.specs.Numbers as model
-use Rattle.ledger_book.specs.Numbered.{key_of, is_numbered, is_with, last_with, from_on, told_of, IndexesNumbers, PutsNumber, IsAdded, IsSameIndex, told_number}
+use Rattle.ledger_book.specs.Numbered.{key_cmp, key_eq, is_numbered, is_with, last_with, from_on, told_of, IndexesNumbers, PutsNumber, IsAdded, IsSameIndex, told_number}
 
 abbrev IsNothing : Option ℕ → Type 0
 IsNothing o = let none : Option ℕ = None in o ≡ none
@@ -36,36 +33,36 @@ IsNothing o = let none : Option ℕ = None in o ≡ none
 nothing_some : (n : ℕ) → (let none : Option ℕ = None in none ≡ Some n) → ⊥
 nothing_some n is = cc is
 
--- ---- keys
+-- ---- pairs of a member and a number
 
-key_member : (m a n r : ℕ) → m < 2 ^ 32 → n < 2 ^ 32 → key_of m a ≡ key_of n r → m ≡ n
-key_member m a n r mw nw is =
-    let four : to_be_bytes w32 m ≡ to_be_bytes w32 n =
-    sym (take_at (to_be_bytes w32 m) (to_be_bytes w64 a) 4 refl) ∙ (ap (take 4) is ∙ take_at (to_be_bytes w32 n) (to_be_bytes w64 r) 4 refl) in
-    sym (wide32.again m mw) ∙ (ap (from_be_bytes w32) four ∙ wide32.again n nw)
+tied : (a b : ℕ) → is_eq (nat_cmp a b) ≡ (a == b)
+tied a b = elim (nat_lt a b) as (λ v. nat_lt a b ≡ v → is_eq (cond v Less (cond (a == b) Equal Greater)) ≡ (a == b)) [
+  | true ↦ λ lt. sym (ne_eqb a b (λ same. omega (arith, same, ltb-true a b lt)))
+  | false ↦ λ ge. elim (a == b) as (λ v. is_eq (cond v Equal Greater) ≡ v) [
+    | true ↦ refl
+    | false ↦ refl
+  ]
+] refl
 
-key_number : (m a n r : ℕ) → a < 2 ^ 64 → r < 2 ^ 64 → key_of m a ≡ key_of n r → a ≡ r
-key_number m a n r aw rw_ is =
-    let eight : to_be_bytes w64 a ≡ to_be_bytes w64 r =
-    sym (drop_at (to_be_bytes w32 m) (to_be_bytes w64 a) 4 refl) ∙ (ap (drop 4) is ∙ drop_at (to_be_bytes w32 n) (to_be_bytes w64 r) 4 refl) in
-    sym (wide64.again a aw) ∙ (ap (from_be_bytes w64) eight ∙ wide64.again r rw_)
+both_tied : (x y : Ordering) → is_eq (ordering_then x y) ≡ (is_eq x && is_eq y)
+both_tied Less y = refl
+both_tied Equal y = refl
+both_tied Greater y = refl
 
--- two tests that go with each other are one
-one_test : (v w : Bool) → (v ≡ true → w ≡ true) → (w ≡ true → v ≡ true) → v ≡ w
-one_test true w to from = sym (to refl)
-one_test false true to from = from refl
-one_test false false to from = refl
+pub key_tied : (k e : ℕ × ℕ) → is_eq (key_cmp k e) ≡ key_eq k e
+key_tied k e = both_tied (nat_cmp k.0 e.0) (nat_cmp k.1 e.1) ∙ (ap (λ v. v && is_eq (nat_cmp k.1 e.1)) (tied k.0 e.0) ∙ ap (λ v. k.0 == e.0 && v) (tied k.1 e.1))
 
--- the key of a numbered header is that of a member and a number where the header is that of their record
-key_is : (x : Header) (m r : ℕ) → is_numbered x ≡ true → x.member < 2 ^ 32 → x.a < 2 ^ 64 → m < 2 ^ 32 → r < 2 ^ 64 → bytes_eq (key_of x.member x.a) (key_of m r) ≡ is_with m r x
-key_is x m r some xm xa mw rw_ =
-    one_test (bytes_eq (key_of x.member x.a) (key_of m r)) (is_with m r x)
-    (λ has.
-    let same = (bytes_eq-Decides (key_of x.member x.a) (key_of m r)).0 has in
-    and_from _ _ (and_parts (is_record x.kind) (not (x.a == 0)) some).0 (and_from _ _ (eq-eqb x.member m (key_member x.member x.a m r xm mw same)) (eq-eqb x.a r (key_number x.member x.a m r xa rw_ same))))
-    (λ is.
-    let both = and_parts (x.member == m) (x.a == r) (and_parts (is_record x.kind) (x.member == m && x.a == r) is).1 in
-    (bytes_eq-Decides (key_of x.member x.a) (key_of m r)).1 (ap (λ n. key_of n x.a) (eqb-true x.member m both.0) ∙ ap (key_of m) (eqb-true x.a r both.1)))
+same_key : (k e : ℕ × ℕ) → key_eq k e ≡ true → k ≡ e
+same_key k e is =
+    let both = and_parts (k.0 == e.0) (k.1 == e.1) is in
+    ap (λ (n : ℕ). (n, k.1)) (eqb-true k.0 e.0 both.0) ∙ ap (λ (n : ℕ). (e.0, n)) (eqb-true k.1 e.1 both.1)
+
+own_key : (k : ℕ × ℕ) → key_eq k k ≡ true
+own_key k = and_from (k.0 == k.0) (k.1 == k.1) (eq-eqb k.0 k.0 refl) (eq-eqb k.1 k.1 refl)
+
+-- the pair of a numbered header is that of a member and a number where the header is that of their record
+key_is : (x : Header) (m r : ℕ) → is_numbered x ≡ true → key_eq (x.member, x.a) (m, r) ≡ is_with m r x
+key_is x m r some = sym (ap (λ v. v && (x.member == m && x.a == r)) (and_parts (is_record x.kind) (not (x.a == 0)) some).0)
 
 -- a header without a number is no record with one
 none_with : (x : Header) (m r : ℕ) → is_numbered x ≡ false → 1 ≤ r → is_with m r x ≡ false
@@ -134,69 +131,73 @@ added_by first at true old last le is = ap (λ v. cond v (Some at) None) (le-leb
 added_by first at false old last le is = is
 
 -- a header more
-pub unnumbered_added : (entries : List (List ℕ × ℕ)) (first : ℕ) (xs : List Header) (x : Header) → is_numbered x ≡ false → IndexesNumbers entries first xs → IndexesNumbers entries first (xs ++ x ∷ [])
-unnumbered_added entries first xs x none index m r mw some rw_ =
-    index m r mw some rw_ ∙ sym (last_more first m r xs x ∙ ap (λ v. cond v (Some (first + length xs)) (last_with first m r xs)) (none_with x m r none some))
+pub unnumbered_added : (entries : List ((ℕ × ℕ) × ℕ)) (first : ℕ) (xs : List Header) (x : Header) → is_numbered x ≡ false → IndexesNumbers entries first xs → IndexesNumbers entries first (xs ++ x ∷ [])
+unnumbered_added entries first xs x none index m r some =
+    index m r some ∙ sym (last_more first m r xs x ∙ ap (λ v. cond v (Some (first + length xs)) (last_with first m r xs)) (none_with x m r none some))
 
-pub numbered_added : (old new : List (List ℕ × ℕ)) (first jsn : ℕ) (xs : List Header) (x : Header) → is_numbered x ≡ true → x.member < 2 ^ 32 → x.a < 2 ^ 64 → PutsNumber old new (key_of x.member x.a) (Some jsn) → IndexesNumbers old first xs → jsn ≡ first + length xs → IndexesNumbers new first (xs ++ x ∷ [])
-numbered_added old new first jsn xs x some xm xa puts index at m r mw one rw_ =
-    ap (from_on first) (puts (key_of m r))
-    ∙ (added_by first jsn (bytes_eq (key_of x.member x.a) (key_of m r)) (told_of (key_of m r) old) (last_with first m r xs) (omega (arith, at)) (index m r mw one rw_)
-    ∙ (ap (λ v. cond v (Some jsn) (last_with first m r xs)) (key_is x m r some xm xa mw rw_)
+numbered_added : (old new : List ((ℕ × ℕ) × ℕ)) (first jsn : ℕ) (xs : List Header) (x : Header) → is_numbered x ≡ true → PutsNumber old new (x.member, x.a) (Some jsn) → IndexesNumbers old first xs → jsn ≡ first + length xs → IndexesNumbers new first (xs ++ x ∷ [])
+numbered_added old new first jsn xs x some puts index at m r one =
+    ap (from_on first) (puts (m, r))
+    ∙ (added_by first jsn (key_eq (x.member, x.a) (m, r)) (told_of (m, r) old) (last_with first m r xs) (omega (arith, at)) (index m r one)
+    ∙ (ap (λ v. cond v (Some jsn) (last_with first m r xs)) (key_is x m r some)
     ∙ (ap (λ n. cond (is_with m r x) (Some n) (last_with first m r xs)) at
     ∙ sym (last_more first m r xs x))))
 
+pub put_added : {T E : Type 0} (result : Result T E) (old new : List ((ℕ × ℕ) × ℕ)) (jsn : ℕ) (x : Header) → is_numbered x ≡ true → OnOk result (PutsNumber old new (x.member, x.a) (Some jsn))
+    → OnOk result ((first : ℕ) (xs : List Header) → IndexesNumbers old first xs → jsn ≡ first + length xs → IndexesNumbers new first (xs ++ x ∷ []))
+put_added (Ok before) old new jsn x some puts = λ first xs index at. numbered_added old new first jsn xs x some puts index at
+put_added (Err error) old new jsn x some puts = tt
+
 -- an index that tells the same
-pub same_indexed : (old new : List (List ℕ × ℕ)) (first : ℕ) (xs : List Header) → IsSameIndex old new → IndexesNumbers old first xs → IndexesNumbers new first xs
-same_indexed old new first xs same index m r mw some rw_ = ap (from_on first) (same (key_of m r)) ∙ index m r mw some rw_
+pub same_indexed : (old new : List ((ℕ × ℕ) × ℕ)) (first : ℕ) (xs : List Header) → IsSameIndex old new → IndexesNumbers old first xs → IndexesNumbers new first xs
+same_indexed old new first xs same index m r some = ap (from_on first) (same (m, r)) ∙ index m r some
 
 -- what was put is taken back
-pub taken_back : (first old new : List (List ℕ × ℕ)) (key : List ℕ) (jsn : ℕ) (before : Option ℕ) → PutsNumber first old key (Some jsn) → before ≡ told_of key first → PutsNumber old new key before → IsSameIndex first new
+pub taken_back : (first old new : List ((ℕ × ℕ) × ℕ)) (key : ℕ × ℕ) (jsn : ℕ) (before : Option ℕ) → PutsNumber first old key (Some jsn) → before ≡ told_of key first → PutsNumber old new key before → IsSameIndex first new
 taken_back first old new key jsn before puts is back k =
-    back k ∙ (ap (λ o. cond (bytes_eq key k) before o) (puts k) ∙ by_key (bytes_eq key k) refl) where
-      by_key : (b : Bool) → bytes_eq key k ≡ b → cond b before (cond b (Some jsn) (told_of k first)) ≡ told_of k first
-      by_key true e = is ∙ ap (λ l. told_of l first) ((bytes_eq-Decides key k).0 e)
+    back k ∙ (ap (λ o. cond (key_eq key k) before o) (puts k) ∙ by_key (key_eq key k) refl) where
+      by_key : (b : Bool) → key_eq key k ≡ b → cond b before (cond b (Some jsn) (told_of k first)) ≡ told_of k first
+      by_key true e = is ∙ ap (λ l. told_of l first) (same_key key k e)
       by_key false e = refl
 
-pub put_back : {T E : Type 0} (result : Result T E) (first old new : List (List ℕ × ℕ)) (x : Header) (key : List ℕ) (jsn last : ℕ) → key ≡ key_of x.member x.a → is_numbered x ≡ true → OnOk result (PutsNumber old new key (Some last)) → OnErr result (IsNothing (told_of key old))
+pub put_back : {T E : Type 0} (result : Result T E) (first old new : List ((ℕ × ℕ) × ℕ)) (x : Header) (jsn last : ℕ) → is_numbered x ≡ true → OnOk result (PutsNumber old new (x.member, x.a) (Some last)) → OnErr result (IsNothing (told_of (x.member, x.a) old))
     → IsAdded x first jsn (Some last) old → IsSameIndex first new
-put_back (Ok t) first old new x key jsn last at some ok absent added =
-    taken_back first old new key jsn (Some last) (subst (λ k. PutsNumber first old k (Some jsn)) (sym at) (added.puts some)) (added.before_is some ∙ ap (λ k. told_of k first) (sym at)) ok
-put_back (Err e) first old new x key jsn last at some ok absent added =
-    let told : told_of key old ≡ Some jsn =
-    ap (λ k. told_of k old) at ∙ added.puts some (key_of x.member x.a) ∙ ap (λ b. cond b (Some jsn) (told_of (key_of x.member x.a) first)) ((bytes_eq-Decides (key_of x.member x.a) (key_of x.member x.a)).1 refl) in
+put_back (Ok t) first old new x jsn last some ok absent added = taken_back first old new (x.member, x.a) jsn (Some last) (added.puts some) (added.before_is some) ok
+put_back (Err e) first old new x jsn last some ok absent added =
+    let told : told_of (x.member, x.a) old ≡ Some jsn =
+    added.puts some (x.member, x.a) ∙ ap (λ b. cond b (Some jsn) (told_of (x.member, x.a) first)) (own_key (x.member, x.a)) in
     absurd (nothing_some jsn (sym absent ∙ told))
 
 -- the headers from a journal on, where what is told of journals in front of it may be dropped
-pub cut_indexed : (entries cut : List (List ℕ × ℕ)) (first p : ℕ) (xs ys : List Header) → first ≤ p → ys ≡ drop (p - first) xs → ((key : List ℕ) → from_on p (told_of key cut) ≡ from_on p (told_of key entries)) → IndexesNumbers entries first xs → IndexesNumbers cut p ys
-cut_indexed entries cut first p xs ys le is kept_same index m r mw some rw_ =
-    kept_same (key_of m r) ∙ sym (further first p (told_of (key_of m r) entries) le) ∙ (ap (from_on p) (index m r mw some rw_) ∙ (sym (kept first p m r xs le) ∙ ap (last_with p m r) (sym is)))
+pub cut_indexed : (entries cut : List ((ℕ × ℕ) × ℕ)) (first p : ℕ) (xs ys : List Header) → first ≤ p → ys ≡ drop (p - first) xs → ((key : ℕ × ℕ) → from_on p (told_of key cut) ≡ from_on p (told_of key entries)) → IndexesNumbers entries first xs → IndexesNumbers cut p ys
+cut_indexed entries cut first p xs ys le is kept_same index m r some =
+    kept_same (m, r) ∙ sym (further first p (told_of (m, r) entries) le) ∙ (ap (from_on p) (index m r some) ∙ (sym (kept first p m r xs le) ∙ ap (last_with p m r) (sym is)))
 
 -- ---- an index without the journals in front of one
 
-none_after : (p : ℕ) (k : List ℕ) (es : List (List ℕ × ℕ)) → AllByRecursion (λ y. slice_cmp nat_cmp k y ≡ Less) (keys_of es) → IsNothing (told_of k (filter (λ (e : List ℕ × ℕ). nat_le p e.1) es))
+none_after : (p : ℕ) (k : ℕ × ℕ) (es : List ((ℕ × ℕ) × ℕ)) → AllByRecursion (λ y. key_cmp k y ≡ Less) (keys_of es) → IsNothing (told_of k (filter (λ (e : (ℕ × ℕ) × ℕ). nat_le p e.1) es))
 none_after p k [] all = refl
 none_after p k (e ∷ es) all =
     let later = none_after p k es all.1 in
-    elim (nat_le p e.1) as (λ v. IsNothing (told_of k (cond v (e ∷ filter (λ (e : List ℕ × ℕ). nat_le p e.1) es) (filter (λ (e : List ℕ × ℕ). nat_le p e.1) es)))) [
-      | true ↦ ap (λ o. cond (is_eq o) (Some e.1) (told_of k (filter (λ (e : List ℕ × ℕ). nat_le p e.1) es))) all.0 ∙ later
+    elim (nat_le p e.1) as (λ v. IsNothing (told_of k (cond v (e ∷ filter (λ (e : (ℕ × ℕ) × ℕ). nat_le p e.1) es) (filter (λ (e : (ℕ × ℕ) × ℕ). nat_le p e.1) es)))) [
+      | true ↦ ap (λ o. cond (is_eq o) (Some e.1) (told_of k (filter (λ (e : (ℕ × ℕ) × ℕ). nat_le p e.1) es))) all.0 ∙ later
       | false ↦ later
     ]
 
-pub kept_told : (p : ℕ) (k : List ℕ) (es : List (List ℕ × ℕ)) → IsStrictlySortedBy (slice_cmp nat_cmp) (keys_of es) → from_on p (told_of k (filter (λ (e : List ℕ × ℕ). nat_le p e.1) es)) ≡ from_on p (told_of k es)
+pub kept_told : (p : ℕ) (k : ℕ × ℕ) (es : List ((ℕ × ℕ) × ℕ)) → IsStrictlySortedBy (key_cmp) (keys_of es) → from_on p (told_of k (filter (λ (e : (ℕ × ℕ) × ℕ). nat_le p e.1) es)) ≡ from_on p (told_of k es)
 unfolding IsStrictlySortedBy
 kept_told p k [] sorted = refl
-kept_told p k (e ∷ es) sorted = by_kept (nat_le p e.1) (is_eq (slice_cmp nat_cmp k e.0)) refl refl (kept_told p k es sorted.1) where
-  by_kept : (v w : Bool) → nat_le p e.1 ≡ v → is_eq (slice_cmp nat_cmp k e.0) ≡ w → from_on p (told_of k (filter (λ (e : List ℕ × ℕ). nat_le p e.1) es)) ≡ from_on p (told_of k es) → from_on p (told_of k (cond v (e ∷ filter (λ (e : List ℕ × ℕ). nat_le p e.1) es) (filter (λ (e : List ℕ × ℕ). nat_le p e.1) es))) ≡ from_on p (cond w (Some e.1) (told_of k es))
+kept_told p k (e ∷ es) sorted = by_kept (nat_le p e.1) (is_eq (key_cmp k e.0)) refl refl (kept_told p k es sorted.1) where
+  by_kept : (v w : Bool) → nat_le p e.1 ≡ v → is_eq (key_cmp k e.0) ≡ w → from_on p (told_of k (filter (λ (e : (ℕ × ℕ) × ℕ). nat_le p e.1) es)) ≡ from_on p (told_of k es) → from_on p (told_of k (cond v (e ∷ filter (λ (e : (ℕ × ℕ) × ℕ). nat_le p e.1) es) (filter (λ (e : (ℕ × ℕ) × ℕ). nat_le p e.1) es))) ≡ from_on p (cond w (Some e.1) (told_of k es))
   by_kept true w vis wis rest =
-      ap (λ b. from_on p (cond b (Some e.1) (told_of k (filter (λ (e : List ℕ × ℕ). nat_le p e.1) es)))) wis
-      ∙ elim w as (λ b. from_on p (cond b (Some e.1) (told_of k (filter (λ (e : List ℕ × ℕ). nat_le p e.1) es))) ≡ from_on p (cond b (Some e.1) (told_of k es))) [
+      ap (λ b. from_on p (cond b (Some e.1) (told_of k (filter (λ (e : (ℕ × ℕ) × ℕ). nat_le p e.1) es)))) wis
+      ∙ elim w as (λ b. from_on p (cond b (Some e.1) (told_of k (filter (λ (e : (ℕ × ℕ) × ℕ). nat_le p e.1) es))) ≡ from_on p (cond b (Some e.1) (told_of k es))) [
         | true ↦ refl
         | false ↦ rest
       ]
   by_kept false true vis wis rest =
-      let same : k ≡ e.0 = (bytes_eq-Decides k e.0).0 (sym (is_eq-slice_cmp k e.0) ∙ wis) in
-      ap (from_on p) (none_after p k es (subst (λ q. AllByRecursion (λ y. slice_cmp nat_cmp q y ≡ Less) (keys_of es)) (sym same) sorted.0))
+      let same : k ≡ e.0 = same_key k e.0 (sym (key_tied k e.0) ∙ wis) in
+      ap (from_on p) (none_after p k es (subst (λ q. AllByRecursion (λ y. key_cmp q y ≡ Less) (keys_of es)) (sym same) sorted.0))
       ∙ sym (ap (λ b. cond b (Some e.1) None) vis)
   by_kept false false vis wis rest = rest
 
@@ -206,9 +207,9 @@ number_some : (r : ℕ) → (r == 0) ≡ false → 1 ≤ r
 number_some zero none = absurd (true≢false none)
 number_some (suc r) none = omega arith
 
-pub told_by : (entries : List (List ℕ × ℕ)) (first point m r : ℕ) (xs : List Header) → (r == 0) ≡ false → m < 2 ^ 32 → r < 2 ^ 64 → IndexesNumbers entries first xs → from_on point (from_on first (told_of (key_of m r) entries)) ≡ told_number first point m r xs
-told_by entries first point m r xs none mw rw_ index =
-    ap (from_on point) (index m r mw (number_some r none) rw_) ∙ sym (ap (λ b. cond b None (from_on point (last_with first m r xs))) none)
+pub told_by : (entries : List ((ℕ × ℕ) × ℕ)) (first point m r : ℕ) (xs : List Header) → (r == 0) ≡ false → IndexesNumbers entries first xs → from_on point (from_on first (told_of (m, r) entries)) ≡ told_number first point m r xs
+told_by entries first point m r xs none index =
+    ap (from_on point) (index m r (number_some r none)) ∙ sym (ap (λ b. cond b None (from_on point (last_with first m r xs))) none)
 
 last_place : (first m r : ℕ) (es : List Entry) → last_with first m r (map (λ (e : Entry). e.header) es) ≡ place_from first (model.is_numbered m r) es
 last_place first m r [] = refl
@@ -283,8 +284,8 @@ from_both p q (Some n) = by_first (nat_le q n) refl where
   by_first true is = by_last (nat_le p n) refl (leb-true q n is)
   by_first false is = ap (λ v. cond v (Some n) None) (lt-leb (max p q) n (let lt = leb-false q n is in omega (arith, lt)))
 
-pub told_last : (entries : List (List ℕ × ℕ)) (first point m r : ℕ) (xs : List Header) → (r == 0) ≡ false → m < 2 ^ 32 → r < 2 ^ 64 → IndexesNumbers entries first xs → from_on (max point first) (told_of (key_of m r) entries) ≡ told_number first point m r xs
-told_last entries first point m r xs none mw rw_ index = from_both point first (told_of (key_of m r) entries) ∙ told_by entries first point m r xs none mw rw_ index
+pub told_last : (entries : List ((ℕ × ℕ) × ℕ)) (first point m r : ℕ) (xs : List Header) → (r == 0) ≡ false → IndexesNumbers entries first xs → from_on (max point first) (told_of (m, r) entries) ≡ told_number first point m r xs
+told_last entries first point m r xs none index = from_both point first (told_of (m, r) entries) ∙ told_by entries first point m r xs none index
 
 pub told_stands : (k : Kept) (h : History) (m r : ℕ) → Serves k h → told_number k.floor k.point m r k.headers ≡ numbered h m r
 told_stands k h m r s =

@@ -1,18 +1,20 @@
 -- Which record of a member has which number, and an index that tells it.
-use Rattle.std.specs.Prelude.{◌≡◌, ℕ, ◌+◌, ◌<◌, ◌≤◌, ◌^◌, ◌==◌, ◌&&◌, not, Bool, true, false, if◌then◌else◌, List, [], ◌∷◌, ◌++◌, nat_le, Option, Some, None}
+use Rattle.std.specs.Prelude.{◌≡◌, ℕ, ◌+◌, ◌≤◌, ◌==◌, ◌&&◌, not, Bool, true, false, if◌then◌else◌, List, [], ◌∷◌, nat_le, Option, Some, None}
 use Rattle.std.specs.BTreeMap.{is_at}
-use Rattle.std.specs.Cmp.Lexicographic.{slice_cmp}
-use Rattle.std.specs.Int.{w32, w64, to_be_bytes}
 use Rattle.std.specs.Map.{lookup}
 use Rattle.std.specs.Option.{option_or}
-use Rattle.std.specs.Ordering.{nat_cmp}
-use Rattle.std.specs.Str.{bytes_eq}
+use Rattle.std.specs.Ordering.{nat_cmp, ordering_then}
+use Rattle.std.specs.declared.cmp.Ordering.{Ordering}
 use Rattle.journal_record.specs.declared.header.Header.{Header}
 use Rattle.member_book.specs.Erasures.{is_record}
 
--- a member and a number as 12 bytes
-abbrev pub key_of : ℕ → ℕ → List ℕ
-key_of member number = to_be_bytes w32 member ++ to_be_bytes w64 number
+-- the order of two pairs of a member and a number
+abbrev pub key_cmp : ℕ × ℕ → ℕ × ℕ → Ordering
+key_cmp x y = ordering_then (nat_cmp x.0 y.0) (nat_cmp x.1 y.1)
+
+-- whether two pairs of a member and a number are the same
+abbrev pub key_eq : ℕ × ℕ → ℕ × ℕ → Bool
+key_eq x y = x.0 == y.0 && x.1 == y.1
 
 -- whether a header is that of a record with a number
 abbrev pub is_numbered : Header → Bool
@@ -32,27 +34,27 @@ abbrev pub from_on : ℕ → Option ℕ → Option ℕ
 from_on p None = None
 from_on p (Some n) = if nat_le p n then Some n else None
 
--- what an index tells of a key
-abbrev pub told_of : List ℕ → List (List ℕ × ℕ) → Option ℕ
-told_of key entries = lookup (is_at (slice_cmp nat_cmp key)) entries
+-- what an index tells of a member and a number
+abbrev pub told_of : ℕ × ℕ → List ((ℕ × ℕ) × ℕ) → Option ℕ
+told_of key entries = lookup (is_at (key_cmp key)) entries
 
 -- of each member and number, an index tells the last record among these headers; of journals in front of them it may tell more
-abbrev pub IndexesNumbers : List (List ℕ × ℕ) → ℕ → List Header → Type 0
-IndexesNumbers entries first xs = (member number : ℕ) → member < 2 ^ 32 → 1 ≤ number → number < 2 ^ 64 → from_on first (told_of (key_of member number) entries) ≡ last_with first member number xs
+abbrev pub IndexesNumbers : List ((ℕ × ℕ) × ℕ) → ℕ → List Header → Type 0
+IndexesNumbers entries first xs = (member number : ℕ) → 1 ≤ number → from_on first (told_of (member, number) entries) ≡ last_with first member number xs
 
 -- one key tells this, and all others what they told
-abbrev pub PutsNumber : List (List ℕ × ℕ) → List (List ℕ × ℕ) → List ℕ → Option ℕ → Type 0
-PutsNumber old new key told = (k : List ℕ) → told_of k new ≡ (if bytes_eq key k then told else told_of k old)
+abbrev pub PutsNumber : List ((ℕ × ℕ) × ℕ) → List ((ℕ × ℕ) × ℕ) → ℕ × ℕ → Option ℕ → Type 0
+PutsNumber old new key told = (k : ℕ × ℕ) → told_of k new ≡ (if key_eq key k then told else told_of k old)
 
 -- the index after a journal with this header, and what its key told before
-pub record IsAdded (x : Header) (old : List (List ℕ × ℕ)) (jsn : ℕ) (before : Option ℕ) (new : List (List ℕ × ℕ)) : Type 0 where
+pub record IsAdded (x : Header) (old : List ((ℕ × ℕ) × ℕ)) (jsn : ℕ) (before : Option ℕ) (new : List ((ℕ × ℕ) × ℕ)) : Type 0 where
   pub same : is_numbered x ≡ false → new ≡ old
-  pub puts : is_numbered x ≡ true → PutsNumber old new (key_of x.member x.a) (Some jsn)
-  pub before_is : is_numbered x ≡ true → before ≡ told_of (key_of x.member x.a) old
+  pub puts : is_numbered x ≡ true → PutsNumber old new (x.member, x.a) (Some jsn)
+  pub before_is : is_numbered x ≡ true → before ≡ told_of (x.member, x.a) old
 
 -- two indexes tell the same
-abbrev pub IsSameIndex : List (List ℕ × ℕ) → List (List ℕ × ℕ) → Type 0
-IsSameIndex old new = (k : List ℕ) → told_of k new ≡ told_of k old
+abbrev pub IsSameIndex : List ((ℕ × ℕ) × ℕ) → List ((ℕ × ℕ) × ℕ) → Type 0
+IsSameIndex old new = (k : ℕ × ℕ) → told_of k new ≡ told_of k old
 
 -- the last kept record of a member with this number, by the headers from journal `first` on; 0 is no number
 abbrev pub told_number : ℕ → ℕ → ℕ → ℕ → List Header → Option ℕ

@@ -1,8 +1,8 @@
 //! An index of the numbers that members give their requests.
 
-ghost use Rattle.std.specs.Prelude.{◌≡◌, ℕ, ◌+◌, ◌<◌, ◌^◌, List, [], ◌∷◌, ◌++◌, length, None, Some, OnOk, OnErr, IfOk};
+ghost use Rattle.std.specs.Prelude.{◌≡◌, ℕ, ◌+◌, List, [], ◌∷◌, ◌++◌, length, None, Some, OnOk, OnErr, IfOk};
 ghost use Rattle.journal_record.specs.declared.header.Header.{Header as HeaderRecord};
-ghost use Rattle.ledger_book.specs.Numbered.{key_of, from_on, told_of, is_numbered, IndexesNumbers, PutsNumber, IsAdded, IsSameIndex};
+ghost use Rattle.ledger_book.specs.Numbered.{from_on, told_of, is_numbered, IndexesNumbers, PutsNumber, IsAdded, IsSameIndex};
 
 use journal_record::{Header, Kind};
 use ledger_bytes::NoMemory;
@@ -13,13 +13,13 @@ use std::marker::Model;
 /// Which record of a member has which number: the last one of each. A contract sees the pairs of a key and a journal.
 #[derive(Drop)]
 pub(crate) struct NumberIndex {
-    by: BTreeMap<[u8; 12], u64>,
+    by: BTreeMap<(u32, u64), u64>,
 }
 
 impl Model for NumberIndex {
     ghost use Rattle.std.specs.Prelude.{ℕ, List};
 
-    ghost Value = { List (List ℕ × ℕ) };
+    ghost Value = { List ((ℕ × ℕ) × ℕ) };
 
     ghost view = { λ x. x.by.entries };
 }
@@ -36,10 +36,9 @@ impl NumberIndex {
 
     /// The last record of the member that has the number, where it is journal `first` or a later one.
     pub(crate) fn of(&self, member: u32, number: u64, first: u64) -> Option<u64>
-        ensures told { result ≡ from_on first (told_of (key_of member number) self.now) }
-        ensures wide { (member < 2 ^ 32) × (number < 2 ^ 64) }
+        ensures { result ≡ from_on first (told_of (member, number) self.now) }
     {
-        let jsn = self.told(&key(member, number))?;
+        let jsn = self.told(&(member, number))?;
         if first <= jsn { Some(jsn) } else { None }
     }
 
@@ -54,21 +53,18 @@ impl NumberIndex {
         if !is_numbered(header) {
             return Ok(None);
         }
-        let key = key(header.member, header.a);
-        let before = self.told(&key);
-        self.put(&key, jsn)?;
-        Ok(before)
+        self.put(&(header.member, header.a), jsn)
     }
 
     /// Takes back an addition by what it answered. It takes no memory.
     pub(crate) fn take_back(&mut self, header: &Header, jsn: u64, before: Option<u64>)
-        ensures { (first : List (List ℕ × ℕ)) → IsAdded header.now first jsn before self.old
+        ensures { (first : List ((ℕ × ℕ) × ℕ)) → IsAdded header.now first jsn before self.old
             → IsSameIndex first self.new }
     {
         if !is_numbered(header) {
             return;
         }
-        let key = key(header.member, header.a);
+        let key = (header.member, header.a);
         match before {
             Some(last) => {
                 let _ = self.put(&key, last);
@@ -79,30 +75,30 @@ impl NumberIndex {
 
     /// Keeps the journals from journal `p` on.
     pub(crate) fn drop_below(&mut self, p: u64)
-        ensures { (key : List ℕ) → from_on p (told_of key self.new) ≡ from_on p (told_of key self.old) }
+        ensures { (key : ℕ × ℕ) → from_on p (told_of key self.new) ≡ from_on p (told_of key self.old) }
     {
         self.by.retain(|_, jsn| *jsn >= p);
     }
 
     // What a key tells.
-    fn told(&self, key: &[u8; 12]) -> Option<u64>
+    fn told(&self, key: &(u32, u64)) -> Option<u64>
         ensures { result ≡ told_of key.now self.now }
     {
         self.by.get(key).copied()
     }
 
-    // The key tells this journal from now on. That takes memory only where it told none.
-    fn put(&mut self, key: &[u8; 12], jsn: u64) -> Result<(), NoMemory>
+    // The key tells this journal from now on. The answer is what it told before; only where that is none it takes memory.
+    fn put(&mut self, key: &(u32, u64), jsn: u64) -> Result<Option<u64>, NoMemory>
         ensures ok { OnOk result (PutsNumber self.old self.new key.now (Some jsn)) }
+        ensures told { IfOk result (λ before. before ≡ told_of key.now self.old) }
         ensures absent { OnErr result (told_of key.now self.old ≡ None) }
         ensures err { OnErr result (self.new ≡ self.old) }
     {
-        self.by.insert(*key, jsn)?;
-        Ok(())
+        Ok(self.by.insert(*key, jsn)?)
     }
 
     // The key tells nothing from now on.
-    fn forget(&mut self, key: &[u8; 12])
+    fn forget(&mut self, key: &(u32, u64))
         ensures { PutsNumber self.old self.new key.now None }
     {
         let _ = self.by.remove(key);
@@ -114,16 +110,4 @@ fn is_numbered(header: &Header) -> bool
     ensures { result ≡ is_numbered header.now }
 {
     header.kind == Kind::Content && header.a != 0
-}
-
-// A member and a number as 12 bytes.
-fn key(member: u32, number: u64) -> [u8; 12]
-    ensures key { result ≡ key_of member number }
-    ensures wide { (member < 2 ^ 32) × (number < 2 ^ 64) }
-{
-    let mut key = [0; 12];
-    let (front, rest) = key.split_at_mut(4);
-    front.copy_from_slice(&member.to_be_bytes());
-    rest.copy_from_slice(&number.to_be_bytes());
-    key
 }

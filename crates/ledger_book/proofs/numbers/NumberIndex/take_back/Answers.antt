@@ -5,5 +5,5 @@ use Rattle.ledger_book.proofs.numbers.NumberIndex.take_back.Goals as goal
 
 pub returns-in-Some : goal.returns-in-Some
 returns-in-Some c = λ first added.
-    put_back c.put.result first c.args.self.now c.put.new.self c.args.header.now c.key-key.result c.args.jsn c.in-Some.last c.key-key.ensures.key (search rules) c.put.ensures.ok c.put.ensures.absent
+    put_back c.put.result first c.args.self.now c.put.new.self c.args.header.now c.args.jsn c.in-Some.last (search rules) c.put.ensures.ok c.put.ensures.absent
     (subst (λ (o : Option ℕ). IsAdded c.args.header.now first c.args.jsn o c.args.self.now) c.in-Some.is added)
