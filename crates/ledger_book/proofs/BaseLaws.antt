@@ -1,7 +1,7 @@
 -- Lemmas on a book that is made of a base: it stands for each history that ends with it.
-use Rattle.std.specs.Prelude.{All, Option, Some, None, filter, slice_get, zero, suc, nat_lt, nat_le}
+use Rattle.std.specs.Prelude.{All, Option, Some, None, filter, slice_get, zero, suc, get_or, nat_lt, nat_le}
 use Rattle.std.specs.Option.{is_some}
-use Rattle.std.proofs.Common.{◌≡◌, ℕ, ◌+◌, ◌<◌, ◌≤◌, Bool, true, false, cond, List, [], ◌∷◌, ◌++◌, length, map, take, refl, sym, ◌∙◌, ap, subst, arith, append-nil, length-append}
+use Rattle.std.proofs.Common.{◌≡◌, ℕ, ◌+◌, ◌-◌, ◌<◌, ◌≤◌, Bool, true, false, cond, List, [], ◌∷◌, ◌++◌, length, map, take, refl, sym, ◌∙◌, ap, subst, arith, append-nil, length-append}
 use Rattle.std.proofs.lemmas.Bool.{le-leb, le-ltb, lt-ltb, leb-true, and_parts}
 use Rattle.std.proofs.lemmas.List.{length-map, take_all, drop_all}
 use Rattle.std.proofs.lemmas.List.Elements.{All-nil, All-head, All-tail}
@@ -32,7 +32,8 @@ use Rattle.ledger_model.specs.Bases.{front, clues_added}
 use Rattle.ledger_model.specs.Bounds.{marks_of}
 use Rattle.time_peg.specs.Times.{marks_from}
 use Rattle.ledger_book.specs.Basing.{member_with}
-use Rattle.ledger_book.specs.Hiders.{hider_in}
+use Rattle.ledger_book.specs.Fronts.{namer_in}
+use Rattle.ledger_book.specs.Hiders.{told_hider, hider_in}
 use Rattle.ledger_book.specs.Reading.{EndsWith, StandsBehind}
 use Rattle.ledger_model.specs.Targets.{hider_among}
 use Rattle.ledger_model.proofs.LawfulLaws.{lawful_from}
@@ -52,10 +53,18 @@ pub record IsBased (b : Base) (k : Kept) : Type 0 where
   pub members_are : k.members ≡ map member_with b.keys
   pub clues : index.StandsForTrails k.clues (with_floor b.point (added_at_first b.clues))
   pub hiders : k.hiders ≡ []
+  pub fronts : k.fronts ≡ []
   pub times : k.times ≡ []
   pub headers_are : k.headers ≡ []
   pub tree_is : (ds : List (List ℕ)) → length ds ≡ b.point → map (λ (d : Digest). d.0) b.peaks ≡ peaks sha256 ds → StandsFor sha256 k.tree ds
   pub root_is : (ds : List (List ℕ)) → StandsFor sha256 k.tree ds → k.root.0 ≡ tree.root sha256 ds
+
+none_told : (i : ℕ) → (let none : Option ℕ = None in told_hider (get_or [] i 0) ≡ none)
+none_told zero = refl
+none_told (suc i) = refl
+
+none_hides : (i : ℕ) → is_some (told_hider (get_or [] i 0)) ≡ false
+none_hides i = ap is_some (none_told i)
 
 -- where nothing was read yet
 pub based_behind : (b : Base) (k : Kept) → IsBase b → IsBased b k → StandsOver sha256 k.tree b.point (map (λ (d : Digest). d.0) b.peaks) [] → StandsBehind k (Some b) []
@@ -68,7 +77,8 @@ based_behind b k base x over = record {
   reached = x.reached;
   members = ap length x.members_are ∙ length-map b.keys member_with ∙ omega arith;
   clues = x.clues;
-  hiders = λ n. ap (λ (l : List (ℕ × ℕ)). is_some (hider_in n l)) x.hiders;
+  hiders = λ n le. ap (λ (l : List ℕ). is_some (hider_in k.floor l n)) x.hiders ∙ none_hides (n - k.floor);
+  fronts = λ unseen n lt. ap (λ (l : List (ℕ × ℕ)). is_some (namer_in n l)) x.fronts;
   headers_are = x.headers_are;
   leaves = over;
 }
@@ -197,6 +207,6 @@ module _ (b : Base) (k : Kept) (h : History) (x : IsBased b k) (e : EndsWith b h
         ap (aged_members k.floor) (x.members_are ∙ ap (map member_with) keys) ∙ aged_with k.floor (members h)
         ∙ sym (aged_low k.floor (members h) (subst (λ n. All (λ (m : Member). m.jsn < n) (members h)) (sym x.floor) (members_low p h e.lawful some (omega (arith, e.size_is)))));
     clues = subst (λ n. index.StandsForTrails k.clues (clues_added n (journals h))) (sym x.floor) from_clues;
-    hiders = λ n le. ap (hider_in n) x.hiders ∙ sym (ap (hider_among (journals h)) (none_there (journals h) n (omega (arith, le, x.floor, e.size_is))));
+    hiders = λ n le. ap (λ (l : List ℕ). hider_in k.floor l n) x.hiders ∙ none_told (n - k.floor) ∙ sym (ap (hider_among (journals h)) (none_there (journals h) n (omega (arith, le, x.floor, e.size_is))));
     times = x.times ∙ sym (ap (λ (js : List Entry). marks_from k.point (marks_of js)) (drop_all k.floor (journals h) (omega (arith, x.floor, e.size_is))));
   }

@@ -1,9 +1,9 @@
 -- Lemmas on a book of what stands behind a base.
-use Rattle.std.specs.Prelude.{All, filter, max}
+use Rattle.std.specs.Prelude.{All, IsTrue, filter, max, nat_lt}
 use Rattle.std.specs.List.{list_any}
 use Rattle.std.specs.Option.{is_some}
-use Rattle.std.proofs.Common.{◌≡◌, ℕ, ◌+◌, ◌<◌, ◌≤◌, ◌&&◌, ◌||◌, ◌==◌, Bool, true, false, cond, not, List, [], ◌∷◌, ◌++◌, Option, Some, None, length, map, refl, sym, subst, ap, ◌∙◌, arith, append-nil, append_assoc, length-append}
-use Rattle.std.proofs.lemmas.Bool.{eqb-true, eq-eqb, true≢false}
+use Rattle.std.proofs.Common.{◌≡◌, ◌≢◌, ℕ, ◌+◌, ◌<◌, ◌≤◌, ◌&&◌, ◌||◌, ◌==◌, Bool, true, false, cond, not, List, [], ◌∷◌, ◌++◌, Option, Some, None, length, map, refl, sym, subst, ap, ◌∙◌, arith, append-nil, append_assoc, length-append}
+use Rattle.std.proofs.lemmas.Bool.{and_parts, eqb-true, eq-eqb, ltb-true, ltb-false, true≢false}
 use Rattle.std.proofs.lemmas.List.{map-append}
 use Rattle.std.proofs.lemmas.List.Elements.{All-nil, All-cons}
 use Rattle.std.proofs.lemmas.List.Folds.{list_any-append}
@@ -12,7 +12,7 @@ use Rattle.tree_model.specs.Tree.{leaf}
 use Rattle.ledger_bytes.specs.declared.digest.Digest.{Digest}
 use Rattle.journal_record.specs.Entry.{Entry}
 use Rattle.journal_record.specs.Header.{spelling}
-use Rattle.journal_record.specs.Rules.{is_no_clue, clue_ok, clue_ord_ok}
+use Rattle.journal_record.specs.Rules.{a_ok, is_no_clue, clue_ok, clue_ord_ok}
 use Rattle.journal_record.specs.declared.header.Header.{Header}
 use Rattle.journal_record.specs.declared.header.Kind.{Kind}
 use Rattle.journal_record.specs.declared.header.Kind.TheVariants as kind
@@ -27,11 +27,13 @@ use Rattle.ledger_model.specs.Members.{members, founders, is_member, member_of, 
 use Rattle.ledger_model.specs.Targets.{is_occult}
 use Rattle.ledger_model.proofs.PlaceLaws.{founders_kept, admitted_more, admitted_same}
 use Rattle.pseudo_genesis.specs.declared.base.Base.{Base}
-use Rattle.ledger_model.specs.Behind.{IsNextBehind, IsOwnBehind, AreBehind, first_of, count_behind, clues_behind, next_number, names}
+use Rattle.ledger_model.specs.Behind.{IsNextBehind, IsOwnBehind, AreBehind, first_of, count_behind, clues_behind, is_purge_to, next_number, names}
 use Rattle.ledger_book.specs.Books.{Kept}
-use Rattle.ledger_book.specs.Hiders.{hider_in, AddsHider}
+use Rattle.ledger_book.specs.Fronts.{namer_in, AddsFront}
+use Rattle.ledger_book.specs.Hiders.{hider_in, with_hider_of}
 use Rattle.ledger_book.specs.Reading.{HasLeaves, StandsBehind}
 use Rattle.ledger_book.specs.Steps.{IsAsBefore, point_with, with_clue_of, reached_with}
+use Rattle.ledger_book.proofs.HiderLaws.{hider_other, hidden_now}
 use Rattle.ledger_book.proofs.OwnLaws.{own_more}
 use Rattle.ledger_book.proofs.ClueLaws.{filter_takes, filter_leaves}
 use Rattle.ledger_book.proofs.TimeLaws.{points_more}
@@ -53,6 +55,7 @@ as_before_behind old new start es same s =
       members = s.members;
       clues = s.clues;
       hiders = s.hiders;
+      fronts = s.fronts;
       headers_are = s.headers_are;
       leaves = leaves_same old new start es same s.leaves;
     } in
@@ -103,6 +106,10 @@ clues_next start es j =
     more (Some b) is = ap (λ (ms : List Mark). record { states = b.clues; marks = ms; floor = b.point }) (sym (marks_next es j is))
 
 -- the hiders
+or_parts : (v w : Bool) → (v || w) ≡ false → (v ≡ false) × (w ≡ false)
+or_parts true w none = absurd (true≢false none)
+or_parts false w none = (refl, none)
+
 or_false : (v : Bool) → (v || false) ≡ v
 or_false true = refl
 or_false false = refl
@@ -111,25 +118,60 @@ or_true : (v : Bool) → (v || true) ≡ true
 or_true true = refl
 or_true false = refl
 
-hiders_next : (entries new : List (ℕ × ℕ)) (es : List Entry) (j : Entry) (k : Kind) → j.header.kind ≡ k → ((n : ℕ) → is_some (hider_in n entries) ≡ list_any (names n) es) → AddsHider k j.header entries new
-    → (n : ℕ) → is_some (hider_in n new) ≡ list_any (names n) (es ++ j ∷ [])
-hiders_next entries new es j k is before adds n = by_kind k is adds ∙ sym (list_any-append (names n) es (j ∷ [])) where
-  others : new ≡ entries → names n j ≡ false → is_some (hider_in n new) ≡ (list_any (names n) es || (names n j || false))
-  others same none = ap (λ (l : List (ℕ × ℕ)). is_some (hider_in n l)) same ∙ before n ∙ sym (ap (λ v. list_any (names n) es || (v || false)) none ∙ or_false (list_any (names n) es))
+hiders_next : (start : Option Base) (numbers : List ℕ) (es : List Entry) (j : Entry) → IsNextBehind start es j.header → 1 ≤ j.header.jsn → first_of start + length numbers ≡ next_number start es
+    → ((n : ℕ) → first_of start ≤ n → is_some (hider_in (first_of start) numbers n) ≡ list_any (names n) es)
+    → (n : ℕ) → first_of start ≤ n → is_some (hider_in (first_of start) (with_hider_of (first_of start) j.header numbers) n) ≡ list_any (names n) (es ++ j ∷ [])
+hiders_next start numbers es j next some all before n le = by_name (names n j) refl ∙ sym (list_any-append (names n) es (j ∷ [])) where
+  before_it : (k : Kind) → is_occult k ≡ true → IsTrue (a_ok k j.header.jsn j.header.a) → j.header.a < j.header.jsn
+  before_it kind.Occult is ok = ltb-true j.header.a j.header.jsn ok
+  before_it kind.Genesis is ok = absurd (true≢false (sym is))
+  before_it kind.Content is ok = absurd (true≢false (sym is))
+  before_it kind.Member is ok = absurd (true≢false (sym is))
+  before_it kind.Time is ok = absurd (true≢false (sym is))
+  before_it kind.Purge is ok = absurd (true≢false (sym is))
 
-  by_kind : (k : Kind) → j.header.kind ≡ k → AddsHider k j.header entries new → is_some (hider_in n new) ≡ (list_any (names n) es || (names n j || false))
-  by_kind kind.Genesis is adds = others adds (ap (λ (x : Kind). is_occult x && j.header.a == n) is)
-  by_kind kind.Content is adds = others adds (ap (λ (x : Kind). is_occult x && j.header.a == n) is)
-  by_kind kind.Member is adds = others adds (ap (λ (x : Kind). is_occult x && j.header.a == n) is)
-  by_kind kind.Time is adds = others adds (ap (λ (x : Kind). is_occult x && j.header.a == n) is)
-  by_kind kind.Purge is adds = others adds (ap (λ (x : Kind). is_occult x && j.header.a == n) is)
-  by_kind kind.Occult is adds = elim (j.header.a == n) as (λ v. (j.header.a == n) ≡ v → is_some (hider_in n new) ≡ (list_any (names n) es || (names n j || false))) [
-    | true ↦ λ at.
-        let here : hider_in n new ≡ Some j.header.jsn = ap (λ m. hider_in m new) (sym (eqb-true j.header.a n at)) ∙ adds.here in
-        ap is_some here ∙ sym (ap (λ v. list_any (names n) es || (v || false)) (ap (λ (x : Kind). is_occult x && j.header.a == n) is ∙ at) ∙ or_true (list_any (names n) es))
-    | false ↦ λ at.
-        ap is_some (adds.others n (λ same. true≢false (sym (eq-eqb j.header.a n (sym same)) ∙ at))) ∙ before n
-        ∙ sym (ap (λ v. list_any (names n) es || (v || false)) (ap (λ (x : Kind). is_occult x && j.header.a == n) is ∙ at) ∙ or_false (list_any (names n) es))
+  by_name : (v : Bool) → names n j ≡ v → is_some (hider_in (first_of start) (with_hider_of (first_of start) j.header numbers) n) ≡ (list_any (names n) es || (names n j || false))
+  by_name true named =
+      let parts = and_parts (is_occult j.header.kind) (j.header.a == n) named in
+      let at : j.header.a ≡ n = eqb-true j.header.a n parts.1 in
+      let low : first_of start ≤ j.header.a = omega (arith, at, le) in
+      let high : j.header.a < first_of start + length numbers = omega (arith, before_it j.header.kind parts.0 next.layout.a, next.jsn, all) in
+      ap (λ m. is_some (hider_in (first_of start) (with_hider_of (first_of start) j.header numbers) m)) (sym at)
+      ∙ (hidden_now (first_of start) j.header numbers parts.0 low high some ∙ sym (ap (λ v. list_any (names n) es || (v || false)) named ∙ or_true (list_any (names n) es)))
+  by_name false none =
+      ap is_some (hider_other (first_of start) n j.header numbers le none)
+      ∙ (before n le ∙ sym (ap (λ v. list_any (names n) es || (v || false)) none ∙ or_false (list_any (names n) es)))
+
+-- the targets in front of the base
+unnamed_front : (floor : ℕ) (old new : List (ℕ × ℕ)) (x : Header) (n : ℕ) → AddsFront kind.Occult floor x old new → n ≢ x.a → namer_in n new ≡ namer_in n old
+unnamed_front floor old new x n adds other = elim (nat_lt x.a floor) as (λ v. nat_lt x.a floor ≡ v → namer_in n new ≡ namer_in n old) [
+  | true ↦ λ e. (adds.0 (ltb-true x.a floor e)).others n other
+  | false ↦ λ e. ap (namer_in n) (adds.1 (ltb-false x.a floor e))
+] refl
+
+fronts_next : (floor : ℕ) (old new : List (ℕ × ℕ)) (es : List Entry) (j : Entry) → ((n : ℕ) → n < floor → is_some (namer_in n old) ≡ list_any (names n) es)
+    → is_purge_to floor j.header ≡ false → AddsFront j.header.kind floor j.header old new → (n : ℕ) → n < floor → is_some (namer_in n new) ≡ list_any (names n) (es ++ j ∷ [])
+fronts_next floor old new es j before no_purge adds n lt = by_kind j.header.kind refl no_purge adds ∙ sym (list_any-append (names n) es (j ∷ [])) where
+  others : namer_in n new ≡ namer_in n old → names n j ≡ false → is_some (namer_in n new) ≡ (list_any (names n) es || (names n j || false))
+  others same none = ap is_some same ∙ before n lt ∙ sym (ap (λ v. list_any (names n) es || (v || false)) none ∙ or_false (list_any (names n) es))
+
+  unnamed : (k : Kind) → j.header.kind ≡ k → is_occult k ≡ false → names n j ≡ false
+  unnamed k is none = ap (λ (x : Kind). is_occult x && j.header.a == n) is ∙ ap (λ v. v && j.header.a == n) none
+
+  by_kind : (k : Kind) → j.header.kind ≡ k → (is_purge k && j.header.a == floor) ≡ false → AddsFront k floor j.header old new → is_some (namer_in n new) ≡ (list_any (names n) es || (names n j || false))
+  by_kind kind.Genesis is apart adds = others (ap (namer_in n) adds) (unnamed kind.Genesis is refl)
+  by_kind kind.Content is apart adds = others (ap (namer_in n) adds) (unnamed kind.Content is refl)
+  by_kind kind.Member is apart adds = others (ap (namer_in n) adds) (unnamed kind.Member is refl)
+  by_kind kind.Time is apart adds = others (ap (namer_in n) adds) (unnamed kind.Time is refl)
+  by_kind kind.Purge is apart adds = others (ap (namer_in n) (adds (λ same. true≢false (sym (eq-eqb j.header.a floor same) ∙ apart)))) (unnamed kind.Purge is refl)
+  by_kind kind.Occult is apart adds = elim (j.header.a == n) as (λ v. (j.header.a == n) ≡ v → is_some (namer_in n new) ≡ (list_any (names n) es || (names n j || false))) [
+    | true ↦ λ e.
+        let at : j.header.a ≡ n = eqb-true j.header.a n e in
+        let here : namer_in n new ≡ Some j.header.jsn = ap (λ m. namer_in m new) (sym at) ∙ (adds.0 (omega (arith, at, lt))).here in
+        ap is_some here ∙ sym (ap (λ v. list_any (names n) es || (v || false)) (ap (λ (x : Kind). is_occult x && j.header.a == n) is ∙ e) ∙ or_true (list_any (names n) es))
+    | false ↦ λ e.
+        let other : n ≢ j.header.a = λ same. true≢false (sym (eq-eqb j.header.a n (sym same)) ∙ e) in
+        others (unnamed_front floor old new j.header n adds other) (ap (λ (x : Kind). is_occult x && j.header.a == n) is ∙ e)
   ] refl
 
 -- the point
@@ -170,7 +212,9 @@ pub record IsMore (old new : Kept) (start : Option Base) (es : List Entry) (x : 
   pub reached : new.reached ≡ reached_with x old.floor old.reached
   pub members : length new.members ≡ length old.members + cond (is_member x.kind) 1 0
   pub clues : (a : Added) → clue_ok x.kind x.clue ≡ true → clue_ord_ok x.clue x.clue_ord ≡ true → index.StandsForTrails old.clues a → a.floor ≤ x.jsn → All (λ (m : Mark). m.jsn < x.jsn) a.marks → index.StandsForTrails new.clues (with_clue_of x a)
-  pub hiders : AddsHider x.kind x old.hiders new.hiders
+  pub hiders : new.hiders ≡ with_hider_of old.floor x old.hiders
+  pub all : old.floor + length old.hiders ≡ old.size
+  pub fronts : AddsFront x.kind old.floor x old.fronts new.fronts
   pub headers_are : new.headers ≡ old.headers ++ x ∷ []
   pub list : (ds : List (List ℕ)) → StandsFor sha256 old.tree ds → StandsFor sha256 new.tree (ds ++ leaf sha256 (spelling x) ∷ [])
   pub over : (p : ℕ) (ps xs : List (List ℕ)) → StandsOver sha256 old.tree p ps xs → StandsOver sha256 new.tree p ps (xs ++ leaf sha256 (spelling x) ∷ [])
@@ -187,7 +231,14 @@ more_here old new start es j some s m = record {
   members = omega (arith, m.members, s.members, count_next start es j (omega (arith, some, s.size_is)));
   clues = subst (index.StandsForTrails new.clues) (clues_next start es j)
       (m.clues (clues_behind start es) m.next.layout.clue m.next.layout.clue_ord s.clues (omega (arith, clues_low start es, m.next.jsn)) (clues_under start es j.header.jsn s.are (sym m.next.jsn)));
-  hiders = hiders_next old.hiders new.hiders es j j.header.kind refl s.hiders m.hiders;
+  hiders = λ n le.
+      let floored : (first_of start ≡ old.floor) = sym s.floor in
+      ap (λ f. is_some (hider_in f new.hiders n)) (m.floor ∙ s.floor)
+      ∙ (ap (λ (l : List ℕ). is_some (hider_in (first_of start) l n)) (m.hiders ∙ ap (λ f. with_hider_of f j.header old.hiders) s.floor)
+      ∙ hiders_next start old.hiders es j m.next (omega (arith, m.next.jsn, s.size_is, some)) (ap (λ f. f + length old.hiders) floored ∙ (m.all ∙ s.size_is)) (subst (λ f. (i : ℕ) → first_of start ≤ i → is_some (hider_in f old.hiders i) ≡ list_any (names i) es) s.floor s.hiders) n le);
+  fronts = λ unseen n lt.
+      let apart = or_parts (is_purge_to old.floor j.header) old.reached (sym m.reached ∙ unseen) in
+      fronts_next (first_of start) old.fronts new.fronts es j (s.fronts apart.1) (ap (λ f. is_purge_to f j.header) (sym s.floor) ∙ apart.0) (subst (λ f. AddsFront j.header.kind f j.header old.fronts new.fronts) s.floor m.fronts) n lt;
   headers_are = m.headers_are ∙ ap (λ l. l ++ j.header ∷ []) s.headers_are ∙ sym (map-append (λ (e : Entry). e.header) es (j ∷ []));
   leaves = leaves_next start old.tree new.tree es j m.list m.over s.leaves;
 }

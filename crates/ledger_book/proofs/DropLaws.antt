@@ -17,7 +17,7 @@ use Rattle.ledger_model.specs.Members as member
 use Rattle.ledger_model.proofs.BoundLaws.{later_marks_same}
 use Rattle.ledger_model.proofs.LawfulLaws.{lawful_from, point_seen}
 use Rattle.ledger_book.specs.Books.{Kept, Stands, Serves, headers, leaf_digests, aged_member, aged_members}
-use Rattle.ledger_book.specs.Hiders.{hider_in}
+use Rattle.ledger_book.proofs.HiderLaws.{hiders_from}
 use Rattle.ledger_book.proofs.StandsLaws.{point_is}
 
 -- the ends above a later journal
@@ -47,7 +47,7 @@ aged_twice floor p (m ∷ ms) le =
     zero_is false = refl
 
 -- what a book keeps from the point on
-abbrev pub cut : Kept → ℕ → List ℕ → index.KeptTrails → List (ℕ × ℕ) → List Header → Levels → Kept
+abbrev pub cut : Kept → ℕ → List ℕ → index.KeptTrails → List ℕ → List Header → Levels → Kept
 cut k p ends clues hiders hs rows = record k { floor = p; ends = ends; clues = clues; hiders = hiders; headers = hs; tree = rows }
 
 module _ (k : Kept) (h : History) (p : ℕ) (s : Serves k h) (at : p ≡ model.point h) (low : k.floor ≤ p) (within : p ≤ k.sealed) where
@@ -65,9 +65,9 @@ module _ (k : Kept) (h : History) (p : ℕ) (s : Serves k h) (at : p ≡ model.p
       stands.times ∙ later_marks_same k.floor 0 k.point (journals h) from early ∙ sym (later_marks_same p 0 k.point (journals h) from reach)
 
   -- .. serves the same history
-  pub serves_cut : (ends : List ℕ) (clues : index.KeptTrails) (hiders : List (ℕ × ℕ)) (hs : List Header) (rows : Levels)
+  pub serves_cut : (ends : List ℕ) (clues : index.KeptTrails) (hiders : List ℕ) (hs : List Header) (rows : Levels)
       → ends ≡ filter (λ end. nat_lt p end) k.ends → ((a : Added) → index.StandsForTrails k.clues a → index.StandsForTrails clues (with_floor (max a.floor p) a))
-      → ((n : ℕ) → p ≤ n → hider_in n hiders ≡ hider_in n k.hiders) → hs ≡ drop (p - k.floor) k.headers
+      → hiders ≡ drop (p - k.floor) k.hiders → hs ≡ drop (p - k.floor) k.headers
       → ((ds : List (List ℕ)) → StandsFor sha256 k.tree ds → StandsFor sha256 rows ds)
       → Serves (cut k p ends clues hiders hs rows) h
   serves_cut ends clues hiders hs rows ends_are clues_are hiders_are headers_are tree_is =
@@ -91,7 +91,7 @@ module _ (k : Kept) (h : History) (p : ℕ) (s : Serves k h) (at : p ≡ model.p
           };
           members = sym (aged_twice k.floor p k.members low) ∙ ap (aged_members p) stands.members ∙ aged_twice k.floor p (member.members h) low;
           clues = subst (λ n. index.StandsForTrails clues (clues_added n (journals h))) most (clues_are (clues_added k.floor (journals h)) stands.clues);
-          hiders = λ n le. hiders_are n le ∙ stands.hiders n (omega (arith, low, le));
+          hiders = λ n le. hiders_from k.floor p k.hiders hiders n low hiders_are le ∙ stands.hiders n (omega (arith, low, le));
           times = times_cut;
         };
         reached = s.reached;

@@ -1,9 +1,9 @@
 -- Lemmas on the book of a first journal.
-use Rattle.std.proofs.Common.{◌≡◌, ℕ, ◌&&◌, ◌||◌, ◌==◌, true, false, cond, not, option_map, Some, None, List, [], ◌∷◌, ◌++◌, length, take, drop, refl, ap, sym, subst, ◌∙◌, arith}
+use Rattle.std.proofs.Common.{◌≡◌, ℕ, ◌-◌, ◌&&◌, ◌||◌, ◌==◌, true, false, cond, not, option_map, Some, None, List, [], ◌∷◌, ◌++◌, length, take, drop, refl, ap, sym, subst, ◌∙◌, arith}
 use Rattle.std.specs.List.{fold}
 use Rattle.std.specs.Option.{is_some}
-use Rattle.std.specs.Prelude.{max, map}
-use Rattle.std.proofs.lemmas.Bool.{eqb-true}
+use Rattle.std.specs.Prelude.{max, map, get_or, zero, suc}
+use Rattle.std.proofs.lemmas.Bool.{eqb-true, true≢false}
 use Rattle.std.proofs.lemmas.List.{take_at, drop_at}
 use Rattle.sha2.specs.Sha256.{sha256}
 use Rattle.tree_model.specs.Tree.{leaf}
@@ -36,7 +36,7 @@ use Rattle.ledger_model.specs.declared.limits.Limits.{Limits}
 use Rattle.ledger_model.proofs.KeepLaws.{genesis_lawful}
 use Rattle.ledger_model.specs.Targets.{is_occult}
 use Rattle.ledger_model.proofs.HideLaws.{hider_is}
-use Rattle.ledger_book.specs.Hiders.{Indexes, hider_in}
+use Rattle.ledger_book.specs.Hiders.{TellHiders, told_hider, hider_in}
 use Rattle.ledger_model.specs.Behind.{IsOwnBehind}
 use Rattle.ledger_book.specs.Reading.{StandsBehind}
 use Rattle.ledger_book.specs.Books.{Kept, Serves, aged_members}
@@ -45,8 +45,8 @@ use Rattle.ledger_book.specs.Replaying.{IsFirst, begun_with}
 use Rattle.ledger_book.proofs.ClueLaws.{marks_same}
 
 -- what the book of a first journal keeps
-abbrev pub first_kept : Limits → Digest → List ℕ → List Member → index.KeptTrails → List (ℕ × ℕ) → List TimeMark → List Header → Levels → Kept
-first_kept limits leaf ends members clues hiders times headers tree = record {
+abbrev pub first_kept : Limits → Digest → List ℕ → List Member → index.KeptTrails → List ℕ → List (ℕ × ℕ) → List TimeMark → List Header → Levels → Kept
+first_kept limits leaf ends members clues hiders fronts times headers tree = record {
   limits = limits;
   floor = 0;
   reached = true;
@@ -60,10 +60,17 @@ first_kept limits leaf ends members clues hiders times headers tree = record {
   members = members;
   clues = clues;
   hiders = hiders;
+  fronts = fronts;
   times = times;
   headers = headers;
   tree = tree;
 }
+
+-- none hides it
+none_first : (i : ℕ) → (let none : ℕ = 0 in get_or (none ∷ []) i none ≡ none)
+none_first zero = refl
+none_first (suc zero) = refl
+none_first (suc (suc i)) = refl
 
 -- a first journal
 module _ (header : Header) (operator regulator : Digest) (j : Entry) (kind_is : header.kind ≡ kind.Genesis) (layout : IsHeader header) (first : IsFirst header operator regulator j) where
@@ -103,8 +110,8 @@ module _ (header : Header) (operator regulator : Digest) (j : Entry) (kind_is : 
   first_times : marks_from 0 (marks_of (model.journals (begun_with j))) ≡ []
   first_times = ap (λ (k : Kind). marks_from 0 (map (λ (e : Entry). mark_of e.header) (cond (is_time k) (j ∷ []) []))) first_kind
 
-  first_hiders : Indexes [] 0 (begun_with j)
-  first_hiders = λ n le. sym (hider_is (begun_with j) n first_lawful ∙ ap (λ (k : Kind). option_map (λ (e : Entry). e.header.jsn) (cond (is_occult k && j.header.a == n) (Some j) None)) first_kind)
+  first_hiders : TellHiders (0 ∷ []) 0 (begun_with j)
+  first_hiders = λ n le. ap told_hider (none_first (n - 0)) ∙ sym (hider_is (begun_with j) n first_lawful ∙ ap (λ (k : Kind). option_map (λ (e : Entry). e.header.jsn) (cond (is_occult k && j.header.a == n) (Some j) None)) first_kind)
 
   first_root : model.root (begun_with j) 1 ≡ leaf sha256 (spelling j.header)
   unfolding model.root
@@ -115,10 +122,10 @@ module _ (header : Header) (operator regulator : Digest) (j : Entry) (kind_is : 
   first_id = refl
 
   -- its book stands for the history that has it alone
-  pub serves_first : (limits : Limits) (tip : Digest) (encoded : List ℕ) (ms : List Member) (clues : index.KeptTrails) (by : List (ℕ × ℕ)) (times : List TimeMark) (hs : List Header) (rows : Levels) (ends : List ℕ)
-      → encoded ≡ spelling header → tip.0 ≡ leaf sha256 encoded → ms ≡ book.founders operator regulator → index.StandsForTrails clues (added_at_first []) → by ≡ [] → times ≡ [] → hs ≡ header ∷ [] → StandsFor sha256 rows (tip.0 ∷ []) → ends ≡ 1 ∷ []
-      → Serves (first_kept limits tip ends ms clues by times hs rows) (begun_with j)
-  serves_first limits tip encoded ms clues by times hs rows ends e l m c bs ts hss stands es =
+  pub serves_first : (limits : Limits) (tip : Digest) (encoded : List ℕ) (ms : List Member) (clues : index.KeptTrails) (by : List ℕ) (fronts : List (ℕ × ℕ)) (times : List TimeMark) (hs : List Header) (rows : Levels) (ends : List ℕ)
+      → encoded ≡ spelling header → tip.0 ≡ leaf sha256 encoded → ms ≡ book.founders operator regulator → index.StandsForTrails clues (added_at_first []) → by ≡ 0 ∷ [] → times ≡ [] → hs ≡ header ∷ [] → StandsFor sha256 rows (tip.0 ∷ []) → ends ≡ 1 ∷ []
+      → Serves (first_kept limits tip ends ms clues by fronts times hs rows) (begun_with j)
+  serves_first limits tip encoded ms clues by fronts times hs rows ends e l m c bs ts hss stands es =
       let told : tip.0 ≡ leaf sha256 (spelling j.header) = l ∙ ap (leaf sha256) (e ∙ ap spelling (sym first.header_is)) in record {
         stands = record {
           lawful = first_lawful;
@@ -126,7 +133,7 @@ module _ (header : Header) (operator regulator : Digest) (j : Entry) (kind_is : 
           tree = record { root = told ∙ sym first_root; id = told ∙ sym first_id; headers_are = hss ∙ ap (λ x. x ∷ []) (sym first.header_is); leaves = subst (λ x. StandsFor sha256 rows (x ∷ [])) told stands };
           members = ap (aged_members 0) (m ∙ first_members);
           clues = subst (index.StandsForTrails clues) (sym first_clues) c;
-          hiders = subst (λ (x : List (ℕ × ℕ)). Indexes x 0 (begun_with j)) (sym bs) first_hiders;
+          hiders = subst (λ (x : List ℕ). TellHiders x 0 (begun_with j)) (sym bs) first_hiders;
           times = ts ∙ sym first_times;
         };
         reached = refl;
@@ -138,11 +145,11 @@ module _ (header : Header) (j : Entry) (kind_is : header.kind ≡ kind.Genesis) 
   abbrev sort : j.header.kind ≡ kind.Genesis
   sort = ap (λ (x : Header). x.kind) is ∙ kind_is
 
-  pub behind_first : (limits : Limits) (tip : Digest) (encoded : List ℕ) (operator regulator : Digest) (ms : List Member) (clues : index.KeptTrails) (by : List (ℕ × ℕ)) (times : List TimeMark) (hs : List Header) (rows : Levels) (ends : List ℕ)
-      → encoded ≡ spelling header → tip.0 ≡ leaf sha256 encoded → ms ≡ book.founders operator regulator → index.StandsForTrails clues (added_at_first []) → by ≡ [] → hs ≡ header ∷ [] → StandsFor sha256 rows (tip.0 ∷ [])
-      → StandsBehind (first_kept limits tip ends ms clues by times hs rows) None (j ∷ [])
+  pub behind_first : (limits : Limits) (tip : Digest) (encoded : List ℕ) (operator regulator : Digest) (ms : List Member) (clues : index.KeptTrails) (by : List ℕ) (fronts : List (ℕ × ℕ)) (times : List TimeMark) (hs : List Header) (rows : Levels) (ends : List ℕ)
+      → encoded ≡ spelling header → tip.0 ≡ leaf sha256 encoded → ms ≡ book.founders operator regulator → index.StandsForTrails clues (added_at_first []) → by ≡ 0 ∷ [] → hs ≡ header ∷ [] → StandsFor sha256 rows (tip.0 ∷ [])
+      → StandsBehind (first_kept limits tip ends ms clues by fronts times hs rows) None (j ∷ [])
   unfolding members
-  behind_first limits tip encoded operator regulator ms clues by times hs rows ends e l m c bs hss stands = record {
+  behind_first limits tip encoded operator regulator ms clues by fronts times hs rows ends e l m c bs hss stands = record {
     begins = tt;
     are = (
       record {
@@ -160,7 +167,8 @@ module _ (header : Header) (j : Entry) (kind_is : header.kind ≡ kind.Genesis) 
     reached = refl;
     members = ap length m ∙ ap (λ (k : Kind). length (book.founders operator regulator ++ map member_of (cond (is_member k) (j ∷ []) []))) (sym sort);
     clues = subst (index.StandsForTrails clues) (sym (marks_same 0 [] j (ap not (subst (λ k. clue_ok k j.header.clue ≡ true) sort (subst IsHeader (sym is) layout).clue)))) c;
-    hiders = λ n. ap (λ (x : List (ℕ × ℕ)). is_some (hider_in n x)) bs ∙ sym (ap (λ (k : Kind). (is_occult k && j.header.a == n) || false) sort);
+    hiders = λ n le. ap (λ (x : List ℕ). is_some (hider_in 0 x n)) bs ∙ ap (λ v. is_some (told_hider v)) (none_first (n - 0)) ∙ sym (ap (λ (k : Kind). (is_occult k && j.header.a == n) || false) sort);
+    fronts = λ unseen. absurd (true≢false unseen);
     headers_are = hss ∙ ap (λ x. x ∷ []) (sym is);
     leaves = subst (λ x. StandsFor sha256 rows (x ∷ [])) (l ∙ ap (leaf sha256) (e ∙ ap spelling (sym is))) stands;
   }

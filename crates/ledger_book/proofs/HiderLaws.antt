@@ -1,24 +1,96 @@
--- Lemmas on the index of hiders, where a journal more is placed.
-use Rattle.std.proofs.Common.{◌≡◌, ◌≢◌, ℕ, ◌≤◌, ◌&&◌, ◌==◌, true, false, List, [], ◌∷◌, ◌++◌, refl, sym, ◌∙◌, ap, subst, cond, arith}
+-- Lemmas on the numbers of those that hide others, where a journal more is placed.
+use Rattle.std.proofs.Common.{◌≡◌, ◌≢◌, ℕ, zero, suc, ◌+◌, ◌-◌, ◌<◌, ◌≤◌, ◌&&◌, ◌==◌, Bool, true, false, List, [], ◌∷◌, ◌++◌, length, drop, get_or, Option, Some, None, refl, sym, ◌∙◌, ap, subst, cond, arith, length-append, set, get_or-set_same, get_or-set_other, length-set}
 use Rattle.std.specs.Option.{is_some}
-use Rattle.std.specs.Prelude.{filter, nat_le, nat_lt, nat_eq, Some}
-use Rattle.std.specs.BTreeMap.{is_at}
-use Rattle.std.specs.Ordering.{nat_cmp, is_eq}
-use Rattle.std.specs.declared.cmp.Ordering.TheVariants.{Less, Equal, Greater}
-use Rattle.std.proofs.lemmas.Bool.{eqb-true, eq-eqb, true≢false, false_from_ne_true, leb-false}
+use Rattle.std.specs.Prelude.{nat_le, slice_get}
+use Rattle.std.proofs.lemmas.Bool.{eqb-true, eq-eqb, ne_eqb, le-leb, leb-true, ltb-true, true≢false, false_from_ne_true, and_parts}
 use Rattle.journal_record.specs.Entry.{Entry}
+use Rattle.journal_record.specs.Rules.{jsn_ok, a_ok}
+use Rattle.journal_record.specs.declared.header.Header.{Header}
 use Rattle.journal_record.specs.declared.header.Kind.{Kind}
 use Rattle.journal_record.specs.declared.header.Kind.TheVariants as kind
-use Rattle.ledger_model.specs.History.{History, history, journals}
+use Rattle.ledger_model.specs.History.{History, history, journals, size}
 use Rattle.ledger_model.specs.Lawful.{IsNextOccult, IsNextOf, AreLawful}
 use Rattle.ledger_model.specs.Targets.{is_occult, hider}
 use Rattle.ledger_model.proofs.HideLaws.{names, hider_of, hidden_is, hider_is, hider_same, hider_new}
 use Rattle.ledger_model.proofs.KeepLaws.{journals_wider}
-use Rattle.ledger_model.proofs.LawfulLaws.{lawful_more}
-use Rattle.ledger_book.specs.Hiders.{hider_in, Indexes, Puts, AddsHider}
+use Rattle.ledger_model.proofs.LawfulLaws.{lawful_more, some_journal}
+use Rattle.ledger_book.specs.Hiders.{told_hider, hider_in, TellHiders, hidden_at, with_target_of, with_hider_of}
 use Rattle.ledger_book.specs.Steps.{MayPlace}
 
-module _ (entries new : List (ℕ × ℕ)) (floor : ℕ) (h : History) (j : Entry) (lawful : AreLawful (journals h)) (next : MayPlace h j.header) (index : Indexes entries floor h) where
+-- ---- the list
+
+-- a number that none hides, at the end
+get_pushed : (ns : List ℕ) (i : ℕ) → get_or (ns ++ 0 ∷ []) i 0 ≡ get_or ns i 0
+get_pushed [] zero = refl
+get_pushed [] (suc i) = refl
+get_pushed (n ∷ ns) zero = refl
+get_pushed (n ∷ ns) (suc i) = get_pushed ns i
+
+get_dropped : (c : ℕ) (ns : List ℕ) (i : ℕ) → get_or (drop c ns) i 0 ≡ get_or ns (c + i) 0
+get_dropped zero ns i = ap (λ k. get_or ns k 0) (let same : i ≡ 0 + i = omega arith in same)
+get_dropped (suc c) [] i = refl
+get_dropped (suc c) (n ∷ ns) i = get_dropped c ns i ∙ ap (λ k. get_or (n ∷ ns) k 0) (let same : suc (c + i) ≡ suc c + i = omega arith in same)
+
+pub length_hidden : (place jsn : ℕ) (ns : List ℕ) → length (hidden_at place jsn ns) ≡ length ns
+length_hidden place jsn ns = elim (get_or ns place 0 == 0) as (λ v. length (cond v (set ns place jsn) ns) ≡ length ns) [
+  | true ↦ length-set ns place jsn
+  | false ↦ refl
+]
+
+hidden_other : (place jsn i : ℕ) (ns : List ℕ) → i ≢ place → get_or (hidden_at place jsn ns) i 0 ≡ get_or ns i 0
+hidden_other place jsn i ns other = elim (get_or ns place 0 == 0) as (λ v. get_or (cond v (set ns place jsn) ns) i 0 ≡ get_or ns i 0) [
+  | true ↦ get_or-set_other ns place i jsn 0 other
+  | false ↦ refl
+]
+
+hidden_here : (place jsn : ℕ) (ns : List ℕ) → place < length ns → get_or (hidden_at place jsn ns) place 0 ≡ cond (get_or ns place 0 == 0) jsn (get_or ns place 0)
+hidden_here place jsn ns lt = elim (get_or ns place 0 == 0) as (λ v. get_or (cond v (set ns place jsn) ns) place 0 ≡ cond v jsn (get_or ns place 0)) [
+  | true ↦ get_or-set_same ns place jsn 0 lt
+  | false ↦ refl
+]
+
+-- ---- a journal more
+
+-- whom it doesn't name
+pub hider_other : (floor n : ℕ) (x : Header) (ns : List ℕ) → floor ≤ n → (is_occult x.kind && x.a == n) ≡ false → hider_in floor (with_hider_of floor x ns) n ≡ hider_in floor ns n
+hider_other floor n x ns le none = ap told_hider (by_kind (is_occult x.kind) none ∙ get_pushed ns (n - floor)) where
+  by_place : (v : Bool) → nat_le floor x.a ≡ v → (x.a == n) ≡ false → get_or (cond v (hidden_at (x.a - floor) x.jsn (ns ++ 0 ∷ [])) (ns ++ 0 ∷ [])) (n - floor) 0 ≡ get_or (ns ++ 0 ∷ []) (n - floor) 0
+  by_place false e other = refl
+  by_place true e other =
+      hidden_other (x.a - floor) x.jsn (n - floor) (ns ++ 0 ∷ []) (λ same. true≢false (sym (eq-eqb x.a n (let at : x.a ≡ n = omega (arith, same, le, leb-true floor x.a e) in at)) ∙ other))
+
+  by_kind : (v : Bool) → (v && x.a == n) ≡ false → get_or (cond (v && nat_le floor x.a) (hidden_at (x.a - floor) x.jsn (ns ++ 0 ∷ [])) (ns ++ 0 ∷ [])) (n - floor) 0 ≡ get_or (ns ++ 0 ∷ []) (n - floor) 0
+  by_kind false other = refl
+  by_kind true other = by_place (nat_le floor x.a) refl other
+
+-- whom it names
+pub hider_here : (floor : ℕ) (x : Header) (ns : List ℕ) → is_occult x.kind ≡ true → floor ≤ x.a → x.a < floor + length ns → get_or (with_hider_of floor x ns) (x.a - floor) 0 ≡ cond (get_or ns (x.a - floor) 0 == 0) x.jsn (get_or ns (x.a - floor) 0)
+hider_here floor x ns is le lt =
+    ap (λ v. get_or (cond (v && nat_le floor x.a) (hidden_at (x.a - floor) x.jsn (ns ++ 0 ∷ [])) (ns ++ 0 ∷ [])) (x.a - floor) 0) is
+    ∙ (ap (λ v. get_or (cond v (hidden_at (x.a - floor) x.jsn (ns ++ 0 ∷ [])) (ns ++ 0 ∷ [])) (x.a - floor) 0) (le-leb floor x.a le)
+    ∙ (hidden_here (x.a - floor) x.jsn (ns ++ 0 ∷ []) (omega (arith, le, lt, length-append ns (0 ∷ [])))
+    ∙ ap (λ n. cond (n == 0) x.jsn n) (get_pushed ns (x.a - floor))))
+
+-- what a number tells
+told_some : (n : ℕ) → 1 ≤ n → told_hider n ≡ Some n
+told_some n some = ap (λ v. cond v None (Some n)) (ne_eqb n 0 (λ is. let bad : ⊥ = omega (arith, is, some) in bad))
+
+untold : (n : ℕ) → is_some (told_hider n) ≡ false → (n == 0) ≡ true
+untold n = elim (n == 0) as (λ v. is_some (cond v None (Some n)) ≡ false → v ≡ true) [
+  | true ↦ λ none. refl
+  | false ↦ λ some. absurd (true≢false some)
+]
+
+-- it hides whom it names
+pub hidden_now : (floor : ℕ) (x : Header) (ns : List ℕ) → is_occult x.kind ≡ true → floor ≤ x.a → x.a < floor + length ns → 1 ≤ x.jsn → is_some (hider_in floor (with_hider_of floor x ns) x.a) ≡ true
+hidden_now floor x ns is le lt some = ap (λ n. is_some (told_hider n)) (hider_here floor x ns is le lt) ∙ by_old (get_or ns (x.a - floor) 0) where
+  by_old : (n : ℕ) → is_some (told_hider (cond (n == 0) x.jsn n)) ≡ true
+  by_old n = elim (n == 0) as (λ v. (n == 0) ≡ v → is_some (told_hider (cond v x.jsn n)) ≡ true) [
+    | true ↦ λ e. ap is_some (told_some x.jsn some)
+    | false ↦ λ e. ap (λ v. is_some (cond v None (Some n))) e
+  ] refl
+
+module _ (numbers : List ℕ) (floor : ℕ) (h : History) (j : Entry) (lawful : AreLawful (journals h)) (next : MayPlace h j.header) (index : TellHiders numbers floor h) (all : floor + length numbers ≡ size h) where
   abbrev more : History
   more = history h.closed (h.waiting ++ j ∷ [])
 
@@ -27,53 +99,45 @@ module _ (entries new : List (ℕ × ℕ)) (floor : ℕ) (h : History) (j : Entr
       hider_is more n (subst AreLawful (sym (journals_wider h j)) (lawful_more (journals h) j lawful next)) ∙ ap (λ es. hider_of es n) (journals_wider h j)
 
   -- it hides none
-  none_more : (n : ℕ) → floor ≤ n → names n j ≡ false → hider_in n entries ≡ hider more n
-  none_more n le none = index n le ∙ hider_is h n lawful ∙ sym (hider_same (journals h) j n none) ∙ sym (more_of n)
-
-  kept : (k : Kind) → j.header.kind ≡ k → is_occult k ≡ false → new ≡ entries → Indexes new floor more
-  kept k is none same = λ n le. ap (hider_in n) same ∙ none_more n le (ap (λ x. is_occult x && j.header.a == n) is ∙ ap (λ v. v && j.header.a == n) none)
+  other : (n : ℕ) → floor ≤ n → names n j ≡ false → hider_in floor (with_hider_of floor j.header numbers) n ≡ hider more n
+  other n le none = hider_other floor n j.header numbers le none ∙ (index n le ∙ (hider_is h n lawful ∙ (sym (hider_same (journals h) j n none) ∙ sym (more_of n))))
 
   -- it hides its target, which none hid before
-  put : j.header.kind ≡ kind.Occult → IsNextOccult (history [] (journals h)) j.header → Puts entries new j.header.a j.header.jsn → Indexes new floor more
-  put is own puts = λ n le. elim (n == j.header.a) as (λ v. (n == j.header.a) ≡ v → hider_in n new ≡ hider more n) [
-    | true ↦ λ e.
-        let here : n ≡ j.header.a = eqb-true n j.header.a e in
-        let shown : is_some (hider_of (journals h) j.header.a) ≡ false =
-        ap is_some (sym (hider_is (history [] (journals h)) j.header.a lawful)) ∙ sym (hidden_is (history [] (journals h)) j.header.a) ∙ own.shown in
-        let named : names j.header.a j ≡ true = ap (λ k. is_occult k && j.header.a == j.header.a) is ∙ eq-eqb j.header.a j.header.a refl in
-        ap (λ m. hider_in m new) here ∙ puts.here ∙ sym (hider_new (journals h) j j.header.a shown named) ∙ sym (more_of j.header.a) ∙ ap (hider more) (sym here)
-    | false ↦ λ e.
-        let other : n ≢ j.header.a = λ same. true≢false (sym (eq-eqb n j.header.a same) ∙ e) in
-        let none : names n j ≡ false = ap (λ k. is_occult k && j.header.a == n) is ∙ false_from_ne_true (j.header.a == n) (λ same. other (sym (eqb-true j.header.a n same))) in
-        puts.others n other ∙ none_more n le none
+  own_occult : (k : Kind) → is_occult k ≡ true → IsNextOf (history [] (journals h)) j.header k → IsNextOccult (history [] (journals h)) j.header
+  own_occult kind.Occult is own = own
+  own_occult kind.Genesis is own = absurd (true≢false (sym is))
+  own_occult kind.Content is own = absurd (true≢false (sym is))
+  own_occult kind.Member is own = absurd (true≢false (sym is))
+  own_occult kind.Time is own = absurd (true≢false (sym is))
+  own_occult kind.Purge is own = absurd (true≢false (sym is))
+
+  here : floor ≤ j.header.a → names j.header.a j ≡ true → hider_in floor (with_hider_of floor j.header numbers) j.header.a ≡ hider more j.header.a
+  here le named =
+      let is : is_occult j.header.kind ≡ true = (and_parts (is_occult j.header.kind) (j.header.a == j.header.a) named).0 in
+      let own = own_occult j.header.kind is next.own in
+      let shown : is_some (hider_of (journals h) j.header.a) ≡ false =
+      ap is_some (sym (hider_is (history [] (journals h)) j.header.a lawful)) ∙ sym (hidden_is (history [] (journals h)) j.header.a) ∙ own.shown in
+      let before : (get_or numbers (j.header.a - floor) 0 == 0) ≡ true =
+      untold (get_or numbers (j.header.a - floor) 0) (ap is_some (index j.header.a le ∙ hider_is h j.header.a lawful) ∙ shown) in
+      let some : 1 ≤ j.header.jsn = omega (arith, next.jsn, some_journal (journals h) lawful) in
+      let told : get_or (with_hider_of floor j.header numbers) (j.header.a - floor) 0 ≡ j.header.jsn =
+      hider_here floor j.header numbers is le (omega (arith, own.before, all)) ∙ ap (λ v. cond v j.header.jsn (get_or numbers (j.header.a - floor) 0)) before in
+      ap told_hider told ∙ (told_some j.header.jsn some ∙ (sym (hider_new (journals h) j j.header.a shown named) ∙ sym (more_of j.header.a)))
+
+  pub hiders_more : TellHiders (with_hider_of floor j.header numbers) floor more
+  hiders_more n le = elim (names n j) as (λ v. names n j ≡ v → hider_in floor (with_hider_of floor j.header numbers) n ≡ hider more n) [
+    | true ↦ λ named.
+        let at : j.header.a ≡ n = eqb-true j.header.a n (and_parts (is_occult j.header.kind) (j.header.a == n) named).1 in
+        subst (λ m. hider_in floor (with_hider_of floor j.header numbers) m ≡ hider more m) at (here (subst (λ m. floor ≤ m) (sym at) le) (subst (λ m. names m j ≡ true) (sym at) named))
+    | false ↦ λ none. other n le none
   ] refl
 
-  by_kind : (k : Kind) → j.header.kind ≡ k → AddsHider k j.header entries new → IsNextOf (history [] (journals h)) j.header k → Indexes new floor more
-  by_kind kind.Genesis is adds own = kept kind.Genesis is refl adds
-  by_kind kind.Content is adds own = kept kind.Content is refl adds
-  by_kind kind.Member is adds own = kept kind.Member is refl adds
-  by_kind kind.Time is adds own = kept kind.Time is refl adds
-  by_kind kind.Occult is adds own = put is own adds
-  by_kind kind.Purge is adds own = kept kind.Purge is refl adds
+-- ---- the hiders of those from a later journal on
 
-  pub hiders_more : AddsHider j.header.kind j.header entries new → Indexes new floor more
-  hiders_more adds = by_kind j.header.kind refl adds next.own
+pub hiders_from : (floor p : ℕ) (ns cut : List ℕ) (n : ℕ) → floor ≤ p → cut ≡ drop (p - floor) ns → p ≤ n → hider_in p cut n ≡ hider_in floor ns n
+hiders_from floor p ns cut n low is le =
+    ap (λ l. hider_in p l n) is ∙ ap told_hider (get_dropped (p - floor) ns (n - p) ∙ ap (λ i. get_or ns i 0) (let at : p - floor + (n - p) ≡ n - floor = omega (arith, low, le) in at))
 
--- the hiders of those from a later journal on
-same_number : (n k : ℕ) → is_at (nat_cmp n) k ≡ true → n ≡ k
-same_number n k is = elim (nat_lt n k) as (λ v. nat_lt n k ≡ v → is_eq (cond v Less (cond (nat_eq n k) Equal Greater)) ≡ true → n ≡ k) [
-  | true ↦ λ lt no. absurd (true≢false (sym no))
-  | false ↦ λ lt some. elim (nat_eq n k) as (λ v. nat_eq n k ≡ v → is_eq (cond v Equal Greater) ≡ true → n ≡ k) [
-    | true ↦ λ at yes. eqb-true n k at
-    | false ↦ λ at no. absurd (true≢false (sym no))
-  ] refl some
-] refl is
-
-pub hiders_from : (p : ℕ) (entries : List (ℕ × ℕ)) (n : ℕ) → p ≤ n → hider_in n (filter (λ (e : ℕ × ℕ). nat_le p e.0) entries) ≡ hider_in n entries
-hiders_from p [] n le = refl
-hiders_from p (e ∷ es) n le =
-    let later = hiders_from p es n le in
-    elim (nat_le p e.0) as (λ v. nat_le p e.0 ≡ v → hider_in n (cond v (e ∷ filter (λ (x : ℕ × ℕ). nat_le p x.0) es) (filter (λ (x : ℕ × ℕ). nat_le p x.0) es)) ≡ cond (is_at (nat_cmp n) e.0) (Some e.1) (hider_in n es)) [
-      | true ↦ λ low. ap (λ o. cond (is_at (nat_cmp n) e.0) (Some e.1) o) later
-      | false ↦ λ high. later ∙ sym (ap (λ v. cond v (Some e.1) (hider_in n es)) (false_from_ne_true (is_at (nat_cmp n) e.0) (λ at. omega (arith, same_number n e.0 at, leb-false p e.0 high, le))))
-    ] refl
+-- one without a target in the list changes nothing but its own number
+pub unhiding : (floor : ℕ) (x : Header) (ns : List ℕ) → is_occult x.kind ≡ false → with_hider_of floor x ns ≡ ns ++ 0 ∷ []
+unhiding floor x ns none = ap (λ v. cond (v && nat_le floor x.a) (hidden_at (x.a - floor) x.jsn (ns ++ 0 ∷ [])) (ns ++ 0 ∷ [])) none

@@ -38,7 +38,7 @@ use Rattle.ledger_model.proofs.HideLaws.{hidden_is}
 use Rattle.ledger_model.proofs.KeepLaws.{journals_wider}
 use Rattle.ledger_model.proofs.LawfulLaws.{later_seen, lawful_more, some_journal}
 use Rattle.ledger_model.proofs.PlaceLaws.{founders_kept, admitted_more, admitted_same}
-use Rattle.ledger_book.specs.Hiders.{hider_in, AddsHider}
+use Rattle.ledger_book.specs.Hiders.{TellHiders, hider_in, with_hider_of}
 use Rattle.ledger_book.specs.Books.{Kept, Stands, Serves, headers, leaf_digests, sealed_size, ends_above, aged_member, aged_members}
 use Rattle.ledger_model.specs.Bases.{clues_added}
 use Rattle.ledger_model.specs.Bounds.{marks_of}
@@ -172,7 +172,7 @@ view_purged k h n s below purged =
     ∙ sym (ap (λ v. cond v (view.Purged (model.point h)) (cond (is_hidden h n) view.Occulted view.Whole)) (lt-ltb n (model.point h) (omega (arith, purged, point_is k h s))))
     ∙ view_there h n (omega (arith, below, s.stands.counts.size))
 
-pub view_kept : (k : Kept) (h : History) (n : ℕ) (by : Option ℕ) → Serves k h → n < k.size → k.point ≤ n → by ≡ hider_in n k.hiders → cond (is_some by) view.Occulted view.Whole ≡ outcomes.view h n
+pub view_kept : (k : Kept) (h : History) (n : ℕ) (by : Option ℕ) → Serves k h → n < k.size → k.point ≤ n → by ≡ hider_in k.floor k.hiders n → cond (is_some by) view.Occulted view.Whole ≡ outcomes.view h n
 view_kept k h n by s below kept told =
     sym (ap (λ v. cond v view.Occulted view.Whole) (hidden_is h n ∙ ap is_some (sym (told ∙ s.stands.hiders n (omega (arith, s.seen, kept))))))
     ∙ sym (ap (λ v. cond v (view.Purged (model.point h)) (cond (is_hidden h n) view.Occulted view.Whole)) (le-ltb n (model.point h) (omega (arith, kept, point_is k h s))))
@@ -190,12 +190,12 @@ first_kept [] more some = absurd (omega (arith, some))
 first_kept (j ∷ js) more some = refl
 
 -- a journal more in the open block
-stands_wider : (k : Kept) (h : History) (j : Entry) (reached : Bool) (ms : List Member) (t : index.KeptTrails) (by : List (ℕ × ℕ)) (rows : Levels) → Stands k h → MayPlace h j.header → AddsHider j.header.kind j.header k.hiders by
+stands_wider : (k : Kept) (h : History) (j : Entry) (reached : Bool) (ms : List Member) (t : index.KeptTrails) (by : List ℕ) (fronts : List (ℕ × ℕ)) (rows : Levels) → Stands k h → MayPlace h j.header → by ≡ with_hider_of k.floor j.header k.hiders → k.floor + length k.hiders ≡ k.size
     → aged_members k.floor ms ≡ aged_members k.floor (members (wider h j)) → index.StandsForTrails t (clues_added k.floor (journals (wider h j)))
     → StandsFor sha256 rows (leaf_digests h ++ leaf_digest j ∷ [])
-    → Stands (record k { reached = reached; size = k.size + 1; point = point_with j.header k.point; members = ms; clues = t; hiders = by; times = with_time_of k.size j.header k.times; headers = k.headers ++ j.header ∷ []; tree = rows }) (wider h j)
+    → Stands (record k { reached = reached; size = k.size + 1; point = point_with j.header k.point; members = ms; clues = t; hiders = by; fronts = fronts; times = with_time_of k.size j.header k.times; headers = k.headers ++ j.header ∷ []; tree = rows }) (wider h j)
 unfolding model.seen_point model.id
-stands_wider k h j reached ms t by rows s next hides same clues leaves =
+stands_wider k h j reached ms t by fronts rows s next hides all same clues leaves =
     let e = journals_wider h j in
     let some = some_journal (journals h) s.lawful in
     let below : length (journals_of h.closed) ≤ model.size h = omega (arith, length-append (journals_of h.closed) h.waiting) in
@@ -221,7 +221,7 @@ stands_wider k h j reached ms t by rows s next hides same clues leaves =
       };
       members = same;
       clues = clues;
-      hiders = hiders_more k.hiders by k.floor h j s.lawful next s.hiders hides;
+      hiders = subst (λ (l : List ℕ). TellHiders l k.floor (wider h j)) (sym hides) (hiders_more k.hiders k.floor h j s.lawful next s.hiders (all ∙ s.counts.size));
       times = times_more k h j s next ∙ ap (λ (js : List Entry). marks_from (point_with j.header k.point) (marks_of (drop k.floor js))) (sym e);
     }
 
@@ -250,28 +250,30 @@ abbrev pub AddsClue : index.KeptTrails → index.KeptTrails → Header → Type 
 AddsClue old new header = (a : Added) → clue_ok header.kind header.clue ≡ true → clue_ord_ok header.clue header.clue_ord ≡ true → index.StandsForTrails old a → a.floor ≤ header.jsn → All (λ m. m.jsn < header.jsn) a.marks → index.StandsForTrails new (with_clue_of header a)
 
 -- the lists with a header more
-pub record Grown (k : Kept) (hs : List Header) (rows : Levels) (ends : List ℕ) (header : Header) (tip : Digest) : Type 0 where
+pub record Grown (k : Kept) (hs : List Header) (by : List ℕ) (rows : Levels) (ends : List ℕ) (header : Header) (tip : Digest) : Type 0 where
   pub headers_are : hs ≡ k.headers ++ header ∷ []
+  pub hiders_are : by ≡ with_hider_of k.floor header k.hiders
+  pub all : k.floor + length k.hiders ≡ k.size
   pub leaves_are : (ds : List (List ℕ)) → StandsFor sha256 k.tree ds → StandsFor sha256 rows (ds ++ tip.0 ∷ [])
   pub ends_are : ends ≡ k.ends
   pub tip_is : IsLeafOf header tip
 
 -- what a book keeps behind a journal
-abbrev pub kept_with : Kept → Bool → ℕ → List Member → index.KeptTrails → List (ℕ × ℕ) → List TimeMark → List Header → Levels → List ℕ → Kept
-kept_with k reached point ms t by times hs rows ends = record k { reached = reached; size = k.size + 1; point = point; ends = ends; members = ms; clues = t; hiders = by; times = times; headers = hs; tree = rows }
+abbrev pub kept_with : Kept → Bool → ℕ → List Member → index.KeptTrails → List ℕ → List (ℕ × ℕ) → List TimeMark → List Header → Levels → List ℕ → Kept
+kept_with k reached point ms t by fronts times hs rows ends = record k { reached = reached; size = k.size + 1; point = point; ends = ends; members = ms; clues = t; hiders = by; fronts = fronts; times = times; headers = hs; tree = rows }
 
 -- with lists that are equal to those
-grown : (k : Kept) (g : History) (j : Entry) (reached : Bool) (point : ℕ) (ms : List Member) (t : index.KeptTrails) (by : List (ℕ × ℕ)) (times : List TimeMark) (hs : List Header) (rows : Levels) (ends : List ℕ) (header : Header)
+grown : (k : Kept) (g : History) (j : Entry) (reached : Bool) (point : ℕ) (ms : List Member) (t : index.KeptTrails) (by : List ℕ) (fronts : List (ℕ × ℕ)) (times : List TimeMark) (hs : List Header) (rows : Levels) (ends : List ℕ) (header : Header)
     → j.header ≡ header → point ≡ point_with header k.point → times ≡ with_time_of k.size header k.times → hs ≡ k.headers ++ header ∷ [] → ends ≡ k.ends
-    → Stands (kept_with k reached (point_with j.header k.point) ms t by (with_time_of k.size j.header k.times) (k.headers ++ j.header ∷ []) rows k.ends) g → Stands (kept_with k reached point ms t by times hs rows ends) g
-grown k g j reached point ms t by times hs rows ends header is at times_are heads_are ends_are s =
+    → Stands (kept_with k reached (point_with j.header k.point) ms t by fronts (with_time_of k.size j.header k.times) (k.headers ++ j.header ∷ []) rows k.ends) g → Stands (kept_with k reached point ms t by fronts times hs rows ends) g
+grown k g j reached point ms t by fronts times hs rows ends header is at times_are heads_are ends_are s =
     let heads : k.headers ++ j.header ∷ [] ≡ hs = ap (λ x. k.headers ++ x ∷ []) is ∙ sym heads_are in
     let timed : with_time_of k.size j.header k.times ≡ times = ap (λ x. with_time_of k.size x k.times) is ∙ sym times_are in
     let pointed : point_with j.header k.point ≡ point = ap (λ x. point_with x k.point) is ∙ sym at in
-    subst (λ (x : List ℕ). Stands (kept_with k reached point ms t by times hs rows x) g) (sym ends_are)
-    (subst (λ (x : List TimeMark). Stands (kept_with k reached point ms t by x hs rows k.ends) g) timed
-    (subst (λ (x : List Header). Stands (kept_with k reached point ms t by (with_time_of k.size j.header k.times) x rows k.ends) g) heads
-    (subst (λ (x : ℕ). Stands (kept_with k reached x ms t by (with_time_of k.size j.header k.times) (k.headers ++ j.header ∷ []) rows k.ends) g) pointed s)))
+    subst (λ (x : List ℕ). Stands (kept_with k reached point ms t by fronts times hs rows x) g) (sym ends_are)
+    (subst (λ (x : List TimeMark). Stands (kept_with k reached point ms t by fronts x hs rows k.ends) g) timed
+    (subst (λ (x : List Header). Stands (kept_with k reached point ms t by fronts (with_time_of k.size j.header k.times) x rows k.ends) g) heads
+    (subst (λ (x : ℕ). Stands (kept_with k reached x ms t by fronts (with_time_of k.size j.header k.times) (k.headers ++ j.header ∷ []) rows k.ends) g) pointed s)))
 
 module _ (k : Kept) (h : History) (j : Entry) (header : Header) (s : Stands k h) (is : j.header ≡ header) (next : MayPlace h header) where
   placing : MayPlace h j.header
@@ -290,19 +292,19 @@ module _ (k : Kept) (h : History) (j : Entry) (header : Header) (s : Stands k h)
       subst (λ d. StandsFor sha256 rows (leaf_digests h ++ d ∷ [])) same (more (leaf_digests h) s.tree.leaves)
 
   -- a journal that is no new member
-  pub stands_record : (reached : Bool) (point : ℕ) (t : index.KeptTrails) (by : List (ℕ × ℕ)) (times : List TimeMark) (hs : List Header) (rows : Levels) (ends : List ℕ) (tip : Digest) → is_member header.kind ≡ false → AddsClue k.clues t header → AddsHider header.kind header k.hiders by
-      → point ≡ point_with header k.point → times ≡ with_time_of k.size header k.times → Grown k hs rows ends header tip → Stands (kept_with k reached point k.members t by times hs rows ends) (wider h j)
-  stands_record reached point t by times hs rows ends tip content adds hides at timed more =
+  pub stands_record : (reached : Bool) (point : ℕ) (t : index.KeptTrails) (by : List ℕ) (fronts : List (ℕ × ℕ)) (times : List TimeMark) (hs : List Header) (rows : Levels) (ends : List ℕ) (tip : Digest) → is_member header.kind ≡ false → AddsClue k.clues t header
+      → point ≡ point_with header k.point → times ≡ with_time_of k.size header k.times → Grown k hs by rows ends header tip → Stands (kept_with k reached point k.members t by fronts times hs rows ends) (wider h j)
+  stands_record reached point t by fronts times hs rows ends tip content adds at timed more =
       let kind_is : is_member j.header.kind ≡ false = ap (λ (x : Header). is_member x.kind) is ∙ content in
       let told = adds (clues_added k.floor (journals h)) next.layout.clue next.layout.clue_ord s.clues (omega (arith, low, next.jsn)) (subst (λ n. All (λ (m : Mark). m.jsn < n) (clues_added k.floor (journals h)).marks) (sym next.jsn) (marks_below k.floor (journals h) s.lawful)) in
       let clues : index.StandsForTrails t (clues_added k.floor (journals (wider h j))) = subst (index.StandsForTrails t) (ap (λ (x : Header). with_clue_of x (clues_added k.floor (journals h))) (sym is) ∙ wider_clues k.floor h j) told in
-      grown k (wider h j) j reached point k.members t by times hs rows ends header is at timed more.headers_are more.ends_are
-      (stands_wider k h j reached k.members t by rows s placing (subst (λ (x : Header). AddsHider x.kind x k.hiders by) (sym is) hides) (s.members ∙ ap (aged_members k.floor) (sym (wider_members_same h j some_yet kind_is))) clues (leaf_more rows tip more.tip_is more.leaves_are))
+      grown k (wider h j) j reached point k.members t by fronts times hs rows ends header is at timed more.headers_are more.ends_are
+      (stands_wider k h j reached k.members t by fronts rows s placing (more.hiders_are ∙ ap (λ (x : Header). with_hider_of k.floor x k.hiders) (sym is)) more.all (s.members ∙ ap (aged_members k.floor) (sym (wider_members_same h j some_yet kind_is))) clues (leaf_more rows tip more.tip_is more.leaves_are))
 
   -- a new member
-  pub stands_member : (ms : List Member) (hs : List Header) (rows : Levels) (ends : List ℕ) (tip : Digest) → header.kind ≡ kind.Member → ms ≡ k.members ++ record { key = header.link; jsn = header.jsn } ∷ []
-      → Grown k hs rows ends header tip → Stands (kept_with k k.reached k.point ms k.clues k.hiders k.times hs rows ends) (wider h j)
-  stands_member ms hs rows ends tip member added more =
+  pub stands_member : (ms : List Member) (by : List ℕ) (hs : List Header) (rows : Levels) (ends : List ℕ) (tip : Digest) → header.kind ≡ kind.Member → ms ≡ k.members ++ record { key = header.link; jsn = header.jsn } ∷ []
+      → Grown k hs by rows ends header tip → Stands (kept_with k k.reached k.point ms k.clues by k.fronts k.times hs rows ends) (wider h j)
+  stands_member ms by hs rows ends tip member added more =
       let kind_is : j.header.kind ≡ kind.Member = ap (λ (x : Header). x.kind) is ∙ member in
       let none_j : is_no_clue j.header.clue ≡ true = ap (λ (x : Header). is_no_clue x.clue) is ∙ subst (λ (x : Kind). clue_ok x header.clue ≡ true) member next.layout.clue in
       let same : clues_added k.floor (journals h) ≡ clues_added k.floor (journals (wider h j)) = sym (ap (λ b. cond b (clues_added k.floor (journals h)) (with_mark j.header.clue.0 j.header.jsn (clues_added k.floor (journals h)))) none_j) ∙ wider_clues k.floor h j in
@@ -312,8 +314,8 @@ module _ (k : Kept) (h : History) (j : Entry) (header : Header) (s : Stands k h)
       ∙ ap (aged_members k.floor) (sym (wider_members_more h j some_yet (ap is_member kind_is))) in
       let timed : k.times ≡ with_time_of k.size header k.times = sym (ap (λ (x : Kind). cond (is_time x) (k.times ++ record { jsn = k.size; index = header.a; time = header.b } ∷ []) (cond (is_purge x) (marks_from header.a k.times) k.times)) member) in
       let at : k.point ≡ point_with header k.point = sym (ap (λ (x : Kind). cond (is_purge x) header.a k.point) member) in
-      grown k (wider h j) j k.reached k.point ms k.clues k.hiders k.times hs rows ends header is at timed more.headers_are more.ends_are
-      (stands_wider k h j k.reached ms k.clues k.hiders rows s placing (subst (λ (x : Kind). AddsHider x j.header k.hiders k.hiders) (sym kind_is) refl) joined (subst (index.StandsForTrails k.clues) same s.clues) (leaf_more rows tip more.tip_is more.leaves_are))
+      grown k (wider h j) j k.reached k.point ms k.clues by k.fronts k.times hs rows ends header is at timed more.headers_are more.ends_are
+      (stands_wider k h j k.reached ms k.clues by k.fronts rows s placing (more.hiders_are ∙ ap (λ (x : Header). with_hider_of k.floor x k.hiders) (sym is)) more.all joined (subst (index.StandsForTrails k.clues) same s.clues) (leaf_more rows tip more.tip_is more.leaves_are))
 
 -- more room for the tree changes nothing
 pub as_before_stands : (old new : Kept) (h : History) → IsAsBefore old new → Stands old h → Stands new h

@@ -15,7 +15,7 @@ use Rattle.ledger_model.specs.History.{History, journals, journals_of, leaf_dige
 use Rattle.ledger_model.specs.Lawful.{AreLawful}
 use Rattle.ledger_model.specs.Members as member
 use Rattle.ledger_model.specs.declared.limits.Limits.{Limits}
-use Rattle.ledger_book.specs.Hiders.{Indexes}
+use Rattle.ledger_book.specs.Hiders.{TellHiders}
 
 -- the headers of all journals of a history
 abbrev pub headers : History → List Header
@@ -41,8 +41,7 @@ aged_member floor m = record { key = m.key; jsn = if nat_lt m.jsn floor then 0 e
 abbrev pub aged_members : ℕ → List Member → List Member
 aged_members floor members = map (aged_member floor) members
 
--- all that a book keeps; of hidden contents which journal hides which, and of times the marks of the time journals from the
--- point on
+-- all that a book keeps; of times the marks of the time journals from the point on
 pub record Kept : Type 0 where
   pub limits : Limits
   -- the first journal whose header is kept
@@ -60,8 +59,9 @@ pub record Kept : Type 0 where
   pub id : Digest
   pub members : List Member
   pub clues : index.KeptTrails
-  -- of hidden journals, which journal hides each
-  pub hiders : List (ℕ × ℕ)
+  -- of each kept journal the number of the one that hides it, or 0, and which journals in front of them are named by occults
+  pub hiders : List ℕ
+  pub fronts : List (ℕ × ℕ)
   -- the marks of the time journals from the point on, in order
   pub times : List TimeMark
   pub headers : List Header
@@ -90,7 +90,7 @@ pub record Stands (k : Kept) (h : History) : Type 0 where
   pub tree : HasTree k h
   pub members : aged_members k.floor k.members ≡ aged_members k.floor (member.members h)
   pub clues : index.StandsForTrails k.clues (clues_added k.floor (journals h))
-  pub hiders : Indexes k.hiders k.floor h
+  pub hiders : TellHiders k.hiders k.floor h
   -- the marks of the kept time journals, as far as the point is seen
   pub times : k.times ≡ marks_from k.point (marks_of (drop k.floor (journals h)))
 

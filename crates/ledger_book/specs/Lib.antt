@@ -1,6 +1,7 @@
 pub mod Numbered
 pub mod Requests
 pub mod Hiders
+pub mod Fronts
 pub mod Books
 pub mod Places
 pub mod Facts

@@ -32,8 +32,8 @@ mod purging;
 mod replaying;
 
 use crate::Sealed;
+use crate::fronts::FrontTargets;
 use crate::headers::first_header;
-use crate::hiders::Hiders;
 use crate::numbers::NumberIndex;
 use clue_index::ClueIndex;
 use journal_record::Header;
@@ -66,8 +66,10 @@ pub struct Book {
     id: Digest,
     members: MemberBook,
     clues: ClueIndex,
-    /// Which of the kept journals are hidden, and by which.
-    hiders: Hiders,
+    /// Of each kept journal the number of the one that hides it, or 0.
+    hiders: Vec<u64>,
+    /// Which journals in front of the kept ones are named by occults.
+    fronts: FrontTargets,
     /// Which of the kept records have which number.
     numbers: NumberIndex,
     /// The time journals from the point on.
@@ -99,7 +101,8 @@ impl Model for Book {
       id = b.id;
       members = b.members;
       clues = b.clues;
-      hiders = b.hiders;
+      hiders = b.hiders.items;
+      fronts = b.fronts;
       times = b.times;
       headers = b.headers.items;
       tree = b.tree;
@@ -110,7 +113,8 @@ impl Model for Book {
         × (b.head.size < b.size → vec_len b.ends < vec_capacity b.ends) × (b.tree.size ≡ b.size)
         × (b.tree.floor ≡ b.floor) × (b.floor + vec_len b.headers ≡ b.size)
         × AllByRecursion (λ m. m.jsn < b.size) b.times
-        × IndexesNumbers b.numbers b.floor b.headers.items };
+        × IndexesNumbers b.numbers b.floor b.headers.items
+        × (vec_len b.hiders ≡ vec_len b.headers) };
 }
 
 impl Book {
@@ -173,7 +177,7 @@ impl Book {
         } else if n < self.point {
             View::Purged { point: self.point }
         } else {
-            match self.hiders.of(n) {
+            match self.hider(n) {
                 Some(_) => View::Occulted,
                 None => View::Whole,
             }

@@ -1,57 +1,38 @@
-//! Which journals have their contents hidden, and by which occults.
+//! Which journals have their contents hidden, and by which others: a list beside the headers of the kept journals, of one number
+//! for each, that of the journal that hides it, or 0 where none does. So each kept journal costs 8 bytes for it, and what is
+//! hidden takes no memory.
 
-ghost use Rattle.std.specs.Prelude.{◌≡◌, ℕ, ◌≤◌, [], OnOk, OnErr};
-ghost use Rattle.ledger_book.specs.Hiders.{hider_in, Puts};
+ghost use Rattle.std.specs.Prelude.{◌≡◌, get_or, vec_len};
+ghost use Rattle.ledger_book.specs.Hiders.{told_hider, hidden_at, with_target_of};
 
-use ledger_bytes::NoMemory;
-use std::alloc::Global;
-use std::collections::BTreeMap;
-use std::marker::Model;
+use journal_record::{Header, Kind};
 
-/// Which journals hide the contents of others. A contract sees the pairs of a hidden journal and the one that hides it.
-#[derive(Drop)]
-pub(crate) struct Hiders {
-    by: BTreeMap<u64, u64>,
+/// The journal that hides the one at this place, where one does.
+pub(crate) fn hider_at(hiders: &[u64], place: usize) -> Option<u64>
+    ensures { result ≡ told_hider (get_or hiders.now place 0) }
+{
+    match hiders.get(place) {
+        Some(jsn) if *jsn != 0 => Some(*jsn),
+        _ => None,
+    }
 }
 
-impl Model for Hiders {
-    ghost use Rattle.std.specs.Prelude.{ℕ, List};
-
-    ghost Value = { List (ℕ × ℕ) };
-
-    ghost view = { λ x. x.by.entries };
+/// A journal with this header hides its target, where it is an occult. The first of the list is that of journal `floor`.
+pub(crate) fn hide_target(hiders: &mut Vec<u64>, floor: u64, header: &Header)
+    ensures items { hiders.new.items ≡ with_target_of floor header.now hiders.old.items }
+    ensures len { vec_len hiders.new ≡ vec_len hiders.old }
+{
+    if header.kind == Kind::Occult && floor <= header.a {
+        hide_at(hiders, (header.a - floor) as usize, header.jsn);
+    }
 }
 
-impl Hiders {
-    /// Nothing is hidden.
-    pub(crate) fn new(alloc: Global) -> Self
-        ensures { result ≡ [] }
-    {
-        Hiders {
-            by: BTreeMap::new(alloc),
-        }
-    }
-
-    /// The journal that hides journal `n`, where one does.
-    pub(crate) fn of(&self, n: u64) -> Option<u64>
-        ensures { result ≡ hider_in n self.now }
-    {
-        self.by.get(&n).copied()
-    }
-
-    /// Journal `jsn` hides `target`. After an `Err` all is as before.
-    pub(crate) fn add(&mut self, target: u64, jsn: u64) -> Result<(), NoMemory>
-        ensures ok { OnOk result (Puts self.old self.new target jsn) }
-        ensures err { OnErr result (self.new ≡ self.old) }
-    {
-        self.by.insert(target, jsn)?;
-        Ok(())
-    }
-
-    /// Keeps the hidden journals from journal `p` on.
-    pub(crate) fn drop_below(&mut self, p: u64)
-        ensures { (n : ℕ) → p ≤ n → hider_in n self.new ≡ hider_in n self.old }
-    {
-        self.by.retain(|target, _| *target >= p);
+// Journal `jsn` hides the one at this place, where that is there and none hid it.
+fn hide_at(hiders: &mut Vec<u64>, place: usize, jsn: u64)
+    ensures items { hiders.new.items ≡ hidden_at place jsn hiders.old.items }
+    ensures len { vec_len hiders.new ≡ vec_len hiders.old }
+{
+    if place < hiders.len() && hiders[place] == 0 {
+        hiders[place] = jsn;
     }
 }

@@ -3,6 +3,7 @@
 #![tactic(auto)]
 
 mod book;
+mod fronts;
 mod headers;
 mod hiders;
 mod laws;

@@ -14,7 +14,7 @@ ghost use Rattle.ledger_book.specs.Steps.{IsCut};
 ghost use Rattle.ledger_book.specs.Reading.{EndsWith, StandsBehind};
 
 use super::Book;
-use crate::hiders::Hiders;
+use crate::fronts::FrontTargets;
 use crate::numbers::NumberIndex;
 use clue_index::ClueIndex;
 use ledger_bytes::{Digest, Items, NoMemory, keep_from};
@@ -60,7 +60,8 @@ impl Book {
             id: base.id,
             members,
             clues,
-            hiders: Hiders::new(alloc),
+            hiders: Vec::new(alloc),
+            fronts: FrontTargets::new(alloc),
             numbers: NumberIndex::new(alloc),
             times: TimeIndex::new(alloc),
             headers: Vec::new(alloc),
@@ -135,10 +136,10 @@ impl Book {
     {
         let count = (p - self.floor) as usize;
         keep_from(&mut self.headers, count, 0);
+        keep_from(&mut self.hiders, count, 0);
         self.ends.retain(|end| *end > p);
         let _ = self.tree.forget_below(p);
         self.clues.drop_below(p);
-        self.hiders.drop_below(p);
         self.numbers.drop_below(p);
         self.floor = p;
     }

@@ -21,6 +21,7 @@ ghost use Rattle.member_book.specs.Erasures.{first_refusal};
 ghost use Rattle.ledger_model.specs.Limits.{AreWithin, real_limits};
 ghost use Rattle.ledger_book.specs.Books.{Stands, Serves};
 ghost use Rattle.ledger_book.specs.Facts.{AreFacts, AreFactsBehind, kind_in};
+ghost use Rattle.ledger_book.specs.Hiders.{hider_in};
 ghost use Rattle.ledger_book.specs.Numbered.{told_number};
 ghost use Rattle.ledger_book.specs.Requests.{request_judgements, room_judgements};
 ghost use Rattle.ledger_book.specs.Reading.{StandsBehind};
@@ -28,6 +29,7 @@ ghost use Rattle.ledger_book.specs.Steps.{HasOperatorRoom};
 
 use super::Book;
 use crate::headers::Numbers;
+use crate::hiders::hider_at;
 use erase_rules::{OccultFacts, judge_occult};
 use journal_record::{Approval, Kind};
 use ledger_bytes::{Digest, Refusal};
@@ -223,9 +225,17 @@ impl Book {
             size: self.size,
             point: self.point,
             kind: self.kind_of(n),
-            by: self.hiders.of(n),
+            by: self.hider(n),
             leaf: self.leaf_of(n),
         }
+    }
+
+    /// The journal that hides journal `n`, where that is kept and one does.
+    pub(super) fn hider(&self, n: u64) -> Option<u64>
+        ensures { self.now.floor ≤ n → result ≡ hider_in self.now.floor self.now.hiders n }
+    {
+        let place = n.checked_sub(self.floor)?;
+        hider_at(self.hiders.as_slice(), place as usize)
     }
 
     // The kind of a journal that is kept.

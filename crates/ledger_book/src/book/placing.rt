@@ -19,12 +19,13 @@ ghost use Rattle.pseudo_genesis.specs.declared.base.Base.{Base};
 ghost use Rattle.ledger_model.specs.Behind.{IsNextBehind, ordinal_in, previous_in};
 ghost use Rattle.ledger_book.specs.Books.{Stands};
 ghost use Rattle.ledger_book.specs.Reading.{StandsBehind};
-ghost use Rattle.ledger_book.specs.Hiders.{AddsHider};
+ghost use Rattle.ledger_book.specs.Fronts.{AddsFront};
 ghost use Rattle.ledger_book.specs.Steps.{IsSame, IsAsBefore, MayPlace, IsLeafOf, OpenGathers, point_with, reached_with, with_clue_of, with_time_of};
 
 use super::Book;
+use crate::fronts::FrontTargets;
 use crate::headers::Numbers;
-use crate::hiders::Hiders;
+use crate::hiders::hide_target;
 use clue_index::ClueIndex;
 use journal_record::{Header, Kind};
 use ledger_bytes::{Digest, NoMemory, TimeMark};
@@ -88,13 +89,15 @@ impl Book {
         ensures same { is_purge header.now.kind ≡ false → IsSame self.old self.new }
     {
         self.headers.reserve(1)?;
+        self.hiders.reserve(1)?;
         self.tree.reserve(1)?;
         self.ends.reserve(1)?;
         let before = self.numbers.add(header, self.size)?;
         match add_to_indexes(
             &mut self.times,
             &mut self.clues,
-            &mut self.hiders,
+            &mut self.fronts,
+            self.floor,
             self.size,
             header,
         ) {
@@ -106,6 +109,8 @@ impl Book {
         }
         self.tree.add_leaves(&[leaf]);
         self.headers.push_reserved(*header);
+        self.hiders.push_reserved(0);
+        hide_target(&mut self.hiders, self.floor, header);
         self.size += 1;
         self.point = point_behind(header, self.point);
         self.reached = reached_behind(header, self.floor, self.reached);
@@ -136,11 +141,13 @@ impl Book {
         ensures same { IsSame self.old self.new }
     {
         self.headers.reserve(1)?;
+        self.hiders.reserve(1)?;
         self.tree.reserve(1)?;
         self.ends.reserve(1)?;
         self.members.admit(&header.link, header.jsn)?;
         self.tree.add_leaves(&[leaf]);
         self.headers.push_reserved(*header);
+        self.hiders.push_reserved(0);
         self.size += 1;
         Ok(())
     }
@@ -164,12 +171,14 @@ fn reached_behind(header: &Header, floor: u64, reached: bool) -> bool
     (header.kind == Kind::Purge && header.a == floor) || reached
 }
 
-// Adds a journal, which has this number, to the times where it is a time journal, to the hiders where it is an occult, and
-// else to its clue, where it has one. A purge leaves the times from its point on.
+// Adds a journal, which has this number, to the times where it is a time journal, to the targets in front of the floor where it
+// is an occult of one, and else to its clue, where it has one. A purge leaves the times from its point on, and a purge to the
+// floor no target in front of it.
 fn add_to_indexes(
     times: &mut TimeIndex,
     clues: &mut ClueIndex,
-    hiders: &mut Hiders,
+    fronts: &mut FrontTargets,
+    floor: u64,
     jsn: u64,
     header: &Header,
 ) -> Result<(), NoMemory>
@@ -181,9 +190,9 @@ fn add_to_indexes(
         → index.StandsForTrails clues.old a → a.floor ≤ header.now.jsn
         → All (λ m. m.jsn < header.now.jsn) a.marks
         → index.StandsForTrails clues.new (with_clue_of header.now a)) }
-    ensures hiders { OnOk result (AddsHider header.now.kind header.now hiders.old hiders.new) }
+    ensures fronts { OnOk result (AddsFront header.now.kind floor header.now fronts.old fronts.new) }
     ensures err { OnErr result ((times.new ≡ times.old) × (clues.new ≡ clues.old)
-        × (hiders.new ≡ hiders.old)) }
+        × (fronts.new ≡ fronts.old)) }
 {
     if header.kind == Kind::Time {
         return times.add(TimeMark {
@@ -193,10 +202,16 @@ fn add_to_indexes(
         });
     }
     if header.kind == Kind::Occult {
-        return hiders.add(header.a, header.jsn);
+        if header.a < floor {
+            return fronts.add(header.a, header.jsn);
+        }
+        return Ok(());
     }
     if header.kind == Kind::Purge {
         times.drop_below(header.a);
+        if header.a == floor {
+            fronts.clear();
+        }
         return Ok(());
     }
     add_clue(clues, header)

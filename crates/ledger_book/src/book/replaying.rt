@@ -17,7 +17,7 @@ ghost use Rattle.ledger_book.specs.Replaying.{IsFirst, begun_with, Replays};
 ghost use Rattle.ledger_book.specs.Steps.{IsAsBefore, IsLater, IsLeafOf, MayPlace, point_with};
 
 use super::Book;
-use crate::hiders::Hiders;
+use crate::fronts::FrontTargets;
 use crate::numbers::NumberIndex;
 use block_file::Damage;
 use clue_index::ClueIndex;
@@ -58,6 +58,7 @@ impl Book {
         let mut numbers = NumberIndex::new(alloc);
         let _ = numbers.add(header, 0)?;
         let headers = vec![in alloc; *header]?;
+        let hiders = vec![in alloc; 0]?;
         let mut tree = Tree::new(alloc);
         tree.reserve(1)?;
         tree.add_leaves(&[leaf]);
@@ -77,7 +78,8 @@ impl Book {
             id: leaf,
             members,
             clues: ClueIndex::new(alloc),
-            hiders: Hiders::new(alloc),
+            hiders,
+            fronts: FrontTargets::new(alloc),
             numbers,
             times: TimeIndex::new(alloc),
             headers,
@@ -192,8 +194,8 @@ impl Book {
         self.clue_refusal(numbers.ordinal, Limits::real()).is_none()
     }
 
-    // Whether an occult is the next one, where its number is. Nothing but its hider is known of a target in front of the
-    // first header that is kept, until the purge to that journal tells that it is gone.
+    // Whether an occult is the next one, where its number is. Nothing is known of a target in front of the first header that
+    // is kept but whether another occult names it, until the purge to that journal tells that it is gone.
     fn is_next_occult(&self, header: &Header) -> bool
         ensures next { (h : History) → Serves self.now h → IsTrue result ↔ IsNextOccult h header.now }
         ensures behind { (start : Option Base) (journals : List Entry)
@@ -205,7 +207,7 @@ impl Book {
             if self.reached {
                 return false;
             }
-            return self.hiders.of(target).is_none();
+            return self.fronts.of(target).is_none();
         }
         target_refusal(&self.facts(target), &header.link).is_none()
     }

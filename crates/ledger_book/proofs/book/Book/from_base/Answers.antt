@@ -27,9 +27,10 @@ returns-clause-stands c = λ h ends.
       id = refl;
       members_are = c.in_ok-members.ensures ∙ ap (map member_with) c.as_slice.ensures;
       clues = clues;
-      hiders = c.new-2.ensures;
-      times = c.new-4.ensures;
-      headers_are = c.new-5.ensures.items;
+      hiders = c.new-2.ensures.items;
+      fronts = c.new-3.ensures;
+      times = c.new-5.ensures;
+      headers_are = c.new-6.ensures.items;
       tree_is = λ ds size peaks. c.in_ok-tree.ensures.stands ds size (ap (map (λ (d : Digest). d.0)) c.as_slice-3.ensures ∙ peaks);
       root_is = c.root-root.ensures.list;
     }) ends (some_point b c.requires.base)
@@ -50,9 +51,10 @@ returns-clause-behind c =
       id = refl;
       members_are = c.in_ok-members.ensures ∙ ap (map member_with) c.as_slice.ensures;
       clues = clues;
-      hiders = c.new-2.ensures;
-      times = c.new-4.ensures;
-      headers_are = c.new-5.ensures.items;
+      hiders = c.new-2.ensures.items;
+      fronts = c.new-3.ensures;
+      times = c.new-5.ensures;
+      headers_are = c.new-6.ensures.items;
       tree_is = λ ds size peaks. c.in_ok-tree.ensures.stands ds size (ap (map (λ (d : Digest). d.0)) c.as_slice-3.ensures ∙ peaks);
       root_is = c.root-root.ensures.list;
     })
@@ -70,5 +72,6 @@ invariant_of-result c = (
   search (rules, arith),
   search (rules, arith),
   search (rules, arith),
-  subst (λ (xs : List Header). IndexesNumbers c.new-3.result c.args.base.now.point xs) (sym c.new-5.ensures.items) (c.new-3.ensures c.args.base.now.point),
+  subst (λ (xs : List Header). IndexesNumbers c.new-4.result c.args.base.now.point xs) (sym c.new-6.ensures.items) (c.new-4.ensures c.args.base.now.point),
+  search (rules, arith),
 )

@@ -1,7 +1,6 @@
 use Rattle.std.proofs.Common.{ap, sym, ◌∙◌, cond, Option, ℕ, arith}
 use Rattle.std.specs.Option.{is_some}
 use Rattle.ledger_book.specs.Books.{Kept}
-use Rattle.ledger_book.specs.Hiders.{hider_in}
 use Rattle.ledger_model.specs.declared.view.View.TheVariants.{Purged, Occulted, Whole}
 use Rattle.ledger_book.proofs.StandsLaws.{view_absent, view_purged, view_kept}
 use Rattle.ledger_book.proofs.book.Book.view.Goals as goal
@@ -17,11 +16,11 @@ returns-then-n-self-2 c =
 pub returns-in-Some : goal.returns-in-Some
 returns-in-Some c = λ h s.
     sym (ap (λ (o : Option ℕ). cond (is_some o) Occulted Whole) c.in-Some.is)
-    ∙ view_kept c.args.self.now h c.args.n c.of.result s (omega (arith, c.if-n-self.false, ap (λ (k : Kept). k.size) c.self.view_is)) (omega (arith, c.if-n-self-2.false, ap (λ (k : Kept). k.point) c.self.view_is))
-    (c.of.ensures ∙ ap (λ (k : Kept). hider_in c.args.n k.hiders) c.self.view_is)
+    ∙ view_kept c.args.self.now h c.args.n c.hider.result s (omega (arith, c.if-n-self.false, ap (λ (k : Kept). k.size) c.self.view_is)) (omega (arith, c.if-n-self-2.false, ap (λ (k : Kept). k.point) c.self.view_is))
+    (c.hider.ensures (omega (arith, s.seen, c.if-n-self-2.false, ap (λ (k : Kept). k.point) c.self.view_is)))
 
 pub returns-in-None : goal.returns-in-None
 returns-in-None c = λ h s.
     sym (ap (λ (o : Option ℕ). cond (is_some o) Occulted Whole) c.in-None.is)
-    ∙ view_kept c.args.self.now h c.args.n c.of.result s (omega (arith, c.if-n-self.false, ap (λ (k : Kept). k.size) c.self.view_is)) (omega (arith, c.if-n-self-2.false, ap (λ (k : Kept). k.point) c.self.view_is))
-    (c.of.ensures ∙ ap (λ (k : Kept). hider_in c.args.n k.hiders) c.self.view_is)
+    ∙ view_kept c.args.self.now h c.args.n c.hider.result s (omega (arith, c.if-n-self.false, ap (λ (k : Kept). k.size) c.self.view_is)) (omega (arith, c.if-n-self-2.false, ap (λ (k : Kept). k.point) c.self.view_is))
+    (c.hider.ensures (omega (arith, s.seen, c.if-n-self-2.false, ap (λ (k : Kept). k.point) c.self.view_is)))
