@@ -13,7 +13,7 @@ ghost use Rattle.ledger_model.specs.Clues.{next_ordinal, last_journal};
 ghost use Rattle.ledger_model.specs.History as model;
 ghost use Rattle.ledger_model.specs.History.{History, history};
 ghost use Rattle.ledger_model.specs.Numbers.{repeated, link_at};
-ghost use Rattle.ledger_model.specs.Targets.{leaf_at};
+ghost use Rattle.ledger_model.specs.Targets.{hider, leaf_at};
 ghost use Rattle.pseudo_genesis.specs.declared.base.Base.{Base};
 ghost use Rattle.ledger_model.specs.Behind.{HasRoomFor, first_of, ordinal_in};
 ghost use Rattle.ledger_model.specs.Judgements.{fullness, hard_fullness, unknown_in, wrong_key_in, clues_full, member_judgements, occult_judgements};
@@ -230,9 +230,10 @@ impl Book {
         }
     }
 
-    /// The journal that hides journal `n`, where that is kept and one does.
-    pub(super) fn hider(&self, n: u64) -> Option<u64>
-        ensures { self.now.floor ≤ n → result ≡ hider_in self.now.floor self.now.hiders n }
+    /// The journal that hides the content of journal `n`, where that is kept and one does.
+    pub fn hider(&self, n: u64) -> Option<u64>
+        ensures told { self.now.floor ≤ n → result ≡ hider_in self.now.floor self.now.hiders n }
+        ensures hider { (h : History) → Stands self.now h → self.now.floor ≤ n → result ≡ hider h n }
     {
         let place = n.checked_sub(self.floor)?;
         hider_at(self.hiders.as_slice(), place as usize)

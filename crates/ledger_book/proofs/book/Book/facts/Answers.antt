@@ -17,7 +17,7 @@ returns-clause-facts c = λ h s.
       size_is = ap (λ (b : Kept). b.size) c.self.view_is ∙ s.stands.counts.size;
       point_is = ap (λ (b : Kept). b.point) c.self.view_is ∙ point_is k h s;
       kind_is = λ le lt. c.kind_of.ensures (low le) ∙ kind_kept k.headers k.floor h n s.stands.tree.headers_are (low le);
-      by_is = λ le. c.hider.ensures (low le) ∙ s.stands.hiders n (low le);
+      by_is = λ le. c.hider.ensures.told (low le) ∙ s.stands.hiders n (low le);
       leaf_is = λ le lt. c.leaf_of.ensures.list h s (low le) lt;
     }
 
@@ -30,6 +30,6 @@ returns-clause-behind c = λ start es s le.
       size_is = ap (λ (b : Kept). b.size) c.self.view_is ∙ s.size_is;
       point_is = ap (λ (b : Kept). b.point) c.self.view_is ∙ s.point;
       kind_is = c.kind_of.ensures le ∙ kind_behind k.headers es (n - k.floor) s.headers_are ∙ ap (λ i. kind_at (history [] es) (n - i)) s.floor;
-      by_is = ap is_some (c.hider.ensures le) ∙ s.hiders n (subst (λ m. m ≤ n) s.floor le);
+      by_is = ap is_some (c.hider.ensures.told le) ∙ s.hiders n (subst (λ m. m ≤ n) s.floor le);
       leaf_is = λ lt. c.leaf_of.ensures.behind start es s le (subst (λ m. n < m) (sym s.size_is) lt);
     }

@@ -17,10 +17,10 @@ pub returns-in-Some : goal.returns-in-Some
 returns-in-Some c = λ h s.
     sym (ap (λ (o : Option ℕ). cond (is_some o) Occulted Whole) c.in-Some.is)
     ∙ view_kept c.args.self.now h c.args.n c.hider.result s (omega (arith, c.if-n-self.false, ap (λ (k : Kept). k.size) c.self.view_is)) (omega (arith, c.if-n-self-2.false, ap (λ (k : Kept). k.point) c.self.view_is))
-    (c.hider.ensures (omega (arith, s.seen, c.if-n-self-2.false, ap (λ (k : Kept). k.point) c.self.view_is)))
+    (c.hider.ensures.told (omega (arith, s.seen, c.if-n-self-2.false, ap (λ (k : Kept). k.point) c.self.view_is)))
 
 pub returns-in-None : goal.returns-in-None
 returns-in-None c = λ h s.
     sym (ap (λ (o : Option ℕ). cond (is_some o) Occulted Whole) c.in-None.is)
     ∙ view_kept c.args.self.now h c.args.n c.hider.result s (omega (arith, c.if-n-self.false, ap (λ (k : Kept). k.size) c.self.view_is)) (omega (arith, c.if-n-self-2.false, ap (λ (k : Kept). k.point) c.self.view_is))
-    (c.hider.ensures (omega (arith, s.seen, c.if-n-self-2.false, ap (λ (k : Kept). k.point) c.self.view_is)))
+    (c.hider.ensures.told (omega (arith, s.seen, c.if-n-self-2.false, ap (λ (k : Kept). k.point) c.self.view_is)))
