@@ -1,6 +1,6 @@
 -- Where the last journal of a history is neither an occult nor a purge, nothing is left undone behind it.
-use Rattle.std.specs.Prelude.{◌-◌, get_or}
-use Rattle.std.proofs.Common.{◌≡◌, ℕ, ◌<◌, inl, inr, false, cond, List, [], ◌∷◌, ◌++◌, length, length-append, map, take, slice_get, None, Some, refl, ap, sym, ◌∙◌, arith}
+use Rattle.std.specs.Prelude.{◌-◌, ◌==◌, ◌&&◌, get_or}
+use Rattle.std.proofs.Common.{◌≡◌, ℕ, ◌<◌, inl, inr, Bool, false, cond, List, [], ◌∷◌, ◌++◌, length, length-append, map, take, slice_get, Some, refl, ap, sym, ◌∙◌, arith}
 use Rattle.std.proofs.lemmas.Bool.{true≢false}
 use Rattle.std.proofs.lemmas.List.{take_at}
 use Rattle.batch_committer.specs.World.{IsErasedPair}
@@ -8,11 +8,13 @@ use Rattle.journal_record.specs.Entry.{Entry}
 use Rattle.journal_record.specs.declared.header.Kind.{Kind}
 use Rattle.journal_record.specs.declared.header.Kind.TheVariants as kind
 use Rattle.ledger_model.specs.History.{History, journals, size, point, greatest_point, is_purge}
+use Rattle.ledger_model.specs.Lawful.{AreLawful}
 use Rattle.ledger_model.specs.Targets.{is_occult, kind_at}
 use Rattle.ledger_model.proofs.PlaceLaws.{point_same}
-use Rattle.ledger_open.specs.Erasing.{target_of, last_target}
+use Rattle.ledger_open.specs.Erasing.{is_given_up}
 use Rattle.ledger_open.specs.Standing.{PairOpen, point_before}
 use Rattle.ledger_open.proofs.ErasingLaws.{nothing_open}
+use Rattle.ledger_open.proofs.TargetLaws.{given_is}
 use Rattle.twin_file.specs.Twin.{open_of}
 use Rattle.ledger_cli.specs.Leaving.{is_erasure, ends_in_erasure}
 
@@ -74,16 +76,17 @@ module _ (h : History) (l : HasLast (journals h)) (none : ends_in_erasure h ≡ 
       ∙ ap greatest_point (take_at l.before (l.last ∷ []) (length l.before) refl)
       ∙ sym (point_same l.before l.last (ap (λ v. cond v l.last.header.a 0) (no_purge l.last.header.kind plain))) ∙ sym (ap greatest_point l.is)
 
-  -- it hides nothing
-  target_none : last_target h ≡ None
-  target_none =
-      ap (λ (js : List Entry). target_of (slice_get js (size h - 1))) l.is ∙ ap (λ n. target_of (slice_get (l.before ++ l.last ∷ []) n)) at
-      ∙ ap target_of (got_last l.before l.last) ∙ ap (λ v. cond v (Some l.last.header.a) None) (no_occult l.last.header.kind plain)
+  -- it hides nothing, so no content is given up
+  last_at : slice_get (journals h) (size h - 1) ≡ Some l.last
+  last_at = ap (λ (js : List Entry). slice_get js (size h - 1)) l.is ∙ ap (λ n. slice_get (l.before ++ l.last ∷ []) n) at ∙ got_last l.before l.last
+
+  none_given : AreLawful (journals h) → (n : ℕ) → is_given_up h n ≡ false
+  none_given lawful n = given_is h lawful l.last last_at n ∙ ap (λ (v : Bool). v && l.last.header.a == n) (no_occult l.last.header.kind plain)
 
   erased_pair : (a b : List ℕ) → PairOpen a b h → IsErasedPair a b h
   erased_pair a b p = record {
     in_a = p.pair.in_a;
-    erased = nothing_open (open_of p.pair.in_a a b) h p.pair.stands target_none (elim p.pair.stands.begins [ inl same ↦ same | inr before ↦ before ∙ point_is ]);
+    erased = nothing_open (open_of p.pair.in_a a b) h p.pair.stands (none_given p.pair.stands.file.lawful.journals_are) (elim p.pair.stands.begins [ inl same ↦ same | inr before ↦ before ∙ point_is ]);
     empty = elim p.alone [ inl empty ↦ empty | inr purge ↦ absurd (purge point_is) ];
   }
 

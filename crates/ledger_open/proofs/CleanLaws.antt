@@ -1,9 +1,9 @@
 -- A file that was read, cut behind its tail gate, and of which was given up what the last journal hides: as it stays, and
 -- copied from the point on.
-use Rattle.std.specs.Prelude.{All, sum_by, false, Option, Some, None}
-use Rattle.std.proofs.Common.{◌≡◌, ◌≢◌, inl, inr, ℕ, ◌+◌, ◌-◌, ◌^◌, ◌<◌, ◌≤◌, List, [], ◌∷◌, ◌++◌, length, get_or, take, replicate, refl, sym, ◌∙◌, ap, subst, arith}
+use Rattle.std.specs.Prelude.{All, sum_by, false, Option}
+use Rattle.std.proofs.Common.{◌≡◌, ◌≢◌, inl, inr, ℕ, ◌+◌, ◌-◌, ◌^◌, ◌<◌, ◌≤◌, List, [], ◌∷◌, ◌++◌, length, get_or, take, drop, refl, sym, ◌∙◌, ap, subst, arith}
 use Rattle.std.proofs.lemmas.List.{nil_from_length, take_all, take_at, take-take, get_or-drop}
-use Rattle.std.proofs.lemmas.List.Elements.{All-append, All-cons, All-contains, All-nil, All-take}
+use Rattle.std.proofs.lemmas.List.Elements.{All-append, All-cons, All-nil, All-take}
 use Rattle.std.proofs.lemmas.List.Sums.{sum_by-cons}
 use Rattle.block_file.proofs.WriteLaws.{tail_shut}
 use Rattle.block_file.specs.File.{IsShutAt, tail_of, whole_file}
@@ -11,17 +11,18 @@ use Rattle.block_file.specs.Head.{front_of, generation_of}
 use Rattle.journal_record.specs.Blocks.{written_blocks}
 use Rattle.journal_record.specs.Entry.{Entry}
 use Rattle.ledger_book.proofs.StandsLaws.{point_is}
-use Rattle.ledger_disk.specs.Disk.{overlay}
+use Rattle.ledger_disk.specs.Guards.{Outside}
 use Rattle.ledger_model.proofs.FitLaws.{size_few}
+use Rattle.ledger_model.proofs.LawfulLaws.{some_journal}
 use Rattle.ledger_model.specs.Bases.{base_of}
-use Rattle.ledger_model.specs.History.{History, journals_of, point, greatest_point}
+use Rattle.ledger_model.specs.History.{History, journals, journals_of, point, greatest_point}
 use Rattle.ledger_model.specs.Lawful.{IsBlock}
 use Rattle.ledger_model.specs.Targets.{is_hidden}
 use Rattle.pseudo_genesis.specs.Bases.{base_spelling}
 use Rattle.pseudo_genesis.specs.declared.base.Base.{Base}
 use Rattle.twin_file.specs.Twin.{next_generation}
 use Rattle.ledger_open.specs.Cutting.{first_gate, gate_behind}
-use Rattle.ledger_open.specs.Erasing.{AreBetween, ErasesOne, last_target, given_up}
+use Rattle.ledger_open.specs.Erasing.{AreBetween, ErasesSome, given_up, given_up_in}
 use Rattle.ledger_open.specs.Opening.{Known, Knows, GoesOn, HasFile}
 use Rattle.block_file.specs.Places.{body_from, record_len, places_in, places_at, after_at}
 use Rattle.ledger_open.specs.Purging.{copied_file}
@@ -29,21 +30,20 @@ use Rattle.ledger_open.specs.Standing.{Floor, floor_from, floor_behind, Parts, S
 use Rattle.block_file.specs.declared.place.PlaceAt.{PlaceAt}
 use Rattle.ledger_open.proofs.ByteLaws.{copied_length, copied_shut}
 use Rattle.ledger_open.proofs.CopyLaws.{Halves, halves, same_count}
-use Rattle.ledger_open.proofs.ErasingLaws.{given_in_file, given_erased, given_same, given_alike, none_is, target_kept, zeros_outside}
-use Rattle.ledger_open.proofs.FinishedLaws.{ends_at, copy_clean}
-use Rattle.ledger_open.proofs.FinishLaws.{places_inside}
+use Rattle.ledger_open.proofs.ErasingLaws.{given_erased, given_same, given_alike, none_given_up}
+use Rattle.ledger_open.proofs.FinishedLaws.{ends_at, copy_clean, none_given}
 use Rattle.ledger_open.proofs.FloorLaws.{floor_digests}
 use Rattle.ledger_open.proofs.GrowLaws.{erased_stands, erased_floor}
 use Rattle.ledger_open.proofs.HeadLaws.{stands_generation}
 use Rattle.ledger_open.proofs.OpenLaws.{tail_is, cut_has, cut_length}
-use Rattle.ledger_open.proofs.PartLaws.{one_parts, one_split, floor_few}
+use Rattle.ledger_open.proofs.PartLaws.{one_parts, one_split}
 use Rattle.ledger_open.proofs.PlaceLaws.{after_kept, tail_place}
 use Rattle.ledger_open.proofs.PlaceMoves.{after_behind, after_most, after_moved}
 use Rattle.ledger_open.proofs.SplitLaws as split
 use Rattle.ledger_open.proofs.StandLaws.{base_there, lower, rest, rest_taken}
-use Rattle.ledger_open.proofs.TargetLaws.{target_is}
 use Rattle.ledger_open.proofs.WholeLaws.{goes_on, floor_same, floor_there}
 use Rattle.ledger_open.proofs.WidthLaws.{spelling_fits}
+use Rattle.ledger_open.proofs.ZerosLaws.{some_between}
 
 -- contents stand behind a place in front of the first gate
 between_in : (low end at : ℕ) (es : List Entry) → low ≤ at → at + sum_by record_len es ≤ end → AreBetween low end (places_in at es)
@@ -77,31 +77,8 @@ module _ (k : Known) (start : Option Base) (blocks : List (List Entry)) (old : L
       let x = cut_has (floor_from start) has.0 blocks old has.1 k.gate ends in
       subst (λ (n : ℕ). IsShutAt n cut) (tail_is start knows.base has.0 blocks cut x ∙ sym knows.tail) (tail_shut x.front (written_blocks (floor_from start).root [] blocks) cut x.stands)
 
-  -- .. and erasing leaves that gate
-  module _ (bytes : List ℕ) (one : ErasesOne k.places cut bytes) where
-    pub bytes_size : length bytes ≡ k.gate + 1
-    bytes_size = by_case one where
-      by_case : ErasesOne k.places cut bytes → length bytes ≡ k.gate + 1
-      by_case (inl same) = ap length same ∙ cut_size
-      by_case (inr (p, there, is)) =
-          let inside : p.content_at + p.content_len ≤ k.gate = All-contains (λ (q : PlaceAt). q.content_at + q.content_len ≤ k.gate) k.places p (places_inside k blocks knows) there in
-          ap length is ∙ (zeros_outside p.content_at p.content_len cut (omega (arith, inside, cut_size))).0.size ∙ cut_size
-
-    pub bytes_shut : IsShutAt k.gate bytes
-    bytes_shut = by_case one where
-      by_case : ErasesOne k.places cut bytes → IsShutAt k.gate bytes
-      by_case (inl same) = subst (IsShutAt k.gate) (sym same) cut_shut
-      by_case (inr (p, there, is)) =
-          let at = p.content_at + p.content_len in
-          let inside : at ≤ k.gate = All-contains (λ (q : PlaceAt). q.content_at + q.content_len ≤ k.gate) k.places p (places_inside k blocks knows) there in
-          let new = overlay p.content_at (replicate p.content_len 0) cut in
-          let out = (zeros_outside p.content_at p.content_len cut (omega (arith, inside, cut_size))).0 in
-          let split : k.gate ≡ at + (k.gate - at) = omega (arith, inside) in
-          let gate : get_or new k.gate 0 ≡ get_or cut k.gate 0 =
-          ap (λ (n : ℕ). get_or new n 0) split ∙ sym (get_or-drop at new (k.gate - at) 0) ∙ ap (λ (l : List ℕ). get_or l (k.gate - at) 0) out.after ∙ get_or-drop at cut (k.gate - at) 0 ∙ ap (λ (n : ℕ). get_or cut n 0) (sym split) in
-          subst (IsShutAt k.gate) (sym is) (omega (arith, out.size, cut_size), λ open_now. cut_shut.1 (sym gate ∙ open_now))
-
-    -- .. and all in front of the first gate
+  -- .. and erasing leaves that gate and all in front of the first one
+  module _ (bytes : List ℕ) (some : ErasesSome k.places cut bytes) where
     abbrev first_at : ℕ
     first_at = first_gate (floor_from start)
 
@@ -112,18 +89,23 @@ module _ (k : Known) (start : Option Base) (blocks : List (List Entry)) (old : L
     places_low =
         subst (λ (end : ℕ). AreBetween first_at end k.places) (sym knows.tail) (subst (AreBetween first_at (after_at first_at blocks)) (sym knows.places) (between_at first_at first_at blocks (omega arith)))
 
-    cut_front : take first_at cut ≡ take first_at old
-    cut_front = take-take first_at (k.gate + 1) old (omega (arith, first_low))
+    erased_outside : Outside first_at (k.gate - first_at) cut bytes
+    erased_outside = some_between first_at k.gate k.places cut bytes some places_low (omega (arith, cut_size))
+
+    pub bytes_size : length bytes ≡ k.gate + 1
+    bytes_size = erased_outside.size ∙ cut_size
+
+    pub bytes_shut : IsShutAt k.gate bytes
+    bytes_shut =
+        let at : first_at + (k.gate - first_at) ≡ k.gate = omega (arith, first_low) in
+        let here : drop k.gate bytes ≡ drop k.gate cut = ap (λ (n : ℕ). drop n bytes) (sym at) ∙ erased_outside.after ∙ ap (λ (n : ℕ). drop n cut) at in
+        let end : k.gate ≡ k.gate + 0 = omega arith in
+        let gate : get_or bytes k.gate 0 ≡ get_or cut k.gate 0 =
+        ap (λ (n : ℕ). get_or bytes n 0) end ∙ sym (get_or-drop k.gate bytes 0 0) ∙ ap (λ (l : List ℕ). get_or l 0 0) here ∙ get_or-drop k.gate cut 0 0 ∙ ap (λ (n : ℕ). get_or cut n 0) (sym end) in
+        (omega (arith, bytes_size), λ open_now. cut_shut.1 (sym gate ∙ open_now))
 
     pub erased_front : take first_at bytes ≡ take first_at old
-    erased_front = by_case one where
-      by_case : ErasesOne k.places cut bytes → take first_at bytes ≡ take first_at old
-      by_case (inl same) = ap (take first_at) same ∙ cut_front
-      by_case (inr (p, there, is)) =
-          let place : (first_at ≤ p.content_at) × (p.content_at + p.content_len ≤ k.gate) = All-contains (λ (q : PlaceAt). (first_at ≤ q.content_at) × (q.content_at + q.content_len ≤ k.gate)) k.places p places_low there in
-          let new = overlay p.content_at (replicate p.content_len 0) cut in
-          let out = (zeros_outside p.content_at p.content_len cut (omega (arith, place.1, cut_size))).0 in
-          ap (take first_at) is ∙ sym (take-take first_at p.content_at new place.0) ∙ ap (take first_at) out.before ∙ take-take first_at p.content_at cut place.0 ∙ cut_front
+    erased_front = erased_outside.before ∙ take-take first_at (k.gate + 1) old (omega (arith, first_low))
 
     -- so does a copy
     module _ (generation : ℕ) (base : List ℕ) (front behind : List (List Entry)) (are : blocks ≡ front ++ behind) where
@@ -204,20 +186,20 @@ module _ (k : Known) (start : Option Base) (blocks : List (List Entry)) (old : L
       };
     }
 
-    -- what the last of its blocks hides is what the last journal hides
-    given_is : (file : List ℕ) → given_up (floor_from start) blocks file ≡ given_up from x.parts.kept file
-    given_is file = ap (λ (f : Floor). given_up f blocks file) (sym floor_is) ∙ sym (given_alike from (is_hidden h) (λ n. false) x.parts.kept blocks file kept_same)
+    -- what is given up stands at the same places in them
+    given_is : (file : List ℕ) → given_up h (floor_from start) blocks file ≡ given_up h from x.parts.kept file
+    given_is file = ap (λ (f : Floor). given_up h f blocks file) (sym floor_is) ∙ sym (given_alike h from (is_hidden h) (λ n. false) x.parts.kept blocks file kept_same)
 
     -- where its blocks have no point behind its beginning, it is clean once that is given up
     module _ (at : greatest_point (journals_of blocks) ≡ (floor_from start).first) where
       at_point : s.floor ≡ point h
       at_point = first_is ∙ sym at ∙ sym point_known
 
-      pub stays_clean : IsClean (given_up (floor_from start) blocks cut) h
+      pub stays_clean : IsClean (given_up h (floor_from start) blocks cut) h
       stays_clean =
           let g = given_erased cut h cut_stands at_point in
           subst (λ (l : List ℕ). IsClean l h) (sym (given_is cut))
-          (record { erased = g.0; ends = nil_from_length g.0.keeps.file.stands.rest (omega (arith, g.1, cut_size, ends_at (point h) (is_hidden h) (given_in_file cut_stands.file cut) h g.0, gate_at (point h) g.0.parts (sym at_point))) })
+          (record { erased = g.0; ends = nil_from_length g.0.keeps.file.stands.rest (omega (arith, g.1, cut_size, ends_at (point h) (is_hidden h) (given_up_in cut_stands.file cut) h g.0, gate_at (point h) g.0.parts (sym at_point))) })
 
     -- where they have one, the copy from there on is
     module _ (before : (floor_from start).first < greatest_point (journals_of blocks)) where
@@ -227,14 +209,8 @@ module _ (k : Known) (start : Option Base) (blocks : List (List Entry)) (old : L
       purge : point_before h ≢ point h
       purge same = elim s.begins [ inl is ↦ omega (arith, is, under) | inr is ↦ omega (arith, is, same, under) ]
 
-      nothing : last_target h ≡ None
-      nothing = by_target (last_target h) refl where
-        by_target : (t : Option ℕ) → last_target h ≡ t → last_target h ≡ None
-        by_target None is = is
-        by_target (Some n) is = absurd (purge (sym (target_is h x.lawful.journals_are n is).point_is))
-
-      none_given : given_up (floor_from start) blocks cut ≡ cut
-      none_given = given_is cut ∙ none_is from x.parts.kept cut (target_kept s.floor h x.none x.parts (floor_few old h s) ∙ nothing)
+      untouched : given_up h (floor_from start) blocks cut ≡ cut
+      untouched = none_given_up h (floor_from start) blocks cut (none_given h (some_journal (journals h) x.lawful.journals_are) purge)
 
       abbrev y : StandsBy s.floor (hidden_before h) cut h
       y = cut_stands.file
@@ -275,11 +251,11 @@ module _ (k : Known) (start : Option Base) (blocks : List (List Entry)) (old : L
             ap (λ (n : ℕ). copied_file generation (base_spelling base) n k.gate cut) gate_is ∙ ap (λ (n : ℕ). copied_file generation (base_spelling base) (gate_behind from left_out) n cut) tail_at
             ∙ ap (λ (bs : List ℕ). (front_of 1 generation (base_spelling base) ++ bs) ++ 0 ∷ []) (rest_taken s.floor (hidden_before h) cut h y under)
 
-        pub moved_clean : IsClean (copied_file generation (base_spelling base) (gate_behind (floor_from start) front) k.gate (given_up (floor_from start) blocks cut)) h
+        pub moved_clean : IsClean (copied_file generation (base_spelling base) (gate_behind (floor_from start) front) k.gate (given_up h (floor_from start) blocks cut)) h
         moved_clean =
             let rules = base_there s.floor (hidden_before h) cut h y under in
             let fits : length (base_spelling base) < 2 ^ 64 = subst (λ (b : Base). length (base_spelling b) < 2 ^ 64) (sym base_is) (spelling_fits (base_of h (point h)) rules.0 rules.1) in
-            subst (λ (l : List ℕ). IsClean (copied_file generation (base_spelling base) (gate_behind (floor_from start) front) k.gate l) h) (sym none_given)
+            subst (λ (l : List ℕ). IsClean (copied_file generation (base_spelling base) (gate_behind (floor_from start) front) k.gate l) h) (sym untouched)
             (subst (λ (l : List ℕ). IsClean l h) (sym copy_is)
             (copy_clean s.floor cut h y under (base_spelling base) generation (ap base_spelling base_is) next_is (omega (arith, next_is, lower s.floor (hidden_before h) old h x under, size_few h x.lawful)) fits purge))
 
@@ -309,8 +285,8 @@ module _ (k : Known) (start : Option Base) (blocks : List (List Entry)) (old : L
         one_parts clean_stands.floor h c.erased.lawful.blocks_are (record { gone = e.gone; kept = e.kept; are = e.are; at = e.at ∙ clean_at }) clean_stands.file.parts
 
     -- .. and is the same once what its last journal hides is given up
-    pub clean_same : given_up (floor_from start) blocks cut ≡ old
+    pub clean_same : given_up h (floor_from start) blocks cut ≡ old
     clean_same =
-        ap (given_up (floor_from start) blocks) clean_whole ∙ given_is h clean_stands old
-        ∙ sym (ap (λ (bs : List (List Entry)). given_up (floor_behind h bs) c.erased.parts.kept old) own_parts.0 ∙ ap (λ (bs : List (List Entry)). given_up (floor_behind h clean_stands.file.parts.gone) bs old) own_parts.1)
+        ap (given_up h (floor_from start) blocks) clean_whole ∙ given_is h clean_stands old
+        ∙ sym (ap (λ (bs : List (List Entry)). given_up h (floor_behind h bs) c.erased.parts.kept old) own_parts.0 ∙ ap (λ (bs : List (List Entry)). given_up h (floor_behind h clean_stands.file.parts.gone) bs old) own_parts.1)
         ∙ given_same old h c.erased

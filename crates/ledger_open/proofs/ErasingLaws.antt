@@ -1,30 +1,31 @@
--- What the last journal hides: what each image stands for while that is given up, and after it.
-use Rattle.std.specs.Prelude.{◌==◌, slice_get, sum_by}
-use Rattle.std.proofs.Common.{◌≡◌, ◌≢◌, ◌⊎◌, inl, inr, ℕ, zero, suc, ◌+◌, ◌-◌, ◌<◌, ◌≤◌, Bool, true, false, cond, List, [], ◌∷◌, ◌++◌, length, map, get_or, take, drop, replicate, Option, None, Some, refl, sym, ◌∙◌, ap, subst, arith, append_assoc, append-nil, length-append, length-take, length-drop}
-use Rattle.std.proofs.lemmas.Bool.{eqb-true, eq-eqb, true≢false}
-use Rattle.std.proofs.lemmas.List.{take_at, drop_at, drop-drop, take-append-drop, length-map, length-replicate, map-append}
+-- What is given up: what each image stands for meanwhile, and after it.
+use Rattle.std.specs.Prelude.{◌==◌, nat_lt, not, slice_get, option_map, sum_by}
+use Rattle.std.proofs.Common.{◌≡◌, ◌≢◌, ◌⊎◌, inl, inr, ℕ, zero, suc, ◌+◌, ◌-◌, ◌<◌, ◌≤◌, ◌&&◌, ◌||◌, Bool, true, false, List, [], ◌∷◌, ◌++◌, length, map, get_or, take, drop, replicate, Option, None, Some, refl, sym, ◌∙◌, ap, subst, arith}
+use Rattle.std.proofs.lemmas.Bool.{eqb-true, eq-eqb, true≢false, and_parts, or_cases, cases_lt, lt-ltb, ltb-true}
+use Rattle.std.proofs.lemmas.List.{length-map, map-append}
+use Rattle.std.proofs.lemmas.Option.{none-some, slice_get-map, slice_get_past, slice_get_within, get_or_from_slice_get}
+use Rattle.journal_record.specs.Blocks.{AreFrom, AreBlocks}
 use Rattle.journal_record.specs.Entry.{Entry}
 use Rattle.journal_record.specs.declared.header.Header.{Header}
 use Rattle.ledger_disk.specs.Disk.{overlay}
 use Rattle.ledger_disk.specs.Guards.{Outside}
-use Rattle.ledger_model.specs.History.{History, history, journals_of, journals, size, point}
-use Rattle.ledger_model.specs.Targets.{is_occult, is_hidden}
-use Rattle.ledger_model.proofs.PointLaws.{points_few}
+use Rattle.ledger_model.specs.History.{History, journals_of, journals, size, point}
+use Rattle.ledger_model.specs.Targets.{is_hidden_by, is_hidden}
 use Rattle.ledger_open.specs.Heads.{Edition}
-use Rattle.ledger_open.specs.Erasing.{content_place, content_size, IsOutsideOf, IsZeroedIn, target_of, last_target, with_zeros, given_up}
+use Rattle.ledger_open.specs.Erasing.{content_place, content_size, IsOutsideOf, IsZeroedIn, with_zeros, places_of, is_given_up, given_up, given_up_in}
 use Rattle.block_file.specs.Places.{content_in, body_from, record_len, places_in, places_at}
-use Rattle.ledger_open.specs.Standing.{Floor, floor_behind, Parts, AreZeros, AllKept, SameButHidden, KeepsBlocks, StandsBy, StandsFor, IsErased, hidden_before, point_before}
+use Rattle.ledger_open.specs.Places.{places_from}
+use Rattle.ledger_open.specs.Standing.{Floor, floor_behind, AreZeros, AllKept, SameButHidden, KeepsBlocks, StandsBy, StandsFor, IsErased, hidden_before}
 use Rattle.block_file.specs.declared.place.PlaceAt.{PlaceAt}
 use Rattle.ledger_open.proofs.FloorLaws.{floor_first, floor_digests}
 use Rattle.ledger_open.proofs.GivingLaws.{gone_read, within as within_file, given_up as given_in}
 use Rattle.ledger_open.proofs.GrowLaws.{stands_erased}
 use Rattle.ledger_open.proofs.HoleLaws.{record_places, content_places, lengths_of}
-use Rattle.ledger_open.proofs.KeptLaws.{all_kept, all_more}
-use Rattle.ledger_open.proofs.LikeLaws.{count_kept}
-use Rattle.ledger_open.proofs.PartLaws.{halves, size_parts, floor_few}
+use Rattle.ledger_open.proofs.PartLaws.{size_parts}
 use Rattle.ledger_open.proofs.PlaceLaws.{places_kept}
 use Rattle.ledger_open.proofs.SizeLaws.{GivesDigests}
-use Rattle.ledger_open.proofs.TargetLaws.{IsTarget, target_is, none_new}
+use Rattle.ledger_open.proofs.TargetLaws.{given_kept}
+use Rattle.ledger_open.proofs.ZerosLaws.{zeros_outside, zeros_same, zeros_to, zeroed_next, left_next, zeros_all, zeros_none, place_there}
 
 -- ---- places and lengths of contents, in the list of places
 
@@ -105,72 +106,174 @@ module _ (floor : Floor) (bs : List (List Entry)) (n : ℕ) where
         (λ m z. subst (λ (k : ℕ). ((m ≡ n) × AreZeros (take (get_or (lengths_of (journals_of bs)) (n - floor.first) 0) (drop k new))) ⊎ ((m ≢ n) × (gone m ≡ true))) place_is
         (subst (λ (k : ℕ). ((m ≡ n) × AreZeros (take k (drop (content_place floor bs n) new))) ⊎ ((m ≢ n) × (gone m ≡ true))) size_is (zeroed m z)))
 
--- ---- zeros in a place
+-- ---- fewer zeros
 
-pub zeros_outside : (at n : ℕ) (file : List ℕ) → at + n ≤ length file → Outside at n file (overlay at (replicate n 0) file) × AreZeros (take n (drop at (overlay at (replicate n 0) file)))
-zeros_outside at n file le =
-    let middle : length (replicate {A = ℕ} n 0) ≡ n = length-replicate n 0 in
-    let is : overlay at (replicate n 0) file ≡ take at file ++ (replicate n 0 ++ drop (at + n) file) =
-    append_assoc (take at file) (replicate n 0) (drop (at + length (replicate {A = ℕ} n 0)) file) ∙ ap (λ (k : ℕ). take at file ++ (replicate n 0 ++ drop (at + k) file)) middle in
-    let front : length (take at file) ≡ at = omega (arith, length-take at file, le) in
-    let read : take n (drop at (take at file ++ (replicate n 0 ++ drop (at + n) file))) ≡ replicate n 0 =
-    ap (λ (l : List ℕ). take n l) (drop_at (take at file) (replicate n 0 ++ drop (at + n) file) at front) ∙ take_at (replicate n 0) (drop (at + n) file) n middle in
-    subst (λ (l : List ℕ). Outside at n file l × AreZeros (take n (drop at l))) (sym is) (
-      record {
-        size = omega (arith, front, middle, le, length-drop (at + n) file, length-append (take at file) (replicate n 0 ++ drop (at + n) file), length-append (replicate n 0) (drop (at + n) file));
-        before = take_at (take at file) (replicate n 0 ++ drop (at + n) file) at front;
-        after =
-            ap (λ (l : List ℕ). drop (at + n) l) (sym (append_assoc (take at file) (replicate n 0) (drop (at + n) file)))
-            ∙ drop_at (take at file ++ replicate n 0) (drop (at + n) file) (at + n) (omega (arith, front, middle, length-append (take at file) (replicate n 0)));
-      },
-      subst AreZeros (sym read) (ap (λ (k : ℕ). replicate k 0) (sym middle)),
+module _ (hid gone gone′ : ℕ → Bool) where
+  all_fewer : (m : ℕ) (es fs : List Entry) → AreFrom m fs → ((n : ℕ) → m ≤ n → gone′ n ≡ true → gone n ≡ true) → AllKept hid gone es fs → AllKept hid gone′ es fs
+  all_fewer m [] [] from fewer a = tt
+  all_fewer m [] (f ∷ fs) from fewer a = absurd a
+  all_fewer m (e ∷ es) [] from fewer a = absurd a
+  all_fewer m (e ∷ es) (f ∷ fs) from fewer a =
+      let number : e.header.jsn ≡ m = ap (λ (h : Header). h.jsn) (sym a.0.header) ∙ from.0.jsn in (
+        record { header = a.0.header; who = a.0.who; shown = a.0.shown; zeroed = λ z. a.0.zeroed (fewer e.header.jsn (omega (arith, number)) z) },
+        all_fewer (m + 1) es fs from.1 (λ n low z. fewer n (omega (arith, low)) z) a.1,
+      )
+
+  -- only those of the journals that a file has count
+  same_fewer : (m : ℕ) (bs cs : List (List Entry)) → AreBlocks m cs → ((n : ℕ) → m ≤ n → gone′ n ≡ true → gone n ≡ true) → SameButHidden hid gone bs cs → SameButHidden hid gone′ bs cs
+  same_fewer m [] [] are fewer s = tt
+  same_fewer m [] (c ∷ cs) are fewer s = absurd s
+  same_fewer m (b ∷ bs) [] are fewer s = absurd s
+  same_fewer m (b ∷ bs) (c ∷ cs) are fewer s = (all_fewer m b c are.0.entries fewer s.0, same_fewer (m + length c) bs cs are.1 (λ n low z. fewer n (omega (arith, low)) z) s.1)
+
+-- ---- contents that are changed one after the other
+
+or_left : (v w : Bool) → v ≡ true → (v || w) ≡ true
+or_left true w one = refl
+or_left false w one = absurd (true≢false (sym one))
+
+or_right : (v w : Bool) → w ≡ true → (v || w) ≡ true
+or_right true w one = refl
+or_right false w one = one
+
+and_both : (v w : Bool) → v ≡ true → w ≡ true → (v && w) ≡ true
+and_both true w v_is w_is = w_is
+and_both false w v_is w_is = v_is
+
+module _ (floor : Floor) (digests : GivesDigests floor.root) (edition : Edition) (hid : ℕ → Bool) (bs : List (List Entry)) where
+  abbrev places : List PlaceAt
+  places = places_from floor bs
+
+  abbrev Keeps : (ℕ → Bool) → List ℕ → Type 0
+  Keeps gone image = KeepsBlocks floor edition hid gone bs image
+
+  keeps_fewer : (gone gone′ : ℕ → Bool) (image : List ℕ) → ((n : ℕ) → floor.first ≤ n → gone′ n ≡ true → gone n ≡ true) → Keeps gone image → Keeps gone′ image
+  keeps_fewer gone gone′ image fewer x = record { blocks = x.blocks; file = x.file; same = same_fewer hid gone gone′ floor.first bs x.blocks x.file.lawful fewer x.same }
+
+  module _ (i : ℕ) (p : PlaceAt) (got : slice_get (places_from floor bs) i ≡ Some p) where
+    abbrev n : ℕ
+    n = floor.first + i
+
+    at_is : n - floor.first ≡ i
+    at_is = omega arith
+
+    here_is : p.content_at ≡ content_place floor bs n
+    here_is =
+        sym (ap (λ (k : ℕ). get_or (map (λ (q : PlaceAt). q.content_at) places) k 0) at_is
+        ∙ get_or_from_slice_get (map (λ (q : PlaceAt). q.content_at) places) i p.content_at 0 (slice_get-map (λ (q : PlaceAt). q.content_at) places i ∙ ap (option_map (λ (q : PlaceAt). q.content_at)) got))
+
+    long_is : p.content_len ≡ content_size floor bs n
+    long_is =
+        sym (ap (λ (k : ℕ). get_or (map (λ (q : PlaceAt). q.content_len) places) k 0) at_is
+        ∙ get_or_from_slice_get (map (λ (q : PlaceAt). q.content_len) places) i p.content_len 0 (slice_get-map (λ (q : PlaceAt). q.content_len) places i ∙ ap (option_map (λ (q : PlaceAt). q.content_len)) got))
+
+    there : IsIn floor bs n
+    there = record { first = omega arith; within = omega (arith, slice_get_within places i p got, places_count (64 + length floor.base) bs) }
+
+    -- it ends before the file does
+    pub place_within : (gone : ℕ → Bool) (image : List ℕ) → Keeps gone image → p.content_at + p.content_len ≤ length image
+    place_within gone image keeps =
+        subst (λ (k : ℕ). k + p.content_len ≤ length image) (sym here_is) (subst (λ (k : ℕ). content_place floor bs n + k ≤ length image) (sym long_is) (content_within floor bs n digests edition hid gone image keeps there))
+
+    -- where it is gone, zeros stand there
+    pub place_gone : (gone : ℕ → Bool) (image : List ℕ) → Keeps gone image → gone n ≡ true → AreZeros (take p.content_len (drop p.content_at image))
+    place_gone gone image keeps z =
+        subst (λ (k : ℕ). AreZeros (take p.content_len (drop k image))) (sym here_is) (subst (λ (k : ℕ). AreZeros (take k (drop (content_place floor bs n) image))) (sym long_is) (content_gone floor bs n digests edition hid gone image keeps there z))
+
+    module _ (gone : ℕ → Bool) (image : List ℕ) (keeps : KeepsBlocks floor edition hid gone bs image) (hides : hid n ≡ true) where
+      -- other bytes in the place of a hidden content
+      place_other : (gone′ : ℕ → Bool) (new : List ℕ) → Outside p.content_at p.content_len image new
+          → ((m : ℕ) → gone′ m ≡ true → ((m ≡ n) × AreZeros (take p.content_len (drop p.content_at new))) ⊎ ((m ≢ n) × (gone m ≡ true))) → Keeps gone′ new
+      place_other gone′ new out zeroed =
+          content_other floor bs n digests edition hid gone image keeps there gone′ new hides
+          (subst (λ (k : ℕ). Outside k (content_size floor bs n) image new) here_is (subst (λ (k : ℕ). Outside p.content_at k image new) long_is out))
+          (λ m z. subst (λ (k : ℕ). ((m ≡ n) × AreZeros (take (content_size floor bs n) (drop k new))) ⊎ ((m ≢ n) × (gone m ≡ true))) here_is
+          (subst (λ (k : ℕ). ((m ≡ n) × AreZeros (take k (drop p.content_at new))) ⊎ ((m ≢ n) × (gone m ≡ true))) long_is (zeroed m z)))
+
+      pub place_torn : (new : List ℕ) → gone n ≡ false → Outside p.content_at p.content_len image new → Keeps gone new
+      place_torn new shown out = place_other gone new out (λ m z. inr (λ same. true≢false (sym z ∙ ap gone same ∙ shown), z))
+
+      pub place_zeroed : (gone′ : ℕ → Bool) → ((m : ℕ) → gone′ m ≡ true → (m ≡ n) ⊎ (gone m ≡ true)) → Keeps gone′ (overlay p.content_at (replicate p.content_len 0) image)
+      place_zeroed gone′ more =
+          let z = zeros_outside p.content_at p.content_len image (place_within gone image keeps) in
+          place_other gone′ (overlay p.content_at (replicate p.content_len 0) image) z.0 (λ m is. elim (m == n) as (λ v. (m == n) ≡ v → ((m ≡ n) × AreZeros (take p.content_len (drop p.content_at (overlay p.content_at (replicate p.content_len 0) image)))) ⊎ ((m ≢ n) × (gone m ≡ true))) [
+            | true ↦ λ e. inl (eqb-true m n e, z.1)
+            | false ↦ λ e.
+                let other : m ≢ n = λ same. true≢false (sym (eq-eqb m n same) ∙ e) in
+                elim (more m is) [ inl same ↦ absurd (other same) | inr before ↦ inr (other, before) ]
+          ] refl)
+
+  -- zeros over the contents that are given up, of which all are hidden
+  module _ (given : ℕ → Bool) (hides : (n : ℕ) → given n ≡ true → hid n ≡ true) (gone : ℕ → Bool) (image : List ℕ) (keeps : KeepsBlocks floor edition hid gone bs image) where
+    -- those of them before one of the journals are gone, too
+    abbrev gone_to : ℕ → ℕ → Bool
+    gone_to i m = gone m || (given m && nat_lt m (floor.first + i))
+
+    abbrev zeroed : ℕ → List ℕ
+    zeroed i = zeros_to given floor.first i (places_from floor bs) image
+
+    gone_next : (i m : ℕ) → gone_to (i + 1) m ≡ true → ((m ≡ floor.first + i) × (given m ≡ true)) ⊎ (gone_to i m ≡ true)
+    gone_next i m is = elim (or_cases (gone m) (given m && nat_lt m (floor.first + (i + 1))) is) [
+      | inl before ↦ inr (or_left (gone m) (given m && nat_lt m (floor.first + i)) before)
+      | inr both ↦
+          let parts = and_parts (given m) (nat_lt m (floor.first + (i + 1))) both in
+          let below = ltb-true m (floor.first + (i + 1)) parts.1 in
+          elim (cases_lt m (floor.first + i)) [
+            | inl lt ↦ inr (or_right (gone m) (given m && nat_lt m (floor.first + i)) (and_both (given m) (nat_lt m (floor.first + i)) parts.0 (lt-ltb m (floor.first + i) lt)))
+            | inr le ↦ inl (omega (arith, le, below), parts.0)
+          ]
+    ]
+
+    keeps_next : (i : ℕ) → i < length (places_from floor bs) → Keeps (gone_to i) (zeroed i) × (length (zeroed i) ≡ length image) → Keeps (gone_to (i + 1)) (zeroed (i + 1)) × (length (zeroed (i + 1)) ≡ length image)
+    keeps_next i lt before =
+        elim (given (floor.first + i)) as (λ v. given (floor.first + i) ≡ v → Keeps (gone_to (i + 1)) (zeroed (i + 1)) × (length (zeroed (i + 1)) ≡ length image)) [
+          | true ↦ λ is.
+              let next = zeroed_next given floor.first i places got.0 got.1 image is in
+              let z = zeros_outside got.0.content_at got.0.content_len (zeroed i) (place_within i got.0 got.1 (gone_to i) (zeroed i) before.0) in (
+                subst (Keeps (gone_to (i + 1))) (sym next) (place_zeroed i got.0 got.1 (gone_to i) (zeroed i) before.0 (hides (floor.first + i) is) (gone_to (i + 1)) (λ m asked. elim (gone_next i m asked) [ inl here ↦ inl here.0 | inr more ↦ inr more ])),
+                ap length next ∙ z.0.size ∙ before.1,
+              )
+          | false ↦ λ is.
+              let next = left_next given floor.first i places got.0 got.1 image is in (
+                subst (Keeps (gone_to (i + 1))) (sym next) (keeps_fewer (gone_to i) (gone_to (i + 1)) (zeroed i) (λ m low asked. elim (gone_next i m asked) [
+                  | inl here ↦ absurd (true≢false (sym here.1 ∙ ap given here.0 ∙ is))
+                  | inr more ↦ more
+                ]) before.0),
+                ap length next ∙ before.1,
+              )
+        ] refl where
+          got : (p : PlaceAt) × (slice_get (places_from floor bs) i ≡ Some p)
+          got = place_there i (places_from floor bs) lt
+
+    pub keeps_to : (i : ℕ) → i ≤ length (places_from floor bs) → Keeps (gone_to i) (zeroed i) × (length (zeroed i) ≡ length image)
+    keeps_to zero le = (
+      keeps_fewer gone (gone_to 0) image (λ m low is. elim (or_cases (gone m) (given m && nat_lt m (floor.first + 0)) is) [
+        | inl before ↦ before
+        | inr both ↦ let below = ltb-true m (floor.first + 0) (and_parts (given m) (nat_lt m (floor.first + 0)) both).1 in absurd (omega (arith, below, low))
+      ]) keeps,
+      refl,
     )
+    keeps_to (suc i) le = let one : i + 1 ≡ suc i = omega arith in subst (λ (k : ℕ). Keeps (gone_to k) (zeroed k) × (length (zeroed k) ≡ length image)) one (keeps_next i (omega (arith, le)) (keeps_to i (omega (arith, le))))
 
-zeros_same : (at n : ℕ) (file : List ℕ) → at + n ≤ length file → AreZeros (take n (drop at file)) → overlay at (replicate n 0) file ≡ file
-zeros_same at n file le zeros =
-    let long : length (take n (drop at file)) ≡ n = omega (arith, le, length-take n (drop at file), length-drop at file) in
-    let is : replicate n 0 ≡ take n (drop at file) = ap (λ (k : ℕ). replicate k 0) (sym long) ∙ sym zeros in
-    ap (λ (l : List ℕ). overlay at l file) is
-    ∙ ap (λ (k : ℕ). (take at file ++ take n (drop at file)) ++ drop (at + k) file) long
-    ∙ append_assoc (take at file) (take n (drop at file)) (drop (at + n) file)
-    ∙ ap (λ (l : List ℕ). take at file ++ (take n (drop at file) ++ l)) (sym (drop-drop n at file))
-    ∙ ap (λ (l : List ℕ). take at file ++ l) (take-append-drop n (drop at file))
-    ∙ take-append-drop at file
+    -- what was gone is so still
+    pub keeps_on : (i : ℕ) → i ≤ length (places_from floor bs) → Keeps gone (zeroed i)
+    keeps_on i le = keeps_fewer (gone_to i) gone (zeroed i) (λ m low is. or_left (gone m) (given m && nat_lt m (floor.first + i)) is) (keeps_to i le).0
 
--- ---- what the last journal hides
+    -- where they all were gone, the file is the same
+    same_next : ((n : ℕ) → given n ≡ true → gone n ≡ true) → (i : ℕ) → i < length (places_from floor bs) → zeroed i ≡ image → zeroed (i + 1) ≡ image
+    same_next all i lt before =
+        elim (given (floor.first + i)) as (λ v. given (floor.first + i) ≡ v → zeroed (i + 1) ≡ image) [
+          | true ↦ λ is.
+              zeroed_next given floor.first i places got.0 got.1 image is ∙ ap (overlay got.0.content_at (replicate got.0.content_len 0)) before
+              ∙ zeros_same got.0.content_at got.0.content_len image (place_within i got.0 got.1 gone image keeps) (place_gone i got.0 got.1 gone image keeps (all (floor.first + i) is))
+          | false ↦ λ is. left_next given floor.first i places got.0 got.1 image is ∙ before
+        ] refl where
+          got : (p : PlaceAt) × (slice_get (places_from floor bs) i ≡ Some p)
+          got = place_there i (places_from floor bs) lt
 
-module _ (floor : Floor) (bs : List (List Entry)) (file : List ℕ) where
-  pub none_is : last_target (history bs []) ≡ None → given_up floor bs file ≡ file
-  none_is is = ap (λ (t : Option ℕ). with_zeros floor bs t file) is
-
-  pub some_is : (n : ℕ) → last_target (history bs []) ≡ Some n → given_up floor bs file ≡ overlay (content_place floor bs n) (replicate (content_size floor bs n) 0) file
-  some_is n is = ap (λ (t : Option ℕ). with_zeros floor bs t file) is
-
--- ---- the last journal of a history, and of the blocks that a file has of it
-
-got_behind : (xs ys : List Entry) (n : ℕ) → slice_get (xs ++ ys) (length xs + n) ≡ slice_get ys n
-got_behind [] ys n = let e : 0 + n ≡ n = omega arith in ap (slice_get ys) e
-got_behind (x ∷ xs) ys n = let e : length (x ∷ xs) + n ≡ suc (length xs + n) = omega arith in ap (slice_get (x ∷ (xs ++ ys))) e ∙ got_behind xs ys n
-
-pub target_kept : (floor : ℕ) (h : History) → h.waiting ≡ [] → (x : Parts floor h) → floor < size h → last_target (history x.kept []) ≡ last_target h
-target_kept floor h none x few =
-    let count = size_parts floor h none x in
-    let at : size h - 1 ≡ length (journals_of x.gone) + (length (journals_of x.kept) - 1) = omega (arith, count, few, x.at) in
-    let flat : journals (history x.kept []) ≡ journals_of x.kept = append-nil (journals_of x.kept) in
-    ap (λ (l : List Entry). target_of (slice_get l (length l - 1))) flat
-    ∙ sym (ap (λ (k : ℕ). target_of (slice_get (journals h) k)) at ∙ ap (λ (l : List Entry). target_of (slice_get l (length (journals_of x.gone) + (length (journals_of x.kept) - 1)))) (halves floor h none x)
-    ∙ ap target_of (got_behind (journals_of x.gone) (journals_of x.kept) (length (journals_of x.kept) - 1)))
-
--- a file that begins at the point or before has what the last journal hides
-pub target_in : (floor : ℕ) (h : History) → h.waiting ≡ [] → (x : Parts floor h) → floor ≤ point h → (n : ℕ) → IsTarget h n → IsIn (floor_behind h x.gone) x.kept n
-target_in floor h none x low n t =
-    let first : (floor_behind h x.gone).first ≡ floor = floor_first h x.gone ∙ x.at in
-    record { first = omega (arith, first, low, t.point_is, t.kept); within = omega (arith, first, t.within, size_parts floor h none x) }
-
--- .. one that stands for the history begins at the point then
-pub target_at : (floor : ℕ) (h : History) (n : ℕ) → (floor ≡ point h) ⊎ (floor ≡ point_before h) → IsTarget h n → floor ≡ point h
-target_at floor h n (inl at) t = at
-target_at floor h n (inr at) t = at ∙ sym t.point_is
+    pub zeroed_same : ((n : ℕ) → given n ≡ true → gone n ≡ true) → (i : ℕ) → i ≤ length (places_from floor bs) → zeroed i ≡ image
+    zeroed_same all zero le = refl
+    zeroed_same all (suc i) le = let one : i + 1 ≡ suc i = omega arith in subst (λ (k : ℕ). zeroed k ≡ image) one (same_next all i (omega (arith, le)) (zeroed_same all i (omega (arith, le))))
 
 -- ---- an image that stands for a history
 
@@ -178,126 +281,134 @@ target_at floor h n (inr at) t = at ∙ sym t.point_is
 abbrev again : (floor : ℕ) (gone gone′ : ℕ → Bool) (image new : List ℕ) (h : History) (x : StandsBy floor gone image h) → KeepsBlocks (floor_behind h x.parts.gone) x.edition (is_hidden h) gone′ x.parts.kept new → StandsBy floor gone′ new h
 again floor gone gone′ image new h x keeps = record { edition = x.edition; parts = x.parts; keeps = keeps; early = x.early; none = x.none; lawful = x.lawful; wide = x.wide }
 
-abbrev floor_in : {floor : ℕ} {gone : ℕ → Bool} {image : List ℕ} {h : History} → StandsBy floor gone image h → Floor
+abbrev pub floor_in : {floor : ℕ} {gone : ℕ → Bool} {image : List ℕ} {h : History} → StandsBy floor gone image h → Floor
 floor_in {h = h} x = floor_behind h x.parts.gone
 
 digests_in : (floor : ℕ) (gone : ℕ → Bool) (image : List ℕ) (h : History) (x : StandsBy floor gone image h) → GivesDigests (floor_behind h x.parts.gone).root
 digests_in floor gone image h x = floor_digests h x.parts.gone x.parts.kept x.parts.are
 
-module _ (image new : List ℕ) (h : History) (x : StandsFor image h) (n : ℕ) (t : IsTarget h n) where
-  here : IsIn (floor_behind h x.file.parts.gone) x.file.parts.kept n
-  here = target_in x.floor h x.file.none x.file.parts (omega (arith, target_at x.floor h n x.begins t)) n t
+-- what is given up is hidden, and was shown before
+pub given_hidden : (h : History) (n : ℕ) → is_given_up h n ≡ true → is_hidden h n ≡ true
+given_hidden h n is = (and_parts (is_hidden h n) (not (hidden_before h n)) is).0
 
-  module _ (out : IsOutsideOf x.file n new) where
-    -- whatever stands there, the image stands for the history
-    while_erasing : (s : StandsFor new h) × (s.file.edition ≡ x.file.edition)
-    while_erasing = (
+not_true : (v : Bool) → not v ≡ true → v ≡ false
+not_true true none = absurd (true≢false (sym none))
+not_true false none = refl
+
+given_shown : (h : History) (n : ℕ) → is_given_up h n ≡ true → hidden_before h n ≡ false
+given_shown h n is = not_true (hidden_before h n) (and_parts (is_hidden h n) (not (hidden_before h n)) is).1
+
+-- a content that is hidden was so before, or is given up
+before_or_given : (v w : Bool) → v ≡ true → (w ≡ true) ⊎ ((v && not w) ≡ true)
+before_or_given v true hidden = inl refl
+before_or_given true false hidden = inr refl
+before_or_given false false hidden = absurd (true≢false (sym hidden))
+
+hidden_there : (h : History) (n : ℕ) → is_hidden h n ≡ true → n < size h
+hidden_there h n is = elim (cases_lt n (size h)) [
+  | inl lt ↦ lt
+  | inr le ↦ absurd (true≢false (sym is ∙ ap (is_hidden_by (journals h)) (slice_get_past (journals h) n le)))
+]
+
+module _ (image : List ℕ) (h : History) (x : StandsFor image h) where
+  abbrev x_floor : Floor
+  x_floor = floor_behind h x.file.parts.gone
+
+  abbrev x_places : List PlaceAt
+  x_places = places_from (floor_behind h x.file.parts.gone) x.file.parts.kept
+
+  x_digests : GivesDigests (floor_behind h x.file.parts.gone).root
+  x_digests = digests_in x.floor (hidden_before h) image h x.file
+
+  abbrev x_zeroed : ℕ → List ℕ
+  x_zeroed i = zeros_to (is_given_up h) (floor_behind h x.file.parts.gone).first i (places_from (floor_behind h x.file.parts.gone) x.file.parts.kept) image
+
+  -- with zeros over some of what is given up, it stands for the history
+  keeps_given : (i : ℕ) → i ≤ length (places_from (floor_behind h x.file.parts.gone) x.file.parts.kept) → KeepsBlocks (floor_behind h x.file.parts.gone) x.file.edition (is_hidden h) (hidden_before h) x.file.parts.kept (x_zeroed i)
+  keeps_given i le = keeps_on x_floor x_digests x.file.edition (is_hidden h) x.file.parts.kept (is_given_up h) (given_hidden h) (hidden_before h) image x.file.keeps i le
+
+  pub stands_given : (i : ℕ) → i ≤ length (places_from (floor_behind h x.file.parts.gone) x.file.parts.kept) → (s : StandsFor (x_zeroed i) h) × (s.file.edition ≡ x.file.edition)
+  stands_given i le = (record { floor = x.floor; begins = x.begins; file = again x.floor (hidden_before h) (hidden_before h) image (x_zeroed i) h x.file (keeps_given i le) }, refl)
+
+  -- .. whatever stands in place of the next
+  pub stands_torn : (i : ℕ) (p : PlaceAt) → slice_get (places_from (floor_behind h x.file.parts.gone) x.file.parts.kept) i ≡ Some p → is_given_up h ((floor_behind h x.file.parts.gone).first + i) ≡ true
+      → (new : List ℕ) → Outside p.content_at p.content_len (x_zeroed i) new → (s : StandsFor new h) × (s.file.edition ≡ x.file.edition)
+  stands_torn i p got given new out =
+      let inside = slice_get_within x_places i p got in (
+        record {
+          floor = x.floor;
+          begins = x.begins;
+          file = again x.floor (hidden_before h) (hidden_before h) image new h x.file
+              (place_torn x_floor x_digests x.file.edition (is_hidden h) x.file.parts.kept i p got (hidden_before h) (x_zeroed i) (keeps_given i (omega (arith, inside))) (given_hidden h (x_floor.first + i) given) new (given_shown h (x_floor.first + i) given) out);
+        },
+        refl,
+      )
+
+  -- the file has what is given up
+  pub given_there : (n : ℕ) → is_given_up h n ≡ true → (x.floor ≤ n) × (n < size h)
+  given_there n given =
+      let kept = given_kept h x.file.lawful.journals_are n given in
+      let at : x.floor ≡ point h = elim x.begins [ inl at ↦ at | inr at ↦ at ∙ sym kept.0 ] in
+      (omega (arith, at, kept.1), hidden_there h n (given_hidden h n given))
+
+  -- .. and whatever stands in place of one of them alone, it stands for the history
+  pub meanwhile : (n : ℕ) (new : List ℕ) → is_given_up h n ≡ true → x.floor ≤ n → IsOutsideOf x.file n new → StandsFor new h
+  meanwhile n new given low out =
+      let first : x_floor.first ≡ x.floor = floor_first h x.file.parts.gone ∙ x.file.parts.at in
+      let here : IsIn x_floor x.file.parts.kept n = record { first = omega (arith, first, low); within = omega (arith, first, hidden_there h n (given_hidden h n given), size_parts x.floor h x.file.none x.file.parts) } in
       record {
         floor = x.floor;
         begins = x.begins;
         file = again x.floor (hidden_before h) (hidden_before h) image new h x.file
-            (content_other (floor_in x.file) x.file.parts.kept n (digests_in x.floor (hidden_before h) image h x.file) x.file.edition (is_hidden h) (hidden_before h) image x.file.keeps here (hidden_before h) new t.hidden out
-            (λ m z. inr (λ same. true≢false (sym z ∙ ap (hidden_before h) same ∙ t.first), z)));
-      },
-      refl,
+            (content_other x_floor x.file.parts.kept n x_digests x.file.edition (is_hidden h) (hidden_before h) image x.file.keeps here (hidden_before h) new (given_hidden h n given) out
+            (λ m z. inr (λ same. true≢false (sym z ∙ ap (hidden_before h) same ∙ given_shown h n given), z)));
+      }
+
+  -- with zeros over all of it, all that is hidden is gone, and it is as long
+  pub given_erased : x.floor ≡ point h → IsErased (given_up_in x.file image) h × (length (given_up_in x.file image) ≡ length image)
+  given_erased at =
+      let all = keeps_to x_floor x_digests x.file.edition (is_hidden h) x.file.parts.kept (is_given_up h) (given_hidden h) (hidden_before h) image x.file.keeps (length x_places) (omega arith) in
+      let same : x_zeroed (length x_places) ≡ given_up_in x.file image = zeros_all (is_given_up h) x_floor.first (length x_places) x_places image (omega arith) in
+      let first : x_floor.first ≡ x.floor = floor_first h x.file.parts.gone ∙ x.file.parts.at in (
+        subst (λ (f : ℕ). StandsBy f (is_hidden h) (given_up_in x.file image) h) at
+            (again x.floor (hidden_before h) (is_hidden h) image (given_up_in x.file image) h x.file
+            (subst (KeepsBlocks x_floor x.file.edition (is_hidden h) (is_hidden h) x.file.parts.kept) same
+            (keeps_fewer x_floor x_digests x.file.edition (is_hidden h) x.file.parts.kept (λ m. hidden_before h m || (is_given_up h m && nat_lt m (x_floor.first + length x_places))) (is_hidden h) (x_zeroed (length x_places)) (λ m low z. elim (before_or_given (is_hidden h m) (hidden_before h m) z) [
+              | inl before ↦ or_left (hidden_before h m) (is_given_up h m && nat_lt m (x_floor.first + length x_places)) before
+              | inr given ↦
+                  let below : m < x_floor.first + length x_places = omega (arith, hidden_there h m z, first, size_parts x.floor h x.file.none x.file.parts, places_count (64 + length x_floor.base) x.file.parts.kept) in
+                  or_right (hidden_before h m) (is_given_up h m && nat_lt m (x_floor.first + length x_places)) (and_both (is_given_up h m) (nat_lt m (x_floor.first + length x_places)) given (lt-ltb m (x_floor.first + length x_places) below))
+            ]) all.0))),
+        ap length (sym same) ∙ all.1,
+      )
+
+  -- .. which it was before, where none is given up
+  pub nothing_open : ((n : ℕ) → is_given_up h n ≡ false) → x.floor ≡ point h → IsErased image h
+  nothing_open none at =
+      stands_erased image h x at (λ n z. elim (before_or_given (is_hidden h n) (hidden_before h n) z) [ inl before ↦ before | inr given ↦ absurd (true≢false (sym given ∙ none n)) ])
+
+-- where all that is hidden is gone, zeros over it change nothing
+pub given_same_to : (image : List ℕ) (h : History) (x : IsErased image h) (i : ℕ) → i ≤ length (places_from (floor_in x) x.parts.kept) → zeros_to (is_given_up h) (floor_in x).first i (places_from (floor_in x) x.parts.kept) image ≡ image
+given_same_to image h x i le =
+    zeroed_same (floor_in x) (digests_in (point h) (is_hidden h) image h x) x.edition (is_hidden h) x.parts.kept (is_given_up h) (given_hidden h) (is_hidden h) image x.keeps (given_hidden h) i le
+
+pub given_same : (image : List ℕ) (h : History) (x : IsErased image h) → given_up_in x image ≡ image
+given_same image h x =
+    sym (zeros_all (is_given_up h) (floor_in x).first (length (places_from (floor_in x) x.parts.kept)) (places_from (floor_in x) x.parts.kept) image (omega arith))
+    ∙ given_same_to image h x (length (places_from (floor_in x) x.parts.kept)) (omega arith)
+
+pub given_zeros : (image : List ℕ) (h : History) (x : IsErased image h) (i : ℕ) (p : PlaceAt) → slice_get (places_from (floor_in x) x.parts.kept) i ≡ Some p → is_given_up h ((floor_in x).first + i) ≡ true
+    → (p.content_at + p.content_len ≤ length image) × AreZeros (take p.content_len (drop p.content_at image))
+given_zeros image h x i p got given =
+    let digests = digests_in (point h) (is_hidden h) image h x in (
+      place_within (floor_in x) digests x.edition (is_hidden h) x.parts.kept i p got (is_hidden h) image x.keeps,
+      place_gone (floor_in x) digests x.edition (is_hidden h) x.parts.kept i p got (is_hidden h) image x.keeps (given_hidden h ((floor_in x).first + i) given),
     )
 
-    -- .. and where zeros do, all that is hidden is gone
-    erased : IsZeroedIn x.file n new → IsErased new h
-    erased zeros =
-        subst (λ (p : ℕ). StandsBy p (is_hidden h) new h) (target_at x.floor h n x.begins t)
-        (again x.floor (hidden_before h) (is_hidden h) image new h x.file
-        (content_other (floor_in x.file) x.file.parts.kept n (digests_in x.floor (hidden_before h) image h x.file) x.file.edition (is_hidden h) (hidden_before h) image x.file.keeps here (is_hidden h) new t.hidden out zeroed)) where
-          zeroed : (m : ℕ) → is_hidden h m ≡ true → ((m ≡ n) × IsZeroedIn x.file n new) ⊎ ((m ≢ n) × (hidden_before h m ≡ true))
-          zeroed m z = elim (m == n) as (λ v. (m == n) ≡ v → ((m ≡ n) × IsZeroedIn x.file n new) ⊎ ((m ≢ n) × (hidden_before h m ≡ true))) [
-            | true ↦ λ e. inl (eqb-true m n e, zeros)
-            | false ↦ λ e.
-                let other : m ≢ n = λ same. true≢false (sym (eq-eqb m n same) ∙ e) in
-                elim (t.only m z) [ inl same ↦ absurd (other same) | inr before ↦ inr (other, before) ]
-          ] refl
+-- where none is given up, the file is as it is
+pub none_given_up : (h : History) (floor : Floor) (bs : List (List Entry)) (file : List ℕ) → ((n : ℕ) → is_given_up h n ≡ false) → given_up h floor bs file ≡ file
+none_given_up h floor bs file none = zeros_none (is_given_up h) none floor.first (places_from floor bs) file
 
-pub meanwhile : (image new : List ℕ) (h : History) (n : ℕ) (x : StandsFor image h) → last_target h ≡ Some n → IsOutsideOf x.file n new → (s : StandsFor new h) × (s.file.edition ≡ x.file.edition)
-meanwhile image new h n x is out = while_erasing image new h x n (target_is h x.file.lawful.journals_are n is) out
-
-pub erased_by : (image new : List ℕ) (h : History) (n : ℕ) (x : StandsFor image h) → last_target h ≡ Some n → IsOutsideOf x.file n new → IsZeroedIn x.file n new → IsErased new h
-erased_by image new h n x is out zeros = erased image new h x n (target_is h x.file.lawful.journals_are n is) out zeros
-
-pub nothing_open : (image : List ℕ) (h : History) (x : StandsFor image h) → last_target h ≡ None → x.floor ≡ point h → IsErased image h
-nothing_open image h x none at = stands_erased image h x at (none_new h x.file.lawful.journals_are none)
-
--- a hidden content in an image of which all that is hidden is gone
-module _ (image : List ℕ) (h : History) (x : IsErased image h) (n : ℕ) (t : IsTarget h n) where
-  inside : IsIn (floor_behind h x.parts.gone) x.parts.kept n
-  inside = target_in (point h) h x.none x.parts (omega arith) n t
-
-  within_erased : content_place (floor_in x) x.parts.kept n + content_size (floor_in x) x.parts.kept n ≤ length image
-  within_erased = content_within (floor_in x) x.parts.kept n (digests_in (point h) (is_hidden h) image h x) x.edition (is_hidden h) (is_hidden h) image x.keeps inside
-
-  pub hidden_read : IsZeroedIn x n image
-  hidden_read = content_gone (floor_in x) x.parts.kept n (digests_in (point h) (is_hidden h) image h x) x.edition (is_hidden h) (is_hidden h) image x.keeps inside t.hidden
-
-  pub zeros_read : take (content_size (floor_in x) x.parts.kept n) (drop (content_place (floor_in x) x.parts.kept n) image) ≡ replicate (content_size (floor_in x) x.parts.kept n) 0
-  zeros_read =
-      let long : length (take (content_size (floor_in x) x.parts.kept n) (drop (content_place (floor_in x) x.parts.kept n) image)) ≡ content_size (floor_in x) x.parts.kept n =
-      omega (arith, within_erased, length-take (content_size (floor_in x) x.parts.kept n) (drop (content_place (floor_in x) x.parts.kept n) image), length-drop (content_place (floor_in x) x.parts.kept n) image) in
-      hidden_read ∙ ap (λ (k : ℕ). replicate k 0) long
-
--- ---- with zeros in its place
-
--- the file of an image that stands for a history, with zeros in place of what the last journal hides
-abbrev pub given_in_file : {floor : ℕ} {gone : ℕ → Bool} {image : List ℕ} {h : History} → StandsBy floor gone image h → List ℕ → List ℕ
-given_in_file x file = given_up (floor_in x) x.parts.kept file
-
--- .. has all gone that is hidden, and is as long
-pub given_erased : (image : List ℕ) (h : History) (x : StandsFor image h) → x.floor ≡ point h → IsErased (given_in_file x.file image) h × (length (given_in_file x.file image) ≡ length image)
-given_erased image h x at = by_target (last_target h) refl where
-  last : last_target (history x.file.parts.kept []) ≡ last_target h
-  last = target_kept x.floor h x.file.none x.file.parts (floor_few image h x)
-
-  by_target : (t : Option ℕ) → last_target h ≡ t → IsErased (given_in_file x.file image) h × (length (given_in_file x.file image) ≡ length image)
-  by_target None is =
-      let same = none_is (floor_in x.file) x.file.parts.kept image (last ∙ is) in
-      (subst (λ (l : List ℕ). IsErased l h) (sym same) (nothing_open image h x is at), ap length same)
-  by_target (Some n) is =
-      let t = target_is h x.file.lawful.journals_are n is in
-      let place = content_place (floor_in x.file) x.file.parts.kept n in
-      let len = content_size (floor_in x.file) x.file.parts.kept n in
-      let z = zeros_outside place len image (content_within (floor_in x.file) x.file.parts.kept n (digests_in x.floor (hidden_before h) image h x.file) x.file.edition (is_hidden h) (hidden_before h) image x.file.keeps (target_in x.floor h x.file.none x.file.parts (omega (arith, target_at x.floor h n x.begins t)) n t)) in
-      let same = some_is (floor_in x.file) x.file.parts.kept image n (last ∙ is) in
-      (subst (λ (l : List ℕ). IsErased l h) (sym same) (erased_by image (overlay place (replicate len 0) image) h n x is z.0 z.1), ap length same ∙ z.0.size)
-
--- .. and where it was gone, is the same
-pub given_same : (image : List ℕ) (h : History) (x : IsErased image h) → given_in_file x image ≡ image
-given_same image h x = by_target (last_target h) refl where
-  last : last_target (history x.parts.kept []) ≡ last_target h
-  last = target_kept (point h) h x.none x.parts (points_few h 0 x.lawful.journals_are).0
-
-  by_target : (t : Option ℕ) → last_target h ≡ t → given_in_file x image ≡ image
-  by_target None is = none_is (floor_in x) x.parts.kept image (last ∙ is)
-  by_target (Some n) is =
-      let t = target_is h x.lawful.journals_are n is in
-      some_is (floor_in x) x.parts.kept image n (last ∙ is) ∙ zeros_same (content_place (floor_in x) x.parts.kept n) (content_size (floor_in x) x.parts.kept n) image (within_erased image h x n t) (hidden_read image h x n t)
-
--- ---- the same by what is kept
-
-target_same : (hid gone : ℕ → Bool) (n : ℕ) (es fs : List Entry) → AllKept hid gone es fs → target_of (slice_get es n) ≡ target_of (slice_get fs n)
-target_same hid gone n [] [] a = refl
-target_same hid gone n [] (f ∷ fs) a = absurd a
-target_same hid gone n (e ∷ es) [] a = absurd a
-target_same hid gone zero (e ∷ es) (f ∷ fs) a = ap (λ (x : Header). cond (is_occult x.kind) (Some x.a) None) (sym a.0.header)
-target_same hid gone (suc n) (e ∷ es) (f ∷ fs) a = target_same hid gone n es fs a.1
-
-pub given_alike : (floor : Floor) (hid gone : ℕ → Bool) (bs cs : List (List Entry)) (file : List ℕ) → SameButHidden hid gone bs cs → given_up floor bs file ≡ given_up floor cs file
-given_alike floor hid gone bs cs file same = ap (λ (t : Option ℕ). with_zeros floor bs t file) target_alike ∙ by_target (last_target (history cs [])) where
-  all : AllKept hid gone (journals (history bs [])) (journals (history cs []))
-  all = all_more hid gone (journals_of bs) (journals_of cs) [] [] (all_kept hid gone bs cs same) tt
-
-  target_alike : last_target (history bs []) ≡ last_target (history cs [])
-  target_alike = target_same hid gone (size (history bs []) - 1) (journals (history bs [])) (journals (history cs [])) all
-      ∙ ap (λ (n : ℕ). target_of (slice_get (journals (history cs [])) (n - 1))) (count_kept hid gone (journals (history bs [])) (journals (history cs [])) all)
-
-  by_target : (t : Option ℕ) → with_zeros floor bs t file ≡ with_zeros floor cs t file
-  by_target None = refl
-  by_target (Some n) =
-      ap (λ (ps : List PlaceAt). overlay (get_or (map (λ (p : PlaceAt). p.content_at) ps) (n - floor.first) 0) (replicate (get_or (map (λ (p : PlaceAt). p.content_len) ps) (n - floor.first) 0) 0) file)
-      (places_kept hid gone (64 + length floor.base) bs cs same)
+-- by what is kept it is the same
+pub given_alike : (h : History) (floor : Floor) (hid gone : ℕ → Bool) (bs cs : List (List Entry)) (file : List ℕ) → SameButHidden hid gone bs cs → given_up h floor bs file ≡ given_up h floor cs file
+given_alike h floor hid gone bs cs file same = ap (λ (ps : List PlaceAt). with_zeros (places_of (is_given_up h) floor.first ps) file) (places_kept hid gone (64 + length floor.base) bs cs same)

@@ -26,6 +26,7 @@ use Rattle.twin_file.proofs.HeadLaws.{tail_size, generation_is as file_generatio
 use Rattle.twin_file.specs.Places.{HasTail}
 use Rattle.twin_file.specs.Twin.{choice, IsPassed, next_generation}
 use Rattle.ledger_open.specs.Cutting.{FallsAway, IsBaseAt, IsCutAt, first_gate, gate_behind}
+use Rattle.ledger_open.specs.Erasing.{is_given_up}
 use Rattle.block_file.specs.Places.{after_at, places_at}
 use Rattle.ledger_open.specs.Heads.{Edition, edition_from}
 use Rattle.ledger_open.specs.Places.{places_from}
@@ -94,6 +95,14 @@ none_new h some apart n =
     let parts : es ≡ take (size h - 1) es ++ one.0 ∷ [] = sym (take-append-drop (size h - 1) es) ∙ ap (λ (l : List Entry). take (size h - 1) es ++ l) one.1 in
     let other : is_occult one.0.header.kind ≡ false = last_of_kind (take (size h - 1) es) one.0 one.0.header.kind refl (λ same. apart (same ∙ ap greatest_point (sym parts))) in
     ap (λ (l : List Entry). is_hidden_by l (slice_get es n)) parts ∙ hidden_same (take (size h - 1) es) one.0 (slice_get es n) other
+
+-- .. nor gives a content up
+pub none_given : (h : History) → 1 ≤ size h → point_before h ≢ point h → (n : ℕ) → is_given_up h n ≡ false
+none_given h some apart n = of_same (is_hidden h n) (hidden_before h n) (none_new h some apart n) where
+  of_same : (v w : Bool) → v ≡ w → (v && not w) ≡ false
+  of_same true true is = refl
+  of_same true false is = is
+  of_same false w is = refl
 
 abbrev erased_now : (image : List ℕ) (h : History) → ((n : ℕ) → is_hidden h n ≡ hidden_before h n) → (x : StandsBy (point h) (hidden_before h) image h) → IsErased image h
 erased_now image h same x = record {

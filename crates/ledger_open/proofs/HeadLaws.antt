@@ -66,10 +66,6 @@ stands_generation image h x = generation_is (floor_behind h x.file.parts.gone) x
 pub stands_version : (image : List ℕ) (h : History) (x : StandsFor image h) → version_in image ≡ x.file.edition.version
 stands_version image h x = version_is (floor_behind h x.file.parts.gone) x.file.edition x.file.keeps.blocks image x.file.keeps.file
 
--- that of a file which stands for a history is the first or the second
-pub stands_format : (image : List ℕ) (h : History) (x : StandsFor image h) → (x.file.edition.version ≡ 1) ⊎ (x.file.edition.version ≡ 2)
-stands_format image h x = one_or_two x.file.edition.version x.file.keeps.file.head.format
-
 passes : (x : Bool) (taken : ℕ) (file : List ℕ) → IsPassed false taken file → IsPassed x taken file
 passes x taken file (inl shut) = inl shut
 passes true taken file (inr older) = inr (older.0, omega (arith, older.1))

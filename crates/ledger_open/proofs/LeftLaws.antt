@@ -16,7 +16,7 @@ use Rattle.ledger_model.specs.Targets.{is_hidden}
 use Rattle.pseudo_genesis.specs.declared.base.Base.{Base}
 use Rattle.twin_file.specs.Twin.{choice, IsTaken, next_generation}
 use Rattle.ledger_open.specs.Cutting.{gate_behind}
-use Rattle.ledger_open.specs.Erasing.{ErasesOne, given_up, WritesZeros, WritesOne}
+use Rattle.ledger_open.specs.Erasing.{ErasesSome, given_up, WritesZeros, WritesSome}
 use Rattle.ledger_open.specs.Heads.{Edition, edition_of}
 use Rattle.ledger_open.specs.Opening.{Known, Knows, GoesOn, HasFile}
 use Rattle.ledger_open.specs.Purging.{Ledger, open_disk, other_disk, copied_file, IsPurged, Purges, IsPurgedStill}
@@ -36,16 +36,16 @@ use Rattle.ledger_open.proofs.OpenedLaws.{floor_goes, known_goes}
 
 module _ (k : Known) (start : Option Base) (blocks : List (List Entry)) (knows : Knows k start blocks) where
   -- the file that was read, cut and with zeros for what its last journal hides
-  pub cut_erased : (x : Bool) (old : List ℕ) (cut new : State) → cut ≡ settled_state (take (k.gate + 1) old) → WritesZeros k.book k.places cut new → WritesOne k.places cut new → IsCutAndErased (open_file x start blocks k.gate) k.places old new.seen
-  cut_erased x old cut new is writes one =
+  pub cut_erased : (x : Bool) (old : List ℕ) (cut new : State) → cut ≡ settled_state (take (k.gate + 1) old) → WritesZeros k.book k.places cut new → WritesSome k.places cut new → IsCutAndErased (open_file x start blocks k.gate) k.places old new.seen
+  cut_erased x old cut new is writes some =
       let quiet : IsSettled cut = settled_is cut (take (k.gate + 1) old) is in
       let seen : cut.seen ≡ take (k.gate + 1) old = ap (λ (s : State). s.seen) is in
-      let w = one quiet in
+      let w = some quiet in
       record {
-        one = subst (λ (bytes : List ℕ). ErasesOne k.places bytes new.seen) seen (subst (ErasesOne k.places cut.seen) (sym (ap (λ (s : State). s.seen) w.2)) w.1);
+        some = subst (λ (bytes : List ℕ). ErasesSome k.places bytes new.seen) seen (subst (ErasesSome k.places cut.seen) (sym (ap (λ (s : State). s.seen) w.2)) w.1);
         hidden = λ h g.
-            ap (λ (s : State). s.seen) (writes h (known_goes k start blocks knows h g) quiet) ∙ ap (λ (f : Floor). given_up f g.parts.kept cut.seen) (floor_goes start blocks h g knows.base)
-            ∙ given_alike (floor_from start) (is_hidden h) (λ n. false) g.parts.kept blocks cut.seen g.same ∙ ap (given_up (floor_from start) blocks) seen;
+            ap (λ (s : State). s.seen) (writes h (known_goes k start blocks knows h g) quiet) ∙ ap (λ (f : Floor). given_up h f g.parts.kept cut.seen) (floor_goes start blocks h g knows.base)
+            ∙ given_alike h (floor_from start) (is_hidden h) (λ n. false) g.parts.kept blocks cut.seen g.same ∙ ap (given_up h (floor_from start) blocks) seen;
       }
 
   -- it stays the open one

@@ -39,6 +39,7 @@ pub mod ErasingLaws
 pub mod FinishLaws
 pub mod LikeLaws
 pub mod RestLaws
+pub mod ZerosLaws
 pub mod CopyLaws
 pub mod FrontLaws
 pub mod PlaceMoves
@@ -49,6 +50,7 @@ pub mod CutLaws
 pub mod SplitLaws
 pub mod StandLaws
 pub mod FinishedLaws
+pub mod ZeroingLaws
 pub mod OpenedLaws
 pub mod FallLaws
 pub mod LeftLaws

@@ -12,7 +12,6 @@ use Rattle.journal_record.specs.Blocks.{written_blocks}
 use Rattle.journal_record.specs.Entry.{Entry}
 use Rattle.ledger_disk.proofs.Guarding.{settled_image}
 use Rattle.ledger_disk.specs.Disk.{State, settled_state, MayLeave}
-use Rattle.ledger_book.specs.Books.{Serves}
 use Rattle.ledger_model.specs.History.{History}
 use Rattle.pseudo_genesis.specs.declared.base.Base.{Base}
 use Rattle.twin_file.proofs.TakeLaws.{taken_once, reopen_err}
@@ -24,7 +23,7 @@ use Rattle.ledger_open.specs.Heads.{Edition, edition_from, edition_of, edition_i
 use Rattle.ledger_open.specs.Damages.{IsDamage}
 use Rattle.ledger_open.specs.Opening.{GoesOn, Known, Knows, HasLawfulBlocks, HasFile, IsHeadOf, IsOutside, IsOpenErr, as_open}
 use Rattle.block_file.specs.Places.{after_at}
-use Rattle.ledger_open.specs.Reopened.{Remembers, IsMended}
+use Rattle.ledger_open.specs.Reopened.{IsMended}
 use Rattle.ledger_open.specs.Standing.{Floor, floor_from, HasBlocks, StandsFor, IsBeside, PairFor}
 use Rattle.ledger_open.specs.Starts.{IsDecoded, HasBase}
 use Rattle.ledger_open.specs.declared.failure.OpenErr.{OpenErr}
@@ -179,10 +178,6 @@ stands_open x a b h t p = subst (λ (file : List ℕ). StandsFor file h) (sym (s
 pub mended_goes : (k : Known) (x : Bool) (start : Option Base) (ks : List (List Entry)) (a b a_new b_new : State) (h : History) (r : IsMended x k start ks a b a_new b_new) → PairFor a.seen b.seen h → GoesOn r.was.start r.was.blocks h
 mended_goes k x start ks a b a_new b_new h r p =
     goes_on (choice r.was.in_a a b).seen h r.was.start r.was.blocks r.read.has.0 (stands_open r.was.in_a a b h r.read.taken p) r.read.knows.base r.read.has.1
-
--- .. and what was opened serves it
-pub mended_serves : (k : Known) (x : Bool) (start : Option Base) (ks : List (List Entry)) (a b a_new b_new : State) (h : History) → Remembers k start ks → IsMended x k start ks a b a_new b_new → PairFor a.seen b.seen h → Serves k.book h
-mended_serves k x start ks a b a_new b_new h knows r p = r.serves h (mended_goes k x start ks a b a_new b_new h r p)
 
 -- a pair whose open file is whole has no other cause of refusal than a fault or want of memory
 pub whole_opens : (x : Bool) (a b na nb : List ℕ) → na ≡ a → nb ≡ b → IsTaken x na nb → HasLawfulBlocks (choice x na nb) → (e : OpenErr) → IsOpenErr a b e → IsOutside e

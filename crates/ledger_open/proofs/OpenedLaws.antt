@@ -13,7 +13,7 @@ use Rattle.pseudo_genesis.specs.declared.base.Base.{Base}
 use Rattle.twin_file.specs.Images.{LeavesFront}
 use Rattle.twin_file.specs.Twin.{choice, IsTaken}
 use Rattle.ledger_open.specs.Cutting.{gate_behind}
-use Rattle.ledger_open.specs.Erasing.{EndsAs, AreOf, AreBetween, last_target, StandsMeanwhile, LeavesShown, LeavesErased, LeavesRest}
+use Rattle.ledger_open.specs.Erasing.{EndsAs, AreOf, AreBetween, StandsMeanwhile, LeavesShown, LeavesErased, LeavesRest}
 use Rattle.ledger_open.specs.Opening.{Known, Knows, GoesOn, HasFile, AreUnchanged}
 use Rattle.block_file.specs.Places.{after_at}
 use Rattle.ledger_open.specs.Heads.{Edition, edition_of}
@@ -26,8 +26,7 @@ use Rattle.ledger_open.proofs.CleanLaws as file
 use Rattle.ledger_open.proofs.CleanLaws.{clean_size, own_tail, between_at}
 use Rattle.ledger_open.proofs.FinishedLaws.{both_settled}
 use Rattle.ledger_open.proofs.GrowLaws.{erased_stands}
-use Rattle.ledger_open.proofs.ErasingLaws.{target_at}
-use Rattle.ledger_open.proofs.FinishLaws.{are_of}
+use Rattle.ledger_open.proofs.FinishLaws.{are_of, by_purge, floors}
 use Rattle.ledger_open.proofs.MoveLaws.{settled_both}
 use Rattle.ledger_open.proofs.OldLaws.{same_edition, old_front, front_passed}
 use Rattle.twin_file.proofs.OpenLaws.{chosen}
@@ -38,7 +37,6 @@ use Rattle.ledger_open.proofs.PlaceMoves.{after_most}
 use Rattle.ledger_open.proofs.ReopenLaws.{clean_seen, clean_taken}
 use Rattle.ledger_open.proofs.SplitLaws.{behind_some}
 use Rattle.ledger_open.proofs.StartLaws.{point_some}
-use Rattle.ledger_open.proofs.TargetLaws.{target_is}
 use Rattle.ledger_open.proofs.WholeLaws.{goes_on, floor_there}
 
 -- ---- two disks, of which one is open
@@ -207,24 +205,16 @@ module _ (k : Known) (start : Option Base) (blocks : List (List Entry)) (knows :
           other_quiet2 = subst IsSettled (sym other2) other_quiet
 
           given_image : (h : History) → PairFor a.seen b.seen h → (image : List ℕ) → MayLeave (choice x a2 b2) image → StandsIn k.book.floor h (choice x b2 a2).seen image
-          given_image h p image left = subst (λ (o : State). StandsIn k.book.floor h o.seen image) (sym other2) (by_target (last_target h) refl) where
-            ends : EndsAs k.book k.places h
-            ends = ends_here h p
+          given_image h p image left = subst (λ (o : State). StandsIn k.book.floor h o.seen image) (sym other2) (by_purge k.book k.places h ends
+              (λ same.
+              let now = meanwhile h ends cut_quiet before.stands image left in
+              record { stands = now.0; floor_is = floors k.book k.places h ends image now.0 same; beside = subst (λ (e : Edition). IsBeside h e (choice x b1 a1).seen) (sym now.1) before.beside })
+              (λ none. subst (StandsIn k.book.floor h (choice x b1 a1).seen) (sym (image_of (choice x a1 b1) image cut_quiet (subst (λ (s : State). MayLeave s image) (shown h (are_of k.book k.places h ends) none) left))) before)) where
+                ends : EndsAs k.book k.places h
+                ends = ends_here h p
 
-            before : StandsIn k.book.floor h (choice x b1 a1).seen (choice x a1 b1).seen
-            before = cut_image h p (choice x a1 b1).seen (left_own (choice x a1 b1) cut_quiet)
-
-            by_target : (t : Option ℕ) → last_target h ≡ t → StandsIn k.book.floor h (choice x b1 a1).seen image
-            by_target None is =
-                subst (StandsIn k.book.floor h (choice x b1 a1).seen) (sym (image_of (choice x a1 b1) image cut_quiet (subst (λ (s : State). MayLeave s image) (shown h (are_of k.book k.places h ends) is) left))) before
-            by_target (Some n) is =
-                let target = target_is h ends.serves.stands.lawful n is in
-                let now = meanwhile h ends cut_quiet before.stands image left in
-                record {
-                  stands = now.0;
-                  floor_is = target_at now.0.floor h n now.0.begins target ∙ sym (target_at k.book.floor h n ends.begins target);
-                  beside = subst (λ (e : Edition). IsBeside h e (choice x b1 a1).seen) (sym now.1) before.beside;
-                }
+                before : StandsIn k.book.floor h (choice x b1 a1).seen (choice x a1 b1).seen
+                before = cut_image h p (choice x a1 b1).seen (left_own (choice x a1 b1) cut_quiet)
 
           pub given_pairs : PairStandsStill a b a2 b2
           given_pairs h p image_a image_b la lb =

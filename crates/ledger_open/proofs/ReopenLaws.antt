@@ -11,7 +11,7 @@ use Rattle.pseudo_genesis.specs.Bases.{base_spelling}
 use Rattle.pseudo_genesis.specs.declared.base.Base.{Base}
 use Rattle.twin_file.specs.Twin.{choice, open_of, IsTaken, next_generation}
 use Rattle.ledger_open.specs.Cutting.{gate_behind}
-use Rattle.ledger_open.specs.Erasing.{ErasesOne, given_up}
+use Rattle.ledger_open.specs.Erasing.{ErasesSome, given_up}
 use Rattle.ledger_open.specs.Opening.{GoesOn, Known, AreSettled}
 use Rattle.block_file.specs.Places.{after_at}
 use Rattle.ledger_open.specs.Purging.{copied_file}
@@ -62,8 +62,8 @@ module _ (in_a : Bool) (k : Known) (start : Option Base) (blocks : List (List En
   same_place : take (r.read.known.gate + 1) old ≡ take (was.gate + 1) old
   same_place = ap (λ (n : ℕ). take (n + 1) old) r.read.tail
 
-  one : ErasesOne r.read.known.places (take (r.read.known.gate + 1) old) r.bytes
-  one = subst (λ (l : List ℕ). ErasesOne r.read.known.places l r.bytes) (sym same_place) r.erased.one
+  some : ErasesSome r.read.known.places (take (r.read.known.gate + 1) old) r.bytes
+  some = subst (λ (l : List ℕ). ErasesSome r.read.known.places l r.bytes) (sym same_place) r.erased.some
 
   -- ---- .. is tidy
 
@@ -84,23 +84,23 @@ module _ (in_a : Bool) (k : Known) (start : Option Base) (blocks : List (List En
   tidy_file tail = by_left r.left where
     by_left : left_as → IsTidyFile (open_of in_a new_a new_b)
     by_left (inl y) =
-        tidy_at (open_of in_a new_a new_b) r.bytes r.read.known.gate y.open_is (r.read.tail ∙ sym (ap (λ (f : OpenFile). f.gate) y.same)) (clean.bytes_shut r.read.known was.start was.blocks old r.read.knows r.read.has r.bytes one)
-        (clean.bytes_size r.read.known was.start was.blocks old r.read.knows r.read.has r.bytes one)
+        tidy_at (open_of in_a new_a new_b) r.bytes r.read.known.gate y.open_is (r.read.tail ∙ sym (ap (λ (f : OpenFile). f.gate) y.same)) (clean.bytes_shut r.read.known was.start was.blocks old r.read.knows r.read.has r.bytes some)
+        (clean.bytes_size r.read.known was.start was.blocks old r.read.knows r.read.has r.bytes some)
     by_left (inr m) =
         let g = next_generation (generation_of old) in
         let from = gate_behind (floor_from was.start) m.front in
         let at : after_at (64 + length (base_spelling m.base)) blocks ≡ place = ap (λ (s : Option Base). gate_behind (floor_from s) blocks) (sym m.start_is) ∙ sym tail in
         tidy_at (open_of in_a new_a new_b) (copied_file g (base_spelling m.base) from r.read.known.gate r.bytes) (after_at (64 + length (base_spelling m.base)) blocks)
         (m.open_is ∙ ap (λ (n : ℕ). settled_state (copied_file g (base_spelling m.base) from n r.bytes)) (sym r.read.tail)) at
-        (clean.copy_shut r.read.known was.start was.blocks old r.read.knows r.read.has r.bytes one g (base_spelling m.base) m.front blocks m.are)
-        (clean.copy_size r.read.known was.start was.blocks old r.read.knows r.read.has r.bytes one g (base_spelling m.base) m.front blocks m.are)
+        (clean.copy_shut r.read.known was.start was.blocks old r.read.knows r.read.has r.bytes some g (base_spelling m.base) m.front blocks m.are)
+        (clean.copy_size r.read.known was.start was.blocks old r.read.knows r.read.has r.bytes some g (base_spelling m.base) m.front blocks m.are)
 
   -- ---- .. and clean for what it stood for
 
   clean_file : (h : History) → StandsFor old h → GoesOn was.start was.blocks h → IsClean (open_of in_a new_a new_b).seen h
   clean_file h s on = by_left r.left where
-    given_is : r.bytes ≡ given_up (floor_from was.start) was.blocks (take (r.read.known.gate + 1) old)
-    given_is = r.erased.hidden h on ∙ ap (given_up (floor_from was.start) was.blocks) (sym same_place)
+    given_is : r.bytes ≡ given_up h (floor_from was.start) was.blocks (take (r.read.known.gate + 1) old)
+    given_is = r.erased.hidden h on ∙ ap (given_up h (floor_from was.start) was.blocks) (sym same_place)
 
     by_left : left_as → IsClean (open_of in_a new_a new_b).seen h
     by_left (inl y) =
@@ -125,7 +125,7 @@ module _ (in_a : Bool) (k : Known) (start : Option Base) (blocks : List (List En
     by_left : left_as → (in_a ≡ was.in_a) × (open_of in_a new_a new_b ≡ settled_state old)
     by_left (inl y) = (
       ap (λ (f : OpenFile). f.in_a) y.same,
-      y.open_is ∙ ap settled_state (r.erased.hidden h on ∙ ap (given_up (floor_from was.start) was.blocks) (sym same_place) ∙ clean.clean_same r.read.known was.start was.blocks old r.read.knows r.read.has h c),
+      y.open_is ∙ ap settled_state (r.erased.hidden h on ∙ ap (given_up h (floor_from was.start) was.blocks) (sym same_place) ∙ clean.clean_same r.read.known was.start was.blocks old r.read.knows r.read.has h c),
     )
     by_left (inr m) = absurd (omega (arith, m.before, m.point, clean.clean_point r.read.known was.start was.blocks old r.read.knows r.read.has h c))
 
@@ -187,7 +187,7 @@ module _ (k : Known) (in_a : Bool) (start : Option Base) (blocks : List (List En
   bytes_front : take begins r.bytes ≡ take begins was_file
   bytes_front =
       clean.erased_front r.read.known r.was.start r.was.blocks was_file r.read.knows r.read.has r.bytes
-      (subst (λ (l : List ℕ). ErasesOne r.read.known.places l r.bytes) (sym (ap (λ (n : ℕ). take (n + 1) was_file) r.read.tail)) r.erased.one)
+      (subst (λ (l : List ℕ). ErasesSome r.read.known.places l r.bytes) (sym (ap (λ (n : ℕ). take (n + 1) was_file) r.read.tail)) r.erased.some)
 
   front_same : take begins (open_of in_a new_a new_b).seen ≡ take begins was_file
   front_same = ap (λ (s : State). take begins s.seen) stays.open_is ∙ bytes_front

@@ -1,4 +1,4 @@
--- What giving up a content leaves as it was, whatever the book says.
+-- What giving up contents leaves as it was, whatever the book says.
 use Rattle.std.specs.Prelude.{All, slice_get}
 use Rattle.std.proofs.Common.{◌≡◌, ℕ, zero, suc, ◌+◌, ◌-◌, ◌<◌, ◌≤◌, List, [], ◌∷◌, length, take, drop, Some, refl, sym, ◌∙◌, ap, subst, arith}
 use Rattle.std.proofs.lemmas.List.{drop-drop, take-take}
@@ -28,3 +28,6 @@ outside_wider low high at n old new first last out =
 
 pub outside_same : (low n : ℕ) (file : List ℕ) → Outside low n file file
 outside_same low n file = record { size = refl; before = refl; after = refl }
+
+pub outside_more : (low n : ℕ) (old mid new : List ℕ) → Outside low n old mid → Outside low n mid new → Outside low n old new
+outside_more low n old mid new x y = record { size = y.size ∙ x.size; before = y.before ∙ x.before; after = y.after ∙ x.after }

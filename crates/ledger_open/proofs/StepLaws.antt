@@ -9,7 +9,7 @@ use Rattle.twin_file.specs.Images.{LeavesFront}
 use Rattle.twin_file.specs.Twin.{choice}
 use Rattle.twin_file.specs.Which.{in_a_of, file_of}
 use Rattle.twin_file.specs.declared.twin.Twin.{Twin}
-use Rattle.ledger_open.specs.Erasing.{StandsMeanwhile, LeavesShown, LeavesErased, LeavesRest, WritesZeros, WritesOne}
+use Rattle.ledger_open.specs.Erasing.{StandsMeanwhile, LeavesShown, LeavesErased, LeavesRest, WritesZeros, WritesSome}
 use Rattle.ledger_open.specs.Opening.{known_from, AreUnchanged}
 use Rattle.ledger_open.specs.Purging.{Ledger, ledger_at, other_disk, StandsOpen, FinishesPurge, StandsPurging, IsPurgedStill, Purges}
 use Rattle.ledger_open.specs.Heads.{edition_in, edition_of}
@@ -84,7 +84,7 @@ module _ (tells : Bool) (o : Opened) (a b : DiskState) (read : WasReadHere tells
 
       -- the purge is finished
       module _ (bytes2 : IsTrue tells → WritesZeros o.book o.places.list (choice (in_a_of t) a1 b1).bytes (choice (in_a_of t) a2 b2).bytes)
-          (one2 : IsTrue tells → WritesOne o.places.list (choice (in_a_of t) a1 b1).bytes (choice (in_a_of t) a2 b2).bytes)
+          (some2 : IsTrue tells → WritesSome o.places.list (choice (in_a_of t) a1 b1).bytes (choice (in_a_of t) a2 b2).bytes)
           (rest2 : IsTrue tells → LeavesRest o.places.list (choice (in_a_of t) a1 b1).bytes (choice (in_a_of t) a2 b2).bytes) (p : Opened) (f : p ≡ o) (q : Opened) (a3 b3 : DiskState)
           (images3 : IsTrue tells → StandsPurging (ledger_at p a2.bytes b2.bytes) a3.bytes b3.bytes) (still3 : IsTrue tells → IsPurgedStill (ledger_at p a2.bytes b2.bytes) a3.bytes b3.bytes)
           (same3 : p.book.point ≤ p.book.floor → q ≡ p) where
@@ -96,7 +96,7 @@ module _ (tells : Bool) (o : Opened) (a b : DiskState) (read : WasReadHere tells
 
         quiet : IsTrue tells → IsSettled new
         quiet told =
-            let w = on_twin (WritesOne o.places.list) t o.twin e a1 b1 a2 b2 (one2 told) (settled_is mid (take (place + 1) old.seen) (cut told)) in
+            let w = on_twin (WritesSome o.places.list) t o.twin e a1 b1 a2 b2 (some2 told) (settled_is mid (take (place + 1) old.seen) (cut told)) in
             settled_is new w.0 w.2
 
         rest : IsTrue tells → LeavesRest o.places.list mid new
@@ -150,7 +150,7 @@ module _ (tells : Bool) (o : Opened) (a b : DiskState) (read : WasReadHere tells
           done told = record {
             has = read.has told;
             here = read.here told;
-            erased = cut_erased _ read.start read.blocks read.knows x old.seen mid new (cut told) (on_twin (WritesZeros o.book o.places.list) t o.twin e a1 b1 a2 b2 (bytes2 told)) (on_twin (WritesOne o.places.list) t o.twin e a1 b1 a2 b2 (one2 told));
+            erased = cut_erased _ read.start read.blocks read.knows x old.seen mid new (cut told) (on_twin (WritesZeros o.book o.places.list) t o.twin e a1 b1 a2 b2 (bytes2 told)) (on_twin (WritesSome o.places.list) t o.twin e a1 b1 a2 b2 (some2 told));
             quiet = quiet told;
             other_quiet = subst IsSettled (sym (left2 ∙ left1)) (settled_both x b.bytes a.bytes (read.here told).quiet_b (read.here told).quiet_a);
             edition =

@@ -1,31 +1,22 @@
--- What the last journal hides, by its header.
+-- What the last journal gives up, by its header.
 use Rattle.std.specs.List.{list_any}
-use Rattle.std.specs.Prelude.{◌==◌, max, slice_get}
+use Rattle.std.specs.Prelude.{◌==◌, not, max, slice_get}
 use Rattle.std.proofs.Common.{◌≡◌, ◌⊎◌, inl, inr, ℕ, zero, suc, ◌+◌, ◌-◌, ◌<◌, ◌≤◌, Bool, true, false, cond, ◌&&◌, ◌||◌, List, [], ◌∷◌, ◌++◌, length, take, Option, None, Some, refl, sym, ◌∙◌, ap, subst, arith, length-append}
-use Rattle.std.proofs.lemmas.Bool.{eqb-true, eq-eqb, true≢false}
+use Rattle.std.proofs.lemmas.Bool.{eqb-true, eq-eqb, true≢false, and_parts}
 use Rattle.std.proofs.lemmas.List.{take_at}
 use Rattle.std.proofs.lemmas.List.Folds.{list_any-append}
-use Rattle.std.proofs.lemmas.Option.{none-some}
+use Rattle.std.proofs.lemmas.Option.{none-some, same_Some}
 use Rattle.journal_record.specs.Entry.{Entry}
 use Rattle.journal_record.specs.declared.header.Kind.{Kind}
 use Rattle.journal_record.specs.declared.header.Kind.TheVariants.{Genesis, Content, Member, Time, Occult, Purge}
 use Rattle.ledger_model.proofs.LawfulLaws.{AreFrom, lawful_from, some_journal, two_points}
 use Rattle.ledger_model.specs.History.{History, history, journals, size, point, greatest_point, is_purge}
 use Rattle.ledger_model.specs.Lawful.{AreLawful, AreNext, IsNext, IsNextOf, IsNextOccult}
+use Rattle.ledger_model.specs.Limits.{real_limits}
 use Rattle.ledger_model.specs.Targets.{is_occult, hides, is_hidden_by, is_hidden}
-use Rattle.ledger_open.specs.Erasing.{target_of, last_target}
+use Rattle.ledger_open.specs.Erasing.{is_given_up}
 use Rattle.ledger_open.specs.Standing.{hidden_before, point_before}
 use Rattle.ledger_open.proofs.NextLaws.{next_one}
-
--- the last journal hides the content of this one, and only it does
-pub record IsTarget (h : History) (n : ℕ) : Type 0 where
-  pub within : n < size h
-  -- no purge has taken it, and the last journal, which hides it, is none
-  pub kept : point_before h ≤ n
-  pub point_is : point h ≡ point_before h
-  pub hidden : is_hidden h n ≡ true
-  pub first : hidden_before h n ≡ false
-  pub only : (m : ℕ) → is_hidden h m ≡ true → (m ≡ n) ⊎ (hidden_before h m ≡ true)
 
 -- ---- the last of some journals
 
@@ -62,25 +53,16 @@ got_front (suc n) (x ∷ xs) ys lt = got_front n xs ys (omega (arith, lt))
 
 -- ---- what the last journal hides, and what others hid before it
 
-or_parts : (v w : Bool) → (v || w) ≡ true → (v ≡ true) ⊎ (w ≡ true)
-or_parts true w e = inl refl
-or_parts false w e = inr e
-
 or_false : (v : Bool) → (v || false) ≡ v
 or_false true = refl
 or_false false = refl
 
-or_true : (v : Bool) → (v || true) ≡ true
-or_true true = refl
-or_true false = refl
-
-some_target : (k : Kind) (a n : ℕ) → (is_occult k && a == n) ≡ true → (is_occult k ≡ true) × (a ≡ n)
-some_target Genesis a n e = absurd (true≢false (sym e))
-some_target Content a n e = absurd (true≢false (sym e))
-some_target Member a n e = absurd (true≢false (sym e))
-some_target Time a n e = absurd (true≢false (sym e))
-some_target Occult a n e = (refl, eqb-true a n e)
-some_target Purge a n e = absurd (true≢false (sym e))
+-- hidden by the last one, and by none before
+first_hides : (v w : Bool) → (w ≡ true → v ≡ false) → ((v || w) && not v) ≡ w
+first_hides true true shown = absurd (true≢false (shown refl))
+first_hides true false shown = refl
+first_hides false true shown = refl
+first_hides false false shown = refl
 
 occult_is : (k : Kind) → is_occult k ≡ true → k ≡ Occult
 occult_is Genesis e = absurd (true≢false (sym e))
@@ -102,9 +84,6 @@ module _ (h : History) (lawful : AreLawful (journals h)) where
       let at : size h - 1 ≡ length l.before = omega (arith, size_is) in
       ap (λ (k : ℕ). slice_get (journals h) k) at ∙ ap (λ (es : List Entry). slice_get es (length l.before)) l.is ∙ last_got l.before l.last
 
-  target_is_last : last_target h ≡ cond (is_occult l.last.header.kind) (Some l.last.header.a) None
-  target_is_last = ap target_of last_at
-
   -- there is a last one
   pub last_is : (e : Entry) × (slice_get (journals h) (size h - 1) ≡ Some e)
   last_is = (l.last, last_at)
@@ -124,27 +103,12 @@ module _ (h : History) (lawful : AreLawful (journals h)) where
         ap (λ (t : Option Entry). is_hidden_by (journals h) t) at ∙ ap (list_any (hides e)) l.is ∙ list_any-append (hides e) l.before (l.last ∷ [])
         ∙ ap (λ (v : Bool). v || (hides e l.last || false)) (sym before_is) ∙ ap (λ (v : Bool). hidden_before h n || v) (or_false (hides e l.last))
 
-  -- what is hidden is there
-  hidden_there : (n : ℕ) → is_hidden h n ≡ true → (e : Entry) × (slice_get (journals h) n ≡ Some e)
-  hidden_there n t = by_got (slice_get (journals h) n) refl t where
-    by_got : (o : Option Entry) → slice_get (journals h) n ≡ o → is_hidden_by (journals h) o ≡ true → (e : Entry) × (slice_get (journals h) n ≡ Some e)
-    by_got None is t = absurd (true≢false (sym t))
-    by_got (Some e) is t = (e, is)
-
-  -- where the last journal hides none, all that is hidden was so before
-  pub none_new : last_target h ≡ None → (n : ℕ) → is_hidden h n ≡ true → hidden_before h n ≡ true
-  none_new none n t =
-      let there = hidden_there n t in
-      elim (or_parts (hidden_before h n) (hides there.0 l.last) (sym (hidden_is n there.0 there.1) ∙ t)) [
-        | inl before ↦ before
-        | inr now ↦
-            let own = some_target l.last.header.kind l.last.header.a there.0.header.jsn now in
-            absurd (none-some l.last.header.a (sym none ∙ target_is_last ∙ ap (λ (v : Bool). cond v (Some l.last.header.a) None) own.0))
-      ]
-
   -- the last journal is the next one behind the others
   last_next : IsNext (history [] l.before) l.last.header
   last_next = next_one [] l.before l.last [] (subst (λ (es : List Entry). AreNext [] es) l.is lawful.next)
+
+  pub size_fits : size h ≤ real_limits.size
+  size_fits = omega (arith, size_is, last_next.jsn, last_next.below)
 
   -- an occult that may be the next journal hides one that is kept, and that no other hides
   occult_next : (x : Kind) → x ≡ Occult → IsNextOf (history [] l.before) l.last.header x → IsNextOccult (history [] l.before) l.last.header
@@ -165,32 +129,53 @@ module _ (h : History) (lawful : AreLawful (journals h)) where
   last_shown is =
       ap greatest_point l.is ∙ two_points l.before (l.last ∷ []) ∙ ap (λ (k : Kind). max (greatest_point l.before) (max 0 (cond (is_purge k) l.last.header.a 0))) is ∙ omega arith ∙ sym (ap greatest_point front_is)
 
-  -- .. and where it hides one, that one was shown before, and it is the only one
-  pub target_is : (n : ℕ) → last_target h ≡ Some n → IsTarget h n
-  target_is n is = by_kind (is_occult l.last.header.kind) refl where
-    by_kind : (v : Bool) → is_occult l.last.header.kind ≡ v → IsTarget h n
-    by_kind false kind = let no : ⊥ = none-some n (sym (target_is_last ∙ ap (λ (v : Bool). cond v (Some l.last.header.a) None) kind) ∙ is) in absurd no
-    by_kind true kind =
-        let a_is : l.last.header.a ≡ n = cc (sym (target_is_last ∙ ap (λ (v : Bool). cond v (Some l.last.header.a) None) kind) ∙ is) in
-        let own = occult_next l.last.header.kind (occult_is l.last.header.kind kind) last_next.own in
-        let within : n < size h = omega (arith, own.before, a_is, size_is) in
-        let there = got_there n (journals h) within in
-        record {
-          within = within;
-          kept = omega (arith, own.kept, a_is, before_point);
-          point_is = last_shown (occult_is l.last.header.kind kind);
-          hidden =
-              hidden_is n there.0 there.1
-              ∙ ap (λ (v : Bool). hidden_before h n || (v && l.last.header.a == there.0.header.jsn)) kind
-              ∙ ap (λ (v : Bool). hidden_before h n || v) (eq-eqb l.last.header.a there.0.header.jsn (a_is ∙ sym (jsn_is n there.0 there.1))) ∙ or_true (hidden_before h n);
-          first =
-              ap (λ (es : List Entry). is_hidden_by es (slice_get (journals h) n)) front_is ∙ ap (λ (es : List Entry). is_hidden_by l.before (slice_get es n)) l.is
-              ∙ ap (λ (t : Option Entry). is_hidden_by l.before t) (got_front n l.before (l.last ∷ []) (omega (arith, own.before, a_is)))
-              ∙ subst (λ (m : ℕ). is_hidden (history [] l.before) m ≡ false) a_is own.shown;
-          only = λ m z.
-              let other = hidden_there m z in
-              elim (or_parts (hidden_before h m) (hides other.0 l.last) (sym (hidden_is m other.0 other.1) ∙ z)) [
-                | inl before ↦ inr before
-                | inr now ↦ inl (sym (jsn_is m other.0 other.1) ∙ sym (some_target l.last.header.kind l.last.header.a other.0.header.jsn now).1 ∙ a_is)
-              ];
-        }
+  -- the last journal, where it is an occult that names this one
+  abbrev names : ℕ → Bool
+  names n = is_occult l.last.header.kind && l.last.header.a == n
+
+  named : (n : ℕ) → names n ≡ true → IsNextOccult (history [] l.before) l.last.header × (l.last.header.a ≡ n)
+  named n is =
+      let both = and_parts (is_occult l.last.header.kind) (l.last.header.a == n) is in
+      (occult_next l.last.header.kind (occult_is l.last.header.kind both.0) last_next.own, eqb-true l.last.header.a n both.1)
+
+  -- .. nothing hid that one's content before
+  shown_before : (n : ℕ) → names n ≡ true → hidden_before h n ≡ false
+  shown_before n is =
+      let own = named n is in
+      ap (λ (es : List Entry). is_hidden_by es (slice_get (journals h) n)) front_is ∙ ap (λ (es : List Entry). is_hidden_by l.before (slice_get es n)) l.is
+      ∙ ap (λ (t : Option Entry). is_hidden_by l.before t) (got_front n l.before (l.last ∷ []) (omega (arith, own.0.before, own.1)))
+      ∙ subst (λ (m : ℕ). is_hidden (history [] l.before) m ≡ false) own.1 own.0.shown
+
+  -- .. and that one is there
+  absent : (n : ℕ) → slice_get (journals h) n ≡ None → names n ≡ false
+  absent n none = elim (names n) as (λ v. names n ≡ v → names n ≡ false) [
+    | true ↦ λ is.
+        let own = named n is in
+        let there = got_there n (journals h) (omega (arith, own.0.before, own.1, size_is)) in
+        absurd (none-some there.0 (sym none ∙ there.1))
+    | false ↦ λ is. is
+  ] refl
+
+  -- a content is given up where the last journal is an occult and names its journal
+  given_by_last : (n : ℕ) → is_given_up h n ≡ names n
+  given_by_last n = by_got (slice_get (journals h) n) refl where
+    by_got : (t : Option Entry) → slice_get (journals h) n ≡ t → is_given_up h n ≡ names n
+    by_got None at = ap (λ (t : Option Entry). is_hidden_by (journals h) t && not (is_hidden_by (take (size h - 1) (journals h)) t)) at ∙ sym (absent n at)
+    by_got (Some e) at =
+        let hides_is : hides e l.last ≡ names n = ap (λ (m : ℕ). is_occult l.last.header.kind && l.last.header.a == m) (jsn_is n e at) in
+        ap (λ (v : Bool). v && not (hidden_before h n)) (hidden_is n e at ∙ ap (λ (v : Bool). hidden_before h n || v) hides_is)
+        ∙ first_hides (hidden_before h n) (names n) (shown_before n)
+
+  -- by any journal that is the last one
+  pub given_is : (e : Entry) → slice_get (journals h) (size h - 1) ≡ Some e → (n : ℕ) → is_given_up h n ≡ (is_occult e.header.kind && e.header.a == n)
+  given_is e at n = given_by_last n ∙ ap (λ (x : Entry). is_occult x.header.kind && x.header.a == n) same where
+    same : l.last ≡ e
+    same = same_Some l.last e (sym last_at ∙ at)
+
+  -- .. and no purge has taken it, nor purges the last journal
+  pub given_kept : (n : ℕ) → is_given_up h n ≡ true → (point h ≡ point_before h) × (point h ≤ n)
+  given_kept n is =
+      let names_is = sym (given_by_last n) ∙ is in
+      let own = named n names_is in
+      let same = last_shown (occult_is l.last.header.kind (and_parts (is_occult l.last.header.kind) (l.last.header.a == n) names_is).0) in
+      (same, omega (arith, same, own.0.kept, own.1, before_point))

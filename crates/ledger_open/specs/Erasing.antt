@@ -1,15 +1,15 @@
--- How the content that the last journal hides is given up.
+-- How the contents that the last journal hides are given up.
 use Rattle.std.specs.List.{Contains}
-use Rattle.std.specs.Prelude.{◌≡◌, ◌⊎◌, ℕ, ◌+◌, ◌-◌, ◌≤◌, if◌then◌else◌, All, List, [], Bool, length, map, take, drop, get_or, replicate, slice_get, Option, None, Some}
+use Rattle.std.specs.Prelude.{◌≡◌, ◌⊎◌, ℕ, ◌+◌, ◌-◌, ◌≤◌, ◌&&◌, if◌then◌else◌, All, List, [], ◌∷◌, Bool, false, not, length, map, take, drop, get_or, replicate}
 use Rattle.block_file.specs.File.{IsSettled}
 use Rattle.journal_record.specs.Entry.{Entry}
 use Rattle.ledger_book.specs.Books.{Kept, Serves}
 use Rattle.ledger_disk.specs.Disk.{State, MayLeave, overlay, settled_state}
 use Rattle.ledger_disk.specs.Guards.{Outside}
-use Rattle.ledger_model.specs.History.{History, history, journals, size, point}
-use Rattle.ledger_model.specs.Targets.{is_occult}
+use Rattle.ledger_model.specs.History.{History, point}
+use Rattle.ledger_model.specs.Targets.{is_hidden}
 use Rattle.ledger_open.specs.Places.{places_from}
-use Rattle.ledger_open.specs.Standing.{Floor, floor_behind, point_before, Parts, AreZeros, StandsBy, StandsFor, IsErased}
+use Rattle.ledger_open.specs.Standing.{Floor, floor_behind, hidden_before, point_before, Parts, AreZeros, StandsBy, StandsFor, IsErased}
 use Rattle.block_file.specs.declared.place.PlaceAt.{PlaceAt}
 
 -- ---- contents in a file
@@ -40,25 +40,30 @@ abbrev pub IsZeroedIn : {floor : ℕ} {zeros : ℕ → Bool} {image : List ℕ} 
 IsZeroedIn {h = h} file n new =
     AreZeros (take (content_size (floor_behind h file.parts.gone) file.parts.kept n) (drop (content_place (floor_behind h file.parts.gone) file.parts.kept n) new))
 
--- ---- the content that the last journal hides
+-- a file with zeros in place of the contents at these places, one after the other
+abbrev pub with_zeros : List PlaceAt → List ℕ → List ℕ
+with_zeros [] file = file
+with_zeros (p ∷ places) file = with_zeros places (overlay p.content_at (replicate p.content_len 0) file)
 
--- the number of the journal whose content a journal hides, where it hides one
-abbrev pub target_of : Option Entry → Option ℕ
-target_of None = None
-target_of (Some e) = if is_occult e.header.kind then Some e.header.a else None
+-- ---- the contents that the last journal hides
 
--- the number of the journal whose content the last journal of a history hides, where it hides one
-abbrev pub last_target : History → Option ℕ
-last_target h = target_of (slice_get (journals h) (size h - 1))
+-- whether the content of journal n is given up: the last journal of the history hides it, and none before that does
+abbrev pub is_given_up : History → ℕ → Bool
+is_given_up h n = is_hidden h n && not (hidden_before h n)
 
--- a file that has these blocks and begins at this floor, with zeros in place of the content of a journal, where one is named
-abbrev pub with_zeros : Floor → List (List Entry) → Option ℕ → List ℕ → List ℕ
-with_zeros floor blocks None file = file
-with_zeros floor blocks (Some n) file = overlay (content_place floor blocks n) (replicate (content_size floor blocks n) 0) file
+-- of the places of journals from this number on, those of journals whose numbers are such
+abbrev pub places_of : (ℕ → Bool) → ℕ → List PlaceAt → List PlaceAt
+places_of is first [] = []
+places_of is first (p ∷ places) =
+    if is first then p ∷ places_of is (first + 1) places else places_of is (first + 1) places
 
--- a file that has these blocks and begins at this floor, with zeros in place of the content that their last journal hides
-abbrev pub given_up : Floor → List (List Entry) → List ℕ → List ℕ
-given_up floor blocks file = with_zeros floor blocks (last_target (history blocks [])) file
+-- a file that begins at this floor and has these blocks of a history, with zeros in place of each content that is given up
+abbrev pub given_up : History → Floor → List (List Entry) → List ℕ → List ℕ
+given_up h floor blocks file = with_zeros (places_of (is_given_up h) floor.first (places_from floor blocks)) file
+
+-- the same of a file that stands for a history
+abbrev pub given_up_in : {floor : ℕ} {zeros : ℕ → Bool} {image : List ℕ} {h : History} → StandsBy floor zeros image h → List ℕ → List ℕ
+given_up_in {h = h} stands file = given_up h (floor_behind h stands.parts.gone) stands.parts.kept file
 
 -- ---- a ledger in memory
 
@@ -79,14 +84,6 @@ pub record AreOf (book : Kept) (places : List PlaceAt) (h : History) : Type 0 wh
   pub places_are : places ≡ places_from (floor_behind h parts.gone) parts.kept
   pub none : h.waiting ≡ []
 
--- at this place stands the content that the last journal of these blocks hides, in a file that begins at this floor; or
--- there is no place, and it hides none
-abbrev pub IsOpenContent : Floor → List (List Entry) → Option PlaceAt → Type 0
-IsOpenContent floor blocks None = last_target (history blocks []) ≡ None
-IsOpenContent floor blocks (Some p) =
-    (n : ℕ) × (last_target (history blocks []) ≡ Some n) × (p.content_at ≡ content_place floor blocks n)
-    × (p.content_len ≡ content_size floor blocks n)
-
 -- of a file that stood for this history all that it hides is gone for good, and the file is as long as before
 pub record IsGivenUp (old new : State) (h : History) : Type 0 where
   pub quiet : IsSettled new
@@ -95,27 +92,28 @@ pub record IsGivenUp (old new : State) (h : History) : Type 0 where
 
 -- ---- the disk of an open file with this book and these places, before and after what the last journal hides is given up
 
--- what giving a content up leaves of a file that begins at the point: all that its history hides is gone
+-- what giving them up leaves of a file that begins at the point: all that its history hides is gone
 abbrev pub GivesUp : Kept → List PlaceAt → State → State → Type 0
 GivesUp book places old new =
     (h : History) → EndsAs book places h → IsSettled old → (stands : StandsFor old.seen h) → stands.floor ≡ point h
     → IsGivenUp old new h
 
--- zeros were written over the content that the last journal hides, and nothing else was
+-- zeros were written over each content that is given up, and nothing else was
 abbrev pub WritesZeros : Kept → List PlaceAt → State → State → Type 0
 WritesZeros book places old new =
     (h : History) (are : AreOf book places h) → IsSettled old
-    → new ≡ settled_state (given_up (floor_behind h are.parts.gone) are.parts.kept old.seen)
+    → new ≡ settled_state (given_up h (floor_behind h are.parts.gone) are.parts.kept old.seen)
 
--- while a content is given up, a crash at any time leaves a file of the same edition that stands for the history
+-- while contents are given up, a crash at any time leaves a file of the same edition that stands for the history
 abbrev pub StandsMeanwhile : Kept → List PlaceAt → State → State → Type 0
 StandsMeanwhile book places old new =
     (h : History) → EndsAs book places h → IsSettled old → (stands : StandsFor old.seen h)
     → (image : List ℕ) → MayLeave new image → (s : StandsFor image h) × (s.file.edition ≡ stands.file.edition)
 
--- where the last journal hides nothing, nothing was written
+-- where no content is given up, nothing was written
 abbrev pub LeavesShown : Kept → List PlaceAt → State → State → Type 0
-LeavesShown book places old new = (h : History) → AreOf book places h → last_target h ≡ None → new ≡ old
+LeavesShown book places old new =
+    (h : History) → AreOf book places h → ((n : ℕ) → is_given_up h n ≡ false) → new ≡ old
 
 -- where all that is hidden was gone before, nothing was written
 abbrev pub LeavesErased : Kept → List PlaceAt → State → State → Type 0
@@ -126,10 +124,13 @@ LeavesErased book places old new =
 abbrev pub LeavesRest : List PlaceAt → State → State → Type 0
 LeavesRest places old new = (low high : ℕ) → AreBetween low high places → Outside low (high - low) old.seen new.seen
 
--- the file as it was, or with zeros for one of the contents at these places
-abbrev pub ErasesOne : List PlaceAt → List ℕ → List ℕ → Type 0
-ErasesOne places old new = (new ≡ old) ⊎ ((p : PlaceAt) × Contains places p × (new ≡ overlay p.content_at (replicate p.content_len 0) old))
+-- the file as it was, but with zeros for some of the contents at these places
+pub record ErasesSome (places : List PlaceAt) (old new : List ℕ) : Type 0 where
+  pub some : List PlaceAt
+  pub listed : All (Contains places) some
+  pub is : new ≡ with_zeros some old
 
--- a disk has the file as it was, or with zeros for one of the contents at these places, and nothing is pending
-abbrev pub WritesOne : List PlaceAt → State → State → Type 0
-WritesOne places old new = IsSettled old → (file : List ℕ) × ErasesOne places old.seen file × (new ≡ settled_state file)
+-- a disk has the file as it was, but with zeros for some of the contents at these places, and nothing is pending
+abbrev pub WritesSome : List PlaceAt → State → State → Type 0
+WritesSome places old new =
+    IsSettled old → (file : List ℕ) × ErasesSome places old.seen file × (new ≡ settled_state file)

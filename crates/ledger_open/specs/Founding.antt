@@ -24,3 +24,7 @@ IsFoundedOrShut genesis a b = (IsShut a × IsShut b) ⊎ PairFor a b (new_ledger
 abbrev pub LeavesFoundedOrShut : Genesis → State → State → Type 0
 LeavesFoundedOrShut genesis a_new b_new =
     (image_a image_b : List ℕ) → MayLeave a_new image_a → MayLeave b_new image_b → IsFoundedOrShut genesis image_a image_b
+
+-- of two files that were shut every pair of images is so still, or stands for the new ledger
+abbrev pub StaysFoundedOrShut : Genesis → State → State → State → State → Type 0
+StaysFoundedOrShut genesis a b a_new b_new = IsShut a.seen → IsShut b.seen → LeavesFoundedOrShut genesis a_new b_new

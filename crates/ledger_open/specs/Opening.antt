@@ -2,7 +2,7 @@
 use Rattle.std.specs.Prelude.{◌≡◌, ◌⊎◌, ℕ, ◌+◌, Bool, false, IsTrue, List, [], length, take, drop, Option, Result, Err, MatchResult}
 use Rattle.block_file.specs.File.{IsSettled}
 use Rattle.block_file.specs.Head.{IsShut, HasHead, number_at}
-use Rattle.block_file.specs.FileView.{base_len_of, base_digest_of}
+use Rattle.block_file.specs.FileView.{base_len_of, base_digest_of, gate_of}
 use Rattle.block_file.specs.declared.file.BlockFile.{BlockFile}
 use Rattle.block_file.specs.declared.failure.FileErr.{FileErr}
 use Rattle.block_file.specs.declared.failure.FileErr.TheVariants as files
@@ -10,12 +10,13 @@ use Rattle.journal_record.specs.Blocks.{AreBlocks}
 use Rattle.journal_record.specs.Entry.{Entry}
 use Rattle.ledger_book.specs.Books.{Kept, Serves}
 use Rattle.ledger_bytes.specs.Causes.{count_after}
-use Rattle.ledger_disk.specs.Disk.{State, OneMore, settled_state}
+use Rattle.ledger_disk.specs.Disk.{State, DiskState, OneMore, settled_state}
 use Rattle.ledger_model.specs.History.{History, journals_of, greatest_point}
 use Rattle.ledger_model.specs.Lawful.{IsLawful}
 use Rattle.ledger_model.specs.Targets.{is_hidden}
 use Rattle.pseudo_genesis.specs.declared.base.Base.{Base}
 use Rattle.twin_file.specs.Twin.{open_of, IsTaken, IsReopenErr}
+use Rattle.twin_file.specs.Which.{file_of}
 use Rattle.ledger_open.specs.Damages.{IsDamage, IsReadTo}
 use Rattle.block_file.specs.Places.{places_at, after_at}
 use Rattle.ledger_open.specs.Heads.{Edition}
@@ -23,6 +24,7 @@ use Rattle.ledger_open.specs.Starts.{IsDecoded, IsBaseOf, AreLegal, HasOwnPurge}
 use Rattle.ledger_open.specs.Standing.{floor_from, HasBlocks, Parts, SameButHidden}
 use Rattle.ledger_open.specs.Taking.{Goes}
 use Rattle.ledger_open.specs.declared.failure.OpenErr.{OpenErr}
+use Rattle.ledger_open.specs.declared.opened.Opened.{Opened}
 use Rattle.block_file.specs.declared.place.PlaceAt.{PlaceAt}
 use Rattle.ledger_open.specs.declared.failure.OpenErr.TheVariants.{DiskFault, Damaged, Empty, Exists, NewerFormat, NoMemory}
 
@@ -37,6 +39,10 @@ pub record Known : Type 0 where
 -- what is known by this book and these places, where the next gate stands here
 abbrev pub known_from : Kept → List PlaceAt → ℕ → Known
 known_from book places gate = record { book = book; places = places; gate = gate }
+
+-- what is known of a ledger that is open
+abbrev pub known_in : Opened → Known
+known_in opened = known_from opened.book opened.places.list (gate_of (file_of opened.twin))
 
 -- This history goes on from the base, or begins, with these blocks, but for contents that are hidden: it is one of those
 -- that a file with this base and these blocks may be of.
@@ -205,3 +211,7 @@ WereSettled result a b = result ≡ Err DiskFault → IsSettled a × IsSettled b
 -- nothing was written to two files
 abbrev pub AreUnchanged : State → State → State → State → Type 0
 AreUnchanged a b a_new b_new = (a_new ≡ a) × (b_new ≡ b)
+
+-- what holds of the bytes of both disks, before and after a call
+abbrev pub OfBoth : (State → State → State → State → Type 0) → DiskState → DiskState → DiskState → DiskState → Type 0
+OfBoth holds a b a_new b_new = holds a.bytes b.bytes a_new.bytes b_new.bytes

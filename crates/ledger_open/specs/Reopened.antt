@@ -11,7 +11,7 @@ use Rattle.pseudo_genesis.specs.Bases.{HasCounts, base_spelling}
 use Rattle.pseudo_genesis.specs.declared.base.Base.{Base}
 use Rattle.twin_file.specs.Twin.{open_of, other_of, IsTaken, next_generation}
 use Rattle.ledger_open.specs.Carrying.{StaysNewer, WasCarried}
-use Rattle.ledger_open.specs.Erasing.{ErasesOne, given_up}
+use Rattle.ledger_open.specs.Erasing.{ErasesSome, given_up}
 use Rattle.ledger_open.specs.Heads.{Edition, edition_of}
 use Rattle.ledger_open.specs.Opening.{Known, Knows, GoesOn, HasFile, AreUnchanged}
 use Rattle.ledger_open.specs.Places.{places_from}
@@ -68,10 +68,10 @@ pub record WasReadHere (tells : Bool) (l : Ledger) : Type 0 where
   pub has : IsTrue tells → HasFile start blocks (open_disk l).seen
   pub here : IsTrue tells → IsHere l.in_a l.edition l.a l.b
 
--- A file was cut behind its tail gate, and zeros stand in it for what the last journal hides.
+-- A file was cut behind its tail gate, and zeros stand in it for what the last journal hides and none before it does.
 pub record IsCutAndErased (was : OpenFile) (places : List PlaceAt) (old new : List ℕ) : Type 0 where
-  pub one : ErasesOne places (take (was.gate + 1) old) new
-  pub hidden : (h : History) → GoesOn was.start was.blocks h → new ≡ given_up (floor_from was.start) was.blocks (take (was.gate + 1) old)
+  pub some : ErasesSome places (take (was.gate + 1) old) new
+  pub hidden : (h : History) → GoesOn was.start was.blocks h → new ≡ given_up h (floor_from was.start) was.blocks (take (was.gate + 1) old)
 
 -- the point of these blocks is where they begin: no purge is left undone
 abbrev pub IsAtPoint : Option Base → List (List Entry) → Type 0

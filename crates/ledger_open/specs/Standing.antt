@@ -173,7 +173,7 @@ pub record PairFor (a b : List ℕ) (h : History) : Type 0 where
   pub beside : IsBeside h stands.file.edition (other_of in_a a b)
 
 -- A pair of files as a session leaves it: it stands for the history, and the other file is empty, or the last journal is a
--- purge. What carrying a file over leaves meanwhile isn't among them.
+-- purge and the other file, which may be an older one or the beginning of a copy, is passed over.
 pub record PairOpen (a b : List ℕ) (h : History) : Type 0 where
   pub pair : PairFor a b h
   pub alone : (length (other_of pair.in_a a b) ≡ 0) ⊎ (point_before h ≢ point h)

@@ -1,55 +1,71 @@
 //! What the last journal hides is given up.
 
-ghost use Rattle.std.specs.Prelude.{◌≡◌, ◌+◌, ◌≤◌, ℕ, IsTrue, IfSome, IfErr, OnOk};
-ghost use Rattle.std.specs.List.{Contains};
+ghost use Rattle.std.specs.Prelude.{◌≡◌, ◌⊎◌, ◌+◌, ◌-◌, ◌<◌, ◌≤◌, ℕ, false, IsTrue, IfErr, OnOk, slice_get, option_copied, option_map};
 ghost use Rattle.block_file.specs.Head.{CountsAlone};
 ghost use Rattle.block_file.specs.FileView.{gate_of};
+ghost use Rattle.ledger_book.specs.Books.{Serves};
 ghost use Rattle.ledger_disk.specs.Disk.{KeepsLength};
-ghost use Rattle.ledger_model.specs.History.{History};
+ghost use Rattle.ledger_model.specs.History.{History, journals, size};
+ghost use Rattle.ledger_model.specs.Targets.{is_occult};
 ghost use Rattle.twin_file.specs.Places.{HasTail};
 ghost use Rattle.twin_file.specs.Twin.{open_of, other_of};
 ghost use Rattle.twin_file.specs.Which.{in_a_of, file_of};
-ghost use Rattle.ledger_open.specs.Erasing.{AllInside, AreBetween, AreOf, IsOpenContent, GivesUp, WritesZeros, StandsMeanwhile, LeavesShown, LeavesErased, LeavesRest, WritesOne};
+ghost use Rattle.ledger_open.specs.Erasing.{AllInside, GivesUp, WritesZeros, StandsMeanwhile, LeavesShown, LeavesErased, LeavesRest, WritesSome, is_given_up};
 ghost use Rattle.ledger_open.specs.Opening.{CountsOpen};
-ghost use Rattle.ledger_open.specs.Standing.{floor_behind};
 ghost use Rattle.ledger_open.specs.declared.failure.OpenErr.TheVariants as errors;
 
 use crate::{OpenErr, Opened, Places};
-use block_file::{BlockFile, FileErr, PlaceAt};
-use journal_record::Kind;
+use block_file::{BlockFile, FileErr};
+use journal_record::{Header, Kind};
 use ledger_book::Book;
 use ledger_disk::Disk;
 
-// The place of the content that the last journal hides.
-fn open_content(book: &Book, places: &Places) -> Option<PlaceAt>
-    ensures inside { (end : ℕ) → AllInside end places.now.list
-        → IfSome result (λ place. place.content_at + place.content_len ≤ end) }
-    ensures between { (low high : ℕ) → AreBetween low high places.now.list
-        → IfSome result (λ place. (low ≤ place.content_at) × (place.content_at + place.content_len ≤ high)) }
-    ensures listed { IfSome result (λ place. Contains places.now.list place) }
-    ensures content { (h : History) (are : AreOf book.now places.now.list h)
-        → IsOpenContent (floor_behind h are.parts.gone) are.parts.kept result }
+// Whether journals of this kind hide contents of others.
+fn hides(kind: Kind) -> bool
+    ensures { result ≡ is_occult kind }
 {
-    let size = book.head().size;
-    if size == 0 {
-        return None;
-    }
-    let Some(last) = book.header(size - 1) else {
-        return None;
-    };
-    match last.kind {
-        Kind::Occult => {
-            let index = last.a.checked_sub(book.tree().floor())?;
-            match places.as_slice().get(index as usize) {
-                Some(place) => Some(*place),
-                None => None,
-            }
-        }
-        _ => None,
+    match kind {
+        Kind::Occult => true,
+        Kind::Genesis | Kind::Content | Kind::Member | Kind::Time | Kind::Purge => false,
     }
 }
 
-/// Gives up the content that the last journal hides, in the open file, whose disk this is.
+// The header of the last journal.
+fn last_header(book: &Book) -> Option<&Header>
+    ensures { (h : History) → Serves book.now h → option_copied result
+        ≡ option_map (λ journal. journal.header) (slice_get (journals h) (size h - 1)) }
+{
+    book.header(book.size() - 1)
+}
+
+// From which on, and up to which, of so many places those stand that are given up. An occult names one journal, so the others
+// aren't looked at.
+fn span(book: &Book, count: usize) -> (usize, usize)
+    ensures order { result.0 ≤ result.1 }
+    ensures within { result.1 ≤ count }
+    ensures others { (h : History) → Serves book.now h → (i : ℕ) → i < count
+        → (i < result.0) ⊎ (result.1 ≤ i) → is_given_up h (book.now.floor + i) ≡ false }
+{
+    match last_header(book) {
+        Some(last) if hides(last.kind) => match last.a.checked_sub(book.floor()) {
+            Some(index) if index < count as u64 => (index as usize, index as usize + 1),
+            _ => (0, 0),
+        },
+        _ => (0, 0),
+    }
+}
+
+// Whether the content of journal `n` is given up.
+fn gives_up(book: &Book, n: u64) -> bool
+    ensures { (h : History) → Serves book.now h → book.now.floor ≤ n → result ≡ is_given_up h n }
+{
+    match last_header(book) {
+        Some(last) => hides(last.kind) && last.a == n,
+        None => false,
+    }
+}
+
+/// Gives up each content that the last journal hides and none before it does, in the open file, whose disk this is.
 pub(crate) fn finish_in<D: Disk>(
     book: &Book,
     places: &Places,
@@ -68,19 +84,24 @@ pub(crate) fn finish_in<D: Disk>(
         (D.state disk.old).bytes (D.state disk.new).bytes }
     ensures rest { IsTrue D.tells → LeavesRest places.now.list
         (D.state disk.old).bytes (D.state disk.new).bytes }
-    ensures one { OnOk result (IsTrue D.tells → WritesOne places.now.list
+    ensures some { OnOk result (IsTrue D.tells → WritesSome places.now.list
         (D.state disk.old).bytes (D.state disk.new).bytes) }
     ensures same { file.new ≡ file.old }
     ensures length { KeepsLength (D.state disk.old).told (D.state disk.new).told }
     ensures faults { CountsAlone result (D.state disk.old).faults (D.state disk.new).faults }
 {
-    match open_content(book, places) {
-        Some(place) => file.zero_range(disk, place.content_at, u64::from(place.content_len)),
-        None => Ok(()),
+    let floor = book.floor();
+    let (first, end) = span(book, places.as_slice().len());
+    for index in first..end {
+        let place = places.as_slice()[index];
+        if gives_up(book, floor.saturating_add(index as u64)) {
+            file.zero_range(disk, place.content_at, u64::from(place.content_len))?;
+        }
     }
+    Ok(())
 }
 
-/// Gives up the content that the last journal hides, where it hides one: zeros are written over it, where they don't
+/// Gives up each content that the last journal hides and none before it does: zeros are written over it, where they don't
 /// stand already, and the disk is synced. A fault of the disk is the only error.
 pub fn finish_erasures<D: Disk>(a: &mut D, b: &mut D, opened: &mut Opened) -> Result<(), OpenErr>
     requires told { HasTail (open_of (in_a_of opened.old.twin) (D.state a.old) (D.state b.old)).told
@@ -104,7 +125,7 @@ pub fn finish_erasures<D: Disk>(a: &mut D, b: &mut D, opened: &mut Opened) -> Re
     ensures rest { IsTrue D.tells → LeavesRest opened.old.places.list
         (open_of (in_a_of opened.old.twin) (D.state a.old) (D.state b.old)).bytes
         (open_of (in_a_of opened.old.twin) (D.state a.new) (D.state b.new)).bytes }
-    ensures one { OnOk result (IsTrue D.tells → WritesOne opened.old.places.list
+    ensures some { OnOk result (IsTrue D.tells → WritesSome opened.old.places.list
         (open_of (in_a_of opened.old.twin) (D.state a.old) (D.state b.old)).bytes
         (open_of (in_a_of opened.old.twin) (D.state a.new) (D.state b.new)).bytes) }
     ensures other { other_of (in_a_of opened.old.twin) (D.state a.new) (D.state b.new)

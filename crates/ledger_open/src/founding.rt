@@ -2,7 +2,6 @@
 
 ghost use Rattle.std.specs.Prelude.{◌≡◌, ◌≢◌, ◌⊎◌, ◌++◌, [], ◌∷◌, true, false, IsTrue, IfOk, IfErr, OnOk, Err, None};
 ghost use Rattle.block_file.specs.Head.{IsShut, IsOpen};
-ghost use Rattle.block_file.specs.FileView.{gate_of};
 ghost use Rattle.block_file.specs.Places.{after_at};
 ghost use Rattle.journal_record.specs.Blocks.{block_bytes, leaves_of};
 ghost use Rattle.ledger_disk.specs.Disk.{KeepsLength};
@@ -11,8 +10,8 @@ ghost use Rattle.ledger_model.specs.Limits.{AreWithin};
 ghost use Rattle.twin_file.specs.Places.{HasTail};
 ghost use Rattle.twin_file.specs.Which.{in_a_of, file_of, copy_of};
 ghost use Rattle.ledger_open.specs.Heads.{edition_from, edition_in};
-ghost use Rattle.ledger_open.specs.Founding.{IsOneOpen, IsFounded, LeavesFoundedOrShut};
-ghost use Rattle.ledger_open.specs.Opening.{known_from, Knows, IsOutside, AreSettled, StandAsRead, WereSettled, CountsRead, CountsOpen};
+ghost use Rattle.ledger_open.specs.Founding.{IsOneOpen, IsFounded, LeavesFoundedOrShut, StaysFoundedOrShut};
+ghost use Rattle.ledger_open.specs.Opening.{known_from, known_in, OfBoth, Knows, IsOutside, AreSettled, StandAsRead, WereSettled, CountsRead, CountsOpen};
 ghost use Rattle.ledger_open.specs.Standing.{ground};
 ghost use Rattle.ledger_open.specs.declared.failure.OpenErr.TheVariants as errors;
 
@@ -81,6 +80,11 @@ fn prepare(alloc: Global, genesis: &Genesis, limits: Limits) -> Result<Made, NoM
 
 /// Makes a new ledger of the two disks. Both are synced before they are looked at, and all memory is taken before the
 /// first write. [`OpenErr::Exists`] comes where one of the files is open, whatever its head says else.
+///
+/// Where a file is open, both read as before, whatever is answered (`left`). An error that isn't a fault leaves both as they
+/// read, and nothing pending (`same`). A crash at any time leaves both shut, or a pair that stands for the new ledger
+/// (`images`); what was pending matters only where a disk failed, since both syncs succeeded otherwise. Whatever was pending at
+/// the call, nothing was written yet, and both read as before, or a crash leaves such a pair where both were shut (`synced`).
 pub fn init<D: Disk>(
     alloc: Global,
     a: &mut D,
@@ -89,42 +93,27 @@ pub fn init<D: Disk>(
     limits: Limits,
 ) -> Result<Opened, OpenErr>
     requires { AreWithin limits }
-    ensures ok { IfOk result (λ opened. Knows
-        (known_from opened.book opened.places.list (gate_of (file_of opened.twin)))
-        None (new_ledger genesis.now).closed × (in_a_of opened.twin ≡ true)) }
+    ensures ok { IfOk result (λ opened. Knows (known_in opened) None (new_ledger genesis.now).closed
+        × (in_a_of opened.twin ≡ true)) }
     ensures limits { IfOk result (λ opened. opened.book.limits ≡ limits) }
     ensures keys { OnOk result (HasKeys genesis.now) }
-    ensures founded { OnOk result (IsTrue D.tells
-        → IsFounded genesis.now (D.state a.new).bytes (D.state b.new).bytes) }
+    ensures founded { OnOk result (IsTrue D.tells → IsFounded genesis.now (D.state a.new).bytes (D.state b.new).bytes) }
     ensures shut { OnOk result (IsTrue D.tells
         → IsShut (D.state a.old).bytes.seen × IsShut (D.state b.old).bytes.seen) }
     ensures told { IfOk result (λ opened. HasTail (D.state a.new).told (file_of opened.twin)) }
-    ensures twin { IfOk result (λ opened. (edition_in opened.twin ≡ edition_from 2 1)
-        × (copy_of opened.twin ≡ None)) }
+    ensures twin { IfOk result (λ opened. (edition_in opened.twin ≡ edition_from 2 1) × (copy_of opened.twin ≡ None)) }
     ensures err { IfErr result (λ e. IsOutside e ⊎ (e ≡ errors.Exists)) }
     ensures exists { IfErr result (λ e. e ≡ errors.Exists → IsTrue D.tells
         → IsOneOpen (D.state a.old).bytes.seen (D.state b.old).bytes.seen) }
-
-    // Where a file is open, both read as before, whatever is answered.
     ensures left { IsTrue D.tells → IsOneOpen (D.state a.old).bytes.seen (D.state b.old).bytes.seen
-        → StandAsRead (D.state a.old).bytes (D.state b.old).bytes (D.state a.new).bytes (D.state b.new).bytes }
-
-    // An error that isn't a fault leaves both as they read, and nothing pending.
+        → OfBoth StandAsRead (D.state a.old) (D.state b.old) (D.state a.new) (D.state b.new) }
     ensures same { IfErr result (λ e. e ≢ errors.DiskFault → IsTrue D.tells
-        → AreSettled (D.state a.old).bytes (D.state b.old).bytes (D.state a.new).bytes (D.state b.new).bytes) }
-
-    // A crash at any time leaves both shut, or a pair that stands for the new ledger. What was pending matters only where
-    // a disk failed, since both syncs succeeded otherwise.
+        → OfBoth AreSettled (D.state a.old) (D.state b.old) (D.state a.new) (D.state b.new)) }
     ensures images { IsTrue D.tells → IsShut (D.state a.old).bytes.seen → IsShut (D.state b.old).bytes.seen
         → WereSettled result (D.state a.old).bytes (D.state b.old).bytes
         → LeavesFoundedOrShut genesis.now (D.state a.new).bytes (D.state b.new).bytes }
-
-    // Whatever was pending at the call: nothing was written yet, and both read as before, or a crash leaves such a pair where
-    // both were shut.
-    ensures synced { IsTrue D.tells
-        → StandAsRead (D.state a.old).bytes (D.state b.old).bytes (D.state a.new).bytes (D.state b.new).bytes
-        ⊎ (IsShut (D.state a.old).bytes.seen → IsShut (D.state b.old).bytes.seen
-        → LeavesFoundedOrShut genesis.now (D.state a.new).bytes (D.state b.new).bytes) }
+    ensures synced { IsTrue D.tells → OfBoth StandAsRead (D.state a.old) (D.state b.old) (D.state a.new) (D.state b.new)
+        ⊎ OfBoth (StaysFoundedOrShut genesis.now) (D.state a.old) (D.state b.old) (D.state a.new) (D.state b.new) }
     ensures faults { CountsOpen result (D.state a.old).faults (D.state a.new).faults
         (D.state b.old).faults (D.state b.new).faults }
 {

@@ -1,13 +1,13 @@
 //! Laws of a ledger's two files: which history they stand for, when they open, and what a block or an erasure changes.
 
-ghost use Rattle.std.specs.Prelude.{◌≡◌, ◌⊎◌, ◌<◌, [], Bool, true, List, ℕ, Option, Some, None};
+ghost use Rattle.std.specs.Prelude.{◌≡◌, ◌⊎◌, ◌<◌, ◌≤◌, [], Bool, true, false, List, ℕ, Option};
 ghost use Rattle.block_file.specs.declared.failure.Damage.{Damage};
 ghost use Rattle.ledger_model.specs.Genesis.{HasKeys, new_ledger};
-ghost use Rattle.ledger_model.specs.History.{History, point};
+ghost use Rattle.ledger_model.specs.History.{History, point, size};
 ghost use Rattle.ledger_model.specs.declared.genesis.Genesis.{Genesis};
 ghost use Rattle.pseudo_genesis.specs.declared.base.Base.{Base};
 ghost use Rattle.ledger_open.specs.Damages.{IsDamage};
-ghost use Rattle.ledger_open.specs.Erasing.{AllInside, GivesUp, IsGivenUp, IsOutsideOf, IsZeroedIn, last_target};
+ghost use Rattle.ledger_open.specs.Erasing.{AllInside, GivesUp, IsGivenUp, IsOutsideOf, is_given_up, given_up_in};
 ghost use Rattle.ledger_open.specs.Founding.{IsFounded};
 ghost use Rattle.ledger_open.specs.Growing.{Grows, GrowsErased, IsNewClean};
 ghost use Rattle.ledger_open.specs.Places.{AreAtPlaces, AreAllThere};
@@ -110,17 +110,19 @@ pub fn a_pair_has_one_cause_of_refusal()
         → IsOpenErr a b e → IsOpenErr a b f → e ≡ f }
 {}
 
-/// Where the last journal hides the content of another, a file stands for the history whatever bytes stand in that
-/// content's place; and where zeros do, all that is hidden is gone. Where it hides none, all that is hidden was gone in a
-/// file that begins at the point. One that ended with its tail gate is clean once all is given up.
+/// What the last journal hides and none before it does is given up. A file stands for the history whatever bytes stand in
+/// place of such a content, which the file has; and with zeros over all of them all that is hidden is gone. Where there is
+/// none, all that is hidden was gone in a file that begins at the point. One that ended with its tail gate is clean once all
+/// is given up.
 pub fn a_content_may_be_given_up()
     ensures meanwhile { (image new : List ℕ) (h : History) (n : ℕ) (stands : StandsFor image h)
-        → last_target h ≡ Some n → IsOutsideOf stands.file n new → StandsFor new h }
-    ensures erased { (image new : List ℕ) (h : History) (n : ℕ) (stands : StandsFor image h)
-        → last_target h ≡ Some n → IsOutsideOf stands.file n new → IsZeroedIn stands.file n new
-        → IsErased new h }
+        → is_given_up h n ≡ true → IsOutsideOf stands.file n new → StandsFor new h }
+    ensures there { (image : List ℕ) (h : History) (n : ℕ) (stands : StandsFor image h)
+        → is_given_up h n ≡ true → (stands.floor ≤ n) × (n < size h) }
+    ensures erased { (image : List ℕ) (h : History) (stands : StandsFor image h)
+        → stands.floor ≡ point h → IsErased (given_up_in stands.file image) h }
     ensures other { (image : List ℕ) (h : History) (stands : StandsFor image h)
-        → last_target h ≡ None → stands.floor ≡ point h → IsErased image h }
+        → ((n : ℕ) → is_given_up h n ≡ false) → stands.floor ≡ point h → IsErased image h }
     ensures clean { (old new : State) (h : History) (stands : StandsFor old.seen h)
         → stands.file.keeps.file.stands.rest ≡ [] → stands.floor ≡ point h
         → IsGivenUp old new h → IsClean new.seen h }

@@ -11,7 +11,7 @@ ghost use Rattle.twin_file.specs.Twin.{open_of, other_of};
 ghost use Rattle.twin_file.specs.Which.{in_a_of, file_of, copy_of};
 ghost use Rattle.ledger_open.specs.Cutting.{IsPrepared};
 ghost use Rattle.ledger_open.specs.Heads.{edition_in, edition_of};
-ghost use Rattle.ledger_open.specs.Opening.{known_from, IsHeadOf, HasKnown, HasLawfulBlocks, IsOutside, IsReadErr, IsOpenErr, AreSettled, AreUnchanged, StandAsRead, WereSettled, CountsRead, CountsOpen};
+ghost use Rattle.ledger_open.specs.Opening.{known_from, known_in, OfBoth, IsHeadOf, HasKnown, HasLawfulBlocks, IsOutside, IsReadErr, IsOpenErr, AreSettled, AreUnchanged, StandAsRead, WereSettled, CountsRead, CountsOpen};
 ghost use Rattle.ledger_open.specs.Purging.{ledger_at};
 ghost use Rattle.ledger_open.specs.Reopened.{KnowsMended, KnowsReopened, WasReadHere, IsHere, IsCleanStill, PairStandsStill, StandsTrimmed};
 ghost use Rattle.ledger_open.specs.declared.failure.OpenErr.{OpenErr as OpenErrRecord};
@@ -273,6 +273,11 @@ fn open_pair<R: Threads, D: Disk>(
 /// is cut off, what the last journal hides is given up and what it purges falls away where a crash left that undone, and the
 /// other file is emptied where it isn't. At last a file of the first version is carried over into the other one, which has the
 /// second. All memory is taken before the first write.
+///
+/// The edition that is kept is the open file's, and no copy is begun. A pair that its bytes keep from being opened reads as
+/// before, whatever is answered (`refused`). A crash at any time leaves a pair that stands for what it stood for (`images`);
+/// what was pending matters only where a disk failed, since both were synced otherwise. Whatever was pending at the call,
+/// nothing was written yet, and both read as before, or a crash leaves such a pair (`synced`).
 pub fn reopen<R: Threads, D: Disk>(
     rt: &R,
     alloc: Global,
@@ -281,40 +286,28 @@ pub fn reopen<R: Threads, D: Disk>(
     limits: Limits,
 ) -> Result<Opened, OpenErr>
     requires { AreWithin limits }
-    ensures ok { IfOk result (λ opened. KnowsReopened D.tells (in_a_of opened.twin)
-        (known_from opened.book opened.places.list (gate_of (file_of opened.twin)))
-        (D.state a.old).bytes (D.state b.old).bytes (D.state a.new).bytes (D.state b.new).bytes) }
+    ensures ok { IfOk result (λ opened. OfBoth (KnowsReopened D.tells (in_a_of opened.twin) (known_in opened))
+        (D.state a.old) (D.state b.old) (D.state a.new) (D.state b.new)) }
     ensures limits { IfOk result (λ opened. opened.book.limits ≡ limits) }
     ensures told { IfOk result (λ opened. HasTail
-        (open_of (in_a_of opened.twin) (D.state a.new).told (D.state b.new).told)
-        (file_of opened.twin)) }
-
-    // The edition that is kept is the open file's, and no copy is begun.
+        (open_of (in_a_of opened.twin) (D.state a.new).told (D.state b.new).told) (file_of opened.twin)) }
     ensures edition { IfOk result (λ opened. IsTrue D.tells → edition_in opened.twin
-        ≡ edition_of (open_of (in_a_of opened.twin)
-        (D.state a.new).bytes (D.state b.new).bytes).seen) }
+        ≡ edition_of (open_of (in_a_of opened.twin) (D.state a.new).bytes (D.state b.new).bytes).seen) }
     ensures copy { IfOk result (λ opened. copy_of opened.twin ≡ None) }
     ensures err { IfErr result (λ e. IsTrue D.tells
         → IsOpenErr (D.state a.old).bytes.seen (D.state b.old).bytes.seen e) }
     ensures only { IfErr result (λ e. e ≢ errors.Exists) }
     ensures same { IfErr result (λ e. e ≢ errors.DiskFault → IsTrue D.tells
-        → AreSettled (D.state a.old).bytes (D.state b.old).bytes (D.state a.new).bytes (D.state b.new).bytes) }
-
-    // A pair that its bytes keep from being opened reads as before, whatever is answered.
+        → OfBoth AreSettled (D.state a.old) (D.state b.old) (D.state a.new) (D.state b.new)) }
     ensures refused { IsTrue D.tells → (e : OpenErrRecord) → (IsOutside e → ⊥)
         → IsOpenErr (D.state a.old).bytes.seen (D.state b.old).bytes.seen e
-        → StandAsRead (D.state a.old).bytes (D.state b.old).bytes (D.state a.new).bytes (D.state b.new).bytes }
-
-    // A crash at any time leaves such a pair. What was pending matters only where a disk failed: else both were synced.
+        → OfBoth StandAsRead (D.state a.old) (D.state b.old) (D.state a.new) (D.state b.new) }
     ensures images { IsTrue D.tells → WereSettled result (D.state a.old).bytes (D.state b.old).bytes
-        → PairStandsStill (D.state a.old).bytes (D.state b.old).bytes (D.state a.new).bytes (D.state b.new).bytes }
+        → OfBoth PairStandsStill (D.state a.old) (D.state b.old) (D.state a.new) (D.state b.new) }
     ensures clean { IsTrue D.tells
-        → IsCleanStill (D.state a.old).bytes (D.state b.old).bytes (D.state a.new).bytes (D.state b.new).bytes }
-
-    // Whatever was pending at the call: nothing was written yet, and both read as before, or a crash leaves such a pair.
-    ensures synced { IsTrue D.tells
-        → StandAsRead (D.state a.old).bytes (D.state b.old).bytes (D.state a.new).bytes (D.state b.new).bytes
-        ⊎ PairStandsStill (D.state a.old).bytes (D.state b.old).bytes (D.state a.new).bytes (D.state b.new).bytes }
+        → OfBoth IsCleanStill (D.state a.old) (D.state b.old) (D.state a.new) (D.state b.new) }
+    ensures synced { IsTrue D.tells → OfBoth StandAsRead (D.state a.old) (D.state b.old) (D.state a.new) (D.state b.new)
+        ⊎ OfBoth PairStandsStill (D.state a.old) (D.state b.old) (D.state a.new) (D.state b.new) }
     ensures faults { CountsOpen result (D.state a.old).faults (D.state a.new).faults
         (D.state b.old).faults (D.state b.new).faults }
 {

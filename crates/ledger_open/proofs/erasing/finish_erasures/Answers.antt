@@ -55,6 +55,16 @@ returns-in-Ok-finish_in-clause-shown g c = λ tells.
     of_second (λ (old new : DiskState). LeavesShown c.args.opened.now.book c.args.opened.now.places.list old.bytes new.bytes) (in_a_of c.args.opened.now.twin) (g.D.Disk.state c.args.a.now) (g.D.Disk.state c.args.b.now) (g.D.Disk.state c.finish_in-else-in_a.new.disk) (sym c.in_a.ensures ∙ c.if-in_a.false)
     (c.finish_in-else-in_a.ensures.shown tells)
 
+pub returns-in-Err-clause-shown : goal.returns-in-Err-clause-shown
+returns-in-Err-clause-shown g c = λ tells.
+    of_first (λ (old new : DiskState). LeavesShown c.args.opened.now.book c.args.opened.now.places.list old.bytes new.bytes) (in_a_of c.args.opened.now.twin) (g.D.Disk.state c.args.a.now) (g.D.Disk.state c.args.b.now) (g.D.Disk.state c.finish_in.new.disk) (sym c.in_a.ensures ∙ c.if-in_a.true)
+    (c.finish_in.ensures.shown tells)
+
+pub returns-in-Err-finish_in-clause-shown : goal.returns-in-Err-finish_in-clause-shown
+returns-in-Err-finish_in-clause-shown g c = λ tells.
+    of_second (λ (old new : DiskState). LeavesShown c.args.opened.now.book c.args.opened.now.places.list old.bytes new.bytes) (in_a_of c.args.opened.now.twin) (g.D.Disk.state c.args.a.now) (g.D.Disk.state c.args.b.now) (g.D.Disk.state c.finish_in-else-in_a.new.disk) (sym c.in_a.ensures ∙ c.if-in_a.false)
+    (c.finish_in-else-in_a.ensures.shown tells)
+
 pub returns-in-Ok-clause-rest : goal.returns-in-Ok-clause-rest
 returns-in-Ok-clause-rest g c = λ tells.
     of_first (λ (old new : DiskState). LeavesRest c.args.opened.now.places.list old.bytes new.bytes) (in_a_of c.args.opened.now.twin) (g.D.Disk.state c.args.a.now) (g.D.Disk.state c.args.b.now) (g.D.Disk.state c.finish_in.new.disk) (sym c.in_a.ensures ∙ c.if-in_a.true)

@@ -44,33 +44,33 @@ pub returns-in_err-complete-clause-images : goal.returns-in_err-complete-clause-
 returns-in_err-complete-clause-images g c =
     purge_pairs g.D.Disk.tells c.args.opened.now (g.D.Disk.state c.args.a.now) (g.D.Disk.state c.args.b.now) c.requires.read (g.D.Disk.state c.trim_open.new.a) (g.D.Disk.state c.trim_open.new.b) c.trim_open.ensures.images c.trim_open.ensures.other
     c.trim_open.new.twin c.trim_open.ensures.same c.in_ok-trim_open.ensures.ok (g.D.Disk.state c.finish_erasures.new.a) (g.D.Disk.state c.finish_erasures.new.b) c.finish_erasures.ensures.images c.finish_erasures.ensures.shown c.finish_erasures.ensures.idle c.finish_erasures.ensures.other
-    c.in_ok-finish_erasures.ensures.bytes c.in_ok-finish_erasures.ensures.one c.finish_erasures.ensures.rest c.finish_erasures.new.opened (c.finish_erasures.ensures.same ∙ ap (λ (t : Twin). record c.args.opened.now { twin = t }) c.trim_open.ensures.same) c.complete.new.opened (g.D.Disk.state c.complete.new.a) (g.D.Disk.state c.complete.new.b) c.complete.ensures.left.images c.complete.ensures.left.idle c.complete.ensures.same
+    c.in_ok-finish_erasures.ensures.bytes c.in_ok-finish_erasures.ensures.some c.finish_erasures.ensures.rest c.finish_erasures.new.opened (c.finish_erasures.ensures.same ∙ ap (λ (t : Twin). record c.args.opened.now { twin = t }) c.trim_open.ensures.same) c.complete.new.opened (g.D.Disk.state c.complete.new.a) (g.D.Disk.state c.complete.new.b) c.complete.ensures.left.images c.complete.ensures.left.idle c.complete.ensures.same
 
 pub returns-in_err-complete-clause-clean : goal.returns-in_err-complete-clause-clean
 returns-in_err-complete-clause-clean g c =
     purge_clean g.D.Disk.tells c.args.opened.now (g.D.Disk.state c.args.a.now) (g.D.Disk.state c.args.b.now) c.requires.read (g.D.Disk.state c.trim_open.new.a) (g.D.Disk.state c.trim_open.new.b) c.trim_open.ensures.images c.trim_open.ensures.other
     c.trim_open.new.twin c.trim_open.ensures.same c.in_ok-trim_open.ensures.ok (g.D.Disk.state c.finish_erasures.new.a) (g.D.Disk.state c.finish_erasures.new.b) c.finish_erasures.ensures.images c.finish_erasures.ensures.shown c.finish_erasures.ensures.idle c.finish_erasures.ensures.other
-    c.in_ok-finish_erasures.ensures.bytes c.in_ok-finish_erasures.ensures.one c.finish_erasures.ensures.rest c.finish_erasures.new.opened (c.finish_erasures.ensures.same ∙ ap (λ (t : Twin). record c.args.opened.now { twin = t }) c.trim_open.ensures.same) c.complete.new.opened (g.D.Disk.state c.complete.new.a) (g.D.Disk.state c.complete.new.b) c.complete.ensures.left.images c.complete.ensures.left.idle c.complete.ensures.same
+    c.in_ok-finish_erasures.ensures.bytes c.in_ok-finish_erasures.ensures.some c.finish_erasures.ensures.rest c.finish_erasures.new.opened (c.finish_erasures.ensures.same ∙ ap (λ (t : Twin). record c.args.opened.now { twin = t }) c.trim_open.ensures.same) c.complete.new.opened (g.D.Disk.state c.complete.new.a) (g.D.Disk.state c.complete.new.b) c.complete.ensures.left.images c.complete.ensures.left.idle c.complete.ensures.same
 
 pub returns-clause-images : goal.returns-clause-images
 returns-clause-images g c =
     clear_pairs g.D.Disk.tells c.args.opened.now (g.D.Disk.state c.args.a.now) (g.D.Disk.state c.args.b.now) c.requires.read (g.D.Disk.state c.trim_open.new.a) (g.D.Disk.state c.trim_open.new.b) c.trim_open.ensures.images c.trim_open.ensures.other
     c.trim_open.new.twin c.trim_open.ensures.same c.in_ok-trim_open.ensures.ok (g.D.Disk.state c.finish_erasures.new.a) (g.D.Disk.state c.finish_erasures.new.b) c.finish_erasures.ensures.images c.finish_erasures.ensures.shown c.finish_erasures.ensures.idle c.finish_erasures.ensures.other
-    c.in_ok-finish_erasures.ensures.bytes c.in_ok-finish_erasures.ensures.one c.finish_erasures.ensures.rest c.finish_erasures.new.opened (c.finish_erasures.ensures.same ∙ ap (λ (t : Twin). record c.args.opened.now { twin = t }) c.trim_open.ensures.same) c.complete.new.opened (g.D.Disk.state c.complete.new.a) (g.D.Disk.state c.complete.new.b) c.complete.ensures.left.images c.complete.ensures.left.idle c.complete.ensures.same
+    c.in_ok-finish_erasures.ensures.bytes c.in_ok-finish_erasures.ensures.some c.finish_erasures.ensures.rest c.finish_erasures.new.opened (c.finish_erasures.ensures.same ∙ ap (λ (t : Twin). record c.args.opened.now { twin = t }) c.trim_open.ensures.same) c.complete.new.opened (g.D.Disk.state c.complete.new.a) (g.D.Disk.state c.complete.new.b) c.complete.ensures.left.images c.complete.ensures.left.idle c.complete.ensures.same
     c.in_ok-complete.ensures.done.clean c.in_ok-complete.ensures.done.purges c.in_a.result c.in_a.ensures (g.D.Disk.state c.clear_other.new.a) (g.D.Disk.state c.clear_other.new.b) c.clear_other.ensures.open_stays c.clear_other.ensures.front c.clear_other.ensures.idle
 
 pub returns-clause-clean : goal.returns-clause-clean
 returns-clause-clean g c =
     clear_clean g.D.Disk.tells c.args.opened.now (g.D.Disk.state c.args.a.now) (g.D.Disk.state c.args.b.now) c.requires.read (g.D.Disk.state c.trim_open.new.a) (g.D.Disk.state c.trim_open.new.b) c.trim_open.ensures.images c.trim_open.ensures.other
     c.trim_open.new.twin c.trim_open.ensures.same c.in_ok-trim_open.ensures.ok (g.D.Disk.state c.finish_erasures.new.a) (g.D.Disk.state c.finish_erasures.new.b) c.finish_erasures.ensures.images c.finish_erasures.ensures.shown c.finish_erasures.ensures.idle c.finish_erasures.ensures.other
-    c.in_ok-finish_erasures.ensures.bytes c.in_ok-finish_erasures.ensures.one c.finish_erasures.ensures.rest c.finish_erasures.new.opened (c.finish_erasures.ensures.same ∙ ap (λ (t : Twin). record c.args.opened.now { twin = t }) c.trim_open.ensures.same) c.complete.new.opened (g.D.Disk.state c.complete.new.a) (g.D.Disk.state c.complete.new.b) c.complete.ensures.left.images c.complete.ensures.left.idle c.complete.ensures.same
+    c.in_ok-finish_erasures.ensures.bytes c.in_ok-finish_erasures.ensures.some c.finish_erasures.ensures.rest c.finish_erasures.new.opened (c.finish_erasures.ensures.same ∙ ap (λ (t : Twin). record c.args.opened.now { twin = t }) c.trim_open.ensures.same) c.complete.new.opened (g.D.Disk.state c.complete.new.a) (g.D.Disk.state c.complete.new.b) c.complete.ensures.left.images c.complete.ensures.left.idle c.complete.ensures.same
     c.in_ok-complete.ensures.done.clean c.in_ok-complete.ensures.done.purges c.in_a.result c.in_a.ensures (g.D.Disk.state c.clear_other.new.a) (g.D.Disk.state c.clear_other.new.b) c.clear_other.ensures.open_stays c.clear_other.ensures.front c.clear_other.ensures.idle
 
 pub returns-clause-ok : goal.returns-clause-ok
 returns-clause-ok g c =
     on_ok_weaker c.clear_other.result (λ cleared. clear_known g.D.Disk.tells c.args.opened.now (g.D.Disk.state c.args.a.now) (g.D.Disk.state c.args.b.now) c.requires.read (g.D.Disk.state c.trim_open.new.a) (g.D.Disk.state c.trim_open.new.b) c.trim_open.ensures.images c.trim_open.ensures.other
     c.trim_open.new.twin c.trim_open.ensures.same c.in_ok-trim_open.ensures.ok (g.D.Disk.state c.finish_erasures.new.a) (g.D.Disk.state c.finish_erasures.new.b) c.finish_erasures.ensures.images c.finish_erasures.ensures.shown c.finish_erasures.ensures.idle c.finish_erasures.ensures.other
-    c.in_ok-finish_erasures.ensures.bytes c.in_ok-finish_erasures.ensures.one c.finish_erasures.ensures.rest c.finish_erasures.new.opened (c.finish_erasures.ensures.same ∙ ap (λ (t : Twin). record c.args.opened.now { twin = t }) c.trim_open.ensures.same) c.complete.new.opened (g.D.Disk.state c.complete.new.a) (g.D.Disk.state c.complete.new.b) c.complete.ensures.left.images c.complete.ensures.left.idle c.complete.ensures.same
+    c.in_ok-finish_erasures.ensures.bytes c.in_ok-finish_erasures.ensures.some c.finish_erasures.ensures.rest c.finish_erasures.new.opened (c.finish_erasures.ensures.same ∙ ap (λ (t : Twin). record c.args.opened.now { twin = t }) c.trim_open.ensures.same) c.complete.new.opened (g.D.Disk.state c.complete.new.a) (g.D.Disk.state c.complete.new.b) c.complete.ensures.left.images c.complete.ensures.left.idle c.complete.ensures.same
     c.in_ok-complete.ensures.done.clean c.in_ok-complete.ensures.done.purges c.in_a.result c.in_a.ensures (g.D.Disk.state c.clear_other.new.a) (g.D.Disk.state c.clear_other.new.b) c.clear_other.ensures.open_stays c.clear_other.ensures.front c.clear_other.ensures.idle
     cleared) c.clear_other.ensures.ok
 
@@ -78,5 +78,5 @@ pub returns-clause-edition : goal.returns-clause-edition
 returns-clause-edition g c =
     on_ok_weaker c.clear_other.result (λ cleared. clear_edition g.D.Disk.tells c.args.opened.now (g.D.Disk.state c.args.a.now) (g.D.Disk.state c.args.b.now) c.requires.read (g.D.Disk.state c.trim_open.new.a) (g.D.Disk.state c.trim_open.new.b) c.trim_open.ensures.images c.trim_open.ensures.other
     c.trim_open.new.twin c.trim_open.ensures.same c.in_ok-trim_open.ensures.ok (g.D.Disk.state c.finish_erasures.new.a) (g.D.Disk.state c.finish_erasures.new.b) c.finish_erasures.ensures.images c.finish_erasures.ensures.shown c.finish_erasures.ensures.idle c.finish_erasures.ensures.other
-    c.in_ok-finish_erasures.ensures.bytes c.in_ok-finish_erasures.ensures.one c.finish_erasures.ensures.rest c.finish_erasures.new.opened (c.finish_erasures.ensures.same ∙ ap (λ (t : Twin). record c.args.opened.now { twin = t }) c.trim_open.ensures.same) c.complete.new.opened (g.D.Disk.state c.complete.new.a) (g.D.Disk.state c.complete.new.b) c.complete.ensures.left.images c.complete.ensures.left.idle c.complete.ensures.same
+    c.in_ok-finish_erasures.ensures.bytes c.in_ok-finish_erasures.ensures.some c.finish_erasures.ensures.rest c.finish_erasures.new.opened (c.finish_erasures.ensures.same ∙ ap (λ (t : Twin). record c.args.opened.now { twin = t }) c.trim_open.ensures.same) c.complete.new.opened (g.D.Disk.state c.complete.new.a) (g.D.Disk.state c.complete.new.b) c.complete.ensures.left.images c.complete.ensures.left.idle c.complete.ensures.same
     c.in_ok-complete.ensures.done.clean c.in_ok-complete.ensures.done.purges c.in_a.result c.in_a.ensures (g.D.Disk.state c.clear_other.new.a) (g.D.Disk.state c.clear_other.new.b) c.clear_other.ensures.open_stays c.clear_other.ensures.front c.clear_other.ensures.idle) c.clear_other.ensures.ok
