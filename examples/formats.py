@@ -8,7 +8,8 @@ import struct
 ZERO = bytes(32)
 EMPTY = hashlib.sha256(b"").digest()
 GENESIS, RECORD, MEMBER, TIME, OCCULT, PURGE = range(6)
-HEADER_BYTES, ENTRY_BYTES, SLOT_BYTES, WHO_LIMIT, CONTENT_LIMIT = 174, 72, 73, 1_050_112, 1_048_576
+HEADER_BYTES, ENTRY_BYTES, SLOT_BYTES, WHO_LIMIT = 174, 72, 73, 1_050_112
+CONTENT_LIMIT, FIRST_CONTENT_LIMIT = 1_048_576, 65_536
 JOURNAL_LIMIT, NOTARY_LIMIT, CLUE_LIMIT, MEMBER_LIMIT = 4_294_967_295, 16_777_216, 1_048_576, 256
 
 
@@ -305,7 +306,7 @@ def a_fits(h):
 
 def length_fits(h):
     if h.kind == RECORD:
-        return h.content_len <= CONTENT_LIMIT
+        return h.content_len <= (CONTENT_LIMIT if h.version == 2 else FIRST_CONTENT_LIMIT)
     return h.content_len == (64 if h.kind == GENESIS else 0)
 
 
@@ -318,7 +319,7 @@ def read_header(reader):
     if len(data) >= 2 and h.version == 2:
         if len(data) < OFFSETS["content_digest"]:
             raise Broken(len(reader.data), SHORT)
-        if h.kind != RECORD or h.a == 0:
+        if h.kind != RECORD or h.a == 0 and h.content_len <= FIRST_CONTENT_LIMIT:
             raise Broken(start)
     if len(data) >= 2:
         check_fields(h, len(data), start)
