@@ -92,7 +92,7 @@ prev_few jsn ord prev ok = by (nat_le ord 1) ok where
 
 -- the version of a record has one byte
 version_few : (number len : ℕ) → version_of kind.Content number len < 2 ^ 8
-version_few number len = elim (number == 0) as (λ none. cond none 1 2 < 2 ^ 8) [ true ↦ omega arith | false ↦ omega arith ]
+version_few number len = elim (number == 0 && nat_le len 65_536) as (λ first. cond first 1 2 < 2 ^ 8) [ true ↦ omega arith | false ↦ omega arith ]
 
 -- ---- the journal that a line places
 
