@@ -61,10 +61,12 @@ const DIGITS: &[u8; 16] = b"0123456789abcdef";
 
 fn put_line(script: &mut Vec<u8>, line: &Large) -> Result<(), NoMemory> {
     script.extend_from_slice(line.front.as_bytes())?;
-    for n in 0..line.len {
-        let byte = n as u8 & line.bits;
+    let mut count = 0u8;
+    for _byte in 0..line.len {
+        let byte = count & line.bits;
         script.push(DIGITS[usize::from(byte >> 4)])?;
         script.push(DIGITS[usize::from(byte & 15)])?;
+        count = count.wrapping_add(1);
     }
     script.push(b' ')?;
     script.extend_from_slice(line.proof.as_bytes())?;
