@@ -23,13 +23,13 @@ fn sign_record<R: Threads + Wait + Sync>(
     Ok((status, written.len()))
 }
 
-// A newline may stand in a clue's name. A content has at most 65,536 bytes.
+// A newline may stand in a clue's name. A content has at most 1,048,576 bytes.
 #[test]
 fn bounds_words_to_sign(rt: HostRuntime) -> Result<(), Fail> {
     for (clue, count, want) in [
         ("in\nv", 1, (0, 194)),
-        ("-", 65_536, (0, 194)),
-        ("-", 65_537, (1, 13)),
+        ("-", 1_048_576, (0, 194)),
+        ("-", 1_048_577, (1, 13)),
     ] {
         let found = sign_record(&rt, rt.alloc(), clue, count)?;
         assert_eq!(rt; found, want, "at {count}");
