@@ -1,9 +1,8 @@
 -- Bytes of which those behind an offset are a block: room in front, and what stands behind it.
-use Rattle.std.proofs.Common.{◌≡◌, ◌≢◌, ℕ, ◌+◌, ◌≤◌, ◌⊎◌, inl, inr, List, [], ◌∷◌, ◌++◌, length, take, drop, sym, ap, ◌∙◌, arith, append_assoc, length-append, length-take, length-drop}
+use Rattle.std.proofs.Common.{◌≡◌, ◌≢◌, ℕ, ◌+◌, ◌-◌, ◌≤◌, ◌⊎◌, inl, inr, List, [], ◌∷◌, ◌++◌, length, take, drop, sym, ap, ◌∙◌, arith, append_assoc, length-append, length-take, length-drop, take-take}
 use Rattle.std.proofs.lemmas.List.{take_at, drop_at, take-append-le, take-append-drop, take_all, drop_all, append-nil}
-use Rattle.block_file.specs.File.{IsGroupOf}
+use Rattle.block_file.specs.File.{open_blocks, IsGroupOf}
 use Rattle.block_file.specs.Writing.{ended_blocks}
-use Rattle.block_file.proofs.WriteLaws.{opened}
 use lib.Seq.{drop-append-le}
 
 pub long : (n : ℕ) (xs : List ℕ) → length (take 44 (drop n xs)) ≡ 44 → n + 44 ≤ length xs
@@ -75,11 +74,24 @@ next_before n xs zs is =
 pub next_body : (zs : List ℕ) → drop 44 (drop (length zs) zs) ≡ []
 next_body zs = drop_all 44 (drop (length zs) zs) (omega (arith, length-drop (length zs) zs))
 
--- the blocks that ended, and one behind them
-pub ended_group : (ended : List (List ℕ)) (block : List ℕ) → IsGroupOf (ended ++ block ∷ []) (ended_blocks ended ++ block)
-ended_group [] block = record { some = omega arith; is = sym (append-nil block) }
-ended_group (first ∷ more) block = record {
-  some = omega (arith, length-append more (block ∷ []));
-  is = append_assoc (first ++ 1 ∷ []) (ended_blocks more) block ∙ append_assoc first (1 ∷ []) (ended_blocks more ++ block)
-      ∙ ap (λ (l : List ℕ). first ++ l) (opened (more ++ block ∷ []) (ended_blocks more ++ block) (ended_group more block));
-}
+-- blocks that ended are a group with the open gate of the next one behind it
+gate_behind : (first : List ℕ) (more : List (List ℕ)) → ended_blocks (first ∷ more) ≡ (first ++ open_blocks more) ++ 1 ∷ []
+gate_behind first [] = append-nil (first ++ 1 ∷ []) ∙ ap (λ (l : List ℕ). l ++ 1 ∷ []) (sym (append-nil first))
+gate_behind first (second ∷ more) =
+    append_assoc first (1 ∷ []) (ended_blocks (second ∷ more)) ∙ ap (λ (l : List ℕ). first ++ 1 ∷ l) (gate_behind second more)
+    ∙ sym (append_assoc first (1 ∷ second ++ open_blocks more) (1 ∷ []))
+
+pub ended_group : (ended : List (List ℕ)) → 1 ≤ length ended → IsGroupOf ended (take (length (ended_blocks ended) - 1) (ended_blocks ended))
+ended_group [] some = absurd (omega (arith, some))
+ended_group (first ∷ more) some =
+    let is = gate_behind first more in record {
+      some = some;
+      is = ap (λ (l : List ℕ). take (length l - 1) l) is
+          ∙ take_at (first ++ open_blocks more) (1 ∷ []) (length ((first ++ open_blocks more) ++ 1 ∷ []) - 1) (omega (arith, length-append (first ++ open_blocks more) (1 ∷ [])));
+    }
+
+-- the bytes in front of an offset, but for the last
+pub but_last : (n : ℕ) (xs : List ℕ) → n ≤ length xs → take (n - 1) xs ≡ take (length (take n xs) - 1) (take n xs)
+but_last n xs le =
+    let size : length (take n xs) ≡ n = omega (arith, le, length-take n xs) in
+    sym (take-take (n - 1) n xs (omega arith)) ∙ ap (λ (m : ℕ). take (m - 1) (take n xs)) (sym size)

@@ -1,6 +1,6 @@
 //! The bytes of a block, gathered journal by journal before it is committed, and of a group of blocks, one after the other.
 
-ghost use Rattle.std.specs.Prelude.{◌≡◌, ◌<◌, ◌^◌, ◌+◌, ◌++◌, [], ◌∷◌, ◌≤◌, ℕ, List, length, take, drop, All, IfOk, OnOk};
+ghost use Rattle.std.specs.Prelude.{◌≡◌, ◌<◌, ◌^◌, ◌+◌, ◌-◌, ◌++◌, [], ◌∷◌, ◌≤◌, ℕ, List, length, take, drop, All, IfOk, OnOk};
 ghost use Rattle.journal_record.specs.Approval.{who_of, approval_bytes};
 ghost use Rattle.journal_record.specs.declared.header.TheConstants.{HEADER_LEN};
 ghost use Rattle.ledger_bytes.specs.declared.limits.TheConstants.{APPROVAL_LIMIT, CONTENT_LIMIT, PROOF_LIMIT};
@@ -11,7 +11,7 @@ ghost use Rattle.block_file.specs.Writing.{block_head, ended_blocks, record_with
 use crate::block::BLOCK_HEAD_LEN;
 use crate::place::{BODY_BEHIND_GATE, PlaceAt};
 use journal_record::{Approval, HEADER_LEN};
-use ledger_bytes::{Digest, NoMemory};
+use ledger_bytes::{Digest, NoMemory, keep_from};
 use std::alloc::Global;
 use std::marker::Model;
 
@@ -197,14 +197,29 @@ impl BlockWriter {
         block
     }
 
-    /// The bytes of the group: the blocks that ended before this one, and this one, each but the first behind an open
-    /// gate.
-    pub fn group(&self) -> &[u8]
-        ensures bytes { result.now ≡ self.now.before ++ (self.now.head ++ self.now.body) }
+    /// The bytes of the group of the blocks that ended before this one: the first without its gate, and each further one
+    /// behind an open gate.
+    pub fn ended(&self) -> &[u8]
+        ensures bytes { result.now ≡ take (length self.now.before - 1) self.now.before }
         ensures group { (ended : List (List ℕ)) → self.now.before ≡ ended_blocks ended
-            → IsGroupOf (ended ++ (self.now.head ++ self.now.body) ∷ []) result.now }
+            → 1 ≤ length ended → IsGroupOf ended result.now }
     {
-        self.bytes.as_slice()
+        let (ended, _) = self
+            .bytes
+            .as_slice()
+            .split_at(self.begins.saturating_sub(1));
+        ended
+    }
+
+    /// Forgets the blocks that ended, so that this one is the first of its group. The memory stays for those that follow.
+    pub fn drop_ended(&mut self)
+        ensures before { self.new.before ≡ [] }
+        ensures head { self.new.head ≡ self.old.head }
+        ensures body { self.new.body ≡ self.old.body }
+    {
+        let room = self.bytes.capacity();
+        keep_from(&mut self.bytes, self.begins, room);
+        self.begins = 0;
     }
 
     /// Forgets all journals, and keeps the memory for those that follow.

@@ -276,9 +276,17 @@ fn a_writer_gathers_a_group(rt: HostRuntime) -> Result<(), Fail> {
     writer.begin_next()?;
     writer.finish(2, &root)?;
     group.extend_from_slice(writer.as_slice())?;
-    assert_eq!(rt; (group.len(), writer.group()), (89, group.as_slice()));
+    writer.begin_next()?;
+    writer.finish(3, &root)?;
+    let open = writer.as_slice().to_vec(rt.alloc())?;
+    assert_eq!(rt; (group.len(), writer.ended()), (89, group.as_slice()));
+    writer.drop_ended();
+    assert_eq!(rt;
+        (writer.ended().len(), writer.as_slice()),
+        (0, open.as_slice())
+    );
     writer.begin_group();
-    assert_eq!(rt; writer.group().len(), 0);
+    assert_eq!(rt; writer.as_slice().len(), 0);
     Ok(())
 }
 
