@@ -1,5 +1,5 @@
 -- Lemmas on the book of a first journal.
-use Rattle.std.proofs.Common.{◌≡◌, ℕ, ◌-◌, ◌&&◌, ◌||◌, ◌==◌, true, false, cond, not, option_map, Some, None, List, [], ◌∷◌, ◌++◌, length, take, drop, refl, ap, sym, subst, ◌∙◌, arith}
+use Rattle.std.proofs.Common.{◌≡◌, ℕ, ◌-◌, ◌&&◌, ◌||◌, ◌==◌, true, false, cond, not, None, List, [], ◌∷◌, ◌++◌, length, take, drop, refl, ap, sym, subst, ◌∙◌, arith}
 use Rattle.std.specs.List.{fold}
 use Rattle.std.specs.Option.{is_some}
 use Rattle.std.specs.Prelude.{max, map, get_or, zero, suc}
@@ -35,7 +35,8 @@ use Rattle.ledger_model.specs.declared.genesis.Genesis.{Genesis}
 use Rattle.ledger_model.specs.declared.limits.Limits.{Limits}
 use Rattle.ledger_model.proofs.KeepLaws.{genesis_lawful}
 use Rattle.ledger_model.specs.Targets.{is_occult}
-use Rattle.ledger_model.proofs.HideLaws.{hider_is}
+use Rattle.ledger_model.proofs.HideLaws.{none_behind}
+use Rattle.ledger_model.proofs.LawfulLaws.{lawful_from}
 use Rattle.ledger_book.specs.Hiders.{TellHiders, told_hider, hider_in}
 use Rattle.ledger_model.specs.Behind.{IsOwnBehind}
 use Rattle.ledger_book.specs.Reading.{StandsBehind}
@@ -111,7 +112,7 @@ module _ (header : Header) (operator regulator : Digest) (j : Entry) (kind_is : 
   first_times = ap (λ (k : Kind). marks_from 0 (map (λ (e : Entry). mark_of e.header) (cond (is_time k) (j ∷ []) []))) first_kind
 
   first_hiders : TellHiders (0 ∷ []) 0 (begun_with j)
-  first_hiders = λ n le. ap told_hider (none_first (n - 0)) ∙ sym (hider_is (begun_with j) n first_lawful ∙ ap (λ (k : Kind). option_map (λ (e : Entry). e.header.jsn) (cond (is_occult k && j.header.a == n) (Some j) None)) first_kind)
+  first_hiders = λ n le. ap told_hider (none_first (n - 0)) ∙ sym (none_behind (j ∷ []) n (lawful_from (j ∷ []) first_lawful) (omega arith))
 
   first_root : model.root (begun_with j) 1 ≡ leaf sha256 (spelling j.header)
   unfolding model.root

@@ -1,9 +1,7 @@
 -- Lemmas on which header is the next one where no base stands in front: it is the next one of the history.
 use Rattle.std.specs.Prelude.{Bool, true, false, cond, zero, suc, None, Some, Option, filter, bytes_eq, not, nat_le}
-use Rattle.std.specs.Option.{is_some, option_map}
-use Rattle.std.specs.List.{list_any}
 use Rattle.std.specs.Set.{distinct_count}
-use Rattle.std.proofs.Common.{◌≡◌, ℕ, ◌+◌, ◌-◌, ◌<◌, ◌&&◌, ◌||◌, ◌==◌, List, [], ◌∷◌, length, map, find, refl, sym, ◌∙◌, ap, subst, arith}
+use Rattle.std.proofs.Common.{◌≡◌, ℕ, ◌+◌, ◌-◌, ◌<◌, ◌&&◌, ◌==◌, List, [], ◌∷◌, length, map, refl, sym, ◌∙◌, ap, subst, arith}
 use Rattle.std.proofs.lemmas.Bool.{eqb-true, eq-eqb, leb-false, lt-leb, true≢false}
 use Rattle.std.proofs.lemmas.Option.{none-some}
 use Rattle.ledger_bytes.specs.declared.digest.Digest.{Digest}
@@ -20,27 +18,16 @@ use Rattle.journal_record.specs.declared.header.Kind.TheVariants as kind
 use Rattle.ledger_model.specs.Bases.{clue_mark_of, clues_added}
 use Rattle.ledger_model.specs.Clues.{has_clue, is_of_clue, numbers_of, jsns_with, clue_count, next_ordinal, last_journal}
 use Rattle.ledger_model.specs.Clues as model_clues
-use Rattle.ledger_model.specs.History.{History, history, journals, point, greatest_point}
+use Rattle.ledger_model.specs.History.{History, history, point, greatest_point}
 use Rattle.ledger_model.specs.Judgements.{clues_full}
 use Rattle.ledger_model.specs.Lawful.{AreLawful, IsNext, IsNextOf, IsNextRecord}
 use Rattle.ledger_model.specs.Limits.{real_limits}
-use Rattle.ledger_model.specs.Targets.{is_hidden, kind_at, leaf_at}
-use Rattle.ledger_model.proofs.HideLaws.{hidden_is, hider_is, hider_of}
+use Rattle.ledger_model.specs.Targets.{kind_at, leaf_at}
+use Rattle.ledger_model.proofs.HideLaws.{hidden_named}
 use Rattle.ledger_model.proofs.MarkLaws.{marks}
 use Rattle.ledger_model.specs.Numbers.{numbered}
 use Rattle.ledger_book.proofs.NumberedLaws.{from_floor}
-use Rattle.ledger_model.specs.Behind.{numbered_from, clues_behind, names, IsRecordBehind, IsOwnBehind, IsNextBehind}
-
--- whether a journal is hidden, as the numbers of those that hide others tell it
-pub found_named : (n : ℕ) (es : List Entry) → is_some (hider_of es n) ≡ list_any (names n) es
-found_named n [] = refl
-found_named n (e ∷ es) = elim (names n e) as (λ v. is_some (option_map (λ (j : Entry). j.header.jsn) (cond v (Some e) (find (names n) es))) ≡ (v || list_any (names n) es)) [
-  | true ↦ refl
-  | false ↦ found_named n es
-]
-
-pub hidden_named : (h : History) (n : ℕ) → AreLawful (journals h) → is_hidden h n ≡ list_any (names n) (journals h)
-hidden_named h n lawful = hidden_is h n ∙ ap is_some (hider_is h n lawful) ∙ found_named n (journals h)
+use Rattle.ledger_model.specs.Behind.{numbered_from, clues_behind, IsRecordBehind, IsOwnBehind, IsNextBehind}
 
 -- the judgement on the room for a clue, by what it looks at
 abbrev pub full : Bool → Bool → Bool → Option Refusal

@@ -2,19 +2,18 @@
 use Rattle.std.proofs.Common.{◌≡◌, ◌≢◌, ℕ, zero, suc, ◌+◌, ◌-◌, ◌<◌, ◌≤◌, ◌&&◌, ◌==◌, Bool, true, false, List, [], ◌∷◌, ◌++◌, length, drop, get_or, Option, Some, None, refl, sym, ◌∙◌, ap, subst, cond, arith, length-append, set, get_or-set_same, get_or-set_other, length-set}
 use Rattle.std.specs.Option.{is_some}
 use Rattle.std.specs.Prelude.{nat_le, slice_get}
-use Rattle.std.proofs.lemmas.Bool.{eqb-true, eq-eqb, ne_eqb, le-leb, leb-true, ltb-true, true≢false, false_from_ne_true, and_parts}
+use Rattle.std.proofs.lemmas.Bool.{eqb-true, eq-eqb, ne_eqb, le-leb, leb-true, true≢false, and_parts}
 use Rattle.journal_record.specs.Entry.{Entry}
-use Rattle.journal_record.specs.Rules.{jsn_ok, a_ok}
 use Rattle.journal_record.specs.declared.header.Header.{Header}
 use Rattle.journal_record.specs.declared.header.Kind.{Kind}
 use Rattle.journal_record.specs.declared.header.Kind.TheVariants as kind
 use Rattle.ledger_model.specs.History.{History, history, journals, size}
 use Rattle.ledger_model.specs.Lawful.{IsNextOccult, IsNextOf, AreLawful}
-use Rattle.ledger_model.specs.Targets.{is_occult, hider}
-use Rattle.ledger_model.proofs.HideLaws.{names, hider_of, hidden_is, hider_is, hider_same, hider_new}
+use Rattle.ledger_model.specs.Targets.{is_occult, hides, hider}
+use Rattle.ledger_model.proofs.HideLaws.{names, hider_at, hidden_is, hider_kept, hider_made, number_at, past}
 use Rattle.ledger_model.proofs.KeepLaws.{journals_wider}
-use Rattle.ledger_model.proofs.LawfulLaws.{lawful_more, some_journal}
-use Rattle.ledger_book.specs.Hiders.{told_hider, hider_in, TellHiders, hidden_at, with_target_of, with_hider_of}
+use Rattle.ledger_model.proofs.LawfulLaws.{AreFrom, lawful_from, lawful_more, some_journal}
+use Rattle.ledger_book.specs.Hiders.{told_hider, hider_in, TellHiders, hidden_at, with_hider_of}
 use Rattle.ledger_book.specs.Steps.{MayPlace}
 
 -- ---- the list
@@ -94,13 +93,20 @@ module _ (numbers : List ℕ) (floor : ℕ) (h : History) (j : Entry) (lawful : 
   abbrev more : History
   more = history h.closed (h.waiting ++ j ∷ [])
 
-  more_of : (n : ℕ) → hider more n ≡ hider_of (journals h ++ j ∷ []) n
-  more_of n =
-      hider_is more n (subst AreLawful (sym (journals_wider h j)) (lawful_more (journals h) j lawful next)) ∙ ap (λ es. hider_of es n) (journals_wider h j)
+  more_of : (n : ℕ) → hider more n ≡ hider_at (journals h ++ j ∷ []) n
+  more_of n = ap (λ es. hider_at es n) (journals_wider h j)
+
+  from : AreFrom 0 (journals h ++ j ∷ [])
+  from = lawful_from (journals h ++ j ∷ []) (lawful_more (journals h) j lawful next)
+
+  -- whom it hides has the number that it names
+  hides_by : (n : ℕ) (e : Entry) → slice_get (journals h) n ≡ Some e → hides e j ≡ names n j
+  hides_by n e at = ap (λ m. is_occult j.header.kind && j.header.a == m) (number_at 0 n (journals h) e (lawful_from (journals h) lawful) at ∙ omega arith)
 
   -- it hides none
   other : (n : ℕ) → floor ≤ n → names n j ≡ false → hider_in floor (with_hider_of floor j.header numbers) n ≡ hider more n
-  other n le none = hider_other floor n j.header numbers le none ∙ (index n le ∙ (hider_is h n lawful ∙ (sym (hider_same (journals h) j n none) ∙ sym (more_of n))))
+  other n le none =
+      hider_other floor n j.header numbers le none ∙ (index n le ∙ (sym (hider_kept (journals h) j n from (λ e at. hides_by n e at ∙ none)) ∙ sym (more_of n)))
 
   -- it hides its target, which none hid before
   own_occult : (k : Kind) → is_occult k ≡ true → IsNextOf (history [] (journals h)) j.header k → IsNextOccult (history [] (journals h)) j.header
@@ -115,14 +121,17 @@ module _ (numbers : List ℕ) (floor : ℕ) (h : History) (j : Entry) (lawful : 
   here le named =
       let is : is_occult j.header.kind ≡ true = (and_parts (is_occult j.header.kind) (j.header.a == j.header.a) named).0 in
       let own = own_occult j.header.kind is next.own in
-      let shown : is_some (hider_of (journals h) j.header.a) ≡ false =
-      ap is_some (sym (hider_is (history [] (journals h)) j.header.a lawful)) ∙ sym (hidden_is (history [] (journals h)) j.header.a) ∙ own.shown in
+      let shown : is_some (hider h j.header.a) ≡ false = sym (hidden_is (history [] (journals h)) j.header.a) ∙ own.shown in
       let before : (get_or numbers (j.header.a - floor) 0 == 0) ≡ true =
-      untold (get_or numbers (j.header.a - floor) 0) (ap is_some (index j.header.a le ∙ hider_is h j.header.a lawful) ∙ shown) in
+      untold (get_or numbers (j.header.a - floor) 0) (ap is_some (index j.header.a le) ∙ shown) in
       let some : 1 ≤ j.header.jsn = omega (arith, next.jsn, some_journal (journals h) lawful) in
       let told : get_or (with_hider_of floor j.header numbers) (j.header.a - floor) 0 ≡ j.header.jsn =
       hider_here floor j.header numbers is le (omega (arith, own.before, all)) ∙ ap (λ v. cond v j.header.jsn (get_or numbers (j.header.a - floor) 0)) before in
-      ap told_hider told ∙ (told_some j.header.jsn some ∙ (sym (hider_new (journals h) j j.header.a shown named) ∙ sym (more_of j.header.a)))
+      ap told_hider told ∙ (told_some j.header.jsn some ∙ (sym (by_target own.before shown (slice_get (journals h) j.header.a) refl) ∙ sym (more_of j.header.a)))
+    where
+      by_target : j.header.a < size h → is_some (hider h j.header.a) ≡ false → (t : Option Entry) → slice_get (journals h) j.header.a ≡ t → hider_at (journals h ++ j ∷ []) j.header.a ≡ Some j.header.jsn
+      by_target before shown None at = absurd (omega (arith, before, past (journals h) j.header.a at))
+      by_target before shown (Some e) at = hider_made (journals h) j e j.header.a at shown (hides_by j.header.a e at ∙ named)
 
   pub hiders_more : TellHiders (with_hider_of floor j.header numbers) floor more
   hiders_more n le = elim (names n j) as (λ v. names n j ≡ v → hider_in floor (with_hider_of floor j.header numbers) n ≡ hider more n) [

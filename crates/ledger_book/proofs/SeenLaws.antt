@@ -7,7 +7,6 @@ use Rattle.std.specs.Set.{distinct_count}
 use Rattle.std.proofs.Common.{◌≡◌, ℕ, ◌+◌, ◌-◌, ◌<◌, ◌≤◌, ◌&&◌, ◌||◌, ◌==◌, List, [], ◌∷◌, ◌++◌, length, map, take, drop, refl, sym, ◌∙◌, ap, subst, arith, append-nil, append_assoc, length-append, length-drop, take-append-drop}
 use Rattle.std.proofs.lemmas.Bool.{true≢false, le-leb, lt-leb, leb-true, leb-false, eqb-true, and_parts}
 use Rattle.std.proofs.lemmas.List.{map-append, length-map, take_at, drop_at, get_or-drop}
-use Rattle.std.specs.Option.{is_some}
 use Rattle.std.proofs.lemmas.List.Elements.{filter-append}
 use Rattle.std.proofs.lemmas.List.Folds.{list_any-append}
 use Rattle.ledger_bytes.specs.declared.digest.Digest.{Digest}
@@ -42,12 +41,12 @@ use Rattle.ledger_model.specs.History.{History, history, journals, size, point, 
 use Rattle.ledger_model.specs.Judgements.{clues_full}
 use Rattle.ledger_model.specs.Members.{founders, admits, member_of, admitted_members, members}
 use Rattle.ledger_model.specs.Targets.{is_hidden, kind_at, leaf_at}
-use Rattle.ledger_model.proofs.HideLaws.{none_named}
+use Rattle.ledger_model.proofs.HideLaws.{hidden_named, named_before}
 use Rattle.pseudo_genesis.specs.declared.base.Base.{Base}
 use Rattle.ledger_model.specs.Behind.{names, count_behind, clues_behind, IsRecordBehind, IsOwnBehind, BeginsWell, IsNextBehind, AreBehind, has_own_purge}
 use Rattle.ledger_book.proofs.NumberedLaws.{fresh_behind, from_floor}
 use Rattle.ledger_book.proofs.OwnLaws.{own_least, false_where}
-use Rattle.ledger_book.proofs.GroundLaws.{full, no_room, numbers_same, last_same, clues_same, found_named, hidden_named, there}
+use Rattle.ledger_book.proofs.GroundLaws.{full, no_room, numbers_same, last_same, clues_same, there}
 use Rattle.ledger_model.specs.Lawful.{AreLawful, AreNext, IsFounded, IsNext, IsNextOf, IsNextRecord}
 use Rattle.ledger_book.proofs.TimeLaws.{drop_points, from_later}
 use Rattle.journal_record.specs.declared.header.Kind.TheVariants as kind
@@ -97,10 +96,6 @@ map_drop : {A B : Type 0} (f : A → B) (n : ℕ) (xs : List A) → map f (drop 
 map_drop f zero xs = refl
 map_drop f (suc n) [] = refl
 map_drop f (suc n) (x ∷ xs) = map_drop f n xs
-
--- none of some journals hides one that isn't among them
-none_above : (n : ℕ) (es : List Entry) → AreFrom 0 es → 0 + length es ≤ n → list_any (names n) es ≡ false
-none_above n es from le = sym (found_named n es) ∙ ap is_some (none_named 0 n es from le)
 
 module _ (h : History) (b : Base) (lawful : AreLawful (journals h)) (some : 1 ≤ b.point) (within : b.point ≤ size h) (keyed : b.keys ≡ map (λ (m : Member). m.key) (members (front h b.point))) (clued : b.clues ≡ states_at b.point (clues_added 0 (take b.point (journals h)))) where
   abbrev p : ℕ
@@ -297,7 +292,7 @@ module _ (h : History) (b : Base) (lawful : AreLawful (journals h)) (some : 1 �
           kept = omega (arith, own.kept le, point_is);
           before = there js x.a kind.Content (kind_behind x.a le ∙ own.target_is le) refl;
           target_is = kind_behind x.a le ∙ own.target_is le;
-          shown = hidden_split x.a ∙ ap (λ v. v || list_any (names x.a) es) (none_above x.a (take p js) (front_from 0 p js from) (omega (arith, le, take_few p js))) ∙ own.shown;
+          shown = hidden_split x.a ∙ ap (λ v. v || list_any (names x.a) es) (named_before 0 x.a (take p js) (front_from 0 p js from) (omega (arith, le, take_few p js))) ∙ own.shown;
           leaf_is = own.leaf_is le ∙ sym (leaf_behind x.a le);
         }
       where

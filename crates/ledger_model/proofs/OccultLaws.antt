@@ -1,7 +1,7 @@
 -- What an occult that is accepted does: its target is hidden, and nothing else changes in what can be shown.
 use Rattle.std.specs.Prelude.{nat_le, nat_lt, slice_get, ◌==◌}
 use Rattle.std.specs.Option.{is_some}
-use Rattle.std.proofs.Common.{◌≡◌, ◌≢◌, ℕ, ◌+◌, ◌<◌, ◌≤◌, false, cond, List, [], ◌∷◌, ◌++◌, length, Some, None, refl, sym, ◌∙◌, ap, subst, arith, length-append}
+use Rattle.std.proofs.Common.{◌≡◌, ◌≢◌, ℕ, ◌+◌, ◌<◌, ◌≤◌, false, cond, List, [], ◌∷◌, ◌++◌, length, Option, Some, None, refl, sym, ◌∙◌, ap, subst, arith, length-append}
 use Rattle.std.proofs.lemmas.Bool.{lt-leb, le-ltb, eqb-true, eq-eqb, false_from_ne_true}
 use Rattle.ledger_bytes.specs.declared.digest.Digest.{Digest}
 use Rattle.journal_record.specs.Entry.{Entry}
@@ -14,14 +14,14 @@ use Rattle.ledger_model.specs.Limits.{real_limits}
 use Rattle.ledger_model.specs.Outcomes.{after_judgement, with_job, view}
 use Rattle.ledger_model.specs.Rules.{after_job}
 use Rattle.ledger_model.specs.Step.{Step}
-use Rattle.ledger_model.specs.Targets.{is_hidden_by, is_hidden, hider}
+use Rattle.ledger_model.specs.Targets.{hides, is_hidden_by, is_hidden, hider}
 use Rattle.ledger_model.specs.declared.job.Job.TheVariants.{Occult}
 use Rattle.ledger_model.specs.declared.view.View.TheVariants.{Absent, Purged, Occulted, Whole}
 use Rattle.ledger_model.proofs.AcceptedLaws.{occult_own, occult_next}
 use Rattle.ledger_model.proofs.GrowLaws.{size_close}
-use Rattle.ledger_model.proofs.HideLaws.{hider_of, hidden_is, hider_is, hider_same, hider_new}
+use Rattle.ledger_model.proofs.HideLaws.{hider_at, hidden_is, hider_kept, hider_made, number_at, past}
 use Rattle.ledger_model.proofs.KeepLaws.{journals_close, journals_wider, close_lawful, real_within}
-use Rattle.ledger_model.proofs.LawfulLaws.{lawful_more}
+use Rattle.ledger_model.proofs.LawfulLaws.{AreFrom, lawful_from, lawful_more}
 use Rattle.ledger_model.proofs.PlaceLaws.{point_same}
 
 module _ (h : History) (step : Step) (target : ℕ) (leaf : Digest) (given : List Approval) (lawful : IsLawful h) (accepted : own_refusal real_limits (close h) (Occult target leaf given) ≡ None) where
@@ -47,8 +47,11 @@ module _ (h : History) (step : Step) (target : ℕ) (leaf : Digest) (given : Lis
       subst AreLawful (ap (λ js. js ++ placed ∷ []) (journals_close h) ∙ sym journals_later)
       (lawful_more (journals (close h)) placed (close_lawful h lawful).journals_are (occult_next real_limits real_within (close h) target leaf given accepted (close_lawful h lawful).journals_are))
 
-  hider_later : (n : ℕ) → hider later n ≡ hider_of (journals h ++ placed ∷ []) n
-  hider_later n = hider_is later n lawful_later ∙ ap (λ es. hider_of es n) journals_later
+  from_later : AreFrom 0 (journals h ++ placed ∷ [])
+  from_later = subst (AreFrom 0) journals_later (lawful_from (journals later) lawful_later)
+
+  hider_later : (n : ℕ) → hider later n ≡ hider_at (journals h ++ placed ∷ []) n
+  hider_later n = ap (λ es. hider_at es n) journals_later
 
   -- the target was there, kept and shown
   there : target < size h
@@ -63,18 +66,26 @@ module _ (h : History) (step : Step) (target : ℕ) (leaf : Digest) (given : Lis
   unfolding occult_header
   shown = ap (λ js. is_hidden_by js (slice_get js target)) (sym (journals_close h)) ∙ own.shown
 
+  -- it hides the one that has its target's number
+  hides_by : (n : ℕ) (e : Entry) → slice_get (journals h) n ≡ Some e → hides e placed ≡ (target == n)
+  unfolding occult_header
+  hides_by n e at = ap (λ m. target == m) (number_at 0 n (journals h) e (lawful_from (journals h) lawful.journals_are) at ∙ omega arith)
+
   -- the occult hides it
   pub target_hider : hider later target ≡ Some (size h)
   unfolding occult_header
-  target_hider =
-      let none : is_some (hider_of (journals h) target) ≡ false = ap is_some (sym (hider_is h target lawful.journals_are)) ∙ sym (hidden_is h target) ∙ shown in
-      hider_later target ∙ hider_new (journals h) placed target none (eq-eqb target target refl) ∙ ap Some (size_close h)
+  target_hider = by_target (slice_get (journals h) target) refl where
+    by_target : (t : Option Entry) → slice_get (journals h) target ≡ t → hider later target ≡ Some (size h)
+    by_target None at = absurd (omega (arith, there, past (journals h) target at))
+    by_target (Some e) at =
+        hider_later target
+        ∙ hider_made (journals h) placed e target at (sym (hidden_is h target) ∙ shown) (hides_by target e at ∙ eq-eqb target target refl)
+        ∙ ap Some (size_close h)
 
   -- .. and no other
   pub other_hider : (n : ℕ) → n ≢ target → hider later n ≡ hider h n
-  unfolding occult_header
   other_hider n other =
-      hider_later n ∙ hider_same (journals h) placed n (false_from_ne_true (target == n) (λ is. other (sym (eqb-true target n is)))) ∙ sym (hider_is h n lawful.journals_are)
+      hider_later n ∙ hider_kept (journals h) placed n from_later (λ e at. hides_by n e at ∙ false_from_ne_true (target == n) (λ is. other (sym (eqb-true target n is))))
 
   size_later : size later ≡ size h + 1
   size_later = ap length journals_later ∙ length-append (journals h) (placed ∷ [])

@@ -22,9 +22,9 @@ use Rattle.ledger_model.specs.declared.job.Job.TheVariants.{Purge}
 use Rattle.ledger_model.specs.declared.view.View.TheVariants.{Absent, Purged, Occulted, Whole}
 use Rattle.ledger_model.proofs.AcceptedLaws.{purge_own, purge_next}
 use Rattle.ledger_model.proofs.GrowLaws.{size_close}
-use Rattle.ledger_model.proofs.HideLaws.{hider_of, hidden_is, hider_is, hider_same, none_named}
+use Rattle.ledger_model.proofs.HideLaws.{hider_at, hidden_is, hider_kept, none_behind}
 use Rattle.ledger_model.proofs.KeepLaws.{journals_close, journals_wider, close_lawful, real_within}
-use Rattle.ledger_model.proofs.LawfulLaws.{lawful_from, lawful_more}
+use Rattle.ledger_model.proofs.LawfulLaws.{AreFrom, lawful_from, lawful_more}
 use Rattle.ledger_model.proofs.PlaceLaws.{point_more}
 
 module _ (h : History) (step : Step) (p : ℕ) (told : Digest) (given : List Approval) (lawful : IsLawful h) (accepted : own_refusal real_limits (close h) (Purge p told given) ≡ None) where
@@ -69,12 +69,15 @@ module _ (h : History) (step : Step) (p : ℕ) (told : Digest) (given : List App
   point_later = ap greatest_point journals_later ∙ point_more (journals h) placed ∙ omega (arith, own.above, ap greatest_point (journals_close h))
 
   -- it hides none
-  hider_later : (n : ℕ) → hider later n ≡ hider_of (journals h) n
-  unfolding purge_header
-  hider_later n = hider_is later n lawful_later ∙ ap (λ es. hider_of es n) journals_later ∙ hider_same (journals h) placed n refl
+  from_later : AreFrom 0 (journals h ++ placed ∷ [])
+  from_later = subst (AreFrom 0) journals_later (lawful_from (journals later) lawful_later)
 
-  hidden_later : (n : ℕ) → is_hidden later n ≡ is_some (hider_of (journals h) n)
-  hidden_later n = hidden_is later n ∙ ap is_some (hider_later n)
+  hidden_later : (n : ℕ) → is_hidden later n ≡ is_some (hider_at (journals h ++ placed ∷ []) n)
+  hidden_later n = hidden_is later n ∙ ap (λ es. is_some (hider_at es n)) journals_later
+
+  hider_later : (n : ℕ) → hider_at (journals h ++ placed ∷ []) n ≡ hider h n
+  unfolding purge_header
+  hider_later n = hider_kept (journals h) placed n from_later (λ e at. refl)
 
   -- what can be shown of those in front of the point, of those from it on, and of the purge
   pub front_view : (n : ℕ) → n < p → view later n ≡ Purged p
@@ -94,11 +97,11 @@ module _ (h : History) (step : Step) (p : ℕ) (told : Digest) (given : List App
   unfolding view
   kept_view n at below =
       kept_as n at (omega (arith, below, size_later))
-      ∙ ap (λ v. cond v Occulted Whole) (hidden_later n ∙ ap is_some (sym (hider_is h n lawful.journals_are)) ∙ sym (hidden_is h n))
+      ∙ ap (λ v. cond v Occulted Whole) (hidden_later n ∙ ap is_some (hider_later n) ∙ sym (hidden_is h n))
       ∙ sym (ap (λ v. cond v Absent (cond (nat_lt n (point h)) (Purged (point h)) (cond (is_hidden h n) Occulted Whole))) (lt-leb (size h) n below)
       ∙ ap (λ v. cond v (Purged (point h)) (cond (is_hidden h n) Occulted Whole)) (le-ltb n (point h) (omega (arith, at, above))))
 
   pub own_view : view later (size h) ≡ Whole
   own_view =
       kept_as (size h) (omega (arith, there)) (omega (arith, size_later))
-      ∙ ap (λ v. cond v Occulted Whole) (hidden_later (size h) ∙ ap is_some (none_named 0 (size h) (journals h) (lawful_from (journals h) lawful.journals_are) (omega arith)))
+      ∙ ap (λ v. cond v Occulted Whole) (hidden_later (size h) ∙ ap is_some (none_behind (journals h ++ placed ∷ []) (size h) from_later (omega (arith, length-append (journals h) (placed ∷ [])))))
