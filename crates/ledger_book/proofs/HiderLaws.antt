@@ -1,5 +1,5 @@
 -- Lemmas on the numbers of those that hide others, where a journal more is placed.
-use Rattle.std.proofs.Common.{◌≡◌, ◌≢◌, ℕ, zero, suc, ◌+◌, ◌-◌, ◌<◌, ◌≤◌, ◌&&◌, ◌==◌, Bool, true, false, List, [], ◌∷◌, ◌++◌, length, drop, get_or, Option, Some, None, refl, sym, ◌∙◌, ap, subst, cond, arith, length-append, set, get_or-set_same, get_or-set_other, length-set}
+use Rattle.std.proofs.Common.{◌≡◌, ◌≢◌, ℕ, zero, suc, ◌+◌, ◌-◌, ◌<◌, ◌≤◌, ◌&&◌, ◌==◌, Bool, true, false, List, [], ◌∷◌, ◌++◌, length, drop, get_or, Option, Some, None, refl, sym, ◌∙◌, ap, subst, cond, arith, length-append, set, get_or-set_same, get_or-set_other}
 use Rattle.std.specs.Option.{is_some}
 use Rattle.std.specs.Prelude.{nat_le, slice_get}
 use Rattle.std.proofs.lemmas.Bool.{eqb-true, eq-eqb, ne_eqb, le-leb, leb-true, true≢false, and_parts}
@@ -29,12 +29,6 @@ get_dropped : (c : ℕ) (ns : List ℕ) (i : ℕ) → get_or (drop c ns) i 0 ≡
 get_dropped zero ns i = ap (λ k. get_or ns k 0) (let same : i ≡ 0 + i = omega arith in same)
 get_dropped (suc c) [] i = refl
 get_dropped (suc c) (n ∷ ns) i = get_dropped c ns i ∙ ap (λ k. get_or (n ∷ ns) k 0) (let same : suc (c + i) ≡ suc c + i = omega arith in same)
-
-pub length_hidden : (place jsn : ℕ) (ns : List ℕ) → length (hidden_at place jsn ns) ≡ length ns
-length_hidden place jsn ns = elim (get_or ns place 0 == 0) as (λ v. length (cond v (set ns place jsn) ns) ≡ length ns) [
-  | true ↦ length-set ns place jsn
-  | false ↦ refl
-]
 
 hidden_other : (place jsn i : ℕ) (ns : List ℕ) → i ≢ place → get_or (hidden_at place jsn ns) i 0 ≡ get_or ns i 0
 hidden_other place jsn i ns other = elim (get_or ns place 0 == 0) as (λ v. get_or (cond v (set ns place jsn) ns) i 0 ≡ get_or ns i 0) [

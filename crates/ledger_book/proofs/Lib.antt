@@ -1,3 +1,4 @@
+mod MemberNumberLaws
 pub mod NumberedLaws
 pub mod HeaderLaws
 pub mod ClueLaws

@@ -1,15 +1,9 @@
 -- Lemmas on the last record with a number.
-use Rattle.std.specs.Prelude.{◌==◌, nat_le, nat_lt, max, not, slice_get, get_or, filter, Result, Ok, Err, OnOk, OnErr}
+use Rattle.std.specs.Prelude.{◌==◌, nat_le, max, not, slice_get, get_or, Result, Ok, Err, OnOk, OnErr}
 use Rattle.std.specs.Option.{is_some, option_or}
 use Rattle.std.specs.Str.{bytes_eq}
-use Rattle.std.specs.List.{AllByRecursion}
-use Rattle.std.specs.List.Sorted.{IsStrictlySortedBy}
-use Rattle.std.specs.Map.{keys_of}
-use Rattle.std.specs.Ordering.{is_eq, nat_cmp, ordering_then}
-use Rattle.std.specs.declared.cmp.Ordering.{Ordering}
-use Rattle.std.specs.declared.cmp.Ordering.TheVariants.{Less, Equal, Greater}
-use Rattle.std.proofs.Common.{◌≡◌, ℕ, zero, suc, ◌+◌, ◌-◌, ◌<◌, ◌≤◌, ◌^◌, ◌&&◌, Bool, true, false, cond, List, [], ◌∷◌, ◌++◌, length, map, take, drop, Option, Some, None, refl, sym, ap, subst, ◌∙◌, arith, drop-drop}
-use Rattle.std.proofs.lemmas.Bool.{le-leb, lt-leb, leb-true, leb-false, ltb-true, eqb-true, eq-eqb, ne_eqb, true≢false, false_from_ne_true, and_parts, and_from}
+use Rattle.std.proofs.Common.{◌≡◌, ℕ, zero, suc, ◌+◌, ◌-◌, ◌<◌, ◌≤◌, ◌&&◌, Bool, true, false, cond, List, [], ◌∷◌, ◌++◌, length, map, drop, Option, Some, None, refl, sym, ap, ◌∙◌, arith, drop-drop}
+use Rattle.std.proofs.lemmas.Bool.{le-leb, lt-leb, leb-true, leb-false, eqb-true, eq-eqb, true≢false, false_from_ne_true, and_parts, and_from}
 use Rattle.std.proofs.lemmas.List.{drop-map}
 use Rattle.std.proofs.lemmas.Slice.Eq.{bytes_eq-Decides}
 use Rattle.journal_record.specs.Entry.{Entry}
@@ -25,7 +19,7 @@ use Rattle.ledger_book.specs.Books.{Kept, Stands, Serves}
 use Rattle.ledger_book.specs.Reading.{StandsBehind}
 use Rattle.ledger_book.proofs.StandsLaws.{point_is}
 use Rattle.ledger_model.specs.Numbers as model
-use Rattle.ledger_book.specs.Numbered.{key_cmp, key_eq, is_numbered, is_with, last_with, from_on, told_of, IndexesNumbers, PutsNumber, IsAdded, IsSameIndex, told_number}
+use Rattle.ledger_book.specs.Numbered.{key_eq, is_numbered, is_with, last_with, from_on, told_of, IndexesNumbers, PutsNumber, IsAdded, IsSameIndex, told_number}
 
 abbrev IsNothing : Option ℕ → Type 0
 IsNothing o = let none : Option ℕ = None in o ≡ none
@@ -34,23 +28,6 @@ nothing_some : (n : ℕ) → (let none : Option ℕ = None in none ≡ Some n) �
 nothing_some n is = cc is
 
 -- ---- pairs of a member and a number
-
-tied : (a b : ℕ) → is_eq (nat_cmp a b) ≡ (a == b)
-tied a b = elim (nat_lt a b) as (λ v. nat_lt a b ≡ v → is_eq (cond v Less (cond (a == b) Equal Greater)) ≡ (a == b)) [
-  | true ↦ λ lt. sym (ne_eqb a b (λ same. omega (arith, same, ltb-true a b lt)))
-  | false ↦ λ ge. elim (a == b) as (λ v. is_eq (cond v Equal Greater) ≡ v) [
-    | true ↦ refl
-    | false ↦ refl
-  ]
-] refl
-
-both_tied : (x y : Ordering) → is_eq (ordering_then x y) ≡ (is_eq x && is_eq y)
-both_tied Less y = refl
-both_tied Equal y = refl
-both_tied Greater y = refl
-
-pub key_tied : (k e : ℕ × ℕ) → is_eq (key_cmp k e) ≡ key_eq k e
-key_tied k e = both_tied (nat_cmp k.0 e.0) (nat_cmp k.1 e.1) ∙ (ap (λ v. v && is_eq (nat_cmp k.1 e.1)) (tied k.0 e.0) ∙ ap (λ v. k.0 == e.0 && v) (tied k.1 e.1))
 
 same_key : (k e : ℕ × ℕ) → key_eq k e ≡ true → k ≡ e
 same_key k e is =
@@ -131,11 +108,11 @@ added_by first at true old last le is = ap (λ v. cond v (Some at) None) (le-leb
 added_by first at false old last le is = is
 
 -- a header more
-pub unnumbered_added : (entries : List ((ℕ × ℕ) × ℕ)) (first : ℕ) (xs : List Header) (x : Header) → is_numbered x ≡ false → IndexesNumbers entries first xs → IndexesNumbers entries first (xs ++ x ∷ [])
+pub unnumbered_added : (entries : List (List (ℕ × ℕ))) (first : ℕ) (xs : List Header) (x : Header) → is_numbered x ≡ false → IndexesNumbers entries first xs → IndexesNumbers entries first (xs ++ x ∷ [])
 unnumbered_added entries first xs x none index m r some =
     index m r some ∙ sym (last_more first m r xs x ∙ ap (λ v. cond v (Some (first + length xs)) (last_with first m r xs)) (none_with x m r none some))
 
-numbered_added : (old new : List ((ℕ × ℕ) × ℕ)) (first jsn : ℕ) (xs : List Header) (x : Header) → is_numbered x ≡ true → PutsNumber old new (x.member, x.a) (Some jsn) → IndexesNumbers old first xs → jsn ≡ first + length xs → IndexesNumbers new first (xs ++ x ∷ [])
+numbered_added : (old new : List (List (ℕ × ℕ))) (first jsn : ℕ) (xs : List Header) (x : Header) → is_numbered x ≡ true → PutsNumber old new (x.member, x.a) (Some jsn) → IndexesNumbers old first xs → jsn ≡ first + length xs → IndexesNumbers new first (xs ++ x ∷ [])
 numbered_added old new first jsn xs x some puts index at m r one =
     ap (from_on first) (puts (m, r))
     ∙ (added_by first jsn (key_eq (x.member, x.a) (m, r)) (told_of (m, r) old) (last_with first m r xs) (omega (arith, at)) (index m r one)
@@ -143,24 +120,24 @@ numbered_added old new first jsn xs x some puts index at m r one =
     ∙ (ap (λ n. cond (is_with m r x) (Some n) (last_with first m r xs)) at
     ∙ sym (last_more first m r xs x))))
 
-pub put_added : {T E : Type 0} (result : Result T E) (old new : List ((ℕ × ℕ) × ℕ)) (jsn : ℕ) (x : Header) → is_numbered x ≡ true → OnOk result (PutsNumber old new (x.member, x.a) (Some jsn))
+pub put_added : {T E : Type 0} (result : Result T E) (old new : List (List (ℕ × ℕ))) (jsn : ℕ) (x : Header) → is_numbered x ≡ true → OnOk result (PutsNumber old new (x.member, x.a) (Some jsn))
     → OnOk result ((first : ℕ) (xs : List Header) → IndexesNumbers old first xs → jsn ≡ first + length xs → IndexesNumbers new first (xs ++ x ∷ []))
 put_added (Ok before) old new jsn x some puts = λ first xs index at. numbered_added old new first jsn xs x some puts index at
 put_added (Err error) old new jsn x some puts = tt
 
 -- an index that tells the same
-pub same_indexed : (old new : List ((ℕ × ℕ) × ℕ)) (first : ℕ) (xs : List Header) → IsSameIndex old new → IndexesNumbers old first xs → IndexesNumbers new first xs
+pub same_indexed : (old new : List (List (ℕ × ℕ))) (first : ℕ) (xs : List Header) → IsSameIndex old new → IndexesNumbers old first xs → IndexesNumbers new first xs
 same_indexed old new first xs same index m r some = ap (from_on first) (same (m, r)) ∙ index m r some
 
 -- what was put is taken back
-pub taken_back : (first old new : List ((ℕ × ℕ) × ℕ)) (key : ℕ × ℕ) (jsn : ℕ) (before : Option ℕ) → PutsNumber first old key (Some jsn) → before ≡ told_of key first → PutsNumber old new key before → IsSameIndex first new
+pub taken_back : (first old new : List (List (ℕ × ℕ))) (key : ℕ × ℕ) (jsn : ℕ) (before : Option ℕ) → PutsNumber first old key (Some jsn) → before ≡ told_of key first → PutsNumber old new key before → IsSameIndex first new
 taken_back first old new key jsn before puts is back k =
     back k ∙ (ap (λ o. cond (key_eq key k) before o) (puts k) ∙ by_key (key_eq key k) refl) where
       by_key : (b : Bool) → key_eq key k ≡ b → cond b before (cond b (Some jsn) (told_of k first)) ≡ told_of k first
       by_key true e = is ∙ ap (λ l. told_of l first) (same_key key k e)
       by_key false e = refl
 
-pub put_back : {T E : Type 0} (result : Result T E) (first old new : List ((ℕ × ℕ) × ℕ)) (x : Header) (jsn last : ℕ) → is_numbered x ≡ true → OnOk result (PutsNumber old new (x.member, x.a) (Some last)) → OnErr result (IsNothing (told_of (x.member, x.a) old))
+pub put_back : {T E : Type 0} (result : Result T E) (first old new : List (List (ℕ × ℕ))) (x : Header) (jsn last : ℕ) → is_numbered x ≡ true → OnOk result (PutsNumber old new (x.member, x.a) (Some last)) → OnErr result (IsNothing (told_of (x.member, x.a) old))
     → IsAdded x first jsn (Some last) old → IsSameIndex first new
 put_back (Ok t) first old new x jsn last some ok absent added = taken_back first old new (x.member, x.a) jsn (Some last) (added.puts some) (added.before_is some) ok
 put_back (Err e) first old new x jsn last some ok absent added =
@@ -168,38 +145,10 @@ put_back (Err e) first old new x jsn last some ok absent added =
     added.puts some (x.member, x.a) ∙ ap (λ b. cond b (Some jsn) (told_of (x.member, x.a) first)) (own_key (x.member, x.a)) in
     absurd (nothing_some jsn (sym absent ∙ told))
 
--- the headers from a journal on, where what is told of journals in front of it may be dropped
-pub cut_indexed : (entries cut : List ((ℕ × ℕ) × ℕ)) (first p : ℕ) (xs ys : List Header) → first ≤ p → ys ≡ drop (p - first) xs → ((key : ℕ × ℕ) → from_on p (told_of key cut) ≡ from_on p (told_of key entries)) → IndexesNumbers entries first xs → IndexesNumbers cut p ys
+-- the headers from a journal on, where what is told of journals in front of it is dropped
+pub cut_indexed : (entries cut : List (List (ℕ × ℕ))) (first p : ℕ) (xs ys : List Header) → first ≤ p → ys ≡ drop (p - first) xs → ((key : ℕ × ℕ) → told_of key cut ≡ from_on p (told_of key entries)) → IndexesNumbers entries first xs → IndexesNumbers cut p ys
 cut_indexed entries cut first p xs ys le is kept_same index m r some =
-    kept_same (m, r) ∙ sym (further first p (told_of (m, r) entries) le) ∙ (ap (from_on p) (index m r some) ∙ (sym (kept first p m r xs le) ∙ ap (last_with p m r) (sym is)))
-
--- ---- an index without the journals in front of one
-
-none_after : (p : ℕ) (k : ℕ × ℕ) (es : List ((ℕ × ℕ) × ℕ)) → AllByRecursion (λ y. key_cmp k y ≡ Less) (keys_of es) → IsNothing (told_of k (filter (λ (e : (ℕ × ℕ) × ℕ). nat_le p e.1) es))
-none_after p k [] all = refl
-none_after p k (e ∷ es) all =
-    let later = none_after p k es all.1 in
-    elim (nat_le p e.1) as (λ v. IsNothing (told_of k (cond v (e ∷ filter (λ (e : (ℕ × ℕ) × ℕ). nat_le p e.1) es) (filter (λ (e : (ℕ × ℕ) × ℕ). nat_le p e.1) es)))) [
-      | true ↦ ap (λ o. cond (is_eq o) (Some e.1) (told_of k (filter (λ (e : (ℕ × ℕ) × ℕ). nat_le p e.1) es))) all.0 ∙ later
-      | false ↦ later
-    ]
-
-pub kept_told : (p : ℕ) (k : ℕ × ℕ) (es : List ((ℕ × ℕ) × ℕ)) → IsStrictlySortedBy (key_cmp) (keys_of es) → from_on p (told_of k (filter (λ (e : (ℕ × ℕ) × ℕ). nat_le p e.1) es)) ≡ from_on p (told_of k es)
-unfolding IsStrictlySortedBy
-kept_told p k [] sorted = refl
-kept_told p k (e ∷ es) sorted = by_kept (nat_le p e.1) (is_eq (key_cmp k e.0)) refl refl (kept_told p k es sorted.1) where
-  by_kept : (v w : Bool) → nat_le p e.1 ≡ v → is_eq (key_cmp k e.0) ≡ w → from_on p (told_of k (filter (λ (e : (ℕ × ℕ) × ℕ). nat_le p e.1) es)) ≡ from_on p (told_of k es) → from_on p (told_of k (cond v (e ∷ filter (λ (e : (ℕ × ℕ) × ℕ). nat_le p e.1) es) (filter (λ (e : (ℕ × ℕ) × ℕ). nat_le p e.1) es))) ≡ from_on p (cond w (Some e.1) (told_of k es))
-  by_kept true w vis wis rest =
-      ap (λ b. from_on p (cond b (Some e.1) (told_of k (filter (λ (e : (ℕ × ℕ) × ℕ). nat_le p e.1) es)))) wis
-      ∙ elim w as (λ b. from_on p (cond b (Some e.1) (told_of k (filter (λ (e : (ℕ × ℕ) × ℕ). nat_le p e.1) es))) ≡ from_on p (cond b (Some e.1) (told_of k es))) [
-        | true ↦ refl
-        | false ↦ rest
-      ]
-  by_kept false true vis wis rest =
-      let same : k ≡ e.0 = same_key k e.0 (sym (key_tied k e.0) ∙ wis) in
-      ap (from_on p) (none_after p k es (subst (λ q. AllByRecursion (λ y. key_cmp q y ≡ Less) (keys_of es)) (sym same) sorted.0))
-      ∙ sym (ap (λ b. cond b (Some e.1) None) vis)
-  by_kept false false vis wis rest = rest
+    ap (from_on p) (kept_same (m, r)) ∙ further p p (told_of (m, r) entries) (omega arith) ∙ sym (further first p (told_of (m, r) entries) le) ∙ (ap (from_on p) (index m r some) ∙ (sym (kept first p m r xs le) ∙ ap (last_with p m r) (sym is)))
 
 -- ---- what a book tells
 
@@ -207,7 +156,7 @@ number_some : (r : ℕ) → (r == 0) ≡ false → 1 ≤ r
 number_some zero none = absurd (true≢false none)
 number_some (suc r) none = omega arith
 
-pub told_by : (entries : List ((ℕ × ℕ) × ℕ)) (first point m r : ℕ) (xs : List Header) → (r == 0) ≡ false → IndexesNumbers entries first xs → from_on point (from_on first (told_of (m, r) entries)) ≡ told_number first point m r xs
+pub told_by : (entries : List (List (ℕ × ℕ))) (first point m r : ℕ) (xs : List Header) → (r == 0) ≡ false → IndexesNumbers entries first xs → from_on point (from_on first (told_of (m, r) entries)) ≡ told_number first point m r xs
 told_by entries first point m r xs none index =
     ap (from_on point) (index m r (number_some r none)) ∙ sym (ap (λ b. cond b None (from_on point (last_with first m r xs))) none)
 
@@ -284,7 +233,7 @@ from_both p q (Some n) = by_first (nat_le q n) refl where
   by_first true is = by_last (nat_le p n) refl (leb-true q n is)
   by_first false is = ap (λ v. cond v (Some n) None) (lt-leb (max p q) n (let lt = leb-false q n is in omega (arith, lt)))
 
-pub told_last : (entries : List ((ℕ × ℕ) × ℕ)) (first point m r : ℕ) (xs : List Header) → (r == 0) ≡ false → IndexesNumbers entries first xs → from_on (max point first) (told_of (m, r) entries) ≡ told_number first point m r xs
+pub told_last : (entries : List (List (ℕ × ℕ))) (first point m r : ℕ) (xs : List Header) → (r == 0) ≡ false → IndexesNumbers entries first xs → from_on (max point first) (told_of (m, r) entries) ≡ told_number first point m r xs
 told_last entries first point m r xs none index = from_both point first (told_of (m, r) entries) ∙ told_by entries first point m r xs none index
 
 pub told_stands : (k : Kept) (h : History) (m r : ℕ) → Serves k h → told_number k.floor k.point m r k.headers ≡ numbered h m r

@@ -1,27 +1,31 @@
 //! An index of the numbers that members give their requests.
 
-ghost use Rattle.std.specs.Prelude.{◌≡◌, ℕ, ◌+◌, List, [], ◌∷◌, ◌++◌, length, None, Some, OnOk, OnErr, IfOk};
+ghost use Rattle.std.specs.Prelude.{◌≡◌, ℕ, ◌+◌, ◌≤◌, List, [], ◌∷◌, ◌++◌, length, None, Some, OnOk, OnErr, IfOk};
 ghost use Rattle.journal_record.specs.declared.header.Header.{Header as HeaderRecord};
 ghost use Rattle.ledger_book.specs.Numbered.{from_on, told_of, is_numbered, IndexesNumbers, PutsNumber, IsAdded, IsSameIndex};
 
+mod member_numbers;
+
 use journal_record::{Header, Kind};
 use ledger_bytes::NoMemory;
+use member_numbers::MemberNumbers;
 use std::alloc::Global;
-use std::collections::BTreeMap;
 use std::marker::Model;
 
-/// Which record of a member has which number: the last one of each. A contract sees the pairs of a key and a journal.
+/// Which record of a member has which number: the last one of each. A contract sees each member's pairs of a number and a
+/// journal.
 #[derive(Drop)]
 pub(crate) struct NumberIndex {
-    by: BTreeMap<(u32, u64), u64>,
+    /// The members in order, up to the last one that has given a number.
+    members: Vec<MemberNumbers>,
 }
 
 impl Model for NumberIndex {
     ghost use Rattle.std.specs.Prelude.{ℕ, List};
 
-    ghost Value = { List ((ℕ × ℕ) × ℕ) };
+    ghost Value = { List (List (ℕ × ℕ)) };
 
-    ghost view = { λ x. x.by.entries };
+    ghost view = { λ x. x.members.items };
 }
 
 impl NumberIndex {
@@ -30,7 +34,7 @@ impl NumberIndex {
         ensures { (first : ℕ) → IndexesNumbers result first [] }
     {
         NumberIndex {
-            by: BTreeMap::new(alloc),
+            members: Vec::new(alloc),
         }
     }
 
@@ -38,7 +42,7 @@ impl NumberIndex {
     pub(crate) fn of(&self, member: u32, number: u64, first: u64) -> Option<u64>
         ensures { result ≡ from_on first (told_of (member, number) self.now) }
     {
-        let jsn = self.told(&(member, number))?;
+        let jsn = self.told(member, number)?;
         if first <= jsn { Some(jsn) } else { None }
     }
 
@@ -53,55 +57,82 @@ impl NumberIndex {
         if !is_numbered(header) {
             return Ok(None);
         }
-        self.put(&(header.member, header.a), jsn)
+        self.put(header.member, header.a, jsn)
     }
 
     /// Takes back an addition by what it answered. It takes no memory.
     pub(crate) fn take_back(&mut self, header: &Header, jsn: u64, before: Option<u64>)
-        ensures { (first : List ((ℕ × ℕ) × ℕ)) → IsAdded header.now first jsn before self.old
+        ensures { (first : List (List (ℕ × ℕ))) → IsAdded header.now first jsn before self.old
             → IsSameIndex first self.new }
     {
         if !is_numbered(header) {
             return;
         }
-        let key = (header.member, header.a);
         match before {
             Some(last) => {
-                let _ = self.put(&key, last);
+                let _ = self.put(header.member, header.a, last);
             }
-            None => self.forget(&key),
+            None => self.forget(header.member, header.a),
         }
     }
 
     /// Keeps the journals from journal `p` on.
     pub(crate) fn drop_below(&mut self, p: u64)
-        ensures { (key : ℕ × ℕ) → from_on p (told_of key self.new) ≡ from_on p (told_of key self.old) }
+        ensures { (key : ℕ × ℕ) → told_of key self.new ≡ from_on p (told_of key self.old) }
     {
-        self.by.retain(|_, jsn| *jsn >= p);
+        for numbers in self.members.iter_mut() {
+            numbers.drop_below(p);
+        }
     }
 
-    // What a key tells.
-    fn told(&self, key: &(u32, u64)) -> Option<u64>
-        ensures { result ≡ told_of key.now self.now }
+    // What a number of a member tells.
+    fn told(&self, member: u32, number: u64) -> Option<u64>
+        ensures { result ≡ told_of (member, number) self.now }
     {
-        self.by.get(key).copied()
+        self.members.get(member as usize)?.told(number)
     }
 
-    // The key tells this journal from now on. The answer is what it told before; only where that is none it takes memory.
-    fn put(&mut self, key: &(u32, u64), jsn: u64) -> Result<Option<u64>, NoMemory>
-        ensures ok { OnOk result (PutsNumber self.old self.new key.now (Some jsn)) }
-        ensures told { IfOk result (λ before. before ≡ told_of key.now self.old) }
-        ensures absent { OnErr result (told_of key.now self.old ≡ None) }
+    // The number tells this journal from now on. The answer is what it told before; only where that is none it takes memory.
+    fn put(&mut self, member: u32, number: u64, jsn: u64) -> Result<Option<u64>, NoMemory>
+        ensures ok { OnOk result (PutsNumber self.old self.new (member, number) (Some jsn)) }
+        ensures told { IfOk result (λ before. before ≡ told_of (member, number) self.old) }
+        ensures absent { OnErr result (told_of (member, number) self.old ≡ None) }
         ensures err { OnErr result (self.new ≡ self.old) }
     {
-        Ok(self.by.insert(*key, jsn)?)
+        match self.members.get_mut(member as usize) {
+            Some(numbers) => numbers.put(number, jsn),
+            None => {
+                self.begin(member, number, jsn)?;
+                Ok(None)
+            }
+        }
     }
 
-    // The key tells nothing from now on.
-    fn forget(&mut self, key: &(u32, u64))
-        ensures { PutsNumber self.old self.new key.now None }
+    // Adds a member that isn't there yet, with its first number, and those in front of it without one.
+    fn begin(&mut self, member: u32, number: u64, jsn: u64) -> Result<(), NoMemory>
+        requires { length self.old ≤ member }
+        ensures ok { OnOk result (PutsNumber self.old self.new (member, number) (Some jsn)) }
+        ensures err { OnErr result (self.new ≡ self.old) }
     {
-        let _ = self.by.remove(key);
+        let alloc = *self.members.allocator();
+        let mut numbers = MemberNumbers::new(alloc);
+        let _ = numbers.put(number, jsn)?;
+        let missing = member as usize - self.members.len();
+        self.members.reserve(missing + 1)?;
+        for _ in 0..missing {
+            self.members.push_reserved(MemberNumbers::new(alloc));
+        }
+        self.members.push_reserved(numbers);
+        Ok(())
+    }
+
+    // The number tells nothing from now on.
+    fn forget(&mut self, member: u32, number: u64)
+        ensures { PutsNumber self.old self.new (member, number) None }
+    {
+        if let Some(numbers) = self.members.get_mut(member as usize) {
+            numbers.forget(number);
+        }
     }
 }
 
