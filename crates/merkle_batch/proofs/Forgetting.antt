@@ -1,5 +1,5 @@
 -- Rows that have forgotten what a higher floor leaves out keep and count the rest.
-use Rattle.std.proofs.Common.{◌≡◌, ℕ, ◌+◌, ◌-◌, ◌*◌, ◌/◌, ◌%◌, ◌<◌, ◌≤◌, List, [], ◌∷◌, ◌++◌, length, get_or, set, take, drop, sym, ap, ◌∙◌, subst, arith, length-drop, drop-drop}
+use Rattle.std.proofs.Common.{◌≡◌, ℕ, ◌+◌, ◌-◌, ◌*◌, ◌/◌, ◌%◌, ◌<◌, ◌≤◌, List, [], ◌∷◌, length, get_or, set, take, drop, sym, ap, ◌∙◌, subst, arith, length-drop, drop-drop}
 use Rattle.std.proofs.lemmas.List.{drop_all, drop-set-lt}
 use Rattle.tree_model.specs.Tree.{Hash}
 use Rattle.tree_model.specs.Halves.{pairs}

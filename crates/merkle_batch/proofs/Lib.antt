@@ -7,3 +7,6 @@ pub mod Peaking
 pub mod Agreeing
 pub mod Over
 pub mod Counting
+pub mod Stretching
+pub mod Copying
+pub mod Standing

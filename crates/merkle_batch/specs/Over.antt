@@ -19,6 +19,10 @@ unfoldable pub StandsOver : Hash → Levels → ℕ → List (List ℕ) → List
 StandsOver hash tree p ps xs =
     (length ps ≡ count_ones p) × (p ≤ tree.floor) × (p + length xs ≡ tree.size) × KeepsOver hash p tree.floor tree.rows ps xs
 
+-- a tree stands for some leaves with some peaks, and for some leaf digests behind them
+unfoldable pub IsOverSome : Hash → Levels → Type 0
+IsOverSome hash tree = (p : ℕ) × (ps : List (List ℕ)) × (xs : List (List ℕ)) × StandsOver hash tree p ps xs
+
 -- the root over the leaves that the peaks stand for and the digests behind them, where there are any
 unfoldable pub root_over : Hash → List (List ℕ) → ℕ → List (List ℕ) → Option (List ℕ)
 root_over hash ps p xs = if nat_eq (p + length xs) 0 then None else Some (root_from hash ps p xs)

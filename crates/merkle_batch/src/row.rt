@@ -1,6 +1,6 @@
 //! One level of a tree that grows: its kept nodes, and the room for those to come.
 
-ghost use Rattle.std.specs.Prelude.{◌≡◌, ◌+◌, ◌-◌, ◌/◌, ◌%◌, ◌^◌, ◌<◌, ◌≤◌, [], ◌∷◌, ◌++◌, length, drop, get_or, IfSome, IfNone, IfOk, OnOk};
+ghost use Rattle.std.specs.Prelude.{◌≡◌, ◌+◌, ◌-◌, ◌/◌, ◌%◌, ◌^◌, ◌<◌, ◌≤◌, [], ◌∷◌, ◌++◌, length, map, take, drop, get_or, IfSome, IfNone, IfOk, OnOk};
 
 use ledger_bytes::{Digest, NoMemory, keep_from};
 use std::alloc::Global;
@@ -33,6 +33,15 @@ impl Row {
         }
     }
 
+    // The row of these nodes.
+    pub(crate) fn of(alloc: Global, digests: &[Digest]) -> Result<Row, NoMemory>
+        ensures { IfOk result (λ row. row.nodes ≡ map (λ d. d.0) digests.now) }
+    {
+        let mut nodes = Vec::new(alloc);
+        nodes.extend_from_slice(digests)?;
+        Ok(Row { nodes })
+    }
+
     pub(crate) fn len(&self) -> u64
         ensures { result ≡ length self.now.nodes }
     {
@@ -45,6 +54,22 @@ impl Row {
         ensures { result.0 ≡ get_or self.now.nodes place [] }
     {
         self.nodes[place as usize]
+    }
+
+    // The nodes that are kept.
+    pub(crate) fn nodes(&self) -> &[Digest]
+        ensures { map (λ d. d.0) result.now ≡ self.now.nodes }
+    {
+        self.nodes.as_slice()
+    }
+
+    // A row of the nodes from one place on up to another, both counted from the first that is kept.
+    pub(crate) fn copy(&self, alloc: Global, from: u64, to: u64) -> Result<Row, NoMemory>
+        requires order { from ≤ to }
+        requires within { to ≤ length self.now.nodes }
+        ensures { IfOk result (λ row. row.nodes ≡ take (to - from) (drop from self.now.nodes)) }
+    {
+        Row::of(alloc, &self.nodes[from as usize..to as usize])
     }
 
     // Sets room aside for so many nodes more. The answer is how many nodes above they complete.
@@ -73,6 +98,17 @@ impl Row {
             Some(self.nodes[self.nodes.len() - 2])
         } else {
             None
+        }
+    }
+
+    // Adds nodes behind those that are there.
+    pub(crate) fn push_all(&mut self, nodes: &[Digest])
+        requires { length self.old.nodes + length nodes.now ≤ self.old.room }
+        ensures nodes { self.new.nodes ≡ self.old.nodes ++ map (λ d. d.0) nodes.now }
+        ensures room { self.new.room ≡ self.old.room }
+    {
+        for node in nodes {
+            self.nodes.push_reserved(*node);
         }
     }
 

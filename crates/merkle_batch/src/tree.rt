@@ -1,6 +1,6 @@
 //! A tree that grows by leaves and forgets its first ones, with its roots, paths, proofs and peaks.
 
-ghost use Rattle.std.specs.Prelude.{◌≡◌, ℕ, ◌+◌, ◌-◌, ◌<◌, ◌≤◌, ◌^◌, List, [], ◌∷◌, ◌++◌, length, map, take, get_or, count_ones, Err, IfOk, IfErr, IsOk, OnOk};
+ghost use Rattle.std.specs.Prelude.{◌≡◌, ℕ, ◌+◌, ◌-◌, ◌<◌, ◌≤◌, ◌^◌, List, [], ◌∷◌, ◌++◌, length, map, take, drop, get_or, count_ones, Err, IfOk, IfErr, IsOk, OnOk};
 ghost use Rattle.tree_model.specs.Tree.{root};
 ghost use Rattle.tree_model.specs.Path.{path, path_length};
 ghost use Rattle.tree_model.specs.Extension.{proof, proof_length};
@@ -10,8 +10,10 @@ ghost use Rattle.merkle_batch.specs.Over.{StandsOver};
 ghost use Rattle.merkle_batch.specs.Rows.{StandsFor};
 ghost use Rattle.merkle_batch.specs.declared.tree.TreeErr.TheVariants as tree_err;
 
+use crate::joining::{add_rows, copy_rows};
 use crate::row::Row;
 use crate::rows::{add, add_path, add_peaks, add_proof, climb, forget, leaf_at, reserve, rows_of};
+use crate::stretch::Stretch;
 use ledger_bytes::{Digest, NoMemory, TreeHash};
 use std::alloc::Global;
 use std::marker::{Model, PhantomData};
@@ -43,7 +45,7 @@ impl From<NoMemory> for TreeErr {
 /// The hash tree over the leaves that were added, by the digests that `merkle_tree::leaf_of` gives of them. It keeps
 /// those from its floor on, and the peaks of the leaves before it.
 #[derive(Drop)]
-pub struct Tree<H> {
+pub struct Tree<H: TreeHash> {
     alloc: Global,
     rows: Vec<Row>,
     size: u64,
@@ -52,8 +54,9 @@ pub struct Tree<H> {
     hash: PhantomData<H>,
 }
 
-impl<H> Model for Tree<H> {
+impl<H: TreeHash> Model for Tree<H> {
     ghost use Rattle.std.specs.Prelude.{◌≤◌, ◌<◌, ◌^◌};
+    ghost use Rattle.merkle_batch.specs.Over.{IsOverSome};
     ghost use Rattle.merkle_batch.specs.Rows.{Levels, HasCounted, HasRoom};
 
     ghost Value = { Levels };
@@ -66,7 +69,8 @@ impl<H> Model for Tree<H> {
     } };
 
     ghost invariant = { λ t. (t.floor ≤ t.size) × HasCounted t.floor t.size t.rows.items
-        × HasRoom t.spare t.rows.items × (t.spare < 2 ^ 63) };
+        × HasRoom t.spare t.rows.items × (t.spare < 2 ^ 63)
+        × IsOverSome H.of (record { rows = t.rows.items; size = t.size; floor = t.floor; spare = t.spare }) };
 }
 
 impl<H: TreeHash> Tree<H> {
@@ -133,6 +137,46 @@ impl<H: TreeHash> Tree<H> {
         for leaf in leaves {
             self.add_leaf(*leaf);
         }
+    }
+
+    /// Adds the leaves of a stretch behind those that are there, in the room that `reserve` has set aside. It takes no
+    /// memory. Where the stretch begins at the tree's end, only the nodes over leaves of both are hashed, at most one a
+    /// level.
+    pub fn add_stretch(&mut self, stretch: &Stretch<H>)
+        requires room { length stretch.now.leaves ≤ self.old.spare }
+        requires small { self.old.size + length stretch.now.leaves < 2 ^ 63 }
+        ensures stands { (ds : List (List ℕ)) → StandsFor H.of self.old ds
+            → StandsFor H.of self.new (ds ++ stretch.now.leaves) }
+        ensures over { (p : ℕ) (ps xs : List (List ℕ)) → StandsOver H.of self.old p ps xs
+            → StandsOver H.of self.new p ps (xs ++ stretch.now.leaves) }
+        ensures size { self.new.size ≡ self.old.size + length stretch.now.leaves }
+        ensures floor { self.new.floor ≡ self.old.floor }
+        ensures spare { self.new.spare + length stretch.now.leaves ≡ self.old.spare }
+    {
+        if self.size == stretch.start {
+            self.join(stretch);
+        } else {
+            self.add_leaves(stretch.leaves());
+        }
+    }
+
+    // Adds the leaves and the nodes of a stretch that begins at its end.
+    fn join(&mut self, stretch: &Stretch<H>)
+        requires start { stretch.now.start ≡ self.old.size }
+        requires room { length stretch.now.leaves ≤ self.old.spare }
+        requires small { self.old.size + length stretch.now.leaves < 2 ^ 63 }
+        ensures stands { (ds : List (List ℕ)) → StandsFor H.of self.old ds
+            → StandsFor H.of self.new (ds ++ stretch.now.leaves) }
+        ensures over { (p : ℕ) (ps xs : List (List ℕ)) → StandsOver H.of self.old p ps xs
+            → StandsOver H.of self.new p ps (xs ++ stretch.now.leaves) }
+        ensures size { self.new.size ≡ self.old.size + length stretch.now.leaves }
+        ensures floor { self.new.floor ≡ self.old.floor }
+        ensures spare { self.new.spare + length stretch.now.leaves ≡ self.old.spare }
+    {
+        let len = stretch.len();
+        add_rows::<H>(&mut self.rows, 0, stretch.start, None, &stretch.rows);
+        self.size += len;
+        self.spare -= len;
     }
 
     /// The root of the tree over all leaves. It takes no memory, as `root_at`.
@@ -267,6 +311,36 @@ impl<H: TreeHash> Tree<H> {
     {
         self.check_leaf(n, self.size)?;
         Ok(leaf_at(&self.rows, self.floor, n))
+    }
+
+    /// The leaves from one on up to another, with the nodes that depend on them alone. None is hashed.
+    pub fn stretch(&self, from: u64, to: u64) -> Result<Stretch<H>, TreeErr>
+        ensures start { IfOk result (λ s. s.start ≡ from) }
+        ensures leaves { IfOk result (λ s. (ds : List (List ℕ)) → StandsFor H.of self.now ds
+            → s.leaves ≡ take (to - from) (drop from ds)) }
+        ensures over { IfOk result (λ s. (p : ℕ) (ps xs : List (List ℕ))
+            → StandsOver H.of self.now p ps xs
+            → s.leaves ≡ take (to - from) (drop (from - p) xs)) }
+        ensures ok { self.now.floor ≤ from → from ≤ to → to ≤ self.now.size
+            → IfErr result (λ e. e ≡ tree_err.NoMemory) }
+        ensures below { from < self.now.floor → result ≡ Err (tree_err.Below self.now.floor) }
+        ensures beyond { self.now.floor ≤ from → to < from → result ≡ Err (tree_err.Beyond to) }
+        ensures beyond_all { self.now.floor ≤ from → from ≤ to → self.now.size < to
+            → result ≡ Err (tree_err.Beyond self.now.size) }
+    {
+        self.check_front(from, to)?;
+        if to > self.size {
+            return Err(TreeErr::Beyond { size: self.size });
+        }
+        let mut rows = Vec::new(self.alloc);
+        match copy_rows(self.alloc, &mut rows, &self.rows, self.floor, from, to) {
+            Ok(()) => Ok(Stretch {
+                start: from,
+                rows,
+                hash: PhantomData,
+            }),
+            Err(_) => Err(TreeErr::NoMemory),
+        }
     }
 
     /// Forgets the leaves below `p`, and the nodes that only they need, and gives their memory back. It takes none, and

@@ -1,8 +1,9 @@
-use Rattle.std.proofs.Common.{arith, ◌≤◌, length, ap, subst, sym, ◌∙◌}
+use Rattle.std.proofs.Common.{arith, refl, ◌≤◌, length, ap, subst, sym, ◌∙◌}
 use Rattle.merkle_batch.specs.Rows.{HasCounted, HasRoom, Forgot}
 use Rattle.merkle_batch.proofs.Keeping.{has_nodes, all_items}
 use Rattle.merkle_batch.proofs.Forgetting.{forgot_counts, stands_forgot}
 use Rattle.merkle_batch.proofs.Over.{over_forgot}
+use Rattle.merkle_batch.proofs.Standing.{some_forgot}
 use Rattle.merkle_batch.proofs.tree.Tree.forget_below.Goals as goal
 
 pub forget-requires-clause-there : goal.forget-requires-clause-there
@@ -22,6 +23,7 @@ invariant_of-self g c =
       subst (HasCounted c.args.p c.self.inside.size) (sym all) (forgot_counts c.self.inside.floor c.args.p c.self.inside.size c.self.inside.rows.items c.forget.new.rows low c.in_ok-check_front.ensures.within.1 forgot c.self.invariant.1),
       subst (HasRoom c.self.inside.spare) (sym all) c.forget.ensures.room,
       c.self.invariant.3,
+      some_forgot g.H.TreeHash.of _ _ low refl (subst (Forgot c.self.inside.floor c.args.p c.self.inside.rows.items) (sym all) forgot) c.self.invariant.4,
     )
 
 pub returns-clause-stands : goal.returns-clause-stands

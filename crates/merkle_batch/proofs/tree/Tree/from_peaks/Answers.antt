@@ -1,10 +1,17 @@
-use Rattle.std.proofs.Common.{refl, ap, subst, ◌∙◌, map, [], length, drop}
-use Rattle.merkle_batch.specs.Rows.{KeepsNodes}
+use Rattle.std.proofs.Common.{arith, refl, ap, subst, ◌∙◌, map, [], length, drop}
+use Rattle.merkle_batch.specs.Rows.{KeepsNodes, HasCounted, HasRoom}
 use Rattle.merkle_batch.proofs.Peaking.{stands_peaks}
 use Rattle.std.proofs.lemmas.List.{length-map}
 use Rattle.merkle_batch.specs.Over.{KeepsOver}
 use Rattle.merkle_batch.proofs.Over.{over_peaks}
+use Rattle.merkle_batch.proofs.Standing.{some_peaks}
 use Rattle.merkle_batch.proofs.tree.Tree.from_peaks.Goals as goal
+
+pub invariant_of-result : goal.invariant_of-result
+invariant_of-result g c =
+    let none = ap length c.new-rows.ensures.items in
+    let counts = subst (λ n. HasCounted c.args.p c.args.p (drop n c.rows_of.new.rows.items)) none c.in_ok-rows_of.ensures.counts in
+    (omega arith, counts, subst (λ n. HasRoom 0 (drop n c.rows_of.new.rows.items)) none c.in_ok-rows_of.ensures.room, omega arith, some_peaks g.H.TreeHash.of _ c.args.p refl refl counts)
 
 pub returns-clause-stands : goal.returns-clause-stands
 returns-clause-stands g c ds len is =

@@ -1,8 +1,9 @@
-use Rattle.std.proofs.Common.{arith, ap, subst}
+use Rattle.std.proofs.Common.{arith, refl, ap, subst}
 use Rattle.merkle_batch.specs.Rows.{Grown}
 use Rattle.merkle_batch.proofs.Keeping.{room_none}
 use Rattle.merkle_batch.proofs.Growing.{grown_counts, grown_room, stands_grown}
 use Rattle.merkle_batch.proofs.Over.{over_grown}
+use Rattle.merkle_batch.proofs.Standing.{some_grown}
 use Rattle.merkle_batch.proofs.tree.Tree.reserve.Goals as goal
 
 pub reserve-requires-clause-room : goal.reserve-requires-clause-room
@@ -14,6 +15,7 @@ invariant_of-self g c = (
   grown_counts c.self.inside.floor c.self.inside.size c.self.inside.rows.items c.reserve.new.rows.items c.self.invariant.0 c.reserve.ensures.keeps c.self.invariant.1,
   grown_room c.self.inside.spare c.self.inside.rows.items c.reserve.new.rows.items c.reserve.ensures.keeps c.self.invariant.2,
   c.self.invariant.3,
+  some_grown g.H.TreeHash.of _ _ refl refl c.reserve.ensures.keeps c.self.invariant.4,
 )
 
 pub returns-in_err-reserve-clause-stands : goal.returns-in_err-reserve-clause-stands
@@ -27,6 +29,7 @@ invariant_of-self-2 g c = (
   grown_counts c.self.inside.floor c.self.inside.size c.self.inside.rows.items c.reserve.new.rows.items c.self.invariant.0 c.reserve.ensures.keeps c.self.invariant.1,
   c.in_ok-reserve.ensures.ok,
   omega arith,
+  some_grown g.H.TreeHash.of _ _ refl refl c.reserve.ensures.keeps c.self.invariant.4,
 )
 
 pub returns-clause-stands : goal.returns-clause-stands
