@@ -9,7 +9,7 @@ use Rattle.tree_model.specs.RootFrom.{last_peak, other_peaks}
 use Rattle.tree_model.proofs.Halves.{length-pairs}
 use Rattle.tree_model.proofs.Peaks.{pairs-drop, pairs-take}
 use Rattle.tree_model.proofs.PeakHalves.{length-last_peak, length-other_peaks}
-use Rattle.merkle_batch.specs.Rows.{Row, first_of}
+use Rattle.merkle_batch.specs.Rows.{Row, first_of, HasCounted}
 use Rattle.merkle_batch.specs.Over.{KeepsOver}
 use Rattle.merkle_batch.specs.Stretches.{lowest, HoldsNodes}
 use Rattle.merkle_batch.proofs.Peaking.{behind}
@@ -89,6 +89,12 @@ lowest_from hash p floor j rows ps xs count le low keeps =
     ap (drop (j - first_of floor)) (lowest_over hash p floor rows ps xs keeps) ∙ drop-drop (j - first_of floor) (first_of floor - first_of p) (last_peak p ps ++ xs)
     ∙ ap (λ i. drop i (last_peak p ps ++ xs)) far ∙ sym (drop-drop (j - p) (p % 2) (last_peak p ps ++ xs))
     ∙ ap (drop (j - p)) (drop_at (last_peak p ps) xs (p % 2) one)
+
+-- all nodes of a level stand in front of the end of the lowest row
+pub lowest_count : (p count : ℕ) (rows : List Row) → p ≤ count → HasCounted p count rows → first_of p + length (lowest rows) ≡ count
+unfolding HasCounted lowest
+lowest_count p count [] low counts = omega (arith, counts, low)
+lowest_count p count (row ∷ rows) low counts = counts.0
 
 -- the copied nodes, counted from the first of their level
 pub copied_nodes : (p from to : ℕ) (nodes copied : List (List ℕ)) → p ≤ from → copied ≡ take (to - p / 2 * 2 - (from - p / 2 * 2)) (drop (from - p / 2 * 2) nodes) → copied ≡ take (to - from) (drop (from - first_of p) nodes)

@@ -321,6 +321,7 @@ impl<H: TreeHash> Tree<H> {
         ensures over { IfOk result (λ s. (p : ℕ) (ps xs : List (List ℕ))
             → StandsOver H.of self.now p ps xs
             → s.leaves ≡ take (to - from) (drop (from - p) xs)) }
+        ensures count { IfOk result (λ s. length s.leaves ≡ to - from) }
         ensures ok { self.now.floor ≤ from → from ≤ to → to ≤ self.now.size
             → IfErr result (λ e. e ≡ tree_err.NoMemory) }
         ensures below { from < self.now.floor → result ≡ Err (tree_err.Below self.now.floor) }

@@ -1,10 +1,10 @@
-use Rattle.std.proofs.Common.{arith, ◌≡◌, ◌≤◌, ◌-◌, length, take, drop, ap, subst, sym, ◌∙◌}
+use Rattle.std.proofs.Common.{arith, ◌≡◌, ◌≤◌, ◌-◌, length, length-take, length-drop, take, drop, ap, subst, sym, ◌∙◌}
 use Rattle.merkle_batch.specs.Over.{KeepsOver}
 use Rattle.merkle_batch.specs.Rows.{first_of, KeepsNodes}
 use Rattle.merkle_batch.specs.Stretches.{lowest, HoldsNodes}
 use Rattle.merkle_batch.proofs.Keeping.{has_nodes, stands_keeps}
 use Rattle.merkle_batch.proofs.Over.{over_ones, over_floor, over_keeps}
-use Rattle.merkle_batch.proofs.Copying.{lowest_from}
+use Rattle.merkle_batch.proofs.Copying.{lowest_from, lowest_count}
 use Rattle.merkle_batch.proofs.Standing.{lowest_nodes, some_gives}
 use Rattle.merkle_batch.proofs.tree.Tree.stretch.Goals as goal
 
@@ -42,3 +42,12 @@ returns-in-Ok-clause-over g c p ps xs stands =
     let nodes = subst (λ n. lowest (drop n c.copy_rows.new.copies.items) ≡ take (c.args.to - c.args.from) (drop (c.args.from - first_of c.self.inside.floor) (lowest c.deref.result.now))) (ap length c.new-rows.ensures.items) c.in-Ok.ensures.nodes in
     nodes ∙ ap (λ t. take (c.args.to - c.args.from) (drop (c.args.from - first_of c.self.inside.floor) (lowest t))) c.deref.ensures.value
     ∙ ap (take (c.args.to - c.args.from)) (lowest_from hash p c.self.inside.floor c.args.from c.self.inside.rows.items ps xs (over_ones hash tree p ps xs stands) fits low keeps)
+
+pub returns-in-Ok-clause-count : goal.returns-in-Ok-clause-count
+returns-in-Ok-clause-count g c =
+    let view = c.self.view_is in
+    let low : c.self.inside.floor ≤ c.args.from = omega (arith, c.in_ok-check_front.ensures.within.0, ap (λ t. t.floor) view) in
+    let nodes = subst (λ n. lowest (drop n c.copy_rows.new.copies.items) ≡ take (c.args.to - c.args.from) (drop (c.args.from - first_of c.self.inside.floor) (lowest c.deref.result.now))) (ap length c.new-rows.ensures.items) c.in-Ok.ensures.nodes in
+    let count = lowest_count c.self.inside.floor c.self.inside.size c.self.inside.rows.items c.self.invariant.0 c.self.invariant.1 in
+    let rest = drop (c.args.from - first_of c.self.inside.floor) (lowest c.deref.result.now) in
+    omega (arith, ap length nodes, length-take (c.args.to - c.args.from) rest, length-drop (c.args.from - first_of c.self.inside.floor) (lowest c.deref.result.now), ap (λ t. length (lowest t)) c.deref.ensures.value, count, low, c.if-to-self.false, c.in_ok-check_front.ensures.within.1)
