@@ -14,7 +14,7 @@ use Rattle.ledger_disk.specs.Disk.{State, MayLeave, settled_state}
 use Rattle.ledger_disk.proofs.Guarding.{settled_image}
 use Rattle.ledger_model.proofs.LawfulLaws.{lawful_from, later_seen, point_below, some_journal}
 use Rattle.ledger_model.specs.History.{History, journals, size, point}
-use Rattle.ledger_model.specs.Targets.{is_occult, is_hidden}
+use Rattle.ledger_model.specs.Targets.{is_occult, is_hidden, hider}
 use Rattle.ledger_open.specs.Cutting.{gate_behind}
 use Rattle.ledger_open.specs.Erasing.{AllInside, is_given_up, given_up, given_up_in, EndsAs, AreOf, IsGivenUp}
 use Rattle.ledger_open.specs.Opening.{Known, Knows}
@@ -26,7 +26,7 @@ use Rattle.block_file.specs.declared.place.PlaceAt.{PlaceAt}
 use Rattle.ledger_open.proofs.ErasingLaws.{given_erased, none_given_up}
 use Rattle.ledger_open.proofs.FinishedLaws.{ends_at, none_given}
 use Rattle.ledger_open.proofs.PartLaws.{one_parts}
-use Rattle.ledger_open.proofs.TargetLaws.{given_is, last_is}
+use Rattle.ledger_open.proofs.TargetLaws.{given_is, given_only, is_number, last_is}
 
 -- ---- the last header
 
@@ -66,21 +66,26 @@ module _ (book : Kept) (h : History) (serves : Serves book h) where
     pub not_none : o ≡ None → ⊥
     not_none none = none-some (last_is h serves.stands.lawful).0.header (sym none ∙ told ∙ ap (option_map (λ (j : Entry). j.header)) (last_is h serves.stands.lawful).1)
 
-    -- .. and it tells what is given up
-    pub given_told : (x : Header) → o ≡ Some x → (n : ℕ) → is_given_up h n ≡ (is_occult x.kind && x.a == n)
-    given_told x is n =
+    -- .. and what it doesn't name isn't given up
+    not_named : (x : Header) → o ≡ Some x → (n : ℕ) → (is_occult x.kind && x.a == n) ≡ false → is_given_up h n ≡ false
+    not_named x is n other =
         let e = last_is h serves.stands.lawful in
         let same : e.0.header ≡ x = same_Some e.0.header x (sym (told ∙ ap (option_map (λ (j : Entry). j.header)) e.1) ∙ is) in
-        given_is h serves.stands.lawful e.0 e.1 n ∙ ap (λ (y : Header). is_occult y.kind && y.a == n) same
+        given_only h serves.stands.lawful e.0 e.1 n (ap (λ (y : Header). is_occult y.kind && y.a == n) same ∙ other)
 
-    -- which is no other than the one that it names
+    -- .. of an occult all but one
     pub other_told : (x : Header) → o ≡ Some x → (n : ℕ) → (x.a ≡ n → ⊥) → is_given_up h n ≡ false
     other_told x is n other =
-        given_told x is n ∙ ap (λ (v : Bool). is_occult x.kind && v) (false_from_ne_true (x.a == n) (λ same. other (eqb-true x.a n same))) ∙ and_false (is_occult x.kind)
+        not_named x is n (ap (λ (v : Bool). is_occult x.kind && v) (false_from_ne_true (x.a == n) (λ same. other (eqb-true x.a n same))) ∙ and_false (is_occult x.kind))
 
-    -- and nothing where it is no occult
+    -- .. and of another all
     pub none_told : (x : Header) → o ≡ Some x → is_occult x.kind ≡ false → (n : ℕ) → is_given_up h n ≡ false
-    none_told x is other n = given_told x is n ∙ ap (λ (v : Bool). v && x.a == n) other
+    none_told x is other n = not_named x is n (ap (λ (v : Bool). v && x.a == n) other)
+
+  -- what is given up, as a book tells who hides it
+  pub given_told : (n count : ℕ) (by : Option ℕ) → count ≡ book.size → by ≡ hider h n → is_number by (count - 1) ≡ is_given_up h n
+  given_told n count by all is =
+      ap (λ (k : ℕ). is_number by (k - 1)) (all ∙ serves.stands.counts.size) ∙ ap (λ (o : Option ℕ). is_number o (size h - 1)) is ∙ sym (given_is h serves.stands.lawful n)
 
 -- what was got of the list of places
 pub found_in : {A : Type 0} (list xs : List A) (n : ℕ) (x : A) → xs ≡ list → n < length xs → x ≡ get_or xs n x → slice_get list n ≡ Some x

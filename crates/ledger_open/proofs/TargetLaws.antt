@@ -1,22 +1,24 @@
--- What the last journal gives up, by its header.
+-- What the last journal gives up: what it is the first to hide.
 use Rattle.std.specs.List.{list_any}
-use Rattle.std.specs.Prelude.{◌==◌, not, max, slice_get}
-use Rattle.std.proofs.Common.{◌≡◌, ◌⊎◌, inl, inr, ℕ, zero, suc, ◌+◌, ◌-◌, ◌<◌, ◌≤◌, Bool, true, false, cond, ◌&&◌, ◌||◌, List, [], ◌∷◌, ◌++◌, length, take, Option, None, Some, refl, sym, ◌∙◌, ap, subst, arith, length-append}
-use Rattle.std.proofs.lemmas.Bool.{eqb-true, eq-eqb, true≢false, and_parts}
+use Rattle.std.specs.Option.{is_some, option_eq}
+use Rattle.std.specs.Prelude.{◌==◌, not, max, find, slice_get, option_map}
+use Rattle.std.proofs.Common.{◌≡◌, ℕ, zero, suc, ◌+◌, ◌-◌, ◌<◌, ◌≤◌, Bool, true, false, cond, ◌&&◌, ◌||◌, List, [], ◌∷◌, ◌++◌, length, take, Option, None, Some, refl, sym, ◌∙◌, ap, subst, arith, length-append}
+use Rattle.std.proofs.lemmas.Bool.{eqb-true, eq-eqb, true≢false, false_from_ne_true, and_parts}
 use Rattle.std.proofs.lemmas.List.{take_at}
 use Rattle.std.proofs.lemmas.List.Folds.{list_any-append}
 use Rattle.std.proofs.lemmas.Option.{none-some, same_Some}
 use Rattle.journal_record.specs.Entry.{Entry}
 use Rattle.journal_record.specs.declared.header.Kind.{Kind}
 use Rattle.journal_record.specs.declared.header.Kind.TheVariants.{Genesis, Content, Member, Time, Occult, Purge}
-use Rattle.ledger_model.proofs.LawfulLaws.{AreFrom, lawful_from, some_journal, two_points}
+use Rattle.ledger_model.proofs.HideLaws.{first_with, named_is, hider_same, hider_new}
+use Rattle.ledger_model.proofs.LawfulLaws.{AreFrom, lawful_from, next_from, some_journal, two_points}
 use Rattle.ledger_model.specs.History.{History, history, journals, size, point, greatest_point, is_purge}
 use Rattle.ledger_model.specs.Lawful.{AreLawful, AreNext, IsNext, IsNextOf, IsNextOccult}
 use Rattle.ledger_model.specs.Limits.{real_limits}
-use Rattle.ledger_model.specs.Targets.{is_occult, hides, is_hidden_by, is_hidden}
+use Rattle.ledger_model.specs.Targets.{is_occult, hides, is_hidden_by, is_hidden, hider_among, hider}
 use Rattle.ledger_open.specs.Erasing.{is_given_up}
 use Rattle.ledger_open.specs.Standing.{hidden_before, point_before}
-use Rattle.ledger_open.proofs.NextLaws.{next_one}
+use Rattle.ledger_open.proofs.NextLaws.{next_front, next_one}
 
 -- ---- the last of some journals
 
@@ -41,28 +43,27 @@ number_from m n [] e from is = absurd (none-some e is)
 number_from m zero (x ∷ es) e from is = let same : x ≡ e = cc is in (subst (λ (y : Entry). y.header.jsn ≡ m + 0) same (omega (arith, from.0)), omega arith)
 number_from m (suc n) (x ∷ es) e from is = let more = number_from (m + 1) n es e from.2 is in (omega (arith, more.0), omega (arith, more.1))
 
-got_there : (n : ℕ) (es : List Entry) → n < length es → (e : Entry) × (slice_get es n ≡ Some e)
-got_there n [] lt = absurd (omega (arith, lt))
-got_there zero (e ∷ es) lt = (e, refl)
-got_there (suc n) (e ∷ es) lt = got_there n es (omega (arith, lt))
-
-got_front : (n : ℕ) (xs ys : List Entry) → n < length xs → slice_get (xs ++ ys) n ≡ slice_get xs n
-got_front n [] ys lt = absurd (omega (arith, lt))
-got_front zero (x ∷ xs) ys lt = refl
-got_front (suc n) (x ∷ xs) ys lt = got_front n xs ys (omega (arith, lt))
-
 -- ---- what the last journal hides, and what others hid before it
 
 or_false : (v : Bool) → (v || false) ≡ v
 or_false true = refl
 or_false false = refl
 
--- hidden by the last one, and by none before
-first_hides : (v w : Bool) → (w ≡ true → v ≡ false) → ((v || w) && not v) ≡ w
-first_hides true true shown = absurd (true≢false (shown refl))
-first_hides true false shown = refl
-first_hides false true shown = refl
-first_hides false false shown = refl
+-- whether a number is this one
+abbrev pub is_number : Option ℕ → ℕ → Bool
+is_number o n = option_eq (λ i j. i == j) o (Some n)
+
+no_number : (o : Option ℕ) (n : ℕ) → is_some o ≡ false → is_number o n ≡ false
+no_number None n none = refl
+no_number (Some i) n none = absurd (true≢false none)
+
+-- the first of some journals that has a property, where one in front of number n has it
+not_last : (p : Entry → Bool) (m n : ℕ) (es more : List Entry) → AreFrom m es → m + length es ≤ n → list_any p es ≡ true → is_number (first_with p (es ++ more)) n ≡ false
+not_last p m n [] more from few some = absurd (true≢false (sym some))
+not_last p m n (e ∷ es) more from few some = elim (p e) as (λ v. (v || list_any p es) ≡ true → is_number (option_map (λ (j : Entry). j.header.jsn) (cond v (Some e) (find p (es ++ more)))) n ≡ false) [
+  | true ↦ λ here. false_from_ne_true (e.header.jsn == n) (λ is. omega (arith, eqb-true e.header.jsn n is, from.0, few))
+  | false ↦ λ later. not_last p (m + 1) n es more from.2 (omega (arith, few)) later
+] some
 
 occult_is : (k : Kind) → is_occult k ≡ true → k ≡ Occult
 occult_is Genesis e = absurd (true≢false (sym e))
@@ -129,53 +130,59 @@ module _ (h : History) (lawful : AreLawful (journals h)) where
   last_shown is =
       ap greatest_point l.is ∙ two_points l.before (l.last ∷ []) ∙ ap (λ (k : Kind). max (greatest_point l.before) (max 0 (cond (is_purge k) l.last.header.a 0))) is ∙ omega arith ∙ sym (ap greatest_point front_is)
 
+  last_number : l.last.header.jsn ≡ size h - 1
+  last_number = omega (arith, size_is, last_next.jsn)
+
+  before_from : AreFrom 0 l.before
+  before_from = next_from [] l.before (next_front [] l.before (l.last ∷ []) (subst (λ (es : List Entry). AreNext [] es) l.is lawful.next))
+
+  -- a content is given up where the last journal is the one that hides it
+  pub given_is : (n : ℕ) → is_given_up h n ≡ is_number (hider h n) (size h - 1)
+  given_is n = by_got (slice_get (journals h) n) refl where
+    by_before : (e : Entry) (v w : Bool) → list_any (hides e) l.before ≡ v → hides e l.last ≡ w → ((v || w) && not v) ≡ is_number (first_with (hides e) (l.before ++ l.last ∷ [])) (size h - 1)
+    by_before e true true before last = sym (not_last (hides e) 0 (size h - 1) l.before (l.last ∷ []) before_from (omega (arith, size_is)) before)
+    by_before e true false before last = sym (not_last (hides e) 0 (size h - 1) l.before (l.last ∷ []) before_from (omega (arith, size_is)) before)
+    by_before e false true before last =
+        sym (ap (λ (o : Option ℕ). is_number o (size h - 1)) (hider_new (hides e) l.before l.last (sym (named_is (hides e) l.before) ∙ before) last) ∙ eq-eqb l.last.header.jsn (size h - 1) last_number)
+    by_before e false false before last =
+        sym (ap (λ (o : Option ℕ). is_number o (size h - 1)) (hider_same (hides e) l.before l.last last) ∙ no_number (first_with (hides e) l.before) (size h - 1) (sym (named_is (hides e) l.before) ∙ before))
+
+    by_got : (t : Option Entry) → slice_get (journals h) n ≡ t → is_given_up h n ≡ is_number (hider_among (journals h) t) (size h - 1)
+    by_got None at = ap (λ (t : Option Entry). is_hidden_by (journals h) t && not (is_hidden_by (take (size h - 1) (journals h)) t)) at
+    by_got (Some e) at =
+        ap (λ (v : Bool). v && not (hidden_before h n)) (hidden_is n e at)
+        ∙ ap (λ (v : Bool). (v || hides e l.last) && not v) (before_is n e at)
+        ∙ by_before e (list_any (hides e) l.before) (hides e l.last) refl refl
+        ∙ ap (λ (es : List Entry). is_number (first_with (hides e) es) (size h - 1)) (sym l.is)
+
   -- the last journal, where it is an occult that names this one
   abbrev names : ℕ → Bool
   names n = is_occult l.last.header.kind && l.last.header.a == n
 
-  named : (n : ℕ) → names n ≡ true → IsNextOccult (history [] l.before) l.last.header × (l.last.header.a ≡ n)
-  named n is =
-      let both = and_parts (is_occult l.last.header.kind) (l.last.header.a == n) is in
-      (occult_next l.last.header.kind (occult_is l.last.header.kind both.0) last_next.own, eqb-true l.last.header.a n both.1)
+  -- only what it names is given up
+  given_named : (n : ℕ) → is_given_up h n ≡ true → names n ≡ true
+  given_named n given = by_got (slice_get (journals h) n) refl where
+    by_last : (v w : Bool) → ((v || w) && not v) ≡ true → w ≡ true
+    by_last true w is = absurd (true≢false (sym is))
+    by_last false w is = (and_parts w true is).0
 
-  -- .. nothing hid that one's content before
-  shown_before : (n : ℕ) → names n ≡ true → hidden_before h n ≡ false
-  shown_before n is =
-      let own = named n is in
-      ap (λ (es : List Entry). is_hidden_by es (slice_get (journals h) n)) front_is ∙ ap (λ (es : List Entry). is_hidden_by l.before (slice_get es n)) l.is
-      ∙ ap (λ (t : Option Entry). is_hidden_by l.before t) (got_front n l.before (l.last ∷ []) (omega (arith, own.0.before, own.1)))
-      ∙ subst (λ (m : ℕ). is_hidden (history [] l.before) m ≡ false) own.1 own.0.shown
-
-  -- .. and that one is there
-  absent : (n : ℕ) → slice_get (journals h) n ≡ None → names n ≡ false
-  absent n none = elim (names n) as (λ v. names n ≡ v → names n ≡ false) [
-    | true ↦ λ is.
-        let own = named n is in
-        let there = got_there n (journals h) (omega (arith, own.0.before, own.1, size_is)) in
-        absurd (none-some there.0 (sym none ∙ there.1))
-    | false ↦ λ is. is
-  ] refl
-
-  -- a content is given up where the last journal is an occult and names its journal
-  given_by_last : (n : ℕ) → is_given_up h n ≡ names n
-  given_by_last n = by_got (slice_get (journals h) n) refl where
-    by_got : (t : Option Entry) → slice_get (journals h) n ≡ t → is_given_up h n ≡ names n
-    by_got None at = ap (λ (t : Option Entry). is_hidden_by (journals h) t && not (is_hidden_by (take (size h - 1) (journals h)) t)) at ∙ sym (absent n at)
+    by_got : (t : Option Entry) → slice_get (journals h) n ≡ t → names n ≡ true
+    by_got None at = absurd (true≢false (sym given ∙ ap (λ (t : Option Entry). is_hidden_by (journals h) t && not (is_hidden_by (take (size h - 1) (journals h)) t)) at))
     by_got (Some e) at =
-        let hides_is : hides e l.last ≡ names n = ap (λ (m : ℕ). is_occult l.last.header.kind && l.last.header.a == m) (jsn_is n e at) in
-        ap (λ (v : Bool). v && not (hidden_before h n)) (hidden_is n e at ∙ ap (λ (v : Bool). hidden_before h n || v) hides_is)
-        ∙ first_hides (hidden_before h n) (names n) (shown_before n)
+        ap (λ (m : ℕ). is_occult l.last.header.kind && l.last.header.a == m) (sym (jsn_is n e at))
+        ∙ by_last (hidden_before h n) (hides e l.last) (sym (ap (λ (v : Bool). v && not (hidden_before h n)) (hidden_is n e at)) ∙ given)
 
   -- by any journal that is the last one
-  pub given_is : (e : Entry) → slice_get (journals h) (size h - 1) ≡ Some e → (n : ℕ) → is_given_up h n ≡ (is_occult e.header.kind && e.header.a == n)
-  given_is e at n = given_by_last n ∙ ap (λ (x : Entry). is_occult x.header.kind && x.header.a == n) same where
+  pub given_only : (e : Entry) → slice_get (journals h) (size h - 1) ≡ Some e → (n : ℕ) → (is_occult e.header.kind && e.header.a == n) ≡ false → is_given_up h n ≡ false
+  given_only e at n other = false_from_ne_true (is_given_up h n) (λ given. true≢false (sym (given_named n given) ∙ ap (λ (x : Entry). is_occult x.header.kind && x.header.a == n) same ∙ other)) where
     same : l.last ≡ e
     same = same_Some l.last e (sym last_at ∙ at)
 
   -- .. and no purge has taken it, nor purges the last journal
   pub given_kept : (n : ℕ) → is_given_up h n ≡ true → (point h ≡ point_before h) × (point h ≤ n)
   given_kept n is =
-      let names_is = sym (given_by_last n) ∙ is in
-      let own = named n names_is in
-      let same = last_shown (occult_is l.last.header.kind (and_parts (is_occult l.last.header.kind) (l.last.header.a == n) names_is).0) in
-      (same, omega (arith, same, own.0.kept, own.1, before_point))
+      let named = and_parts (is_occult l.last.header.kind) (l.last.header.a == n) (given_named n is) in
+      let occult = occult_is l.last.header.kind named.0 in
+      let own = occult_next l.last.header.kind occult last_next.own in
+      let same = last_shown occult in
+      (same, omega (arith, same, own.kept, eqb-true l.last.header.a n named.1, before_point))

@@ -55,14 +55,11 @@ fn span(book: &Book, count: usize) -> (usize, usize)
     }
 }
 
-// Whether the content of journal `n` is given up.
+// Whether the content of journal `n` is given up: it is the last journal that hides it.
 fn gives_up(book: &Book, n: u64) -> bool
     ensures { (h : History) → Serves book.now h → book.now.floor ≤ n → result ≡ is_given_up h n }
 {
-    match last_header(book) {
-        Some(last) => hides(last.kind) && last.a == n,
-        None => false,
-    }
+    book.hider(n) == Some(book.size() - 1)
 }
 
 /// Gives up each content that the last journal hides and none before it does, in the open file, whose disk this is.
