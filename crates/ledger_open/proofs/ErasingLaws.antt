@@ -1,9 +1,9 @@
 -- What is given up: what each image stands for meanwhile, and after it.
 use Rattle.std.specs.Prelude.{◌==◌, nat_lt, not, slice_get, option_map, sum_by}
-use Rattle.std.proofs.Common.{◌≡◌, ◌≢◌, ◌⊎◌, inl, inr, ℕ, zero, suc, ◌+◌, ◌-◌, ◌<◌, ◌≤◌, ◌&&◌, ◌||◌, Bool, true, false, List, [], ◌∷◌, ◌++◌, length, map, get_or, take, drop, replicate, Option, None, Some, refl, sym, ◌∙◌, ap, subst, arith}
+use Rattle.std.proofs.Common.{◌≡◌, ◌≢◌, ◌⊎◌, inl, inr, ℕ, zero, suc, ◌+◌, ◌-◌, ◌<◌, ◌≤◌, ◌&&◌, ◌||◌, Bool, true, false, List, [], ◌∷◌, ◌++◌, length, map, get_or, take, drop, replicate, Some, refl, sym, ◌∙◌, ap, subst, arith}
 use Rattle.std.proofs.lemmas.Bool.{eqb-true, eq-eqb, true≢false, and_parts, or_cases, cases_lt, lt-ltb, ltb-true}
 use Rattle.std.proofs.lemmas.List.{length-map, map-append}
-use Rattle.std.proofs.lemmas.Option.{none-some, slice_get-map, slice_get_past, slice_get_within, get_or_from_slice_get}
+use Rattle.std.proofs.lemmas.Option.{slice_get-map, slice_get_past, slice_get_within, get_or_from_slice_get}
 use Rattle.journal_record.specs.Blocks.{AreFrom, AreBlocks}
 use Rattle.journal_record.specs.Entry.{Entry}
 use Rattle.journal_record.specs.declared.header.Header.{Header}
@@ -140,6 +140,15 @@ and_both : (v w : Bool) → v ≡ true → w ≡ true → (v && w) ≡ true
 and_both true w v_is w_is = w_is
 and_both false w v_is w_is = v_is
 
+-- what is asked of journal n, or of another one
+here_or_before : {P Q : Type 0} (m n : ℕ) → P → (m ≡ n) ⊎ Q → ((m ≡ n) × P) ⊎ ((m ≢ n) × Q)
+here_or_before {P = P} {Q = Q} m n here asked = elim (m == n) as (λ v. (m == n) ≡ v → ((m ≡ n) × P) ⊎ ((m ≢ n) × Q)) [
+  | true ↦ λ e. inl (eqb-true m n e, here)
+  | false ↦ λ e.
+      let other : m ≢ n = λ same. true≢false (sym (eq-eqb m n same) ∙ e) in
+      elim asked [ inl same ↦ absurd (other same) | inr before ↦ inr (other, before) ]
+] refl
+
 module _ (floor : Floor) (digests : GivesDigests floor.root) (edition : Edition) (hid : ℕ → Bool) (bs : List (List Entry)) where
   abbrev places : List PlaceAt
   places = places_from floor bs
@@ -196,12 +205,7 @@ module _ (floor : Floor) (digests : GivesDigests floor.root) (edition : Edition)
       pub place_zeroed : (gone′ : ℕ → Bool) → ((m : ℕ) → gone′ m ≡ true → (m ≡ n) ⊎ (gone m ≡ true)) → Keeps gone′ (overlay p.content_at (replicate p.content_len 0) image)
       place_zeroed gone′ more =
           let z = zeros_outside p.content_at p.content_len image (place_within gone image keeps) in
-          place_other gone′ (overlay p.content_at (replicate p.content_len 0) image) z.0 (λ m is. elim (m == n) as (λ v. (m == n) ≡ v → ((m ≡ n) × AreZeros (take p.content_len (drop p.content_at (overlay p.content_at (replicate p.content_len 0) image)))) ⊎ ((m ≢ n) × (gone m ≡ true))) [
-            | true ↦ λ e. inl (eqb-true m n e, z.1)
-            | false ↦ λ e.
-                let other : m ≢ n = λ same. true≢false (sym (eq-eqb m n same) ∙ e) in
-                elim (more m is) [ inl same ↦ absurd (other same) | inr before ↦ inr (other, before) ]
-          ] refl)
+          place_other gone′ (overlay p.content_at (replicate p.content_len 0) image) z.0 (λ m is. here_or_before m n z.1 (more m is))
 
   -- zeros over the contents that are given up, of which all are hidden
   module _ (given : ℕ → Bool) (hides : (n : ℕ) → given n ≡ true → hid n ≡ true) (gone : ℕ → Bool) (image : List ℕ) (keeps : KeepsBlocks floor edition hid gone bs image) where
@@ -310,6 +314,24 @@ hidden_there h n is = elim (cases_lt n (size h)) [
   | inr le ↦ absurd (true≢false (sym is ∙ ap (is_hidden_by (journals h)) (slice_get_past (journals h) n le)))
 ]
 
+-- the content of a hidden journal is changed in a file that has it
+module _ (floor : ℕ) (gone : ℕ → Bool) (image : List ℕ) (h : History) (x : StandsBy floor gone image h) (n : ℕ) (low : floor ≤ n) (hides : is_hidden h n ≡ true) (new : List ℕ) (out : IsOutsideOf x n new) where
+  stands_other : (gone′ : ℕ → Bool) → ((m : ℕ) → gone′ m ≡ true → ((m ≡ n) × IsZeroedIn x n new) ⊎ ((m ≢ n) × (gone m ≡ true))) → StandsBy floor gone′ new h
+  stands_other gone′ asked =
+      let first : (floor_in x).first ≡ floor = floor_first h x.parts.gone ∙ x.parts.at in
+      let here : IsIn (floor_in x) x.parts.kept n = record { first = omega (arith, first, low); within = omega (arith, first, hidden_there h n hides, size_parts floor h x.none x.parts) } in
+      again floor gone gone′ image new h x
+      (content_other (floor_in x) x.parts.kept n (digests_in floor gone image h x) x.edition (is_hidden h) gone image x.keeps here gone′ new hides out asked)
+
+  -- whatever stands there, and where zeros do
+  pub stands_but_one : StandsBy floor (λ m. gone m && not (m == n)) new h
+  stands_but_one = stands_other (λ m. gone m && not (m == n)) (λ m asked.
+      let both = and_parts (gone m) (not (m == n)) asked in
+      inr (λ same. true≢false (sym both.1 ∙ ap not (eq-eqb m n same)), both.0))
+
+  pub stands_with_one : IsZeroedIn x n new → StandsBy floor (λ m. gone m || m == n) new h
+  stands_with_one zeroed = stands_other (λ m. gone m || m == n) (λ m asked. here_or_before m n zeroed (elim (or_cases (gone m) (m == n) asked) [ inl before ↦ inr before | inr same ↦ inl (eqb-true m n same) ]))
+
 module _ (image : List ℕ) (h : History) (x : StandsFor image h) where
   abbrev x_floor : Floor
   x_floor = floor_behind h x.file.parts.gone
@@ -354,14 +376,11 @@ module _ (image : List ℕ) (h : History) (x : StandsFor image h) where
   -- .. and whatever stands in place of one of them alone, it stands for the history
   pub meanwhile : (n : ℕ) (new : List ℕ) → is_given_up h n ≡ true → x.floor ≤ n → IsOutsideOf x.file n new → StandsFor new h
   meanwhile n new given low out =
-      let first : x_floor.first ≡ x.floor = floor_first h x.file.parts.gone ∙ x.file.parts.at in
-      let here : IsIn x_floor x.file.parts.kept n = record { first = omega (arith, first, low); within = omega (arith, first, hidden_there h n (given_hidden h n given), size_parts x.floor h x.file.none x.file.parts) } in
+      let none : (m : ℕ) → hidden_before h m ≡ true → m ≢ n = λ m z same. true≢false (sym z ∙ ap (hidden_before h) same ∙ given_shown h n given) in
       record {
         floor = x.floor;
         begins = x.begins;
-        file = again x.floor (hidden_before h) (hidden_before h) image new h x.file
-            (content_other x_floor x.file.parts.kept n x_digests x.file.edition (is_hidden h) (hidden_before h) image x.file.keeps here (hidden_before h) new (given_hidden h n given) out
-            (λ m z. inr (λ same. true≢false (sym z ∙ ap (hidden_before h) same ∙ given_shown h n given), z)));
+        file = stands_other x.floor (hidden_before h) image h x.file n low (given_hidden h n given) new out (hidden_before h) (λ m z. inr (none m z, z));
       }
 
   -- with zeros over all of it, all that is hidden is gone, and it is as long

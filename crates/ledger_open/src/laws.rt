@@ -1,20 +1,21 @@
 //! Laws of a ledger's two files: which history they stand for, when they open, and what a block or an erasure changes.
 
-ghost use Rattle.std.specs.Prelude.{◌≡◌, ◌⊎◌, ◌<◌, ◌≤◌, [], Bool, true, false, List, ℕ, Option};
+ghost use Rattle.std.specs.Prelude.{◌≡◌, ◌⊎◌, ◌<◌, ◌≤◌, ◌==◌, ◌&&◌, ◌||◌, [], Bool, true, false, not, List, ℕ, Option};
 ghost use Rattle.block_file.specs.declared.failure.Damage.{Damage};
 ghost use Rattle.ledger_model.specs.Genesis.{HasKeys, new_ledger};
 ghost use Rattle.ledger_model.specs.History.{History, point, size};
+ghost use Rattle.ledger_model.specs.Targets.{is_hidden};
 ghost use Rattle.ledger_model.specs.declared.genesis.Genesis.{Genesis};
 ghost use Rattle.pseudo_genesis.specs.declared.base.Base.{Base};
 ghost use Rattle.ledger_open.specs.Damages.{IsDamage};
-ghost use Rattle.ledger_open.specs.Erasing.{AllInside, GivesUp, IsGivenUp, IsOutsideOf, is_given_up, given_up_in};
+ghost use Rattle.ledger_open.specs.Erasing.{AllInside, GivesUp, IsGivenUp, IsOutsideOf, IsZeroedIn, is_given_up, given_up_in};
 ghost use Rattle.ledger_open.specs.Founding.{IsFounded};
 ghost use Rattle.ledger_open.specs.Growing.{Grows, GrowsErased, IsNewClean};
 ghost use Rattle.ledger_open.specs.Places.{AreAtPlaces, AreAllThere};
 ghost use Rattle.ledger_open.specs.Opening.{Known, Knows, IsOpenErr, IsOutside, AreSettled};
 ghost use Rattle.ledger_open.specs.Purging.{Ledger, IsDone, IsFinished, StandsOpen, open_disk, other_disk};
 ghost use Rattle.ledger_open.specs.Reopened.{Remembers, IsReopened, IsTidyAt};
-ghost use Rattle.ledger_open.specs.Standing.{IsOneHistory, IsOnePair, StandsFor, IsErased, PairFor, IsClean, IsCleanPair};
+ghost use Rattle.ledger_open.specs.Standing.{IsOneHistory, IsOnePair, StandsBy, StandsFor, IsErased, PairFor, IsClean, IsCleanPair};
 ghost use Rattle.ledger_open.specs.declared.failure.OpenErr.{OpenErr};
 ghost use Rattle.ledger_open.specs.declared.failure.OpenErr.TheVariants as errors;
 ghost use Rattle.block_file.specs.Head.{IsShut};
@@ -126,6 +127,18 @@ pub fn a_content_may_be_given_up()
     ensures clean { (old new : State) (h : History) (stands : StandsFor old.seen h)
         → stands.file.keeps.file.stands.rest ≡ [] → stands.floor ≡ point h
         → IsGivenUp old new h → IsClean new.seen h }
+{}
+
+/// A file stands for its history whatever bytes stand in place of a hidden content that it has, which is then no longer among
+/// the zeros that are asked for; and where zeros were written there, it is among them.
+pub fn a_hidden_content_may_be_zeroed()
+    ensures torn { (floor : ℕ) (zeros : ℕ → Bool) (image new : List ℕ) (h : History) (n : ℕ)
+        (stands : StandsBy floor zeros image h) → floor ≤ n → is_hidden h n ≡ true
+        → IsOutsideOf stands n new → StandsBy floor (λ m. zeros m && not (m == n)) new h }
+    ensures zeroed { (floor : ℕ) (zeros : ℕ → Bool) (image new : List ℕ) (h : History) (n : ℕ)
+        (stands : StandsBy floor zeros image h) → floor ≤ n → is_hidden h n ≡ true
+        → IsOutsideOf stands n new → IsZeroedIn stands n new
+        → StandsBy floor (λ m. zeros m || m == n) new h }
 {}
 
 /// What the last journal leaves undone is finished by one of two calls, and what they come to is one thing: after
