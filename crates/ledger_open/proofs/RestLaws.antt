@@ -1,19 +1,7 @@
 -- What giving up contents leaves as it was, whatever the book says.
-use Rattle.std.specs.Prelude.{All, slice_get}
-use Rattle.std.proofs.Common.{◌≡◌, ℕ, zero, suc, ◌+◌, ◌-◌, ◌<◌, ◌≤◌, List, [], ◌∷◌, length, take, drop, Some, refl, sym, ◌∙◌, ap, subst, arith}
+use Rattle.std.proofs.Common.{◌≡◌, ℕ, ◌+◌, ◌-◌, ◌≤◌, List, take, drop, refl, sym, ◌∙◌, ap, arith}
 use Rattle.std.proofs.lemmas.List.{drop-drop, take-take}
-use Rattle.std.proofs.lemmas.Option.{none-some, get_or_from_slice_get}
 use Rattle.ledger_disk.specs.Guards.{Outside}
-use Rattle.block_file.specs.declared.place.PlaceAt.{PlaceAt}
-
-got_within : (ps : List PlaceAt) (n : ℕ) (p : PlaceAt) → slice_get ps n ≡ Some p → n < length ps
-got_within [] n p is = absurd (none-some p is)
-got_within (q ∷ ps) zero p is = omega arith
-got_within (q ∷ ps) (suc n) p is = omega (arith, got_within ps n p is)
-
--- what holds of all places holds of each
-pub all_of_each : (P : PlaceAt → Type 0) (ps : List PlaceAt) (n : ℕ) (p : PlaceAt) → All P ps → slice_get ps n ≡ Some p → P p
-all_of_each P ps n p all is = subst P (get_or_from_slice_get ps n p p is) (all n p (got_within ps n p is))
 
 -- what is as before outside of a range is so outside of a wider one
 pub outside_wider : (low high at n : ℕ) (old new : List ℕ) → low ≤ at → at + n ≤ high → Outside at n old new → Outside low (high - low) old new

@@ -13,7 +13,7 @@ use Rattle.ledger_disk.proofs.Guarding.{settled_image}
 use Rattle.ledger_disk.specs.Disk.{State, MayLeave, settled_state, overlay}
 use Rattle.ledger_disk.specs.Guards.{Outside}
 use Rattle.ledger_model.specs.History.{History, point}
-use Rattle.ledger_open.specs.Erasing.{AreBetween, AreOf, EndsAs, ErasesSome, LeavesErased, LeavesRest, LeavesShown, StandsMeanwhile, WritesSome, WritesZeros, is_given_up, given_up, places_of, with_zeros}
+use Rattle.ledger_open.specs.Erasing.{AreOf, EndsAs, LeavesErased, LeavesRest, LeavesShown, StandsMeanwhile, WritesSome, WritesZeros, is_given_up, places_of, with_zeros}
 use Rattle.ledger_open.specs.Places.{places_from}
 use Rattle.ledger_open.specs.Standing.{Floor, floor_behind, point_before, StandsFor, IsErased}
 use Rattle.block_file.specs.declared.place.PlaceAt.{PlaceAt}
