@@ -14,7 +14,7 @@ use Rattle.ledger_model.proofs.PlaceLaws.{point_same}
 use Rattle.ledger_open.specs.Erasing.{is_given_up}
 use Rattle.ledger_open.specs.Standing.{PairOpen, point_before}
 use Rattle.ledger_open.proofs.ErasingLaws.{nothing_open}
-use Rattle.ledger_open.proofs.TargetLaws.{given_is}
+use Rattle.ledger_open.proofs.TargetLaws.{given_only}
 use Rattle.twin_file.specs.Twin.{open_of}
 use Rattle.ledger_cli.specs.Leaving.{is_erasure, ends_in_erasure}
 
@@ -81,7 +81,7 @@ module _ (h : History) (l : HasLast (journals h)) (none : ends_in_erasure h ≡ 
   last_at = ap (λ (js : List Entry). slice_get js (size h - 1)) l.is ∙ ap (λ n. slice_get (l.before ++ l.last ∷ []) n) at ∙ got_last l.before l.last
 
   none_given : AreLawful (journals h) → (n : ℕ) → is_given_up h n ≡ false
-  none_given lawful n = given_is h lawful l.last last_at n ∙ ap (λ (v : Bool). v && l.last.header.a == n) (no_occult l.last.header.kind plain)
+  none_given lawful n = given_only h lawful l.last last_at n (ap (λ (v : Bool). v && l.last.header.a == n) (no_occult l.last.header.kind plain))
 
   erased_pair : (a b : List ℕ) → PairOpen a b h → IsErasedPair a b h
   erased_pair a b p = record {
